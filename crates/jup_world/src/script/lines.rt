@@ -1,0 +1,74 @@
+//! The lines of a script.
+ghost use Rattle.std.specs.Prelude.{◌+◌, ◌≤◌, length};
+
+use super::ScriptEnd;
+use std::str;
+
+/// What is left of a script, and the number of the line that was read last (0 before the first).
+#[derive(Drop)]
+pub(crate) struct Script<'a> {
+    rest: &'a [u8],
+    line: u32,
+    ghost in_limit: { line + length rest.now ≤ 16777216 },
+}
+
+impl<'a> Script<'a> {
+    ghost use Rattle.std.specs.Prelude.{IfErr};
+    ghost use Rattle.jup_world.specs.ScriptEnds.{ComesInPlay};
+
+    pub(crate) fn new(bytes: &'a [u8]) -> Script<'a>
+        requires { length bytes.now ≤ 16777216 }
+    {
+        Script {
+            rest: bytes,
+            line: 0,
+        }
+    }
+
+    /// The next line without its line feed; `None` at the end of the script. A line that is no text, or
+    /// a last line that has no line feed, is bad.
+    pub(crate) fn next_line(&mut self) -> Result<Option<&'a str>, ScriptEnd>
+        ensures { IfErr result ComesInPlay }
+    {
+        if self.rest.is_empty() {
+            return Ok(None);
+        }
+        let Some(end) = self.rest.iter().position(|byte| *byte == b'\n') else {
+            return Err(ScriptEnd::Bad(self.line + 1));
+        };
+        let bytes = &self.rest[..end];
+        self.rest = &self.rest[end + 1..];
+        self.line += 1;
+        match str::from_utf8(bytes) {
+            Ok(text) => Ok(Some(text)),
+            Err(_) => Err(self.bad_line()),
+        }
+    }
+
+    /// The next line, which is bad where there is none.
+    pub(crate) fn required_line(&mut self) -> Result<&'a str, ScriptEnd>
+        ensures { IfErr result ComesInPlay }
+    {
+        match self.next_line()? {
+            Some(text) => Ok(text),
+            None => Err(ScriptEnd::Bad(self.line + 1)),
+        }
+    }
+
+    /// The end of the script: a further line is bad.
+    pub(crate) fn end(&mut self) -> Result<(), ScriptEnd>
+        ensures { IfErr result ComesInPlay }
+    {
+        match self.next_line()? {
+            None => Ok(()),
+            Some(_) => Err(self.bad_line()),
+        }
+    }
+
+    /// The line that was read last is bad.
+    pub(crate) fn bad_line(&self) -> ScriptEnd
+        ensures { ComesInPlay result }
+    {
+        ScriptEnd::Bad(self.line)
+    }
+}

@@ -1,10 +1,41 @@
-//! Why an edit is refused.
+//! Why a board or a command is refused.
 ghost use Rattle.std.specs.Prelude.{◌≡◌};
-ghost use Rattle.jup_window.specs.FaultNumbers.{edit_fault_number};
+ghost use Rattle.jup_window.specs.FaultNumbers.{board_fault_number, edit_fault_number};
 
 use thiserror::Error;
 
-/// Why a command is refused.
+/// Why a window or a widget is not added.
+#[derive(Clone, Copy, Debug, PartialEq, Eq, Error)]
+pub enum BoardFault {
+    #[error("no such window")]
+    NoWindow,
+    #[error("no memory")]
+    NoMemory,
+    #[error("the id is taken")]
+    DoubleId,
+    #[error("there are 64 already")]
+    TooMany,
+    #[error("0 is no id")]
+    BadId,
+}
+
+impl BoardFault {
+    /// The number of this fault in messages and printed texts.
+    pub fn number(self) -> u32
+        ensures { result ≡ board_fault_number self }
+    {
+        match self {
+            BoardFault::NoWindow => 1,
+            BoardFault::NoMemory => 8,
+            BoardFault::DoubleId => 10,
+            BoardFault::TooMany => 11,
+            BoardFault::BadId => 12,
+        }
+    }
+}
+
+/// Why a command is refused. [`Board::name_it`](crate::Board::name_it) answers the first six; the
+/// others are a site's.
 #[derive(Clone, Copy, Debug, PartialEq, Eq, Error)]
 pub enum EditFault {
     #[error("no such window")]

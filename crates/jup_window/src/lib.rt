@@ -1,6 +1,28 @@
-//! Boards of windows and widgets, and the commands that edit them. Today it has their faults alone.
+//! Boards of windows and widgets, and the commands that edit them.
+//!
+//! [`BoardOp`] is the one operation type for all that a board shows, so that links and stars know
+//! nothing of widgets. [`laws`] says in plain facts what boards hold and what their edits mean.
 #![tactic(auto)]
 
+mod board_operations;
+mod boards;
+mod commands;
+mod edits;
+mod entries;
 mod faults;
+pub mod laws;
+mod sameness;
+mod sites;
+mod widget_operations;
+mod widgets;
 
-pub use faults::EditFault;
+pub use board_operations::BoardOp;
+pub use boards::{Board, Window};
+pub use commands::{Command, Setting, Value};
+pub use edits::{Edit, Effect};
+pub use faults::{BoardFault, EditFault};
+pub use widget_operations::WidgetOp;
+pub use widgets::Widget;
+
+#[cfg(test)]
+mod tests;

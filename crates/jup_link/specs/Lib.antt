@@ -1,0 +1,10 @@
+pub mod ComesLaws
+pub mod Ends
+pub mod InStep
+pub mod InStepEvents
+pub mod InStepLaws
+pub mod LinkSteps
+pub mod Links
+pub mod Messages
+pub mod Pairs
+pub mod Streams

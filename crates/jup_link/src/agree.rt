@@ -1,0 +1,17 @@
+//! What two ends keep over every list of edits and deliveries.
+
+ghost use Rattle.std.specs.Prelude.{List};
+ghost use Rattle.jup_link.specs.Pairs.{PairEvent, opened_pair, pair_after_all, AreAllowed, Agrees};
+
+use jup_xform::Transform;
+
+/// Two new ends over one state agree after any edits, acknowledgements and deliveries: they are in step,
+/// each message is accepted in its turn, what it gives is valid where it comes, and the two states are
+/// equal where nothing is on its way.
+///
+/// It does nothing: its contract is the theorem.
+pub fn ends_agree<T: Transform>()
+    ensures { (x : T.State) (events : List (PairEvent T)) → T.is_distinct x → T.is_small 0 x
+        → AreAllowed T.Transform (opened_pair x) events
+        → Agrees T.Transform (pair_after_all T.Transform (opened_pair x) events) }
+{}

@@ -1,0 +1,11 @@
+//! Operations on sequences of named items, and how two that were made at the same time are
+//! transformed past one another.
+#![tactic(auto)]
+
+pub mod laws;
+mod operations;
+
+pub use operations::{ListOp, SeqEdit, SeqOp, TextOp};
+
+#[cfg(test)]
+mod tests;

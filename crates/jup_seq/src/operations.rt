@@ -1,0 +1,310 @@
+//! Insertions into sequences, and deletions from them.
+ghost use Rattle.std.specs.Prelude.{◌≡◌, ℕ, ◌↔◌, ◌+◌, ◌<◌, ◌≤◌, length, false, refl, IsTrue, Ok, OnOk, OnErr};
+ghost use Rattle.jup_value.specs.Items.{has_name, name_at};
+ghost use Rattle.jup_value.specs.declared.names.Name.{Name as ItemName};
+ghost use Rattle.jup_seq.specs.Operations.{bare, IsSmall, HasDistinctNames, KeepsOrder, IsValid, after, HasRoom, AreApart, client_past, server_past};
+ghost use Rattle.jup_seq.specs.Edits.{Content, content, meaning, edit_of};
+ghost use Rattle.jup_seq.specs.Names.{Holds, InsertsName, DeletesName, IsFresh};
+ghost use Rattle.jup_seq.specs.Squares as squares;
+ghost use Rattle.jup_seq.specs.EditLists as edit_lists;
+ghost use Rattle.jup_seq.specs.Names as names;
+ghost use Rattle.jup_seq.specs.Effects as effects;
+
+use jup_value::{Item, Label, Name, Seq};
+use jup_xform::{NoMemory, Transform};
+use std::alloc::Global;
+
+/// A sequence of so many items takes no further insertion.
+const LARGEST: u32 = 2_147_483_648;
+
+/// An operation on a sequence. Places are counted from 0.
+#[derive(Clone, Copy, Debug, PartialEq, Eq)]
+pub enum SeqOp<V> {
+    /// Puts an item before the one that stands at the place, or at the end.
+    Insert { place: u32, item: Item<V> },
+    /// Takes out the item at the place, which has the name.
+    Delete { place: u32, name: Name },
+    /// What is left of a deletion where the other end deleted the same item.
+    Nothing,
+}
+
+/// An operation on a text.
+pub type TextOp = SeqOp<char>;
+
+/// An operation on a list of labels.
+pub type ListOp = SeqOp<Label>;
+
+/// What an operation does to the content of a sequence, without the place where it does it.
+#[derive(Clone, Copy, Debug, PartialEq, Eq)]
+pub enum SeqEdit<V> {
+    /// An item of the name with the value is put in.
+    Put(Name, V),
+    /// The item of the name is taken out.
+    Deleted(Name),
+    Nothing,
+}
+
+// Whether an item with this name may be put at a place.
+fn takes<V: Copy>(state: &Seq<V>, place: u32, name: Name) -> bool
+    ensures { IsTrue result
+        ↔ ((place ≤ length state.now.items) × (has_name name state.now.items ≡ false)
+        × IsSmall 0 state.now) }
+{
+    place <= state.len() && state.place_of(name).is_none() && state.len() < LARGEST
+}
+
+// Whether the item at a place has this name.
+fn stands_at<V: Copy>(state: &Seq<V>, place: u32, name: Name) -> bool
+    ensures { IsTrue result ↔ (name_at place state.now.items ≡ Some name) }
+{
+    state.get(place).is_some_and(|item| item.name == name)
+}
+
+impl<V: Copy> SeqOp<V> {
+    // A client's operation past a server's.
+    fn past_server(&self, other: &SeqOp<V>) -> SeqOp<V>
+        ensures { result ≡ client_past self.now other.now }
+    {
+        match (self, other) {
+            (SeqOp::Insert { place, item }, SeqOp::Insert { place: at, .. }) if at < place => {
+                SeqOp::Insert {
+                    place: place.saturating_add(1),
+                    item: *item,
+                }
+            }
+            (SeqOp::Insert { place, item }, SeqOp::Delete { place: at, .. }) if at < place => {
+                SeqOp::Insert {
+                    place: *place - 1,
+                    item: *item,
+                }
+            }
+            (SeqOp::Delete { place, name }, SeqOp::Insert { place: at, .. }) if at <= place => {
+                SeqOp::Delete {
+                    place: place.saturating_add(1),
+                    name: *name,
+                }
+            }
+            (SeqOp::Delete { name, .. }, SeqOp::Delete { name: gone, .. }) if name == gone => {
+                SeqOp::Nothing
+            }
+            (SeqOp::Delete { place, name }, SeqOp::Delete { place: at, .. }) if at < place => {
+                SeqOp::Delete {
+                    place: *place - 1,
+                    name: *name,
+                }
+            }
+            _ => *self,
+        }
+    }
+
+    // A server's operation past a client's: of two insertions at one place it stands right.
+    fn past_client(&self, other: &SeqOp<V>) -> SeqOp<V>
+        ensures { result ≡ server_past self.now other.now }
+    {
+        match (self, other) {
+            (SeqOp::Insert { place, .. }, SeqOp::Insert { place: at, .. }) if place < at => *self,
+            (SeqOp::Insert { place, item }, SeqOp::Insert { .. }) => {
+                SeqOp::Insert {
+                    place: place.saturating_add(1),
+                    item: *item,
+                }
+            }
+            _ => self.past_server(other),
+        }
+    }
+}
+
+impl<V: Copy> Transform for SeqOp<V> {
+    type State = Seq<V>;
+
+    type Edit = SeqEdit<V>;
+
+    ghost Content = { Content V };
+
+    ghost content = { content };
+
+    ghost meaning = { meaning };
+
+    ghost edit_of = { edit_of };
+
+    ghost bare = { bare };
+
+    ghost is_valid = { IsValid };
+
+    ghost after = { after };
+
+    ghost has_room = { HasRoom };
+
+    ghost can_reserve = { λ beside. beside < 4294967295 };
+
+    ghost is_distinct = { HasDistinctNames };
+
+    ghost is_small = { IsSmall };
+
+    ghost keeps_order = { KeepsOrder };
+
+    ghost are_apart = { AreApart };
+
+    ghost is_fresh = { IsFresh };
+
+    ghost Name = { ItemName };
+
+    ghost holds = { Holds };
+
+    ghost inserts = { InsertsName };
+
+    ghost deletes = { DeletesName };
+
+    ghost changes = { DeletesName };
+
+    ghost client_past = { client_past };
+
+    ghost server_past = { server_past };
+
+    ghost Shape = { Unit {0} };
+
+    ghost shape = { λ o. tt };
+
+    fn valid(&self, state: &Seq<V>) -> bool {
+        match self {
+            SeqOp::Insert { place, item } => takes(state, *place, item.name),
+            SeqOp::Delete { place, name } => stands_at(state, *place, *name),
+            SeqOp::Nothing => true,
+        }
+    }
+
+    fn apart(&self, other: &SeqOp<V>) -> bool {
+        match (self, other) {
+            (SeqOp::Insert { item, .. }, SeqOp::Insert { item: put, .. }) => item.name != put.name,
+            _ => true,
+        }
+    }
+
+    fn fresh_after(&self, earlier: &SeqOp<V>) -> bool {
+        match (self, earlier) {
+            (SeqOp::Insert { item, .. }, SeqOp::Insert { item: put, .. }) => item.name != put.name,
+            (SeqOp::Insert { item, .. }, SeqOp::Delete { name, .. }) => item.name != *name,
+            _ => true,
+        }
+    }
+
+    /// Memory is refused only where there is not room already.
+    fn reserve(&self, _alloc: Global, beside: u32, state: &mut Seq<V>) -> Result<(), NoMemory>
+        requires { beside < 4294967295 }
+        ensures ok { OnOk result (HasRoom self.now beside state.new) }
+        ensures same { bare state.new ≡ bare state.old }
+        ensures kept { (o : SeqOp V) (n : ℕ) → HasRoom o n state.old → HasRoom o n state.new }
+        ensures refused_without_room { OnErr result (HasRoom self.now beside state.old → ⊥) }
+    {
+        match self {
+            SeqOp::Insert { .. } => state.reserve_more(beside + 1).map_err(|_| NoMemory),
+            SeqOp::Delete { .. } | SeqOp::Nothing => Ok(()),
+        }
+    }
+
+    fn apply(&self, state: &mut Seq<V>) {
+        match *self {
+            SeqOp::Insert { place, item } => state.insert(place, item),
+            SeqOp::Delete { place, .. } => {
+                let _item = state.remove(place);
+            }
+            SeqOp::Nothing => {}
+        }
+    }
+
+    fn transform(c: &mut SeqOp<V>, s: &mut SeqOp<V>) {
+        let client = c.past_server(s);
+        *s = s.past_client(c);
+        *c = client;
+    }
+
+    /// It takes no memory and is never refused.
+    fn copy(&self, _alloc: Global) -> Result<SeqOp<V>, NoMemory>
+        ensures { result ≡ Ok self.now }
+    {
+        Ok(*self)
+    }
+
+    fn write_to(&self, into: &mut SeqOp<V>) {
+        *into = *self;
+    }
+
+    /// It takes no memory and is never refused.
+    fn edit(&self, _alloc: Global) -> Result<SeqEdit<V>, NoMemory>
+        ensures { result ≡ Ok (edit_of self.now) }
+    {
+        Ok(match *self {
+            SeqOp::Insert { item, .. } => SeqEdit::Put(item.name, item.value),
+            SeqOp::Delete { name, .. } => SeqEdit::Deleted(name),
+            SeqOp::Nothing => SeqEdit::Nothing,
+        })
+    }
+
+    ghost square = { squares.square };
+
+    ghost effect_one = { effects.effect_one };
+
+    ghost effect_two = { effects.effect_two };
+
+    ghost order = { effects.order };
+
+    ghost distinct_after = { effects.distinct_after };
+
+    ghost small_after = { effects.small_after };
+
+    ghost small_below = { effects.small_below };
+
+    ghost small_before = { effects.small_before };
+
+    ghost apart_swap = { effects.apart_swap };
+
+    ghost apart_client = { effects.apart_client };
+
+    ghost apart_server = { effects.apart_server };
+
+    ghost fresh_client = { names.fresh_client };
+
+    ghost fresh_server = { names.fresh_server };
+
+    ghost fresh_of_client = { names.fresh_of_client };
+
+    ghost fresh_of_server = { names.fresh_of_server };
+
+    ghost room_less = { effects.room_less };
+
+    ghost room_client = { effects.room_client };
+
+    ghost room_server = { effects.room_server };
+
+    ghost shape_client = { λ c s. refl };
+
+    ghost shape_server = { λ s c. refl };
+
+    ghost inserts_client = { names.inserts_client };
+
+    ghost inserts_server = { names.inserts_server };
+
+    ghost apart_names = { names.apart_names };
+
+    ghost fresh_names = { names.fresh_names };
+
+    ghost inserts_new = { names.inserts_new };
+
+    ghost changes_held = { names.changes_held };
+
+    ghost held_before = { names.held_before };
+
+    ghost held_after = { names.held_after };
+
+    ghost order_self = { λ x m n hm hn gm gn. refl };
+
+    ghost order_chain = { effects.order_chain };
+
+    ghost meaning_none = { λ k. refl };
+
+    ghost meaning_more = { names.meaning_more };
+
+    ghost edit_client = { edit_lists.edit_client };
+
+    ghost edit_server = { edit_lists.edit_server };
+}

@@ -1,0 +1,180 @@
+//! Commands of a user, and the operations that they become.
+ghost use Rattle.std.specs.Prelude.{◌≡◌, IfOk};
+ghost use Rattle.jup_window.specs.Commands.{insertion, deletion, insertion_on, deletion_on, setting_on, on_widget, command_place, named_widget, named, map_ok, IsFresh, shown};
+ghost use Rattle.jup_window.specs.Boards.{bare, after, IsValid};
+
+use crate::board_operations::BoardOp;
+use crate::boards::Board;
+use crate::entries::get;
+use crate::faults::EditFault;
+use crate::widget_operations::WidgetOp;
+use crate::widgets::Widget;
+use jup_seq::SeqOp;
+use jup_setting::SetOp;
+use jup_value::{Item, Label, Name, Seq};
+
+// A sequence this long or longer takes no insertion of a command.
+const LONGEST: u32 = 65_536;
+
+/// The value of an item that a command inserts.
+#[derive(Clone, Copy, Debug, PartialEq, Eq)]
+pub enum Value {
+    Char(char),
+    Label(Label),
+}
+
+/// The value that a command sets.
+#[derive(Clone, Copy, Debug, PartialEq, Eq)]
+pub enum Setting {
+    Toggle(bool),
+    Slider(i32),
+}
+
+/// What a user asks for, of the widget that the ids of a window and of a widget name. Places count
+/// from 0.
+#[derive(Clone, Copy, Debug, PartialEq, Eq)]
+pub enum Command {
+    Insert {
+        win: u16,
+        wid: u16,
+        place: u32,
+        value: Value,
+    },
+    Delete {
+        win: u16,
+        wid: u16,
+        place: u32,
+    },
+    Set {
+        win: u16,
+        wid: u16,
+        setting: Setting,
+    },
+}
+
+fn insert_at<V: Copy>(state: &Seq<V>, place: u32, item: Item<V>) -> Result<SeqOp<V>, EditFault>
+    ensures { result ≡ insertion place item state.now }
+{
+    if place > state.len() {
+        return Err(EditFault::BadPlace);
+    }
+    if state.len() >= LONGEST {
+        return Err(EditFault::LongText);
+    }
+    Ok(SeqOp::Insert { place, item })
+}
+
+fn delete_at<V: Copy>(state: &Seq<V>, place: u32) -> Result<SeqOp<V>, EditFault>
+    ensures { result ≡ deletion place state.now }
+{
+    match state.get(place) {
+        Some(item) => Ok(SeqOp::Delete {
+            place,
+            name: item.name,
+        }),
+        None => Err(EditFault::BadPlace),
+    }
+}
+
+fn insertion_into(
+    widget: &Widget,
+    place: u32,
+    value: Value,
+    name: Name,
+) -> Result<WidgetOp, EditFault>
+    ensures { result ≡ insertion_on place value name widget.now }
+{
+    match (widget, value) {
+        (Widget::Text(text), Value::Char(value)) => {
+            let op = insert_at(text, place, Item { name, value })?;
+            Ok(WidgetOp::Text(op))
+        }
+        (Widget::List(list), Value::Label(value)) => {
+            let op = insert_at(list, place, Item { name, value })?;
+            Ok(WidgetOp::List(op))
+        }
+        _ => Err(EditFault::WrongKind),
+    }
+}
+
+fn deletion_from(widget: &Widget, place: u32) -> Result<WidgetOp, EditFault>
+    ensures { result ≡ deletion_on place widget.now }
+{
+    match widget {
+        Widget::Text(text) => Ok(WidgetOp::Text(delete_at(text, place)?)),
+        Widget::List(list) => Ok(WidgetOp::List(delete_at(list, place)?)),
+        Widget::Toggle(_) | Widget::Slider(_) => Err(EditFault::WrongKind),
+    }
+}
+
+fn setting_of(widget: &Widget, setting: Setting) -> Result<WidgetOp, EditFault>
+    ensures { result ≡ setting_on setting widget.now }
+{
+    match (widget, setting) {
+        (Widget::Toggle(_), Setting::Toggle(on)) => Ok(WidgetOp::Toggle(SetOp::Set(on))),
+        (Widget::Slider(slider), Setting::Slider(value)) => {
+            if value < slider.lo() || slider.hi() < value {
+                return Err(EditFault::BadValue);
+            }
+            Ok(WidgetOp::Slider(SetOp::Set(value)))
+        }
+        _ => Err(EditFault::WrongKind),
+    }
+}
+
+impl Command {
+    // The ids of its window and of its widget.
+    fn ids(&self) -> (u16, u16)
+        ensures { result ≡ command_place self.now }
+    {
+        match *self {
+            Command::Insert { win, wid, .. }
+            | Command::Delete { win, wid, .. }
+            | Command::Set { win, wid, .. } => (win, wid),
+        }
+    }
+
+    // The operation on a widget, with a name for an insertion.
+    fn on_widget(&self, widget: &Widget, name: Name) -> Result<WidgetOp, EditFault>
+        ensures { result ≡ on_widget self.now name widget.now }
+    {
+        match *self {
+            Command::Insert { place, value, .. } => insertion_into(widget, place, value, name),
+            Command::Delete { place, .. } => deletion_from(widget, place),
+            Command::Set { setting, .. } => setting_of(widget, setting),
+        }
+    }
+
+    // The operation on a board, with a name for an insertion.
+    fn on_board(&self, board: &Board, name: Name) -> Result<BoardOp, EditFault>
+        ensures { result ≡ named self.now name board.now }
+    {
+        let (win, wid) = self.ids();
+        let op = self.on_widget(named_widget(board, win, wid)?, name)?;
+        Ok(BoardOp { win, wid, op })
+    }
+}
+
+// The widget that ids name.
+fn named_widget(board: &Board, win: u16, wid: u16) -> Result<&Widget, EditFault>
+    ensures { map_ok (λ widget. widget.now) result ≡ named_widget (win, wid) board.now }
+{
+    let window = get(board.windows(), win).ok_or(EditFault::NoWindow)?;
+    get(window.widgets(), wid).ok_or(EditFault::NoWidget)
+}
+
+impl Board {
+    /// The operation of a command: an insertion under the given name, or a deletion of the item at
+    /// the place under its own. It takes no memory. Refused, in this order: no such window, no such
+    /// widget, a command or a value that does not fit the widget, a place past the end, a value
+    /// outside the slider's bounds, an insertion into a sequence of 65,536 items or more.
+    pub fn name_it(&self, command: &Command, name: Name) -> Result<BoardOp, EditFault>
+        requires fresh { IsFresh command.now name (bare self.now) }
+        ensures named { result ≡ named command.now name (bare self.now) }
+        ensures valid { IfOk result (λ op. IsValid op (bare self.now)) }
+        ensures shown { IfOk result
+            (λ op. after op (bare self.now) ≡ shown command.now name (bare self.now)) }
+    {
+        command.on_board(self, name)
+    }
+}

@@ -1,0 +1,245 @@
+//! What boards hold and what their edits mean, written out. The laws of `Transform` speak of
+//! content, meaning and order; these functions do nothing but say which they are for boards.
+ghost use Rattle.std.specs.Prelude.{◌≡◌, ◌≢◌, ◌↔◌, ℕ, ℤ, Bool, List, [], ◌∷◌, ◌++◌, Contains, Some, None};
+ghost use Rattle.jup_value.specs.declared.names.Name.{Name};
+ghost use Rattle.jup_value.specs.declared.names.Item.{Item};
+ghost use Rattle.jup_value.specs.Items.{Items};
+ghost use Rattle.jup_setting.specs.declared.toggle.Toggle.{Toggle};
+ghost use Rattle.jup_setting.specs.Sliders.{SliderState};
+ghost use Rattle.jup_seq.specs.Edits.{Content as SeqContent};
+ghost use Rattle.jup_seq.specs.declared.operations.SeqOp.{SeqOp};
+ghost use Rattle.jup_setting.specs.declared.operation.SetOp.{SetOp};
+ghost use Rattle.jup_window.specs.declared.widgets.Widget.{Widget};
+ghost use Rattle.jup_window.specs.declared.board_operations.BoardOp.{BoardOp};
+ghost use Rattle.jup_window.specs.declared.edits.Edit.{Edit};
+ghost use Rattle.jup_window.specs.Entries.{Place, widget_at};
+ghost use Rattle.jup_window.specs.Widgets.{AreOfOneKind, AreOperationsOfOneKind};
+ghost use Rattle.jup_window.specs.Effects.{Chars, Labelled, On, At};
+ghost use Rattle.jup_window.specs.Boards.{Windows, Content, place, edit_place};
+ghost use Rattle.jup_window.specs.Contents.{op_at, edit_at, character, label};
+ghost use Rattle.jup_window.specs.Operations.{AreLawful};
+ghost use Rattle.jup_window.specs.BoardOperations.{board_operations};
+
+use crate::{BoardOp, Effect, Widget, WidgetOp};
+use jup_seq::SeqOp;
+use jup_setting::SetOp;
+use jup_value::Label;
+use jup_xform::Transform;
+
+/// Operations on boards have every law that a star and its sites rest on.
+pub fn boards_are_lawful()
+    ensures { AreLawful board_operations }
+{}
+
+/// The content of a board has the content of each widget under its ids: of a text or a list the
+/// values by the names of the items, without their order, and of a setting its value.
+pub fn board_content()
+    ensures text { (board : Windows) (p : Place) (text : Items ℕ)
+        → widget_at p board ≡ Some (Widget.Text text)
+        → ⟦<BoardOp as Transform>⟧.content board p
+        ≡ Some (Chars (⟦<SeqOp<char> as Transform>⟧.content text)) }
+    ensures list { (board : Windows) (p : Place) (list : Items (List ℕ))
+        → widget_at p board ≡ Some (Widget.List list)
+        → ⟦<BoardOp as Transform>⟧.content board p
+        ≡ Some (Labelled (⟦<SeqOp<Label> as Transform>⟧.content list)) }
+    ensures toggle { (board : Windows) (p : Place) (toggle : Toggle)
+        → widget_at p board ≡ Some (Widget.Toggle toggle)
+        → ⟦<BoardOp as Transform>⟧.content board p ≡ Some (On toggle.on) }
+    ensures slider { (board : Windows) (p : Place) (slider : SliderState)
+        → widget_at p board ≡ Some (Widget.Slider slider)
+        → ⟦<BoardOp as Transform>⟧.content board p ≡ Some (At slider.value) }
+    ensures absent { (board : Windows) (p : Place)
+        → widget_at p board ≡ None → ⟦<BoardOp as Transform>⟧.content board p ≡ None }
+{}
+
+/// An operation may be applied where its ids name a widget of its kind and it may be applied there.
+pub fn operation_validity()
+    ensures text { (p : Place) (op : SeqOp ℕ) (board : Windows) (text : Items ℕ)
+        → widget_at p board ≡ Some (Widget.Text text)
+        → ⟦<BoardOp as Transform>⟧.is_valid (op_at p (WidgetOp.Text op)) board
+        ↔ ⟦<SeqOp<char> as Transform>⟧.is_valid op text }
+    ensures list { (p : Place) (op : SeqOp (List ℕ)) (board : Windows) (list : Items (List ℕ))
+        → widget_at p board ≡ Some (Widget.List list)
+        → ⟦<BoardOp as Transform>⟧.is_valid (op_at p (WidgetOp.List op)) board
+        ↔ ⟦<SeqOp<Label> as Transform>⟧.is_valid op list }
+    ensures toggle { (p : Place) (op : SetOp Bool) (board : Windows) (toggle : Toggle)
+        → widget_at p board ≡ Some (Widget.Toggle toggle)
+        → ⟦<BoardOp as Transform>⟧.is_valid (op_at p (WidgetOp.Toggle op)) board }
+    ensures slider { (p : Place) (op : SetOp ℤ) (board : Windows) (slider : SliderState)
+        → widget_at p board ≡ Some (Widget.Slider slider)
+        → ⟦<BoardOp as Transform>⟧.is_valid (op_at p (WidgetOp.Slider op)) board
+        ↔ ⟦<SetOp<i32> as Transform>⟧.is_valid op slider }
+    ensures other_kind { (op : BoardOp) (board : Windows) (widget : Widget)
+        → widget_at (place op) board ≡ Some widget
+        → ¬ AreOfOneKind op.op widget → ¬ ⟦<BoardOp as Transform>⟧.is_valid op board }
+    ensures absent { (op : BoardOp) (board : Windows)
+        → widget_at (place op) board ≡ None → ¬ ⟦<BoardOp as Transform>⟧.is_valid op board }
+{}
+
+/// An operation changes the widget that its ids name, as it changes a text, a list, a toggle or a
+/// slider, and no other widget.
+pub fn operation_outcome()
+    ensures text { (p : Place) (op : SeqOp ℕ) (board : Windows) (text : Items ℕ)
+        → widget_at p board ≡ Some (Widget.Text text)
+        → widget_at p (⟦<BoardOp as Transform>⟧.after (op_at p (WidgetOp.Text op)) board)
+        ≡ Some (Widget.Text (⟦<SeqOp<char> as Transform>⟧.after op text)) }
+    ensures list { (p : Place) (op : SeqOp (List ℕ)) (board : Windows) (list : Items (List ℕ))
+        → widget_at p board ≡ Some (Widget.List list)
+        → widget_at p (⟦<BoardOp as Transform>⟧.after (op_at p (WidgetOp.List op)) board)
+        ≡ Some (Widget.List (⟦<SeqOp<Label> as Transform>⟧.after op list)) }
+    ensures toggle { (p : Place) (op : SetOp Bool) (board : Windows) (toggle : Toggle)
+        → widget_at p board ≡ Some (Widget.Toggle toggle)
+        → widget_at p (⟦<BoardOp as Transform>⟧.after (op_at p (WidgetOp.Toggle op)) board)
+        ≡ Some (Widget.Toggle (⟦<SetOp<bool> as Transform>⟧.after op toggle)) }
+    ensures slider { (p : Place) (op : SetOp ℤ) (board : Windows) (slider : SliderState)
+        → widget_at p board ≡ Some (Widget.Slider slider)
+        → widget_at p (⟦<BoardOp as Transform>⟧.after (op_at p (WidgetOp.Slider op)) board)
+        ≡ Some (Widget.Slider (⟦<SetOp<i32> as Transform>⟧.after op slider)) }
+    ensures elsewhere { (op : BoardOp) (board : Windows) (p : Place) → place op ≢ p
+        → widget_at p (⟦<BoardOp as Transform>⟧.after op board) ≡ widget_at p board }
+{}
+
+/// Two operations on one widget are transformed as operations on a text, a list, a toggle or a
+/// slider. Two on different widgets, or of different kinds, stay as they are.
+pub fn operation_transform()
+    ensures text { (p : Place) (c s : SeqOp ℕ)
+        → let on : SeqOp ℕ → BoardOp = λ op. op_at p (WidgetOp.Text op) in
+        (⟦<BoardOp as Transform>⟧.client_past (on c) (on s)
+        ≡ on (⟦<SeqOp<char> as Transform>⟧.client_past c s))
+        × (⟦<BoardOp as Transform>⟧.server_past (on s) (on c)
+        ≡ on (⟦<SeqOp<char> as Transform>⟧.server_past s c)) }
+    ensures list { (p : Place) (c s : SeqOp (List ℕ))
+        → let on : SeqOp (List ℕ) → BoardOp = λ op. op_at p (WidgetOp.List op) in
+        (⟦<BoardOp as Transform>⟧.client_past (on c) (on s)
+        ≡ on (⟦<SeqOp<Label> as Transform>⟧.client_past c s))
+        × (⟦<BoardOp as Transform>⟧.server_past (on s) (on c)
+        ≡ on (⟦<SeqOp<Label> as Transform>⟧.server_past s c)) }
+    ensures toggle { (p : Place) (c s : SetOp Bool)
+        → let on : SetOp Bool → BoardOp = λ op. op_at p (WidgetOp.Toggle op) in
+        (⟦<BoardOp as Transform>⟧.client_past (on c) (on s)
+        ≡ on (⟦<SetOp<bool> as Transform>⟧.client_past c s))
+        × (⟦<BoardOp as Transform>⟧.server_past (on s) (on c)
+        ≡ on (⟦<SetOp<bool> as Transform>⟧.server_past s c)) }
+    ensures slider { (p : Place) (c s : SetOp ℤ)
+        → let on : SetOp ℤ → BoardOp = λ op. op_at p (WidgetOp.Slider op) in
+        (⟦<BoardOp as Transform>⟧.client_past (on c) (on s)
+        ≡ on (⟦<SetOp<i32> as Transform>⟧.client_past c s))
+        × (⟦<BoardOp as Transform>⟧.server_past (on s) (on c)
+        ≡ on (⟦<SetOp<i32> as Transform>⟧.server_past s c)) }
+    ensures other_kind { (c s : BoardOp) → ¬ AreOperationsOfOneKind c.op s.op
+        → (⟦<BoardOp as Transform>⟧.client_past c s ≡ c)
+        × (⟦<BoardOp as Transform>⟧.server_past s c ≡ s) }
+    ensures elsewhere { (c s : BoardOp) → place c ≢ place s
+        → (⟦<BoardOp as Transform>⟧.client_past c s ≡ c)
+        × (⟦<BoardOp as Transform>⟧.server_past s c ≡ s) }
+{}
+
+/// Where order is kept from one board to another, it is kept in each text and each list that stands
+/// under the same ids in both.
+pub fn board_order()
+    ensures text { (x y : Windows) (p : Place) (v w : Items ℕ)
+        → ⟦<BoardOp as Transform>⟧.keeps_order x y
+        → widget_at p x ≡ Some (Widget.Text v) → widget_at p y ≡ Some (Widget.Text w)
+        → ⟦<SeqOp<char> as Transform>⟧.keeps_order v w }
+    ensures list { (x y : Windows) (p : Place) (v w : Items (List ℕ))
+        → ⟦<BoardOp as Transform>⟧.keeps_order x y
+        → widget_at p x ≡ Some (Widget.List v) → widget_at p y ≡ Some (Widget.List w)
+        → ⟦<SeqOp<Label> as Transform>⟧.keeps_order v w }
+{}
+
+/// An insertion puts its value under its name, a deletion deletes its name, whatever the place in
+/// the sequence, and a setting sets its value, each on the widget that the operation's ids name.
+pub fn operation_edits()
+    ensures character { (p : Place) (at : ℕ) (item : Item ℕ)
+        → ⟦<BoardOp as Transform>⟧.edit_of (op_at p (WidgetOp.Text (SeqOp.Insert at item)))
+        ≡ edit_at p (Effect.PutChar item.name item.value) }
+    ensures label { (p : Place) (at : ℕ) (item : Item (List ℕ))
+        → ⟦<BoardOp as Transform>⟧.edit_of (op_at p (WidgetOp.List (SeqOp.Insert at item)))
+        ≡ edit_at p (Effect.PutLabel item.name item.value) }
+    ensures deletion_in_text { (p : Place) (at : ℕ) (name : Name)
+        → ⟦<BoardOp as Transform>⟧.edit_of (op_at p (WidgetOp.Text (SeqOp.Delete at name)))
+        ≡ edit_at p (Effect.Deleted name) }
+    ensures deletion_in_list { (p : Place) (at : ℕ) (name : Name)
+        → ⟦<BoardOp as Transform>⟧.edit_of (op_at p (WidgetOp.List (SeqOp.Delete at name)))
+        ≡ edit_at p (Effect.Deleted name) }
+    ensures toggle { (p : Place) (on : Bool)
+        → ⟦<BoardOp as Transform>⟧.edit_of (op_at p (WidgetOp.Toggle (SetOp.Set on)))
+        ≡ edit_at p (Effect.Toggled on) }
+    ensures slider { (p : Place) (value : ℤ)
+        → ⟦<BoardOp as Transform>⟧.edit_of (op_at p (WidgetOp.Slider (SetOp.Set value)))
+        ≡ edit_at p (Effect.Slid value) }
+    ensures nothing { (p : Place)
+        → ⟦<BoardOp as Transform>⟧.edit_of (op_at p (WidgetOp.Text SeqOp.Nothing))
+        ≡ edit_at p Effect.Nothing }
+{}
+
+/// What a list of edits makes of a text: the names that it had and those that are inserted, less
+/// those that are deleted anywhere in the list, each with the character of its last insertion, else
+/// with its own.
+pub fn text_meaning()
+    ensures deleted { (before : Content) (edits : List Edit) (p : Place) (name : Name)
+        → Contains edits (edit_at p (Effect.Deleted name))
+        → character name (⟦<BoardOp as Transform>⟧.meaning before edits p) ≡ None }
+    ensures inserted { (before : Content) (earlier later : List Edit) (p : Place) (name : Name)
+        (value : ℕ) (text : SeqContent ℕ) → before p ≡ Some (Chars text)
+        → let edits = earlier ++ edit_at p (Effect.PutChar name value) ∷ later in
+        ¬ Contains edits (edit_at p (Effect.Deleted name))
+        → ((other : ℕ) → ¬ Contains later (edit_at p (Effect.PutChar name other)))
+        → character name (⟦<BoardOp as Transform>⟧.meaning before edits p) ≡ Some value }
+    ensures kept { (before : Content) (edits : List Edit) (p : Place) (name : Name)
+        → ¬ Contains edits (edit_at p (Effect.Deleted name))
+        → ((other : ℕ) → ¬ Contains edits (edit_at p (Effect.PutChar name other)))
+        → character name (⟦<BoardOp as Transform>⟧.meaning before edits p)
+        ≡ character name (before p) }
+{}
+
+/// What a list of edits makes of a list of labels: as of a text.
+pub fn list_meaning()
+    ensures deleted { (before : Content) (edits : List Edit) (p : Place) (name : Name)
+        → Contains edits (edit_at p (Effect.Deleted name))
+        → label name (⟦<BoardOp as Transform>⟧.meaning before edits p) ≡ None }
+    ensures inserted { (before : Content) (earlier later : List Edit) (p : Place) (name : Name)
+        (value : List ℕ) (list : SeqContent (List ℕ)) → before p ≡ Some (Labelled list)
+        → let edits = earlier ++ edit_at p (Effect.PutLabel name value) ∷ later in
+        ¬ Contains edits (edit_at p (Effect.Deleted name))
+        → ((other : List ℕ) → ¬ Contains later (edit_at p (Effect.PutLabel name other)))
+        → label name (⟦<BoardOp as Transform>⟧.meaning before edits p) ≡ Some value }
+    ensures kept { (before : Content) (edits : List Edit) (p : Place) (name : Name)
+        → ¬ Contains edits (edit_at p (Effect.Deleted name))
+        → ((other : List ℕ) → ¬ Contains edits (edit_at p (Effect.PutLabel name other)))
+        → label name (⟦<BoardOp as Transform>⟧.meaning before edits p) ≡ label name (before p) }
+{}
+
+/// What a list of edits makes of a toggle or a slider: its last setting, and where it has none,
+/// what was there before.
+pub fn setting_meaning()
+    ensures toggle { (before : Content) (edits : List Edit) (p : Place) (had on : Bool)
+        → before p ≡ Some (On had)
+        → ⟦<BoardOp as Transform>⟧.meaning before (edits ++ edit_at p (Effect.Toggled on) ∷ []) p
+        ≡ Some (On on) }
+    ensures slider { (before : Content) (edits : List Edit) (p : Place) (had value : ℤ)
+        → before p ≡ Some (At had)
+        → ⟦<BoardOp as Transform>⟧.meaning before (edits ++ edit_at p (Effect.Slid value) ∷ []) p
+        ≡ Some (At value) }
+    ensures toggle_kept { (before : Content) (edits : List Edit) (edit : Edit) (p : Place)
+        (had : Bool) → before p ≡ Some (On had)
+        → ((on : Bool) → edit ≢ edit_at p (Effect.Toggled on))
+        → ⟦<BoardOp as Transform>⟧.meaning before (edits ++ edit ∷ []) p
+        ≡ ⟦<BoardOp as Transform>⟧.meaning before edits p }
+    ensures slider_kept { (before : Content) (edits : List Edit) (edit : Edit) (p : Place)
+        (had : ℤ) → before p ≡ Some (At had)
+        → ((value : ℤ) → edit ≢ edit_at p (Effect.Slid value))
+        → ⟦<BoardOp as Transform>⟧.meaning before (edits ++ edit ∷ []) p
+        ≡ ⟦<BoardOp as Transform>⟧.meaning before edits p }
+{}
+
+/// No edit changes nothing, no edit makes a widget, and an edit of another widget changes nothing.
+pub fn other_meaning()
+    ensures none { (before : Content) → ⟦<BoardOp as Transform>⟧.meaning before [] ≡ before }
+    ensures absent { (before : Content) (edits : List Edit) (p : Place)
+        → before p ≡ None → ⟦<BoardOp as Transform>⟧.meaning before edits p ≡ None }
+    ensures elsewhere { (before : Content) (edits : List Edit) (edit : Edit) (p : Place)
+        → edit_place edit ≢ p
+        → ⟦<BoardOp as Transform>⟧.meaning before (edits ++ edit ∷ []) p
+        ≡ ⟦<BoardOp as Transform>⟧.meaning before edits p }
+{}

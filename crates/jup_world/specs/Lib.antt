@@ -1,1 +1,4 @@
 pub mod ScriptEnds
+pub mod Texts
+pub mod TwoFields
+pub mod Twos

@@ -10,7 +10,7 @@ use std::io::{BufWriter, ErrorKind, Read, Write};
 mod ending;
 mod lines;
 mod pair;
-mod words;
+mod two;
 
 pub use ending::ScriptEnd;
 
@@ -32,7 +32,7 @@ pub fn run_script<R: Read + Drop, W: Write>(
     let Ok(mut replies) = BufWriter::new(alloc, writer) else {
         return Err(ScriptEnd::NoMemory);
     };
-    let end = play(&mut Script::new(bytes.as_slice()), &mut replies);
+    let end = play(alloc, &mut Script::new(bytes.as_slice()), &mut replies);
     match replies.flush() {
         Ok(()) => end,
         Err(_) => Err(ScriptEnd::WriteFailed),
@@ -52,12 +52,15 @@ fn read_script<R: Read + Drop>(alloc: Global, reader: R) -> Result<Vec<u8>, Scri
 }
 
 // The first line chooses the mode, and each mode has a module of its own.
-fn play<W: Write>(script: &mut Script<'_>, replies: &mut W) -> Result<(), ScriptEnd>
+fn play<W: Write>(alloc: Global, script: &mut Script<'_>, replies: &mut W) -> Result<(), ScriptEnd>
     ensures { IfErr result ComesInPlay }
 {
     let first = script.required_line()?;
     if let Some(pair) = Pair::open(first) {
         return pair.play(script, replies);
+    }
+    if two::is_opening(first) {
+        return two::play(alloc, script, replies);
     }
     Err(script.bad_line())
 }

@@ -13,7 +13,7 @@ pub(crate) struct Script<'a> {
 }
 
 impl<'a> Script<'a> {
-    ghost use Rattle.std.specs.Prelude.{IfErr};
+    ghost use Rattle.std.specs.Prelude.{◌<◌, IsSome, IfSome, IfOk, IfErr};
     ghost use Rattle.jup_world.specs.ScriptEnds.{ComesInPlay};
 
     pub(crate) fn new(bytes: &'a [u8]) -> Script<'a>
@@ -28,7 +28,9 @@ impl<'a> Script<'a> {
     /// The next line without its line feed; `None` at the end of the script. A line that is no text, or
     /// a last line that has no line feed, is bad.
     pub(crate) fn next_line(&mut self) -> Result<Option<&'a str>, ScriptEnd>
-        ensures { IfErr result ComesInPlay }
+        ensures shorter { IfOk result (λ line. IsSome line → length self.new.rest.now < length self.old.rest.now) }
+        ensures short { IfOk result (λ line. IfSome line (λ text. length text.now ≤ 16777216)) }
+        ensures end { IfErr result ComesInPlay }
     {
         if self.rest.is_empty() {
             return Ok(None);
@@ -47,7 +49,8 @@ impl<'a> Script<'a> {
 
     /// The next line, which is bad where there is none.
     pub(crate) fn required_line(&mut self) -> Result<&'a str, ScriptEnd>
-        ensures { IfErr result ComesInPlay }
+        ensures short { IfOk result (λ text. length text.now ≤ 16777216) }
+        ensures end { IfErr result ComesInPlay }
     {
         match self.next_line()? {
             Some(text) => Ok(text),

@@ -4,7 +4,7 @@ ghost use Rattle.jup_world.specs.ScriptEnds.{ComesInPlay};
 
 use super::ScriptEnd;
 use super::lines::Script;
-use super::words::{read_integer, read_switch, switch_word};
+use crate::text::words::{read_integer, read_switch, switch_word};
 use crate::{pair_slider, pair_toggle};
 use jup_setting::{SettingValue, Slider, Toggle};
 use std::fmt::Display;

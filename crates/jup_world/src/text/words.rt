@@ -1,4 +1,4 @@
-//! The words that the lines of scripts share. Each value has one spelling.
+//! Switches and numbers.
 
 /// Reads `on` or `off`.
 pub(crate) fn read_switch(word: &str) -> Option<bool> {
@@ -21,4 +21,17 @@ pub(crate) fn read_integer(word: &str) -> Option<i32> {
         return None;
     }
     word.parse().ok()
+}
+
+/// Reads a number: decimal, with no sign and no leading zero.
+pub(crate) fn read_number(word: &str) -> Option<u32> {
+    if word.starts_with('+') || (word.starts_with('0') && word != "0") {
+        return None;
+    }
+    word.parse().ok()
+}
+
+/// Reads the id of a window or of a widget.
+pub(crate) fn read_id(word: &str) -> Option<u16> {
+    u16::try_from(read_number(word)?).ok()
 }

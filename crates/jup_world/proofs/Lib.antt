@@ -1,0 +1,3 @@
+pub mod NamedTexts
+pub mod Received
+pub mod TwoKept

@@ -1,0 +1,112 @@
+use Rattle.std.proofs.Common.{◌≡◌, ap, ◌∙◌, sym, map, subst, List, length, Some, None, Ok, ◌++◌, ◌∷◌, []}
+use Rattle.jup_window.specs.declared.edits.Edit.{Edit}
+use Rattle.jup_window.specs.Boards as board
+use Rattle.jup_window.specs.BoardOperations.{board_operations, accepts}
+use Rattle.jup_star.specs.declared.messages.Entry.{Entry}
+use Rattle.jup_star.specs.declared.messages.Up.TheVariants.{Op}
+use Rattle.jup_star.specs.declared.calls.Reply.TheVariants.{Taken}
+use Rattle.jup_star.specs.LinkStates.{operation_at}
+use Rattle.jup_star.specs.StarStates.{link_of, without, with_links, IsStar, links_after}
+use Rattle.jup_star.specs.StarCalls.{BoardLink}
+use Rattle.jup_star.specs.Rooms.{bare_link, AllCount}
+use Rattle.jup_star.specs.contracts.star.Star.{the_view}
+use Rattle.jup_star.proofs.LinkPlaces.{detached}
+use Rattle.jup_star.proofs.LinkChanges.{found_new, found_some}
+use Rattle.jup_star.proofs.StarKeeps.{left_star}
+use Rattle.jup_star.proofs.CallSteps.{take_no_link}
+use Rattle.jup_star.proofs.TakeSteps.{checked, edit_detached, edit_waits, edit_misfits, misfits_star, edit_taken, edit_star, heard_by, all_count}
+use Rattle.jup_star.proofs.star.Star.take_edit.Goals as goal
+
+pub returns-in_default : goal.returns-in_default
+returns-in_default c =
+    let new = rw c.deref.ensures.value at c.in_default.ensures.place in
+    rw (← c.self.view_is) (take_no_link c.args.site (Op c.args.msg.now) (the_view c.self.inside) (found_new _ _ new))
+
+pub invariant_of-self : goal.invariant_of-self
+invariant_of-self c =
+    let P : List BoardLink → Type 0 = λ ls. IsStar (with_links (the_view c.self.inside) ls) in
+    subst P (sym (ap (map bare_link) c.detach.ensures ∙ detached c.args.site _)) (left_star c.args.site (the_view c.self.inside) c.self.invariant)
+
+pub returns-in-Err : goal.returns-in-Err
+returns-in-Err c =
+    let place = rw c.deref.ensures.value at c.in-Some.ensures.place in
+    let found = found_some c.args.site (map bare_link c.self.inside.links.items) c.in-Some.at place in
+    let early = checked c.args.site c.in-Some.at c.self.inside.limit c.len-place.result (length c.self.inside.order.entries) c.self.inside.links.items c.index.result.now found.0
+    c.args.msg.now (Some c.in-Err.fault) place c.index.ensures c.len-place.ensures found.1 c.in-Err.ensures in
+    rw (← c.self.view_is) (edit_detached (the_view c.self.inside) c.args.site c.args.msg.now found.0 c.in-Err.fault _ found.1 early
+    (ap (map bare_link) c.detach.ensures ∙ detached c.args.site _))
+
+pub returns-in-Err-reserve_edit : goal.returns-in-Err-reserve_edit
+returns-in-Err-reserve_edit c =
+    let place = rw c.deref.ensures.value at c.in-Some.ensures.place in
+    let found = found_some c.args.site (map bare_link c.self.inside.links.items) c.in-Some.at place in
+    let early = checked c.args.site c.in-Some.at c.self.inside.limit c.len-place.result (length c.self.inside.order.entries) c.self.inside.links.items c.index.result.now found.0
+    c.args.msg.now None place c.index.ensures c.len-place.ensures found.1 c.in-Ok.ensures in
+    rw (← c.self.view_is) (edit_waits (the_view c.self.inside) c.args.site c.args.msg.now found.0 _ _ _ found.1 early
+    c.in-Err-reserve_edit.ensures.board c.in-Err-reserve_edit.ensures.links c.in-Err-reserve_edit.ensures.order)
+
+pub carry_out-requires-clause-heard : goal.carry_out-requires-clause-heard
+carry_out-requires-clause-heard c = λ l there.
+    let place = rw c.deref.ensures.value at c.in-Some.ensures.place in
+    let found : link_of c.args.site (map bare_link c.self.inside.links.items) ≡ Some l = ap (link_of c.args.site) (sym c.in-Ok-reserve_edit.ensures.links) ∙ there in
+    let early = checked c.args.site c.in-Some.at c.self.inside.limit c.len-place.result (length c.self.inside.order.entries) c.self.inside.links.items c.index.result.now l
+    c.args.msg.now None place c.index.ensures c.len-place.ensures found c.in-Ok.ensures in
+    heard_by (the_view c.self.inside) c.args.site c.in-Some.at c.args.msg.now l c.self.invariant place found early
+
+pub carry_out-requires-clause-counted : goal.carry_out-requires-clause-counted
+carry_out-requires-clause-counted c = subst AllCount (sym c.in-Ok-reserve_edit.ensures.links) (all_count (the_view c.self.inside) c.self.invariant)
+
+pub invariant_of-self-then-not-carry_out : goal.invariant_of-self-then-not-carry_out
+invariant_of-self-then-not-carry_out c =
+    let misfits = c.if-not-carry_out.true in
+    misfits_star (the_view c.self.inside) c.args.site _ _ _ c.self.invariant
+    (c.carry_out.ensures.same_board misfits ∙ c.in-Ok-reserve_edit.ensures.board)
+    (ap (map bare_link) c.detach-then-not-carry_out.ensures ∙ detached c.args.site _ ∙ c.carry_out.ensures.others misfits ∙ ap (without c.args.site) c.in-Ok-reserve_edit.ensures.links)
+    (c.carry_out.ensures.same_order misfits ∙ c.in-Ok-reserve_edit.ensures.order)
+
+pub returns-then-not-carry_out : goal.returns-then-not-carry_out
+returns-then-not-carry_out c =
+    let misfits = c.if-not-carry_out.true in
+    let place = rw c.deref.ensures.value at c.in-Some.ensures.place in
+    let found = found_some c.args.site (map bare_link c.self.inside.links.items) c.in-Some.at place in
+    let there = ap (link_of c.args.site) c.in-Ok-reserve_edit.ensures.links ∙ found.1 in
+    let early = checked c.args.site c.in-Some.at c.self.inside.limit c.len-place.result (length c.self.inside.order.entries) c.self.inside.links.items c.index.result.now found.0
+    c.args.msg.now None place c.index.ensures c.len-place.ensures found.1 c.in-Ok.ensures in
+    let op = operation_at board_operations found.0.end c.args.msg.now in
+    rw (← c.self.view_is) (edit_misfits (the_view c.self.inside) c.args.site c.args.msg.now found.0 _ _ _ found.1 early
+    (ap (accepts op) (sym c.in-Ok-reserve_edit.ensures.board) ∙ sym (c.carry_out.ensures.fits found.0 there) ∙ misfits)
+    (c.carry_out.ensures.same_board misfits ∙ c.in-Ok-reserve_edit.ensures.board)
+    (ap (map bare_link) c.detach-then-not-carry_out.ensures ∙ detached c.args.site _ ∙ c.carry_out.ensures.others misfits ∙ ap (without c.args.site) c.in-Ok-reserve_edit.ensures.links)
+    (c.carry_out.ensures.same_order misfits ∙ c.in-Ok-reserve_edit.ensures.order))
+
+pub invariant_of-self-else-not-carry_out : goal.invariant_of-self-else-not-carry_out
+invariant_of-self-else-not-carry_out c =
+    let fits = c.if-not-carry_out.false in
+    let place = rw c.deref.ensures.value at c.in-Some.ensures.place in
+    let found = found_some c.args.site (map bare_link c.self.inside.links.items) c.in-Some.at place in
+    let there = ap (link_of c.args.site) c.in-Ok-reserve_edit.ensures.links ∙ found.1 in
+    let early = checked c.args.site c.in-Some.at c.self.inside.limit c.len-place.result (length c.self.inside.order.entries) c.self.inside.links.items c.index.result.now found.0
+    c.args.msg.now None place c.index.ensures c.len-place.ensures found.1 c.in-Ok.ensures in
+    let op = operation_at board_operations found.0.end c.args.msg.now in
+    edit_star (the_view c.self.inside) c.args.site c.in-Some.at c.args.msg.now found.0 _ _ _ c.self.invariant place found.1 early
+    (c.carry_out.ensures.board fits found.0 there ∙ ap (board.after op) c.in-Ok-reserve_edit.ensures.board)
+    (c.carry_out.ensures.links fits found.0 there ∙ ap (links_after board_operations c.args.site c.args.msg.now op) c.in-Ok-reserve_edit.ensures.links)
+    (c.carry_out.ensures.order fits ∙ ap (λ (es : List (Entry Edit)). es ++ record { site = c.args.site; edit = c.edit_of-edit.result } ∷ []) c.in-Ok-reserve_edit.ensures.order
+    ∙ ap (λ (e : Edit). c.self.inside.order.entries ++ record { site = c.args.site; edit = e } ∷ []) c.edit_of-edit.ensures)
+
+pub returns : goal.returns
+returns c =
+    let fits = c.if-not-carry_out.false in
+    let place = rw c.deref.ensures.value at c.in-Some.ensures.place in
+    let found = found_some c.args.site (map bare_link c.self.inside.links.items) c.in-Some.at place in
+    let there = ap (link_of c.args.site) c.in-Ok-reserve_edit.ensures.links ∙ found.1 in
+    let early = checked c.args.site c.in-Some.at c.self.inside.limit c.len-place.result (length c.self.inside.order.entries) c.self.inside.links.items c.index.result.now found.0
+    c.args.msg.now None place c.index.ensures c.len-place.ensures found.1 c.in-Ok.ensures in
+    let op = operation_at board_operations found.0.end c.args.msg.now in
+    let call = edit_taken (the_view c.self.inside) c.args.site c.args.msg.now found.0 _ _ _ found.1 early
+    (ap (accepts op) (sym c.in-Ok-reserve_edit.ensures.board) ∙ sym (c.carry_out.ensures.fits found.0 there) ∙ fits)
+    (c.carry_out.ensures.board fits found.0 there ∙ ap (board.after op) c.in-Ok-reserve_edit.ensures.board)
+    (c.carry_out.ensures.links fits found.0 there ∙ ap (links_after board_operations c.args.site c.args.msg.now op) c.in-Ok-reserve_edit.ensures.links)
+    (c.carry_out.ensures.order fits ∙ ap (λ (es : List (Entry Edit)). es ++ record { site = c.args.site; edit = c.edit_of-edit.result } ∷ []) c.in-Ok-reserve_edit.ensures.order
+    ∙ ap (λ (e : Edit). c.self.inside.order.entries ++ record { site = c.args.site; edit = e } ∷ []) c.edit_of-edit.ensures) in
+    rw (← c.self.view_is) (ap (λ n. Taken (Ok (Some n))) c.len-place.ensures ∙ call.0, call.1)

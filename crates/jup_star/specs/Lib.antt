@@ -1,0 +1,11 @@
+pub mod Counts
+pub mod FaultNumbers
+pub mod FirstFaults
+pub mod LinkStates
+pub mod Places
+pub mod Queues
+pub mod Rooms
+pub mod SiteCalls
+pub mod SiteStates
+pub mod StarCalls
+pub mod StarStates

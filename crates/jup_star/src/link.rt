@@ -1,0 +1,151 @@
+//! The star's end of a link to a site.
+ghost use Rattle.std.specs.Prelude.{◌≡◌, ◌≤◌, ◌<◌, length, take, OnOk, OnErr, IfOk};
+ghost use Rattle.jup_link.specs.Links.{IsNumber, IsCount, generated};
+ghost use Rattle.jup_window.specs.BoardOperations.{board_operations};
+ghost use Rattle.jup_star.specs.FirstFaults.{first_fault, fault_of};
+ghost use Rattle.jup_star.specs.LinkStates.{opened_link, link_acked, link_ponged, link_fetched, link_sent, link_heard, operation_at};
+ghost use Rattle.jup_star.specs.StarStates.{early_fault, edit_tests, ack_tests, log_tests};
+ghost use Rattle.jup_star.specs.Rooms.{bare_link, HasRoom};
+
+use crate::ends::{acknowledge, check_counts, receive};
+use crate::outbox::Outbox;
+use crate::{Down, Downs, StarFault};
+use jup_link::{End, Msg};
+use jup_window::{BoardOp, Edit};
+use jup_xform::{NoMemory, Side, Transform};
+use std::alloc::Global;
+
+/// The star's end of a link: its site, what is to be fetched, and the insertions taken from the site.
+#[derive(Drop)]
+pub(crate) struct Link {
+    pub(crate) site: u32,
+    pub(crate) end: End<BoardOp>,
+    pub(crate) outbox: Outbox,
+    pub(crate) named: u32,
+}
+
+// The first fault of an edit for want of room in the order.
+fn check_log(limit: u32, count: usize) -> Result<(), StarFault>
+    ensures { fault_of result ≡ first_fault (log_tests limit count) }
+{
+    if count >= limit as usize {
+        return Err(StarFault::LogFull);
+    }
+    Ok(())
+}
+
+impl Link {
+    pub(crate) fn new(alloc: Global, site: u32) -> Link
+        ensures { bare_link result ≡ opened_link site }
+    {
+        Link {
+            site,
+            end: End::new(alloc, Side::Server),
+            outbox: Outbox::new(alloc),
+            named: 0,
+        }
+    }
+
+    // Makes room for one message and one operation.
+    pub(crate) fn reserve(&mut self) -> Result<(), NoMemory>
+        ensures room { OnOk result (HasRoom self.new) }
+        ensures same { bare_link self.new ≡ bare_link self.old }
+    {
+        self.outbox.reserve_one()?;
+        self.end.reserve_one()
+    }
+
+    // The first fault of an edit, but for what its operation meets on the board.
+    pub(crate) fn check(
+        &self,
+        limit: u32,
+        count: usize,
+        msg: &Msg<BoardOp>,
+        edit: &Edit,
+    ) -> Result<(), StarFault>
+        requires { edit.now ≡ board_operations.t.edit_of msg.now.op }
+        ensures { fault_of result ≡ early_fault board_operations limit count (bare_link self.now) msg.now }
+    {
+        check_counts(&self.end, msg)?;
+        self.check_edit(edit)?;
+        check_log(limit, count)
+    }
+
+    // The first fault of what an edit means.
+    fn check_edit(&self, edit: &Edit) -> Result<(), StarFault>
+        ensures { fault_of result ≡ first_fault (edit_tests board_operations (bare_link self.now) edit.now) }
+    {
+        if edit.is_nothing() {
+            return Err(StarFault::NotAnEdit);
+        }
+        if !edit.bears_next(self.site, self.named) {
+            return Err(StarFault::BadName);
+        }
+        Ok(())
+    }
+
+    // Takes an acknowledgement.
+    pub(crate) fn take_ack(&mut self, heard: u32) -> Result<(), StarFault>
+        ensures fault { fault_of result ≡ first_fault (ack_tests self.old.end.link heard) }
+        ensures count { OnOk result (IsCount self.old.end.link heard) }
+        ensures ok { OnOk result (bare_link self.new ≡ link_acked heard (bare_link self.old)) }
+        ensures err { OnErr result (bare_link self.new ≡ bare_link self.old) }
+    {
+        self.end.take_ack(heard)?;
+        Ok(())
+    }
+
+    // Receives an edit, and acknowledges what is then owed. The operation is to be applied to the board.
+    pub(crate) fn hear(&mut self, msg: &Msg<BoardOp>, edit: &Edit) -> BoardOp
+        requires number { IsNumber self.old.end.link msg.now.mine }
+        requires count { IsCount self.old.end.link msg.now.heard }
+        requires room { 1 ≤ self.old.outbox.spare }
+        requires edit { edit.now ≡ board_operations.t.edit_of msg.now.op }
+        requires named { self.old.named ≤ 16777216 }
+        ensures op { result ≡ operation_at board_operations self.old.end.link msg.now }
+        ensures link { bare_link self.new ≡ link_heard board_operations msg.now (bare_link self.old) }
+    {
+        self.named += edit.insertions();
+        let op = receive(&mut self.end, msg);
+        if let Some(heard) = acknowledge(&mut self.end) {
+            self.outbox.push(Down::Ack(heard));
+        }
+        op
+    }
+
+    // Puts the answer to a ping into the outbox.
+    pub(crate) fn pong(&mut self, count: u32) -> Result<(), NoMemory>
+        ensures ok { OnOk result (bare_link self.new ≡ link_ponged count (bare_link self.old)) }
+        ensures err { OnErr result (bare_link self.new ≡ bare_link self.old) }
+    {
+        self.outbox.reserve_one()?;
+        self.outbox.push(Down::Pong(count));
+        Ok(())
+    }
+
+    // Sends an operation to the site.
+    pub(crate) fn send(&mut self, op: &BoardOp)
+        requires room { HasRoom self.old }
+        requires counted { generated self.old.end.link < 4294967295 }
+        ensures { bare_link self.new ≡ link_sent op.now (bare_link self.old) }
+    {
+        let msg = self.end.send(*op, *op);
+        self.outbox.push(Down::Op(msg));
+    }
+
+    // Moves up to `max` of the oldest messages out of the outbox.
+    pub(crate) fn fetch(&mut self, alloc: Global, max: u32) -> Result<Downs, NoMemory>
+        ensures fetched { IfOk result (λ downs. downs ≡ take max (bare_link self.old).outbox) }
+        ensures ok { OnOk result (bare_link self.new ≡ link_fetched max (bare_link self.old)) }
+        ensures err { OnErr result (bare_link self.new ≡ bare_link self.old) }
+    {
+        self.outbox.fetch(alloc, max)
+    }
+
+    // How many messages wait to be fetched.
+    pub(crate) fn waiting(&self) -> usize
+        ensures { result ≡ length (bare_link self.now).outbox }
+    {
+        self.outbox.len()
+    }
+}

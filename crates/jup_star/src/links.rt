@@ -1,0 +1,56 @@
+//! The links of a star.
+ghost use Rattle.std.specs.Prelude.{◌≡◌, ◌<◌, not, nat_eq, map, filter, position, length, MatchOption, IfSome, OnOk, if◌then◌else◌};
+ghost use Rattle.jup_star.specs.LinkStates.{is_of, link_sent};
+ghost use Rattle.jup_star.specs.StarStates.{IsNew};
+ghost use Rattle.jup_star.specs.Places.{IsPlace};
+ghost use Rattle.jup_star.specs.Rooms.{bare_link, AllHaveRoom, OthersHaveRoom, AllCount};
+
+use crate::link::Link;
+use jup_window::BoardOp;
+use jup_xform::NoMemory;
+
+// The place of the first link of a site.
+fn place_of(links: &[Link], site: u32) -> Option<usize>
+    ensures { result ≡ position (λ l. nat_eq l.site site) links.now }
+{
+    links.iter().position(|link| link.site == site)
+}
+
+/// Where the link of a site stands.
+pub(crate) fn link_at(links: &[Link], site: u32) -> Option<usize>
+    ensures place { MatchOption result (IsNew site (map bare_link links.now)) (λ at. IsPlace site (map bare_link links.now) at) }
+    ensures below { IfSome result (λ at. at < length links.now) }
+{
+    place_of(links, site)
+}
+
+/// Makes room in each link for one message and one operation.
+pub(crate) fn reserve_all(links: &mut [Link]) -> Result<(), NoMemory>
+    ensures same { map bare_link links.new ≡ map bare_link links.old }
+    ensures room { OnOk result (AllHaveRoom links.new) }
+{
+    for link in links.iter_mut() {
+        link.reserve()?;
+    }
+    Ok(())
+}
+
+/// Sends an operation to each link but that of the site that it came from.
+pub(crate) fn send_others(links: &mut [Link], site: u32, op: &BoardOp)
+    requires room { OthersHaveRoom site links.old }
+    requires counted { AllCount (map bare_link links.old) }
+    ensures { map bare_link links.new ≡ map (λ l. if is_of site l then l else link_sent op.now l) (map bare_link links.old) }
+{
+    for link in links.iter_mut() {
+        if link.site != site {
+            link.send(op);
+        }
+    }
+}
+
+/// Drops the link of a site, with its outbox.
+pub(crate) fn detach(links: &mut Vec<Link>, site: u32)
+    ensures { links.new.items ≡ filter (λ l. not (nat_eq l.site site)) links.old.items }
+{
+    links.retain(|link| link.site != site);
+}

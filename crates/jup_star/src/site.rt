@@ -1,0 +1,315 @@
+//! A site.
+ghost use Rattle.std.specs.Prelude.{◌≡◌, ◌≤◌, ◌<◌, true, false, length, IfOk, IfErr, OnOk};
+ghost use Rattle.jup_link.specs.Links.{IsNumber, IsCount, opened, after_count};
+ghost use Rattle.jup_window.specs.Boards.{bare, after, IsValid, HasRoom};
+ghost use Rattle.jup_window.specs.BoardOperations.{accepts, next_name, numbered, board_operations};
+ghost use Rattle.jup_window.specs.Commands.{shown};
+ghost use Rattle.jup_star.specs.FirstFaults.{fault_of, first_fault};
+ghost use Rattle.jup_star.specs.LinkStates.{operation_at, end_after};
+ghost use Rattle.jup_star.specs.SiteStates.{opened_site, edit_answer, heard_tests, shown_tests};
+ghost use Rattle.jup_star.specs.SiteCalls.{site_open_fault, EditAnswers, DeliverAnswers, Bears, is_edit_memory};
+ghost use Rattle.jup_star.specs.declared.messages.Down.TheVariants.{Op, Ack, Pong};
+
+use crate::edits::edit_of;
+use crate::ends::{acknowledge, check_counts, receive};
+use crate::limits::{HIGHEST_LIMIT, LAST_SITE};
+use crate::take::fits;
+use crate::{Down, OpenFault, SiteFault, Up};
+use jup_link::{End, Msg};
+use jup_seq::SeqOp;
+use jup_value::{Label, Name};
+use jup_window::{Board, BoardOp, Command, Edit, EditFault, Effect, WidgetOp};
+use jup_xform::{NoMemory, Side, Transform};
+use std::alloc::Global;
+use std::marker::{Model, PhantomData};
+
+/// The most edits of a site that the star has not acknowledged.
+const MOST_UNACKNOWLEDGED: u32 = 1024;
+
+/// An edit that a site made, and the message that tells the star of it.
+#[derive(Debug, Drop, PartialEq, Eq)]
+pub struct Made {
+    pub edit: Edit,
+    pub up: Up,
+}
+
+/// A client: its board, which shows its own edits at once and those of others as they come, and its end of
+/// the link to the star.
+///
+/// Contracts see it without the room that it keeps. Memory aside each call has one reply and leaves one
+/// site, and what a call refuses for want of memory changes nothing.
+#[derive(Drop)]
+pub struct Site {
+    number: u32,
+    limit: u32,
+    board: Board,
+    end: End<BoardOp>,
+    made: u32,
+    named: u32,
+    stopped: bool,
+    // The checker learns of the types within operations and edits from a field that names them.
+    within: PhantomData<(SeqOp<Label>, WidgetOp, BoardOp, Msg<BoardOp>, Effect, Edit)>,
+}
+
+impl Model for Site {
+    ghost use Rattle.jup_window.specs.declared.board_operations.BoardOp.{BoardOp};
+    ghost use Rattle.jup_window.specs.Boards.{Windows, bare};
+    ghost use Rattle.jup_window.specs.BoardOperations.{board_operations};
+    ghost use Rattle.jup_star.specs.SiteStates.{SiteState, IsSite};
+
+    ghost Value = { SiteState BoardOp Windows };
+
+    ghost view = { λ s. record {
+      number = s.number;
+      limit = s.limit;
+      board = bare s.board;
+      end = s.end.link;
+      made = s.made;
+      named = s.named;
+      stopped = s.stopped;
+    } };
+
+    ghost invariant = { λ s. IsSite board_operations (record {
+      number = s.number;
+      limit = s.limit;
+      board = bare s.board;
+      end = s.end.link;
+      made = s.made;
+      named = s.named;
+      stopped = s.stopped;
+    }) };
+}
+
+impl Site {
+    /// A site with the number, the limit and the board that the star gave it. It takes no memory. Refused,
+    /// in this order: a limit that is not 1 to 16,777,216, a number that is not 1 to 65,535, and a board
+    /// with an item of this site.
+    pub fn open(alloc: Global, number: u32, limit: u32, board: Board) -> Result<Site, OpenFault>
+        ensures refusal { fault_of result ≡ site_open_fault number limit (bare board) }
+        ensures opened { IfOk result (λ site. site ≡ opened_site number limit (bare board)) }
+    {
+        if limit < 1 || limit > HIGHEST_LIMIT {
+            return Err(OpenFault::BadLimit);
+        }
+        if number < 1 || number > LAST_SITE {
+            return Err(OpenFault::BadSite);
+        }
+        if board.has_site(number) {
+            return Err(OpenFault::BadSite);
+        }
+        Ok(Site {
+            number,
+            limit,
+            board,
+            end: End::new(alloc, Side::Client),
+            made: 0,
+            named: 0,
+            stopped: false,
+            within: PhantomData,
+        })
+    }
+
+    /// This site's number.
+    pub fn number(&self) -> u32
+        ensures { result ≡ self.now.number }
+    {
+        self.number
+    }
+
+    /// What this site shows.
+    pub fn board(&self) -> &Board
+        ensures { bare result.now ≡ self.now.board }
+    {
+        &self.board
+    }
+
+    /// How many edits of this site the star has not acknowledged.
+    pub fn backlog(&self) -> u32
+        ensures { result ≡ length self.now.end.outgoing }
+    {
+        self.end.backlog()
+    }
+
+    // The operation that a command makes, or the first refusal.
+    fn name_it(&self, command: &Command) -> Result<BoardOp, EditFault>
+        ensures answer { numbered result ≡ edit_answer board_operations command.now self.now }
+        ensures memory { IfErr result (λ fault. is_edit_memory fault ≡ false) }
+        ensures valid { IfOk result (λ op. IsValid op self.now.board) }
+        ensures shown { IfOk result (λ op. after op self.now.board
+            ≡ shown command.now (next_name self.now.number self.now.named) self.now.board) }
+        ensures room { IfOk result (λ op. self.now.made < self.now.limit) }
+    {
+        if self.stopped {
+            return Err(EditFault::Stopped);
+        }
+        let name = Name {
+            site: self.number,
+            number: self.named + 1,
+        };
+        let op = self.board.name_it(command, name)?;
+        if self.end.backlog() >= MOST_UNACKNOWLEDGED {
+            return Err(EditFault::Backlog);
+        }
+        if self.made >= self.limit {
+            return Err(EditFault::Spent);
+        }
+        Ok(op)
+    }
+
+    /// Takes a message of the star, and answers an acknowledgement where one is then owed. An edit is shown
+    /// at once.
+    ///
+    /// Refused, in this order, are: every message at a stopped site; of an edit the wrong count, the wrong
+    /// acknowledgement, an insertion that bears a name of this site, no memory, and an operation that does
+    /// not fit the board; of an acknowledgement the wrong count. Every refusal but `NoMemory` stops the
+    /// site: its board stays as it was, its link is gone, and it takes no more.
+    pub fn deliver(&mut self, alloc: Global, down: &Down) -> Result<Option<Up>, SiteFault>
+        ensures { DeliverAnswers down.now self.old self.new result }
+    {
+        if self.stopped {
+            return Err(SiteFault::Stopped);
+        }
+        match down {
+            Down::Op(msg) => self.deliver_edit(alloc, msg),
+            Down::Ack(heard) => self.deliver_ack(alloc, *heard),
+            Down::Pong(_) => Ok(None),
+        }
+    }
+
+    // Takes an edit of another site.
+    fn deliver_edit(&mut self, alloc: Global, msg: &Msg<BoardOp>) -> Result<Option<Up>, SiteFault>
+        requires { self.old.stopped ≡ false }
+        ensures { DeliverAnswers (Op msg.now) self.old self.new result }
+    {
+        match check_shown(alloc, self.number, &self.end, msg) {
+            Err(fault) => {
+                halt(alloc, &mut self.end, &mut self.stopped);
+                return Err(fault);
+            }
+            Ok(()) => {}
+        }
+        match msg.op.reserve(alloc, 0, &mut self.board) {
+            Err(NoMemory) => return Err(SiteFault::NoMemory),
+            Ok(()) => {}
+        }
+        if !show(&mut self.board, &mut self.end, msg) {
+            halt(alloc, &mut self.end, &mut self.stopped);
+            return Err(SiteFault::BadOp);
+        }
+        Ok(acknowledge(&mut self.end).map(Up::Ack))
+    }
+
+    // Takes an acknowledgement.
+    fn deliver_ack(&mut self, alloc: Global, heard: u32) -> Result<Option<Up>, SiteFault>
+        requires { self.old.stopped ≡ false }
+        ensures { DeliverAnswers (Ack heard) self.old self.new result }
+    {
+        match hear(&mut self.end, heard) {
+            Err(fault) => {
+                halt(alloc, &mut self.end, &mut self.stopped);
+                return Err(fault);
+            }
+            Ok(()) => {}
+        }
+        Ok(None)
+    }
+
+    /// Makes the edit of a command: the board shows it at once, and the message tells the star of it. Refused,
+    /// in this order: the site is stopped, what [`Board::name_it`] refuses, 1,024 edits are not
+    /// acknowledged, all edits were made, no memory. A refusal changes nothing.
+    pub fn edit(&mut self, alloc: Global, command: &Command) -> Result<Made, EditFault>
+        ensures answer { EditAnswers command.now self.old self.new result }
+        ensures shown { OnOk result (self.new.board
+            ≡ shown command.now (next_name self.old.number self.old.named) self.old.board) }
+        ensures bears { IfOk result (λ made. Bears made.edit made.up) }
+    {
+        let op = match self.name_it(command) {
+            Err(fault) => return Err(fault),
+            Ok(op) => op,
+        };
+        match reserve_made(alloc, &op, &mut self.board, &mut self.end) {
+            Err(NoMemory) => return Err(EditFault::NoMemory),
+            Ok(()) => {}
+        }
+        op.apply(&mut self.board);
+        let msg = self.end.send(op, op);
+        let edit = edit_of(alloc, &op);
+        self.made += 1;
+        self.named += edit.insertions();
+        Ok(Made {
+            edit,
+            up: Up::Op(msg),
+        })
+    }
+}
+
+// Stops a site: its link is gone.
+fn halt(alloc: Global, end: &mut End<BoardOp>, stopped: &mut bool)
+    ensures end { end.new.link ≡ opened Side.Client }
+    ensures stopped { stopped.new ≡ true }
+{
+    *end = End::new(alloc, Side::Client);
+    *stopped = true;
+}
+
+// Takes an acknowledgement.
+fn hear(end: &mut End<BoardOp>, heard: u32) -> Result<(), SiteFault>
+    ensures fault { fault_of result ≡ first_fault (heard_tests end.old.link heard) }
+    ensures count { OnOk result (IsCount end.old.link heard) }
+    ensures ok { OnOk result (end.new.link ≡ after_count end.old.link heard) }
+{
+    end.take_ack(heard)?;
+    Ok(())
+}
+
+// The first fault of an edit of another site, but for what its operation meets on the board.
+fn check_shown(
+    alloc: Global,
+    number: u32,
+    end: &End<BoardOp>,
+    msg: &Msg<BoardOp>,
+) -> Result<(), SiteFault>
+    ensures { fault_of result ≡ first_fault (shown_tests board_operations number end.now.link msg.now) }
+{
+    check_counts(end, msg)?;
+    if edit_of(alloc, &msg.op).bears_site(number) {
+        return Err(SiteFault::BadName);
+    }
+    Ok(())
+}
+
+// Receives an edit of another site and applies it, where it fits the board, and answers whether it does.
+// It takes no memory.
+fn show(board: &mut Board, end: &mut End<BoardOp>, msg: &Msg<BoardOp>) -> bool
+    requires number { IsNumber end.old.link msg.now.mine }
+    requires count { IsCount end.old.link msg.now.heard }
+    requires room { HasRoom msg.now.op 0 board.old }
+    ensures fits { result ≡ accepts (operation_at board_operations end.old.link msg.now) (bare board.old) }
+    ensures end { end.new.link ≡ end_after board_operations end.old.link msg.now }
+    ensures same { result ≡ false → bare board.new ≡ bare board.old }
+    ensures shown { result ≡ true
+        → bare board.new ≡ after (operation_at board_operations end.old.link msg.now) (bare board.old) }
+{
+    let op = receive(end, msg);
+    if !fits(&op, board) {
+        return false;
+    }
+    op.apply(board);
+    true
+}
+
+// Makes all room that an edit of the site needs.
+fn reserve_made(
+    alloc: Global,
+    op: &BoardOp,
+    board: &mut Board,
+    end: &mut End<BoardOp>,
+) -> Result<(), NoMemory>
+    ensures board { bare board.new ≡ bare board.old }
+    ensures end { end.new.link ≡ end.old.link }
+    ensures board_room { OnOk result (HasRoom op.now 0 board.new) }
+    ensures end_room { OnOk result (1 ≤ end.new.spare) }
+{
+    op.reserve(alloc, 0, board)?;
+    end.reserve_one()
+}

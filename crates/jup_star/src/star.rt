@@ -1,0 +1,271 @@
+//! The star.
+ghost use Rattle.std.specs.Prelude.{◌≡◌, ◌≤◌, ◌<◌, false, length, IfOk};
+ghost use Rattle.std.specs.Option.{option_map};
+ghost use Rattle.jup_window.specs.Boards.{bare};
+ghost use Rattle.jup_star.specs.FirstFaults.{fault_of};
+ghost use Rattle.jup_star.specs.StarStates.{link_of, opened_star};
+ghost use Rattle.jup_star.specs.StarCalls.{Answers, bare_joined, lacks_memory, star_open_fault};
+ghost use Rattle.jup_star.specs.declared.messages.Up.TheVariants.{Op, Ack, Ping};
+ghost use Rattle.jup_star.specs.declared.calls.Call.TheVariants.{Join, Take, Fetch, Leave};
+ghost use Rattle.jup_star.specs.declared.calls.Reply.TheVariants.{Joined as JoinedReply, Taken, Fetched, Left};
+
+use crate::edits::edit_of;
+use crate::limits::{HIGHEST_LIMIT, LAST_SITE};
+use crate::link::Link;
+use crate::links::{detach, link_at};
+use crate::order::Order;
+use crate::take::{carry_out, reserve_edit};
+use crate::{Downs, Entry, OpenFault, StarFault, Up};
+use jup_link::Msg;
+use jup_window::{Board, BoardOp};
+use jup_xform::NoMemory;
+use std::alloc::Global;
+use std::marker::Model;
+
+/// The most links that a star has.
+const MOST_LINKS: usize = 64;
+
+/// What a site is told as it joins.
+#[derive(Drop)]
+pub struct Joined {
+    pub site: u32,
+    /// How many edits each site may make.
+    pub limit: u32,
+    /// An equal copy of the star's board.
+    pub board: Board,
+}
+
+/// The server's core: the board, the order of the edits that were taken, and a link to each attached site.
+///
+/// Contracts see it without the room that it keeps. Memory aside each call has one reply and leaves one
+/// star, and what a call refuses for want of memory changes nothing: its `Answers` clause says that.
+#[derive(Drop)]
+pub struct Star {
+    limit: u32,
+    board: Board,
+    given: u32,
+    links: Vec<Link>,
+    order: Order,
+}
+
+impl Model for Star {
+    ghost use Rattle.std.specs.Prelude.{map};
+    ghost use Rattle.jup_window.specs.declared.board_operations.BoardOp.{BoardOp};
+    ghost use Rattle.jup_window.specs.declared.edits.Edit.{Edit};
+    ghost use Rattle.jup_window.specs.Boards.{Windows, bare};
+    ghost use Rattle.jup_star.specs.StarStates.{StarState, IsStar};
+    ghost use Rattle.jup_star.specs.Rooms.{bare_link};
+
+    ghost Value = { StarState BoardOp Windows Edit };
+
+    ghost view = { λ s. record {
+      limit = s.limit;
+      board = bare s.board;
+      given = s.given;
+      links = map bare_link s.links.items;
+      order = s.order.entries;
+    } };
+
+    ghost invariant = { λ s. IsStar {Operation = BoardOp} {State = Windows} {Edit = Edit} (record {
+      limit = s.limit;
+      board = bare s.board;
+      given = s.given;
+      links = map bare_link s.links.items;
+      order = s.order.entries;
+    }) };
+}
+
+impl Star {
+    /// A star without sites that takes up to `limit` edits. It takes no memory. Refused, in this order: a
+    /// limit that is not 1 to 16,777,216, and a board with an item that is not of a layout, whose items
+    /// have site 0.
+    pub fn open(alloc: Global, board: Board, limit: u32) -> Result<Star, OpenFault>
+        ensures refusal { fault_of result ≡ star_open_fault (bare board) limit }
+        ensures opened { IfOk result (λ star. star ≡ opened_star (bare board) limit) }
+    {
+        if limit < 1 || limit > HIGHEST_LIMIT {
+            return Err(OpenFault::BadLimit);
+        }
+        if !board.only_site(0) {
+            return Err(OpenFault::BadSite);
+        }
+        Ok(Star {
+            limit,
+            board,
+            given: 0,
+            links: Vec::new(alloc),
+            order: Order::new(alloc),
+        })
+    }
+
+    /// Gives a new site its number, the limit and a copy of the board. Refused, in this order: 64 sites
+    /// are attached, all numbers were given, no memory.
+    pub fn join(&mut self, alloc: Global) -> Result<Joined, StarFault>
+        ensures { Answers Join self.old self.new (JoinedReply (bare_joined result)) }
+    {
+        if self.links.len() >= MOST_LINKS {
+            return Err(StarFault::Full);
+        }
+        if self.given >= LAST_SITE {
+            return Err(StarFault::SitesSpent);
+        }
+        let board = match self.board.copy(alloc) {
+            Err(_) => return Err(StarFault::NoMemory),
+            Ok(board) => board,
+        };
+        if self.links.reserve(1).is_err() {
+            return Err(StarFault::NoMemory);
+        }
+        let site = self.given + 1;
+        self.links.push_reserved(Link::new(alloc, site));
+        self.given = site;
+        Ok(Joined {
+            site,
+            limit: self.limit,
+            board,
+        })
+    }
+
+    /// Takes what a site sent, and answers the place of an edit in the order, from 0.
+    ///
+    /// Refused, in this order, are of an edit: no link, the wrong count, the wrong acknowledgement, a
+    /// no-op, an insertion that does not bear the site's next name, a full order, no memory, and an
+    /// operation that does not fit the board; of an acknowledgement: no link, the wrong count; of a ping:
+    /// no link, no memory. Every refusal but `NoLink` and `NoMemory` detaches this link, and only this one.
+    pub fn take(&mut self, alloc: Global, site: u32, up: &Up) -> Result<Option<u32>, StarFault>
+        ensures { Answers (Take site up.now) self.old self.new (Taken result) }
+    {
+        match up {
+            Up::Op(msg) => self.take_edit(alloc, site, msg),
+            Up::Ack(heard) => self.take_ack(site, *heard),
+            Up::Ping(count) => self.take_ping(site, *count),
+        }
+    }
+
+    // Takes an edit.
+    fn take_edit(
+        &mut self,
+        alloc: Global,
+        site: u32,
+        msg: &Msg<BoardOp>,
+    ) -> Result<Option<u32>, StarFault>
+        ensures { Answers (Take site (Op msg.now)) self.old self.new (Taken result) }
+    {
+        let Some(at) = link_at(&self.links, site) else {
+            return Err(StarFault::NoLink);
+        };
+        let place = self.order.len();
+        let edit = edit_of(alloc, &msg.op);
+        match self.links[at].check(self.limit, place, msg, &edit) {
+            Err(fault) => {
+                detach(&mut self.links, site);
+                return Err(fault);
+            }
+            Ok(()) => {}
+        }
+        match reserve_edit(
+            alloc,
+            &msg.op,
+            &mut self.board,
+            &mut self.links,
+            &mut self.order,
+        ) {
+            Err(NoMemory) => return Err(StarFault::NoMemory),
+            Ok(()) => {}
+        }
+        let entry = Entry { site, edit };
+        if !carry_out(
+            &mut self.board,
+            &mut self.links,
+            &mut self.order,
+            at,
+            msg,
+            entry,
+        ) {
+            detach(&mut self.links, site);
+            return Err(StarFault::BadOp);
+        }
+        Ok(Some(place as u32))
+    }
+
+    // Takes an acknowledgement.
+    fn take_ack(&mut self, site: u32, heard: u32) -> Result<Option<u32>, StarFault>
+        ensures { Answers (Take site (Ack heard)) self.old self.new (Taken result) }
+    {
+        let Some(at) = link_at(&self.links, site) else {
+            return Err(StarFault::NoLink);
+        };
+        match self.links[at].take_ack(heard) {
+            Err(fault) => {
+                detach(&mut self.links, site);
+                return Err(fault);
+            }
+            Ok(()) => {}
+        }
+        Ok(None)
+    }
+
+    // Answers a ping.
+    fn take_ping(&mut self, site: u32, count: u32) -> Result<Option<u32>, StarFault>
+        ensures { Answers (Take site (Ping count)) self.old self.new (Taken result) }
+    {
+        let Some(at) = link_at(&self.links, site) else {
+            return Err(StarFault::NoLink);
+        };
+        match self.links[at].pong(count) {
+            Err(NoMemory) => return Err(StarFault::NoMemory),
+            Ok(()) => {}
+        }
+        Ok(None)
+    }
+
+    /// Takes up to `max` of the oldest messages out of a site's outbox. Refused: no link, no memory.
+    pub fn fetch(&mut self, alloc: Global, site: u32, max: u32) -> Result<Downs, StarFault>
+        ensures { Answers (Fetch site max) self.old self.new (Fetched result) }
+    {
+        let Some(at) = link_at(&self.links, site) else {
+            return Err(StarFault::NoLink);
+        };
+        let downs = match self.links[at].fetch(alloc, max) {
+            Err(NoMemory) => return Err(StarFault::NoMemory),
+            Ok(downs) => downs,
+        };
+        Ok(downs)
+    }
+
+    /// Detaches a site. Refused: no link.
+    pub fn leave(&mut self, site: u32) -> Result<(), StarFault>
+        ensures call { Answers (Leave site) self.old self.new (Left result) }
+        ensures memory { lacks_memory result ≡ false }
+    {
+        let Some(_at) = link_at(&self.links, site) else {
+            return Err(StarFault::NoLink);
+        };
+        detach(&mut self.links, site);
+        Ok(())
+    }
+
+    /// How many messages wait in a site's outbox, if it is attached.
+    pub fn waiting(&self, site: u32) -> Option<usize>
+        ensures { result ≡ option_map (λ l. length l.outbox) (link_of site self.now.links) }
+    {
+        let Some(at) = link_at(&self.links, site) else {
+            return None;
+        };
+        Some(self.links[at].waiting())
+    }
+
+    /// The edits that were taken, in order.
+    pub fn order(&self) -> &[Entry]
+        ensures { result.now ≡ self.now.order }
+    {
+        self.order.as_slice()
+    }
+
+    /// The board after the edits that were taken.
+    pub fn board(&self) -> &Board
+        ensures { bare result.now ≡ self.now.board }
+    {
+        &self.board
+    }
+}

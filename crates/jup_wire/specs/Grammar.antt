@@ -1,0 +1,142 @@
+-- The lines and their bytes: the fields of a line with one space between them, and a line feed at the end.
+use Rattle.std.specs.Prelude.{◌≡◌, ◌≢◌, ℕ, ◌^◌, ◌<◌, ℤ, Bool, true, false, List, [], ◌∷◌, ◌++◌, codes, decimal, FitsSigned, refl}
+use Rattle.std.specs.Int.{w32}
+use Rattle.std.specs.Fmt.{signed_decimal, digits}
+use Rattle.std.specs.Char.{IsScalar}
+use Rattle.std.specs.List.{join_with_byte}
+use Rattle.jup_value.specs.Labels.{IsLabelText}
+use Rattle.jup_value.specs.declared.names.Name.{Name}
+use Rattle.jup_seq.specs.declared.operations.SeqOp.{SeqOp}
+use Rattle.jup_seq.specs.declared.operations.SeqOp.TheVariants as seq
+use Rattle.jup_setting.specs.declared.operation.SetOp.{SetOp}
+use Rattle.jup_setting.specs.declared.operation.SetOp.TheVariants as set
+use Rattle.jup_window.specs.declared.widget_operations.WidgetOp.{WidgetOp}
+use Rattle.jup_window.specs.declared.widget_operations.WidgetOp.TheVariants as widget
+use Rattle.jup_wire.specs.declared.faults.WireFault.{WireFault}
+use Rattle.jup_wire.specs.declared.faults.WireFault.TheVariants.{BadLine, LongLine, BadVersion, EarlyEnd}
+use Rattle.jup_wire.specs.declared.line.Line.{Line}
+use Rattle.jup_wire.specs.declared.line.Line.TheVariants.{Hello, Welcome, Window, Text, List as ListLine, Toggle, Slider, Char, Item, Ready, Op, Ack, Ping, Pong, Bye, Error}
+
+-- a name: its site, a dot, its number
+abbrev pub name_text : Name → List ℕ
+name_text name = decimal name.site ++ 46 ∷ decimal name.number
+
+abbrev pub switch_text : Bool → List ℕ
+switch_text true = codes "on"
+switch_text false = codes "off"
+
+-- the fields of an operation on a text or a list, without its kind
+abbrev pub seq_fields : {V : Type 0} → (V → List ℕ) → SeqOp V → List (List ℕ)
+seq_fields text (seq.Insert place item) = codes "ins" ∷ decimal place ∷ name_text item.name ∷ text item.value ∷ []
+seq_fields text (seq.Delete place name) = codes "del" ∷ decimal place ∷ name_text name ∷ []
+seq_fields text seq.Nothing = codes "no" ∷ []
+
+-- the fields of a setting, without its kind
+abbrev pub set_fields : {V : Type 0} → (V → List ℕ) → SetOp V → List (List ℕ)
+set_fields text (set.Set value) = codes "set" ∷ text value ∷ []
+set_fields text set.Nothing = codes "no" ∷ []
+
+-- the fields of an operation on a widget
+abbrev pub body_fields : WidgetOp → List (List ℕ)
+body_fields (widget.Text op) = codes "text" ∷ seq_fields decimal op
+body_fields (widget.List op) = codes "list" ∷ seq_fields (λ label. label) op
+body_fields (widget.Toggle op) = codes "toggle" ∷ set_fields switch_text op
+body_fields (widget.Slider op) = codes "slider" ∷ set_fields signed_decimal op
+
+-- the fields of a line
+abbrev pub fields : Line → List (List ℕ)
+fields Hello = codes "hello" ∷ codes "1" ∷ []
+fields (Welcome site limit) = codes "welcome" ∷ decimal site ∷ decimal limit ∷ []
+fields (Window win) = codes "window" ∷ decimal win ∷ []
+fields (Text wid) = codes "text" ∷ decimal wid ∷ []
+fields (ListLine wid) = codes "list" ∷ decimal wid ∷ []
+fields (Toggle wid on) = codes "toggle" ∷ decimal wid ∷ switch_text on ∷ []
+fields (Slider wid lo hi value) = codes "slider" ∷ decimal wid ∷ signed_decimal lo ∷ signed_decimal hi ∷ signed_decimal value ∷ []
+fields (Char name scalar) = codes "char" ∷ name_text name ∷ decimal scalar ∷ []
+fields (Item name label) = codes "item" ∷ name_text name ∷ label ∷ []
+fields Ready = codes "ready" ∷ []
+fields (Op msg) = codes "op" ∷ decimal msg.mine ∷ decimal msg.heard ∷ decimal msg.op.win ∷ decimal msg.op.wid ∷ body_fields msg.op.op
+fields (Ack count) = codes "ack" ∷ decimal count ∷ []
+fields (Ping k) = codes "ping" ∷ decimal k ∷ []
+fields (Pong k) = codes "pong" ∷ decimal k ∷ []
+fields Bye = codes "bye" ∷ []
+fields (Error number) = codes "error" ∷ decimal number ∷ []
+
+-- a line without its line feed
+abbrev pub line_text : Line → List ℕ
+line_text line = join_with_byte 32 (fields line)
+
+-- the one spelling of a line
+abbrev pub spelling : Line → List ℕ
+spelling line = line_text line ++ 10 ∷ []
+
+-- the ranges of the numbers and texts that a line may hold
+abbrev pub IsU32 : ℕ → Type 0
+IsU32 n = n < 2 ^ 32
+
+abbrev pub IsId : ℕ → Type 0
+IsId n = n < 2 ^ 16
+
+abbrev pub IsInt : ℤ → Type 0
+IsInt z = FitsSigned w32 z
+
+abbrev pub IsName : Name → Type 0
+IsName name = IsU32 name.site × IsU32 name.number
+
+abbrev pub IsSeqOp : {V : Type 0} → (V → Type 0) → SeqOp V → Type 0
+IsSeqOp IsValue (seq.Insert place item) = IsU32 place × (IsName item.name × IsValue item.value)
+IsSeqOp IsValue (seq.Delete place name) = IsU32 place × IsName name
+IsSeqOp IsValue seq.Nothing = Unit {0}
+
+abbrev pub IsSetOp : {V : Type 0} → (V → Type 0) → SetOp V → Type 0
+IsSetOp IsValue (set.Set value) = IsValue value
+IsSetOp IsValue set.Nothing = Unit {0}
+
+abbrev pub IsBody : WidgetOp → Type 0
+IsBody (widget.Text op) = IsSeqOp IsScalar op
+IsBody (widget.List op) = IsSeqOp IsLabelText op
+IsBody (widget.Toggle op) = IsSetOp (λ on. Unit {0}) op
+IsBody (widget.Slider op) = IsSetOp IsInt op
+
+-- the lines that have a spelling: those that a program can hold
+abbrev pub HasSpelling : Line → Type 0
+HasSpelling Hello = Unit {0}
+HasSpelling (Welcome site limit) = IsU32 site × IsU32 limit
+HasSpelling (Window win) = IsId win
+HasSpelling (Text wid) = IsId wid
+HasSpelling (ListLine wid) = IsId wid
+HasSpelling (Toggle wid on) = IsId wid
+HasSpelling (Slider wid lo hi value) = IsId wid × (IsInt lo × (IsInt hi × IsInt value))
+HasSpelling (Char name scalar) = IsName name × IsScalar scalar
+HasSpelling (Item name label) = IsName name × IsLabelText label
+HasSpelling Ready = Unit {0}
+HasSpelling (Op msg) = IsU32 msg.mine × (IsU32 msg.heard × (IsId msg.op.win × (IsId msg.op.wid × IsBody msg.op.op)))
+HasSpelling (Ack count) = IsU32 count
+HasSpelling (Ping k) = IsU32 k
+HasSpelling (Pong k) = IsU32 k
+HasSpelling Bye = Unit {0}
+HasSpelling (Error number) = IsU32 number
+
+-- the grammar: these bytes are this line
+abbrev pub IsLine : List ℕ → Line → Type 0
+IsLine bytes line = HasSpelling line × (bytes ≡ spelling line)
+
+-- a greeting with another version
+abbrev pub IsOtherVersion : List ℕ → Type 0
+IsOtherVersion text = (version : ℕ) × (IsU32 version × (version ≢ 1) × (text ≡ codes "hello " ++ decimal version))
+
+-- no line of the table
+abbrev pub IsNoLine : List ℕ → Type 0
+IsNoLine text = (line : Line) → HasSpelling line → text ≢ line_text line
+
+-- what a fault says of a whole line, without its line feed
+abbrev pub IsBad : WireFault → List ℕ → Type 0
+IsBad BadLine text = IsNoLine text × (IsOtherVersion text → ⊥)
+IsBad BadVersion text = IsOtherVersion text
+IsBad LongLine text = ⊥
+IsBad EarlyEnd text = ⊥
+
+-- a check
+pub ping_seven : spelling (Ping 7) ≡ codes "ping 7\n"
+unfolding digits
+ping_seven = refl

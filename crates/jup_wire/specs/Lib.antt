@@ -1,0 +1,10 @@
+pub mod FaultNumbers
+pub mod BoardLines
+pub mod Drafts
+pub mod Grammar
+pub mod Layouts
+pub mod Parts
+pub mod Reading
+pub mod Rooms
+pub mod Spellings
+pub mod Streams

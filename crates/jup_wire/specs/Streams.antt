@@ -1,0 +1,63 @@
+-- Streams of bytes that come in pieces.
+use Rattle.std.specs.Prelude.{◌≡◌, ◌≢◌, ℕ, ◌<◌, List, [], ◌∷◌, ◌++◌, length, All, Option, Some, None, MatchOption, Result, Ok, Err}
+use Rattle.std.specs.List.{flat_map, AllByRecursion}
+use Rattle.jup_wire.specs.declared.faults.WireFault.{WireFault}
+use Rattle.jup_wire.specs.declared.faults.WireFault.TheVariants.{BadLine, LongLine, BadVersion, EarlyEnd}
+use Rattle.jup_wire.specs.declared.line.Line.{Line}
+use Rattle.jup_wire.specs.Grammar.{spelling, HasSpelling, IsBad}
+
+-- lines, one after another, and what comes after them
+abbrev pub stream_of : List Line → List ℕ → List ℕ
+stream_of lines rest = flat_map spelling lines ++ rest
+
+-- part of a line: fewer than 256 bytes and no line feed
+pub record IsPart (bytes : List ℕ) : Type 0 where
+  pub short : length bytes < 256
+  pub open_ended : All (λ byte. byte ≢ 10) bytes
+
+-- a whole line that is wrong in this way
+pub record IsBadLine (fault : WireFault) (bytes : List ℕ) : Type 0 where
+  pub text : List ℕ
+  pub part : IsPart text
+  pub whole : bytes ≡ text ++ 10 ∷ []
+  pub bad : IsBad fault text
+
+-- the fault is told where these bytes stand in a line's place
+abbrev pub IsFaulty : WireFault → List ℕ → Type 0
+IsFaulty BadLine bytes = IsBadLine BadLine bytes
+IsFaulty BadVersion bytes = IsBadLine BadVersion bytes
+IsFaulty LongLine bytes = (length bytes ≡ 256) × All (λ byte. byte ≢ 10) bytes
+IsFaulty EarlyEnd bytes = ⊥
+
+-- after the lines comes what the fault is told for
+pub record Faults (fault : WireFault) (bytes : List ℕ) (lines : List Line) : Type 0 where
+  pub told : List ℕ
+  pub more : List ℕ
+  pub faulty : IsFaulty fault told
+  pub stream : bytes ≡ stream_of lines (told ++ more)
+
+-- the state of a reader: the part of a line that it holds, or the fault that it met
+pub record Progress : Type 0 where
+  pub part : List ℕ
+  pub fault : Option WireFault
+
+-- the bytes are these lines, and then a part of a line, or what has the fault
+pub record HasRead (bytes : List ℕ) (lines : List Line) (reader : Progress) : Type 0 where
+  pub spelled : AllByRecursion HasSpelling lines
+  pub rest : MatchOption reader.fault ((bytes ≡ stream_of lines reader.part) × IsPart reader.part) (λ fault. Faults fault bytes lines)
+
+-- what the end of the bytes is, after a fault or a part of a line
+abbrev pub ending_at : Option WireFault → List ℕ → Result (Unit {0}) WireFault
+ending_at (Some fault) part = Err fault
+ending_at None [] = Ok tt
+ending_at None (byte ∷ part) = Err EarlyEnd
+
+-- what one byte more makes of a part of a line
+abbrev pub Steps : List ℕ → List ℕ → Result (Option Line) WireFault → Type 0
+Steps bytes new (Ok None) = (new ≡ bytes) × IsPart new
+Steps bytes new (Ok (Some line)) = HasSpelling line × (bytes ≡ spelling line) × (new ≡ [])
+Steps bytes new (Err fault) = IsFaulty fault bytes
+
+-- after these bytes, which began with a part of a line, these are the lines, and a part or a fault is left
+abbrev pub Reads : List ℕ → List Line → Option WireFault → List ℕ → Type 0
+Reads bytes lines fault part = HasRead bytes lines (record { part = part; fault = fault })

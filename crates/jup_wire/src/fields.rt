@@ -1,0 +1,154 @@
+//! The fields of a line, read one after the other.
+
+ghost use Rattle.std.specs.Prelude.{◌≡◌, ◌==◌, length, IfSome, position, ℕ, ◌+◌, ◌*◌, ◌<◌, ◌^◌, List, Option};
+ghost use Rattle.std.specs.Char.{digit_value};
+ghost use Rattle.std.specs.Option.{SomeIff};
+ghost use Rattle.std.specs.Str.Parse.{AllDigits, digits_value};
+ghost use Rattle.jup_wire.specs.Reading.{Gives, split_of, field_of, number_of, id_of, scalar_of, int_of, name_of, switch_of, label_of};
+
+use jup_value::{Label, Name};
+
+/// What a field may hold.
+pub(crate) trait FieldValue: Sized {
+    ghost read_of: { List ℕ → Option Self };
+
+    /// The value that the bytes spell.
+    fn read(bytes: &[u8]) -> Option<Self>
+        ensures { result ≡ read_of bytes.now };
+}
+
+/// The parts before and after the first byte that is the separator.
+pub(crate) fn split(bytes: &[u8], separator: u8) -> Option<(&[u8], &[u8])>
+    ensures { Gives (λ parts. (parts.0.now, parts.1.now)) result (split_of separator bytes.now) }
+{
+    let at = place_of(bytes, separator)?;
+    Some((&bytes[..at], &bytes[at + 1..]))
+}
+
+fn place_of(bytes: &[u8], wanted: u8) -> Option<usize>
+    ensures place { result ≡ position (λ byte. byte == wanted) bytes.now }
+    ensures within { IfSome result (λ at. at < length bytes.now) }
+{
+    bytes.iter().position(|byte| *byte == wanted)
+}
+
+/// The field before the first space, and the bytes behind that space.
+#[tactic(auto, unfolding(crate::specs::Reading::field_of))]
+pub(crate) fn field<T: FieldValue>(bytes: &[u8]) -> Option<(T, &[u8])>
+    ensures { Gives (λ x. (x.0, x.1.now)) result (field_of 32 T.read_of bytes.now) }
+{
+    let (field, rest) = split(bytes, b' ')?;
+    Some((T::read(field)?, rest))
+}
+
+impl FieldValue for u32 {
+    ghost read_of = { number_of };
+
+    fn read(bytes: &[u8]) -> Option<u32> {
+        number(bytes)
+    }
+}
+
+impl FieldValue for u16 {
+    ghost read_of = { id_of };
+
+    #[tactic(auto, unfolding(crate::specs::Reading::id_of))]
+    fn read(bytes: &[u8]) -> Option<u16> {
+        u16::try_from(number(bytes)?).ok()
+    }
+}
+
+impl FieldValue for char {
+    ghost read_of = { scalar_of };
+
+    #[tactic(auto, unfolding(crate::specs::Reading::scalar_of))]
+    fn read(bytes: &[u8]) -> Option<char> {
+        char::from_u32(number(bytes)?)
+    }
+}
+
+impl FieldValue for i32 {
+    ghost read_of = { int_of };
+
+    #[tactic(auto, unfolding(crate::specs::Reading::int_of))]
+    fn read(bytes: &[u8]) -> Option<i32> {
+        if bytes.is_empty() || bytes[0] != b'-' {
+            return i32::try_from(number(bytes)?).ok();
+        }
+        let magnitude = number(&bytes[1..])?;
+        if magnitude == 0 {
+            return None;
+        }
+        i32::try_from(-i64::from(magnitude)).ok()
+    }
+}
+
+impl FieldValue for Name {
+    ghost read_of = { name_of };
+
+    #[tactic(auto, unfolding(crate::specs::Reading::name_of, crate::specs::Reading::field_of))]
+    fn read(bytes: &[u8]) -> Option<Name> {
+        let (site, rest) = split(bytes, b'.')?;
+        let site = number(site)?;
+        Some(Name {
+            site,
+            number: number(rest)?,
+        })
+    }
+}
+
+impl FieldValue for bool {
+    ghost read_of = { switch_of };
+
+    #[tactic(auto, unfolding(crate::specs::Reading::switch_of))]
+    fn read(bytes: &[u8]) -> Option<bool> {
+        if bytes == b"on".as_slice() {
+            Some(true)
+        } else if bytes == b"off".as_slice() {
+            Some(false)
+        } else {
+            None
+        }
+    }
+}
+
+impl FieldValue for Label {
+    ghost read_of = { label_of };
+
+    #[tactic(auto, unfolding(crate::specs::Reading::label_of))]
+    fn read(bytes: &[u8]) -> Option<Label> {
+        Label::read(bytes).ok()
+    }
+}
+
+/// The number that the digits spell in its one spelling.
+pub(crate) fn number(digits: &[u8]) -> Option<u32>
+    ensures { result ≡ number_of digits.now }
+{
+    if digits.is_empty() {
+        return None;
+    }
+    if digits[0] == b'0' && digits.len() > 1 {
+        return None;
+    }
+    value_of(digits)
+}
+
+/// The number that the digits write, leading zeros or not.
+fn value_of(digits: &[u8]) -> Option<u32>
+    ensures { SomeIff result (AllDigits 10 digits.now × (digits_value 10 digits.now < 2 ^ 32)) (digits_value 10 digits.now) }
+{
+    let mut value = 0;
+    for digit in digits {
+        value = with_digit(value, *digit)?;
+    }
+    Some(value)
+}
+
+/// The number with one more digit at its end.
+fn with_digit(value: u32, digit: u8) -> Option<u32>
+    ensures { SomeIff result ((digit_value digit < 10) × (value * 10 + digit_value digit < 2 ^ 32)) (value * 10 + digit_value digit) }
+{
+    let digit = char::from(digit).to_digit(10)?;
+    value.checked_mul(10)?.checked_add(digit)
+}

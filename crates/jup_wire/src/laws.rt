@@ -1,0 +1,76 @@
+//! What holds of all lines and streams.
+
+ghost use Rattle.std.specs.Prelude.{◌≡◌, ℕ, List, ◌++◌, None};
+ghost use Rattle.std.specs.List.{flat_map, AllByRecursion};
+ghost use Rattle.jup_wire.specs.declared.line.Line.{Line};
+ghost use Rattle.jup_wire.specs.declared.line.Line.TheVariants.{Op};
+ghost use Rattle.jup_wire.specs.Grammar.{HasSpelling, IsLine, IsName, spelling};
+ghost use Rattle.jup_wire.specs.Streams.{HasRead, Progress};
+
+use crate::line::Line;
+use jup_value::Name;
+use jup_window::BoardOp;
+
+// The values of a line are those of their types: they are known to be where they are passed by value.
+fn is_name(name: Name)
+    ensures { IsName name }
+{
+    let _name = name;
+}
+
+fn has_body(mine: u32, heard: u32, op: BoardOp)
+    ensures { HasSpelling (Op (record { mine = mine; heard = heard; op = op })) }
+{
+    let _op = (mine, heard, op);
+}
+
+/// Each line that a program holds has a spelling.
+pub fn has_spelling(line: &Line)
+    ensures { HasSpelling line.now }
+{
+    match line {
+        Line::Welcome { site, limit } => {
+            let _numbers = (*site, *limit);
+        }
+        Line::Window(id) | Line::Text(id) | Line::List(id) | Line::Toggle(id, _) => {
+            let _id = *id;
+        }
+        Line::Slider { wid, lo, hi, value } => {
+            let _numbers = (*wid, *lo, *hi, *value);
+        }
+        Line::Char(name, value) => {
+            is_name(*name);
+            let _value = *value;
+        }
+        Line::Item(name, label) => {
+            is_name(*name);
+            let _text = label.bytes();
+        }
+        Line::Op(msg) => has_body(msg.mine, msg.heard, msg.op),
+        Line::Ack(number) | Line::Ping(number) | Line::Pong(number) | Line::Error(number) => {
+            let _number = *number;
+        }
+        Line::Hello | Line::Ready | Line::Bye => {}
+    }
+}
+
+/// No spelling of a line begins another, and none is that of two lines.
+pub fn one_spelling()
+    ensures { (a b x y : List ℕ) (l m : Line) → IsLine a l → IsLine b m → a ++ x ≡ b ++ y
+        → (l ≡ m) × (a ≡ b) × (x ≡ y) }
+{}
+
+/// Bytes are read in one way, however they are cut into pieces.
+pub fn one_reading()
+    ensures { (bytes : List ℕ) (ls ms : List Line) (p q : Progress) → HasRead bytes ls p → HasRead bytes ms q
+        → (ls ≡ ms) × (p.fault ≡ q.fault) }
+{}
+
+/// Where the bytes of lines are on their way, what has come are the first of these lines, with no fault,
+/// and what is left completes the others.
+pub fn on_the_way()
+    ensures { (moved left : List ℕ) (given sent : List Line) (p : Progress)
+        → AllByRecursion HasSpelling sent → HasRead moved given p → moved ++ left ≡ flat_map spelling sent
+        → (p.fault ≡ None)
+        × ((rest : List Line) × (sent ≡ given ++ rest) × (p.part ++ left ≡ flat_map spelling rest)) }
+{}

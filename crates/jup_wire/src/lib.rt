@@ -1,0 +1,30 @@
+//! The lines that a link carries and that a layout has, as bytes: one spelling a line, and no bytes
+//! outside the grammar are read, however they are cut into pieces.
+#![tactic(auto)]
+
+mod board_lines;
+mod drafts;
+mod faults;
+mod fields;
+mod laws;
+#[cfg(test)]
+mod layout_tests;
+mod layouts;
+mod line;
+mod naming;
+mod parse;
+mod part;
+mod reader;
+mod refusals;
+mod spell;
+#[cfg(test)]
+mod tests;
+mod writing;
+
+pub use board_lines::lines_of;
+pub use faults::WireFault;
+pub use laws::{has_spelling, on_the_way, one_reading, one_spelling};
+pub use layouts::{LayoutFault, board_of, layout};
+pub use line::Line;
+pub use reader::{Fed, Lines, Reader};
+pub use writing::{MOST, write, write_reserved};

@@ -1,0 +1,260 @@
+//! Reading one line, without its line feed.
+
+ghost use Rattle.std.specs.Prelude.{◌≡◌, IfOk, IfErr};
+ghost use Rattle.jup_wire.specs.Grammar.{HasSpelling, line_text, IsBad};
+ghost use Rattle.jup_wire.specs.Reading.{insert_of, delete_of, seq_of, set_of, body_of, welcome_of, hello_of, toggle_of, slider_of, char_of, item_of, op_of, headed_of, line_of, version_of, refusal_of};
+
+use crate::faults::WireFault;
+use crate::fields::{FieldValue, field, number, split};
+use crate::line::Line;
+use jup_link::Msg;
+use jup_seq::SeqOp;
+use jup_setting::SetOp;
+use jup_value::{Item, Label, Name};
+use jup_window::{BoardOp, WidgetOp};
+
+/// The line that the bytes are, or what is wrong with them.
+pub(crate) fn read_line(bytes: &[u8]) -> Result<Line, WireFault>
+    ensures line { IfOk result (λ line. HasSpelling line × (bytes.now ≡ line_text line)) }
+    ensures fault { IfErr result (λ fault. IsBad fault bytes.now) }
+{
+    match line(bytes) {
+        Some(line) => Ok(line),
+        None => Err(refusal(version(bytes))),
+    }
+}
+
+/// What is wrong with a line that is none, by the version that it names.
+fn refusal(version: Option<u32>) -> WireFault
+    ensures { result ≡ refusal_of version }
+{
+    match version {
+        Some(version) if version != 1 => WireFault::BadVersion,
+        _ => WireFault::BadLine,
+    }
+}
+
+/// The version that a greeting names.
+#[tactic(auto, unfolding(crate::specs::Reading::version_of))]
+fn version(bytes: &[u8]) -> Option<u32>
+    ensures { result ≡ version_of bytes.now }
+{
+    let (word, rest) = split(bytes, b' ')?;
+    if word == b"hello".as_slice() {
+        number(rest)
+    } else {
+        None
+    }
+}
+
+#[tactic(auto, unfolding(crate::specs::Reading::line_of))]
+fn line(bytes: &[u8]) -> Option<Line>
+    ensures { result ≡ line_of bytes.now }
+{
+    if bytes == b"ready".as_slice() {
+        return Some(Line::Ready);
+    }
+    if bytes == b"bye".as_slice() {
+        return Some(Line::Bye);
+    }
+    let (word, rest) = split(bytes, b' ')?;
+    headed(word, rest)
+}
+
+/// A line of several fields, by the first of them.
+#[tactic(auto, unfolding(crate::specs::Reading::headed_of))]
+fn headed(word: &[u8], rest: &[u8]) -> Option<Line>
+    ensures { result ≡ headed_of word.now rest.now }
+{
+    if word == b"hello".as_slice() {
+        return hello(rest);
+    }
+    if word == b"welcome".as_slice() {
+        return welcome(rest);
+    }
+    if word == b"window".as_slice() {
+        return Some(Line::Window(u16::read(rest)?));
+    }
+    if word == b"text".as_slice() {
+        return Some(Line::Text(u16::read(rest)?));
+    }
+    if word == b"list".as_slice() {
+        return Some(Line::List(u16::read(rest)?));
+    }
+    if word == b"toggle".as_slice() {
+        return toggle(rest);
+    }
+    if word == b"slider".as_slice() {
+        return slider(rest);
+    }
+    if word == b"char".as_slice() {
+        return char_line(rest);
+    }
+    if word == b"item".as_slice() {
+        return item(rest);
+    }
+    if word == b"op".as_slice() {
+        return op(rest);
+    }
+    if word == b"ack".as_slice() {
+        return Some(Line::Ack(number(rest)?));
+    }
+    if word == b"ping".as_slice() {
+        return Some(Line::Ping(number(rest)?));
+    }
+    if word == b"pong".as_slice() {
+        return Some(Line::Pong(number(rest)?));
+    }
+    if word == b"error".as_slice() {
+        return Some(Line::Error(number(rest)?));
+    }
+    None
+}
+
+#[tactic(auto, unfolding(crate::specs::Reading::hello_of))]
+fn hello(rest: &[u8]) -> Option<Line>
+    ensures { result ≡ hello_of rest.now }
+{
+    if number(rest)? == 1 {
+        Some(Line::Hello)
+    } else {
+        None
+    }
+}
+
+#[tactic(auto, unfolding(crate::specs::Reading::welcome_of))]
+fn welcome(rest: &[u8]) -> Option<Line>
+    ensures { result ≡ welcome_of rest.now }
+{
+    let (site, rest) = field::<u32>(rest)?;
+    let limit = number(rest)?;
+    Some(Line::Welcome { site, limit })
+}
+
+#[tactic(auto, unfolding(crate::specs::Reading::toggle_of))]
+fn toggle(rest: &[u8]) -> Option<Line>
+    ensures { result ≡ toggle_of rest.now }
+{
+    let (wid, rest) = field::<u16>(rest)?;
+    let on = bool::read(rest)?;
+    Some(Line::Toggle(wid, on))
+}
+
+#[tactic(auto, unfolding(crate::specs::Reading::slider_of))]
+fn slider(rest: &[u8]) -> Option<Line>
+    ensures { result ≡ slider_of rest.now }
+{
+    let (wid, rest) = field::<u16>(rest)?;
+    let (lo, rest) = field::<i32>(rest)?;
+    let (hi, rest) = field::<i32>(rest)?;
+    let value = i32::read(rest)?;
+    Some(Line::Slider { wid, lo, hi, value })
+}
+
+#[tactic(auto, unfolding(crate::specs::Reading::char_of))]
+fn char_line(rest: &[u8]) -> Option<Line>
+    ensures { result ≡ char_of rest.now }
+{
+    let (name, rest) = field::<Name>(rest)?;
+    let value = char::read(rest)?;
+    Some(Line::Char(name, value))
+}
+
+#[tactic(auto, unfolding(crate::specs::Reading::item_of))]
+fn item(rest: &[u8]) -> Option<Line>
+    ensures { result ≡ item_of rest.now }
+{
+    let (name, rest) = field::<Name>(rest)?;
+    let label = <Label as FieldValue>::read(rest)?;
+    Some(Line::Item(name, label))
+}
+
+#[tactic(auto, unfolding(crate::specs::Reading::op_of))]
+fn op(rest: &[u8]) -> Option<Line>
+    ensures { result ≡ op_of rest.now }
+{
+    let (mine, rest) = field::<u32>(rest)?;
+    let (heard, rest) = field::<u32>(rest)?;
+    let (win, rest) = field::<u16>(rest)?;
+    let (wid, rest) = field::<u16>(rest)?;
+    let op = body(rest)?;
+    Some(Line::Op(Msg {
+        mine,
+        heard,
+        op: BoardOp { win, wid, op },
+    }))
+}
+
+/// An operation on a widget, by the widget's kind.
+#[tactic(auto, unfolding(crate::specs::Reading::body_of))]
+fn body(bytes: &[u8]) -> Option<WidgetOp>
+    ensures { result ≡ body_of bytes.now }
+{
+    let (kind, rest) = split(bytes, b' ')?;
+    if kind == b"text".as_slice() {
+        return Some(WidgetOp::Text(seq_op::<char>(rest)?));
+    }
+    if kind == b"list".as_slice() {
+        return Some(WidgetOp::List(seq_op::<Label>(rest)?));
+    }
+    if kind == b"toggle".as_slice() {
+        return Some(WidgetOp::Toggle(set_op::<bool>(rest)?));
+    }
+    if kind == b"slider".as_slice() {
+        return Some(WidgetOp::Slider(set_op::<i32>(rest)?));
+    }
+    None
+}
+
+#[tactic(auto, unfolding(crate::specs::Reading::seq_of))]
+fn seq_op<V: FieldValue>(bytes: &[u8]) -> Option<SeqOp<V>>
+    ensures { result ≡ seq_of V.read_of bytes.now }
+{
+    if bytes == b"no".as_slice() {
+        return Some(SeqOp::Nothing);
+    }
+    let (act, rest) = split(bytes, b' ')?;
+    if act == b"ins".as_slice() {
+        return insertion(rest);
+    }
+    if act == b"del".as_slice() {
+        return deletion(rest);
+    }
+    None
+}
+
+#[tactic(auto, unfolding(crate::specs::Reading::insert_of))]
+fn insertion<V: FieldValue>(bytes: &[u8]) -> Option<SeqOp<V>>
+    ensures { result ≡ insert_of V.read_of bytes.now }
+{
+    let (place, rest) = field::<u32>(bytes)?;
+    let (name, rest) = field::<Name>(rest)?;
+    let value = V::read(rest)?;
+    Some(SeqOp::Insert {
+        place,
+        item: Item { name, value },
+    })
+}
+
+#[tactic(auto, unfolding(crate::specs::Reading::delete_of))]
+fn deletion<V>(bytes: &[u8]) -> Option<SeqOp<V>>
+    ensures { result ≡ delete_of bytes.now }
+{
+    let (place, rest) = field::<u32>(bytes)?;
+    let name = Name::read(rest)?;
+    Some(SeqOp::Delete { place, name })
+}
+
+#[tactic(auto, unfolding(crate::specs::Reading::set_of))]
+fn set_op<V: FieldValue>(bytes: &[u8]) -> Option<SetOp<V>>
+    ensures { result ≡ set_of V.read_of bytes.now }
+{
+    if bytes == b"no".as_slice() {
+        return Some(SetOp::Nothing);
+    }
+    let (act, rest) = split(bytes, b' ')?;
+    if act == b"set".as_slice() {
+        return Some(SetOp::Set(V::read(rest)?));
+    }
+    None
+}

@@ -1,0 +1,177 @@
+//! Lines from bytes that come in pieces.
+
+ghost use Rattle.std.specs.Prelude.{◌≡◌, ℕ, List, [], ◌∷◌, ◌++◌, IfOk, OnOk, OnErr, IsSome};
+ghost use Rattle.jup_wire.specs.Parts.{part_bytes};
+ghost use Rattle.jup_wire.specs.Streams.{IsPart, Steps, Reads, HasRead, ending_at};
+ghost use Rattle.jup_wire.specs.declared.line.Line.{Line};
+
+use crate::faults::WireFault;
+use crate::line::Line;
+use crate::parse::read_line;
+use crate::part::Part;
+use jup_link::Msg;
+use jup_seq::SeqOp;
+use jup_value::Label;
+use jup_window::{BoardOp, WidgetOp};
+use jup_xform::NoMemory;
+use std::alloc::Global;
+use std::marker::{Model, PhantomData};
+
+/// Takes one byte more: the line that it ends, if it ends one.
+fn step(part: &mut Part, byte: u8) -> Result<Option<Line>, WireFault>
+    requires { IsPart (part_bytes part.old) }
+    ensures { Steps (part_bytes part.old ++ byte ∷ []) (part_bytes part.new) result }
+{
+    if byte == b'\n' {
+        let line = read_line(part.bytes())?;
+        *part = Part::new();
+        return Ok(Some(line));
+    }
+    if part.is_full() {
+        return Err(WireFault::LongLine);
+    }
+    part.push(byte);
+    Ok(None)
+}
+
+/// Takes a piece, up to the first fault.
+fn read_piece(alloc: Global, part: &mut Part, piece: &[u8]) -> Result<Fed, NoMemory>
+    requires { IsPart (part_bytes part.old) }
+    ensures { IfOk result (λ fed.
+        Reads (part_bytes part.old ++ piece.now) fed.lines fed.fault (part_bytes part.new)) }
+{
+    let mut lines = Lines::new(alloc);
+    for byte in piece {
+        match step(part, *byte) {
+            Ok(None) => {}
+            Ok(Some(line)) => lines.push(line)?,
+            Err(fault) => {
+                return Ok(Fed {
+                    lines,
+                    fault: Some(fault),
+                });
+            }
+        }
+    }
+    Ok(Fed { lines, fault: None })
+}
+
+/// Lines, in order.
+#[derive(Debug, Drop)]
+pub struct Lines {
+    items: Vec<Line>,
+}
+
+impl Model for Lines {
+    ghost use Rattle.std.specs.Prelude.{List};
+    ghost use Rattle.jup_wire.specs.declared.line.Line.{Line};
+
+    ghost Value = { List Line };
+
+    ghost view = { λ a. a.items.items };
+}
+
+impl Lines {
+    /// No lines.
+    pub(crate) fn new(alloc: Global) -> Lines
+        ensures { result ≡ [] }
+    {
+        Lines {
+            items: Vec::new(alloc),
+        }
+    }
+
+    pub(crate) fn push(&mut self, line: Line) -> Result<(), NoMemory>
+        ensures ok { OnOk result (self.new ≡ self.old ++ line ∷ []) }
+        ensures err { OnErr result (self.new ≡ self.old) }
+    {
+        // Types that a line holds, named so that the borrow checker knows of them.
+        let _of: PhantomData<(SeqOp<Label>, WidgetOp, BoardOp, Msg<BoardOp>)> = PhantomData;
+        match self.items.push(line) {
+            Ok(()) => Ok(()),
+            Err(_) => Err(NoMemory),
+        }
+    }
+
+    pub fn as_slice(&self) -> &[Line]
+        ensures { result.now ≡ self.now }
+    {
+        self.items.as_slice()
+    }
+}
+
+/// What a piece gave: the lines that it completed, up to the first fault.
+#[derive(Debug, Drop)]
+pub struct Fed {
+    pub lines: Lines,
+    pub fault: Option<WireFault>,
+}
+
+/// Reads lines from bytes that come in pieces.
+#[derive(Drop)]
+pub struct Reader {
+    part: Part,
+    fault: Option<WireFault>,
+}
+
+impl Model for Reader {
+    ghost use Rattle.std.specs.Prelude.{None, ◌≡◌};
+    ghost use Rattle.jup_wire.specs.Parts.{part_bytes};
+    ghost use Rattle.jup_wire.specs.Streams.{Progress, IsPart};
+
+    ghost Value = { Progress };
+
+    ghost view = { λ a. record { part = part_bytes a.part; fault = a.fault } };
+
+    ghost invariant = { λ a. a.fault ≡ None → IsPart (part_bytes a.part) };
+}
+
+impl Reader {
+    /// A reader before the first byte. It takes no memory.
+    pub fn new() -> Reader
+        ensures { HasRead [] [] result }
+    {
+        Reader {
+            part: Part::new(),
+            fault: None,
+        }
+    }
+
+    /// Takes the next piece. After a fault every call gives no line and the same fault.
+    pub fn feed(&mut self, alloc: Global, piece: &[u8]) -> Result<Fed, NoMemory>
+        // Whatever came before: the lines given so far are those of all the bytes so far.
+        ensures read { IfOk result (λ fed. (bytes : List ℕ) (lines : List Line)
+            → HasRead bytes lines self.old
+            → HasRead (bytes ++ piece.now) (lines ++ fed.lines) self.new) }
+        ensures fault { IfOk result (λ fed. fed.fault ≡ self.new.fault) }
+        ensures stopped { IsSome self.old.fault
+            → IfOk result (λ fed. (fed.lines ≡ []) × (self.new ≡ self.old)) }
+        ensures err { OnErr result (self.new ≡ self.old) }
+    {
+        if self.fault.is_some() {
+            return Ok(Fed {
+                lines: Lines::new(alloc),
+                fault: self.fault,
+            });
+        }
+        let mut part = self.part;
+        let fed = read_piece(alloc, &mut part, piece)?;
+        self.part = part;
+        self.fault = fed.fault;
+        Ok(fed)
+    }
+
+    /// Whether the bytes may end here: the fault that was met, or one where a part of a line is held.
+    pub fn finish(&self) -> Result<(), WireFault>
+        ensures { result ≡ ending_at self.now.fault self.now.part }
+    {
+        if let Some(fault) = self.fault {
+            return Err(fault);
+        }
+        if self.part.bytes().is_empty() {
+            Ok(())
+        } else {
+            Err(WireFault::EarlyEnd)
+        }
+    }
+}

@@ -1,0 +1,162 @@
+//! Writing lines.
+
+ghost use Rattle.std.specs.Prelude.{◌≡◌, ◌+◌, ◌≤◌, ◌∷◌, ◌++◌, length, IsOk, OnOk, OnErr, vec_capacity};
+ghost use Rattle.jup_wire.specs.Grammar.{HasSpelling, seq_fields, set_fields, body_fields, line_text, spelling};
+ghost use Rattle.jup_wire.specs.Rooms.{HasRoom, Appends};
+ghost use Rattle.jup_wire.specs.Spellings.{after_spaces};
+
+use crate::laws::has_spelling;
+use crate::line::Line;
+use crate::spell::{Spelled, push, push_field};
+use jup_seq::SeqOp;
+use jup_setting::SetOp;
+use jup_window::WidgetOp;
+use jup_xform::NoMemory;
+use std::alloc::Global;
+
+/// No line has a longer spelling.
+pub const MOST: usize = 128;
+
+/// Appends the one spelling of a line. An `Err` appends nothing.
+pub fn write(_alloc: Global, line: &Line, out: &mut Vec<u8>) -> Result<(), NoMemory>
+    ensures line { OnOk result (HasSpelling line.now) }
+    ensures ok { OnOk result (out.new.items ≡ out.old.items ++ spelling line.now) }
+    ensures err { OnErr result (out.new.items ≡ out.old.items) }
+    ensures room { HasRoom out.old MOST → IsOk result }
+{
+    if out.reserve(MOST).is_err() {
+        return Err(NoMemory);
+    }
+    write_reserved(line, out);
+    Ok(())
+}
+
+/// Appends the one spelling of a line, and takes no memory.
+pub fn write_reserved(line: &Line, out: &mut Vec<u8>)
+    requires { HasRoom out.old MOST }
+    ensures line { HasSpelling line.now }
+    ensures items { out.new.items ≡ out.old.items ++ spelling line.now }
+    ensures short { length (spelling line.now) ≤ MOST }
+    ensures capacity { vec_capacity out.old ≤ vec_capacity out.new }
+{
+    has_spelling(line);
+    push_line(out, line);
+    push(out, b"\n");
+}
+
+/// Appends a line without its line feed.
+#[tactic(auto, using(crate::proofs::Written::joined))]
+fn push_line(out: &mut Vec<u8>, line: &Line)
+    requires { HasRoom out.old 127 }
+    ensures { Appends out.old out.new (line_text line.now) 127 }
+{
+    match line {
+        Line::Hello => push(out, b"hello 1"),
+        Line::Welcome { site, limit } => {
+            push(out, b"welcome");
+            push_field(out, site);
+            push_field(out, limit);
+        }
+        Line::Window(win) => push_word(out, b"window", win),
+        Line::Text(wid) => push_word(out, b"text", wid),
+        Line::List(wid) => push_word(out, b"list", wid),
+        Line::Toggle(wid, on) => {
+            push_word(out, b"toggle", wid);
+            push_field(out, on);
+        }
+        Line::Slider { wid, lo, hi, value } => {
+            push_word(out, b"slider", wid);
+            push_field(out, lo);
+            push_field(out, hi);
+            push_field(out, value);
+        }
+        Line::Char(name, value) => {
+            push_word(out, b"char", name);
+            push_field(out, value);
+        }
+        Line::Item(name, label) => {
+            push_word(out, b"item", name);
+            push_field(out, label);
+        }
+        Line::Ready => push(out, b"ready"),
+        Line::Op(msg) => {
+            push_word(out, b"op", &msg.mine);
+            push_field(out, &msg.heard);
+            push_field(out, &msg.op.win);
+            push_field(out, &msg.op.wid);
+            push_body(out, &msg.op.op);
+        }
+        Line::Ack(count) => push_word(out, b"ack", count),
+        Line::Ping(k) => push_word(out, b"ping", k),
+        Line::Pong(k) => push_word(out, b"pong", k),
+        Line::Bye => push(out, b"bye"),
+        Line::Error(number) => push_word(out, b"error", number),
+    }
+}
+
+/// Appends a line's first word, and the field behind it.
+fn push_word<T: Spelled>(out: &mut Vec<u8>, word: &[u8], value: &T)
+    requires { HasRoom out.old (length word.now + (T.most + 1)) }
+    ensures { Appends out.old out.new (word.now ++ 32 ∷ T.text value.now) (length word.now + (T.most + 1)) }
+{
+    push(out, word);
+    push_field(out, value);
+}
+
+/// Appends an operation's fields, a space before each.
+fn push_seq<V: Spelled>(out: &mut Vec<u8>, op: &SeqOp<V>)
+    requires { HasRoom out.old (38 + V.most) }
+    ensures { Appends out.old out.new (after_spaces (seq_fields V.text op.now)) (38 + V.most) }
+{
+    match op {
+        SeqOp::Insert { place, item } => {
+            push(out, b" ins");
+            push_field(out, place);
+            push_field(out, &item.name);
+            push_field(out, &item.value);
+        }
+        SeqOp::Delete { place, name } => {
+            push(out, b" del");
+            push_field(out, place);
+            push_field(out, name);
+        }
+        SeqOp::Nothing => push(out, b" no"),
+    }
+}
+
+fn push_set<V: Spelled>(out: &mut Vec<u8>, op: &SetOp<V>)
+    requires { HasRoom out.old (5 + V.most) }
+    ensures { Appends out.old out.new (after_spaces (set_fields V.text op.now)) (5 + V.most) }
+{
+    match op {
+        SetOp::Set(value) => {
+            push(out, b" set");
+            push_field(out, value);
+        }
+        SetOp::Nothing => push(out, b" no"),
+    }
+}
+
+fn push_body(out: &mut Vec<u8>, op: &WidgetOp)
+    requires { HasRoom out.old 91 }
+    ensures { Appends out.old out.new (after_spaces (body_fields op.now)) 91 }
+{
+    match op {
+        WidgetOp::Text(op) => {
+            push(out, b" text");
+            push_seq(out, op);
+        }
+        WidgetOp::List(op) => {
+            push(out, b" list");
+            push_seq(out, op);
+        }
+        WidgetOp::Toggle(op) => {
+            push(out, b" toggle");
+            push_set(out, op);
+        }
+        WidgetOp::Slider(op) => {
+            push(out, b" slider");
+            push_set(out, op);
+        }
+    }
+}

@@ -1,4 +1,17 @@
+pub mod Backlogs
+pub mod BoardWorlds
+pub mod Each
+pub mod Meanings
+pub mod NumberedReplies
+pub mod Openings
+pub mod Promises
+pub mod Replies
 pub mod ScriptEnds
+pub mod Sound
 pub mod Texts
+pub mod Traces
+pub mod Turns
 pub mod TwoFields
 pub mod Twos
+pub mod WorldStates
+pub mod WorldSteps

@@ -1,0 +1,76 @@
+-- A message that fits is refused nowhere, but an edit by a star whose order is full.
+use Rattle.std.proofs.Common.{◌≡◌, ℕ, ◌≤◌, ◌<◌, ◌⊎◌, Bool, true, false, not, ◌&&◌, List, [], ◌∷◌, ◌++◌, length, nat_lt, refl, ap, inl, inr, ◌∙◌, IsTrue, Some, None, eq-eqb, le-leb, lt-ltb}
+use Rattle.std.proofs.lemmas.Bool.{ltb-true, ltb-false}
+use Rattle.jup_link.specs.declared.Msg.{Msg}
+use Rattle.jup_link.specs.Links.{Link, IsCount, IsNumber, generated, accepts_count, accepts_number, received_operation}
+use Rattle.jup_window.specs.Operations.{Operations, AreLawful}
+use Rattle.jup_star.specs.declared.messages.Up.TheVariants.{Op as UpOp, Ack as UpAck}
+use Rattle.jup_star.specs.declared.messages.Down.TheVariants.{Op as DownOp, Ack as DownAck, Pong as DownPong}
+use Rattle.jup_star.specs.declared.faults.StarFault.TheVariants.{LogFull, BadOp, BadCount, BadAck}
+use Rattle.jup_star.specs.declared.faults.SiteFault.TheVariants.{BadOp as SiteBadOp}
+use Rattle.jup_star.specs.FirstFaults.{Test, test, first_fault}
+use Rattle.jup_star.specs.Counts.{count_tests}
+use Rattle.jup_star.specs.LinkStates.{LinkState}
+use Rattle.jup_star.specs.StarStates.{StarOf, ack_tests, edit_tests, log_tests, fits_board, up_fault}
+use Rattle.jup_star.specs.SiteStates.{SiteOf, running_test, heard_tests, deliver_tests, fits_shown, deliver_fault}
+use Rattle.jup_star.proofs.TestLists.{AllHold, fault_after}
+
+-- tests that all pass name no fault
+pub no_fault : {Fault : Type 0} → (ts : List (Test Fault)) → AllHold ts → first_fault ts ≡ None
+no_fault [] h = refl
+no_fault (t ∷ ts) h = rw h.0 (no_fault ts h.1)
+
+-- the first that fails names its fault
+pub first_to_fail : {Fault : Type 0} → (ts : List (Test Fault)) (t : Test Fault) (us : List (Test Fault)) → AllHold ts → t.holds ≡ false → first_fault (ts ++ t ∷ us) ≡ Some t.fault
+first_to_fail ts t us h fails = fault_after ts (t ∷ us) (no_fault ts h) ∙ rw fails refl
+
+-- two tests that pass
+both : (b c : Bool) → b ≡ true → c ≡ true → b && c ≡ true
+both true c h k = k
+both false c h k = absurd (cc)
+
+-- a count, and a number, that may be said
+pub count_fits : {Op : Type 0} → (l : Link Op) (n : ℕ) → IsCount l n → accepts_count l n ≡ true
+count_fits l n h = both _ _ (le-leb l.acknowledged n h.low) (le-leb n (generated l) h.high)
+
+-- a number that comes next passes its test
+pub number_fits : {Op : Type 0} → (l : Link Op) (n : ℕ) → IsNumber l n → accepts_number l n ≡ true
+number_fits l n h = both _ _ (eq-eqb n l.received h.next) (lt-ltb l.received 4294967295 h.counted)
+
+module _ (O : Operations) (L : AreLawful O) where
+  -- a site that goes on accepts an edit that fits
+  pub deliver_fits : (site : SiteOf O) (m : Msg O.Op) → site.stopped ≡ false → IsNumber site.end m.mine → IsCount site.end m.heard → O.bears_site site.number (O.t.edit_of m.op) ≡ false
+      → O.t.is_valid (received_operation O.t site.end m.heard m.op) site.board → deliver_fault O (DownOp m) site ≡ None
+  deliver_fits site m runs number count foreign valid =
+      no_fault (deliver_tests O site m ++ test (fits_shown O site m) SiteBadOp ∷ [])
+      (ap not runs, (number_fits site.end m.mine number, (count_fits site.end m.heard count, (ap not foreign, ((L.decides _ site.board).1 valid, tt)))))
+
+  -- and an acknowledgement
+  pub deliver_ack : (site : SiteOf O) (n : ℕ) → site.stopped ≡ false → IsCount site.end n → deliver_fault O (DownAck n) site ≡ None
+  deliver_ack site n runs count = no_fault (running_test site ∷ heard_tests site.end n) (ap not runs, (count_fits site.end n count, tt))
+
+  -- and a pong
+  pub deliver_pong : (site : SiteOf O) (k : ℕ) → site.stopped ≡ false → deliver_fault O (DownPong k) site ≡ None
+  deliver_pong site k runs = no_fault (running_test site ∷ []) (ap not runs, tt)
+
+  -- the star takes an edit that fits, or its order is full
+  pub take_fits : (star : StarOf O) (l : LinkState O.Op) (m : Msg O.Op) → IsNumber l.end m.mine → IsCount l.end m.heard → O.is_nothing (O.t.edit_of m.op) ≡ false
+      → IsTrue (O.bears_next l.site l.named (O.t.edit_of m.op)) → O.t.is_valid (received_operation O.t l.end m.heard m.op) star.board
+      → ((up_fault O star l (UpOp m) ≡ None) × (length star.order < star.limit)) ⊎ ((up_fault O star l (UpOp m) ≡ Some LogFull) × (star.limit ≤ length star.order))
+  take_fits star l m number count something next valid = cases (nat_lt (length star.order) star.limit) refl
+    where
+      before : AllHold (count_tests BadCount BadAck l.end m ++ edit_tests O l (O.t.edit_of m.op))
+      before = (number_fits l.end m.mine number, (count_fits l.end m.heard count, (ap not something, (next, tt))))
+
+      cases : (b : Bool) → nat_lt (length star.order) star.limit ≡ b
+          → ((up_fault O star l (UpOp m) ≡ None) × (length star.order < star.limit)) ⊎ ((up_fault O star l (UpOp m) ≡ Some LogFull) × (star.limit ≤ length star.order))
+      cases true room = inl (
+        no_fault (count_tests BadCount BadAck l.end m ++ (edit_tests O l (O.t.edit_of m.op) ++ (log_tests star.limit (length star.order) ++ test (fits_board O star.board l m) BadOp ∷ [])))
+            (before.0, (before.1.0, (before.1.1.0, (before.1.1.1.0, (room, ((L.decides _ star.board).1 valid, tt)))))),
+        ltb-true _ _ room,
+      )
+      cases false full = inr (first_to_fail (count_tests BadCount BadAck l.end m ++ edit_tests O l (O.t.edit_of m.op)) (test (nat_lt (length star.order) star.limit) LogFull) (test (fits_board O star.board l m) BadOp ∷ []) before full, ltb-false _ _ full)
+
+  -- the star takes an acknowledgement that fits
+  pub take_ack : (star : StarOf O) (l : LinkState O.Op) (n : ℕ) → IsCount l.end n → up_fault O star l (UpAck n) ≡ None
+  take_ack star l n count = no_fault (ack_tests l.end n) (count_fits l.end n count, tt)

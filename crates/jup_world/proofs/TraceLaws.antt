@@ -1,0 +1,81 @@
+-- What one more event adds to what is read off a trace.
+use Rattle.std.proofs.Common.{◌≡◌, ℕ, zero, suc, ◌+◌, ◌≤◌, Bool, true, false, cond, List, [], ◌∷◌, ◌++◌, length, drop, nat_eq, refl, ap, sym, ◌∙◌, arith, append_assoc, append-nil}
+use Rattle.jup_world.specs.Turns.{Turn, Own, Other, turn, turns, edits, through_others, others}
+use Rattle.jup_world.specs.Traces.{over_trace, edit_made, made, entry_taken, order_of, join_seen, joined_at, was_shown, shown_count}
+use Rattle.jup_world.specs.declared.events.Happened.{Happened}
+use Rattle.jup_star.specs.declared.messages.Entry.{Entry}
+
+module _ {Command Edit Fault : Type 0} where
+  -- one more event
+  pub over-end : {A : Type 0} (next : List (Happened Command Edit Fault) → A → Happened Command Edit Fault → A) → (a : A) (past hs : List (Happened Command Edit Fault)) (h : Happened Command Edit Fault)
+      → over_trace next a past (hs ++ h ∷ []) ≡ next (past ++ hs) (over_trace next a past hs) h
+  over-end next a past [] h = ap (λ p. next p a h) (sym (append-nil past))
+  over-end next a past (g ∷ hs) h = over-end next (next past a g) (past ++ g ∷ []) hs h ∙ ap (λ p. next p (over_trace next (next past a g) (past ++ g ∷ []) hs) h) (append_assoc past (g ∷ []) hs)
+
+  -- adds the edit that was made
+  pub made-end : (i : ℕ) (hs : List (Happened Command Edit Fault)) (h : Happened Command Edit Fault) → made i (hs ++ h ∷ []) ≡ made i hs ++ edit_made i h.event h.reply
+  made-end i [] h = append-nil (edit_made i h.event h.reply)
+  made-end i (g ∷ hs) h = ap (λ es. edit_made i g.event g.reply ++ es) (made-end i hs h) ∙ sym (append_assoc (edit_made i g.event g.reply) (made i hs) (edit_made i h.event h.reply))
+
+  -- the entry that was taken
+  pub order-end : (hs : List (Happened Command Edit Fault)) (h : Happened Command Edit Fault) → order_of (hs ++ h ∷ []) ≡ order_of hs ++ entry_taken hs (order_of hs) h.event h.reply
+  order-end hs h = over-end (λ past order g. order ++ entry_taken past order g.event g.reply) [] [] hs h
+
+  -- the place of a join
+  pub joined-end : (i : ℕ) (hs : List (Happened Command Edit Fault)) (h : Happened Command Edit Fault) → joined_at i (hs ++ h ∷ []) ≡ join_seen i (length (order_of hs)) (joined_at i hs) h.event h.reply
+  joined-end i hs h = over-end (λ past at g. join_seen i (length (order_of past)) at g.event g.reply) 0 [] hs h
+
+  -- and the edit that was handed
+  pub shown-end : (i : ℕ) (hs : List (Happened Command Edit Fault)) (h : Happened Command Edit Fault) → shown_count i (hs ++ h ∷ []) ≡ shown_count i hs + was_shown i h.event h.reply
+  shown-end i [] h = omega arith
+  shown-end i (g ∷ hs) h = omega (arith, shown-end i hs h)
+
+-- two lists of entries
+pub turns-append : {Edit : Type 0} → (i : ℕ) (rs qs : List (Entry Edit)) → turns i (rs ++ qs) ≡ turns i rs ++ turns i qs
+turns-append i [] qs = refl
+turns-append i (r ∷ rs) qs = ap (λ ts. turn i r ∷ ts) (turns-append i rs qs)
+
+-- a list of entries
+pub length-turns : {Edit : Type 0} → (i : ℕ) (rs : List (Entry Edit)) → length (turns i rs) ≡ length rs
+length-turns i [] = refl
+length-turns i (r ∷ rs) = ap suc (length-turns i rs)
+
+-- all see the same edits
+pub edits-turns : {Edit : Type 0} → (i j : ℕ) (rs : List (Entry Edit)) → edits (turns i rs) ≡ edits (turns j rs)
+edits-turns i j [] = refl
+edits-turns i j (r ∷ rs) = both (nat_eq r.site i) (nat_eq r.site j) (edits-turns i j rs)
+  where
+    both : (b c : Bool) → edits (turns i rs) ≡ edits (turns j rs) → edits (cond b (Own r.edit) (Other r.site r.edit) ∷ turns i rs) ≡ edits (cond c (Own r.edit) (Other r.site r.edit) ∷ turns j rs)
+    both true true ih = ap (λ es. r.edit ∷ es) ih
+    both true false ih = ap (λ es. r.edit ∷ es) ih
+    both false true ih = ap (λ es. r.edit ∷ es) ih
+    both false false ih = ap (λ es. r.edit ∷ es) ih
+
+-- further entries do not move what was told
+pub through-append : {Edit : Type 0} → (n : ℕ) (ts us : List (Turn Edit)) → n ≤ length (others ts) → through_others n (ts ++ us) ≡ through_others n ts
+through-append zero ts us h = refl
+through-append (suc n) [] us h = absurd (omega arith)
+through-append (suc n) (Own e ∷ ts) us h = ap suc (through-append (suc n) ts us h)
+through-append (suc n) (Other j e ∷ ts) us h = ap suc (through-append n ts us (omega arith))
+
+-- one entry of another further
+pub through-next : {Edit : Type 0} → (n : ℕ) (ts : List (Turn Edit)) → suc n ≤ length (others ts)
+    → through_others (suc n) ts ≡ through_others n ts + through_others 1 (drop (through_others n ts) ts)
+through-next zero ts h = omega arith
+through-next (suc n) [] h = absurd (omega arith)
+through-next (suc n) (Own e ∷ ts) h = omega (arith, through-next (suc n) ts h)
+through-next (suc n) (Other j e ∷ ts) h = omega (arith, through-next n ts (omega arith))
+
+-- the entries of others that are left
+pub others-left : {Edit : Type 0} → (n : ℕ) (ts : List (Turn Edit)) → n ≤ length (others ts) → length (others (drop (through_others n ts) ts)) + n ≡ length (others ts)
+others-left zero ts h = omega arith
+others-left (suc n) [] h = absurd (omega arith)
+others-left (suc n) (Own e ∷ ts) h = others-left (suc n) ts h
+others-left (suc n) (Other j e ∷ ts) h = omega (arith, others-left n ts (omega arith))
+
+-- they are within the list
+pub through-within : {Edit : Type 0} → (n : ℕ) (ts : List (Turn Edit)) → n ≤ length (others ts) → through_others n ts ≤ length ts
+through-within zero ts h = omega arith
+through-within (suc n) [] h = absurd (omega arith)
+through-within (suc n) (Own e ∷ ts) h = omega (arith, through-within (suc n) ts h)
+through-within (suc n) (Other j e ∷ ts) h = omega (arith, through-within n ts (omega arith))

@@ -1,0 +1,27 @@
+-- What every world keeps, whatever happens in it.
+use Rattle.std.specs.Prelude.{◌≡◌, ℕ, false, Some, is_some}
+use Rattle.jup_window.specs.Operations.{Operations}
+use Rattle.jup_star.specs.StarStates.{link_of}
+use Rattle.jup_world.specs.Turns.{turns, edits, own_edits}
+use Rattle.jup_world.specs.WorldStates.{WorldOf, AttachedOf, attached, IsQuiet}
+use Rattle.jup_world.specs.Traces.{order_of, made, view}
+
+module _ (O : Operations) where
+  -- at every moment
+  pub record Promises (w : WorldOf O) : Type 0 where
+    -- the star's order is the one that the trace tells
+    pub order : w.star.order ≡ order_of w.trace
+    -- the star's content is what that order means, and a site's what it was told and made means
+    pub star_content : O.t.content w.star.board ≡ O.t.meaning (O.t.content w.opening) (edits (turns 0 (order_of w.trace)))
+    pub site_content : (i : ℕ) (a : AttachedOf O) → attached i w.sites ≡ Some a → O.t.content a.site.board ≡ O.t.meaning (O.t.content w.opening) (view i w.trace)
+    -- where no message is on its way, all boards are equal, and the order has every edit of each attached site once, in its order
+    pub equal : IsQuiet O w → (i : ℕ) (a : AttachedOf O) → attached i w.sites ≡ Some a → a.site.board ≡ w.star.board
+    pub whole : IsQuiet O w → (i : ℕ) (a : AttachedOf O) → attached i w.sites ≡ Some a → own_edits (turns i (order_of w.trace)) ≡ made i w.trace
+    -- the attached sites are those that have links, and none has stopped
+    pub linked : (i : ℕ) → is_some (attached i w.sites) ≡ is_some (link_of i w.star.links)
+    pub running : (i : ℕ) (a : AttachedOf O) → attached i w.sites ≡ Some a → a.site.stopped ≡ false
+
+  -- from one moment to a later one: the star keeps the order of its items, and so does each site that is attached at both
+  pub record OrderIsKept (w v : WorldOf O) : Type 0 where
+    pub star : O.t.keeps_order w.star.board v.star.board
+    pub sites : (i : ℕ) (a b : AttachedOf O) → attached i w.sites ≡ Some a → attached i v.sites ≡ Some b → O.t.keeps_order a.site.board b.site.board

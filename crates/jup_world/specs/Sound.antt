@@ -1,0 +1,165 @@
+-- What holds of every world: the two ends of each link are in step, and the operations on their way mean what their sites made.
+use Rattle.std.specs.Prelude.{◌≡◌, ℕ, ◌+◌, ◌≤◌, ◌<◌, ◌⊎◌, false, cond, List, [], ◌∷◌, ◌++◌, length, take, drop, nat_eq, IsTrue, Option, Some, None}
+use Rattle.jup_xform.specs.declared.row.Side.TheVariants.{Client, Server}
+use Rattle.jup_link.specs.Links.{Message, Operation, Ack, generated}
+use Rattle.jup_link.specs.Messages.{sent}
+use Rattle.jup_link.specs.InStep.{InStepAt}
+use Rattle.jup_window.specs.Operations.{Operations}
+use Rattle.jup_star.specs.declared.messages.Up.{Up}
+use Rattle.jup_star.specs.declared.messages.Up.TheVariants.{Op as UpOp, Ack as UpAck, Ping as UpPing}
+use Rattle.jup_star.specs.declared.messages.Down.{Down}
+use Rattle.jup_star.specs.declared.messages.Down.TheVariants.{Op as DownOp, Ack as DownAck, Pong as DownPong}
+use Rattle.jup_star.specs.LinkStates.{LinkState}
+use Rattle.jup_star.specs.StarStates.{link_of}
+use Rattle.jup_world.specs.Each.{Each}
+use Rattle.jup_world.specs.Turns.{Turn, Own, Other, turns, edits, own_edits, others, through_others}
+use Rattle.jup_world.specs.Meanings.{RowStands, Shows}
+use Rattle.jup_world.specs.WorldStates.{WorldOf, AttachedOf, attached}
+use Rattle.jup_world.specs.Traces.{order_of, made, joined_at, shown_count}
+
+-- what a stream carries for the two ends: pings and pongs are none of it
+abbrev pub ups : {Op : Type 0} → List (Up Op) → List (Message Op)
+ups [] = []
+ups (UpOp m ∷ us) = sent m ∷ ups us
+ups (UpAck n ∷ us) = Ack n ∷ ups us
+ups (UpPing k ∷ us) = ups us
+
+-- what goes down
+abbrev pub downs : {Op : Type 0} → List (Down Op) → List (Message Op)
+downs [] = []
+downs (DownOp m ∷ ds) = sent m ∷ downs ds
+downs (DownAck n ∷ ds) = Ack n ∷ downs ds
+downs (DownPong k ∷ ds) = downs ds
+
+module _ (O : Operations) where
+  -- the edits of the operations in a stream, as they were sent
+  abbrev pub edits_sent : List (Message O.Op) → List O.Edit
+  edits_sent [] = []
+  edits_sent (Operation mine heard o ∷ ms) = O.t.edit_of o ∷ edits_sent ms
+  edits_sent (Ack n ∷ ms) = edits_sent ms
+
+  -- how many insertions of a site are among the entries, as site i sees them
+  abbrev pub named_by : ℕ → ℕ → List (Turn O.Edit) → ℕ
+  named_by i j [] = 0
+  named_by i j (Own e ∷ ts) = cond (nat_eq i j) (O.insertions e) 0 + named_by i j ts
+  named_by i j (Other k e ∷ ts) = cond (nat_eq k j) (O.insertions e) 0 + named_by i j ts
+
+  -- a name of the layout, or among the first so many insertions of its site
+  abbrev pub IsKnown : (ℕ → ℕ) → O.t.Name → Type 0
+  IsKnown counts n = (O.site_of n ≡ 0) ⊎ (O.number_of n ≤ counts (O.site_of n))
+
+  -- the counts that site i knows: its own insertions, and those of the entries that it was told
+  abbrev pub own_counts : ℕ → ℕ → (ℕ → ℕ) → ℕ → ℕ
+  own_counts i own counts j = cond (nat_eq j i) own (counts j)
+
+  -- what an edit changes is known
+  abbrev pub ChangesKnown : (ℕ → ℕ) → O.Edit → Type 0
+  ChangesKnown counts e = (n : O.t.Name) → O.t.changes e n → IsKnown counts n
+
+  -- what an edit changes is known before it, or is inserted by it
+  abbrev pub ChangesHeld : (ℕ → ℕ) → O.Edit → Type 0
+  ChangesHeld counts e = (n : O.t.Name) → O.t.changes e n → IsKnown counts n ⊎ O.t.inserts e n
+
+  -- what a board holds is known
+  abbrev pub HoldsKnown : (ℕ → ℕ) → O.State → Type 0
+  HoldsKnown counts x = (n : O.t.Name) → O.t.holds x n → IsKnown counts n
+
+  -- each operation inserts nothing that its edit does not
+  abbrev pub Inherits : List O.Op → List O.Edit → Type 0
+  Inherits [] [] = Unit {0}
+  Inherits [] (e ∷ es) = ⊥
+  Inherits (c ∷ cs) [] = ⊥
+  Inherits (c ∷ cs) (e ∷ es) = ((n : O.t.Name) → O.t.inserts (O.t.edit_of c) n → O.t.inserts e n) × Inherits cs es
+
+  -- the edits that a site made and the star has not taken: each bears the site's next names, is no no-op, and changes only
+  -- what the site knew or what it inserts
+  abbrev pub RawNamed : (ℕ → ℕ) → ℕ → ℕ → List O.Edit → ℕ → Type 0
+  RawNamed counts i k [] last = k ≡ last
+  RawNamed counts i k (e ∷ es) last =
+      IsTrue (O.bears_next i k e) × (O.is_nothing e ≡ false) × ChangesHeld (own_counts i k counts) e × RawNamed counts i (k + O.insertions e) es last
+
+  -- the entries of other sites: each bears its site's next names, and changes only what was known before it or what it inserts
+  abbrev pub OrderNamed : ℕ → List (Turn O.Edit) → List (Turn O.Edit) → Type 0
+  OrderNamed i past [] = Unit {0}
+  OrderNamed i past (Own e ∷ ts) = OrderNamed i (past ++ Own e ∷ []) ts
+  OrderNamed i past (Other j e ∷ ts) =
+      ((1 ≤ j) × (nat_eq j i ≡ false) × IsTrue (O.bears_next j (named_by i j past) e) × ChangesHeld (λ k. named_by i k past) e)
+      × OrderNamed i (past ++ Other j e ∷ []) ts
+
+  -- Site i and its link, the star's order being seen as `past`, which the site was told, and `rest`: all that holds of the
+  -- two ends, of what the operations mean, and of names.
+  pub record Paired (most i : ℕ) (first : O.t.Content) (past rest : List (Turn O.Edit)) (held : O.State) (mine : List O.Edit) (l : LinkState O.Op) (a : AttachedOf O) : Type 0 where
+    -- the link
+    pub from : O.State
+    pub site_ahead : List O.Op
+    pub star_ahead : List O.Op
+    pub site_side : a.site.end.side ≡ Client
+    pub link_side : l.end.side ≡ Server
+    pub in_step : InStepAt O.t 0 from site_ahead star_ahead a.site.board held a.site.end l.end (ups a.up) (downs (a.down ++ l.outbox))
+    pub room : ℕ
+    pub small : O.t.is_small room from
+    pub enough : room + length (past ++ rest) ≡ most + length star_ahead
+    -- the meaning
+    pub raw : List O.Edit
+    pub raw_sent : edits_sent (ups a.up) ≡ raw
+    pub row : RowStands O (edits past ++ own_edits rest) site_ahead raw
+    pub column : Shows O (edits past) rest star_ahead
+    pub all_made : mine ≡ own_edits (past ++ rest) ++ raw
+    pub shows : O.t.content a.site.board ≡ O.t.meaning first ((edits past ++ own_edits rest) ++ raw)
+    -- names
+    pub up_inherits : Inherits site_ahead raw
+    pub down_inherits : Inherits star_ahead (others rest)
+    pub raw_named : RawNamed (λ j. named_by i j past) i (named_by i i (past ++ rest)) raw a.site.named
+    pub rest_named : OrderNamed i past rest
+    pub board_known : HoldsKnown (own_counts i a.site.named (λ j. named_by i j past)) a.site.board
+    pub view_known : Each (ChangesKnown (own_counts i a.site.named (λ j. named_by i j past))) ((edits past ++ own_edits rest) ++ raw)
+    pub falling_foreign : Each (λ e. O.bears_site i e ≡ false) (edits_sent (downs (a.down ++ l.outbox)))
+    -- the site and the link
+    pub positive : 1 ≤ i
+    pub site_number : a.site.number ≡ i
+    pub link_number : l.site ≡ i
+    pub link_named : l.named ≡ named_by i i (past ++ rest)
+    pub goes_on : a.site.stopped ≡ false
+    pub backlog : length a.site.end.outgoing ≤ 1024
+    pub few_heard : l.end.received ≤ length (past ++ rest)
+    pub few_sent : generated l.end ≤ length (past ++ rest)
+
+  -- the length of the order that a site was told, from the length at its join and the number of operations shown
+  abbrev pub told_of : ℕ → ℕ → List (Turn O.Edit) → ℕ
+  told_of joined shown ts = joined + through_others shown (drop joined ts)
+
+  -- a site that stands in the world beside its link: its pair, at what the trace says that it was told
+  pub record Standing (most : ℕ) (first : O.t.Content) (ts : List (Turn O.Edit)) (held : O.State) (mine : List O.Edit) (joined shown : ℕ) (i : ℕ)
+      (l : LinkState O.Op) (a : AttachedOf O) : Type 0 where
+    pub pair : Paired most i first (take (told_of joined shown ts) ts) (drop (told_of joined shown ts) ts) held mine l a
+    pub joined_within : joined ≤ length ts
+    pub shown_within : shown ≤ length (others (drop joined ts))
+
+  -- a link has its site, and a site its link
+  abbrev pub StandsAt : ℕ → O.t.Content → List (Turn O.Edit) → O.State → List O.Edit → ℕ → ℕ → ℕ → Option (LinkState O.Op) → Option (AttachedOf O) → Type 0
+  StandsAt most first ts held mine joined shown i None None = Unit {0}
+  StandsAt most first ts held mine joined shown i None (Some a) = ⊥
+  StandsAt most first ts held mine joined shown i (Some l) None = ⊥
+  StandsAt most first ts held mine joined shown i (Some l) (Some a) = Standing most first ts held mine joined shown i l a
+
+  -- All that holds of a world at every moment; `most` is how small its opening board is.
+  pub record IsSound (most : ℕ) (w : WorldOf O) : Type 0 where
+    pub order_is : order_of w.trace ≡ w.star.order
+    pub content_is : O.t.content w.star.board ≡ O.t.meaning (O.t.content w.opening) (edits (turns 0 w.star.order))
+    pub distinct : O.t.is_distinct w.star.board
+    pub room : ℕ
+    pub small : O.t.is_small room w.star.board
+    pub enough : room + length w.star.order ≡ most
+    pub few : length w.star.order ≤ w.star.limit
+    pub limited : w.star.limit + 1026 ≤ most
+    pub counted : most ≤ 4294967295
+    pub board_known : HoldsKnown (λ j. named_by 0 j (turns 0 w.star.order)) w.star.board
+    pub order_known : Each (ChangesKnown (λ j. named_by 0 j (turns 0 w.star.order))) (edits (turns 0 w.star.order))
+    pub stand : (i : ℕ) → StandsAt most (O.t.content w.opening) (turns i w.star.order) w.star.board (made i w.trace) (joined_at i w.trace) (shown_count i w.trace) i
+        (link_of i w.star.links) (attached i w.sites)
+    -- numbers that were not given yet
+    pub no_link : (i : ℕ) → w.star.given < i → link_of i w.star.links ≡ None
+    pub no_edit : (i : ℕ) → w.star.given < i → made i w.trace ≡ []
+    pub no_shown : (i : ℕ) → w.star.given < i → shown_count i w.trace ≡ 0
+    pub no_entry : (i : ℕ) → w.star.given < i → own_edits (turns i w.star.order) ≡ []
+    pub no_name : (i : ℕ) → w.star.given < i → named_by i i (turns i w.star.order) ≡ 0

@@ -1,0 +1,51 @@
+//! What may happen in a world, and what each event answers.
+
+use jup_star::StarFault;
+use jup_window::{Command, Edit, EditFault};
+
+/// What may happen in a world.
+#[derive(Clone, Copy, Debug, PartialEq, Eq)]
+pub enum Event<C = Command> {
+    /// A site joins.
+    Join,
+    /// This site leaves. What is on its way from it and to it is lost.
+    Leave(u32),
+    /// This site edits.
+    Edit(u32, C),
+    /// The star takes the oldest message from this site.
+    Up(u32),
+    /// This site is handed the oldest message to it.
+    Down(u32),
+    /// This site sends a ping of this number.
+    Ping(u32, u32),
+}
+
+/// What an event answers.
+#[derive(Clone, Copy, Debug, PartialEq, Eq)]
+pub enum Reply<E = Edit, F = EditFault> {
+    /// A site of this number joined.
+    Joined(u32),
+    NoJoin(StarFault),
+    Left,
+    /// The site made this edit.
+    Made(E),
+    Refused(F),
+    /// The edit stands at this place of the star's order.
+    Taken(u32),
+    /// The message was an acknowledgement, a ping or a pong.
+    Heard,
+    /// The message was refused, and the site is detached.
+    Detached(StarFault),
+    /// The site was handed an edit of another site.
+    Shown,
+    Asked,
+    /// There is no such site, or no message to it or from it.
+    Nothing,
+}
+
+/// An event with its reply.
+#[derive(Clone, Copy, Debug, PartialEq, Eq)]
+pub struct Happened<C = Command, E = Edit, F = EditFault> {
+    pub event: Event<C>,
+    pub reply: Reply<E, F>,
+}

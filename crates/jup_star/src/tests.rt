@@ -1,5 +1,5 @@
 //! Refusals in their order, each call once where it succeeds, and growths that are refused.
-use crate::{Down, OpenFault, Site, SiteFault, Star, StarFault, Up};
+use crate::{Down, Made, OpenFault, Site, SiteFault, Star, StarFault, Up};
 use jup_link::Msg;
 use jup_seq::SeqOp;
 use jup_setting::{SetOp, Toggle};
@@ -8,6 +8,7 @@ use jup_window::{
     Board, BoardFault, BoardOp, Command, EditFault, Setting, Value, Widget, WidgetOp,
 };
 use std::alloc::Global;
+use std::marker::PhantomData;
 use std::test::Fail;
 
 const LIMIT: u32 = 100_000;
@@ -235,12 +236,15 @@ fn each_site_number_is_given_once(rt: HostRuntime) -> Result<(), Fail> {
 
 #[test]
 fn an_edit_that_was_not_taken_leaves_with_its_site(rt: HostRuntime) -> Result<(), Fail> {
+    // The checker has to be told of the types within what is dropped here.
+    let _within: PhantomData<(Up, Made)> = PhantomData;
     let alloc = rt.alloc();
     let mut star = Star::open(alloc, blank(alloc)?, LIMIT)?;
     let first = star.join(alloc)?;
     let mut site = Site::open(alloc, first.site, first.limit, first.board)?;
     star.join(alloc)?;
-    site.edit(alloc, &insert(0, 'a'))?;
+    let made = site.edit(alloc, &insert(0, 'a'))?;
+    assert!(rt; !made.edit.is_nothing());
     star.leave(1)?;
     assert_eq!(rt; star.waiting(1), None);
     assert_eq!(rt; star.waiting(2), Some(0));

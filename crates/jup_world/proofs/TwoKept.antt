@@ -1,4 +1,4 @@
-use Rattle.std.proofs.Common.{◌≡◌, ℕ, ◌+◌, ◌-◌, ◌<◌, ◌≤◌, ◌⊎◌, inl, inr, Bool, true, false, nat_lt, nat_le, List, [], ◌∷◌, ◌++◌, length, insert, slice_get, refl, sym, ap, ◌∙◌, subst, arith, append-nil}
+use Rattle.std.proofs.Common.{◌≡◌, ℕ, ◌+◌, ◌-◌, ◌<◌, ◌≤◌, inl, inr, Bool, true, false, nat_lt, nat_le, List, [], ◌∷◌, ◌++◌, length, slice_get, refl, sym, ap, ◌∙◌, subst, arith, append-nil}
 use Rattle.std.specs.Prelude.{Option, Some, None, Result, Ok, Err, OnOk, OnErr, option_map, if◌then◌else◌}
 use Rattle.std.proofs.lemmas.Bool.{ltb-false, leb-false, false_from_ne_true, false≢true}
 use Rattle.std.proofs.lemmas.List.{length_push}
@@ -6,14 +6,14 @@ use Rattle.jup_xform.specs.declared.row.Side.{Side}
 use Rattle.jup_xform.specs.declared.row.Side.TheVariants.{Client as ClientSide, Server as ServerSide}
 use Rattle.jup_value.specs.declared.names.Name.{Name}
 use Rattle.jup_value.specs.declared.names.Item.{Item}
-use Rattle.jup_value.specs.Items.{Items, name_eq, has_name, name_at}
+use Rattle.jup_value.specs.Items.{Items, name_eq, has_name}
 use Rattle.jup_value.proofs.ItemLists.{name_eq_refl, name_eq_same}
 use Rattle.jup_seq.specs.declared.operations.SeqOp.{SeqOp}
 use Rattle.jup_seq.specs.declared.operations.SeqOp.TheVariants.{Insert as InsertOp, Delete as DeleteOp, Nothing as NoOp}
 use Rattle.jup_seq.specs.Operations.{after, IsValid, AreApart}
 use Rattle.jup_seq.specs.Edits.{edit_of}
 use Rattle.jup_seq.specs.Names.{InsertsName, held_before}
-use Rattle.jup_link.specs.Links.{Link, Message, Operation, Ack, IsNumber, IsCount, AcceptsMessage, generated, after_send, after_ack, after_count, after_receive, received_operation, link_after, state_after, message, owed, answered}
+use Rattle.jup_link.specs.Links.{Link, Message, Operation, Ack, AcceptsMessage, generated, after_ack, after_count, after_receive, received_operation, link_after, state_after, message}
 use Rattle.jup_link.specs.Pairs.{AcceptsNext}
 use Rattle.jup_link.specs.Streams.{AllMessages, MessagesApart}
 use Rattle.jup_link.specs.ComesLaws.{MessagesApart-from}
@@ -27,7 +27,7 @@ use Rattle.jup_world.specs.declared.two.TwoEvent.TheVariants.{Client, Server, Up
 use Rattle.jup_world.specs.Texts.{texts, texts_lawful}
 use Rattle.jup_world.proofs.NamedTexts.{length-named_from, AreDistinct-named_from}
 use Rattle.jup_world.proofs.Received.{received_names}
-use Rattle.jup_world.specs.Twos.{TwoEnd, TwoState, named_from, opened_end, opened_two, two_operation, deletion, insertions, made_by, edited, sent_by, delivered, left_of, sent_back, two_after, AreInStep, HoldsWithin, InsertsUnder, IsTwoEnd, IsTwo}
+use Rattle.jup_world.specs.Twos.{TwoEnd, TwoState, named_from, opened_end, opened_two, two_operation, deletion, insertions, made_by, edited, sent_by, delivered, left_of, sent_back, two_after, HoldsWithin, InsertsUnder, IsTwoEnd, IsTwo}
 use Rattle.jup_world.proofs.NamedTexts.{length-named_from, AreDistinct-named_from}
 use Rattle.jup_world.proofs.Received.{received_names}
 

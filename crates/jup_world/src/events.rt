@@ -1,4 +1,6 @@
 //! What may happen in a world, and what each event answers.
+ghost use Rattle.std.specs.Prelude.{◌≡◌, ◌↔◌, IsTrue};
+ghost use Rattle.jup_world.specs.declared.events.Reply.TheVariants.{Nothing as nothing};
 
 use jup_star::StarFault;
 use jup_window::{Command, Edit, EditFault};
@@ -41,6 +43,27 @@ pub enum Reply<E = Edit, F = EditFault> {
     Asked,
     /// There is no such site, or no message to it or from it.
     Nothing,
+}
+
+impl Reply {
+    /// Whether there was no such site, or no message to it or from it.
+    pub fn is_nothing(&self) -> bool
+        ensures { IsTrue result ↔ (self.now ≡ nothing) }
+    {
+        match self {
+            Reply::Nothing => true,
+            Reply::Joined(_)
+            | Reply::NoJoin(_)
+            | Reply::Left
+            | Reply::Made(_)
+            | Reply::Refused(_)
+            | Reply::Taken(_)
+            | Reply::Heard
+            | Reply::Detached(_)
+            | Reply::Shown
+            | Reply::Asked => false,
+        }
+    }
 }
 
 /// An event with its reply.

@@ -1,10 +1,12 @@
 //! Whole runs of the system, and the scripts that play them.
 //!
-//! [`worlds_agree`] is what every run of a star with its sites keeps, over every list of [`Event`]s. The
-//! calls that play such runs are not here yet; [`Two`] plays one link, and [`run_script`] plays scripts.
+//! A [`World`] is a star with its sites, played by [`Event`]s; whenever no message is on its way all its
+//! boards are equal ([`World::quiet`]). [`worlds_agree`] is what every list of events keeps, as a theorem.
+//! [`Two`] plays one link, and [`run_script`] plays scripts.
 #![tactic(auto)]
 
 mod events;
+mod openings;
 mod pair;
 mod promises;
 mod script;
@@ -12,10 +14,13 @@ mod script;
 mod tests;
 mod text;
 mod two;
+mod world;
 
 pub use events::{Event, Happened, Reply};
+pub use openings::is_short;
 pub use pair::{pair_slider, pair_toggle};
 pub use promises::worlds_agree;
 pub use script::{ScriptEnd, run_script};
 pub use text::{read_command, write_board, write_edit};
 pub use two::{Two, TwoEdit, TwoEvent, TwoReply};
+pub use world::{Halted, World};

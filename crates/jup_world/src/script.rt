@@ -10,6 +10,7 @@ use std::io::{BufWriter, ErrorKind, Read, Write};
 mod ending;
 mod lines;
 mod pair;
+mod star;
 mod two;
 
 pub use ending::ScriptEnd;
@@ -58,6 +59,9 @@ fn play<W: Write>(alloc: Global, script: &mut Script<'_>, replies: &mut W) -> Re
     let first = script.required_line()?;
     if let Some(pair) = Pair::open(first) {
         return pair.play(script, replies);
+    }
+    if let Some(limit) = star::limit_of(first) {
+        return star::play(alloc, limit, script, replies);
     }
     if two::is_opening(first) {
         return two::play(alloc, script, replies);

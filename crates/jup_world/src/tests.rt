@@ -1,2 +1,6 @@
+mod boards;
+mod messages;
 mod scripts;
+mod star_scripts;
 mod texts;
+mod worlds;

@@ -1,9 +1,10 @@
 //! The spellings of values, commands, edits and boards that scripts and programs share. What is printed
 //! and what is read have one spelling each.
 
-mod boards;
+pub(crate) mod boards;
 mod commands;
-mod edits;
+pub(crate) mod edits;
+pub(crate) mod layouts;
 pub(crate) mod quoted;
 pub(crate) mod words;
 

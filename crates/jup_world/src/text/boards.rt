@@ -13,7 +13,7 @@ use std::fmt;
 pub fn write_board(alloc: Global, board: &Board, into: &mut Vec<u8>) -> Result<(), NoMemory>
     ensures { OnErr result (into.new.items ≡ into.old.items) }
 {
-    append(alloc, &Printed(board), into)
+    append(alloc, &PrintedBoard(board), into)
 }
 
 // Appends a text, or nothing where memory is refused.
@@ -31,10 +31,11 @@ pub(super) fn append<D: fmt::Display>(
         .map_err(|_| NoMemory)
 }
 
+/// A board as it is printed.
 #[derive(Drop)]
-struct Printed<'a>(&'a Board);
+pub(crate) struct PrintedBoard<'a>(pub(crate) &'a Board);
 
-impl fmt::Display for Printed<'_> {
+impl fmt::Display for PrintedBoard<'_> {
     fn fmt<W: fmt::Write>(&self, f: &mut fmt::Formatter<W>) -> fmt::Result {
         for (win, window) in self.0.windows() {
             writeln!(f, "window {win}")?;

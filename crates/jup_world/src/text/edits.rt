@@ -13,13 +13,14 @@ use std::fmt;
 pub fn write_edit(alloc: Global, edit: &Edit, into: &mut Vec<u8>) -> Result<(), NoMemory>
     ensures { OnErr result (into.new.items ≡ into.old.items) }
 {
-    append(alloc, &Printed(edit), into)
+    append(alloc, &PrintedEdit(edit), into)
 }
 
+/// An edit as it is printed.
 #[derive(Drop)]
-struct Printed<'a>(&'a Edit);
+pub(crate) struct PrintedEdit<'a>(pub(crate) &'a Edit);
 
-impl fmt::Display for Printed<'_> {
+impl fmt::Display for PrintedEdit<'_> {
     fn fmt<W: fmt::Write>(&self, f: &mut fmt::Formatter<W>) -> fmt::Result {
         let win = self.0.win;
         let wid = self.0.wid;

@@ -39,11 +39,26 @@ pub(crate) fn read_quoted_char(word: &str) -> Option<char> {
 
 /// Reads a label.
 pub(crate) fn read_quoted_label(word: &str) -> Option<Label> {
+    let bytes = word.as_bytes();
+    let (label, len) = next_quoted_label(bytes)?;
+    if len == bytes.len() {
+        Some(label)
+    } else {
+        None
+    }
+}
+
+/// The label at the front of a text, and how many bytes it takes there.
+pub(crate) fn next_quoted_label(text: &[u8]) -> Option<(Label, usize)>
+    ensures { IfSome result (λ read. read.1 ≤ length text.now) }
+{
     let mut bytes = [0; LONGEST_LABEL];
     let mut len = 0;
-    let mut rest = inside(word)?;
-    while !rest.is_empty() {
-        let (value, later) = next_char(rest)?;
+    let mut rest = match text {
+        [b'"', rest @ ..] => rest,
+        _ => return None,
+    };
+    while let Some((value, later)) = next_char(rest) {
         if len == LONGEST_LABEL {
             return None;
         }
@@ -51,11 +66,15 @@ pub(crate) fn read_quoted_label(word: &str) -> Option<Label> {
         len += 1;
         rest = later;
     }
-    Label::read(&bytes[..len]).ok()
+    let label = Label::read(&bytes[..len]).ok()?;
+    match rest {
+        [b'"', later @ ..] => Some((label, text.len() - later.len())),
+        _ => None,
+    }
 }
 
-// What stands between the quotes.
-fn inside(word: &str) -> Option<&[u8]>
+/// What stands between the quotes.
+pub(crate) fn inside(word: &str) -> Option<&[u8]>
     ensures { IfSome result (λ text. length text.now ≤ length word.now) }
 {
     match word.as_bytes() {
@@ -64,8 +83,8 @@ fn inside(word: &str) -> Option<&[u8]>
     }
 }
 
-// The first character in its one spelling, and what follows it.
-fn next_char(text: &[u8]) -> Option<(char, &[u8])>
+/// The first character in its one spelling, and what follows it.
+pub(crate) fn next_char(text: &[u8]) -> Option<(char, &[u8])>
     ensures { IfSome result (λ read. length read.1.now < length text.now) }
 {
     match text {

@@ -1,5 +1,4 @@
-use Rattle.std.proofs.Common.{◌≡◌, ℕ, ◌<◌, length, take, arith, ◌∙◌}
-use Rattle.jup_world.specs.Twos.{named_from}
+use Rattle.std.proofs.Common.{arith, ◌∙◌}
 use Rattle.jup_world.proofs.NamedTexts.{length_so_far, new_so_far, pushed_item}
 use Rattle.jup_world.proofs.two.named.Goals as goal
 

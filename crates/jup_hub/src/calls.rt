@@ -1,0 +1,191 @@
+//! What a hub is called for.
+ghost use Rattle.std.specs.Prelude.{◌≡◌, ◌<◌, ◌↔◌, true, false, List, length, IfOk, IfErr, IsTrue};
+ghost use Rattle.jup_star.specs.declared.calls.Call.TheVariants.{Join, Take, Fetch, Leave};
+ghost use Rattle.jup_star.specs.declared.calls.Reply.TheVariants.{Joined as JoinedReply, Taken, Fetched, Left};
+ghost use Rattle.jup_star.specs.StarCalls.{bare_joined};
+ghost use Rattle.jup_hub.specs.declared.view.Entry.{Entry};
+ghost use Rattle.jup_hub.specs.Histories.{star_through, AllApart};
+ghost use Rattle.jup_hub.specs.Knowledge.{newcomer, after_split, split_from, joined_with, having_seen, longest, tallies, Meets};
+ghost use Rattle.jup_hub.specs.Faults.{is_out_of_memory};
+ghost use Rattle.jup_hub.specs.Passes.{opening_of, view_of, IsPassOf, Made};
+
+use crate::ask::Ask;
+use crate::asks::{Fetching, Joining, Leaving, Taking};
+use crate::desk::Desk;
+use crate::fault::{HubFault, lacks_memory, told};
+use crate::hub::{Closed, Hub, Pass};
+use crate::rule::{Learn, Look, Passes};
+use crate::turns::{give_turn, settle, take_turn, try_turn};
+use atomic_table::{Refused, Table};
+use jup_star::{Downs, Joined, Star, Up};
+use std::alloc::{AllocFailed, Global};
+use std::marker::Brand;
+use std::snapshot::Snapshot;
+use std::sync::Wait;
+
+impl Hub {
+    /// A hub over a star, with its first pass. For want of memory the star comes back.
+    pub fn open(alloc: Global, star: Star) -> Result<(Hub, Pass), Star>
+        ensures ok { IfOk result (λ r. (opening_of r.0 ≡ star) × IsPassOf r.0 r.1
+            × (view_of r.1 ≡ newcomer star)) }
+        ensures err { IfErr result (λ s. s ≡ star) }
+    {
+        let about = Snapshot::of(&star);
+        let mut slots = Vec::new(alloc);
+        if let Err(AllocFailed { value }) = slots.push(Some(Desk { star, count: 0 })) {
+            let Some(desk) = value else { unreachable!() };
+            return Err(desk.star);
+        }
+        match Table::new(alloc, &[0, 0], slots, &about) {
+            Ok((table, seat)) => Ok((Hub { table }, Pass { seat, length: 0 })),
+            Err(Refused { mut slots }) => {
+                let Some(Some(desk)) = slots.pop() else {
+                    unreachable!()
+                };
+                Err(desk.star)
+            }
+        }
+    }
+
+    /// A new pass, for another thread. It has seen the same, and has made nothing.
+    pub fn split(&self, pass: &mut Pass) -> Pass
+        requires { IsPassOf self.now pass.old }
+        ensures passes { IsPassOf self.now pass.new × IsPassOf self.now result }
+        ensures same { view_of pass.new ≡ after_split (view_of pass.old) }
+        ensures new { view_of result ≡ split_from (view_of pass.old) }
+    {
+        let seat = self.table.shared.split_seat::<Passes>(&mut pass.seat);
+        Pass {
+            seat,
+            length: pass.length,
+        }
+    }
+
+    /// Takes in another pass: what it has seen, and its number and all that it took in, each with its calls.
+    /// All these numbers differ.
+    pub fn rejoin(&self, pass: &mut Pass, other: Pass)
+        requires one { IsPassOf self.now pass.old }
+        requires two { IsPassOf self.now other }
+        ensures pass { IsPassOf self.now pass.new }
+        ensures both { view_of pass.new ≡ joined_with (view_of pass.old) (view_of other) }
+        ensures differ { AllApart (tallies (view_of pass.new)) }
+    {
+        let Pass { seat, length } = other;
+        self.table.shared.join_seat::<Passes>(&mut pass.seat, seat);
+        self.table.shared.load::<Learn>(&mut pass.seat, 0);
+        pass.length = pass.length.max(length);
+    }
+
+    /// Gives a new site its number, the limit and a copy of the board. Like the next three it waits for the
+    /// turn, and is refused by `Spent` before all else, or as the star refuses it. Whatever it answers but
+    /// `Spent` and want of memory is an event.
+    pub fn join_site<R: Wait>(
+        &self,
+        rt: &R,
+        alloc: Global,
+        pass: &mut Pass,
+    ) -> Result<Joined, HubFault>
+        requires { IsPassOf self.now pass.old }
+        ensures pass { IsPassOf self.now pass.new }
+        ensures made { Made (λ r. JoinedReply (bare_joined r)) Join (view_of pass.old) (view_of pass.new) result }
+    {
+        self.act(rt, pass, &Joining { alloc })
+    }
+
+    /// Hands the star what a site sent up, and answers the place of an edit in the order, from 0.
+    pub fn take<R: Wait>(
+        &self,
+        rt: &R,
+        alloc: Global,
+        pass: &mut Pass,
+        site: u32,
+        up: &Up,
+    ) -> Result<Option<u32>, HubFault>
+        requires { IsPassOf self.now pass.old }
+        ensures pass { IsPassOf self.now pass.new }
+        ensures made { Made (λ r. Taken r) (Take site up.now) (view_of pass.old) (view_of pass.new) result }
+    {
+        self.act(rt, pass, &Taking { alloc, site, up })
+    }
+
+    /// Takes up to `max` of the oldest messages out of a site's outbox.
+    pub fn fetch<R: Wait>(
+        &self,
+        rt: &R,
+        alloc: Global,
+        pass: &mut Pass,
+        site: u32,
+        max: u32,
+    ) -> Result<Downs, HubFault>
+        requires { IsPassOf self.now pass.old }
+        ensures pass { IsPassOf self.now pass.new }
+        ensures made { Made (λ r. Fetched r) (Fetch site max) (view_of pass.old) (view_of pass.new) result }
+    {
+        self.act(rt, pass, &Fetching { alloc, site, max })
+    }
+
+    /// Detaches a site. It takes no memory.
+    pub fn leave<R: Wait>(&self, rt: &R, pass: &mut Pass, site: u32) -> Result<(), HubFault>
+        requires { IsPassOf self.now pass.old }
+        ensures pass { IsPassOf self.now pass.new }
+        ensures made { Made (λ r. Left r) (Leave site) (view_of pass.old) (view_of pass.new) result }
+        ensures memory { is_out_of_memory result ≡ false }
+    {
+        self.act(rt, pass, &Leaving { site })
+    }
+
+    /// Whether there were events after all that the pass had seen. It has then seen them. This never waits.
+    pub fn news(&self, pass: &mut Pass) -> bool
+        requires { IsPassOf self.now pass.old }
+        ensures pass { IsPassOf self.now pass.new }
+        ensures met { (log : List Entry) × Meets (view_of pass.old) log
+            × (view_of pass.new ≡ having_seen log (view_of pass.old))
+            × (IsTrue result ↔ longest (view_of pass.old).seen < length log) }
+    {
+        let found = self.table.shared.load::<Look>(&mut pass.seat, 0);
+        let is_longer = found > pass.length;
+        pass.length = found;
+        is_longer
+    }
+
+    /// The star, with the number of events since the hub was opened. Refused only where a turn is held: then
+    /// hub and pass come back as they were.
+    pub fn close(self, pass: Pass) -> Result<Closed, (Hub, Pass)>
+        requires { IsPassOf self pass }
+        ensures closed { IfOk result (λ r. (log : List Entry) × Meets (view_of pass) log
+            × (r.star ≡ star_through (opening_of self) log)
+            × (r.events ≡ length log)) }
+        ensures held { IfErr result (λ r. (r.0 ≡ self) × IsPassOf r.0 r.1 × (view_of r.1 ≡ view_of pass)) }
+    {
+        let Pass { mut seat, length } = pass;
+        match try_turn(&self.table.shared, &mut seat) {
+            Some(desk) => Ok(Closed {
+                star: desk.star,
+                events: desk.count,
+            }),
+            None => Err((self, Pass { seat, length })),
+        }
+    }
+
+    // Waits for the turn, makes one call on the star and gives the turn up.
+    fn act<A: Ask, R: Wait>(&self, rt: &R, pass: &mut Pass, ask: &A) -> Result<A::Answer, HubFault>
+        requires { IsPassOf self.now pass.old }
+        ensures pass { IsPassOf self.now pass.new }
+        ensures made { Made A.reply (A.call ask.now) (view_of pass.old) (view_of pass.new) result }
+    {
+        let table = &self.table.shared;
+        let mut desk = take_turn(rt, table, &mut pass.seat);
+        if desk.count == u64::MAX {
+            give_turn(table, &mut pass.seat, desk);
+            return Err(HubFault::Spent);
+        }
+        let answer = ask.ask(&mut desk.star);
+        if lacks_memory(&answer) {
+            give_turn(table, &mut pass.seat, desk);
+        } else {
+            pass.length = desk.count + 1;
+            settle::<A, Brand>(table, &mut pass.seat, desk, ask, &answer);
+        }
+        told(answer)
+    }
+}

@@ -1,0 +1,40 @@
+//! The hub and its passes.
+ghost use Rattle.std.specs.Prelude.{◌≡◌, [], None, true};
+ghost use Rattle.jup_hub.specs.Knowledge.{longest};
+
+use crate::desk::Desk;
+use crate::rule::Turns;
+use crate::view::View;
+use atomic_table::{Seat, Table};
+use jup_star::Star;
+use std::alloc::Global;
+use std::snapshot::Snapshot;
+
+/// A star that threads share.
+///
+/// Each call on it, refused or not, is one event of one history of all calls, unless it lacks memory or the
+/// count of events is spent. Each thread calls with a [`Pass`] of its own.
+#[derive(Drop)]
+pub struct Hub {
+    pub(crate) table: Table<Option<Desk>, View, Snapshot<Star>, Turns, Global>,
+    ghost two_words: { table.shared.table_id.words ≡ 2 },
+    ghost one_slot: { table.shared.table_id.slots ≡ 1 },
+}
+
+/// What a thread calls a hub with. Its [`View`] says what it has seen and made.
+#[derive(Drop)]
+pub struct Pass {
+    pub(crate) seat: Seat<Option<Desk>, View>,
+    /// How long the longest history is that it has seen.
+    pub(crate) length: u64,
+    ghost is_idle: { (seat.me.1 ≡ []) × (seat.me.0.turn ≡ None) × (seat.me.0.is_live ≡ true) },
+    ghost length_is: { length ≡ longest seat.me.0.seen },
+}
+
+/// What is left of a closed hub.
+#[derive(Drop)]
+pub struct Closed {
+    pub star: Star,
+    /// How many events there were since the hub was opened.
+    pub events: u64,
+}

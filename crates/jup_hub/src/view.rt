@@ -1,0 +1,39 @@
+//! What a pass knows. No value of these types is made: they stand in contracts and proofs alone.
+
+use jup_star::{Call, Reply, Star};
+use std::collections::LinkedList;
+
+/// One event of a history: a call with its reply, and the number of the pass that made it.
+///
+/// The number of a pass is like that of a section: the first pass has none, and the pass that was split from
+/// pass n as its k-th, from 0, has k before n.
+pub struct Entry {
+    pub by: LinkedList<u64>,
+    pub call: Call,
+    pub reply: Reply,
+}
+
+/// The number of a pass, and the calls that were made under it.
+pub struct Tally {
+    pub number: LinkedList<u64>,
+    pub calls: LinkedList<Entry>,
+}
+
+/// What a pass has seen and made.
+pub struct View {
+    /// The star that the hub was opened with.
+    pub opening: Star,
+    /// False for a pass that another has taken in.
+    pub is_live: bool,
+    /// While the pass has the turn, the history of all calls.
+    pub turn: Option<LinkedList<Entry>>,
+    pub number: LinkedList<u64>,
+    /// How many passes were split from this one.
+    pub splits: u64,
+    /// The histories that it has seen. Each is a beginning of the history of all calls.
+    pub seen: LinkedList<LinkedList<Entry>>,
+    /// The calls that it made, in order.
+    pub made: LinkedList<Entry>,
+    /// The numbers of the passes that it took in, each with the calls made under it.
+    pub kept: LinkedList<Tally>,
+}

@@ -1,0 +1,196 @@
+-- What holds of every world of the program: as it is opened, after each event, and after want of memory.
+use Rattle.std.proofs.Common.{◌≡◌, refl, sym, ◌∙◌, ap, subst, inl, inr, ℕ, ◌≤◌, Bool, true, false, ◌&&◌, cond, not, List, [], ◌∷◌, ◌++◌, drop, length, nat_eq, nat_le, Option, Some, None, Result, Ok, Err, arith, nat_lt, leb-false, eqb-true, append-nil, drop_of_length-le, le_refl}
+use Rattle.std.proofs.lemmas.Bool.{leb-true}
+use Rattle.jup_link.specs.declared.Msg.{Msg}
+use Rattle.jup_link.specs.Links.{accepts_number, accepts_count}
+use Rattle.jup_window.specs.Boards as board
+use Rattle.jup_window.specs.Sites.{has_site, only_site}
+use Rattle.jup_window.specs.declared.board_operations.BoardOp.{BoardOp}
+use Rattle.jup_window.specs.Entries.{EachWidget}
+use Rattle.jup_window.specs.BoardOperations.{board_operations}
+use Rattle.jup_window.specs.BoardsAreLawful.{board_laws}
+use Rattle.jup_star.specs.declared.messages.Up.{Up}
+use Rattle.jup_star.specs.declared.messages.Up.TheVariants.{Op as UpOp, Ack as UpAck, Ping as UpPing}
+use Rattle.jup_star.specs.declared.messages.Down.{Down}
+use Rattle.jup_star.specs.declared.messages.Down.TheVariants.{Op as DownOp, Ack as DownAck, Pong as DownPong}
+use Rattle.jup_star.specs.declared.faults.StarFault.{StarFault}
+use Rattle.jup_star.specs.declared.faults.StarFault.TheVariants.{BadCount, BadAck, BadName, NotAnEdit, BadOp, LogFull}
+use Rattle.jup_star.specs.declared.faults.SiteFault.{SiteFault}
+use Rattle.jup_star.specs.declared.faults.OpenFault.TheVariants.{BadLimit, BadSite}
+use Rattle.jup_star.specs.FirstFaults.{test, first_fault}
+use Rattle.jup_star.specs.LinkStates.{operation_at}
+use Rattle.jup_star.specs.StarStates.{link_of, join_fault, up_fault, fits_board}
+use Rattle.jup_star.specs.SiteStates.{edit_answer, deliver_fault}
+use Rattle.jup_star.specs.StarCalls.{BoardStar, star_open_fault}
+use Rattle.jup_world.specs.Openings.{IsShort}
+use Rattle.jup_world.specs.declared.events.Event.TheVariants.{Join, Leave, Edit as MakeEdit, Up as MoveUp, Down as MoveDown, Ping as SendPing}
+use Rattle.jup_world.specs.WorldStates.{attached, opened_world}
+use Rattle.jup_world.specs.WorldSteps.{Outcome, join_outcome, edit_outcome, up_outcome, first_up, down_outcome, first_down, with_edit, one_taken, one_handed, pinged, at_attached, at_linked, at_number, outcome, happens, with_fetched, only_fetched}
+use Rattle.jup_world.specs.BoardWorlds.{BoardWorld, BoardLink, BoardAttached, BoardEvent, most_items}
+use Rattle.jup_world.specs.SiteNumbers.{AreAscending}
+use Rattle.jup_world.specs.Sound.{IsSound, downs}
+use Rattle.jup_world.specs.Happenings.{AreNumbered, AreReady, OldestFits, IsWorld, IsSpared}
+use Rattle.jup_world.proofs.SoundRuns.{sound-promises}
+use Rattle.jup_world.proofs.Withheld.{fall_fits}
+use Rattle.jup_world.proofs.SitePlaces.{ascending_without, ascending_at, ascending_end}
+use Rattle.jup_world.proofs.GivenNames.{board_none, layout_none, inserted_at}
+use Rattle.jup_world.proofs.BoardWorldLaws.{opened_sound, happens_sound, fetched_sound}
+use Rattle.jup_world.proofs.ShortBoards.{short_bare, distinct_bare}
+
+-- # Numbers
+
+-- what an outcome leaves
+abbrev KeepsNumbers : Outcome board_operations → Type 0
+KeepsNumbers o = AreNumbered o.star o.sites
+
+-- the star stays, and the sites keep their numbers
+sites_numbered : (s t : BoardStar) (xs ys : List BoardAttached) → AreNumbered s xs → t.given ≡ s.given → t.limit ≡ s.limit → t.board ≡ s.board → AreAscending 0 t.given ys → AreNumbered t ys
+sites_numbered s t xs ys is given limit same up = record {
+  ascending = up;
+  positive = let low = is.positive in omega arith;
+  limited = let high = is.limited in omega arith;
+  named = λ i above. ap (has_site i) same ∙ is.named i (omega arith);
+}
+
+join_numbered : (w : BoardWorld) → AreNumbered w.star w.sites → (f : Option StarFault) → KeepsNumbers (join_outcome board_operations w f)
+join_numbered w is (Some fault) = is
+join_numbered w is None = record {
+  ascending = ascending_end 0 w.star.given _ w.sites refl is.ascending;
+  positive = is.positive;
+  limited = is.limited;
+  named = λ i above. is.named i (omega arith);
+}
+
+edit_numbered : (w : BoardWorld) → AreNumbered w.star w.sites → (i : ℕ) (r : Result BoardOp ℕ) → KeepsNumbers (edit_outcome board_operations w i r)
+edit_numbered w is i (Err n) = is
+edit_numbered w is i (Ok op) = sites_numbered w.star w.star w.sites _ is refl refl refl (ascending_at (with_edit board_operations op) i 0 w.star.given (λ a. refl) w.sites is.ascending)
+
+-- the tests of an edit that was taken held
+tests_held : (a b c d e f : Bool) → first_fault (test a BadCount ∷ test b BadAck ∷ test c NotAnEdit ∷ test d BadName ∷ test e LogFull ∷ test f BadOp ∷ []) ≡ None → d ≡ true
+tests_held true true true true e f none = refl
+tests_held true true true false e f none = absurd (cc)
+tests_held true true false d e f none = absurd (cc)
+tests_held true false c d e f none = absurd (cc)
+tests_held false b c d e f none = absurd (cc)
+
+-- an edit that was taken inserts names of its site alone
+taken_site : (s : BoardStar) (l : BoardLink) (m : Msg BoardOp) (n : board.Placed) → up_fault board_operations s l (UpOp m) ≡ None → board.Inserts (board.edit_of (operation_at board_operations l.end m)) n → n.name.site ≡ l.site
+taken_site s l m n none put = board_laws.next_site l.site l.named (board.edit_of m.op) n (tests_held (accepts_number l.end m.mine) (accepts_count l.end m.heard) (not (board_operations.is_nothing (board_operations.t.edit_of m.op))) _ (nat_lt (length s.order) s.limit) (fits_board board_operations s.board l m) none) (inserted_at l.end m n put)
+
+-- a link that is there has a number that was given
+pub link_given : (w : BoardWorld) → IsSound board_operations most_items w → (i : ℕ) (l : BoardLink) → link_of i w.star.links ≡ Some l → i ≤ w.star.given
+link_given w s i l found = cases (nat_le i w.star.given) refl
+  where
+    cases : (b : Bool) → nat_le i w.star.given ≡ b → i ≤ w.star.given
+    cases true e = leb-true i w.star.given e
+    cases false e = absurd (let none = s.no_link i (leb-false i w.star.given e) in cc)
+
+up_numbered : (w : BoardWorld) → IsSound board_operations most_items w → AreNumbered w.star w.sites → (i : ℕ) (l : BoardLink) → link_of i w.star.links ≡ Some l → l.site ≡ i → (up : Up BoardOp) (f : Option StarFault) → up_fault board_operations w.star l up ≡ f
+    → KeepsNumbers (up_outcome board_operations w i l up f)
+up_numbered w s is i l found number up (Some fault) e = sites_numbered w.star _ w.sites _ is refl refl refl (ascending_without i 0 w.star.given w.sites is.ascending)
+up_numbered w s is i l found number (UpOp m) None e = record {
+  ascending = ascending_at (one_taken board_operations) i 0 w.star.given (λ a. refl) w.sites is.ascending;
+  positive = is.positive;
+  limited = is.limited;
+  named = λ j above. board_none j (operation_at board_operations l.end m) w.star.board
+      (λ n put same. let site = taken_site w.star l m n e put in let given = link_given w s i l found in absurd (omega arith)) (is.named j above);
+}
+up_numbered w s is i l found number (UpAck k) None e = sites_numbered w.star _ w.sites _ is refl refl refl (ascending_at (one_taken board_operations) i 0 w.star.given (λ a. refl) w.sites is.ascending)
+up_numbered w s is i l found number (UpPing k) None e = sites_numbered w.star _ w.sites _ is refl refl refl (ascending_at (one_taken board_operations) i 0 w.star.given (λ a. refl) w.sites is.ascending)
+
+first_up_numbered : (w : BoardWorld) → IsSound board_operations most_items w → AreNumbered w.star w.sites → (i : ℕ) (l : BoardLink) → link_of i w.star.links ≡ Some l → l.site ≡ i → (us : List (Up BoardOp)) → KeepsNumbers (first_up board_operations w i l us)
+first_up_numbered w s is i l found number [] = is
+first_up_numbered w s is i l found number (up ∷ us) = up_numbered w s is i l found number up (up_fault board_operations w.star l up) refl
+
+handed_numbered : (w : BoardWorld) → AreNumbered w.star w.sites → (i gone : ℕ) (d : Down BoardOp) (ds : List (Down BoardOp)) (f : Option SiteFault) → KeepsNumbers (down_outcome board_operations w i gone d ds f)
+handed_numbered w is i gone d ds (Some fault) = is
+handed_numbered w is i gone d ds None = sites_numbered w.star _ w.sites _ is refl refl refl (ascending_at (one_handed board_operations d ds) i 0 w.star.given (received_number d) w.sites is.ascending)
+  where
+    received_number : (d : Down BoardOp) (a : BoardAttached) → (one_handed board_operations d ds a).site.number ≡ a.site.number
+    received_number (DownOp m) a = refl
+    received_number (DownAck n) a = refl
+    received_number (DownPong k) a = refl
+
+down_numbered : (w : BoardWorld) → AreNumbered w.star w.sites → (i : ℕ) (a : BoardAttached) (ds os : List (Down BoardOp)) → KeepsNumbers (first_down board_operations w i a ds os)
+down_numbered w is i a (d ∷ ds) os = handed_numbered w is i 0 d ds (deliver_fault board_operations d a.site)
+down_numbered w is i a [] (d ∷ os) = handed_numbered w is i 1 d [] (deliver_fault board_operations d a.site)
+down_numbered w is i a [] [] = is
+
+-- an event at a site
+at_numbered : (w : BoardWorld) → AreNumbered w.star w.sites → (i : ℕ) (f : BoardLink → BoardAttached → Outcome board_operations)
+    → ((l : BoardLink) (a : BoardAttached) → link_of i w.star.links ≡ Some l → KeepsNumbers (f l a)) → KeepsNumbers (at_number board_operations w i f)
+at_numbered w is i f h = linked (link_of i w.star.links) refl
+  where
+    there : (l : BoardLink) → link_of i w.star.links ≡ Some l → (o : Option BoardAttached) → KeepsNumbers (at_attached board_operations w l f o)
+    there l found None = is
+    there l found (Some a) = h l a found
+
+    linked : (o : Option BoardLink) → link_of i w.star.links ≡ o → KeepsNumbers (at_linked board_operations w i f o)
+    linked None found = is
+    linked (Some l) found = there l found (attached i w.sites)
+
+-- the link of a number has it
+link_site : (i : ℕ) (l : BoardLink) (links : List BoardLink) → link_of i links ≡ Some l → l.site ≡ i
+link_site i l [] found = absurd (cc)
+link_site i l (k ∷ later) found = step (nat_eq k.site i) refl (link_site i l later) found
+  where
+    step : (b : Bool) → nat_eq k.site i ≡ b → (link_of i later ≡ Some l → l.site ≡ i) → cond b (Some k) (link_of i later) ≡ Some l → l.site ≡ i
+    step true e rest h = let same : k ≡ l = cc in subst (λ (x : BoardLink). x.site ≡ i) same (eqb-true _ _ e)
+    step false e rest h = rest h
+
+-- each event
+pub numbered_outcome : (w : BoardWorld) (e : BoardEvent) → IsSound board_operations most_items w → AreNumbered w.star w.sites → KeepsNumbers (outcome board_operations w e)
+numbered_outcome w Join s is = join_numbered w is (join_fault w.star)
+numbered_outcome w (Leave i) s is = at_numbered w is i _ (λ l a found. sites_numbered w.star _ w.sites _ is refl refl refl (ascending_without i 0 w.star.given w.sites is.ascending))
+numbered_outcome w (MakeEdit i command) s is = at_numbered w is i _ (λ l a found. edit_numbered w is i (edit_answer board_operations command a.site))
+numbered_outcome w (MoveUp i) s is = at_numbered w is i _ (λ l a found. first_up_numbered w s is i l found (link_site i l w.star.links found) a.up)
+numbered_outcome w (MoveDown i) s is = at_numbered w is i _ (λ l a found. down_numbered w is i a a.down l.outbox)
+numbered_outcome w (SendPing i k) s is = at_numbered w is i _ (λ l a found. sites_numbered w.star _ w.sites _ is refl refl refl (ascending_at (pinged board_operations k) i 0 w.star.given (λ a. refl) w.sites is.ascending))
+
+-- # Worlds
+
+open_held : (a b c : Bool) → first_fault (test (a && b) BadLimit ∷ test c BadSite ∷ []) ≡ None → (a ≡ true) × (b ≡ true) × (c ≡ true)
+open_held true true true none = (refl, refl, refl)
+open_held true true false none = absurd (cc)
+open_held true false c none = absurd (cc)
+open_held false b c none = absurd (cc)
+
+pub world_opened : (b : board.Windows) (limit : ℕ) → star_open_fault (board.bare b) limit ≡ None → board.HasDistinctNames b → EachWidget IsShort b → IsWorld (opened_world board_operations (board.bare b) limit)
+world_opened b limit none distinct short =
+    let held = open_held (nat_le 1 limit) (nat_le limit 16777216) (only_site 0 (board.bare b)) none in
+    record {
+      board = opened_sound (board.bare b) limit (record { distinct = distinct_bare b distinct; unsigned = held.2; short = short_bare b short }) (leb-true limit 16777216 held.1);
+      numbered = record {
+        ascending = omega arith;
+        positive = leb-true 1 limit held.0;
+        limited = leb-true limit 16777216 held.1;
+        named = λ i above. layout_none i (board.bare b) above held.2;
+      };
+    }
+
+pub world_happens : (w : BoardWorld) (e : BoardEvent) → IsWorld w → IsWorld (happens board_operations w e)
+world_happens w e is = record { board = happens_sound w e is.board; numbered = numbered_outcome w e is.board.sound is.numbered }
+
+pub world_spared : (w v : BoardWorld) → IsWorld w → IsSpared w v → IsWorld v
+world_spared w v is (inl same) = subst IsWorld (sym same) is
+world_spared w v is (inr fetched) = subst IsWorld (sym fetched.5) (still fetched.0 fetched.1 fetched.2 fetched.3 fetched.4)
+  where
+    still : (i : ℕ) (l : BoardLink) (a : BoardAttached) → link_of i w.star.links ≡ Some l → attached i w.sites ≡ Some a → IsWorld (only_fetched board_operations w i 1 l)
+    still i l a fl fa = record {
+      board = fetched_sound w i 1 l a fl fa is.board;
+      numbered = sites_numbered w.star _ w.sites _ is.numbered refl refl refl (ascending_at (with_fetched board_operations 1 l) i 0 w.star.given (λ b. refl) w.sites is.numbered.ascending);
+    }
+
+-- # What an event asks
+
+oldest_fits : (w : BoardWorld) → IsSound board_operations most_items w → OldestFits w.star w.sites
+oldest_fits w s i l a down rest fl fa e =
+    let all : rest ++ drop (length l.outbox) l.outbox ≡ rest = ap (λ (ds : List (Down BoardOp)). rest ++ ds) (drop_of_length-le l.outbox (le_refl _)) ∙ append-nil rest in
+    fall_fits board_operations board_laws most_items w s i l a fl fa down (length l.outbox) rest (ap downs (e ∙ ap (λ (ds : List (Down BoardOp)). down ∷ ds) (sym all)))
+
+pub world_ready : (w : BoardWorld) → IsWorld w → AreReady w.star w.sites
+world_ready w is = record {
+  numbered = is.numbered;
+  linked = (sound-promises board_operations board_laws most_items w is.board.sound).linked;
+  fits = oldest_fits w is.board.sound;
+}

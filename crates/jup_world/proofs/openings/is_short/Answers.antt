@@ -1,0 +1,11 @@
+use Rattle.std.proofs.Common.{arith}
+use Rattle.jup_window.specs.Entries.{Each}
+use Rattle.jup_window.specs.Widgets as widgets
+use Rattle.jup_world.specs.Openings.{IsShort}
+use Rattle.jup_world.proofs.ShortBoards.{one_more}
+use Rattle.jup_world.proofs.openings.is_short.Goals as goal
+
+pub loop-entry-preserved : goal.loop-entry-preserved
+loop-entry-preserved c =
+    one_more (λ ws. Each IsShort ws) (λ ws. Each widgets.HasDistinctNames ws) _ c.loop-entry.entry-index c.entry-item.result c.loop-entry.short c.is_short_window-short.result
+    (omega (arith, c.loop-entry-test.true)) c.entry-item.is c.loop-entry.invariant c.is_short_window-short.ensures.short c.is_short_window-short.ensures.distinct

@@ -1,0 +1,11 @@
+use Rattle.std.proofs.Common.{◌≡◌, IsFalse}
+use Rattle.jup_world.specs.Drains.{Settles}
+use Rattle.jup_world.specs.Weights.{weight}
+use Rattle.jup_world.proofs.world.World.exhaust.Given as goal
+
+-- messages were delivered, or all is as it was
+abbrev pub invariant-loop-moved : goal.invariant-loop-moved
+invariant-loop-moved l = Settles l.moved l.initial.self l.self × (IsFalse l.moved → l.self ≡ l.initial.self)
+
+abbrev pub decreases-loop-moved : goal.decreases-loop-moved
+decreases-loop-moved l = weight l.self

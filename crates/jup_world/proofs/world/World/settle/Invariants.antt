@@ -1,0 +1,10 @@
+use Rattle.jup_world.specs.Runs.{IsDelivered}
+use Rattle.jup_world.specs.Weights.{weight}
+use Rattle.jup_world.proofs.world.World.settle.Given as goal
+
+-- messages were delivered
+abbrev pub invariant-loop : goal.invariant-loop
+invariant-loop l = IsDelivered l.initial.self l.self
+
+abbrev pub decreases-loop : goal.decreases-loop
+decreases-loop l = weight l.self

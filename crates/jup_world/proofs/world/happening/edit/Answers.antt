@@ -1,0 +1,14 @@
+use Rattle.jup_world.proofs.HappeningSteps.{edit_plays, stays}
+use Rattle.jup_world.proofs.world.happening.edit.Goals as goal
+
+pub returns-in-Some-clause-plays : goal.returns-in-Some-clause-plays
+returns-in-Some-clause-plays c =
+    let place = rw c.deref.ensures.value at c.in-Some.ensures.place in
+    edit_plays c.args.star.now c.args.sites.now.items c.requires c.args.number c.in-Some.at c.index_mut.result.now place c.index_mut.ensures.value
+    c.args.command.now c.edit.result c.edit.new.self c.edit.ensures.reply c.edit.ensures.ok
+
+pub returns-in-Some-clause-same : goal.returns-in-Some-clause-same
+returns-in-Some-clause-same c =
+    let place = rw c.deref.ensures.value at c.in-Some.ensures.place in
+    stays c.args.star.now c.args.sites.now.items c.requires c.args.number c.in-Some.at c.index_mut.result.now place c.index_mut.ensures.value
+    c.edit.result c.edit.new.self c.edit.ensures.err

@@ -1,0 +1,24 @@
+use Rattle.jup_world.proofs.HappeningSteps.{linked_there, oldest_fits, down_plays, down_spared}
+use Rattle.jup_world.proofs.world.happening.move_down.Goals as goal
+
+pub move_down-requires-clause-linked : goal.move_down-requires-clause-linked
+move_down-requires-clause-linked c =
+    let place = rw c.deref.ensures.value at c.in-Some.ensures.place in
+    linked_there c.args.star.now c.args.sites.now.items c.requires c.args.number c.in-Some.at c.index_mut.result.now place c.index_mut.ensures.value
+
+pub move_down-requires-clause-fits : goal.move_down-requires-clause-fits
+move_down-requires-clause-fits c =
+    let place = rw c.deref.ensures.value at c.in-Some.ensures.place in
+    oldest_fits c.args.star.now c.args.sites.now.items c.requires c.args.number c.in-Some.at c.index_mut.result.now place c.index_mut.ensures.value
+
+pub returns-in-Some-clause-plays : goal.returns-in-Some-clause-plays
+returns-in-Some-clause-plays c =
+    let place = rw c.deref.ensures.value at c.in-Some.ensures.place in
+    down_plays c.args.star.now c.args.sites.now.items c.requires c.args.number c.in-Some.at c.index_mut.result.now place c.index_mut.ensures.value
+    c.move_down.new.star c.move_down.result c.move_down.new.self c.move_down.ensures.reply c.move_down.ensures.site c.move_down.ensures.star
+
+pub returns-in-Some-clause-spared : goal.returns-in-Some-clause-spared
+returns-in-Some-clause-spared c =
+    let place = rw c.deref.ensures.value at c.in-Some.ensures.place in
+    down_spared c.args.star.now c.args.sites.now.items c.requires c.args.number c.in-Some.at c.index_mut.result.now place c.index_mut.ensures.value
+    c.move_down.new.star c.move_down.result c.move_down.new.self c.move_down.ensures.err

@@ -1,0 +1,32 @@
+-- The rounds in which a world is drained.
+use Rattle.std.specs.Prelude.{◌≡◌, ◌<◌, ℕ, Some, IsTrue, IsFalse, Bool}
+use Rattle.jup_window.specs.BoardOperations.{board_operations}
+use Rattle.jup_world.specs.declared.events.Event.TheVariants.{Up as MoveUp, Down as MoveDown}
+use Rattle.jup_world.specs.declared.events.Reply.TheVariants.{Nothing}
+use Rattle.jup_world.specs.declared.world.draining.Way.{Way}
+use Rattle.jup_world.specs.declared.world.draining.Way.TheVariants.{Up, Down}
+use Rattle.jup_world.specs.WorldStates.{attached}
+use Rattle.jup_world.specs.WorldSteps.{outcome}
+use Rattle.jup_world.specs.BoardWorlds.{BoardWorld, BoardAttached, BoardEvent}
+use Rattle.jup_world.specs.Runs.{IsDelivered}
+use Rattle.jup_world.specs.Weights.{weight}
+
+-- the delivery of this way at a site
+abbrev pub way_event : Way → ℕ → BoardEvent
+way_event Up i = MoveUp i
+way_event Down i = MoveDown i
+
+-- some deliveries, of which one moved a message, or none did
+pub record Settles (moved : Bool) (w v : BoardWorld) : Type 0 where
+  pub delivered : IsDelivered w v
+  pub lighter : IsTrue moved → weight v < weight w
+  pub same_star : IsFalse moved → v.star ≡ w.star
+  pub same_sites : IsFalse moved → v.sites ≡ w.sites
+
+-- a delivery at this site, if it is attached, moves nothing
+abbrev pub MovesNothing : Way → ℕ → BoardWorld → Type 0
+MovesNothing way i w = (a : BoardAttached) → attached i w.sites ≡ Some a → (outcome board_operations w (way_event way i)).reply ≡ Nothing
+
+-- nor does one at any
+abbrev pub NothingMoves : Way → BoardWorld → Type 0
+NothingMoves way w = (i : ℕ) → MovesNothing way i w

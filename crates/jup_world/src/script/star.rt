@@ -1,0 +1,210 @@
+//! Scripts of the mode `star`: a star and its sites over a board.
+ghost use Rattle.std.specs.Prelude.{IfErr};
+ghost use Rattle.jup_world.specs.ScriptEnds.{ComesInPlay};
+
+use super::ScriptEnd;
+use super::lines::Script;
+use crate::text::boards::PrintedBoard;
+use crate::text::edits::PrintedEdit;
+use crate::text::layouts::{Draft, Untaken, is_board_line};
+use crate::text::read_command;
+use crate::text::words::read_number;
+use crate::{Event, Reply, World, is_short};
+use jup_star::OpenFault;
+use jup_window::Board;
+use std::alloc::Global;
+use std::io::Write;
+use std::{fmt, io};
+
+/// The highest limit of a star.
+const HIGHEST_LIMIT: u32 = 16_777_216;
+
+/// The limit, where this is the first line of such a script.
+pub(crate) fn limit_of(line: &str) -> Option<u32> {
+    match line.split_once(' ')? {
+        ("star", limit) => match read_number(limit)? {
+            limit @ 1..=HIGHEST_LIMIT => Some(limit),
+            _ => None,
+        },
+        _ => None,
+    }
+}
+
+/// Plays the lines that follow: a board, and then events.
+pub(crate) fn play<W: Write>(
+    alloc: Global,
+    limit: u32,
+    script: &mut Script<'_>,
+    replies: &mut W,
+) -> Result<(), ScriptEnd>
+    ensures { IfErr result ComesInPlay }
+{
+    let (board, first) = read_board(alloc, script)?;
+    let mut world = open(alloc, board, limit)?;
+    if let Some(line) = first {
+        play_line(alloc, &mut world, line, script, replies)?;
+    }
+    while let Some(line) = script.next_line()? {
+        play_line(alloc, &mut world, line, script, replies)?;
+    }
+    Ok(())
+}
+
+// The board, and the line that ends it.
+fn read_board<'a>(
+    alloc: Global,
+    script: &mut Script<'a>,
+) -> Result<(Board, Option<&'a str>), ScriptEnd>
+    ensures { IfErr result ComesInPlay }
+{
+    let mut draft = Draft::new(alloc);
+    while let Some(line) = script.next_line()? {
+        if !is_board_line(line) {
+            return Ok((draft.whole(), Some(line)));
+        }
+        match draft.take(alloc, line) {
+            Ok(()) => {}
+            Err(Untaken::BadLine) => return Err(script.bad_line()),
+            Err(Untaken::NoMemory) => return Err(ScriptEnd::NoMemory),
+        }
+    }
+    Ok((draft.whole(), None))
+}
+
+// A world over a board. No board that was read so is refused, so that the line would be that of the limit.
+fn open(alloc: Global, board: Board, limit: u32) -> Result<World, ScriptEnd>
+    ensures { IfErr result ComesInPlay }
+{
+    if !is_short(&board) {
+        return Err(ScriptEnd::Bad(1));
+    }
+    match World::open(alloc, board, limit) {
+        Ok(world) => Ok(world),
+        Err(OpenFault::NoMemory) => Err(ScriptEnd::NoMemory),
+        Err(OpenFault::BadLimit | OpenFault::BadSite) => Err(ScriptEnd::Bad(1)),
+    }
+}
+
+// Plays one line, and prints what it answers.
+fn play_line<W: Write>(
+    alloc: Global,
+    world: &mut World,
+    line: &str,
+    script: &Script<'_>,
+    replies: &mut W,
+) -> Result<(), ScriptEnd>
+    ensures { IfErr result ComesInPlay }
+{
+    match line {
+        "show" => show(world, replies).map_err(|_| ScriptEnd::WriteFailed),
+        "drain" => {
+            world.drain(alloc).map_err(|_| ScriptEnd::NoMemory)?;
+            writeln!(replies, "drained").map_err(|_| ScriptEnd::WriteFailed)
+        }
+        _ => match event_of(line) {
+            Some(event) => step(alloc, world, &event, replies),
+            None => Err(script.bad_line()),
+        },
+    }
+}
+
+fn event_of(line: &str) -> Option<Event> {
+    if line == "join" {
+        return Some(Event::Join);
+    }
+    match line.split_once(' ')? {
+        ("leave", site) => Some(Event::Leave(read_number(site)?)),
+        ("edit", edit) => {
+            let (site, command) = edit.split_once(' ')?;
+            let command = read_command(command.as_bytes())?;
+            Some(Event::Edit(read_number(site)?, command))
+        }
+        ("up", site) => Some(Event::Up(read_number(site)?)),
+        ("down", site) => Some(Event::Down(read_number(site)?)),
+        ("ping", ping) => {
+            let (site, count) = ping.split_once(' ')?;
+            Some(Event::Ping(read_number(site)?, read_number(count)?))
+        }
+        _ => None,
+    }
+}
+
+// Plays one event, and prints its reply.
+fn step<W: Write>(
+    alloc: Global,
+    world: &mut World,
+    event: &Event,
+    replies: &mut W,
+) -> Result<(), ScriptEnd>
+    ensures { IfErr result ComesInPlay }
+{
+    let Ok(reply) = world.step(alloc, event) else {
+        return Err(ScriptEnd::NoMemory);
+    };
+    let printed = PrintedReply {
+        site: site_of(event),
+        reply,
+    };
+    writeln!(replies, "{printed}").map_err(|_| ScriptEnd::WriteFailed)
+}
+
+// The site that an event is of; a join's is not known before.
+fn site_of(event: &Event) -> u32 {
+    match event {
+        Event::Join => 0,
+        Event::Leave(site)
+        | Event::Edit(site, _)
+        | Event::Up(site)
+        | Event::Down(site)
+        | Event::Ping(site, _) => *site,
+    }
+}
+
+// A reply as it is printed, to an event of this site.
+#[derive(Drop)]
+struct PrintedReply {
+    site: u32,
+    reply: Reply,
+}
+
+impl fmt::Display for PrintedReply {
+    fn fmt<W: fmt::Write>(&self, f: &mut fmt::Formatter<W>) -> fmt::Result {
+        match &self.reply {
+            Reply::Joined(site) => write_numbered(f, "joined", *site),
+            Reply::NoJoin(fault) => write_numbered(f, "refused", fault.number()),
+            Reply::Left => write_numbered(f, "left", self.site),
+            Reply::Made(edit) => {
+                let edit = PrintedEdit(edit);
+                write!(f, "made {edit}")
+            }
+            Reply::Refused(fault) => write_numbered(f, "refused", fault.number()),
+            Reply::Taken(place) => write_numbered(f, "taken", *place),
+            Reply::Heard => write!(f, "heard"),
+            Reply::Detached(fault) => write_numbered(f, "detached", fault.number()),
+            Reply::Shown => write!(f, "shown"),
+            Reply::Asked => write!(f, "asked"),
+            Reply::Nothing => write!(f, "nothing"),
+        }
+    }
+}
+
+fn write_numbered<W: fmt::Write>(
+    f: &mut fmt::Formatter<W>,
+    word: &str,
+    number: u32,
+) -> fmt::Result {
+    write!(f, "{word} {number}")
+}
+
+// Prints what the star and each attached site show, and whether nothing is on its way.
+fn show<W: Write>(world: &World, replies: &mut W) -> io::Result<()> {
+    let board = PrintedBoard(world.star().board());
+    write!(replies, "star\n{board}")?;
+    for attached in world.sites() {
+        let number = attached.site.number();
+        let board = PrintedBoard(attached.site.board());
+        write!(replies, "site {number}\n{board}")?;
+    }
+    let quiet = if world.quiet() { "yes" } else { "no" };
+    writeln!(replies, "quiet {quiet}")
+}

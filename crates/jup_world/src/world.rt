@@ -1,0 +1,183 @@
+//! A star with its sites and the messages on their way between them, and what has happened.
+ghost use Rattle.std.specs.Prelude.{◌≡◌, ◌⊎◌, ◌↔◌, ◌+◌, ◌<◌, [], ◌∷◌, ◌++◌, length, vec_len, None, Some, IsTrue, IfOk, IfErr, IfSome, OnOk, OnErr};
+ghost use Rattle.std.specs.Vec.{vec_capacity};
+ghost use Rattle.std.specs.Option.{option_copied, option_map};
+ghost use Rattle.jup_window.specs.Entries.{EachWidget};
+ghost use Rattle.jup_window.specs.Boards.{bare, content, meaning};
+ghost use Rattle.jup_window.specs.BoardOperations.{board_operations};
+ghost use Rattle.jup_star.specs.StarCalls.{star_open_fault};
+ghost use Rattle.jup_star.specs.declared.faults.OpenFault.TheVariants as open_fault;
+ghost use Rattle.jup_world.specs.Openings.{IsShort};
+ghost use Rattle.jup_world.specs.Turns.{turns, edits};
+ghost use Rattle.jup_world.specs.WorldStates.{attached, opened_world, IsQuiet};
+ghost use Rattle.jup_world.specs.WorldSteps.{outcome, happens};
+ghost use Rattle.jup_world.specs.Traces.{order_of, view};
+ghost use Rattle.jup_world.specs.NumberedReplies.{numbered_reply, numbered_trace};
+ghost use Rattle.jup_world.specs.Replies.{RepliesTo};
+ghost use Rattle.jup_world.specs.Promises.{OrderIsKept};
+ghost use Rattle.jup_world.specs.Headline.{AllAgree};
+ghost use Rattle.jup_world.specs.Happenings.{IsSpared};
+
+use self::attached::{Attached, are_quiet};
+use self::happening::happen;
+use crate::{Event, Happened, Reply, is_short};
+use jup_star::{OpenFault, Site, Star};
+use jup_value::Label;
+use jup_window::{Board, Edit, Effect, Setting, Value};
+use jup_xform::NoMemory;
+use std::alloc::Global;
+use std::marker::{Model, PhantomData};
+
+mod attached;
+mod draining;
+mod happening;
+mod refusals;
+
+pub use draining::Halted;
+
+/// A star, the sites that are attached to it, and for each an up stream and a down stream.
+///
+/// Its links lose nothing and keep their order: a stream is a list that is appended at one end and read at
+/// the other.
+#[derive(Drop)]
+pub struct World {
+    opening: Board,
+    star: Star,
+    sites: Vec<Attached>,
+    trace: Vec<Happened>,
+}
+
+impl Model for World {
+    ghost use Rattle.std.specs.Prelude.{map};
+    ghost use Rattle.jup_window.specs.Boards.{bare};
+    ghost use Rattle.jup_world.specs.BoardWorlds.{BoardWorld};
+    ghost use Rattle.jup_world.specs.WorldFields.{bare_attached};
+    ghost use Rattle.jup_world.specs.NumberedReplies.{numbered_trace};
+    ghost use Rattle.jup_world.specs.Happenings.{IsWorld};
+
+    ghost Value = { BoardWorld };
+
+    ghost view = { λ w. record {
+      opening = bare w.opening;
+      star = w.star;
+      sites = map bare_attached w.sites.items;
+      trace = numbered_trace w.trace.items;
+    } };
+
+    ghost invariant = { λ w. IsWorld (record {
+      opening = bare w.opening;
+      star = w.star;
+      sites = map bare_attached w.sites.items;
+      trace = numbered_trace w.trace.items;
+    }) };
+}
+
+// Puts an event with its reply at the end of a trace that has room for it.
+fn note(trace: &mut Vec<Happened>, event: &Event, reply: &Reply)
+    requires { vec_len trace.old < vec_capacity trace.old }
+    ensures { numbered_trace trace.new.items
+        ≡ numbered_trace trace.old.items ++ record { event = event.now; reply = numbered_reply reply.now } ∷ [] }
+{
+    // The checker learns of the types within an event from this.
+    let _within: PhantomData<(Value, Setting, Label, Effect, Edit)> = PhantomData;
+    trace.push_reserved(Happened {
+        event: *event,
+        reply: *reply,
+    });
+}
+
+impl World {
+    /// A world without sites. Refused, in this order: a limit that is not 1 to 16,777,216, a board with an
+    /// item that is not of a layout, whose items have site 0, no memory.
+    pub fn open(alloc: Global, board: Board, limit: u32) -> Result<World, OpenFault>
+        requires short { EachWidget IsShort board }
+        ensures opened { IfOk result (λ world. world ≡ opened_world board_operations (bare board) limit) }
+        ensures accepts { OnOk result (star_open_fault (bare board) limit ≡ None) }
+        ensures refusal { IfErr result (λ fault. ((fault ≡ open_fault.NoMemory) × (star_open_fault (bare board) limit ≡ None))
+            ⊎ (star_open_fault (bare board) limit ≡ Some fault)) }
+    {
+        let _short = is_short(&board);
+        let star = Star::open(alloc, board, limit)?;
+        let opening = match star.board().copy(alloc) {
+            Err(NoMemory) => return Err(OpenFault::NoMemory),
+            Ok(opening) => opening,
+        };
+        Ok(World {
+            opening,
+            star,
+            sites: Vec::new(alloc),
+            trace: Vec::new(alloc),
+        })
+    }
+
+    /// Plays one event, which then stands in the trace with its reply. Where memory is refused nothing has
+    /// changed, but that one message may stand in a down stream that stood in that site's outbox.
+    pub fn step(&mut self, alloc: Global, event: &Event) -> Result<Reply, NoMemory>
+        ensures reply { IfOk result (λ reply. numbered_reply reply ≡ (outcome board_operations self.old event.now).reply) }
+        ensures withheld { IfOk result (λ reply. RepliesTo board_operations self.old event.now (numbered_reply reply)) }
+        ensures ok { OnOk result (self.new ≡ happens board_operations self.old event.now) }
+        ensures err { OnErr result (IsSpared self.old self.new) }
+        ensures order { OrderIsKept board_operations self.old self.new }
+    {
+        self.trace.reserve(1).map_err(|_| NoMemory)?;
+        let reply = happen(alloc, &mut self.star, &mut self.sites, event)?;
+        note(&mut self.trace, event, &reply);
+        Ok(reply)
+    }
+
+    /// Whether no message is on its way: neither in a stream nor in an outbox.
+    ///
+    /// After every list of joins, departures, local edits and deliveries over links that lose nothing and
+    /// keep their order, whenever no message is on its way the server and all attached sites hold equal
+    /// windows: each text and list holds exactly the items inserted and not deleted in the server's order,
+    /// none reordered at any site, and each toggle and slider holds its last setting in that order. The
+    /// clause `agree` says so, and `order` of [`World::step`], [`World::run`] and [`World::drain`] that none
+    /// is reordered.
+    pub fn quiet(&self) -> bool
+        ensures quiet { IsTrue result ↔ IsQuiet board_operations self.now }
+        ensures agree { IsTrue result → AllAgree self.now }
+    {
+        are_quiet(&self.sites, &self.star)
+    }
+
+    /// What has happened, oldest first.
+    pub fn trace(&self) -> &[Happened]
+        ensures { numbered_trace result.now ≡ self.now.trace }
+    {
+        &self.trace
+    }
+
+    /// The board that the world was opened with.
+    pub fn opening(&self) -> &Board
+        ensures { bare result.now ≡ self.now.opening }
+    {
+        &self.opening
+    }
+
+    /// The star. At every moment its order is the one that the trace tells, and its content is what that
+    /// order means.
+    pub fn star(&self) -> &Star
+        ensures star { result.now ≡ self.now.star }
+        ensures order { result.now.order ≡ order_of self.now.trace }
+        ensures content { content result.now.board ≡ meaning (content self.now.opening) (edits (turns 0 (order_of self.now.trace))) }
+    {
+        &self.star
+    }
+
+    // The attached sites, ascending by number.
+    pub(crate) fn sites(&self) -> &[Attached] {
+        &self.sites
+    }
+
+    /// The attached site of a number. At every moment its content is what the entries that it was told, and
+    /// its own edits that are not among them, mean; and its backlog is the edits that it made less those
+    /// that it was told are taken.
+    pub fn site(&self, number: u32) -> Option<&Site>
+        ensures site { option_copied result ≡ option_map (λ a. a.site) (attached number self.now.sites) }
+        ensures content { IfSome result (λ site. content site.now.board ≡ meaning (content self.now.opening) (view number self.now.trace)) }
+        ensures backlog { IfSome result (λ site. site.now.made ≡ site.now.end.acknowledged + length site.now.end.outgoing) }
+    {
+        let at = attached::place_of(&self.sites, number)?;
+        Some(&self.sites[at].site)
+    }
+}

@@ -1,0 +1,208 @@
+//! An attached site with its streams.
+ghost use Rattle.std.specs.Prelude.{◌≡◌, ◌↔◌, ◌<◌, true, [], map, length, Some, None, is_some, nat_eq, position, MatchOption, IsTrue, IfSome, IfOk, IfErr, OnOk, OnErr};
+ghost use Rattle.jup_window.specs.BoardOperations.{board_operations};
+ghost use Rattle.jup_star.specs.StarStates.{link_of};
+ghost use Rattle.jup_star.specs.SiteStates.{edit_answer};
+ghost use Rattle.jup_star.specs.StarCalls.{BoardLink};
+ghost use Rattle.jup_world.specs.WorldStates.{attached};
+ghost use Rattle.jup_world.specs.WorldSteps.{one_taken, place_reply, pinged};
+ghost use Rattle.jup_world.specs.Replies.{edit_reply};
+ghost use Rattle.jup_world.specs.NumberedReplies.{numbered_reply};
+ghost use Rattle.jup_world.specs.SiteNumbers.{IsSiteAt};
+ghost use Rattle.jup_world.specs.WorldFields.{bare_attached};
+ghost use Rattle.jup_world.specs.Happenings.{with_answer, Rises, IsRefused, refilled, refilled_star, first_reply, handed, FirstFits, SparesAt, IsQuietAt, AllQuiet};
+
+use super::refusals::edit_refusal;
+use crate::Reply;
+use jup_link::Msg;
+use jup_seq::SeqOp;
+use jup_star::{Down, Made, Site, SiteFault, Star, StarFault, Up};
+use jup_value::Label;
+use jup_window::{BoardOp, Command, Edit, Effect, WidgetOp};
+use jup_xform::NoMemory;
+use std::alloc::Global;
+use std::collections::VecDeque;
+use std::marker::PhantomData;
+
+/// A site, what it sent that the star has not taken, and what was fetched for it that it was not handed,
+/// each oldest first.
+#[derive(Drop)]
+pub(crate) struct Attached {
+    pub(crate) site: Site,
+    pub(crate) up: VecDeque<Up>,
+    pub(crate) down: VecDeque<Down>,
+    // The checker learns of the types within messages from a field that names them.
+    within: PhantomData<(SeqOp<Label>, WidgetOp, BoardOp, Msg<BoardOp>, Effect, Edit)>,
+}
+
+// What a message that the star took answers: the place of an edit in the order.
+fn taken(place: Option<u32>) -> Reply
+    ensures { numbered_reply result ≡ place_reply board_operations place }
+{
+    match place {
+        Some(place) => Reply::Taken(place),
+        None => Reply::Heard,
+    }
+}
+
+/// Where the site of a number stands.
+pub(crate) fn place_of(sites: &[Attached], number: u32) -> Option<usize>
+    ensures place { MatchOption result (attached number (map bare_attached sites.now) ≡ None)
+        (λ at. IsSiteAt number (map bare_attached sites.now) at) }
+    ensures below { IfSome result (λ at. at < length sites.now) }
+{
+    first_of(sites, number)
+}
+
+// The first site of a number.
+fn first_of(sites: &[Attached], number: u32) -> Option<usize>
+    ensures { result ≡ position (λ a. nat_eq a.site.number number) sites.now }
+{
+    sites
+        .iter()
+        .position(|attached| attached.site.number() == number)
+}
+
+/// Whether no message is on its way from any of these sites or to one.
+pub(crate) fn are_quiet(sites: &[Attached], star: &Star) -> bool
+    ensures { IsTrue result ↔ AllQuiet star.now (map bare_attached sites.now) }
+{
+    for attached in sites {
+        if !attached.is_quiet(star) {
+            return false;
+        }
+    }
+    true
+}
+
+impl Attached {
+    /// A site that has just joined.
+    pub(crate) fn new(alloc: Global, site: Site) -> Attached
+        ensures { bare_attached result ≡ record { site = site; up = []; down = [] } }
+    {
+        Attached {
+            site,
+            up: VecDeque::new(alloc),
+            down: VecDeque::new(alloc),
+            within: PhantomData,
+        }
+    }
+
+    /// The site makes the edit of a command, and its message goes last into the up stream.
+    pub(crate) fn edit(&mut self, alloc: Global, command: &Command) -> Result<Reply, NoMemory>
+        ensures reply { IfOk result (λ reply. numbered_reply reply
+            ≡ edit_reply board_operations (edit_answer board_operations command.now self.old.site)) }
+        ensures ok { OnOk result (bare_attached self.new
+            ≡ with_answer (edit_answer board_operations command.now self.old.site) (bare_attached self.old)) }
+        ensures err { OnErr result (bare_attached self.new ≡ bare_attached self.old) }
+    {
+        self.up.reserve(1).map_err(|_| NoMemory)?;
+        match self.site.edit(alloc, command) {
+            Ok(Made { edit, up }) => {
+                self.up.push_back_reserved(up);
+                Ok(Reply::Made(edit))
+            }
+            Err(fault) => Ok(Reply::Refused(edit_refusal(fault)?)),
+        }
+    }
+
+    /// The site sends a ping.
+    pub(crate) fn ping(&mut self, count: u32) -> Result<(), NoMemory>
+        ensures ok { OnOk result (bare_attached self.new ≡ pinged board_operations count (bare_attached self.old)) }
+        ensures err { OnErr result (bare_attached self.new ≡ bare_attached self.old) }
+    {
+        self.up.reserve(1).map_err(|_| NoMemory)?;
+        self.up.push_back_reserved(Up::Ping(count));
+        Ok(())
+    }
+
+    /// Moves the oldest message up: the star takes it, or refuses it.
+    pub(crate) fn move_up(&mut self, alloc: Global, star: &mut Star) -> Result<Reply, StarFault>
+        ensures taken { IfOk result (λ reply. Rises self.old.site.number self.old.up.items star.old star.new (numbered_reply reply)) }
+        ensures refused { IfErr result (λ fault. IsRefused self.old.site.number self.old.up.items star.old star.new fault) }
+        ensures ok { OnOk result (bare_attached self.new ≡ one_taken board_operations (bare_attached self.old)) }
+        ensures err { OnErr result (bare_attached self.new ≡ bare_attached self.old) }
+    {
+        let Some(up) = self.up.front() else {
+            return Ok(Reply::Nothing);
+        };
+        let place = match star.take(alloc, self.site.number(), up) {
+            Ok(place) => place,
+            Err(fault) => return Err(fault),
+        };
+        let _taken = self.up.pop_front();
+        Ok(taken(place))
+    }
+
+    /// Moves the oldest message on its way down: fetches it if the down stream is empty, and hands it to
+    /// the site. Where memory is refused, it may have been fetched.
+    pub(crate) fn move_down(&mut self, alloc: Global, star: &mut Star) -> Result<Reply, NoMemory>
+        requires linked { is_some (link_of self.old.site.number star.old.links) ≡ true }
+        requires fits { (l : BoardLink) → link_of self.old.site.number star.old.links ≡ Some l
+            → FirstFits (refilled l (bare_attached self.old)) }
+        ensures reply { IfOk result (λ reply. (l : BoardLink) → link_of self.old.site.number star.old.links ≡ Some l
+            → numbered_reply reply ≡ first_reply (refilled l (bare_attached self.old))) }
+        ensures site { OnOk result ((l : BoardLink) → link_of self.old.site.number star.old.links ≡ Some l
+            → bare_attached self.new ≡ handed (refilled l (bare_attached self.old))) }
+        ensures star { OnOk result ((l : BoardLink) → link_of self.old.site.number star.old.links ≡ Some l
+            → star.new ≡ refilled_star l (bare_attached self.old) star.old) }
+        ensures err { OnErr result ((l : BoardLink) → link_of self.old.site.number star.old.links ≡ Some l
+            → SparesAt l (bare_attached self.old) star.old (bare_attached self.new) star.new) }
+    {
+        self.refill(alloc, star)?;
+        self.hand(alloc)
+    }
+
+    // Fetches the oldest message of the site's outbox, if the down stream is empty.
+    fn refill(&mut self, alloc: Global, star: &mut Star) -> Result<(), NoMemory>
+        requires { is_some (link_of self.old.site.number star.old.links) ≡ true }
+        ensures site { OnOk result ((l : BoardLink) → link_of self.old.site.number star.old.links ≡ Some l
+            → bare_attached self.new ≡ refilled l (bare_attached self.old)) }
+        ensures star { OnOk result ((l : BoardLink) → link_of self.old.site.number star.old.links ≡ Some l
+            → star.new ≡ refilled_star l (bare_attached self.old) star.old) }
+        ensures same_site { OnErr result (bare_attached self.new ≡ bare_attached self.old) }
+        ensures same_star { OnErr result (star.new ≡ star.old) }
+    {
+        let number = self.site.number();
+        if self.down.is_empty() && star.waiting(number) != Some(0) {
+            let Ok(downs) = star.fetch(alloc, number, 1) else {
+                return Err(NoMemory);
+            };
+            self.down = VecDeque::from_vec(downs.into_messages());
+        }
+        Ok(())
+    }
+
+    // Hands the site the oldest message of its down stream. What it sends back goes last into its up
+    // stream.
+    fn hand(&mut self, alloc: Global) -> Result<Reply, NoMemory>
+        requires { FirstFits (bare_attached self.old) }
+        ensures reply { IfOk result (λ reply. numbered_reply reply ≡ first_reply (bare_attached self.old)) }
+        ensures ok { OnOk result (bare_attached self.new ≡ handed (bare_attached self.old)) }
+        ensures err { OnErr result (bare_attached self.new ≡ bare_attached self.old) }
+    {
+        let Some(down) = self.down.front() else {
+            return Ok(Reply::Nothing);
+        };
+        self.up.reserve(1).map_err(|_| NoMemory)?;
+        let reply = match down {
+            Down::Op(_) => Reply::Shown,
+            Down::Ack(_) | Down::Pong(_) => Reply::Heard,
+        };
+        match self.site.deliver(alloc, down) {
+            Ok(Some(back)) => self.up.push_back_reserved(back),
+            Ok(None) => {}
+            Err(SiteFault::NoMemory) => return Err(NoMemory),
+            Err(_) => unreachable!(),
+        }
+        let _handed = self.down.pop_front();
+        Ok(reply)
+    }
+
+    /// Whether no message is on its way from this site or to it.
+    pub(crate) fn is_quiet(&self, star: &Star) -> bool
+        ensures { IsTrue result ↔ IsQuietAt (bare_attached self.now) star.now }
+    {
+        self.up.is_empty() && self.down.is_empty() && star.waiting(self.site.number()) == Some(0)
+    }
+}

@@ -1,0 +1,161 @@
+//! Runs of a world, and its draining.
+ghost use Rattle.std.specs.Prelude.{◌≡◌, ℕ, ◌<◌, ◌≤◌, length, take, Some, IsFalse, OnOk, OnErr, IfOk, IfErr};
+ghost use Rattle.jup_window.specs.BoardOperations.{board_operations};
+ghost use Rattle.jup_world.specs.WorldStates.{attached, IsQuiet};
+ghost use Rattle.jup_world.specs.WorldSteps.{outcome, run};
+ghost use Rattle.jup_world.specs.Promises.{OrderIsKept};
+ghost use Rattle.jup_world.specs.Happenings.{IsSpared};
+ghost use Rattle.jup_world.specs.Runs.{IsDelivery, IsDelivered, IsDeliveredInPart};
+ghost use Rattle.jup_world.specs.Drains.{way_event, Settles, MovesNothing, NothingMoves};
+ghost use Rattle.jup_world.specs.declared.events.Reply.TheVariants.{Nothing};
+ghost use Rattle.jup_world.specs.BoardWorlds.{BoardAttached};
+
+use super::World;
+use crate::Event;
+use jup_value::Label;
+use jup_window::{Edit, Effect};
+use jup_xform::NoMemory;
+use std::alloc::Global;
+use std::marker::PhantomData;
+
+/// Memory was refused in a run, after so many events, which stand.
+#[derive(Clone, Copy, Debug, PartialEq, Eq)]
+pub struct Halted {
+    pub done: usize,
+}
+
+// The way that a message is moved.
+#[derive(Clone, Copy)]
+enum Way {
+    Up,
+    Down,
+}
+
+impl Way {
+    // The delivery at a site.
+    fn event(self, number: u32) -> Event
+        ensures { result ≡ way_event self number }
+    {
+        match self {
+            Way::Up => Event::Up(number),
+            Way::Down => Event::Down(number),
+        }
+    }
+}
+
+impl World {
+    /// Plays events in turn.
+    pub fn run(&mut self, alloc: Global, events: &[Event]) -> Result<(), Halted>
+        ensures ok { OnOk result (self.new ≡ run board_operations self.old events.now) }
+        ensures done { IfErr result (λ halted. halted.done < length events.now) }
+        ensures err { IfErr result (λ halted. IsSpared (run board_operations self.old (take halted.done events.now)) self.new) }
+        ensures order { OrderIsKept board_operations self.old self.new }
+    {
+        // The clause on order rests on what is so of every world.
+        let _opened = &self.trace;
+        self.play(alloc, events)
+    }
+
+    fn play(&mut self, alloc: Global, events: &[Event]) -> Result<(), Halted>
+        ensures ok { OnOk result (self.new ≡ run board_operations self.old events.now) }
+        ensures done { IfErr result (λ halted. halted.done < length events.now) }
+        ensures err { IfErr result (λ halted. IsSpared (run board_operations self.old (take halted.done events.now)) self.new) }
+    {
+        for (done, event) in events.iter().enumerate() {
+            let Ok(_reply) = self.step(alloc, event) else {
+                return Err(Halted { done });
+            };
+        }
+        Ok(())
+    }
+
+    /// Delivers all messages, in rounds: in each, for each attached site ascending `Up` until that answers
+    /// `Nothing`, and then for each ascending `Down` until that does. It ends after a round of `Nothing`
+    /// alone. Its events stand in the trace; where memory is refused, those before it do.
+    pub fn drain(&mut self, alloc: Global) -> Result<(), NoMemory>
+        ensures delivered { OnOk result (IsDelivered self.old self.new) }
+        ensures quiet { OnOk result (IsQuiet board_operations self.new) }
+        ensures err { OnErr result (IsDeliveredInPart self.old self.new) }
+        ensures order { OrderIsKept board_operations self.old self.new }
+    {
+        // The clauses on order and quiet rest on what is so of every world.
+        let _opened = &self.trace;
+        self.settle(alloc)
+    }
+
+    // Rounds until nothing moves.
+    fn settle(&mut self, alloc: Global) -> Result<(), NoMemory>
+        ensures delivered { OnOk result (IsDelivered self.old self.new) }
+        ensures quiet { OnOk result (IsQuiet board_operations self.new) }
+        ensures err { OnErr result (IsDeliveredInPart self.old self.new) }
+    {
+        while self.round(alloc)? {}
+        Ok(())
+    }
+
+    // Whether anything was moved.
+    fn round(&mut self, alloc: Global) -> Result<bool, NoMemory>
+        ensures moved { IfOk result (λ moved. Settles moved self.old self.new) }
+        ensures quiet { IfOk result (λ moved. IsFalse moved → IsQuiet board_operations self.new) }
+        ensures err { OnErr result (IsDeliveredInPart self.old self.new) }
+    {
+        let up = self.move_all(alloc, Way::Up)?;
+        let down = self.move_all(alloc, Way::Down)?;
+        let _opened = &self.trace;
+        Ok(up | down)
+    }
+
+    // At each attached site.
+    fn move_all(&mut self, alloc: Global, way: Way) -> Result<bool, NoMemory>
+        ensures moved { IfOk result (λ moved. Settles moved self.old self.new) }
+        ensures nothing { IfOk result (λ moved. IsFalse moved → NothingMoves way self.old) }
+        ensures err { OnErr result (IsDeliveredInPart self.old self.new) }
+    {
+        let mut moved = false;
+        for before in 0..self.last_number() {
+            moved |= self.exhaust(alloc, way, before + 1)?;
+        }
+        Ok(moved)
+    }
+
+    // The number of the attached site that joined last, or 0.
+    fn last_number(&self) -> u32
+        ensures { (i : ℕ) (a : BoardAttached) → attached i self.now.sites ≡ Some a → (1 ≤ i) × (i ≤ result) }
+    {
+        match self.sites.last() {
+            Some(attached) => attached.site.number(),
+            None => 0,
+        }
+    }
+
+    // Repeats a delivery at a site, if it is attached, until nothing is there.
+    fn exhaust(&mut self, alloc: Global, way: Way, number: u32) -> Result<bool, NoMemory>
+        ensures moved { IfOk result (λ moved. Settles moved self.old self.new) }
+        ensures nothing { IfOk result (λ moved. IsFalse moved → MovesNothing way number self.old) }
+        ensures err { OnErr result (IsDeliveredInPart self.old self.new) }
+    {
+        if self.site(number).is_none() {
+            return Ok(false);
+        }
+        let event = way.event(number);
+        let mut moved = false;
+        while self.move_one(alloc, &event)? {
+            moved = true;
+        }
+        Ok(moved)
+    }
+
+    // Whether a delivery moved a message.
+    fn move_one(&mut self, alloc: Global, event: &Event) -> Result<bool, NoMemory>
+        requires { IsDelivery event.now }
+        ensures moved { IfOk result (λ moved. Settles moved self.old self.new) }
+        ensures nothing { IfOk result (λ moved. IsFalse moved → (outcome board_operations self.old event.now).reply ≡ Nothing) }
+        ensures err { OnErr result (IsDeliveredInPart self.old self.new) }
+    {
+        // The checker learns of the types within a reply from this.
+        let _within: PhantomData<(Effect, Edit, Label)> = PhantomData;
+        let _opened = &self.trace;
+        let reply = self.step(alloc, event)?;
+        Ok(!reply.is_nothing())
+    }
+}

@@ -1,0 +1,154 @@
+//! What an event does to a star and its sites.
+ghost use Rattle.std.specs.Prelude.{◌≡◌, map, true, is_some, IfOk, OnErr};
+ghost use Rattle.jup_star.specs.StarStates.{link_of};
+ghost use Rattle.jup_world.specs.WorldStates.{attached, without_site};
+ghost use Rattle.jup_world.specs.WorldFields.{bare_attached};
+ghost use Rattle.jup_world.specs.NumberedReplies.{numbered_reply};
+ghost use Rattle.jup_world.specs.Happenings.{Plays, Spares, AreReady};
+ghost use Rattle.jup_world.specs.declared.events.Event.TheVariants as event;
+
+use super::attached::{Attached, place_of};
+use super::refusals::star_refusal;
+use crate::{Event, Reply};
+use jup_star::{Site, Star};
+use jup_window::Command;
+use jup_xform::NoMemory;
+use std::alloc::Global;
+
+/// Plays one event. Where memory is refused, a message may have been fetched into an empty down stream.
+pub(crate) fn happen(
+    alloc: Global,
+    star: &mut Star,
+    sites: &mut Vec<Attached>,
+    event: &Event,
+) -> Result<Reply, NoMemory>
+    requires { AreReady star.old (map bare_attached sites.old.items) }
+    ensures plays { IfOk result (λ reply. Plays event.now star.old (map bare_attached sites.old.items)
+        (numbered_reply reply) star.new (map bare_attached sites.new.items)) }
+    ensures spared { OnErr result (Spares star.old (map bare_attached sites.old.items)
+        star.new (map bare_attached sites.new.items)) }
+{
+    match event {
+        Event::Join => join(alloc, star, sites),
+        Event::Leave(number) => Ok(leave(star, sites, *number)),
+        Event::Edit(number, command) => edit(alloc, star, sites, *number, command),
+        Event::Up(number) => move_up(alloc, star, sites, *number),
+        Event::Down(number) => move_down(alloc, star, sites, *number),
+        Event::Ping(number, count) => ping(star, sites, *number, *count),
+    }
+}
+
+fn join(alloc: Global, star: &mut Star, sites: &mut Vec<Attached>) -> Result<Reply, NoMemory>
+    requires { AreReady star.old (map bare_attached sites.old.items) }
+    ensures plays { IfOk result (λ reply. Plays event.Join star.old (map bare_attached sites.old.items)
+        (numbered_reply reply) star.new (map bare_attached sites.new.items)) }
+    ensures same_star { OnErr result (star.new ≡ star.old) }
+    ensures same_sites { OnErr result (map bare_attached sites.new.items ≡ map bare_attached sites.old.items) }
+{
+    sites.reserve(1).map_err(|_| NoMemory)?;
+    let joined = match star.join(alloc) {
+        Ok(joined) => joined,
+        Err(fault) => return Ok(Reply::NoJoin(star_refusal(fault)?)),
+    };
+    let number = joined.site;
+    let site = Site::open(alloc, number, joined.limit, joined.board).unwrap();
+    sites.push_reserved(Attached::new(alloc, site));
+    Ok(Reply::Joined(number))
+}
+
+// Drops a site with its streams.
+fn drop_site(sites: &mut Vec<Attached>, number: u32)
+    ensures { map bare_attached sites.new.items ≡ without_site number (map bare_attached sites.old.items) }
+{
+    sites.retain(|attached| attached.site.number() != number);
+}
+
+fn leave(star: &mut Star, sites: &mut Vec<Attached>, number: u32) -> Reply
+    requires { is_some (attached number (map bare_attached sites.old.items)) ≡ is_some (link_of number star.old.links) }
+    ensures { Plays (event.Leave number) star.old (map bare_attached sites.old.items)
+        (numbered_reply result) star.new (map bare_attached sites.new.items) }
+{
+    match star.leave(number) {
+        Ok(()) => {
+            drop_site(sites, number);
+            Reply::Left
+        }
+        Err(_) => Reply::Nothing,
+    }
+}
+
+fn edit(
+    alloc: Global,
+    star: &Star,
+    sites: &mut Vec<Attached>,
+    number: u32,
+    command: &Command,
+) -> Result<Reply, NoMemory>
+    requires { AreReady star.now (map bare_attached sites.old.items) }
+    ensures plays { IfOk result (λ reply. Plays (event.Edit number command.now) star.now (map bare_attached sites.old.items)
+        (numbered_reply reply) star.now (map bare_attached sites.new.items)) }
+    ensures same { OnErr result (map bare_attached sites.new.items ≡ map bare_attached sites.old.items) }
+{
+    match place_of(sites, number) {
+        Some(at) => sites[at].edit(alloc, command),
+        None => Ok(Reply::Nothing),
+    }
+}
+
+fn ping(star: &Star, sites: &mut Vec<Attached>, number: u32, count: u32) -> Result<Reply, NoMemory>
+    requires { AreReady star.now (map bare_attached sites.old.items) }
+    ensures plays { IfOk result (λ reply. Plays (event.Ping number count) star.now (map bare_attached sites.old.items)
+        (numbered_reply reply) star.now (map bare_attached sites.new.items)) }
+    ensures same { OnErr result (map bare_attached sites.new.items ≡ map bare_attached sites.old.items) }
+{
+    let Some(at) = place_of(sites, number) else {
+        return Ok(Reply::Nothing);
+    };
+    sites[at].ping(count)?;
+    Ok(Reply::Asked)
+}
+
+// The star takes the oldest message of an up stream, or detaches the site.
+fn move_up(
+    alloc: Global,
+    star: &mut Star,
+    sites: &mut Vec<Attached>,
+    number: u32,
+) -> Result<Reply, NoMemory>
+    requires { AreReady star.old (map bare_attached sites.old.items) }
+    ensures plays { IfOk result (λ reply. Plays (event.Up number) star.old (map bare_attached sites.old.items)
+        (numbered_reply reply) star.new (map bare_attached sites.new.items)) }
+    ensures same_star { OnErr result (star.new ≡ star.old) }
+    ensures same_sites { OnErr result (map bare_attached sites.new.items ≡ map bare_attached sites.old.items) }
+{
+    let Some(at) = place_of(sites, number) else {
+        return Ok(Reply::Nothing);
+    };
+    match sites[at].move_up(alloc, star) {
+        Ok(reply) => Ok(reply),
+        Err(fault) => {
+            let fault = star_refusal(fault)?;
+            drop_site(sites, number);
+            Ok(Reply::Detached(fault))
+        }
+    }
+}
+
+// A site is handed the oldest message on its way down.
+fn move_down(
+    alloc: Global,
+    star: &mut Star,
+    sites: &mut Vec<Attached>,
+    number: u32,
+) -> Result<Reply, NoMemory>
+    requires { AreReady star.old (map bare_attached sites.old.items) }
+    ensures plays { IfOk result (λ reply. Plays (event.Down number) star.old (map bare_attached sites.old.items)
+        (numbered_reply reply) star.new (map bare_attached sites.new.items)) }
+    ensures spared { OnErr result (Spares star.old (map bare_attached sites.old.items)
+        star.new (map bare_attached sites.new.items)) }
+{
+    match place_of(sites, number) {
+        Some(at) => sites[at].move_down(alloc, star),
+        None => Ok(Reply::Nothing),
+    }
+}

@@ -36,7 +36,8 @@ fn find<V: Copy>(items: &[Item<V>], name: Name) -> Option<usize>
     ensures place { result ≡ place_of name items.now }
     ensures within { IfSome result (λ at. at < length items.now) }
 {
-    items.iter().position(|item| item.name == name)
+    // Numbers differ where sites do not, so they are asked first: the search is then faster.
+    items.iter().position(|item| item.name.number == name.number && item.name.site == name.site)
 }
 
 impl<V: Copy> Seq<V> {

@@ -87,8 +87,9 @@ fn note(trace: &mut Vec<Happened>, event: &Event, reply: &Reply)
 }
 
 impl World {
-    /// A world without sites. Refused, in this order: a limit that is not 1 to 16,777,216, a board with an
-    /// item that is not of a layout, whose items have site 0, no memory.
+    /// A world without sites, over a board whose texts and lists have at most 65,536 items each, which
+    /// [`is_short`] tests. Refused, in this order: a limit that is not 1 to 16,777,216, a board with an item
+    /// that is not of a layout, whose items have site 0, no memory.
     pub fn open(alloc: Global, board: Board, limit: u32) -> Result<World, OpenFault>
         requires short { EachWidget IsShort board }
         ensures opened { IfOk result (λ world. world ≡ opened_world board_operations (bare board) limit) }
@@ -96,6 +97,7 @@ impl World {
         ensures refusal { IfErr result (λ fault. ((fault ≡ open_fault.NoMemory) × (star_open_fault (bare board) limit ≡ None))
             ⊎ (star_open_fault (bare board) limit ≡ Some fault)) }
     {
+        // It tells that no two items of a widget have one name, on which all that follows rests.
         let _short = is_short(&board);
         let star = Star::open(alloc, board, limit)?;
         let opening = match star.board().copy(alloc) {

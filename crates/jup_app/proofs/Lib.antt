@@ -1,0 +1,17 @@
+pub mod Agreeing
+pub mod Assembly
+pub mod Count
+pub mod Draining
+pub mod Handled
+pub mod Joining
+pub mod Logs
+pub mod Openings
+pub mod Passed
+pub mod RunEnding
+pub mod Seated
+pub mod Simulate
+pub mod SiteLaws
+pub mod Sites
+pub mod StarLaws
+pub mod Whole
+pub mod Worked

@@ -1,0 +1,34 @@
+use Rattle.std.proofs.Common.{rules, arith, refl, sym, ap, ◌∙◌, subst, ◌≡◌, List, [], ◌∷◌, ◌++◌, append_assoc, All, Result, IfOk}
+use Rattle.std.specs.Vec.Iter.{into_iter_items}
+use Rattle.jup_hub.specs.Passes.{IsPassOf}
+use Rattle.jup_app.specs.declared.runs.player.Player.{Player}
+use Rattle.jup_app.specs.declared.runs.stop.Stop.{Stop}
+use Rattle.jup_app.proofs.Passed.{taken_none, taken_more, all_tail}
+use Rattle.jup_app.proofs.runs.joiner.rejoin_all.Goals as goal
+
+pub loop-result-init : goal.loop-result-init
+loop-result-init c =
+    let gives : into_iter_items c.into_iter-result-iterator.result ≡ c.args.results.items = c.into_iter-result-iterator.ensures.into_iter_gives.0 in
+    record {
+      can_next = tt;
+      is_finite = tt;
+      fits = c.requires.pass;
+      passes = subst (λ xs. All (λ (r : Result Player Stop). IfOk r (λ p. IsPassOf c.args.hub.now p.caller.pass)) xs) (sym gives) c.requires.passes;
+      done = [];
+      split = sym gives;
+      taken = taken_none _ _ _ c.new-ends.ensures.items;
+    }
+
+pub loop-result-preserved : goal.loop-result-preserved
+loop-result-preserved c =
+    let step = c.in-Some.ensures.steps.0 in
+    let all = c.loop-result.invariant in
+    record {
+      can_next = tt;
+      is_finite = tt;
+      fits = c.in_ok-rejoin.ensures.pass;
+      passes = all_tail (λ (r : Result Player Stop). IfOk r (λ p. IsPassOf c.args.hub.now p.caller.pass)) _ _ _ step all.passes;
+      done = all.done ++ c.in-Some.result ∷ [];
+      split = all.split ∙ ap (λ xs. all.done ++ xs) step ∙ sym (append_assoc all.done (c.in-Some.result ∷ []) (into_iter_items c.next.new.self));
+      taken = taken_more _ _ _ _ _ _ _ _ _ _ _ _ all.taken c.in_ok-result.was c.in_ok-rejoin.ensures.end c.in_ok-rejoin.ensures.count c.in_ok-rejoin.ensures.view c.in_ok-push.ensures.items;
+    }

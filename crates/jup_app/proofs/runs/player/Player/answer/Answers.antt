@@ -1,0 +1,20 @@
+use Rattle.std.proofs.Common.{◌∙◌, sym, ap, Ok, Err, [], ◌∷◌, ◌++◌}
+use Rattle.jup_app.proofs.Worked.{works_made, declined_answer, handles_for}
+use Rattle.jup_app.proofs.runs.player.Player.answer.Goals as goal
+
+pub returns-in_ok-receive-in-Ok-clause-answered : goal.returns-in_ok-receive-in-Ok-clause-answered
+returns-in_ok-receive-in-Ok-clause-answered g c =
+    let one = c.in_ok-catch_up.ensures.same in
+    let two = c.in_ok-send-in-Ok.ensures.same in
+    record {
+      reply = Ok c.in-Ok.made.edit;
+      replies = c.in_ok-push-in-Ok.ensures.items ∙ ap (λ v. v.items ++ Ok c.in-Ok.made.edit ∷ []) (two.1 ∙ one.1);
+      works = works_made _ _ _ _ _ _ _ _ _ _ _ _ _ _ _ _ c.in_ok-catch_up.ensures.handled c.in-Ok.ensures.answer
+          (handles_for _ _ _ _ _ _ _ _ one.0 c.in_ok-send-in-Ok.ensures.handled)
+          (handles_for _ _ _ _ _ _ _ _ (two.0 ∙ one.0) c.in_ok-receive-in-Ok.ensures.handled);
+    }
+
+pub returns-in_ok-push-in-Err-clause-answered : goal.returns-in_ok-push-in-Err-clause-answered
+returns-in_ok-push-in-Err-clause-answered g c =
+    declined_answer _ _ _ _ _ _ _ _ _ _ _ _ _ c.in_ok-catch_up.ensures.handled c.in-Err.ensures.answer c.in_ok-declined-in-Err.ensures
+    (c.in_ok-push-in-Err.ensures.items ∙ ap (λ v. v.items ++ Err c.in_ok-declined-in-Err.field-0 ∷ []) c.in_ok-catch_up.ensures.same.1)

@@ -1,0 +1,57 @@
+-- The faults of runs.
+use Rattle.std.specs.Prelude.{◌≡◌, ℕ, ◌&&◌, nat_le, Option, Some, None, Result, Ok, Err, IfErr, if◌then◌else◌}
+use Rattle.std.specs.Option.{option_map}
+use Rattle.jup_window.specs.Boards.{Windows}
+use Rattle.jup_star.specs.StarCalls.{star_open_fault}
+use Rattle.jup_star.specs.declared.faults.OpenFault.{OpenFault}
+use Rattle.jup_star.specs.declared.faults.OpenFault.TheVariants as refusal
+use Rattle.jup_app.specs.declared.runs.stop.Stop.{Stop}
+use Rattle.jup_app.specs.declared.runs.stop.Stop.TheVariants as stop
+use Rattle.jup_app.specs.declared.runs.fault.RunFault.{RunFault}
+use Rattle.jup_app.specs.declared.runs.fault.RunFault.TheVariants.{NoMemory, LogFull, BadLimit, BadSite, GateShut, BadSites, RunBroken}
+
+-- their numbers in messages and printed texts
+abbrev pub run_fault_number : RunFault → ℕ
+run_fault_number NoMemory = 8
+run_fault_number LogFull = 32
+run_fault_number BadLimit = 50
+run_fault_number BadSite = 51
+run_fault_number GateShut = 60
+run_fault_number BadSites = 61
+run_fault_number RunBroken = 62
+
+-- the refusal of a star that is not opened
+abbrev pub open_refusal : OpenFault → RunFault
+open_refusal refusal.NoMemory = NoMemory
+open_refusal refusal.BadLimit = BadLimit
+open_refusal refusal.BadSite = BadSite
+
+-- and of a run that has begun
+abbrev pub stopped_by : Stop → RunFault
+stopped_by stop.NoMemory = NoMemory
+stopped_by stop.LogFull = LogFull
+stopped_by stop.GateShut = GateShut
+stopped_by stop.RunBroken = RunBroken
+
+-- why no star is opened on a board
+abbrev pub opening_refusal : Windows → ℕ → Option RunFault
+opening_refusal board limit = option_map open_refusal (star_open_fault board limit)
+
+-- a number of sites that is not 1 to 64 is refused before that
+abbrev pub many_refusal : ℕ → Windows → ℕ → Option RunFault
+many_refusal sites board limit = if nat_le 1 sites && nat_le sites 64 then opening_refusal board limit else Some BadSites
+
+-- a refusal of a run that has begun
+abbrev pub IsOfRun : RunFault → Type 0
+IsOfRun NoMemory = Unit {0}
+IsOfRun LogFull = Unit {0}
+IsOfRun BadLimit = ⊥
+IsOfRun BadSite = ⊥
+IsOfRun GateShut = Unit {0}
+IsOfRun BadSites = ⊥
+IsOfRun RunBroken = Unit {0}
+
+-- the first refusal, where there is one; else only a run that has begun is refused
+abbrev pub RefusedFirst : {A : Type 0} → Option RunFault → Result A RunFault → Type 0
+RefusedFirst (Some fault) r = r ≡ Err fault
+RefusedFirst None r = IfErr r IsOfRun

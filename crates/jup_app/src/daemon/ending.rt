@@ -1,0 +1,109 @@
+//! Why the daemon ends early.
+ghost use Rattle.std.specs.Prelude.{◌≤◌};
+
+use clap::error::ErrorKind as WordsKind;
+use jup_wire::LayoutFault;
+use jup_xform::NoMemory;
+use std::alloc::AllocError;
+use std::io;
+use std::io::{ErrorKind, Write};
+use thiserror::Error;
+
+/// Why the daemon ends early.
+#[derive(Debug, Drop, Error)]
+pub(crate) enum DaemonEnd {
+    #[error("{0}")]
+    Words(clap::Error),
+    #[error("layout {0}")]
+    Layout(LayoutFault),
+    #[error("layout too long")]
+    LongLayout,
+    #[error("io fault")]
+    Io,
+    #[error("no memory")]
+    NoMemory,
+    #[error("hub held")]
+    Held,
+}
+
+impl DaemonEnd {
+    /// The exit status of a daemon that ends so.
+    pub(crate) fn status(&self) -> u8
+        ensures { result ≤ 6 }
+    {
+        match self {
+            DaemonEnd::Io => 1,
+            DaemonEnd::Words(_) => 2,
+            DaemonEnd::NoMemory => 3,
+            DaemonEnd::Layout(_) | DaemonEnd::LongLayout => 5,
+            DaemonEnd::Held => 6,
+        }
+    }
+
+    /// Tells why on standard error, and answers the exit status; help goes to standard output.
+    pub(crate) fn tell<O: Write, E: Write>(&self, out: &mut O, errors: &mut E) -> u8
+        ensures { result ≤ 6 }
+    {
+        match self {
+            DaemonEnd::Words(error) if error.use_stderr() => {
+                let _ = write!(errors, "{error}");
+            }
+            DaemonEnd::Words(help) => match write!(out, "{help}") {
+                Ok(()) => return 0,
+                Err(_) => return DaemonEnd::Io.tell_on(errors),
+            },
+            _ => return self.tell_on(errors),
+        }
+        self.status()
+    }
+
+    fn tell_on<E: Write>(&self, errors: &mut E) -> u8
+        ensures { result ≤ 6 }
+    {
+        let _ = writeln!(errors, "{self}");
+        self.status()
+    }
+}
+
+impl From<AllocError> for DaemonEnd {
+    fn from(_error: AllocError) -> DaemonEnd {
+        DaemonEnd::NoMemory
+    }
+}
+
+impl From<NoMemory> for DaemonEnd {
+    fn from(_error: NoMemory) -> DaemonEnd {
+        DaemonEnd::NoMemory
+    }
+}
+
+impl From<io::Error> for DaemonEnd {
+    fn from(error: io::Error) -> DaemonEnd {
+        if error.kind() == ErrorKind::OutOfMemory {
+            DaemonEnd::NoMemory
+        } else {
+            DaemonEnd::Io
+        }
+    }
+}
+
+impl From<LayoutFault> for DaemonEnd {
+    fn from(fault: LayoutFault) -> DaemonEnd {
+        // A layout that memory was refused for has no line.
+        if fault.line == 0 {
+            DaemonEnd::NoMemory
+        } else {
+            DaemonEnd::Layout(fault)
+        }
+    }
+}
+
+impl From<clap::Error> for DaemonEnd {
+    fn from(error: clap::Error) -> DaemonEnd {
+        if error.kind() == WordsKind::OutOfMemory {
+            DaemonEnd::NoMemory
+        } else {
+            DaemonEnd::Words(error)
+        }
+    }
+}

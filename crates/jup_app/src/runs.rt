@@ -1,0 +1,16 @@
+//! Whole runs of many sites through one hub.
+
+mod calls;
+mod drain;
+mod fault;
+mod joiner;
+mod player;
+mod receive;
+mod run;
+mod seating;
+mod stop;
+mod threads;
+
+pub use drain::SiteEnd;
+pub use fault::RunFault;
+pub use run::{RunEnd, run_many, run_two};

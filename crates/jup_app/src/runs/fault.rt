@@ -1,0 +1,72 @@
+//! Why a run is refused.
+ghost use Rattle.std.specs.Prelude.{◌≡◌};
+ghost use Rattle.jup_app.specs.RunFaults.{run_fault_number};
+
+use crate::runs::stop::Stop;
+use jup_star::OpenFault;
+use thiserror::Error;
+
+/// Why a run is refused.
+#[derive(Clone, Copy, Debug, PartialEq, Eq, Error)]
+pub enum RunFault {
+    #[error("no memory")]
+    NoMemory,
+    #[error("the order is full")]
+    LogFull,
+    #[error("the limit is not 1 to 16,777,216")]
+    BadLimit,
+    #[error("not a board of a layout")]
+    BadSite,
+    #[error("the gate stayed shut")]
+    GateShut,
+    #[error("not 1 to 64 sites")]
+    BadSites,
+    #[error("the run is broken")]
+    RunBroken,
+}
+
+impl RunFault {
+    /// The number of this fault in messages and printed texts.
+    pub fn number(self) -> u32
+        ensures { result ≡ run_fault_number self }
+    {
+        match self {
+            RunFault::NoMemory => 8,
+            RunFault::LogFull => 32,
+            RunFault::BadLimit => 50,
+            RunFault::BadSite => 51,
+            RunFault::GateShut => 60,
+            RunFault::BadSites => 61,
+            RunFault::RunBroken => 62,
+        }
+    }
+}
+
+impl From<OpenFault> for RunFault {
+    ghost use Rattle.jup_app.specs.RunFaults.{open_refusal};
+
+    ghost from_gives = { λ fault made. made ≡ open_refusal fault };
+
+    fn from(fault: OpenFault) -> RunFault {
+        match fault {
+            OpenFault::NoMemory => RunFault::NoMemory,
+            OpenFault::BadLimit => RunFault::BadLimit,
+            OpenFault::BadSite => RunFault::BadSite,
+        }
+    }
+}
+
+impl From<Stop> for RunFault {
+    ghost use Rattle.jup_app.specs.RunFaults.{stopped_by};
+
+    ghost from_gives = { λ stop made. made ≡ stopped_by stop };
+
+    fn from(stop: Stop) -> RunFault {
+        match stop {
+            Stop::NoMemory => RunFault::NoMemory,
+            Stop::LogFull => RunFault::LogFull,
+            Stop::GateShut => RunFault::GateShut,
+            Stop::RunBroken => RunFault::RunBroken,
+        }
+    }
+}

@@ -1,0 +1,155 @@
+//! What a site's thread does.
+ghost use Rattle.std.specs.Prelude.{◌≡◌, false, IfOk, [], ◌∷◌};
+ghost use Rattle.jup_star.specs.SiteCalls.{is_edit_memory};
+ghost use Rattle.jup_hub.specs.Passes.{view_of, IsPassOf};
+ghost use Rattle.jup_app.specs.Plays.{link_with, Handles, Answered, Played};
+
+use crate::gate::Gate;
+use crate::runs::calls::Caller;
+use crate::runs::receive::receive;
+use crate::runs::stop::Stop;
+use jup_hub::Hub;
+use jup_star::{Site, Up};
+use jup_window::{Command, Edit, EditFault};
+use std::alloc::Global;
+use std::sync::Wait;
+use std::thread;
+
+// How often a gate that is not ready is asked again.
+const TRIES: u32 = 100_000;
+
+/// A site with its pass, and what its commands were answered.
+#[derive(Drop)]
+pub(crate) struct Player {
+    pub(crate) caller: Caller,
+    pub(crate) number: u32,
+    pub(crate) site: Site,
+    /// How many of its edits were taken.
+    pub(crate) taken: u32,
+    pub(crate) replies: Vec<Result<Edit, EditFault>>,
+}
+
+// Asks the gate until it is ready.
+fn pass_gate<G: Gate>(gate: &G, site: u32, nth: u32) -> Result<(), Stop> {
+    for _ in 0..TRIES {
+        if gate.ready(site, nth) {
+            return Ok(());
+        }
+        thread::yield_now();
+    }
+    if gate.ready(site, nth) {
+        return Ok(());
+    }
+    Err(Stop::GateShut)
+}
+
+// A fault that is an answer: all but want of memory.
+fn declined(fault: EditFault) -> Result<EditFault, Stop>
+    ensures { IfOk result (λ f. (f ≡ fault) × (is_edit_memory fault ≡ false)) }
+{
+    match fault {
+        EditFault::NoMemory => Err(Stop::NoMemory),
+        fault => Ok(fault),
+    }
+}
+
+impl Player {
+    // Receives where there is news.
+    fn catch_up<R: Wait>(&mut self, rt: &R, alloc: Global, hub: &Hub) -> Result<(), Stop>
+        requires { IsPassOf hub.now self.old.caller.pass }
+        ensures pass { IsPassOf hub.now self.new.caller.pass }
+        ensures same { (self.new.number ≡ self.old.number) × (self.new.replies ≡ self.old.replies) }
+        ensures handled { IfOk result (λ _. Handles self.old.number (view_of self.old.caller.pass) (view_of self.new.caller.pass) self.old.caller.calls self.new.caller.calls (link_with self.old.site []) (link_with self.new.site [])) }
+    {
+        if hub.news(&mut self.caller.pass) {
+            receive(
+                rt,
+                alloc,
+                hub,
+                &mut self.caller,
+                &mut self.site,
+                self.number,
+            )?;
+        }
+        Ok(())
+    }
+
+    // Has the hub take an edit once the gate is ready.
+    fn send<R: Wait, G: Gate>(
+        &mut self,
+        rt: &R,
+        alloc: Global,
+        hub: &Hub,
+        gate: &G,
+        up: &Up,
+    ) -> Result<(), Stop>
+        requires { IsPassOf hub.now self.old.caller.pass }
+        ensures pass { IsPassOf hub.now self.new.caller.pass }
+        ensures same { (self.new.number ≡ self.old.number) × (self.new.replies ≡ self.old.replies) × (self.new.site ≡ self.old.site) }
+        ensures handled { IfOk result (λ _. Handles self.old.number (view_of self.old.caller.pass) (view_of self.new.caller.pass) self.old.caller.calls self.new.caller.calls (link_with self.old.site (up.now ∷ [])) (link_with self.new.site [])) }
+    {
+        let nth = self.taken.saturating_add(1);
+        pass_gate(gate, self.number, nth)?;
+        self.caller.take(rt, alloc, hub, self.number, up)?;
+        self.taken = nth;
+        gate.answered(self.number, nth);
+        Ok(())
+    }
+
+    // One command.
+    fn answer<R: Wait, G: Gate>(
+        &mut self,
+        rt: &R,
+        alloc: Global,
+        hub: &Hub,
+        gate: &G,
+        command: &Command,
+    ) -> Result<(), Stop>
+        requires { IsPassOf hub.now self.old.caller.pass }
+        ensures pass { IsPassOf hub.now self.new.caller.pass }
+        ensures number { self.new.number ≡ self.old.number }
+        ensures answered { IfOk result (λ _. Answered self.old.number (view_of self.old.caller.pass) (view_of self.new.caller.pass) self.old.caller.calls self.new.caller.calls self.old.site self.new.site command.now self.old.replies.items self.new.replies.items) }
+    {
+        self.catch_up(rt, alloc, hub)?;
+        match self.site.edit(alloc, command) {
+            Ok(made) => {
+                self.send(rt, alloc, hub, gate, &made.up)?;
+                self.replies.push(Ok(made.edit))?;
+                receive(
+                    rt,
+                    alloc,
+                    hub,
+                    &mut self.caller,
+                    &mut self.site,
+                    self.number,
+                )?;
+                Ok(())
+            }
+            Err(fault) => {
+                self.replies.push(Err(declined(fault)?))?;
+                Ok(())
+            }
+        }
+    }
+
+    /// Answers the commands of a script in turn.
+    pub(crate) fn play<R: Wait, G: Gate>(
+        &mut self,
+        rt: &R,
+        alloc: Global,
+        hub: &Hub,
+        gate: &G,
+        script: &[Command],
+    ) -> Result<(), Stop>
+        requires pass { IsPassOf hub.now self.old.caller.pass }
+        requires fresh { self.old.replies.items ≡ [] }
+        ensures pass { IsPassOf hub.now self.new.caller.pass }
+        ensures number { self.new.number ≡ self.old.number }
+        ensures played { IfOk result (λ _. Played self.old.number (view_of self.old.caller.pass) (view_of self.new.caller.pass) self.old.caller.calls self.new.caller.calls self.old.site self.new.site script.now self.new.replies.items) }
+    {
+        for command in script {
+            self.answer(rt, alloc, hub, gate, command)?;
+        }
+        Ok(())
+    }
+}

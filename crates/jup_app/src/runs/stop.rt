@@ -1,0 +1,46 @@
+//! Why a run that has begun comes to no end.
+
+use jup_hub::HubFault;
+use jup_star::{SiteFault, StarFault};
+use std::alloc::{AllocError, AllocFailed};
+
+/// What stops a site, or the pass that joins and drains the sites.
+#[derive(Clone, Copy, Debug, PartialEq, Eq, Drop)]
+pub(crate) enum Stop {
+    NoMemory,
+    LogFull,
+    GateShut,
+    /// What no run should meet.
+    RunBroken,
+}
+
+impl From<HubFault> for Stop {
+    fn from(fault: HubFault) -> Stop {
+        match fault {
+            HubFault::Star(StarFault::NoMemory) => Stop::NoMemory,
+            HubFault::Star(StarFault::LogFull) => Stop::LogFull,
+            _ => Stop::RunBroken,
+        }
+    }
+}
+
+impl From<SiteFault> for Stop {
+    fn from(fault: SiteFault) -> Stop {
+        match fault {
+            SiteFault::NoMemory => Stop::NoMemory,
+            _ => Stop::RunBroken,
+        }
+    }
+}
+
+impl From<AllocError> for Stop {
+    fn from(_refused: AllocError) -> Stop {
+        Stop::NoMemory
+    }
+}
+
+impl<T: Drop> From<AllocFailed<T>> for Stop {
+    fn from(_refused: AllocFailed<T>) -> Stop {
+        Stop::NoMemory
+    }
+}

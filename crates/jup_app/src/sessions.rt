@@ -1,0 +1,18 @@
+//! Sessions: one site over one link, with a thread that reads and a thread that writes.
+
+mod bell;
+mod ending;
+mod faults;
+mod greeting;
+pub(crate) mod hangup;
+mod link;
+pub(crate) mod output;
+mod reading;
+mod serving;
+pub(crate) mod source;
+mod writing;
+
+pub use bell::Bell;
+pub use ending::Ending;
+pub(crate) use faults::SessionFault;
+pub use serving::serve_link;

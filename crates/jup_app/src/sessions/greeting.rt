@@ -1,0 +1,83 @@
+//! The greeting of a session: up to the line `ready`.
+ghost use Rattle.std.specs.Prelude.{◌≡◌};
+ghost use Rattle.jup_hub.specs.Passes.{IsPassOf};
+
+use super::output::Output;
+use super::source::Source;
+use super::writing::tell;
+use super::{Ending, SessionFault};
+use jup_hub::{Hub, Pass};
+use jup_star::Joined;
+use jup_wire::{Line, lines_of};
+use std::alloc::Global;
+use std::io::{Read, Write};
+use std::sync::Wait;
+
+/// Greets the site, and answers its number. Where it comes to no session the site was told why.
+pub(crate) fn begun<R: Wait, I: Read + Drop, O: Write + Drop>(
+    rt: &R,
+    alloc: Global,
+    source: &mut Source<I>,
+    output: &mut Output<O>,
+    hub: &Hub,
+    pass: &mut Pass,
+) -> Result<u32, Ending>
+    requires { IsPassOf hub.now pass.old }
+    ensures { IsPassOf hub.now pass.new }
+{
+    let joined = match greeted(rt, alloc, source, hub, pass) {
+        Ok(joined) => joined,
+        Err(ending) => {
+            let _ = tell(output, ending);
+            return Err(ending);
+        }
+    };
+    if let Err(fault) = welcome(alloc, output, &joined) {
+        let _ = hub.leave(rt, pass, joined.site);
+        if fault != SessionFault::WriteFailed {
+            let _ = tell(output, fault.into());
+        }
+        return Err(fault.into());
+    }
+    Ok(joined.site)
+}
+
+// Reads the first line, and joins.
+fn greeted<R: Wait, I: Read + Drop>(
+    rt: &R,
+    alloc: Global,
+    source: &mut Source<I>,
+    hub: &Hub,
+    pass: &mut Pass,
+) -> Result<Joined, Ending>
+    requires { IsPassOf hub.now pass.old }
+    ensures { IsPassOf hub.now pass.new }
+{
+    let is_greeting = matches!(source.next_line(alloc)?, Line::Hello);
+    if !is_greeting {
+        return Err(SessionFault::Misplaced.into());
+    }
+    match hub.join_site(rt, alloc, pass) {
+        Ok(joined) => Ok(joined),
+        Err(fault) => Err(SessionFault::Hub(fault).into()),
+    }
+}
+
+// Tells the site its number, the limit and the board.
+fn welcome<O: Write + Drop>(
+    alloc: Global,
+    output: &mut Output<O>,
+    joined: &Joined,
+) -> Result<(), SessionFault> {
+    let Ok(lines) = lines_of(alloc, &joined.board) else {
+        return Err(SessionFault::NoMemory);
+    };
+    let site = joined.site;
+    let limit = joined.limit;
+    output.put(&Line::Welcome { site, limit })?;
+    for line in lines.as_slice() {
+        output.put(line)?;
+    }
+    output.put(&Line::Ready)?;
+    output.send()
+}

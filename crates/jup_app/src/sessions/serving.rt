@@ -1,0 +1,112 @@
+//! One session, from its first line to its last.
+ghost use Rattle.std.specs.Prelude.{◌≡◌};
+ghost use Rattle.jup_hub.specs.Passes.{IsPassOf};
+
+use super::greeting::begun;
+use super::link::Link;
+use super::output::Output;
+use super::reading::read_half;
+use super::source::Source;
+use super::writing::write_half;
+use super::{Bell, Ending, SessionFault};
+use crate::Gate;
+use jup_hub::{Hub, Pass};
+use std::alloc::Global;
+use std::io::{Read, Write};
+use std::sync::{Mutex, Wait};
+use std::thread;
+use std::thread::{Promise, Threads};
+
+/// Runs a session: greets the site, then takes what it sends, and sends what the hub has for it.
+///
+/// It reads in this thread, and writes in one of its own. The site has left the hub when this returns.
+pub fn serve_link<R: Threads + Wait + Sync, I: Read + Drop, O: Write + Send + Drop, G: Gate>(
+    rt: &R,
+    alloc: Global,
+    reader: I,
+    writer: O,
+    hub: &Hub,
+    mut pass: Pass,
+    bell: &Bell,
+    gate: &G,
+) -> (Pass, Ending)
+    requires { IsPassOf hub.now pass }
+    ensures { IsPassOf hub.now result.0 }
+{
+    let mut output = match Output::new(alloc, writer) {
+        Ok(output) => output,
+        Err(mut writer) => {
+            // The line of the fault, for which no memory is asked.
+            let _ = writer.write_all(b"error 8\n");
+            return (pass, SessionFault::NoMemory.into());
+        }
+    };
+    let mut source = Source::new(reader);
+    let site = match begun(rt, alloc, &mut source, &mut output, hub, &mut pass) {
+        Ok(site) => site,
+        Err(ending) => return (pass, ending),
+    };
+    let noted = Mutex::new(None);
+    let link = Link {
+        alloc,
+        hub,
+        bell,
+        noted: &noted,
+        site,
+    };
+    let pass = both_halves(rt, source, output, &link, pass, gate);
+    (pass, noted.into_inner().unwrap_or(Ending::Gone))
+}
+
+// What the writing half gives back.
+#[derive(Drop)]
+struct PassOf<'a> {
+    link: &'a Link<'a>,
+}
+
+impl<'a> Promise<Pass> for PassOf<'a> {
+    ghost kept_by = { λ p r. IsPassOf p.link.now.hub.now r };
+}
+
+// The reading half runs here, the writing half in a thread of its own. Where that can't be started it is run
+// here too: it finds the link gone, and tells why.
+fn both_halves<R: Threads + Wait + Sync, I: Read + Drop, O: Write + Send + Drop, G: Gate>(
+    rt: &R,
+    mut source: Source<I>,
+    output: Output<O>,
+    link: &Link<'_>,
+    mut pass: Pass,
+    gate: &G,
+) -> Pass
+    requires { IsPassOf link.now.hub.now pass }
+    ensures { IsPassOf link.now.hub.now result }
+{
+    let theirs = link.hub.split(&mut pass);
+    thread::scope(
+        thread::scope_env(),
+        rt,
+        |scope| -> Pass
+            requires { IsPassOf link.now.hub.now pass × IsPassOf link.now.hub.now theirs }
+            ensures { IsPassOf link.entry.now.hub.now result }
+        {
+            let child = scope.spawn_with(
+                PassOf { link },
+                move || -> Pass
+                    requires { IsPassOf link.now.hub.now theirs }
+                    ensures { IsPassOf link.entry.now.hub.now result }
+                { write_half(rt, output, link, theirs) },
+            );
+            let theirs = match child {
+                Ok(child) => {
+                    read_half(rt, &mut source, link, &mut pass, gate);
+                    child.join(rt)
+                }
+                Err(refused) => {
+                    link.abandon(rt, &mut pass, SessionFault::NoMemory.into());
+                    (refused.value)()
+                }
+            };
+            link.rejoined(pass, theirs)
+        },
+    )
+}

@@ -1,0 +1,125 @@
+//! The half of a session that fetches and writes.
+ghost use Rattle.std.specs.Prelude.{◌≡◌};
+ghost use Rattle.jup_hub.specs.Passes.{IsPassOf};
+
+use super::link::Link;
+use super::output::Output;
+use super::{Ending, SessionFault};
+use jup_hub::{HubFault, Pass};
+use jup_star::{Down, Downs, StarFault};
+use jup_wire::Line;
+use std::io::Write;
+use std::sync::Wait;
+
+/// Messages that one fetch asks for.
+const BATCH: u32 = 64;
+
+/// What a fetch left.
+#[derive(Clone, Copy, Debug, PartialEq, Eq)]
+enum Outbox {
+    Empty,
+    /// The site has no link any more.
+    Gone,
+}
+
+/// Writes what the hub has for the site until an ending is noted, and then tells the site that.
+pub(crate) fn write_half<R: Wait, O: Write + Drop>(
+    rt: &R,
+    mut output: Output<O>,
+    link: &Link<'_>,
+    mut pass: Pass,
+) -> Pass
+    requires { IsPassOf link.now.hub.now pass }
+    ensures { IsPassOf link.now.hub.now result }
+{
+    let left = forwarded(rt, &mut output, link, &mut pass);
+    // Noted before the site leaves: the other half notes nothing where it finds the link gone.
+    if let Err(fault) = left {
+        link.note(rt, fault.into());
+    }
+    if left != Ok(Outbox::Gone) {
+        let _ = link.hub.leave(rt, &mut pass, link.site);
+    }
+    if left != Err(SessionFault::WriteFailed) {
+        let ending = link.ending(rt).unwrap_or(Ending::Gone);
+        let _ = tell(&mut output, ending);
+    }
+    link.bell.ring(rt);
+    pass
+}
+
+/// Writes the line of an ending.
+pub(crate) fn tell<O: Write + Drop>(
+    output: &mut Output<O>,
+    ending: Ending,
+) -> Result<(), SessionFault> {
+    output.put(&ending.line())?;
+    output.send()
+}
+
+// Forwards at each ring, up to a noted ending.
+fn forwarded<R: Wait, O: Write + Drop>(
+    rt: &R,
+    output: &mut Output<O>,
+    link: &Link<'_>,
+    pass: &mut Pass,
+) -> Result<Outbox, SessionFault>
+    requires { IsPassOf link.now.hub.now pass.old }
+    ensures { IsPassOf link.now.hub.now pass.new }
+{
+    let mut seen = 0;
+    for _ in rt.forever() {
+        seen = link.bell.wait(rt, seen);
+        // Read before the fetch, which then has all that the other half caused.
+        let is_over = link.ending(rt).is_some();
+        let has_news = link.hub.news(pass);
+        if is_over {
+            return forward(rt, output, link, pass);
+        }
+        if has_news {
+            let _ = forward(rt, output, link, pass)?;
+        }
+    }
+    unreachable!()
+}
+
+// Fetches and writes until a fetch gives less than was asked for.
+fn forward<R: Wait, O: Write + Drop>(
+    rt: &R,
+    output: &mut Output<O>,
+    link: &Link<'_>,
+    pass: &mut Pass,
+) -> Result<Outbox, SessionFault>
+    requires { IsPassOf link.now.hub.now pass.old }
+    ensures { IsPassOf link.now.hub.now pass.new }
+{
+    for _ in rt.forever() {
+        let downs = match link.hub.fetch(rt, link.alloc, pass, link.site, BATCH) {
+            Ok(downs) => downs,
+            Err(HubFault::Star(StarFault::NoLink)) => return Ok(Outbox::Gone),
+            Err(fault) => return Err(SessionFault::Hub(fault)),
+        };
+        let is_last = downs.as_slice().len() < BATCH as usize;
+        write_downs(output, downs)?;
+        if is_last {
+            return Ok(Outbox::Empty);
+        }
+    }
+    unreachable!()
+}
+
+// Writes messages, in order.
+fn write_downs<O: Write + Drop>(output: &mut Output<O>, downs: Downs) -> Result<(), SessionFault> {
+    if downs.as_slice().is_empty() {
+        return Ok(());
+    }
+    for down in downs.into_messages() {
+        let line = match down {
+            Down::Op(msg) => Line::Op(msg),
+            Down::Ack(count) => Line::Ack(count),
+            Down::Pong(count) => Line::Pong(count),
+        };
+        output.put(&line)?;
+    }
+    output.send()
+}

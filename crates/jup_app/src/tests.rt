@@ -1,0 +1,4 @@
+//! Whole runs.
+
+mod runs;
+mod runs_gates;

@@ -1,0 +1,215 @@
+//! Runs of few and of many sites, and their refusals.
+ghost use Rattle.std.specs.Prelude.{IfOk};
+ghost use Rattle.jup_window.specs.Entries.{EachWidget};
+ghost use Rattle.jup_world.specs.Openings.{IsShort};
+
+use crate::{Open, RunEnd, RunFault, SiteEnd, run_many, run_two};
+use jup_setting::Toggle;
+use jup_star::Entry;
+use jup_value::{Label, Seq};
+use jup_window::{Board, BoardFault, Command, EditFault, Setting, Value, Widget};
+use jup_world::is_short;
+use std::alloc::{AllocError, Global};
+use std::marker::PhantomData;
+use std::test::Fail;
+
+pub(crate) const LIMIT: u32 = 100_000;
+
+// Window 1 has an empty text 1 and a toggle 2.
+pub(crate) fn blank(alloc: Global) -> Result<Board, BoardFault>
+    ensures { IfOk result (λ board. EachWidget IsShort board) }
+{
+    let mut board = Board::new(alloc);
+    board.add_window(alloc, 1)?;
+    board.add_widget(1, 1, Widget::Text(Seq::new(alloc)))?;
+    board.add_widget(1, 2, Widget::Toggle(Toggle { on: false }))?;
+    if !is_short(&board) {
+        return Err(BoardFault::TooMany);
+    }
+    Ok(board)
+}
+
+// An insertion at the head of the text.
+pub(crate) fn insertion(value: char) -> Command {
+    Command::Insert {
+        win: 1,
+        wid: 1,
+        place: 0,
+        value: Value::Char(value),
+    }
+}
+
+// So many insertions.
+pub(crate) fn insertions(
+    alloc: Global,
+    value: char,
+    count: usize,
+) -> Result<Vec<Command>, AllocError> {
+    // The checker learns of the types within a command from this.
+    let _within: PhantomData<(Value, Setting, Label)> = PhantomData;
+    let mut script = Vec::new(alloc);
+    for _ in 0..count {
+        script.push(insertion(value))?;
+    }
+    Ok(script)
+}
+
+// A script of so many insertions for each of so many sites.
+pub(crate) fn scripts(
+    alloc: Global,
+    sites: usize,
+    count: usize,
+) -> Result<Vec<Vec<Command>>, AllocError> {
+    let mut all = Vec::new(alloc);
+    for _ in 0..sites {
+        all.push(insertions(alloc, 'a', count)?)?;
+    }
+    Ok(all)
+}
+
+// How many items the text has.
+fn items(board: &Board) -> usize {
+    match board.widget(1, 1) {
+        Some(Widget::Text(text)) => text.len() as usize,
+        _ => 0,
+    }
+}
+
+// Whether all sites show the star's board.
+pub(crate) fn agree(end: &RunEnd) -> bool {
+    end.sites
+        .iter()
+        .all(|site| site.site.board().same(end.star.board()))
+}
+
+// Whether an end's replies are the edits of its site in the order, in turn.
+fn tells_the_order(end: &SiteEnd, order: &[Entry]) -> bool {
+    let site = end.site.number();
+    let own = order.iter().filter(|entry| entry.site == site);
+    own.map(|entry| Ok(entry.edit))
+        .eq(end.replies.iter().copied())
+}
+
+// The number of the refusal, or 0.
+pub(crate) fn refusal(run: Result<RunEnd, RunFault>) -> u32 {
+    match run {
+        Ok(_) => 0,
+        Err(fault) => fault.number(),
+    }
+}
+
+#[test]
+fn two_sites_of_200_insertions(rt: HostRuntime) -> Result<(), Fail> {
+    let alloc = rt.alloc();
+    let first = insertions(alloc, 'a', 200)?;
+    let second = insertions(alloc, 'b', 200)?;
+    let end = run_two(&rt, alloc, blank(alloc)?, LIMIT, &first, &second, &Open)?;
+    assert_eq!(rt; items(end.star.board()), 400);
+    assert_eq!(rt; end.star.order().len(), 400);
+    assert_eq!(rt; end.sites.len(), 2);
+    assert!(rt; agree(&end));
+    for site in &end.sites {
+        assert_eq!(rt; site.replies.len(), 200);
+        assert!(rt; tells_the_order(site, end.star.order()));
+    }
+    Ok(())
+}
+
+#[test]
+fn eight_sites_of_50_insertions(rt: HostRuntime) -> Result<(), Fail> {
+    let alloc = rt.alloc();
+    let all = scripts(alloc, 8, 50)?;
+    let end = run_many(&rt, alloc, blank(alloc)?, LIMIT, &all, &Open)?;
+    assert_eq!(rt; items(end.star.board()), 400);
+    assert_eq!(rt; end.sites.len(), 8);
+    assert!(rt; agree(&end));
+    Ok(())
+}
+
+#[test]
+fn one_to_64_sites_run(rt: HostRuntime) -> Result<(), Fail> {
+    let alloc = rt.alloc();
+    let none = run_many(&rt, alloc, blank(alloc)?, LIMIT, &[], &Open);
+    assert_eq!(rt; refusal(none), 61);
+    let all = scripts(alloc, 64, 1)?;
+    let end = run_many(&rt, alloc, blank(alloc)?, LIMIT, &all, &Open)?;
+    assert_eq!(rt; items(end.star.board()), 64);
+    assert!(rt; agree(&end));
+    let more = scripts(alloc, 65, 1)?;
+    let many = run_many(&rt, alloc, blank(alloc)?, 0, &more, &Open);
+    assert_eq!(rt; refusal(many), 61);
+    Ok(())
+}
+
+#[test]
+fn a_full_order_refuses_a_run(rt: HostRuntime) -> Result<(), Fail> {
+    let alloc = rt.alloc();
+    let two = insertions(alloc, 'a', 2)?;
+    let full = run_two(&rt, alloc, blank(alloc)?, 3, &two, &two, &Open);
+    assert_eq!(rt; refusal(full), 32);
+    let all = scripts(alloc, 2, 2)?;
+    let full = run_many(&rt, alloc, blank(alloc)?, 3, &all, &Open);
+    assert_eq!(rt; refusal(full), 32);
+    let none = run_two(&rt, alloc, blank(alloc)?, 0, &two, &two, &Open);
+    assert_eq!(rt; refusal(none), 50);
+    Ok(())
+}
+
+#[test]
+fn one_site_of_2_000_settings(rt: HostRuntime) -> Result<(), Fail> {
+    let alloc = rt.alloc();
+    let mut script = Vec::new(alloc);
+    for k in 0..2_000 {
+        let setting = Setting::Toggle(k % 2 == 0);
+        script.push(Command::Set {
+            win: 1,
+            wid: 2,
+            setting,
+        })?;
+    }
+    let end = run_two(&rt, alloc, blank(alloc)?, LIMIT, &script, &[], &Open)?;
+    assert_eq!(rt; end.sites.len(), 2);
+    assert_eq!(rt; end.sites[0].replies.len(), 2_000);
+    assert!(rt; end.sites[0].replies.iter().all(|reply| reply.is_ok()));
+    assert!(rt; end.sites[1].replies.is_empty());
+    assert_eq!(rt; end.star.order().len(), 2_000);
+    assert!(rt; agree(&end));
+    Ok(())
+}
+
+#[test]
+fn a_refused_command_is_answered(rt: HostRuntime) -> Result<(), Fail> {
+    let alloc = rt.alloc();
+    let delete = Command::Delete {
+        win: 1,
+        wid: 1,
+        place: 0,
+    };
+    let script = [delete, insertion('a'), delete];
+    let end = run_two(&rt, alloc, blank(alloc)?, LIMIT, &script, &[], &Open)?;
+    assert_eq!(rt; end.sites.len(), 2);
+    let replies = &end.sites[0].replies;
+    assert_eq!(rt; replies.len(), 3);
+    assert_eq!(rt; replies[0], Err(EditFault::BadPlace));
+    assert!(rt; replies[1].is_ok());
+    assert!(rt; replies[2].is_ok());
+    assert_eq!(rt; items(end.star.board()), 0);
+    Ok(())
+}
+
+// Run this with each allocation refused in turn: the run is refused for want of memory, or runs.
+#[test]
+fn want_of_memory_refuses_a_run(rt: HostRuntime) -> Result<(), Fail> {
+    let alloc = rt.alloc();
+    let two = insertions(alloc, 'a', 2)?;
+    let run = run_two(&rt, alloc, blank(alloc)?, LIMIT, &two, &two, &Open);
+    let number = match run {
+        Ok(end) => {
+            assert!(rt; agree(&end));
+            0
+        }
+        Err(fault) => fault.number(),
+    };
+    assert!(rt; number == 0 || number == 8);
+    Ok(())
+}

@@ -12,7 +12,10 @@ use atomic_table::{Seat, Shared};
 use jup_star::{Star, StarFault};
 use std::snapshot::Snapshot;
 use std::sync::Wait;
-use std::thread;
+use std::{hint, thread};
+
+/// How often the turn is tried before the thread lets others run.
+const TRIES: u32 = 64;
 
 pub(crate) type HubTable = Shared<Option<Desk>, View, Snapshot<Star>, Turns>;
 
@@ -31,6 +34,22 @@ pub(crate) fn try_turn(table: &HubTable, seat: &mut HubSeat) -> Option<Desk>
     table.exchange(seat, 0, None)
 }
 
+// Tries some times in a row: a turn is short, and a core that is given away comes back late.
+fn try_turns(table: &HubTable, seat: &mut HubSeat) -> Option<Desk>
+    requires table { IsHubTable table.now.table_id × (seat.old.table_id ≡ table.now.table_id) }
+    requires idle { IsIdle seat.old.me }
+    ensures table { seat.new.table_id ≡ seat.old.table_id }
+    ensures turn { MatchOption result (seat.new.me ≡ seat.old.me) (λ desk. Takes seat.old.me seat.new.me desk) }
+{
+    for _ in 0..TRIES {
+        if let Some(desk) = try_turn(table, seat) {
+            return Some(desk);
+        }
+        hint::spin_loop();
+    }
+    None
+}
+
 // Tries until the turn is won.
 pub(crate) fn take_turn<R: Wait>(rt: &R, table: &HubTable, seat: &mut HubSeat) -> Desk
     requires table { IsHubTable table.now.table_id × (seat.old.table_id ≡ table.now.table_id) }
@@ -39,7 +58,7 @@ pub(crate) fn take_turn<R: Wait>(rt: &R, table: &HubTable, seat: &mut HubSeat) -
     ensures turn { Takes seat.old.me seat.new.me result }
 {
     for _ in rt.forever() {
-        if let Some(desk) = try_turn(table, seat) {
+        if let Some(desk) = try_turns(table, seat) {
             return desk;
         }
         thread::yield_now();

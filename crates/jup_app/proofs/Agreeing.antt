@@ -20,6 +20,7 @@ use Rattle.jup_star.specs.StarCalls.{BoardStar, BoardLink, after_join, after_tak
 use Rattle.jup_star.specs.declared.calls.Reply.TheVariants as reply
 use Rattle.jup_hub.specs.declared.view.Entry.{Entry}
 use Rattle.jup_hub.specs.Histories.{IsLegal, star_through}
+use Rattle.jup_world.specs.Each.{Each}
 use Rattle.jup_world.specs.declared.events.Event.TheVariants as event
 use Rattle.jup_world.specs.declared.events.Reply.TheVariants as told
 use Rattle.jup_world.specs.declared.events.Happened.{Happened}
@@ -34,7 +35,7 @@ use Rattle.jup_world.specs.Promises.{Promises}
 use Rattle.jup_world.proofs.SoundRuns.{sound-promises}
 use Rattle.jup_world.proofs.BoardWorldLaws.{reached_sound}
 use Rattle.jup_app.specs.declared.runs.drain.SiteEnd.{SiteEnd}
-use Rattle.jup_app.specs.Runs.{BoardUp, EditAnswer, Each, site_of, IsSite, edit_at, edits_at, edits_of, joins, assembled}
+use Rattle.jup_app.specs.Runs.{BoardUp, EditAnswer, site_of, IsSite, edit_at, edits_at, edits_of, joins, assembled}
 use Rattle.jup_app.specs.Plays.{link_with, answered}
 use Rattle.jup_app.specs.Whole.{IsRunOf, assembled_world, AllAgree, accepted}
 use Rattle.jup_app.proofs.Simulate.{reached_more}

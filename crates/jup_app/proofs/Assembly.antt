@@ -5,6 +5,7 @@ use Rattle.jup_window.specs.declared.commands.Command.{Command}
 use Rattle.jup_window.specs.declared.faults.EditFault.{EditFault}
 use Rattle.jup_window.specs.declared.edits.Edit.{Edit}
 use Rattle.jup_star.specs.SiteCalls.{BoardSite}
+use Rattle.jup_world.specs.Each.{Each}
 use Rattle.jup_hub.specs.declared.hub.Hub.{Hub}
 use Rattle.jup_hub.specs.declared.view.Entry.{Entry}
 use Rattle.jup_hub.specs.declared.view.Tally.{Tally}
@@ -16,7 +17,7 @@ use Rattle.jup_app.specs.declared.runs.threads.Job.{Job}
 use Rattle.jup_app.specs.declared.runs.player.Player.{Player}
 use Rattle.jup_app.specs.declared.runs.stop.Stop.{Stop}
 use Rattle.jup_app.specs.declared.runs.drain.SiteEnd.{SiteEnd}
-use Rattle.jup_app.specs.Runs.{EditAnswer, Made, made, Each, Step, calls_of, edits_of, IsPlayed}
+use Rattle.jup_app.specs.Runs.{EditAnswer, Made, made, Step, calls_of, edits_of, IsPlayed}
 use Rattle.jup_app.specs.Plays.{makes, link_with, answered, Played}
 use Rattle.jup_app.specs.Passing.{all_tallies, all_calls, end_of, IsSeated}
 use Rattle.jup_app.specs.Seating.{IsJob}

@@ -10,12 +10,13 @@ use Rattle.jup_star.specs.declared.calls.Call.TheVariants.{Join, Take, Fetch}
 use Rattle.jup_star.specs.declared.calls.Reply.{Reply}
 use Rattle.jup_star.specs.declared.calls.Reply.TheVariants as reply
 use Rattle.jup_star.specs.SiteCalls.{BoardSite}
+use Rattle.jup_world.specs.Each.{Each}
 use Rattle.jup_world.specs.BoardWorlds.{BoardAttached}
 use Rattle.jup_hub.specs.declared.view.Entry.{Entry}
 use Rattle.jup_hub.specs.declared.view.View.{View}
 use Rattle.jup_hub.specs.Knowledge.{Called}
 use Rattle.jup_app.specs.declared.runs.drain.SiteEnd.{SiteEnd}
-use Rattle.jup_app.specs.Runs.{BoardUp, Made, made, Each, Step, calls_of, edits_of, IsPlayed, site_of, IsSite, with_log}
+use Rattle.jup_app.specs.Runs.{BoardUp, Made, made, Step, calls_of, edits_of, IsPlayed, site_of, IsSite, with_log}
 use Rattle.jup_app.specs.Plays.{makes, calls_at, link_with, HasSeen, Handles, FoundNothing}
 use Rattle.jup_app.specs.Drains.{AreNumbered, Drained, EndsQuiet, IsDrained, empty_fetches}
 use Rattle.jup_app.proofs.Count.{makes-append, each_both, each_weaker, each_made}

@@ -5,12 +5,13 @@ use Rattle.jup_star.specs.declared.calls.Call.{Call}
 use Rattle.jup_star.specs.declared.calls.Call.TheVariants.{Join, Take, Fetch}
 use Rattle.jup_star.specs.declared.calls.Reply.{Reply}
 use Rattle.jup_star.specs.declared.calls.Reply.TheVariants as reply
+use Rattle.jup_world.specs.Each.{Each}
 use Rattle.jup_hub.specs.declared.view.Entry.{Entry}
 use Rattle.jup_hub.specs.declared.view.View.{View}
 use Rattle.jup_hub.specs.Histories.{BeginsWith, BeginsWithAll, calls_by}
 use Rattle.jup_hub.specs.Knowledge.{Called, Meets, after_split, split_from, having_seen, with_call}
 use Rattle.jup_star.specs.SiteCalls.{BoardSite}
-use Rattle.jup_app.specs.Runs.{Made, made, Each}
+use Rattle.jup_app.specs.Runs.{Made, made}
 use Rattle.jup_app.specs.Plays.{makes}
 use Rattle.jup_hub.specs.Knowledge.{tallies, joined_with}
 use Rattle.jup_hub.specs.Passes.{view_of}

@@ -14,6 +14,7 @@ use Rattle.jup_star.specs.SiteCalls.{BoardSite}
 use Rattle.jup_window.specs.Boards.{Windows}
 use Rattle.jup_window.specs.BoardOperations.{board_operations}
 use Rattle.jup_star.specs.StarStates.{opened_star, link_of}
+use Rattle.jup_world.specs.Each.{Each}
 use Rattle.jup_world.specs.Openings.{IsOpening}
 use Rattle.jup_world.specs.WorldStates.{opened_world, attached}
 use Rattle.jup_world.specs.BoardWorlds.{BoardWorld, BoardAttached}
@@ -28,7 +29,7 @@ use Rattle.jup_app.specs.declared.runs.threads.Job.{Job}
 use Rattle.jup_app.specs.declared.runs.player.Player.{Player}
 use Rattle.jup_app.specs.declared.runs.stop.Stop.{Stop}
 use Rattle.jup_app.specs.declared.runs.drain.SiteEnd.{SiteEnd}
-use Rattle.jup_app.specs.Runs.{EditAnswer, Made, made, Each, Step, calls_of, edits_of, IsPlayed, IsSite, site_of, made_at, joins, assembled}
+use Rattle.jup_app.specs.Runs.{EditAnswer, Made, made, Step, calls_of, edits_of, IsPlayed, IsSite, site_of, made_at, joins, assembled}
 use Rattle.jup_app.specs.Plays.{makes, calls_at, link_with, answered, HasSeen}
 use Rattle.jup_app.specs.Passing.{joined_call, HasJoinedAll, HasMet, IsSame, HasTaken, all_tallies, all_calls, end_of}
 use Rattle.std.specs.Borrow.{Bor}

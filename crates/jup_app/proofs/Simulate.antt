@@ -19,6 +19,7 @@ use Rattle.jup_star.specs.SiteStates.{edit_answer, deliver_fault}
 use Rattle.jup_star.specs.StarCalls.{BoardStar, BoardLink, reply_of, star_after}
 use Rattle.jup_hub.specs.declared.view.Entry.{Entry}
 use Rattle.jup_hub.specs.Histories.{IsLegal, star_through}
+use Rattle.jup_world.specs.Each.{Each}
 use Rattle.jup_world.specs.declared.events.Event.TheVariants as event
 use Rattle.jup_world.specs.declared.events.Happened.{Happened}
 use Rattle.jup_world.specs.BoardWorlds.{BoardWorld, BoardAttached, BoardEvent, BoardReply, IsReached, most_items}
@@ -27,7 +28,7 @@ use Rattle.jup_world.specs.WorldSteps.{Outcome, outcome, happens, run, at_linked
 use Rattle.jup_world.proofs.Lookup.{found-map, found-map_other}
 use Rattle.jup_world.proofs.SoundRuns.{sound-promises}
 use Rattle.jup_world.proofs.BoardWorldLaws.{reached_sound}
-use Rattle.jup_app.specs.Runs.{BoardUp, BoardDown, EditAnswer, Made, made, Each, Step, Edited, Took, Got, calls_of, edits_of, IsPlayed, IsAccepted, edited, answer_to, edit_by, answer_by, delivered, all_delivered, AcceptsAll, site_of, made_at, deliveries, through_call, past_call, with_log, left_over, assembled, IsSite, edit_at, edits_at}
+use Rattle.jup_app.specs.Runs.{BoardUp, BoardDown, EditAnswer, Made, made, Step, Edited, Took, Got, calls_of, edits_of, IsPlayed, IsAccepted, edited, answer_to, edit_by, answer_by, delivered, all_delivered, AcceptsAll, site_of, made_at, deliveries, through_call, past_call, with_log, left_over, assembled, IsSite, edit_at, edits_at}
 use Rattle.jup_app.proofs.StarLaws.{IsTidy, tidy_after, Takes, take_gives, InParts, fetch_in_parts, fetch_nothing}
 use Rattle.jup_app.proofs.SiteLaws.{delivered_number}
 

@@ -4,10 +4,11 @@ use Rattle.std.proofs.Math.Dec.{eqb}
 use Rattle.std.proofs.lemmas.Bool.{eq-eqb, eqb-true, eqb-false}
 use Rattle.std.proofs.lemmas.Bool.Decides.{eqb_tells}
 use Rattle.jup_star.specs.declared.calls.Call.{Call}
+use Rattle.jup_world.specs.Each.{Each}
 use Rattle.jup_hub.specs.declared.view.Entry.{Entry}
 use Rattle.jup_hub.specs.declared.view.Tally.{Tally}
 use Rattle.jup_hub.specs.Histories.{calls_by}
-use Rattle.jup_app.specs.Runs.{Made, made, Each, Step, Edited, Took, Got, calls_of, site_of, made_at, IsSite}
+use Rattle.jup_app.specs.Runs.{Made, made, Step, Edited, Took, Got, calls_of, site_of, made_at, IsSite}
 use Rattle.jup_app.specs.Plays.{makes, calls_at}
 use Rattle.jup_app.proofs.Count.{IsKnown, bytes_tell, same_bytes, other_bytes}
 

@@ -12,9 +12,11 @@ use Rattle.jup_star.specs.declared.calls.Reply.TheVariants.{Joined as JoinedRepl
 use Rattle.jup_star.specs.LinkStates.{is_of, link_fetched, opened_link, link_heard, link_sent, link_acked, link_ponged, operation_at}
 use Rattle.jup_star.specs.StarStates.{link_of, without, at_link, join_fault, joined, up_fault, take_fault, taken, links_after, place_taken, left, fetched, IsNew, AreApart}
 use Rattle.jup_star.specs.StarCalls.{BoardStar, BoardLink, joining, join_result, after_join, take_result, after_take, fetch_result, after_fetch, after_leave, reply_of, star_after}
+use Rattle.jup_star.proofs.LinkChanges.{apart_map, apart_without}
+use Rattle.jup_world.specs.Each.{Each}
 use Rattle.jup_hub.specs.declared.view.Entry.{Entry}
 use Rattle.jup_hub.specs.Histories.{star_through}
-use Rattle.jup_app.specs.Runs.{BoardUp, BoardDown, Each}
+use Rattle.jup_app.specs.Runs.{BoardUp, BoardDown}
 
 -- a join that was not refused
 pub join_gives : (s : BoardStar) (j : Joined) → reply_of Join s ≡ JoinedReply (Ok j) → (join_fault s ≡ None) × (j ≡ joining s) × (star_after Join s ≡ joined s)
@@ -68,32 +70,6 @@ fetch_gives s i m ds is = go (link_of i s.links) refl is
 pub fetch_from : (s : BoardStar) (i m : ℕ) (l : BoardLink) → link_of i s.links ≡ Some l → reply_of (Fetch i m) s ≡ Fetched (Ok (take m l.outbox))
 unfolding reply_of
 fetch_from s i m l is = ap (λ o. Fetched (fetch_result m o)) is
-
-new_map : (f : BoardLink → BoardLink) → ((k : BoardLink) → (f k).site ≡ k.site) → (j : ℕ) (ls : List BoardLink) → IsNew j ls → IsNew j (map f ls)
-new_map f same j [] new = tt
-new_map f same j (l ∷ ls) new = (ap (λ (n : ℕ). nat_eq n j) (same l) ∙ new.0, new_map f same j ls new.1)
-
-apart_map : (f : BoardLink → BoardLink) → ((k : BoardLink) → (f k).site ≡ k.site) → (ls : List BoardLink) → AreApart ls → AreApart (map f ls)
-apart_map f same [] apart = tt
-apart_map f same (l ∷ ls) apart =
-    let P : ℕ → Type 0 = λ j. IsNew j (map f ls) in
-    (subst P (sym (same l)) (new_map f same l.site ls apart.0), apart_map f same ls apart.1)
-
-new_kept : (j : ℕ) (l : BoardLink) (ls : List BoardLink) (b : Bool) → is_of j l ≡ false → IsNew j ls → IsNew j (cond (not b) (l ∷ ls) ls)
-new_kept j l ls true other new = new
-new_kept j l ls false other new = (other, new)
-
-new_without : (i j : ℕ) (ls : List BoardLink) → IsNew j ls → IsNew j (without i ls)
-new_without i j [] new = tt
-new_without i j (l ∷ ls) new = new_kept j l (without i ls) (is_of i l) new.0 (new_without i j ls new.1)
-
-apart_kept : (l : BoardLink) (ls : List BoardLink) (b : Bool) → IsNew l.site ls → AreApart ls → AreApart (cond (not b) (l ∷ ls) ls)
-apart_kept l ls true new apart = apart
-apart_kept l ls false new apart = (new, apart)
-
-apart_without : (i : ℕ) (ls : List BoardLink) → AreApart ls → AreApart (without i ls)
-apart_without i [] apart = tt
-apart_without i (l ∷ ls) apart = apart_kept l (without i ls) (is_of i l) (new_without i l.site ls apart.0) (apart_without i ls apart.1)
 
 -- the sites of the links differ, and were given
 pub record IsTidy (s : BoardStar) : Type 0 where

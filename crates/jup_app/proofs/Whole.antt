@@ -9,13 +9,14 @@ use Rattle.jup_window.specs.Boards.{Windows}
 use Rattle.jup_window.specs.BoardOperations.{board_operations}
 use Rattle.jup_star.specs.StarStates.{opened_star}
 use Rattle.jup_star.specs.SiteCalls.{BoardSite}
+use Rattle.jup_world.specs.Each.{Each}
 use Rattle.jup_world.specs.Openings.{IsOpening}
 use Rattle.jup_world.specs.WorldStates.{opened_world, attached}
 use Rattle.jup_world.specs.BoardWorlds.{BoardWorld, BoardAttached, BoardEvent, IsReached}
 use Rattle.jup_hub.specs.declared.view.Entry.{Entry}
 use Rattle.jup_hub.specs.declared.view.Tally.{Tally}
 use Rattle.jup_hub.specs.Histories.{IsLegal, star_through, calls_by, BeginsWith, AllTallied, IsNew, AllApart}
-use Rattle.jup_app.specs.Runs.{Made, made, Each, Step, calls_of, edits_of, IsPlayed, site_of, made_at, IsSite, joins, assembled, edits_at}
+use Rattle.jup_app.specs.Runs.{Made, made, Step, calls_of, edits_of, IsPlayed, site_of, made_at, IsSite, joins, assembled, edits_at}
 use Rattle.jup_app.specs.Plays.{makes, calls_at, link_with}
 use Rattle.jup_app.specs.Passing.{joined_call, IsFresh}
 use Rattle.jup_app.specs.Seating.{no_site}

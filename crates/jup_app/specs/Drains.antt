@@ -2,10 +2,11 @@
 use Rattle.std.specs.Prelude.{◌≡◌, ℕ, zero, suc, ◌+◌, ◌<◌, List, [], ◌∷◌, ◌++◌, length, get_or, Ok}
 use Rattle.jup_star.specs.declared.calls.Call.TheVariants.{Fetch}
 use Rattle.jup_star.specs.declared.calls.Reply.TheVariants.{Fetched}
+use Rattle.jup_world.specs.Each.{Each}
 use Rattle.jup_hub.specs.declared.view.Entry.{Entry}
 use Rattle.jup_hub.specs.declared.view.View.{View}
 use Rattle.jup_app.specs.declared.runs.drain.SiteEnd.{SiteEnd}
-use Rattle.jup_app.specs.Runs.{Made, Each, Step, calls_of, edits_of, IsPlayed, site_of, IsSite}
+use Rattle.jup_app.specs.Runs.{Made, Step, calls_of, edits_of, IsPlayed, site_of, IsSite}
 use Rattle.jup_app.specs.Plays.{makes, calls_at, link_with, HasSeen}
 
 -- the numbers of the sites are 1, 2, ..

@@ -5,6 +5,7 @@ use Rattle.jup_star.specs.declared.calls.Reply.TheVariants.{Joined as JoinedRepl
 use Rattle.jup_star.specs.declared.star.Joined.{Joined}
 use Rattle.jup_star.specs.SiteStates.{opened_site}
 use Rattle.jup_star.specs.SiteCalls.{BoardSite}
+use Rattle.jup_world.specs.Each.{Each}
 use Rattle.jup_hub.specs.declared.hub.Hub.{Hub}
 use Rattle.jup_hub.specs.declared.view.Entry.{Entry}
 use Rattle.jup_hub.specs.declared.view.Tally.{Tally}
@@ -15,7 +16,7 @@ use Rattle.jup_hub.specs.Passes.{view_of, IsPassOf}
 use Rattle.jup_app.specs.declared.runs.player.Player.{Player}
 use Rattle.jup_app.specs.declared.runs.drain.SiteEnd.{SiteEnd}
 use Rattle.jup_app.specs.declared.runs.stop.Stop.{Stop}
-use Rattle.jup_app.specs.Runs.{Made, Each}
+use Rattle.jup_app.specs.Runs.{Made}
 use Rattle.jup_app.specs.Plays.{makes}
 
 -- what a new site was told as it joined

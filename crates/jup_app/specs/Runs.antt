@@ -41,11 +41,6 @@ pub record Made : Type 0 where
 abbrev pub made : Entry → Made
 made e = record { call = e.call; reply = e.reply }
 
--- P of each element
-abbrev pub Each : {A : Type 0} → (A → Type 0) → List A → Type 0
-Each P [] = Unit {0}
-Each P (x ∷ xs) = P x × Each P xs
-
 -- a step of one site: an edit with its answer, a message that the hub took with its place in the order, or messages that a
 -- fetch of at most so many gave
 pub data Step : Type 0 where

@@ -11,12 +11,13 @@ use Rattle.jup_star.specs.StarCalls.{BoardStar, BoardLink}
 use Rattle.jup_star.specs.declared.messages.Entry.{Entry as OrderEntry}
 use Rattle.jup_hub.specs.declared.view.Entry.{Entry}
 use Rattle.jup_hub.specs.Histories.{IsLegal, star_through}
+use Rattle.jup_world.specs.Each.{Each}
 use Rattle.jup_world.specs.BoardWorlds.{BoardWorld}
 use Rattle.jup_world.specs.WorldStates.{opened_world, attached}
 use Rattle.jup_world.specs.WorldSteps.{run}
 use Rattle.jup_world.specs.Turns.{turns, edits, own_edits}
 use Rattle.jup_app.specs.declared.runs.drain.SiteEnd.{SiteEnd}
-use Rattle.jup_app.specs.Runs.{Each, Step, calls_of, edits_of, made_at, site_of, IsSite, joins, assembled, edits_at}
+use Rattle.jup_app.specs.Runs.{Step, calls_of, edits_of, made_at, site_of, IsSite, joins, assembled, edits_at}
 use Rattle.jup_app.specs.Plays.{link_with, answered}
 
 -- the world that n sites, a history after their joins and one log for each site make

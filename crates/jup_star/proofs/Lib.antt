@@ -1,7 +1,7 @@
 mod CallSteps
 mod Carrying
 mod FaultSteps
-mod LinkChanges
+pub mod LinkChanges
 mod LinkLists
 mod LinkPlaces
 mod LinkSteps

@@ -168,3 +168,26 @@ fn reads_and_writes_that_fail(rt: HostRuntime) {
     let end = run_client(alloc, commands, &mut printed, GREETED.as_bytes(), &mut to);
     assert_eq!(rt; end, Err(ClientEnd::WriteFailed));
 }
+
+const PRINTED: &str = "site 1\nmade ins 1 1 1.1 \"a\"\nsynced\nwindow 1\ntext 1 \"a\"\nbye\n";
+
+// Run this with each allocation refused in turn: the client says so, or did all that was asked for.
+#[test]
+fn a_client_that_lacks_memory_says_so(rt: HostRuntime) {
+    let alloc = rt.alloc();
+    let (Ok(mut to), Ok(mut out)) = (
+        Vec::with_capacity(alloc, 256),
+        Vec::with_capacity(alloc, 256),
+    ) else {
+        return;
+    };
+    let commands: &[u8] = b"ins 1 1 0 char \"a\"\nsync\nshow\nquit\n";
+    let from: &[u8] = b"welcome 1 100\nwindow 1\ntext 1\nready\npong 1\n";
+    let end = run_client(alloc, commands, &mut out, from, &mut to);
+    if end.is_ok() {
+        assert_eq!(rt; str::from_utf8(out.as_slice()), Ok(PRINTED));
+    } else {
+        assert_eq!(rt; end, Err(ClientEnd::NoMemory));
+        assert!(rt; PRINTED.as_bytes().starts_with(out.as_slice()));
+    }
+}

@@ -1,6 +1,8 @@
 //! The programs over loopback.
 
-use jup_app::{client_main, daemon_main};
+use crate::fakes::Impatient;
+use clap::error::ErrorKind;
+use jup_app::{client_main, daemon_main, daemon_words};
 use std::alloc::{AllocError, Global};
 use std::io::Read;
 use std::net::{Net, TcpListener, TcpStream};
@@ -196,4 +198,53 @@ fn addresses_that_fail(rt: HostRuntime) -> Result<(), Fail> {
     assert_eq!(rt; str::from_utf8(errors.as_slice()), Ok("io fault\n"));
     assert!(rt; out.is_empty());
     Ok(())
+}
+
+#[test]
+fn an_accept_that_fails(rt: HostRuntime) -> Result<(), Fail> {
+    let alloc = rt.alloc();
+    let words = daemon_at(alloc, "127.0.0.1:47016", "1", "1")?;
+    let (mut out, mut errors) = (Vec::new(alloc), Vec::new(alloc));
+    let impatient = Impatient { rt: &rt };
+    let status = daemon_main(
+        &impatient,
+        alloc,
+        &words,
+        "".as_bytes(),
+        &mut out,
+        &mut errors,
+    );
+    assert_eq!(rt; status, 1);
+    assert_eq!(rt; str::from_utf8(errors.as_slice()), Ok("io fault\n"));
+    assert_eq!(rt;
+        str::from_utf8(out.as_slice()),
+        Ok("listening 127.0.0.1:47016\n")
+    );
+    Ok(())
+}
+
+// Run this with each allocation refused in turn.
+#[test]
+fn words_that_lack_memory(rt: HostRuntime) {
+    let alloc = rt.alloc();
+    let Ok(good) = daemon_at(alloc, "127.0.0.1:47011", "100", "2") else {
+        return;
+    };
+    let Ok(bad) = daemon_at(alloc, "127.0.0.1:4711", "0", "2") else {
+        return;
+    };
+    match daemon_words(alloc, &good) {
+        Ok(told) => {
+            assert_eq!(rt; told.listen.as_str(), "127.0.0.1:47011");
+            assert_eq!(rt; (told.limit, told.sessions), (100, 2));
+        }
+        Err(error) => assert_eq!(rt; error.kind(), ErrorKind::OutOfMemory),
+    }
+    match daemon_words(alloc, &bad) {
+        Ok(_) => assert!(rt; false, "a limit of 0"),
+        Err(error) => {
+            let kind = error.kind();
+            assert!(rt; kind == ErrorKind::ValueValidation || kind == ErrorKind::OutOfMemory);
+        }
+    }
 }

@@ -141,3 +141,68 @@ fn a_stranger_reads_why_its_link_ends(rt: HostRuntime) -> Result<(), Fail> {
     );
     Ok(())
 }
+
+// Opens a link, and sends some bytes on it.
+fn sends<R: Net<Listener = TcpListener, Stream = TcpStream> + Clock>(
+    rt: &R,
+    addr: &str,
+    bytes: &[u8],
+) -> io::Result<TcpStream> {
+    let stream = linked(rt, addr)?;
+    (&stream).write_all(bytes)?;
+    Ok(stream)
+}
+
+// A client beside links that send garbage, never end a line, say no more after the greeting, stop within a
+// line, or hang up while they are owed an answer. None of these reads anything, and the first three stay open
+// until the client has ended.
+fn among_strays<R: Net<Listener = TcpListener, Stream = TcpStream> + Clock>(
+    rt: &R,
+    alloc: Global,
+    addr: &str,
+    words: &[String],
+    out: &mut Vec<u8>,
+) -> io::Result<u8> {
+    let endless = [b'x'; 300];
+    let garbage = sends(rt, addr, b"hello 1\n\xff\xfe\n")?;
+    let unended = sends(rt, addr, endless.as_slice())?;
+    let silent = sends(rt, addr, b"hello 1\n")?;
+    drop(sends(rt, addr, b"hello 1\nop 0 0 1 1 te")?);
+    drop(sends(rt, addr, b"hello 1\nping 1\n")?);
+    let mut errors = Vec::new(alloc);
+    let commands: &[u8] = b"ins 1 1 0 char \"a\"\nsync\nshow\n";
+    let status = client_main(rt, alloc, words, commands, out, &mut errors);
+    drop(garbage);
+    drop(unended);
+    drop(silent);
+    Ok(status)
+}
+
+#[test]
+fn a_client_goes_on_among_links_that_break_off(rt: HostRuntime) -> Result<(), Fail> {
+    let alloc = rt.alloc();
+    let addr = "127.0.0.1:47017";
+    let daemon = daemon_at(alloc, addr, "100", "6")?;
+    let client = client_of(alloc, addr)?;
+    let layout = "window 1\ntext 1\n";
+    let (mut out, mut errors, mut shown) = (Vec::new(alloc), Vec::new(alloc), Vec::new(alloc));
+    let (status, other) = join(
+        &rt,
+        || daemon_main(
+            &rt,
+            alloc,
+            &daemon,
+            layout.as_bytes(),
+            &mut out,
+            &mut errors,
+        ),
+        || among_strays(&rt, alloc, addr, &client, &mut shown).unwrap_or(9),
+    );
+    assert_eq!(rt; (status, other), (0, 0));
+    assert!(rt; shown.ends_with(b"synced\nwindow 1\ntext 1 \"a\"\nbye\n"));
+    assert_eq!(rt;
+        str::from_utf8(out.as_slice()),
+        Ok("listening 127.0.0.1:47017\norder 1\nwindow 1\ntext 1 \"a\"\n")
+    );
+    Ok(())
+}

@@ -213,3 +213,21 @@ fn want_of_memory_refuses_a_run(rt: HostRuntime) -> Result<(), Fail> {
     assert!(rt; number == 0 || number == 8);
     Ok(())
 }
+
+// The same of many sites.
+#[test]
+fn want_of_memory_refuses_a_run_of_many(rt: HostRuntime) -> Result<(), Fail> {
+    let alloc = rt.alloc();
+    let all = scripts(alloc, 8, 2)?;
+    let run = run_many(&rt, alloc, blank(alloc)?, LIMIT, &all, &Open);
+    let number = match run {
+        Ok(end) => {
+            assert!(rt; agree(&end));
+            assert_eq!(rt; end.star.order().len(), 16);
+            0
+        }
+        Err(fault) => fault.number(),
+    };
+    assert!(rt; number == 0 || number == 8);
+    Ok(())
+}

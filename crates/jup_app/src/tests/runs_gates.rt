@@ -17,6 +17,20 @@ impl Gate for Shut {
     fn answered(&self, _site: u32, _nth: u32) {}
 }
 
+// Lets every site but one go on.
+#[derive(Drop)]
+struct ShutTo {
+    site: u32,
+}
+
+impl Gate for ShutTo {
+    fn ready(&self, site: u32, _nth: u32) -> bool {
+        site != self.site
+    }
+
+    fn answered(&self, _site: u32, _nth: u32) {}
+}
+
 // Lets each site's first edit go on once all sites have met inside.
 #[derive(Drop)]
 struct Meeting {
@@ -136,5 +150,18 @@ fn a_gate_that_stays_shut_ends_a_run(rt: HostRuntime) -> Result<(), Fail> {
     let script = insertions(alloc, 'a', 1)?;
     let run = run_two(&rt, alloc, blank(alloc)?, LIMIT, &script, &script, &Shut);
     assert_eq!(rt; refusal(run), 60);
+    Ok(())
+}
+
+#[test]
+fn the_lowest_site_that_is_refused_tells_why(rt: HostRuntime) -> Result<(), Fail> {
+    let alloc = rt.alloc();
+    let all = scripts(alloc, 3, 2)?;
+    // One site is held for good, and the order has no room for all edits of the other two.
+    for (site, number) in [(1, 60), (3, 32)] {
+        let gate = ShutTo { site };
+        let run = run_many(&rt, alloc, blank(alloc)?, 3, &all, &gate);
+        assert_eq!(rt; refusal(run), number, "site {site} is held");
+    }
     Ok(())
 }

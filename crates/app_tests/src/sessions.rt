@@ -7,7 +7,7 @@ use jup_app::{Bell, Ending, Gate, Open, serve_link};
 use jup_hub::{Hub, Pass};
 use jup_link::Msg;
 use jup_seq::SeqOp;
-use jup_star::{Star, Up};
+use jup_star::{Star, Up, is_short};
 use jup_value::{Item, Name};
 use jup_window::{BoardOp, WidgetOp};
 use jup_wire::layout;
@@ -29,6 +29,9 @@ fn made(alloc: Global, text: &[u8], limit: u32) -> Option<(Hub, Pass)>
     ensures { IfSome result (λ r. IsPassOf r.0 r.1) }
 {
     let board = layout(alloc, text).ok()?;
+    if !is_short(&board) {
+        return None;
+    }
     let star = Star::open(alloc, board, limit).ok()?;
     match Hub::open(alloc, star) {
         Ok(opened) => Some(opened),

@@ -15,7 +15,7 @@ use Rattle.jup_star.specs.declared.messages.Up.TheVariants as up
 use Rattle.jup_star.specs.declared.faults.StarFault.{StarFault}
 use Rattle.jup_star.specs.declared.calls.Call.{Call}
 use Rattle.jup_star.specs.declared.calls.Call.TheVariants.{Join, Take, Fetch, Leave}
-use Rattle.jup_star.specs.StarStates.{link_of, opened_star, join_fault, take_fault, taken}
+use Rattle.jup_star.specs.StarStates.{link_of, opened_star, join_fault, take_fault, taken, most_items}
 use Rattle.jup_star.specs.StarCalls.{BoardStar, BoardLink, after_join, after_take, after_fetch, after_leave, star_after, reply_of}
 use Rattle.jup_star.specs.declared.calls.Reply.TheVariants as reply
 use Rattle.jup_hub.specs.declared.view.Entry.{Entry}
@@ -25,7 +25,7 @@ use Rattle.jup_world.specs.declared.events.Event.TheVariants as event
 use Rattle.jup_world.specs.declared.events.Reply.TheVariants as told
 use Rattle.jup_world.specs.declared.events.Happened.{Happened}
 use Rattle.jup_world.specs.Openings.{IsOpening}
-use Rattle.jup_world.specs.BoardWorlds.{BoardWorld, BoardAttached, BoardEvent, BoardReply, IsReached, most_items}
+use Rattle.jup_world.specs.BoardWorlds.{BoardWorld, BoardAttached, BoardEvent, BoardReply, IsReached}
 use Rattle.jup_world.specs.WorldStates.{attached, opened_world, IsQuiet}
 use Rattle.jup_world.specs.WorldSteps.{run, happens}
 use Rattle.jup_world.specs.Sound.{IsSound, StandsAt}

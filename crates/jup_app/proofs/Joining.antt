@@ -10,6 +10,7 @@ use Rattle.jup_star.specs.StarStates.{join_fault, joined}
 use Rattle.jup_star.specs.SiteStates.{opened_site}
 use Rattle.jup_star.specs.SiteCalls.{BoardSite}
 use Rattle.jup_star.specs.StarCalls.{BoardStar, joining, reply_of, star_after}
+use Rattle.jup_star.proofs.Lookup.{found-end, found-end_other}
 use Rattle.jup_hub.specs.declared.view.Entry.{Entry}
 use Rattle.jup_hub.specs.Histories.{IsLegal, star_through}
 use Rattle.jup_world.specs.Each.{Each}
@@ -17,7 +18,6 @@ use Rattle.jup_world.specs.declared.events.Event.TheVariants as event
 use Rattle.jup_world.specs.BoardWorlds.{BoardWorld, BoardAttached}
 use Rattle.jup_world.specs.WorldStates.{attached}
 use Rattle.jup_world.specs.WorldSteps.{Outcome, outcome, happens, with_outcome, join_outcome, new_site}
-use Rattle.jup_world.proofs.Lookup.{found-end, found-end_other}
 use Rattle.jup_app.specs.Runs.{Made, made, joins, edits_at}
 use Rattle.jup_app.specs.Plays.{makes, link_with}
 use Rattle.jup_app.specs.Passing.{told_to, IsFresh, joined_call}

@@ -7,8 +7,9 @@ use Rattle.jup_star.specs.declared.faults.OpenFault.{OpenFault}
 use Rattle.jup_star.specs.declared.faults.OpenFault.TheVariants.{BadLimit, BadSite}
 use Rattle.jup_star.specs.StarStates.{opened_star}
 use Rattle.jup_star.specs.StarCalls.{BoardStar, star_open_fault}
-use Rattle.jup_world.specs.Openings.{IsShort, IsOpening}
-use Rattle.jup_world.proofs.ShortBoards.{short_bare, distinct_bare}
+use Rattle.jup_star.specs.Openings.{IsShort}
+use Rattle.jup_star.proofs.ShortBoards.{short_bare, distinct_bare}
+use Rattle.jup_world.specs.Openings.{IsOpening}
 
 open_fits : (b : Windows) (limit : ℕ) → ◌≡◌ {A = Option OpenFault} None (star_open_fault b limit) → only_site 0 b ≡ true
 open_fits b limit fine = go (nat_le 1 limit && nat_le limit 16777216) (only_site 0 b) refl fine

@@ -14,18 +14,18 @@ use Rattle.jup_star.specs.declared.calls.Call.{Call}
 use Rattle.jup_star.specs.declared.calls.Call.TheVariants.{Join, Take, Fetch, Leave}
 use Rattle.jup_star.specs.declared.calls.Reply.{Reply}
 use Rattle.jup_star.specs.declared.calls.Reply.TheVariants as reply
-use Rattle.jup_star.specs.StarStates.{link_of, fetched, taken, up_fault}
+use Rattle.jup_star.specs.StarStates.{link_of, fetched, taken, up_fault, most_items}
 use Rattle.jup_star.specs.SiteStates.{edit_answer, deliver_fault}
 use Rattle.jup_star.specs.StarCalls.{BoardStar, BoardLink, reply_of, star_after}
+use Rattle.jup_star.proofs.Lookup.{found-map, found-map_other}
 use Rattle.jup_hub.specs.declared.view.Entry.{Entry}
 use Rattle.jup_hub.specs.Histories.{IsLegal, star_through}
 use Rattle.jup_world.specs.Each.{Each}
 use Rattle.jup_world.specs.declared.events.Event.TheVariants as event
 use Rattle.jup_world.specs.declared.events.Happened.{Happened}
-use Rattle.jup_world.specs.BoardWorlds.{BoardWorld, BoardAttached, BoardEvent, BoardReply, IsReached, most_items}
+use Rattle.jup_world.specs.BoardWorlds.{BoardWorld, BoardAttached, BoardEvent, BoardReply, IsReached}
 use Rattle.jup_world.specs.WorldStates.{attached, at_site, opened_world}
 use Rattle.jup_world.specs.WorldSteps.{Outcome, outcome, happens, run, at_linked, at_attached, edit_outcome, first_up, up_outcome, one_taken, first_down, down_outcome, one_handed, with_edit}
-use Rattle.jup_world.proofs.Lookup.{found-map, found-map_other}
 use Rattle.jup_world.proofs.SoundRuns.{sound-promises}
 use Rattle.jup_world.proofs.BoardWorldLaws.{reached_sound}
 use Rattle.jup_app.specs.Runs.{BoardUp, BoardDown, EditAnswer, Made, made, Step, Edited, Took, Got, calls_of, edits_of, IsPlayed, IsAccepted, edited, answer_to, edit_by, answer_by, delivered, all_delivered, AcceptsAll, site_of, made_at, deliveries, through_call, past_call, with_log, left_over, assembled, IsSite, edit_at, edits_at}

@@ -1,11 +1,13 @@
 //! Each call once where it succeeds, calls of two threads, and growths that are refused.
 ghost use Rattle.std.specs.Prelude.{All, IfOk};
+ghost use Rattle.jup_window.specs.Entries.{EachWidget};
+ghost use Rattle.jup_star.specs.Openings.{IsShort};
 ghost use Rattle.jup_hub.specs.Passes.{IsPassOf};
 
 use crate::{Closed, Hub, HubFault, Pass};
 use jup_link::Msg;
 use jup_seq::SeqOp;
-use jup_star::{Down, Downs, Entry, Star, StarFault, Up};
+use jup_star::{Down, Downs, Entry, Star, StarFault, Up, is_short};
 use jup_value::{Item, Name, Seq};
 use jup_window::{Board, BoardFault, BoardOp, Edit, Effect, Widget, WidgetOp};
 use std::alloc::Global;
@@ -16,10 +18,15 @@ use std::thread::join;
 const LIMIT: u32 = 100_000;
 
 // Window 1 has an empty text 1.
-fn blank(alloc: Global) -> Result<Board, BoardFault> {
+fn blank(alloc: Global) -> Result<Board, BoardFault>
+    ensures { IfOk result (λ board. EachWidget IsShort board) }
+{
     let mut board = Board::new(alloc);
     board.add_window(alloc, 1)?;
     board.add_widget(1, 1, Widget::Text(Seq::new(alloc)))?;
+    if !is_short(&board) {
+        return Err(BoardFault::TooMany);
+    }
     Ok(board)
 }
 

@@ -6,8 +6,8 @@ use Rattle.jup_window.specs.declared.board_operations.BoardOp.{BoardOp}
 use Rattle.jup_link.specs.Links.{IsCount}
 use Rattle.jup_link.specs.declared.Msg.{Msg}
 use Rattle.jup_star.specs.LinkStates.{is_of, link_acked, link_ponged, link_fetched}
-use Rattle.jup_star.specs.StarStates.{link_of, without, at_link, IsNew, AreApart, IsBounded, IsStar, with_links}
-use Rattle.jup_star.specs.StarCalls.{BoardLink, BoardStar}
+use Rattle.jup_star.specs.StarStates.{link_of, without, at_link, IsNew, AreApart, IsBounded, with_links}
+use Rattle.jup_star.specs.StarCalls.{BoardLink, BoardStar, IsStar}
 use Rattle.jup_star.specs.Places.{IsPlace, CanHear, IsHeardBy}
 use Rattle.jup_star.specs.Rooms.{bare_link}
 use Rattle.jup_star.specs.declared.link.Link.{Link}

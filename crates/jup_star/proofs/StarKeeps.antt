@@ -1,16 +1,34 @@
 -- What of every star each call keeps.
-use Rattle.std.proofs.Common.{◌≡◌, refl, subst, ℕ, ◌+◌, ◌<◌, ◌≤◌, false, cond, List, [], ◌∷◌, ◌++◌, length, map, get_or, nat_eq, arith, ne_eqb}
+use Rattle.std.proofs.Common.{◌≡◌, refl, subst, ℕ, ◌+◌, ◌-◌, ◌<◌, ◌≤◌, false, cond, List, [], ◌∷◌, ◌++◌, length, map, get_or, nat_eq, arith, ne_eqb}
 use Rattle.std.proofs.Math.ListN.{set}
 use Rattle.std.proofs.lemmas.List.{length-append, length-map, length-set}
 use Rattle.jup_window.specs.declared.board_operations.BoardOp.{BoardOp}
-use Rattle.jup_window.specs.BoardOperations.{board_operations}
+use Rattle.jup_window.specs.Boards as board
+use Rattle.jup_window.specs.Entries.{EachWidget}
+use Rattle.jup_window.specs.BoardOperations.{boards, board_operations}
+use Rattle.jup_window.specs.BoardsAreLawful.{boards_lawful}
 use Rattle.jup_link.specs.Links.{IsCount}
+use Rattle.jup_link.specs.LinkSteps.{small_next}
 use Rattle.jup_link.specs.declared.Msg.{Msg}
 use Rattle.jup_star.specs.LinkStates.{is_of, opened_link, link_sent, link_heard}
-use Rattle.jup_star.specs.StarStates.{IsNew, AreApart, IsBounded, AreBounded, IsStar, links_after, taken_edit, left, with_links, joined}
-use Rattle.jup_star.specs.StarCalls.{BoardLink, BoardStar}
+use Rattle.jup_star.specs.StarStates.{IsNew, AreApart, IsBounded, AreBounded, most_items, entry, links_after, opened_star, taken_edit, left, with_links, joined}
+use Rattle.jup_star.specs.Openings.{IsShort}
+use Rattle.jup_star.specs.StarCalls.{BoardLink, BoardStar, IsStar}
 use Rattle.jup_star.specs.Places.{IsPlace}
+use Rattle.jup_star.proofs.ShortBoards.{short_bare, board_small}
 use Rattle.jup_star.proofs.LinkChanges.{below_at, of_at, bounded_at, bounded_set, bounded_without, apart_without, apart_set, apart_map, length_without, set_place, heard_bounded, send_bounded, cond_site}
+
+-- a star that is opened
+pub new_star : (b : board.Windows) (limit : ℕ) → limit ≤ 16777216 → EachWidget IsShort b → IsStar (opened_star (board.bare b) limit)
+new_star b limit low short = record {
+  limited = low;
+  counted = omega arith;
+  given = omega arith;
+  few = omega arith;
+  bounded = tt;
+  apart = tt;
+  short = board_small (board.bare b) (short_bare b short);
+}
 
 -- every star keeps what holds of it
 pub left_star : (i : ℕ) (s : BoardStar) → IsStar s → IsStar (left i s)
@@ -21,6 +39,7 @@ left_star i s star = record {
   few = let h = star.few in omega (arith, length_without i s.links);
   bounded = bounded_without i _ _ s.links star.bounded;
   apart = apart_without i s.links star.apart;
+  short = star.short;
 }
 
 -- a link is changed, and its site and bounds stay
@@ -33,11 +52,12 @@ set_star s at d new below same bounded star = record {
   few = let h = star.few in simp length-set (omega arith);
   bounded = bounded_set _ _ s.links at new bounded star.bounded;
   apart = apart_set s.links at d new below same star.apart;
+  short = star.short;
 }
 
 pub taken_star : (i at : ℕ) (m : Msg BoardOp) (op : BoardOp) (s : BoardStar) (d : BoardLink) → IsPlace i s.links at
-    → length s.order < s.limit → IsCount (get_or s.links at d).end m.heard → IsStar s → IsStar (taken_edit board_operations i m op s)
-taken_star i at m op s d place room count star =
+    → length s.order < s.limit → IsCount (get_or s.links at d).end m.heard → board.IsValid op s.board → IsStar s → IsStar (taken_edit board_operations i m op s)
+taken_star i at m op s d place room count valid star =
     let below = below_at i s.links at place in
     let new : BoardLink = link_heard board_operations m (get_or s.links at d) in
     let bounded = heard_bounded s.given (length s.order) m (get_or s.links at d) count (bounded_at _ _ s.links at d below star.bounded) in
@@ -56,6 +76,8 @@ taken_star i at m op s d place room count star =
       few = all.0;
       bounded = simp length-append all.1;
       apart = all.2;
+      short = small_next boards boards_lawful (most_items - length s.order) _ s.board op
+          (let limited = star.limited in omega (arith, length-append s.order (entry board_operations i m ∷ []))) star.short valid;
     }
 
 new_end : (j i : ℕ) (ls : List BoardLink) (new : BoardLink) → is_of j new ≡ false → IsNew j ls → IsNew j (ls ++ new ∷ [])
@@ -84,4 +106,5 @@ joined_star s few given star = record {
   few = simp length-append (omega arith);
   bounded = bounded_end s.given (length s.order) s.links (opened_link (s.given + 1)) (record { given = omega arith; sent = omega arith; insertions = omega arith }) star.bounded;
   apart = apart_end s.given (length s.order) s.links (opened_link (s.given + 1)) (omega arith) star.bounded star.apart;
+  short = star.short;
 }

@@ -6,6 +6,7 @@ use Rattle.jup_window.specs.declared.board_operations.BoardOp.{BoardOp}
 use Rattle.jup_window.specs.declared.edits.Edit.{Edit}
 use Rattle.jup_window.specs.Boards as board
 use Rattle.jup_window.specs.BoardOperations.{board_operations, accepts}
+use Rattle.jup_window.specs.BoardsAreLawful.{board_laws}
 use Rattle.jup_star.specs.declared.link.Link.{Link}
 use Rattle.jup_star.specs.declared.messages.Entry.{Entry}
 use Rattle.jup_star.specs.declared.messages.Up.TheVariants.{Op}
@@ -14,8 +15,8 @@ use Rattle.jup_star.specs.declared.faults.StarFault.TheVariants.{NoMemory, BadOp
 use Rattle.jup_star.specs.declared.calls.Call.TheVariants.{Take}
 use Rattle.jup_star.specs.declared.calls.Reply.TheVariants.{Taken}
 use Rattle.jup_star.specs.LinkStates.{operation_at}
-use Rattle.jup_star.specs.StarStates.{link_of, without, IsBounded, IsStar, early_fault, entry, left, links_after, taken_edit, with_links}
-use Rattle.jup_star.specs.StarCalls.{BoardLink, BoardStar, Answers}
+use Rattle.jup_star.specs.StarStates.{link_of, without, IsBounded, early_fault, entry, left, links_after, taken_edit, with_links}
+use Rattle.jup_star.specs.StarCalls.{BoardLink, BoardStar, Answers, IsStar}
 use Rattle.jup_star.specs.Places.{IsPlace, CanHear}
 use Rattle.jup_star.specs.Rooms.{bare_link, AllCount}
 use Rattle.jup_star.proofs.LinkChanges.{below_at, bounded_at}
@@ -52,6 +53,10 @@ pub edit_waits : (s : BoardStar) (i : ℕ) (m : Msg BoardOp) (l : BoardLink) (b 
 edit_waits s i m l b ls o found early board links order =
     take_asks_memory i (Op m) s _ l found (ap (λ (f : Option StarFault). is_none f) (sym early)) (rw (board, links, order) refl)
 
+pub waits_star : (s : BoardStar) (b : board.Windows) (ls : List BoardLink) (o : List (Entry Edit)) → IsStar s → b ≡ s.board → ls ≡ s.links → o ≡ s.order
+    → IsStar (star_with s b ls o)
+waits_star s b ls o star board links order = rw (board, links, order) star
+
 -- its operation does not fit the board
 left_with : (s : BoardStar) (i : ℕ) (b : board.Windows) (ls : List BoardLink) (o : List (Entry Edit)) → b ≡ s.board → ls ≡ without i s.links → o ≡ s.order
     → star_with s b ls o ≡ left i s
@@ -83,15 +88,16 @@ edit_taken s i m l b ls o found early fits board links order =
     take_taken i (Op m) s _ l found (up_late s l m true (sym early) fits) (taken_with s i m (operation_at board_operations l.end m) b ls o board links order)
 
 pub edit_star : (s : BoardStar) (i at : ℕ) (m : Msg BoardOp) (l : BoardLink) (b : board.Windows) (ls : List BoardLink) (o : List (Entry Edit)) → IsStar s → IsPlace i s.links at
-    → link_of i s.links ≡ Some l → None ≡ early_fault board_operations s.limit (length s.order) l m
+    → link_of i s.links ≡ Some l → None ≡ early_fault board_operations s.limit (length s.order) l m → accepts (operation_at board_operations l.end m) s.board ≡ true
     → b ≡ board.after (operation_at board_operations l.end m) s.board → ls ≡ links_after board_operations i m (operation_at board_operations l.end m) s.links
     → o ≡ s.order ++ entry board_operations i m ∷ []
     → IsStar (star_with s b ls o)
-edit_star s i at m l b ls o star place found early board links order =
+edit_star s i at m l b ls o star place found early fits board links order =
     let P : BoardLink → Type 0 = λ k. IsCount k.end m.heard in
     let count = subst P (sym (found_get i s.links at l place found)) (early_count s.limit (length s.order) l m (sym early)) in
     subst IsStar (sym (taken_with s i m (operation_at board_operations l.end m) b ls o board links order))
-    (taken_star i at m (operation_at board_operations l.end m) s l place (early_room s.limit (length s.order) l m (sym early)) count star)
+    (taken_star i at m (operation_at board_operations l.end m) s l place (early_room s.limit (length s.order) l m (sym early)) count
+    ((board_laws.decides (operation_at board_operations l.end m) s.board).0 fits) star)
 
 -- the link of the site can hear an edit without an early fault
 pub heard_by : (s : BoardStar) (i at : ℕ) (m : Msg BoardOp) (l : BoardLink) → IsStar s → IsPlace i s.links at → link_of i s.links ≡ Some l

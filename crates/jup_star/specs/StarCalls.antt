@@ -1,5 +1,5 @@
 -- A call on a star: memory aside, it has one reply and one next star.
-use Rattle.std.specs.Prelude.{◌≡◌, ℕ, ◌+◌, ◌&&◌, nat_le, [], ◌∷◌, Bool, true, false, List, length, take, Option, Some, None, is_some, is_none, Result, Ok, Err, MatchBool}
+use Rattle.std.specs.Prelude.{◌≡◌, ℕ, ◌+◌, ◌-◌, ◌≤◌, ◌&&◌, nat_le, [], ◌∷◌, Bool, true, false, List, length, take, Option, Some, None, is_some, is_none, Result, Ok, Err, MatchBool}
 use Rattle.jup_window.specs.declared.board_operations.BoardOp.{BoardOp}
 use Rattle.jup_window.specs.declared.edits.Edit.{Edit}
 use Rattle.jup_window.specs.Boards as board
@@ -19,7 +19,7 @@ use Rattle.jup_star.specs.declared.calls.Reply.TheVariants.{Joined as JoinedRepl
 use Rattle.jup_window.specs.Sites.{only_site}
 use Rattle.jup_star.specs.FirstFaults.{test, first_fault}
 use Rattle.jup_star.specs.LinkStates.{LinkState}
-use Rattle.jup_star.specs.StarStates.{StarState, link_of, join_fault, joined, early_fault, take_fault, taken, place_taken, left, fetched}
+use Rattle.jup_star.specs.StarStates.{StarState, AreApart, AreBounded, most_items, link_of, join_fault, joined, early_fault, take_fault, taken, place_taken, left, fetched}
 
 -- a star of boards, and one of its links
 abbrev pub BoardStar : Type 0
@@ -27,6 +27,17 @@ BoardStar = StarState BoardOp board.Windows Edit
 
 abbrev pub BoardLink : Type 0
 BoardLink = LinkState BoardOp
+
+-- what holds of every star: it has no more entries than it may, and no more sites than there may be; its links are as said; and no
+-- sequence has grown by more than an item for each entry
+pub record IsStar (s : BoardStar) : Type 0 where
+  pub limited : s.limit ≤ 16777216
+  pub counted : length s.order ≤ s.limit
+  pub given : s.given ≤ 65535
+  pub few : length s.links ≤ 64
+  pub bounded : AreBounded s.given (length s.order) s.links
+  pub apart : AreApart s.links
+  pub short : board.IsSmall (most_items - length s.order) s.board
 
 -- what a site is told as it joins, but for the room of its board
 abbrev pub joining : BoardStar → Joined

@@ -114,8 +114,8 @@ module _ (O : Operations) where
   place_taken s (Ack n) = None
   place_taken s (Ping k) = None
 
--- What holds of every star: it has no more entries than it may, to no link more was sent than the order has entries, and none
--- has named more; the sites of the links were given and differ
+-- What holds of the links of every star: their sites were given and differ, to none more was sent than the order has entries, and
+-- none has named more
 
 abbrev pub IsNew : {Operation : Type 0} → ℕ → List (LinkState Operation) → Type 0
 IsNew i [] = Unit {0}
@@ -134,10 +134,6 @@ abbrev pub AreBounded : {Operation : Type 0} → ℕ → ℕ → List (LinkState
 AreBounded most count [] = Unit {0}
 AreBounded most count (l ∷ ls) = IsBounded most count l × AreBounded most count ls
 
-pub record IsStar {Operation State Edit : Type 0} (s : StarState Operation State Edit) : Type 0 where
-  pub limited : s.limit ≤ 16777216
-  pub counted : length s.order ≤ s.limit
-  pub given : s.given ≤ 65535
-  pub few : length s.links ≤ 64
-  pub bounded : AreBounded s.given (length s.order) s.links
-  pub apart : AreApart s.links
+-- how many more items a sequence of at most 65,536 may take
+abbrev pub most_items : ℕ
+most_items = 2147418111

@@ -2,7 +2,10 @@
 ghost use Rattle.std.specs.Prelude.{◌≡◌, ◌≤◌, ◌<◌, false, length, IfOk};
 ghost use Rattle.std.specs.Option.{option_map};
 ghost use Rattle.jup_window.specs.Boards.{bare};
+ghost use Rattle.jup_window.specs.Entries.{EachWidget};
 ghost use Rattle.jup_star.specs.FirstFaults.{fault_of};
+ghost use Rattle.jup_star.specs.Openings.{IsShort};
+ghost use Rattle.jup_star.specs.OtherLinks.{OthersStayInStep};
 ghost use Rattle.jup_star.specs.StarStates.{link_of, opened_star};
 ghost use Rattle.jup_star.specs.StarCalls.{Answers, bare_joined, lacks_memory, star_open_fault};
 ghost use Rattle.jup_star.specs.declared.messages.Up.TheVariants.{Op, Ack, Ping};
@@ -53,7 +56,8 @@ impl Model for Star {
     ghost use Rattle.jup_window.specs.declared.board_operations.BoardOp.{BoardOp};
     ghost use Rattle.jup_window.specs.declared.edits.Edit.{Edit};
     ghost use Rattle.jup_window.specs.Boards.{Windows, bare};
-    ghost use Rattle.jup_star.specs.StarStates.{StarState, IsStar};
+    ghost use Rattle.jup_star.specs.StarStates.{StarState};
+    ghost use Rattle.jup_star.specs.StarCalls.{IsStar};
     ghost use Rattle.jup_star.specs.Rooms.{bare_link};
 
     ghost Value = { StarState BoardOp Windows Edit };
@@ -66,7 +70,7 @@ impl Model for Star {
       order = s.order.entries;
     } };
 
-    ghost invariant = { λ s. IsStar {Operation = BoardOp} {State = Windows} {Edit = Edit} (record {
+    ghost invariant = { λ s. IsStar (record {
       limit = s.limit;
       board = bare s.board;
       given = s.given;
@@ -76,10 +80,12 @@ impl Model for Star {
 }
 
 impl Star {
-    /// A star without sites that takes up to `limit` edits. It takes no memory. Refused, in this order: a
-    /// limit that is not 1 to 16,777,216, and a board with an item that is not of a layout, whose items
-    /// have site 0.
+    /// A star without sites that takes up to `limit` edits, over a board whose texts and lists have at most
+    /// 65,536 items each, which [`is_short`](crate::is_short) tests. It takes no memory. Refused, in this
+    /// order: a limit that is not 1 to 16,777,216, and a board with an item that is not of a layout, whose
+    /// items have site 0.
     pub fn open(alloc: Global, board: Board, limit: u32) -> Result<Star, OpenFault>
+        requires short { EachWidget IsShort board }
         ensures refusal { fault_of result ≡ star_open_fault (bare board) limit }
         ensures opened { IfOk result (λ star. star ≡ opened_star (bare board) limit) }
     {
@@ -132,9 +138,14 @@ impl Star {
     /// no-op, an insertion that does not bear the site's next name, a full order, no memory, and an
     /// operation that does not fit the board; of an acknowledgement: no link, the wrong count; of a ping:
     /// no link, no memory. Every refusal but `NoLink` and `NoMemory` detaches this link, and only this one.
+    ///
+    /// Whoever sent it, and whatever it is: all other links stay in step with their sites.
     pub fn take(&mut self, alloc: Global, site: u32, up: &Up) -> Result<Option<u32>, StarFault>
-        ensures { Answers (Take site up.now) self.old self.new (Taken result) }
+        ensures call { Answers (Take site up.now) self.old self.new (Taken result) }
+        ensures others { OthersStayInStep self.old self.new site }
     {
+        // The checker learns from this what holds of every star.
+        let _limit = &self.limit;
         match up {
             Up::Op(msg) => self.take_edit(alloc, site, msg),
             Up::Ack(heard) => self.take_ack(site, *heard),

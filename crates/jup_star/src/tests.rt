@@ -1,5 +1,9 @@
 //! Refusals in their order, each call once where it succeeds, and growths that are refused.
-use crate::{Down, Made, OpenFault, Site, SiteFault, Star, StarFault, Up};
+ghost use Rattle.std.specs.Prelude.{IfOk};
+ghost use Rattle.jup_window.specs.Entries.{EachWidget};
+ghost use Rattle.jup_star.specs.Openings.{IsShort};
+
+use crate::{Down, Made, OpenFault, Site, SiteFault, Star, StarFault, Up, is_short};
 use jup_link::Msg;
 use jup_seq::SeqOp;
 use jup_setting::{SetOp, Toggle};
@@ -14,16 +18,23 @@ use std::test::Fail;
 const LIMIT: u32 = 100_000;
 
 // Window 1 has an empty text 1 and a toggle 3 that is off.
-fn blank(alloc: Global) -> Result<Board, BoardFault> {
+fn blank(alloc: Global) -> Result<Board, BoardFault>
+    ensures { IfOk result (λ board. EachWidget IsShort board) }
+{
     let mut board = Board::new(alloc);
     board.add_window(alloc, 1)?;
     board.add_widget(1, 1, Widget::Text(Seq::new(alloc)))?;
     board.add_widget(1, 3, Widget::Toggle(Toggle { on: false }))?;
+    if !is_short(&board) {
+        return Err(BoardFault::TooMany);
+    }
     Ok(board)
 }
 
 // Window 1 has a text 1 with one item, the first of a site.
-fn with_item_of(alloc: Global, site: u32) -> Result<Board, Fail> {
+fn with_item_of(alloc: Global, site: u32) -> Result<Board, Fail>
+    ensures { IfOk result (λ board. EachWidget IsShort board) }
+{
     let mut text = Seq::new(alloc);
     text.reserve_one()?;
     let name = Name { site, number: 1 };
@@ -31,6 +42,9 @@ fn with_item_of(alloc: Global, site: u32) -> Result<Board, Fail> {
     let mut board = Board::new(alloc);
     board.add_window(alloc, 1)?;
     board.add_widget(1, 1, Widget::Text(text))?;
+    if !is_short(&board) {
+        return Err(Fail::new("the text is long"));
+    }
     Ok(board)
 }
 

@@ -20,14 +20,15 @@ use Rattle.jup_star.specs.LinkStates.{LinkState, opened_link, link_acked, link_p
 use Rattle.jup_star.specs.StarStates.{link_of, at_link, without, join_fault, up_fault}
 use Rattle.jup_star.specs.SiteStates.{running_test, heard_tests, deliver_tests, fits_shown, edit_answer, deliver_fault}
 use Rattle.jup_star.proofs.TestLists.{all_hold}
+use Rattle.jup_star.specs.Streams.{ups, downs}
+use Rattle.jup_star.proofs.Lookup.{found-end, found-end_other}
 use Rattle.jup_world.specs.declared.events.Event.TheVariants.{Join, Leave, Edit as MakeEdit, Up as MoveUp, Down as MoveDown, Ping as SendPing}
 use Rattle.jup_world.specs.WorldStates.{WorldOf, AttachedOf, EventOf, attached, at_site, without_site}
 use Rattle.jup_world.specs.WorldSteps.{Outcome, new_site, join_outcome, with_edit, edit_outcome, one_taken, up_outcome, first_up, one_handed, down_outcome, first_down, pinged, with_fetched, only_fetched, at_attached, at_linked, happens, run}
 use Rattle.jup_world.specs.Turns.{turns}
 use Rattle.jup_world.specs.Traces.{made, joined_at, shown_count}
 use Rattle.jup_world.specs.Backlogs.{told_count, Counts, CountsAt, AllCount, BacklogIsShort}
-use Rattle.jup_world.specs.Sound.{ups, downs, Standing, IsSound}
-use Rattle.jup_world.proofs.Lookup.{found-end, found-end_other}
+use Rattle.jup_world.specs.Sound.{Standing, IsSound}
 use Rattle.jup_world.proofs.Numbered.{map_kept, by_number, at_one, at_all, at_removal}
 use Rattle.jup_world.proofs.SoundRuns.{either, result_cases, sound-happens}
 use Rattle.jup_world.proofs.SoundJoined.{no_site}

@@ -1,37 +1,18 @@
 -- Worlds of boards are sound: as they are opened, after each event, and after want of memory.
 use Rattle.std.proofs.Common.{◌≡◌, ℕ, ◌≤◌, sym, subst, List, [], ◌∷◌, arith, Some}
-use Rattle.jup_window.specs.declared.widgets.Widget.{Widget}
-use Rattle.jup_window.specs.declared.widgets.Widget.TheVariants.{Text, List as Labels, Toggle, Slider}
-use Rattle.jup_window.specs.Entries.{Each, EachWidget}
-use Rattle.jup_window.specs.Widgets as widget
-use Rattle.jup_window.specs.Boards.{Windows, IsSmall}
+use Rattle.jup_window.specs.Boards.{Windows}
 use Rattle.jup_window.specs.BareBoards.{only_site-held}
 use Rattle.jup_window.specs.BoardOperations.{board_operations}
 use Rattle.jup_window.specs.BoardsAreLawful.{board_laws}
-use Rattle.jup_world.specs.Openings.{IsShort, IsOpening}
+use Rattle.jup_star.proofs.ShortBoards.{board_small}
+use Rattle.jup_star.specs.StarStates.{link_of, most_items}
+use Rattle.jup_world.specs.Openings.{IsOpening}
 use Rattle.jup_world.specs.WorldStates.{opened_world, attached}
 use Rattle.jup_world.specs.WorldSteps.{happens, run, only_fetched}
-use Rattle.jup_star.specs.StarStates.{link_of}
-use Rattle.jup_world.specs.BoardWorlds.{BoardWorld, BoardLink, BoardAttached, BoardEvent, IsBoardWorld, IsReached, most_items}
+use Rattle.jup_world.specs.BoardWorlds.{BoardWorld, BoardLink, BoardAttached, BoardEvent, IsBoardWorld, IsReached}
 use Rattle.jup_world.proofs.SoundRuns.{sound-opened, sound-happens}
 use Rattle.jup_world.proofs.SoundFetched.{sound-fetched}
 use Rattle.jup_world.proofs.BacklogLaws.{counts-happens, counts-fetched}
-
--- what is so of each entry, and gives another thing, gives it of each
-each_map : {A : Type 0} (P Q : A → Type 0) → ((x : A) → P x → Q x) → (es : List (ℕ × A)) → Each P es → Each Q es
-each_map P Q f [] h = tt
-each_map P Q f (e ∷ es) h = (f e.1 h.0, each_map P Q f es h.1)
-
--- a widget of at most 65,536 items has room for all that a world adds
-short_small : (w : Widget) → IsShort w → widget.IsSmall most_items w
-short_small (Text x) short = omega arith
-short_small (Labels x) short = omega arith
-short_small (Toggle x) short = tt
-short_small (Slider x) short = tt
-
--- and so has a board of such widgets
-board_small : (b : Windows) → EachWidget IsShort b → IsSmall most_items b
-board_small b short = each_map _ _ (λ ws. each_map IsShort (widget.IsSmall most_items) short_small ws) b short
 
 -- a world of boards that is opened
 pub opened_sound : (b : Windows) (limit : ℕ) → IsOpening b → limit ≤ 16777216 → IsBoardWorld (opened_world board_operations b limit)

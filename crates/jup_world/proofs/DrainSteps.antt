@@ -10,7 +10,7 @@ use Rattle.jup_star.specs.declared.messages.Up.{Up}
 use Rattle.jup_star.specs.declared.messages.Down.{Down}
 use Rattle.jup_star.specs.declared.faults.StarFault.{StarFault}
 use Rattle.jup_star.specs.declared.faults.SiteFault.{SiteFault}
-use Rattle.jup_star.specs.StarStates.{link_of, up_fault, place_taken}
+use Rattle.jup_star.specs.StarStates.{link_of, up_fault, place_taken, most_items}
 use Rattle.jup_star.specs.SiteStates.{deliver_fault}
 use Rattle.jup_world.specs.declared.events.Event.TheVariants.{Join, Leave, Edit as MakeEdit, Up as MoveUp, Down as MoveDown, Ping as SendPing}
 use Rattle.jup_world.specs.declared.events.Reply.{Reply}
@@ -26,7 +26,7 @@ use Rattle.jup_world.specs.SiteNumbers.{AreAscending}
 use Rattle.jup_world.specs.WorldSteps.{Outcome, outcome, happens, run, up_outcome, first_up, down_outcome, first_down, at_attached, at_linked, at_number, place_reply}
 use Rattle.jup_world.specs.NumberedReplies.{numbered_reply}
 use Rattle.jup_world.specs.Promises.{OrderIsKept}
-use Rattle.jup_world.specs.BoardWorlds.{BoardWorld, BoardLink, BoardAttached, BoardEvent, BoardReply, most_items}
+use Rattle.jup_world.specs.BoardWorlds.{BoardWorld, BoardLink, BoardAttached, BoardEvent, BoardReply}
 use Rattle.jup_world.specs.Happenings.{IsWorld, IsSpared}
 use Rattle.jup_world.specs.Runs.{IsDelivery, AreDeliveries, IsDelivered, IsDeliveredInPart}
 use Rattle.jup_world.specs.Drains.{way_event, Settles, MovesNothing, NothingMoves}

@@ -5,13 +5,7 @@ use Rattle.std.proofs.lemmas.Bool.{or_parts, or_from, and_from, and_parts}
 use Rattle.jup_value.specs.declared.names.Name.{Name}
 use Rattle.jup_value.specs.declared.names.Item.{Item}
 use Rattle.jup_value.specs.Items.{name_eq}
-use Rattle.jup_xform.specs.Rows.{row_operation}
-use Rattle.jup_xform.specs.Sides.{past, opposite}
-use Rattle.jup_xform.specs.declared.row.Side.{Side}
-use Rattle.jup_xform.specs.declared.row.Side.TheVariants.{Client, Server}
 use Rattle.jup_seq.specs.declared.operations.SeqOp.TheVariants.{Insert, Delete, Nothing as NoSeqOp}
-use Rattle.jup_link.specs.Links.{Link as EndLink, unheard}
-use Rattle.jup_link.specs.declared.Msg.{Msg}
 use Rattle.jup_window.specs.declared.widgets.Widget.{Widget}
 use Rattle.jup_window.specs.declared.widgets.Widget.TheVariants.{Text, List as Labels, Toggle, Slider}
 use Rattle.jup_window.specs.declared.widget_operations.WidgetOp.{WidgetOp}
@@ -22,9 +16,6 @@ use Rattle.jup_window.specs.Widgets as widget
 use Rattle.jup_window.specs.Effects as effects
 use Rattle.jup_window.specs.Boards as board
 use Rattle.jup_window.specs.Sites.{some_in_widget, every_in_widget, some_in_window, every_in_window, has_site, only_site}
-use Rattle.jup_window.specs.BoardOperations.{boards, board_operations}
-use Rattle.jup_window.specs.BoardsAreLawful.{board_laws}
-use Rattle.jup_star.specs.LinkStates.{operation_at}
 
 -- # Items
 
@@ -119,17 +110,3 @@ pub layout_none : (i : ℕ) (b : board.Windows) → 0 < i → only_site 0 b ≡ 
 layout_none i b above all =
     all_none (λ e. every_in_window 0 e.1) (λ e. some_in_window i e.1)
     (λ ws each. all_none (λ e. every_in_widget 0 e.1) (λ e. some_in_widget i e.1) (λ e one. other_widget i above e.1 one) ws.1 each) b all
-
--- # What arrives
-
--- an operation inserts no other name past others
-inserted_past : (side : Side) (o e : BoardOp) (n : board.Placed) → board.Inserts (board.edit_of (past boards side o e)) n → board.Inserts (board.edit_of o) n
-inserted_past Client o e n put = board_laws.keeps.inserts_client o e n put
-inserted_past Server o e n put = board_laws.keeps.inserts_server o e n put
-
-inserted_row : (side : Side) (o : BoardOp) (es : List BoardOp) (n : board.Placed) → board.Inserts (board.edit_of (row_operation (past boards side) o es)) n → board.Inserts (board.edit_of o) n
-inserted_row side o [] n put = put
-inserted_row side o (e ∷ es) n put = inserted_past side o e n (inserted_row side (past boards side o e) es n put)
-
-pub inserted_at : (e : EndLink BoardOp) (m : Msg BoardOp) (n : board.Placed) → board.Inserts (board.edit_of (operation_at board_operations e m)) n → board.Inserts (board.edit_of m.op) n
-inserted_at e m n put = inserted_row (opposite e.side) m.op (unheard e m.heard) n put

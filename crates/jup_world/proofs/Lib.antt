@@ -11,7 +11,6 @@ pub mod GivenNames
 pub mod HappeningSteps
 pub mod Known
 pub mod Lightening
-pub mod Lookup
 pub mod NamedTexts
 pub mod Numbered
 pub mod Numbering
@@ -24,7 +23,6 @@ pub mod QuietWorlds
 pub mod Received
 pub mod ReplyLaws
 pub mod Rows
-pub mod ShortBoards
 pub mod Shown
 pub mod Silent
 pub mod SitePlaces

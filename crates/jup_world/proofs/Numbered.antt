@@ -1,6 +1,6 @@
 -- What holds under each number of two lists, after a change of both.
 use Rattle.std.proofs.Common.{◌≡◌, ℕ, Bool, true, false, cond, not, List, [], ◌∷◌, map, filter, nat_eq, refl, ap, sym, ◌∙◌, subst, Option, Some, None, option_map, eqb-true}
-use Rattle.jup_world.proofs.Lookup.{found, found-map, found-map_other, found-without, found-without_other}
+use Rattle.jup_star.proofs.Lookup.{found, found-map, found-map_other, found-without, found-without_other}
 
 -- nothing is changed
 pub option_map-self : {A : Type 0} → (o : Option A) → option_map (λ x. x) o ≡ o

@@ -6,11 +6,13 @@ use Rattle.jup_link.specs.InStep.{InStepAt}
 use Rattle.jup_link.specs.LinkSteps.{client_acks, server_acks, client_counts, server_counts, length-after_count, generated-after_count}
 use Rattle.std.specs.Prelude.{option_to_list}
 use Rattle.jup_window.specs.Operations.{Operations, AreLawful}
+use Rattle.jup_star.specs.Streams.{ups, downs}
+use Rattle.jup_star.proofs.StreamLaws.{ups-append, downs-append}
 use Rattle.jup_world.specs.Each.{Each}
 use Rattle.jup_world.specs.Turns.{Turn}
 use Rattle.jup_world.specs.WorldStates.{AttachedOf}
 use Rattle.jup_world.specs.WorldSteps.{pinged}
-use Rattle.jup_world.specs.Sound.{ups, downs, edits_sent, Paired}
+use Rattle.jup_world.specs.Sound.{edits_sent, Paired}
 use Rattle.jup_star.specs.declared.messages.Up.{Up}
 use Rattle.jup_star.specs.declared.messages.Down.{Down}
 use Rattle.jup_star.specs.declared.messages.Up.TheVariants.{Ack as UpAck, Ping as UpPing}
@@ -18,8 +20,6 @@ use Rattle.jup_star.specs.declared.messages.Down.TheVariants.{Ack as DownAck, Po
 use Rattle.jup_star.specs.LinkStates.{LinkState, owed_down, link_acked, link_ponged}
 use Rattle.jup_star.specs.SiteStates.{with_end, owed_up}
 use Rattle.jup_world.proofs.Known.{edits_sent-append}
-use Rattle.jup_world.proofs.PairMakes.{ups-append}
-use Rattle.jup_world.proofs.PairSent.{downs-append}
 
 module _ (O : Operations) (L : AreLawful O) where
   -- a site with another end and other streams

@@ -1,32 +1,26 @@
 -- A site makes an edit: it and its link stay in step.
-use Rattle.std.proofs.Common.{◌≡◌, ℕ, ◌+◌, ◌≤◌, ◌<◌, ◌⊎◌, false, List, [], ◌∷◌, ◌++◌, length, nat_eq, refl, ap, sym, ◌∙◌, subst, inl, inr, arith, IsTrue, append_assoc, length-append, le_refl, Ok, leb-false}
+use Rattle.std.proofs.Common.{◌≡◌, ℕ, ◌+◌, ◌≤◌, ◌<◌, ◌⊎◌, false, List, [], ◌∷◌, ◌++◌, length, nat_eq, ap, sym, ◌∙◌, subst, inl, inr, arith, IsTrue, append_assoc, length-append, le_refl, Ok, leb-false}
 use Rattle.std.proofs.lemmas.Bool.{eqb-false}
 use Rattle.jup_xform.specs.Grid.{AllApart}
 use Rattle.jup_link.specs.LinkSteps.{small_le, client_lengths, client_distinct, client_small, client_sends, client_generated}
-use Rattle.jup_link.specs.Links.{Ack, after_send, message}
-use Rattle.jup_link.specs.Messages.{sent, next_message}
+use Rattle.jup_link.specs.Links.{after_send, message}
+use Rattle.jup_link.specs.Messages.{next_message}
 use Rattle.jup_link.specs.InStep.{InStepAt}
 use Rattle.jup_window.specs.Operations.{Operations, AreLawful}
+use Rattle.jup_star.specs.Streams.{ups, downs}
+use Rattle.jup_star.specs.declared.messages.Up.TheVariants.{Op as UpOp}
+use Rattle.jup_star.proofs.StreamLaws.{ups-append}
 use Rattle.jup_world.specs.Each.{Each}
 use Rattle.jup_world.specs.Turns.{Turn, Own, Other, edits, own_edits, others}
 use Rattle.jup_world.specs.WorldStates.{AttachedOf}
 use Rattle.jup_world.specs.WorldSteps.{with_edit}
-use Rattle.jup_world.specs.Sound.{ups, downs, edits_sent, named_by, IsKnown, own_counts, ChangesKnown, ChangesHeld, Inherits, OrderNamed, Paired}
-use Rattle.jup_star.specs.declared.messages.Up.{Up}
-use Rattle.jup_star.specs.declared.messages.Up.TheVariants.{Op as UpOp, Ack as UpAck, Ping as UpPing}
+use Rattle.jup_world.specs.Sound.{edits_sent, named_by, IsKnown, own_counts, ChangesKnown, ChangesHeld, Inherits, OrderNamed, Paired}
 use Rattle.jup_star.specs.LinkStates.{LinkState}
 use Rattle.jup_star.specs.SiteStates.{edit_answer}
 use Rattle.jup_world.proofs.EditGrid.{meaning_one}
 use Rattle.jup_world.proofs.Rows.{row-more}
 use Rattle.jup_world.proofs.Answers.{answer_ok}
 use Rattle.jup_world.proofs.Known.{Each-append, Each-at, own_known, known_own, known_more, own_counts-more, all_changes_more, raw_named-end, inherits-end, edits_sent-append}
-
--- two streams
-pub ups-append : {Op : Type 0} → (us vs : List (Up Op)) → ups (us ++ vs) ≡ ups us ++ ups vs
-ups-append [] vs = refl
-ups-append (UpOp m ∷ us) vs = ap (λ s. sent m ∷ s) (ups-append us vs)
-ups-append (UpAck n ∷ us) vs = ap (λ s. Ack n ∷ s) (ups-append us vs)
-ups-append (UpPing k ∷ us) vs = ups-append us vs
 
 module _ (O : Operations) (L : AreLawful O) where
   -- the other sites' operations insert no name of this site

@@ -1,29 +1,23 @@
 -- The star takes an edit of another site: a site and its link stay in step.
-use Rattle.std.proofs.Common.{◌≡◌, ℕ, ◌+◌, ◌≤◌, Bool, true, false, cond, List, [], ◌∷◌, ◌++◌, length, nat_eq, refl, ap, sym, ◌∙◌, subst, arith, IsTrue, append_assoc, append-nil, length-append}
+use Rattle.std.proofs.Common.{◌≡◌, ℕ, ◌+◌, ◌≤◌, Bool, true, false, cond, List, [], ◌∷◌, ◌++◌, length, nat_eq, ap, sym, ◌∙◌, subst, arith, IsTrue, append_assoc, append-nil, length-append}
 use Rattle.std.proofs.lemmas.Bool.{eqb-false}
 use Rattle.jup_link.specs.LinkSteps.{small_le, client_lengths, server_sends}
-use Rattle.jup_link.specs.Links.{Ack, after_send, message}
+use Rattle.jup_link.specs.Links.{after_send, message}
 use Rattle.jup_link.specs.Messages.{sent, next_message}
 use Rattle.jup_link.specs.InStep.{InStepAt}
 use Rattle.jup_window.specs.Operations.{Operations, AreLawful}
+use Rattle.jup_star.specs.Streams.{ups, downs}
+use Rattle.jup_star.specs.declared.messages.Down.TheVariants.{Op as DownOp}
+use Rattle.jup_star.proofs.StreamLaws.{downs-append}
 use Rattle.jup_world.specs.Each.{Each}
 use Rattle.jup_world.specs.Turns.{Turn, Own, Other, edits, own_edits, others}
 use Rattle.jup_world.specs.Meanings.{SameMeaning, RowStands}
 use Rattle.jup_world.specs.WorldStates.{AttachedOf}
-use Rattle.jup_world.specs.Sound.{ups, downs, edits_sent, named_by, own_counts, ChangesKnown, ChangesHeld, Inherits, RawNamed, OrderNamed, Paired}
-use Rattle.jup_star.specs.declared.messages.Down.{Down}
-use Rattle.jup_star.specs.declared.messages.Down.TheVariants.{Op as DownOp, Ack as DownAck, Pong as DownPong}
+use Rattle.jup_world.specs.Sound.{edits_sent, named_by, own_counts, ChangesKnown, ChangesHeld, Inherits, RawNamed, OrderNamed, Paired}
 use Rattle.jup_star.specs.LinkStates.{LinkState, link_sent}
 use Rattle.jup_world.proofs.Rows.{column-more, own_edits-append}
 use Rattle.jup_world.proofs.Known.{Each-append, inherits-end, edits_sent-append, named_by-append}
 use Rattle.jup_world.proofs.Shown.{own_apart, others-append}
-
--- two streams
-pub downs-append : {Op : Type 0} → (ds es : List (Down Op)) → downs (ds ++ es) ≡ downs ds ++ downs es
-downs-append [] es = refl
-downs-append (DownOp m ∷ ds) es = ap (λ s. sent m ∷ s) (downs-append ds es)
-downs-append (DownAck n ∷ ds) es = ap (λ s. Ack n ∷ s) (downs-append ds es)
-downs-append (DownPong k ∷ ds) es = downs-append ds es
 
 module _ (O : Operations) (L : AreLawful O) where
   -- the entries of other sites stay named with one more

@@ -8,11 +8,12 @@ use Rattle.jup_link.specs.Links.{Message, IsCount, IsNumber, generated, received
 use Rattle.jup_link.specs.Messages.{sent}
 use Rattle.jup_link.specs.InStep.{InStepAt}
 use Rattle.jup_window.specs.Operations.{Operations, AreLawful}
+use Rattle.jup_star.specs.Streams.{ups, downs}
 use Rattle.jup_world.specs.Each.{Each, IsIn}
 use Rattle.jup_world.specs.Turns.{Turn, edits, own_edits, through_others, others}
 use Rattle.jup_world.specs.Meanings.{SameMeaning, server_past_all, clients_past, RowStands, Shows}
 use Rattle.jup_world.specs.WorldStates.{AttachedOf}
-use Rattle.jup_world.specs.Sound.{ups, downs, edits_sent, named_by, IsKnown, own_counts, ChangesKnown, Inherits, RawNamed, Paired}
+use Rattle.jup_world.specs.Sound.{edits_sent, named_by, IsKnown, own_counts, ChangesKnown, Inherits, RawNamed, Paired}
 use Rattle.jup_star.specs.declared.messages.Down.{Down}
 use Rattle.jup_star.specs.LinkStates.{LinkState, operation_at, end_after}
 use Rattle.jup_star.specs.SiteStates.{SiteOf}

@@ -8,11 +8,12 @@ use Rattle.jup_link.specs.Messages.{sent}
 use Rattle.jup_link.specs.InStep.{InStepAt}
 use Rattle.jup_link.specs.LinkSteps.{small_next, server_receives, generated-after_receive}
 use Rattle.jup_window.specs.Operations.{Operations, AreLawful}
+use Rattle.jup_star.specs.Streams.{ups, downs}
 use Rattle.jup_world.specs.Each.{Each}
 use Rattle.jup_world.specs.Turns.{Turn, Own, Other, edits, own_edits, others}
 use Rattle.jup_world.specs.Meanings.{SameMeaning, StandsFor, client_past_all, servers_past, RowStands, Shows}
 use Rattle.jup_world.specs.WorldStates.{AttachedOf}
-use Rattle.jup_world.specs.Sound.{ups, downs, edits_sent, named_by, own_counts, ChangesKnown, ChangesHeld, Inherits, RawNamed, OrderNamed, Paired}
+use Rattle.jup_world.specs.Sound.{edits_sent, named_by, own_counts, ChangesKnown, ChangesHeld, Inherits, RawNamed, OrderNamed, Paired}
 use Rattle.jup_star.specs.declared.messages.Up.{Up}
 use Rattle.jup_star.specs.LinkStates.{LinkState}
 use Rattle.jup_world.proofs.EditGrid.{stands-now}

@@ -3,7 +3,7 @@ use Rattle.std.proofs.Common.{◌≡◌, refl, sym, ◌∙◌, ap, subst, ℕ, z
 use Rattle.std.proofs.lemmas.List.{nil_from_length}
 use Rattle.jup_window.specs.BoardOperations.{board_operations}
 use Rattle.jup_window.specs.BoardsAreLawful.{board_laws}
-use Rattle.jup_star.specs.StarStates.{link_of}
+use Rattle.jup_star.specs.StarStates.{link_of, most_items}
 use Rattle.jup_star.specs.StarCalls.{BoardStar}
 use Rattle.jup_world.specs.declared.world.attached.Attached.{Attached}
 use Rattle.jup_world.specs.WorldStates.{attached, is_number, IsQuiet}
@@ -12,7 +12,7 @@ use Rattle.jup_world.specs.SiteNumbers.{AreAscending}
 use Rattle.jup_world.specs.Promises.{Promises}
 use Rattle.jup_world.specs.Backlogs.{BacklogIsShort}
 use Rattle.jup_world.specs.Headline.{AllAgree}
-use Rattle.jup_world.specs.BoardWorlds.{BoardWorld, BoardLink, BoardAttached, most_items}
+use Rattle.jup_world.specs.BoardWorlds.{BoardWorld, BoardLink, BoardAttached}
 use Rattle.jup_world.specs.Happenings.{IsQuietAt, AllQuiet, IsWorld}
 use Rattle.jup_world.proofs.SoundRuns.{sound-promises}
 use Rattle.jup_world.proofs.BacklogLaws.{counts-backlog}

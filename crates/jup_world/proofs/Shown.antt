@@ -7,11 +7,12 @@ use Rattle.jup_link.specs.Messages.{sent}
 use Rattle.jup_link.specs.InStep.{InStepAt}
 use Rattle.jup_link.specs.LinkSteps.{first_up, first_down}
 use Rattle.jup_window.specs.Operations.{Operations, AreLawful}
+use Rattle.jup_star.specs.Streams.{ups, downs}
 use Rattle.jup_world.specs.Each.{Each}
 use Rattle.jup_world.specs.Turns.{Turn, Own, Other, edits, own_edits, through_others, others}
 use Rattle.jup_world.specs.Meanings.{server_past_all, clients_past, client_past_all, servers_past}
 use Rattle.jup_world.specs.WorldStates.{AttachedOf}
-use Rattle.jup_world.specs.Sound.{ups, downs, named_by, ChangesKnown, Inherits, RawNamed, OrderNamed, Paired}
+use Rattle.jup_world.specs.Sound.{named_by, ChangesKnown, Inherits, RawNamed, OrderNamed, Paired}
 use Rattle.jup_star.specs.LinkStates.{LinkState}
 use Rattle.jup_world.proofs.Known.{named_by-append, known_more}
 

@@ -1,6 +1,7 @@
 -- Events of which the trace tells nothing that is read off it.
 use Rattle.std.proofs.Common.{◌≡◌, ℕ, ◌+◌, ◌<◌, List, [], ◌∷◌, ◌++◌, length, refl, ap, sym, ◌∙◌, subst, Some, None, append-nil, add-zero}
 use Rattle.jup_window.specs.Operations.{Operations, AreLawful}
+use Rattle.jup_star.proofs.Lookup.{found}
 use Rattle.jup_world.specs.Turns.{turns}
 use Rattle.jup_world.specs.WorldStates.{attached, at_site, without_site, WorldOf, AttachedOf, EventOf, ReplyOf}
 use Rattle.jup_world.specs.Traces.{edit_made, made, entry_taken, order_of, join_seen, joined_at, was_shown, shown_count}
@@ -10,7 +11,6 @@ use Rattle.jup_star.specs.declared.messages.Entry.{Entry}
 use Rattle.jup_star.specs.LinkStates.{LinkState}
 use Rattle.jup_star.specs.StarStates.{link_of, without, at_link, with_links, left, StarOf}
 use Rattle.jup_world.proofs.TraceLaws.{made-end, order-end, joined-end, shown-end}
-use Rattle.jup_world.proofs.Lookup.{found}
 use Rattle.jup_world.proofs.Numbered.{at_one, at_removal}
 
 module _ (O : Operations) (L : AreLawful O) where

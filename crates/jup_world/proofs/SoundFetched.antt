@@ -4,11 +4,12 @@ use Rattle.jup_window.specs.Operations.{Operations, AreLawful}
 use Rattle.jup_star.specs.declared.messages.Down.{Down}
 use Rattle.jup_star.specs.LinkStates.{LinkState, link_fetched}
 use Rattle.jup_star.specs.StarStates.{link_of}
+use Rattle.jup_star.specs.Streams.{downs}
 use Rattle.jup_world.specs.Turns.{turns}
 use Rattle.jup_world.specs.WorldStates.{WorldOf, AttachedOf, attached}
 use Rattle.jup_world.specs.WorldSteps.{with_fetched, only_fetched}
 use Rattle.jup_world.specs.Traces.{made, joined_at, shown_count}
-use Rattle.jup_world.specs.Sound.{downs, StandsAt, IsSound}
+use Rattle.jup_world.specs.Sound.{StandsAt, IsSound}
 use Rattle.jup_world.proofs.Numbered.{at_one}
 use Rattle.jup_world.proofs.PairLink.{pair-streams}
 use Rattle.jup_world.proofs.Stands.{stand-pair}

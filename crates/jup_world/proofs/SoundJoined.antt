@@ -2,6 +2,7 @@
 use Rattle.std.proofs.Common.{◌≡◌, ℕ, ◌+◌, ◌<◌, ◌≤◌, Bool, true, false, cond, List, [], ◌∷◌, ◌++◌, drop, take, length, nat_eq, refl, ap, sym, ◌∙◌, subst, Option, Some, None, arith, append-nil, add-zero, eq-eqb, eqb-true, ne_eqb, take_all, drop_of_length-le, length-append, le_refl}
 use Rattle.jup_link.specs.LinkSteps.{small_le, InStepAt-opened}
 use Rattle.jup_window.specs.Operations.{Operations, AreLawful}
+use Rattle.jup_star.proofs.Lookup.{found-end, found-end_other}
 use Rattle.jup_world.specs.Each.{Each}
 use Rattle.jup_world.specs.Turns.{turns, edits, own_edits}
 use Rattle.jup_world.specs.WorldStates.{attached, WorldOf, AttachedOf}
@@ -15,7 +16,6 @@ use Rattle.jup_star.specs.LinkStates.{LinkState, opened_link}
 use Rattle.jup_star.specs.StarStates.{link_of, joined}
 use Rattle.jup_world.proofs.TraceLaws.{made-end, order-end, joined-end, shown-end, edits-turns, length-turns}
 use Rattle.jup_world.proofs.Known.{known_more, all_changes_more, own_counts-above}
-use Rattle.jup_world.proofs.Lookup.{found-end, found-end_other}
 use Rattle.jup_world.proofs.Silent.{after_event}
 use Rattle.jup_world.proofs.WorldTakes.{named-turns}
 

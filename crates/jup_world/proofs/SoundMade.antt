@@ -1,6 +1,7 @@
 -- A sound world is sound after an edit.
 use Rattle.std.proofs.Common.{◌≡◌, ℕ, ◌+◌, ◌<◌, Bool, true, false, cond, List, [], ◌∷◌, ◌++◌, map, length, nat_eq, refl, ap, sym, ◌∙◌, subst, Some, None, append-nil, add-zero, eq-eqb, ne_eqb, Ok}
 use Rattle.jup_window.specs.Operations.{Operations, AreLawful}
+use Rattle.jup_star.proofs.Lookup.{found}
 use Rattle.jup_world.specs.Turns.{turns}
 use Rattle.jup_world.specs.WorldStates.{attached, at_site, WorldOf, AttachedOf, EventOf, ReplyOf}
 use Rattle.jup_world.specs.WorldSteps.{with_edit}
@@ -13,7 +14,6 @@ use Rattle.jup_star.specs.LinkStates.{LinkState}
 use Rattle.jup_star.specs.StarStates.{link_of, with_links}
 use Rattle.jup_star.specs.SiteStates.{edit_answer}
 use Rattle.jup_world.proofs.TraceLaws.{made-end, order-end, joined-end, shown-end}
-use Rattle.jup_world.proofs.Lookup.{found}
 use Rattle.jup_world.proofs.Numbered.{at_one}
 use Rattle.jup_world.proofs.Stands.{stand-makes}
 use Rattle.jup_world.proofs.Silent.{after_event}

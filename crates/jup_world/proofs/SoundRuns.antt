@@ -8,11 +8,12 @@ use Rattle.jup_link.specs.Messages.{sent}
 use Rattle.jup_link.specs.InStep.{InStepAt}
 use Rattle.jup_link.specs.LinkSteps.{quiet_equal}
 use Rattle.jup_window.specs.Operations.{Operations, AreLawful}
+use Rattle.jup_star.specs.Streams.{ups, downs}
 use Rattle.jup_world.specs.Turns.{Turn, turns, edits, own_edits}
 use Rattle.jup_world.specs.WorldStates.{attached, at_site, WorldOf, AttachedOf, EventOf, ReplyOf, opened_world}
 use Rattle.jup_world.specs.WorldSteps.{Outcome, join_outcome, leave_outcome, edit_outcome, one_taken, up_outcome, first_up, one_handed, down_outcome, first_down, pinged, at_attached, at_linked, outcome, with_outcome, happens, run}
 use Rattle.jup_world.specs.Traces.{made, entry_taken, order_of, joined_at, shown_count, view}
-use Rattle.jup_world.specs.Sound.{ups, downs, edits_sent, told_of, Standing, StandsAt, IsSound}
+use Rattle.jup_world.specs.Sound.{edits_sent, told_of, Standing, StandsAt, IsSound}
 use Rattle.jup_world.specs.Promises.{Promises}
 use Rattle.jup_world.specs.declared.events.Happened.{Happened}
 use Rattle.jup_world.specs.declared.events.Event.TheVariants.{Join, Leave, Edit as MakeEdit, Up as MoveUp, Down as MoveDown, Ping as SendPing}

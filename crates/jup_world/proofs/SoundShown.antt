@@ -4,12 +4,14 @@ use Rattle.jup_link.specs.declared.Msg.{Msg}
 use Rattle.jup_link.specs.Links.{IsCount, IsNumber, received_operation}
 use Rattle.jup_link.specs.Messages.{sent}
 use Rattle.jup_window.specs.Operations.{Operations, AreLawful}
+use Rattle.jup_star.specs.Streams.{downs}
+use Rattle.jup_star.proofs.Lookup.{found}
 use Rattle.jup_world.specs.Each.{Each}
 use Rattle.jup_world.specs.Turns.{turns, others}
 use Rattle.jup_world.specs.WorldStates.{attached, at_site, WorldOf, AttachedOf}
 use Rattle.jup_world.specs.WorldSteps.{one_handed}
 use Rattle.jup_world.specs.Traces.{made, joined_at, shown_count}
-use Rattle.jup_world.specs.Sound.{downs, edits_sent, Inherits, told_of, Standing, StandsAt, IsSound}
+use Rattle.jup_world.specs.Sound.{edits_sent, Inherits, told_of, Standing, StandsAt, IsSound}
 use Rattle.jup_world.specs.declared.events.Event.TheVariants.{Down as MoveDown}
 use Rattle.jup_world.specs.declared.events.Reply.TheVariants.{Shown}
 use Rattle.jup_star.specs.declared.messages.Down.{Down}
@@ -17,7 +19,6 @@ use Rattle.jup_star.specs.declared.messages.Down.TheVariants.{Op as DownOp}
 use Rattle.jup_star.specs.LinkStates.{LinkState, link_fetched}
 use Rattle.jup_star.specs.StarStates.{link_of, at_link, fetched}
 use Rattle.jup_star.specs.SiteStates.{deliver_fault}
-use Rattle.jup_world.proofs.Lookup.{found}
 use Rattle.jup_world.proofs.Numbered.{at_one}
 use Rattle.jup_world.proofs.Shown.{first_falling, next_other}
 use Rattle.jup_world.proofs.PairShown.{shown_at, link_left, pair-shown, pair_fits}

@@ -5,11 +5,13 @@ use Rattle.jup_link.specs.Links.{received_operation}
 use Rattle.jup_link.specs.Messages.{sent}
 use Rattle.jup_link.specs.LinkSteps.{small_next}
 use Rattle.jup_window.specs.Operations.{Operations, AreLawful}
+use Rattle.jup_star.specs.Streams.{ups}
+use Rattle.jup_star.proofs.Lookup.{found}
 use Rattle.jup_world.specs.Turns.{Turn, Own, Other, turn, turns, own_edits}
 use Rattle.jup_world.specs.WorldStates.{attached, at_site, WorldOf, AttachedOf}
 use Rattle.jup_world.specs.WorldSteps.{one_taken}
 use Rattle.jup_world.specs.Traces.{made, joined_at, shown_count}
-use Rattle.jup_world.specs.Sound.{ups, told_of, Standing, StandsAt, IsSound}
+use Rattle.jup_world.specs.Sound.{told_of, Standing, StandsAt, IsSound}
 use Rattle.jup_world.specs.declared.events.Happened.{Happened}
 use Rattle.jup_world.specs.declared.events.Event.TheVariants.{Up as MoveUp}
 use Rattle.jup_world.specs.declared.events.Reply.TheVariants.{Taken}
@@ -19,7 +21,6 @@ use Rattle.jup_star.specs.LinkStates.{LinkState, link_sent, link_heard}
 use Rattle.jup_star.specs.StarStates.{link_of, taken}
 use Rattle.jup_world.proofs.TraceLaws.{made-end, joined-end, shown-end}
 use Rattle.jup_world.proofs.Rows.{own_edits-append}
-use Rattle.jup_world.proofs.Lookup.{found}
 use Rattle.jup_world.proofs.Numbered.{at_all}
 use Rattle.jup_world.proofs.Shown.{first_rising}
 use Rattle.jup_world.proofs.Stands.{stand-longer}

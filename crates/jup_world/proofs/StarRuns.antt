@@ -3,11 +3,12 @@ use Rattle.std.proofs.Common.{◌≡◌, ℕ, ◌<◌, ◌≤◌, inl, inr, List
 use Rattle.jup_link.specs.declared.Msg.{Msg}
 use Rattle.jup_window.specs.Operations.{Operations, AreLawful}
 use Rattle.jup_star.specs.declared.faults.SiteFault.{SiteFault}
+use Rattle.jup_star.specs.Streams.{ups}
 use Rattle.jup_world.specs.Turns.{turns}
 use Rattle.jup_world.specs.WorldStates.{attached, WorldOf, AttachedOf, EventOf}
 use Rattle.jup_world.specs.WorldSteps.{Outcome, join_outcome, edit_outcome, up_outcome, first_up, down_outcome, first_down, at_attached, at_linked, outcome, happens, run}
 use Rattle.jup_world.specs.Traces.{made, joined_at, shown_count}
-use Rattle.jup_world.specs.Sound.{ups, named_by, IsKnown, told_of, Standing, IsSound}
+use Rattle.jup_world.specs.Sound.{named_by, IsKnown, told_of, Standing, IsSound}
 use Rattle.jup_world.specs.declared.events.Event.TheVariants.{Join, Leave, Edit as MakeEdit, Up as MoveUp, Down as MoveDown, Ping as SendPing}
 use Rattle.jup_star.specs.declared.messages.Up.{Up}
 use Rattle.jup_star.specs.declared.messages.Down.{Down}

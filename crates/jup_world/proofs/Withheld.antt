@@ -10,10 +10,11 @@ use Rattle.jup_star.specs.declared.messages.Down.TheVariants.{Op as DownOp, Ack 
 use Rattle.jup_star.specs.LinkStates.{LinkState}
 use Rattle.jup_star.specs.StarStates.{link_of, up_fault}
 use Rattle.jup_star.specs.SiteStates.{deliver_fault}
+use Rattle.jup_star.specs.Streams.{ups, downs}
 use Rattle.jup_world.specs.Turns.{turns}
 use Rattle.jup_world.specs.WorldStates.{WorldOf, AttachedOf, attached}
 use Rattle.jup_world.specs.Traces.{made, joined_at, shown_count}
-use Rattle.jup_world.specs.Sound.{ups, downs, Standing, IsSound}
+use Rattle.jup_world.specs.Sound.{Standing, IsSound}
 use Rattle.jup_world.proofs.Faults.{deliver_ack, deliver_pong, take_ack}
 use Rattle.jup_world.proofs.WorldTakes.{standing}
 use Rattle.jup_world.proofs.SoundShown.{shown_fits}

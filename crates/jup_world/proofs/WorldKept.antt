@@ -1,8 +1,6 @@
 -- What holds of every world of the program: as it is opened, after each event, and after want of memory.
-use Rattle.std.proofs.Common.{◌≡◌, refl, sym, ◌∙◌, ap, subst, inl, inr, ℕ, ◌≤◌, Bool, true, false, ◌&&◌, cond, not, List, [], ◌∷◌, ◌++◌, drop, length, nat_eq, nat_le, Option, Some, None, Result, Ok, Err, arith, nat_lt, leb-false, eqb-true, append-nil, drop_of_length-le, le_refl}
+use Rattle.std.proofs.Common.{◌≡◌, refl, sym, ◌∙◌, ap, subst, inl, inr, ℕ, ◌≤◌, Bool, true, false, ◌&&◌, List, [], ◌∷◌, ◌++◌, drop, length, nat_le, Option, Some, None, Result, Ok, Err, arith, leb-false, append-nil, drop_of_length-le, le_refl}
 use Rattle.std.proofs.lemmas.Bool.{leb-true}
-use Rattle.jup_link.specs.declared.Msg.{Msg}
-use Rattle.jup_link.specs.Links.{accepts_number, accepts_count}
 use Rattle.jup_window.specs.Boards as board
 use Rattle.jup_window.specs.Sites.{has_site, only_site}
 use Rattle.jup_window.specs.declared.board_operations.BoardOp.{BoardOp}
@@ -14,28 +12,29 @@ use Rattle.jup_star.specs.declared.messages.Up.TheVariants.{Op as UpOp, Ack as U
 use Rattle.jup_star.specs.declared.messages.Down.{Down}
 use Rattle.jup_star.specs.declared.messages.Down.TheVariants.{Op as DownOp, Ack as DownAck, Pong as DownPong}
 use Rattle.jup_star.specs.declared.faults.StarFault.{StarFault}
-use Rattle.jup_star.specs.declared.faults.StarFault.TheVariants.{BadCount, BadAck, BadName, NotAnEdit, BadOp, LogFull}
 use Rattle.jup_star.specs.declared.faults.SiteFault.{SiteFault}
 use Rattle.jup_star.specs.declared.faults.OpenFault.TheVariants.{BadLimit, BadSite}
 use Rattle.jup_star.specs.FirstFaults.{test, first_fault}
 use Rattle.jup_star.specs.LinkStates.{operation_at}
-use Rattle.jup_star.specs.StarStates.{link_of, join_fault, up_fault, fits_board}
+use Rattle.jup_star.specs.StarStates.{link_of, join_fault, up_fault, most_items}
 use Rattle.jup_star.specs.SiteStates.{edit_answer, deliver_fault}
 use Rattle.jup_star.specs.StarCalls.{BoardStar, star_open_fault}
-use Rattle.jup_world.specs.Openings.{IsShort}
+use Rattle.jup_star.specs.Openings.{IsShort}
+use Rattle.jup_star.specs.Streams.{downs}
+use Rattle.jup_star.proofs.TakenEdits.{link_site, taken_site}
+use Rattle.jup_star.proofs.ShortBoards.{short_bare, distinct_bare}
 use Rattle.jup_world.specs.declared.events.Event.TheVariants.{Join, Leave, Edit as MakeEdit, Up as MoveUp, Down as MoveDown, Ping as SendPing}
 use Rattle.jup_world.specs.WorldStates.{attached, opened_world}
 use Rattle.jup_world.specs.WorldSteps.{Outcome, join_outcome, edit_outcome, up_outcome, first_up, down_outcome, first_down, with_edit, one_taken, one_handed, pinged, at_attached, at_linked, at_number, outcome, happens, with_fetched, only_fetched}
-use Rattle.jup_world.specs.BoardWorlds.{BoardWorld, BoardLink, BoardAttached, BoardEvent, most_items}
+use Rattle.jup_world.specs.BoardWorlds.{BoardWorld, BoardLink, BoardAttached, BoardEvent}
 use Rattle.jup_world.specs.SiteNumbers.{AreAscending}
-use Rattle.jup_world.specs.Sound.{IsSound, downs}
+use Rattle.jup_world.specs.Sound.{IsSound}
 use Rattle.jup_world.specs.Happenings.{AreNumbered, AreReady, OldestFits, IsWorld, IsSpared}
 use Rattle.jup_world.proofs.SoundRuns.{sound-promises}
 use Rattle.jup_world.proofs.Withheld.{fall_fits}
 use Rattle.jup_world.proofs.SitePlaces.{ascending_without, ascending_at, ascending_end}
-use Rattle.jup_world.proofs.GivenNames.{board_none, layout_none, inserted_at}
+use Rattle.jup_world.proofs.GivenNames.{board_none, layout_none}
 use Rattle.jup_world.proofs.BoardWorldLaws.{opened_sound, happens_sound, fetched_sound}
-use Rattle.jup_world.proofs.ShortBoards.{short_bare, distinct_bare}
 
 -- # Numbers
 
@@ -65,18 +64,6 @@ edit_numbered : (w : BoardWorld) → AreNumbered w.star w.sites → (i : ℕ) (r
 edit_numbered w is i (Err n) = is
 edit_numbered w is i (Ok op) = sites_numbered w.star w.star w.sites _ is refl refl refl (ascending_at (with_edit board_operations op) i 0 w.star.given (λ a. refl) w.sites is.ascending)
 
--- the tests of an edit that was taken held
-tests_held : (a b c d e f : Bool) → first_fault (test a BadCount ∷ test b BadAck ∷ test c NotAnEdit ∷ test d BadName ∷ test e LogFull ∷ test f BadOp ∷ []) ≡ None → d ≡ true
-tests_held true true true true e f none = refl
-tests_held true true true false e f none = absurd (cc)
-tests_held true true false d e f none = absurd (cc)
-tests_held true false c d e f none = absurd (cc)
-tests_held false b c d e f none = absurd (cc)
-
--- an edit that was taken inserts names of its site alone
-taken_site : (s : BoardStar) (l : BoardLink) (m : Msg BoardOp) (n : board.Placed) → up_fault board_operations s l (UpOp m) ≡ None → board.Inserts (board.edit_of (operation_at board_operations l.end m)) n → n.name.site ≡ l.site
-taken_site s l m n none put = board_laws.next_site l.site l.named (board.edit_of m.op) n (tests_held (accepts_number l.end m.mine) (accepts_count l.end m.heard) (not (board_operations.is_nothing (board_operations.t.edit_of m.op))) _ (nat_lt (length s.order) s.limit) (fits_board board_operations s.board l m) none) (inserted_at l.end m n put)
-
 -- a link that is there has a number that was given
 pub link_given : (w : BoardWorld) → IsSound board_operations most_items w → (i : ℕ) (l : BoardLink) → link_of i w.star.links ≡ Some l → i ≤ w.star.given
 link_given w s i l found = cases (nat_le i w.star.given) refl
@@ -93,7 +80,7 @@ up_numbered w s is i l found number (UpOp m) None e = record {
   positive = is.positive;
   limited = is.limited;
   named = λ j above. board_none j (operation_at board_operations l.end m) w.star.board
-      (λ n put same. let site = taken_site w.star l m n e put in let given = link_given w s i l found in absurd (omega arith)) (is.named j above);
+      (λ n put same. let site = taken_site board_operations board_laws w.star l m n e put in let given = link_given w s i l found in absurd (omega arith)) (is.named j above);
 }
 up_numbered w s is i l found number (UpAck k) None e = sites_numbered w.star _ w.sites _ is refl refl refl (ascending_at (one_taken board_operations) i 0 w.star.given (λ a. refl) w.sites is.ascending)
 up_numbered w s is i l found number (UpPing k) None e = sites_numbered w.star _ w.sites _ is refl refl refl (ascending_at (one_taken board_operations) i 0 w.star.given (λ a. refl) w.sites is.ascending)
@@ -128,15 +115,6 @@ at_numbered w is i f h = linked (link_of i w.star.links) refl
     linked : (o : Option BoardLink) → link_of i w.star.links ≡ o → KeepsNumbers (at_linked board_operations w i f o)
     linked None found = is
     linked (Some l) found = there l found (attached i w.sites)
-
--- the link of a number has it
-link_site : (i : ℕ) (l : BoardLink) (links : List BoardLink) → link_of i links ≡ Some l → l.site ≡ i
-link_site i l [] found = absurd (cc)
-link_site i l (k ∷ later) found = step (nat_eq k.site i) refl (link_site i l later) found
-  where
-    step : (b : Bool) → nat_eq k.site i ≡ b → (link_of i later ≡ Some l → l.site ≡ i) → cond b (Some k) (link_of i later) ≡ Some l → l.site ≡ i
-    step true e rest h = let same : k ≡ l = cc in subst (λ (x : BoardLink). x.site ≡ i) same (eqb-true _ _ e)
-    step false e rest h = rest h
 
 -- each event
 pub numbered_outcome : (w : BoardWorld) (e : BoardEvent) → IsSound board_operations most_items w → AreNumbered w.star w.sites → KeepsNumbers (outcome board_operations w e)

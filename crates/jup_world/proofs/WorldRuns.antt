@@ -3,6 +3,7 @@ use Rattle.std.proofs.Common.{◌≡◌, refl, sym, ◌∙◌, ap, subst, inl, i
 use Rattle.std.proofs.lemmas.List.{take_more}
 use Rattle.jup_window.specs.declared.commands.Command.{Command}
 use Rattle.jup_window.specs.declared.edits.Edit.{Edit}
+use Rattle.jup_star.specs.StarStates.{most_items}
 use Rattle.jup_world.specs.declared.events.Happened.{Happened}
 use Rattle.jup_window.specs.BoardOperations.{board_operations}
 use Rattle.jup_window.specs.BoardsAreLawful.{board_laws}
@@ -11,7 +12,7 @@ use Rattle.jup_world.specs.WorldStates.{attached, is_number}
 use Rattle.jup_world.specs.WorldSteps.{Outcome, outcome, with_outcome, happens, run, with_fetched, only_fetched}
 use Rattle.jup_world.specs.Replies.{RepliesTo}
 use Rattle.jup_world.specs.Promises.{OrderIsKept}
-use Rattle.jup_world.specs.BoardWorlds.{BoardWorld, BoardLink, BoardAttached, BoardEvent, BoardReply, most_items}
+use Rattle.jup_world.specs.BoardWorlds.{BoardWorld, BoardLink, BoardAttached, BoardEvent, BoardReply}
 use Rattle.jup_world.specs.Happenings.{Plays, Spares, IsWorld, IsSpared}
 use Rattle.jup_world.proofs.StarRuns.{run-follows}
 use Rattle.jup_world.proofs.SiteRuns.{run_follows}

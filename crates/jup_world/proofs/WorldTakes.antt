@@ -6,13 +6,14 @@ use Rattle.jup_link.specs.declared.Msg.{Msg}
 use Rattle.jup_link.specs.Links.{received_operation}
 use Rattle.jup_link.specs.Messages.{sent}
 use Rattle.jup_window.specs.Operations.{Operations, AreLawful}
+use Rattle.jup_star.specs.Streams.{ups}
 use Rattle.jup_world.specs.Each.{Each}
 use Rattle.jup_world.specs.Turns.{Turn, Own, Other, turn, turns, edits, own_edits}
 use Rattle.jup_world.specs.Meanings.{SameMeaning}
 use Rattle.jup_world.specs.WorldStates.{attached, WorldOf, AttachedOf}
 use Rattle.jup_world.specs.WorldSteps.{one_taken}
 use Rattle.jup_world.specs.Traces.{first_of_site, made, order_of, joined_at, shown_count}
-use Rattle.jup_world.specs.Sound.{ups, edits_sent, named_by, IsKnown, ChangesKnown, ChangesHeld, HoldsKnown, Paired, told_of, Standing, StandsAt, IsSound}
+use Rattle.jup_world.specs.Sound.{edits_sent, named_by, IsKnown, ChangesKnown, ChangesHeld, HoldsKnown, Paired, told_of, Standing, StandsAt, IsSound}
 use Rattle.jup_world.specs.declared.events.Event.TheVariants.{Up as MoveUp}
 use Rattle.jup_world.specs.declared.events.Reply.TheVariants.{Taken}
 use Rattle.jup_star.specs.declared.messages.Entry.{Entry}

@@ -4,6 +4,7 @@ use Rattle.jup_window.specs.Boards.{Windows}
 use Rattle.jup_window.specs.BoardOperations.{board_operations}
 use Rattle.jup_window.specs.declared.board_operations.BoardOp.{BoardOp}
 use Rattle.jup_star.specs.LinkStates.{LinkState}
+use Rattle.jup_star.specs.StarStates.{most_items}
 use Rattle.jup_world.specs.Openings.{IsOpening}
 use Rattle.jup_world.specs.WorldStates.{WorldOf, AttachedOf, EventOf, ReplyOf, opened_world}
 use Rattle.jup_world.specs.WorldSteps.{run}
@@ -29,10 +30,6 @@ BoardEvent = EventOf board_operations
 -- and what that answers
 abbrev pub BoardReply : Type 0
 BoardReply = ReplyOf board_operations
-
--- how many more items a sequence of at most 65,536 may take
-abbrev pub most_items : ℕ
-most_items = 2147418111
 
 -- what holds of every world of boards
 pub record IsBoardWorld (w : BoardWorld) : Type 0 where

@@ -2,34 +2,16 @@
 use Rattle.std.specs.Prelude.{◌≡◌, ℕ, ◌+◌, ◌≤◌, ◌<◌, ◌⊎◌, false, cond, List, [], ◌∷◌, ◌++◌, length, take, drop, nat_eq, IsTrue, Option, Some, None}
 use Rattle.jup_xform.specs.declared.row.Side.TheVariants.{Client, Server}
 use Rattle.jup_link.specs.Links.{Message, Operation, Ack, generated}
-use Rattle.jup_link.specs.Messages.{sent}
 use Rattle.jup_link.specs.InStep.{InStepAt}
 use Rattle.jup_window.specs.Operations.{Operations}
-use Rattle.jup_star.specs.declared.messages.Up.{Up}
-use Rattle.jup_star.specs.declared.messages.Up.TheVariants.{Op as UpOp, Ack as UpAck, Ping as UpPing}
-use Rattle.jup_star.specs.declared.messages.Down.{Down}
-use Rattle.jup_star.specs.declared.messages.Down.TheVariants.{Op as DownOp, Ack as DownAck, Pong as DownPong}
 use Rattle.jup_star.specs.LinkStates.{LinkState}
 use Rattle.jup_star.specs.StarStates.{link_of}
+use Rattle.jup_star.specs.Streams.{ups, downs}
 use Rattle.jup_world.specs.Each.{Each}
 use Rattle.jup_world.specs.Turns.{Turn, Own, Other, turns, edits, own_edits, others, through_others}
 use Rattle.jup_world.specs.Meanings.{RowStands, Shows}
 use Rattle.jup_world.specs.WorldStates.{WorldOf, AttachedOf, attached}
 use Rattle.jup_world.specs.Traces.{order_of, made, joined_at, shown_count}
-
--- what a stream carries for the two ends: pings and pongs are none of it
-abbrev pub ups : {Op : Type 0} → List (Up Op) → List (Message Op)
-ups [] = []
-ups (UpOp m ∷ us) = sent m ∷ ups us
-ups (UpAck n ∷ us) = Ack n ∷ ups us
-ups (UpPing k ∷ us) = ups us
-
--- what goes down
-abbrev pub downs : {Op : Type 0} → List (Down Op) → List (Message Op)
-downs [] = []
-downs (DownOp m ∷ ds) = sent m ∷ downs ds
-downs (DownAck n ∷ ds) = Ack n ∷ downs ds
-downs (DownPong k ∷ ds) = downs ds
 
 module _ (O : Operations) where
   -- the edits of the operations in a stream, as they were sent

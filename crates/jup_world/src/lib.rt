@@ -6,7 +6,6 @@
 #![tactic(auto)]
 
 mod events;
-mod openings;
 mod pair;
 mod promises;
 mod script;
@@ -17,7 +16,6 @@ mod two;
 mod world;
 
 pub use events::{Event, Happened, Reply};
-pub use openings::is_short;
 pub use pair::{pair_slider, pair_toggle};
 pub use promises::worlds_agree;
 pub use script::{ScriptEnd, run_script};

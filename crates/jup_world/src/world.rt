@@ -7,7 +7,7 @@ ghost use Rattle.jup_window.specs.Boards.{bare, content, meaning};
 ghost use Rattle.jup_window.specs.BoardOperations.{board_operations};
 ghost use Rattle.jup_star.specs.StarCalls.{star_open_fault};
 ghost use Rattle.jup_star.specs.declared.faults.OpenFault.TheVariants as open_fault;
-ghost use Rattle.jup_world.specs.Openings.{IsShort};
+ghost use Rattle.jup_star.specs.Openings.{IsShort};
 ghost use Rattle.jup_world.specs.Turns.{turns, edits};
 ghost use Rattle.jup_world.specs.WorldStates.{attached, opened_world, IsQuiet};
 ghost use Rattle.jup_world.specs.WorldSteps.{outcome, happens};
@@ -20,8 +20,8 @@ ghost use Rattle.jup_world.specs.Happenings.{IsSpared};
 
 use self::attached::{Attached, are_quiet};
 use self::happening::happen;
-use crate::{Event, Happened, Reply, is_short};
-use jup_star::{OpenFault, Site, Star};
+use crate::{Event, Happened, Reply};
+use jup_star::{OpenFault, Site, Star, is_short};
 use jup_value::Label;
 use jup_window::{Board, Edit, Effect, Setting, Value};
 use jup_xform::NoMemory;
@@ -88,7 +88,7 @@ fn note(trace: &mut Vec<Happened>, event: &Event, reply: &Reply)
 
 impl World {
     /// A world without sites, over a board whose texts and lists have at most 65,536 items each, which
-    /// [`is_short`] tests. Refused, in this order: a limit that is not 1 to 16,777,216, a board with an item
+    /// [`is_short`](jup_star::is_short) tests. Refused, in this order: a limit that is not 1 to 16,777,216, a board with an item
     /// that is not of a layout, whose items have site 0, no memory.
     pub fn open(alloc: Global, board: Board, limit: u32) -> Result<World, OpenFault>
         requires short { EachWidget IsShort board }

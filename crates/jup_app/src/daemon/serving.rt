@@ -7,7 +7,8 @@ use super::ending::DaemonEnd;
 use crate::sessions::hangup::hang_up;
 use crate::{Bell, Open, serve_link};
 use jup_hub::{Hub, Pass};
-use jup_star::{OpenFault, Star};
+use jup_star::{OpenFault, Star, is_short};
+use jup_window::BoardFault;
 use jup_wire::{LayoutFault, layout};
 use jup_world::write_board;
 use std::alloc::Global;
@@ -78,15 +79,20 @@ fn opened(alloc: Global, text: &[u8], limit: u32) -> Result<Star, DaemonEnd>
     requires { length text.now ≤ 16777216 }
 {
     let board = layout(alloc, text)?;
+    // The words and the layout rule these refusals out: each is told as a fault of the whole layout.
+    if !is_short(&board) {
+        return Err(whole_layout(BoardFault::TooMany.number()));
+    }
     match Star::open(alloc, board, limit) {
         Ok(star) => Ok(star),
         Err(OpenFault::NoMemory) => Err(DaemonEnd::NoMemory),
-        // The words and the layout rule these out: told as a fault of the whole layout.
-        Err(fault) => Err(DaemonEnd::Layout(LayoutFault {
-            line: 0,
-            number: fault.number(),
-        })),
+        Err(fault) => Err(whole_layout(fault.number())),
     }
+}
+
+// A fault of the whole layout.
+fn whole_layout(number: u32) -> DaemonEnd {
+    DaemonEnd::Layout(LayoutFault { line: 0, number })
 }
 
 // Prints how many edits were taken, and the board.

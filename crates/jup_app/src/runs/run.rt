@@ -3,7 +3,8 @@ ghost use Rattle.std.specs.Prelude.{◌≡◌, ◌≤◌, [], ◌∷◌, length,
 ghost use Rattle.jup_window.specs.Boards.{bare};
 ghost use Rattle.jup_window.specs.Entries.{EachWidget};
 ghost use Rattle.jup_star.specs.StarStates.{opened_star};
-ghost use Rattle.jup_world.specs.Openings.{IsShort, IsOpening};
+ghost use Rattle.jup_star.specs.Openings.{IsShort};
+ghost use Rattle.jup_world.specs.Openings.{IsOpening};
 ghost use Rattle.jup_app.specs.RunFaults.{opening_refusal, many_refusal, RefusedFirst};
 ghost use Rattle.jup_app.specs.Whole.{IsRun, AllAgree};
 
@@ -16,9 +17,8 @@ use crate::runs::seating::seat_all;
 use crate::runs::stop::Stop;
 use crate::runs::threads::play_all;
 use jup_hub::Hub;
-use jup_star::Star;
+use jup_star::{Star, is_short};
 use jup_window::{Board, Command};
-use jup_world::is_short;
 use std::alloc::Global;
 use std::sync::Wait;
 use std::thread::Threads;

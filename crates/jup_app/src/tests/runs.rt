@@ -1,14 +1,13 @@
 //! Runs of few and of many sites, and their refusals.
 ghost use Rattle.std.specs.Prelude.{IfOk};
 ghost use Rattle.jup_window.specs.Entries.{EachWidget};
-ghost use Rattle.jup_world.specs.Openings.{IsShort};
+ghost use Rattle.jup_star.specs.Openings.{IsShort};
 
 use crate::{Open, RunEnd, RunFault, SiteEnd, run_many, run_two};
 use jup_setting::Toggle;
-use jup_star::Entry;
+use jup_star::{Entry, is_short};
 use jup_value::{Label, Seq};
 use jup_window::{Board, BoardFault, Command, EditFault, Setting, Value, Widget};
-use jup_world::is_short;
 use std::alloc::{AllocError, Global};
 use std::marker::PhantomData;
 use std::test::Fail;

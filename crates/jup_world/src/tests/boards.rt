@@ -1,7 +1,8 @@
 //! Worlds over boards that are given as they are printed, the events that are played in them, and what
 //! they show.
 use crate::text::layouts::Draft;
-use crate::{Event, Happened, Reply, World, is_short, write_board};
+use crate::{Event, Happened, Reply, World, write_board};
+use jup_star::is_short;
 use jup_window::{Board, Command, Edit, Effect, Setting, Value, Widget};
 use std::alloc::Global;
 use std::process::Abort;

@@ -2,7 +2,7 @@
 use super::boards::{LIMIT, board_of};
 use crate::write_board;
 use jup_link::Msg;
-use jup_star::{Down, Made, Site, Star, Up};
+use jup_star::{Down, Made, Site, Star, Up, is_short};
 use jup_window::{Board, BoardOp, Command, Value};
 use jup_wire::{Line, Reader, write};
 use std::alloc::Global;
@@ -67,6 +67,9 @@ fn open_site(alloc: Global, star: &mut Star) -> Result<Site, Fail> {
 
 fn open_run(alloc: Global) -> Result<Run, Fail> {
     let board = board_of(alloc, &["window 1", "text 1 \"\""])?;
+    if !is_short(&board) {
+        return Err(Fail::new("the text is long"));
+    }
     let mut star = Star::open(alloc, board, LIMIT)?;
     let one = open_site(alloc, &mut star)?;
     let two = open_site(alloc, &mut star)?;

@@ -3,8 +3,8 @@ use super::boards::{
     LIMIT, all_show, board_of, deletes, made, plays, plays_and_shows, reads, sets, shows, types,
     world_of,
 };
-use crate::{Event, Halted, Reply, World, is_short};
-use jup_star::{Entry, OpenFault, StarFault};
+use crate::{Event, Halted, Reply, World};
+use jup_star::{Entry, OpenFault, StarFault, is_short};
 use jup_value::Name;
 use jup_window::{Board, Command, Edit, EditFault, Effect, Setting, Value, Widget};
 use std::alloc::Global;

@@ -1,6 +1,6 @@
 use Rattle.jup_window.specs.BoardOperations.{board_operations}
 use Rattle.jup_window.specs.BoardsAreLawful.{board_laws}
-use Rattle.jup_world.specs.BoardWorlds.{most_items}
+use Rattle.jup_star.specs.StarStates.{most_items}
 use Rattle.jup_world.proofs.SoundRuns.{sound-promises}
 use Rattle.jup_world.proofs.ReplyLaws.{replies}
 use Rattle.jup_world.proofs.BacklogLaws.{counts-backlog}

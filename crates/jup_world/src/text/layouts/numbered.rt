@@ -2,7 +2,7 @@
 ghost use Rattle.jup_world.specs.Numbering.{IsNumberedTo};
 
 use super::Untaken;
-use crate::openings::LONGEST_SEQUENCE;
+use jup_star::LONGEST_SEQUENCE;
 use jup_value::{Item, Name, Seq};
 use std::alloc::Global;
 

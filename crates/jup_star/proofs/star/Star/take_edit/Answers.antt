@@ -6,15 +6,15 @@ use Rattle.jup_star.specs.declared.messages.Entry.{Entry}
 use Rattle.jup_star.specs.declared.messages.Up.TheVariants.{Op}
 use Rattle.jup_star.specs.declared.calls.Reply.TheVariants.{Taken}
 use Rattle.jup_star.specs.LinkStates.{operation_at}
-use Rattle.jup_star.specs.StarStates.{link_of, without, with_links, IsStar, links_after}
-use Rattle.jup_star.specs.StarCalls.{BoardLink}
+use Rattle.jup_star.specs.StarStates.{link_of, without, with_links, links_after}
+use Rattle.jup_star.specs.StarCalls.{BoardLink, IsStar}
 use Rattle.jup_star.specs.Rooms.{bare_link, AllCount}
 use Rattle.jup_star.specs.contracts.star.Star.{the_view}
 use Rattle.jup_star.proofs.LinkPlaces.{detached}
 use Rattle.jup_star.proofs.LinkChanges.{found_new, found_some}
 use Rattle.jup_star.proofs.StarKeeps.{left_star}
 use Rattle.jup_star.proofs.CallSteps.{take_no_link}
-use Rattle.jup_star.proofs.TakeSteps.{checked, edit_detached, edit_waits, edit_misfits, misfits_star, edit_taken, edit_star, heard_by, all_count}
+use Rattle.jup_star.proofs.TakeSteps.{checked, edit_detached, edit_waits, waits_star, edit_misfits, misfits_star, edit_taken, edit_star, heard_by, all_count}
 use Rattle.jup_star.proofs.star.Star.take_edit.Goals as goal
 
 pub returns-in_default : goal.returns-in_default
@@ -35,6 +35,10 @@ returns-in-Err c =
     c.args.msg.now (Some c.in-Err.fault) place c.index.ensures c.len-place.ensures found.1 c.in-Err.ensures in
     rw (← c.self.view_is) (edit_detached (the_view c.self.inside) c.args.site c.args.msg.now found.0 c.in-Err.fault _ found.1 early
     (ap (map bare_link) c.detach.ensures ∙ detached c.args.site _))
+
+pub invariant_of-self-in-Err-reserve_edit : goal.invariant_of-self-in-Err-reserve_edit
+invariant_of-self-in-Err-reserve_edit c =
+    waits_star (the_view c.self.inside) _ _ _ c.self.invariant c.reserve_edit.ensures.board c.reserve_edit.ensures.links c.reserve_edit.ensures.order
 
 pub returns-in-Err-reserve_edit : goal.returns-in-Err-reserve_edit
 returns-in-Err-reserve_edit c =
@@ -89,6 +93,7 @@ invariant_of-self-else-not-carry_out c =
     c.args.msg.now None place c.index.ensures c.len-place.ensures found.1 c.in-Ok.ensures in
     let op = operation_at board_operations found.0.end c.args.msg.now in
     edit_star (the_view c.self.inside) c.args.site c.in-Some.at c.args.msg.now found.0 _ _ _ c.self.invariant place found.1 early
+    (ap (accepts op) (sym c.in-Ok-reserve_edit.ensures.board) ∙ sym (c.carry_out.ensures.fits found.0 there) ∙ fits)
     (c.carry_out.ensures.board fits found.0 there ∙ ap (board.after op) c.in-Ok-reserve_edit.ensures.board)
     (c.carry_out.ensures.links fits found.0 there ∙ ap (links_after board_operations c.args.site c.args.msg.now op) c.in-Ok-reserve_edit.ensures.links)
     (c.carry_out.ensures.order fits ∙ ap (λ (es : List (Entry Edit)). es ++ record { site = c.args.site; edit = c.edit_of-edit.result } ∷ []) c.in-Ok-reserve_edit.ensures.order

@@ -6,7 +6,8 @@ use Rattle.jup_window.specs.declared.widgets.Widget.TheVariants.{Text, List as L
 use Rattle.jup_window.specs.Entries.{Each, EachWidget}
 use Rattle.jup_window.specs.Widgets as widget
 use Rattle.jup_window.specs.Boards as board
-use Rattle.jup_world.specs.Openings.{IsShort}
+use Rattle.jup_star.specs.Openings.{IsShort}
+use Rattle.jup_star.specs.StarStates.{most_items}
 
 module _ {A : Type 0} (P : A → Type 0) where
   -- one entry more
@@ -61,3 +62,21 @@ short_bare b short = bare_every IsShort bare_short b short
 
 pub distinct_bare : (b : board.Windows) → board.HasDistinctNames b → board.HasDistinctNames (board.bare b)
 distinct_bare b distinct = bare_every widget.HasDistinctNames bare_distinct b distinct
+
+-- # Room
+
+-- what is so of each entry, and gives another thing, gives it of each
+each_map : {A : Type 0} (P Q : A → Type 0) → ((x : A) → P x → Q x) → (es : List (ℕ × A)) → Each P es → Each Q es
+each_map P Q f [] h = tt
+each_map P Q f (e ∷ es) h = (f e.1 h.0, each_map P Q f es h.1)
+
+-- a widget of at most 65,536 items has room for all that a star adds
+short_small : (w : Widget) → IsShort w → widget.IsSmall most_items w
+short_small (Text x) short = omega arith
+short_small (Labels x) short = omega arith
+short_small (Toggle x) short = tt
+short_small (Slider x) short = tt
+
+-- and so has a board of such widgets
+pub board_small : (b : board.Windows) → EachWidget IsShort b → board.IsSmall most_items b
+board_small b short = each_map _ _ (λ ws. each_map IsShort (widget.IsSmall most_items) short_small ws) b short

@@ -374,6 +374,8 @@ fn a_board_that_takes_many_writes(rt: HostRuntime) -> Result<(), Fail> {
 
 const GREETING: &str = "welcome 1 100\nwindow 1\ntext 1\nready\n";
 
+const CUT_ANSWER: &str = "welcome 1 100\nwindow 1\ntext 1\nready\nbye\n";
+
 // Whether a session that lacked memory told so, wherever that came.
 fn tells_of_memory(written: &[u8]) -> bool {
     match str::from_utf8(written) {
@@ -406,7 +408,9 @@ fn a_session_that_lacks_memory_says_so(rt: HostRuntime) -> Result<(), Fail> {
         &Open,
     );
     if ending == Ending::Bye {
-        assert_eq!(rt; str::from_utf8(to.as_slice()), Ok(TYPED_ANSWER));
+        // A fetch that is refused once the site has said bye is the last one, and what waited is lost.
+        let written = str::from_utf8(to.as_slice());
+        assert!(rt; written == Ok(TYPED_ANSWER) || written == Ok(CUT_ANSWER));
     } else {
         assert_eq!(rt; ending, Ending::Fault(8));
         assert!(rt; tells_of_memory(to.as_slice()));

@@ -88,7 +88,7 @@ fn note(trace: &mut Vec<Happened>, event: &Event, reply: &Reply)
 
 impl World {
     /// A world without sites, over a board whose texts and lists have at most 65,536 items each, which
-    /// [`is_short`](jup_star::is_short) tests. Refused, in this order: a limit that is not 1 to 16,777,216, a board with an item
+    /// [`is_short`] tests. Refused, in this order: a limit that is not 1 to 16,777,216, a board with an item
     /// that is not of a layout, whose items have site 0, no memory.
     pub fn open(alloc: Global, board: Board, limit: u32) -> Result<World, OpenFault>
         requires short { EachWidget IsShort board }

@@ -9,7 +9,7 @@ use jup_seq::SeqOp;
 use jup_setting::{SetOp, Toggle};
 use jup_value::{Item, Name, Seq};
 use jup_window::{
-    Board, BoardFault, BoardOp, Command, EditFault, Setting, Value, Widget, WidgetOp,
+    Board, BoardFault, BoardOp, Command, Edit, EditFault, Setting, Value, Widget, WidgetOp,
 };
 use std::alloc::Global;
 use std::marker::PhantomData;
@@ -279,29 +279,73 @@ fn deliver_all(alloc: Global, star: &mut Star, site: &mut Site) -> Result<usize,
     Ok(downs.as_slice().len())
 }
 
+// Two sites that inserted at the head of one text before either heard of the other, and the star, which took
+// both edits.
+#[derive(Drop)]
+struct Race {
+    star: Star,
+    one: Site,
+    two: Site,
+    edits: [Edit; 2],
+    places: [Option<u32>; 2],
+}
+
+// A site that inserted a character at the head of its text, with what it made.
+fn typed(alloc: Global, number: u32, value: char) -> Result<(Site, Made), Fail> {
+    let mut site = lone_site(alloc, number)?;
+    let made = site.edit(alloc, &insert(0, value))?;
+    Ok((site, made))
+}
+
+fn raced(alloc: Global) -> Result<Race, Fail> {
+    let mut star = star_of_two(alloc)?;
+    let (one, a) = typed(alloc, 1, 'a')?;
+    let (two, x) = typed(alloc, 2, 'x')?;
+    let places = [star.take(alloc, 1, &a.up)?, star.take(alloc, 2, &x.up)?];
+    let edits = [a.edit, x.edit];
+    Ok(Race {
+        star,
+        one,
+        two,
+        edits,
+        places,
+    })
+}
+
+#[test]
+fn the_order_has_edits_as_they_were_made(rt: HostRuntime) -> Result<(), Fail> {
+    let Race {
+        star,
+        edits,
+        places,
+        ..
+    } = raced(rt.alloc())?;
+    assert_eq!(rt; places, [Some(0), Some(1)]);
+    let order = star.order();
+    assert_eq!(rt; order.len(), 2);
+    assert_eq!(rt; order[0].site, 1);
+    assert_eq!(rt; order[0].edit, edits[0]);
+    assert_eq!(rt; order[1].site, 2);
+    assert_eq!(rt; order[1].edit, edits[1]);
+    Ok(())
+}
+
 #[test]
 fn the_later_of_two_insertions_stands_left(rt: HostRuntime) -> Result<(), Fail> {
     let alloc = rt.alloc();
-    let mut star = star_of_two(alloc)?;
-    let mut one = lone_site(alloc, 1)?;
-    let mut two = lone_site(alloc, 2)?;
-    let a = one.edit(alloc, &insert(0, 'a'))?;
-    let x = two.edit(alloc, &insert(0, 'x'))?;
-    assert_eq!(rt; star.take(alloc, 1, &a.up)?, Some(0));
-    assert_eq!(rt; star.take(alloc, 2, &x.up)?, Some(1));
+    let Race {
+        mut star,
+        mut one,
+        mut two,
+        ..
+    } = raced(alloc)?;
     assert_eq!(rt; star.waiting(1), Some(1));
     assert_eq!(rt; deliver_all(alloc, &mut star, &mut one)?, 1);
     assert_eq!(rt; deliver_all(alloc, &mut star, &mut two)?, 1);
     assert_eq!(rt; star.waiting(1), Some(0));
-    assert!(rt; reads(star.board(), "xa"));
-    assert!(rt; reads(one.board(), "xa"));
-    assert!(rt; reads(two.board(), "xa"));
-    let order = star.order();
-    assert_eq!(rt; order.len(), 2);
-    assert_eq!(rt; order[0].site, 1);
-    assert_eq!(rt; order[0].edit, a.edit);
-    assert_eq!(rt; order[1].site, 2);
-    assert_eq!(rt; order[1].edit, x.edit);
+    for board in [star.board(), one.board(), two.board()] {
+        assert!(rt; reads(board, "xa"));
+    }
     Ok(())
 }
 

@@ -1,15 +1,9 @@
-//! Sessions and programs, run from end to end.
+//! Whole runs, by their public calls.
 #![tactic(auto)]
 
 ghost use Rattle.std.specs.Prelude.{◌≡◌};
 
 #[cfg(test)]
-mod clients;
+mod runs;
 #[cfg(test)]
-mod fakes;
-#[cfg(test)]
-mod programs;
-#[cfg(test)]
-mod sessions;
-#[cfg(test)]
-mod strangers;
+mod runs_gates;

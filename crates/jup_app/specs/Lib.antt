@@ -1,4 +1,3 @@
-pub mod ClientEnds
 pub mod Drains
 pub mod Passing
 pub mod Plays

@@ -1,21 +1,13 @@
-//! The system as it runs: sessions over a shared star, the programs that serve and use them, and whole runs
-//! in threads.
+//! Whole runs in threads.
 //!
-//! [`serve_link`] serves one link, [`daemon_main`] and [`client_main`] are the programs' insides;
 //! [`run_two`] and [`run_many`] play whole runs, with each site in a thread of its own, and at the end all
-//! show one board.
+//! show one board. Sessions and the insides of the programs are those of `jup_session`.
 #![tactic(auto)]
 
-mod client;
-mod daemon;
-mod gate;
 mod runs;
-mod sessions;
-#[cfg(test)]
-mod tests;
 
-pub use client::{ClientEnd, client_main, client_words, run_client};
-pub use daemon::{DaemonWords, daemon_main, daemon_words};
-pub use gate::{Gate, Open};
+pub use jup_session::{
+    Bell, ClientEnd, DaemonWords, Ending, Gate, Open, client_main, client_words, daemon_main,
+    daemon_words, run_client, serve_link,
+};
 pub use runs::{RunEnd, RunFault, SiteEnd, run_many, run_two};
-pub use sessions::{Bell, Ending, serve_link};

@@ -12,8 +12,6 @@ mod desk;
 mod fault;
 mod hub;
 mod rule;
-#[cfg(test)]
-mod tests;
 mod turns;
 mod view;
 

@@ -6,6 +6,3 @@ pub mod laws;
 mod operations;
 
 pub use operations::{ListOp, SeqEdit, SeqOp, TextOp};
-
-#[cfg(test)]
-mod tests;

@@ -21,13 +21,11 @@ mod outbox;
 mod site;
 mod star;
 mod take;
-#[cfg(test)]
-mod tests;
 
 pub use calls::{Call, Reply};
 pub use faults::{OpenFault, SiteFault, StarFault};
 pub use messages::{Down, Entry, Up};
-pub use openings::{LONGEST_SEQUENCE, is_short};
+pub use openings::is_short;
 pub use outbox::Downs;
 pub use site::{Made, Site};
 pub use star::{Joined, Star};

@@ -10,6 +10,3 @@ pub use labels::{BadLabel, Label};
 pub use memory::NoMemory;
 pub use names::{Item, Name};
 pub use sequence::Seq;
-
-#[cfg(test)]
-mod tests;

@@ -13,8 +13,9 @@ use jup_seq::SeqOp;
 use jup_setting::SetOp;
 use jup_value::{Item, Label, Name, Seq};
 
-// A sequence this long or longer takes no insertion of a command.
-const LONGEST: u32 = 65_536;
+/// The most items that a text or a list of a layout has. A sequence this long or longer takes no insertion of
+/// a command.
+pub const LONGEST_SEQUENCE: u32 = 65_536;
 
 /// The value of an item that a command inserts.
 #[derive(Clone, Copy, Debug, PartialEq, Eq)]
@@ -58,7 +59,7 @@ fn insert_at<V: Copy>(state: &Seq<V>, place: u32, item: Item<V>) -> Result<SeqOp
     if place > state.len() {
         return Err(EditFault::BadPlace);
     }
-    if state.len() >= LONGEST {
+    if state.len() >= LONGEST_SEQUENCE {
         return Err(EditFault::LongText);
     }
     Ok(SeqOp::Insert { place, item })

@@ -18,11 +18,8 @@ mod widgets;
 
 pub use board_operations::BoardOp;
 pub use boards::{Board, Window};
-pub use commands::{Command, Setting, Value};
+pub use commands::{Command, LONGEST_SEQUENCE, Setting, Value};
 pub use edits::{Edit, Effect};
 pub use faults::{BoardFault, EditFault};
 pub use widget_operations::WidgetOp;
 pub use widgets::Widget;
-
-#[cfg(test)]
-mod tests;

@@ -7,8 +7,6 @@ mod drafts;
 mod faults;
 mod fields;
 mod laws;
-#[cfg(test)]
-mod layout_tests;
 mod layouts;
 mod line;
 mod naming;
@@ -17,8 +15,6 @@ mod part;
 mod reader;
 mod refusals;
 mod spell;
-#[cfg(test)]
-mod tests;
 mod writing;
 
 pub use board_lines::lines_of;

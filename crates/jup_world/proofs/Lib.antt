@@ -13,7 +13,6 @@ pub mod Known
 pub mod Lightening
 pub mod NamedTexts
 pub mod Numbered
-pub mod Numbering
 pub mod PairLink
 pub mod PairMakes
 pub mod PairSent

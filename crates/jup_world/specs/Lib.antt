@@ -6,7 +6,6 @@ pub mod Happenings
 pub mod Headline
 pub mod Meanings
 pub mod NumberedReplies
-pub mod Numbering
 pub mod Openings
 pub mod Promises
 pub mod Replies

@@ -9,16 +9,13 @@ mod events;
 mod pair;
 mod promises;
 mod script;
-#[cfg(test)]
-mod tests;
-mod text;
 mod two;
 mod world;
 
 pub use events::{Event, Happened, Reply};
+pub use jup_text::{read_command, write_board, write_edit};
 pub use pair::{pair_slider, pair_toggle};
 pub use promises::worlds_agree;
 pub use script::{ScriptEnd, run_script};
-pub use text::{read_command, write_board, write_edit};
 pub use two::{Two, TwoEdit, TwoEvent, TwoReply};
 pub use world::{Halted, World};

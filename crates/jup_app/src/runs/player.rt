@@ -4,11 +4,11 @@ ghost use Rattle.jup_star.specs.SiteCalls.{is_edit_memory};
 ghost use Rattle.jup_hub.specs.Passes.{view_of, IsPassOf};
 ghost use Rattle.jup_app.specs.Plays.{link_with, Handles, Answered, Played};
 
-use crate::gate::Gate;
 use crate::runs::calls::Caller;
 use crate::runs::receive::receive;
 use crate::runs::stop::Stop;
 use jup_hub::Hub;
+use jup_session::Gate;
 use jup_star::{Site, Up};
 use jup_window::{Command, Edit, EditFault};
 use std::alloc::Global;

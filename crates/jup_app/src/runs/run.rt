@@ -8,7 +8,6 @@ ghost use Rattle.jup_world.specs.Openings.{IsOpening};
 ghost use Rattle.jup_app.specs.RunFaults.{opening_refusal, many_refusal, RefusedFirst};
 ghost use Rattle.jup_app.specs.Whole.{IsRun, AllAgree};
 
-use crate::gate::Gate;
 use crate::runs::calls::Caller;
 use crate::runs::drain::{SiteEnd, drain};
 use crate::runs::fault::RunFault;
@@ -17,6 +16,7 @@ use crate::runs::seating::seat_all;
 use crate::runs::stop::Stop;
 use crate::runs::threads::play_all;
 use jup_hub::Hub;
+use jup_session::Gate;
 use jup_star::{Star, is_short};
 use jup_window::{Board, Command};
 use std::alloc::Global;

@@ -2,10 +2,10 @@
 ghost use Rattle.std.specs.Prelude.{◌≡◌, IfOk, vec_len, All};
 ghost use Rattle.jup_app.specs.Threads.{IsReady, Ran, AllRan};
 
-use crate::gate::Gate;
 use crate::runs::player::Player;
 use crate::runs::stop::Stop;
 use jup_hub::Hub;
+use jup_session::Gate;
 use jup_window::Command;
 use std::alloc::{AllocError, Global};
 use std::sync::Wait;

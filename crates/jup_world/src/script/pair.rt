@@ -4,9 +4,9 @@ ghost use Rattle.jup_world.specs.ScriptEnds.{ComesInPlay};
 
 use super::ScriptEnd;
 use super::lines::Script;
-use crate::text::words::{read_integer, read_switch, switch_word};
 use crate::{pair_slider, pair_toggle};
 use jup_setting::{SettingValue, Slider, Toggle};
+use jup_text::{read_integer, read_switch, switch_word};
 use std::fmt::Display;
 use std::io::Write;
 

@@ -4,13 +4,11 @@ ghost use Rattle.jup_world.specs.ScriptEnds.{ComesInPlay};
 
 use super::ScriptEnd;
 use super::lines::Script;
-use crate::text::boards::PrintedBoard;
-use crate::text::edits::PrintedEdit;
-use crate::text::layouts::{Draft, Untaken, is_board_line};
-use crate::text::read_command;
-use crate::text::words::read_number;
 use crate::{Event, Reply, World};
 use jup_star::{OpenFault, is_short};
+use jup_text::{
+    BoardReader, PrintedBoard, PrintedEdit, Untaken, is_board_line, read_command, read_number,
+};
 use jup_window::Board;
 use std::alloc::Global;
 use std::io::Write;
@@ -57,18 +55,18 @@ fn read_board<'a>(
 ) -> Result<(Board, Option<&'a str>), ScriptEnd>
     ensures { IfErr result ComesInPlay }
 {
-    let mut draft = Draft::new(alloc);
+    let mut reader = BoardReader::new(alloc);
     while let Some(line) = script.next_line()? {
         if !is_board_line(line) {
-            return Ok((draft.whole(), Some(line)));
+            return Ok((reader.whole(), Some(line)));
         }
-        match draft.take(alloc, line) {
+        match reader.take(alloc, line) {
             Ok(()) => {}
             Err(Untaken::BadLine) => return Err(script.bad_line()),
             Err(Untaken::NoMemory) => return Err(ScriptEnd::NoMemory),
         }
     }
-    Ok((draft.whole(), None))
+    Ok((reader.whole(), None))
 }
 
 // A world over a board. No board that was read so is refused, so that the line would be that of the limit.

@@ -4,9 +4,8 @@ ghost use Rattle.jup_world.specs.ScriptEnds.{ComesInPlay};
 
 use super::ScriptEnd;
 use super::lines::Script;
-use crate::text::quoted::{Quoted, read_quoted, read_quoted_char};
-use crate::text::words::read_number;
 use crate::{Two, TwoEdit, TwoEvent, TwoReply};
+use jup_text::{Quoted, read_number, read_quoted, read_quoted_char};
 use std::alloc::Global;
 use std::io::Write;
 use std::{fmt, io};

@@ -1,0 +1,251 @@
+//! Runs of few and of many sites, and their refusals.
+ghost use Rattle.jup_window.specs.Entries.{EachWidget};
+ghost use Rattle.jup_star.specs.Openings.{IsShort};
+
+use jup_app::{Open, RunEnd, RunFault, SiteEnd, run_many, run_two};
+use jup_star::Entry;
+use jup_value::Label;
+use jup_window::{Board, Command, EditFault, Setting, Value, Widget};
+use std::alloc::Global;
+use std::marker::PhantomData;
+use std::process::Abort;
+use test_boards::board_of;
+
+pub(crate) const LIMIT: u32 = 100_000;
+
+// Window 1 has an empty text 1 and a toggle 2.
+pub(crate) fn blank(rt: &impl Abort, alloc: Global) -> Board
+    ensures { EachWidget IsShort result }
+{
+    let lines = ["window 1", "text 1 \"\"", "toggle 2 off"];
+    board_of(alloc, &lines).expect(rt, "a board")
+}
+
+// An insertion at the head of the text.
+pub(crate) fn insertion(value: char) -> Command {
+    Command::Insert {
+        win: 1,
+        wid: 1,
+        place: 0,
+        value: Value::Char(value),
+    }
+}
+
+// So many insertions.
+pub(crate) fn insertions(
+    rt: &impl Abort,
+    alloc: Global,
+    value: char,
+    count: usize,
+) -> Vec<Command> {
+    // The checker learns of the types within a command from this.
+    let _within: PhantomData<(Value, Setting, Label)> = PhantomData;
+    let mut script = Vec::new(alloc);
+    for _ in 0..count {
+        script.push(insertion(value)).expect(rt, "memory");
+    }
+    script
+}
+
+// A script of so many insertions for each of so many sites.
+pub(crate) fn scripts(
+    rt: &impl Abort,
+    alloc: Global,
+    sites: usize,
+    count: usize,
+) -> Vec<Vec<Command>> {
+    let mut all = Vec::new(alloc);
+    for _ in 0..sites {
+        let script = insertions(rt, alloc, 'a', count);
+        all.push(script).expect(rt, "memory");
+    }
+    all
+}
+
+// So many settings of the toggle, on and off in turn.
+fn settings(rt: &impl Abort, alloc: Global, count: usize) -> Vec<Command> {
+    let mut script = Vec::new(alloc);
+    for k in 0..count {
+        let setting = Setting::Toggle(k % 2 == 0);
+        let set = Command::Set {
+            win: 1,
+            wid: 2,
+            setting,
+        };
+        script.push(set).expect(rt, "memory");
+    }
+    script
+}
+
+// What a run came to.
+pub(crate) fn ended(rt: &impl Abort, run: Result<RunEnd, RunFault>) -> RunEnd {
+    run.expect(rt, "a run that ends")
+}
+
+// How many items the text has.
+fn items(board: &Board) -> usize {
+    match board.widget(1, 1) {
+        Some(Widget::Text(text)) => text.len() as usize,
+        _ => 0,
+    }
+}
+
+// Whether all sites show the star's board.
+pub(crate) fn agree(end: &RunEnd) -> bool {
+    end.sites
+        .iter()
+        .all(|site| site.site.board().same(end.star.board()))
+}
+
+// Whether an end's replies are the edits of its site in the order, in turn.
+fn tells_the_order(end: &SiteEnd, order: &[Entry]) -> bool {
+    let site = end.site.number();
+    let own = order.iter().filter(|entry| entry.site == site);
+    own.map(|entry| Ok(entry.edit))
+        .eq(end.replies.iter().copied())
+}
+
+// The number of the refusal, or 0.
+pub(crate) fn refusal(run: Result<RunEnd, RunFault>) -> u32 {
+    match run {
+        Ok(_) => 0,
+        Err(fault) => fault.number(),
+    }
+}
+
+#[test]
+fn two_sites_of_200_insertions(rt: HostRuntime) {
+    let alloc = rt.alloc();
+    let first = insertions(&rt, alloc, 'a', 200);
+    let second = insertions(&rt, alloc, 'b', 200);
+    let run = run_two(&rt, alloc, blank(&rt, alloc), LIMIT, &first, &second, &Open);
+    let end = ended(&rt, run);
+    assert_eq!(rt; items(end.star.board()), 400);
+    assert_eq!(rt; end.star.order().len(), 400);
+    assert_eq!(rt; end.sites.len(), 2);
+    assert!(rt; agree(&end));
+    for site in &end.sites {
+        assert_eq!(rt; site.replies.len(), 200);
+        assert!(rt; tells_the_order(site, end.star.order()));
+    }
+}
+
+#[test]
+fn eight_sites_of_50_insertions(rt: HostRuntime) {
+    let alloc = rt.alloc();
+    let all = scripts(&rt, alloc, 8, 50);
+    let run = run_many(&rt, alloc, blank(&rt, alloc), LIMIT, &all, &Open);
+    let end = ended(&rt, run);
+    assert_eq!(rt; items(end.star.board()), 400);
+    assert_eq!(rt; end.sites.len(), 8);
+    assert!(rt; agree(&end));
+}
+
+#[test]
+fn one_to_64_sites_run(rt: HostRuntime) {
+    let alloc = rt.alloc();
+    let none = run_many(&rt, alloc, blank(&rt, alloc), LIMIT, &[], &Open);
+    assert_eq!(rt; refusal(none), 61);
+    let all = scripts(&rt, alloc, 64, 1);
+    let run = run_many(&rt, alloc, blank(&rt, alloc), LIMIT, &all, &Open);
+    let end = ended(&rt, run);
+    assert_eq!(rt; items(end.star.board()), 64);
+    assert!(rt; agree(&end));
+    let more = scripts(&rt, alloc, 65, 1);
+    let many = run_many(&rt, alloc, blank(&rt, alloc), 0, &more, &Open);
+    assert_eq!(rt; refusal(many), 61);
+}
+
+#[test]
+fn a_full_order_refuses_a_run(rt: HostRuntime) {
+    let alloc = rt.alloc();
+    let two = insertions(&rt, alloc, 'a', 2);
+    let full = run_two(&rt, alloc, blank(&rt, alloc), 3, &two, &two, &Open);
+    assert_eq!(rt; refusal(full), 32);
+    let all = scripts(&rt, alloc, 2, 2);
+    let full = run_many(&rt, alloc, blank(&rt, alloc), 3, &all, &Open);
+    assert_eq!(rt; refusal(full), 32);
+    let none = run_two(&rt, alloc, blank(&rt, alloc), 0, &two, &two, &Open);
+    assert_eq!(rt; refusal(none), 50);
+}
+
+#[test]
+fn one_site_of_2_000_settings(rt: HostRuntime) {
+    let alloc = rt.alloc();
+    let script = settings(&rt, alloc, 2_000);
+    let run = run_two(&rt, alloc, blank(&rt, alloc), LIMIT, &script, &[], &Open);
+    let end = ended(&rt, run);
+    assert_eq!(rt; end.sites.len(), 2);
+    assert_eq!(rt; end.sites[0].replies.len(), 2_000);
+    assert!(rt; end.sites[0].replies.iter().all(|reply| reply.is_ok()));
+    assert!(rt; end.sites[1].replies.is_empty());
+    assert_eq!(rt; end.star.order().len(), 2_000);
+    assert!(rt; agree(&end));
+}
+
+// A deletion at the head of the text.
+fn deletion() -> Command {
+    Command::Delete {
+        win: 1,
+        wid: 1,
+        place: 0,
+    }
+}
+
+// A deletion where nothing is, an insertion, and a deletion of that.
+fn deleting_twice(rt: &impl Abort, alloc: Global) -> Vec<Command> {
+    let _within: PhantomData<(Value, Setting, Label)> = PhantomData;
+    let mut script = Vec::new(alloc);
+    script.push(deletion()).expect(rt, "memory");
+    script.push(insertion('a')).expect(rt, "memory");
+    script.push(deletion()).expect(rt, "memory");
+    script
+}
+
+#[test]
+fn a_refused_command_is_answered(rt: HostRuntime) {
+    let alloc = rt.alloc();
+    let script = deleting_twice(&rt, alloc);
+    let run = run_two(&rt, alloc, blank(&rt, alloc), LIMIT, &script, &[], &Open);
+    let end = ended(&rt, run);
+    assert_eq!(rt; end.sites.len(), 2);
+    let replies = &end.sites[0].replies;
+    assert_eq!(rt; replies.len(), 3);
+    assert_eq!(rt; replies[0], Err(EditFault::BadPlace));
+    assert!(rt; replies[1].is_ok());
+    assert!(rt; replies[2].is_ok());
+    assert_eq!(rt; items(end.star.board()), 0);
+}
+
+// Run this with each allocation refused in turn: the run is refused for want of memory, or runs.
+#[test]
+fn want_of_memory_refuses_a_run(rt: HostRuntime) {
+    let alloc = rt.alloc();
+    let two = insertions(&rt, alloc, 'a', 2);
+    let run = run_two(&rt, alloc, blank(&rt, alloc), LIMIT, &two, &two, &Open);
+    let number = match run {
+        Ok(end) => {
+            assert!(rt; agree(&end));
+            0
+        }
+        Err(fault) => fault.number(),
+    };
+    assert!(rt; number == 0 || number == 8);
+}
+
+// The same of many sites.
+#[test]
+fn want_of_memory_refuses_a_run_of_many(rt: HostRuntime) {
+    let alloc = rt.alloc();
+    let all = scripts(&rt, alloc, 8, 2);
+    let run = run_many(&rt, alloc, blank(&rt, alloc), LIMIT, &all, &Open);
+    let number = match run {
+        Ok(end) => {
+            assert!(rt; agree(&end));
+            assert_eq!(rt; end.star.order().len(), 16);
+            0
+        }
+        Err(fault) => fault.number(),
+    };
+    assert!(rt; number == 0 || number == 8);
+}

@@ -1,0 +1,13 @@
+//! Values, settings, sequences and boards, by their public calls.
+#![tactic(auto)]
+
+ghost use Rattle.std.specs.Prelude.{◌≡◌};
+
+#[cfg(test)]
+mod boards;
+#[cfg(test)]
+mod sequences;
+#[cfg(test)]
+mod settings;
+#[cfg(test)]
+mod values;

@@ -1,0 +1,296 @@
+//! Each call once where it succeeds, calls of two threads, and growths that are refused.
+ghost use Rattle.std.specs.Prelude.{All};
+ghost use Rattle.jup_window.specs.Entries.{EachWidget};
+ghost use Rattle.jup_star.specs.Openings.{IsShort};
+ghost use Rattle.jup_hub.specs.Passes.{IsPassOf};
+
+use jup_hub::{Closed, Hub, HubFault, Pass};
+use jup_link::Msg;
+use jup_seq::SeqOp;
+use jup_star::{Down, Downs, Entry, Star, StarFault, Up};
+use jup_value::{Item, Name};
+use jup_window::{Board, BoardOp, Edit, Effect, WidgetOp};
+use std::alloc::Global;
+use std::process::Abort;
+use std::sync::Wait;
+use std::thread::join;
+use test_boards::{board_of, reads};
+
+const LIMIT: u32 = 100_000;
+
+// Window 1 has an empty text 1.
+fn blank(rt: &impl Abort, alloc: Global) -> Board
+    ensures { EachWidget IsShort result }
+{
+    board_of(alloc, &["window 1", "text 1 \"\""]).expect(rt, "a board")
+}
+
+// A star over the blank board, with some sites attached.
+fn star_of(rt: &impl Abort, alloc: Global, sites: u32) -> Star {
+    let mut star = Star::open(alloc, blank(rt, alloc), LIMIT).expect(rt, "a layout and a limit");
+    for _ in 0..sites {
+        assert!(rt; star.join(alloc).is_ok());
+    }
+    star
+}
+
+// The first insertion of a site, before all items.
+fn insertion(site: u32) -> BoardOp {
+    let name = Name { site, number: 1 };
+    let item = Item { name, value: 'a' };
+    BoardOp {
+        win: 1,
+        wid: 1,
+        op: WidgetOp::Text(SeqOp::Insert { place: 0, item }),
+    }
+}
+
+// The message that tells of it.
+fn told_of(site: u32) -> Up {
+    Up::Op(Msg {
+        mine: 0,
+        heard: 0,
+        op: insertion(site),
+    })
+}
+
+// How it stands in the order.
+fn entry_of(site: u32) -> Entry {
+    let name = Name { site, number: 1 };
+    let edit = Edit {
+        win: 1,
+        wid: 1,
+        what: Effect::PutChar(name, 'a'),
+    };
+    Entry { site, edit }
+}
+
+// A hub over a star, with its first pass.
+fn opened(rt: &impl Abort, alloc: Global, star: Star) -> (Hub, Pass)
+    ensures { IsPassOf result.0 result.1 }
+{
+    match Hub::open(alloc, star) {
+        Ok(opened) => opened,
+        Err(_) => panic!(rt; "no memory"),
+    }
+}
+
+// A hub over a star with some sites attached, with its first pass.
+fn hub_of(rt: &impl Abort, alloc: Global, sites: u32) -> (Hub, Pass)
+    ensures { IsPassOf result.0 result.1 }
+{
+    opened(rt, alloc, star_of(rt, alloc, sites))
+}
+
+fn closed(rt: &impl Abort, hub: Hub, pass: Pass) -> Closed
+    requires { IsPassOf hub pass }
+{
+    match hub.close(pass) {
+        Ok(closed) => closed,
+        Err(_) => panic!(rt; "the turn is free"),
+    }
+}
+
+// Whether just the first edit of site 1 was fetched.
+fn tells_of_one(downs: &Downs) -> bool {
+    let edit = Down::Op(Msg {
+        mine: 0,
+        heard: 0,
+        op: insertion(1),
+    });
+    downs.as_slice() == [edit].as_slice()
+}
+
+#[test]
+fn each_call_of_two_passes_is_an_event(rt: HostRuntime) {
+    let alloc = rt.alloc();
+    let (hub, mut a) = hub_of(&rt, alloc, 0);
+    assert_eq!(rt; joins(&rt, alloc, &hub, &mut a), 1);
+    assert_eq!(rt; joins(&rt, alloc, &hub, &mut a), 2);
+    let mut b = hub.split(&mut a);
+    assert_eq!(rt; hub.take(&rt, alloc, &mut a, 1, &told_of(1)), Ok(Some(0)));
+    assert_eq!(rt; hub.take(&rt, alloc, &mut b, 2, &told_of(2)), Ok(Some(1)));
+    hub.rejoin(&mut a, b);
+    let Closed { star, events } = closed(&rt, hub, a);
+    assert_eq!(rt; events, 4);
+    assert_eq!(rt; star.order(), [entry_of(1), entry_of(2)].as_slice());
+}
+
+#[test]
+fn a_pass_split_from_another_fetches_what_it_took(rt: HostRuntime) {
+    let alloc = rt.alloc();
+    let (hub, mut a) = hub_of(&rt, alloc, 2);
+    assert_eq!(rt; hub.take(&rt, alloc, &mut a, 1, &told_of(1)), Ok(Some(0)));
+    let mut b = hub.split(&mut a);
+    assert!(rt; fetches_one(&rt, alloc, &hub, &mut b));
+    let none = hub.fetch(&rt, alloc, &mut b, 9, 1);
+    assert_eq!(rt; none.err().map(|fault| fault.number()), Some(33));
+    assert_eq!(rt; hub.leave(&rt, &mut b, 1), Ok(()));
+    hub.rejoin(&mut a, b);
+    let Closed { star, events } = closed(&rt, hub, a);
+    assert_eq!(rt; events, 4);
+    assert_eq!(rt; star.order(), [entry_of(1)].as_slice());
+    assert!(rt; reads(star.board(), "a"));
+}
+
+#[test]
+fn news_after_take(rt: HostRuntime) {
+    let alloc = rt.alloc();
+    let (hub, mut a) = hub_of(&rt, alloc, 1);
+    let mut b = hub.split(&mut a);
+    assert!(rt; !hub.news(&mut b));
+    assert_eq!(rt; hub.take(&rt, alloc, &mut a, 1, &told_of(1)), Ok(Some(0)));
+    assert!(rt; hub.news(&mut b));
+    assert!(rt; !hub.news(&mut b));
+    assert!(rt; !hub.news(&mut a));
+}
+
+// The number that the next site is given.
+fn joins<R: Abort + Wait>(rt: &R, alloc: Global, hub: &Hub, pass: &mut Pass) -> u32
+    requires { IsPassOf hub.now pass.old }
+    ensures { IsPassOf hub.now pass.new }
+{
+    let joined = hub.join_site(rt, alloc, pass).expect(rt, "a free link");
+    joined.site
+}
+
+// In a thread of its own: the first edit of a site is taken.
+fn taken<R: Wait>(rt: &R, alloc: Global, hub: &Hub, mut pass: Pass, site: u32) -> Pass
+    requires { IsPassOf hub.now pass }
+    ensures { IsPassOf hub.now result }
+{
+    let _ = hub.take(rt, alloc, &mut pass, site, &told_of(site));
+    pass
+}
+
+// In a thread of its own: one more site joins.
+fn joined<R: Wait>(rt: &R, alloc: Global, hub: &Hub, mut pass: Pass) -> Pass
+    requires { IsPassOf hub.now pass }
+    ensures { IsPassOf hub.now result }
+{
+    let _ = hub.join_site(rt, alloc, &mut pass);
+    pass
+}
+
+// Whether a fetch for site 2 gives just the edit of site 1.
+fn fetches_one<R: Wait>(rt: &R, alloc: Global, hub: &Hub, pass: &mut Pass) -> bool
+    requires { IsPassOf hub.now pass.old }
+    ensures { IsPassOf hub.now pass.new }
+{
+    match hub.fetch(rt, alloc, pass, 2, 10) {
+        Ok(downs) => tells_of_one(&downs),
+        Err(_) => false,
+    }
+}
+
+// The same, in a thread of its own.
+fn fetched<R: Wait>(rt: &R, alloc: Global, hub: &Hub, mut pass: Pass) -> bool
+    requires { IsPassOf hub.now pass }
+{
+    fetches_one(rt, alloc, hub, &mut pass)
+}
+
+#[test]
+fn one_thread_fetches_what_the_other_took(rt: HostRuntime) {
+    let alloc = rt.alloc();
+    let (hub, mut a) = hub_of(&rt, alloc, 2);
+    let b = hub.split(&mut a);
+    let (a, mut b) = join(
+        &rt,
+        || taken(&rt, alloc, &hub, a, 1),
+        || joined(&rt, alloc, &hub, b),
+    );
+    hub.rejoin(&mut b, a);
+    assert!(rt; fetched(&rt, alloc, &hub, b));
+}
+
+#[test]
+fn a_thread_with_a_split_pass_fetches_what_the_other_took(rt: HostRuntime) {
+    let alloc = rt.alloc();
+    let (hub, a) = hub_of(&rt, alloc, 2);
+    let mut a = taken(&rt, alloc, &hub, a, 1);
+    let b = hub.split(&mut a);
+    let (_, gives) = join(
+        &rt,
+        || taken(&rt, alloc, &hub, a, 2),
+        || fetched(&rt, alloc, &hub, b),
+    );
+    assert!(rt; gives);
+}
+
+// Some passes, each split from this one.
+fn split_often(rt: &impl Abort, alloc: Global, hub: &Hub, a: &mut Pass, count: u32) -> Vec<Pass>
+    requires { IsPassOf hub.now a.old }
+    ensures pass { IsPassOf hub.now a.new }
+    ensures passes { All (IsPassOf hub.now) result.items }
+{
+    let mut passes = Vec::new(alloc);
+    for _ in 0..count {
+        passes.push(hub.split(a)).expect(rt, "memory");
+    }
+    passes
+}
+
+// One take by each pass, for the sites from 2 on, and then the passes are taken in.
+fn taken_by_each<R: Wait>(rt: &R, alloc: Global, hub: &Hub, a: &mut Pass, passes: Vec<Pass>) -> bool
+    requires { IsPassOf hub.now a.old × All (IsPassOf hub.now) passes.items }
+    ensures { IsPassOf hub.now a.new }
+{
+    let mut passes = passes;
+    let mut place: u32 = 1;
+    while let Some(mut b) = passes.pop() {
+        let site: u32 = place.saturating_add(1);
+        let taken = hub.take(rt, alloc, &mut b, site, &told_of(site));
+        if taken != Ok(Some(place)) {
+            return false;
+        }
+        hub.rejoin(a, b);
+        place = site;
+    }
+    true
+}
+
+#[test]
+fn each_of_64_passes_takes_once(rt: HostRuntime) {
+    let alloc = rt.alloc();
+    let (hub, mut a) = hub_of(&rt, alloc, 64);
+    let passes = split_often(&rt, alloc, &hub, &mut a, 63);
+    assert_eq!(rt; hub.take(&rt, alloc, &mut a, 1, &told_of(1)), Ok(Some(0)));
+    assert!(rt; taken_by_each(&rt, alloc, &hub, &mut a, passes));
+    let Closed { star, events } = closed(&rt, hub, a);
+    assert_eq!(rt; events, 64);
+    assert_eq!(rt; star.order().len(), 64);
+}
+
+// Run these with each allocation refused in turn.
+
+#[test]
+fn a_hub_that_lacks_memory_gives_the_star_back(rt: HostRuntime) {
+    let alloc = rt.alloc();
+    let (hub, mut a) = match Hub::open(alloc, star_of(&rt, alloc, 1)) {
+        Ok(opened) => opened,
+        Err(star) => {
+            assert_eq!(rt; star.waiting(1), Some(0));
+            assert!(rt; reads(star.board(), ""));
+            opened(&rt, alloc, star)
+        }
+    };
+    assert_eq!(rt; hub.leave(&rt, &mut a, 1), Ok(()));
+    let Closed { star, events } = closed(&rt, hub, a);
+    assert_eq!(rt; star.waiting(1), None);
+    assert_eq!(rt; events, 1);
+}
+
+#[test]
+fn a_take_that_lacks_memory_is_no_event(rt: HostRuntime) {
+    let alloc = rt.alloc();
+    let (hub, mut a) = hub_of(&rt, alloc, 2);
+    let mut b = hub.split(&mut a);
+    let mut place = hub.take(&rt, alloc, &mut a, 1, &told_of(1));
+    if place == Err(HubFault::Star(StarFault::NoMemory)) {
+        assert!(rt; !hub.news(&mut b));
+        place = hub.take(&rt, alloc, &mut a, 1, &told_of(1));
+    }
+    assert_eq!(rt; place, Ok(Some(0)));
+    assert_eq!(rt; closed(&rt, hub, a).events, 1);
+}

@@ -1,4 +1,0 @@
-//! Whole runs.
-
-mod runs;
-mod runs_gates;

@@ -1,0 +1,127 @@
+//! The commands of a user, a line each.
+ghost use Rattle.std.specs.Prelude.{◌≤◌};
+
+use super::ClientEnd;
+use crate::sessions::SessionFault;
+use crate::sessions::source::{MOST_READS, is_interrupted};
+use jup_text::read_command;
+use jup_window::Command;
+use std::alloc::Global;
+use std::io::Read;
+
+/// The longest line, without its line feed.
+const LONGEST: usize = 4_096;
+
+/// Bytes that one read asks for.
+const PIECE: usize = 4_096;
+
+/// What a user asks for.
+#[derive(Clone, Copy, Debug, PartialEq, Eq)]
+pub(crate) enum Request {
+    Edit(Command),
+    Sync,
+    Show,
+    Quit,
+    /// A line that is none of these.
+    Bad,
+}
+
+/// Where requests come from.
+#[derive(Drop)]
+pub(crate) struct Requests<C: Read + Drop> {
+    from: C,
+    // The bytes of the last read, and how many of them were looked at.
+    piece: Vec<u8>,
+    given: usize,
+    // The line so far, and whether it has more bytes than a line may have.
+    line: Vec<u8>,
+    is_long: bool,
+}
+
+impl<C: Read + Drop> Requests<C> {
+    pub(crate) fn new(alloc: Global, from: C) -> Requests<C> {
+        Requests {
+            from,
+            piece: Vec::new(alloc),
+            given: 0,
+            line: Vec::new(alloc),
+            is_long: false,
+        }
+    }
+
+    /// The next one: `Quit` at the end of the input. A last line needs no line feed.
+    pub(crate) fn next_request(&mut self, reads: &mut u32) -> Result<Request, ClientEnd> {
+        self.line.clear();
+        self.is_long = false;
+        for _ in 0..u64::MAX {
+            if self.fill_line()? {
+                return Ok(self.request());
+            }
+            if !self.read(reads)? {
+                let is_line = self.is_long || !self.line.is_empty();
+                return Ok(if is_line {
+                    self.request()
+                } else {
+                    Request::Quit
+                });
+            }
+        }
+        Err(SessionFault::ReadsSpent.into())
+    }
+
+    // Moves bytes of the piece into the line. True where the line is whole.
+    fn fill_line(&mut self) -> Result<bool, ClientEnd> {
+        for _ in self.given..self.piece.len() {
+            let Some(byte) = self.piece.get(self.given).copied() else {
+                return Ok(false);
+            };
+            self.given += 1;
+            if byte == b'\n' {
+                return Ok(true);
+            }
+            if self.line.len() >= LONGEST {
+                self.is_long = true;
+            } else if self.line.push(byte).is_err() {
+                return Err(ClientEnd::NoMemory);
+            }
+        }
+        Ok(false)
+    }
+
+    // One read. False at the end of the input.
+    fn read(&mut self, reads: &mut u32) -> Result<bool, ClientEnd> {
+        if *reads == MOST_READS {
+            return Err(SessionFault::ReadsSpent.into());
+        }
+        *reads += 1;
+        let mut piece = [0u8; PIECE];
+        let len = match self.from.read(&mut piece) {
+            Ok(0) => return Ok(false),
+            Ok(len) => len,
+            Err(error) if is_interrupted(&error) => 0,
+            Err(_) => return Err(ClientEnd::ReadFailed),
+        };
+        self.given = 0;
+        self.piece.clear();
+        match self.piece.extend_from_slice(&piece[..len]) {
+            Ok(()) => Ok(true),
+            Err(_) => Err(ClientEnd::NoMemory),
+        }
+    }
+
+    // What the line asks for.
+    fn request(&self) -> Request {
+        if self.is_long {
+            return Request::Bad;
+        }
+        match self.line.as_slice() {
+            b"sync" => Request::Sync,
+            b"show" => Request::Show,
+            b"quit" => Request::Quit,
+            line => match read_command(line) {
+                Some(command) => Request::Edit(command),
+                None => Request::Bad,
+            },
+        }
+    }
+}

@@ -1,0 +1,108 @@
+//! Why a client ends early.
+ghost use Rattle.std.specs.Prelude.{◌≡◌, ◌≤◌};
+ghost use Rattle.jup_session.specs.ClientEnds.{client_end_number, client_end_status};
+
+use crate::sessions::SessionFault;
+use crate::sessions::source::Stop;
+use jup_hub::HubFault;
+use jup_star::{OpenFault, SiteFault, StarFault};
+use jup_wire::{LayoutFault, WireFault};
+use jup_xform::NoMemory;
+use thiserror::Error;
+
+/// Why a client ends early.
+#[derive(Clone, Copy, Debug, PartialEq, Eq, Error)]
+pub enum ClientEnd {
+    /// The number of a fault in what the server sent, or of one that the server told.
+    #[error("fault {0}")]
+    Fault(u32),
+    #[error("no memory")]
+    NoMemory,
+    #[error("io fault")]
+    ReadFailed,
+    #[error("io fault")]
+    WriteFailed,
+}
+
+impl ClientEnd {
+    /// The number of this fault in messages and printed texts.
+    pub fn number(self) -> u32
+        ensures { result ≡ client_end_number self }
+    {
+        match self {
+            ClientEnd::Fault(number) => number,
+            ClientEnd::NoMemory => 8,
+            ClientEnd::ReadFailed => 70,
+            ClientEnd::WriteFailed => 71,
+        }
+    }
+
+    /// The exit status of a client that ends so.
+    pub fn status(self) -> u8
+        ensures status { result ≡ client_end_status self }
+        ensures most { result ≤ 4 }
+    {
+        match self {
+            ClientEnd::ReadFailed | ClientEnd::WriteFailed => 1,
+            ClientEnd::NoMemory => 3,
+            ClientEnd::Fault(_) => 4,
+        }
+    }
+}
+
+impl From<NoMemory> for ClientEnd {
+    fn from(_fault: NoMemory) -> ClientEnd {
+        ClientEnd::NoMemory
+    }
+}
+
+impl From<SessionFault> for ClientEnd {
+    fn from(fault: SessionFault) -> ClientEnd {
+        match fault {
+            SessionFault::NoMemory | SessionFault::Hub(HubFault::Star(StarFault::NoMemory)) => {
+                ClientEnd::NoMemory
+            }
+            SessionFault::ReadFailed => ClientEnd::ReadFailed,
+            SessionFault::WriteFailed => ClientEnd::WriteFailed,
+            _ => ClientEnd::Fault(fault.number()),
+        }
+    }
+}
+
+impl From<Stop> for ClientEnd {
+    fn from(stop: Stop) -> ClientEnd {
+        match stop {
+            // A server says that it ends.
+            Stop::End => ClientEnd::Fault(WireFault::EarlyEnd.number()),
+            Stop::Fault(fault) => fault.into(),
+        }
+    }
+}
+
+impl From<LayoutFault> for ClientEnd {
+    fn from(fault: LayoutFault) -> ClientEnd {
+        if fault.line == 0 {
+            ClientEnd::NoMemory
+        } else {
+            ClientEnd::Fault(fault.number)
+        }
+    }
+}
+
+impl From<OpenFault> for ClientEnd {
+    fn from(fault: OpenFault) -> ClientEnd {
+        match fault {
+            OpenFault::NoMemory => ClientEnd::NoMemory,
+            _ => ClientEnd::Fault(fault.number()),
+        }
+    }
+}
+
+impl From<SiteFault> for ClientEnd {
+    fn from(fault: SiteFault) -> ClientEnd {
+        match fault {
+            SiteFault::NoMemory => ClientEnd::NoMemory,
+            _ => ClientEnd::Fault(fault.number()),
+        }
+    }
+}

@@ -1,0 +1,49 @@
+//! Sequences that are filled at their end with the items of a layout.
+ghost use Rattle.jup_text.specs.Numbering.{IsNumberedTo};
+
+use super::Untaken;
+use jup_value::{Item, Name, Seq};
+use jup_window::LONGEST_SEQUENCE;
+use std::alloc::Global;
+
+/// A sequence of items of site 0, whose numbers are at most `last`, so that the next number is new.
+#[derive(Drop)]
+pub(crate) struct Numbered<V> {
+    items: Seq<V>,
+    last: u32,
+    ghost counted: { IsNumberedTo last items.items },
+}
+
+impl<V: Copy> Numbered<V> {
+    /// No item yet. It takes no memory.
+    pub(crate) fn new(alloc: Global, last: u32) -> Self {
+        Numbered {
+            items: Seq::new(alloc),
+            last,
+        }
+    }
+
+    /// The number of the last item.
+    pub(crate) fn last(&self) -> u32 {
+        self.last
+    }
+
+    pub(crate) fn into_items(self) -> Seq<V> {
+        self.items
+    }
+
+    /// Puts one item more at the end, under the next number. Refused: a sequence of 65,536 items, no
+    /// memory.
+    pub(crate) fn push(&mut self, value: V) -> Result<(), Untaken> {
+        let place = self.items.len();
+        if place >= LONGEST_SEQUENCE || self.last == u32::MAX {
+            return Err(Untaken::BadLine);
+        }
+        let number = self.last + 1;
+        self.items.reserve_one().map_err(|_| Untaken::NoMemory)?;
+        let name = Name { site: 0, number };
+        self.items.insert(place, Item { name, value });
+        self.last = number;
+        Ok(())
+    }
+}

@@ -1,6 +1,0 @@
-mod boards;
-mod messages;
-mod scripts;
-mod star_scripts;
-mod texts;
-mod worlds;

@@ -1,0 +1,249 @@
+//! Clients over memory.
+
+use crate::fakes::{FailsAfter, FailsAt};
+use jup_session::{ClientEnd, run_client};
+use std::alloc::Global;
+use std::io::Read;
+use std::process::Abort;
+use std::str;
+
+const GREETED: &str = "welcome 1 100\nwindow 1\ntext 1\ntoggle 3 off\nready\n";
+
+// What a client sent, what it printed, and how it ended.
+#[derive(Drop)]
+struct Ran {
+    to: Vec<u8>,
+    out: Vec<u8>,
+    end: Result<(), ClientEnd>,
+}
+
+fn run(alloc: Global, commands: &[u8], from: &[u8]) -> Ran {
+    let mut to = Vec::new(alloc);
+    let mut out = Vec::new(alloc);
+    let end = run_client(alloc, commands, &mut out, from, &mut to);
+    Ran { to, out, end }
+}
+
+// It ended well, and sent and printed this.
+fn ended_well(rt: &impl Abort, ran: &Ran, sent: &str, printed: &str) {
+    assert_eq!(rt; ran.end, Ok(()));
+    assert_eq!(rt; str::from_utf8(ran.to.as_slice()), Ok(sent));
+    assert_eq!(rt; str::from_utf8(ran.out.as_slice()), Ok(printed));
+}
+
+// It ended in a fault, and printed this.
+fn ended_in_fault(rt: &impl Abort, ran: &Ran, number: u32, printed: &str) {
+    assert_eq!(rt; ran.end, Err(ClientEnd::Fault(number)));
+    assert_eq!(rt; str::from_utf8(ran.out.as_slice()), Ok(printed));
+}
+
+#[test]
+fn a_client_over_memory(rt: HostRuntime) {
+    let ran = run(
+        rt.alloc(),
+        b"ins 1 1 0 char \"a\"\nsync\nshow\nquit\n",
+        b"welcome 1 100\nwindow 1\ntext 1\nready\npong 1\n",
+    );
+    ended_well(
+        &rt,
+        &ran,
+        "hello 1\nop 0 0 1 1 text ins 0 1.1 97\nping 1\nbye\n",
+        "site 1\nmade ins 1 1 1.1 \"a\"\nsynced\nwindow 1\ntext 1 \"a\"\nbye\n",
+    );
+}
+
+#[test]
+fn commands_that_make_no_edit(rt: HostRuntime) {
+    // The last line has no line feed.
+    let ran = run(
+        rt.alloc(),
+        b"what\n\nsync now\ndel 1 1 0\nset 1 1 on\nset 1 3 on\nins 9 1 0 char \"a\"\nshow",
+        GREETED.as_bytes(),
+    );
+    ended_well(
+        &rt,
+        &ran,
+        "hello 1\nop 0 0 1 3 toggle set on\nbye\n",
+        "site 1\nbad command\nbad command\nbad command\nrefused 4\nrefused 3\n\
+        made set 1 3 on\nrefused 1\nwindow 1\ntext 1 \"\"\ntoggle 3 on\nbye\n",
+    );
+}
+
+// So many bytes that are no command, and then a sync.
+fn long_command(rt: &impl Abort, alloc: Global, len: usize) -> Vec<u8> {
+    let mut commands = Vec::new(alloc);
+    for _ in 0..len {
+        commands.push(b'x').expect(rt, "memory");
+    }
+    commands.extend_from_slice(b"\nsync\n").expect(rt, "memory");
+    commands
+}
+
+// The lines of a server that greets, and then answers so.
+fn greeted_and(rt: &impl Abort, alloc: Global, answer: &str) -> String {
+    format!(in alloc; "{GREETED}{answer}").expect(rt, "memory")
+}
+
+#[test]
+fn a_command_that_is_too_long(rt: HostRuntime) {
+    let alloc = rt.alloc();
+    let commands = long_command(&rt, alloc, 10_000);
+    let from = greeted_and(&rt, alloc, "pong 1\n");
+    let ran = run(alloc, commands.as_slice(), from.as_bytes());
+    ended_well(
+        &rt,
+        &ran,
+        "hello 1\nping 1\nbye\n",
+        "site 1\nbad command\nsynced\nbye\n",
+    );
+}
+
+// The lines of a server that greets, sends so many settings, and answers two syncs.
+fn settings(rt: &impl Abort, alloc: Global, count: u32) -> Vec<u8> {
+    let mut from = Vec::new(alloc);
+    from.extend_from_slice(GREETED.as_bytes())
+        .expect(rt, "memory");
+    for k in 0..count {
+        let line = format!(in alloc; "op {k} 0 1 3 toggle set on\n").expect(rt, "memory");
+        from.extend_from_slice(line.as_bytes()).expect(rt, "memory");
+    }
+    from.extend_from_slice(b"pong 1\npong 2\n")
+        .expect(rt, "memory");
+    from
+}
+
+#[test]
+fn the_64th_edit_is_acknowledged(rt: HostRuntime) {
+    let alloc = rt.alloc();
+    let from = settings(&rt, alloc, 64);
+    let ran = run(alloc, b"sync\nshow\nsync\n", from.as_slice());
+    ended_well(
+        &rt,
+        &ran,
+        "hello 1\nping 1\nack 64\nping 2\nbye\n",
+        "site 1\nsynced\nwindow 1\ntext 1 \"\"\ntoggle 3 on\nsynced\nbye\n",
+    );
+}
+
+#[test]
+fn servers_that_greet_wrongly(rt: HostRuntime) {
+    for (from, number) in [
+        ("error 30\n", 30),
+        ("ready\n", 44),
+        ("welcom\n", 40),
+        ("hello 2\n", 42),
+        ("", 43),
+        ("welcome 1 100\nwindow 1\n", 43),
+        ("welcome 1 100\nerror 8\n", 8),
+        ("welcome 1 100\npong 1\n", 44),
+        ("welcome 1 100\ntext 1\nready\n", 44),
+        ("welcome 1 100\nwindow 1\nwindow 1\nready\n", 10),
+        ("welcome 1 100\nwindow 0\nready\n", 12),
+        ("welcome 1 100\nwindow 1\nslider 4 5 4 5\nready\n", 13),
+        ("welcome 1 0\nready\n", 50),
+        ("welcome 0 100\nready\n", 51),
+        ("welcome 1 100\nwindow 1\ntext 1\nchar 1.1 97\nready\n", 51),
+    ] {
+        let ran = run(rt.alloc(), b"quit\n", from.as_bytes());
+        ended_in_fault(&rt, &ran, number, "");
+        assert_eq!(rt;
+            str::from_utf8(ran.to.as_slice()),
+            Ok("hello 1\n"),
+            "{from}"
+        );
+    }
+}
+
+#[test]
+fn servers_that_answer_wrongly(rt: HostRuntime) {
+    let alloc = rt.alloc();
+    for (answer, number) in [
+        ("", 43),
+        ("pong 0", 43),
+        ("bye\n", 44),
+        ("ping 1\n", 44),
+        ("error 32\n", 32),
+        ("op 1 0 1 3 toggle set on\n", 20),
+        ("ack 1\n", 21),
+        ("op 0 0 1 1 text ins 0 1.1 97\n", 22),
+        ("op 0 0 1 1 text ins 9 2.1 97\n", 23),
+    ] {
+        let from = greeted_and(&rt, alloc, answer);
+        let ran = run(alloc, b"sync\nquit\n", from.as_bytes());
+        ended_in_fault(&rt, &ran, number, "site 1\n");
+    }
+}
+
+// How a client of this link ends that is told to sync and to quit.
+fn end_over<I: Read + Drop>(alloc: Global, from: I) -> Result<(), ClientEnd> {
+    let (mut to, mut out) = (Vec::new(alloc), Vec::new(alloc));
+    let commands: &[u8] = b"sync\nquit\n";
+    run_client(alloc, commands, &mut out, from, &mut to)
+}
+
+// How a client ends whose user's input fails.
+fn end_of_typed(alloc: Global, text: &[u8]) -> Result<(), ClientEnd> {
+    let (mut to, mut out) = (Vec::new(alloc), Vec::new(alloc));
+    let typed = FailsAfter { text };
+    run_client(alloc, typed, &mut out, GREETED.as_bytes(), &mut to)
+}
+
+// How a client ends whose link takes so many writes.
+fn end_after(alloc: Global, writes: u32) -> Result<(), ClientEnd> {
+    let mut out = Vec::new(alloc);
+    let text = &mut Vec::new(alloc);
+    let link = FailsAt { writes, text };
+    let commands: &[u8] = b"sync\nquit\n";
+    run_client(alloc, commands, &mut out, GREETED.as_bytes(), link)
+}
+
+// How a client ends that can print nothing.
+fn end_unprinted(alloc: Global) -> Result<(), ClientEnd> {
+    let mut to = Vec::new(alloc);
+    let text = &mut Vec::new(alloc);
+    let mut printed = FailsAt { writes: 0, text };
+    let commands: &[u8] = b"sync\nquit\n";
+    run_client(alloc, commands, &mut printed, GREETED.as_bytes(), &mut to)
+}
+
+#[test]
+fn reads_and_writes_that_fail(rt: HostRuntime) {
+    let alloc = rt.alloc();
+    let text = GREETED.as_bytes();
+    assert_eq!(rt;
+        end_over(alloc, FailsAfter { text }),
+        Err(ClientEnd::ReadFailed)
+    );
+    assert_eq!(rt; end_of_typed(alloc, b"quit"), Err(ClientEnd::ReadFailed));
+    for writes in 0..2 {
+        assert_eq!(rt;
+            end_after(alloc, writes),
+            Err(ClientEnd::WriteFailed),
+            "at {writes}"
+        );
+    }
+    assert_eq!(rt; end_unprinted(alloc), Err(ClientEnd::WriteFailed));
+}
+
+const PRINTED: &str = "site 1\nmade ins 1 1 1.1 \"a\"\nsynced\nwindow 1\ntext 1 \"a\"\nbye\n";
+
+// Run this with each allocation refused in turn: the client says so, or did all that was asked for.
+#[test]
+fn a_client_that_lacks_memory_says_so(rt: HostRuntime) {
+    let alloc = rt.alloc();
+    let (Ok(mut to), Ok(mut out)) = (
+        Vec::with_capacity(alloc, 256),
+        Vec::with_capacity(alloc, 256),
+    ) else {
+        return;
+    };
+    let commands: &[u8] = b"ins 1 1 0 char \"a\"\nsync\nshow\nquit\n";
+    let from: &[u8] = b"welcome 1 100\nwindow 1\ntext 1\nready\npong 1\n";
+    let end = run_client(alloc, commands, &mut out, from, &mut to);
+    if end.is_ok() {
+        assert_eq!(rt; str::from_utf8(out.as_slice()), Ok(PRINTED));
+    } else {
+        assert_eq!(rt; end, Err(ClientEnd::NoMemory));
+        assert!(rt; PRINTED.as_bytes().starts_with(out.as_slice()));
+    }
+}

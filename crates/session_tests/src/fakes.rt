@@ -1,0 +1,125 @@
+//! Readers, writers and listeners that fail, and gates that stay shut or count.
+
+use jup_session::Gate;
+use std::io;
+use std::io::{ErrorKind, Read, Write};
+use std::net::{Net, SocketAddr, TcpListener, TcpStream};
+use std::sync::Wait;
+use std::sync::atomic::{AtomicU32, Ordering};
+use std::thread::Threads;
+
+/// Gives its text, and then fails.
+#[derive(Drop)]
+pub(crate) struct FailsAfter<'a> {
+    pub(crate) text: &'a [u8],
+}
+
+impl<'a> Read for FailsAfter<'a> {
+    fn read(&mut self, buf: &mut [u8]) -> io::Result<usize> {
+        if self.text.is_empty() {
+            return Err(io::Error::from(ErrorKind::ConnectionReset));
+        }
+        self.text.read(buf)
+    }
+}
+
+/// Gives one byte at each second read. The reads between are interrupted.
+#[derive(Drop)]
+pub(crate) struct OneByOne<'a> {
+    pub(crate) text: &'a [u8],
+    pub(crate) is_next: bool,
+}
+
+impl<'a> Read for OneByOne<'a> {
+    fn read(&mut self, buf: &mut [u8]) -> io::Result<usize> {
+        self.is_next = !self.is_next;
+        if !self.is_next {
+            return Err(io::Error::from(ErrorKind::Interrupted));
+        }
+        match buf.first_mut() {
+            Some(byte) => {
+                let mut one = [0u8; 1];
+                let len = self.text.read(&mut one)?;
+                *byte = one[0];
+                Ok(len)
+            }
+            None => Ok(0),
+        }
+    }
+}
+
+/// Takes a number of writes, and then fails.
+#[derive(Drop)]
+pub(crate) struct FailsAt<'a> {
+    pub(crate) writes: u32,
+    pub(crate) text: &'a mut Vec<u8>,
+}
+
+impl<'a> Write for FailsAt<'a> {
+    fn write(&mut self, buf: &[u8]) -> io::Result<usize> {
+        if self.writes == 0 {
+            return Err(io::Error::from(ErrorKind::BrokenPipe));
+        }
+        self.writes -= 1;
+        self.text.write(buf)
+    }
+
+    fn flush(&mut self) -> io::Result<()> {
+        Ok(())
+    }
+}
+
+/// Lets up to a number of edits through, and counts how often it was asked and told.
+#[derive(Drop)]
+pub(crate) struct Counting {
+    pub(crate) most: u32,
+    pub(crate) asked: AtomicU32,
+    pub(crate) told: AtomicU32,
+}
+
+impl Counting {
+    pub(crate) fn new(most: u32) -> Counting {
+        Counting {
+            most,
+            asked: AtomicU32::new(0),
+            told: AtomicU32::new(0),
+        }
+    }
+}
+
+impl Gate for Counting {
+    fn ready(&self, _site: u32, nth: u32) -> bool {
+        self.asked.fetch_add(1, Ordering::SeqCst);
+        nth <= self.most
+    }
+
+    fn answered(&self, _site: u32, nth: u32) {
+        self.told.store(nth, Ordering::SeqCst);
+    }
+}
+
+/// A runtime whose listeners wait for nobody: an accept fails unless somebody has connected.
+#[derive(Drop)]
+pub(crate) struct Impatient<'a, R> {
+    pub(crate) rt: &'a R,
+}
+
+impl<'a, R: Threads> Threads for Impatient<'a, R> {}
+
+impl<'a, R: Wait> Wait for Impatient<'a, R> {}
+
+impl<'a, R: Net<Listener = TcpListener, Stream = TcpStream>> Net for Impatient<'a, R> {
+    type Stream = TcpStream;
+
+    type Listener = TcpListener;
+
+    fn bind(&self, addr: SocketAddr) -> io::Result<TcpListener> {
+        let listener = self.rt.bind(addr)?;
+        listener.set_nonblocking(true)?;
+        Ok(listener)
+    }
+
+    fn connect(&self, addr: SocketAddr) -> io::Result<TcpStream> {
+        self.rt.connect(addr)
+    }
+}

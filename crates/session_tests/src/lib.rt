@@ -1,0 +1,15 @@
+//! Sessions and programs, run from end to end.
+#![tactic(auto)]
+
+ghost use Rattle.std.specs.Prelude.{◌≡◌};
+
+#[cfg(test)]
+mod clients;
+#[cfg(test)]
+mod fakes;
+#[cfg(test)]
+mod programs;
+#[cfg(test)]
+mod sessions;
+#[cfg(test)]
+mod strangers;

@@ -1,0 +1,459 @@
+//! Refusals in their order, each call once where it succeeds, and growths that are refused.
+ghost use Rattle.jup_window.specs.Entries.{EachWidget};
+ghost use Rattle.jup_star.specs.Openings.{IsShort};
+
+use jup_link::Msg;
+use jup_seq::SeqOp;
+use jup_star::{Down, Made, Site, SiteFault, Star, StarFault, Up, is_short};
+use jup_value::{Item, Name, Seq};
+use jup_window::{Board, BoardOp, Command, Edit, EditFault, Setting, Value, Widget, WidgetOp};
+use std::alloc::Global;
+use std::marker::PhantomData;
+use std::process::Abort;
+use test_boards::{board_of, reads};
+
+const LIMIT: u32 = 100_000;
+
+// Window 1 has an empty text 1 and a toggle 3 that is off.
+fn blank(rt: &impl Abort, alloc: Global) -> Board
+    ensures { EachWidget IsShort result }
+{
+    let lines = ["window 1", "text 1 \"\"", "toggle 3 off"];
+    board_of(alloc, &lines).expect(rt, "a board")
+}
+
+// Window 1 has a text 1 with one item, the first of a site.
+fn with_item_of(rt: &impl Abort, alloc: Global, site: u32) -> Board
+    ensures { EachWidget IsShort result }
+{
+    let mut text = Seq::new(alloc);
+    text.reserve_one().expect(rt, "memory");
+    let name = Name { site, number: 1 };
+    text.insert(0, Item { name, value: 'z' });
+    let mut board = Board::new(alloc);
+    board.add_window(alloc, 1).expect(rt, "memory");
+    let added = board.add_widget(1, 1, Widget::Text(text));
+    assert_eq!(rt; added, Ok(()));
+    assert!(rt; is_short(&board));
+    board
+}
+
+fn opened(rt: &impl Abort, alloc: Global) -> Star {
+    Star::open(alloc, blank(rt, alloc), LIMIT).expect(rt, "a layout and a limit")
+}
+
+// A star over the blank board, with two sites attached.
+fn star_of_two(rt: &impl Abort, alloc: Global) -> Star {
+    let mut star = opened(rt, alloc);
+    joins(rt, alloc, &mut star);
+    joins(rt, alloc, &mut star);
+    star
+}
+
+// The number that the next site is given.
+fn joins(rt: &impl Abort, alloc: Global, star: &mut Star) -> u32 {
+    star.join(alloc).expect(rt, "a free link").site
+}
+
+// A site with a board of its own, as a star would open it.
+fn lone_site(rt: &impl Abort, alloc: Global, number: u32) -> Site {
+    Site::open(alloc, number, LIMIT, blank(rt, alloc)).expect(rt, "a site's number")
+}
+
+fn insertion(place: u32, name: Name) -> BoardOp {
+    let item = Item { name, value: 'a' };
+    BoardOp {
+        win: 1,
+        wid: 1,
+        op: WidgetOp::Text(SeqOp::Insert { place, item }),
+    }
+}
+
+fn first_of(site: u32) -> Name {
+    Name { site, number: 1 }
+}
+
+fn insert(place: u32, value: char) -> Command {
+    Command::Insert {
+        win: 1,
+        wid: 1,
+        place,
+        value: Value::Char(value),
+    }
+}
+
+fn switch_on() -> Command {
+    Command::Set {
+        win: 1,
+        wid: 3,
+        setting: Setting::Toggle(true),
+    }
+}
+
+// The message with which site 1 begins.
+fn first_message(op: BoardOp) -> Up {
+    Up::Op(Msg {
+        mine: 0,
+        heard: 0,
+        op,
+    })
+}
+
+// The number of the fault that a star has in an edit of site 2, after which site 2 has no link and the
+// edit of site 1 is taken.
+fn refusal_of_two(rt: &impl Abort, alloc: Global, mine: u32, heard: u32, op: BoardOp) -> u32 {
+    let mut star = star_of_two(rt, alloc);
+    let refused = star.take(alloc, 2, &Up::Op(Msg { mine, heard, op }));
+    let number = refused.err().map_or(0, |fault| fault.number());
+    assert_eq!(rt; star.take(alloc, 2, &Up::Ping(7)), Err(StarFault::NoLink));
+    assert!(rt; reads(star.board(), ""));
+    let next = first_message(insertion(0, first_of(1)));
+    assert_eq!(rt; star.take(alloc, 1, &next), Ok(Some(0)));
+    assert!(rt; reads(star.board(), "a"));
+    number
+}
+
+#[test]
+fn a_stranger_is_refused_by_name_and_no_other_site_is(rt: HostRuntime) {
+    let nothing = BoardOp {
+        win: 1,
+        wid: 1,
+        op: WidgetOp::Text(SeqOp::Nothing),
+    };
+    for (mine, heard, op, number) in [
+        (1, 0, insertion(0, first_of(2)), 20),
+        (0, 5, insertion(0, first_of(2)), 21),
+        (0, 0, insertion(0, first_of(1)), 22),
+        (0, 0, insertion(99, first_of(2)), 23),
+        (0, 0, nothing, 24),
+    ] {
+        assert_eq!(rt; refusal_of_two(&rt, rt.alloc(), mine, heard, op), number);
+    }
+}
+
+// The number of the fault that site 1 has in a message, after which it has stopped with its board as it was.
+fn refusal_of_one(rt: &impl Abort, alloc: Global, down: &Down) -> u32 {
+    let mut site = lone_site(rt, alloc, 1);
+    let refused = site.deliver(alloc, down);
+    let edited = site.edit(alloc, &insert(0, 'a'));
+    assert_eq!(rt; edited.err().map(|fault| fault.number()), Some(25));
+    let pong = site.deliver(alloc, &Down::Pong(0));
+    assert_eq!(rt; pong, Err(SiteFault::Stopped));
+    assert!(rt; reads(site.board(), ""));
+    refused.err().map_or(0, |fault| fault.number())
+}
+
+#[test]
+fn a_site_stops_at_a_bad_message(rt: HostRuntime) {
+    let edit = |mine: u32, op: BoardOp| -> Down { Down::Op(Msg { mine, heard: 0, op }) };
+    for (down, number) in [
+        (edit(1, insertion(0, first_of(2))), 20),
+        (Down::Ack(1), 21),
+        (edit(0, insertion(0, first_of(1))), 22),
+        (edit(0, insertion(99, first_of(2))), 23),
+    ] {
+        assert_eq!(rt; refusal_of_one(&rt, rt.alloc(), &down), number);
+    }
+}
+
+// The number of the fault with which a site is not opened, or 0.
+fn site_refusal(alloc: Global, number: u32, board: Board) -> u32 {
+    let site = Site::open(alloc, number, LIMIT, board);
+    site.err().map_or(0, |fault| fault.number())
+}
+
+#[test]
+fn a_site_is_opened_with_a_number_that_its_board_does_not_bear(rt: HostRuntime) {
+    let alloc = rt.alloc();
+    assert_eq!(rt; site_refusal(alloc, 0, blank(&rt, alloc)), 51);
+    assert_eq!(rt; site_refusal(alloc, 1, with_item_of(&rt, alloc, 1)), 51);
+    assert_eq!(rt; site_refusal(alloc, 65_536, blank(&rt, alloc)), 51);
+    let last = Site::open(alloc, 65_535, 16_777_216, with_item_of(&rt, alloc, 1));
+    let last = last.expect(&rt, "the last number");
+    assert_eq!(rt; last.number(), 65_535);
+    assert!(rt; reads(last.board(), "z"));
+}
+
+// The number of the fault with which a star is not opened, or 0.
+fn star_refusal(alloc: Global, board: Board, limit: u32) -> u32
+    requires { EachWidget IsShort board }
+{
+    let star = Star::open(alloc, board, limit);
+    star.err().map_or(0, |fault| fault.number())
+}
+
+#[test]
+fn a_star_is_opened_on_a_layout_with_a_limit(rt: HostRuntime) {
+    let alloc = rt.alloc();
+    assert_eq!(rt; star_refusal(alloc, blank(&rt, alloc), 0), 50);
+    assert_eq!(rt; star_refusal(alloc, blank(&rt, alloc), 16_777_217), 50);
+    assert_eq!(rt; star_refusal(alloc, with_item_of(&rt, alloc, 1), LIMIT), 51);
+    let star = Star::open(alloc, with_item_of(&rt, alloc, 0), 1);
+    let star = star.expect(&rt, "a layout and a limit");
+    assert!(rt; reads(star.board(), "z"));
+}
+
+#[test]
+fn sixty_four_sites_join(rt: HostRuntime) {
+    let alloc = rt.alloc();
+    let mut star = opened(&rt, alloc);
+    for _ in 0..64 {
+        joins(&rt, alloc, &mut star);
+    }
+    let more = star.join(alloc);
+    assert_eq!(rt; more.err().map(|fault| fault.number()), Some(30));
+    assert_eq!(rt; star.leave(7), Ok(()));
+    assert_eq!(rt; joins(&rt, alloc, &mut star), 65);
+}
+
+#[test]
+fn each_site_number_is_given_once(rt: HostRuntime) {
+    let alloc = rt.alloc();
+    let mut star = opened(&rt, alloc);
+    for number in 1..65_536 {
+        assert_eq!(rt; joins(&rt, alloc, &mut star), number);
+        assert_eq!(rt; star.leave(number), Ok(()));
+    }
+    let more = star.join(alloc);
+    assert_eq!(rt; more.err().map(|fault| fault.number()), Some(31));
+}
+
+// The third site of a star, from which two have come and one has gone.
+fn third(rt: &impl Abort, alloc: Global, star: &mut Star) {
+    let joined = star.join(alloc).expect(rt, "a free link");
+    assert_eq!(rt; (joined.site, joined.limit), (3, LIMIT));
+    assert!(rt; reads(&joined.board, ""));
+}
+
+#[test]
+fn an_edit_that_was_not_taken_leaves_with_its_site(rt: HostRuntime) {
+    let alloc = rt.alloc();
+    let mut star = star_of_two(&rt, alloc);
+    let (_site, made) = typed(&rt, alloc, 1, 'a');
+    assert!(rt; !made.edit.is_nothing());
+    assert_eq!(rt; star.leave(1), Ok(()));
+    assert_eq!(rt; (star.waiting(1), star.waiting(2)), (None, Some(0)));
+    assert_eq!(rt; star.order().len(), 0);
+    third(&rt, alloc, &mut star);
+}
+
+// Hands a site all that waits for it, and answers how many messages that were.
+fn deliver_all(rt: &impl Abort, alloc: Global, star: &mut Star, site: &mut Site) -> usize {
+    let downs = star
+        .fetch(alloc, site.number(), u32::MAX)
+        .expect(rt, "memory");
+    for down in downs.as_slice() {
+        site.deliver(alloc, down)
+            .expect(rt, "a message that is shown");
+    }
+    downs.as_slice().len()
+}
+
+// A site that inserted a character at the head of its text, with what it made.
+fn typed(rt: &impl Abort, alloc: Global, number: u32, value: char) -> (Site, Made) {
+    let mut site = lone_site(rt, alloc, number);
+    let made = site.edit(alloc, &insert(0, value)).expect(rt, "an edit");
+    (site, made)
+}
+
+// Two sites that inserted at the head of one text before either heard of the other, and the star, which took
+// both edits.
+#[derive(Drop)]
+struct Race {
+    star: Star,
+    one: Site,
+    two: Site,
+    edits: [Edit; 2],
+    places: [Result<Option<u32>, StarFault>; 2],
+}
+
+fn raced(rt: &impl Abort, alloc: Global) -> Race {
+    let mut star = star_of_two(rt, alloc);
+    let (one, a) = typed(rt, alloc, 1, 'a');
+    let (two, x) = typed(rt, alloc, 2, 'x');
+    let places = [star.take(alloc, 1, &a.up), star.take(alloc, 2, &x.up)];
+    let edits = [a.edit, x.edit];
+    Race {
+        star,
+        one,
+        two,
+        edits,
+        places,
+    }
+}
+
+#[test]
+fn the_order_has_edits_as_they_were_made(rt: HostRuntime) {
+    let race = raced(&rt, rt.alloc());
+    assert_eq!(rt; race.places, [Ok(Some(0)), Ok(Some(1))]);
+    let order = race.star.order();
+    assert_eq!(rt; order.len(), 2);
+    assert_eq!(rt; (order[0].site, order[1].site), (1, 2));
+    assert_eq!(rt; [order[0].edit, order[1].edit], race.edits);
+}
+
+#[test]
+fn the_later_of_two_insertions_stands_left(rt: HostRuntime) {
+    let alloc = rt.alloc();
+    let mut race = raced(&rt, alloc);
+    assert_eq!(rt; race.star.waiting(1), Some(1));
+    assert_eq!(rt; deliver_all(&rt, alloc, &mut race.star, &mut race.one), 1);
+    assert_eq!(rt; deliver_all(&rt, alloc, &mut race.star, &mut race.two), 1);
+    for board in [race.star.board(), race.one.board(), race.two.board()] {
+        assert!(rt; reads(board, "xa"));
+    }
+}
+
+// The star takes an edit of a site, so many times.
+fn edits_taken(rt: &impl Abort, alloc: Global, star: &mut Star, site: &mut Site, count: u32) {
+    for _ in 0..count {
+        let made = site.edit(alloc, &switch_on()).expect(rt, "an edit");
+        let taken = star.take(alloc, site.number(), &made.up);
+        assert!(rt; taken.is_ok());
+    }
+}
+
+// What a site answers to the last message that waits for it.
+fn last_answer(rt: &impl Abort, alloc: Global, star: &mut Star, site: &mut Site) -> Option<Up> {
+    let mut last = None;
+    let downs = star.fetch(alloc, site.number(), 100).expect(rt, "memory");
+    for down in downs.as_slice() {
+        last = site
+            .deliver(alloc, down)
+            .expect(rt, "a message that is shown");
+    }
+    last
+}
+
+#[test]
+fn the_star_acknowledges_sixty_four_edits(rt: HostRuntime) {
+    let alloc = rt.alloc();
+    let mut star = star_of_two(&rt, alloc);
+    let mut site = lone_site(&rt, alloc, 1);
+    edits_taken(&rt, alloc, &mut star, &mut site, 63);
+    assert_eq!(rt; star.waiting(1), Some(0));
+    edits_taken(&rt, alloc, &mut star, &mut site, 1);
+    assert_eq!(rt; star.waiting(1), Some(1));
+    assert_eq!(rt; site.backlog(), 64);
+    assert_eq!(rt; last_answer(&rt, alloc, &mut star, &mut site), None);
+    assert_eq!(rt; site.backlog(), 0);
+}
+
+#[test]
+fn a_site_acknowledges_sixty_four_edits(rt: HostRuntime) {
+    let alloc = rt.alloc();
+    let mut star = star_of_two(&rt, alloc);
+    let mut one = lone_site(&rt, alloc, 1);
+    let mut two = lone_site(&rt, alloc, 2);
+    edits_taken(&rt, alloc, &mut star, &mut one, 64);
+    let answer = last_answer(&rt, alloc, &mut star, &mut two);
+    assert_eq!(rt; answer, Some(Up::Ack(64)));
+    assert_eq!(rt; star.take(alloc, 2, &Up::Ack(64)), Ok(None));
+}
+
+#[test]
+fn a_site_makes_1024_edits_without_an_acknowledgement(rt: HostRuntime) {
+    let alloc = rt.alloc();
+    let mut site = lone_site(&rt, alloc, 1);
+    for _ in 0..1024 {
+        assert!(rt; site.edit(alloc, &switch_on()).is_ok());
+    }
+    let more = site.edit(alloc, &switch_on());
+    assert_eq!(rt; more.err().map(|fault| fault.number()), Some(7));
+    assert_eq!(rt; site.deliver(alloc, &Down::Ack(64)), Ok(None));
+    assert!(rt; site.edit(alloc, &switch_on()).is_ok());
+    assert_eq!(rt; site.backlog(), 961);
+}
+
+#[test]
+fn a_ping_is_answered(rt: HostRuntime) {
+    let alloc = rt.alloc();
+    let mut star = star_of_two(&rt, alloc);
+    assert_eq!(rt; star.take(alloc, 1, &Up::Ping(7)), Ok(None));
+    let downs = star.fetch(alloc, 1, 1).expect(&rt, "memory");
+    assert_eq!(rt; downs.as_slice(), [Down::Pong(7)].as_slice());
+    let absent = star.fetch(alloc, 9, 1);
+    assert_eq!(rt; absent.err().map(|fault| fault.number()), Some(33));
+}
+
+// Run these with each allocation refused in turn: a call that lacks memory changes nothing, and made again
+// it gives its answer. What the test itself lacks ends it.
+
+#[test]
+fn a_join_that_lacks_memory_gives_no_number(rt: HostRuntime) {
+    let alloc = rt.alloc();
+    let mut star = opened(&rt, alloc);
+    let mut number = star.join(alloc).map(|joined| joined.site);
+    if number == Err(StarFault::NoMemory) {
+        assert_eq!(rt; star.waiting(1), None);
+        number = star.join(alloc).map(|joined| joined.site);
+    }
+    assert_eq!(rt; number, Ok(1));
+}
+
+// Why a site makes no insertion, if so.
+fn insertion_refusal(alloc: Global, site: &mut Site) -> Option<EditFault> {
+    // The checker has to be told of the types within what is dropped here.
+    let _within: PhantomData<(Up, Made)> = PhantomData;
+    site.edit(alloc, &insert(0, 'a')).err()
+}
+
+#[test]
+fn an_edit_that_lacks_memory_is_not_shown(rt: HostRuntime) {
+    let alloc = rt.alloc();
+    let mut site = lone_site(&rt, alloc, 1);
+    if insertion_refusal(alloc, &mut site) == Some(EditFault::NoMemory) {
+        assert!(rt; reads(site.board(), ""));
+        assert_eq!(rt; site.backlog(), 0);
+        assert_eq!(rt; insertion_refusal(alloc, &mut site), None);
+    }
+    assert!(rt; reads(site.board(), "a"));
+}
+
+#[test]
+fn an_edit_that_the_star_lacks_memory_for_is_not_sent(rt: HostRuntime) {
+    let alloc = rt.alloc();
+    let mut star = star_of_two(&rt, alloc);
+    let up = first_message(insertion(0, first_of(1)));
+    let mut place = star.take(alloc, 1, &up);
+    if place == Err(StarFault::NoMemory) {
+        assert!(rt; reads(star.board(), ""));
+        assert_eq!(rt; star.order().len(), 0);
+        assert_eq!(rt; star.waiting(2), Some(0));
+        place = star.take(alloc, 1, &up);
+    }
+    assert_eq!(rt; place, Ok(Some(0)));
+    assert_eq!(rt; star.waiting(2), Some(1));
+}
+
+#[test]
+fn a_fetch_that_lacks_memory_loses_nothing(rt: HostRuntime) {
+    let alloc = rt.alloc();
+    let mut star = star_of_two(&rt, alloc);
+    assert_eq!(rt; star.take(alloc, 1, &Up::Ping(7)), Ok(None));
+    let mut downs = star.fetch(alloc, 1, 10);
+    if downs.is_err() {
+        assert_eq!(rt; star.waiting(1), Some(1));
+        downs = star.fetch(alloc, 1, 10);
+    }
+    let downs = downs.expect(&rt, "memory");
+    assert_eq!(rt; downs.as_slice(), [Down::Pong(7)].as_slice());
+}
+
+#[test]
+fn an_edit_that_a_site_lacks_memory_for_is_not_shown(rt: HostRuntime) {
+    let alloc = rt.alloc();
+    let mut site = lone_site(&rt, alloc, 1);
+    let down = Down::Op(Msg {
+        mine: 0,
+        heard: 0,
+        op: insertion(0, first_of(2)),
+    });
+    let mut back = site.deliver(alloc, &down);
+    if back == Err(SiteFault::NoMemory) {
+        assert!(rt; reads(site.board(), ""));
+        back = site.deliver(alloc, &down);
+    }
+    assert_eq!(rt; back, Ok(None));
+    assert!(rt; reads(site.board(), "a"));
+}

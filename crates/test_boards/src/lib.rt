@@ -1,0 +1,38 @@
+//! Boards for tests: given as they are printed, and read back.
+#![tactic(auto)]
+
+ghost use Rattle.std.specs.Prelude.{IfSome};
+ghost use Rattle.jup_window.specs.Entries.{EachWidget};
+ghost use Rattle.jup_star.specs.Openings.{IsShort};
+
+use jup_star::is_short;
+use jup_text::BoardReader;
+use jup_window::{Board, Widget};
+use std::alloc::Global;
+
+/// The board of these lines, which a star may be opened with; none where a line is bad or memory is refused.
+pub fn board_of(alloc: Global, lines: &[&str]) -> Option<Board>
+    ensures { IfSome result (λ board. EachWidget IsShort board) }
+{
+    let mut reader = BoardReader::new(alloc);
+    for line in lines {
+        reader.take(alloc, line).ok()?;
+    }
+    let board = reader.whole();
+    if is_short(&board) { Some(board) } else { None }
+}
+
+/// Whether text 1 of window 1 reads so. It takes no memory.
+pub fn reads(board: &Board, letters: &str) -> bool {
+    let Some(Widget::Text(text)) = board.widget(1, 1) else {
+        return false;
+    };
+    let mut place: u32 = 0;
+    for value in letters.chars() {
+        if text.get(place).map(|item| item.value) != Some(value) {
+            return false;
+        }
+        place = place.saturating_add(1);
+    }
+    place == text.len()
+}

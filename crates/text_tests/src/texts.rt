@@ -1,0 +1,125 @@
+use jup_setting::{Slider, Toggle};
+use jup_text::{read_command, write_board, write_edit};
+use jup_value::{Item, Label, Name, Seq};
+use jup_window::{Board, Command, Edit, Effect, Setting, Value, Widget};
+use std::test::Fail;
+
+fn insertion(value: Value) -> Command {
+    Command::Insert {
+        win: 1,
+        wid: 65_535,
+        place: 7,
+        value,
+    }
+}
+
+#[test]
+fn a_command_is_read_from_its_one_spelling(rt: HostRuntime) -> Result<(), Fail> {
+    let label = Label::read(b"a \"b\" \\")?;
+    let setting = |setting: Setting| Command::Set {
+        win: 1,
+        wid: 2,
+        setting,
+    };
+    for (line, command) in [
+        ("ins 1 65535 7 char \"a\"", insertion(Value::Char('a'))),
+        (
+            "ins 1 65535 7 char \"\\u{e9}\"",
+            insertion(Value::Char('é')),
+        ),
+        (
+            "ins 1 65535 7 item \"a \\\"b\\\" \\\\\"",
+            insertion(Value::Label(label)),
+        ),
+        (
+            "del 1 2 0",
+            Command::Delete {
+                win: 1,
+                wid: 2,
+                place: 0,
+            },
+        ),
+        ("set 1 2 on", setting(Setting::Toggle(true))),
+        ("set 1 2 off", setting(Setting::Toggle(false))),
+        ("set 1 2 -5", setting(Setting::Slider(-5))),
+    ] {
+        assert_eq!(rt; read_command(line.as_bytes()), Some(command), "{line}");
+    }
+    for line in [
+        "",
+        "ins",
+        "ins 1 2 0",
+        "ins 1 2 0 char \"\"",
+        "ins 1 2 0 char \"ab\"",
+        "ins 1 2 0 char a",
+        "ins 1 2 0 item \"\"",
+        "ins 1 2 0 item \"\\u{e9}\"",
+        "ins 1 2 0 item \"0123456789012345678901234567890123456789012345678\"",
+        "ins 1 65536 0 char \"a\"",
+        "ins 01 2 0 char \"a\"",
+        "del 1 2",
+        "del 1 2 0 ",
+        "set 1 2 yes",
+        "set 1 2 +5",
+        "sync",
+    ] {
+        assert_eq!(rt; read_command(line.as_bytes()), None, "{line}");
+    }
+    assert_eq!(rt; read_command(b"set 1 2 \xff"), None);
+    Ok(())
+}
+
+#[test]
+fn an_edit_is_printed_with_its_name(rt: HostRuntime) -> Result<(), Fail> {
+    let name = Name {
+        site: 1,
+        number: 12,
+    };
+    for (what, printed) in [
+        (Effect::PutChar(name, '"'), "ins 3 4 1.12 \"\\\"\""),
+        (
+            Effect::PutLabel(name, Label::read(b"red")?),
+            "ins 3 4 1.12 \"red\"",
+        ),
+        (Effect::Deleted(name), "del 3 4 1.12"),
+        (Effect::Toggled(true), "set 3 4 on"),
+        (Effect::Slid(-5), "set 3 4 -5"),
+    ] {
+        let mut text = Vec::from_slice(rt.alloc(), b"made ")?;
+        let edit = Edit {
+            win: 3,
+            wid: 4,
+            what,
+        };
+        write_edit(rt.alloc(), &edit, &mut text)?;
+        let wanted = format!(in rt.alloc(); "made {printed}")?;
+        assert_eq!(rt; text.as_slice(), wanted.as_bytes());
+    }
+    Ok(())
+}
+
+#[test]
+fn a_board_is_printed_ascending(rt: HostRuntime) -> Result<(), Fail> {
+    let alloc = rt.alloc();
+    let mut list = Seq::new(alloc);
+    for (number, text) in [(1, "red"), (2, "a \"b\"")] {
+        list.reserve_one()?;
+        let name = Name { site: 0, number };
+        let value = Label::read(text.as_bytes())?;
+        assert!(rt; list.len() < 9 && list.place_of(name).is_none());
+        list.insert(list.len(), Item { name, value });
+    }
+    let mut board = Board::new(alloc);
+    board.add_window(alloc, 2)?;
+    board.add_window(alloc, 1)?;
+    board.add_widget(1, 9, Widget::Slider(Slider::new(0, 10, 5)?))?;
+    board.add_widget(1, 3, Widget::Toggle(Toggle { on: false }))?;
+    board.add_widget(1, 2, Widget::List(list))?;
+    board.add_widget(1, 1, Widget::Text(Seq::new(alloc)))?;
+    let mut text = Vec::new(alloc);
+    write_board(alloc, &board, &mut text)?;
+    let wanted =
+        "window 1\ntext 1 \"\"\nlist 2 \"red\" \"a \\\"b\\\"\"\ntoggle 3 off\nslider 9 0 10 5\nwindow 2\n";
+    assert_eq!(rt; text.as_slice(), wanted.as_bytes());
+    Ok(())
+}

@@ -1,0 +1,137 @@
+//! Layouts written by hand, their refusals with their lines, and boards taken back from their lines.
+use jup_value::Name;
+use jup_window::Board;
+use jup_wire::{LayoutFault, Line, board_of, layout, lines_of, write};
+use std::alloc::Global;
+use std::process::Abort;
+
+const FOUR_WIDGETS: &[u8] = b"window 1
+text 1
+char 0.1 122
+list 2
+item 0.2 red
+toggle 3 off
+slider 4 0 10 5
+";
+
+fn fault(line: u32, number: u32) -> LayoutFault {
+    LayoutFault { line, number }
+}
+
+// The layout is refused so.
+fn check_fault(rt: &impl Abort, made: Result<Board, LayoutFault>, line: u32, number: u32) {
+    assert_eq!(rt; made.err(), Some(fault(line, number)));
+}
+
+// The bytes of a board's lines, which make that board again.
+fn written(rt: &impl Abort, alloc: Global, board: &Board) -> Vec<u8> {
+    let lines = lines_of(alloc, board).expect(rt, "memory");
+    let back = board_of(alloc, lines.as_slice()).expect(rt, "a board's lines");
+    assert!(rt; back.same(board));
+    let mut written = Vec::new(alloc);
+    for line in lines.as_slice() {
+        write(alloc, line, &mut written).expect(rt, "memory");
+    }
+    written
+}
+
+#[test]
+fn layout_is_taken_and_written_back(rt: HostRuntime) {
+    let alloc = rt.alloc();
+    let board = layout(alloc, FOUR_WIDGETS).expect(&rt, "a layout");
+    assert_eq!(rt; written(&rt, alloc, &board).as_slice(), FOUR_WIDGETS);
+    assert_eq!(rt; board.windows().len(), 1);
+}
+
+#[test]
+fn ids_come_in_any_order(rt: HostRuntime) {
+    let alloc = rt.alloc();
+    let board = layout(alloc, b"window 2\nwindow 1\ntoggle 7 on\ntext 3\n");
+    let board = board.expect(&rt, "a layout");
+    assert_eq!(rt;
+        written(&rt, alloc, &board).as_slice(),
+        b"window 1\ntext 3\ntoggle 7 on\nwindow 2\n".as_slice()
+    );
+}
+
+#[test]
+fn empty_layout_has_no_windows(rt: HostRuntime) {
+    let board = layout(rt.alloc(), b"").expect(&rt, "a layout");
+    assert!(&rt; board.windows().is_empty());
+}
+
+#[test]
+fn lines_out_of_place_are_refused(rt: HostRuntime) {
+    let alloc = rt.alloc();
+    check_fault(&rt, layout(alloc, b"char 0.1 122\n"), 1, 44);
+    check_fault(&rt, layout(alloc, b"text 1\n"), 1, 44);
+    check_fault(&rt, layout(alloc, b"slider 1 5 0 0\n"), 1, 44);
+    check_fault(&rt, layout(alloc, b"ready\n"), 1, 44);
+    check_fault(
+        &rt,
+        layout(alloc, b"window 1\ntext 1\nitem 0.1 red\n"),
+        3,
+        44,
+    );
+    check_fault(
+        &rt,
+        layout(alloc, b"window 1\nlist 1\nwindow 2\nitem 0.1 red\n"),
+        4,
+        44,
+    );
+}
+
+#[test]
+fn refused_windows_and_widgets_have_their_line(rt: HostRuntime) {
+    let alloc = rt.alloc();
+    let twice =
+        b"window 1\ntext 1\nchar 0.1 122\nlist 2\nitem 0.2 red\ntoggle 3 off\nslider 4 0 10 5\nwindow 1\n";
+    check_fault(&rt, layout(alloc, twice), 8, 10);
+    let outside =
+        b"window 1\ntext 1\nchar 0.1 122\nlist 2\nitem 0.2 red\ntoggle 3 off\nslider 4 0 10 11\n";
+    check_fault(&rt, layout(alloc, outside), 7, 13);
+    check_fault(&rt, layout(alloc, b"window 0\n"), 1, 12);
+    check_fault(&rt, layout(alloc, b"window 1\ntext 0\n"), 2, 12);
+    check_fault(&rt, layout(alloc, b"window 1\ntext 2\nlist 2\n"), 3, 10);
+}
+
+#[test]
+fn items_of_a_layout_are_numbered(rt: HostRuntime) {
+    let alloc = rt.alloc();
+    check_fault(
+        &rt,
+        layout(alloc, b"window 1\ntext 1\nchar 1.1 122\n"),
+        3,
+        45,
+    );
+    check_fault(
+        &rt,
+        layout(alloc, b"window 1\ntext 1\nchar 0.2 122\n"),
+        3,
+        45,
+    );
+    let again = b"window 1\ntext 1\nchar 0.1 122\ntext 2\nchar 0.1 122\n";
+    check_fault(&rt, layout(alloc, again), 5, 45);
+}
+
+#[test]
+fn bytes_of_a_layout_that_are_no_line_have_their_line(rt: HostRuntime) {
+    let alloc = rt.alloc();
+    check_fault(&rt, layout(alloc, b"window 1"), 1, 43);
+    check_fault(&rt, layout(alloc, b"window 1\ntext 01\n"), 2, 40);
+    check_fault(&rt, layout(alloc, &[b'x'; 256]), 1, 41);
+    check_fault(&rt, layout(alloc, b"window 1\nhello 2\n"), 2, 42);
+    // The first line that has a fault counts.
+    check_fault(&rt, layout(alloc, b"window 0\nwindow 01\n"), 1, 12);
+}
+
+#[test]
+fn board_of_lines_takes_any_names_but_none_twice(rt: HostRuntime) {
+    let alloc = rt.alloc();
+    let named = |site| Line::Char(Name { site, number: 1 }, 'a');
+    let apart = [Line::Window(1), Line::Text(1), named(2), named(1)];
+    let board = board_of(alloc, &apart).expect(&rt, "a board's lines");
+    assert!(&rt; board.has_site(2));
+    let twice = [Line::Window(1), Line::Text(1), named(2), named(2)];
+    check_fault(&rt, board_of(alloc, &twice), 4, 45);
+}

@@ -1,0 +1,9 @@
+//! Lines and layouts, by their public calls.
+#![tactic(auto)]
+
+ghost use Rattle.std.specs.Prelude.{◌≡◌};
+
+#[cfg(test)]
+mod layouts;
+#[cfg(test)]
+mod lines;

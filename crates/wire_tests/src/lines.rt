@@ -1,0 +1,289 @@
+//! Each kind of line as bytes written by hand, and the faults, whole and byte by byte.
+use jup_link::Msg;
+use jup_seq::SeqOp;
+use jup_setting::SetOp;
+use jup_value::{Item, Label, Name};
+use jup_window::{BoardOp, WidgetOp};
+use jup_wire::{Fed, Line, MOST, Reader, WireFault, write, write_reserved};
+use std::alloc::Global;
+use std::process::Abort;
+
+fn name(site: u32, number: u32) -> Name {
+    Name { site, number }
+}
+
+fn label(rt: &impl Abort, text: &[u8]) -> Label {
+    Label::read(text).expect(rt, "a label")
+}
+
+fn op(mine: u32, heard: u32, win: u16, wid: u16, op: WidgetOp) -> Line {
+    Line::Op(Msg {
+        mine,
+        heard,
+        op: BoardOp { win, wid, op },
+    })
+}
+
+// What a reader gives for a piece.
+fn fed(rt: &impl Abort, alloc: Global, reader: &mut Reader, piece: &[u8]) -> Fed {
+    reader.feed(alloc, piece).expect(rt, "memory")
+}
+
+// Whether a reader gives just this line.
+fn is_line(fed: &Fed, line: &Line) -> bool {
+    fed.fault.is_none() && fed.lines.as_slice().len() == 1 && fed.lines.as_slice().contains(line)
+}
+
+// The line is written so.
+fn is_written(rt: &impl Abort, alloc: Global, line: &Line, text: &[u8]) {
+    let mut written = Vec::new(alloc);
+    write(alloc, line, &mut written).expect(rt, "memory");
+    assert_eq!(rt; written.as_slice(), text);
+    let mut reserved = Vec::with_capacity(alloc, MOST).expect(rt, "memory");
+    write_reserved(line, &mut reserved);
+    assert_eq!(rt; reserved.as_slice(), text);
+}
+
+// These bytes are read as the line, byte by byte.
+fn is_read_in_bytes(rt: &impl Abort, alloc: Global, line: &Line, text: &[u8]) {
+    let mut cut = Reader::new();
+    let (feed, before) = text.split_last().expect(rt, "a line feed");
+    for byte in before {
+        let none = fed(rt, alloc, &mut cut, &[*byte]);
+        assert!(rt; none.lines.as_slice().is_empty());
+        assert_eq!(rt; cut.finish(), Err(WireFault::EarlyEnd));
+    }
+    let last = fed(rt, alloc, &mut cut, &[*feed]);
+    assert!(rt; is_line(&last, line));
+}
+
+// The line is written so, and these bytes are read as it, whole and byte by byte.
+fn check_line(rt: &impl Abort, alloc: Global, line: &Line, text: &[u8]) {
+    is_written(rt, alloc, line, text);
+    let mut whole = Reader::new();
+    let all = fed(rt, alloc, &mut whole, text);
+    assert!(rt; is_line(&all, line));
+    assert_eq!(rt; whole.finish(), Ok(()));
+    is_read_in_bytes(rt, alloc, line, text);
+}
+
+#[test]
+fn sessions_as_bytes(rt: HostRuntime) {
+    check_line(&rt, rt.alloc(), &Line::Hello, b"hello 1\n");
+    let welcome = Line::Welcome {
+        site: 1,
+        limit: 100,
+    };
+    check_line(&rt, rt.alloc(), &welcome, b"welcome 1 100\n");
+    check_line(&rt, rt.alloc(), &Line::Ready, b"ready\n");
+    check_line(&rt, rt.alloc(), &Line::Ack(64), b"ack 64\n");
+    check_line(&rt, rt.alloc(), &Line::Ping(7), b"ping 7\n");
+    check_line(
+        &rt,
+        rt.alloc(),
+        &Line::Pong(4_294_967_295),
+        b"pong 4294967295\n",
+    );
+    check_line(&rt, rt.alloc(), &Line::Bye, b"bye\n");
+    check_line(&rt, rt.alloc(), &Line::Error(44), b"error 44\n");
+}
+
+#[test]
+fn layouts_as_bytes(rt: HostRuntime) {
+    check_line(&rt, rt.alloc(), &Line::Window(65_535), b"window 65535\n");
+    check_line(&rt, rt.alloc(), &Line::Text(1), b"text 1\n");
+    check_line(&rt, rt.alloc(), &Line::List(2), b"list 2\n");
+    check_line(&rt, rt.alloc(), &Line::Toggle(3, true), b"toggle 3 on\n");
+    check_line(&rt, rt.alloc(), &Line::Toggle(3, false), b"toggle 3 off\n");
+    let slider = Line::Slider {
+        wid: 4,
+        lo: -2_147_483_648,
+        hi: 2_147_483_647,
+        value: 0,
+    };
+    check_line(
+        &rt,
+        rt.alloc(),
+        &slider,
+        b"slider 4 -2147483648 2147483647 0\n",
+    );
+    check_line(
+        &rt,
+        rt.alloc(),
+        &Line::Char(name(0, 1), 'z'),
+        b"char 0.1 122\n",
+    );
+    let item = Line::Item(name(0, 2), label(&rt, b" red ink"));
+    check_line(&rt, rt.alloc(), &item, b"item 0.2  red ink\n");
+}
+
+#[test]
+fn operations_as_bytes(rt: HostRuntime) {
+    let insert = WidgetOp::Text(SeqOp::Insert {
+        place: 0,
+        item: Item {
+            name: name(1, 1),
+            value: 'a',
+        },
+    });
+    check_line(
+        &rt,
+        rt.alloc(),
+        &op(0, 0, 1, 1, insert),
+        b"op 0 0 1 1 text ins 0 1.1 97\n",
+    );
+    let delete = WidgetOp::Text(SeqOp::Delete {
+        place: 5,
+        name: name(2, 3),
+    });
+    check_line(
+        &rt,
+        rt.alloc(),
+        &op(1, 2, 3, 4, delete),
+        b"op 1 2 3 4 text del 5 2.3\n",
+    );
+    check_line(
+        &rt,
+        rt.alloc(),
+        &op(0, 0, 1, 1, WidgetOp::Text(SeqOp::Nothing)),
+        b"op 0 0 1 1 text no\n",
+    );
+    let delete = WidgetOp::List(SeqOp::Delete {
+        place: 0,
+        name: name(0, 2),
+    });
+    check_line(
+        &rt,
+        rt.alloc(),
+        &op(0, 0, 1, 2, delete),
+        b"op 0 0 1 2 list del 0 0.2\n",
+    );
+    check_line(
+        &rt,
+        rt.alloc(),
+        &op(0, 0, 1, 2, WidgetOp::List(SeqOp::Nothing)),
+        b"op 0 0 1 2 list no\n",
+    );
+}
+
+#[test]
+fn settings_as_bytes(rt: HostRuntime) {
+    for (setting, text) in [
+        (
+            WidgetOp::Toggle(SetOp::Set(true)),
+            b"op 0 0 1 3 toggle set on\n".as_slice(),
+        ),
+        (
+            WidgetOp::Toggle(SetOp::Set(false)),
+            b"op 0 0 1 3 toggle set off\n".as_slice(),
+        ),
+        (
+            WidgetOp::Toggle(SetOp::Nothing),
+            b"op 0 0 1 3 toggle no\n".as_slice(),
+        ),
+        (
+            WidgetOp::Slider(SetOp::Set(-5)),
+            b"op 0 0 1 3 slider set -5\n".as_slice(),
+        ),
+        (
+            WidgetOp::Slider(SetOp::Nothing),
+            b"op 0 0 1 3 slider no\n".as_slice(),
+        ),
+    ] {
+        check_line(&rt, rt.alloc(), &op(0, 0, 1, 3, setting), text);
+    }
+}
+
+// A list insertion with the largest numbers and a label of 48 bytes has 128 bytes.
+#[test]
+fn longest_line_has_128_bytes(rt: HostRuntime) {
+    const LARGEST: u32 = 4_294_967_295;
+    let insert = WidgetOp::List(SeqOp::Insert {
+        place: LARGEST,
+        item: Item {
+            name: name(LARGEST, LARGEST),
+            value: label(&rt, &[b'x'; 48]),
+        },
+    });
+    let text =
+        b"op 4294967295 4294967295 65535 65535 list ins 4294967295 4294967295.4294967295 xxxxxxxxxxxxxxxxxxxxxxxxxxxxxxxxxxxxxxxxxxxxxxxx\n";
+    assert_eq!(rt; text.len(), MOST);
+    check_line(
+        &rt,
+        rt.alloc(),
+        &op(LARGEST, LARGEST, 65_535, 65_535, insert),
+        text,
+    );
+}
+
+#[test]
+fn bytes_outside_the_grammar_are_refused(rt: HostRuntime) {
+    for text in [
+        b"op 00 0 1 1 text no\n".as_slice(),
+        b"ping 007\n".as_slice(),
+        b"ping 4294967296\n".as_slice(),
+        b"ping +7\n".as_slice(),
+        b"ping 7 \n".as_slice(),
+        b"ping  7\n".as_slice(),
+        b"ping\n".as_slice(),
+        b"\n".as_slice(),
+        b"hello 01\n".as_slice(),
+        b"hello 1 \n".as_slice(),
+        b"window 65536\n".as_slice(),
+        b"slider 1 -0 1 0\n".as_slice(),
+        b"slider 1 0 2147483648 0\n".as_slice(),
+        b"char 0.1 55296\n".as_slice(),
+        b"item 0.1 \n".as_slice(),
+        b"toggle 1 yes\n".as_slice(),
+        b"ready\r\n".as_slice(),
+    ] {
+        let refused = fed(&rt, rt.alloc(), &mut Reader::new(), text);
+        assert_eq!(rt; refused.fault, Some(WireFault::BadLine));
+        assert!(rt; refused.lines.as_slice().is_empty());
+    }
+    let other = fed(&rt, rt.alloc(), &mut Reader::new(), b"hello 2\n");
+    assert_eq!(rt; other.fault, Some(WireFault::BadVersion));
+}
+
+#[test]
+fn long_line_is_told_with_its_256th_byte(rt: HostRuntime) {
+    let mut reader = Reader::new();
+    let most = fed(&rt, rt.alloc(), &mut reader, &[b'x'; 255]);
+    assert_eq!(rt; most.fault, None);
+    assert_eq!(rt; reader.finish(), Err(WireFault::EarlyEnd));
+    let last = fed(&rt, rt.alloc(), &mut reader, b"x");
+    assert_eq!(rt; last.fault, Some(WireFault::LongLine));
+
+    let mut ended = Reader::new();
+    fed(&rt, rt.alloc(), &mut ended, &[b'x'; 255]);
+    let line = fed(&rt, rt.alloc(), &mut ended, b"\n");
+    assert_eq!(rt; line.fault, Some(WireFault::BadLine));
+}
+
+#[test]
+fn lines_before_a_fault_are_given_and_none_after(rt: HostRuntime) {
+    let mut reader = Reader::new();
+    let first = fed(&rt, rt.alloc(), &mut reader, b"ping 7\npi");
+    assert_eq!(rt; first.lines.as_slice().len(), 1);
+    assert_eq!(rt; reader.finish(), Err(WireFault::EarlyEnd));
+    let second = fed(&rt, rt.alloc(), &mut reader, b"ng 8\nhello 2\nping 9\n");
+    assert_eq!(rt; second.lines.as_slice().len(), 1);
+    assert_eq!(rt; second.lines.as_slice()[0], Line::Ping(8));
+    assert_eq!(rt; second.fault, Some(WireFault::BadVersion));
+    let third = fed(&rt, rt.alloc(), &mut reader, b"ping 10\n");
+    assert!(rt; third.lines.as_slice().is_empty());
+    assert_eq!(rt; third.fault, Some(WireFault::BadVersion));
+    assert_eq!(rt; reader.finish(), Err(WireFault::BadVersion));
+}
+
+#[test]
+fn faults_have_their_numbers(rt: HostRuntime) {
+    for (fault, number) in [
+        (WireFault::BadLine, 40),
+        (WireFault::LongLine, 41),
+        (WireFault::BadVersion, 42),
+        (WireFault::EarlyEnd, 43),
+    ] {
+        assert_eq!(&rt; fault.number(), number);
+    }
+}

@@ -1,0 +1,15 @@
+//! Worlds and scripts, by their public calls.
+#![tactic(auto)]
+
+ghost use Rattle.std.specs.Prelude.{◌≡◌};
+
+#[cfg(test)]
+mod boards;
+#[cfg(test)]
+mod messages;
+#[cfg(test)]
+mod scripts;
+#[cfg(test)]
+mod star_scripts;
+#[cfg(test)]
+mod worlds;

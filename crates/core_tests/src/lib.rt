@@ -4,7 +4,11 @@
 ghost use Rattle.std.specs.Prelude.{◌≡◌};
 
 #[cfg(test)]
+mod blocks;
+#[cfg(test)]
 mod boards;
+#[cfg(test)]
+mod plain_lists;
 #[cfg(test)]
 mod sequences;
 #[cfg(test)]

@@ -51,14 +51,13 @@ fn text(alloc: Global, letters: &str) -> Result<Seq<char>, NoMemory> {
 
 // Whether the text has these letters.
 fn reads(seq: &Seq<char>, letters: &str) -> bool {
-    let mut place: u32 = 0;
-    for value in letters.chars() {
-        if seq.get(place).map(|item| item.value) != Some(value) {
+    let mut rest = letters.chars();
+    for item in seq.iter() {
+        if rest.next() != Some(item.value) {
             return false;
         }
-        place = place.saturating_add(1);
     }
-    seq.len() == place
+    rest.next().is_none()
 }
 
 // What a pair of operations becomes.

@@ -81,11 +81,9 @@ fn write_widget<W: fmt::Write>(
 }
 
 fn write_labels<W: fmt::Write>(f: &mut fmt::Formatter<W>, list: &Seq<Label>) -> fmt::Result {
-    for at in 0..list.len() {
-        if let Some(item) = list.get(at) {
-            let label = QuotedLabel(&item.value);
-            write!(f, " {label}")?;
-        }
+    for item in list.iter() {
+        let label = QuotedLabel(&item.value);
+        write!(f, " {label}")?;
     }
     Ok(())
 }

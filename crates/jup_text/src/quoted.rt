@@ -137,10 +137,8 @@ pub struct Quoted<'a>(pub &'a Seq<char>);
 impl fmt::Display for Quoted<'_> {
     fn fmt<W: fmt::Write>(&self, f: &mut fmt::Formatter<W>) -> fmt::Result {
         write!(f, "\"")?;
-        for at in 0..self.0.len() {
-            if let Some(item) = self.0.get(at) {
-                write_char(f, item.value)?;
-            }
+        for item in self.0.iter() {
+            write_char(f, item.value)?;
         }
         write!(f, "\"")
     }

@@ -1,8 +1,13 @@
 //! Sequences of items with distinct names.
-ghost use Rattle.std.specs.Prelude.{◌≡◌, ◌+◌, ◌<◌, ◌≤◌, ◌↔◌, [], length, insert, remove, slice_get, false, IsTrue, IsNone, OnOk, OnErr, IfOk, IfSome};
+ghost use Rattle.std.specs.Prelude.{◌≡◌, ◌+◌, ◌*◌, ◌<◌, ◌≤◌, ◌↔◌, [], length, insert, remove, slice_get, false, IsTrue, IsNone, OnOk, OnErr, IfOk};
 ghost use Rattle.std.specs.Option.{option_copied};
 ghost use Rattle.jup_value.specs.Items.{has_name, place_of, AreDistinct};
 
+use crate::block::Block;
+use crate::iter::{Iter, iter_blocks};
+use crate::layout::{copy_blocks, insert_item, make_ready, place_in, take_item};
+use crate::marks::{is_at_mark, raise};
+use crate::table::find_item;
 use crate::{Item, Name, NoMemory};
 use std::alloc::Global;
 use std::marker::Model;
@@ -10,34 +15,43 @@ use std::marker::Model;
 /// A sequence of items, no two of which have one name. It has at most 4,294,967,295 items.
 ///
 /// Contracts see the list of its items, and `spare`, the number of insertions that it has room for.
+///
+/// The items stand in blocks of at most 128, and a place is found by the table of their lengths.
 #[derive(Drop)]
 pub struct Seq<V> {
-    items: Vec<Item<V>>,
+    blocks: Vec<Block<V>>,
+    lengths: Vec<u32>,
+    // Empty blocks, for the insertions to come: each takes at most one.
+    ready: Vec<Block<V>>,
+    // The highest number that the items of each site had, by ascending sites.
+    marks: Vec<Name>,
+    count: u32,
+    alloc: Global,
 }
 
 impl<V> Model for Seq<V> {
-    ghost use Rattle.std.specs.Prelude.{◌≤◌, ◌-◌, vec_len, vec_capacity};
+    ghost use Rattle.std.specs.Prelude.{◌≡◌, ◌≤◌, ◌-◌, min, length, vec_len, vec_capacity};
     ghost use Rattle.jup_value.specs.Items.{AreDistinct, Items, items_code};
+    ghost use Rattle.jup_value.specs.Layout.{joined, IsLaidOut};
+    ghost use Rattle.jup_value.specs.Marks.{AreMarked, AreAscending};
 
     ghost Value = { Items V };
 
     ghost coded = { items_code V.code };
 
     ghost view = { λ s. record {
-      items = s.items.items;
-      spare = vec_capacity s.items - vec_len s.items;
+      items = joined s.blocks.items;
+      spare = min (vec_len s.ready) (min (vec_capacity s.blocks - vec_len s.blocks) (min (vec_capacity s.lengths - vec_len s.lengths) (vec_capacity s.marks - vec_len s.marks)));
     } };
 
-    ghost invariant = { λ s. AreDistinct s.items.items × vec_len s.items ≤ 4294967295 };
-}
-
-// The place of the item that has the name.
-fn find<V: Copy>(items: &[Item<V>], name: Name) -> Option<usize>
-    ensures place { result ≡ place_of name items.now }
-    ensures within { IfSome result (λ at. at < length items.now) }
-{
-    // Numbers differ where sites do not, so they are asked first: the search is then faster.
-    items.iter().position(|item| item.name.number == name.number && item.name.site == name.site)
+    ghost invariant = { λ s. record {
+      layout : IsLaidOut s.blocks.items s.lengths.items s.ready.items;
+      distinct : AreDistinct (joined s.blocks.items);
+      marked : AreMarked s.marks.items (joined s.blocks.items);
+      ascending : AreAscending s.marks.items;
+      count : s.count ≡ length (joined s.blocks.items);
+      few : s.count ≤ 4294967295;
+    } };
 }
 
 impl<V: Copy> Seq<V> {
@@ -46,7 +60,12 @@ impl<V: Copy> Seq<V> {
         ensures { result.items ≡ [] }
     {
         Seq {
-            items: Vec::new(alloc),
+            blocks: Vec::new(alloc),
+            lengths: Vec::new(alloc),
+            ready: Vec::new(alloc),
+            marks: Vec::new(alloc),
+            count: 0,
+            alloc,
         }
     }
 
@@ -55,21 +74,34 @@ impl<V: Copy> Seq<V> {
         ensures count { result ≡ length self.now.items }
         ensures distinct { AreDistinct self.now.items }
     {
-        self.items.len() as u32
+        self.count
     }
 
     /// Whether there is no item.
     pub fn is_empty(&self) -> bool
         ensures { IsTrue result ↔ (self.now.items ≡ []) }
     {
-        self.items.is_empty()
+        self.count == 0
     }
 
     /// The item at a place, counted from 0.
     pub fn get(&self, at: u32) -> Option<&Item<V>>
         ensures { option_copied result ≡ slice_get self.now.items at }
     {
-        self.items.get(at as usize)
+        if at >= self.count {
+            return None;
+        }
+        let (block, offset) = find_item(&self.lengths, self.count, at);
+        self.blocks[block].get(offset)
+    }
+
+    /// The items, in order.
+    pub fn iter(&self) -> Iter<'_, V>
+        ensures items { result ≡ self.now.items }
+        ensures few { length result ≤ 4294967295 }
+        ensures distinct { AreDistinct self.now.items }
+    {
+        iter_blocks(&self.blocks)
     }
 
     /// The place of the item that has the name.
@@ -77,8 +109,11 @@ impl<V: Copy> Seq<V> {
         ensures place { result ≡ place_of name self.now.items }
         ensures absent { IsNone result ↔ (has_name name self.now.items ≡ false) }
     {
-        let at = find(&self.items, name)?;
-        Some(at as u32)
+        // A number above its site's mark is new, so nothing is searched.
+        if !is_at_mark(&self.marks, name) {
+            return None;
+        }
+        place_in(&self.blocks, name)
     }
 
     /// Makes room for one insertion. Memory is refused only where there is not room already.
@@ -98,8 +133,11 @@ impl<V: Copy> Seq<V> {
         ensures room { OnOk result (more ≤ self.new.spare) }
         ensures refused_without_room { OnErr result (self.old.spare < more) }
     {
-        self.items.reserve(more as usize)?;
-        Ok(())
+        let wanted = more as usize;
+        self.blocks.reserve(wanted)?;
+        self.lengths.reserve(wanted)?;
+        self.marks.reserve(wanted)?;
+        make_ready(self.alloc, &mut self.ready, wanted)
     }
 
     /// Puts an item at a place, before the item that stood there. It takes no memory.
@@ -111,7 +149,16 @@ impl<V: Copy> Seq<V> {
         ensures items { self.new.items ≡ insert self.old.items at item }
         ensures spare { self.old.spare ≤ self.new.spare + 1 }
     {
-        self.items.insert(at as usize, item).unwrap();
+        insert_item(
+            &mut self.blocks,
+            &mut self.lengths,
+            &mut self.ready,
+            self.count,
+            at,
+            item,
+        );
+        raise(&mut self.marks, item.name);
+        self.count += 1;
     }
 
     /// Takes out the item at a place.
@@ -121,14 +168,33 @@ impl<V: Copy> Seq<V> {
         ensures items { self.new.items ≡ remove self.old.items at }
         ensures spare { self.old.spare ≤ self.new.spare }
     {
-        self.items.remove(at as usize)
+        let (block, offset) = find_item(&self.lengths, self.count, at);
+        self.count -= 1;
+        take_item(&mut self.blocks, &mut self.lengths, block, offset)
     }
 
     /// A sequence with the same items.
     pub fn copy(&self, alloc: Global) -> Result<Self, NoMemory>
         ensures { IfOk result (λ copied. copied.items ≡ self.now.items) }
     {
-        let items = Vec::from_slice(alloc, self.items.as_slice())?;
-        Ok(Seq { items })
+        let blocks = copy_blocks(alloc, &self.blocks)?;
+        let lengths = Vec::from_slice(alloc, &self.lengths)?;
+        let marks = Vec::from_slice(alloc, &self.marks)?;
+        Ok(Seq {
+            blocks,
+            lengths,
+            ready: Vec::new(alloc),
+            marks,
+            count: self.count,
+            alloc,
+        })
+    }
+
+    /// How many blocks the items stand in: each has 1 to 128 of them.
+    pub fn blocks(&self) -> u32
+        ensures some_in_each { result ≤ length self.now.items }
+        ensures few_in_each { length self.now.items ≤ 128 * result }
+    {
+        self.blocks.len() as u32
     }
 }

@@ -12,7 +12,6 @@ pub mod Unique
 pub mod Drafting
 pub mod Counting
 pub mod LinesTaken
-pub mod Listed
 pub mod RoundTrip
 pub mod BoardsBack
 pub mod Counts

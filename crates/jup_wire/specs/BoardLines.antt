@@ -1,5 +1,5 @@
 -- Boards as lines.
-use Rattle.std.specs.Prelude.{ℕ, List, ◌∷◌, [], map, Option, Some, None}
+use Rattle.std.specs.Prelude.{ℕ, List, ◌∷◌, [], map}
 use Rattle.std.specs.List.{flat_map, AllByRecursion}
 use Rattle.jup_value.specs.declared.names.Item.{Item}
 use Rattle.jup_value.specs.declared.names.Name.{Name}
@@ -15,11 +15,6 @@ use Rattle.jup_wire.specs.declared.line.Line.TheVariants as line
 -- the lines of items, each by its name and its value
 abbrev pub item_lines : {V : Type 0} → (Name → V → Line) → List (Item V) → List Line
 item_lines line_of items = map (λ item. line_of item.name item.value) items
-
--- the line of an item, if there is one
-abbrev pub item_line : {V : Type 0} → (Name → V → Line) → Option (Item V) → List Line
-item_line line_of None = []
-item_line line_of (Some item) = line_of item.name item.value ∷ []
 
 -- a widget's line, and the items of a text or a list in order
 abbrev pub widget_lines : ℕ × Widget → List Line

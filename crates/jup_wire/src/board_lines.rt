@@ -1,7 +1,7 @@
 //! Boards as lines.
-ghost use Rattle.std.specs.Prelude.{◌≡◌, ◌++◌, slice_get, OnOk, IfOk};
+ghost use Rattle.std.specs.Prelude.{◌≡◌, ◌++◌, OnOk, IfOk};
 ghost use Rattle.jup_value.specs.Items.{AreDistinct};
-ghost use Rattle.jup_wire.specs.BoardLines.{item_line, item_lines, widget_lines, window_lines, board_lines, IsWidget, IsWindow, IsBoard};
+ghost use Rattle.jup_wire.specs.BoardLines.{item_lines, widget_lines, window_lines, board_lines, IsWidget, IsWindow, IsBoard};
 
 use crate::line::Line;
 use crate::reader::Lines;
@@ -45,23 +45,13 @@ impl ItemValue for Label {
     }
 }
 
-// Appends the line of the item at a place, if there is one.
-fn push_item<V: ItemValue>(into: &mut Lines, items: &Seq<V>, at: u32) -> Result<(), NoMemory>
-    ensures { OnOk result (into.new ≡ into.old ++ item_line V.line_of (slice_get items.now.items at)) }
-{
-    match items.get(at) {
-        Some(item) => into.push(V::line(item.name, item.value)),
-        None => Ok(()),
-    }
-}
-
 // Appends the lines of a sequence's items, in order.
 fn push_items<V: ItemValue>(into: &mut Lines, items: &Seq<V>) -> Result<(), NoMemory>
     ensures lines { OnOk result (into.new ≡ into.old ++ item_lines V.line_of items.now.items) }
     ensures distinct { AreDistinct items.now.items }
 {
-    for at in 0..items.len() {
-        push_item(into, items, at)?;
+    for item in items.iter() {
+        into.push(V::line(item.name, item.value))?;
     }
     Ok(())
 }

@@ -27,12 +27,11 @@ pub fn reads(board: &Board, letters: &str) -> bool {
     let Some(Widget::Text(text)) = board.widget(1, 1) else {
         return false;
     };
-    let mut place: u32 = 0;
-    for value in letters.chars() {
-        if text.get(place).map(|item| item.value) != Some(value) {
+    let mut rest = letters.chars();
+    for item in text.iter() {
+        if rest.next() != Some(item.value) {
             return false;
         }
-        place = place.saturating_add(1);
     }
-    place == text.len()
+    rest.next().is_none()
 }

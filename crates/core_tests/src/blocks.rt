@@ -1,0 +1,133 @@
+//! Sequences of many items: how many blocks they stand in, which names are found, and growths that are refused.
+use jup_value::{Item, Name, NoMemory, Seq};
+use std::alloc::Global;
+
+// Puts the item of a name at the end, or at the front, unless the name is held.
+fn put(seq: &mut Seq<u32>, name: Name, at_end: bool) -> Result<(), NoMemory> {
+    let len = seq.len();
+    if len == u32::MAX || seq.place_of(name).is_some() {
+        return Ok(());
+    }
+    seq.reserve_one()?;
+    let value = name.number;
+    seq.insert(if at_end { len } else { 0 }, Item { name, value });
+    Ok(())
+}
+
+// The items 0, 1 and so on, each put at the end, or each at the front.
+fn filled(alloc: Global, count: u32, at_end: bool) -> Result<Seq<u32>, NoMemory> {
+    let mut seq = Seq::new(alloc);
+    for number in 0..count {
+        put(&mut seq, Name { site: 0, number }, at_end)?;
+    }
+    Ok(seq)
+}
+
+// Takes out so many items at the front.
+fn drop_first(seq: &mut Seq<u32>, count: u32) {
+    for _ in 0..count {
+        if !seq.is_empty() {
+            let _first = seq.remove(0);
+        }
+    }
+}
+
+// Whether the items are the numbers from one up to another, in order, and each is found at its place.
+fn counts(seq: &Seq<u32>, from: u32, end: u32) -> bool {
+    let mut at: u32 = 0;
+    for item in seq {
+        if item.value != at.saturating_add(from) || seq.get(at) != Some(item) {
+            return false;
+        }
+        at = at.saturating_add(1);
+    }
+    seq.iter().count() == at as usize && at.saturating_add(from) == end
+}
+
+#[test]
+fn full_blocks_are_split(rt: HostRuntime) {
+    for (count, at_end, blocks) in [
+        (0, true, 0),
+        (128, true, 1),
+        (129, true, 2),
+        (300, true, 4),
+        (300, false, 4),
+    ] {
+        let seq = filled(rt.alloc(), count, at_end).expect(&rt, "memory");
+        assert_eq!(rt; seq.blocks(), blocks, "{count} items");
+    }
+}
+
+#[test]
+fn emptied_blocks_are_taken_out(rt: HostRuntime) {
+    let mut seq = filled(rt.alloc(), 300, true).expect(&rt, "memory");
+    assert!(rt; counts(&seq, 0, 300));
+    drop_first(&mut seq, 64);
+    assert_eq!(rt; seq.blocks(), 3);
+    assert_eq!(rt; seq.len(), 236);
+    assert!(rt; counts(&seq, 64, 300));
+    drop_first(&mut seq, 236);
+    assert_eq!(rt; seq.blocks(), 0);
+}
+
+#[test]
+fn copy_keeps_the_blocks(rt: HostRuntime) {
+    let mut seq = filled(rt.alloc(), 300, true).expect(&rt, "memory");
+    drop_first(&mut seq, 100);
+    let copied = seq.copy(rt.alloc()).expect(&rt, "memory");
+    assert_eq!(rt; copied.blocks(), 3);
+    assert!(rt; counts(&copied, 100, 300));
+}
+
+// Items of two sites, the last of which has the lowest number of its site.
+fn of_two_sites(alloc: Global) -> Result<Seq<u32>, NoMemory> {
+    let mut seq = Seq::new(alloc);
+    for (site, number) in [(2, 5), (1, 3), (2, 4)] {
+        put(&mut seq, Name { site, number }, true)?;
+    }
+    Ok(seq)
+}
+
+#[test]
+fn names_are_found_whether_or_not_a_later_one_was_held(rt: HostRuntime) {
+    let mut seq = of_two_sites(rt.alloc()).expect(&rt, "memory");
+    for (site, number, place) in [
+        (2, 5, Some(0)),
+        (1, 3, Some(1)),
+        (2, 4, Some(2)),
+        (2, 3, None),
+        (2, 6, None),
+        (1, 4, None),
+        (3, 1, None),
+    ] {
+        assert_eq!(rt; seq.place_of(Name { site, number }), place);
+    }
+    drop_first(&mut seq, 1);
+    assert_eq!(rt; seq.place_of(Name { site: 2, number: 5 }), None);
+}
+
+// Puts the next item at the end, or is refused and leaves the items as they were.
+fn appends(seq: &mut Seq<u32>) -> bool {
+    let number = seq.len();
+    let blocks = seq.blocks();
+    let refused = put(seq, Name { site: 0, number }, true).is_err();
+    if refused {
+        seq.blocks() == blocks && counts(seq, 0, number)
+    } else {
+        seq.len() == number.saturating_add(1)
+    }
+}
+
+#[test]
+fn refused_room_leaves_the_items(rt: HostRuntime) {
+    let mut seq = Seq::new(rt.alloc());
+    for _ in 0..300 {
+        assert!(rt; appends(&mut seq));
+    }
+    let len = seq.len();
+    assert!(rt; 290 < len && counts(&seq, 0, len));
+    match seq.copy(rt.alloc()) {
+        Ok(copied) => assert!(rt; counts(&copied, 0, len)),
+        Err(_) => assert!(rt; counts(&seq, 0, len)),
+    }
+}

@@ -1,7 +1,7 @@
 //! The links of a star.
-ghost use Rattle.std.specs.Prelude.{◌≡◌, ◌<◌, not, nat_eq, map, filter, position, length, MatchOption, IfSome, OnOk, if◌then◌else◌};
+ghost use Rattle.std.specs.Prelude.{◌≡◌, ◌<◌, not, nat_eq, map, filter, position, length, MatchOption, IsTrue, IfSome, OnOk, if◌then◌else◌};
 ghost use Rattle.jup_star.specs.LinkStates.{is_of, link_sent};
-ghost use Rattle.jup_star.specs.StarStates.{IsNew};
+ghost use Rattle.jup_star.specs.StarStates.{IsNew, AreApart};
 ghost use Rattle.jup_star.specs.Places.{IsPlace};
 ghost use Rattle.jup_star.specs.Rooms.{bare_link, AllHaveRoom, OthersHaveRoom, AllCount};
 
@@ -16,11 +16,29 @@ fn place_of(links: &[Link], site: u32) -> Option<usize>
     links.iter().position(|link| link.site == site)
 }
 
+// Whether the link at a place is that of a site.
+fn stands_at(links: &[Link], at: usize, site: u32) -> bool
+    requires { AreApart (map bare_link links.now) }
+    ensures { IsTrue result → IsPlace site (map bare_link links.now) at }
+{
+    match links.get(at) {
+        Some(link) => link.site == site,
+        None => false,
+    }
+}
+
 /// Where the link of a site stands.
 pub(crate) fn link_at(links: &[Link], site: u32) -> Option<usize>
+    requires { AreApart (map bare_link links.now) }
     ensures place { MatchOption result (IsNew site (map bare_link links.now)) (λ at. IsPlace site (map bare_link links.now) at) }
     ensures below { IfSome result (λ at. at < length links.now) }
 {
+    // Mostly each site from that of the first link on has a link, so that its place is known.
+    let first = links.first().map_or(0, |link| link.site);
+    let likely = site.saturating_sub(first) as usize;
+    if stands_at(links, likely, site) {
+        return Some(likely);
+    }
     place_of(links, site)
 }
 

@@ -1,7 +1,7 @@
 -- Where the site of a number stands, and what a change of one site does to the list of sites.
 use Rattle.std.proofs.Common.{◌≡◌, refl, sym, ◌∙◌, ap, subst, ℕ, zero, suc, ◌+◌, ◌<◌, ◌≤◌, Bool, true, false, cond, not, List, [], ◌∷◌, ◌++◌, length, map, filter, get_or, nat_eq, nat_lt, Option, Some, None, arith, position, MatchOption, eqb-true, ne_eqb}
 use Rattle.std.proofs.Math.ListN.{set}
-use Rattle.std.proofs.lemmas.Bool.{ltb-true, lt-ltb}
+use Rattle.std.proofs.lemmas.Bool.{ltb-true, lt-ltb, eq-eqb}
 use Rattle.std.specs.List.{position_or_len}
 use Rattle.jup_world.specs.WorldStates.{is_number, attached, at_site, without_site}
 use Rattle.jup_world.specs.SiteNumbers.{AreAscending, IsSiteAt}
@@ -136,3 +136,17 @@ pub found_bounds : (i least most : ℕ) (a : BoardAttached) (sites : List BoardA
 found_bounds i least most a [] up found = absurd cc
 found_bounds i least most a (x ∷ later) up found =
     bounds i least most a x later (is_number i x) refl up.0 (within x.site.number most later up.1) (λ h. found_bounds i x.site.number most a later up.1 h) found
+
+-- each site is above those before it
+above_at : (n most : ℕ) (sites : List Attached) (at : ℕ) (d : Attached) → AreAscending n most (map bare_attached sites) → at < length sites → n < (get_or sites at d).site.number
+above_at n most [] at d up below = absurd (omega arith)
+above_at n most (a ∷ later) zero d up below = up.0
+above_at n most (a ∷ later) (suc at) d up below = let over = above_at a.site.number most later at d up.1 (omega arith) in let above = up.0 in omega arith
+
+-- so each is the first of its number
+pub ascending_place : (i least most : ℕ) (sites : List Attached) (at : ℕ) (d : Attached) → AreAscending least most (map bare_attached sites)
+    → at < length sites → (get_or sites at d).site.number ≡ i → IsSiteAt i (map bare_attached sites) at
+ascending_place i least most [] at d up below same = absurd (omega arith)
+ascending_place i least most (a ∷ later) zero d up below same = eq-eqb a.site.number i same
+ascending_place i least most (a ∷ later) (suc at) d up below same =
+    (ne_eqb a.site.number i (λ e. let over = above_at a.site.number most later at d up.1 (omega arith) in absurd (omega arith)), ascending_place i a.site.number most later at d up.1 (omega arith) same)

@@ -1,5 +1,5 @@
 //! An attached site with its streams.
-ghost use Rattle.std.specs.Prelude.{◌≡◌, ◌↔◌, ◌<◌, true, [], map, length, Some, None, is_some, nat_eq, position, MatchOption, IsTrue, IfSome, IfOk, IfErr, OnOk, OnErr};
+ghost use Rattle.std.specs.Prelude.{◌≡◌, ◌↔◌, ◌<◌, ℕ, true, [], map, length, Some, None, is_some, nat_eq, position, MatchOption, IsTrue, IfSome, IfOk, IfErr, OnOk, OnErr};
 ghost use Rattle.jup_window.specs.BoardOperations.{board_operations};
 ghost use Rattle.jup_star.specs.StarStates.{link_of};
 ghost use Rattle.jup_star.specs.SiteStates.{edit_answer};
@@ -8,7 +8,7 @@ ghost use Rattle.jup_world.specs.WorldStates.{attached};
 ghost use Rattle.jup_world.specs.WorldSteps.{one_taken, place_reply, pinged};
 ghost use Rattle.jup_world.specs.Replies.{edit_reply};
 ghost use Rattle.jup_world.specs.NumberedReplies.{numbered_reply};
-ghost use Rattle.jup_world.specs.SiteNumbers.{IsSiteAt};
+ghost use Rattle.jup_world.specs.SiteNumbers.{AreAscending, IsSiteAt};
 ghost use Rattle.jup_world.specs.WorldFields.{bare_attached};
 ghost use Rattle.jup_world.specs.Happenings.{with_answer, Rises, IsRefused, refilled, refilled_star, first_reply, handed, FirstFits, SparesAt, IsQuietAt, AllQuiet};
 
@@ -47,11 +47,29 @@ fn taken(place: Option<u32>) -> Reply
 
 /// Where the site of a number stands.
 pub(crate) fn place_of(sites: &[Attached], number: u32) -> Option<usize>
+    requires { (most : ℕ) × AreAscending 0 most (map bare_attached sites.now) }
     ensures place { MatchOption result (attached number (map bare_attached sites.now) ≡ None)
         (λ at. IsSiteAt number (map bare_attached sites.now) at) }
     ensures below { IfSome result (λ at. at < length sites.now) }
 {
+    // Mostly each site from the first on is attached, so that the place is known.
+    let first = sites.first().map_or(0, |attached| attached.site.number());
+    let likely = number.saturating_sub(first) as usize;
+    if stands_at(sites, likely, number) {
+        return Some(likely);
+    }
     first_of(sites, number)
+}
+
+// Whether the site of a number stands at a place.
+fn stands_at(sites: &[Attached], at: usize, number: u32) -> bool
+    requires { (most : ℕ) × AreAscending 0 most (map bare_attached sites.now) }
+    ensures { IsTrue result → IsSiteAt number (map bare_attached sites.now) at }
+{
+    match sites.get(at) {
+        Some(attached) => attached.site.number() == number,
+        None => false,
+    }
 }
 
 // The first site of a number.

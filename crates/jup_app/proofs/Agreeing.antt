@@ -21,9 +21,8 @@ use Rattle.jup_star.specs.declared.calls.Reply.TheVariants as reply
 use Rattle.jup_hub.specs.declared.view.Entry.{Entry}
 use Rattle.jup_hub.specs.Histories.{IsLegal, star_through}
 use Rattle.jup_world.specs.Each.{Each}
-use Rattle.jup_world.specs.declared.events.Event.TheVariants as event
-use Rattle.jup_world.specs.declared.events.Reply.TheVariants as told
-use Rattle.jup_world.specs.declared.events.Happened.{Happened}
+use Rattle.jup_world.specs.Events as event
+use Rattle.jup_world.specs.Events.{Happened}
 use Rattle.jup_world.specs.Openings.{IsOpening}
 use Rattle.jup_world.specs.BoardWorlds.{BoardWorld, BoardAttached, BoardEvent, BoardReply, IsReached}
 use Rattle.jup_world.specs.WorldStates.{attached, opened_world, IsQuiet}
@@ -65,17 +64,17 @@ refused_one false c n = refl
 made_there : (i : ℕ) (e : BoardEvent) (r : BoardReply) → edit_made i e r ≡ made_of (edit_at i e r)
 made_there i event.Join r = refl
 made_there i (event.Leave j) r = refl
-made_there i (event.Edit j c) (told.Joined n) = refl
-made_there i (event.Edit j c) (told.NoJoin f) = refl
-made_there i (event.Edit j c) told.Left = refl
-made_there i (event.Edit j c) (told.Made e) = made_one (eqb j i) c e
-made_there i (event.Edit j c) (told.Refused n) = refused_one (eqb j i) c n
-made_there i (event.Edit j c) (told.Taken p) = refl
-made_there i (event.Edit j c) told.Heard = refl
-made_there i (event.Edit j c) (told.Detached f) = refl
-made_there i (event.Edit j c) told.Shown = refl
-made_there i (event.Edit j c) told.Asked = refl
-made_there i (event.Edit j c) told.Nothing = refl
+made_there i (event.Edit j c) (event.Joined n) = refl
+made_there i (event.Edit j c) (event.NoJoin f) = refl
+made_there i (event.Edit j c) event.Left = refl
+made_there i (event.Edit j c) (event.Made e) = made_one (eqb j i) c e
+made_there i (event.Edit j c) (event.Refused n) = refused_one (eqb j i) c n
+made_there i (event.Edit j c) (event.Taken p) = refl
+made_there i (event.Edit j c) event.Heard = refl
+made_there i (event.Edit j c) (event.Detached f) = refl
+made_there i (event.Edit j c) event.Shown = refl
+made_there i (event.Edit j c) event.Asked = refl
+made_there i (event.Edit j c) event.Nothing = refl
 made_there i (event.Up j) r = refl
 made_there i (event.Down j) r = refl
 made_there i (event.Ping j k) r = refl

@@ -14,7 +14,7 @@ use Rattle.jup_star.proofs.Lookup.{found-end, found-end_other}
 use Rattle.jup_hub.specs.declared.view.Entry.{Entry}
 use Rattle.jup_hub.specs.Histories.{IsLegal, star_through}
 use Rattle.jup_world.specs.Each.{Each}
-use Rattle.jup_world.specs.declared.events.Event.TheVariants as event
+use Rattle.jup_world.specs.Events as event
 use Rattle.jup_world.specs.BoardWorlds.{BoardWorld, BoardAttached}
 use Rattle.jup_world.specs.WorldStates.{attached}
 use Rattle.jup_world.specs.WorldSteps.{Outcome, outcome, happens, with_outcome, join_outcome, new_site}

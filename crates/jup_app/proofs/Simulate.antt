@@ -21,8 +21,8 @@ use Rattle.jup_star.proofs.Lookup.{found-map, found-map_other}
 use Rattle.jup_hub.specs.declared.view.Entry.{Entry}
 use Rattle.jup_hub.specs.Histories.{IsLegal, star_through}
 use Rattle.jup_world.specs.Each.{Each}
-use Rattle.jup_world.specs.declared.events.Event.TheVariants as event
-use Rattle.jup_world.specs.declared.events.Happened.{Happened}
+use Rattle.jup_world.specs.Events as event
+use Rattle.jup_world.specs.Events.{Happened}
 use Rattle.jup_world.specs.BoardWorlds.{BoardWorld, BoardAttached, BoardEvent, BoardReply, IsReached}
 use Rattle.jup_world.specs.WorldStates.{attached, at_site, opened_world}
 use Rattle.jup_world.specs.WorldSteps.{Outcome, outcome, happens, run, at_linked, at_attached, edit_outcome, first_up, up_outcome, one_taken, first_down, down_outcome, one_handed, with_edit}

@@ -13,10 +13,10 @@ use Rattle.jup_star.specs.declared.calls.Reply.{Reply}
 use Rattle.jup_star.specs.declared.calls.Reply.TheVariants as reply
 use Rattle.jup_star.specs.SiteStates.{edit_answer, deliver_fault}
 use Rattle.jup_hub.specs.declared.view.Entry.{Entry}
-use Rattle.jup_world.specs.declared.events.Event.TheVariants as event
-use Rattle.jup_world.specs.declared.events.Event.{Event}
-use Rattle.jup_world.specs.declared.events.Reply.TheVariants.{Made as WasMade, Refused as WasRefused}
-use Rattle.jup_world.specs.declared.events.Happened.{Happened}
+use Rattle.jup_world.specs.Events as event
+use Rattle.jup_world.specs.Events.{Event}
+use Rattle.jup_world.specs.Events.{Made as WasMade, Refused as WasRefused}
+use Rattle.jup_world.specs.Events.{Happened}
 use Rattle.jup_world.specs.BoardWorlds.{BoardAttached, BoardEvent, BoardReply}
 use Rattle.jup_world.specs.WorldSteps.{with_edit, one_taken, one_handed}
 

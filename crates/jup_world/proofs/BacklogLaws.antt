@@ -22,7 +22,7 @@ use Rattle.jup_star.specs.SiteStates.{running_test, heard_tests, deliver_tests, 
 use Rattle.jup_star.proofs.TestLists.{all_hold}
 use Rattle.jup_star.specs.Streams.{ups, downs}
 use Rattle.jup_star.proofs.Lookup.{found-end, found-end_other}
-use Rattle.jup_world.specs.declared.events.Event.TheVariants.{Join, Leave, Edit as MakeEdit, Up as MoveUp, Down as MoveDown, Ping as SendPing}
+use Rattle.jup_world.specs.Events.{Join, Leave, Edit as MakeEdit, Up as MoveUp, Down as MoveDown, Ping as SendPing}
 use Rattle.jup_world.specs.WorldStates.{WorldOf, AttachedOf, EventOf, attached, at_site, without_site}
 use Rattle.jup_world.specs.WorldSteps.{Outcome, new_site, join_outcome, with_edit, edit_outcome, one_taken, up_outcome, first_up, one_handed, down_outcome, first_down, pinged, with_fetched, only_fetched, at_attached, at_linked, happens, run}
 use Rattle.jup_world.specs.Turns.{turns}

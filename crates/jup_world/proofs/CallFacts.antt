@@ -17,7 +17,7 @@ use Rattle.jup_star.specs.StarStates.{link_of, join_fault, joined, left, fetched
 use Rattle.jup_star.specs.SiteStates.{edit_answer}
 use Rattle.jup_star.specs.StarCalls.{BoardStar, BoardLink, Answers, reply_of, star_after, is_no_memory, joining, bare_joined, take_result, after_take, fetch_result}
 use Rattle.jup_star.specs.SiteCalls.{BoardSite, EditAnswers, made_result, made_by, after_edit, is_edit_memory}
-use Rattle.jup_world.specs.declared.events.Reply.TheVariants.{Made as MadeReply, Refused}
+use Rattle.jup_world.specs.Events.{Made as MadeReply, Refused}
 use Rattle.jup_world.specs.Replies.{edit_reply}
 use Rattle.jup_world.specs.BoardWorlds.{BoardAttached, BoardReply}
 use Rattle.jup_world.specs.Happenings.{with_answer, refilled_from, refilled, fetched_for, refilled_star}

@@ -10,8 +10,8 @@ use Rattle.jup_star.specs.declared.faults.SiteFault.{SiteFault}
 use Rattle.jup_star.specs.LinkStates.{LinkState}
 use Rattle.jup_star.specs.StarStates.{StarOf, link_of, up_fault}
 use Rattle.jup_star.specs.SiteStates.{deliver_fault}
-use Rattle.jup_world.specs.declared.events.Event.TheVariants.{Up as MoveUp, Down as MoveDown}
-use Rattle.jup_world.specs.declared.events.Reply.TheVariants.{Nothing}
+use Rattle.jup_world.specs.Events.{Up as MoveUp, Down as MoveDown}
+use Rattle.jup_world.specs.Events.{Nothing}
 use Rattle.jup_world.specs.WorldStates.{WorldOf, AttachedOf, attached, IsQuiet}
 use Rattle.jup_world.specs.WorldSteps.{Outcome, outcome, at_linked, at_attached, at_number, up_outcome, first_up, down_outcome, first_down}
 use Rattle.jup_world.specs.Sound.{IsSound}

@@ -12,9 +12,10 @@ use Rattle.jup_star.specs.declared.faults.StarFault.{StarFault}
 use Rattle.jup_star.specs.declared.faults.SiteFault.{SiteFault}
 use Rattle.jup_star.specs.StarStates.{link_of, up_fault, place_taken, most_items}
 use Rattle.jup_star.specs.SiteStates.{deliver_fault}
-use Rattle.jup_world.specs.declared.events.Event.TheVariants.{Join, Leave, Edit as MakeEdit, Up as MoveUp, Down as MoveDown, Ping as SendPing}
+use Rattle.jup_world.specs.Events.{Join, Leave, Edit as MakeEdit, Up as MoveUp, Down as MoveDown, Ping as SendPing}
 use Rattle.jup_world.specs.declared.events.Reply.{Reply}
-use Rattle.jup_world.specs.declared.events.Reply.TheVariants.{Joined, NoJoin, Left, Made, Refused, Taken, Heard, Detached, Shown, Asked, Nothing}
+use Rattle.jup_world.specs.declared.events.Reply.TheVariants as answer
+use Rattle.jup_world.specs.Events.{Nothing}
 use Rattle.jup_world.specs.declared.world.attached.Attached.{Attached}
 use Rattle.jup_xform.specs.declared.NoMemory.{NoMemory}
 use Rattle.jup_world.specs.declared.world.draining.Halted.{Halted}
@@ -24,7 +25,9 @@ use Rattle.jup_world.specs.WorldStates.{attached, IsQuiet}
 use Rattle.jup_world.specs.WorldFields.{bare_attached}
 use Rattle.jup_world.specs.SiteNumbers.{AreAscending}
 use Rattle.jup_world.specs.WorldSteps.{Outcome, outcome, happens, run, up_outcome, first_up, down_outcome, first_down, at_attached, at_linked, at_number, place_reply}
-use Rattle.jup_world.specs.NumberedReplies.{numbered_reply}
+use Rattle.jup_world.specs.NumberedReplies.{plain_event, numbered_reply}
+use Rattle.jup_world.specs.declared.events.Event.{Event as Played}
+use Rattle.jup_window.specs.declared.commands.Command.{Command}
 use Rattle.jup_world.specs.Promises.{OrderIsKept}
 use Rattle.jup_world.specs.BoardWorlds.{BoardWorld, BoardLink, BoardAttached, BoardEvent, BoardReply}
 use Rattle.jup_world.specs.Happenings.{IsWorld, IsSpared}
@@ -39,18 +42,18 @@ use Rattle.jup_world.proofs.WorldRuns.{run_append, order_run, order_spared}
 -- # One delivery
 
 -- a reply is nothing as its number is
-pub nothing_numbered : (r : Reply Edit EditFault) → ◌≡◌ {A = BoardReply} (numbered_reply r) Nothing → r ≡ Nothing
-nothing_numbered (Joined i) e = absurd (cc)
-nothing_numbered (NoJoin fault) e = absurd (cc)
-nothing_numbered Left e = absurd (cc)
-nothing_numbered (Made edit) e = absurd (cc)
-nothing_numbered (Refused fault) e = absurd (cc)
-nothing_numbered (Taken place) e = absurd (cc)
-nothing_numbered Heard e = absurd (cc)
-nothing_numbered (Detached fault) e = absurd (cc)
-nothing_numbered Shown e = absurd (cc)
-nothing_numbered Asked e = absurd (cc)
-nothing_numbered Nothing e = refl
+pub nothing_numbered : (r : Reply Edit EditFault) → ◌≡◌ {A = BoardReply} (numbered_reply r) Nothing → r ≡ answer.Nothing
+nothing_numbered (answer.Joined i) e = absurd (cc)
+nothing_numbered (answer.NoJoin fault) e = absurd (cc)
+nothing_numbered answer.Left e = absurd (cc)
+nothing_numbered (answer.Made edit) e = absurd (cc)
+nothing_numbered (answer.Refused fault) e = absurd (cc)
+nothing_numbered (answer.Taken place) e = absurd (cc)
+nothing_numbered answer.Heard e = absurd (cc)
+nothing_numbered (answer.Detached fault) e = absurd (cc)
+nothing_numbered answer.Shown e = absurd (cc)
+nothing_numbered answer.Asked e = absurd (cc)
+nothing_numbered answer.Nothing e = refl
 
 -- a delivery that moves nothing leaves the star and the sites
 nothing_leaves : (w : BoardWorld) (event : BoardEvent) → IsDelivery event → (outcome board_operations w event).reply ≡ Nothing
@@ -66,7 +69,7 @@ one_delivered : (w v : BoardWorld) (event : BoardEvent) → IsDelivery event →
 one_delivered w v event delivers is = record { events = event ∷ []; deliveries = (delivers, tt); is = is }
 
 pub settles_one : (w v : BoardWorld) (event : BoardEvent) (reply : Reply Edit EditFault) (nothing : Bool) → IsWorld w → IsDelivery event → v ≡ happens board_operations w event
-    → numbered_reply reply ≡ (outcome board_operations w event).reply → (IsTrue nothing ↔ (reply ≡ Nothing)) → Settles (not nothing) w v
+    → numbered_reply reply ≡ (outcome board_operations w event).reply → (IsTrue nothing ↔ (reply ≡ answer.Nothing)) → Settles (not nothing) w v
 settles_one w v event reply nothing is delivers made answer test = record {
   delivered = one_delivered w v event delivers made;
   lighter = λ some. subst (λ u. weight u < weight w) (sym made) (delivery_lightens w event is.board.sound delivers (λ none. moved nothing some (test.1 (nothing_numbered reply (answer ∙ none)))));
@@ -274,7 +277,7 @@ pub order_drained : (w v : BoardWorld) (r : Result (Unit {0}) NoMemory) → IsWo
 order_drained w v (Ok x) is delivered part = order_delivered w v is delivered
 order_drained w v (Err fault) is delivered part = order_in_part w v is part
 
-pub order_played : (w v : BoardWorld) (events : List BoardEvent) (r : Result (Unit {0}) Halted) → IsWorld w → OnOk r (v ≡ run board_operations w events)
-    → IfErr r (λ halted. IsSpared (run board_operations w (take halted.done events)) v) → OrderIsKept board_operations w v
-order_played w v events (Ok x) is played spared = subst (OrderIsKept board_operations w) (sym played) (order_run events w is)
-order_played w v events (Err halted) is played spared = order_spared w (run board_operations w (take halted.done events)) v (order_run (take halted.done events) w is) spared
+pub order_played : (w v : BoardWorld) (events : List (Played Command)) (r : Result (Unit {0}) Halted) → IsWorld w → OnOk r (v ≡ run board_operations w (map plain_event events))
+    → IfErr r (λ halted. IsSpared (run board_operations w (map plain_event (take halted.done events))) v) → OrderIsKept board_operations w v
+order_played w v events (Ok x) is played spared = subst (OrderIsKept board_operations w) (sym played) (order_run (map plain_event events) w is)
+order_played w v events (Err halted) is played spared = order_spared w (run board_operations w (map plain_event (take halted.done events))) v (order_run (map plain_event (take halted.done events)) w is) spared

@@ -19,9 +19,9 @@ use Rattle.jup_star.specs.StarStates.{link_of, join_fault, joined, left, fetched
 use Rattle.jup_star.specs.SiteStates.{opened_site, edit_answer}
 use Rattle.jup_star.specs.StarCalls.{BoardStar, joining, bare_joined}
 use Rattle.jup_star.specs.SiteCalls.{BoardSite, site_open_fault}
-use Rattle.jup_world.specs.declared.events.Happened.{Happened}
-use Rattle.jup_world.specs.declared.events.Event.TheVariants.{Join, Leave, Edit as MakeEdit, Up as MoveUp, Down as MoveDown, Ping as SendPing}
-use Rattle.jup_world.specs.declared.events.Reply.TheVariants.{Joined, NoJoin, Left, Detached, Asked, Nothing}
+use Rattle.jup_world.specs.Events.{Happened}
+use Rattle.jup_world.specs.Events.{Join, Leave, Edit as MakeEdit, Up as MoveUp, Down as MoveDown, Ping as SendPing}
+use Rattle.jup_world.specs.Events.{Joined, NoJoin, Left, Detached, Asked, Nothing}
 use Rattle.jup_world.specs.WorldStates.{attached, at_site, without_site}
 use Rattle.jup_world.specs.WorldSteps.{Outcome, join_outcome, edit_outcome, up_outcome, first_up, down_outcome, first_down, at_linked, one_taken, place_reply, one_handed, down_reply, pinged}
 use Rattle.jup_world.specs.Replies.{edit_reply}

@@ -14,8 +14,7 @@ use Rattle.jup_star.specs.StarStates.{link_of, fetched}
 use Rattle.jup_star.specs.SiteStates.{edit_answer}
 use Rattle.jup_star.specs.StarCalls.{BoardStar, is_no_memory}
 use Rattle.jup_world.specs.declared.events.Reply.{Reply}
-use Rattle.jup_world.specs.declared.events.Reply.TheVariants.{Detached, Asked}
-use Rattle.jup_world.specs.declared.events.Event.TheVariants.{Edit as MakeEdit, Up as MoveUp, Down as MoveDown, Ping as SendPing}
+use Rattle.jup_world.specs.Events.{Detached, Asked, Edit as MakeEdit, Up as MoveUp, Down as MoveDown, Ping as SendPing}
 use Rattle.jup_world.specs.declared.world.attached.Attached.{Attached}
 use Rattle.jup_world.specs.WorldStates.{attached, at_site, without_site, is_number}
 use Rattle.jup_world.specs.WorldSteps.{one_taken, pinged, with_fetched}

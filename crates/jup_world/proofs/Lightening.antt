@@ -15,8 +15,8 @@ use Rattle.jup_star.specs.declared.faults.SiteFault.{SiteFault}
 use Rattle.jup_star.specs.LinkStates.{owed_down, link_acked, link_ponged, link_fetched, link_sent, link_heard, operation_at, end_after}
 use Rattle.jup_star.specs.StarStates.{link_of, without, at_link, links_after, up_fault, most_items}
 use Rattle.jup_star.specs.SiteStates.{deliver_fault, sent_back}
-use Rattle.jup_world.specs.declared.events.Event.TheVariants.{Join, Leave, Edit as MakeEdit, Up as MoveUp, Down as MoveDown, Ping as SendPing}
-use Rattle.jup_world.specs.declared.events.Reply.TheVariants.{Nothing}
+use Rattle.jup_world.specs.Events.{Join, Leave, Edit as MakeEdit, Up as MoveUp, Down as MoveDown, Ping as SendPing}
+use Rattle.jup_world.specs.Events.{Nothing}
 use Rattle.jup_world.specs.WorldStates.{attached, at_site, without_site}
 use Rattle.jup_world.specs.WorldSteps.{Outcome, up_outcome, first_up, down_outcome, first_down, one_taken, one_handed, at_attached, at_linked, at_number, outcome, happens}
 use Rattle.jup_world.specs.BoardWorlds.{BoardWorld, BoardLink, BoardAttached, BoardEvent}

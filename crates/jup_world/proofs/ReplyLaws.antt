@@ -13,8 +13,8 @@ use Rattle.jup_star.specs.LinkStates.{LinkState}
 use Rattle.jup_star.specs.StarStates.{link_of, join_fault, up_fault}
 use Rattle.jup_star.specs.SiteStates.{edit_answer, deliver_fault}
 use Rattle.jup_star.specs.Streams.{downs}
-use Rattle.jup_world.specs.declared.events.Event.TheVariants.{Join, Leave, Edit as MakeEdit, Up as MoveUp, Down as MoveDown, Ping as SendPing}
-use Rattle.jup_world.specs.declared.events.Reply.TheVariants.{Left, Taken, Detached, Asked, Nothing}
+use Rattle.jup_world.specs.Events.{Join, Leave, Edit as MakeEdit, Up as MoveUp, Down as MoveDown, Ping as SendPing}
+use Rattle.jup_world.specs.Events.{Left, Taken, Detached, Asked, Nothing}
 use Rattle.jup_world.specs.WorldStates.{WorldOf, AttachedOf, EventOf, ReplyOf, attached}
 use Rattle.jup_world.specs.WorldSteps.{Outcome, outcome, at_number, at_linked, at_attached, join_outcome, edit_outcome, up_outcome, first_up, down_outcome, first_down}
 use Rattle.jup_world.specs.Sound.{IsSound}

@@ -6,7 +6,7 @@ use Rattle.jup_world.specs.Turns.{turns}
 use Rattle.jup_world.specs.WorldStates.{attached, at_site, without_site, WorldOf, AttachedOf, EventOf, ReplyOf}
 use Rattle.jup_world.specs.Traces.{edit_made, made, entry_taken, order_of, join_seen, joined_at, was_shown, shown_count}
 use Rattle.jup_world.specs.Sound.{Standing, StandsAt, IsSound}
-use Rattle.jup_world.specs.declared.events.Happened.{Happened}
+use Rattle.jup_world.specs.Events.{Happened}
 use Rattle.jup_star.specs.declared.messages.Entry.{Entry}
 use Rattle.jup_star.specs.LinkStates.{LinkState}
 use Rattle.jup_star.specs.StarStates.{link_of, without, at_link, with_links, left, StarOf}

@@ -10,7 +10,7 @@ use Rattle.jup_star.specs.StarStates.{link_of, join_fault, up_fault}
 use Rattle.jup_star.specs.SiteStates.{edit_answer, deliver_fault}
 use Rattle.jup_star.specs.Streams.{downs}
 use Rattle.jup_star.proofs.Lookup.{found-map, found-map_other, found-without, found-without_other, found-end, found-end_other}
-use Rattle.jup_world.specs.declared.events.Event.TheVariants.{Join, Leave, Edit as MakeEdit, Up as MoveUp, Down as MoveDown, Ping as SendPing}
+use Rattle.jup_world.specs.Events.{Join, Leave, Edit as MakeEdit, Up as MoveUp, Down as MoveDown, Ping as SendPing}
 use Rattle.jup_world.specs.Turns.{Turn, turns}
 use Rattle.jup_world.specs.WorldStates.{attached, at_site, without_site, WorldOf, AttachedOf, EventOf}
 use Rattle.jup_world.specs.WorldSteps.{Outcome, new_site, join_outcome, with_edit, edit_outcome, one_taken, up_outcome, first_up, one_handed, down_outcome, first_down, pinged, at_attached, at_linked, outcome}

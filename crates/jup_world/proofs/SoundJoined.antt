@@ -9,9 +9,9 @@ use Rattle.jup_world.specs.WorldStates.{attached, WorldOf, AttachedOf}
 use Rattle.jup_world.specs.WorldSteps.{new_site}
 use Rattle.jup_world.specs.Traces.{made, order_of, joined_at, shown_count}
 use Rattle.jup_world.specs.Sound.{named_by, own_counts, ChangesKnown, Paired, told_of, Standing, StandsAt, IsSound}
-use Rattle.jup_world.specs.declared.events.Happened.{Happened}
-use Rattle.jup_world.specs.declared.events.Event.TheVariants.{Join}
-use Rattle.jup_world.specs.declared.events.Reply.TheVariants.{Joined}
+use Rattle.jup_world.specs.Events.{Happened}
+use Rattle.jup_world.specs.Events.{Join}
+use Rattle.jup_world.specs.Events.{Joined}
 use Rattle.jup_star.specs.LinkStates.{LinkState, opened_link}
 use Rattle.jup_star.specs.StarStates.{link_of, joined}
 use Rattle.jup_world.proofs.TraceLaws.{made-end, order-end, joined-end, shown-end, edits-turns, length-turns}

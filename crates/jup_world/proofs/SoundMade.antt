@@ -7,9 +7,9 @@ use Rattle.jup_world.specs.WorldStates.{attached, at_site, WorldOf, AttachedOf, 
 use Rattle.jup_world.specs.WorldSteps.{with_edit}
 use Rattle.jup_world.specs.Traces.{edit_made, made, entry_taken, order_of, join_seen, joined_at, was_shown, shown_count}
 use Rattle.jup_world.specs.Sound.{Standing, StandsAt, IsSound}
-use Rattle.jup_world.specs.declared.events.Happened.{Happened}
-use Rattle.jup_world.specs.declared.events.Event.TheVariants.{Edit as MakeEdit}
-use Rattle.jup_world.specs.declared.events.Reply.TheVariants.{Made}
+use Rattle.jup_world.specs.Events.{Happened}
+use Rattle.jup_world.specs.Events.{Edit as MakeEdit}
+use Rattle.jup_world.specs.Events.{Made}
 use Rattle.jup_star.specs.LinkStates.{LinkState}
 use Rattle.jup_star.specs.StarStates.{link_of, with_links}
 use Rattle.jup_star.specs.SiteStates.{edit_answer}

@@ -15,9 +15,9 @@ use Rattle.jup_world.specs.WorldSteps.{Outcome, join_outcome, leave_outcome, edi
 use Rattle.jup_world.specs.Traces.{made, entry_taken, order_of, joined_at, shown_count, view}
 use Rattle.jup_world.specs.Sound.{edits_sent, told_of, Standing, StandsAt, IsSound}
 use Rattle.jup_world.specs.Promises.{Promises}
-use Rattle.jup_world.specs.declared.events.Happened.{Happened}
-use Rattle.jup_world.specs.declared.events.Event.TheVariants.{Join, Leave, Edit as MakeEdit, Up as MoveUp, Down as MoveDown, Ping as SendPing}
-use Rattle.jup_world.specs.declared.events.Reply.TheVariants.{NoJoin, Left, Refused, Heard, Detached, Asked, Nothing}
+use Rattle.jup_world.specs.Events.{Happened}
+use Rattle.jup_world.specs.Events.{Join, Leave, Edit as MakeEdit, Up as MoveUp, Down as MoveDown, Ping as SendPing}
+use Rattle.jup_world.specs.Events.{NoJoin, Left, Refused, Heard, Detached, Asked, Nothing}
 use Rattle.jup_star.specs.declared.messages.Entry.{Entry}
 use Rattle.jup_star.specs.declared.messages.Up.{Up}
 use Rattle.jup_star.specs.declared.messages.Down.{Down}

@@ -12,8 +12,8 @@ use Rattle.jup_world.specs.WorldStates.{attached, at_site, WorldOf, AttachedOf}
 use Rattle.jup_world.specs.WorldSteps.{one_handed}
 use Rattle.jup_world.specs.Traces.{made, joined_at, shown_count}
 use Rattle.jup_world.specs.Sound.{edits_sent, Inherits, told_of, Standing, StandsAt, IsSound}
-use Rattle.jup_world.specs.declared.events.Event.TheVariants.{Down as MoveDown}
-use Rattle.jup_world.specs.declared.events.Reply.TheVariants.{Shown}
+use Rattle.jup_world.specs.Events.{Down as MoveDown}
+use Rattle.jup_world.specs.Events.{Shown}
 use Rattle.jup_star.specs.declared.messages.Down.{Down}
 use Rattle.jup_star.specs.declared.messages.Down.TheVariants.{Op as DownOp}
 use Rattle.jup_star.specs.LinkStates.{LinkState, link_fetched}

@@ -12,9 +12,9 @@ use Rattle.jup_world.specs.WorldStates.{attached, at_site, WorldOf, AttachedOf}
 use Rattle.jup_world.specs.WorldSteps.{one_taken}
 use Rattle.jup_world.specs.Traces.{made, joined_at, shown_count}
 use Rattle.jup_world.specs.Sound.{told_of, Standing, StandsAt, IsSound}
-use Rattle.jup_world.specs.declared.events.Happened.{Happened}
-use Rattle.jup_world.specs.declared.events.Event.TheVariants.{Up as MoveUp}
-use Rattle.jup_world.specs.declared.events.Reply.TheVariants.{Taken}
+use Rattle.jup_world.specs.Events.{Happened}
+use Rattle.jup_world.specs.Events.{Up as MoveUp}
+use Rattle.jup_world.specs.Events.{Taken}
 use Rattle.jup_star.specs.declared.messages.Up.{Up}
 use Rattle.jup_star.specs.declared.messages.Up.TheVariants.{Op as UpOp}
 use Rattle.jup_star.specs.LinkStates.{LinkState, link_sent, link_heard}

@@ -9,7 +9,7 @@ use Rattle.jup_world.specs.WorldStates.{attached, WorldOf, AttachedOf, EventOf}
 use Rattle.jup_world.specs.WorldSteps.{Outcome, join_outcome, edit_outcome, up_outcome, first_up, down_outcome, first_down, at_attached, at_linked, outcome, happens, run}
 use Rattle.jup_world.specs.Traces.{made, joined_at, shown_count}
 use Rattle.jup_world.specs.Sound.{named_by, IsKnown, told_of, Standing, IsSound}
-use Rattle.jup_world.specs.declared.events.Event.TheVariants.{Join, Leave, Edit as MakeEdit, Up as MoveUp, Down as MoveDown, Ping as SendPing}
+use Rattle.jup_world.specs.Events.{Join, Leave, Edit as MakeEdit, Up as MoveUp, Down as MoveDown, Ping as SendPing}
 use Rattle.jup_star.specs.declared.messages.Up.{Up}
 use Rattle.jup_star.specs.declared.messages.Down.{Down}
 use Rattle.jup_star.specs.declared.messages.Up.TheVariants.{Op as UpOp, Ack as UpAck, Ping as UpPing}

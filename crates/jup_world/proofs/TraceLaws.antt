@@ -2,7 +2,7 @@
 use Rattle.std.proofs.Common.{◌≡◌, ℕ, zero, suc, ◌+◌, ◌≤◌, Bool, true, false, cond, List, [], ◌∷◌, ◌++◌, length, drop, nat_eq, refl, ap, sym, ◌∙◌, arith, append_assoc, append-nil}
 use Rattle.jup_world.specs.Turns.{Turn, Own, Other, turn, turns, edits, through_others, others}
 use Rattle.jup_world.specs.Traces.{over_trace, edit_made, made, entry_taken, order_of, join_seen, joined_at, was_shown, shown_count}
-use Rattle.jup_world.specs.declared.events.Happened.{Happened}
+use Rattle.jup_world.specs.Events.{Happened}
 use Rattle.jup_star.specs.declared.messages.Entry.{Entry}
 
 module _ {Command Edit Fault : Type 0} where

@@ -23,7 +23,7 @@ use Rattle.jup_star.specs.Openings.{IsShort}
 use Rattle.jup_star.specs.Streams.{downs}
 use Rattle.jup_star.proofs.TakenEdits.{link_site, taken_site}
 use Rattle.jup_star.proofs.ShortBoards.{short_bare, distinct_bare}
-use Rattle.jup_world.specs.declared.events.Event.TheVariants.{Join, Leave, Edit as MakeEdit, Up as MoveUp, Down as MoveDown, Ping as SendPing}
+use Rattle.jup_world.specs.Events.{Join, Leave, Edit as MakeEdit, Up as MoveUp, Down as MoveDown, Ping as SendPing}
 use Rattle.jup_world.specs.WorldStates.{attached, opened_world}
 use Rattle.jup_world.specs.WorldSteps.{Outcome, join_outcome, edit_outcome, up_outcome, first_up, down_outcome, first_down, with_edit, one_taken, one_handed, pinged, at_attached, at_linked, at_number, outcome, happens, with_fetched, only_fetched}
 use Rattle.jup_world.specs.BoardWorlds.{BoardWorld, BoardLink, BoardAttached, BoardEvent}

@@ -1,15 +1,17 @@
 -- What a step of the program does to its world, and what that keeps.
 use Rattle.std.proofs.Common.{◌≡◌, refl, sym, ◌∙◌, ap, subst, inl, inr, ℕ, ◌+◌, ◌<◌, Bool, true, false, cond, List, [], ◌∷◌, ◌++◌, length, map, take, get_or, nat_eq, Some}
-use Rattle.std.proofs.lemmas.List.{take_more}
+use Rattle.std.proofs.lemmas.List.{take_more, map-append}
 use Rattle.jup_window.specs.declared.commands.Command.{Command}
 use Rattle.jup_window.specs.declared.edits.Edit.{Edit}
 use Rattle.jup_star.specs.StarStates.{most_items}
-use Rattle.jup_world.specs.declared.events.Happened.{Happened}
+use Rattle.jup_world.specs.Events.{Happened}
 use Rattle.jup_window.specs.BoardOperations.{board_operations}
 use Rattle.jup_window.specs.BoardsAreLawful.{board_laws}
 use Rattle.jup_star.specs.StarCalls.{BoardStar}
 use Rattle.jup_world.specs.WorldStates.{attached, is_number}
 use Rattle.jup_world.specs.WorldSteps.{Outcome, outcome, with_outcome, happens, run, with_fetched, only_fetched}
+use Rattle.jup_world.specs.NumberedReplies.{plain_event}
+use Rattle.jup_world.specs.declared.events.Event.{Event as Played}
 use Rattle.jup_world.specs.Replies.{RepliesTo}
 use Rattle.jup_world.specs.Promises.{OrderIsKept}
 use Rattle.jup_world.specs.BoardWorlds.{BoardWorld, BoardLink, BoardAttached, BoardEvent, BoardReply}
@@ -103,8 +105,10 @@ run_append w [] two = refl
 run_append w (x ∷ xs) two = run_append (happens board_operations w x) xs two
 
 -- the next event of a list
-pub run_next : (w v u : BoardWorld) (events : List BoardEvent) (n : ℕ) (e : BoardEvent) → n < length events → e ≡ get_or events n e → v ≡ run board_operations w (take n events)
-    → u ≡ happens board_operations v e → u ≡ run board_operations w (take (n + 1) events)
+pub run_next : (w v u : BoardWorld) (events : List (Played Command)) (n : ℕ) (e : Played Command) → n < length events → e ≡ get_or events n e
+    → v ≡ run board_operations w (map plain_event (take n events))
+    → u ≡ happens board_operations v (plain_event e) → u ≡ run board_operations w (map plain_event (take (n + 1) events))
 run_next w v u events n e below is before made =
-    made ∙ ap (λ x. happens board_operations x e) before
-    ∙ sym (ap (run board_operations w) (take_more events n e below ∙ ap (λ x. take n events ++ x ∷ []) (sym is)) ∙ run_more w (take n events) e)
+    made ∙ ap (λ x. happens board_operations x (plain_event e)) before
+    ∙ sym (ap (λ es. run board_operations w (map plain_event es)) (take_more events n e below ∙ ap (λ x. take n events ++ x ∷ []) (sym is))
+    ∙ ap (run board_operations w) (map-append plain_event (take n events) (e ∷ [])) ∙ run_more w (map plain_event (take n events)) (plain_event e))

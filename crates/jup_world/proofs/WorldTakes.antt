@@ -14,8 +14,8 @@ use Rattle.jup_world.specs.WorldStates.{attached, WorldOf, AttachedOf}
 use Rattle.jup_world.specs.WorldSteps.{one_taken}
 use Rattle.jup_world.specs.Traces.{first_of_site, made, order_of, joined_at, shown_count}
 use Rattle.jup_world.specs.Sound.{edits_sent, named_by, IsKnown, ChangesKnown, ChangesHeld, HoldsKnown, Paired, told_of, Standing, StandsAt, IsSound}
-use Rattle.jup_world.specs.declared.events.Event.TheVariants.{Up as MoveUp}
-use Rattle.jup_world.specs.declared.events.Reply.TheVariants.{Taken}
+use Rattle.jup_world.specs.Events.{Up as MoveUp}
+use Rattle.jup_world.specs.Events.{Taken}
 use Rattle.jup_star.specs.declared.messages.Entry.{Entry}
 use Rattle.jup_star.specs.declared.messages.Up.{Up}
 use Rattle.jup_star.specs.declared.messages.Up.TheVariants.{Op as UpOp}

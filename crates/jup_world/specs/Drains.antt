@@ -1,8 +1,8 @@
 -- The rounds in which a world is drained.
 use Rattle.std.specs.Prelude.{◌≡◌, ◌<◌, ℕ, Some, IsTrue, IsFalse, Bool}
 use Rattle.jup_window.specs.BoardOperations.{board_operations}
-use Rattle.jup_world.specs.declared.events.Event.TheVariants.{Up as MoveUp, Down as MoveDown}
-use Rattle.jup_world.specs.declared.events.Reply.TheVariants.{Nothing}
+use Rattle.jup_world.specs.Events.{Up as MoveUp, Down as MoveDown}
+use Rattle.jup_world.specs.Events.{Nothing}
 use Rattle.jup_world.specs.declared.world.draining.Way.{Way}
 use Rattle.jup_world.specs.declared.world.draining.Way.TheVariants.{Up, Down}
 use Rattle.jup_world.specs.WorldStates.{attached}

@@ -16,8 +16,8 @@ use Rattle.jup_star.specs.declared.calls.Call.TheVariants.{Take}
 use Rattle.jup_star.specs.declared.calls.Reply.TheVariants.{Taken}
 use Rattle.jup_star.specs.StarCalls.{BoardStar, Answers}
 use Rattle.jup_star.specs.SiteCalls.{BoardSite}
-use Rattle.jup_world.specs.declared.events.Happened.{Happened}
-use Rattle.jup_world.specs.declared.events.Reply.TheVariants.{Nothing}
+use Rattle.jup_world.specs.Events.{Happened}
+use Rattle.jup_world.specs.Events.{Nothing}
 use Rattle.jup_world.specs.WorldStates.{attached, at_site}
 use Rattle.jup_world.specs.WorldSteps.{outcome, with_edit, place_reply, one_handed, down_reply, with_fetched, only_fetched}
 use Rattle.jup_world.specs.BoardWorlds.{BoardWorld, BoardAttached, BoardLink, BoardEvent, BoardReply, IsBoardWorld}

@@ -2,6 +2,7 @@ pub mod Backlogs
 pub mod BoardWorlds
 pub mod Drains
 pub mod Each
+pub mod Events
 pub mod Happenings
 pub mod Headline
 pub mod Meanings

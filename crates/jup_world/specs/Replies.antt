@@ -9,8 +9,8 @@ use Rattle.jup_star.specs.declared.faults.StarFault.TheVariants.{Full, SitesSpen
 use Rattle.jup_star.specs.LinkStates.{LinkState}
 use Rattle.jup_star.specs.StarStates.{StarOf, link_of}
 use Rattle.jup_star.specs.SiteStates.{edit_answer}
-use Rattle.jup_world.specs.declared.events.Event.TheVariants.{Join, Leave, Edit as MakeEdit, Up as MoveUp, Down as MoveDown, Ping as SendPing}
-use Rattle.jup_world.specs.declared.events.Reply.TheVariants.{Joined, NoJoin, Left, Made, Refused, Taken, Heard, Detached, Shown, Asked, Nothing}
+use Rattle.jup_world.specs.Events.{Join, Leave, Edit as MakeEdit, Up as MoveUp, Down as MoveDown, Ping as SendPing}
+use Rattle.jup_world.specs.Events.{Joined, NoJoin, Left, Made, Refused, Taken, Heard, Detached, Shown, Asked, Nothing}
 use Rattle.jup_world.specs.WorldStates.{WorldOf, AttachedOf, EventOf, ReplyOf, attached}
 
 module _ (O : Operations) where

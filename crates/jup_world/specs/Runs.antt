@@ -1,7 +1,7 @@
 -- Runs of a world, and want of memory in one.
 use Rattle.std.specs.Prelude.{◌≡◌, List, [], ◌∷◌}
 use Rattle.jup_window.specs.BoardOperations.{board_operations}
-use Rattle.jup_world.specs.declared.events.Event.TheVariants.{Join, Leave, Edit as MakeEdit, Up as MoveUp, Down as MoveDown, Ping as SendPing}
+use Rattle.jup_world.specs.Events.{Join, Leave, Edit as MakeEdit, Up as MoveUp, Down as MoveDown, Ping as SendPing}
 use Rattle.jup_world.specs.WorldSteps.{run}
 use Rattle.jup_world.specs.BoardWorlds.{BoardWorld, BoardEvent}
 use Rattle.jup_world.specs.Happenings.{IsSpared}

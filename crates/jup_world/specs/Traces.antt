@@ -1,11 +1,11 @@
 -- What is read off a trace alone: the star's order, what each site made and was told, and what it should show.
 use Rattle.std.specs.Prelude.{ℕ, ◌+◌, cond, List, [], ◌∷◌, ◌++◌, length, take, drop, nat_eq}
 use Rattle.jup_star.specs.declared.messages.Entry.{Entry}
-use Rattle.jup_world.specs.declared.events.Event.{Event}
-use Rattle.jup_world.specs.declared.events.Event.TheVariants.{Join, Edit as MakeEdit, Up as MoveUp, Down as MoveDown}
-use Rattle.jup_world.specs.declared.events.Reply.{Reply}
-use Rattle.jup_world.specs.declared.events.Reply.TheVariants.{Joined, Made, Taken, Shown}
-use Rattle.jup_world.specs.declared.events.Happened.{Happened}
+use Rattle.jup_world.specs.Events.{Event}
+use Rattle.jup_world.specs.Events.{Join, Edit as MakeEdit, Up as MoveUp, Down as MoveDown}
+use Rattle.jup_world.specs.Events.{Reply}
+use Rattle.jup_world.specs.Events.{Joined, Made, Taken, Shown}
+use Rattle.jup_world.specs.Events.{Happened}
 use Rattle.jup_world.specs.Turns.{turns, edits, own_edits, through_others}
 
 -- the first of a site's edits, as an entry

@@ -6,9 +6,9 @@ use Rattle.jup_star.specs.declared.messages.Down.{Down}
 use Rattle.jup_star.specs.LinkStates.{LinkState}
 use Rattle.jup_star.specs.StarStates.{StarState, opened_star, link_of}
 use Rattle.jup_star.specs.SiteStates.{SiteState}
-use Rattle.jup_world.specs.declared.events.Event.{Event}
-use Rattle.jup_world.specs.declared.events.Reply.{Reply}
-use Rattle.jup_world.specs.declared.events.Happened.{Happened}
+use Rattle.jup_world.specs.Events.{Event}
+use Rattle.jup_world.specs.Events.{Reply}
+use Rattle.jup_world.specs.Events.{Happened}
 
 -- an attached site, and its streams: what it sent that the star has not taken, and what was fetched for it that it was not
 -- handed, oldest first

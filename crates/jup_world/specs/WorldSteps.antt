@@ -11,8 +11,8 @@ use Rattle.jup_star.specs.declared.faults.SiteFault.{SiteFault}
 use Rattle.jup_star.specs.LinkStates.{LinkState}
 use Rattle.jup_star.specs.StarStates.{StarOf, link_of, join_fault, joined, left, fetched, up_fault, taken, place_taken}
 use Rattle.jup_star.specs.SiteStates.{opened_site, edit_answer, edited, deliver_fault, received, sent_back}
-use Rattle.jup_world.specs.declared.events.Event.TheVariants.{Join, Leave, Edit as MakeEdit, Up as MoveUp, Down as MoveDown, Ping as SendPing}
-use Rattle.jup_world.specs.declared.events.Reply.TheVariants.{Joined, NoJoin, Left, Made, Refused, Taken, Heard, Detached, Shown, Asked, Nothing}
+use Rattle.jup_world.specs.Events.{Join, Leave, Edit as MakeEdit, Up as MoveUp, Down as MoveDown, Ping as SendPing}
+use Rattle.jup_world.specs.Events.{Joined, NoJoin, Left, Made, Refused, Taken, Heard, Detached, Shown, Asked, Nothing}
 use Rattle.jup_world.specs.WorldStates.{WorldOf, AttachedOf, EventOf, ReplyOf, attached, at_site, without_site}
 
 module _ (O : Operations) where

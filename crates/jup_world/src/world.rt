@@ -12,7 +12,7 @@ ghost use Rattle.jup_world.specs.Turns.{turns, edits};
 ghost use Rattle.jup_world.specs.WorldStates.{attached, opened_world, IsQuiet};
 ghost use Rattle.jup_world.specs.WorldSteps.{outcome, happens};
 ghost use Rattle.jup_world.specs.Traces.{order_of, view};
-ghost use Rattle.jup_world.specs.NumberedReplies.{numbered_reply, numbered_trace};
+ghost use Rattle.jup_world.specs.NumberedReplies.{plain_event, numbered_reply, numbered_trace};
 ghost use Rattle.jup_world.specs.Replies.{RepliesTo};
 ghost use Rattle.jup_world.specs.Promises.{OrderIsKept};
 ghost use Rattle.jup_world.specs.Headline.{AllAgree};
@@ -76,7 +76,7 @@ impl Model for World {
 fn note(trace: &mut Vec<Happened>, event: &Event, reply: &Reply)
     requires { vec_len trace.old < vec_capacity trace.old }
     ensures { numbered_trace trace.new.items
-        ≡ numbered_trace trace.old.items ++ record { event = event.now; reply = numbered_reply reply.now } ∷ [] }
+        ≡ numbered_trace trace.old.items ++ record { event = plain_event event.now; reply = numbered_reply reply.now } ∷ [] }
 {
     // The checker learns of the types within an event from this.
     let _within: PhantomData<(Value, Setting, Label, Effect, Edit)> = PhantomData;
@@ -115,9 +115,9 @@ impl World {
     /// Plays one event, which then stands in the trace with its reply. Where memory is refused nothing has
     /// changed, but that one message may stand in a down stream that stood in that site's outbox.
     pub fn step(&mut self, alloc: Global, event: &Event) -> Result<Reply, NoMemory>
-        ensures reply { IfOk result (λ reply. numbered_reply reply ≡ (outcome board_operations self.old event.now).reply) }
-        ensures withheld { IfOk result (λ reply. RepliesTo board_operations self.old event.now (numbered_reply reply)) }
-        ensures ok { OnOk result (self.new ≡ happens board_operations self.old event.now) }
+        ensures reply { IfOk result (λ reply. numbered_reply reply ≡ (outcome board_operations self.old (plain_event event.now)).reply) }
+        ensures withheld { IfOk result (λ reply. RepliesTo board_operations self.old (plain_event event.now) (numbered_reply reply)) }
+        ensures ok { OnOk result (self.new ≡ happens board_operations self.old (plain_event event.now)) }
         ensures err { OnErr result (IsSpared self.old self.new) }
         ensures order { OrderIsKept board_operations self.old self.new }
     {

@@ -1,13 +1,14 @@
 //! Runs of a world, and its draining.
-ghost use Rattle.std.specs.Prelude.{◌≡◌, ℕ, ◌<◌, ◌≤◌, length, take, Some, IsFalse, OnOk, OnErr, IfOk, IfErr};
+ghost use Rattle.std.specs.Prelude.{◌≡◌, ℕ, ◌<◌, ◌≤◌, length, map, take, Some, IsFalse, OnOk, OnErr, IfOk, IfErr};
 ghost use Rattle.jup_window.specs.BoardOperations.{board_operations};
 ghost use Rattle.jup_world.specs.WorldStates.{attached, IsQuiet};
+ghost use Rattle.jup_world.specs.NumberedReplies.{plain_event};
 ghost use Rattle.jup_world.specs.WorldSteps.{outcome, run};
 ghost use Rattle.jup_world.specs.Promises.{OrderIsKept};
 ghost use Rattle.jup_world.specs.Happenings.{IsSpared};
 ghost use Rattle.jup_world.specs.Runs.{IsDelivery, IsDelivered, IsDeliveredInPart};
 ghost use Rattle.jup_world.specs.Drains.{way_event, Settles, MovesNothing, NothingMoves};
-ghost use Rattle.jup_world.specs.declared.events.Reply.TheVariants.{Nothing};
+ghost use Rattle.jup_world.specs.Events.{Nothing};
 ghost use Rattle.jup_world.specs.BoardWorlds.{BoardAttached};
 
 use super::World;
@@ -34,7 +35,7 @@ enum Way {
 impl Way {
     // The delivery at a site.
     fn event(self, number: u32) -> Event
-        ensures { result ≡ way_event self number }
+        ensures { plain_event result ≡ way_event self number }
     {
         match self {
             Way::Up => Event::Up(number),
@@ -46,9 +47,9 @@ impl Way {
 impl World {
     /// Plays events in turn.
     pub fn run(&mut self, alloc: Global, events: &[Event]) -> Result<(), Halted>
-        ensures ok { OnOk result (self.new ≡ run board_operations self.old events.now) }
+        ensures ok { OnOk result (self.new ≡ run board_operations self.old (map plain_event events.now)) }
         ensures done { IfErr result (λ halted. halted.done < length events.now) }
-        ensures err { IfErr result (λ halted. IsSpared (run board_operations self.old (take halted.done events.now)) self.new) }
+        ensures err { IfErr result (λ halted. IsSpared (run board_operations self.old (map plain_event (take halted.done events.now))) self.new) }
         ensures order { OrderIsKept board_operations self.old self.new }
     {
         // The clause on order rests on what is so of every world.
@@ -57,9 +58,9 @@ impl World {
     }
 
     fn play(&mut self, alloc: Global, events: &[Event]) -> Result<(), Halted>
-        ensures ok { OnOk result (self.new ≡ run board_operations self.old events.now) }
+        ensures ok { OnOk result (self.new ≡ run board_operations self.old (map plain_event events.now)) }
         ensures done { IfErr result (λ halted. halted.done < length events.now) }
-        ensures err { IfErr result (λ halted. IsSpared (run board_operations self.old (take halted.done events.now)) self.new) }
+        ensures err { IfErr result (λ halted. IsSpared (run board_operations self.old (map plain_event (take halted.done events.now))) self.new) }
     {
         for (done, event) in events.iter().enumerate() {
             let Ok(_reply) = self.step(alloc, event) else {
@@ -147,9 +148,9 @@ impl World {
 
     // Whether a delivery moved a message.
     fn move_one(&mut self, alloc: Global, event: &Event) -> Result<bool, NoMemory>
-        requires { IsDelivery event.now }
+        requires { IsDelivery (plain_event event.now) }
         ensures moved { IfOk result (λ moved. Settles moved self.old self.new) }
-        ensures nothing { IfOk result (λ moved. IsFalse moved → (outcome board_operations self.old event.now).reply ≡ Nothing) }
+        ensures nothing { IfOk result (λ moved. IsFalse moved → (outcome board_operations self.old (plain_event event.now)).reply ≡ Nothing) }
         ensures err { OnErr result (IsDeliveredInPart self.old self.new) }
     {
         // The checker learns of the types within a reply from this.

@@ -3,9 +3,9 @@ ghost use Rattle.std.specs.Prelude.{◌≡◌, map, true, is_some, IfOk, OnErr};
 ghost use Rattle.jup_star.specs.StarStates.{link_of};
 ghost use Rattle.jup_world.specs.WorldStates.{attached, without_site};
 ghost use Rattle.jup_world.specs.WorldFields.{bare_attached};
-ghost use Rattle.jup_world.specs.NumberedReplies.{numbered_reply};
+ghost use Rattle.jup_world.specs.NumberedReplies.{plain_event, numbered_reply};
 ghost use Rattle.jup_world.specs.Happenings.{Plays, Spares, AreReady};
-ghost use Rattle.jup_world.specs.declared.events.Event.TheVariants as event;
+ghost use Rattle.jup_world.specs.Events as event;
 
 use super::attached::{Attached, place_of};
 use super::refusals::star_refusal;
@@ -23,7 +23,7 @@ pub(crate) fn happen(
     event: &Event,
 ) -> Result<Reply, NoMemory>
     requires { AreReady star.old (map bare_attached sites.old.items) }
-    ensures plays { IfOk result (λ reply. Plays event.now star.old (map bare_attached sites.old.items)
+    ensures plays { IfOk result (λ reply. Plays (plain_event event.now) star.old (map bare_attached sites.old.items)
         (numbered_reply reply) star.new (map bare_attached sites.new.items)) }
     ensures spared { OnErr result (Spares star.old (map bare_attached sites.old.items)
         star.new (map bare_attached sites.new.items)) }

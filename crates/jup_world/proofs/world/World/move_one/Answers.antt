@@ -1,4 +1,5 @@
 use Rattle.std.proofs.Common.{subst}
+use Rattle.jup_world.specs.NumberedReplies.{plain_event}
 use Rattle.jup_world.specs.Happenings.{IsWorld}
 use Rattle.jup_world.proofs.DrainSteps.{settles_one}
 use Rattle.jup_world.proofs.world.World.move_one.Goals as goal
@@ -6,4 +7,4 @@ use Rattle.jup_world.proofs.world.World.move_one.Goals as goal
 pub returns-clause-moved : goal.returns-clause-moved
 returns-clause-moved c =
     let e = c.in_ok-reply.ensures in
-    settles_one c.args.self.now c.step.new.self c.args.event.now c.in_ok-reply.reply c.is_nothing.result (subst IsWorld c.self.view_is c.self.invariant) c.requires e.ok e.reply c.is_nothing.ensures
+    settles_one c.args.self.now c.step.new.self (plain_event c.args.event.now) c.in_ok-reply.reply c.is_nothing.result (subst IsWorld c.self.view_is c.self.invariant) c.requires e.ok e.reply c.is_nothing.ensures

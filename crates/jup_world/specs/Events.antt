@@ -1,0 +1,31 @@
+-- What may happen in a world whose links carry messages, and what it answers: the events of the program but those that move bytes.
+use Rattle.std.specs.Prelude.{ℕ}
+use Rattle.jup_star.specs.declared.faults.StarFault.{StarFault}
+
+-- a site joins, leaves, edits; the star takes the oldest message from it; it is handed the oldest to it; it sends a ping
+pub data Event (Command : Type 0) : Type 0 where
+  Join : Event Command
+  Leave : ℕ → Event Command
+  Edit : ℕ → Command → Event Command
+  Up : ℕ → Event Command
+  Down : ℕ → Event Command
+  Ping : ℕ → ℕ → Event Command
+
+-- what an event answers
+pub data Reply (Edit Fault : Type 0) : Type 0 where
+  Joined : ℕ → Reply Edit Fault
+  NoJoin : StarFault → Reply Edit Fault
+  Left : Reply Edit Fault
+  Made : Edit → Reply Edit Fault
+  Refused : Fault → Reply Edit Fault
+  Taken : ℕ → Reply Edit Fault
+  Heard : Reply Edit Fault
+  Detached : StarFault → Reply Edit Fault
+  Shown : Reply Edit Fault
+  Asked : Reply Edit Fault
+  Nothing : Reply Edit Fault
+
+-- an event with its reply
+pub record Happened (Command Edit Fault : Type 0) : Type 0 where
+  pub event : Event Command
+  pub reply : Reply Edit Fault

@@ -98,6 +98,14 @@ impl Lines {
     {
         self.items.as_slice()
     }
+
+    /// The lines, given up.
+    pub fn into_items(self) -> Vec<Line>
+        ensures { result.items ≡ self }
+    {
+        let Lines { items } = self;
+        items
+    }
 }
 
 /// What a piece gave: the lines that it completed, up to the first fault.
@@ -134,6 +142,16 @@ impl Reader {
         Reader {
             part: Part::new(),
             fault: None,
+        }
+    }
+
+    /// Another reader in the same state.
+    pub fn copy(&self) -> Reader
+        ensures { result ≡ self.now }
+    {
+        Reader {
+            part: self.part,
+            fault: self.fault,
         }
     }
 

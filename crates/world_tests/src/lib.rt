@@ -6,6 +6,8 @@ ghost use Rattle.std.specs.Prelude.{◌≡◌};
 #[cfg(test)]
 mod boards;
 #[cfg(test)]
+mod lanes;
+#[cfg(test)]
 mod messages;
 #[cfg(test)]
 mod scripts;

@@ -1,0 +1,232 @@
+//! One way of a link: messages on their way, as bytes.
+ghost use Rattle.std.specs.Prelude.{◌≡◌, ℕ, ◌≤◌, List, [], ◌∷◌, ◌++◌, length, drop, min, position, ◌==◌, Option, Some, None, IfOk, IfSome, OnOk, OnErr, MatchOption, IsTrue, IsFalse, ◌↔◌, ◌+◌, ◌<◌};
+ghost use Rattle.std.specs.Vec.{vec_capacity};
+ghost use Rattle.jup_lane.specs.Codecs.{bytes_of, IsFirst};
+ghost use Rattle.jup_lane.specs.Carried.{codec};
+ghost use Rattle.jup_lane.specs.Lanes.{no_bytes, sent, moved, handed_over, IsIdle, messages, next_feed, IsWhole, IsFilled, IsMovedOn};
+
+use crate::message::{MOST_MESSAGE, Message};
+use jup_link::Msg;
+use jup_seq::SeqOp;
+use jup_value::Label;
+use jup_window::{BoardOp, WidgetOp};
+use jup_wire::{Line, Reader};
+use jup_xform::NoMemory;
+use std::alloc::Global;
+use std::collections::VecDeque;
+use std::marker::{Model, PhantomData};
+
+/// One way of a link, as a queue of messages whose store is bytes: those in its stream, the part of a line
+/// that its reader holds, and the lines that were read and not handed over, which are its tray.
+///
+/// Contracts see the bytes that the reader was given and those in the stream (`Way` of `specs/Lanes`), and
+/// the messages that all of them are.
+#[derive(Drop)]
+pub struct Lane<M: Message> {
+    tray: VecDeque<Line>,
+    reader: Reader,
+    stream: Vec<u8>,
+    within: PhantomData<(M, SeqOp<Label>, WidgetOp, BoardOp, Msg<BoardOp>)>,
+}
+
+// Drops the oldest lines of a tray.
+fn drop_lines(tray: &mut VecDeque<Line>, count: usize)
+    ensures { tray.new.items ≡ drop count tray.old.items }
+{
+    for _ in 0..count {
+        tray.pop_front();
+    }
+}
+
+// Where the next line feed stands.
+fn feed_of(stream: &[u8]) -> Option<usize>
+    ensures place { MatchOption result (length stream.now ≤ next_feed stream.now) (λ at. at ≡ next_feed stream.now) }
+    ensures within { IfSome result (λ at. at < length stream.now) }
+{
+    place_of_feed(stream)
+}
+
+fn place_of_feed(stream: &[u8]) -> Option<usize>
+    ensures place { result ≡ position (λ byte. byte == 10) stream.now }
+    ensures within { IfSome result (λ at. at < length stream.now) }
+{
+    stream.iter().position(|byte| *byte == b'\n')
+}
+
+// Drops the oldest bytes of a stream.
+fn drop_front(stream: &mut Vec<u8>, count: usize)
+    requires { count ≤ length stream.old.items }
+    ensures items { stream.new.items ≡ drop count stream.old.items }
+    ensures capacity { vec_capacity stream.new ≡ vec_capacity stream.old }
+{
+    stream.drain(..count);
+}
+
+impl<M: Message> Model for Lane<M> {
+    ghost use Rattle.std.specs.Prelude.{◌≡◌, ◌-◌, ◌++◌, None};
+    ghost use Rattle.std.specs.List.{flat_map};
+    ghost use Rattle.std.specs.Vec.{vec_len, vec_capacity};
+    ghost use Rattle.jup_wire.specs.Grammar.{spelling};
+    ghost use Rattle.jup_wire.specs.Streams.{HasRead};
+    ghost use Rattle.jup_lane.specs.Carried.{codec};
+    ghost use Rattle.jup_lane.specs.Lanes.{LaneState, Carries, way_of};
+
+    ghost Value = { LaneState };
+
+    ghost view = { λ a. record {
+      way = way_of a.tray.items a.reader.part a.stream.items;
+      spare = vec_capacity a.stream - vec_len a.stream;
+    } };
+
+    ghost invariant = { λ a. record {
+      faultless : a.reader.fault ≡ None;
+      read : HasRead (flat_map spelling a.tray.items ++ a.reader.part) a.tray.items a.reader;
+      carries : Carries (codec M.Message) (way_of a.tray.items a.reader.part a.stream.items);
+    } };
+}
+
+impl<M: Message> Lane<M> {
+    /// A lane on which nothing was sent.
+    pub fn new(alloc: Global) -> Lane<M>
+        ensures way { result.way ≡ no_bytes }
+        ensures messages { messages (codec M.Message) result.way ≡ [] }
+    {
+        Lane {
+            tray: VecDeque::new(alloc),
+            reader: Reader::new(),
+            stream: Vec::new(alloc),
+            within: PhantomData,
+        }
+    }
+
+    /// Makes room for one message.
+    pub fn reserve(&mut self) -> Result<(), NoMemory>
+        ensures way { self.new.way ≡ self.old.way }
+        ensures ok { OnOk result (MOST_MESSAGE ≤ self.new.spare) }
+    {
+        self.stream.reserve(MOST_MESSAGE).map_err(|_| NoMemory)
+    }
+
+    /// Writes a message into the stream. It takes no memory.
+    pub fn send(&mut self, message: &M)
+        requires { MOST_MESSAGE ≤ self.old.spare }
+        ensures spelled { (codec M.Message).IsSpelled message.now }
+        ensures way { self.new.way ≡ sent (bytes_of (codec M.Message) message.now) self.old.way }
+        ensures messages { messages (codec M.Message) self.new.way ≡ messages (codec M.Message) self.old.way ++ message.now ∷ [] }
+    {
+        message.write(&mut self.stream);
+    }
+
+    // The reader takes in so many bytes of the stream.
+    fn take_in(&mut self, alloc: Global, count: usize) -> Result<(), NoMemory>
+        requires { count ≤ length self.old.way.stream }
+        ensures ok { OnOk result (self.new.way ≡ moved count self.old.way) }
+        ensures err { OnErr result (self.new.way ≡ self.old.way) }
+        ensures messages { messages (codec M.Message) self.new.way ≡ messages (codec M.Message) self.old.way }
+    {
+        let mut reader = self.reader.copy();
+        let fed = reader.feed(alloc, &self.stream[..count])?;
+        let mut lines = VecDeque::from_vec(fed.lines.into_items());
+        self.tray.append(&mut lines).map_err(|_| NoMemory)?;
+        self.reader = reader;
+        drop_front(&mut self.stream, count);
+        Ok(())
+    }
+
+    /// The oldest message. Those of its bytes that the reader has not are moved first; where memory is
+    /// refused, some may have been moved.
+    pub fn first(&mut self, alloc: Global) -> Result<Option<M>, NoMemory>
+        ensures first { IfOk result (λ first. IsFilled (codec M.Message) self.old.way self.new.way first) }
+        ensures whole { IfOk result (λ first. IsWhole (codec M.Message) self.new.way first) }
+        ensures err { OnErr result (IsMovedOn self.old.way self.new.way) }
+        ensures messages { messages (codec M.Message) self.new.way ≡ messages (codec M.Message) self.old.way }
+    {
+        // What the bytes are is an invariant of a lane.
+        let _lane = &self.tray;
+        let mut first = self.whole(alloc)?;
+        while first.is_none() {
+            if !self.advance(alloc)? {
+                return Ok(None);
+            }
+            first = self.whole(alloc)?;
+        }
+        Ok(first)
+    }
+
+    /// Drops the oldest message, whose bytes the reader has.
+    pub fn drop_first(&mut self, message: &M)
+        requires { IsWhole (codec M.Message) self.old.way (Some message.now) }
+        ensures way { self.new.way ≡ handed_over (length (bytes_of (codec M.Message) message.now)) self.old.way }
+        ensures messages { messages (codec M.Message) self.old.way ≡ message.now ∷ messages (codec M.Message) self.new.way }
+    {
+        drop_lines(&mut self.tray, message.count());
+    }
+
+    // The oldest message, if the reader has all its bytes.
+    fn whole(&self, alloc: Global) -> Result<Option<M>, NoMemory>
+        ensures { IfOk result (λ first. IsWhole (codec M.Message) self.now.way first) }
+    {
+        M::first(alloc, &self.tray)
+    }
+
+    // Moves the bytes through the next line feed, if the stream has one.
+    fn advance(&mut self, alloc: Global) -> Result<bool, NoMemory>
+        ensures more { IfOk result (λ more. IsTrue more ↔ (next_feed self.old.way.stream < length self.old.way.stream)) }
+        ensures ok { IfOk result (λ more. IsTrue more → self.new.way ≡ moved (next_feed self.old.way.stream + 1) self.old.way) }
+        ensures none { IfOk result (λ more. IsFalse more → self.new.way ≡ self.old.way) }
+        ensures err { OnErr result (self.new.way ≡ self.old.way) }
+    {
+        let Some(at) = feed_of(&self.stream) else {
+            return Ok(false);
+        };
+        self.take_in(alloc, at + 1)?;
+        Ok(true)
+    }
+
+    /// Moves the oldest bytes of the stream into the reader, up to so many, and tells how many.
+    pub fn push(&mut self, alloc: Global, most: u32) -> Result<usize, NoMemory>
+        ensures count { IfOk result (λ count. count ≡ min most (length self.old.way.stream)) }
+        ensures ok { IfOk result (λ count. self.new.way ≡ moved count self.old.way) }
+        ensures err { OnErr result (self.new.way ≡ self.old.way) }
+        ensures messages { messages (codec M.Message) self.new.way ≡ messages (codec M.Message) self.old.way }
+    {
+        let most = most as usize;
+        let there = self.stream.len();
+        let count = if most < there { most } else { there };
+        self.take_in(alloc, count)?;
+        Ok(count)
+    }
+
+    /// Whether the stream has no byte. There may still be some that the reader was given.
+    pub fn is_stream_empty(&self) -> bool
+        ensures { IsTrue result ↔ (self.now.way.stream ≡ []) }
+    {
+        self.stream.is_empty()
+    }
+
+    /// Whether no byte is on its way, which is where no message is.
+    pub fn is_idle(&self) -> bool
+        ensures idle { IsTrue result ↔ IsIdle self.now.way }
+        ensures messages { IsTrue result ↔ (messages (codec M.Message) self.now.way ≡ []) }
+    {
+        // What the bytes are is an invariant of a lane.
+        let _lane = &self.tray;
+        self.has_no_bytes()
+    }
+
+    fn has_no_bytes(&self) -> bool
+        ensures { IsTrue result ↔ IsIdle self.now.way }
+    {
+        self.has_read_nothing() && self.stream.is_empty()
+    }
+
+    // Whether neither a line nor a part of one was read and not handed over.
+    fn has_read_nothing(&self) -> bool
+        ensures { IsTrue result ↔ (self.now.way.read ≡ []) }
+    {
+        match self.reader.finish() {
+            Ok(()) => self.tray.is_empty(),
+            Err(_) => false,
+        }
+    }
+}

@@ -1,0 +1,24 @@
+//! The two ways of a link as bytes.
+//!
+//! A [`Lane`] is one way: a queue of messages whose store is bytes. What is sent is written into its stream by
+//! `jup_wire`; bytes are moved from there to its reader, any number at a time; and a message is handed over once
+//! the reader has all its bytes. A [`Message`] is one line or several.
+#![tactic(auto)]
+
+ghost use Rattle.jup_lane.specs.Codecs.{IsCodec};
+ghost use Rattle.jup_lane.specs.Messages.{ups, downs};
+
+mod lane;
+mod message;
+
+pub use lane::Lane;
+pub use message::{MOST_MESSAGE, Message};
+
+/// The messages of a link are lines: each has a line at least, its lines have spellings, and the lines of some
+/// messages are these messages.
+///
+/// It does nothing: its contract is the theorem.
+pub fn messages_are_lines()
+    ensures up { IsCodec ups }
+    ensures down { IsCodec downs }
+{}

@@ -1,0 +1,76 @@
+//! One way of a link, byte by byte.
+use jup_lane::{Lane, Message};
+use jup_link::Msg;
+use jup_seq::SeqOp;
+use jup_star::{Down, Up};
+use jup_value::{Item, Name};
+use jup_window::{BoardOp, WidgetOp};
+use std::alloc::Global;
+use std::process::Abort;
+
+// Site 1 puts an 'a' first into text 1 of window 1, which is spelled "op 0 0 1 1 text ins 0 1.1 97".
+fn first_edit() -> Msg<BoardOp> {
+    Msg {
+        mine: 0,
+        heard: 0,
+        op: BoardOp {
+            win: 1,
+            wid: 1,
+            op: WidgetOp::Text(SeqOp::Insert {
+                place: 0,
+                item: Item {
+                    name: Name { site: 1, number: 1 },
+                    value: 'a',
+                },
+            }),
+        },
+    }
+}
+
+fn send<M: Message>(rt: &impl Abort, lane: &mut Lane<M>, message: &M) {
+    lane.reserve().expect(rt, "memory");
+    lane.send(message);
+}
+
+fn push<M: Message>(rt: &impl Abort, alloc: Global, lane: &mut Lane<M>, most: u32) -> usize {
+    lane.push(alloc, most).expect(rt, "memory")
+}
+
+// The oldest message, which is then dropped.
+fn handed<M: Message>(rt: &impl Abort, alloc: Global, lane: &mut Lane<M>) -> Option<M> {
+    let first = lane.first(alloc).expect(rt, "memory")?;
+    lane.drop_first(&first);
+    Some(first)
+}
+
+#[test]
+fn a_message_is_pushed_in_two_parts(rt: HostRuntime) {
+    let alloc = rt.alloc();
+    let mut lane: Lane<Up> = Lane::new(alloc);
+    assert!(rt; lane.is_idle() && lane.is_stream_empty());
+    send(&rt, &mut lane, &Up::Op(first_edit()));
+    assert_eq!(rt; push(&rt, alloc, &mut lane, 28), 28);
+    assert!(rt; !lane.is_idle() && !lane.is_stream_empty());
+    assert_eq!(rt; push(&rt, alloc, &mut lane, 5), 1);
+    assert_eq!(rt; push(&rt, alloc, &mut lane, 5), 0);
+    assert!(rt; !lane.is_idle() && lane.is_stream_empty());
+    assert_eq!(rt; handed(&rt, alloc, &mut lane), Some(Up::Op(first_edit())));
+    assert!(rt; lane.is_idle());
+    assert_eq!(rt; handed(&rt, alloc, &mut lane), None);
+}
+
+#[test]
+fn messages_come_in_order_however_they_are_pushed(rt: HostRuntime) {
+    let alloc = rt.alloc();
+    let mut lane: Lane<Down> = Lane::new(alloc);
+    let sent = [Down::Ack(64), Down::Op(first_edit()), Down::Pong(7)];
+    for message in &sent {
+        send(&rt, &mut lane, message);
+    }
+    // "ack 64" and its line feed, and the "op" of the next.
+    assert_eq!(rt; push(&rt, alloc, &mut lane, 9), 9);
+    for message in sent {
+        assert_eq!(rt; handed(&rt, alloc, &mut lane), Some(message));
+    }
+    assert!(rt; lane.is_idle());
+}

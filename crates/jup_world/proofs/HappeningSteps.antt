@@ -14,8 +14,11 @@ use Rattle.jup_star.specs.StarStates.{link_of, fetched}
 use Rattle.jup_star.specs.SiteStates.{edit_answer}
 use Rattle.jup_star.specs.StarCalls.{BoardStar, is_no_memory}
 use Rattle.jup_world.specs.declared.events.Reply.{Reply}
-use Rattle.jup_world.specs.Events.{Detached, Asked, Edit as MakeEdit, Up as MoveUp, Down as MoveDown, Ping as SendPing}
+use Rattle.jup_world.specs.Events.{Detached, Asked}
+use Rattle.jup_world.specs.Events.{Edit as MakeEdit, Up as MoveUp, Down as MoveDown, Ping as SendPing}
 use Rattle.jup_world.specs.declared.world.attached.Attached.{Attached}
+use Rattle.jup_lane.specs.Lanes.{messages}
+use Rattle.jup_lane.specs.Messages.{ups, downs}
 use Rattle.jup_world.specs.WorldStates.{attached, at_site, without_site, is_number}
 use Rattle.jup_world.specs.WorldSteps.{one_taken, pinged, with_fetched}
 use Rattle.jup_world.specs.Replies.{edit_reply}
@@ -80,17 +83,17 @@ module _ (s : BoardStar) (sites : List Attached) (ready : AreReady s (map bare_a
       plays_ping s s (map bare_attached sites) _ i k l.0 (bare_attached e) l.1 found refl (changed (pinged board_operations k) new made)
 
   -- messages up
-  pub up_plays : (t : BoardStar) (reply : Reply Edit EditFault) (new : Attached) → Rises e.site.number e.up.items s t (numbered_reply reply) → bare_attached new ≡ one_taken board_operations (bare_attached e)
+  pub up_plays : (t : BoardStar) (reply : Reply Edit EditFault) (new : Attached) → Rises e.site.number (messages ups e.up.way) s t (numbered_reply reply) → bare_attached new ≡ one_taken board_operations (bare_attached e)
       → Plays (MoveUp i) s (map bare_attached sites) (numbered_reply reply) t (map bare_attached (set sites at new))
-  up_plays t reply new rises made = cases e.up.items refl (subst (λ n. Rises n e.up.items s t (numbered_reply reply)) number rises)
+  up_plays t reply new rises made = cases (messages ups e.up.way) refl (subst (λ n. Rises n (messages ups e.up.way) s t (numbered_reply reply)) number rises)
     where
       l : (k : BoardLink) × (link_of i s.links ≡ Some k)
       l = some_link (link_of i s.links) linked
 
-      none_taken : e.up.items ≡ [] → one_taken board_operations (bare_attached e) ≡ bare_attached e
-      none_taken empty = λ j. record { site = e.site; up = (ap (drop 1) empty ∙ sym empty) j; down = e.down.items }
+      none_taken : (messages ups e.up.way) ≡ [] → one_taken board_operations (bare_attached e) ≡ bare_attached e
+      none_taken empty = λ j. record { site = e.site; up = (ap (drop 1) empty ∙ sym empty) j; down = (messages downs e.down.way) }
 
-      cases : (us : List (Up BoardOp)) → e.up.items ≡ us → Rises i us s t (numbered_reply reply) → Plays (MoveUp i) s (map bare_attached sites) (numbered_reply reply) t (map bare_attached (set sites at new))
+      cases : (us : List (Up BoardOp)) → (messages ups e.up.way) ≡ us → Rises i us s t (numbered_reply reply) → Plays (MoveUp i) s (map bare_attached sites) (numbered_reply reply) t (map bare_attached (set sites at new))
       cases [] empty told =
           subst (λ r. Plays (MoveUp i) s (map bare_attached sites) r t (map bare_attached (set sites at new))) (sym told.0)
           (plays_no_up s t (map bare_attached sites) _ i l.0 (bare_attached e) l.1 found empty told.1 (unchanged new (made ∙ none_taken empty)))
@@ -98,34 +101,34 @@ module _ (s : BoardStar) (sites : List Attached) (ready : AreReady s (map bare_a
           subst (λ r. Plays (MoveUp i) s (map bare_attached sites) r t (map bare_attached (set sites at new))) (sym told.1)
           (plays_taken s t (map bare_attached sites) _ i l.0 (bare_attached e) up ups told.0 l.1 found first (take_taken i up s t l.0 told.0 l.1 told.2) (changed (one_taken board_operations) new made))
 
-  pub refused_plays : (t : BoardStar) (fault refusal : StarFault) (new : Attached) (next : List BoardAttached) → IsRefused e.site.number e.up.items s t fault → is_no_memory fault ≡ false → refusal ≡ fault
+  pub refused_plays : (t : BoardStar) (fault refusal : StarFault) (new : Attached) (next : List BoardAttached) → IsRefused e.site.number (messages ups e.up.way) s t fault → is_no_memory fault ≡ false → refusal ≡ fault
       → bare_attached new ≡ bare_attached e → next ≡ without_site i (map bare_attached (set sites at new)) → Plays (MoveUp i) s (map bare_attached sites) (Detached refusal) t next
-  refused_plays t fault refusal new next refused other same made gone = cases e.up.items refl (subst (λ n. IsRefused n e.up.items s t fault) number refused)
+  refused_plays t fault refusal new next refused other same made gone = cases (messages ups e.up.way) refl (subst (λ n. IsRefused n (messages ups e.up.way) s t fault) number refused)
     where
       l : (k : BoardLink) × (link_of i s.links ≡ Some k)
       l = some_link (link_of i s.links) linked
 
-      cases : (us : List (Up BoardOp)) → e.up.items ≡ us → IsRefused i us s t fault → Plays (MoveUp i) s (map bare_attached sites) (Detached refusal) t next
+      cases : (us : List (Up BoardOp)) → (messages ups e.up.way) ≡ us → IsRefused i us s t fault → Plays (MoveUp i) s (map bare_attached sites) (Detached refusal) t next
       cases [] empty told = absurd told
       cases (up ∷ ups) first told =
           plays_detached s t (map bare_attached sites) next i l.0 (bare_attached e) up ups fault refusal l.1 found first (take_refused i up s t l.0 fault other l.1 told) same (gone ∙ ap (without_site i) (unchanged new made))
 
   -- memory is refused
-  pub refused_same : (t : BoardStar) (fault : StarFault) → IsRefused e.site.number e.up.items s t fault → is_no_memory fault ≡ true → t ≡ s
-  refused_same t fault refused memory = cases e.up.items refused
+  pub refused_same : (t : BoardStar) (fault : StarFault) → IsRefused e.site.number (messages ups e.up.way) s t fault → is_no_memory fault ≡ true → t ≡ s
+  refused_same t fault refused memory = cases (messages ups e.up.way) refused
     where
       cases : (us : List (Up BoardOp)) → IsRefused e.site.number us s t fault → t ≡ s
       cases [] told = absurd told
-      cases (up ∷ ups) told = take_wanted e.site.number up s t fault memory told
+      cases (up ∷ more) told = take_wanted e.site.number up s t fault memory told
 
   -- messages down: the oldest is one that the site takes
   pub oldest_fits : (l : BoardLink) → link_of e.site.number s.links ≡ Some l → FirstFits (refilled l (bare_attached e))
-  oldest_fits l there = cases e.down.items l.outbox refl refl
+  oldest_fits l there = cases (messages downs e.down.way) l.outbox refl refl
     where
       link : link_of i s.links ≡ Some l
       link = ap (λ n. link_of n s.links) (sym number) ∙ there
 
-      cases : (ds os : List (Down BoardOp)) → e.down.items ≡ ds → l.outbox ≡ os → FitsFirst (refilled_from ds os) e.site
+      cases : (ds os : List (Down BoardOp)) → (messages downs e.down.way) ≡ ds → l.outbox ≡ os → FitsFirst (refilled_from ds os) e.site
       cases [] [] p q = tt
       cases [] (d ∷ os) p q = ready.fits i l (bare_attached e) d os link found (ap (λ (ds : List (Down BoardOp)). ds ++ l.outbox) p ∙ q)
       cases (d ∷ ds) os p q = ready.fits i l (bare_attached e) d (ds ++ l.outbox) link found (ap (λ (xs : List (Down BoardOp)). xs ++ l.outbox) p)
@@ -139,7 +142,7 @@ module _ (s : BoardStar) (sites : List Attached) (ready : AreReady s (map bare_a
       let l = some_link (link_of e.site.number s.links) linked_there in
       let link : link_of i s.links ≡ Some l.0 = ap (λ n. link_of n s.links) (sym number) ∙ l.1 in
       plays_down s t (map bare_attached sites) _ i (numbered_reply reply) l.0 (bare_attached e) link found number (oldest_fits l.0 l.1) (is l.0 l.1) (star l.0 l.1)
-      (changed (λ b. handed_as e.down.items l.0.outbox b) new (site l.0 l.1 ∙ handed_site l.0 (bare_attached e)))
+      (changed (λ b. handed_as (messages downs e.down.way) l.0.outbox b) new (site l.0 l.1 ∙ handed_site l.0 (bare_attached e)))
   down_plays t (Err fault) new is site star = tt
 
   pub down_spared : (t : BoardStar) (r : Result (Reply Edit EditFault) NoMemory) (new : Attached)
@@ -154,20 +157,20 @@ module _ (s : BoardStar) (sites : List Attached) (ready : AreReady s (map bare_a
       link : link_of i s.links ≡ Some l.0
       link = ap (λ n. link_of n s.links) (sym number) ∙ l.1
 
-      same_star : e.down.items ≡ [] → l.0.outbox ≡ [] → refilled_star l.0 (bare_attached e) s ≡ s
+      same_star : (messages downs e.down.way) ≡ [] → l.0.outbox ≡ [] → refilled_star l.0 (bare_attached e) s ≡ s
       same_star p q = λ j. fetched_for e.site.number (p j) (q j) s
 
-      same_down : e.down.items ≡ [] → l.0.outbox ≡ [] → refilled_from e.down.items l.0.outbox ≡ e.down.items
+      same_down : (messages downs e.down.way) ≡ [] → l.0.outbox ≡ [] → refilled_from (messages downs e.down.way) l.0.outbox ≡ (messages downs e.down.way)
       same_down p q = (λ j. refilled_from (p j) (q j)) ∙ sym p
 
-      taken_down : e.down.items ≡ [] → refilled_from e.down.items l.0.outbox ≡ e.down.items ++ take 1 l.0.outbox
+      taken_down : (messages downs e.down.way) ≡ [] → refilled_from (messages downs e.down.way) l.0.outbox ≡ (messages downs e.down.way) ++ take 1 l.0.outbox
       taken_down p = ap (λ (xs : List (Down BoardOp)). refilled_from xs l.0.outbox) p ∙ ap (λ (xs : List (Down BoardOp)). xs ++ take 1 l.0.outbox) (sym p)
 
       -- either nothing could be fetched, or a message was
-      fetched_too : (ds os : List (Down BoardOp)) → e.down.items ≡ ds → l.0.outbox ≡ os → bare_attached new ≡ refilled l.0 (bare_attached e) → t ≡ refilled_star l.0 (bare_attached e) s
+      fetched_too : (ds os : List (Down BoardOp)) → (messages downs e.down.way) ≡ ds → l.0.outbox ≡ os → bare_attached new ≡ refilled l.0 (bare_attached e) → t ≡ refilled_star l.0 (bare_attached e) s
           → Spares s (map bare_attached sites) t (map bare_attached (set sites at new))
       fetched_too [] [] p q site star =
-          inl (star ∙ same_star p q, unchanged new (site ∙ (λ j. record { site = e.site; up = e.up.items; down = same_down p q j })))
+          inl (star ∙ same_star p q, unchanged new (site ∙ (λ j. record { site = e.site; up = messages ups e.up.way; down = same_down p q j })))
       fetched_too [] (d ∷ os) p q site star =
           inr (
             i,
@@ -177,12 +180,12 @@ module _ (s : BoardStar) (sites : List Attached) (ready : AreReady s (map bare_a
               link,
               found,
               star ∙ (λ j. fetched_for e.site.number (p j) (q j) s) ∙ ap (λ n. fetched n 1 s) number,
-              changed (with_fetched board_operations 1 l.0) new (site ∙ (λ j. record { site = e.site; up = e.up.items; down = taken_down p j })),
+              changed (with_fetched board_operations 1 l.0) new (site ∙ (λ j. record { site = e.site; up = messages ups e.up.way; down = taken_down p j })),
             ),
           )
       fetched_too (d ∷ ds) os p q site star =
-          inl (star ∙ (λ j. fetched_for e.site.number (p j) l.0.outbox s), unchanged new (site ∙ (λ j. record { site = e.site; up = e.up.items; down = (ap (λ (xs : List (Down BoardOp)). refilled_from xs l.0.outbox) p ∙ sym p) j })))
+          inl (star ∙ (λ j. fetched_for e.site.number (p j) l.0.outbox s), unchanged new (site ∙ (λ j. record { site = e.site; up = messages ups e.up.way; down = (ap (λ (xs : List (Down BoardOp)). refilled_from xs l.0.outbox) p ∙ sym p) j })))
 
       choose : SparesAt l.0 (bare_attached e) s (bare_attached new) t → Spares s (map bare_attached sites) t (map bare_attached (set sites at new))
       choose (inl same) = inl (same.1, unchanged new same.0)
-      choose (inr more) = fetched_too e.down.items l.0.outbox refl refl more.0 more.1
+      choose (inr more) = fetched_too (messages downs e.down.way) l.0.outbox refl refl more.0 more.1

@@ -1,9 +1,11 @@
 //! An attached site with its streams.
-ghost use Rattle.std.specs.Prelude.{◌≡◌, ◌↔◌, ◌<◌, ℕ, true, [], map, length, Some, None, is_some, nat_eq, position, MatchOption, IsTrue, IfSome, IfOk, IfErr, OnOk, OnErr};
+ghost use Rattle.std.specs.Prelude.{◌≡◌, ◌↔◌, ◌<◌, ◌≤◌, ◌++◌, true, false, [], map, length, Some, None, is_some, nat_eq, position, MatchOption, IsTrue, IfSome, IfOk, IfErr, OnOk, OnErr};
 ghost use Rattle.jup_window.specs.BoardOperations.{board_operations};
 ghost use Rattle.jup_star.specs.StarStates.{link_of};
 ghost use Rattle.jup_star.specs.SiteStates.{edit_answer};
-ghost use Rattle.jup_star.specs.StarCalls.{BoardLink};
+ghost use Rattle.jup_star.specs.StarCalls.{BoardLink, is_no_memory};
+ghost use Rattle.jup_lane.specs.Lanes.{messages};
+ghost use Rattle.jup_lane.specs.Messages.{ups, downs};
 ghost use Rattle.jup_world.specs.WorldStates.{attached};
 ghost use Rattle.jup_world.specs.WorldSteps.{one_taken, place_reply, pinged};
 ghost use Rattle.jup_world.specs.Replies.{edit_reply};
@@ -14,6 +16,7 @@ ghost use Rattle.jup_world.specs.Happenings.{with_answer, Rises, IsRefused, refi
 
 use super::refusals::edit_refusal;
 use crate::Reply;
+use jup_lane::{Lane, MOST_MESSAGE};
 use jup_link::Msg;
 use jup_seq::SeqOp;
 use jup_star::{Down, Made, Site, SiteFault, Star, StarFault, Up};
@@ -21,7 +24,6 @@ use jup_value::Label;
 use jup_window::{BoardOp, Command, Edit, Effect, WidgetOp};
 use jup_xform::NoMemory;
 use std::alloc::Global;
-use std::collections::VecDeque;
 use std::marker::PhantomData;
 
 /// A site, what it sent that the star has not taken, and what was fetched for it that it was not handed,
@@ -29,8 +31,8 @@ use std::marker::PhantomData;
 #[derive(Drop)]
 pub(crate) struct Attached {
     pub(crate) site: Site,
-    pub(crate) up: VecDeque<Up>,
-    pub(crate) down: VecDeque<Down>,
+    pub(crate) up: Lane<Up>,
+    pub(crate) down: Lane<Down>,
     // The checker learns of the types within messages from a field that names them.
     within: PhantomData<(SeqOp<Label>, WidgetOp, BoardOp, Msg<BoardOp>, Effect, Edit)>,
 }
@@ -93,6 +95,17 @@ pub(crate) fn are_quiet(sites: &[Attached], star: &Star) -> bool
     true
 }
 
+// Writes a message that was fetched, if one was.
+fn send_one(lane: &mut Lane<Down>, fetched: &[Down])
+    requires room { MOST_MESSAGE ≤ lane.old.spare }
+    requires one { length fetched.now ≤ 1 }
+    ensures { messages downs lane.new.way ≡ messages downs lane.old.way ++ fetched.now }
+{
+    if let Some(down) = fetched.first() {
+        lane.send(down);
+    }
+}
+
 impl Attached {
     /// A site that has just joined.
     pub(crate) fn new(alloc: Global, site: Site) -> Attached
@@ -100,8 +113,8 @@ impl Attached {
     {
         Attached {
             site,
-            up: VecDeque::new(alloc),
-            down: VecDeque::new(alloc),
+            up: Lane::new(alloc),
+            down: Lane::new(alloc),
             within: PhantomData,
         }
     }
@@ -114,10 +127,10 @@ impl Attached {
             ≡ with_answer (edit_answer board_operations command.now self.old.site) (bare_attached self.old)) }
         ensures err { OnErr result (bare_attached self.new ≡ bare_attached self.old) }
     {
-        self.up.reserve(1).map_err(|_| NoMemory)?;
+        self.up.reserve()?;
         match self.site.edit(alloc, command) {
             Ok(Made { edit, up }) => {
-                self.up.push_back_reserved(up);
+                self.up.send(&up);
                 Ok(Reply::Made(edit))
             }
             Err(fault) => Ok(Reply::Refused(edit_refusal(fault)?)),
@@ -129,26 +142,32 @@ impl Attached {
         ensures ok { OnOk result (bare_attached self.new ≡ pinged board_operations count (bare_attached self.old)) }
         ensures err { OnErr result (bare_attached self.new ≡ bare_attached self.old) }
     {
-        self.up.reserve(1).map_err(|_| NoMemory)?;
-        self.up.push_back_reserved(Up::Ping(count));
+        self.up.reserve()?;
+        self.up.send(&Up::Ping(count));
         Ok(())
     }
 
     /// Moves the oldest message up: the star takes it, or refuses it.
     pub(crate) fn move_up(&mut self, alloc: Global, star: &mut Star) -> Result<Reply, StarFault>
-        ensures taken { IfOk result (λ reply. Rises self.old.site.number self.old.up.items star.old star.new (numbered_reply reply)) }
-        ensures refused { IfErr result (λ fault. IsRefused self.old.site.number self.old.up.items star.old star.new fault) }
+        ensures taken { IfOk result (λ reply. Rises self.old.site.number (messages ups self.old.up.way) star.old star.new (numbered_reply reply)) }
+        ensures refused { IfErr result (λ fault. is_no_memory fault ≡ false
+            → IsRefused self.old.site.number (messages ups self.old.up.way) star.old star.new fault) }
+        ensures memory { IfErr result (λ fault. is_no_memory fault ≡ true → star.new ≡ star.old) }
         ensures ok { OnOk result (bare_attached self.new ≡ one_taken board_operations (bare_attached self.old)) }
         ensures err { OnErr result (bare_attached self.new ≡ bare_attached self.old) }
     {
-        let Some(up) = self.up.front() else {
+        let first = match self.up.first(alloc) {
+            Ok(first) => first,
+            Err(NoMemory) => return Err(StarFault::NoMemory),
+        };
+        let Some(up) = first else {
             return Ok(Reply::Nothing);
         };
-        let place = match star.take(alloc, self.site.number(), up) {
+        let place = match star.take(alloc, self.site.number(), &up) {
             Ok(place) => place,
             Err(fault) => return Err(fault),
         };
-        let _taken = self.up.pop_front();
+        self.up.drop_first(&up);
         Ok(taken(place))
     }
 
@@ -182,11 +201,12 @@ impl Attached {
         ensures same_star { OnErr result (star.new ≡ star.old) }
     {
         let number = self.site.number();
-        if self.down.is_empty() && star.waiting(number) != Some(0) {
+        if self.down.is_idle() && star.waiting(number) != Some(0) {
+            self.down.reserve()?;
             let Ok(downs) = star.fetch(alloc, number, 1) else {
                 return Err(NoMemory);
             };
-            self.down = VecDeque::from_vec(downs.into_messages());
+            send_one(&mut self.down, downs.as_slice());
         }
         Ok(())
     }
@@ -199,21 +219,21 @@ impl Attached {
         ensures ok { OnOk result (bare_attached self.new ≡ handed (bare_attached self.old)) }
         ensures err { OnErr result (bare_attached self.new ≡ bare_attached self.old) }
     {
-        let Some(down) = self.down.front() else {
+        let Some(down) = self.down.first(alloc)? else {
             return Ok(Reply::Nothing);
         };
-        self.up.reserve(1).map_err(|_| NoMemory)?;
-        let reply = match down {
+        self.up.reserve()?;
+        let reply = match &down {
             Down::Op(_) => Reply::Shown,
             Down::Ack(_) | Down::Pong(_) => Reply::Heard,
         };
-        match self.site.deliver(alloc, down) {
-            Ok(Some(back)) => self.up.push_back_reserved(back),
+        match self.site.deliver(alloc, &down) {
+            Ok(Some(back)) => self.up.send(&back),
             Ok(None) => {}
             Err(SiteFault::NoMemory) => return Err(NoMemory),
             Err(_) => unreachable!(),
         }
-        let _handed = self.down.pop_front();
+        self.down.drop_first(&down);
         Ok(reply)
     }
 
@@ -221,6 +241,6 @@ impl Attached {
     pub(crate) fn is_quiet(&self, star: &Star) -> bool
         ensures { IsTrue result ↔ IsQuietAt (bare_attached self.now) star.now }
     {
-        self.up.is_empty() && self.down.is_empty() && star.waiting(self.site.number()) == Some(0)
+        self.up.is_idle() && self.down.is_idle() && star.waiting(self.site.number()) == Some(0)
     }
 }

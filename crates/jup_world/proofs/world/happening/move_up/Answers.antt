@@ -19,4 +19,4 @@ pub returns-in_ok-fault-in-Err-clause-plays : goal.returns-in_ok-fault-in-Err-cl
 returns-in_ok-fault-in-Err-clause-plays c =
     let place = rw c.deref.ensures.value at c.in-Some.ensures.place in
     refused_plays c.args.star.now c.args.sites.now.items c.requires c.args.number c.in-Some.at c.index_mut.result.now place c.index_mut.ensures.value
-    c.move_up.new.star c.in-Err.fault _ c.move_up.new.self _ c.in-Err.ensures.refused c.in_ok-fault-in-Err.ensures.other c.in_ok-fault-in-Err.ensures.same c.in-Err.ensures.err c.drop_site.ensures
+    c.move_up.new.star c.in-Err.fault _ c.move_up.new.self _ (c.in-Err.ensures.refused c.in_ok-fault-in-Err.ensures.other) c.in_ok-fault-in-Err.ensures.other c.in_ok-fault-in-Err.ensures.same c.in-Err.ensures.err c.drop_site.ensures

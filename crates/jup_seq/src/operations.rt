@@ -284,6 +284,10 @@ impl<V: Copy> Transform for SeqOp<V> {
 
     ghost inserts_server = { names.inserts_server };
 
+    ghost changes_client = { names.changes_client };
+
+    ghost changes_server = { names.changes_server };
+
     ghost apart_names = { names.apart_names };
 
     ghost fresh_names = { names.fresh_names };

@@ -175,6 +175,10 @@ impl<V: SettingValue> Transform for SetOp<V> {
 
     ghost inserts_server = { λ s c n a. a };
 
+    ghost changes_client = { λ c s n a. absurd a };
+
+    ghost changes_server = { λ s c n a. a };
+
     ghost apart_names = { λ c s n a b d. b };
 
     ghost fresh_names = { λ c t n a b d. b };

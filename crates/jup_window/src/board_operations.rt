@@ -182,6 +182,10 @@ impl Transform for BoardOp {
 
     ghost inserts_server = { board_names.inserts_server };
 
+    ghost changes_client = { board_names.changes_client };
+
+    ghost changes_server = { board_names.changes_server };
+
     ghost apart_names = { board_names.apart_names };
 
     ghost fresh_names = { board_names.fresh_names };

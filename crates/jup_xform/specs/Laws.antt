@@ -23,6 +23,8 @@ pub record KeepsMeaning {Op State Edit : Type 0} (t : Ghosts Op State Edit) : Ty
   pub order_chain : (x y z : State) → t.keeps_order x y → t.keeps_order y z → ((n : t.Name) → t.holds x n → t.holds z n → t.holds y n) → t.keeps_order x z
   pub inserts_client : (c s : Op) (n : t.Name) → t.inserts (t.edit_of (t.client_past c s)) n → t.inserts (t.edit_of c) n
   pub inserts_server : (s c : Op) (n : t.Name) → t.inserts (t.edit_of (t.server_past s c)) n → t.inserts (t.edit_of s) n
+  pub changes_client : (c s : Op) (n : t.Name) → t.changes (t.edit_of c) n → t.changes (t.edit_of (t.client_past c s)) n ⊎ t.changes (t.edit_of s) n
+  pub changes_server : (s c : Op) (n : t.Name) → t.changes (t.edit_of (t.server_past s c)) n → t.changes (t.edit_of s) n
   pub apart_names : (c s : Op) (n : t.Name) → t.are_apart c s → t.inserts (t.edit_of c) n → t.inserts (t.edit_of s) n → ⊥
   pub fresh_names : (c e : Op) (n : t.Name) → t.is_fresh c e → t.inserts (t.edit_of c) n → (t.inserts (t.edit_of e) n ⊎ t.deletes (t.edit_of e) n) → ⊥
   pub inserts_new : (x : State) (c : Op) (n : t.Name) → t.is_valid c x → t.inserts (t.edit_of c) n → t.holds x n → ⊥

@@ -186,6 +186,12 @@ pub trait Transform: Drop {
 
     ghost inserts_server: { (s c : Self) (n : Name) → inserts (edit_of (server_past s c)) n → inserts (edit_of s) n };
 
+    /// A client's operation past a server's still changes what it changed, but for what the server's changes;
+    /// a server's past a client's changes nothing else.
+    ghost changes_client: { (c s : Self) (n : Name) → changes (edit_of c) n → changes (edit_of (client_past c s)) n ⊎ changes (edit_of s) n };
+
+    ghost changes_server: { (s c : Self) (n : Name) → changes (edit_of (server_past s c)) n → changes (edit_of s) n };
+
     ghost apart_names: { (c s : Self) (n : Name) → are_apart c s → inserts (edit_of c) n → inserts (edit_of s) n → ⊥ };
 
     ghost fresh_names: { (c t : Self) (n : Name) → is_fresh c t → inserts (edit_of c) n → (inserts (edit_of t) n ⊎ deletes (edit_of t) n) → ⊥ };

@@ -74,6 +74,7 @@ made_there i (event.Edit j c) event.Heard = refl
 made_there i (event.Edit j c) (event.Detached f) = refl
 made_there i (event.Edit j c) event.Shown = refl
 made_there i (event.Edit j c) event.Asked = refl
+made_there i (event.Edit j c) (event.Moved k) = refl
 made_there i (event.Edit j c) event.Nothing = refl
 made_there i (event.Up j) r = refl
 made_there i (event.Down j) r = refl
@@ -196,7 +197,7 @@ module _ (board : Windows) (limit n : ℕ) (scripts : List (List Command)) (star
       let stands = subst (λ q. StandsAt board_operations most_items (board_operations.t.content w.opening) (turns i w.star.order) w.star.board (made i w.trace) (joined_at i w.trace) (shown_count i w.trace) i (Some l) q) fa
       (subst (λ o. StandsAt board_operations most_items (board_operations.t.content w.opening) (turns i w.star.order) w.star.board (made i w.trace) (joined_at i w.trace) (shown_count i w.trace) i o (attached i w.sites)) fl (sound.stand i)) in
       let given : w.star.given ≡ star.given = ap (λ (t : BoardStar). t.given) is.star_is in
-      let below : n < i → ⊥ = λ above. (let none : Some l ≡ None = sym fl ∙ sound.no_link i (omega (arith, given, numbers.1, above)) in absurd cc) in
+      let below : n < i → ⊥ = λ above. (let none : Some l ≡ None = sym fl ∙ sound.star.no_link i (omega (arith, given, numbers.1, above)) in absurd cc) in
       (stands.pair.positive, elim (dec_le i n) [ yes within ↦ within | no above ↦ absurd (below (omega arith)) ])
 
   -- the site at a place

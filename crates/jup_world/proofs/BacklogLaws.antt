@@ -222,7 +222,7 @@ module _ (O : Operations) (L : AreLawful O) where
   join_all most w s all None = by_number (λ k. k.site) (λ b. b.site.number) (λ j ol oa. CountsAt O ol oa) (w.star.given + 1)
       (λ j. CountsAt O (link_of j (w.star.links ++ opened_link (w.star.given + 1) ∷ [])) (attached j (w.sites ++ new_site O w (w.star.given + 1) ∷ [])))
       (subst (λ o. CountsAt O o (attached (w.star.given + 1) (w.sites ++ new_site O w (w.star.given + 1) ∷ [])))
-      (sym (found-end (λ k. k.site) (w.star.given + 1) w.star.links (opened_link (w.star.given + 1)) (s.no_link (w.star.given + 1) (omega arith)) (eq-eqb (w.star.given + 1) (w.star.given + 1) refl)))
+      (sym (found-end (λ k. k.site) (w.star.given + 1) w.star.links (opened_link (w.star.given + 1)) (s.star.no_link (w.star.given + 1) (omega arith)) (eq-eqb (w.star.given + 1) (w.star.given + 1) refl)))
       (subst (λ o. CountsAt O (Some (opened_link (w.star.given + 1))) o)
       (sym (found-end (λ b. b.site.number) (w.star.given + 1) w.sites (new_site O w (w.star.given + 1)) (no_site O L most w s (w.star.given + 1) refl) (eq-eqb (w.star.given + 1) (w.star.given + 1) refl)))
       (opened_counts w (w.star.given + 1))))

@@ -145,47 +145,40 @@ module _ (s : BoardStar) (sites : List Attached) (ready : AreReady s (map bare_a
       (changed (λ b. handed_as (messages downs e.down.way) l.0.outbox b) new (site l.0 l.1 ∙ handed_site l.0 (bare_attached e)))
   down_plays t (Err fault) new is site star = tt
 
-  pub down_spared : (t : BoardStar) (r : Result (Reply Edit EditFault) NoMemory) (new : Attached)
-      → OnErr r ((l : BoardLink) → link_of e.site.number s.links ≡ Some l → SparesAt l (bare_attached e) s (bare_attached new) t)
-      → OnErr r (Spares s (map bare_attached sites) t (map bare_attached (set sites at new)))
-  down_spared t (Ok reply) new spared = tt
-  down_spared t (Err fault) new spared = choose (spared l.0 l.1)
+  pub down_spared : (t : BoardStar) (r : Result (Reply Edit EditFault) NoMemory) (new : Attached) (l : BoardLink) → link_of i s.links ≡ Some l
+      → OnErr r ((k : BoardLink) → link_of e.site.number s.links ≡ Some k → SparesAt k (bare_attached e) s (bare_attached new) t)
+      → OnErr r (Spares i l s (map bare_attached sites) t (map bare_attached (set sites at new)))
+  down_spared t (Ok reply) new l link spared = tt
+  down_spared t (Err fault) new l link spared = choose (spared l there)
     where
-      l : (k : BoardLink) × (link_of e.site.number s.links ≡ Some k)
-      l = some_link (link_of e.site.number s.links) linked_there
+      there : link_of e.site.number s.links ≡ Some l
+      there = ap (λ n. link_of n s.links) number ∙ link
 
-      link : link_of i s.links ≡ Some l.0
-      link = ap (λ n. link_of n s.links) (sym number) ∙ l.1
+      ds : List (Down BoardOp)
+      ds = messages downs e.down.way
 
-      same_star : (messages downs e.down.way) ≡ [] → l.0.outbox ≡ [] → refilled_star l.0 (bare_attached e) s ≡ s
+      same_star : ds ≡ [] → l.outbox ≡ [] → refilled_star l (bare_attached e) s ≡ s
       same_star p q = λ j. fetched_for e.site.number (p j) (q j) s
 
-      same_down : (messages downs e.down.way) ≡ [] → l.0.outbox ≡ [] → refilled_from (messages downs e.down.way) l.0.outbox ≡ (messages downs e.down.way)
+      same_down : ds ≡ [] → l.outbox ≡ [] → refilled_from ds l.outbox ≡ ds
       same_down p q = (λ j. refilled_from (p j) (q j)) ∙ sym p
 
-      taken_down : (messages downs e.down.way) ≡ [] → refilled_from (messages downs e.down.way) l.0.outbox ≡ (messages downs e.down.way) ++ take 1 l.0.outbox
-      taken_down p = ap (λ (xs : List (Down BoardOp)). refilled_from xs l.0.outbox) p ∙ ap (λ (xs : List (Down BoardOp)). xs ++ take 1 l.0.outbox) (sym p)
+      taken_down : ds ≡ [] → refilled_from ds l.outbox ≡ ds ++ take 1 l.outbox
+      taken_down p = ap (λ (xs : List (Down BoardOp)). refilled_from xs l.outbox) p ∙ ap (λ (xs : List (Down BoardOp)). xs ++ take 1 l.outbox) (sym p)
 
       -- either nothing could be fetched, or a message was
-      fetched_too : (ds os : List (Down BoardOp)) → (messages downs e.down.way) ≡ ds → l.0.outbox ≡ os → bare_attached new ≡ refilled l.0 (bare_attached e) → t ≡ refilled_star l.0 (bare_attached e) s
-          → Spares s (map bare_attached sites) t (map bare_attached (set sites at new))
+      fetched_too : (xs os : List (Down BoardOp)) → ds ≡ xs → l.outbox ≡ os → bare_attached new ≡ refilled l (bare_attached e) → t ≡ refilled_star l (bare_attached e) s
+          → Spares i l s (map bare_attached sites) t (map bare_attached (set sites at new))
       fetched_too [] [] p q site star =
           inl (star ∙ same_star p q, unchanged new (site ∙ (λ j. record { site = e.site; up = messages ups e.up.way; down = same_down p q j })))
       fetched_too [] (d ∷ os) p q site star =
           inr (
-            i,
-            l.0,
-            bare_attached e,
-            (
-              link,
-              found,
-              star ∙ (λ j. fetched_for e.site.number (p j) (q j) s) ∙ ap (λ n. fetched n 1 s) number,
-              changed (with_fetched board_operations 1 l.0) new (site ∙ (λ j. record { site = e.site; up = messages ups e.up.way; down = taken_down p j })),
-            ),
+            star ∙ (λ j. fetched_for e.site.number (p j) (q j) s) ∙ ap (λ n. fetched n 1 s) number,
+            changed (with_fetched board_operations 1 l) new (site ∙ (λ j. record { site = e.site; up = messages ups e.up.way; down = taken_down p j })),
           )
-      fetched_too (d ∷ ds) os p q site star =
-          inl (star ∙ (λ j. fetched_for e.site.number (p j) l.0.outbox s), unchanged new (site ∙ (λ j. record { site = e.site; up = messages ups e.up.way; down = (ap (λ (xs : List (Down BoardOp)). refilled_from xs l.0.outbox) p ∙ sym p) j })))
+      fetched_too (d ∷ xs) os p q site star =
+          inl (star ∙ (λ j. fetched_for e.site.number (p j) l.outbox s), unchanged new (site ∙ (λ j. record { site = e.site; up = messages ups e.up.way; down = (ap (λ (xs : List (Down BoardOp)). refilled_from xs l.outbox) p ∙ sym p) j })))
 
-      choose : SparesAt l.0 (bare_attached e) s (bare_attached new) t → Spares s (map bare_attached sites) t (map bare_attached (set sites at new))
+      choose : SparesAt l (bare_attached e) s (bare_attached new) t → Spares i l s (map bare_attached sites) t (map bare_attached (set sites at new))
       choose (inl same) = inl (same.1, unchanged new same.0)
-      choose (inr more) = fetched_too (messages downs e.down.way) l.0.outbox refl refl more.0 more.1
+      choose (inr more) = fetched_too ds l.outbox refl refl more.0 more.1

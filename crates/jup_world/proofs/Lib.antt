@@ -10,7 +10,14 @@ pub mod Faults
 pub mod GivenNames
 pub mod HappeningSteps
 pub mod Known
+pub mod LaneEvents
+pub mod LaneOrder
+pub mod LaneReads
+pub mod LaneRuns
+pub mod LaneSites
+pub mod LaneWorldLaws
 pub mod Lightening
+pub mod Moved
 pub mod NamedTexts
 pub mod Numbered
 pub mod PairLink
@@ -18,6 +25,7 @@ pub mod PairMakes
 pub mod PairSent
 pub mod PairShown
 pub mod PairTaken
+pub mod PlaceKept
 pub mod QuietWorlds
 pub mod Received
 pub mod ReplyLaws
@@ -34,7 +42,9 @@ pub mod SoundRuns
 pub mod SoundShown
 pub mod SoundTaken
 pub mod Stands
+pub mod StarKeepsLinks
 pub mod StarRuns
+pub mod StarTakes
 pub mod TraceLaws
 pub mod TwoKept
 pub mod Withheld

@@ -3,7 +3,7 @@ use Rattle.std.proofs.Common.{◌≡◌, ℕ, ◌+◌, ◌≤◌, Bool, true, fa
 use Rattle.std.proofs.lemmas.Bool.{eqb-false}
 use Rattle.jup_link.specs.LinkSteps.{small_le, client_lengths, server_sends}
 use Rattle.jup_link.specs.Links.{after_send, message}
-use Rattle.jup_link.specs.Messages.{sent, next_message}
+use Rattle.jup_link.specs.Messages.{next_message}
 use Rattle.jup_link.specs.InStep.{InStepAt}
 use Rattle.jup_window.specs.Operations.{Operations, AreLawful}
 use Rattle.jup_star.specs.Streams.{ups, downs}

@@ -10,7 +10,7 @@ use Rattle.jup_star.specs.declared.messages.Down.TheVariants.{Op as DownOp, Ack 
 use Rattle.jup_star.specs.declared.faults.StarFault.TheVariants.{Full, SitesSpent, LogFull}
 use Rattle.jup_star.specs.FirstFaults.{test}
 use Rattle.jup_star.specs.LinkStates.{LinkState}
-use Rattle.jup_star.specs.StarStates.{link_of, join_fault, up_fault}
+use Rattle.jup_star.specs.StarStates.{StarOf, link_of, join_fault, up_fault}
 use Rattle.jup_star.specs.SiteStates.{edit_answer, deliver_fault}
 use Rattle.jup_star.specs.Streams.{downs}
 use Rattle.jup_world.specs.Events.{Join, Leave, Edit as MakeEdit, Up as MoveUp, Down as MoveDown, Ping as SendPing}
@@ -28,15 +28,23 @@ not_below : (m n : ℕ) → n ≤ m → nat_lt m n ≡ false
 not_below m n le = false_from_ne_true (nat_lt m n) (λ less. let below : m < n = ltb-true m n less in absurd (omega arith))
 
 module _ (O : Operations) (L : AreLawful O) where
+  -- what a join is refused for
+  pub join_faults : (s : StarOf O) → (64 ≤ length s.links → join_fault s ≡ Some Full) × (length s.links < 64 → 65535 ≤ s.given → join_fault s ≡ Some SitesSpent) × (length s.links < 64 → s.given < 65535 → join_fault s ≡ None)
+  join_faults s = (
+    (λ full. first_to_fail [] (test (nat_lt (length s.links) 64) Full) (test (nat_lt s.given 65535) SitesSpent ∷ []) tt (not_below _ 64 full)),
+    (λ few spent. first_to_fail (test (nat_lt (length s.links) 64) Full ∷ []) (test (nat_lt s.given 65535) SitesSpent) [] (lt-ltb _ 64 few, tt) (not_below _ 65535 spent)),
+    (λ few left. no_fault (test (nat_lt (length s.links) 64) Full ∷ test (nat_lt s.given 65535) SitesSpent ∷ []) (lt-ltb _ 64 few, (lt-ltb _ 65535 left, tt))),
+  )
+
   -- a join
   join_replies : (w : WorldOf O) → JoinReplies O w.star (join_outcome O w (join_fault w.star)).reply
-  join_replies w = record {
-    full = λ full. ap (λ f. (join_outcome O w f).reply) (first_to_fail [] (test (nat_lt (length w.star.links) 64) Full) (test (nat_lt w.star.given 65535) SitesSpent ∷ []) tt (not_below _ 64 full));
-    spent = λ few spent. ap (λ f. (join_outcome O w f).reply)
-        (first_to_fail (test (nat_lt (length w.star.links) 64) Full ∷ []) (test (nat_lt w.star.given 65535) SitesSpent) [] (lt-ltb _ 64 few, tt) (not_below _ 65535 spent));
-    joined = λ few left. ap (λ f. (join_outcome O w f).reply)
-        (no_fault (test (nat_lt (length w.star.links) 64) Full ∷ test (nat_lt w.star.given 65535) SitesSpent ∷ []) (lt-ltb _ 64 few, (lt-ltb _ 65535 left, tt)));
-  }
+  join_replies w =
+      let faults = join_faults w.star in
+      record {
+        full = λ full. ap (λ f. (join_outcome O w f).reply) (faults.0 full);
+        spent = λ few spent. ap (λ f. (join_outcome O w f).reply) (faults.1 few spent);
+        joined = λ few left. ap (λ f. (join_outcome O w f).reply) (faults.2 few left);
+      }
 
   -- an event at a site
   absent_at : (w : WorldOf O) (i : ℕ) (f : LinkState O.Op → AttachedOf O → Outcome O) → attached i w.sites ≡ None → (at_number O w i f).reply ≡ Nothing

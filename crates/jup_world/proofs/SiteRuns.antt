@@ -37,7 +37,7 @@ module _ (O : Operations) (L : AreLawful O) where
   named_by-take i j (suc k) (suc m) (Other s e ∷ ts) h = omega (arith, named_by-take i j k m ts (omega arith))
 
   -- what is named among the entries told, as the order and the number of those shown grow
-  told_more : (i j joined n m : ℕ) (ts us : List (Turn O.Edit)) → joined ≤ length ts → n ≤ length (others (drop joined ts)) → n ≤ m
+  pub told_more : (i j joined n m : ℕ) (ts us : List (Turn O.Edit)) → joined ≤ length ts → n ≤ length (others (drop joined ts)) → n ≤ m
       → named_by O i j (take (told_of O joined n ts) ts) ≤ named_by O i j (take (told_of O joined m (ts ++ us)) (ts ++ us))
   told_more i j joined n m ts us within shown more =
       let same : take (told_of O joined n ts) (ts ++ us) ≡ take (told_of O joined n ts) ts = take-append-le (told_of O joined n ts) ts us (told_within O L joined n ts within shown) in
@@ -47,9 +47,9 @@ module _ (O : Operations) (L : AreLawful O) where
       subst (λ p. named_by O i j p ≤ named_by O i j (take (told_of O joined m (ts ++ us)) (ts ++ us))) same longer
 
   -- a site's number was given
-  given_before : (most : ℕ) (w : WorldOf O) → IsSound O most w → (j : ℕ) (a : AttachedOf O) → attached j w.sites ≡ Some a → w.star.given < j → ⊥
+  pub given_before : (most : ℕ) (w : WorldOf O) → IsSound O most w → (j : ℕ) (a : AttachedOf O) → attached j w.sites ≡ Some a → w.star.given < j → ⊥
   given_before most w s j a fa above =
-      subst (λ o. StandsAt O most (O.t.content w.opening) (turns j w.star.order) w.star.board (made j w.trace) (joined_at j w.trace) (shown_count j w.trace) j o (Some a)) (s.no_link j above)
+      subst (λ o. StandsAt O most (O.t.content w.opening) (turns j w.star.order) w.star.board (made j w.trace) (joined_at j w.trace) (shown_count j w.trace) j o (Some a)) (s.star.no_link j above)
       (subst (λ o. StandsAt O most (O.t.content w.opening) (turns j w.star.order) w.star.board (made j w.trace) (joined_at j w.trace) (shown_count j w.trace) j (link_of j w.star.links) o) fa (s.stand j))
 
   -- and its place at its join stays
@@ -110,11 +110,11 @@ module _ (O : Operations) (L : AreLawful O) where
     pub none_back : (n : O.t.Name) → SiteKnows O L w j a n → O.t.holds b.site.board n → O.t.holds a.site.board n
 
   -- what a site holds it knows
-  holds_known : (most : ℕ) (w : WorldOf O) → IsSound O most w → (j : ℕ) (a : AttachedOf O) → attached j w.sites ≡ Some a → (n : O.t.Name) → O.t.holds a.site.board n → SiteKnows O L w j a n
+  pub holds_known : (most : ℕ) (w : WorldOf O) → IsSound O most w → (j : ℕ) (a : AttachedOf O) → attached j w.sites ≡ Some a → (n : O.t.Name) → O.t.holds a.site.board n → SiteKnows O L w j a n
   holds_known most w s j a fa = (standing_of O L most w s j a fa).1.pair.board_known
 
   -- one world after another
-  follows_chain : (u v w : WorldOf O) (j : ℕ) (a b c : AttachedOf O) → ((n : O.t.Name) → O.t.holds a.site.board n → SiteKnows O L u j a n) → SiteFollows u v j a b → SiteFollows v w j b c → SiteFollows u w j a c
+  pub follows_chain : (u v w : WorldOf O) (j : ℕ) (a b c : AttachedOf O) → ((n : O.t.Name) → O.t.holds a.site.board n → SiteKnows O L u j a n) → SiteFollows u v j a b → SiteFollows v w j b c → SiteFollows u w j a c
   follows_chain u v w j a b c known f g = record {
     order = L.keeps.order_chain a.site.board b.site.board c.site.board f.order g.order (λ n held later. g.none_back n (f.knows n (known n held)) later);
     knows = λ n k. g.knows n (f.knows n k);

@@ -131,9 +131,9 @@ module _ (O : Operations) (L : AreLawful O) where
 
         edited : (op : O.Op) → edit_answer O command a.site ≡ Ok op → SiteKeeps w i a (with_edit O op a)
         edited op ok = record {
-          order = made_keeps_order O L most i (O.t.content w.opening) _ _ w.star.board (made i w.trace) l a (standing O L most w s i l a fl fa).pair command op ok few s.counted;
+          order = made_keeps_order O L most i (O.t.content w.opening) _ _ w.star.board (made i w.trace) l a (standing O L most w s i l a fl fa).pair command op ok few s.star.counted;
           named = omega arith;
-          none_back = made_none_back O L most i (O.t.content w.opening) _ _ w.star.board (made i w.trace) l a (standing O L most w s i l a fl fa).pair command op ok few s.counted;
+          none_back = made_none_back O L most i (O.t.content w.opening) _ _ w.star.board (made i w.trace) l a (standing O L most w s i l a fl fa).pair command op ok few s.star.counted;
         }
 
     -- a delivery up

@@ -1,5 +1,5 @@
 -- A sound world is sound after a join.
-use Rattle.std.proofs.Common.{◌≡◌, ℕ, ◌+◌, ◌<◌, ◌≤◌, Bool, true, false, cond, List, [], ◌∷◌, ◌++◌, drop, take, length, nat_eq, refl, ap, sym, ◌∙◌, subst, Option, Some, None, arith, append-nil, add-zero, eq-eqb, eqb-true, ne_eqb, take_all, drop_of_length-le, length-append, le_refl}
+use Rattle.std.proofs.Common.{◌≡◌, ℕ, ◌+◌, ◌<◌, ◌≤◌, Bool, true, false, cond, List, [], ◌∷◌, ◌++◌, drop, take, length, nat_eq, refl, ap, sym, ◌∙◌, subst, Option, Some, None, arith, append-nil, add-zero, eq-eqb, eqb-true, take_all, drop_of_length-le, length-append, le_refl}
 use Rattle.jup_link.specs.LinkSteps.{small_le, InStepAt-opened}
 use Rattle.jup_window.specs.Operations.{Operations, AreLawful}
 use Rattle.jup_star.proofs.Lookup.{found-end, found-end_other}
@@ -18,6 +18,7 @@ use Rattle.jup_world.proofs.TraceLaws.{made-end, order-end, joined-end, shown-en
 use Rattle.jup_world.proofs.Known.{known_more, all_changes_more, own_counts-above}
 use Rattle.jup_world.proofs.Silent.{after_event}
 use Rattle.jup_world.proofs.WorldTakes.{named-turns}
+use Rattle.jup_world.proofs.StarKeepsLinks.{star-joined}
 
 module _ (O : Operations) (L : AreLawful O) where
   module _ (most : ℕ) (w : WorldOf O) (s : IsSound O most w) (i : ℕ) (next : i ≡ w.star.given + 1) where
@@ -25,10 +26,14 @@ module _ (O : Operations) (L : AreLawful O) where
     new : w.star.given < i
     new = omega arith
 
+    -- and no entry bears a name of it
+    no_name : named_by O i i (turns i w.star.order) ≡ 0
+    no_name = named-turns O L i 0 i w.star.order ∙ s.star.no_name i new
+
     -- a new site knows what the star knows
     counts : (j : ℕ) → named_by O 0 j (turns 0 w.star.order) ≤ own_counts O i 0 (λ j. named_by O i j (turns i w.star.order)) j
     counts j =
-        let above = own_counts-above O L i 0 (λ j. named_by O i j (turns i w.star.order)) (omega (arith, s.no_name i new)) j in
+        let above = own_counts-above O L i 0 (λ j. named_by O i j (turns i w.star.order)) (omega (arith, no_name)) j in
         omega (arith, named-turns O L 0 i j w.star.order)
 
     -- nothing is added
@@ -43,28 +48,28 @@ module _ (O : Operations) (L : AreLawful O) where
       star_ahead = [];
       site_side = refl;
       link_side = refl;
-      in_step = InStepAt-opened O.t L.lawful 0 w.star.board s.distinct (small_le O.t L.lawful 0 s.room w.star.board (omega arith) s.small);
-      room = s.room;
-      small = s.small;
-      enough = omega (arith, s.enough, length-append (turns i w.star.order) [], length-turns i w.star.order);
+      in_step = InStepAt-opened O.t L.lawful 0 w.star.board s.star.distinct (small_le O.t L.lawful 0 s.star.room w.star.board (omega arith) s.star.small);
+      room = s.star.room;
+      small = s.star.small;
+      enough = omega (arith, s.star.enough, length-append (turns i w.star.order) [], length-turns i w.star.order);
       raw = [];
       raw_sent = refl;
       row = tt;
       column = refl;
       all_made = s.no_edit i new ∙ sym (append-nil (own_edits (turns i w.star.order ++ [])) ∙ ap own_edits (append-nil (turns i w.star.order)) ∙ s.no_entry i new);
-      shows = s.content_is ∙ ap (O.t.meaning (O.t.content w.opening)) (edits-turns 0 i w.star.order ∙ sym (all_nil (edits (turns i w.star.order))));
+      shows = s.star.content_is ∙ ap (O.t.meaning (O.t.content w.opening)) (edits-turns 0 i w.star.order ∙ sym (all_nil (edits (turns i w.star.order))));
       up_inherits = tt;
       down_inherits = tt;
-      raw_named = ap (named_by O i i) (append-nil (turns i w.star.order)) ∙ s.no_name i new;
+      raw_named = ap (named_by O i i) (append-nil (turns i w.star.order)) ∙ no_name;
       rest_named = tt;
-      board_known = λ n x. known_more O L (λ j. named_by O 0 j (turns 0 w.star.order)) (own_counts O i 0 (λ j. named_by O i j (turns i w.star.order))) n counts (s.board_known n x);
+      board_known = λ n x. known_more O L (λ j. named_by O 0 j (turns 0 w.star.order)) (own_counts O i 0 (λ j. named_by O i j (turns i w.star.order))) n counts (s.star.board_known n x);
       view_known = subst (Each (ChangesKnown O (own_counts O i 0 (λ j. named_by O i j (turns i w.star.order))))) (edits-turns 0 i w.star.order ∙ sym (all_nil (edits (turns i w.star.order))))
-          (all_changes_more O L (λ j. named_by O 0 j (turns 0 w.star.order)) (own_counts O i 0 (λ j. named_by O i j (turns i w.star.order))) counts (edits (turns 0 w.star.order)) s.order_known);
+          (all_changes_more O L (λ j. named_by O 0 j (turns 0 w.star.order)) (own_counts O i 0 (λ j. named_by O i j (turns i w.star.order))) counts (edits (turns 0 w.star.order)) s.star.order_known);
       falling_foreign = tt;
       positive = omega arith;
       site_number = refl;
       link_number = refl;
-      link_named = sym (ap (named_by O i i) (append-nil (turns i w.star.order)) ∙ s.no_name i new);
+      link_named = sym (ap (named_by O i i) (append-nil (turns i w.star.order)) ∙ no_name);
       goes_on = refl;
       backlog = omega arith;
       few_heard = omega arith;
@@ -86,7 +91,7 @@ module _ (O : Operations) (L : AreLawful O) where
 
     -- no site has the number
     pub no_site : attached i w.sites ≡ None
-    no_site = alone (link_of i w.star.links) (attached i w.sites) (s.no_link i new) (s.stand i)
+    no_site = alone (link_of i w.star.links) (attached i w.sites) (s.star.no_link i new) (s.stand i)
       where
         alone : (ol : Option (LinkState O.Op)) (oa : Option (AttachedOf O)) → ol ≡ None
             → StandsAt O most (O.t.content w.opening) (turns i w.star.order) w.star.board (made i w.trace) (joined_at i w.trace) (shown_count i w.trace) i ol oa → oa ≡ None
@@ -103,25 +108,14 @@ module _ (O : Operations) (L : AreLawful O) where
         let showns : (j : ℕ) → shown_count j (w.trace ++ h ∷ []) ≡ shown_count j w.trace = λ j. shown-end j w.trace h ∙ add-zero (shown_count j w.trace) in
         record {
           order_is = order-end w.trace h ∙ append-nil (order_of w.trace) ∙ s.order_is;
-          content_is = s.content_is;
-          distinct = s.distinct;
-          room = s.room;
-          small = s.small;
-          enough = s.enough;
-          few = s.few;
-          limited = s.limited;
-          counted = s.counted;
-          board_known = s.board_known;
-          order_known = s.order_known;
+          star = star-joined O L most (O.t.content w.opening) w.star s.star;
           stand = λ j. subst (λ es. StandsAt O most (O.t.content w.opening) (turns j w.star.order) w.star.board es (joined_at j (w.trace ++ h ∷ [])) (shown_count j (w.trace ++ h ∷ [])) j (link_of j (joined w.star).links) (attached j (w.sites ++ new_site O w i ∷ []))) (sym (mades j))
               (subst (λ k. StandsAt O most (O.t.content w.opening) (turns j w.star.order) w.star.board (made j w.trace) k (shown_count j (w.trace ++ h ∷ [])) j (link_of j (joined w.star).links) (attached j (w.sites ++ new_site O w i ∷ []))) (sym (joins j))
               (subst (λ k. StandsAt O most (O.t.content w.opening) (turns j w.star.order) w.star.board (made j w.trace) (cond (nat_eq i j) (length w.star.order) (joined_at j w.trace)) k j (link_of j (joined w.star).links) (attached j (w.sites ++ new_site O w i ∷ []))) (sym (showns j))
               (stands (nat_eq i j) j refl)));
-          no_link = λ j g. found-end_other (λ l. l.site) j w.star.links (opened_link (w.star.given + 1)) (ne_eqb (w.star.given + 1) j (λ e. absurd (omega arith))) ∙ s.no_link j (omega arith);
           no_edit = λ j g. mades j ∙ s.no_edit j (omega arith);
           no_shown = λ j g. showns j ∙ s.no_shown j (omega arith);
           no_entry = λ j g. s.no_entry j (omega arith);
-          no_name = λ j g. s.no_name j (omega arith);
         }
       where
         same_link : opened_link {Operation = O.Op} (w.star.given + 1) ≡ opened_link {Operation = O.Op} i
@@ -131,7 +125,7 @@ module _ (O : Operations) (L : AreLawful O) where
             (link_of j (joined w.star).links) (attached j (w.sites ++ new_site O w i ∷ []))
         stands true j e = subst (λ k. StandsAt O most (O.t.content w.opening) (turns k w.star.order) w.star.board (made k w.trace) (length w.star.order) (shown_count k w.trace) k (link_of k (joined w.star).links) (attached k (w.sites ++ new_site O w i ∷ []))) (eqb-true i j e)
             (subst (λ o. StandsAt O most (O.t.content w.opening) (turns i w.star.order) w.star.board (made i w.trace) (length w.star.order) (shown_count i w.trace) i o (attached i (w.sites ++ new_site O w i ∷ [])))
-            (sym (found-end (λ l. l.site) i w.star.links (opened_link (w.star.given + 1)) (s.no_link i new) (eq-eqb (w.star.given + 1) i (sym next)) ∙ ap Some same_link))
+            (sym (found-end (λ l. l.site) i w.star.links (opened_link (w.star.given + 1)) (s.star.no_link i new) (eq-eqb (w.star.given + 1) i (sym next)) ∙ ap Some same_link))
             (subst (λ o. StandsAt O most (O.t.content w.opening) (turns i w.star.order) w.star.board (made i w.trace) (length w.star.order) (shown_count i w.trace) i (Some (opened_link i)) o)
             (sym (found-end (λ a. a.site.number) i w.sites (new_site O w i) no_site (eq-eqb i i refl))) new_stands))
         stands false j e = subst (λ o. StandsAt O most (O.t.content w.opening) (turns j w.star.order) w.star.board (made j w.trace) (joined_at j w.trace) (shown_count j w.trace) j o (attached j (w.sites ++ new_site O w i ∷ [])))

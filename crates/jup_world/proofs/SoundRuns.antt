@@ -1,10 +1,8 @@
 -- A world is sound as it is opened, and after any events; and what that promises.
 use Rattle.std.specs.Prelude.{is_some}
-use Rattle.std.proofs.Common.{◌≡◌, ℕ, ◌+◌, ◌<◌, ◌≤◌, ◌⊎◌, inl, inr, Bool, true, false, cond, List, [], ◌∷◌, ◌++◌, map, drop, take, length, nat_eq, refl, ap, sym, ◌∙◌, subst, Option, Some, None, Result, Ok, Err, arith, append-nil, append_assoc, IsTrue, take-append-drop}
+use Rattle.std.proofs.Common.{◌≡◌, ℕ, ◌+◌, ◌<◌, ◌≤◌, ◌⊎◌, Bool, true, false, cond, List, [], ◌∷◌, ◌++◌, map, drop, take, length, nat_eq, refl, ap, sym, ◌∙◌, subst, Option, Some, None, Result, Ok, Err, arith, append-nil, append_assoc, take-append-drop}
 use Rattle.std.proofs.Math.Seq.{drop-append_seam}
 use Rattle.jup_link.specs.declared.Msg.{Msg}
-use Rattle.jup_link.specs.Links.{after_count}
-use Rattle.jup_link.specs.Messages.{sent}
 use Rattle.jup_link.specs.InStep.{InStepAt}
 use Rattle.jup_link.specs.LinkSteps.{quiet_equal}
 use Rattle.jup_window.specs.Operations.{Operations, AreLawful}
@@ -26,15 +24,14 @@ use Rattle.jup_star.specs.declared.messages.Down.TheVariants.{Op as DownOp, Ack 
 use Rattle.jup_star.specs.declared.faults.StarFault.TheVariants.{LogFull}
 use Rattle.jup_star.specs.LinkStates.{LinkState, link_acked, link_ponged, link_fetched}
 use Rattle.jup_star.specs.StarStates.{link_of, with_links, join_fault, up_fault}
-use Rattle.jup_star.specs.SiteStates.{with_end, edit_answer, deliver_fault}
+use Rattle.jup_star.specs.SiteStates.{edit_answer, deliver_fault}
 use Rattle.jup_world.proofs.Rows.{own_edits-append}
-use Rattle.jup_world.proofs.Shown.{first_rising}
-use Rattle.jup_world.proofs.PairTaken.{taken_fits, taken_edit, taken_next}
-use Rattle.jup_world.proofs.PairLink.{pair-asked, pair-up_acked, pair-up_asked, pair-down_acked, pair-streams}
+use Rattle.jup_world.proofs.PairLink.{pair-asked}
 use Rattle.jup_world.proofs.Stands.{stand-pair}
-use Rattle.jup_world.proofs.Faults.{take_fits}
 use Rattle.jup_world.proofs.Silent.{after_event, IsSilent, sound-at, sound-leaves, sound-same}
-use Rattle.jup_world.proofs.WorldTakes.{standing, order_fits}
+use Rattle.jup_world.proofs.WorldTakes.{standing}
+use Rattle.jup_world.proofs.StarKeepsLinks.{star-opened, star-at, star-acked, star-ponged, star-fetched}
+use Rattle.jup_world.proofs.PlaceKept.{place-accepted, place-acked, place-asked, place-told, place-answered}
 use Rattle.jup_world.proofs.SoundTaken.{sound-taken}
 use Rattle.jup_world.proofs.SoundMade.{sound-made}
 use Rattle.jup_world.proofs.SoundShown.{sound-shown}
@@ -56,29 +53,13 @@ module _ (O : Operations) (L : AreLawful O) where
       (m : Msg O.Op) (us : List (Up O.Op)) → a.up ≡ UpOp m ∷ us
       → ((up_fault O w.star l (UpOp m) ≡ None) × (length w.star.order < w.star.limit)) ⊎ ((up_fault O w.star l (UpOp m) ≡ Some LogFull) × (w.star.limit ≤ length w.star.order))
   take_cases most w s i l a fl fa m us rising =
-      finish (standing O L most w s i l a fl fa)
-    where
-      finish : Standing O most (O.t.content w.opening) (turns i w.star.order) w.star.board (made i w.trace) (joined_at i w.trace) (shown_count i w.trace) i l a
-          → ((up_fault O w.star l (UpOp m) ≡ None) × (length w.star.order < w.star.limit)) ⊎ ((up_fault O w.star l (UpOp m) ≡ Some LogFull) × (w.star.limit ≤ length w.star.order))
-      finish st =
-          let t : ℕ = told_of O (joined_at i w.trace) (shown_count i w.trace) (turns i w.star.order) in
-          let past : List (Turn O.Edit) = take t (turns i w.star.order) in
-          let rest : List (Turn O.Edit) = drop t (turns i w.star.order) in
-          let halves : past ++ rest ≡ turns i w.star.order = take-append-drop t (turns i w.star.order) in
-          let fits : length (past ++ rest) + 1026 ≤ most = subst (λ us. length us + 1026 ≤ most) (sym halves) (order_fits O L most w s i l a fl fa) in
-          let comes : ups a.up ≡ sent m ∷ ups us = ap ups rising in
-          let first = first_rising O L st.pair m (ups us) (ap ups rising) in
-          let accepts = taken_fits O L most i (O.t.content w.opening) past rest w.star.board (made i w.trace) l a st.pair fits m (ups us) comes us refl first.0 first.1 first.2 in
-          let next : IsTrue (O.bears_next l.site l.named (O.t.edit_of m.op)) =
-          subst (λ k. IsTrue (O.bears_next k l.named (O.t.edit_of m.op))) (sym st.pair.link_number)
-          (subst (λ k. IsTrue (O.bears_next i k (O.t.edit_of m.op))) (sym st.pair.link_named)
-          (taken_next O L most i (O.t.content w.opening) past rest w.star.board (made i w.trace) l a st.pair fits m (ups us) comes us refl first.0 first.1 first.2)) in
-          take_fits O L w.star l m accepts.0 accepts.1
-          (taken_edit O L most i (O.t.content w.opening) past rest w.star.board (made i w.trace) l a st.pair fits m (ups us) comes us refl first.0 first.1 first.2)
-          next
-          accepts.2
+      place-accepted O L most (O.t.content w.opening) w.star (made i w.trace) i (joined_at i w.trace) (shown_count i w.trace) l a (standing O L most w s i l a fl fa) (omega (arith, s.star.few, s.star.limited)) m us rising
 
   module _ (most : ℕ) (w : WorldOf O) (s : IsSound O most w) where
+    -- there is room for what may still come
+    fits : length w.star.order + 1026 ≤ most
+    fits = omega (arith, s.star.few, s.star.limited)
+
     -- an event at a site: it does nothing, or the site is attached
     attached_case : (e : EventOf O) (i : ℕ) (f : LinkState O.Op → AttachedOf O → Outcome O) → IsSilent O L e Nothing
         → ((l : LinkState O.Op) (a : AttachedOf O) → link_of i w.star.links ≡ Some l → attached i w.sites ≡ Some a → IsSound O most (with_outcome O w e (f l a)))
@@ -119,6 +100,7 @@ module _ (O : Operations) (L : AreLawful O) where
     sound-ask i k = attached_case (SendPing i k) i _ (silent_ask i k Nothing) (λ l a fl fa.
         subst (λ ls. IsSound O most (after_event O L w (with_links w.star ls) (at_site i (pinged O k) w.sites) (SendPing i k) Asked)) (keep i w.star.links)
         (sound-at O L most w (SendPing i k) Asked i (λ z. z) (pinged O k) l a (λ z. refl) (λ b. refl) s (silent_ask i k Asked) fl fa
+        (star-at O L most (O.t.content w.opening) w.star s.star i (λ z. z) (λ z. refl) (λ z c. c))
         (stand-pair O L most (O.t.content w.opening) (turns i w.star.order) w.star.board (made i w.trace) (joined_at i w.trace) (shown_count i w.trace) i l a (standing O L most w s i l a fl fa) w.star.board (made i w.trace) l (pinged O k a)
         (pair-asked O L most i (O.t.content w.opening) _ _ w.star.board (made i w.trace) l a (standing O L most w s i l a fl fa).pair k))))
 
@@ -144,26 +126,20 @@ module _ (O : Operations) (L : AreLawful O) where
         → IsSound O most (with_outcome O w (MoveUp i) (up_outcome O w i l up (up_fault O w.star l up)))
     one_risen i l a fl fa (UpOp m) us e =
         either (up_fault O w.star l (UpOp m)) (λ o. IsSound O most (with_outcome O w (MoveUp i) (up_outcome O w i l (UpOp m) o)))
-        (λ n. sound-taken O L most w s i l a fl fa m us e (elim (take_cases most w s i l a fl fa m us e) [ inl c ↦ c.1 | inr c ↦ (let none = n in let full = c.0 in absurd (cc)) ]))
+        (λ none. sound-taken O L most w s i l a fl fa m us e none)
         (λ n f. sound-leaves O L most w (MoveUp i) (Detached n) i s (silent_rise i (Detached n) (λ p o. refl)))
     one_risen i l a fl fa (UpAck n) us e =
         either (up_fault O w.star l (UpAck n)) (λ o. IsSound O most (with_outcome O w (MoveUp i) (up_outcome O w i l (UpAck n) o)))
         (λ none. sound-at O L most w (MoveUp i) Heard i (λ k. link_acked n k) (one_taken O) l a (λ k. refl) (λ b. refl) s (silent_rise i Heard (λ p o. refl)) fl fa
-        (stand-pair O L most (O.t.content w.opening) (turns i w.star.order) w.star.board (made i w.trace) (joined_at i w.trace) (shown_count i w.trace) i l a (standing O L most w s i l a fl fa) w.star.board (made i w.trace) (link_acked n l) (one_taken O a)
-        (pair-up_acked O L most i (O.t.content w.opening) _ _ w.star.board (made i w.trace) l a (standing O L most w s i l a fl fa).pair n (drop 1 a.up) (headed a.up (UpAck n) us e))))
+        (star-acked O L most (O.t.content w.opening) w.star s.star i n)
+        (place-acked O L most (O.t.content w.opening) w.star (made i w.trace) i (joined_at i w.trace) (shown_count i w.trace) l a (standing O L most w s i l a fl fa) fits n us e))
         (λ k f. sound-leaves O L most w (MoveUp i) (Detached k) i s (silent_rise i (Detached k) (λ p o. refl)))
-      where
-        headed : (r : List (Up O.Op)) (u : Up O.Op) (us : List (Up O.Op)) → r ≡ u ∷ us → r ≡ u ∷ drop 1 r
-        headed r u us e = e ∙ ap (λ t. u ∷ t) (sym (ap (drop 1) e))
     one_risen i l a fl fa (UpPing k) us e =
         either (up_fault O w.star l (UpPing k)) (λ o. IsSound O most (with_outcome O w (MoveUp i) (up_outcome O w i l (UpPing k) o)))
         (λ none. sound-at O L most w (MoveUp i) Heard i (λ z. link_ponged k z) (one_taken O) l a (λ z. refl) (λ b. refl) s (silent_rise i Heard (λ p o. refl)) fl fa
-        (stand-pair O L most (O.t.content w.opening) (turns i w.star.order) w.star.board (made i w.trace) (joined_at i w.trace) (shown_count i w.trace) i l a (standing O L most w s i l a fl fa) w.star.board (made i w.trace) (link_ponged k l) (one_taken O a)
-        (pair-up_asked O L most i (O.t.content w.opening) _ _ w.star.board (made i w.trace) l a (standing O L most w s i l a fl fa).pair k (drop 1 a.up) (headed a.up (UpPing k) us e))))
+        (star-ponged O L most (O.t.content w.opening) w.star s.star i k)
+        (place-asked O L most (O.t.content w.opening) w.star (made i w.trace) i (joined_at i w.trace) (shown_count i w.trace) l a (standing O L most w s i l a fl fa) fits k us e))
         (λ n f. sound-leaves O L most w (MoveUp i) (Detached n) i s (silent_rise i (Detached n) (λ p o. refl)))
-      where
-        headed : (r : List (Up O.Op)) (u : Up O.Op) (us : List (Up O.Op)) → r ≡ u ∷ us → r ≡ u ∷ drop 1 r
-        headed r u us e = e ∙ ap (λ t. u ∷ t) (sym (ap (drop 1) e))
 
     -- a delivery up
     sound-rise : (i : ℕ) → IsSound O most (with_outcome O w (MoveUp i) (outcome O w (MoveUp i)))
@@ -192,15 +168,14 @@ module _ (O : Operations) (L : AreLawful O) where
     one_fallen i l a fl fa gone (DownAck n) falling e =
         either (deliver_fault O (DownAck n) a.site) (λ o. IsSound O most (with_outcome O w (MoveDown i) (down_outcome O w i gone (DownAck n) falling o)))
         (λ none. sound-at O L most w (MoveDown i) Heard i (link_fetched gone) (λ b. one_handed O (DownAck n) falling b) l a (λ k. refl) (λ b. refl) s (silent_fall i) fl fa
-        (subst (λ r. Standing O most (O.t.content w.opening) (turns i w.star.order) w.star.board (made i w.trace) (joined_at i w.trace) (shown_count i w.trace) i (link_fetched gone l) (record { site = with_end a.site (after_count a.site.end n); up = r; down = falling })) (sym (append-nil a.up))
-        (stand-pair O L most (O.t.content w.opening) (turns i w.star.order) w.star.board (made i w.trace) (joined_at i w.trace) (shown_count i w.trace) i l a (standing O L most w s i l a fl fa) w.star.board (made i w.trace) (link_fetched gone l) (record { site = with_end a.site (after_count a.site.end n); up = a.up; down = falling })
-        (pair-down_acked O L most i (O.t.content w.opening) _ _ w.star.board (made i w.trace) l a (standing O L most w s i l a fl fa).pair n falling (drop gone l.outbox) e))))
+        (star-fetched O L most (O.t.content w.opening) w.star s.star i gone)
+        (place-told O L most (O.t.content w.opening) w.star (made i w.trace) i (joined_at i w.trace) (shown_count i w.trace) l a (standing O L most w s i l a fl fa) fits n gone falling e))
         (λ k f. sound-same O L most w (MoveDown i) Nothing s (silent_nothing i))
     one_fallen i l a fl fa gone (DownPong k) falling e =
         either (deliver_fault O (DownPong k) a.site) (λ o. IsSound O most (with_outcome O w (MoveDown i) (down_outcome O w i gone (DownPong k) falling o)))
         (λ none. sound-at O L most w (MoveDown i) Heard i (link_fetched gone) (λ b. one_handed O (DownPong k) falling b) l a (λ z. refl) (λ b. refl) s (silent_fall i) fl fa
-        (stand-pair O L most (O.t.content w.opening) (turns i w.star.order) w.star.board (made i w.trace) (joined_at i w.trace) (shown_count i w.trace) i l a (standing O L most w s i l a fl fa) w.star.board (made i w.trace) (link_fetched gone l) (one_handed O (DownPong k) falling a)
-        (pair-streams O L most i (O.t.content w.opening) _ _ w.star.board (made i w.trace) l a (standing O L most w s i l a fl fa).pair (a.up ++ []) falling (drop gone l.outbox) (ap ups (append-nil a.up)) (sym e))))
+        (star-fetched O L most (O.t.content w.opening) w.star s.star i gone)
+        (place-answered O L most (O.t.content w.opening) w.star (made i w.trace) i (joined_at i w.trace) (shown_count i w.trace) l a (standing O L most w s i l a fl fa) fits k gone falling e))
         (λ n f. sound-same O L most w (MoveDown i) Nothing s (silent_nothing i))
 
     -- a delivery down
@@ -232,29 +207,18 @@ module _ (O : Operations) (L : AreLawful O) where
       → ((n : O.t.Name) → O.t.holds board n → O.site_of n ≡ 0) → IsSound O most (opened_world O board limit)
   sound-opened most limit board distinct small room counted layout = record {
     order_is = refl;
-    content_is = sym (L.keeps.meaning_none (O.t.content board));
-    distinct = distinct;
-    room = most;
-    small = small;
-    enough = omega arith;
-    few = omega arith;
-    limited = room;
-    counted = counted;
-    board_known = λ n h. inl (layout n h);
-    order_known = tt;
+    star = star-opened O L most limit board distinct small room counted layout;
     stand = λ i. tt;
-    no_link = λ i g. refl;
     no_edit = λ i g. refl;
     no_shown = λ i g. refl;
     no_entry = λ i g. refl;
-    no_name = λ i g. refl;
   }
 
   -- what a sound world promises
   pub sound-promises : (most : ℕ) (w : WorldOf O) → IsSound O most w → Promises O w
   sound-promises most w s = record {
     order = sym s.order_is;
-    star_content = s.content_is ∙ ap (λ os. O.t.meaning (O.t.content w.opening) (edits (turns 0 os))) (sym s.order_is);
+    star_content = s.star.content_is ∙ ap (λ os. O.t.meaning (O.t.content w.opening) (edits (turns 0 os))) (sym s.order_is);
     site_content = λ i a fa. (let st = linked i a fa in shows_view i st.0 a st.1);
     equal = λ q i a fa. (let st = linked i a fa in level i st.0 a st.1 (q i st.0 a st.2 fa));
     whole = λ q i a fa. (let st = linked i a fa in all i st.0 a st.1 (q i st.0 a st.2 fa));

@@ -1,14 +1,12 @@
 -- Over any run the star keeps the order of its items.
-use Rattle.std.proofs.Common.{◌≡◌, ℕ, ◌<◌, ◌≤◌, inl, inr, List, [], ◌∷◌, length, refl, ap, sym, subst, Option, Some, None, arith, take-append-drop}
+use Rattle.std.proofs.Common.{◌≡◌, ℕ, ◌≤◌, List, [], ◌∷◌, refl, sym, subst, Option, Some, None, arith}
 use Rattle.jup_link.specs.declared.Msg.{Msg}
 use Rattle.jup_window.specs.Operations.{Operations, AreLawful}
 use Rattle.jup_star.specs.declared.faults.SiteFault.{SiteFault}
-use Rattle.jup_star.specs.Streams.{ups}
 use Rattle.jup_world.specs.Turns.{turns}
 use Rattle.jup_world.specs.WorldStates.{attached, WorldOf, AttachedOf, EventOf}
 use Rattle.jup_world.specs.WorldSteps.{Outcome, join_outcome, edit_outcome, up_outcome, first_up, down_outcome, first_down, at_attached, at_linked, outcome, happens, run}
-use Rattle.jup_world.specs.Traces.{made, joined_at, shown_count}
-use Rattle.jup_world.specs.Sound.{named_by, IsKnown, told_of, Standing, IsSound}
+use Rattle.jup_world.specs.Sound.{named_by, IsKnown, IsSound}
 use Rattle.jup_world.specs.Events.{Join, Leave, Edit as MakeEdit, Up as MoveUp, Down as MoveDown, Ping as SendPing}
 use Rattle.jup_star.specs.declared.messages.Up.{Up}
 use Rattle.jup_star.specs.declared.messages.Down.{Down}
@@ -16,9 +14,8 @@ use Rattle.jup_star.specs.declared.messages.Up.TheVariants.{Op as UpOp, Ack as U
 use Rattle.jup_star.specs.LinkStates.{LinkState}
 use Rattle.jup_star.specs.StarStates.{link_of, join_fault, StarOf, up_fault}
 use Rattle.jup_star.specs.SiteStates.{edit_answer, deliver_fault}
-use Rattle.jup_world.proofs.Shown.{first_rising}
-use Rattle.jup_world.proofs.WorldTakes.{standing, star_keeps_order, star_none_back, star_knows}
-use Rattle.jup_world.proofs.SoundRuns.{either, result_cases, take_cases, sound-happens}
+use Rattle.jup_world.proofs.StarTakes.{keeps_order, still_known, none_back}
+use Rattle.jup_world.proofs.SoundRuns.{either, result_cases, sound-happens}
 
 module _ (O : Operations) (L : AreLawful O) where
   -- a name that a star knows: of the layout, or of an entry of its order
@@ -62,22 +59,17 @@ module _ (O : Operations) (L : AreLawful O) where
     rise-follows : (i : ℕ) → Follows w.star (outcome O w (MoveUp i)).star
     rise-follows i = attached-follows i _ (λ l a fl fa. from l a fl fa a.up refl)
       where
-        took : (l : LinkState O.Op) (a : AttachedOf O) (m : Msg O.Op) (us : List (Up O.Op)) → a.up ≡ UpOp m ∷ us → length w.star.order < w.star.limit
-            → (p : Standing O most (O.t.content w.opening) (turns i w.star.order) w.star.board (made i w.trace) (joined_at i w.trace) (shown_count i w.trace) i l a)
-            → Follows w.star (up_outcome O w i l (UpOp m) None).star
-        took l a m us e room p =
-            let head = first_rising O L p.pair m (ups us) (ap ups e) in
-            let whole = take-append-drop (told_of O (joined_at i w.trace) (shown_count i w.trace) (turns i w.star.order)) (turns i w.star.order) in
-            record {
-              given = omega arith;
-              order = star_keeps_order O L most w s i l a _ _ whole p.pair m us e room head.0 head.1 head.2;
-              knows = star_knows O L most w s i l a _ _ whole p.pair m us e room head.0 head.1 head.2;
-              none_back = star_none_back O L most w s i l a _ _ whole p.pair m us e room head.0 head.1 head.2;
-            }
+        took : (l : LinkState O.Op) (fl : link_of i w.star.links ≡ Some l) (m : Msg O.Op) → up_fault O w.star l (UpOp m) ≡ None → Follows w.star (up_outcome O w i l (UpOp m) None).star
+        took l fl m none = record {
+          given = omega arith;
+          order = keeps_order O L most (O.t.content w.opening) w.star s.star i l fl m none;
+          knows = still_known O L most (O.t.content w.opening) w.star s.star i l fl m none;
+          none_back = none_back O L most (O.t.content w.opening) w.star s.star i l fl m none;
+        }
 
         one : (l : LinkState O.Op) (a : AttachedOf O) → link_of i w.star.links ≡ Some l → attached i w.sites ≡ Some a → (up : Up O.Op) (us : List (Up O.Op)) → a.up ≡ up ∷ us → Follows w.star (up_outcome O w i l up (up_fault O w.star l up)).star
         one l a fl fa (UpOp m) us e = either (up_fault O w.star l (UpOp m)) (λ o. Follows w.star (up_outcome O w i l (UpOp m) o).star)
-            (λ n. took l a m us e (elim (take_cases O L most w s i l a fl fa m us e) [ inl c ↦ c.1 | inr c ↦ (let none = n in let full = c.0 in absurd (cc)) ]) (standing O L most w s i l a fl fa))
+            (λ none. took l fl m none)
             (λ n f. follows-same _ _ (omega arith) refl refl)
         one l a fl fa (UpAck n) us e = either (up_fault O w.star l (UpAck n)) (λ o. Follows w.star (up_outcome O w i l (UpAck n) o).star) (λ k. follows-same _ _ (omega arith) refl refl) (λ k f. follows-same _ _ (omega arith) refl refl)
         one l a fl fa (UpPing n) us e = either (up_fault O w.star l (UpPing n)) (λ o. Follows w.star (up_outcome O w i l (UpPing n) o).star) (λ k. follows-same _ _ (omega arith) refl refl) (λ k f. follows-same _ _ (omega arith) refl refl)
@@ -110,4 +102,4 @@ module _ (O : Operations) (L : AreLawful O) where
   pub run-follows : (es : List (EventOf O)) (most : ℕ) (w : WorldOf O) → IsSound O most w → Follows w.star (run O w es).star
   run-follows [] most w s = follows-same w.star w.star (omega arith) refl refl
   run-follows (e ∷ es) most w s =
-      follows-chain w.star (happens O w e).star (run O (happens O w e) es).star s.board_known (event-follows most w s e) (run-follows es most (happens O w e) (sound-happens O L most w e s))
+      follows-chain w.star (happens O w e).star (run O (happens O w e) es).star s.star.board_known (event-follows most w s e) (run-follows es most (happens O w e) (sound-happens O L most w e s))

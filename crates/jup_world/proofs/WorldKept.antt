@@ -70,7 +70,7 @@ link_given w s i l found = cases (nat_le i w.star.given) refl
   where
     cases : (b : Bool) → nat_le i w.star.given ≡ b → i ≤ w.star.given
     cases true e = leb-true i w.star.given e
-    cases false e = absurd (let none = s.no_link i (leb-false i w.star.given e) in cc)
+    cases false e = absurd (let none = s.star.no_link i (leb-false i w.star.given e) in cc)
 
 up_numbered : (w : BoardWorld) → IsSound board_operations most_items w → AreNumbered w.star w.sites → (i : ℕ) (l : BoardLink) → link_of i w.star.links ≡ Some l → l.site ≡ i → (up : Up BoardOp) (f : Option StarFault) → up_fault board_operations w.star l up ≡ f
     → KeepsNumbers (up_outcome board_operations w i l up f)
@@ -127,7 +127,7 @@ numbered_outcome w (SendPing i k) s is = at_numbered w is i _ (λ l a found. sit
 
 -- # Worlds
 
-open_held : (a b c : Bool) → first_fault (test (a && b) BadLimit ∷ test c BadSite ∷ []) ≡ None → (a ≡ true) × (b ≡ true) × (c ≡ true)
+pub open_held : (a b c : Bool) → first_fault (test (a && b) BadLimit ∷ test c BadSite ∷ []) ≡ None → (a ≡ true) × (b ≡ true) × (c ≡ true)
 open_held true true true none = (refl, refl, refl)
 open_held true true false none = absurd (cc)
 open_held true false c none = absurd (cc)

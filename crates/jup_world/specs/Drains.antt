@@ -8,6 +8,7 @@ use Rattle.jup_world.specs.declared.world.draining.Way.TheVariants.{Up, Down}
 use Rattle.jup_world.specs.WorldStates.{attached}
 use Rattle.jup_world.specs.WorldSteps.{outcome}
 use Rattle.jup_world.specs.BoardWorlds.{BoardWorld, BoardAttached, BoardEvent}
+use Rattle.jup_world.specs.LaneWorlds.{LaneWorld, messages_of}
 use Rattle.jup_world.specs.Runs.{IsDelivered}
 use Rattle.jup_world.specs.Weights.{weight}
 
@@ -17,11 +18,11 @@ way_event Up i = MoveUp i
 way_event Down i = MoveDown i
 
 -- some deliveries, of which one moved a message, or none did
-pub record Settles (moved : Bool) (w v : BoardWorld) : Type 0 where
+pub record Settles (moved : Bool) (w v : LaneWorld) : Type 0 where
   pub delivered : IsDelivered w v
-  pub lighter : IsTrue moved → weight v < weight w
+  pub lighter : IsTrue moved → weight (messages_of v) < weight (messages_of w)
   pub same_star : IsFalse moved → v.star ≡ w.star
-  pub same_sites : IsFalse moved → v.sites ≡ w.sites
+  pub same_sites : IsFalse moved → (messages_of v).sites ≡ (messages_of w).sites
 
 -- a delivery at this site, if it is attached, moves nothing
 abbrev pub MovesNothing : Way → ℕ → BoardWorld → Type 0

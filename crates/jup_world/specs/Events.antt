@@ -1,4 +1,4 @@
--- What may happen in a world whose links carry messages, and what it answers: the events of the program but those that move bytes.
+-- What may happen in a world whose links carry messages, and what is answered. The program has two events more, which move bytes.
 use Rattle.std.specs.Prelude.{ℕ}
 use Rattle.jup_star.specs.declared.faults.StarFault.{StarFault}
 
@@ -11,7 +11,7 @@ pub data Event (Command : Type 0) : Type 0 where
   Down : ℕ → Event Command
   Ping : ℕ → ℕ → Event Command
 
--- what an event answers
+-- what an event answers; that bytes were moved is told where links carry bytes alone
 pub data Reply (Edit Fault : Type 0) : Type 0 where
   Joined : ℕ → Reply Edit Fault
   NoJoin : StarFault → Reply Edit Fault
@@ -23,6 +23,7 @@ pub data Reply (Edit Fault : Type 0) : Type 0 where
   Detached : StarFault → Reply Edit Fault
   Shown : Reply Edit Fault
   Asked : Reply Edit Fault
+  Moved : ℕ → Reply Edit Fault
   Nothing : Reply Edit Fault
 
 -- an event with its reply

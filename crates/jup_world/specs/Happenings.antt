@@ -30,16 +30,11 @@ Plays event star sites reply next_star next_sites =
     → outcome board_operations (record { opening = opening; star = star; sites = sites; trace = trace }) event
     ≡ record { reply = reply; star = next_star; sites = next_sites }
 
--- want of memory left all as it was, but that the oldest message of an outbox may stand in its empty down stream
-abbrev pub IsFetched : BoardStar → List BoardAttached → ℕ → BoardLink → BoardAttached → BoardStar → List BoardAttached → Type 0
-IsFetched star sites i l a next_star next_sites =
-    (link_of i star.links ≡ Some l) × (attached i sites ≡ Some a)
-    × (next_star ≡ fetched i 1 star) × (next_sites ≡ at_site i (with_fetched board_operations 1 l) sites)
-
-abbrev pub Spares : BoardStar → List BoardAttached → BoardStar → List BoardAttached → Type 0
-Spares star sites next_star next_sites =
+-- want of memory left all as it was, but that the oldest message of the outbox of a link may stand in its empty down stream
+abbrev pub Spares : ℕ → BoardLink → BoardStar → List BoardAttached → BoardStar → List BoardAttached → Type 0
+Spares i l star sites next_star next_sites =
     ((next_star ≡ star) × (next_sites ≡ sites))
-    ⊎ ((i : ℕ) × (l : BoardLink) × (a : BoardAttached) × IsFetched star sites i l a next_star next_sites)
+    ⊎ ((next_star ≡ fetched i 1 star) × (next_sites ≡ at_site i (with_fetched board_operations 1 l) sites))
 
 -- a site that makes the edit of an operation, or was refused
 abbrev pub with_answer : Result BoardOp ℕ → BoardAttached → BoardAttached

@@ -5,6 +5,9 @@ pub mod Each
 pub mod Events
 pub mod Happenings
 pub mod Headline
+pub mod LaneHappenings
+pub mod LaneSteps
+pub mod LaneWorlds
 pub mod Meanings
 pub mod NumberedReplies
 pub mod Openings

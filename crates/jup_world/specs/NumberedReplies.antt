@@ -1,4 +1,4 @@
--- A trace of the program as one of a world whose links carry messages: with each refusal of an edit as its number.
+-- A trace of the program as its definitions see it: with each refusal of an edit as its number.
 use Rattle.std.specs.Prelude.{ℕ, List, map}
 use Rattle.jup_window.specs.declared.edits.Edit.{Edit}
 use Rattle.jup_window.specs.declared.commands.Command.{Command}
@@ -8,19 +8,21 @@ use Rattle.jup_world.specs.declared.events.Event.{Event as Played}
 use Rattle.jup_world.specs.declared.events.Event.TheVariants as played
 use Rattle.jup_world.specs.declared.events.Reply.{Reply as Answer}
 use Rattle.jup_world.specs.declared.events.Reply.TheVariants as answer
-use Rattle.jup_world.specs.declared.events.Happened.{Happened as Noted}
-use Rattle.jup_world.specs.Events.{Event, Join, Leave, Edit as MakeEdit, Up as MoveUp, Down as MoveDown, Ping as SendPing}
-use Rattle.jup_world.specs.Events.{Reply, Joined, NoJoin, Left, Made, Refused, Taken, Heard, Detached, Shown, Asked, Nothing}
-use Rattle.jup_world.specs.Events.{Happened}
+use Rattle.jup_world.specs.declared.events.Happened.{Happened as Kept}
+use Rattle.jup_world.specs.Events.{Join, Leave, Edit as MakeEdit, Up as MoveUp, Down as MoveDown, Ping as SendPing}
+use Rattle.jup_world.specs.Events.{Reply, Joined, NoJoin, Left, Made, Refused, Taken, Heard, Detached, Shown, Asked, Moved, Nothing}
+use Rattle.jup_world.specs.LaneWorlds.{LaneEvent, Plain, PushUp, PushDown, Noted}
 
 -- one event
-abbrev pub plain_event : Played Command → Event Command
-plain_event played.Join = Join
-plain_event (played.Leave i) = Leave i
-plain_event (played.Edit i command) = MakeEdit i command
-plain_event (played.Up i) = MoveUp i
-plain_event (played.Down i) = MoveDown i
-plain_event (played.Ping i k) = SendPing i k
+abbrev pub lane_event : Played Command → LaneEvent
+lane_event played.Join = Plain Join
+lane_event (played.Leave i) = Plain (Leave i)
+lane_event (played.Edit i command) = Plain (MakeEdit i command)
+lane_event (played.Up i) = Plain (MoveUp i)
+lane_event (played.Down i) = Plain (MoveDown i)
+lane_event (played.Ping i k) = Plain (SendPing i k)
+lane_event (played.PushUp i n) = PushUp i n
+lane_event (played.PushDown i n) = PushDown i n
 
 -- one reply
 abbrev pub numbered_reply : Answer Edit EditFault → Reply Edit ℕ
@@ -34,8 +36,9 @@ numbered_reply answer.Heard = Heard
 numbered_reply (answer.Detached fault) = Detached fault
 numbered_reply answer.Shown = Shown
 numbered_reply answer.Asked = Asked
+numbered_reply (answer.Moved count) = Moved count
 numbered_reply answer.Nothing = Nothing
 
 -- a trace
-abbrev pub numbered_trace : List (Noted Command Edit EditFault) → List (Happened Command Edit ℕ)
-numbered_trace trace = map (λ h. record { event = plain_event h.event; reply = numbered_reply h.reply }) trace
+abbrev pub noted_trace : List (Kept Command Edit EditFault) → List Noted
+noted_trace trace = map (λ h. record { event = lane_event h.event; reply = numbered_reply h.reply }) trace

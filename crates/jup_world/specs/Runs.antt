@@ -1,10 +1,9 @@
 -- Runs of a world, and want of memory in one.
-use Rattle.std.specs.Prelude.{◌≡◌, List, [], ◌∷◌}
-use Rattle.jup_window.specs.BoardOperations.{board_operations}
+use Rattle.std.specs.Prelude.{List, [], ◌∷◌, map}
 use Rattle.jup_world.specs.Events.{Join, Leave, Edit as MakeEdit, Up as MoveUp, Down as MoveDown, Ping as SendPing}
-use Rattle.jup_world.specs.WorldSteps.{run}
-use Rattle.jup_world.specs.BoardWorlds.{BoardWorld, BoardEvent}
-use Rattle.jup_world.specs.Happenings.{IsSpared}
+use Rattle.jup_world.specs.BoardWorlds.{BoardEvent}
+use Rattle.jup_world.specs.LaneWorlds.{Plain, LaneWorld}
+use Rattle.jup_world.specs.LaneSteps.{AllSteps, IsSparedBy}
 
 -- an event that delivers a message
 abbrev pub IsDelivery : BoardEvent → Type 0
@@ -21,13 +20,15 @@ AreDeliveries [] = Unit {0}
 AreDeliveries (event ∷ events) = IsDelivery event × AreDeliveries events
 
 -- a world is another after some deliveries
-pub record IsDelivered (w v : BoardWorld) : Type 0 where
+pub record IsDelivered (w v : LaneWorld) : Type 0 where
   pub events : List BoardEvent
   pub deliveries : AreDeliveries events
-  pub is : v ≡ run board_operations w events
+  pub steps : AllSteps w (map (λ e. Plain e) events) v
 
--- or is so but for a message that was fetched before memory was refused
-pub record IsDeliveredInPart (w v : BoardWorld) : Type 0 where
-  pub events : List BoardEvent
-  pub deliveries : AreDeliveries events
-  pub spared : IsSpared (run board_operations w events) v
+-- or memory was refused at the next of some
+pub record IsDeliveredInPart (w v : LaneWorld) : Type 0 where
+  pub between : LaneWorld
+  pub delivered : IsDelivered w between
+  pub event : BoardEvent
+  pub delivery : IsDelivery event
+  pub spared : IsSparedBy between (Plain event) v

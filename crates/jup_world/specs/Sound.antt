@@ -1,15 +1,17 @@
--- What holds of every world: the two ends of each link are in step, and the operations on their way mean what their sites made.
+-- What holds of every star, whoever sends to it; and of every world: the two ends of each link are in step, and the operations on their way mean what their sites made.
 use Rattle.std.specs.Prelude.{◌≡◌, ℕ, ◌+◌, ◌≤◌, ◌<◌, ◌⊎◌, false, cond, List, [], ◌∷◌, ◌++◌, length, take, drop, nat_eq, IsTrue, Option, Some, None}
+use Rattle.jup_xform.specs.Rows.{row_operation}
 use Rattle.jup_xform.specs.declared.row.Side.TheVariants.{Client, Server}
 use Rattle.jup_link.specs.Links.{Message, Operation, Ack, generated}
 use Rattle.jup_link.specs.InStep.{InStepAt}
 use Rattle.jup_window.specs.Operations.{Operations}
+use Rattle.jup_star.specs.declared.messages.Entry.{Entry}
 use Rattle.jup_star.specs.LinkStates.{LinkState}
-use Rattle.jup_star.specs.StarStates.{link_of}
+use Rattle.jup_star.specs.StarStates.{StarOf, link_of}
 use Rattle.jup_star.specs.Streams.{ups, downs}
 use Rattle.jup_world.specs.Each.{Each}
 use Rattle.jup_world.specs.Turns.{Turn, Own, Other, turns, edits, own_edits, others, through_others}
-use Rattle.jup_world.specs.Meanings.{RowStands, Shows}
+use Rattle.jup_world.specs.Meanings.{SameMeaning, RowStands, Shows}
 use Rattle.jup_world.specs.WorldStates.{WorldOf, AttachedOf, attached}
 use Rattle.jup_world.specs.Traces.{order_of, made, joined_at, shown_count}
 
@@ -124,24 +126,62 @@ module _ (O : Operations) where
   StandsAt most first ts held mine joined shown i (Some l) None = ⊥
   StandsAt most first ts held mine joined shown i (Some l) (Some a) = Standing most first ts held mine joined shown i l a
 
+  -- how many insertions of a site are in an order
+  abbrev pub named_in : List (Entry O.Edit) → ℕ → ℕ
+  named_in order j = named_by 0 j (turns 0 order)
+
+  -- the edits of an order
+  abbrev pub edits_in : List (Entry O.Edit) → List O.Edit
+  edits_in order = edits (turns 0 order)
+
+  -- An operation of a queue: what is left, past some operations, of the one that the star applied for an entry of its order. Where
+  -- the star applied that, it meant the entry.
+  pub record IsMoved (es : List O.Edit) (b : O.Op) : Type 0 where
+    pub before : List O.Edit
+    pub meant : O.Edit
+    pub later : List O.Edit
+    pub applied : O.Op
+    pub past : List O.Op
+    pub stands : es ≡ before ++ meant ∷ later
+    pub same : SameMeaning O (before ++ O.t.edit_of applied ∷ []) (before ++ meant ∷ [])
+    pub is : b ≡ row_operation O.t.server_past applied past
+
+  -- a link, whoever is at its far end
+  pub record IsSoundLink (order : List (Entry O.Edit)) (i : ℕ) (l : LinkState O.Op) : Type 0 where
+    pub side : l.end.side ≡ Server
+    pub positive : 1 ≤ i
+    pub named : l.named ≡ named_in order i
+    pub moved : Each (IsMoved (edits_in order)) l.end.outgoing
+    pub known : Each (λ b. ChangesKnown (named_in order) (O.t.edit_of b)) l.end.outgoing
+
+  abbrev pub SoundLinkAt : List (Entry O.Edit) → ℕ → Option (LinkState O.Op) → Type 0
+  SoundLinkAt order i None = Unit {0}
+  SoundLinkAt order i (Some l) = IsSoundLink order i l
+
+  -- a star, whoever sends to it: `first` is what it was opened with, and `most` how small that is
+  pub record IsSoundStar (most : ℕ) (first : O.t.Content) (s : StarOf O) : Type 0 where
+    pub content_is : O.t.content s.board ≡ O.t.meaning first (edits_in s.order)
+    pub distinct : O.t.is_distinct s.board
+    pub room : ℕ
+    pub small : O.t.is_small room s.board
+    pub enough : room + length s.order ≡ most
+    pub few : length s.order ≤ s.limit
+    pub limited : s.limit + 1026 ≤ most
+    pub counted : most ≤ 4294967295
+    pub board_known : HoldsKnown (named_in s.order) s.board
+    pub order_known : Each (ChangesKnown (named_in s.order)) (edits_in s.order)
+    pub links : (i : ℕ) → SoundLinkAt s.order i (link_of i s.links)
+    -- numbers that were not given yet
+    pub no_link : (i : ℕ) → s.given < i → link_of i s.links ≡ None
+    pub no_name : (i : ℕ) → s.given < i → named_in s.order i ≡ 0
+
   -- All that holds of a world at every moment; `most` is how small its opening board is.
   pub record IsSound (most : ℕ) (w : WorldOf O) : Type 0 where
     pub order_is : order_of w.trace ≡ w.star.order
-    pub content_is : O.t.content w.star.board ≡ O.t.meaning (O.t.content w.opening) (edits (turns 0 w.star.order))
-    pub distinct : O.t.is_distinct w.star.board
-    pub room : ℕ
-    pub small : O.t.is_small room w.star.board
-    pub enough : room + length w.star.order ≡ most
-    pub few : length w.star.order ≤ w.star.limit
-    pub limited : w.star.limit + 1026 ≤ most
-    pub counted : most ≤ 4294967295
-    pub board_known : HoldsKnown (λ j. named_by 0 j (turns 0 w.star.order)) w.star.board
-    pub order_known : Each (ChangesKnown (λ j. named_by 0 j (turns 0 w.star.order))) (edits (turns 0 w.star.order))
+    pub star : IsSoundStar most (O.t.content w.opening) w.star
     pub stand : (i : ℕ) → StandsAt most (O.t.content w.opening) (turns i w.star.order) w.star.board (made i w.trace) (joined_at i w.trace) (shown_count i w.trace) i
         (link_of i w.star.links) (attached i w.sites)
     -- numbers that were not given yet
-    pub no_link : (i : ℕ) → w.star.given < i → link_of i w.star.links ≡ None
     pub no_edit : (i : ℕ) → w.star.given < i → made i w.trace ≡ []
     pub no_shown : (i : ℕ) → w.star.given < i → shown_count i w.trace ≡ 0
     pub no_entry : (i : ℕ) → w.star.given < i → own_edits (turns i w.star.order) ≡ []
-    pub no_name : (i : ℕ) → w.star.given < i → named_by i i (turns i w.star.order) ≡ 0

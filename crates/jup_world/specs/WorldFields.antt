@@ -1,11 +1,12 @@
 -- A world of the program as its definitions see it.
-use Rattle.jup_window.specs.declared.board_operations.BoardOp.{BoardOp}
-use Rattle.jup_window.specs.Boards.{Windows}
 use Rattle.jup_world.specs.declared.world.attached.Attached.{Attached}
-use Rattle.jup_lane.specs.Lanes.{messages}
-use Rattle.jup_lane.specs.Messages.{ups, downs}
-use Rattle.jup_world.specs.WorldStates.{AttachedState}
+use Rattle.jup_world.specs.LaneWorlds.{LaneSite, bare_site}
+use Rattle.jup_world.specs.BoardWorlds.{BoardAttached}
 
--- a site with its streams, without the room that they keep
-abbrev pub bare_attached : Attached → AttachedState BoardOp Windows
-bare_attached a = record { site = a.site; up = messages ups a.up.way; down = messages downs a.down.way }
+-- a site with the two ways of its link, without the room that they keep
+abbrev pub lane_of : Attached → LaneSite
+lane_of a = record { site = a.site; up = a.up.way; down = a.down.way }
+
+-- with the messages that stand on them
+abbrev pub bare_attached : Attached → BoardAttached
+bare_attached a = bare_site (lane_of a)

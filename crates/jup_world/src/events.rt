@@ -20,6 +20,11 @@ pub enum Event<C = Command> {
     Down(u32),
     /// This site sends a ping of this number.
     Ping(u32, u32),
+    /// Up to so many bytes of this site's up stream are moved to the star's reader.
+    PushUp(u32, u32),
+    /// Up to so many bytes of this site's down stream are moved to its reader. A stream that has none is
+    /// filled first with the oldest message of the site's outbox.
+    PushDown(u32, u32),
 }
 
 /// What an event answers.
@@ -41,12 +46,14 @@ pub enum Reply<E = Edit, F = EditFault> {
     /// The site was handed an edit of another site.
     Shown,
     Asked,
-    /// There is no such site, or no message to it or from it.
+    /// So many bytes were moved to a reader.
+    Moved(u32),
+    /// There is no such site, or no message to it or from it, or no byte was moved.
     Nothing,
 }
 
 impl Reply {
-    /// Whether there was no such site, or no message to it or from it.
+    /// Whether there was no such site, or no message to it or from it, or no byte was moved.
     pub fn is_nothing(&self) -> bool
         ensures { IsTrue result ↔ (self.now ≡ nothing) }
     {
@@ -61,7 +68,8 @@ impl Reply {
             | Reply::Heard
             | Reply::Detached(_)
             | Reply::Shown
-            | Reply::Asked => false,
+            | Reply::Asked
+            | Reply::Moved(_) => false,
         }
     }
 }

@@ -1,7 +1,8 @@
 //! Whole runs of the system, and the scripts that play them.
 //!
 //! A [`World`] is a star with its sites, played by [`Event`]s; whenever no message is on its way all its
-//! boards are equal ([`World::quiet`]). [`worlds_agree`] is what every list of events keeps, as a theorem.
+//! boards are equal ([`World::quiet`]). [`worlds_agree`] is what every list of events keeps, as a theorem, and
+//! [`bytes_agree`] the same of bytes.
 //! [`Two`] plays one link, and [`run_script`] plays scripts.
 #![tactic(auto)]
 
@@ -15,7 +16,7 @@ mod world;
 pub use events::{Event, Happened, Reply};
 pub use jup_text::{read_command, write_board, write_edit};
 pub use pair::{pair_slider, pair_toggle};
-pub use promises::worlds_agree;
+pub use promises::{bytes_agree, worlds_agree};
 pub use script::{ScriptEnd, run_script};
 pub use two::{Two, TwoEdit, TwoEvent, TwoReply};
-pub use world::{Halted, World};
+pub use world::{Attached, Halted, World, star_refusal};

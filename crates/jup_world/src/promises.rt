@@ -1,12 +1,18 @@
 //! What every world keeps, whatever happens in it.
 
-ghost use Rattle.std.specs.Prelude.{List};
+ghost use Rattle.std.specs.Prelude.{◌≡◌, List, length};
 ghost use Rattle.jup_window.specs.BoardOperations.{board_operations};
 ghost use Rattle.jup_world.specs.BoardWorlds.{BoardWorld, BoardEvent, IsReached};
 ghost use Rattle.jup_world.specs.WorldSteps.{outcome, run};
 ghost use Rattle.jup_world.specs.Promises.{Promises, OrderIsKept};
 ghost use Rattle.jup_world.specs.Replies.{RepliesTo};
 ghost use Rattle.jup_world.specs.Backlogs.{BacklogIsShort};
+ghost use Rattle.jup_world.specs.Headline.{AllAgree};
+ghost use Rattle.jup_world.specs.LaneWorlds.{LaneEvent, LaneWorld, IsStill, messages_of};
+ghost use Rattle.jup_world.specs.LaneSteps.{AllSteps};
+ghost use Rattle.jup_world.specs.LaneHappenings.{IsLaneWorld};
+ghost use Rattle.jup_lane.specs.Lanes.{Way, Carries, messages};
+ghost use Rattle.jup_lane.specs.Messages.{ups, downs};
 
 /// After any list of joins, departures, edits, pings and deliveries:
 ///
@@ -27,4 +33,19 @@ pub fn worlds_agree()
     ensures backlog { (w : BoardWorld) → IsReached w → BacklogIsShort board_operations w }
     ensures order { (w : BoardWorld) → IsReached w → (events : List BoardEvent)
         → OrderIsKept board_operations w (run board_operations w events) }
+{}
+
+/// After any list of events, pushes among them, in a world whose links carry bytes:
+///
+/// - wherever no byte is on its way, the star and all attached sites agree;
+/// - the star and each site that is attached before and after keep the order of their items;
+/// - the messages on a way of a link, and how many of their bytes its reader has, leave no byte of it open.
+///
+/// It does nothing: its contract is the theorem.
+pub fn bytes_agree()
+    ensures agree { (events : List LaneEvent) (w v : LaneWorld) → IsLaneWorld w → AllSteps w events v → IsStill v → AllAgree (messages_of v) }
+    ensures order { (events : List LaneEvent) (w v : LaneWorld) → IsLaneWorld w → AllSteps w events v
+        → OrderIsKept board_operations (messages_of w) (messages_of v) }
+    ensures up { (a b : Way) → Carries ups a → Carries ups b → messages ups a ≡ messages ups b → length a.read ≡ length b.read → a ≡ b }
+    ensures down { (a b : Way) → Carries downs a → Carries downs b → messages downs a ≡ messages downs b → length a.read ≡ length b.read → a ≡ b }
 {}

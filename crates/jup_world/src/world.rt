@@ -9,16 +9,14 @@ ghost use Rattle.jup_star.specs.StarCalls.{star_open_fault};
 ghost use Rattle.jup_star.specs.declared.faults.OpenFault.TheVariants as open_fault;
 ghost use Rattle.jup_star.specs.Openings.{IsShort};
 ghost use Rattle.jup_world.specs.Turns.{turns, edits};
-ghost use Rattle.jup_world.specs.WorldStates.{attached, opened_world, IsQuiet};
-ghost use Rattle.jup_world.specs.WorldSteps.{outcome, happens};
 ghost use Rattle.jup_world.specs.Traces.{order_of, view};
-ghost use Rattle.jup_world.specs.NumberedReplies.{plain_event, numbered_reply, numbered_trace};
-ghost use Rattle.jup_world.specs.Replies.{RepliesTo};
+ghost use Rattle.jup_world.specs.NumberedReplies.{lane_event, numbered_reply, noted_trace};
 ghost use Rattle.jup_world.specs.Promises.{OrderIsKept};
 ghost use Rattle.jup_world.specs.Headline.{AllAgree};
-ghost use Rattle.jup_world.specs.Happenings.{IsSpared};
+ghost use Rattle.jup_world.specs.LaneWorlds.{messages_of, plain_trace, lane_site, opened_lanes, IsStill};
+ghost use Rattle.jup_world.specs.LaneSteps.{lane_outcome, Steps, AnswersTo, IsSparedBy};
 
-use self::attached::{Attached, are_quiet};
+use self::attached::are_quiet;
 use self::happening::happen;
 use crate::{Event, Happened, Reply};
 use jup_star::{OpenFault, Site, Star, is_short};
@@ -33,12 +31,14 @@ mod draining;
 mod happening;
 mod refusals;
 
+pub use attached::Attached;
 pub use draining::Halted;
+pub use refusals::star_refusal;
 
-/// A star, the sites that are attached to it, and for each an up stream and a down stream.
+/// A star, the sites that are attached to it, and for each the two ways of its link, as bytes.
 ///
-/// Its links lose nothing and keep their order: a stream is a list that is appended at one end and read at
-/// the other.
+/// Its links lose nothing and keep their order: a stream is a list of bytes that is appended at one end and
+/// read at the other.
 #[derive(Drop)]
 pub struct World {
     opening: Board,
@@ -50,33 +50,33 @@ pub struct World {
 impl Model for World {
     ghost use Rattle.std.specs.Prelude.{map};
     ghost use Rattle.jup_window.specs.Boards.{bare};
-    ghost use Rattle.jup_world.specs.BoardWorlds.{BoardWorld};
-    ghost use Rattle.jup_world.specs.WorldFields.{bare_attached};
-    ghost use Rattle.jup_world.specs.NumberedReplies.{numbered_trace};
-    ghost use Rattle.jup_world.specs.Happenings.{IsWorld};
+    ghost use Rattle.jup_world.specs.WorldFields.{lane_of};
+    ghost use Rattle.jup_world.specs.NumberedReplies.{noted_trace};
+    ghost use Rattle.jup_world.specs.LaneWorlds.{LaneWorld};
+    ghost use Rattle.jup_world.specs.LaneHappenings.{IsLaneWorld};
 
-    ghost Value = { BoardWorld };
+    ghost Value = { LaneWorld };
 
     ghost view = { λ w. record {
       opening = bare w.opening;
       star = w.star;
-      sites = map bare_attached w.sites.items;
-      trace = numbered_trace w.trace.items;
+      sites = map lane_of w.sites.items;
+      trace = noted_trace w.trace.items;
     } };
 
-    ghost invariant = { λ w. IsWorld (record {
+    ghost invariant = { λ w. IsLaneWorld (record {
       opening = bare w.opening;
       star = w.star;
-      sites = map bare_attached w.sites.items;
-      trace = numbered_trace w.trace.items;
+      sites = map lane_of w.sites.items;
+      trace = noted_trace w.trace.items;
     }) };
 }
 
 // Puts an event with its reply at the end of a trace that has room for it.
 fn note(trace: &mut Vec<Happened>, event: &Event, reply: &Reply)
     requires { vec_len trace.old < vec_capacity trace.old }
-    ensures { numbered_trace trace.new.items
-        ≡ numbered_trace trace.old.items ++ record { event = plain_event event.now; reply = numbered_reply reply.now } ∷ [] }
+    ensures { noted_trace trace.new.items
+        ≡ noted_trace trace.old.items ++ record { event = lane_event event.now; reply = numbered_reply reply.now } ∷ [] }
 {
     // The checker learns of the types within an event from this.
     let _within: PhantomData<(Value, Setting, Label, Effect, Edit)> = PhantomData;
@@ -92,7 +92,7 @@ impl World {
     /// that is not of a layout, whose items have site 0, no memory.
     pub fn open(alloc: Global, board: Board, limit: u32) -> Result<World, OpenFault>
         requires short { EachWidget IsShort board }
-        ensures opened { IfOk result (λ world. world ≡ opened_world board_operations (bare board) limit) }
+        ensures opened { IfOk result (λ world. world ≡ opened_lanes (bare board) limit) }
         ensures accepts { OnOk result (star_open_fault (bare board) limit ≡ None) }
         ensures refusal { IfErr result (λ fault. ((fault ≡ open_fault.NoMemory) × (star_open_fault (bare board) limit ≡ None))
             ⊎ (star_open_fault (bare board) limit ≡ Some fault)) }
@@ -112,14 +112,15 @@ impl World {
         })
     }
 
-    /// Plays one event, which then stands in the trace with its reply. Where memory is refused nothing has
-    /// changed, but that one message may stand in a down stream that stood in that site's outbox.
+    /// Plays one event, which then stands in the trace with its reply. Where memory is refused all is as it
+    /// was; but `Up`, `Down` and `PushDown` may have moved bytes on their own way of their site's link from the
+    /// stream to the reader, and the latter two may have filled its down stream from its outbox.
     pub fn step(&mut self, alloc: Global, event: &Event) -> Result<Reply, NoMemory>
-        ensures reply { IfOk result (λ reply. numbered_reply reply ≡ (outcome board_operations self.old (plain_event event.now)).reply) }
-        ensures withheld { IfOk result (λ reply. RepliesTo board_operations self.old (plain_event event.now) (numbered_reply reply)) }
-        ensures ok { OnOk result (self.new ≡ happens board_operations self.old (plain_event event.now)) }
-        ensures err { OnErr result (IsSpared self.old self.new) }
-        ensures order { OrderIsKept board_operations self.old self.new }
+        ensures reply { IfOk result (λ reply. numbered_reply reply ≡ (lane_outcome self.old (lane_event event.now)).reply) }
+        ensures withheld { IfOk result (λ reply. AnswersTo self.old (lane_event event.now) (numbered_reply reply)) }
+        ensures ok { OnOk result (Steps self.old (lane_event event.now) self.new) }
+        ensures err { OnErr result (IsSparedBy self.old (lane_event event.now) self.new) }
+        ensures order { OrderIsKept board_operations (messages_of self.old) (messages_of self.new) }
     {
         self.trace.reserve(1).map_err(|_| NoMemory)?;
         let reply = happen(alloc, &mut self.star, &mut self.sites, event)?;
@@ -127,7 +128,8 @@ impl World {
         Ok(reply)
     }
 
-    /// Whether no message is on its way: neither in a stream nor in an outbox.
+    /// Whether no message is on its way, down to the byte: no attached link has a byte in a stream, a part of
+    /// a line in a reader, a line in a tray, or a message in its outbox.
     ///
     /// After every list of joins, departures, local edits and deliveries over links that lose nothing and
     /// keep their order, whenever no message is on its way the server and all attached sites hold equal
@@ -136,15 +138,15 @@ impl World {
     /// clause `agree` says so, and `order` of [`World::step`], [`World::run`] and [`World::drain`] that none
     /// is reordered.
     pub fn quiet(&self) -> bool
-        ensures quiet { IsTrue result ↔ IsQuiet board_operations self.now }
-        ensures agree { IsTrue result → AllAgree self.now }
+        ensures quiet { IsTrue result ↔ IsStill self.now }
+        ensures agree { IsTrue result → AllAgree (messages_of self.now) }
     {
         are_quiet(&self.sites, &self.star)
     }
 
     /// What has happened, oldest first.
     pub fn trace(&self) -> &[Happened]
-        ensures { numbered_trace result.now ≡ self.now.trace }
+        ensures { noted_trace result.now ≡ self.now.trace }
     {
         &self.trace
     }
@@ -160,8 +162,8 @@ impl World {
     /// order means.
     pub fn star(&self) -> &Star
         ensures star { result.now ≡ self.now.star }
-        ensures order { result.now.order ≡ order_of self.now.trace }
-        ensures content { content result.now.board ≡ meaning (content self.now.opening) (edits (turns 0 (order_of self.now.trace))) }
+        ensures order { result.now.order ≡ order_of (plain_trace self.now.trace) }
+        ensures content { content result.now.board ≡ meaning (content self.now.opening) (edits (turns 0 (order_of (plain_trace self.now.trace)))) }
     {
         &self.star
     }
@@ -175,8 +177,8 @@ impl World {
     /// its own edits that are not among them, mean; and its backlog is the edits that it made less those
     /// that it was told are taken.
     pub fn site(&self, number: u32) -> Option<&Site>
-        ensures site { option_copied result ≡ option_map (λ a. a.site) (attached number self.now.sites) }
-        ensures content { IfSome result (λ site. content site.now.board ≡ meaning (content self.now.opening) (view number self.now.trace)) }
+        ensures site { option_copied result ≡ option_map (λ a. a.site) (lane_site number self.now.sites) }
+        ensures content { IfSome result (λ site. content site.now.board ≡ meaning (content self.now.opening) (view number (plain_trace self.now.trace))) }
         ensures backlog { IfSome result (λ site. site.now.made ≡ site.now.end.acknowledged + length site.now.end.outgoing) }
     {
         let at = attached::place_of(&self.sites, number)?;

@@ -10,6 +10,8 @@ mod lanes;
 #[cfg(test)]
 mod messages;
 #[cfg(test)]
+mod pushes;
+#[cfg(test)]
 mod scripts;
 #[cfg(test)]
 mod star_scripts;

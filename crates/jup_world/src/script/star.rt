@@ -120,11 +120,25 @@ fn event_of(line: &str) -> Option<Event> {
         ("up", site) => Some(Event::Up(read_number(site)?)),
         ("down", site) => Some(Event::Down(read_number(site)?)),
         ("ping", ping) => {
-            let (site, count) = ping.split_once(' ')?;
-            Some(Event::Ping(read_number(site)?, read_number(count)?))
+            let (site, count) = read_pair(ping)?;
+            Some(Event::Ping(site, count))
+        }
+        ("pushup", push) => {
+            let (site, most) = read_pair(push)?;
+            Some(Event::PushUp(site, most))
+        }
+        ("pushdown", push) => {
+            let (site, most) = read_pair(push)?;
+            Some(Event::PushDown(site, most))
         }
         _ => None,
     }
+}
+
+// Two numbers with a space between them.
+fn read_pair(text: &str) -> Option<(u32, u32)> {
+    let (first, second) = text.split_once(' ')?;
+    Some((read_number(first)?, read_number(second)?))
 }
 
 // Plays one event, and prints its reply.
@@ -154,7 +168,9 @@ fn site_of(event: &Event) -> u32 {
         | Event::Edit(site, _)
         | Event::Up(site)
         | Event::Down(site)
-        | Event::Ping(site, _) => *site,
+        | Event::Ping(site, _)
+        | Event::PushUp(site, _)
+        | Event::PushDown(site, _) => *site,
     }
 }
 
@@ -181,6 +197,7 @@ impl fmt::Display for PrintedReply {
             Reply::Detached(fault) => write_numbered(f, "detached", fault.number()),
             Reply::Shown => write!(f, "shown"),
             Reply::Asked => write!(f, "asked"),
+            Reply::Moved(count) => write_numbered(f, "moved", *count),
             Reply::Nothing => write!(f, "nothing"),
         }
     }

@@ -1,17 +1,20 @@
 //! An attached site with its streams.
-ghost use Rattle.std.specs.Prelude.{◌≡◌, ◌↔◌, ◌<◌, ◌≤◌, ◌++◌, true, false, [], map, length, Some, None, is_some, nat_eq, position, MatchOption, IsTrue, IfSome, IfOk, IfErr, OnOk, OnErr};
+ghost use Rattle.std.specs.Prelude.{◌≡◌, ◌↔◌, ◌<◌, ◌≤◌, ◌+◌, ◌-◌, ◌^◌, ◌++◌, true, false, ℕ, [], map, min, length, Some, None, is_some, nat_eq, position, MatchOption, IsTrue, IfSome, IfOk, IfErr, OnOk, OnErr};
 ghost use Rattle.jup_window.specs.BoardOperations.{board_operations};
 ghost use Rattle.jup_star.specs.StarStates.{link_of};
 ghost use Rattle.jup_star.specs.SiteStates.{edit_answer};
 ghost use Rattle.jup_star.specs.StarCalls.{BoardLink, is_no_memory};
-ghost use Rattle.jup_lane.specs.Lanes.{messages};
+ghost use Rattle.jup_lane.specs.Codecs.{bytes_of_all};
+ghost use Rattle.jup_lane.specs.Lanes.{no_bytes, messages, sent, oldest_length, Carries};
 ghost use Rattle.jup_lane.specs.Messages.{ups, downs};
 ghost use Rattle.jup_world.specs.WorldStates.{attached};
 ghost use Rattle.jup_world.specs.WorldSteps.{one_taken, place_reply, pinged};
 ghost use Rattle.jup_world.specs.Replies.{edit_reply};
 ghost use Rattle.jup_world.specs.NumberedReplies.{numbered_reply};
 ghost use Rattle.jup_world.specs.SiteNumbers.{AreAscending, IsSiteAt};
-ghost use Rattle.jup_world.specs.WorldFields.{bare_attached};
+ghost use Rattle.jup_world.specs.WorldFields.{lane_of, bare_attached};
+ghost use Rattle.jup_world.specs.LaneSteps.{push_reply, filled_stream};
+ghost use Rattle.jup_world.specs.LaneHappenings.{IsRead, IsMovedUp, IsMovedDown, IsRefilled, IsFilledDown, RestsDown, FillsAt, with_filled, star_filled};
 ghost use Rattle.jup_world.specs.Happenings.{with_answer, Rises, IsRefused, refilled, refilled_star, first_reply, handed, FirstFits, SparesAt, IsQuietAt, AllQuiet};
 
 use super::refusals::edit_refusal;
@@ -29,10 +32,10 @@ use std::marker::PhantomData;
 /// A site, what it sent that the star has not taken, and what was fetched for it that it was not handed,
 /// each oldest first.
 #[derive(Drop)]
-pub(crate) struct Attached {
-    pub(crate) site: Site,
-    pub(crate) up: Lane<Up>,
-    pub(crate) down: Lane<Down>,
+pub struct Attached {
+    pub site: Site,
+    pub up: Lane<Up>,
+    pub down: Lane<Down>,
     // The checker learns of the types within messages from a field that names them.
     within: PhantomData<(SeqOp<Label>, WidgetOp, BoardOp, Msg<BoardOp>, Effect, Edit)>,
 }
@@ -95,11 +98,24 @@ pub(crate) fn are_quiet(sites: &[Attached], star: &Star) -> bool
     true
 }
 
+// What a push of so many bytes answers.
+fn pushed(count: usize) -> Reply
+    requires { count < 2 ^ 32 }
+    ensures { numbered_reply result ≡ push_reply count }
+{
+    match count {
+        0 => Reply::Nothing,
+        _ => Reply::Moved(count as u32),
+    }
+}
+
 // Writes a message that was fetched, if one was.
 fn send_one(lane: &mut Lane<Down>, fetched: &[Down])
     requires room { MOST_MESSAGE ≤ lane.old.spare }
     requires one { length fetched.now ≤ 1 }
-    ensures { messages downs lane.new.way ≡ messages downs lane.old.way ++ fetched.now }
+    ensures way { lane.new.way ≡ sent (bytes_of_all downs fetched.now) lane.old.way }
+    ensures messages { messages downs lane.new.way ≡ messages downs lane.old.way ++ fetched.now }
+    ensures carry { Carries downs lane.old.way → Carries downs lane.new.way }
 {
     if let Some(down) = fetched.first() {
         lane.send(down);
@@ -108,8 +124,9 @@ fn send_one(lane: &mut Lane<Down>, fetched: &[Down])
 
 impl Attached {
     /// A site that has just joined.
-    pub(crate) fn new(alloc: Global, site: Site) -> Attached
-        ensures { bare_attached result ≡ record { site = site; up = []; down = [] } }
+    pub fn new(alloc: Global, site: Site) -> Attached
+        ensures messages { bare_attached result ≡ record { site = site; up = []; down = [] } }
+        ensures bytes { lane_of result ≡ record { site = site; up = no_bytes; down = no_bytes } }
     {
         Attached {
             site,
@@ -120,12 +137,14 @@ impl Attached {
     }
 
     /// The site makes the edit of a command, and its message goes last into the up stream.
-    pub(crate) fn edit(&mut self, alloc: Global, command: &Command) -> Result<Reply, NoMemory>
+    pub fn edit(&mut self, alloc: Global, command: &Command) -> Result<Reply, NoMemory>
         ensures reply { IfOk result (λ reply. numbered_reply reply
             ≡ edit_reply board_operations (edit_answer board_operations command.now self.old.site)) }
         ensures ok { OnOk result (bare_attached self.new
             ≡ with_answer (edit_answer board_operations command.now self.old.site) (bare_attached self.old)) }
+        ensures read { OnOk result (IsRead (lane_of self.old) (length self.old.up.way.read) (length self.old.down.way.read) (lane_of self.new)) }
         ensures err { OnErr result (bare_attached self.new ≡ bare_attached self.old) }
+        ensures same { OnErr result (lane_of self.new ≡ lane_of self.old) }
     {
         self.up.reserve()?;
         match self.site.edit(alloc, command) {
@@ -140,7 +159,9 @@ impl Attached {
     /// The site sends a ping.
     pub(crate) fn ping(&mut self, count: u32) -> Result<(), NoMemory>
         ensures ok { OnOk result (bare_attached self.new ≡ pinged board_operations count (bare_attached self.old)) }
+        ensures read { OnOk result (IsRead (lane_of self.old) (length self.old.up.way.read) (length self.old.down.way.read) (lane_of self.new)) }
         ensures err { OnErr result (bare_attached self.new ≡ bare_attached self.old) }
+        ensures same { OnErr result (lane_of self.new ≡ lane_of self.old) }
     {
         self.up.reserve()?;
         self.up.send(&Up::Ping(count));
@@ -148,13 +169,16 @@ impl Attached {
     }
 
     /// Moves the oldest message up: the star takes it, or refuses it.
-    pub(crate) fn move_up(&mut self, alloc: Global, star: &mut Star) -> Result<Reply, StarFault>
+    pub fn move_up(&mut self, alloc: Global, star: &mut Star) -> Result<Reply, StarFault>
         ensures taken { IfOk result (λ reply. Rises self.old.site.number (messages ups self.old.up.way) star.old star.new (numbered_reply reply)) }
         ensures refused { IfErr result (λ fault. is_no_memory fault ≡ false
             → IsRefused self.old.site.number (messages ups self.old.up.way) star.old star.new fault) }
         ensures memory { IfErr result (λ fault. is_no_memory fault ≡ true → star.new ≡ star.old) }
         ensures ok { OnOk result (bare_attached self.new ≡ one_taken board_operations (bare_attached self.old)) }
+        ensures read { OnOk result (IsRead (lane_of self.old)
+            (length self.old.up.way.read - oldest_length ups (messages ups self.old.up.way)) (length self.old.down.way.read) (lane_of self.new)) }
         ensures err { OnErr result (bare_attached self.new ≡ bare_attached self.old) }
+        ensures moved { OnErr result (IsMovedUp (lane_of self.old) (lane_of self.new)) }
     {
         let first = match self.up.first(alloc) {
             Ok(first) => first,
@@ -172,8 +196,8 @@ impl Attached {
     }
 
     /// Moves the oldest message on its way down: fetches it if the down stream is empty, and hands it to
-    /// the site. Where memory is refused, it may have been fetched.
-    pub(crate) fn move_down(&mut self, alloc: Global, star: &mut Star) -> Result<Reply, NoMemory>
+    /// the site. Where memory is refused, it may have been fetched, and some of its bytes moved.
+    pub fn move_down(&mut self, alloc: Global, star: &mut Star) -> Result<Reply, NoMemory>
         requires linked { is_some (link_of self.old.site.number star.old.links) ≡ true }
         requires fits { (l : BoardLink) → link_of self.old.site.number star.old.links ≡ Some l
             → FirstFits (refilled l (bare_attached self.old)) }
@@ -183,25 +207,50 @@ impl Attached {
             → bare_attached self.new ≡ handed (refilled l (bare_attached self.old))) }
         ensures star { OnOk result ((l : BoardLink) → link_of self.old.site.number star.old.links ≡ Some l
             → star.new ≡ refilled_star l (bare_attached self.old) star.old) }
+        ensures read { OnOk result ((l : BoardLink) → link_of self.old.site.number star.old.links ≡ Some l
+            → IsRead (lane_of self.old) (length self.old.up.way.read)
+            (length self.old.down.way.read - oldest_length downs (messages downs self.old.down.way ++ l.outbox)) (lane_of self.new)) }
         ensures err { OnErr result ((l : BoardLink) → link_of self.old.site.number star.old.links ≡ Some l
             → SparesAt l (bare_attached self.old) star.old (bare_attached self.new) star.new) }
+        ensures moved { OnErr result ((l : BoardLink) → link_of self.old.site.number star.old.links ≡ Some l
+            → RestsDown l (lane_of self.old) (lane_of self.new)) }
     {
         self.refill(alloc, star)?;
         self.hand(alloc)
     }
 
-    // Fetches the oldest message of the site's outbox, if the down stream is empty.
+    // Fetches the oldest message of the site's outbox, if nothing is on its way down.
     fn refill(&mut self, alloc: Global, star: &mut Star) -> Result<(), NoMemory>
         requires { is_some (link_of self.old.site.number star.old.links) ≡ true }
         ensures site { OnOk result ((l : BoardLink) → link_of self.old.site.number star.old.links ≡ Some l
             → bare_attached self.new ≡ refilled l (bare_attached self.old)) }
         ensures star { OnOk result ((l : BoardLink) → link_of self.old.site.number star.old.links ≡ Some l
             → star.new ≡ refilled_star l (bare_attached self.old) star.old) }
-        ensures same_site { OnErr result (bare_attached self.new ≡ bare_attached self.old) }
+        ensures filled { OnOk result ((l : BoardLink) → link_of self.old.site.number star.old.links ≡ Some l
+            → IsRefilled l (lane_of self.old) (lane_of self.new)) }
+        ensures same_site { OnErr result (lane_of self.new ≡ lane_of self.old) }
+        ensures same_star { OnErr result (star.new ≡ star.old) }
+    {
+        if self.down.is_idle() {
+            self.fill(alloc, star)?;
+        }
+        Ok(())
+    }
+
+    // Fetches the oldest message of the site's outbox, if the down stream has no byte.
+    fn fill(&mut self, alloc: Global, star: &mut Star) -> Result<(), NoMemory>
+        requires { is_some (link_of self.old.site.number star.old.links) ≡ true }
+        ensures site { OnOk result ((l : BoardLink) → link_of self.old.site.number star.old.links ≡ Some l
+            → bare_attached self.new ≡ with_filled self.old.down.way.stream l (bare_attached self.old)) }
+        ensures star { OnOk result ((l : BoardLink) → link_of self.old.site.number star.old.links ≡ Some l
+            → star.new ≡ star_filled self.old.site.number self.old.down.way.stream l.outbox star.old) }
+        ensures filled { OnOk result ((l : BoardLink) → link_of self.old.site.number star.old.links ≡ Some l
+            → IsFilledDown l (lane_of self.old) (lane_of self.new)) }
+        ensures same_site { OnErr result (lane_of self.new ≡ lane_of self.old) }
         ensures same_star { OnErr result (star.new ≡ star.old) }
     {
         let number = self.site.number();
-        if self.down.is_idle() && star.waiting(number) != Some(0) {
+        if self.down.is_stream_empty() && star.waiting(number) != Some(0) {
             self.down.reserve()?;
             let Ok(downs) = star.fetch(alloc, number, 1) else {
                 return Err(NoMemory);
@@ -217,7 +266,10 @@ impl Attached {
         requires { FirstFits (bare_attached self.old) }
         ensures reply { IfOk result (λ reply. numbered_reply reply ≡ first_reply (bare_attached self.old)) }
         ensures ok { OnOk result (bare_attached self.new ≡ handed (bare_attached self.old)) }
+        ensures read { OnOk result (IsRead (lane_of self.old) (length self.old.up.way.read)
+            (length self.old.down.way.read - oldest_length downs (messages downs self.old.down.way)) (lane_of self.new)) }
         ensures err { OnErr result (bare_attached self.new ≡ bare_attached self.old) }
+        ensures moved { OnErr result (IsMovedDown (lane_of self.old) (lane_of self.new)) }
     {
         let Some(down) = self.down.first(alloc)? else {
             return Ok(Reply::Nothing);
@@ -237,8 +289,48 @@ impl Attached {
         Ok(reply)
     }
 
+    /// Moves up to so many bytes of the up stream to the star's reader.
+    pub(crate) fn push_up(&mut self, alloc: Global, most: u32) -> Result<Reply, NoMemory>
+        ensures reply { IfOk result (λ reply. numbered_reply reply ≡ push_reply (min most (length self.old.up.way.stream))) }
+        ensures ok { OnOk result (bare_attached self.new ≡ bare_attached self.old) }
+        ensures read { OnOk result (IsRead (lane_of self.old)
+            (length self.old.up.way.read + min most (length self.old.up.way.stream)) (length self.old.down.way.read) (lane_of self.new)) }
+        ensures err { OnErr result (lane_of self.new ≡ lane_of self.old) }
+    {
+        let count = self.up.push(alloc, most)?;
+        Ok(pushed(count))
+    }
+
+    /// Moves up to so many bytes of the down stream, which is filled first if it has none, to the site's
+    /// reader. Where memory is refused, a message may have been fetched.
+    pub(crate) fn push_down(
+        &mut self,
+        alloc: Global,
+        star: &mut Star,
+        most: u32,
+    ) -> Result<Reply, NoMemory>
+        requires { is_some (link_of self.old.site.number star.old.links) ≡ true }
+        ensures reply { IfOk result (λ reply. (l : BoardLink) → link_of self.old.site.number star.old.links ≡ Some l
+            → numbered_reply reply ≡ push_reply (min most (length (filled_stream self.old.down.way.stream l.outbox)))) }
+        ensures site { OnOk result ((l : BoardLink) → link_of self.old.site.number star.old.links ≡ Some l
+            → bare_attached self.new ≡ with_filled self.old.down.way.stream l (bare_attached self.old)) }
+        ensures star { OnOk result ((l : BoardLink) → link_of self.old.site.number star.old.links ≡ Some l
+            → star.new ≡ star_filled self.old.site.number self.old.down.way.stream l.outbox star.old) }
+        ensures read { OnOk result ((l : BoardLink) → link_of self.old.site.number star.old.links ≡ Some l
+            → IsRead (lane_of self.old) (length self.old.up.way.read)
+            (length self.old.down.way.read + min most (length (filled_stream self.old.down.way.stream l.outbox))) (lane_of self.new)) }
+        ensures err { OnErr result ((l : BoardLink) → link_of self.old.site.number star.old.links ≡ Some l
+            → FillsAt l (bare_attached self.old) self.old.down.way.stream star.old (bare_attached self.new) star.new) }
+        ensures moved { OnErr result ((l : BoardLink) → link_of self.old.site.number star.old.links ≡ Some l
+            → RestsDown l (lane_of self.old) (lane_of self.new)) }
+    {
+        self.fill(alloc, star)?;
+        let count = self.down.push(alloc, most)?;
+        Ok(pushed(count))
+    }
+
     /// Whether no message is on its way from this site or to it.
-    pub(crate) fn is_quiet(&self, star: &Star) -> bool
+    pub fn is_quiet(&self, star: &Star) -> bool
         ensures { IsTrue result ↔ IsQuietAt (bare_attached self.now) star.now }
     {
         self.up.is_idle() && self.down.is_idle() && star.waiting(self.site.number()) == Some(0)

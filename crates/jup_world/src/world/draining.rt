@@ -1,15 +1,15 @@
 //! Runs of a world, and its draining.
-ghost use Rattle.std.specs.Prelude.{◌≡◌, ℕ, ◌<◌, ◌≤◌, length, map, take, Some, IsFalse, OnOk, OnErr, IfOk, IfErr};
+ghost use Rattle.std.specs.Prelude.{◌≡◌, ℕ, ◌<◌, ◌≤◌, length, map, Some, IsFalse, OnOk, OnErr, IfOk, IfErr};
 ghost use Rattle.jup_window.specs.BoardOperations.{board_operations};
-ghost use Rattle.jup_world.specs.WorldStates.{attached, IsQuiet};
-ghost use Rattle.jup_world.specs.NumberedReplies.{plain_event};
-ghost use Rattle.jup_world.specs.WorldSteps.{outcome, run};
+ghost use Rattle.jup_world.specs.WorldStates.{IsQuiet};
+ghost use Rattle.jup_world.specs.NumberedReplies.{lane_event};
+ghost use Rattle.jup_world.specs.WorldSteps.{outcome};
 ghost use Rattle.jup_world.specs.Promises.{OrderIsKept};
-ghost use Rattle.jup_world.specs.Happenings.{IsSpared};
-ghost use Rattle.jup_world.specs.Runs.{IsDelivery, IsDelivered, IsDeliveredInPart};
+ghost use Rattle.jup_world.specs.LaneWorlds.{Plain, LaneSite, messages_of, lane_site, IsStill};
+ghost use Rattle.jup_world.specs.LaneSteps.{AllSteps, IsHalted};
+ghost use Rattle.jup_world.specs.Runs.{IsDelivered, IsDeliveredInPart};
 ghost use Rattle.jup_world.specs.Drains.{way_event, Settles, MovesNothing, NothingMoves};
 ghost use Rattle.jup_world.specs.Events.{Nothing};
-ghost use Rattle.jup_world.specs.BoardWorlds.{BoardAttached};
 
 use super::World;
 use crate::Event;
@@ -35,7 +35,7 @@ enum Way {
 impl Way {
     // The delivery at a site.
     fn event(self, number: u32) -> Event
-        ensures { plain_event result ≡ way_event self number }
+        ensures { lane_event result ≡ Plain (way_event self number) }
     {
         match self {
             Way::Up => Event::Up(number),
@@ -47,10 +47,10 @@ impl Way {
 impl World {
     /// Plays events in turn.
     pub fn run(&mut self, alloc: Global, events: &[Event]) -> Result<(), Halted>
-        ensures ok { OnOk result (self.new ≡ run board_operations self.old (map plain_event events.now)) }
+        ensures ok { OnOk result (AllSteps self.old (map lane_event events.now) self.new) }
         ensures done { IfErr result (λ halted. halted.done < length events.now) }
-        ensures err { IfErr result (λ halted. IsSpared (run board_operations self.old (map plain_event (take halted.done events.now))) self.new) }
-        ensures order { OrderIsKept board_operations self.old self.new }
+        ensures err { IfErr result (λ halted. IsHalted self.old (map lane_event events.now) halted.done self.new) }
+        ensures order { OrderIsKept board_operations (messages_of self.old) (messages_of self.new) }
     {
         // The clause on order rests on what is so of every world.
         let _opened = &self.trace;
@@ -58,9 +58,9 @@ impl World {
     }
 
     fn play(&mut self, alloc: Global, events: &[Event]) -> Result<(), Halted>
-        ensures ok { OnOk result (self.new ≡ run board_operations self.old (map plain_event events.now)) }
+        ensures ok { OnOk result (AllSteps self.old (map lane_event events.now) self.new) }
         ensures done { IfErr result (λ halted. halted.done < length events.now) }
-        ensures err { IfErr result (λ halted. IsSpared (run board_operations self.old (map plain_event (take halted.done events.now))) self.new) }
+        ensures err { IfErr result (λ halted. IsHalted self.old (map lane_event events.now) halted.done self.new) }
     {
         for (done, event) in events.iter().enumerate() {
             let Ok(_reply) = self.step(alloc, event) else {
@@ -75,9 +75,9 @@ impl World {
     /// alone. Its events stand in the trace; where memory is refused, those before it do.
     pub fn drain(&mut self, alloc: Global) -> Result<(), NoMemory>
         ensures delivered { OnOk result (IsDelivered self.old self.new) }
-        ensures quiet { OnOk result (IsQuiet board_operations self.new) }
+        ensures quiet { OnOk result (IsStill self.new) }
         ensures err { OnErr result (IsDeliveredInPart self.old self.new) }
-        ensures order { OrderIsKept board_operations self.old self.new }
+        ensures order { OrderIsKept board_operations (messages_of self.old) (messages_of self.new) }
     {
         // The clauses on order and quiet rest on what is so of every world.
         let _opened = &self.trace;
@@ -87,7 +87,7 @@ impl World {
     // Rounds until nothing moves.
     fn settle(&mut self, alloc: Global) -> Result<(), NoMemory>
         ensures delivered { OnOk result (IsDelivered self.old self.new) }
-        ensures quiet { OnOk result (IsQuiet board_operations self.new) }
+        ensures quiet { OnOk result (IsQuiet board_operations (messages_of self.new)) }
         ensures err { OnErr result (IsDeliveredInPart self.old self.new) }
     {
         while self.round(alloc)? {}
@@ -97,7 +97,7 @@ impl World {
     // Whether anything was moved.
     fn round(&mut self, alloc: Global) -> Result<bool, NoMemory>
         ensures moved { IfOk result (λ moved. Settles moved self.old self.new) }
-        ensures quiet { IfOk result (λ moved. IsFalse moved → IsQuiet board_operations self.new) }
+        ensures quiet { IfOk result (λ moved. IsFalse moved → IsQuiet board_operations (messages_of self.new)) }
         ensures err { OnErr result (IsDeliveredInPart self.old self.new) }
     {
         let up = self.move_all(alloc, Way::Up)?;
@@ -109,7 +109,7 @@ impl World {
     // At each attached site.
     fn move_all(&mut self, alloc: Global, way: Way) -> Result<bool, NoMemory>
         ensures moved { IfOk result (λ moved. Settles moved self.old self.new) }
-        ensures nothing { IfOk result (λ moved. IsFalse moved → NothingMoves way self.old) }
+        ensures nothing { IfOk result (λ moved. IsFalse moved → NothingMoves way (messages_of self.old)) }
         ensures err { OnErr result (IsDeliveredInPart self.old self.new) }
     {
         let mut moved = false;
@@ -121,7 +121,7 @@ impl World {
 
     // The number of the attached site that joined last, or 0.
     fn last_number(&self) -> u32
-        ensures { (i : ℕ) (a : BoardAttached) → attached i self.now.sites ≡ Some a → (1 ≤ i) × (i ≤ result) }
+        ensures { (i : ℕ) (a : LaneSite) → lane_site i self.now.sites ≡ Some a → (1 ≤ i) × (i ≤ result) }
     {
         match self.sites.last() {
             Some(attached) => attached.site.number(),
@@ -132,31 +132,29 @@ impl World {
     // Repeats a delivery at a site, if it is attached, until nothing is there.
     fn exhaust(&mut self, alloc: Global, way: Way, number: u32) -> Result<bool, NoMemory>
         ensures moved { IfOk result (λ moved. Settles moved self.old self.new) }
-        ensures nothing { IfOk result (λ moved. IsFalse moved → MovesNothing way number self.old) }
+        ensures nothing { IfOk result (λ moved. IsFalse moved → MovesNothing way number (messages_of self.old)) }
         ensures err { OnErr result (IsDeliveredInPart self.old self.new) }
     {
         if self.site(number).is_none() {
             return Ok(false);
         }
-        let event = way.event(number);
         let mut moved = false;
-        while self.move_one(alloc, &event)? {
+        while self.move_one(alloc, way, number)? {
             moved = true;
         }
         Ok(moved)
     }
 
     // Whether a delivery moved a message.
-    fn move_one(&mut self, alloc: Global, event: &Event) -> Result<bool, NoMemory>
-        requires { IsDelivery (plain_event event.now) }
+    fn move_one(&mut self, alloc: Global, way: Way, number: u32) -> Result<bool, NoMemory>
         ensures moved { IfOk result (λ moved. Settles moved self.old self.new) }
-        ensures nothing { IfOk result (λ moved. IsFalse moved → (outcome board_operations self.old (plain_event event.now)).reply ≡ Nothing) }
+        ensures nothing { IfOk result (λ moved. IsFalse moved → (outcome board_operations (messages_of self.old) (way_event way number)).reply ≡ Nothing) }
         ensures err { OnErr result (IsDeliveredInPart self.old self.new) }
     {
         // The checker learns of the types within a reply from this.
         let _within: PhantomData<(Effect, Edit, Label)> = PhantomData;
         let _opened = &self.trace;
-        let reply = self.step(alloc, event)?;
+        let reply = self.step(alloc, &way.event(number))?;
         Ok(!reply.is_nothing())
     }
 }

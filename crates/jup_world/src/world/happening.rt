@@ -1,10 +1,12 @@
 //! What an event does to a star and its sites.
-ghost use Rattle.std.specs.Prelude.{◌≡◌, map, true, is_some, IfOk, OnErr};
+ghost use Rattle.std.specs.Prelude.{◌≡◌, map, is_some, IfOk, OnOk, OnErr};
 ghost use Rattle.jup_star.specs.StarStates.{link_of};
 ghost use Rattle.jup_world.specs.WorldStates.{attached, without_site};
-ghost use Rattle.jup_world.specs.WorldFields.{bare_attached};
-ghost use Rattle.jup_world.specs.NumberedReplies.{plain_event, numbered_reply};
-ghost use Rattle.jup_world.specs.Happenings.{Plays, Spares, AreReady};
+ghost use Rattle.jup_world.specs.WorldFields.{lane_of, bare_attached};
+ghost use Rattle.jup_world.specs.NumberedReplies.{lane_event, numbered_reply};
+ghost use Rattle.jup_world.specs.Happenings.{Plays, AreReady};
+ghost use Rattle.jup_world.specs.LaneWorlds.{Plain, PushUp, PushDown, without_lane};
+ghost use Rattle.jup_world.specs.LaneHappenings.{LanePlays, AreRead, SitesRest, LaneSpares};
 ghost use Rattle.jup_world.specs.Events as event;
 
 use super::attached::{Attached, place_of};
@@ -15,7 +17,8 @@ use jup_window::Command;
 use jup_xform::NoMemory;
 use std::alloc::Global;
 
-/// Plays one event. Where memory is refused, a message may have been fetched into an empty down stream.
+/// Plays one event. Where memory is refused, a message may have been fetched into an empty down stream, and
+/// bytes may have been moved on the way that the event moves.
 pub(crate) fn happen(
     alloc: Global,
     star: &mut Star,
@@ -23,10 +26,11 @@ pub(crate) fn happen(
     event: &Event,
 ) -> Result<Reply, NoMemory>
     requires { AreReady star.old (map bare_attached sites.old.items) }
-    ensures plays { IfOk result (λ reply. Plays (plain_event event.now) star.old (map bare_attached sites.old.items)
+    ensures plays { IfOk result (λ reply. LanePlays (lane_event event.now) star.old (map lane_of sites.old.items)
         (numbered_reply reply) star.new (map bare_attached sites.new.items)) }
-    ensures spared { OnErr result (Spares star.old (map bare_attached sites.old.items)
-        star.new (map bare_attached sites.new.items)) }
+    ensures read { OnOk result (AreRead (lane_event event.now) star.old (map lane_of sites.old.items) (map lane_of sites.new.items)) }
+    ensures spared { OnErr result (LaneSpares (lane_event event.now) star.old (map lane_of sites.old.items)
+        star.new (map lane_of sites.new.items)) }
 {
     match event {
         Event::Join => join(alloc, star, sites),
@@ -35,6 +39,8 @@ pub(crate) fn happen(
         Event::Up(number) => move_up(alloc, star, sites, *number),
         Event::Down(number) => move_down(alloc, star, sites, *number),
         Event::Ping(number, count) => ping(star, sites, *number, *count),
+        Event::PushUp(number, most) => push_up(alloc, star, sites, *number, *most),
+        Event::PushDown(number, most) => push_down(alloc, star, sites, *number, *most),
     }
 }
 
@@ -42,8 +48,9 @@ fn join(alloc: Global, star: &mut Star, sites: &mut Vec<Attached>) -> Result<Rep
     requires { AreReady star.old (map bare_attached sites.old.items) }
     ensures plays { IfOk result (λ reply. Plays event.Join star.old (map bare_attached sites.old.items)
         (numbered_reply reply) star.new (map bare_attached sites.new.items)) }
+    ensures read { OnOk result (AreRead (Plain (event.Join)) star.old (map lane_of sites.old.items) (map lane_of sites.new.items)) }
     ensures same_star { OnErr result (star.new ≡ star.old) }
-    ensures same_sites { OnErr result (map bare_attached sites.new.items ≡ map bare_attached sites.old.items) }
+    ensures same_sites { OnErr result (map lane_of sites.new.items ≡ map lane_of sites.old.items) }
 {
     sites.reserve(1).map_err(|_| NoMemory)?;
     let joined = match star.join(alloc) {
@@ -58,15 +65,17 @@ fn join(alloc: Global, star: &mut Star, sites: &mut Vec<Attached>) -> Result<Rep
 
 // Drops a site with its streams.
 fn drop_site(sites: &mut Vec<Attached>, number: u32)
-    ensures { map bare_attached sites.new.items ≡ without_site number (map bare_attached sites.old.items) }
+    ensures messages { map bare_attached sites.new.items ≡ without_site number (map bare_attached sites.old.items) }
+    ensures bytes { map lane_of sites.new.items ≡ without_lane number (map lane_of sites.old.items) }
 {
     sites.retain(|attached| attached.site.number() != number);
 }
 
 fn leave(star: &mut Star, sites: &mut Vec<Attached>, number: u32) -> Reply
     requires { is_some (attached number (map bare_attached sites.old.items)) ≡ is_some (link_of number star.old.links) }
-    ensures { Plays (event.Leave number) star.old (map bare_attached sites.old.items)
+    ensures plays { Plays (event.Leave number) star.old (map bare_attached sites.old.items)
         (numbered_reply result) star.new (map bare_attached sites.new.items) }
+    ensures read { AreRead (Plain (event.Leave number)) star.old (map lane_of sites.old.items) (map lane_of sites.new.items) }
 {
     match star.leave(number) {
         Ok(()) => {
@@ -87,7 +96,8 @@ fn edit(
     requires { AreReady star.now (map bare_attached sites.old.items) }
     ensures plays { IfOk result (λ reply. Plays (event.Edit number command.now) star.now (map bare_attached sites.old.items)
         (numbered_reply reply) star.now (map bare_attached sites.new.items)) }
-    ensures same { OnErr result (map bare_attached sites.new.items ≡ map bare_attached sites.old.items) }
+    ensures read { OnOk result (AreRead (Plain (event.Edit number command.now)) star.now (map lane_of sites.old.items) (map lane_of sites.new.items)) }
+    ensures same { OnErr result (map lane_of sites.new.items ≡ map lane_of sites.old.items) }
 {
     match place_of(sites, number) {
         Some(at) => sites[at].edit(alloc, command),
@@ -99,7 +109,8 @@ fn ping(star: &Star, sites: &mut Vec<Attached>, number: u32, count: u32) -> Resu
     requires { AreReady star.now (map bare_attached sites.old.items) }
     ensures plays { IfOk result (λ reply. Plays (event.Ping number count) star.now (map bare_attached sites.old.items)
         (numbered_reply reply) star.now (map bare_attached sites.new.items)) }
-    ensures same { OnErr result (map bare_attached sites.new.items ≡ map bare_attached sites.old.items) }
+    ensures read { OnOk result (AreRead (Plain (event.Ping number count)) star.now (map lane_of sites.old.items) (map lane_of sites.new.items)) }
+    ensures same { OnErr result (map lane_of sites.new.items ≡ map lane_of sites.old.items) }
 {
     let Some(at) = place_of(sites, number) else {
         return Ok(Reply::Nothing);
@@ -118,8 +129,8 @@ fn move_up(
     requires { AreReady star.old (map bare_attached sites.old.items) }
     ensures plays { IfOk result (λ reply. Plays (event.Up number) star.old (map bare_attached sites.old.items)
         (numbered_reply reply) star.new (map bare_attached sites.new.items)) }
-    ensures same_star { OnErr result (star.new ≡ star.old) }
-    ensures same_sites { OnErr result (map bare_attached sites.new.items ≡ map bare_attached sites.old.items) }
+    ensures read { OnOk result (AreRead (Plain (event.Up number)) star.old (map lane_of sites.old.items) (map lane_of sites.new.items)) }
+    ensures spared { OnErr result (SitesRest (Plain (event.Up number)) star.old (map lane_of sites.old.items) star.new (map lane_of sites.new.items)) }
 {
     let Some(at) = place_of(sites, number) else {
         return Ok(Reply::Nothing);
@@ -144,11 +155,51 @@ fn move_down(
     requires { AreReady star.old (map bare_attached sites.old.items) }
     ensures plays { IfOk result (λ reply. Plays (event.Down number) star.old (map bare_attached sites.old.items)
         (numbered_reply reply) star.new (map bare_attached sites.new.items)) }
-    ensures spared { OnErr result (Spares star.old (map bare_attached sites.old.items)
-        star.new (map bare_attached sites.new.items)) }
+    ensures read { OnOk result (AreRead (Plain (event.Down number)) star.old (map lane_of sites.old.items) (map lane_of sites.new.items)) }
+    ensures spared { OnErr result (SitesRest (Plain (event.Down number)) star.old (map lane_of sites.old.items) star.new (map lane_of sites.new.items)) }
 {
     match place_of(sites, number) {
         Some(at) => sites[at].move_down(alloc, star),
+        None => Ok(Reply::Nothing),
+    }
+}
+
+// Bytes of an up stream are moved to the star's reader.
+fn push_up(
+    alloc: Global,
+    star: &Star,
+    sites: &mut Vec<Attached>,
+    number: u32,
+    most: u32,
+) -> Result<Reply, NoMemory>
+    requires { AreReady star.now (map bare_attached sites.old.items) }
+    ensures plays { IfOk result (λ reply. LanePlays (PushUp number most) star.now (map lane_of sites.old.items)
+        (numbered_reply reply) star.now (map bare_attached sites.new.items)) }
+    ensures read { OnOk result (AreRead (PushUp number most) star.now (map lane_of sites.old.items) (map lane_of sites.new.items)) }
+    ensures same { OnErr result (map lane_of sites.new.items ≡ map lane_of sites.old.items) }
+{
+    match place_of(sites, number) {
+        Some(at) => sites[at].push_up(alloc, most),
+        None => Ok(Reply::Nothing),
+    }
+}
+
+// Bytes of a down stream are moved to the site's reader.
+fn push_down(
+    alloc: Global,
+    star: &mut Star,
+    sites: &mut Vec<Attached>,
+    number: u32,
+    most: u32,
+) -> Result<Reply, NoMemory>
+    requires { AreReady star.old (map bare_attached sites.old.items) }
+    ensures plays { IfOk result (λ reply. LanePlays (PushDown number most) star.old (map lane_of sites.old.items)
+        (numbered_reply reply) star.new (map bare_attached sites.new.items)) }
+    ensures read { OnOk result (AreRead (PushDown number most) star.old (map lane_of sites.old.items) (map lane_of sites.new.items)) }
+    ensures spared { OnErr result (SitesRest (PushDown number most) star.old (map lane_of sites.old.items) star.new (map lane_of sites.new.items)) }
+{
+    match place_of(sites, number) {
+        Some(at) => sites[at].push_down(alloc, star, most),
         None => Ok(Reply::Nothing),
     }
 }

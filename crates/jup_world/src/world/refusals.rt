@@ -28,7 +28,7 @@ pub(crate) fn edit_refusal(fault: EditFault) -> Result<EditFault, NoMemory>
 }
 
 /// A refusal of the star that is not for want of memory.
-pub(crate) fn star_refusal(fault: StarFault) -> Result<StarFault, NoMemory>
+pub fn star_refusal(fault: StarFault) -> Result<StarFault, NoMemory>
     ensures same { IfOk result (λ refusal. refusal ≡ fault) }
     ensures other { IfOk result (λ refusal. is_no_memory fault ≡ false) }
     ensures memory { OnErr result (is_no_memory fault ≡ true) }

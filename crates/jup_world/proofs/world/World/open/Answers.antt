@@ -1,7 +1,7 @@
 use Rattle.std.proofs.Common.{◌∙◌, sym, ap, subst, map}
-use Rattle.jup_world.specs.WorldFields.{bare_attached}
-use Rattle.jup_world.specs.NumberedReplies.{numbered_trace}
-use Rattle.jup_world.specs.Happenings.{IsWorld}
+use Rattle.jup_world.specs.WorldFields.{lane_of}
+use Rattle.jup_world.specs.NumberedReplies.{noted_trace}
+use Rattle.jup_world.specs.LaneHappenings.{IsLaneWorld}
 use Rattle.jup_world.proofs.WorldKept.{world_opened}
 use Rattle.jup_world.proofs.world.World.open.Goals as goal
 
@@ -9,4 +9,4 @@ pub invariant_of-result : goal.invariant_of-result
 invariant_of-result c =
     let world = world_opened c.args.board c.args.limit (sym c.in_ok-star.ensures.refusal) c.is_short-short.ensures.distinct c.requires.short in
     let opening = c.in-Ok.ensures ∙ c.board.ensures ∙ ap (λ s. s.board) c.in_ok-star.ensures.opened in
-    subst IsWorld (sym (λ i. record { opening = opening i; star = c.in_ok-star.ensures.opened i; sites = map bare_attached (c.new.ensures.items i); trace = numbered_trace (c.new-2.ensures.items i) })) world
+    subst IsLaneWorld (sym (λ i. record { opening = opening i; star = c.in_ok-star.ensures.opened i; sites = map lane_of (c.new.ensures.items i); trace = noted_trace (c.new-2.ensures.items i) })) (record { world = world; carry = tt })

@@ -1,7 +1,12 @@
 use Rattle.std.proofs.Common.{arith}
-use Rattle.jup_world.proofs.WorldRuns.{run_next}
+use Rattle.jup_world.specs.NumberedReplies.{lane_event}
+use Rattle.jup_world.proofs.LaneRuns.{steps_next, halted}
 use Rattle.jup_world.proofs.world.World.play.Goals as goal
 
 pub loop-done-preserved : goal.loop-done-preserved
 loop-done-preserved c =
-    run_next c.args.self.now _ c.step.new.self c.args.events.now c.loop-done.done c.index-events-done.result (omega (arith, c.loop-done-test.true)) c.index-events-done.is c.loop-done.invariant c.in-Ok.ensures.ok
+    steps_next lane_event c.args.self.now _ c.step.new.self c.args.events.now c.loop-done.done c.index-events-done.result (omega (arith, c.loop-done-test.true)) c.index-events-done.is c.loop-done.invariant c.in-Ok.ensures.ok
+
+pub returns-in_default-clause-err : goal.returns-in_default-clause-err
+returns-in_default-clause-err c =
+    halted lane_event c.args.self.now c.loop-done.self c.step.new.self c.args.events.now c.loop-done.done c.index-events-done.result (omega (arith, c.loop-done-test.true)) c.index-events-done.is c.loop-done.invariant c.in_default.ensures.err

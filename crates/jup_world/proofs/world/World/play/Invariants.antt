@@ -1,9 +1,8 @@
-use Rattle.std.proofs.Common.{◌≡◌, map, take}
-use Rattle.jup_window.specs.BoardOperations.{board_operations}
-use Rattle.jup_world.specs.NumberedReplies.{plain_event}
-use Rattle.jup_world.specs.WorldSteps.{run}
+use Rattle.std.proofs.Common.{map, take}
+use Rattle.jup_world.specs.NumberedReplies.{lane_event}
+use Rattle.jup_world.specs.LaneSteps.{AllSteps}
 use Rattle.jup_world.proofs.world.World.play.Given as goal
 
 -- the events so far have happened
 abbrev pub invariant-loop-done : goal.invariant-loop-done
-invariant-loop-done l = l.self ≡ run board_operations l.initial.self (map plain_event (take l.done l.events))
+invariant-loop-done l = AllSteps l.initial.self (map lane_event (take l.done l.events)) l.self

@@ -1,6 +1,6 @@
 use Rattle.std.proofs.Common.{subst}
 use Rattle.std.proofs.lemmas.Bool.{or_parts}
-use Rattle.jup_world.specs.Happenings.{IsWorld}
+use Rattle.jup_world.specs.LaneHappenings.{IsLaneWorld}
 use Rattle.jup_world.specs.Drains.{Settles}
 use Rattle.jup_world.proofs.CallFacts.{on_err}
 use Rattle.jup_world.proofs.DrainSteps.{part_both, settles_both, round_quiet}
@@ -15,7 +15,7 @@ returns-clause-moved c = settles_both c.in_ok-up.up c.in_ok-down.down _ _ _ c.in
 pub returns-clause-quiet : goal.returns-clause-quiet
 returns-clause-quiet c none =
     let both = or_parts c.in_ok-up.up c.in_ok-down.down none in
-    round_quiet c.args.self.now c.move_all.new.self c.move_all-2.new.self (subst IsWorld c.self.view_is c.self.invariant)
+    round_quiet c.args.self.now c.move_all.new.self c.move_all-2.new.self (subst IsLaneWorld c.self.view_is c.self.invariant).world
     (subst (λ b. Settles b c.args.self.now c.move_all.new.self) both.0 c.in_ok-up.ensures.moved)
     (subst (λ b. Settles b c.move_all.new.self c.move_all-2.new.self) both.1 c.in_ok-down.ensures.moved)
     (c.in_ok-up.ensures.nothing both.0) (c.in_ok-down.ensures.nothing both.1)

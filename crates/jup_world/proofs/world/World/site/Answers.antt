@@ -1,25 +1,45 @@
-use Rattle.std.proofs.Common.{◌∙◌, sym, ap, Some}
+use Rattle.std.proofs.Common.{◌≡◌, ◌∙◌, List, sym, ap, subst, map, Some, None, rules}
 use Rattle.std.specs.Option.{option_map}
 use Rattle.jup_world.specs.contracts.world.World.{the_view}
-use Rattle.jup_world.specs.WorldFields.{bare_attached}
+use Rattle.jup_world.specs.WorldStates.{attached}
+use Rattle.jup_world.specs.BoardWorlds.{BoardAttached}
+use Rattle.jup_world.specs.WorldFields.{lane_of, bare_attached}
+use Rattle.jup_world.specs.SiteNumbers.{AreAscending}
+use Rattle.jup_world.specs.declared.world.attached.Attached.{Attached}
+use Rattle.jup_world.specs.LaneWorlds.{lane_site, messages_of}
 use Rattle.jup_world.proofs.SitePlaces.{found_at}
+use Rattle.jup_world.proofs.LaneSites.{bare_map}
+use Rattle.jup_world.proofs.LaneEvents.{lane_found, lane_none}
 use Rattle.jup_world.proofs.QuietWorlds.{promises, backlogs}
 use Rattle.jup_world.proofs.world.World.site.Goals as goal
+
+pub place_of-requires : goal.place_of-requires
+place_of-requires c =
+    let up = subst (λ (xs : List BoardAttached). AreAscending 0 c.self.inside.star.given xs) (bare_map c.self.inside.sites.items) c.self.invariant.world.numbered.ascending in
+    (c.self.inside.star.given, subst (λ (xs : List Attached). AreAscending 0 c.self.inside.star.given (map bare_attached xs)) (sym c.deref.ensures.value) up)
 
 pub returns-clause-site : goal.returns-clause-site
 returns-clause-site c =
     let place = rw c.deref.ensures.value at c.in_ok-at.ensures.place in
-    let found = found_at c.args.number c.self.inside.sites.items c.in_ok-at.at c.index.result.now place ∙ ap (λ a. Some (bare_attached a)) (sym c.index.ensures) in
+    let found = lane_found c.args.number c.self.inside.sites.items c.in_ok-at.at c.index.result.now place ∙ ap (λ a. Some (lane_of a)) (sym c.index.ensures) in
     rw (← c.self.view_is) (sym (ap (option_map (λ a. a.site)) found))
 
 pub returns-clause-content : goal.returns-clause-content
 returns-clause-content c =
     let place = rw c.deref.ensures.value at c.in_ok-at.ensures.place in
-    let found = found_at c.args.number c.self.inside.sites.items c.in_ok-at.at c.index.result.now place ∙ ap (λ a. Some (bare_attached a)) (sym c.index.ensures) in
-    rw (← c.self.view_is) ((promises (the_view c.self.inside) c.self.invariant).site_content c.args.number (bare_attached c.index.result.now) found)
+    let found = ap (attached c.args.number) (bare_map c.self.inside.sites.items)
+    ∙ found_at c.args.number c.self.inside.sites.items c.in_ok-at.at c.index.result.now place ∙ ap (λ a. Some (bare_attached a)) (sym c.index.ensures) in
+    rw (← c.self.view_is) ((promises (messages_of (the_view c.self.inside)) c.self.invariant.world).site_content c.args.number (bare_attached c.index.result.now) found)
 
 pub returns-clause-backlog : goal.returns-clause-backlog
 returns-clause-backlog c =
     let place = rw c.deref.ensures.value at c.in_ok-at.ensures.place in
-    let found = found_at c.args.number c.self.inside.sites.items c.in_ok-at.at c.index.result.now place ∙ ap (λ a. Some (bare_attached a)) (sym c.index.ensures) in
-    (backlogs (the_view c.self.inside) c.self.invariant).backlog c.args.number (bare_attached c.index.result.now) found
+    let found = ap (attached c.args.number) (bare_map c.self.inside.sites.items)
+    ∙ found_at c.args.number c.self.inside.sites.items c.in_ok-at.at c.index.result.now place ∙ ap (λ a. Some (bare_attached a)) (sym c.index.ensures) in
+    (backlogs (messages_of (the_view c.self.inside)) c.self.invariant.world).backlog c.args.number (bare_attached c.index.result.now) found
+
+pub returns-in_err-at-clause-site : goal.returns-in_err-at-clause-site
+returns-in_err-at-clause-site c =
+    let none = rw c.deref.ensures.value at c.in_err-at.ensures.place in
+    let absent : lane_site c.args.number c.args.self.now.sites ≡ None = rw (← c.self.view_is) (lane_none c.args.number c.self.inside.sites.items none) in
+    rw absent (search rules)

@@ -1,42 +1,54 @@
-use Rattle.std.proofs.Common.{◌∙◌, ◌++◌, ◌∷◌, [], sym, ap, subst, map}
-use Rattle.jup_window.specs.BoardOperations.{board_operations}
+use Rattle.std.proofs.Common.{◌∙◌, ◌++◌, ◌∷◌, [], List, refl, ap, subst, map}
 use Rattle.jup_world.specs.contracts.world.World.{the_view}
-use Rattle.jup_world.specs.WorldFields.{bare_attached}
-use Rattle.jup_world.specs.NumberedReplies.{plain_event, numbered_reply, numbered_trace}
-use Rattle.jup_world.specs.Promises.{OrderIsKept}
-use Rattle.jup_world.specs.Happenings.{IsWorld}
-use Rattle.jup_world.proofs.WorldKept.{world_happens, world_spared, world_ready}
-use Rattle.jup_world.proofs.WorldRuns.{played, played_replies, spared, order_run, order_spared}
+use Rattle.jup_world.specs.BoardWorlds.{BoardAttached}
+use Rattle.jup_world.specs.WorldFields.{lane_of}
+use Rattle.jup_world.specs.NumberedReplies.{lane_event, numbered_reply, noted_trace}
+use Rattle.jup_world.specs.Happenings.{AreReady}
+use Rattle.jup_world.specs.LaneWorlds.{messages_of}
+use Rattle.jup_world.specs.LaneSteps.{Steps}
+use Rattle.jup_world.proofs.CallFacts.{on_err}
+use Rattle.jup_world.proofs.WorldKept.{world_ready}
+use Rattle.jup_world.proofs.LaneSites.{bare_map}
+use Rattle.jup_world.proofs.LaneWorldLaws.{step_keeps, spared_keeps}
+use Rattle.jup_world.proofs.LaneOrder.{step_order, spared_order}
+use Rattle.jup_world.proofs.LaneRuns.{played_lanes, played_answers, spared_lanes}
 use Rattle.jup_world.proofs.world.World.step.Goals as goal
 
 pub happen-requires : goal.happen-requires
-happen-requires c = world_ready (the_view c.self.inside) c.self.invariant
+happen-requires c =
+    subst (λ (xs : List BoardAttached). AreReady c.self.inside.star xs) (bare_map c.self.inside.sites.items) (world_ready (messages_of (the_view c.self.inside)) c.self.invariant.world)
 
 pub invariant_of-self-in_err-reply : goal.invariant_of-self-in_err-reply
 invariant_of-self-in_err-reply c =
-    world_spared (the_view c.self.inside) _ c.self.invariant
-    (spared (the_view c.self.inside) c.happen.new.star (map bare_attached c.happen.new.sites.items) _ c.in_err-reply.ensures.spared (ap numbered_trace c.reserve.ensures.items))
+    spared_keeps (the_view c.self.inside) _ (lane_event c.args.event.now) c.self.invariant
+    (spared_lanes (the_view c.self.inside) (lane_event c.args.event.now) c.happen.new.star (map lane_of c.happen.new.sites.items) _ c.in_err-reply.ensures.spared (ap noted_trace c.reserve.ensures.items) c.self.invariant.carry)
+
+pub returns-in_err-reply-clause-err : goal.returns-in_err-reply-clause-err
+returns-in_err-reply-clause-err c =
+    on_err c.from_residual-in_err-reply.result (rw (← c.self.view_is) (spared_lanes (the_view c.self.inside) (lane_event c.args.event.now) c.happen.new.star (map lane_of c.happen.new.sites.items) _ c.in_err-reply.ensures.spared (ap noted_trace c.reserve.ensures.items) c.self.invariant.carry))
 
 pub returns-in_err-reply-clause-order : goal.returns-in_err-reply-clause-order
 returns-in_err-reply-clause-order c =
-    rw (← c.self.view_is) (order_spared (the_view c.self.inside) (the_view c.self.inside) _ (order_run [] (the_view c.self.inside) c.self.invariant)
-    (spared (the_view c.self.inside) c.happen.new.star (map bare_attached c.happen.new.sites.items) _ c.in_err-reply.ensures.spared (ap numbered_trace c.reserve.ensures.items)))
+    rw (← c.self.view_is) (spared_order [] (the_view c.self.inside) (the_view c.self.inside) _ (lane_event c.args.event.now) c.self.invariant refl c.self.invariant.world
+    (spared_lanes (the_view c.self.inside) (lane_event c.args.event.now) c.happen.new.star (map lane_of c.happen.new.sites.items) _ c.in_err-reply.ensures.spared (ap noted_trace c.reserve.ensures.items) c.self.invariant.carry))
+
+-- the step that was made
+made : (c : goal.After-note) → Steps (the_view c.self.inside) (lane_event c.args.event.now)
+    (record { opening = (the_view c.self.inside).opening; star = c.happen.new.star; sites = map lane_of c.happen.new.sites.items; trace = noted_trace c.note.new.trace.items })
+made c =
+    played_lanes (the_view c.self.inside) (lane_event c.args.event.now) (numbered_reply c.in_ok-reply.reply) c.happen.new.star c.happen.new.sites.items _ c.in_ok-reply.ensures.plays c.in_ok-reply.ensures.read
+    (c.note.ensures ∙ ap (λ h. h ++ record { event = lane_event c.args.event.now; reply = numbered_reply c.in_ok-reply.reply } ∷ []) (ap noted_trace c.reserve.ensures.items))
+    c.self.invariant.carry
 
 pub invariant_of-self-2 : goal.invariant_of-self-2
-invariant_of-self-2 c =
-    let w = the_view c.self.inside in
-    let trace = c.note.ensures ∙ ap (λ h. h ++ record { event = plain_event c.args.event.now; reply = numbered_reply c.in_ok-reply.reply } ∷ []) (ap numbered_trace c.reserve.ensures.items) in
-    subst IsWorld (sym (played w (plain_event c.args.event.now) (numbered_reply c.in_ok-reply.reply) c.happen.new.star (map bare_attached c.happen.new.sites.items) _ c.in_ok-reply.ensures.plays trace))
-    (world_happens w (plain_event c.args.event.now) c.self.invariant)
+invariant_of-self-2 c = step_keeps (the_view c.self.inside) (lane_event c.args.event.now) _ c.self.invariant (made c)
+
+pub returns-clause-ok : goal.returns-clause-ok
+returns-clause-ok c = rw (← c.self.view_is) (made c)
 
 pub returns-clause-withheld : goal.returns-clause-withheld
 returns-clause-withheld c =
-    rw (← c.self.view_is) (played_replies (the_view c.self.inside) (plain_event c.args.event.now) (numbered_reply c.in_ok-reply.reply) c.happen.new.star (map bare_attached c.happen.new.sites.items) c.self.invariant c.in_ok-reply.ensures.plays)
+    rw (← c.self.view_is) (played_answers (the_view c.self.inside) (lane_event c.args.event.now) (numbered_reply c.in_ok-reply.reply) c.happen.new.star c.happen.new.sites.items c.self.invariant c.in_ok-reply.ensures.plays)
 
 pub returns-clause-order : goal.returns-clause-order
-returns-clause-order c =
-    let w = the_view c.self.inside in
-    let trace = c.note.ensures ∙ ap (λ h. h ++ record { event = plain_event c.args.event.now; reply = numbered_reply c.in_ok-reply.reply } ∷ []) (ap numbered_trace c.reserve.ensures.items) in
-    rw (← c.self.view_is) (subst (OrderIsKept board_operations w)
-    (sym (played w (plain_event c.args.event.now) (numbered_reply c.in_ok-reply.reply) c.happen.new.star (map bare_attached c.happen.new.sites.items) _ c.in_ok-reply.ensures.plays trace))
-    (order_run (plain_event c.args.event.now ∷ []) w c.self.invariant))
+returns-clause-order c = rw (← c.self.view_is) (step_order (the_view c.self.inside) (lane_event c.args.event.now) _ c.self.invariant (made c))

@@ -1,4 +1,6 @@
-use Rattle.jup_world.proofs.HappeningSteps.{edit_plays, stays}
+use Rattle.std.proofs.Common.{refl}
+use Rattle.jup_world.proofs.HappeningSteps.{edit_plays}
+use Rattle.jup_world.proofs.LaneEvents.{none_read_at, edit_read, same_result}
 use Rattle.jup_world.proofs.world.happening.edit.Goals as goal
 
 pub returns-in-Some-clause-plays : goal.returns-in-Some-clause-plays
@@ -7,8 +9,17 @@ returns-in-Some-clause-plays c =
     edit_plays c.args.star.now c.args.sites.now.items c.requires c.args.number c.in-Some.at c.index_mut.result.now place c.index_mut.ensures.value
     c.args.command.now c.edit.result c.edit.new.self c.edit.ensures.reply c.edit.ensures.ok
 
+pub returns-in-Some-clause-read : goal.returns-in-Some-clause-read
+returns-in-Some-clause-read c =
+    let place = rw c.deref.ensures.value at c.in-Some.ensures.place in
+    edit_read c.args.star.now c.args.sites.now.items c.requires c.args.number c.in-Some.at c.index_mut.result.now place c.index_mut.ensures.value
+    c.args.command.now c.edit.result c.edit.new.self c.edit.ensures.ok c.edit.ensures.read
+
 pub returns-in-Some-clause-same : goal.returns-in-Some-clause-same
 returns-in-Some-clause-same c =
     let place = rw c.deref.ensures.value at c.in-Some.ensures.place in
-    stays c.args.star.now c.args.sites.now.items c.requires c.args.number c.in-Some.at c.index_mut.result.now place c.index_mut.ensures.value
-    c.edit.result c.edit.new.self c.edit.ensures.err
+    same_result c.args.star.now c.args.sites.now.items c.requires c.args.number c.in-Some.at c.index_mut.result.now place c.index_mut.ensures.value
+    c.edit.result c.edit.new.self c.edit.ensures.same
+
+pub returns-in-None-clause-read : goal.returns-in-None-clause-read
+returns-in-None-clause-read c = none_read_at _ c.args.star.now _ _ ((λ j a. refl), (λ j l a. refl)) refl

@@ -1,10 +1,16 @@
-use Rattle.std.proofs.Common.{◌+◌, ◌++◌, ◌∷◌, [], ◌∙◌, List, sym, ap, map, Some, arith}
+use Rattle.std.proofs.Common.{◌+◌, ◌++◌, ◌∷◌, [], ◌∙◌, List, refl, sym, ap, subst, map, Some, arith}
 use Rattle.std.proofs.lemmas.List.{map-append}
-use Rattle.jup_world.specs.WorldFields.{bare_attached}
+use Rattle.jup_lane.specs.Lanes.{Carries}
+use Rattle.jup_lane.specs.Messages.{ups, downs}
+use Rattle.jup_lane.specs.MessageLines.{ups_laws, downs_laws}
+use Rattle.jup_lane.proofs.LaneLaws.{carried-new}
+use Rattle.jup_world.specs.LaneWorlds.{LaneSite}
+use Rattle.jup_world.specs.WorldFields.{lane_of, bare_attached}
 use Rattle.jup_star.specs.SiteCalls.{BoardSite}
 use Rattle.jup_world.specs.BoardWorlds.{BoardAttached}
 use Rattle.jup_world.proofs.CallFacts.{join_joined, join_refused}
 use Rattle.jup_world.proofs.EventPlays.{plays_joined, plays_no_join, site_opens, site_is, number_is, with_nothing}
+use Rattle.jup_world.proofs.LaneEvents.{none_read_at, end_read}
 use Rattle.jup_world.proofs.world.happening.join.Goals as goal
 
 pub returns-in-Err-clause-plays : goal.returns-in-Err-clause-plays
@@ -23,7 +29,16 @@ returns-clause-plays c =
     let call = join_joined c.args.star.now c.join.new.self c.in-Ok.joined c.in-Ok.ensures in
     let items = ap (map bare_attached) c.push_reserved.ensures.items ∙ map-append bare_attached c.reserve.new.self.items (c.new.result ∷ []) in
     let opened = rw c.unwrap-site.ensures at c.open.ensures.opened in
-    let site = c.new.ensures ∙ ap (λ (t : BoardSite). with_nothing t) (opened ∙ site_is c.args.star.now c.in-Ok.joined call.1) in
+    let site = c.new.ensures.messages ∙ ap (λ (t : BoardSite). with_nothing t) (opened ∙ site_is c.args.star.now c.in-Ok.joined call.1) in
     plays_joined c.args.star.now c.join.new.self _ _ _ call.0 (number_is c.args.star.now c.in-Ok.joined call.1) call.2
     (items ∙ ap (λ (xs : List BoardAttached). xs ++ bare_attached c.new.result ∷ []) (ap (map bare_attached) c.reserve.ensures.items)
     ∙ ap (λ (a : BoardAttached). map bare_attached c.args.sites.now.items ++ a ∷ []) site)
+
+pub returns-in-Err-clause-read : goal.returns-in-Err-clause-read
+returns-in-Err-clause-read c = none_read_at _ c.args.star.now _ _ ((λ j a. refl), (λ j l a. refl)) (ap (map lane_of) c.reserve.ensures.items)
+
+pub returns-clause-read : goal.returns-clause-read
+returns-clause-read c =
+    let items = ap (map lane_of) c.push_reserved.ensures.items ∙ map-append lane_of c.reserve.new.self.items (c.new.result ∷ []) in
+    end_read c.args.star.now _ _ (lane_of c.new.result) (items ∙ ap (λ (xs : List LaneSite). xs ++ lane_of c.new.result ∷ []) (ap (map lane_of) c.reserve.ensures.items))
+    (subst (λ (x : LaneSite). Carries ups x.up) (sym c.new.ensures.bytes) (carried-new ups ups_laws).1) (subst (λ (x : LaneSite). Carries downs x.down) (sym c.new.ensures.bytes) (carried-new downs downs_laws).1)

@@ -1,0 +1,172 @@
+-- What holds of every one of the program: after each event, and after want of memory.
+use Rattle.std.proofs.Common.{◌≡◌, Bool, true, nat_le, inl, inr, refl, sym, ◌∙◌, ap, subst, ℕ, ◌+◌, ◌≤◌, List, [], ◌∷◌, ◌++◌, drop, length, Option, Some, None, option_map, arith, append-nil, drop_of_length-le, le_refl}
+use Rattle.std.proofs.lemmas.Bool.{leb-true}
+use Rattle.jup_window.specs.Boards as board
+use Rattle.jup_window.specs.Entries.{EachWidget}
+use Rattle.jup_window.specs.Sites.{only_site}
+use Rattle.jup_star.specs.FirstFaults.{test}
+use Rattle.jup_star.specs.Openings.{IsShort}
+use Rattle.jup_star.specs.StarCalls.{star_open_fault}
+use Rattle.jup_star.proofs.ShortBoards.{short_bare, distinct_bare}
+use Rattle.jup_mixed.specs.MixStates.{opened_mix}
+use Rattle.jup_mixed.proofs.MixOpened.{mixed-sound}
+use Rattle.std.proofs.Common.{◌↔◌, IsTrue}
+use Rattle.std.proofs.lemmas.List.{nil_from_length}
+use Rattle.jup_world.specs.Happenings.{IsQuietAt}
+use Rattle.jup_mixed.specs.MixStates.{IsHomeQuiet}
+use Rattle.jup_mixed.specs.MixFields.{HomeAgrees}
+use Rattle.jup_mixed.proofs.MixKept.{mix-promises}
+use Rattle.jup_window.specs.declared.board_operations.BoardOp.{BoardOp}
+use Rattle.jup_window.specs.declared.commands.Command.{Command}
+use Rattle.jup_window.specs.declared.edits.Edit.{Edit}
+use Rattle.jup_window.specs.Operations.{Operations, AreLawful}
+use Rattle.jup_window.specs.BoardOperations.{board_operations}
+use Rattle.jup_window.specs.BoardsAreLawful.{board_laws}
+use Rattle.jup_star.specs.declared.messages.Down.{Down}
+use Rattle.jup_star.specs.LinkStates.{LinkState, link_fetched}
+use Rattle.jup_star.specs.StarStates.{link_of, fetched, most_items}
+use Rattle.jup_star.specs.SiteStates.{deliver_fault}
+use Rattle.jup_star.specs.StarCalls.{BoardStar}
+use Rattle.jup_star.specs.Streams.{downs}
+use Rattle.jup_world.specs.Turns.{turns}
+use Rattle.jup_world.specs.WorldStates.{AttachedOf}
+use Rattle.jup_world.specs.WorldSteps.{with_fetched}
+use Rattle.jup_world.specs.Sound.{Standing, StandsAt}
+use Rattle.jup_world.specs.BoardWorlds.{BoardAttached, BoardLink, BoardReply}
+use Rattle.jup_world.proofs.WorldKept.{open_held}
+use Rattle.jup_mixed.specs.MixEvents.{MixHappened}
+use Rattle.jup_mixed.specs.MixStates.{MixOf}
+use Rattle.jup_mixed.specs.MixSteps.{MixOutcome, mix_outcome, with_mix, mix_happens}
+use Rattle.jup_mixed.specs.MixTraces.{mix_made, mix_shown}
+use Rattle.jup_mixed.specs.MixSound.{IsSoundMix}
+use Rattle.jup_mixed.specs.MixPromises.{BoardMix, BoardMixEvent, MixReplies, MixOrderIsKept}
+use Rattle.jup_mixed.specs.MixFields.{MixPlays, MixSpares, IsMixSpared, IsReady, IsMix}
+use Rattle.jup_world.proofs.StarKeepsLinks.{at_here, star-fetched}
+use Rattle.jup_world.proofs.PlaceKept.{place-fits, place-fetched}
+use Rattle.jup_mixed.proofs.MixRuns.{home_stands, sound-mix}
+use Rattle.jup_mixed.proofs.MixKept.{home_linked}
+use Rattle.jup_mixed.proofs.MixOrder.{mix-order}
+use Rattle.jup_mixed.proofs.MixReplies.{mix-replies}
+
+module _ (O : Operations) (L : AreLawful O) (most : ℕ) (m : MixOf O) (h : IsSoundMix O most m) (l : LinkState O.Op) (a : AttachedOf O)
+    (fl : link_of 1 m.star.links ≡ Some l) (fa : m.site ≡ Some a) where
+  -- the site at its place
+  st : Standing O most (O.t.content m.opening) (turns 1 m.star.order) m.star.board (mix_made m.trace) 0 (mix_shown m.trace) 1 l a
+  st = home_stands O L most m h l a fl fa
+
+  fits : length m.star.order + 1026 ≤ most
+  fits = omega (arith, h.star.few, h.star.limited)
+
+  -- messages were fetched, and no more
+  pub mix-fetched : (n : ℕ) → IsSoundMix O most (record { opening = m.opening; star = fetched 1 n m.star; site = Some (with_fetched O n l a); trace = m.trace })
+  mix-fetched n = record {
+    star = star-fetched O L most (O.t.content m.opening) m.star h.star 1 n;
+    given = h.given;
+    home = subst (λ o. StandsAt O most (O.t.content m.opening) (turns 1 m.star.order) m.star.board (mix_made m.trace) 0 (mix_shown m.trace) 1 o (Some (with_fetched O n l a)))
+        (sym (at_here O L most (O.t.content m.opening) m.star h.star 1 (link_fetched n) (λ k. refl) ∙ ap (option_map (link_fetched n)) fl))
+        (place-fetched O L most (O.t.content m.opening) m.star (mix_made m.trace) 1 0 (mix_shown m.trace) l a st fits n);
+  }
+
+  -- the oldest message on its way down is one that it takes
+  pub oldest_fits : (d : Down O.Op) (ds : List (Down O.Op)) → a.down ++ l.outbox ≡ d ∷ ds → deliver_fault O d a.site ≡ None
+  oldest_fits d ds e =
+      let all : ds ++ drop (length l.outbox) l.outbox ≡ ds = ap (λ (xs : List (Down O.Op)). ds ++ xs) (drop_of_length-le l.outbox (le_refl _)) ∙ append-nil ds in
+      place-fits O L most (O.t.content m.opening) m.star (mix_made m.trace) 1 0 (mix_shown m.trace) l a st fits d (length l.outbox) ds (ap downs (e ∙ ap (λ (xs : List (Down O.Op)). d ∷ xs) (sym all)))
+
+  pub site_number : a.site.number ≡ 1
+  site_number = st.pair.site_number
+
+-- an event finds the site ready
+pub mix_ready : (m : BoardMix) → IsMix m → IsReady m.star m.site
+mix_ready m h a fa =
+    let there = home_linked board_operations board_laws most_items m h a fa in (
+      site_number board_operations board_laws most_items m h there.0 a there.1 fa,
+      (there.0, there.1, oldest_fits board_operations board_laws most_items m h there.0 a there.1 fa),
+    )
+
+-- a trace
+abbrev pub MixTrace : Type 0
+MixTrace = List (MixHappened Command BoardOp Edit ℕ)
+
+-- after an event that was played
+pub mix_played : (m : BoardMix) (event : BoardMixEvent) (reply : BoardReply) (t : BoardStar) (next : Option BoardAttached) (trace : MixTrace) → MixPlays event m.star m.site reply t next
+    → trace ≡ m.trace ++ record { event = event; reply = reply } ∷ [] → ◌≡◌ {A = BoardMix} (record { opening = m.opening; star = t; site = next; trace = trace }) (mix_happens board_operations m event)
+mix_played m event reply t next trace plays more =
+    ap (λ (h : MixTrace). record { opening = m.opening; star = t; site = next; trace = h }) more
+    ∙ sym (ap (with_mix board_operations m event) (plays m.opening m.trace))
+
+-- its reply
+pub mix_reply : (m : BoardMix) (event : BoardMixEvent) (reply : BoardReply) (t : BoardStar) (next : Option BoardAttached) → MixPlays event m.star m.site reply t next → reply ≡ (mix_outcome board_operations m event).reply
+mix_reply m event reply t next plays = sym (ap (λ (o : MixOutcome board_operations). o.reply) (plays m.opening m.trace))
+
+-- it is sound
+pub mix_next : (m : BoardMix) (event : BoardMixEvent) → IsMix m → IsMix (mix_happens board_operations m event)
+mix_next m event h = sound-mix board_operations board_laws most_items m event h
+
+-- and keeps the order of items
+pub mix_keeps : (m : BoardMix) (event : BoardMixEvent) → IsMix m → MixOrderIsKept board_operations m (mix_happens board_operations m event)
+mix_keeps m event h = mix-order board_operations board_laws (event ∷ []) most_items m h
+
+-- and is answered as it should be
+pub mix_answered : (m : BoardMix) (event : BoardMixEvent) → IsMix m → MixReplies board_operations m event (mix_outcome board_operations m event)
+mix_answered m event h = mix-replies board_operations board_laws most_items m h event
+
+-- after want of memory
+pub mix_spared : (m : BoardMix) (t : BoardStar) (next : Option BoardAttached) (trace : MixTrace) → MixSpares m.star m.site t next → trace ≡ m.trace → IsMixSpared m (record { opening = m.opening; star = t; site = next; trace = trace })
+mix_spared m t next trace (inl same) e = inl (λ j. record { opening = m.opening; star = same.0 j; site = same.1 j; trace = e j })
+mix_spared m t next trace (inr more) e = inr (more.0, more.1, more.2, more.3, (λ j. record { opening = m.opening; star = more.4 j; site = more.5 j; trace = e j }))
+
+pub mix_still : (m k : BoardMix) → IsMix m → IsMixSpared m k → IsMix k
+mix_still m k h (inl same) = subst IsMix (sym same) h
+mix_still m k h (inr more) = subst IsMix (sym more.4) (mix-fetched board_operations board_laws most_items m h more.0 more.1 more.2 more.3 1)
+
+-- as it is opened
+pub mix_new : (b : board.Windows) (limit : ℕ) → star_open_fault (board.bare b) limit ≡ None → board.HasDistinctNames b → EachWidget IsShort b → IsMix (opened_mix board_operations (board.bare b) limit)
+mix_new b limit none distinct short =
+    let held = open_held (nat_le 1 limit) (nat_le limit 16777216) (only_site 0 (board.bare b)) none in
+    mixed-sound (opened_mix board_operations (board.bare b) limit) (record {
+      board = board.bare b;
+      limit = limit;
+      events = [];
+      opening = record { distinct = distinct_bare b distinct; unsigned = held.2; short = short_bare b short };
+      limited = leb-true limit 16777216 held.1;
+      is = refl;
+    })
+
+-- whether no message is on its way from the site or to it, as the program tests it
+home_quiet : (m : BoardMix) → IsMix m → (a : BoardAttached) → m.site ≡ Some a → IsQuietAt a m.star ↔ IsHomeQuiet board_operations m
+home_quiet m h a fa = (to, from)
+  where
+    there : (l : BoardLink) × (link_of 1 m.star.links ≡ Some l) × Standing board_operations most_items (board_operations.t.content m.opening) (turns 1 m.star.order) m.star.board (mix_made m.trace) 0 (mix_shown m.trace) 1 l a
+    there = home_linked board_operations board_laws most_items m h a fa
+
+    lengths : Option BoardLink → Option ℕ
+    lengths o = option_map (λ (l : BoardLink). length l.outbox) o
+
+    number : a.site.number ≡ 1
+    number = there.2.pair.site_number
+
+    to : IsQuietAt a m.star → IsHomeQuiet board_operations m
+    to q l b fl fb =
+        let same : a ≡ b = cc in
+        let counted : lengths (Some l) ≡ Some 0 = ap lengths (sym fl) ∙ ap (λ n. lengths (link_of n m.star.links)) (sym number) ∙ q.2 in
+        let zero : length l.outbox ≡ 0 = cc in
+        subst (λ (x : BoardAttached). (x.up ≡ []) × (x.down ≡ []) × (l.outbox ≡ [])) same (q.0, q.1, nil_from_length l.outbox zero)
+
+    from : IsHomeQuiet board_operations m → IsQuietAt a m.star
+    from q =
+        let all = q there.0 a there.1 fa in
+        (all.0, all.1, ap (λ n. lengths (link_of n m.star.links)) number ∙ ap lengths there.1 ∙ ap (λ (os : List (Down BoardOp)). Some (length os)) all.2)
+
+-- so where the site may be absent
+pub some_quiet : (m : BoardMix) → IsMix m → (a : BoardAttached) → m.site ≡ Some a → (b : Bool) → IsTrue b ↔ IsQuietAt a m.star → IsTrue b ↔ IsHomeQuiet board_operations m
+some_quiet m h a fa b test = let quiet = home_quiet m h a fa in ((λ yes. quiet.0 (test.0 yes)), (λ yes. test.1 (quiet.1 yes)))
+
+pub none_quiet : (m : BoardMix) → m.site ≡ None → IsTrue true ↔ IsHomeQuiet board_operations m
+none_quiet m gone = ((λ yes l a fl fa. absurd (cc)), (λ yes. refl))
+
+-- then it is level with the star
+pub quiet_agrees : (m : BoardMix) → IsMix m → IsHomeQuiet board_operations m → HomeAgrees m
+quiet_agrees m h q a fa =
+    let kept = mix-promises board_operations board_laws most_items m h in
+    (kept.equal q a fa, kept.whole q a fa)

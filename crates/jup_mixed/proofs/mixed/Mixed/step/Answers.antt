@@ -1,0 +1,38 @@
+use Rattle.std.proofs.Common.{◌∙◌, ◌++◌, ◌∷◌, [], sym, ap, subst}
+use Rattle.std.specs.Option.{option_map}
+use Rattle.jup_window.specs.BoardOperations.{board_operations}
+use Rattle.jup_world.specs.WorldFields.{bare_attached}
+use Rattle.jup_world.specs.NumberedReplies.{numbered_reply}
+use Rattle.jup_mixed.specs.contracts.mixed.Mixed.{the_view}
+use Rattle.jup_mixed.specs.MixFields.{numbered_mix, IsMix}
+use Rattle.jup_mixed.specs.MixPromises.{MixOrderIsKept}
+use Rattle.jup_mixed.proofs.MixProgram.{MixTrace, mix_answered, mix_ready, mix_played, mix_next, mix_keeps, mix_spared, mix_still}
+use Rattle.jup_mixed.proofs.mixed.Mixed.step.Goals as goal
+
+pub happen-requires : goal.happen-requires
+happen-requires c = mix_ready (the_view c.self.inside) c.self.invariant
+
+pub invariant_of-self-in_err-reply : goal.invariant_of-self-in_err-reply
+invariant_of-self-in_err-reply c =
+    mix_still (the_view c.self.inside) _ c.self.invariant
+    (mix_spared (the_view c.self.inside) c.happen.new.star (option_map bare_attached c.happen.new.site) _ c.in_err-reply.ensures.spared (ap numbered_mix c.reserve.ensures.items))
+
+pub invariant_of-self-2 : goal.invariant_of-self-2
+invariant_of-self-2 c =
+    let m = the_view c.self.inside in
+    let trace = c.note.ensures
+    ∙ ap (λ (h : MixTrace). h ++ record { event = c.args.event.now; reply = numbered_reply c.in_ok-reply.reply } ∷ []) (ap numbered_mix c.reserve.ensures.items) in
+    subst IsMix (sym (mix_played m c.args.event.now (numbered_reply c.in_ok-reply.reply) c.happen.new.star (option_map bare_attached c.happen.new.site) _ c.in_ok-reply.ensures.plays trace))
+    (mix_next m c.args.event.now c.self.invariant)
+
+pub returns-clause-withheld : goal.returns-clause-withheld
+returns-clause-withheld c = rw (← c.self.view_is) (mix_answered (the_view c.self.inside) c.args.event.now c.self.invariant)
+
+pub returns-clause-order : goal.returns-clause-order
+returns-clause-order c =
+    let m = the_view c.self.inside in
+    let trace = c.note.ensures
+    ∙ ap (λ (h : MixTrace). h ++ record { event = c.args.event.now; reply = numbered_reply c.in_ok-reply.reply } ∷ []) (ap numbered_mix c.reserve.ensures.items) in
+    rw (← c.self.view_is) (subst (MixOrderIsKept board_operations m)
+    (sym (mix_played m c.args.event.now (numbered_reply c.in_ok-reply.reply) c.happen.new.star (option_map bare_attached c.happen.new.site) _ c.in_ok-reply.ensures.plays trace))
+    (mix_keeps m c.args.event.now c.self.invariant))

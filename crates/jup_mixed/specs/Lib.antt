@@ -1,0 +1,7 @@
+pub mod MixEvents
+pub mod MixFields
+pub mod MixPromises
+pub mod MixSound
+pub mod MixStates
+pub mod MixSteps
+pub mod MixTraces

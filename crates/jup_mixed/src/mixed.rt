@@ -1,0 +1,189 @@
+//! A star with one site of this product, and links of strangers, which send any messages.
+ghost use Rattle.std.specs.Prelude.{◌≡◌, ◌⊎◌, ◌↔◌, ◌∷◌, ◌++◌, ◌<◌, [], vec_len, None, Some, IsTrue, IfOk, IfErr, IfSome, OnOk, OnErr};
+ghost use Rattle.std.specs.Vec.{vec_capacity};
+ghost use Rattle.std.specs.Option.{option_map, option_copied};
+ghost use Rattle.jup_window.specs.Entries.{EachWidget};
+ghost use Rattle.jup_window.specs.Boards.{bare, content, meaning};
+ghost use Rattle.jup_window.specs.BoardOperations.{board_operations};
+ghost use Rattle.jup_star.specs.StarCalls.{star_open_fault};
+ghost use Rattle.jup_star.specs.declared.faults.OpenFault.TheVariants as open_fault;
+ghost use Rattle.jup_star.specs.Openings.{IsShort};
+ghost use Rattle.jup_world.specs.NumberedReplies.{numbered_reply};
+ghost use Rattle.jup_mixed.specs.MixStates.{opened_mix, IsHomeQuiet};
+ghost use Rattle.jup_mixed.specs.MixSteps.{mix_outcome, mix_happens};
+ghost use Rattle.jup_mixed.specs.MixTraces.{mix_view};
+ghost use Rattle.jup_world.specs.Sound.{edits_in};
+ghost use Rattle.jup_mixed.specs.MixPromises.{MixReplies, MixOrderIsKept};
+ghost use Rattle.jup_mixed.specs.MixFields.{numbered_mix, IsMixSpared, HomeAgrees};
+
+use crate::happening::{copy_event, happen};
+use crate::{MixEvent, MixHappened};
+use jup_link::Msg;
+use jup_seq::SeqOp;
+use jup_setting::SetOp;
+use jup_star::{OpenFault, Site, Star, Up, is_short};
+use jup_value::Label;
+use jup_window::{Board, BoardOp, Command, Edit, Effect, Setting, Value, WidgetOp};
+use jup_world::{Attached, Reply};
+use jup_xform::NoMemory;
+use std::alloc::Global;
+use std::marker::{Model, PhantomData};
+
+/// A star with one site, number 1, whose streams lose nothing and keep their order, and with the links of
+/// strangers, of whom nothing is known.
+#[derive(Drop)]
+pub struct Mixed {
+    opening: Board,
+    star: Star,
+    site: Option<Attached>,
+    trace: Vec<MixHappened>,
+}
+
+impl Model for Mixed {
+    ghost use Rattle.std.specs.Option.{option_map};
+    ghost use Rattle.jup_window.specs.Boards.{bare};
+    ghost use Rattle.jup_world.specs.WorldFields.{bare_attached};
+    ghost use Rattle.jup_mixed.specs.MixPromises.{BoardMix};
+    ghost use Rattle.jup_mixed.specs.MixFields.{numbered_mix, IsMix};
+
+    ghost Value = { BoardMix };
+
+    ghost view = { λ m. record {
+      opening = bare m.opening;
+      star = m.star;
+      site = option_map bare_attached m.site;
+      trace = numbered_mix m.trace.items;
+    } };
+
+    ghost invariant = { λ m. IsMix (record {
+      opening = bare m.opening;
+      star = m.star;
+      site = option_map bare_attached m.site;
+      trace = numbered_mix m.trace.items;
+    }) };
+}
+
+// What stands within an event.
+type Within = (
+    SeqOp<char>,
+    SeqOp<Label>,
+    SetOp<bool>,
+    WidgetOp,
+    BoardOp,
+    Msg<BoardOp>,
+    Up,
+    Command,
+    Value,
+    Setting,
+    Label,
+    Effect,
+    Edit,
+);
+
+// Puts an event with its reply at the end of a trace that has room for it.
+fn note(trace: &mut Vec<MixHappened>, event: &MixEvent, reply: &Reply)
+    requires { vec_len trace.old < vec_capacity trace.old }
+    ensures { numbered_mix trace.new.items
+        ≡ numbered_mix trace.old.items ++ record { event = event.now; reply = numbered_reply reply.now } ∷ [] }
+{
+    // The checker learns of the types within an event from this.
+    let _within: PhantomData<Within> = PhantomData;
+    trace.push_reserved(MixHappened {
+        event: copy_event(event),
+        reply: *reply,
+    });
+}
+
+impl Mixed {
+    /// A star over a board whose texts and lists have at most 65,536 items each, which [`is_short`] tests,
+    /// with site 1 and no stranger. Refused, in this order: a limit that is not 1 to 16,777,216, a board with
+    /// an item that is not of a layout, whose items have site 0, no memory.
+    pub fn open(alloc: Global, board: Board, limit: u32) -> Result<Mixed, OpenFault>
+        requires short { EachWidget IsShort board }
+        ensures opened { IfOk result (λ mixed. mixed ≡ opened_mix board_operations (bare board) limit) }
+        ensures accepts { OnOk result (star_open_fault (bare board) limit ≡ None) }
+        ensures refusal { IfErr result (λ fault. ((fault ≡ open_fault.NoMemory) × (star_open_fault (bare board) limit ≡ None))
+            ⊎ (star_open_fault (bare board) limit ≡ Some fault)) }
+    {
+        // It tells that no two items of a widget have one name, on which all that follows rests.
+        let _short = is_short(&board);
+        let mut star = Star::open(alloc, board, limit)?;
+        let opening = match star.board().copy(alloc) {
+            Err(NoMemory) => return Err(OpenFault::NoMemory),
+            Ok(opening) => opening,
+        };
+        let Ok(joined) = star.join(alloc) else {
+            return Err(OpenFault::NoMemory);
+        };
+        let site = Site::open(alloc, joined.site, joined.limit, joined.board).unwrap();
+        Ok(Mixed {
+            opening,
+            star,
+            site: Some(Attached::new(alloc, site)),
+            trace: Vec::new(alloc),
+        })
+    }
+
+    /// Plays one event, which then stands in the trace with its reply. Where memory is refused nothing has
+    /// changed, but that one message may stand in the site's down stream that stood in its outbox.
+    pub fn step(&mut self, alloc: Global, event: &MixEvent) -> Result<Reply, NoMemory>
+        ensures reply { IfOk result (λ reply. numbered_reply reply ≡ (mix_outcome board_operations self.old event.now).reply) }
+        ensures withheld { OnOk result (MixReplies board_operations self.old event.now (mix_outcome board_operations self.old event.now)) }
+        ensures ok { OnOk result (self.new ≡ mix_happens board_operations self.old event.now) }
+        ensures err { OnErr result (IsMixSpared self.old self.new) }
+        ensures order { OnOk result (MixOrderIsKept board_operations self.old self.new) }
+    {
+        // The checker learns of the types within an event from this.
+        let _within: PhantomData<Within> = PhantomData;
+        self.trace.reserve(1).map_err(|_| NoMemory)?;
+        let reply = happen(alloc, &mut self.star, &mut self.site, event)?;
+        note(&mut self.trace, event, &reply);
+        Ok(reply)
+    }
+
+    /// The board that it was opened with.
+    pub fn opening(&self) -> &Board
+        ensures { bare result.now ≡ self.now.opening }
+    {
+        &self.opening
+    }
+
+    /// The star. At every moment its content is what its order means.
+    pub fn star(&self) -> &Star
+        ensures star { result.now ≡ self.now.star }
+        ensures content { content result.now.board ≡ meaning (content self.now.opening) (edits_in board_operations result.now.order) }
+    {
+        &self.star
+    }
+
+    /// What has happened, oldest first.
+    pub fn trace(&self) -> &[MixHappened]
+        ensures { numbered_mix result.now ≡ self.now.trace }
+    {
+        &self.trace
+    }
+
+    /// Site 1, while it is attached. At every moment its content is what the entries that it was told, and
+    /// its own edits that are not among them, mean.
+    pub fn site(&self) -> Option<&Site>
+        ensures site { option_copied result ≡ option_map (λ a. a.site) self.now.site }
+        ensures content { IfSome result (λ site. content site.now.board ≡ meaning (content self.now.opening) (mix_view self.now.star.order self.now.trace)) }
+    {
+        match &self.site {
+            Some(home) => Some(&home.site),
+            None => None,
+        }
+    }
+
+    /// Whether no message is on its way from site 1 or to it. Then its board is the star's, and the order
+    /// has each of its edits once, in its order.
+    pub fn quiet(&self) -> bool
+        ensures quiet { IsTrue result ↔ IsHomeQuiet board_operations self.now }
+        ensures agree { IsTrue result → HomeAgrees self.now }
+    {
+        match &self.site {
+            Some(home) => home.is_quiet(&self.star),
+            None => true,
+        }
+    }
+}

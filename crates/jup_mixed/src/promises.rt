@@ -1,0 +1,27 @@
+//! What every star with one site and strangers keeps, whatever they send.
+
+ghost use Rattle.std.specs.Prelude.{List};
+ghost use Rattle.jup_window.specs.BoardOperations.{board_operations};
+ghost use Rattle.jup_mixed.specs.MixSteps.{mix_outcome, mix_run};
+ghost use Rattle.jup_mixed.specs.MixPromises.{MixPromises, MixReplies, OnlyFull, MixOrderIsKept, BoardMix, BoardMixEvent, IsMixed};
+
+/// After any list of edits of site 1, deliveries to it and from it, and joins, messages and departures of
+/// strangers:
+///
+/// - the star shows what its order means, and the site what it was told and made means; whenever no message
+///   is on its way to the site or from it, its board is the star's, and the order has each of its edits once;
+/// - whatever event comes next is answered, and nothing is withheld. If it is a stranger's message, site 1
+///   stays as it is, and the message is refused, its link alone being gone, or is an acknowledgement or a ping,
+///   or is one valid entry of the order under its link's next name;
+/// - the site is detached by a full order alone;
+/// - whatever events come next, the star and the site keep the order of their items.
+///
+/// It does nothing: its contract is the theorem.
+pub fn mixed_agree()
+    ensures kept { (m : BoardMix) → IsMixed m → MixPromises board_operations m }
+    ensures replies { (m : BoardMix) → IsMixed m → (event : BoardMixEvent)
+        → MixReplies board_operations m event (mix_outcome board_operations m event) }
+    ensures detached { (m : BoardMix) → IsMixed m → OnlyFull board_operations m }
+    ensures order { (m : BoardMix) → IsMixed m → (events : List BoardMixEvent)
+        → MixOrderIsKept board_operations m (mix_run board_operations m events) }
+{}

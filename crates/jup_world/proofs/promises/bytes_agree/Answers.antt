@@ -1,0 +1,20 @@
+use Rattle.jup_lane.specs.Messages.{ups, downs}
+use Rattle.jup_world.specs.LaneWorlds.{messages_of}
+use Rattle.jup_world.proofs.QuietWorlds.{all_agree}
+use Rattle.jup_world.proofs.LaneWorldLaws.{ways_determined, still_quiet, steps_keep}
+use Rattle.jup_world.proofs.LaneOrder.{steps_order}
+use Rattle.jup_world.proofs.promises.bytes_agree.Goals as goal
+
+pub returns-clause-agree : goal.returns-clause-agree
+returns-clause-agree c events w v is steps still =
+    let kept = steps_keep events w v is steps in
+    all_agree (messages_of v) kept.world ((still_quiet v kept.carry).0 still)
+
+pub returns-clause-order : goal.returns-clause-order
+returns-clause-order c = steps_order
+
+pub returns-clause-up : goal.returns-clause-up
+returns-clause-up c = ways_determined ups
+
+pub returns-clause-down : goal.returns-clause-down
+returns-clause-down c = ways_determined downs

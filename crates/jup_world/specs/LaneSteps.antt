@@ -1,0 +1,147 @@
+-- What an event does to a world whose links carry bytes, and what want of memory leaves.
+use Rattle.std.specs.Prelude.{◌≡◌, ◌⊎◌, ℕ, ◌+◌, ◌-◌, cond, min, nat_eq, List, [], ◌∷◌, ◌++◌, length, Option, Some, None, slice_get, take}
+use Rattle.jup_window.specs.BoardOperations.{board_operations}
+use Rattle.jup_star.specs.declared.messages.Down.{Down}
+use Rattle.jup_window.specs.declared.board_operations.BoardOp.{BoardOp}
+use Rattle.jup_star.specs.StarStates.{link_of}
+use Rattle.jup_lane.specs.Codecs.{bytes_of}
+use Rattle.jup_lane.specs.Lanes.{Way, sent, messages, IsMovedOn, oldest_length}
+use Rattle.jup_lane.specs.Messages.{ups, downs}
+use Rattle.jup_world.specs.Events.{Nothing, Moved, Up as MoveUp, Down as MoveDown}
+use Rattle.jup_world.specs.WorldSteps.{Outcome, outcome, unchanged, only_fetched}
+use Rattle.jup_world.specs.Replies.{RepliesTo}
+use Rattle.jup_world.specs.BoardWorlds.{BoardWorld, BoardLink, BoardReply}
+use Rattle.jup_world.specs.LaneWorlds.{LaneEvent, Plain, PushUp, PushDown, LaneSite, LaneWorld, messages_of, lane_site, plain_happened, plain_trace, AllCarry}
+
+-- # What an event answers, and what it leaves of the messages
+
+-- a push that moved so many bytes
+abbrev pub push_reply : ℕ → BoardReply
+push_reply count = cond (nat_eq count 0) Nothing (Moved count)
+
+-- the bytes of the up stream of a site, if it is attached
+abbrev pub there_up : Option LaneSite → List ℕ
+there_up None = []
+there_up (Some a) = a.up.stream
+
+-- those that stand in a down stream once it is filled: where it has none, those of the oldest message of the outbox
+abbrev pub filled_stream : List ℕ → List (Down BoardOp) → List ℕ
+filled_stream [] [] = []
+filled_stream [] (down ∷ outbox) = bytes_of downs down
+filled_stream (byte ∷ stream) outbox = byte ∷ stream
+
+-- if it is attached
+abbrev pub there_down : Option BoardLink → Option LaneSite → List ℕ
+there_down None None = []
+there_down None (Some a) = []
+there_down (Some l) None = []
+there_down (Some l) (Some a) = filled_stream a.down.stream l.outbox
+
+-- the messages, once an empty down stream was filled
+abbrev pub filled_from : BoardWorld → ℕ → BoardLink → List ℕ → List (Down BoardOp) → BoardWorld
+filled_from m i l [] [] = m
+filled_from m i l [] (down ∷ outbox) = only_fetched board_operations m i 1 l
+filled_from m i l (byte ∷ stream) outbox = m
+
+abbrev pub filled_for : BoardWorld → ℕ → Option BoardLink → Option LaneSite → BoardWorld
+filled_for m i None None = m
+filled_for m i None (Some a) = m
+filled_for m i (Some l) None = m
+filled_for m i (Some l) (Some a) = filled_from m i l a.down.stream l.outbox
+
+-- each event: a push changes no message, but that it fills an empty down stream
+abbrev pub lane_outcome : LaneWorld → LaneEvent → Outcome board_operations
+lane_outcome w (Plain event) = outcome board_operations (messages_of w) event
+lane_outcome w (PushUp i n) = unchanged board_operations (messages_of w) (push_reply (min n (length (there_up (lane_site i w.sites)))))
+lane_outcome w (PushDown i n) =
+    unchanged board_operations (filled_for (messages_of w) i (link_of i w.star.links) (lane_site i w.sites))
+    (push_reply (min n (length (there_down (link_of i w.star.links) (lane_site i w.sites)))))
+
+-- the messages after it
+abbrev pub messages_after : LaneWorld → LaneEvent → BoardWorld
+messages_after w event =
+    let o = lane_outcome w event in
+    record { opening = w.opening; star = o.star; sites = o.sites; trace = plain_trace w.trace ++ plain_happened event o.reply }
+
+-- # How many bytes the readers hold then
+
+-- of what a site sends up
+abbrev pub up_read : LaneEvent → ℕ → LaneSite → ℕ
+up_read (Plain (MoveUp i)) j a = length a.up.read - cond (nat_eq i j) (oldest_length ups (messages ups a.up)) 0
+up_read (PushUp i n) j a = length a.up.read + cond (nat_eq i j) (min n (length a.up.stream)) 0
+up_read event j a = length a.up.read
+
+-- of what it is sent
+abbrev pub down_read : LaneEvent → ℕ → BoardLink → LaneSite → ℕ
+down_read (Plain (MoveDown i)) j l a = length a.down.read - cond (nat_eq i j) (oldest_length downs (messages downs a.down ++ l.outbox)) 0
+down_read (PushDown i n) j l a = length a.down.read + cond (nat_eq i j) (min n (length (filled_stream a.down.stream l.outbox))) 0
+down_read event j l a = length a.down.read
+
+-- # Steps
+
+-- An event leads from one world to another. The messages, and how many of their bytes each reader has, determine all bytes.
+pub record Steps (w : LaneWorld) (event : LaneEvent) (v : LaneWorld) : Type 0 where
+  pub messages : messages_of v ≡ messages_after w event
+  pub trace : v.trace ≡ w.trace ++ record { event = event; reply = (lane_outcome w event).reply } ∷ []
+  pub carry : AllCarry v.sites
+  pub up : (j : ℕ) (a b : LaneSite) → lane_site j w.sites ≡ Some a → lane_site j v.sites ≡ Some b → length b.up.read ≡ up_read event j a
+  pub down : (j : ℕ) (l : BoardLink) (a b : LaneSite) → link_of j w.star.links ≡ Some l → lane_site j w.sites ≡ Some a → lane_site j v.sites ≡ Some b
+      → length b.down.read ≡ down_read event j l a
+
+-- events in turn
+abbrev pub AllSteps : LaneWorld → List LaneEvent → LaneWorld → Type 0
+AllSteps w [] v = v ≡ w
+AllSteps w (e ∷ es) v = (u : LaneWorld) × Steps w e u × AllSteps u es v
+
+-- what an event answers: a push `Nothing` where it moves no byte, else how many
+abbrev pub AnswersTo : LaneWorld → LaneEvent → BoardReply → Type 0
+AnswersTo w (Plain event) r = RepliesTo board_operations (messages_of w) event r
+AnswersTo w (PushUp i n) r = r ≡ push_reply (min n (length (there_up (lane_site i w.sites))))
+AnswersTo w (PushDown i n) r = r ≡ push_reply (min n (length (there_down (link_of i w.star.links) (lane_site i w.sites))))
+
+-- # Want of memory
+
+-- a down stream that had no byte may have been given the oldest message of the outbox
+abbrev pub filled_way : List ℕ → List (Down BoardOp) → Way → Way
+filled_way [] [] way = way
+filled_way [] (down ∷ outbox) way = sent (bytes_of downs down) way
+filled_way (byte ∷ stream) outbox way = way
+
+-- the event may have touched this way of the link of a number
+abbrev pub TouchesUp : LaneEvent → ℕ → Type 0
+TouchesUp (Plain (MoveUp i)) j = i ≡ j
+TouchesUp event j = ⊥
+
+abbrev pub TouchesDown : LaneEvent → ℕ → Type 0
+TouchesDown (Plain (MoveDown i)) j = i ≡ j
+TouchesDown (PushDown i n) j = i ≡ j
+TouchesDown event j = ⊥
+
+-- Want of memory left all as it was, trace and boards too, but for the link of the event: on the way that the event moves, bytes may
+-- have gone from the stream into the reader, and down the oldest message of the outbox may stand last in the stream. So on each link
+-- the lines read, the reader's part and the stream, then the outbox, stand for the same messages
+pub record Rests (w : LaneWorld) (event : LaneEvent) (v : LaneWorld) : Type 0 where
+  pub opening : v.opening ≡ w.opening
+  pub trace : v.trace ≡ w.trace
+  pub messages : (messages_of v ≡ messages_of w)
+      ⊎ ((i : ℕ) × (l : BoardLink) × (a : LaneSite) × TouchesDown event i × (link_of i w.star.links ≡ Some l) × (lane_site i w.sites ≡ Some a)
+      × (messages_of v ≡ only_fetched board_operations (messages_of w) i 1 l))
+  pub carry : AllCarry v.sites
+  pub up : (j : ℕ) (a b : LaneSite) → lane_site j w.sites ≡ Some a → lane_site j v.sites ≡ Some b → (b.up ≡ a.up) ⊎ (TouchesUp event j × IsMovedOn a.up b.up)
+  pub down : (j : ℕ) (l : BoardLink) (a b : LaneSite) → link_of j w.star.links ≡ Some l → lane_site j w.sites ≡ Some a → lane_site j v.sites ≡ Some b
+      → (b.down ≡ a.down) ⊎ (TouchesDown event j × (IsMovedOn a.down b.down ⊎ IsMovedOn (filled_way a.down.stream l.outbox a.down) b.down))
+
+-- only an event that takes from a link, or fills its down stream, may have touched it
+abbrev pub IsSparedBy : LaneWorld → LaneEvent → LaneWorld → Type 0
+IsSparedBy w (Plain (MoveUp i)) v = Rests w (Plain (MoveUp i)) v
+IsSparedBy w (Plain (MoveDown i)) v = Rests w (Plain (MoveDown i)) v
+IsSparedBy w (PushDown i n) v = Rests w (PushDown i n) v
+IsSparedBy w event v = v ≡ w
+
+-- a run that was halted after so many events, at the next
+pub record IsHalted (w : LaneWorld) (events : List LaneEvent) (done : ℕ) (v : LaneWorld) : Type 0 where
+  pub between : LaneWorld
+  pub event : LaneEvent
+  pub steps : AllSteps w (take done events) between
+  pub next : slice_get events done ≡ Some event
+  pub spared : IsSparedBy between event v

@@ -1,0 +1,147 @@
+//! Runs beside strangers that were worked out by hand.
+use crate::events::{joins, mixed_over, plays, read, strays, types};
+use jup_mixed::{MixEvent, Mixed};
+use jup_seq::SeqOp;
+use jup_star::{OpenFault, StarFault, Up};
+use jup_value::{Item, Name};
+use jup_window::{Edit, Effect};
+use jup_world::Reply;
+use test_boards::board_of;
+
+fn made(number: u32, value: char) -> Reply {
+    Reply::Made(Edit {
+        win: 1,
+        wid: 1,
+        what: Effect::PutChar(Name { site: 1, number }, value),
+    })
+}
+
+fn inserts(site: u32, number: u32, value: char) -> SeqOp<char> {
+    let name = Name { site, number };
+    SeqOp::Insert {
+        place: 0,
+        item: Item { name, value },
+    }
+}
+
+// The stranger of link 2 deletes the first item of the layout.
+fn deletes() -> MixEvent {
+    let name = Name { site: 0, number: 1 };
+    strays(2, 0, SeqOp::Delete { place: 0, name })
+}
+
+fn asks(link: u32) -> MixEvent {
+    MixEvent::Stray(link, Up::Ping(7))
+}
+
+// With any one allocation refused it comes to the same: an event that was refused memory is played again.
+#[test]
+fn a_stranger_deletes_and_then_says_it_again(rt: HostRuntime) {
+    let alloc = rt.alloc();
+    let mut mixed = mixed_over(&rt, alloc, "text 1 \"ab\"");
+    plays(&rt, alloc, &mut mixed, types(2, 'c'), made(1, 'c'));
+    joins(&rt, alloc, &mut mixed, 2);
+    plays(&rt, alloc, &mut mixed, deletes(), Reply::Taken(0));
+    plays(&rt, alloc, &mut mixed, MixEvent::Up, Reply::Taken(1));
+    plays(&rt, alloc, &mut mixed, MixEvent::Down, Reply::Shown);
+    read(&rt, &mixed, "bc", "bc");
+    assert!(rt; mixed.quiet());
+    let again = Reply::Detached(StarFault::BadCount);
+    plays(&rt, alloc, &mut mixed, deletes(), again);
+    plays(&rt, alloc, &mut mixed, deletes(), Reply::Nothing);
+    plays(&rt, alloc, &mut mixed, types(0, 'd'), made(2, 'd'));
+    assert!(rt; !mixed.quiet());
+    plays(&rt, alloc, &mut mixed, MixEvent::Up, Reply::Taken(2));
+    read(&rt, &mixed, "dbc", "dbc");
+    assert_eq!(rt; mixed.trace().len(), 9);
+}
+
+// Each stranger is refused and its link is gone; the next has the next number.
+#[test]
+fn strangers_are_refused_by_name(rt: HostRuntime) {
+    let alloc = rt.alloc();
+    let mut mixed = mixed_over(&rt, alloc, "text 1 \"ab\"");
+    plays(&rt, alloc, &mut mixed, types(2, 'c'), made(1, 'c'));
+    for (link, mine, op, fault) in [
+        (2, 1, inserts(2, 1, 'x'), StarFault::BadCount),
+        (3, 0, inserts(1, 1, 'x'), StarFault::BadName),
+        (4, 0, inserts(4, 2, 'x'), StarFault::BadName),
+        (5, 0, SeqOp::Nothing, StarFault::NotAnEdit),
+    ] {
+        joins(&rt, alloc, &mut mixed, link);
+        let refused = Reply::Detached(fault);
+        plays(&rt, alloc, &mut mixed, strays(link, mine, op), refused);
+        plays(
+            &rt,
+            alloc,
+            &mut mixed,
+            strays(link, mine, op),
+            Reply::Nothing,
+        );
+    }
+    joins(&rt, alloc, &mut mixed, 6);
+    let heard = MixEvent::Stray(6, Up::Ack(1));
+    let refused = Reply::Detached(StarFault::BadAck);
+    plays(&rt, alloc, &mut mixed, heard, refused);
+    read(&rt, &mixed, "ab", "abc");
+    plays(&rt, alloc, &mut mixed, MixEvent::Up, Reply::Taken(0));
+    read(&rt, &mixed, "abc", "abc");
+}
+
+// A stranger has no part in the site's link, and none in one that it left.
+#[test]
+fn a_stranger_speaks_for_no_other_link(rt: HostRuntime) {
+    let alloc = rt.alloc();
+    let mut mixed = mixed_over(&rt, alloc, "text 1 \"ab\"");
+    let as_home = strays(1, 0, inserts(1, 1, 'x'));
+    plays(&rt, alloc, &mut mixed, as_home, Reply::Nothing);
+    plays(
+        &rt,
+        alloc,
+        &mut mixed,
+        MixEvent::LeaveStray(1),
+        Reply::Nothing,
+    );
+    joins(&rt, alloc, &mut mixed, 2);
+    plays(&rt, alloc, &mut mixed, asks(2), Reply::Heard);
+    plays(&rt, alloc, &mut mixed, MixEvent::LeaveStray(2), Reply::Left);
+    plays(
+        &rt,
+        alloc,
+        &mut mixed,
+        MixEvent::LeaveStray(2),
+        Reply::Nothing,
+    );
+    plays(&rt, alloc, &mut mixed, asks(2), Reply::Nothing);
+    plays(&rt, alloc, &mut mixed, types(2, 'c'), made(1, 'c'));
+    plays(&rt, alloc, &mut mixed, MixEvent::Up, Reply::Taken(0));
+    read(&rt, &mixed, "abc", "abc");
+}
+
+// A limit of one edit, which a stranger uses up.
+#[test]
+fn a_stranger_fills_the_order(rt: HostRuntime) {
+    let alloc = rt.alloc();
+    let board = board_of(alloc, &["window 1", "text 1 \"ab\""]).expect(&rt, "a board");
+    let mut mixed = Mixed::open(alloc, board, 1).expect(&rt, "a limit of one");
+    plays(&rt, alloc, &mut mixed, types(2, 'c'), made(1, 'c'));
+    joins(&rt, alloc, &mut mixed, 2);
+    plays(&rt, alloc, &mut mixed, deletes(), Reply::Taken(0));
+    let full = Reply::Detached(StarFault::LogFull);
+    plays(&rt, alloc, &mut mixed, MixEvent::Up, full);
+    assert!(rt; mixed.site().is_none());
+    assert!(rt; mixed.quiet());
+    plays(&rt, alloc, &mut mixed, MixEvent::Up, Reply::Nothing);
+}
+
+#[test]
+fn what_no_star_opens_with(rt: HostRuntime) {
+    let alloc = rt.alloc();
+    for (limit, fault) in [(0, OpenFault::BadLimit), (16_777_217, OpenFault::BadLimit)] {
+        let board = board_of(alloc, &["window 1", "text 1 \"ab\""]).expect(&rt, "a board");
+        assert!(rt; Mixed::open(alloc, board, limit).err() == Some(fault));
+    }
+    let opening = board_of(alloc, &["window 1", "text 1 \"ab\""]).expect(&rt, "a board");
+    let mixed = mixed_over(&rt, alloc, "text 1 \"ab\"");
+    assert!(rt; mixed.opening().same(&opening));
+}

@@ -1,0 +1,328 @@
+//! Ten thousand messages of four strangers, valid, half valid and senseless, beside one site that edits.
+use crate::events::{mixed_over, step};
+use jup_link::Msg;
+use jup_mixed::{MixEvent, Mixed};
+use jup_seq::SeqOp;
+use jup_star::{Star, Up};
+use jup_value::{Item, Name, Seq};
+use jup_window::{Board, BoardOp, Command, Value, Widget, WidgetOp};
+use jup_world::Reply;
+use std::alloc::Global;
+use std::process::Abort;
+
+/// How many messages the strangers send.
+const MESSAGES: u32 = 10_000;
+
+/// More turns than they need for that.
+const TURNS: u32 = 20_000;
+
+/// Numbers that look random and are the same in each run: a linear congruence, of which the upper half counts.
+#[derive(Drop)]
+struct Dice {
+    state: u32,
+}
+
+impl Dice {
+    // A number below this, which is not 0.
+    fn roll(&mut self, below: u32) -> u32 {
+        let next = self.state.wrapping_mul(1_664_525);
+        self.state = next.wrapping_add(1_013_904_223);
+        (self.state >> 16).checked_rem(below).unwrap_or(0)
+    }
+
+    // Once in so many times.
+    fn once_in(&mut self, times: u32) -> bool {
+        self.roll(times) == 0
+    }
+
+    // The number, or once in forty times the next.
+    fn slips(&mut self, number: u32) -> u32 {
+        if self.once_in(40) {
+            number.saturating_add(1)
+        } else {
+            number
+        }
+    }
+}
+
+/// A stranger's link, and what a site in its place would know.
+#[derive(Clone, Copy, Drop)]
+struct Stranger {
+    /// Its number, or 0 where it has none.
+    link: u32,
+    /// How many edits the order had at its join.
+    joined_at: u32,
+    /// How many of its edits were taken, how many of these were insertions, and how many of others it has heard.
+    made: u32,
+    named: u32,
+    heard: u32,
+}
+
+const ABSENT: Stranger = Stranger {
+    link: 0,
+    joined_at: 0,
+    made: 0,
+    named: 0,
+    heard: 0,
+};
+
+/// How many messages of strangers were sent, taken into the order, and refused.
+#[derive(Clone, Copy, Debug, Drop, PartialEq, Eq)]
+struct Tally {
+    sent: u32,
+    taken: u32,
+    refused: u32,
+}
+
+fn taken_by(star: &Star) -> u32 {
+    u32::try_from(star.order().len()).unwrap_or(u32::MAX)
+}
+
+fn text_of(board: &Board) -> Option<&Seq<char>> {
+    match board.widget(1, 1) {
+        Some(Widget::Text(text)) => Some(text),
+        _ => None,
+    }
+}
+
+fn length_of(board: &Board) -> u32 {
+    match text_of(board) {
+        Some(text) => text.len(),
+        None => 0,
+    }
+}
+
+fn name_at(board: &Board, place: u32) -> Option<Name> {
+    let text = text_of(board)?;
+    if place < text.len() {
+        text.get(place).map(|item| item.name)
+    } else {
+        None
+    }
+}
+
+impl Stranger {
+    // How many edits of others the star sent to it.
+    fn told(&self, star: &Star) -> u32 {
+        taken_by(star)
+            .saturating_sub(self.joined_at)
+            .saturating_sub(self.made)
+    }
+
+    // What it says to have heard: mostly all that it was told, else less, or one more.
+    fn hears(&self, dice: &mut Dice, star: &Star) -> u32 {
+        let told = self.told(star);
+        if dice.once_in(4) {
+            let more = told.saturating_sub(self.heard);
+            self.heard.saturating_add(dice.roll(more.saturating_add(2)))
+        } else {
+            told
+        }
+    }
+
+    // An edit of text 1: an insertion, the deletion of what stands at a place, or nothing.
+    fn operation(&self, dice: &mut Dice, board: &Board) -> SeqOp<char> {
+        let length = length_of(board);
+        if dice.once_in(40) {
+            return SeqOp::Nothing;
+        }
+        if dice.once_in(3) {
+            let place = dice.roll(length.max(1));
+            let from = dice.slips(place);
+            if let Some(name) = name_at(board, from) {
+                return SeqOp::Delete { place, name };
+            }
+        }
+        let site = dice.slips(self.link);
+        let number = dice.slips(self.named.saturating_add(1));
+        SeqOp::Insert {
+            place: dice.roll(length.saturating_add(2)),
+            item: Item {
+                name: Name { site, number },
+                value: 's',
+            },
+        }
+    }
+
+    // What it sends next: mostly an edit.
+    fn message(&self, dice: &mut Dice, star: &Star) -> Up {
+        if dice.once_in(16) {
+            return Up::Ping(dice.roll(100));
+        }
+        let heard = self.hears(dice, star);
+        if dice.once_in(8) {
+            return Up::Ack(heard);
+        }
+        let op = BoardOp {
+            win: 1,
+            wid: 1,
+            op: WidgetOp::Text(self.operation(dice, star.board())),
+        };
+        let mine = dice.slips(self.made);
+        Up::Op(Msg { mine, heard, op })
+    }
+
+    // After a message that was taken, or heard.
+    fn after(&self, up: &Up) -> Stranger {
+        match up {
+            Up::Op(msg) => {
+                let inserted = match msg.op.op {
+                    WidgetOp::Text(SeqOp::Insert { .. }) => 1,
+                    _ => 0,
+                };
+                Stranger {
+                    made: self.made.saturating_add(1),
+                    named: self.named.saturating_add(inserted),
+                    heard: msg.heard,
+                    ..*self
+                }
+            }
+            Up::Ack(heard) => Stranger {
+                heard: *heard,
+                ..*self
+            },
+            Up::Ping(_) => *self,
+        }
+    }
+}
+
+// It joins. There are never more links than its four and the site's.
+fn joins(rt: &impl Abort, alloc: Global, mixed: &mut Mixed) -> Stranger {
+    let joined_at = taken_by(mixed.star());
+    match step(rt, alloc, mixed, &MixEvent::JoinStray) {
+        Reply::Joined(link) => Stranger {
+            link,
+            joined_at,
+            ..ABSENT
+        },
+        _ => panic!(rt; "a join is refused"),
+    }
+}
+
+// It sends a message by its link, or once in fifty times by the site's, where nothing happens.
+fn sends(
+    rt: &impl Abort,
+    alloc: Global,
+    dice: &mut Dice,
+    stranger: &mut Stranger,
+    mixed: &mut Mixed,
+) -> Reply {
+    let up = stranger.message(dice, mixed.star());
+    let next = stranger.after(&up);
+    if dice.once_in(50) {
+        return step(rt, alloc, mixed, &MixEvent::Stray(1, up));
+    }
+    let reply = step(rt, alloc, mixed, &MixEvent::Stray(stranger.link, up));
+    *stranger = match reply {
+        Reply::Detached(_) => ABSENT,
+        _ => next,
+    };
+    reply
+}
+
+// A stranger joins, or once in a hundred times leaves, or sends a message.
+fn stranger_goes_on(
+    rt: &impl Abort,
+    alloc: Global,
+    dice: &mut Dice,
+    stranger: &mut Stranger,
+    mixed: &mut Mixed,
+    tally: &mut Tally,
+) {
+    if stranger.link == 0 {
+        *stranger = joins(rt, alloc, mixed);
+    } else if dice.once_in(100) {
+        let left = step(rt, alloc, mixed, &MixEvent::LeaveStray(stranger.link));
+        assert_eq!(rt; left, Reply::Left);
+        *stranger = ABSENT;
+    } else {
+        tally.sent = tally.sent.saturating_add(1);
+        match sends(rt, alloc, dice, stranger, mixed) {
+            Reply::Taken(_) => tally.taken = tally.taken.saturating_add(1),
+            Reply::Detached(_) => tally.refused = tally.refused.saturating_add(1),
+            _ => {}
+        }
+    }
+}
+
+// What the site types or deletes next.
+fn command(dice: &mut Dice, board: &Board) -> Command {
+    let length = length_of(board);
+    if dice.once_in(3) {
+        Command::Delete {
+            win: 1,
+            wid: 1,
+            place: dice.roll(length.max(1)),
+        }
+    } else {
+        Command::Insert {
+            win: 1,
+            wid: 1,
+            place: dice.roll(length.saturating_add(1)),
+            value: Value::Char('h'),
+        }
+    }
+}
+
+// The site edits, or one of its messages moves; it is never detached.
+fn site_goes_on(rt: &impl Abort, alloc: Global, dice: &mut Dice, mixed: &mut Mixed) {
+    let event = match dice.roll(4) {
+        0 => {
+            let site = mixed.site().expect(rt, "the site is attached");
+            MixEvent::Edit(command(dice, site.board()))
+        }
+        1 => MixEvent::Up,
+        _ => MixEvent::Down,
+    };
+    let reply = step(rt, alloc, mixed, &event);
+    assert!(rt; !matches!(reply, Reply::Detached(_)));
+}
+
+// All messages of the strangers, and what became of them.
+fn crowd(rt: &impl Abort, alloc: Global, mixed: &mut Mixed) -> Tally {
+    let mut dice = Dice { state: 1995 };
+    let mut strangers = [ABSENT; 4];
+    let mut tally = Tally {
+        sent: 0,
+        taken: 0,
+        refused: 0,
+    };
+    for _ in 0..TURNS {
+        if tally.sent == MESSAGES {
+            return tally;
+        }
+        let at = dice.roll(4) as usize;
+        if let Some(stranger) = strangers.get_mut(at) {
+            stranger_goes_on(rt, alloc, &mut dice, stranger, mixed, &mut tally);
+        }
+        site_goes_on(rt, alloc, &mut dice, mixed);
+        site_goes_on(rt, alloc, &mut dice, mixed);
+    }
+    tally
+}
+
+// Delivers all that is on its way to the site and from it.
+fn drains(rt: &impl Abort, alloc: Global, mixed: &mut Mixed) {
+    for _ in 0..TURNS {
+        if mixed.quiet() {
+            return;
+        }
+        let _taken = step(rt, alloc, mixed, &MixEvent::Up);
+        let _shown = step(rt, alloc, mixed, &MixEvent::Down);
+    }
+}
+
+// At least a fifth of the messages is taken and a twentieth refused, so that neither kind is missing.
+#[test]
+fn a_site_in_a_crowd_of_strangers(rt: HostRuntime) {
+    let alloc = rt.alloc();
+    let mut mixed = mixed_over(&rt, alloc, "text 1 \"Jupiter\"");
+    let tally = crowd(&rt, alloc, &mut mixed);
+    assert_eq!(rt; tally.sent, MESSAGES);
+    assert!(rt; tally.taken >= MESSAGES / 5, "{tally:?}");
+    assert!(rt; tally.refused >= MESSAGES / 20, "{tally:?}");
+    drains(&rt, alloc, &mut mixed);
+    assert!(rt; mixed.quiet());
+    let site = mixed.site().expect(&rt, "the site is attached");
+    assert!(rt; site.board().same(mixed.star().board()));
+}

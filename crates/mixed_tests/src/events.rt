@@ -1,0 +1,79 @@
+//! What is played at a star with one site and strangers, and what both ends show.
+use jup_link::Msg;
+use jup_mixed::{MixEvent, Mixed};
+use jup_seq::SeqOp;
+use jup_star::Up;
+use jup_window::{BoardOp, Command, Value, WidgetOp};
+use jup_world::Reply;
+use std::alloc::Global;
+use std::process::Abort;
+use test_boards::{board_of, reads};
+
+/// How many edits a star takes here.
+const LIMIT: u32 = 100_000;
+
+fn opened(alloc: Global, widget: &str) -> Option<Mixed> {
+    let board = board_of(alloc, &["window 1", widget])?;
+    Mixed::open(alloc, board, LIMIT).ok()
+}
+
+/// A star over a window 1 with this widget. It is opened again where memory was refused once.
+pub(crate) fn mixed_over(rt: &impl Abort, alloc: Global, widget: &str) -> Mixed {
+    match opened(alloc, widget) {
+        Some(mixed) => mixed,
+        None => opened(alloc, widget).expect(rt, "a board, a limit and memory"),
+    }
+}
+
+/// Plays an event, and once more where memory was refused.
+pub(crate) fn step(rt: &impl Abort, alloc: Global, mixed: &mut Mixed, event: &MixEvent) -> Reply {
+    match mixed.step(alloc, event) {
+        Ok(reply) => reply,
+        Err(_) => mixed.step(alloc, event).expect(rt, "memory"),
+    }
+}
+
+/// Plays an event, which has to have this reply.
+pub(crate) fn plays(
+    rt: &impl Abort,
+    alloc: Global,
+    mixed: &mut Mixed,
+    event: MixEvent,
+    wanted: Reply,
+) {
+    assert_eq!(rt; step(rt, alloc, mixed, &event), wanted, "{event:?}");
+}
+
+/// The site types into text 1.
+pub(crate) fn types(place: u32, value: char) -> MixEvent {
+    let value = Value::Char(value);
+    MixEvent::Edit(Command::Insert {
+        win: 1,
+        wid: 1,
+        place,
+        value,
+    })
+}
+
+/// A stranger sends its `mine`-th edit of text 1, without having heard of any other.
+pub(crate) fn strays(link: u32, mine: u32, op: SeqOp<char>) -> MixEvent {
+    let op = BoardOp {
+        win: 1,
+        wid: 1,
+        op: WidgetOp::Text(op),
+    };
+    let msg = Msg { mine, heard: 0, op };
+    MixEvent::Stray(link, Up::Op(msg))
+}
+
+/// A stranger joins, under this number.
+pub(crate) fn joins(rt: &impl Abort, alloc: Global, mixed: &mut Mixed, link: u32) {
+    plays(rt, alloc, mixed, MixEvent::JoinStray, Reply::Joined(link));
+}
+
+/// The star's text 1 reads so, and the site's so.
+pub(crate) fn read(rt: &impl Abort, mixed: &Mixed, star: &str, site: &str) {
+    assert!(rt; reads(mixed.star().board(), star), "{star}");
+    let home = mixed.site().expect(rt, "the site is attached");
+    assert!(rt; reads(home.board(), site), "{site}");
+}

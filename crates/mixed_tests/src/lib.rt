@@ -1,0 +1,11 @@
+//! One site among strangers, by the public calls.
+#![tactic(auto)]
+
+ghost use Rattle.std.specs.Prelude.{◌≡◌};
+
+#[cfg(test)]
+mod attacks;
+#[cfg(test)]
+mod crowds;
+#[cfg(test)]
+mod events;

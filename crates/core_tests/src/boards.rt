@@ -5,9 +5,9 @@ use jup_value::{Item, Label, Name, NoMemory, Seq};
 use jup_window::{
     Board, BoardFault, BoardOp, Command, Edit, EditFault, Effect, Setting, Value, Widget, WidgetOp,
 };
-use jup_xform::{NoMemory as RoomRefused, Transform};
+use jup_xform::Transform;
 use std::alloc::Global;
-use std::test::Fail;
+use std::process::Abort;
 
 const NAME: Name = Name { site: 1, number: 1 };
 
@@ -17,16 +17,19 @@ fn toggle() -> Widget {
 
 // Window 1 has an empty text 1, an empty list 2, a toggle 3 that is off, and a slider 4 from 0 to
 // 10 at 5.
-fn four_widgets(alloc: Global) -> Result<Board, BoardFault> {
+fn four_widgets(rt: &impl Abort, alloc: Global) -> Board {
+    let slider = Slider::new(0, 10, 5).expect(rt, "5 is from 0 to 10");
     let mut board = Board::new(alloc);
-    board.add_window(alloc, 1)?;
-    board.add_widget(1, 1, Widget::Text(Seq::new(alloc)))?;
-    board.add_widget(1, 2, Widget::List(Seq::new(alloc)))?;
-    board.add_widget(1, 3, toggle())?;
-    if let Ok(slider) = Slider::new(0, 10, 5) {
-        board.add_widget(1, 4, Widget::Slider(slider))?;
+    board.add_window(alloc, 1).expect(rt, "it is new");
+    for (wid, widget) in [
+        (1, Widget::Text(Seq::new(alloc))),
+        (2, Widget::List(Seq::new(alloc))),
+        (3, toggle()),
+        (4, Widget::Slider(slider)),
+    ] {
+        board.add_widget(1, wid, widget).expect(rt, "it is new");
     }
-    Ok(board)
+    board
 }
 
 fn insert(wid: u16, place: u32, value: Value) -> Command {
@@ -66,78 +69,86 @@ fn refusal(board: &Board, command: Command) -> u32 {
     }
 }
 
-// Applies an operation where it is valid, and says whether it was.
-fn attempt<T: Transform>(alloc: Global, op: &T, state: &mut T::State) -> Result<bool, RoomRefused>
+// Applies an operation where it is valid and there is memory, and says whether it did.
+fn attempt<T: Transform>(alloc: Global, op: &T, state: &mut T::State) -> bool
     requires { T.can_reserve 0 }
 {
-    if !op.valid(state) {
-        return Ok(false);
+    if !op.valid(state) || op.reserve(alloc, 0, state).is_err() {
+        return false;
     }
-    op.reserve(alloc, 0, state)?;
     op.apply(state);
-    Ok(true)
+    true
+}
+
+// A board with windows of the ids from 1, each empty.
+fn windows(rt: &impl Abort, alloc: Global, count: u16) -> Board {
+    let mut board = Board::new(alloc);
+    for win in 1..=count {
+        board.add_window(alloc, win).expect(rt, "it is new");
+    }
+    board
 }
 
 #[test]
-fn windows_and_widgets_are_refused_in_order(rt: HostRuntime) -> Result<(), Fail> {
-    let mut board = Board::new(rt.alloc());
-    for win in 1..65 {
-        board.add_window(rt.alloc(), win)?;
-    }
+fn windows_are_refused_in_order(rt: HostRuntime) {
+    let mut board = windows(&rt, rt.alloc(), 64);
     assert_eq!(rt; board.add_window(rt.alloc(), 0), Err(BoardFault::BadId));
     assert_eq!(rt; board.add_window(rt.alloc(), 64), Err(BoardFault::DoubleId));
     assert_eq!(rt; board.add_window(rt.alloc(), 65), Err(BoardFault::TooMany));
-    assert_eq!(rt;
-        board.add_widget(65, 0, toggle()),
-        Err(BoardFault::NoWindow)
-    );
-    assert_eq!(rt; board.add_widget(64, 0, toggle()), Err(BoardFault::BadId));
+    assert_eq!(rt; BoardFault::TooMany.number(), 11);
+}
+
+#[test]
+fn widgets_are_refused_in_order(rt: HostRuntime) {
+    let mut board = windows(&rt, rt.alloc(), 1);
+    assert_eq!(rt; board.add_widget(2, 0, toggle()), Err(BoardFault::NoWindow));
+    assert_eq!(rt; board.add_widget(1, 0, toggle()), Err(BoardFault::BadId));
     for wid in 1..65 {
-        board.add_widget(64, wid, toggle())?;
+        board.add_widget(1, wid, toggle()).expect(&rt, "it is new");
     }
     assert_eq!(rt;
-        board.add_widget(64, 64, toggle()),
+        board.add_widget(1, 64, toggle()),
         Err(BoardFault::DoubleId)
     );
-    assert_eq!(rt;
-        board.add_widget(64, 65, toggle()),
-        Err(BoardFault::TooMany)
-    );
-    assert_eq!(rt; BoardFault::TooMany.number(), 11);
-    Ok(())
+    assert_eq!(rt; board.add_widget(1, 65, toggle()), Err(BoardFault::TooMany));
+}
+
+// Whether ids, as they stand, are these.
+fn are(ids: impl Iterator<Item = u16>, expected: &[u16]) -> bool {
+    ids.eq(expected.iter().copied())
 }
 
 #[test]
-fn ids_ascend(rt: HostRuntime) -> Result<(), Fail> {
+fn ids_ascend(rt: HostRuntime) {
     let mut board = Board::new(rt.alloc());
     for win in [7, 3, 65_535] {
-        board.add_window(rt.alloc(), win)?;
-        board.add_widget(win, 2, toggle())?;
-        board.add_widget(win, 1, toggle())?;
+        board.add_window(rt.alloc(), win).expect(&rt, "it is new");
+        board.add_widget(win, 2, toggle()).expect(&rt, "it is new");
+        board.add_widget(win, 1, toggle()).expect(&rt, "it is new");
     }
-    let wins = board.windows().iter().map(|entry| entry.0);
-    assert!(rt; wins.collect::<Vec<u16>>(rt.alloc())?.as_slice() == [3, 7, 65_535].as_slice());
+    assert!(rt; are(board.windows().iter().map(|entry| entry.0), &[3, 7, 65_535]));
     for entry in board.windows() {
-        let wids = entry.1.widgets().iter().map(|entry| entry.0);
-        assert!(rt; wids.collect::<Vec<u16>>(rt.alloc())?.as_slice() == [1, 2].as_slice());
+        assert!(rt; are(entry.1.widgets().iter().map(|entry| entry.0), &[1, 2]));
     }
-    Ok(())
 }
 
 #[test]
-fn commands_are_refused_in_order(rt: HostRuntime) -> Result<(), Fail> {
-    let board = four_widgets(rt.alloc())?;
-    assert_eq!(rt; refusal(&board, set(1, 4, Setting::Slider(10))), 0);
-    assert_eq!(rt; refusal(&board, set(1, 4, Setting::Slider(11))), 5);
-    assert_eq!(rt; refusal(&board, set(1, 4, Setting::Slider(-1))), 5);
-    assert_eq!(rt; refusal(&board, set(1, 1, Setting::Slider(11))), 3);
-    assert_eq!(rt; refusal(&board, insert_letter(2, 9)), 3);
-    assert_eq!(rt; refusal(&board, delete(3, 0)), 3);
-    assert_eq!(rt; refusal(&board, set(9, 9, Setting::Toggle(true))), 1);
-    assert_eq!(rt; refusal(&board, insert_letter(9, 0)), 2);
-    assert_eq!(rt; refusal(&board, insert_letter(1, 1)), 4);
-    assert_eq!(rt; refusal(&board, delete(1, 0)), 4);
-    Ok(())
+fn commands_are_refused_in_order(rt: HostRuntime) {
+    let board = four_widgets(&rt, rt.alloc());
+    for (command, number) in [
+        (set(1, 4, Setting::Slider(10)), 0),
+        (set(1, 4, Setting::Slider(11)), 5),
+        (set(1, 4, Setting::Slider(-1)), 5),
+        (set(1, 1, Setting::Slider(11)), 3),
+        (insert_letter(2, 9), 3),
+        (delete(3, 0), 3),
+        (set(9, 9, Setting::Toggle(true)), 1),
+        (insert_letter(9, 0), 2),
+        (insert_letter(1, 1), 4),
+        (delete(1, 0), 4),
+    ] {
+        assert_eq!(rt; refusal(&board, command), number);
+    }
 }
 
 // A text of so many items.
@@ -151,31 +162,33 @@ fn long_text(alloc: Global, items: u32) -> Result<Seq<char>, NoMemory> {
     Ok(text)
 }
 
-#[test]
-fn insertion_into_a_long_text_is_refused(rt: HostRuntime) -> Result<(), Fail> {
-    for (items, refused) in [(65_535, 0), (65_536, 6)] {
-        let mut board = Board::new(rt.alloc());
-        board.add_window(rt.alloc(), 1)?;
-        board.add_widget(1, 1, Widget::Text(long_text(rt.alloc(), items)?))?;
-        assert_eq!(rt;
-            refusal(&board, insert_letter(1, 0)),
-            refused,
-            "{items} items"
-        );
-        assert_eq!(rt;
-            refusal(&board, insert_letter(1, 65_537)),
-            4,
-            "{items} items"
-        );
-    }
-    Ok(())
+// What an insertion at a place of a text of so many items is refused with.
+fn refusal_of_insertion(rt: &impl Abort, alloc: Global, items: u32, place: u32) -> u32 {
+    let text = long_text(alloc, items).expect(rt, "there is memory");
+    let mut board = windows(rt, alloc, 1);
+    let added = board.add_widget(1, 1, Widget::Text(text));
+    added.expect(rt, "it is new");
+    refusal(&board, insert_letter(1, place))
 }
 
-// Applies a command where it is not refused, and says whether it was.
-fn apply(alloc: Global, board: &mut Board, command: Command) -> Result<bool, RoomRefused> {
+#[test]
+fn insertion_into_a_long_text_is_refused(rt: HostRuntime) {
+    for (items, place, refused) in [
+        (65_535, 0, 0),
+        (65_536, 0, 6),
+        (65_535, 65_537, 4),
+        (65_536, 65_537, 4),
+    ] {
+        let number = refusal_of_insertion(&rt, rt.alloc(), items, place);
+        assert_eq!(rt; number, refused, "{items} items");
+    }
+}
+
+// Applies a command where it is not refused, and says whether it did.
+fn apply(alloc: Global, board: &mut Board, command: Command) -> bool {
     match named(board, &command) {
         Ok(op) => attempt(alloc, &op, board),
-        Err(_) => Ok(false),
+        Err(_) => false,
     }
 }
 
@@ -188,62 +201,73 @@ fn makes(edit: &Edit, what: Effect, inserts: bool) -> bool {
         && edit.bears_site(1) == inserts
 }
 
-// Whether the command changes four widgets, by an operation of this effect.
-fn has_effect(alloc: Global, command: Command, what: Effect, inserts: bool) -> Result<bool, Fail> {
-    let mut board = four_widgets(alloc)?;
-    let made = match named(&board, &command) {
+// Whether a command makes an operation of this effect.
+fn is_made(alloc: Global, board: &Board, command: &Command, what: Effect, inserts: bool) -> bool {
+    match named(board, command) {
         Ok(op) => match op.edit(alloc) {
             Ok(edit) => makes(&edit, what, inserts),
             Err(_) => false,
         },
         Err(_) => false,
-    };
-    let applied = apply(alloc, &mut board, command)?;
-    let held = board.has_site(1) == inserts && board.only_site(2) != inserts;
-    Ok(made && applied && held && !board.same(&four_widgets(alloc)?))
+    }
+}
+
+// The command changes four widgets, by an operation of this effect.
+fn has_effect(rt: &impl Abort, alloc: Global, command: Command, what: Effect, inserts: bool) {
+    let mut board = four_widgets(rt, alloc);
+    assert!(rt; is_made(alloc, &board, &command, what, inserts));
+    assert!(rt; apply(alloc, &mut board, command));
+    assert!(rt; board.has_site(1) == inserts && board.only_site(2) != inserts);
+    assert!(rt; !board.same(&four_widgets(rt, alloc)));
 }
 
 #[test]
-fn each_kind_of_command_is_applied(rt: HostRuntime) -> Result<(), Fail> {
-    let red = Label::read(b"red")?;
-    let text = insert_letter(1, 0);
-    assert!(rt; has_effect(rt.alloc(), text, Effect::PutChar(NAME, 'a'), true)?);
-    let list = insert(2, 0, Value::Label(red));
-    assert!(rt; has_effect(rt.alloc(), list, Effect::PutLabel(NAME, red), true)?);
-    let toggle = set(1, 3, Setting::Toggle(true));
-    assert!(rt; has_effect(rt.alloc(), toggle, Effect::Toggled(true), false)?);
-    let slider = set(1, 4, Setting::Slider(10));
-    assert!(rt; has_effect(rt.alloc(), slider, Effect::Slid(10), false)?);
-    Ok(())
+fn each_kind_of_command_is_applied(rt: HostRuntime) {
+    let red = Label::read(b"red").expect(&rt, "a label");
+    for (command, what, inserts) in [
+        (insert_letter(1, 0), Effect::PutChar(NAME, 'a'), true),
+        (
+            insert(2, 0, Value::Label(red)),
+            Effect::PutLabel(NAME, red),
+            true,
+        ),
+        (
+            set(1, 3, Setting::Toggle(true)),
+            Effect::Toggled(true),
+            false,
+        ),
+        (set(1, 4, Setting::Slider(10)), Effect::Slid(10), false),
+    ] {
+        has_effect(&rt, rt.alloc(), command, what, inserts);
+    }
+}
+
+// An operation on the text.
+fn on_text(op: SeqOp<char>) -> BoardOp {
+    BoardOp {
+        win: 1,
+        wid: 1,
+        op: WidgetOp::Text(op),
+    }
 }
 
 #[test]
-fn item_is_put_in_and_taken_out(rt: HostRuntime) -> Result<(), Fail> {
-    let mut board = four_widgets(rt.alloc())?;
-    let item = Item {
+fn item_is_put_in_and_taken_out(rt: HostRuntime) {
+    let value = 'a';
+    let item = Item { name: NAME, value };
+    let put = on_text(SeqOp::Insert { place: 0, item });
+    let gone = on_text(SeqOp::Delete {
+        place: 0,
         name: NAME,
-        value: 'a',
-    };
-    let put = BoardOp {
-        win: 1,
-        wid: 1,
-        op: WidgetOp::Text(SeqOp::Insert { place: 0, item }),
-    };
-    let gone = BoardOp {
-        win: 1,
-        wid: 1,
-        op: WidgetOp::Text(SeqOp::Delete {
-            place: 0,
-            name: NAME,
-        }),
-    };
+    });
     assert!(rt; put.apart(&gone) && !put.apart(&put) && !put.fresh_after(&gone));
-    assert!(rt; attempt(rt.alloc(), &put, &mut board)?);
-    assert!(rt; !attempt(rt.alloc(), &put, &mut board)?);
-    assert!(rt; board.copy(rt.alloc())?.same(&board));
-    assert!(rt; attempt(rt.alloc(), &gone, &mut board)?);
-    assert!(rt; board.same(&four_widgets(rt.alloc())?));
-    Ok(())
+    let mut board = four_widgets(&rt, rt.alloc());
+    assert!(rt; attempt(rt.alloc(), &put, &mut board));
+    assert!(rt; !attempt(rt.alloc(), &put, &mut board));
+    let copied = board.copy(rt.alloc());
+    assert!(rt; copied.map_or(false, |copied| copied.same(&board)));
+    assert!(rt; attempt(rt.alloc(), &gone, &mut board));
+    assert!(rt; board.same(&four_widgets(&rt, rt.alloc())));
 }
 
 #[test]
@@ -274,10 +298,8 @@ fn refused_growth_leaves_the_board(rt: HostRuntime) {
         assert!(rt; board.widget(1, 1).is_none());
         return;
     }
-    match apply(rt.alloc(), &mut board, insert_letter(1, 0)) {
-        Ok(applied) => assert!(rt; applied && board.has_site(1)),
-        Err(_) => assert!(rt; !board.has_site(1)),
-    }
+    let applied = apply(rt.alloc(), &mut board, insert_letter(1, 0));
+    assert_eq!(rt; board.has_site(1), applied);
     assert!(rt;
         board
             .copy(rt.alloc())

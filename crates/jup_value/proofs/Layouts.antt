@@ -1,6 +1,6 @@
 use Rattle.std.proofs.Common.{◌≡◌, ℕ, zero, suc, ◌+◌, ◌-◌, ◌*◌, ◌<◌, ◌≤◌, List, [], ◌∷◌, ◌++◌, length, get_or, set, take, drop, map, sum, refl, sym, ap, ◌∙◌, append_assoc, append-nil, add-one, zero-add, Bool, true, false, cond, Option, Some, None, inl, inr, arith, length-append}
 use Rattle.std.specs.Prelude.{insert, remove, slice_get, nat_le}
-use Rattle.std.proofs.lemmas.Bool.{cases_Bool, lt-ltb, le-ltb, le-leb, lt-leb}
+use Rattle.std.proofs.lemmas.Bool.{cases_Bool, leb-true, leb-false, lt-ltb, le-ltb, le-leb, lt-leb}
 use Rattle.std.proofs.lemmas.List.{take-append-drop, length-take-le, length-drop, length-map, take-map, get_or-map, nil_from_length, drop_more}
 use Rattle.jup_value.specs.declared.names.Name.{Name}
 use Rattle.jup_value.specs.declared.names.Item.{Item}
@@ -8,17 +8,12 @@ use Rattle.std.specs.List.{position_from}
 use Rattle.jup_value.specs.Items.{name_eq}
 use Rattle.std.proofs.lemmas.List.Edits.{length-insert, length-remove, insert-append_left, insert-append_right, remove-append_left, remove-append_right}
 use Rattle.std.proofs.lemmas.List.Sums.{sum_by-cons, sum_by_more}
-use Rattle.jup_value.specs.Layout.{joined, put_in, split_in, split_with, take_in, with_item_at, without_item_at, AreBlocks, AreEmpty}
+use Rattle.jup_value.specs.Layout.{joined, put_in, left_half, right_half, split_with, take_in, with_item_at, without_item_at, AreBlocks}
 
 pub set-put_in : {X : Type 0} → (bs : List (List X)) (i p : ℕ) (y : X) (b : List X) → b ≡ get_or bs i b → set bs i (insert b p y) ≡ put_in bs i p y
 set-put_in [] i p y b h = refl
 set-put_in (b ∷ bs) zero p y d h = ap (λ c. insert c p y ∷ bs) h
 set-put_in (b ∷ bs) (suc i) p y d h = ap (λ cs. b ∷ cs) (set-put_in bs i p y d h)
-
-pub joined-split_in : {X : Type 0} → (bs : List (List X)) (i : ℕ) → joined (split_in bs i) ≡ joined bs
-joined-split_in [] i = refl
-joined-split_in (b ∷ bs) zero = sym (append_assoc (take 64 b) (drop 64 b) (joined bs)) ∙ ap (λ c. c ++ joined bs) (take-append-drop 64 b)
-joined-split_in (b ∷ bs) (suc i) = ap (λ cs. b ++ cs) (joined-split_in bs i)
 
 -- an item more in a block is an item more in the whole, behind those of the blocks before it
 pub joined-put_in : {X : Type 0} → (bs : List (List X)) (i p at : ℕ) (y : X) → i < length bs → p ≤ length (get_or bs i []) → at ≡ length (joined (take i bs)) + p → joined (put_in bs i p y) ≡ insert (joined bs) at y
@@ -36,79 +31,78 @@ pub sum_lengths : {X : Type 0} → (bs : List (List X)) → sum (map length bs) 
 sum_lengths [] = refl
 sum_lengths (b ∷ bs) = sum_by-cons (λ n. n) (length b) (map length bs) ∙ ap (λ n. length b + n) (sum_lengths bs) ∙ sym (length-append b (joined bs))
 
-pub length-split_in : {X : Type 0} → (bs : List (List X)) (i : ℕ) → i < length bs → length (split_in bs i) ≡ length bs + 1
-length-split_in [] i l = absurd (omega arith)
-length-split_in (b ∷ bs) zero l = omega arith
-length-split_in (b ∷ bs) (suc i) l = omega (arith, length-split_in bs i (omega arith))
-
--- the left half is at the block's place, the right half behind it
-pub get_or-split_left : {X : Type 0} → (bs : List (List X)) (i : ℕ) → i < length bs → get_or (split_in bs i) i [] ≡ take 64 (get_or bs i [])
-get_or-split_left [] i l = absurd (omega arith)
-get_or-split_left (b ∷ bs) zero l = refl
-get_or-split_left (b ∷ bs) (suc i) l = get_or-split_left bs i (omega arith)
-
-pub get_or-split_right : {X : Type 0} → (bs : List (List X)) (i : ℕ) → i < length bs → get_or (split_in bs i) (suc i) [] ≡ drop 64 (get_or bs i [])
-get_or-split_right [] i l = absurd (omega arith)
-get_or-split_right (b ∷ bs) zero l = refl
-get_or-split_right (b ∷ bs) (suc i) l = get_or-split_right bs i (omega arith)
-
--- the items before the left half are those before the block, and the left half is before the right
-pub before_left : {X : Type 0} → (bs : List (List X)) (i : ℕ) → joined (take i (split_in bs i)) ≡ joined (take i bs)
-before_left [] i = refl
-before_left (b ∷ bs) zero = refl
-before_left (b ∷ bs) (suc i) = ap (λ cs. b ++ cs) (before_left bs i)
-
-pub before_right : {X : Type 0} → (bs : List (List X)) (i : ℕ) → i < length bs → joined (take (suc i) (split_in bs i)) ≡ joined (take i bs) ++ take 64 (get_or bs i [])
-before_right [] i l = absurd (omega arith)
-before_right (b ∷ bs) zero l = append-nil (take 64 b)
-before_right (b ∷ bs) (suc i) l = ap (λ cs. b ++ cs) (before_right bs i (omega arith)) ∙ sym (append_assoc b (joined (take i bs)) (take 64 (get_or bs i [])))
-
--- what a split does to a table or to a list of blocks, as the code makes it
-pub split_made : {X : Type 0} → (bs : List (List X)) (i : ℕ) (b : List X) → b ≡ get_or bs i b → i < length bs → insert (set bs i (take 64 b)) (suc i) (drop 64 b) ≡ split_in bs i
-split_made [] i b h l = absurd (omega arith)
-split_made (c ∷ bs) zero b h l = rw h refl
-split_made (c ∷ bs) (suc i) b h l = ap (λ cs. c ∷ cs) (split_made bs i b h (omega arith))
-
-pub split_table : {X : Type 0} → (bs : List (List X)) (i : ℕ) → i < length bs → length (get_or bs i []) ≡ 128 → insert (set (map length bs) i 64) (suc i) 64 ≡ map length (split_in bs i)
-split_table [] i l h = absurd (omega arith)
-split_table (b ∷ bs) zero l h =
-    let left : length (take 64 b) ≡ 64 = length-take-le 64 b (omega arith) in
-    let right : length (drop 64 b) ≡ 64 = omega (arith, length-drop 64 b) in
-    rw (left, right) refl
-split_table (b ∷ bs) (suc i) l h = ap (λ ns. length b ∷ ns) (split_table bs i (omega arith) h)
-
 pub AreBlocks-put_in : {X : Type 0} → (bs : List (List X)) (i p : ℕ) (y : X) → AreBlocks bs → i < length bs → p ≤ length (get_or bs i []) → length (get_or bs i []) < 128 → AreBlocks (put_in bs i p y)
 AreBlocks-put_in [] i p y a l h m = absurd (omega arith)
 AreBlocks-put_in (b ∷ bs) zero p y a l h m = let longer = length-insert b p y h in (omega arith, omega arith, a.2)
 AreBlocks-put_in (b ∷ bs) (suc i) p y a l h m = (a.0, a.1, AreBlocks-put_in bs i p y a.2 (omega arith) h m)
-
-pub AreBlocks-split_in : {X : Type 0} → (bs : List (List X)) (i : ℕ) → AreBlocks bs → i < length bs → length (get_or bs i []) ≡ 128 → AreBlocks (split_in bs i)
-AreBlocks-split_in [] i a l h = absurd (omega arith)
-AreBlocks-split_in (b ∷ bs) zero a l h =
-    let left : length (take 64 b) ≡ 64 = length-take-le 64 b (omega arith) in
-    let right : length (drop 64 b) ≡ 64 = omega (arith, length-drop 64 b) in
-    (omega arith, omega arith, (omega arith, omega arith, a.2))
-AreBlocks-split_in (b ∷ bs) (suc i) a l h = (a.0, a.1, AreBlocks-split_in bs i a.2 (omega arith) h)
 
 pub AreBlocks-at : {X : Type 0} → (bs : List (List X)) (i : ℕ) → AreBlocks bs → i < length bs → length (get_or bs i []) ≤ 128
 AreBlocks-at [] i a l = absurd (omega arith)
 AreBlocks-at (b ∷ bs) zero a l = a.1
 AreBlocks-at (b ∷ bs) (suc i) a l = AreBlocks-at bs i a.2 (omega arith)
 
-pub AreEmpty-front : {X : Type 0} → (bs cs : List (List X)) → AreEmpty (bs ++ cs) → AreEmpty bs
-AreEmpty-front [] cs a = tt
-AreEmpty-front (b ∷ bs) cs a = (a.0, AreEmpty-front bs cs a.1)
+-- # A full block in two halves, with an item more
 
-pub AreEmpty-last : {X : Type 0} → (bs : List (List X)) (c : List X) → AreEmpty (bs ++ c ∷ []) → c ≡ []
-AreEmpty-last [] c a = a.0
-AreEmpty-last (b ∷ bs) c a = AreEmpty-last bs c a.1
+-- the halves together are the block with the item
+joined_halves : {X : Type 0} → (b rest : List X) (p : ℕ) (y : X) → p ≤ length b → length b ≡ 128 → left_half b p y ++ (right_half b p y ++ rest) ≡ insert b p y ++ rest
+joined_halves b rest p y h full =
+    let left = length-take-le 64 b (omega arith) in
+    let whole = take-append-drop 64 b in
+    elim (cases_Bool (nat_le p 64)) [
+      | inl small ↦ rw small (let low = leb-true p 64 small in
+          sym (append_assoc (insert (take 64 b) p y) (drop 64 b) rest)
+          ∙ ap (λ c. c ++ rest) (sym (insert-append_left (take 64 b) (drop 64 b) p y (omega arith)) ∙ ap (λ c. insert c p y) whole))
+      | inr large ↦ rw large (let high = leb-false p 64 large in
+          sym (append_assoc (take 64 b) (insert (drop 64 b) (p - 64) y) rest)
+          ∙ ap (λ c. c ++ rest) (sym (insert-append_right (take 64 b) (drop 64 b) 64 p y left (omega arith)) ∙ ap (λ c. insert c p y) whole))
+    ]
 
--- the lists that `split` leaves, by what its calls ensure
-pub split_placed : {X : Type 0} → (ok : Bool) (new old bs : List (List X)) (i : ℕ) (b left right : List X) → new ≡ cond ok (insert (set bs i left) (i + 1) right) old → ok ≡ true → left ≡ take 64 b → right ≡ drop 64 b → b ≡ get_or bs i b → i < length bs → new ≡ split_in bs i
-split_placed ok new old bs i b left right is went l r at within = is ∙ rw (went, l, r, add-one) (split_made bs i b at within)
+pub joined-split_with : {X : Type 0} → (bs : List (List X)) (i p at : ℕ) (y : X) → i < length bs → p ≤ length (get_or bs i []) → length (get_or bs i []) ≡ 128 → at ≡ length (joined (take i bs)) + p
+    → joined (split_with bs i p y) ≡ insert (joined bs) at y
+joined-split_with [] i p at y l h full e = absurd (omega arith)
+joined-split_with (b ∷ bs) zero p at y l h full e =
+    let here : at ≡ p = omega arith in
+    rw here (joined_halves b (joined bs) p y h full ∙ sym (insert-append_left b (joined bs) p y h))
+joined-split_with (b ∷ bs) (suc i) p at y l h full e =
+    let sizes = length-append b (joined (take i bs)) in
+    let rest = joined-split_with bs i p (at - length b) y (omega arith) h full (omega arith) in
+    ap (λ c. b ++ c) rest ∙ sym (insert-append_right b (joined bs) (length b) at y refl (omega arith))
 
-pub split_counted : {X : Type 0} → (ok : Bool) (new old ns : List ℕ) (bs : List (List X)) (i : ℕ) → new ≡ cond ok (insert (set ns i 64) (i + 1) 64) old → ok ≡ true → ns ≡ map length bs → i < length bs → length (get_or bs i []) ≡ 128 → new ≡ map length (split_in bs i)
-split_counted ok new old ns bs i is went table within full = is ∙ rw (went, table, add-one) (split_table bs i within full)
+-- neither half is empty or too long
+length-halves : {X : Type 0} → (b : List X) (p : ℕ) (y : X) → p ≤ length b → length b ≡ 128 → (0 < length (left_half b p y)) × (length (left_half b p y) ≤ 128) × (0 < length (right_half b p y)) × (length (right_half b p y) ≤ 128)
+length-halves b p y h full =
+    let left = length-take-le 64 b (omega arith) in
+    let right = length-drop 64 b in
+    elim (cases_Bool (nat_le p 64)) [
+      | inl small ↦ rw small (let low = leb-true p 64 small in let more = length-insert (take 64 b) p y (omega arith) in (omega arith, omega arith, omega arith, omega arith))
+      | inr large ↦ rw large (let high = leb-false p 64 large in let more = length-insert (drop 64 b) (p - 64) y (omega arith) in (omega arith, omega arith, omega arith, omega arith))
+    ]
+
+pub AreBlocks-split_with : {X : Type 0} → (bs : List (List X)) (i p : ℕ) (y : X) → AreBlocks bs → i < length bs → p ≤ length (get_or bs i []) → length (get_or bs i []) ≡ 128 → AreBlocks (split_with bs i p y)
+AreBlocks-split_with [] i p y a l h full = absurd (omega arith)
+AreBlocks-split_with (b ∷ bs) zero p y a l h full = let halves = length-halves b p y h full in (halves.0, halves.1, (halves.2, halves.3, a.2))
+AreBlocks-split_with (b ∷ bs) (suc i) p y a l h full = (a.0, a.1, AreBlocks-split_with bs i p y a.2 (omega arith) h full)
+
+-- what a split makes of the list of blocks, and of their table
+split_made : {X : Type 0} → (bs : List (List X)) (i p : ℕ) (y : X) (b : List X) → b ≡ get_or bs i b → i < length bs → insert (set bs i (left_half b p y)) (suc i) (right_half b p y) ≡ split_with bs i p y
+split_made [] i p y b h l = absurd (omega arith)
+split_made (c ∷ bs) zero p y b h l = ap (λ d. left_half d p y ∷ right_half d p y ∷ bs) h
+split_made (c ∷ bs) (suc i) p y b h l = ap (λ cs. c ∷ cs) (split_made bs i p y b h (omega arith))
+
+map_placed : {X : Type 0} → (bs : List (List X)) (i : ℕ) (left right : List X) → i < length bs → insert (set (map length bs) i (length left)) (suc i) (length right) ≡ map length (insert (set bs i left) (suc i) right)
+map_placed [] i left right l = absurd (omega arith)
+map_placed (b ∷ bs) zero left right l = refl
+map_placed (b ∷ bs) (suc i) left right l = ap (λ ns. length b ∷ ns) (map_placed bs i left right (omega arith))
+
+pub split_placed : {X : Type 0} → (ok : Bool) (new old bs : List (List X)) (i p : ℕ) (y : X) (b left right : List X) → new ≡ cond ok (insert (set bs i left) (i + 1) right) old → ok ≡ true
+    → left ≡ left_half b p y → right ≡ right_half b p y → b ≡ get_or bs i b → i < length bs → new ≡ split_with bs i p y
+split_placed ok new old bs i p y b left right is went l r at within = is ∙ rw (went, l, r, add-one) (split_made bs i p y b at within)
+
+pub split_counted : {X : Type 0} → (ok placed : Bool) (new old ns : List ℕ) (made was bs : List (List X)) (i m n : ℕ) (left right : List X) → new ≡ cond ok (insert (set ns i m) (i + 1) n) old → ok ≡ true
+    → made ≡ cond placed (insert (set bs i left) (i + 1) right) was → placed ≡ true → m ≡ length left → n ≡ length right → ns ≡ map length bs → i < length bs → new ≡ map length made
+split_counted ok placed new old ns made was bs i m n left right is went there put few many table within =
+    let all : made ≡ insert (set bs i left) (suc i) right = there ∙ rw (put, add-one) refl in
+    is ∙ rw (went, few, many, table, add-one, all) (map_placed bs i left right within)
 
 -- the sum before a block, and the block
 pub sum_before : (ns : List ℕ) (i j : ℕ) → i < length ns → j ≡ i + 1 → sum (take j ns) ≡ sum (take i ns) + get_or ns i 0
@@ -127,27 +121,6 @@ count_in_blocks bs ns i table l = ap (λ ms. get_or ms i 0) table ∙ get_or-map
 
 pub table_length : {X : Type 0} → (bs : List (List X)) (ns : List ℕ) → ns ≡ map length bs → length ns ≡ length bs
 table_length bs ns table = ap length table ∙ length-map bs length
-
--- an item put into the left or the right half
-
-pub put_left : {X : Type 0} → (bs cs : List (List X)) (i off at : ℕ) (y : X) → cs ≡ split_in bs i → i < length bs → length (get_or bs i []) ≡ 128 → AreBlocks bs → off ≤ 64 → at ≡ length (joined (take i bs)) + off
-    → (off ≤ length (get_or cs i [])) × (length (get_or cs i []) < 128) × (joined (put_in cs i off y) ≡ insert (joined bs) at y) × AreBlocks (put_in cs i off y)
-put_left bs cs i off at y is within full blocks small place =
-    let more = length-split_in bs i within in
-    let half : length (get_or (split_in bs i) i []) ≡ 64 = ap length (get_or-split_left bs i within) ∙ length-take-le 64 (get_or bs i []) (omega arith) in
-    let before = ap length (before_left bs i) in
-    let put = joined-put_in (split_in bs i) i off at y (omega arith) (omega arith) (omega arith) in
-    rw is (omega arith, omega arith, put ∙ ap (λ c. insert c at y) (joined-split_in bs i), AreBlocks-put_in (split_in bs i) i off y (AreBlocks-split_in bs i blocks within full) (omega arith) (omega arith) (omega arith))
-
-pub put_right : {X : Type 0} → (bs cs : List (List X)) (i off at : ℕ) (y : X) → cs ≡ split_in bs i → i < length bs → length (get_or bs i []) ≡ 128 → AreBlocks bs → 64 < off → off ≤ 128 → at ≡ length (joined (take i bs)) + off
-    → (off - 64 ≤ length (get_or cs (i + 1) [])) × (length (get_or cs (i + 1) []) < 128) × (joined (put_in cs (i + 1) (off - 64) y) ≡ insert (joined bs) at y) × AreBlocks (put_in cs (i + 1) (off - 64) y)
-put_right bs cs i off at y is within full blocks large most place =
-    let more = length-split_in bs i within in
-    let half : length (get_or (split_in bs i) (suc i) []) ≡ 64 = ap length (get_or-split_right bs i within) ∙ omega (arith, length-drop 64 (get_or bs i [])) in
-    let before = ap length (before_right bs i within) ∙ length-append (joined (take i bs)) (take 64 (get_or bs i [])) in
-    let left = length-take-le 64 (get_or bs i []) (omega arith) in
-    let put = joined-put_in (split_in bs i) (suc i) (off - 64) at y (omega arith) (omega arith) (omega arith) in
-    rw (is, add-one) (omega arith, omega arith, put ∙ ap (λ c. insert c at y) (joined-split_in bs i), AreBlocks-put_in (split_in bs i) (suc i) (off - 64) y (AreBlocks-split_in bs i blocks within full) (omega arith) (omega arith) (omega arith))
 
 -- what `find` says of the block that it found
 pub record Found {X : Type 0} (bs : List (List X)) (i off at : ℕ) : Type 0 where
@@ -283,14 +256,7 @@ joined_within [] (suc i) = omega arith
 joined_within (b ∷ bs) zero = omega arith
 joined_within (b ∷ bs) (suc i) = omega (arith, joined_within bs i, length-append b (joined (take i bs)), length-append b (joined bs))
 
-pub AreEmpty-push : {X : Type 0} → (bs : List (List X)) (c : List X) → AreEmpty bs → c ≡ [] → AreEmpty (bs ++ c ∷ [])
-AreEmpty-push [] c a e = (e, tt)
-AreEmpty-push (b ∷ bs) c a e = (a.0, AreEmpty-push bs c a.1 e)
-
 -- the rules of an insertion
-
-split_with-cons : {X : Type 0} (b : List X) (bs : List (List X)) (i p : ℕ) (y : X) → split_with (b ∷ bs) (suc i) p y ≡ b ∷ split_with bs i p y
-split_with-cons b bs i p y = elim (cases_Bool (nat_le p 64)) [ inl left ↦ rw left refl | inr right ↦ rw right refl ]
 
 -- a block that is not full takes the item
 pub put_in_rule : {X : Type 0} → (bs : List (List X)) (i p at : ℕ) (y : X) → AreBlocks bs → i < length bs → p ≤ length (get_or bs i []) → at ≡ length (joined (take i bs)) + p → (0 < at → 0 < p) → length (get_or bs i []) < 128
@@ -311,19 +277,12 @@ pub split_rule : {X : Type 0} → (bs : List (List X)) (i p at : ℕ) (y : X) �
 split_rule [] i p at y a l h e first full = absurd (omega arith)
 split_rule (b ∷ bs) zero p at y a l h e first full =
     let here : at ≡ p = omega arith in
-    rw (here, le-leb p (length b) h, le-ltb (length b) 128 (omega arith)) (elim (cases_Bool (nat_le p 64)) [ inl left ↦ rw left refl | inr right ↦ rw right refl ])
+    rw (here, le-leb p (length b) h, le-ltb (length b) 128 (omega arith)) refl
 split_rule (b ∷ bs) (suc i) p at y a l h e first full =
     let sizes = length-append b (joined (take i bs)) in
     let some = a.0 in
     let past : 0 < p = first (omega arith) in
-    rw (lt-leb at (length b) (omega arith)) (split_with-cons b bs i p y ∙ ap (λ cs. b ∷ cs) (split_rule bs i p (at - length b) y a.2 (omega arith) h (omega arith) (λ _. past) full))
-
--- the two ways of a split
-pub split_left : {X : Type 0} → (new cut bs : List (List X)) (i p : ℕ) (y : X) → new ≡ put_in cut i p y → cut ≡ split_in bs i → p ≤ 64 → new ≡ split_with bs i p y
-split_left new cut bs i p y e is small = e ∙ rw (is, le-leb p 64 small) refl
-
-pub split_right : {X : Type 0} → (new cut bs : List (List X)) (i p : ℕ) (y : X) → new ≡ put_in cut (i + 1) (p - 64) y → cut ≡ split_in bs i → 64 < p → new ≡ split_with bs i p y
-split_right new cut bs i p y e is large = e ∙ rw (is, lt-leb p 64 large, add-one) refl
+    rw (lt-leb at (length b) (omega arith)) (ap (λ cs. b ∷ cs) (split_rule bs i p (at - length b) y a.2 (omega arith) h (omega arith) (λ _. past) full))
 
 -- the rules of a removal
 

@@ -22,19 +22,22 @@ take_in [] i p = []
 take_in (b ∷ bs) zero p = remove b p ∷ bs
 take_in (b ∷ bs) (suc i) p = b ∷ take_in bs i p
 
--- the block at a place in two, the first of 64 items
-abbrev pub split_in : {X : Type 0} → List (List X) → ℕ → List (List X)
-split_in [] i = []
-split_in (b ∷ bs) zero = take 64 b ∷ drop 64 b ∷ bs
-split_in (b ∷ bs) (suc i) = b ∷ split_in bs i
+-- a full block in two halves of 64, and an item more: up to 64 it goes into the left half
+abbrev pub left_half : {X : Type 0} → List X → ℕ → X → List X
+left_half b p y = if nat_le p 64 then insert (take 64 b) p y else take 64 b
 
--- the block at a place in two, and an item more: up to 64 it goes into the first of the two
+abbrev pub right_half : {X : Type 0} → List X → ℕ → X → List X
+right_half b p y = if nat_le p 64 then drop 64 b else insert (drop 64 b) (p - 64) y
+
+-- the block at a place in its halves
 abbrev pub split_with : {X : Type 0} → List (List X) → ℕ → ℕ → X → List (List X)
-split_with bs i p y = if nat_le p 64 then put_in (split_in bs i) i p y else put_in (split_in bs i) (suc i) (p - 64) y
+split_with [] i p y = []
+split_with (b ∷ bs) zero p y = left_half b p y ∷ right_half b p y ∷ bs
+split_with (b ∷ bs) (suc i) p y = b ∷ split_with bs i p y
 
 -- an item more in a block, which is first split in two where it is full
 abbrev pub with_item : {X : Type 0} → List X → ℕ → X → List (List X)
-with_item b p y = if nat_lt (length b) 128 then insert b p y ∷ [] else split_with (b ∷ []) 0 p y
+with_item b p y = if nat_lt (length b) 128 then insert b p y ∷ [] else left_half b p y ∷ right_half b p y ∷ []
 
 -- an item more among all: it goes into the first block that ends at its place or behind it, or into a new one where there is no block
 abbrev pub with_item_at : {X : Type 0} → List (List X) → ℕ → X → List (List X)
@@ -51,11 +54,6 @@ abbrev pub AreBlocks : {X : Type 0} → List (List X) → Type 0
 AreBlocks [] = Unit {0}
 AreBlocks (b ∷ bs) = (0 < length b) × (length b ≤ 128) × AreBlocks bs
 
--- each is empty
-abbrev pub AreEmpty : {X : Type 0} → List (List X) → Type 0
-AreEmpty [] = Unit {0}
-AreEmpty (b ∷ bs) = (b ≡ []) × AreEmpty bs
-
--- blocks, the table of their lengths, and empty blocks for insertions to come
-abbrev pub IsLaidOut : {X : Type 0} → List (List X) → List ℕ → List (List X) → Type 0
-IsLaidOut blocks lengths ready = AreBlocks blocks × (lengths ≡ map length blocks) × AreEmpty ready
+-- blocks, and the table of their lengths
+abbrev pub IsLaidOut : {X : Type 0} → List (List X) → List ℕ → Type 0
+IsLaidOut blocks lengths = AreBlocks blocks × (lengths ≡ map length blocks)

@@ -1,17 +1,51 @@
-//! A block: a list of at most 128 items, with room for all of them.
-ghost use Rattle.std.specs.Prelude.{◌≡◌, ◌<◌, ◌≤◌, [], length, insert, remove, take, drop, slice_get, IfOk, IfSome};
+//! A block: a list of at most 128 items, and the room that it moves into as it grows.
+ghost use Rattle.std.specs.Prelude.{◌≡◌, ◌+◌, ◌<◌, ◌≤◌, [], ◌∷◌, length, insert, remove, slice_get, vec_len, vec_capacity, IfOk, IfSome};
 ghost use Rattle.std.specs.Option.{option_copied};
 ghost use Rattle.jup_value.specs.Items.{place_of};
+ghost use Rattle.jup_value.specs.Layout.{left_half, right_half};
 
 use crate::{Item, Name, NoMemory};
 use std::alloc::Global;
 use std::marker::Model;
+use std::mem;
 
 /// The most items of a block.
 pub const LARGEST: u32 = 128;
 
 /// How many items the left half of a full block has.
 pub const HALF: u32 = 64;
+
+/// How many more items than it holds a block has room for when it is made.
+const BESIDE: usize = 8;
+
+/// Room for a whole block, kept for an insertion to come.
+#[derive(Drop)]
+pub struct Room<V> {
+    items: Vec<Item<V>>,
+}
+
+impl<V> Model for Room<V> {
+    ghost use Rattle.std.specs.Prelude.{◌≡◌, ◌≤◌, List, [], vec_capacity};
+    ghost use Rattle.std.specs.Coded.{coded_list};
+    ghost use Rattle.jup_value.specs.Items.{item_code};
+    ghost use Rattle.jup_value.specs.declared.names.Item.{Item};
+
+    ghost Value = { List (Item V) };
+
+    ghost coded = { coded_list (item_code V.code) };
+
+    ghost view = { λ r. r.items.items };
+
+    ghost invariant = { λ r. (r.items.items ≡ []) × (128 ≤ vec_capacity r.items) };
+}
+
+impl<V: Copy> Room<V> {
+    /// Room for 128 items.
+    pub fn new(alloc: Global) -> Result<Self, NoMemory> {
+        let items = Vec::with_capacity(alloc, LARGEST as usize)?;
+        Ok(Room { items })
+    }
+}
 
 /// A list of at most 128 items.
 #[derive(Drop)]
@@ -20,7 +54,7 @@ pub struct Block<V> {
 }
 
 impl<V> Model for Block<V> {
-    ghost use Rattle.std.specs.Prelude.{◌≤◌, List, length, vec_capacity, vec_len};
+    ghost use Rattle.std.specs.Prelude.{◌≤◌, List, vec_len};
     ghost use Rattle.std.specs.Coded.{coded_list};
     ghost use Rattle.jup_value.specs.Items.{item_code};
     ghost use Rattle.jup_value.specs.declared.names.Item.{Item};
@@ -31,7 +65,36 @@ impl<V> Model for Block<V> {
 
     ghost view = { λ b. b.items.items };
 
-    ghost invariant = { λ b. (vec_len b.items ≤ 128) × (128 ≤ vec_capacity b.items) };
+    ghost invariant = { λ b. vec_len b.items ≤ 128 };
+}
+
+// The room of a block of so many items.
+fn room_for(count: usize) -> usize
+    requires { count ≤ 128 }
+    ensures { count ≤ result }
+{
+    (count + BESIDE).min(LARGEST as usize)
+}
+
+// Items with room for so many.
+fn copied<V: Copy>(alloc: Global, items: &[Item<V>], room: usize) -> Result<Vec<Item<V>>, NoMemory>
+    requires { length items.now ≤ room }
+    ensures { IfOk result (λ v. v.items ≡ items.now) }
+{
+    let mut copied = Vec::with_capacity(alloc, room)?;
+    let _copied = copied.extend_from_slice(items);
+    Ok(copied)
+}
+
+// Items in the room of a whole block.
+fn moved<V: Copy>(items: &[Item<V>], room: Room<V>) -> Vec<Item<V>>
+    requires { length items.now ≤ 128 }
+    ensures items { result.items ≡ items.now }
+    ensures room { 128 ≤ vec_capacity result }
+{
+    let mut moved = room.items;
+    let _moved = moved.extend_from_slice(items);
+    moved
 }
 
 // The place of the item that has the name.
@@ -44,12 +107,13 @@ fn find<V: Copy>(items: &[Item<V>], name: Name) -> Option<usize>
 }
 
 impl<V: Copy> Block<V> {
-    /// No items, and room for 128.
-    pub fn new(alloc: Global) -> Result<Self, NoMemory>
-        ensures { IfOk result (λ b. b ≡ []) }
+    /// One item.
+    pub fn new(room: Room<V>, item: Item<V>) -> Self
+        ensures { result ≡ item ∷ [] }
     {
-        let items = Vec::with_capacity(alloc, LARGEST as usize)?;
-        Ok(Block { items })
+        let mut items = room.items;
+        let _put = items.push(item);
+        Block { items }
     }
 
     /// How many items there are.
@@ -74,12 +138,19 @@ impl<V: Copy> Block<V> {
         &self.items
     }
 
-    /// Puts an item at a place of a block that is not full.
-    pub fn insert(&mut self, at: u32, item: Item<V>)
+    /// Puts an item at a place of a block that is not full. A block without room moves into one that is ready.
+    pub fn insert(&mut self, at: u32, item: Item<V>, ready: &mut Vec<Room<V>>)
         requires place { at ≤ length self.old }
-        requires room { length self.old < 128 }
-        ensures { self.new ≡ insert self.old at item }
+        requires more { length self.old < 128 }
+        requires ready { 0 < vec_len ready.old }
+        ensures items { self.new ≡ insert self.old at item }
+        ensures ready { vec_len ready.old ≤ vec_len ready.new + 1 }
     {
+        if self.items.len() == self.items.capacity() {
+            if let Some(room) = ready.pop() {
+                self.items = moved(&self.items, room);
+            }
+        }
         let _put = self.items.insert(at as usize, item);
     }
 
@@ -92,24 +163,45 @@ impl<V: Copy> Block<V> {
         self.items.remove(at as usize)
     }
 
-    /// Moves the items from the 64th on into an empty block.
-    pub fn split(&mut self, right: &mut Block<V>)
+    /// Moves the items of a full block from the 64th on into another, and puts an item into one of the two.
+    pub fn split(&mut self, room: Room<V>, at: u32, item: Item<V>) -> Block<V>
+        requires place { at ≤ 128 }
         requires full { length self.old ≡ 128 }
-        requires empty { right.old ≡ [] }
-        ensures left { self.new ≡ take 64 self.old }
-        ensures right { right.new ≡ drop 64 self.old }
+        ensures left { self.new ≡ left_half self.old at item }
+        ensures right { result ≡ right_half self.old at item }
     {
-        let _copied = right.items.extend_from_slice(&self.items[HALF as usize..]);
+        let mut right = moved(&self.items[HALF as usize..], room);
         self.items.truncate(HALF as usize);
+        if at <= HALF {
+            let _put = self.items.insert(at as usize, item);
+            return Block { items: right };
+        }
+        let _put = right.insert((at - HALF) as usize, item);
+        Block { items: right }
+    }
+
+    /// Moves the items out of the room of a whole block where they need less, and gives that room.
+    pub fn shrink(&mut self, alloc: Global) -> Option<Room<V>>
+        ensures { self.new ≡ self.old }
+    {
+        let room = room_for(self.items.len());
+        if self.items.capacity() < LARGEST as usize || room >= LARGEST as usize {
+            return None;
+        }
+        let Ok(fitting) = copied(alloc, &self.items, room) else {
+            return None;
+        };
+        let mut items = mem::replace(&mut self.items, fitting);
+        items.clear();
+        Some(Room { items })
     }
 
     /// The same items in another block.
     pub fn copy(&self, alloc: Global) -> Result<Self, NoMemory>
         ensures { IfOk result (λ b. b ≡ self.now) }
     {
-        let mut block = Block::new(alloc)?;
-        let _copied = block.items.extend_from_slice(&self.items);
-        Ok(block)
+        let items = copied(alloc, &self.items, room_for(self.items.len()))?;
+        Ok(Block { items })
     }
 
     /// Where the item with a name stands.

@@ -3,9 +3,9 @@ ghost use Rattle.std.specs.Prelude.{◌≡◌, ◌+◌, ◌*◌, ◌<◌, ◌≤
 ghost use Rattle.std.specs.Option.{option_copied};
 ghost use Rattle.jup_value.specs.Items.{has_name, place_of, AreDistinct};
 
-use crate::block::Block;
+use crate::block::{Block, Room};
 use crate::iter::{Iter, iter_blocks};
-use crate::layout::{copy_blocks, insert_item, make_ready, place_in, take_item};
+use crate::layout::{copy_blocks, insert_item, make_ready, place_in, take_back, take_item};
 use crate::marks::{is_at_mark, raise};
 use crate::table::find_item;
 use crate::{Item, Name, NoMemory};
@@ -21,8 +21,10 @@ use std::marker::Model;
 pub struct Seq<V> {
     blocks: Vec<Block<V>>,
     lengths: Vec<u32>,
-    // Empty blocks, for the insertions to come: each takes at most one.
-    ready: Vec<Block<V>>,
+    // Room for the insertions to come: each takes at most one.
+    ready: Vec<Room<V>>,
+    // The block that the last insertion went into.
+    last: usize,
     // The highest number that the items of each site had, by ascending sites.
     marks: Vec<Name>,
     count: u32,
@@ -45,7 +47,7 @@ impl<V> Model for Seq<V> {
     } };
 
     ghost invariant = { λ s. record {
-      layout : IsLaidOut s.blocks.items s.lengths.items s.ready.items;
+      layout : IsLaidOut s.blocks.items s.lengths.items;
       distinct : AreDistinct (joined s.blocks.items);
       marked : AreMarked s.marks.items (joined s.blocks.items);
       ascending : AreAscending s.marks.items;
@@ -63,6 +65,7 @@ impl<V: Copy> Seq<V> {
             blocks: Vec::new(alloc),
             lengths: Vec::new(alloc),
             ready: Vec::new(alloc),
+            last: 0,
             marks: Vec::new(alloc),
             count: 0,
             alloc,
@@ -137,6 +140,13 @@ impl<V: Copy> Seq<V> {
         self.blocks.reserve(wanted)?;
         self.lengths.reserve(wanted)?;
         self.marks.reserve(wanted)?;
+        take_back(
+            self.alloc,
+            &mut self.blocks,
+            &mut self.ready,
+            wanted,
+            self.last,
+        );
         make_ready(self.alloc, &mut self.ready, wanted)
     }
 
@@ -149,7 +159,7 @@ impl<V: Copy> Seq<V> {
         ensures items { self.new.items ≡ insert self.old.items at item }
         ensures spare { self.old.spare ≤ self.new.spare + 1 }
     {
-        insert_item(
+        let last = insert_item(
             &mut self.blocks,
             &mut self.lengths,
             &mut self.ready,
@@ -159,6 +169,7 @@ impl<V: Copy> Seq<V> {
         );
         raise(&mut self.marks, item.name);
         self.count += 1;
+        self.last = last;
     }
 
     /// Takes out the item at a place.
@@ -184,6 +195,7 @@ impl<V: Copy> Seq<V> {
             blocks,
             lengths,
             ready: Vec::new(alloc),
+            last: 0,
             marks,
             count: self.count,
             alloc,

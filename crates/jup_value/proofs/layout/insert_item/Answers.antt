@@ -1,7 +1,7 @@
 use Rattle.std.proofs.Common.{◌<◌, ◌≤◌, length, sum, get_or, [], ap, sym, ◌∙◌, arith}
 use Rattle.std.proofs.lemmas.Grind.{common_steps}
 use Rattle.jup_value.specs.Layout.{joined}
-use Rattle.jup_value.proofs.Layouts.{sum_lengths, place_in_table, found, joined-put_in, AreBlocks-put_in, AreBlocks-at, AreEmpty-front, AreEmpty-last, count_in_blocks, put_in_rule, split_rule}
+use Rattle.jup_value.proofs.Layouts.{sum_lengths, place_in_table, found, joined-put_in, AreBlocks-put_in, AreBlocks-at, count_in_blocks, put_in_rule, split_rule}
 use Rattle.jup_value.proofs.layout.insert_item.Goals as goal
 
 pub find_gap-block-requires : goal.find_gap-block-requires
@@ -12,14 +12,8 @@ find_gap-block-requires g c =
       place = place_in_table c.args.blocks.now.items c.deref.result.now c.args.at table c.requires.place;
     }
 
-pub start-requires-clause-empty : goal.start-requires-clause-empty
-start-requires-clause-empty g c = AreEmpty-last _ _ (rw c.in-Some-pop.ensures.items at c.requires.empty)
-
-pub returns-in-Some-pop-clause-empty : goal.returns-in-Some-pop-clause-empty
-returns-in-Some-pop-clause-empty g c = AreEmpty-front _ _ (rw c.in-Some-pop.ensures.items at c.requires.empty)
-
-pub put_in_half-requires-clause-full : goal.put_in_half-requires-clause-full
-put_in_half-requires-clause-full g c =
+pub split-requires-clause-full : goal.split-requires-clause-full
+split-requires-clause-full g c =
     let table = c.deref.ensures.value ∙ c.requires.table in
     let l : c.find_gap-block.result.0 < length c.deref.result.now = grind (arith, common_steps) in
     let f = found c.args.blocks.now.items c.deref.result.now _ _ _ table l c.find_gap-block.ensures.place c.find_gap-block.ensures.within in
@@ -28,16 +22,13 @@ put_in_half-requires-clause-full g c =
     let above : 128 ≤ length (get_or c.args.blocks.now.items c.find_gap-block.result.0 []) = grind (arith, common_steps, count_in_blocks) in
     omega arith
 
-pub put_in_half-requires-clause-offset : goal.put_in_half-requires-clause-offset
-put_in_half-requires-clause-offset g c =
+pub split-requires-clause-offset : goal.split-requires-clause-offset
+split-requires-clause-offset g c =
     let table = c.deref.ensures.value ∙ c.requires.table in
     let l : c.find_gap-block.result.0 < length c.deref.result.now = grind (arith, common_steps) in
     let f = found c.args.blocks.now.items c.deref.result.now _ _ _ table l c.find_gap-block.ensures.place c.find_gap-block.ensures.within in
     let most = AreBlocks-at c.args.blocks.now.items c.find_gap-block.result.0 c.requires.blocks f.within in
     omega (arith, f.offset)
-
-pub put_in_half-requires-clause-empty : goal.put_in_half-requires-clause-empty
-put_in_half-requires-clause-empty g c = AreEmpty-last _ _ (rw c.in-Some-pop-2.ensures.items at c.requires.empty)
 
 pub returns-then-count-lt-LARGEST-clause-items : goal.returns-then-count-lt-LARGEST-clause-items
 returns-then-count-lt-LARGEST-clause-items g c =
@@ -56,10 +47,7 @@ pub returns-in-Some-pop-2-clause-items : goal.returns-in-Some-pop-2-clause-items
 returns-in-Some-pop-2-clause-items g c =
     let l : c.find_gap-block.result.0 < length c.deref.result.now = grind (arith, common_steps) in
     let f = found c.args.blocks.now.items c.deref.result.now _ _ _ (c.deref.ensures.value ∙ c.requires.table) l c.find_gap-block.ensures.place c.find_gap-block.ensures.within in
-    rw f.place c.put_in_half.ensures.items
-
-pub returns-in-Some-pop-2-clause-empty : goal.returns-in-Some-pop-2-clause-empty
-returns-in-Some-pop-2-clause-empty g c = AreEmpty-front _ _ (rw c.in-Some-pop-2.ensures.items at c.requires.empty)
+    rw f.place c.split.ensures.items
 
 pub returns-then-count-lt-LARGEST-clause-rule : goal.returns-then-count-lt-LARGEST-clause-rule
 returns-then-count-lt-LARGEST-clause-rule g c =
@@ -76,4 +64,4 @@ returns-in-Some-pop-2-clause-rule g c =
     let count = count_in_blocks c.args.blocks.now.items c.deref.result.now c.find_gap-block.result.0 table f.within in
     let most = AreBlocks-at c.args.blocks.now.items c.find_gap-block.result.0 c.requires.blocks f.within in
     let above : 128 ≤ length (get_or c.args.blocks.now.items c.find_gap-block.result.0 []) = grind (arith, common_steps, count_in_blocks) in
-    c.put_in_half.ensures.rule ∙ split_rule c.args.blocks.now.items _ _ _ _ c.requires.blocks f.within f.offset f.place c.find_gap-block.ensures.first (omega arith)
+    c.split.ensures.rule ∙ split_rule c.args.blocks.now.items _ _ _ _ c.requires.blocks f.within f.offset f.place c.find_gap-block.ensures.first (omega arith)

@@ -1,8 +1,6 @@
 //! The daemon: one hub, and a thread for each session.
 
-mod ending;
 mod serving;
-mod words;
+mod telling;
 
 pub use serving::daemon_main;
-pub use words::{DaemonWords, daemon_words};

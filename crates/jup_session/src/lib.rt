@@ -8,7 +8,8 @@ mod daemon;
 mod gate;
 mod sessions;
 
-pub use client::{ClientEnd, client_main, client_words, run_client};
-pub use daemon::{DaemonWords, daemon_main, daemon_words};
+pub use client::{client_main, run_client};
+pub use daemon::daemon_main;
 pub use gate::{Gate, Open};
-pub use sessions::{Bell, Ending, serve_link};
+pub use jup_rules::{ClientEnd, DaemonWords, Ending, client_words, daemon_words};
+pub use sessions::{Bell, serve_link};

@@ -1,8 +1,6 @@
 //! Sessions: one site over one link, with a thread that reads and a thread that writes.
 
 mod bell;
-mod ending;
-mod faults;
 mod greeting;
 pub(crate) mod hangup;
 mod link;
@@ -13,6 +11,4 @@ pub(crate) mod source;
 mod writing;
 
 pub use bell::Bell;
-pub use ending::Ending;
-pub(crate) use faults::SessionFault;
 pub use serving::serve_link;

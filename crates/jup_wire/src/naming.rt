@@ -9,7 +9,7 @@ use jup_value::Name;
 const LONGEST: u32 = 65_536;
 
 /// How the items of lines are named.
-#[derive(Clone, Copy, Debug, PartialEq, Eq)]
+#[derive(Clone, Copy)]
 pub(crate) enum Naming {
     /// Distinct in each sequence.
     Distinct,

@@ -6,7 +6,7 @@ ghost use Rattle.jup_wire.specs.Drafts.{refusal_of};
 use jup_window::BoardFault;
 
 /// Why a line may not come after those before it.
-#[derive(Clone, Copy, Debug, PartialEq, Eq)]
+#[derive(Clone, Copy, PartialEq, Eq)]
 pub(crate) enum Refusal {
     NoMemory,
     DoubleId,

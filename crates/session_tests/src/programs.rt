@@ -6,8 +6,9 @@ use jup_session::{client_main, daemon_main, daemon_words};
 use std::alloc::{AllocError, Global};
 use std::io::Read;
 use std::net::{Net, TcpListener, TcpStream};
-use std::test::Fail;
-use std::thread::join;
+use std::process::Abort;
+use std::sync::Wait;
+use std::thread::{Threads, join};
 use std::time::{Clock, Duration};
 use std::{io, str, thread};
 
@@ -27,8 +28,8 @@ fn words_of(alloc: Global, texts: &[&str]) -> Result<Vec<String>, AllocError> {
     Ok(words)
 }
 
-// The words of a daemon.
-pub(crate) fn daemon_at(
+// The words of a daemon, if there is memory.
+fn daemon_words_of(
     alloc: Global,
     addr: &str,
     limit: &str,
@@ -38,9 +39,72 @@ pub(crate) fn daemon_at(
     words_of(alloc, words.as_slice())
 }
 
+// The words of a daemon.
+pub(crate) fn daemon_at(
+    rt: &impl Abort,
+    alloc: Global,
+    addr: &str,
+    limit: &str,
+    sessions: &str,
+) -> Vec<String> {
+    daemon_words_of(alloc, addr, limit, sessions).expect(rt, "there is memory")
+}
+
 // The words of a client.
-pub(crate) fn client_of(alloc: Global, addr: &str) -> Result<Vec<String>, AllocError> {
-    words_of(alloc, ["--connect", addr].as_slice())
+pub(crate) fn client_of(rt: &impl Abort, alloc: Global, addr: &str) -> Vec<String> {
+    words_of(alloc, ["--connect", addr].as_slice()).expect(rt, "there is memory")
+}
+
+/// What a program printed, and its exit status.
+#[derive(Drop)]
+pub(crate) struct Told {
+    pub(crate) status: u8,
+    out: Vec<u8>,
+    errors: Vec<u8>,
+}
+
+/// Runs the daemon.
+pub(crate) fn serve<
+    R: Net<Listener = TcpListener, Stream = TcpStream> + Threads + Wait + Sync,
+    I: Read + Drop,
+>(rt: &R, alloc: Global, words: &[String], layout: I) -> Told {
+    let (mut out, mut errors) = (Vec::new(alloc), Vec::new(alloc));
+    let status = daemon_main(rt, alloc, words, layout, &mut out, &mut errors);
+    Told {
+        status,
+        out,
+        errors,
+    }
+}
+
+/// Runs the client.
+pub(crate) fn connect<R: Net<Listener = TcpListener, Stream = TcpStream>>(
+    rt: &R,
+    alloc: Global,
+    words: &[String],
+    commands: &[u8],
+) -> Told {
+    let (mut out, mut errors) = (Vec::new(alloc), Vec::new(alloc));
+    let status = client_main(rt, alloc, words, commands, &mut out, &mut errors);
+    Told {
+        status,
+        out,
+        errors,
+    }
+}
+
+/// The program ended so, and printed this, and nothing on standard error.
+pub(crate) fn printed(rt: &impl Abort, told: &Told, status: u8, out: &str) {
+    assert_eq!(rt; told.status, status);
+    assert_eq!(rt; str::from_utf8(told.out.as_slice()), Ok(out));
+    assert!(rt; told.errors.is_empty());
+}
+
+// The program ended so, printed this, and told this on standard error.
+fn failed(rt: &impl Abort, told: &Told, status: u8, out: &str, errors: &str) {
+    assert_eq!(rt; told.status, status);
+    assert_eq!(rt; str::from_utf8(told.out.as_slice()), Ok(out));
+    assert_eq!(rt; str::from_utf8(told.errors.as_slice()), Ok(errors));
 }
 
 // Runs the client, and again while it answers 1.
@@ -48,12 +112,10 @@ fn connected<R: Net<Listener = TcpListener, Stream = TcpStream> + Clock>(
     rt: &R,
     alloc: Global,
     words: &[String],
-    commands: &str,
+    commands: &[u8],
 ) -> u8 {
     for _ in 0..TRIES {
-        let mut out = Vec::new(alloc);
-        let mut errors = Vec::new(alloc);
-        let status = client_main(rt, alloc, words, commands.as_bytes(), &mut out, &mut errors);
+        let status = connect(rt, alloc, words, commands).status;
         if status != 1 {
             return status;
         }
@@ -63,73 +125,61 @@ fn connected<R: Net<Listener = TcpListener, Stream = TcpStream> + Clock>(
 }
 
 #[test]
-fn a_daemon_and_two_clients(rt: HostRuntime) -> Result<(), Fail> {
+fn a_daemon_and_two_clients(rt: HostRuntime) {
     let alloc = rt.alloc();
-    let daemon = daemon_at(alloc, "127.0.0.1:47011", "100", "2")?;
-    let client = client_of(alloc, "127.0.0.1:47011")?;
-    let layout = "window 1\ntext 1\n";
-    let (mut out, mut errors) = (Vec::new(alloc), Vec::new(alloc));
-    let (status, (one, two)) = join(
+    let daemon = daemon_at(&rt, alloc, "127.0.0.1:47011", "100", "2");
+    let client = client_of(&rt, alloc, "127.0.0.1:47011");
+    let (told, (one, two)) = join(
         &rt,
-        || daemon_main(
-            &rt,
-            alloc,
-            &daemon,
-            layout.as_bytes(),
-            &mut out,
-            &mut errors,
-        ),
+        || serve(&rt, alloc, &daemon, "window 1\ntext 1\n".as_bytes()),
         || {
             join(
                 &rt,
-                || connected(&rt, alloc, &client, "ins 1 1 0 char \"a\"\nsync\nquit\n"),
-                || connected(&rt, alloc, &client, "ins 1 1 0 char \"b\"\nsync\nquit\n"),
+                || connected(&rt, alloc, &client, b"ins 1 1 0 char \"a\"\nsync\nquit\n"),
+                || connected(&rt, alloc, &client, b"ins 1 1 0 char \"b\"\nsync\nquit\n"),
             )
         },
     );
-    assert_eq!(rt; (status, one, two), (0, 0, 0));
-    assert!(rt; errors.is_empty());
-    let out = str::from_utf8(out.as_slice());
+    assert_eq!(rt; (told.status, one, two), (0, 0, 0));
+    assert!(rt; told.errors.is_empty());
+    let out = str::from_utf8(told.out.as_slice());
     assert!(rt;
         out == Ok("listening 127.0.0.1:47011\norder 2\nwindow 1\ntext 1 \"ab\"\n")
             || out == Ok("listening 127.0.0.1:47011\norder 2\nwindow 1\ntext 1 \"ba\"\n")
     );
-    Ok(())
 }
 
 #[test]
-fn layouts_that_are_refused(rt: HostRuntime) -> Result<(), Fail> {
+fn layouts_that_are_refused(rt: HostRuntime) {
     let alloc = rt.alloc();
-    let words = daemon_at(alloc, "127.0.0.1:47012", "100", "2")?;
-    for (added, told) in [
+    let words = daemon_at(&rt, alloc, "127.0.0.1:47012", "100", "2");
+    for (added, errors) in [
         ("window 1\n", "layout line 8: fault 10\n"),
         ("item 0.3", "layout line 8: fault 43\n"),
         ("item 0.3 red\n", "layout line 8: fault 44\n"),
     ] {
-        let layout = format!(in alloc; "{LAYOUT}{added}")?;
-        let (mut out, mut errors) = (Vec::new(alloc), Vec::new(alloc));
-        let status = daemon_main(&rt, alloc, &words, layout.as_bytes(), &mut out, &mut errors);
-        assert_eq!(rt; status, 5);
-        assert_eq!(rt; str::from_utf8(errors.as_slice()), Ok(told));
-        assert!(rt; out.is_empty());
+        let layout = format!(in alloc; "{LAYOUT}{added}").expect(&rt, "there is memory");
+        let told = serve(&rt, alloc, &words, layout.as_bytes());
+        failed(&rt, &told, 5, "", errors);
     }
-    Ok(())
 }
 
 #[test]
-fn a_layout_that_is_too_long(rt: HostRuntime) -> Result<(), Fail> {
+fn a_layout_that_is_too_long(rt: HostRuntime) {
     let alloc = rt.alloc();
-    let words = daemon_at(alloc, "127.0.0.1:47012", "100", "2")?;
-    let (mut out, mut errors) = (Vec::new(alloc), Vec::new(alloc));
-    let layout = io::repeat(b'a').take(16_777_217);
-    let status = daemon_main(&rt, alloc, &words, layout, &mut out, &mut errors);
-    assert_eq!(rt; status, 5);
-    assert_eq!(rt; str::from_utf8(errors.as_slice()), Ok("layout too long\n"));
-    Ok(())
+    let words = daemon_at(&rt, alloc, "127.0.0.1:47012", "100", "2");
+    let told = serve(&rt, alloc, &words, io::repeat(b'a').take(16_777_217));
+    failed(&rt, &told, 5, "", "layout too long\n");
+}
+
+// The program refused its words: it said why, and printed nothing.
+fn words_refused(rt: &impl Abort, told: &Told) {
+    assert_eq!(rt; told.status, 2);
+    assert!(rt; told.out.is_empty() && !told.errors.is_empty());
 }
 
 #[test]
-fn words_that_are_refused(rt: HostRuntime) -> Result<(), Fail> {
+fn words_that_are_refused(rt: HostRuntime) {
     let alloc = rt.alloc();
     for (limit, sessions) in [
         ("0", "2"),
@@ -138,21 +188,20 @@ fn words_that_are_refused(rt: HostRuntime) -> Result<(), Fail> {
         ("1", "1025"),
         ("x", "2"),
     ] {
-        let words = daemon_at(alloc, "127.0.0.1:47012", limit, sessions)?;
-        let (mut out, mut errors) = (Vec::new(alloc), Vec::new(alloc));
+        let words = daemon_at(&rt, alloc, "127.0.0.1:47012", limit, sessions);
         // The layout is refused too, but later.
-        let status = daemon_main(&rt, alloc, &words, "x".as_bytes(), &mut out, &mut errors);
-        assert_eq!(rt; status, 2, "{limit} {sessions}");
-        assert!(rt; out.is_empty() && !errors.is_empty());
+        words_refused(&rt, &serve(&rt, alloc, &words, "x".as_bytes()));
     }
-    let (mut out, mut errors) = (Vec::new(alloc), Vec::new(alloc));
-    let words = words_of(alloc, ["--limit", "1", "--sessions", "2"].as_slice())?;
-    let status = daemon_main(&rt, alloc, &words, "".as_bytes(), &mut out, &mut errors);
-    assert_eq!(rt; status, 2);
+}
+
+#[test]
+fn words_that_are_missing(rt: HostRuntime) {
+    let alloc = rt.alloc();
+    let words = words_of(alloc, ["--limit", "1", "--sessions", "2"].as_slice());
+    let words = words.expect(&rt, "there is memory");
+    words_refused(&rt, &serve(&rt, alloc, &words, "".as_bytes()));
     let none = Vec::new(alloc);
-    let status = client_main(&rt, alloc, &none, "".as_bytes(), &mut out, &mut errors);
-    assert_eq!(rt; status, 2);
-    Ok(())
+    words_refused(&rt, &connect(&rt, alloc, &none, b""));
 }
 
 // Whether a text has a word.
@@ -164,73 +213,54 @@ fn has(text: &[u8], word: &str) -> bool {
 }
 
 #[test]
-fn help_tells_all_options(rt: HostRuntime) -> Result<(), Fail> {
+fn help_tells_all_options(rt: HostRuntime) {
     let alloc = rt.alloc();
-    let words = words_of(alloc, ["--help"].as_slice())?;
-    let (mut out, mut errors) = (Vec::new(alloc), Vec::new(alloc));
-    let status = daemon_main(&rt, alloc, &words, "".as_bytes(), &mut out, &mut errors);
-    assert_eq!(rt; status, 0);
-    assert!(rt; errors.is_empty());
+    let words = words_of(alloc, ["--help"].as_slice()).expect(&rt, "there is memory");
+    let told = serve(&rt, alloc, &words, "".as_bytes());
+    assert_eq!(rt; told.status, 0);
+    assert!(rt; told.errors.is_empty());
     for option in ["--listen <ADDR>", "--limit <N>", "--sessions <N>"] {
-        assert!(rt; has(out.as_slice(), option), "{option}");
+        assert!(rt; has(told.out.as_slice(), option), "{option}");
     }
-    out.clear();
-    let status = client_main(&rt, alloc, &words, "".as_bytes(), &mut out, &mut errors);
-    assert_eq!(rt; status, 0);
-    assert!(rt; has(out.as_slice(), "--connect <ADDR>"));
-    Ok(())
+    let told = connect(&rt, alloc, &words, b"");
+    assert_eq!(rt; told.status, 0);
+    assert!(rt; has(told.out.as_slice(), "--connect <ADDR>"));
 }
 
 #[test]
-fn addresses_that_fail(rt: HostRuntime) -> Result<(), Fail> {
+fn an_address_that_is_held(rt: HostRuntime) {
     let alloc = rt.alloc();
-    let held = TcpListener::bind(&rt, "127.0.0.1:47013")?;
-    let words = daemon_at(alloc, "127.0.0.1:47013", "1", "1")?;
-    let (mut out, mut errors) = (Vec::new(alloc), Vec::new(alloc));
-    let status = daemon_main(&rt, alloc, &words, "".as_bytes(), &mut out, &mut errors);
-    assert_eq!(rt; status, 1);
-    assert_eq!(rt; str::from_utf8(errors.as_slice()), Ok("io fault\n"));
+    let held = TcpListener::bind(&rt, "127.0.0.1:47013").expect(&rt, "it is free");
+    let words = daemon_at(&rt, alloc, "127.0.0.1:47013", "1", "1");
+    let told = serve(&rt, alloc, &words, "".as_bytes());
+    failed(&rt, &told, 1, "", "io fault\n");
     drop(held);
-    errors.clear();
-    let words = client_of(alloc, "127.0.0.1:47013")?;
-    let status = client_main(&rt, alloc, &words, "".as_bytes(), &mut out, &mut errors);
-    assert_eq!(rt; status, 1);
-    assert_eq!(rt; str::from_utf8(errors.as_slice()), Ok("io fault\n"));
-    assert!(rt; out.is_empty());
-    Ok(())
 }
 
 #[test]
-fn an_accept_that_fails(rt: HostRuntime) -> Result<(), Fail> {
+fn an_address_where_nobody_listens(rt: HostRuntime) {
     let alloc = rt.alloc();
-    let words = daemon_at(alloc, "127.0.0.1:47016", "1", "1")?;
-    let (mut out, mut errors) = (Vec::new(alloc), Vec::new(alloc));
-    let impatient = Impatient { rt: &rt };
-    let status = daemon_main(
-        &impatient,
-        alloc,
-        &words,
-        "".as_bytes(),
-        &mut out,
-        &mut errors,
-    );
-    assert_eq!(rt; status, 1);
-    assert_eq!(rt; str::from_utf8(errors.as_slice()), Ok("io fault\n"));
-    assert_eq!(rt;
-        str::from_utf8(out.as_slice()),
-        Ok("listening 127.0.0.1:47016\n")
-    );
-    Ok(())
+    let words = client_of(&rt, alloc, "127.0.0.1:47020");
+    let told = connect(&rt, alloc, &words, b"");
+    failed(&rt, &told, 1, "", "io fault\n");
+}
+
+#[test]
+fn an_accept_that_fails(rt: HostRuntime) {
+    let alloc = rt.alloc();
+    let words = daemon_at(&rt, alloc, "127.0.0.1:47016", "1", "1");
+    let told = serve(&Impatient { rt: &rt }, alloc, &words, "".as_bytes());
+    failed(&rt, &told, 1, "listening 127.0.0.1:47016\n", "io fault\n");
 }
 
 // Run this with each allocation refused in turn.
 #[test]
 fn words_that_lack_memory(rt: HostRuntime) {
     let alloc = rt.alloc();
-    let Ok(good) = daemon_at(alloc, "127.0.0.1:47011", "100", "2") else {
+    let Ok(good) = daemon_words_of(alloc, "127.0.0.1:47011", "100", "2") else {
         return;
     };
-    let Ok(bad) = daemon_at(alloc, "127.0.0.1:4711", "0", "2") else {
+    let Ok(bad) = daemon_words_of(alloc, "127.0.0.1:4711", "0", "2") else {
         return;
     };
     match daemon_words(alloc, &good) {

@@ -1,5 +1,5 @@
 //! Sessions over memory.
-ghost use Rattle.std.specs.Prelude.{◌≡◌, ◌≤◌, length, IfOk, IfSome};
+ghost use Rattle.std.specs.Prelude.{◌≡◌, ◌≤◌, length, IfSome};
 ghost use Rattle.jup_hub.specs.Passes.{IsPassOf};
 
 use crate::fakes::{Counting, FailsAfter, FailsAt, OneByOne};
@@ -13,12 +13,12 @@ use jup_value::{Item, Name};
 use jup_window::{BoardOp, WidgetOp};
 use jup_wire::layout;
 use std::alloc::Global;
+use std::fmt::Write;
 use std::io::Read;
 use std::process::Abort;
 use std::str;
 use std::sync::Wait;
 use std::sync::atomic::Ordering;
-use std::test::Fail;
 use std::thread::Threads;
 
 const EMPTY_TEXT: &[u8] = b"window 1\ntext 1\n";
@@ -40,14 +40,19 @@ fn made(alloc: Global, text: &[u8], limit: u32) -> Option<(Hub, Pass)>
 }
 
 // The same, where there is memory.
-fn opened(alloc: Global, text: &[u8], limit: u32) -> Result<(Hub, Pass), Fail>
+fn opened(rt: &impl Abort, alloc: Global, text: &[u8], limit: u32) -> (Hub, Pass)
     requires { length text.now ≤ 16777216 }
-    ensures { IfOk result (λ r. IsPassOf r.0 r.1) }
+    ensures { IsPassOf result.0 result.1 }
 {
-    match made(alloc, text, limit) {
-        Some(opened) => Ok(opened),
-        None => Err("no memory".into()),
-    }
+    made(alloc, text, limit).expect(rt, "there is memory")
+}
+
+// The star of a hub that no turn holds.
+fn closed(rt: &impl Abort, hub: Hub, pass: Pass) -> Star
+    requires { IsPassOf hub pass }
+{
+    let closed = hub.close(pass).ok().expect(rt, "the turn is free");
+    closed.star
 }
 
 // What a session left behind.
@@ -63,13 +68,13 @@ struct Left {
 }
 
 // Runs a session on an empty text, alone.
-fn ran<R: Threads + Wait + Sync, I: Read + Drop, G: Gate>(
+fn ran<R: Threads + Wait + Sync + Abort, I: Read + Drop, G: Gate>(
     rt: &R,
     alloc: Global,
     from: I,
     gate: &G,
-) -> Result<Left, Fail> {
-    let (hub, pass) = opened(alloc, EMPTY_TEXT, 100)?;
+) -> Left {
+    let (hub, pass) = opened(rt, alloc, EMPTY_TEXT, 100);
     let mut written = Vec::new(alloc);
     let (mut pass, ending) = serve_link(
         rt,
@@ -82,19 +87,23 @@ fn ran<R: Threads + Wait + Sync, I: Read + Drop, G: Gate>(
         gate,
     );
     let has_news = hub.news(&mut pass);
-    let Ok(closed) = hub.close(pass) else {
-        return Err("the turn is free".into());
-    };
+    let star = closed(rt, hub, pass);
     let mut board = Vec::new(alloc);
-    write_board(alloc, closed.star.board(), &mut board)?;
-    Ok(Left {
+    write_board(alloc, star.board(), &mut board).expect(rt, "there is memory");
+    Left {
         ending,
         written,
         board,
-        taken: closed.star.order().len(),
-        waiting: closed.star.waiting(1),
+        taken: star.order().len(),
+        waiting: star.waiting(1),
         has_news,
-    })
+    }
+}
+
+// It ended so, and wrote this.
+fn ended(rt: &impl Abort, left: &Left, ending: Ending, written: &str) {
+    assert_eq!(rt; left.ending, ending);
+    assert_eq!(rt; str::from_utf8(left.written.as_slice()), Ok(written));
 }
 
 const TYPED: &[u8] = b"hello 1\nop 0 0 1 1 text ins 0 1.1 97\nping 7\nbye\n";
@@ -102,10 +111,9 @@ const TYPED: &[u8] = b"hello 1\nop 0 0 1 1 text ins 0 1.1 97\nping 7\nbye\n";
 const TYPED_ANSWER: &str = "welcome 1 100\nwindow 1\ntext 1\nready\npong 7\nbye\n";
 
 #[test]
-fn a_session_over_memory(rt: HostRuntime) -> Result<(), Fail> {
-    let left = ran(&rt, rt.alloc(), TYPED, &Open)?;
-    assert_eq!(rt; left.ending, Ending::Bye);
-    assert_eq!(rt; str::from_utf8(left.written.as_slice()), Ok(TYPED_ANSWER));
+fn a_session_over_memory(rt: HostRuntime) {
+    let left = ran(&rt, rt.alloc(), TYPED, &Open);
+    ended(&rt, &left, Ending::Bye, TYPED_ANSWER);
     assert_eq!(rt;
         str::from_utf8(left.board.as_slice()),
         Ok("window 1\ntext 1 \"a\"\n")
@@ -113,25 +121,31 @@ fn a_session_over_memory(rt: HostRuntime) -> Result<(), Fail> {
     assert_eq!(rt; left.taken, 1);
     assert_eq!(rt; left.waiting, None);
     assert!(rt; !left.has_news, "the pass has seen what both halves did");
-    Ok(())
 }
 
 #[test]
-fn a_session_of_single_bytes(rt: HostRuntime) -> Result<(), Fail> {
+fn a_session_of_single_bytes(rt: HostRuntime) {
     let from = OneByOne {
         text: TYPED,
         is_next: false,
     };
-    let left = ran(&rt, rt.alloc(), from, &Open)?;
-    assert_eq!(rt; left.ending, Ending::Bye);
-    assert_eq!(rt; str::from_utf8(left.written.as_slice()), Ok(TYPED_ANSWER));
+    let left = ran(&rt, rt.alloc(), from, &Open);
+    ended(&rt, &left, Ending::Bye, TYPED_ANSWER);
     assert_eq!(rt; left.taken, 1);
-    Ok(())
+}
+
+// A line behind the greeting that ends the session in a fault, with nothing taken.
+fn is_refused<R: Threads + Wait + Sync + Abort>(rt: &R, alloc: Global, line: &str, number: u32) {
+    let from = format!(in alloc; "hello 1\n{line}").expect(rt, "there is memory");
+    let written = format!(in alloc; "{GREETING}error {number}\n").expect(rt, "there is memory");
+    let left = ran(rt, alloc, from.as_bytes(), &Open);
+    ended(rt, &left, Ending::Fault(number), written.as_str());
+    assert_eq!(rt; left.taken, 0);
+    assert_eq!(rt; left.waiting, None);
 }
 
 #[test]
-fn faults_behind_the_greeting(rt: HostRuntime) -> Result<(), Fail> {
-    let alloc = rt.alloc();
+fn faults_behind_the_greeting(rt: HostRuntime) {
     for (line, number) in [
         ("op 1 0 1 1 text ins 0 1.1 97\n", 20),
         ("op 0 5 1 1 text ins 0 1.1 97\n", 21),
@@ -144,34 +158,25 @@ fn faults_behind_the_greeting(rt: HostRuntime) -> Result<(), Fail> {
         ("welcome 1 100\n", 44),
         ("hello 1\n", 44),
     ] {
-        let from = format!(in alloc; "hello 1\n{line}")?;
-        let left = ran(&rt, alloc, from.as_bytes(), &Open)?;
-        let written = format!(in alloc;
-            "welcome 1 100\nwindow 1\ntext 1\nready\nerror {number}\n"
-        )?;
-        assert_eq!(rt; left.ending, Ending::Fault(number), "{line}");
-        assert_eq!(rt; left.written.as_slice(), written.as_bytes(), "{line}");
-        assert_eq!(rt; left.taken, 0, "{line}");
-        assert_eq!(rt; left.waiting, None, "{line}");
+        is_refused(&rt, rt.alloc(), line, number);
     }
-    Ok(())
 }
 
 #[test]
-fn a_line_of_300_bytes(rt: HostRuntime) -> Result<(), Fail> {
+fn a_line_of_300_bytes(rt: HostRuntime) {
     let greeting: &[u8] = b"hello 1\n";
     let long = [b'x'; 300];
-    let left = ran(&rt, rt.alloc(), greeting.chain(long.as_slice()), &Open)?;
-    assert_eq!(rt; left.ending, Ending::Fault(41));
-    assert_eq!(rt;
-        str::from_utf8(left.written.as_slice()),
-        Ok("welcome 1 100\nwindow 1\ntext 1\nready\nerror 41\n")
+    let left = ran(&rt, rt.alloc(), greeting.chain(long.as_slice()), &Open);
+    ended(
+        &rt,
+        &left,
+        Ending::Fault(41),
+        "welcome 1 100\nwindow 1\ntext 1\nready\nerror 41\n",
     );
-    Ok(())
 }
 
 #[test]
-fn sessions_that_do_not_join(rt: HostRuntime) -> Result<(), Fail> {
+fn sessions_that_do_not_join(rt: HostRuntime) {
     for (from, written, ending) in [
         ("hello 2\n", "error 42\n", Ending::Fault(42)),
         ("ping 1\n", "error 44\n", Ending::Fault(44)),
@@ -179,67 +184,70 @@ fn sessions_that_do_not_join(rt: HostRuntime) -> Result<(), Fail> {
         ("hel", "error 43\n", Ending::Fault(43)),
         ("", "bye\n", Ending::Gone),
     ] {
-        let left = ran(&rt, rt.alloc(), from.as_bytes(), &Open)?;
-        assert_eq!(rt; left.ending, ending, "{from}");
-        assert_eq!(rt; str::from_utf8(left.written.as_slice()), Ok(written));
+        let left = ran(&rt, rt.alloc(), from.as_bytes(), &Open);
+        ended(&rt, &left, ending, written);
     }
-    Ok(())
 }
 
 #[test]
-fn a_site_that_just_ends(rt: HostRuntime) -> Result<(), Fail> {
+fn a_site_that_just_ends(rt: HostRuntime) {
     let from: &[u8] = b"hello 1\nping 4\n";
-    let left = ran(&rt, rt.alloc(), from, &Open)?;
-    assert_eq!(rt; left.ending, Ending::Gone);
-    assert_eq!(rt;
-        str::from_utf8(left.written.as_slice()),
-        Ok("welcome 1 100\nwindow 1\ntext 1\nready\npong 4\nbye\n")
+    let left = ran(&rt, rt.alloc(), from, &Open);
+    ended(
+        &rt,
+        &left,
+        Ending::Gone,
+        "welcome 1 100\nwindow 1\ntext 1\nready\npong 4\nbye\n",
     );
-    Ok(())
 }
 
-#[test]
-fn all_that_waits_is_written_before_bye(rt: HostRuntime) -> Result<(), Fail> {
-    let alloc = rt.alloc();
-    let mut from = Vec::new(alloc);
-    let mut written = Vec::new(alloc);
-    from.extend_from_slice(b"hello 1\n")?;
-    written.extend_from_slice(b"welcome 1 100\nwindow 1\ntext 1\nready\n")?;
-    // More than three fetches bring.
-    for k in 0..200 {
-        from.extend_from_slice(format!(in alloc; "ping {k}\n")?.as_bytes())?;
-        written.extend_from_slice(format!(in alloc; "pong {k}\n")?.as_bytes())?;
+// So many lines of a kind, numbered from 0, between a first and a last text.
+fn numbered(
+    rt: &impl Abort,
+    alloc: Global,
+    first: &str,
+    word: &str,
+    count: u32,
+    last: &str,
+) -> String {
+    let mut text = String::from_str(alloc, first).expect(rt, "there is memory");
+    for k in 0..count {
+        write!(text, "{word} {k}\n").expect(rt, "there is memory");
     }
-    from.extend_from_slice(b"bye\n")?;
-    written.extend_from_slice(b"bye\n")?;
-    let left = ran(&rt, alloc, from.as_slice(), &Open)?;
-    assert_eq!(rt; left.ending, Ending::Bye);
-    assert_eq!(rt; left.written.as_slice(), written.as_slice());
-    Ok(())
+    text.push_str(last).expect(rt, "there is memory");
+    text
 }
 
 #[test]
-fn the_read_behind_the_greeting_fails(rt: HostRuntime) -> Result<(), Fail> {
+fn all_that_waits_is_written_before_bye(rt: HostRuntime) {
+    let alloc = rt.alloc();
+    // More than three fetches bring.
+    let from = numbered(&rt, alloc, "hello 1\n", "ping", 200, "bye\n");
+    let written = numbered(&rt, alloc, GREETING, "pong", 200, "bye\n");
+    let left = ran(&rt, alloc, from.as_bytes(), &Open);
+    ended(&rt, &left, Ending::Bye, written.as_str());
+}
+
+#[test]
+fn the_read_behind_the_greeting_fails(rt: HostRuntime) {
     let from = FailsAfter { text: b"hello 1\n" };
-    let left = ran(&rt, rt.alloc(), from, &Open)?;
-    assert_eq!(rt; left.ending, Ending::Fault(70));
-    assert_eq!(rt;
-        str::from_utf8(left.written.as_slice()),
-        Ok("welcome 1 100\nwindow 1\ntext 1\nready\nerror 70\n")
+    let left = ran(&rt, rt.alloc(), from, &Open);
+    ended(
+        &rt,
+        &left,
+        Ending::Fault(70),
+        "welcome 1 100\nwindow 1\ntext 1\nready\nerror 70\n",
     );
     assert_eq!(rt;
         str::from_utf8(left.board.as_slice()),
         Ok("window 1\ntext 1 \"\"\n")
     );
-    Ok(())
 }
 
 #[test]
-fn the_first_read_fails(rt: HostRuntime) -> Result<(), Fail> {
-    let left = ran(&rt, rt.alloc(), FailsAfter { text: b"" }, &Open)?;
-    assert_eq!(rt; left.ending, Ending::Fault(70));
-    assert_eq!(rt; str::from_utf8(left.written.as_slice()), Ok("error 70\n"));
-    Ok(())
+fn the_first_read_fails(rt: HostRuntime) {
+    let left = ran(&rt, rt.alloc(), FailsAfter { text: b"" }, &Open);
+    ended(&rt, &left, Ending::Fault(70), "error 70\n");
 }
 
 // The first edit of a site, an insertion into the text.
@@ -258,13 +266,10 @@ fn first_edit(site: u32) -> Up {
 }
 
 // The second session of a hub, whose writer fails at a write. The other site stays.
-fn write_fails<R: Threads + Wait + Sync + Abort>(
-    rt: &R,
-    alloc: Global,
-    writes: u32,
-) -> Result<Ending, Fail> {
-    let (hub, mut pass) = opened(alloc, EMPTY_TEXT, 100)?;
-    assert_eq!(rt; hub.join_site(rt, alloc, &mut pass)?.site, 1);
+fn write_fails<R: Threads + Wait + Sync + Abort>(rt: &R, alloc: Global, writes: u32) -> Ending {
+    let (hub, mut pass) = opened(rt, alloc, EMPTY_TEXT, 100);
+    let first = hub.join_site(rt, alloc, &mut pass).expect(rt, "it joins");
+    assert_eq!(rt; first.site, 1);
     let mut text = Vec::new(alloc);
     let to = FailsAt {
         writes,
@@ -272,104 +277,121 @@ fn write_fails<R: Threads + Wait + Sync + Abort>(
     };
     let from: &[u8] = b"hello 1\nping 7\nbye\n";
     let (mut pass, ending) = serve_link(rt, alloc, from, to, &hub, pass, &Bell::new(), &Open);
-    assert_eq!(rt; hub.take(rt, alloc, &mut pass, 1, &first_edit(1))?, Some(0));
-    let Ok(closed) = hub.close(pass) else {
-        return Err("the turn is free".into());
-    };
-    assert_eq!(rt; closed.star.waiting(2), None);
-    assert_eq!(rt; closed.star.waiting(1), Some(0));
-    Ok(ending)
+    assert_eq!(rt;
+        hub.take(rt, alloc, &mut pass, 1, &first_edit(1)),
+        Ok(Some(0))
+    );
+    let star = closed(rt, hub, pass);
+    assert_eq!(rt; star.waiting(2), None);
+    assert_eq!(rt; star.waiting(1), Some(0));
+    ending
 }
 
 #[test]
-fn the_write_of_the_board_fails(rt: HostRuntime) -> Result<(), Fail> {
-    assert_eq!(rt; write_fails(&rt, rt.alloc(), 0)?, Ending::Fault(71));
-    Ok(())
+fn the_write_of_the_board_fails(rt: HostRuntime) {
+    assert_eq!(rt; write_fails(&rt, rt.alloc(), 0), Ending::Fault(71));
 }
 
 #[test]
-fn a_later_write_fails(rt: HostRuntime) -> Result<(), Fail> {
+fn a_later_write_fails(rt: HostRuntime) {
     // The write of the pong meets the failure before or after the site says bye.
-    let ending = write_fails(&rt, rt.alloc(), 1)?;
+    let ending = write_fails(&rt, rt.alloc(), 1);
     assert!(rt; ending == Ending::Fault(71) || ending == Ending::Bye);
-    Ok(())
 }
 
 #[test]
-fn the_gate_is_asked_before_an_edit_and_told_after(rt: HostRuntime) -> Result<(), Fail> {
+fn the_gate_is_asked_before_an_edit_and_told_after(rt: HostRuntime) {
     let gate = Counting::new(1);
-    let left = ran(&rt, rt.alloc(), TYPED, &gate)?;
+    let left = ran(&rt, rt.alloc(), TYPED, &gate);
     assert_eq!(rt; left.ending, Ending::Bye);
     assert_eq!(rt; gate.asked.load(Ordering::SeqCst), 1);
     assert_eq!(rt; gate.told.load(Ordering::SeqCst), 1);
-    Ok(())
 }
 
 #[test]
-fn a_gate_that_stays_shut(rt: HostRuntime) -> Result<(), Fail> {
+fn a_gate_that_stays_shut(rt: HostRuntime) {
     let gate = Counting::new(0);
-    let left = ran(&rt, rt.alloc(), TYPED, &gate)?;
-    assert_eq!(rt; left.ending, Ending::Fault(60));
+    let left = ran(&rt, rt.alloc(), TYPED, &gate);
+    ended(
+        &rt,
+        &left,
+        Ending::Fault(60),
+        "welcome 1 100\nwindow 1\ntext 1\nready\nerror 60\n",
+    );
     assert_eq!(rt; gate.asked.load(Ordering::SeqCst), 100_000);
     assert_eq!(rt; gate.told.load(Ordering::SeqCst), 0);
     assert_eq!(rt; left.taken, 0);
-    assert_eq!(rt;
-        str::from_utf8(left.written.as_slice()),
-        Ok("welcome 1 100\nwindow 1\ntext 1\nready\nerror 60\n")
-    );
-    Ok(())
 }
 
-#[test]
-fn a_full_order(rt: HostRuntime) -> Result<(), Fail> {
-    let alloc = rt.alloc();
-    let (hub, pass) = opened(alloc, EMPTY_TEXT, 1)?;
-    let from: &[u8] = b"hello 1\nop 0 0 1 1 text ins 0 1.1 97\nop 1 0 1 1 text ins 0 1.2 97\nbye\n";
+// What a session writes, and how it ends, that is the last of a hub.
+fn served<R: Threads + Wait + Sync + Abort>(
+    rt: &R,
+    alloc: Global,
+    hub: &Hub,
+    pass: Pass,
+    from: &[u8],
+    ending: Ending,
+    written: &str,
+)
+    requires { IsPassOf hub.now pass }
+{
     let mut to = Vec::new(alloc);
-    let (_, ending) = serve_link(&rt, alloc, from, &mut to, &hub, pass, &Bell::new(), &Open);
-    assert_eq!(rt; ending, Ending::Fault(32));
-    assert_eq!(rt;
-        str::from_utf8(to.as_slice()),
-        Ok("welcome 1 1\nwindow 1\ntext 1\nready\nerror 32\n")
-    );
-    Ok(())
+    let (_, ended) = serve_link(rt, alloc, from, &mut to, hub, pass, &Bell::new(), &Open);
+    assert_eq!(rt; ended, ending);
+    assert_eq!(rt; str::from_utf8(to.as_slice()), Ok(written));
 }
 
 #[test]
-fn a_full_star(rt: HostRuntime) -> Result<(), Fail> {
+fn a_full_order(rt: HostRuntime) {
     let alloc = rt.alloc();
-    let (hub, mut pass) = opened(alloc, EMPTY_TEXT, 100)?;
+    let (hub, pass) = opened(&rt, alloc, EMPTY_TEXT, 1);
+    served(
+        &rt,
+        alloc,
+        &hub,
+        pass,
+        b"hello 1\nop 0 0 1 1 text ins 0 1.1 97\nop 1 0 1 1 text ins 0 1.2 97\nbye\n",
+        Ending::Fault(32),
+        "welcome 1 1\nwindow 1\ntext 1\nready\nerror 32\n",
+    );
+}
+
+#[test]
+fn a_full_star(rt: HostRuntime) {
+    let alloc = rt.alloc();
+    let (hub, mut pass) = opened(&rt, alloc, EMPTY_TEXT, 100);
     for _ in 0..64 {
         assert!(rt; hub.join_site(&rt, alloc, &mut pass).is_ok());
     }
-    let from: &[u8] = b"hello 1\nbye\n";
-    let mut to = Vec::new(alloc);
-    let (_, ending) = serve_link(&rt, alloc, from, &mut to, &hub, pass, &Bell::new(), &Open);
-    assert_eq!(rt; ending, Ending::Fault(30));
-    assert_eq!(rt; str::from_utf8(to.as_slice()), Ok("error 30\n"));
-    Ok(())
+    served(
+        &rt,
+        alloc,
+        &hub,
+        pass,
+        b"hello 1\nbye\n",
+        Ending::Fault(30),
+        "error 30\n",
+    );
+}
+
+// The lines of a board with a text of so many items.
+fn long_layout(rt: &impl Abort, alloc: Global, count: u32) -> String {
+    let mut text = String::from_str(alloc, "window 1\ntext 1\n").expect(rt, "there is memory");
+    for k in 1..=count {
+        write!(text, "char 0.{k} 97\n").expect(rt, "there is memory");
+    }
+    text
 }
 
 #[test]
-fn a_board_that_takes_many_writes(rt: HostRuntime) -> Result<(), Fail> {
+fn a_board_that_takes_many_writes(rt: HostRuntime) {
     let alloc = rt.alloc();
-    let mut board = Vec::new(alloc);
-    board.extend_from_slice(b"window 1\ntext 1\n")?;
-    for k in 1..2_001 {
-        board.extend_from_slice(format!(in alloc; "char 0.{k} 97\n")?.as_bytes())?;
-    }
+    let board = long_layout(&rt, alloc, 2_000);
     assert!(rt; board.len() < 100_000);
-    let (hub, pass) = opened(alloc, board.as_slice(), 100)?;
+    let (hub, pass) = opened(&rt, alloc, board.as_bytes(), 100);
+    let written = format!(in alloc; "welcome 1 100\n{board}ready\nbye\n").expect(&rt, "memory");
     let from: &[u8] = b"hello 1\nbye\n";
-    let mut to = Vec::new(alloc);
-    let (_, ending) = serve_link(&rt, alloc, from, &mut to, &hub, pass, &Bell::new(), &Open);
-    assert_eq!(rt; ending, Ending::Bye);
-    let mut written = Vec::new(alloc);
-    written.extend_from_slice(b"welcome 1 100\n")?;
-    written.extend_from_slice(board.as_slice())?;
-    written.extend_from_slice(b"ready\nbye\n")?;
-    assert_eq!(rt; to.as_slice(), written.as_slice());
-    Ok(())
+    served(&rt, alloc, &hub, pass, from, Ending::Bye, written.as_str());
 }
 
 const GREETING: &str = "welcome 1 100\nwindow 1\ntext 1\nready\n";
@@ -389,13 +411,13 @@ fn tells_of_memory(written: &[u8]) -> bool {
 
 // Run this with each allocation refused in turn.
 #[test]
-fn a_session_that_lacks_memory_says_so(rt: HostRuntime) -> Result<(), Fail> {
+fn a_session_that_lacks_memory_says_so(rt: HostRuntime) {
     let alloc = rt.alloc();
     let Some((hub, pass)) = made(alloc, EMPTY_TEXT, 100) else {
-        return Ok(());
+        return;
     };
     let Ok(mut to) = Vec::with_capacity(alloc, 4_096) else {
-        return Ok(());
+        return;
     };
     let (mut pass, ending) = serve_link(
         &rt,
@@ -416,10 +438,7 @@ fn a_session_that_lacks_memory_says_so(rt: HostRuntime) -> Result<(), Fail> {
         assert!(rt; tells_of_memory(to.as_slice()));
     }
     assert!(rt; !hub.news(&mut pass));
-    let Ok(closed) = hub.close(pass) else {
-        return Err("the turn is free".into());
-    };
-    assert_eq!(rt; closed.star.waiting(1), None);
-    assert!(rt; ending != Ending::Bye || closed.star.order().len() == 1);
-    Ok(())
+    let star = closed(&rt, hub, pass);
+    assert_eq!(rt; star.waiting(1), None);
+    assert!(rt; ending != Ending::Bye || star.order().len() == 1);
 }

@@ -1,11 +1,11 @@
 //! Links over loopback that are no client's.
 
-use crate::programs::{client_of, daemon_at};
-use jup_session::{client_main, daemon_main};
+use crate::programs::{Told, client_of, connect, daemon_at, printed, serve};
+use jup_session::client_main;
 use std::alloc::Global;
 use std::io::{Read, Write};
 use std::net::{Net, TcpListener, TcpStream};
-use std::test::Fail;
+use std::process::Abort;
 use std::thread::join;
 use std::time::{Clock, Duration};
 use std::{io, str, thread};
@@ -16,8 +16,8 @@ const TRIES: u32 = 1_000;
 /// Bytes that are read of a link.
 const MOST: usize = 4_096;
 
-// A connection, as soon as the daemon listens.
-fn linked<R: Net<Listener = TcpListener, Stream = TcpStream> + Clock>(
+/// A connection, as soon as the daemon listens.
+pub(crate) fn linked<R: Net<Listener = TcpListener, Stream = TcpStream> + Clock>(
     rt: &R,
     addr: &str,
 ) -> io::Result<TcpStream> {
@@ -30,8 +30,8 @@ fn linked<R: Net<Listener = TcpListener, Stream = TcpStream> + Clock>(
     TcpStream::connect(rt, addr)
 }
 
-// Reads from a link up to a text that ends with `end`.
-fn read_to(stream: &TcpStream, end: &[u8], text: &mut Vec<u8>) -> io::Result<()> {
+/// Reads from a link up to a text that ends with `end`.
+pub(crate) fn read_to(stream: &TcpStream, end: &[u8], text: &mut Vec<u8>) -> io::Result<()> {
     let mut from = stream;
     for _ in 0..MOST {
         if text.ends_with(end) {
@@ -46,7 +46,7 @@ fn read_to(stream: &TcpStream, end: &[u8], text: &mut Vec<u8>) -> io::Result<()>
     Ok(())
 }
 
-// A link that reads what it is told of a client's edit.
+// A link that reads what it is told of a client's edit. The client's exit status.
 fn listens<R: Net<Listener = TcpListener, Stream = TcpStream> + Clock>(
     rt: &R,
     alloc: Global,
@@ -58,47 +58,85 @@ fn listens<R: Net<Listener = TcpListener, Stream = TcpStream> + Clock>(
     let mut to = &stream;
     to.write_all(b"hello 1\n")?;
     read_to(&stream, b"ready\n", heard)?;
-    let commands: &[u8] = b"ins 1 1 0 char \"a\"\nsync\n";
-    let (mut out, mut errors) = (Vec::new(alloc), Vec::new(alloc));
-    let status = client_main(rt, alloc, words, commands, &mut out, &mut errors);
+    let told = connect(rt, alloc, words, b"ins 1 1 0 char \"a\"\nsync\n");
     to.write_all(b"ping 5\nbye\n")?;
     read_to(&stream, b"bye\n", heard)?;
-    Ok(status)
+    Ok(told.status)
+}
+
+/// What was told is these lines.
+pub(crate) fn is_told(rt: &impl Abort, heard: &[u8], lines: &str) {
+    assert_eq!(rt; str::from_utf8(heard), Ok(lines));
 }
 
 #[test]
-fn an_edit_is_told_to_the_other_link(rt: HostRuntime) -> Result<(), Fail> {
+fn an_edit_is_told_to_the_other_link(rt: HostRuntime) {
     let alloc = rt.alloc();
     let addr = "127.0.0.1:47014";
-    let daemon = daemon_at(alloc, addr, "100", "2")?;
-    let client = client_of(alloc, addr)?;
-    let layout = "window 1\ntext 1\n";
-    let (mut out, mut errors, mut heard) = (Vec::new(alloc), Vec::new(alloc), Vec::new(alloc));
-    let (status, other) = join(
+    let daemon = daemon_at(&rt, alloc, addr, "100", "2");
+    let client = client_of(&rt, alloc, addr);
+    let mut heard = Vec::new(alloc);
+    let (told, other) = join(
         &rt,
-        || daemon_main(
-            &rt,
-            alloc,
-            &daemon,
-            layout.as_bytes(),
-            &mut out,
-            &mut errors,
-        ),
+        || serve(&rt, alloc, &daemon, "window 1\ntext 1\n".as_bytes()),
         || listens(&rt, alloc, addr, &client, &mut heard).unwrap_or(9),
     );
-    assert_eq!(rt; (status, other), (0, 0));
-    assert_eq!(rt;
-        str::from_utf8(heard.as_slice()),
-        Ok(
-            "welcome 1 100\nwindow 1\ntext 1\nready\n\
-            op 0 0 1 1 text ins 0 2.1 97\npong 5\nbye\n"
-        )
+    assert_eq!(rt; other, 0);
+    is_told(
+        &rt,
+        heard.as_slice(),
+        "welcome 1 100\nwindow 1\ntext 1\nready\n\
+        op 0 0 1 1 text ins 0 2.1 97\npong 5\nbye\n",
     );
-    assert_eq!(rt;
-        str::from_utf8(out.as_slice()),
-        Ok("listening 127.0.0.1:47014\norder 1\nwindow 1\ntext 1 \"a\"\n")
+    printed(
+        &rt,
+        &told,
+        0,
+        "listening 127.0.0.1:47014\norder 1\nwindow 1\ntext 1 \"a\"\n",
     );
-    Ok(())
+}
+
+// A link whose edit fills the order, and a client that makes one more.
+fn fills<R: Net<Listener = TcpListener, Stream = TcpStream> + Clock>(
+    rt: &R,
+    alloc: Global,
+    addr: &str,
+    words: &[String],
+) -> io::Result<Told> {
+    let stream = linked(rt, addr)?;
+    let mut to = &stream;
+    to.write_all(b"hello 1\nop 0 0 1 1 text ins 0 1.1 97\nping 1\n")?;
+    let mut heard = Vec::new(alloc);
+    read_to(&stream, b"pong 1\n", &mut heard)?;
+    let told = connect(rt, alloc, words, b"ins 1 1 0 char \"b\"\nsync\nshow\n");
+    to.write_all(b"bye\n")?;
+    Ok(told)
+}
+
+#[test]
+fn a_full_order_ends_a_client_with_status_4(rt: HostRuntime) {
+    let alloc = rt.alloc();
+    let addr = "127.0.0.1:47019";
+    let daemon = daemon_at(&rt, alloc, addr, "1", "2");
+    let client = client_of(&rt, alloc, addr);
+    let (told, filled) = join(
+        &rt,
+        || serve(&rt, alloc, &daemon, "window 1\ntext 1\n".as_bytes()),
+        || fills(&rt, alloc, addr, &client),
+    );
+    let filled = filled.ok().expect(&rt, "the link is served");
+    printed(
+        &rt,
+        &filled,
+        4,
+        "site 2\nmade ins 1 1 2.1 \"b\"\nfault 32\n",
+    );
+    printed(
+        &rt,
+        &told,
+        0,
+        "listening 127.0.0.1:47019\norder 1\nwindow 1\ntext 1 \"a\"\n",
+    );
 }
 
 // A link that sends a bad line and much behind it, and then reads all that it is told, up to the end.
@@ -120,26 +158,19 @@ fn strays<R: Net<Listener = TcpListener, Stream = TcpStream> + Clock>(
 }
 
 #[test]
-fn a_stranger_reads_why_its_link_ends(rt: HostRuntime) -> Result<(), Fail> {
+fn a_stranger_reads_why_its_link_ends(rt: HostRuntime) {
     let alloc = rt.alloc();
     let addr = "127.0.0.1:47015";
-    let daemon = daemon_at(alloc, addr, "100", "1")?;
-    let (mut out, mut errors, mut heard) = (Vec::new(alloc), Vec::new(alloc), Vec::new(alloc));
-    let (status, is_read) = join(
+    let daemon = daemon_at(&rt, alloc, addr, "100", "1");
+    let mut heard = Vec::new(alloc);
+    let (told, is_read) = join(
         &rt,
-        || daemon_main(&rt, alloc, &daemon, "".as_bytes(), &mut out, &mut errors),
+        || serve(&rt, alloc, &daemon, "".as_bytes()),
         || strays(&rt, alloc, addr, &mut heard).is_ok(),
     );
-    assert!(rt; status == 0 && is_read);
-    assert_eq!(rt;
-        str::from_utf8(heard.as_slice()),
-        Ok("welcome 1 100\nready\nerror 40\n")
-    );
-    assert_eq!(rt;
-        str::from_utf8(out.as_slice()),
-        Ok("listening 127.0.0.1:47015\norder 0\n")
-    );
-    Ok(())
+    assert!(rt; is_read);
+    is_told(&rt, heard.as_slice(), "welcome 1 100\nready\nerror 40\n");
+    printed(&rt, &told, 0, "listening 127.0.0.1:47015\norder 0\n");
 }
 
 // Opens a link, and sends some bytes on it.
@@ -179,30 +210,23 @@ fn among_strays<R: Net<Listener = TcpListener, Stream = TcpStream> + Clock>(
 }
 
 #[test]
-fn a_client_goes_on_among_links_that_break_off(rt: HostRuntime) -> Result<(), Fail> {
+fn a_client_goes_on_among_links_that_break_off(rt: HostRuntime) {
     let alloc = rt.alloc();
     let addr = "127.0.0.1:47017";
-    let daemon = daemon_at(alloc, addr, "100", "6")?;
-    let client = client_of(alloc, addr)?;
-    let layout = "window 1\ntext 1\n";
-    let (mut out, mut errors, mut shown) = (Vec::new(alloc), Vec::new(alloc), Vec::new(alloc));
-    let (status, other) = join(
+    let daemon = daemon_at(&rt, alloc, addr, "100", "6");
+    let client = client_of(&rt, alloc, addr);
+    let mut shown = Vec::new(alloc);
+    let (told, other) = join(
         &rt,
-        || daemon_main(
-            &rt,
-            alloc,
-            &daemon,
-            layout.as_bytes(),
-            &mut out,
-            &mut errors,
-        ),
+        || serve(&rt, alloc, &daemon, "window 1\ntext 1\n".as_bytes()),
         || among_strays(&rt, alloc, addr, &client, &mut shown).unwrap_or(9),
     );
-    assert_eq!(rt; (status, other), (0, 0));
+    assert_eq!(rt; other, 0);
     assert!(rt; shown.ends_with(b"synced\nwindow 1\ntext 1 \"a\"\nbye\n"));
-    assert_eq!(rt;
-        str::from_utf8(out.as_slice()),
-        Ok("listening 127.0.0.1:47017\norder 1\nwindow 1\ntext 1 \"a\"\n")
+    printed(
+        &rt,
+        &told,
+        0,
+        "listening 127.0.0.1:47017\norder 1\nwindow 1\ntext 1 \"a\"\n",
     );
-    Ok(())
 }

@@ -5,7 +5,7 @@ use jup_star::{SiteFault, StarFault};
 use std::alloc::{AllocError, AllocFailed};
 
 /// What stops a site, or the pass that joins and drains the sites.
-#[derive(Clone, Copy, Debug, PartialEq, Eq, Drop)]
+#[derive(Clone, Copy, Drop)]
 pub(crate) enum Stop {
     NoMemory,
     LogFull,

@@ -1,9 +1,8 @@
 //! The commands of a user, a line each.
 ghost use Rattle.std.specs.Prelude.{◌≤◌};
 
-use super::ClientEnd;
-use crate::sessions::SessionFault;
 use crate::sessions::source::{MOST_READS, is_interrupted};
+use jup_rules::{ClientEnd, SessionFault};
 use jup_text::read_command;
 use jup_window::Command;
 use std::alloc::Global;
@@ -16,7 +15,7 @@ const LONGEST: usize = 4_096;
 const PIECE: usize = 4_096;
 
 /// What a user asks for.
-#[derive(Clone, Copy, Debug, PartialEq, Eq)]
+#[derive(Clone, Copy)]
 pub(crate) enum Request {
     Edit(Command),
     Sync,

@@ -1,9 +1,10 @@
 //! The client over a socket.
 ghost use Rattle.std.specs.Prelude.{◌≤◌};
 
-use super::{ClientEnd, client_words, run_client};
+use super::run_client;
 use crate::sessions::hangup::hang_up;
 use clap::error::ErrorKind;
+use jup_rules::{ClientEnd, client_words};
 use std::alloc::Global;
 use std::io::{Read, Write};
 use std::net::{Net, TcpListener, TcpStream};

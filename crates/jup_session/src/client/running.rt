@@ -1,11 +1,10 @@
 //! A client, run over any reader and writer.
 
-use super::ClientEnd;
 use super::commands::{Request, Requests};
-use crate::sessions::SessionFault;
 use crate::sessions::output::Output;
 use crate::sessions::source::Source;
 use jup_link::Msg;
+use jup_rules::{ClientEnd, SessionFault, down_of, line_of_up};
 use jup_seq::SeqOp;
 use jup_star::{Down, Site, Up};
 use jup_text::{write_board, write_edit};
@@ -49,12 +48,7 @@ impl<F: Read + Drop, T: Write + Drop> Client<F, T> {
 
     // Tells the server what the site sends up.
     fn tell(&mut self, up: Up) -> Result<(), ClientEnd> {
-        let line = match up {
-            Up::Op(msg) => Line::Op(msg),
-            Up::Ack(count) => Line::Ack(count),
-            Up::Ping(count) => Line::Ping(count),
-        };
-        self.send(&line)
+        self.send(&line_of_up(up))
     }
 
     fn send(&mut self, line: &Line) -> Result<(), ClientEnd> {
@@ -71,7 +65,10 @@ impl<F: Read + Drop, T: Write + Drop> Client<F, T> {
         self.pings = count;
         self.send(&Line::Ping(count))?;
         for _ in 0..u64::MAX {
-            let down = down_of(self.source.next_line(alloc)?)?;
+            let line = self.source.next_line(alloc)?;
+            let Some(down) = down_of(line) else {
+                return Err(refusal(line));
+            };
             if let Some(owed) = self.site.deliver(alloc, &down)? {
                 self.tell(owed)?;
             }
@@ -196,20 +193,6 @@ fn refusal(line: &Line) -> ClientEnd {
     match line {
         Line::Error(number) => ClientEnd::Fault(*number),
         _ => SessionFault::Misplaced.into(),
-    }
-}
-
-// What a line has for the site.
-fn down_of(line: &Line) -> Result<Down, ClientEnd> {
-    match line {
-        Line::Op(msg) => Ok(Down::Op(Msg {
-            mine: msg.mine,
-            heard: msg.heard,
-            op: msg.op,
-        })),
-        Line::Ack(count) => Ok(Down::Ack(*count)),
-        Line::Pong(count) => Ok(Down::Pong(*count)),
-        line => Err(refusal(line)),
     }
 }
 

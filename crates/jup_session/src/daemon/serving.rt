@@ -2,11 +2,11 @@
 ghost use Rattle.std.specs.Prelude.{◌≡◌, ◌≤◌, IfOk, length, vec_len};
 ghost use Rattle.jup_hub.specs.Passes.{IsPassOf};
 
-use super::daemon_words;
-use super::ending::DaemonEnd;
+use super::telling::tell;
 use crate::sessions::hangup::hang_up;
 use crate::{Bell, Open, serve_link};
 use jup_hub::{Hub, Pass};
+use jup_rules::{DaemonEnd, daemon_words};
 use jup_star::{OpenFault, Star, is_short};
 use jup_text::write_board;
 use jup_window::BoardFault;
@@ -34,7 +34,7 @@ pub fn daemon_main<
 {
     match serve(rt, alloc, words, input, out) {
         Ok(()) => 0,
-        Err(end) => end.tell(out, errors),
+        Err(end) => tell(&end, out, errors),
     }
 }
 

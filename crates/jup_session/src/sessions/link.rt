@@ -2,8 +2,9 @@
 ghost use Rattle.std.specs.Prelude.{◌≡◌};
 ghost use Rattle.jup_hub.specs.Passes.{IsPassOf};
 
-use super::{Bell, Ending};
+use super::Bell;
 use jup_hub::{Hub, Pass};
+use jup_rules::Ending;
 use std::alloc::Global;
 use std::sync::{Mutex, Wait};
 
@@ -22,9 +23,7 @@ impl<'a> Link<'a> {
     /// Notes the ending, unless one stands.
     pub(crate) fn note<R: Wait>(&self, rt: &R, ending: Ending) {
         let mut noted = self.noted.lock(rt);
-        if noted.is_none() {
-            *noted = Some(ending);
-        }
+        *noted = Some(ending.after(*noted));
     }
 
     /// Takes in the pass of the other half.

@@ -1,7 +1,7 @@
 //! Lines on their way out by a link.
 ghost use Rattle.std.specs.Prelude.{◌≡◌, ◌≤◌, vec_len, vec_capacity, OnOk};
 
-use super::SessionFault;
+use jup_rules::SessionFault;
 use jup_wire::{Line, MOST, write_reserved};
 use std::alloc::Global;
 use std::io::Write;

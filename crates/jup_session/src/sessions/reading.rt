@@ -4,10 +4,9 @@ ghost use Rattle.jup_hub.specs.Passes.{IsPassOf};
 
 use super::link::Link;
 use super::source::Source;
-use super::{Ending, SessionFault};
 use crate::Gate;
 use jup_hub::{HubFault, Pass};
-use jup_link::Msg;
+use jup_rules::{Ending, SessionFault, up_of};
 use jup_star::{StarFault, Up};
 use jup_wire::Line;
 use std::io::Read;
@@ -65,20 +64,6 @@ fn heard<R: Wait, I: Read + Drop, G: Gate>(
         }
     }
     Some(SessionFault::ReadsSpent.into())
-}
-
-// What a line has for the star.
-fn up_of(line: &Line) -> Option<Up> {
-    match line {
-        Line::Op(msg) => Some(Up::Op(Msg {
-            mine: msg.mine,
-            heard: msg.heard,
-            op: msg.op,
-        })),
-        Line::Ack(count) => Some(Up::Ack(*count)),
-        Line::Ping(count) => Some(Up::Ping(*count)),
-        _ => None,
-    }
 }
 
 // One take, that of an edit behind the gate.

@@ -2,15 +2,16 @@
 ghost use Rattle.std.specs.Prelude.{◌≡◌};
 ghost use Rattle.jup_hub.specs.Passes.{IsPassOf};
 
+use super::Bell;
 use super::greeting::begun;
 use super::link::Link;
 use super::output::Output;
 use super::reading::read_half;
 use super::source::Source;
 use super::writing::write_half;
-use super::{Bell, Ending, SessionFault};
 use crate::Gate;
 use jup_hub::{Hub, Pass};
+use jup_rules::{Ending, SessionFault};
 use std::alloc::Global;
 use std::io::{Read, Write};
 use std::sync::{Mutex, Wait};

@@ -1,8 +1,8 @@
 //! The lines of a link, read piece by piece.
 ghost use Rattle.std.specs.Prelude.{◌≤◌};
 
-use super::SessionFault;
 use jup_link::Msg;
+use jup_rules::{SessionFault, Stop};
 use jup_seq::SeqOp;
 use jup_value::Label;
 use jup_window::{BoardOp, WidgetOp};
@@ -18,20 +18,6 @@ const PIECE: usize = 4_096;
 
 /// Reads that a session or a client may make.
 pub(crate) const MOST_READS: u32 = u32::MAX;
-
-/// Why no further line comes.
-#[derive(Clone, Copy, Debug, PartialEq, Eq)]
-pub(crate) enum Stop {
-    /// The link ended between lines.
-    End,
-    Fault(SessionFault),
-}
-
-impl From<SessionFault> for Stop {
-    fn from(fault: SessionFault) -> Stop {
-        Stop::Fault(fault)
-    }
-}
 
 /// What comes by a link, as lines.
 #[derive(Drop)]

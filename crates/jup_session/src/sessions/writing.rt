@@ -4,10 +4,9 @@ ghost use Rattle.jup_hub.specs.Passes.{IsPassOf};
 
 use super::link::Link;
 use super::output::Output;
-use super::{Ending, SessionFault};
 use jup_hub::{HubFault, Pass};
-use jup_star::{Down, Downs, StarFault};
-use jup_wire::Line;
+use jup_rules::{Ending, SessionFault, line_of_down};
+use jup_star::{Downs, StarFault};
 use std::io::Write;
 use std::sync::Wait;
 
@@ -15,7 +14,7 @@ use std::sync::Wait;
 const BATCH: u32 = 64;
 
 /// What a fetch left.
-#[derive(Clone, Copy, Debug, PartialEq, Eq)]
+#[derive(Clone, Copy, PartialEq, Eq)]
 enum Outbox {
     Empty,
     /// The site has no link any more.
@@ -114,12 +113,7 @@ fn write_downs<O: Write + Drop>(output: &mut Output<O>, downs: Downs) -> Result<
         return Ok(());
     }
     for down in downs.into_messages() {
-        let line = match down {
-            Down::Op(msg) => Line::Op(msg),
-            Down::Ack(count) => Line::Ack(count),
-            Down::Pong(count) => Line::Pong(count),
-        };
-        output.put(&line)?;
+        output.put(&line_of_down(down))?;
     }
     output.send()
 }

@@ -1,9 +1,8 @@
 //! Why a client ends early.
 ghost use Rattle.std.specs.Prelude.{◌≡◌, ◌≤◌};
-ghost use Rattle.jup_session.specs.ClientEnds.{client_end_number, client_end_status};
+ghost use Rattle.jup_rules.specs.Numbers.{client_end_number, client_end_status};
 
-use crate::sessions::SessionFault;
-use crate::sessions::source::Stop;
+use crate::{SessionFault, Stop};
 use jup_hub::HubFault;
 use jup_star::{OpenFault, SiteFault, StarFault};
 use jup_wire::{LayoutFault, WireFault};

@@ -1,9 +1,8 @@
-//! The command line of the daemon.
+//! The command lines of the daemon and of the client.
 ghost use Rattle.std.specs.Prelude.{◌≤◌, IfOk, IfSome};
 
-use crate::client::required;
 use clap::error::ErrorKind;
-use clap::{Arg, Command, Error, value_parser};
+use clap::{Arg, ArgAction, Command, Error, value_parser};
 use std::alloc::Global;
 
 /// Edits that a star may be told to take.
@@ -54,6 +53,29 @@ pub fn daemon_words(alloc: Global, words: &[String]) -> Result<DaemonWords, Erro
         limit,
         sessions,
     })
+}
+
+/// Reads the words after the client's name, and answers the address to connect to.
+pub fn client_words(alloc: Global, words: &[String]) -> Result<String, Error> {
+    let connect = required(alloc, "connect")
+        .value_name("ADDR")
+        .help("Where the server listens, as 127.0.0.1:4711");
+    let mut command = Command::new(alloc, "jup")
+        .no_binary_name(true)
+        .arg(connect)?;
+    let matches = command.try_get_matches_from_mut(words)?;
+    let Some(addr) = matches.get_str("connect") else {
+        return Err(command.error(ErrorKind::MissingRequiredArgument, "no address")?);
+    };
+    Ok(String::from_str(alloc, addr)?)
+}
+
+// An option that has to be given, with a value.
+fn required<'a>(alloc: Global, name: &'a str) -> Arg<'a> {
+    Arg::new(alloc, name)
+        .long(name)
+        .required(true)
+        .action(ArgAction::Set)
 }
 
 fn count<'a>(alloc: Global, name: &'a str, most: u32) -> Arg<'a> {

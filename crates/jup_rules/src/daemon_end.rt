@@ -1,17 +1,18 @@
 //! Why the daemon ends early.
-ghost use Rattle.std.specs.Prelude.{◌≤◌};
+ghost use Rattle.std.specs.Prelude.{◌≡◌, ◌≤◌};
+ghost use Rattle.jup_rules.specs.Numbers.{daemon_end_status};
 
 use clap::error::ErrorKind as WordsKind;
 use jup_wire::LayoutFault;
 use jup_xform::NoMemory;
 use std::alloc::AllocError;
 use std::io;
-use std::io::{ErrorKind, Write};
+use std::io::ErrorKind;
 use thiserror::Error;
 
 /// Why the daemon ends early.
 #[derive(Debug, Drop, Error)]
-pub(crate) enum DaemonEnd {
+pub enum DaemonEnd {
     #[error("{0}")]
     Words(clap::Error),
     #[error("layout {0}")]
@@ -28,8 +29,9 @@ pub(crate) enum DaemonEnd {
 
 impl DaemonEnd {
     /// The exit status of a daemon that ends so.
-    pub(crate) fn status(&self) -> u8
-        ensures { result ≤ 6 }
+    pub fn status(&self) -> u8
+        ensures status { result ≡ daemon_end_status self.now }
+        ensures most { result ≤ 6 }
     {
         match self {
             DaemonEnd::Io => 1,
@@ -38,30 +40,6 @@ impl DaemonEnd {
             DaemonEnd::Layout(_) | DaemonEnd::LongLayout => 5,
             DaemonEnd::Held => 6,
         }
-    }
-
-    /// Tells why on standard error, and answers the exit status; help goes to standard output.
-    pub(crate) fn tell<O: Write, E: Write>(&self, out: &mut O, errors: &mut E) -> u8
-        ensures { result ≤ 6 }
-    {
-        match self {
-            DaemonEnd::Words(error) if error.use_stderr() => {
-                let _ = write!(errors, "{error}");
-            }
-            DaemonEnd::Words(help) => match write!(out, "{help}") {
-                Ok(()) => return 0,
-                Err(_) => return DaemonEnd::Io.tell_on(errors),
-            },
-            _ => return self.tell_on(errors),
-        }
-        self.status()
-    }
-
-    fn tell_on<E: Write>(&self, errors: &mut E) -> u8
-        ensures { result ≤ 6 }
-    {
-        let _ = writeln!(errors, "{self}");
-        self.status()
     }
 }
 

@@ -1,4 +1,6 @@
 //! Why sessions end early.
+ghost use Rattle.std.specs.Prelude.{◌≡◌};
+ghost use Rattle.jup_rules.specs.Numbers.{session_fault_number};
 
 use jup_hub::HubFault;
 use jup_wire::WireFault;
@@ -6,9 +8,11 @@ use thiserror::Error;
 
 /// Why a session ends early.
 #[derive(Clone, Copy, Debug, PartialEq, Eq, Error)]
-pub(crate) enum SessionFault {
+pub enum SessionFault {
+    /// The hub refused a call, or the star behind it.
     #[error(transparent)]
     Hub(HubFault),
+    /// Bytes that are no line, or that end within one.
     #[error(transparent)]
     Wire(WireFault),
     #[error("no memory")]
@@ -27,7 +31,9 @@ pub(crate) enum SessionFault {
 
 impl SessionFault {
     /// The number of this fault in messages and printed texts.
-    pub(crate) fn number(self) -> u32 {
+    pub fn number(self) -> u32
+        ensures { result ≡ session_fault_number self }
+    {
         match self {
             SessionFault::Hub(fault) => fault.number(),
             SessionFault::Wire(fault) => fault.number(),
@@ -42,6 +48,10 @@ impl SessionFault {
 }
 
 impl From<HubFault> for SessionFault {
+    ghost use Rattle.jup_rules.specs.declared.faults.SessionFault.TheVariants.{Hub};
+
+    ghost from_gives = { λ fault made. made ≡ Hub fault };
+
     fn from(fault: HubFault) -> SessionFault {
         SessionFault::Hub(fault)
     }

@@ -1,0 +1,42 @@
+-- The numbers of faults and ends, as messages and printed texts have them, and the exit statuses of programs.
+use Rattle.std.specs.Prelude.{ℕ}
+use Rattle.jup_hub.specs.Faults.{hub_fault_number}
+use Rattle.jup_wire.specs.FaultNumbers.{wire_fault_number}
+use Rattle.jup_rules.specs.declared.faults.SessionFault.{SessionFault}
+use Rattle.jup_rules.specs.declared.faults.SessionFault.TheVariants.{Hub, Wire, NoMemory, Misplaced, ReadsSpent, GateShut, ReadFailed, WriteFailed}
+use Rattle.jup_rules.specs.declared.client_end.ClientEnd.{ClientEnd}
+use Rattle.jup_rules.specs.declared.client_end.ClientEnd.TheVariants.{Fault as ClientFault, NoMemory as ClientNoMemory, ReadFailed as ClientReadFailed, WriteFailed as ClientWriteFailed}
+use Rattle.jup_rules.specs.declared.daemon_end.DaemonEnd.{DaemonEnd}
+use Rattle.jup_rules.specs.declared.daemon_end.DaemonEnd.TheVariants.{Words, Layout, LongLayout, Io, NoMemory as DaemonNoMemory, Held}
+
+abbrev pub session_fault_number : SessionFault → ℕ
+session_fault_number (Hub fault) = hub_fault_number fault
+session_fault_number (Wire fault) = wire_fault_number fault
+session_fault_number NoMemory = 8
+session_fault_number Misplaced = 44
+session_fault_number ReadsSpent = 46
+session_fault_number GateShut = 60
+session_fault_number ReadFailed = 70
+session_fault_number WriteFailed = 71
+
+abbrev pub client_end_number : ClientEnd → ℕ
+client_end_number (ClientFault number) = number
+client_end_number ClientNoMemory = 8
+client_end_number ClientReadFailed = 70
+client_end_number ClientWriteFailed = 71
+
+-- 1 for a failed read or write, 3 for memory, 4 for a fault
+abbrev pub client_end_status : ClientEnd → ℕ
+client_end_status (ClientFault number) = 4
+client_end_status ClientNoMemory = 3
+client_end_status ClientReadFailed = 1
+client_end_status ClientWriteFailed = 1
+
+-- 1 for a failed read, write, bind or accept, 2 for the words, 3 for memory, 5 for the layout, 6 where the hub can't be closed
+abbrev pub daemon_end_status : DaemonEnd → ℕ
+daemon_end_status (Words error) = 2
+daemon_end_status (Layout fault) = 5
+daemon_end_status LongLayout = 5
+daemon_end_status Io = 1
+daemon_end_status DaemonNoMemory = 3
+daemon_end_status Held = 6

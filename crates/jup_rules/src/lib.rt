@@ -1,0 +1,17 @@
+//! What the two ends of a link and their programs decide: what a line means, which line a message is, how a session ends, with which number and
+//! exit status, and what a command line asks for. Nothing here reads or writes.
+#![tactic(auto)]
+
+mod client_end;
+mod daemon_end;
+mod ending;
+mod faults;
+mod messages;
+mod words;
+
+pub use client_end::ClientEnd;
+pub use daemon_end::DaemonEnd;
+pub use ending::{Ending, Stop};
+pub use faults::SessionFault;
+pub use messages::{down_of, line_of_down, line_of_up, up_of};
+pub use words::{DaemonWords, client_words, daemon_words};

@@ -113,11 +113,6 @@ fn widgets_are_refused_in_order(rt: HostRuntime) {
     assert_eq!(rt; board.add_widget(1, 65, toggle()), Err(BoardFault::TooMany));
 }
 
-// Whether ids, as they stand, are these.
-fn are(ids: impl Iterator<Item = u16>, expected: &[u16]) -> bool {
-    ids.eq(expected.iter().copied())
-}
-
 #[test]
 fn ids_ascend(rt: HostRuntime) {
     let mut board = Board::new(rt.alloc());
@@ -126,9 +121,13 @@ fn ids_ascend(rt: HostRuntime) {
         board.add_widget(win, 2, toggle()).expect(&rt, "it is new");
         board.add_widget(win, 1, toggle()).expect(&rt, "it is new");
     }
-    assert!(rt; are(board.windows().iter().map(|entry| entry.0), &[3, 7, 65_535]));
+    let wins = board.windows().iter().map(|entry| entry.0);
+    let wins = wins.collect::<Vec<u16>>(rt.alloc()).expect(&rt, "memory");
+    assert!(rt; wins.as_slice() == [3, 7, 65_535].as_slice());
     for entry in board.windows() {
-        assert!(rt; are(entry.1.widgets().iter().map(|entry| entry.0), &[1, 2]));
+        let wids = entry.1.widgets().iter().map(|entry| entry.0);
+        let wids = wids.collect::<Vec<u16>>(rt.alloc()).expect(&rt, "memory");
+        assert!(rt; wids.as_slice() == [1, 2].as_slice());
     }
 }
 

@@ -12,18 +12,14 @@ fn put(site: u32, number: u32, value: char) -> Effect {
 
 // Pushes a byte at a time until none is left; how many there were.
 fn pushed(rt: &impl Abort, alloc: Global, world: &mut World, event: &Event) -> u32 {
-    let mut count = 0;
-    for _ in 0..200 {
-        match world.step(alloc, event).expect(rt, "memory") {
-            Reply::Moved(1) => count += 1,
-            _ => break,
+    for count in 0..200 {
+        if world.step(alloc, event).expect(rt, "memory") != Reply::Moved(1) {
+            let again = world.step(alloc, event).expect(rt, "memory");
+            assert_eq!(rt; again, Reply::Nothing);
+            return count;
         }
     }
-    assert_eq!(rt;
-        world.step(alloc, event).expect(rt, "memory"),
-        Reply::Nothing
-    );
-    count
+    200
 }
 
 // Of the 29 bytes of "op 0 0 1 1 text ins 0 1.1 97" and its line feed, the star's reader is given 28 first.

@@ -1,16 +1,19 @@
 //! One way of a link: messages on their way, as bytes.
-ghost use Rattle.std.specs.Prelude.{◌≡◌, ℕ, ◌≤◌, List, [], ◌∷◌, ◌++◌, length, drop, min, position, ◌==◌, Option, Some, None, IfOk, IfSome, OnOk, OnErr, MatchOption, IsTrue, IsFalse, ◌↔◌, ◌+◌, ◌<◌};
+ghost use Rattle.std.specs.Prelude.{◌≡◌, ℕ, ◌≤◌, List, [], ◌∷◌, ◌++◌, length, drop, min, Option, Some, None, IfOk, IfSome, OnOk, OnErr, MatchOption, IsTrue, IsFalse, ◌↔◌, ◌+◌, ◌<◌};
 ghost use Rattle.std.specs.Vec.{vec_capacity};
+ghost use Rattle.jup_wire.specs.declared.line.Line.{Line};
+ghost use Rattle.jup_wire.specs.Grammar.{line_text, HasSpelling};
 ghost use Rattle.jup_lane.specs.Codecs.{bytes_of, IsFirst};
 ghost use Rattle.jup_lane.specs.Carried.{codec};
 ghost use Rattle.jup_lane.specs.Lanes.{no_bytes, sent, moved, handed_over, IsIdle, messages, next_feed, IsWhole, IsFilled, IsMovedOn};
 
 use crate::message::{MOST_MESSAGE, Message};
+use crate::stream::Stream;
 use jup_link::Msg;
 use jup_seq::SeqOp;
 use jup_value::Label;
 use jup_window::{BoardOp, WidgetOp};
-use jup_wire::{Line, Reader};
+use jup_wire::{Line, Reader, feed_of, read_line};
 use jup_xform::NoMemory;
 use std::alloc::Global;
 use std::collections::VecDeque;
@@ -25,7 +28,7 @@ use std::marker::{Model, PhantomData};
 pub struct Lane<M: Message> {
     tray: VecDeque<Line>,
     reader: Reader,
-    stream: Vec<u8>,
+    stream: Stream,
     within: PhantomData<(M, SeqOp<Label>, WidgetOp, BoardOp, Msg<BoardOp>)>,
 }
 
@@ -38,34 +41,33 @@ fn drop_lines(tray: &mut VecDeque<Line>, count: usize)
     }
 }
 
+// Puts the line that a text spells last into a tray.
+fn push_spelled(tray: &mut VecDeque<Line>, text: &[u8]) -> Result<(), NoMemory>
+    requires { (line : Line) × HasSpelling line × (text.now ≡ line_text line) }
+    ensures ok { OnOk result ((line : Line) × HasSpelling line × (text.now ≡ line_text line) × (tray.new.items ≡ tray.old.items ++ line ∷ [])) }
+    ensures err { OnErr result (tray.new.items ≡ tray.old.items) }
+{
+    // Types that a line holds, named so that the borrow checker knows of them.
+    let _of: PhantomData<(SeqOp<Label>, WidgetOp, BoardOp, Msg<BoardOp>)> = PhantomData;
+    tray.reserve(1).map_err(|_| NoMemory)?;
+    match read_line(text) {
+        Ok(line) => tray.push_back_reserved(line),
+        Err(_) => unreachable!(),
+    }
+    Ok(())
+}
+
 // Where the next line feed stands.
-fn feed_of(stream: &[u8]) -> Option<usize>
+fn feed_ahead(stream: &[u8]) -> Option<usize>
     ensures place { MatchOption result (length stream.now ≤ next_feed stream.now) (λ at. at ≡ next_feed stream.now) }
     ensures within { IfSome result (λ at. at < length stream.now) }
 {
-    place_of_feed(stream)
-}
-
-fn place_of_feed(stream: &[u8]) -> Option<usize>
-    ensures place { result ≡ position (λ byte. byte == 10) stream.now }
-    ensures within { IfSome result (λ at. at < length stream.now) }
-{
-    stream.iter().position(|byte| *byte == b'\n')
-}
-
-// Drops the oldest bytes of a stream.
-fn drop_front(stream: &mut Vec<u8>, count: usize)
-    requires { count ≤ length stream.old.items }
-    ensures items { stream.new.items ≡ drop count stream.old.items }
-    ensures capacity { vec_capacity stream.new ≡ vec_capacity stream.old }
-{
-    stream.drain(..count);
+    feed_of(stream)
 }
 
 impl<M: Message> Model for Lane<M> {
-    ghost use Rattle.std.specs.Prelude.{◌≡◌, ◌-◌, ◌++◌, None};
+    ghost use Rattle.std.specs.Prelude.{◌≡◌, ◌++◌, None};
     ghost use Rattle.std.specs.List.{flat_map};
-    ghost use Rattle.std.specs.Vec.{vec_len, vec_capacity};
     ghost use Rattle.jup_wire.specs.Grammar.{spelling};
     ghost use Rattle.jup_wire.specs.Streams.{HasRead};
     ghost use Rattle.jup_lane.specs.Carried.{codec};
@@ -74,14 +76,14 @@ impl<M: Message> Model for Lane<M> {
     ghost Value = { LaneState };
 
     ghost view = { λ a. record {
-      way = way_of a.tray.items a.reader.part a.stream.items;
-      spare = vec_capacity a.stream - vec_len a.stream;
+      way = way_of a.tray.items a.reader.part a.stream.bytes;
+      spare = a.stream.spare;
     } };
 
     ghost invariant = { λ a. record {
       faultless : a.reader.fault ≡ None;
       read : HasRead (flat_map spelling a.tray.items ++ a.reader.part) a.tray.items a.reader;
-      carries : Carries (codec M.Message) (way_of a.tray.items a.reader.part a.stream.items);
+      carries : Carries (codec M.Message) (way_of a.tray.items a.reader.part a.stream.bytes);
     } };
 }
 
@@ -94,7 +96,7 @@ impl<M: Message> Lane<M> {
         Lane {
             tray: VecDeque::new(alloc),
             reader: Reader::new(),
-            stream: Vec::new(alloc),
+            stream: Stream::new(alloc),
             within: PhantomData,
         }
     }
@@ -104,7 +106,7 @@ impl<M: Message> Lane<M> {
         ensures way { self.new.way ≡ self.old.way }
         ensures ok { OnOk result (MOST_MESSAGE ≤ self.new.spare) }
     {
-        self.stream.reserve(MOST_MESSAGE).map_err(|_| NoMemory)
+        self.stream.reserve(MOST_MESSAGE)
     }
 
     /// Writes a message into the stream. It takes no memory.
@@ -114,7 +116,7 @@ impl<M: Message> Lane<M> {
         ensures way { self.new.way ≡ sent (bytes_of (codec M.Message) message.now) self.old.way }
         ensures messages { messages (codec M.Message) self.new.way ≡ messages (codec M.Message) self.old.way ++ message.now ∷ [] }
     {
-        message.write(&mut self.stream);
+        self.stream.write(message);
     }
 
     // The reader takes in so many bytes of the stream.
@@ -125,11 +127,11 @@ impl<M: Message> Lane<M> {
         ensures messages { messages (codec M.Message) self.new.way ≡ messages (codec M.Message) self.old.way }
     {
         let mut reader = self.reader.copy();
-        let fed = reader.feed(alloc, &self.stream[..count])?;
+        let fed = reader.feed(alloc, &self.stream.as_slice()[..count])?;
         let mut lines = VecDeque::from_vec(fed.lines.into_items());
         self.tray.append(&mut lines).map_err(|_| NoMemory)?;
         self.reader = reader;
-        drop_front(&mut self.stream, count);
+        self.stream.drop_front(count);
         Ok(())
     }
 
@@ -176,10 +178,16 @@ impl<M: Message> Lane<M> {
         ensures none { IfOk result (λ more. IsFalse more → self.new.way ≡ self.old.way) }
         ensures err { OnErr result (self.new.way ≡ self.old.way) }
     {
-        let Some(at) = feed_of(&self.stream) else {
+        let Some(at) = feed_ahead(self.stream.as_slice()) else {
             return Ok(false);
         };
-        self.take_in(alloc, at + 1)?;
+        let Ok(()) = self.reader.finish() else {
+            self.take_in(alloc, at + 1)?;
+            return Ok(true);
+        };
+        // The reader holds no part of a line, so this one is read where it stands.
+        push_spelled(&mut self.tray, &self.stream.as_slice()[..at])?;
+        self.stream.drop_front(at + 1);
         Ok(true)
     }
 
@@ -191,7 +199,7 @@ impl<M: Message> Lane<M> {
         ensures messages { messages (codec M.Message) self.new.way ≡ messages (codec M.Message) self.old.way }
     {
         let most = most as usize;
-        let there = self.stream.len();
+        let there = self.stream.as_slice().len();
         let count = if most < there { most } else { there };
         self.take_in(alloc, count)?;
         Ok(count)

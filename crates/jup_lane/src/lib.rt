@@ -10,6 +10,7 @@ ghost use Rattle.jup_lane.specs.Messages.{ups, downs};
 
 mod lane;
 mod message;
+mod stream;
 
 pub use lane::Lane;
 pub use message::{MOST_MESSAGE, Message};

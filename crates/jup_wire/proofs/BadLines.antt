@@ -52,3 +52,9 @@ refused bytes (Some n) none named =
 -- what read_line is to say of a line
 pub line_found : (bytes : List ℕ) (line : Line) → Some line ≡ line_of bytes → HasSpelling line × (bytes ≡ line_text line)
 line_found bytes line e = line_reader.takes bytes line (sym e)
+
+pub line_same : (bytes : List ℕ) (found line : Line) → Some found ≡ line_of bytes → HasSpelling line → bytes ≡ line_text line → found ≡ line
+line_same bytes found line e is text = same_Some found line (e ∙ ap line_of text ∙ line_reader.again line is)
+
+pub line_missed : (bytes : List ℕ) (line : Line) → None ≡ line_of bytes → HasSpelling line → bytes ≡ line_text line → ⊥
+line_missed bytes line e is text = no_line bytes (sym e) line is text

@@ -3,6 +3,7 @@ pub mod Numbers
 pub mod Splits
 pub mod Readers
 pub mod Leaves
+pub mod Leading
 pub mod Operations
 pub mod WholeLines
 pub mod BadLines

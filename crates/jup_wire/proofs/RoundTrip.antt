@@ -1,8 +1,8 @@
 -- A board's lines describe that board.
 use Rattle.std.proofs.Common.{◌≡◌, ◌==◌, ℕ, suc, ◌+◌, ◌<◌, ◌≤◌, Bool, true, false, ◌&&◌, List, [], ◌∷◌, ◌++◌, length, Some, None, Ok, Err, refl, sym, ap, subst, ◌∙◌, append_assoc, arith}
-use Rattle.std.specs.Prelude.{T, insert, nat_lt, int_le}
+use Rattle.std.specs.Prelude.{T, IsTrue, insert, nat_lt, int_le}
 use Rattle.std.specs.List.{flat_map, AllByRecursion}
-use Rattle.std.specs.Option.{option_map}
+use Rattle.std.specs.Option.{option_map, is_none}
 use Rattle.std.proofs.lemmas.Bool.{ne_eqb, lt-ltb, eq-eqb, lt-leb, or_parts, and_from, cond-true}
 use Rattle.std.proofs.lemmas.List.{length-append, append-nil}
 use Rattle.std.proofs.lemmas.List.Sums.{take_while-cons}
@@ -22,8 +22,9 @@ use Rattle.jup_wire.specs.declared.line.Line.TheVariants as line
 use Rattle.jup_wire.specs.declared.naming.Naming.TheVariants.{Distinct}
 use Rattle.jup_wire.specs.declared.refusals.Refusal.TheVariants.{BadBounds}
 use Rattle.jup_wire.specs.BoardLines.{item_lines, widget_lines, window_lines, board_lines, IsWidget, IsWindow, IsBoard}
-use Rattle.jup_wire.specs.Drafts.{refusal_of, Drafted, blank, whole, unless, with_widget_in, with_slider_in, with_item, taken}
+use Rattle.jup_wire.specs.Drafts.{refusal_of, Drafted, blank, whole, unless, is_free, with_widget_in, with_slider_in, with_item, taken}
 use Rattle.jup_wire.specs.Layouts.{◌>>?◌, at_line, lines_taken, board_with}
+use Rattle.jup_wire.proofs.Drafting.{entry_fault-whole, free-more, whole-more}
 
 -- # Entries in ascending order go to the end
 
@@ -108,7 +109,7 @@ fresh (x ∷ before) item items distinct =
 
 -- what is described once a widget line's widget has these items
 abbrev filled : {V : Type 0} → (Items V → Widget) → board.Windows → ℕ → ℕ → List (Item V) → Drafted
-filled make windows win wid items = record { board = windows; window = Some win; last = Some (wid, make (record { items = items; spare = 0 })); naming = Distinct }
+filled make windows win wid items = record { board = windows; window = Some win; home = Some win; last = Some (wid, make (record { items = items; spare = 0 })); naming = Distinct }
 
 module _ {V : Type 0} (make : Items V → Widget) (line_of : Name → V → Line) (windows : board.Windows) (win wid : ℕ)
     (reads : (items : List (Item V)) (item : Item V) → taken (filled make windows win wid items) (line_of item.name item.value)
@@ -131,27 +132,32 @@ is_so false t = absurd t
 -- the board that is described ends in a window with these widgets, which is the last window line's
 pub record Holds (d : Drafted) (front : board.Windows) (win : ℕ) (ws : List (ℕ × Widget)) : Type 0 where
   pub all : whole d ≡ front ++ (win, ws) ∷ []
+  pub free : IsTrue (is_free d.home d.last d.board)
   pub window : d.window ≡ Some win
   pub naming : d.naming ≡ Distinct
 
 -- what is described once the line of a widget was taken
 abbrev opened : board.Windows → ℕ → ℕ → Widget → Drafted
-opened windows win wid w = record { board = windows; window = Some win; last = Some (wid, w); naming = Distinct }
+opened windows win wid w = record { board = windows; window = Some win; home = Some win; last = Some (wid, w); naming = Distinct }
 
 module _ (front : board.Windows) (win low : ℕ) (above : low < win) (front_below : AtMost low front) where
+  free_in : (ws : List (ℕ × Widget)) (wid high : ℕ) → high < wid → AtMost high ws → length ws < 64 → widget_fault win wid (front ++ (win, ws) ∷ []) ≡ None
+  free_in ws wid high lt below room = ap (λ o. fault_in wid o) (at_id-last win low ws front above front_below) ∙ entry_fault-last wid high ws lt below room
+
   opens : (d : Drafted) (ws : List (ℕ × Widget)) (wid high : ℕ) (w : Widget) → Holds d front win ws → high < wid → AtMost high ws → length ws < 64
       → with_widget_in d.window wid w d ≡ Ok (opened (front ++ (win, ws) ∷ []) win wid w)
   opens d ws wid high w holds lt below room =
       let free : widget_fault win wid (whole d) ≡ None =
-      ap (λ b. widget_fault win wid b) holds.all ∙ ap (λ o. fault_in wid o) (at_id-last win low ws front above front_below) ∙ entry_fault-last wid high ws lt below room in
+      ap (λ b. widget_fault win wid b) holds.all ∙ free_in ws wid high lt below room in
       ap (λ o. with_widget_in o wid w d) holds.window
-      ∙ ap (λ f. unless (option_map refusal_of f) (record { board = whole d; window = Some win; last = Some (wid, w); naming = d.naming })) free
-      ∙ ap (λ b. Ok (record { board = b; window = Some win; last = Some (wid, w); naming = d.naming })) holds.all
-      ∙ ap (λ n. Ok (record { board = front ++ (win, ws) ∷ []; window = Some win; last = Some (wid, w); naming = n })) holds.naming
+      ∙ ap (λ f. unless (option_map refusal_of f) (record { board = whole d; window = Some win; home = Some win; last = Some (wid, w); naming = d.naming })) free
+      ∙ ap (λ b. Ok (record { board = b; window = Some win; home = Some win; last = Some (wid, w); naming = d.naming })) holds.all
+      ∙ ap (λ n. Ok (record { board = front ++ (win, ws) ∷ []; window = Some win; home = Some win; last = Some (wid, w); naming = n })) holds.naming
 
-  holds_opened : (ws : List (ℕ × Widget)) (wid high : ℕ) (w : Widget) → high < wid → AtMost high ws → Holds (opened (front ++ (win, ws) ∷ []) win wid w) front win (ws ++ (wid, w) ∷ [])
-  holds_opened ws wid high w lt below = record {
+  holds_opened : (ws : List (ℕ × Widget)) (wid high : ℕ) (w : Widget) → high < wid → AtMost high ws → length ws < 64 → Holds (opened (front ++ (win, ws) ∷ []) win wid w) front win (ws ++ (wid, w) ∷ [])
+  holds_opened ws wid high w lt below room = record {
     all = change_at-last win low (with_entry wid w) ws front above front_below ∙ ap (λ xs. front ++ (win, xs) ∷ []) (with_entry-last wid high w ws lt below);
+    free = subst (λ o. IsTrue (is_none o)) (sym (free_in ws wid high lt below room)) refl;
     window = refl;
     naming = refl;
   }
@@ -188,7 +194,7 @@ module _ (front : board.Windows) (win low : ℕ) (above : low < win) (front_belo
       let one = widget_pass d ws v.0 high v.1 holds over.0 below (omega (arith, fits)) each.0 in
       let longer = length-append ws ((v.0, widget.bare v.1) ∷ []) in
       let pushed = AtMost-push v.0 ws (v.0, widget.bare v.1) (raised high v.0 ws (omega (arith, over.0)) below) (omega arith) in
-      let rest = widgets_pass vs (ws ++ (v.0, widget.bare v.1) ∷ []) next v.0 (holds_opened ws v.0 high (widget.bare v.1) over.0 below) over.1 pushed (omega (arith, longer, fits)) each.1 in (
+      let rest = widgets_pass vs (ws ++ (v.0, widget.bare v.1) ∷ []) next v.0 (holds_opened ws v.0 high (widget.bare v.1) over.0 below (omega (arith, fits))) over.1 pushed (omega (arith, longer, fits)) each.1 in (
         rest.0,
         subst (λ ls. Passes d ls rest.0) (sym (flat_map-cons widget_lines v vs)) (passes_append d next rest.0 (widget_lines v) (flat_map widget_lines vs) one rest.1),
         subst (λ xs. Holds rest.0 front win xs) (append_assoc ws ((v.0, widget.bare v.1) ∷ []) (board.bare_widgets vs)) rest.2,
@@ -197,21 +203,23 @@ module _ (front : board.Windows) (win low : ℕ) (above : low < win) (front_belo
 -- # Windows
 
 -- the lines of windows
-windows_pass : (vs front : board.Windows) (d : Drafted) (high : ℕ) → whole d ≡ front → d.naming ≡ Distinct → AreOver high vs → AtMost high front → length front + length vs ≤ 64 → AllByRecursion IsWindow vs
+windows_pass : (vs front : board.Windows) (d : Drafted) (high : ℕ) → whole d ≡ front → IsTrue (is_free d.home d.last d.board) → d.naming ≡ Distinct → AreOver high vs → AtMost high front → length front + length vs ≤ 64 → AllByRecursion IsWindow vs
     → (after : Drafted) × Passes d (flat_map window_lines vs) after × (whole after ≡ front ++ board.bare vs)
-windows_pass [] front d high all naming over below fits each = (d, passes_none d, all ∙ sym (append-nil front))
-windows_pass (v ∷ vs) front d high all naming over below fits each =
-    let next : Drafted = record { board = front ++ (v.0, []) ∷ []; window = Some v.0; last = None; naming = Distinct } in
-    let free : entry_fault v.0 (whole d) ≡ None = ap (λ b. entry_fault v.0 b) all ∙ entry_fault-last v.0 high front over.0 below (omega (arith, fits)) in
+windows_pass [] front d high all held naming over below fits each = (d, passes_none d, all ∙ sym (append-nil front))
+windows_pass (v ∷ vs) front d high all held naming over below fits each =
+    let next : Drafted = record { board = with_entry v.0 [] d.board; window = Some v.0; home = d.home; last = d.last; naming = Distinct } in
+    let free : entry_fault v.0 d.board ≡ None =
+    sym (entry_fault-whole d.home d.last d.board v.0) ∙ ap (λ b. entry_fault v.0 b) all ∙ entry_fault-last v.0 high front over.0 below (omega (arith, fits)) in
     let begun : taken d (line.Window v.0) ≡ Ok next =
-    ap (λ f. unless (option_map refusal_of f) (record { board = with_entry v.0 [] (whole d); window = Some v.0; last = None; naming = d.naming })) free
-    ∙ ap (λ b. Ok (record { board = b; window = Some v.0; last = None; naming = d.naming })) (ap (λ b. with_entry v.0 [] b) all ∙ with_entry-last v.0 high [] front over.0 below)
-    ∙ ap (λ n. Ok (record { board = front ++ (v.0, []) ∷ []; window = Some v.0; last = None; naming = n })) naming in
-    let inside = widgets_pass front v.0 high over.0 below v.1 [] next 0 (record { all = refl; window = refl; naming = refl }) each.0.0.0 tt (omega (arith, each.0.0.1)) each.0.1 in
+    ap (λ f. unless (option_map refusal_of f) (record { board = with_entry v.0 [] d.board; window = Some v.0; home = d.home; last = d.last; naming = d.naming })) free
+    ∙ ap (λ n. Ok (record { board = with_entry v.0 [] d.board; window = Some v.0; home = d.home; last = d.last; naming = n })) naming in
+    let now : whole next ≡ front ++ (v.0, []) ∷ [] =
+    whole-more d.home d.last d.board v.0 free held ∙ ap (λ b. with_entry v.0 [] b) all ∙ with_entry-last v.0 high [] front over.0 below in
+    let inside = widgets_pass front v.0 high over.0 below v.1 [] next 0 (record { all = now; free = free-more d.home d.last d.board v.0 free held; window = refl; naming = refl }) each.0.0.0 tt (omega (arith, each.0.0.1)) each.0.1 in
     let window : Passes d (window_lines v) inside.0 = passes_cons d next inside.0 (line.Window v.0) (flat_map widget_lines v.1) begun inside.1 in
     let longer = length-append front ((v.0, board.bare_widgets v.1) ∷ []) in
     let pushed = AtMost-push v.0 front (v.0, board.bare_widgets v.1) (raised high v.0 front (omega (arith, over.0)) below) (omega arith) in
-    let rest = windows_pass vs (front ++ (v.0, board.bare_widgets v.1) ∷ []) inside.0 v.0 inside.2.all inside.2.naming over.1 pushed (omega (arith, longer, fits)) each.1 in (
+    let rest = windows_pass vs (front ++ (v.0, board.bare_widgets v.1) ∷ []) inside.0 v.0 inside.2.all inside.2.free inside.2.naming over.1 pushed (omega (arith, longer, fits)) each.1 in (
       rest.0,
       subst (λ ls. Passes d ls rest.0) (sym (flat_map-cons window_lines v vs)) (passes_append d inside.0 rest.0 (window_lines v) (flat_map window_lines vs) window rest.1),
       rest.2 ∙ append_assoc front ((v.0, board.bare_widgets v.1) ∷ []) (board.bare vs),
@@ -220,7 +228,7 @@ windows_pass (v ∷ vs) front d high all naming over below fits each =
 -- a board's lines describe it
 pub round_trip : (b : board.Windows) → IsBoard b → length (board_lines b) < 4294967295 → board_with (board_lines b) ≡ Ok (board.bare b)
 round_trip b is few =
-    let all = windows_pass b [] (blank Distinct) 0 refl refl is.0.0 tt (omega (arith, is.0.1)) is.1 in
+    let all = windows_pass b [] (blank Distinct) 0 refl refl refl is.0.0 tt (omega (arith, is.0.1)) is.1 in
     ap (λ ls. lines_taken 1 (blank Distinct) ls >>? λ d. Ok (whole d)) (sym (append-nil (board_lines b)))
     ∙ ap (λ r. r >>? λ d. Ok (whole d)) (all.1 1 [] (omega (arith, few)))
     ∙ ap Ok all.2

@@ -1,9 +1,11 @@
 -- Where a separator stands.
-use Rattle.std.proofs.Common.{◌≡◌, ◌==◌, ℕ, suc, ◌+◌, ◌-◌, ◌<◌, ◌≤◌, Bool, true, false, not, ◌&&◌, cond, List, [], ◌∷◌, ◌++◌, length, take, drop, Option, Some, None, refl, sym, ap, subst, ◌∙◌, arith, inl, inr, add-one}
+use Rattle.std.proofs.Common.{◌≡◌, ◌==◌, ℕ, suc, ◌+◌, ◌-◌, ◌<◌, ◌≤◌, Bool, true, false, not, ◌&&◌, cond, List, [], ◌∷◌, ◌++◌, length, get_or, take, drop, le_refl, Option, Some, None, refl, sym, ap, subst, ◌∙◌, arith, inl, inr, add-one}
+use Rattle.memchr.specs.Find.{IsFirstByte, is_byte}
 use Rattle.std.specs.Prelude.{position}
 use Rattle.std.specs.List.{position_or_len}
-use Rattle.std.proofs.lemmas.Bool.{and_parts, and_from, eqb-true, eq-eqb, not-true, cases_Bool, cases_lt, lt-ltb, le-ltb, cond-true, cond-false, not_from_false}
+use Rattle.std.proofs.lemmas.Bool.{false_from_ne_true, and_parts, and_from, eqb-true, eq-eqb, not-true, cases_Bool, cases_lt, lt-ltb, le-ltb, cond-true, cond-false, not_from_false}
 use Rattle.std.proofs.lemmas.List.{take_all, length-drop}
+use Rattle.std.proofs.lemmas.List.Sums.{position_or_len_is}
 use Rattle.std.proofs.lemmas.Option.{same_Some}
 use Rattle.jup_wire.proofs.Options.{bind_some}
 use Rattle.std.proofs.Math.Numerals.{one-add}
@@ -69,6 +71,18 @@ split_at separator bytes r e =
       | inl lt ↦ split_found separator bytes lt ∙ sym (ap (λ (o : Option ℕ). o >>= λ at. Some (cut bytes at)) (e ∙ cond-true _ _ _ (lt-ltb _ _ lt)))
       | inr le ↦ split_not_found separator bytes le ∙ sym (ap (λ (o : Option ℕ). o >>= λ at. Some (cut bytes at)) (e ∙ cond-false _ _ _ (le-ltb _ _ le)))
     ]
+
+-- what a search by the crate of searches found
+pub found_place : (separator : ℕ) (bytes : List ℕ) (r : Option ℕ) → IsFirstByte (is_byte separator) bytes r → r ≡ position (λ b. b == separator) bytes
+found_place separator bytes None found =
+    let here : place separator bytes ≡ length bytes =
+    position_or_len_is (λ b. b == separator) bytes (length bytes) 0 (le_refl (length bytes)) (λ k lt. false_from_ne_true (get_or bytes k 0 == separator) (found k (omega arith) lt)) (λ lt. absurd (omega (arith, lt))) in
+    sym (cond-false _ (Some (place separator bytes)) None (le-ltb _ _ (omega (arith, here))))
+found_place separator bytes (Some k) found =
+    let n = found.0 in
+    let here : place separator bytes ≡ k =
+    position_or_len_is (λ b. b == separator) bytes k 0 (let high = n.high in omega (arith, high)) (λ j lt. false_from_ne_true (get_or bytes j 0 == separator) (n.before j (omega arith) lt)) (λ lt. found.1) in
+    sym (cond-true _ (Some (place separator bytes)) None (lt-ltb _ _ (let high = n.high in omega (arith, here, high))) ∙ ap Some here)
 
 -- what is left behind a place, as a range gives it
 pub range_from : (bytes : List ℕ) (k : ℕ) → take (length bytes - k) (drop k bytes) ≡ drop k bytes

@@ -32,7 +32,7 @@ item_plain make wid x item d next e =
 
 widget_plain : (o : Option ℕ) (wid : ℕ) (w : Widget) (d next : Drafted) → with_widget_in o wid w d ≡ Ok next → with_widget_in o wid w (plain d) ≡ Ok (plain next)
 widget_plain None wid w d next e = absurd cc
-widget_plain (Some win) wid w d next e = unless_plain _ (record { board = whole d; window = Some win; last = Some (wid, w); naming = d.naming }) next e
+widget_plain (Some win) wid w d next e = unless_plain _ (record { board = whole d; window = Some win; home = Some win; last = Some (wid, w); naming = d.naming }) next e
 
 slider_plain : (o : Option ℕ) (b : Bool) (wid : ℕ) (w : Widget) (d next : Drafted) → with_slider_in o b wid w d ≡ Ok next → with_slider_in o b wid w (plain d) ≡ Ok (plain next)
 slider_plain None b wid w d next e = absurd cc

@@ -38,6 +38,17 @@ more_digits n le lt = decimal_step n le (omega arith)
 pub more_length : (n : ℕ) → 10 ≤ n → n < 2 ^ 32 → length (decimal n) ≡ length (decimal (n / 10)) + 1
 more_length n le lt = ap length (more_digits n le lt) ∙ length-append (decimal (n / 10)) ((48 + n % 10) ∷ [])
 
+-- the last two digits
+pub two_digits : (n : ℕ) → 10 ≤ n → n < 100 → decimal n ≡ (48 + n / 10) ∷ (48 + n % 10) ∷ []
+two_digits n le lt = more_digits n le (omega arith) ∙ ap (λ (t : List ℕ). t ++ (48 + n % 10) ∷ []) (one_digit (n / 10) (omega arith))
+
+pub two_more : (n : ℕ) → 100 ≤ n → n < 2 ^ 32 → decimal n ≡ decimal (n / 100) ++ (48 + n / 10 % 10) ∷ (48 + n % 10) ∷ []
+two_more n le lt =
+    let hundreds : n / 10 / 10 ≡ n / 100 = omega arith in
+    more_digits n (omega arith) lt
+    ∙ ap (λ (t : List ℕ). t ++ (48 + n % 10) ∷ []) (more_digits (n / 10) (omega arith) (omega arith) ∙ ap (λ (k : ℕ). decimal k ++ (48 + n / 10 % 10) ∷ []) hundreds)
+    ∙ append_assoc (decimal (n / 100)) ((48 + n / 10 % 10) ∷ []) ((48 + n % 10) ∷ [])
+
 pub ruleset decimals = (number_short, id_short, scalar_short, one_digit, more_digits, more_length)
 
 -- one text after another

@@ -46,16 +46,17 @@ abbrev pub item_refusal : {V : Type 0} → Naming → Name → List (Item V) →
 item_refusal naming name items = first_refusal (naming_refusal naming name (length items)) (has_name name items)
 
 -- what the lines so far describe: a board, the window of the last window line, and the last widget
--- line's widget, which takes items and is not on the board yet
+-- line's widget, which takes items and is not on the board yet, with the window that it belongs to
 pub record Drafted : Type 0 where
   pub board : board.Windows
   pub window : Option ℕ
+  pub home : Option ℕ
   pub last : Option (ℕ × Widget)
   pub naming : Naming
 
 -- nothing is described yet
 abbrev pub blank : Naming → Drafted
-blank naming = record { board = []; window = None; last = None; naming = naming }
+blank naming = record { board = []; window = None; home = None; last = None; naming = naming }
 
 -- the board with a widget put into a window
 abbrev pub put_into : Option ℕ → Option (ℕ × Widget) → board.Windows → board.Windows
@@ -65,25 +66,25 @@ put_into (Some win) (Some entry) windows = change_at win (with_entry entry.0 ent
 
 -- the board that the lines so far describe
 abbrev pub whole : Drafted → board.Windows
-whole d = put_into d.window d.last d.board
+whole d = put_into d.home d.last d.board
 
 -- a value unless there is a refusal
 abbrev pub unless : {A : Type 0} → Option Refusal → A → Result A Refusal
 unless None a = Ok a
 unless (Some refusal) a = Err refusal
 
--- after a window line
+-- after a window line, which does not end the widget of the last widget line
 abbrev pub with_window : ℕ → Drafted → Result Drafted Refusal
 with_window win d =
-    unless (option_map refusal_of (entry_fault win (whole d)))
-    (record { board = with_entry win [] (whole d); window = Some win; last = None; naming = d.naming })
+    unless (option_map refusal_of (entry_fault win d.board))
+    (record { board = with_entry win [] d.board; window = Some win; home = d.home; last = d.last; naming = d.naming })
 
 -- after the line of a widget in the last window
 abbrev pub with_widget_in : Option ℕ → ℕ → Widget → Drafted → Result Drafted Refusal
 with_widget_in None wid w d = Err Misplaced
 with_widget_in (Some win) wid w d =
     unless (option_map refusal_of (widget_fault win wid (whole d)))
-    (record { board = whole d; window = Some win; last = Some (wid, w); naming = d.naming })
+    (record { board = whole d; window = Some win; home = Some win; last = Some (wid, w); naming = d.naming })
 
 abbrev pub with_widget : ℕ → Widget → Drafted → Result Drafted Refusal
 with_widget wid w d = with_widget_in d.window wid w d

@@ -41,6 +41,11 @@ field_of separator read bytes = do
   value ← read parts.0
   Some (value, parts.1)
 
+-- a value that was read, and the bytes after it
+abbrev pub with_rest : {A : Type 0} → List ℕ → Option A → Option (A × List ℕ)
+with_rest rest None = None
+with_rest rest (Some value) = Some (value, rest)
+
 -- a field, and the rest read as another
 abbrev pub pair_of : {A B : Type 0} → ℕ → (List ℕ → Option A) → (List ℕ → Option B) → List ℕ → Option (A × B)
 pair_of separator first second bytes = do

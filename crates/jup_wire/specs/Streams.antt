@@ -4,7 +4,7 @@ use Rattle.std.specs.List.{flat_map, AllByRecursion}
 use Rattle.jup_wire.specs.declared.faults.WireFault.{WireFault}
 use Rattle.jup_wire.specs.declared.faults.WireFault.TheVariants.{BadLine, LongLine, BadVersion, EarlyEnd}
 use Rattle.jup_wire.specs.declared.line.Line.{Line}
-use Rattle.jup_wire.specs.Grammar.{spelling, HasSpelling, IsBad}
+use Rattle.jup_wire.specs.Grammar.{line_text, spelling, HasSpelling, IsBad}
 
 -- lines, one after another, and what comes after them
 abbrev pub stream_of : List Line → List ℕ → List ℕ
@@ -52,11 +52,15 @@ ending_at (Some fault) part = Err fault
 ending_at None [] = Ok tt
 ending_at None (byte ∷ part) = Err EarlyEnd
 
--- what one byte more makes of a part of a line
-abbrev pub Steps : List ℕ → List ℕ → Result (Option Line) WireFault → Type 0
-Steps bytes new (Ok None) = (new ≡ bytes) × IsPart new
-Steps bytes new (Ok (Some line)) = HasSpelling line × (bytes ≡ spelling line) × (new ≡ [])
-Steps bytes new (Err fault) = IsFaulty fault bytes
+-- what a line feed behind a text makes of it: the line that it is, or a fault, whatever comes behind it
+abbrev pub Ends : List ℕ → Result Line WireFault → Type 0
+Ends text (Ok line) = HasSpelling line × (text ≡ line_text line)
+Ends text (Err fault) = (more : List ℕ) → Faults fault (text ++ 10 ∷ more) []
+
+-- the lines that bytes begin with, up to a fault or the last line feed, behind which the rest stands
+abbrev pub ReadsTo : List ℕ → List Line → Option WireFault → List ℕ → Type 0
+ReadsTo bytes lines None rest = AllByRecursion HasSpelling lines × (bytes ≡ stream_of lines rest) × All (λ byte. byte ≢ 10) rest
+ReadsTo bytes lines (Some fault) rest = AllByRecursion HasSpelling lines × Faults fault bytes lines
 
 -- after these bytes, which began with a part of a line, these are the lines, and a part or a fault is left
 abbrev pub Reads : List ℕ → List Line → Option WireFault → List ℕ → Type 0

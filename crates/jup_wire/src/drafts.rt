@@ -25,8 +25,10 @@ const MOST_WIDGETS: usize = 64;
 pub(crate) struct Draft {
     // Each widget but the last.
     board: Board,
+    // The last window line's.
     window: Option<u16>,
-    // The last widget line's widget, which belongs to the last window and still takes items.
+    // The last widget line's widget, which still takes items, and before it the window that it belongs to.
+    home: Option<u16>,
     last: Option<(u16, Widget)>,
     naming: Naming,
 }
@@ -41,11 +43,12 @@ impl Model for Draft {
     ghost view = { λ d. record {
       board = boards.bare d.board;
       window = d.window;
+      home = d.home;
       last = bare_last d.last;
       naming = d.naming;
     } };
 
-    ghost invariant = { λ d. IsTrue (is_free d.window d.last d.board) };
+    ghost invariant = { λ d. IsTrue (is_free d.home d.last d.board) };
 }
 
 // What stands under an id.
@@ -129,6 +132,7 @@ impl Draft {
         Draft {
             board: Board::new(alloc),
             window: None,
+            home: None,
             last: None,
             naming,
         }
@@ -140,11 +144,11 @@ impl Draft {
     {
         let Draft {
             board,
-            window,
+            home,
             last,
             ..
         } = self;
-        let Some(win) = window else {
+        let Some(win) = home else {
             return Ok(board);
         };
         let Some((wid, widget)) = last else {
@@ -156,15 +160,21 @@ impl Draft {
     fn with_window(self, alloc: Global, win: u16) -> Result<Draft, Refusal>
         ensures { Follows (λ d. d) result (with_window win self) }
     {
-        let naming = self.naming;
-        let mut board = self.whole()?;
+        let Draft {
+            mut board,
+            home,
+            last,
+            naming,
+            ..
+        } = self;
         if let Err(fault) = board.add_window(alloc, win) {
             return Err(Refusal::of_board(fault));
         }
         Ok(Draft {
             board,
             window: Some(win),
-            last: None,
+            home,
+            last,
             naming,
         })
     }
@@ -183,6 +193,7 @@ impl Draft {
         Ok(Draft {
             board,
             window: Some(win),
+            home: Some(win),
             last: Some((wid, widget)),
             naming,
         })
@@ -195,6 +206,7 @@ impl Draft {
         let Draft {
             board,
             window,
+            home,
             last,
             naming,
         } = self;
@@ -204,6 +216,7 @@ impl Draft {
                 Ok(Draft {
                     board,
                     window,
+                    home,
                     last: Some((wid, Widget::Text(items))),
                     naming,
                 })
@@ -219,6 +232,7 @@ impl Draft {
         let Draft {
             board,
             window,
+            home,
             last,
             naming,
         } = self;
@@ -228,6 +242,7 @@ impl Draft {
                 Ok(Draft {
                     board,
                     window,
+                    home,
                     last: Some((wid, Widget::List(items))),
                     naming,
                 })

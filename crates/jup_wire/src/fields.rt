@@ -1,12 +1,13 @@
 //! The fields of a line, read one after the other.
 
-ghost use Rattle.std.specs.Prelude.{◌≡◌, ◌==◌, length, IfSome, position, ℕ, ◌+◌, ◌*◌, ◌<◌, ◌^◌, List, Option};
+ghost use Rattle.std.specs.Prelude.{◌≡◌, ◌==◌, length, IfSome, position, ℕ, ◌+◌, ◌*◌, ◌<◌, ◌^◌, List, take, drop, Option};
 ghost use Rattle.std.specs.Char.{digit_value};
 ghost use Rattle.std.specs.Option.{SomeIff};
 ghost use Rattle.std.specs.Str.Parse.{AllDigits, digits_value};
-ghost use Rattle.jup_wire.specs.Reading.{Gives, split_of, field_of, number_of, id_of, scalar_of, int_of, name_of, switch_of, label_of};
+ghost use Rattle.jup_wire.specs.Reading.{Gives, with_rest, split_of, field_of, number_of, id_of, scalar_of, int_of, name_of, switch_of, label_of};
 
 use jup_value::{Label, Name};
+use memchr::memchr;
 
 /// What a field may hold.
 pub(crate) trait FieldValue: Sized {
@@ -25,6 +26,22 @@ pub(crate) fn split(bytes: &[u8], separator: u8) -> Option<(&[u8], &[u8])>
     Some((&bytes[..at], &bytes[at + 1..]))
 }
 
+/// The text before the first line feed, and the bytes behind it.
+pub(crate) fn split_line(bytes: &[u8]) -> Option<(&[u8], &[u8])>
+    ensures { Gives (λ parts. (parts.0.now, parts.1.now)) result (split_of 10 bytes.now) }
+{
+    let at = feed_of(bytes)?;
+    Some((&bytes[..at], &bytes[at + 1..]))
+}
+
+/// Where the first line feed stands.
+pub fn feed_of(bytes: &[u8]) -> Option<usize>
+    ensures place { result ≡ position (λ byte. byte == 10) bytes.now }
+    ensures within { IfSome result (λ at. at < length bytes.now) }
+{
+    memchr(b'\n', bytes)
+}
+
 fn place_of(bytes: &[u8], wanted: u8) -> Option<usize>
     ensures place { result ≡ position (λ byte. byte == wanted) bytes.now }
     ensures within { IfSome result (λ at. at < length bytes.now) }
@@ -41,11 +58,44 @@ pub(crate) fn field<T: FieldValue>(bytes: &[u8]) -> Option<(T, &[u8])>
     Some((T::read(field)?, rest))
 }
 
-impl FieldValue for u32 {
-    ghost read_of = { number_of };
+/// The number before the first separator, and the bytes behind that. It goes over the digits once.
+pub(crate) fn number_before(bytes: &[u8], separator: u8) -> Option<(u32, &[u8])>
+    ensures { Gives (λ x. (x.0, x.1.now)) result (field_of separator number_of bytes.now) }
+{
+    let mut value = 0;
+    for (at, byte) in bytes.iter().enumerate() {
+        if *byte == separator {
+            return numeral_before(value, bytes, at);
+        }
+        value = with_digit(value, *byte)?;
+    }
+    None
+}
 
-    fn read(bytes: &[u8]) -> Option<u32> {
-        number(bytes)
+/// The number that the digits before a place write, if that is its one spelling, and the bytes behind the place.
+fn numeral_before(value: u32, bytes: &[u8], at: usize) -> Option<(u32, &[u8])>
+    requires within { at < length bytes.now }
+    requires digits { AllDigits 10 (take at bytes.now) }
+    requires value { value ≡ digits_value 10 (take at bytes.now) }
+    ensures { Gives (λ x. (x.0, x.1.now)) result (with_rest (drop (at + 1) bytes.now) (number_of (take at bytes.now))) }
+{
+    if at == 0 {
+        return None;
+    }
+    if bytes[0] == b'0' && at > 1 {
+        return None;
+    }
+    Some((value, &bytes[at + 1..]))
+}
+
+/// The same of an id, before the first space.
+pub(crate) fn id_before(bytes: &[u8]) -> Option<(u16, &[u8])>
+    ensures { Gives (λ x. (x.0, x.1.now)) result (field_of 32 id_of bytes.now) }
+{
+    let (number, rest) = number_before(bytes, b' ')?;
+    match u16::try_from(number) {
+        Ok(id) => Some((id, rest)),
+        Err(_) => None,
     }
 }
 
@@ -86,10 +136,9 @@ impl FieldValue for i32 {
 impl FieldValue for Name {
     ghost read_of = { name_of };
 
-    #[tactic(auto, unfolding(crate::specs::Reading::name_of, crate::specs::Reading::field_of))]
+    #[tactic(auto, unfolding(crate::specs::Reading::name_of))]
     fn read(bytes: &[u8]) -> Option<Name> {
-        let (site, rest) = split(bytes, b'.')?;
-        let site = number(site)?;
+        let (site, rest) = number_before(bytes, b'.')?;
         Some(Name {
             site,
             number: number(rest)?,
@@ -149,6 +198,9 @@ fn value_of(digits: &[u8]) -> Option<u32>
 fn with_digit(value: u32, digit: u8) -> Option<u32>
     ensures { SomeIff result ((digit_value digit < 10) × (value * 10 + digit_value digit < 2 ^ 32)) (value * 10 + digit_value digit) }
 {
-    let digit = char::from(digit).to_digit(10)?;
-    value.checked_mul(10)?.checked_add(digit)
+    if !digit.is_ascii_digit() {
+        return None;
+    }
+    let next = u64::from(value) * 10 + u64::from(digit - b'0');
+    u32::try_from(next).ok()
 }

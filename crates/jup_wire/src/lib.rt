@@ -19,8 +19,10 @@ mod writing;
 
 pub use board_lines::lines_of;
 pub use faults::WireFault;
+pub use fields::feed_of;
 pub use laws::{has_spelling, on_the_way, one_reading, one_spelling};
 pub use layouts::{LayoutFault, board_of, layout};
 pub use line::Line;
+pub use parse::read_line;
 pub use reader::{Fed, Lines, Reader};
 pub use writing::{MOST, write, write_reserved};

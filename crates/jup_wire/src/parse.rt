@@ -1,11 +1,12 @@
 //! Reading one line, without its line feed.
 
-ghost use Rattle.std.specs.Prelude.{◌≡◌, IfOk, IfErr};
+ghost use Rattle.std.specs.Prelude.{◌≡◌, Ok, IfOk, IfErr};
+ghost use Rattle.jup_wire.specs.declared.line.Line.{Line};
 ghost use Rattle.jup_wire.specs.Grammar.{HasSpelling, line_text, IsBad};
 ghost use Rattle.jup_wire.specs.Reading.{insert_of, delete_of, seq_of, set_of, body_of, welcome_of, hello_of, toggle_of, slider_of, char_of, item_of, op_of, headed_of, line_of, version_of, refusal_of};
 
 use crate::faults::WireFault;
-use crate::fields::{FieldValue, field, number, split};
+use crate::fields::{FieldValue, field, id_before, number, number_before, split};
 use crate::line::Line;
 use jup_link::Msg;
 use jup_seq::SeqOp;
@@ -13,9 +14,11 @@ use jup_setting::SetOp;
 use jup_value::{Item, Label, Name};
 use jup_window::{BoardOp, WidgetOp};
 
-/// The line that the bytes are, or what is wrong with them.
-pub(crate) fn read_line(bytes: &[u8]) -> Result<Line, WireFault>
+/// The line that the bytes are, which have no line feed behind them, or what is wrong with them: `BadLine`,
+/// or `BadVersion`.
+pub fn read_line(bytes: &[u8]) -> Result<Line, WireFault>
     ensures line { IfOk result (λ line. HasSpelling line × (bytes.now ≡ line_text line)) }
+    ensures every { (line : Line) → HasSpelling line → bytes.now ≡ line_text line → result ≡ Ok line }
     ensures fault { IfErr result (λ fault. IsBad fault bytes.now) }
 {
     match line(bytes) {
@@ -66,6 +69,10 @@ fn line(bytes: &[u8]) -> Option<Line>
 fn headed(word: &[u8], rest: &[u8]) -> Option<Line>
     ensures { result ≡ headed_of word.now rest.now }
 {
+    // Most lines are operations.
+    if word == b"op".as_slice() {
+        return op(rest);
+    }
     if word == b"hello".as_slice() {
         return hello(rest);
     }
@@ -92,9 +99,6 @@ fn headed(word: &[u8], rest: &[u8]) -> Option<Line>
     }
     if word == b"item".as_slice() {
         return item(rest);
-    }
-    if word == b"op".as_slice() {
-        return op(rest);
     }
     if word == b"ack".as_slice() {
         return Some(Line::Ack(number(rest)?));
@@ -126,7 +130,7 @@ fn hello(rest: &[u8]) -> Option<Line>
 fn welcome(rest: &[u8]) -> Option<Line>
     ensures { result ≡ welcome_of rest.now }
 {
-    let (site, rest) = field::<u32>(rest)?;
+    let (site, rest) = number_before(rest, b' ')?;
     let limit = number(rest)?;
     Some(Line::Welcome { site, limit })
 }
@@ -135,7 +139,7 @@ fn welcome(rest: &[u8]) -> Option<Line>
 fn toggle(rest: &[u8]) -> Option<Line>
     ensures { result ≡ toggle_of rest.now }
 {
-    let (wid, rest) = field::<u16>(rest)?;
+    let (wid, rest) = id_before(rest)?;
     let on = bool::read(rest)?;
     Some(Line::Toggle(wid, on))
 }
@@ -144,7 +148,7 @@ fn toggle(rest: &[u8]) -> Option<Line>
 fn slider(rest: &[u8]) -> Option<Line>
     ensures { result ≡ slider_of rest.now }
 {
-    let (wid, rest) = field::<u16>(rest)?;
+    let (wid, rest) = id_before(rest)?;
     let (lo, rest) = field::<i32>(rest)?;
     let (hi, rest) = field::<i32>(rest)?;
     let value = i32::read(rest)?;
@@ -173,10 +177,10 @@ fn item(rest: &[u8]) -> Option<Line>
 fn op(rest: &[u8]) -> Option<Line>
     ensures { result ≡ op_of rest.now }
 {
-    let (mine, rest) = field::<u32>(rest)?;
-    let (heard, rest) = field::<u32>(rest)?;
-    let (win, rest) = field::<u16>(rest)?;
-    let (wid, rest) = field::<u16>(rest)?;
+    let (mine, rest) = number_before(rest, b' ')?;
+    let (heard, rest) = number_before(rest, b' ')?;
+    let (win, rest) = id_before(rest)?;
+    let (wid, rest) = id_before(rest)?;
     let op = body(rest)?;
     Some(Line::Op(Msg {
         mine,
@@ -227,7 +231,7 @@ fn seq_op<V: FieldValue>(bytes: &[u8]) -> Option<SeqOp<V>>
 fn insertion<V: FieldValue>(bytes: &[u8]) -> Option<SeqOp<V>>
     ensures { result ≡ insert_of V.read_of bytes.now }
 {
-    let (place, rest) = field::<u32>(bytes)?;
+    let (place, rest) = number_before(bytes, b' ')?;
     let (name, rest) = field::<Name>(rest)?;
     let value = V::read(rest)?;
     Some(SeqOp::Insert {
@@ -240,7 +244,7 @@ fn insertion<V: FieldValue>(bytes: &[u8]) -> Option<SeqOp<V>>
 fn deletion<V>(bytes: &[u8]) -> Option<SeqOp<V>>
     ensures { result ≡ delete_of bytes.now }
 {
-    let (place, rest) = field::<u32>(bytes)?;
+    let (place, rest) = number_before(bytes, b' ')?;
     let name = Name::read(rest)?;
     Some(SeqOp::Delete { place, name })
 }

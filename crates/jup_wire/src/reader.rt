@@ -1,14 +1,17 @@
 //! Lines from bytes that come in pieces.
 
-ghost use Rattle.std.specs.Prelude.{◌≡◌, ℕ, List, [], ◌∷◌, ◌++◌, IfOk, OnOk, OnErr, IsSome};
+ghost use Rattle.std.specs.Prelude.{◌≡◌, ◌≢◌, ℕ, List, [], ◌∷◌, ◌++◌, All, IfOk, OnOk, OnErr, IsSome};
+ghost use Rattle.std.specs.List.{flat_map, AllByRecursion};
+ghost use Rattle.jup_wire.specs.Grammar.{spelling, HasSpelling};
 ghost use Rattle.jup_wire.specs.Parts.{part_bytes};
-ghost use Rattle.jup_wire.specs.Streams.{IsPart, Steps, Reads, HasRead, ending_at};
+ghost use Rattle.jup_wire.specs.Streams.{IsPart, Ends, ReadsTo, Reads, HasRead, ending_at};
 ghost use Rattle.jup_wire.specs.declared.line.Line.{Line};
 
 use crate::faults::WireFault;
+use crate::fields::split_line;
 use crate::line::Line;
 use crate::parse::read_line;
-use crate::part::Part;
+use crate::part::{MOST_PART, Part};
 use jup_link::Msg;
 use jup_seq::SeqOp;
 use jup_value::Label;
@@ -17,43 +20,109 @@ use jup_xform::NoMemory;
 use std::alloc::Global;
 use std::marker::{Model, PhantomData};
 
-/// Takes one byte more: the line that it ends, if it ends one.
-fn step(part: &mut Part, byte: u8) -> Result<Option<Line>, WireFault>
-    requires { IsPart (part_bytes part.old) }
-    ensures { Steps (part_bytes part.old ++ byte ∷ []) (part_bytes part.new) result }
+/// The line that a line feed ends, or its fault.
+fn ended(text: &[u8]) -> Result<Line, WireFault>
+    requires { All (λ byte. byte ≢ 10) text.now }
+    ensures { Ends text.now result }
 {
-    if byte == b'\n' {
-        let line = read_line(part.bytes())?;
-        *part = Part::new();
-        return Ok(Some(line));
-    }
-    if part.is_full() {
+    if text.len() > MOST_PART {
         return Err(WireFault::LongLine);
     }
-    part.push(byte);
-    Ok(None)
+    read_line(text)
 }
 
-/// Takes a piece, up to the first fault.
-fn read_piece(alloc: Global, part: &mut Part, piece: &[u8]) -> Result<Fed, NoMemory>
-    requires { IsPart (part_bytes part.old) }
-    ensures { IfOk result (λ fed.
-        Reads (part_bytes part.old ++ piece.now) fed.lines fed.fault (part_bytes part.new)) }
+/// The same where a part comes before the text. The part stays.
+fn ended_behind(part: &mut Part, text: &[u8]) -> Result<Line, WireFault>
+    requires part { IsPart (part_bytes part.old) }
+    requires text { All (λ byte. byte ≢ 10) text.now }
+    ensures ended { Ends (part_bytes part.old ++ text.now) result }
+    ensures part { part_bytes part.new ≡ part_bytes part.old }
 {
-    let mut lines = Lines::new(alloc);
-    for byte in piece {
-        match step(part, *byte) {
-            Ok(None) => {}
-            Ok(Some(line)) => lines.push(line)?,
+    let held = part.len();
+    if held == 0 {
+        return ended(text);
+    }
+    if text.len() > MOST_PART - held {
+        return Err(WireFault::LongLine);
+    }
+    part.extend(text);
+    let line = read_line(part.bytes());
+    part.truncate(held);
+    line
+}
+
+/// Puts bytes without a line feed behind a part, if both are no more than a part.
+fn hold(part: &mut Part, bytes: &[u8]) -> Option<WireFault>
+    requires part { IsPart (part_bytes part.old) }
+    requires bytes { All (λ byte. byte ≢ 10) bytes.now }
+    ensures { Reads (part_bytes part.old ++ bytes.now) [] result (part_bytes part.new) }
+{
+    if bytes.len() > MOST_PART - part.len() {
+        return Some(WireFault::LongLine);
+    }
+    part.extend(bytes);
+    None
+}
+
+/// What stands behind the last line feed, if no line had a fault.
+#[derive(Drop)]
+struct Rest<'a> {
+    left: &'a [u8],
+    fault: Option<WireFault>,
+}
+
+/// Reads whole lines, up to the first fault, and puts them behind those that came before.
+fn read_lines<'a>(lines: &mut Lines, bytes: &'a [u8]) -> Result<Rest<'a>, NoMemory>
+    requires { AllByRecursion HasSpelling lines.old }
+    ensures { IfOk result (λ rest. ReadsTo (flat_map spelling lines.old ++ bytes.now) lines.new rest.fault rest.left.now) }
+{
+    let mut left = bytes;
+    while let Some((text, behind)) = split_line(left) {
+        match ended(text) {
+            Ok(line) => lines.push(line)?,
             Err(fault) => {
-                return Ok(Fed {
-                    lines,
+                return Ok(Rest {
+                    left,
                     fault: Some(fault),
                 });
             }
         }
+        left = behind;
     }
-    Ok(Fed { lines, fault: None })
+    Ok(Rest { left, fault: None })
+}
+
+/// Takes a piece, up to the first fault. Where memory is refused the part is as it was.
+fn read_piece(alloc: Global, part: &mut Part, piece: &[u8]) -> Result<Fed, NoMemory>
+    requires { IsPart (part_bytes part.old) }
+    ensures read { IfOk result (λ fed.
+        Reads (part_bytes part.old ++ piece.now) fed.lines fed.fault (part_bytes part.new)) }
+    ensures err { OnErr result (part_bytes part.new ≡ part_bytes part.old) }
+{
+    let mut lines = Lines::new(alloc);
+    let Some((text, behind)) = split_line(piece) else {
+        let fault = hold(part, piece);
+        return Ok(Fed { lines, fault });
+    };
+    match ended_behind(part, text) {
+        Ok(line) => lines.push(line)?,
+        Err(fault) => {
+            return Ok(Fed {
+                lines,
+                fault: Some(fault),
+            });
+        }
+    }
+    let rest = read_lines(&mut lines, behind)?;
+    if rest.fault.is_some() {
+        return Ok(Fed {
+            lines,
+            fault: rest.fault,
+        });
+    }
+    part.truncate(0);
+    let fault = hold(part, rest.left);
+    Ok(Fed { lines, fault })
 }
 
 /// Lines, in order.
@@ -172,9 +241,7 @@ impl Reader {
                 fault: self.fault,
             });
         }
-        let mut part = self.part;
-        let fed = read_piece(alloc, &mut part, piece)?;
-        self.part = part;
+        let fed = read_piece(alloc, &mut self.part, piece)?;
         self.fault = fed.fault;
         Ok(fed)
     }

@@ -1,7 +1,7 @@
 //! Writing fields at the end of a vector that has room for them.
 #![tactic(auto, using(crate::proofs::Written::decimals))]
 
-ghost use Rattle.std.specs.Prelude.{ℕ, ◌+◌, List, ◌∷◌, decimal, length};
+ghost use Rattle.std.specs.Prelude.{ℕ, ◌+◌, ◌<◌, List, [], ◌∷◌, decimal, length};
 ghost use Rattle.std.specs.Fmt.{signed_decimal};
 ghost use Rattle.jup_wire.specs.Grammar.{name_text, switch_text};
 ghost use Rattle.jup_wire.specs.Rooms.{HasRoom, Appends};
@@ -34,20 +34,33 @@ pub(crate) fn push_field<T: Spelled>(out: &mut Vec<u8>, value: &T)
     requires { HasRoom out.old (T.most + 1) }
     ensures { Appends out.old out.new (32 ∷ T.text value.now) (T.most + 1) }
 {
-    push(out, b" ");
+    out.push_reserved(b' ');
     value.push_to(out);
 }
 
-/// Appends a number's digits.
+/// Appends one digit.
+fn push_digit(out: &mut Vec<u8>, digit: u32)
+    requires digit { digit < 10 }
+    requires room { HasRoom out.old 1 }
+    ensures { Appends out.old out.new ((48 + digit) ∷ []) 1 }
+{
+    out.push_reserved(b'0' + digit as u8);
+}
+
+/// Appends a number's digits, two at a time.
 fn push_digits(out: &mut Vec<u8>, n: u32)
     requires { HasRoom out.old (length (decimal n)) }
     ensures { Appends out.old out.new (decimal n) (length (decimal n)) }
 {
     if n < 10 {
-        push(out, &[b'0' + n as u8]);
+        push_digit(out, n);
+    } else if n < 100 {
+        push_digit(out, n / 10);
+        push_digit(out, n % 10);
     } else {
-        push_digits(out, n / 10);
-        push(out, &[b'0' + (n % 10) as u8]);
+        push_digits(out, n / 100);
+        push_digit(out, n / 10 % 10);
+        push_digit(out, n % 10);
     }
 }
 

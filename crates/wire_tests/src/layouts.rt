@@ -73,11 +73,26 @@ fn lines_out_of_place_are_refused(rt: HostRuntime) {
         3,
         44,
     );
+    check_fault(&rt, layout(alloc, b"window 1\nitem 0.1 red\n"), 2, 44);
     check_fault(
         &rt,
-        layout(alloc, b"window 1\nlist 1\nwindow 2\nitem 0.1 red\n"),
+        layout(alloc, b"window 1\nlist 1\nwindow 2\nchar 0.1 122\n"),
         4,
         44,
+    );
+}
+
+#[test]
+fn window_line_does_not_end_a_list(rt: HostRuntime) {
+    let alloc = rt.alloc();
+    let board = layout(
+        alloc,
+        b"window 2\nlist 1\nitem 0.1 red\nwindow 1\nitem 0.2 blue\ntoggle 3 on\n",
+    );
+    let board = board.expect(&rt, "a layout");
+    assert_eq!(rt;
+        written(&rt, alloc, &board).as_slice(),
+        b"window 1\ntoggle 3 on\nwindow 2\nlist 1\nitem 0.1 red\nitem 0.2 blue\n".as_slice()
     );
 }
 
@@ -134,4 +149,28 @@ fn board_of_lines_takes_any_names_but_none_twice(rt: HostRuntime) {
     assert!(&rt; board.has_site(2));
     let twice = [Line::Window(1), Line::Text(1), named(2), named(2)];
     check_fault(&rt, board_of(alloc, &twice), 4, 45);
+}
+
+// A layout of a text with so many items.
+fn long_layout(rt: &impl Abort, alloc: Global, count: u32) -> Vec<u8> {
+    let mut text = Vec::new(alloc);
+    text.extend_from_slice(b"window 1\ntext 1\n")
+        .expect(rt, "memory");
+    for number in 1..=count {
+        let name = Name { site: 0, number };
+        write(alloc, &Line::Char(name, 'a'), &mut text).expect(rt, "memory");
+    }
+    text
+}
+
+#[test]
+fn text_of_a_layout_has_at_most_65536_items(rt: HostRuntime) {
+    let alloc = rt.alloc();
+    let longest = long_layout(&rt, alloc, 65_536);
+    assert!(&rt; longest.len() < 16_000_000);
+    let board = layout(alloc, &longest);
+    assert!(&rt; board.is_ok());
+    let longer = long_layout(&rt, alloc, 65_537);
+    assert!(&rt; longer.len() < 16_000_000);
+    check_fault(&rt, layout(alloc, &longer), 65_539, 11);
 }

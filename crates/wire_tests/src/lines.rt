@@ -4,8 +4,9 @@ use jup_seq::SeqOp;
 use jup_setting::SetOp;
 use jup_value::{Item, Label, Name};
 use jup_window::{BoardOp, WidgetOp};
-use jup_wire::{Fed, Line, MOST, Reader, WireFault, write, write_reserved};
+use jup_wire::{Fed, Line, MOST, Reader, WireFault, feed_of, read_line, write, write_reserved};
 use std::alloc::Global;
+use std::marker::PhantomData;
 use std::process::Abort;
 
 fn name(site: u32, number: u32) -> Name {
@@ -44,6 +45,23 @@ fn is_written(rt: &impl Abort, alloc: Global, line: &Line, text: &[u8]) {
     assert_eq!(rt; reserved.as_slice(), text);
 }
 
+// The bytes before their line feed, which is the last, are the line by themselves.
+fn is_read_by_itself(rt: &impl Abort, line: &Line, text: &[u8]) {
+    let (_, before) = text.split_last().expect(rt, "a line feed");
+    assert_eq!(rt; feed_of(text), Some(before.len()));
+    assert!(rt; read_line(before).expect(rt, "a line") == *line);
+}
+
+// What is wrong with bytes that are no line.
+fn fault_of(text: &[u8]) -> Option<WireFault> {
+    // Types that a line holds, named so that the borrow checker knows of them.
+    let _of: PhantomData<(SeqOp<Label>, WidgetOp, BoardOp, Msg<BoardOp>)> = PhantomData;
+    match read_line(text) {
+        Ok(_) => None,
+        Err(fault) => Some(fault),
+    }
+}
+
 // These bytes are read as the line, byte by byte.
 fn is_read_in_bytes(rt: &impl Abort, alloc: Global, line: &Line, text: &[u8]) {
     let mut cut = Reader::new();
@@ -65,6 +83,7 @@ fn check_line(rt: &impl Abort, alloc: Global, line: &Line, text: &[u8]) {
     assert!(rt; is_line(&all, line));
     assert_eq!(rt; whole.finish(), Ok(()));
     is_read_in_bytes(rt, alloc, line, text);
+    is_read_by_itself(rt, line, text);
 }
 
 #[test]
@@ -274,6 +293,44 @@ fn lines_before_a_fault_are_given_and_none_after(rt: HostRuntime) {
     assert!(rt; third.lines.as_slice().is_empty());
     assert_eq!(rt; third.fault, Some(WireFault::BadVersion));
     assert_eq!(rt; reader.finish(), Err(WireFault::BadVersion));
+}
+
+#[test]
+fn a_piece_ends_a_part_and_begins_another(rt: HostRuntime) {
+    let mut reader = Reader::new();
+    let part = fed(&rt, rt.alloc(), &mut reader, b"pi");
+    assert!(rt; part.lines.as_slice().is_empty());
+    let middle = fed(&rt, rt.alloc(), &mut reader, b"ng 7\nbye\npon");
+    assert_eq!(rt; middle.lines.as_slice().len(), 2);
+    assert_eq!(rt; middle.lines.as_slice()[0], Line::Ping(7));
+    assert_eq!(rt; middle.lines.as_slice()[1], Line::Bye);
+    assert_eq!(rt; reader.finish(), Err(WireFault::EarlyEnd));
+    let last = fed(&rt, rt.alloc(), &mut reader, b"g 8\n");
+    assert!(rt; is_line(&last, &Line::Pong(8)));
+    assert_eq!(rt; reader.finish(), Ok(()));
+}
+
+#[test]
+fn text_of_256_bytes_is_long_with_its_line_feed_too(rt: HostRuntime) {
+    let mut text = [b'x'; 257];
+    text[256] = b'\n';
+    let long = fed(&rt, rt.alloc(), &mut Reader::new(), &text);
+    assert_eq!(rt; long.fault, Some(WireFault::LongLine));
+    let short = fed(&rt, rt.alloc(), &mut Reader::new(), &text[1..]);
+    assert_eq!(rt; short.fault, Some(WireFault::BadLine));
+    let mut held = Reader::new();
+    fed(&rt, rt.alloc(), &mut held, b"x");
+    let both = fed(&rt, rt.alloc(), &mut held, &text[1..]);
+    assert_eq!(rt; both.fault, Some(WireFault::LongLine));
+}
+
+#[test]
+fn texts_that_are_no_line_by_themselves(rt: HostRuntime) {
+    assert_eq!(rt; fault_of(b"ping 07"), Some(WireFault::BadLine));
+    assert_eq!(rt; fault_of(b"hello 2"), Some(WireFault::BadVersion));
+    assert_eq!(rt; fault_of(b"ping 7\n"), Some(WireFault::BadLine));
+    assert_eq!(rt; feed_of(b"ping 7\nbye\n"), Some(6));
+    assert_eq!(rt; feed_of(b"ping 7"), None);
 }
 
 #[test]

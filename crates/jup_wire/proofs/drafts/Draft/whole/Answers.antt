@@ -7,4 +7,4 @@ use Rattle.jup_wire.proofs.drafts.Draft.whole.Goals as goal
 pub returns : goal.returns
 returns c =
     rw (← c.self.view_is) (subst (λ (ws : board.Windows). Follows board.bare c.put.result (Ok ws))
-    (sym (whole-bare c.in-Some.win c.in-Some-last.wid c.in-Some-last.widget c.self.inside.window c.self.inside.last c.self.inside.board c.in-Some.is c.in-Some-last.is)) c.put.ensures)
+    (sym (whole-bare c.in-Some.win c.in-Some-last.wid c.in-Some-last.widget c.self.inside.home c.self.inside.last c.self.inside.board c.in-Some.is c.in-Some-last.is)) c.put.ensures)

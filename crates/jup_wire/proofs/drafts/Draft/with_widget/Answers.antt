@@ -13,4 +13,4 @@ pub returns : goal.returns
 returns c =
     widget_taken c.in-Some.win c.args.wid (widget.bare c.args.widget) c.args.self c.in_ok-board.board
     (ap (λ d. d.window) (sym c.self.view_is) ∙ c.in-Some.is) (same_Ok _ _ c.in_ok-board.ensures) (sym c.in_default-widget_refusal.ensures)
-    ∙ ap (λ n. Ok (record { board = board.bare c.in_ok-board.board; window = Some c.in-Some.win; last = Some (c.args.wid, widget.bare c.args.widget); naming = n })) (ap (λ d. d.naming) (sym c.self.view_is))
+    ∙ ap (λ n. Ok (record { board = board.bare c.in_ok-board.board; window = Some c.in-Some.win; home = Some c.in-Some.win; last = Some (c.args.wid, widget.bare c.args.widget); naming = n })) (ap (λ d. d.naming) (sym c.self.view_is))

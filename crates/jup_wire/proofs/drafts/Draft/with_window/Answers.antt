@@ -1,13 +1,20 @@
-use Rattle.std.proofs.Common.{Ok, Some, None, ap, sym, ◌∙◌}
+use Rattle.std.proofs.Common.{Ok, Some, ap, sym, subst, ◌∙◌}
+use Rattle.std.specs.Prelude.{IsTrue}
 use Rattle.jup_window.specs.Boards as board
-use Rattle.jup_wire.proofs.Drafting.{same_Ok, window_refused, window_taken}
+use Rattle.jup_wire.specs.Drafts.{is_free}
+use Rattle.jup_wire.proofs.Drafting.{window_refused, window_taken, allowed, free-more}
 use Rattle.jup_wire.proofs.drafts.Draft.with_window.Goals as goal
 
 pub returns-in-Err : goal.returns-in-Err
 returns-in-Err c =
-    rw c.of_board.ensures (window_refused c.args.win c.args.self c.in_ok-board.board c.in-Err.fault (same_Ok _ _ c.in_ok-board.ensures) c.in-Err.ensures.refusal)
+    rw c.of_board.ensures (window_refused c.args.win c.args.self c.self.inside.board c.in-Err.fault (ap (λ d. d.board) (sym c.self.view_is)) c.in-Err.ensures.refusal)
+
+pub invariant_of-result : goal.invariant_of-result
+invariant_of-result c =
+    subst (λ b. IsTrue (is_free c.self.inside.home c.self.inside.last b)) (sym c.in_default.ensures.ok)
+    (free-more c.self.inside.home c.self.inside.last c.self.inside.board c.args.win (allowed _ c.in_default.ensures.refusal) c.self.invariant)
 
 pub returns : goal.returns
 returns c =
-    window_taken c.args.win c.args.self c.in_ok-board.board c.add_window.new.self (same_Ok _ _ c.in_ok-board.ensures) c.in_default.ensures.refusal c.in_default.ensures.ok
-    ∙ ap (λ n. Ok (record { board = board.bare c.add_window.new.self; window = Some c.args.win; last = None; naming = n })) (ap (λ d. d.naming) (sym c.self.view_is))
+    window_taken c.args.win c.args.self c.self.inside.board c.add_window.new.self (ap (λ d. d.board) (sym c.self.view_is)) c.in_default.ensures.refusal c.in_default.ensures.ok
+    ∙ ap (λ d. Ok (record { board = board.bare c.add_window.new.self; window = Some c.args.win; home = d.home; last = d.last; naming = d.naming })) (sym c.self.view_is)

@@ -10,4 +10,4 @@ returns-then-is_some-clause-read c =
 
 pub returns-clause-read : goal.returns-clause-read
 returns-clause-read c =
-    rw (← c.self.view_is) (reads_on (record { part = part_bytes c.self.inside.part; fault = c.self.inside.fault }) c.args.piece.now _ _ _ (none_is c.self.inside.fault (sym c.if-is_some.ensures)) c.in_ok-fed.ensures)
+    rw (← c.self.view_is) (reads_on (record { part = part_bytes c.self.inside.part; fault = c.self.inside.fault }) c.args.piece.now _ _ _ (none_is c.self.inside.fault (sym c.if-is_some.ensures)) c.in_ok-fed.ensures.read)

@@ -1,0 +1,97 @@
+//! Bytes that are written at one end and dropped at the other.
+ghost use Rattle.std.specs.Prelude.{◌≡◌, ◌↔◌, ◌≤◌, [], ◌++◌, length, drop, IsTrue, OnOk};
+ghost use Rattle.jup_lane.specs.Codecs.{bytes_of};
+ghost use Rattle.jup_lane.specs.Carried.{codec};
+
+use crate::message::{MOST_MESSAGE, Message};
+use jup_xform::NoMemory;
+use std::alloc::Global;
+use std::marker::Model;
+
+/// The bytes of a stream. Those that were dropped stay before its start until room is made.
+#[derive(Drop)]
+pub(crate) struct Stream {
+    bytes: Vec<u8>,
+    start: usize,
+}
+
+impl Model for Stream {
+    ghost use Rattle.std.specs.Prelude.{◌-◌, ◌≤◌, drop};
+    ghost use Rattle.std.specs.Vec.{vec_len, vec_capacity};
+    ghost use Rattle.jup_lane.specs.Lanes.{StreamState};
+
+    ghost Value = { StreamState };
+
+    ghost view = { λ a. record {
+      bytes = drop a.start a.bytes.items;
+      spare = vec_capacity a.bytes - vec_len a.bytes;
+    } };
+
+    ghost invariant = { λ a. a.start ≤ vec_len a.bytes };
+}
+
+impl Stream {
+    pub(crate) fn new(alloc: Global) -> Stream
+        ensures { result.bytes ≡ [] }
+    {
+        Stream {
+            bytes: Vec::new(alloc),
+            start: 0,
+        }
+    }
+
+    pub(crate) fn as_slice(&self) -> &[u8]
+        ensures { result.now ≡ self.now.bytes }
+    {
+        &self.bytes[self.start..]
+    }
+
+    pub(crate) fn is_empty(&self) -> bool
+        ensures { IsTrue result ↔ (self.now.bytes ≡ []) }
+    {
+        self.as_slice().is_empty()
+    }
+
+    /// Makes room for so many bytes more.
+    pub(crate) fn reserve(&mut self, more: usize) -> Result<(), NoMemory>
+        ensures bytes { self.new.bytes ≡ self.old.bytes }
+        ensures ok { OnOk result (more ≤ self.new.spare) }
+    {
+        if self.bytes.capacity() - self.bytes.len() >= more {
+            return Ok(());
+        }
+        self.close_up();
+        self.bytes.reserve(more).map_err(|_| NoMemory)
+    }
+
+    // Lets go of the bytes that were dropped, once they are as many as the others: so a byte is moved once.
+    fn close_up(&mut self)
+        ensures { self.new.bytes ≡ self.old.bytes }
+    {
+        if self.start > 0 && self.start >= self.bytes.len() - self.start {
+            self.bytes.drain(..self.start);
+            self.start = 0;
+        }
+    }
+
+    /// Writes a message behind the others. It takes no memory.
+    pub(crate) fn write<M: Message>(&mut self, message: &M)
+        requires { MOST_MESSAGE ≤ self.old.spare }
+        ensures spelled { (codec M.Message).IsSpelled message.now }
+        ensures bytes { self.new.bytes ≡ self.old.bytes ++ bytes_of (codec M.Message) message.now }
+    {
+        message.write(&mut self.bytes);
+    }
+
+    /// Drops the oldest bytes.
+    pub(crate) fn drop_front(&mut self, count: usize)
+        requires { count ≤ length self.old.bytes }
+        ensures { self.new.bytes ≡ drop count self.old.bytes }
+    {
+        self.start += count;
+        if self.start == self.bytes.len() {
+            self.bytes.clear();
+            self.start = 0;
+        }
+    }
+}

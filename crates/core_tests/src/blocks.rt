@@ -79,6 +79,16 @@ fn copy_keeps_the_blocks(rt: HostRuntime) {
     assert!(rt; counts(&copied, 100, 300));
 }
 
+// As long as a layout may make a sequence, and longer.
+#[test]
+fn long_sequences_are_copied_whole(rt: HostRuntime) {
+    for count in [65_536, 65_537] {
+        let seq = filled(rt.alloc(), count, true).expect(&rt, "memory");
+        let copied = seq.copy(rt.alloc()).expect(&rt, "memory");
+        assert!(rt; counts(&copied, 0, count), "{count} items");
+    }
+}
+
 // Items of two sites, the last of which has the lowest number of its site.
 fn of_two_sites(alloc: Global) -> Result<Seq<u32>, NoMemory> {
     let mut seq = Seq::new(alloc);

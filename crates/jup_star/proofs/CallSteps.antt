@@ -1,9 +1,10 @@
 -- What each call answers and leaves, by cases over the link of its site and the first fault.
-use Rattle.std.proofs.Common.{◌≡◌, refl, ◌∙◌, ap, ℕ, true, false, take, Some, None, Ok, Err}
+use Rattle.std.proofs.Common.{◌≡◌, refl, ◌∙◌, ap, ℕ, ◌≤◌, nat_le, length, true, false, take, Some, None, Ok, Err}
+use Rattle.std.proofs.lemmas.Bool.{and_from, le-leb}
 use Rattle.jup_window.specs.declared.board_operations.BoardOp.{BoardOp}
 use Rattle.jup_window.specs.BoardOperations.{board_operations}
 use Rattle.jup_star.specs.StarStates.{link_of, up_fault, taken, place_taken, left, fetched}
-use Rattle.jup_star.specs.StarCalls.{BoardLink, BoardStar, Answers, reply_of, star_after, asks_memory, is_no_memory, take_asks}
+use Rattle.jup_star.specs.StarCalls.{BoardLink, BoardStar, Answers, reply_of, star_after, asks_memory, is_no_memory, take_asks, fetch_asks}
 use Rattle.jup_star.specs.declared.messages.Up.{Up}
 use Rattle.jup_star.specs.declared.faults.StarFault.{StarFault}
 use Rattle.jup_star.specs.declared.faults.StarFault.TheVariants.{NoMemory, NoLink}
@@ -38,9 +39,12 @@ pub fetch_fetched : (i max : ℕ) (s t : BoardStar) (l : BoardLink) → link_of 
 unfolding reply_of star_after
 fetch_fetched i max s t l found is = rw found (refl, is)
 
-pub fetch_asks_memory : (i max : ℕ) (s t : BoardStar) (l : BoardLink) → link_of i s.links ≡ Some l → t ≡ s → Answers (Fetch i max) s t (Fetched (Err NoMemory))
+-- a fetch that takes a message out may be refused for memory
+pub fetch_asks_memory : (i max : ℕ) (s t : BoardStar) (l : BoardLink) → link_of i s.links ≡ Some l → (1 ≤ max) × (1 ≤ length l.outbox) → t ≡ s
+    → Answers (Fetch i max) s t (Fetched (Err NoMemory))
 unfolding asks_memory
-fetch_asks_memory i max s t l found is = (is, rw found refl)
+fetch_asks_memory i max s t l found some is =
+    (is, ap (fetch_asks max) found ∙ and_from (nat_le 1 max) (nat_le 1 (length l.outbox)) (le-leb 1 max some.0) (le-leb 1 (length l.outbox) some.1))
 
 pub leave_no_link : (i : ℕ) (s : BoardStar) → link_of i s.links ≡ None → Answers (Leave i) s s (Left (Err NoLink))
 unfolding reply_of star_after

@@ -7,6 +7,7 @@ use Rattle.jup_window.specs.declared.commands.Command.{Command}
 use Rattle.jup_window.specs.declared.faults.EditFault.{EditFault}
 use Rattle.jup_window.specs.declared.faults.EditFault.TheVariants.{NoWindow, NoWidget, WrongKind, BadPlace, BadValue, LongText, Backlog, NoMemory, Spent, Stopped}
 use Rattle.jup_window.specs.Boards as board
+use Rattle.jup_window.specs.Edits.{insertions}
 use Rattle.jup_window.specs.Sites.{has_site}
 use Rattle.jup_window.specs.FaultNumbers.{edit_fault_number}
 use Rattle.jup_window.specs.BoardOperations.{board_operations}
@@ -99,9 +100,9 @@ deliver_reply down s = deliver_result down s (deliver_fault board_operations dow
 abbrev pub site_delivered : Down BoardOp → BoardSite → BoardSite
 site_delivered down s = after_fault board_operations down s (deliver_fault board_operations down s)
 
--- whether a message comes to ask for memory: only an edit does
+-- whether a message comes to ask for memory: only an edit that inserts an item does
 abbrev pub deliver_asks : Down BoardOp → BoardSite → Bool
-deliver_asks (Op m) s = is_none (first_fault (deliver_tests board_operations s m))
+deliver_asks (Op m) s = is_none (first_fault (deliver_tests board_operations s m)) && nat_le 1 (insertions (board.edit_of m.op))
 deliver_asks (Ack n) s = false
 deliver_asks (Pong k) s = false
 

@@ -1,5 +1,5 @@
 -- A call on a star: memory aside, it has one reply and one next star.
-use Rattle.std.specs.Prelude.{◌≡◌, ℕ, ◌+◌, ◌-◌, ◌≤◌, ◌&&◌, nat_le, [], ◌∷◌, Bool, true, false, List, length, take, Option, Some, None, is_some, is_none, Result, Ok, Err, MatchBool}
+use Rattle.std.specs.Prelude.{◌≡◌, ℕ, ◌+◌, ◌-◌, ◌≤◌, ◌&&◌, nat_le, [], ◌∷◌, Bool, true, false, List, length, take, Option, Some, None, is_none, Result, Ok, Err, MatchBool}
 use Rattle.jup_window.specs.declared.board_operations.BoardOp.{BoardOp}
 use Rattle.jup_window.specs.declared.edits.Edit.{Edit}
 use Rattle.jup_window.specs.Boards as board
@@ -102,11 +102,16 @@ take_asks s (Op m) (Some l) = is_none (early_fault board_operations s.limit (len
 take_asks s (Ack n) (Some l) = false
 take_asks s (Ping k) (Some l) = true
 
+-- whether a fetch does: only where it takes a message out
+abbrev pub fetch_asks : ℕ → Option BoardLink → Bool
+fetch_asks max None = false
+fetch_asks max (Some l) = nat_le 1 max && nat_le 1 (length l.outbox)
+
 -- whether a call comes to ask for memory: no refusal that is tested before that holds
 unfoldable pub asks_memory : Call → BoardStar → Bool
 asks_memory Join s = is_none (join_fault s)
 asks_memory (Take i up) s = take_asks s up (link_of i s.links)
-asks_memory (Fetch i max) s = is_some (link_of i s.links)
+asks_memory (Fetch i max) s = fetch_asks max (link_of i s.links)
 asks_memory (Leave i) s = false
 
 abbrev pub is_no_memory : StarFault → Bool

@@ -138,6 +138,7 @@ impl Link {
         ensures fetched { IfOk result (λ downs. downs ≡ take max (bare_link self.old).outbox) }
         ensures ok { OnOk result (bare_link self.new ≡ link_fetched max (bare_link self.old)) }
         ensures err { OnErr result (bare_link self.new ≡ bare_link self.old) }
+        ensures some { OnErr result ((1 ≤ max) × (1 ≤ length (bare_link self.old).outbox)) }
     {
         self.outbox.fetch(alloc, max)
     }

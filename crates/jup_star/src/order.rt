@@ -1,5 +1,5 @@
 //! The edits that a star took, in order.
-ghost use Rattle.std.specs.Prelude.{◌≡◌, ◌≤◌, [], ◌∷◌, ◌++◌, length, OnOk};
+ghost use Rattle.std.specs.Prelude.{◌≡◌, ◌≤◌, [], ◌∷◌, ◌++◌, length, OnOk, OnErr};
 
 use crate::Entry;
 use jup_window::{Edit, Effect};
@@ -53,6 +53,7 @@ impl Order {
     pub(crate) fn reserve_one(&mut self) -> Result<(), NoMemory>
         ensures ok { OnOk result (1 ≤ self.new.spare) }
         ensures same { self.new.entries ≡ self.old.entries }
+        ensures refused_without_room { OnErr result (self.old.spare ≡ 0) }
     {
         self.entries.reserve(1).map_err(|_| NoMemory)
     }

@@ -100,6 +100,7 @@ impl Outbox {
     pub(crate) fn reserve_one(&mut self) -> Result<(), NoMemory>
         ensures ok { OnOk result (1 ≤ self.new.spare) }
         ensures same { self.new.messages ≡ self.old.messages }
+        ensures refused_without_room { OnErr result (self.old.spare ≡ 0) }
     {
         self.messages.reserve(1).map_err(|_| NoMemory)
     }
@@ -117,6 +118,7 @@ impl Outbox {
         ensures fetched { IfOk result (λ downs. downs ≡ take max self.old.messages) }
         ensures ok { OnOk result (self.new.messages ≡ drop max self.old.messages) }
         ensures err { OnErr result (self.new.messages ≡ self.old.messages) }
+        ensures some { OnErr result ((1 ≤ max) × (1 ≤ length self.old.messages)) }
     {
         let count = self.messages.len().min(max as usize);
         let mut messages = Vec::new(alloc);

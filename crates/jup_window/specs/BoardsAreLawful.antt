@@ -67,7 +67,7 @@ boards_keep = record {
 -- names of sites
 
 -- an edit inserts its name at its own place
-inserts_own : (e : Edit) (m : Name) → effects.inserted_name e.what ≡ Some m → board.Inserts e (record { at = board.edit_place e; name = m })
+pub inserts_own : (e : Edit) (m : Name) → effects.inserted_name e.what ≡ Some m → board.Inserts e (record { at = board.edit_place e; name = m })
 inserts_own e m is = rw (same_place-refl (board.edit_place e), is) (name_eq_refl m)
 
 -- and no other

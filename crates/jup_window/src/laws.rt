@@ -1,5 +1,5 @@
-//! What boards hold and what their edits mean, written out. The laws of `Transform` speak of
-//! content, meaning and order; these functions do nothing but say which they are for boards.
+//! What boards hold and what their edits mean, written out. The laws of `Transform` speak of an
+//! implementation's own words for these; these functions do nothing but say which they are for boards.
 ghost use Rattle.std.specs.Prelude.{◌≡◌, ◌≢◌, ◌↔◌, ℕ, ℤ, Bool, List, [], ◌∷◌, ◌++◌, Contains, Some, None};
 ghost use Rattle.jup_value.specs.declared.names.Name.{Name};
 ghost use Rattle.jup_value.specs.declared.names.Item.{Item};
@@ -12,10 +12,10 @@ ghost use Rattle.jup_setting.specs.declared.operation.SetOp.{SetOp};
 ghost use Rattle.jup_window.specs.declared.widgets.Widget.{Widget};
 ghost use Rattle.jup_window.specs.declared.board_operations.BoardOp.{BoardOp};
 ghost use Rattle.jup_window.specs.declared.edits.Edit.{Edit};
-ghost use Rattle.jup_window.specs.Entries.{Place, widget_at};
-ghost use Rattle.jup_window.specs.Widgets.{AreOfOneKind, AreOperationsOfOneKind};
+ghost use Rattle.jup_window.specs.Entries.{Place, EachWidget, widget_at};
+ghost use Rattle.jup_window.specs.Widgets.{InSequences, AreOfOneKind, AreOperationsOfOneKind};
 ghost use Rattle.jup_window.specs.Effects.{Chars, Labelled, On, At};
-ghost use Rattle.jup_window.specs.Boards.{Windows, Content, place, edit_place};
+ghost use Rattle.jup_window.specs.Boards.{Windows, Content, Placed, place, edit_place};
 ghost use Rattle.jup_window.specs.Contents.{op_at, edit_at, character, label};
 ghost use Rattle.jup_window.specs.Operations.{AreLawful};
 ghost use Rattle.jup_window.specs.BoardOperations.{board_operations};
@@ -168,9 +168,51 @@ pub fn operation_edits()
     ensures slider { (p : Place) (value : ℤ)
         → ⟦<BoardOp as Transform>⟧.edit_of (op_at p (WidgetOp.Slider (SetOp.Set value)))
         ≡ edit_at p (Effect.Slid value) }
-    ensures nothing { (p : Place)
+    ensures nothing_in_text { (p : Place)
         → ⟦<BoardOp as Transform>⟧.edit_of (op_at p (WidgetOp.Text SeqOp.Nothing))
         ≡ edit_at p Effect.Nothing }
+    ensures nothing_in_list { (p : Place)
+        → ⟦<BoardOp as Transform>⟧.edit_of (op_at p (WidgetOp.List SeqOp.Nothing))
+        ≡ edit_at p Effect.Nothing }
+    ensures nothing_on_toggle { (p : Place)
+        → ⟦<BoardOp as Transform>⟧.edit_of (op_at p (WidgetOp.Toggle SetOp.Nothing))
+        ≡ edit_at p Effect.Nothing }
+    ensures nothing_on_slider { (p : Place)
+        → ⟦<BoardOp as Transform>⟧.edit_of (op_at p (WidgetOp.Slider SetOp.Nothing))
+        ≡ edit_at p Effect.Nothing }
+{}
+
+/// What the laws ask before they promise anything: of a board that each text and each list has distinct
+/// names and is small, of two operations that they insert no name in common, in whatever widgets.
+pub fn premises()
+    ensures distinct { (board : Windows)
+        → ⟦<BoardOp as Transform>⟧.is_distinct board
+        ↔ EachWidget (InSequences ⟦<SeqOp<char> as Transform>⟧.is_distinct ⟦<SeqOp<Label> as Transform>⟧.is_distinct) board }
+    ensures small { (more : ℕ) (board : Windows)
+        → ⟦<BoardOp as Transform>⟧.is_small more board
+        ↔ EachWidget (InSequences (⟦<SeqOp<char> as Transform>⟧.is_small more) (⟦<SeqOp<Label> as Transform>⟧.is_small more)) board }
+    ensures apart { (c s : BoardOp) → ⟦<BoardOp as Transform>⟧.are_apart c s
+        ↔ ((m n : Placed) → ⟦<BoardOp as Transform>⟧.inserts (⟦<BoardOp as Transform>⟧.edit_of c) m
+        → ⟦<BoardOp as Transform>⟧.inserts (⟦<BoardOp as Transform>⟧.edit_of s) n → m.name ≢ n.name) }
+{}
+
+/// The names that an edit inserts, and those that it deletes, each in the widget of the edit's ids.
+pub fn edited_names()
+    ensures character { (p : Place) (name : Name) (value : ℕ) (n : Placed)
+        → ⟦<BoardOp as Transform>⟧.inserts (edit_at p (Effect.PutChar name value)) n
+        ↔ (n ≡ record { at = p; name = name }) }
+    ensures label { (p : Place) (name : Name) (value : List ℕ) (n : Placed)
+        → ⟦<BoardOp as Transform>⟧.inserts (edit_at p (Effect.PutLabel name value)) n
+        ↔ (n ≡ record { at = p; name = name }) }
+    ensures deletion { (p : Place) (name : Name) (n : Placed)
+        → ⟦<BoardOp as Transform>⟧.deletes (edit_at p (Effect.Deleted name)) n
+        ↔ (n ≡ record { at = p; name = name }) }
+    ensures nothing_inserted { (edit : Edit) (n : Placed)
+        → ((value : ℕ) → edit.what ≢ Effect.PutChar n.name value)
+        → ((value : List ℕ) → edit.what ≢ Effect.PutLabel n.name value)
+        → ¬ ⟦<BoardOp as Transform>⟧.inserts edit n }
+    ensures nothing_deleted { (edit : Edit) (n : Placed) → edit.what ≢ Effect.Deleted n.name
+        → ¬ ⟦<BoardOp as Transform>⟧.deletes edit n }
 {}
 
 /// What a list of edits makes of a text: the names that it had and those that are inserted, less

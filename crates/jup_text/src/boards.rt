@@ -1,5 +1,6 @@
 //! Boards: a line for each window, and after it one for each of its widgets, ascending by id.
-ghost use Rattle.std.specs.Prelude.{◌≡◌, OnErr};
+ghost use Rattle.std.specs.Prelude.{◌≡◌, OnOk, OnErr};
+ghost use Rattle.std.specs.Io.{StartsWith};
 
 use super::quoted::{Quoted, QuotedLabel};
 use super::words::switch_word;
@@ -9,9 +10,10 @@ use jup_xform::NoMemory;
 use std::alloc::Global;
 use std::fmt;
 
-/// Appends a board as it is printed, each line with its line feed.
+/// Appends a board as it is printed, each line with its line feed, or nothing where memory is refused.
 pub fn write_board(alloc: Global, board: &Board, into: &mut Vec<u8>) -> Result<(), NoMemory>
-    ensures { OnErr result (into.new.items ≡ into.old.items) }
+    ensures appended { OnOk result (StartsWith into.new.items into.old.items) }
+    ensures same { OnErr result (into.new.items ≡ into.old.items) }
 {
     append(alloc, &PrintedBoard(board), into)
 }
@@ -22,7 +24,8 @@ pub(super) fn append<D: fmt::Display>(
     text: &D,
     into: &mut Vec<u8>,
 ) -> Result<(), NoMemory>
-    ensures { OnErr result (into.new.items ≡ into.old.items) }
+    ensures appended { OnOk result (StartsWith into.new.items into.old.items) }
+    ensures same { OnErr result (into.new.items ≡ into.old.items) }
 {
     let Ok(text) = format!(in alloc; "{text}") else {
         return Err(NoMemory);

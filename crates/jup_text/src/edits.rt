@@ -1,5 +1,6 @@
 //! Edits: `ins W I NAME Q`, `del W I NAME` and `set W I VALUE`.
-ghost use Rattle.std.specs.Prelude.{◌≡◌, OnErr};
+ghost use Rattle.std.specs.Prelude.{◌≡◌, OnOk, OnErr};
+ghost use Rattle.std.specs.Io.{StartsWith};
 
 use super::boards::append;
 use super::quoted::{QuotedChar, QuotedLabel};
@@ -9,9 +10,11 @@ use jup_xform::NoMemory;
 use std::alloc::Global;
 use std::fmt;
 
-/// Appends an edit as it is printed. An edit that changes nothing has no spelling, and appends nothing.
+/// Appends an edit as it is printed. An edit that changes nothing has no spelling, and appends
+/// nothing; nor does one where memory is refused.
 pub fn write_edit(alloc: Global, edit: &Edit, into: &mut Vec<u8>) -> Result<(), NoMemory>
-    ensures { OnErr result (into.new.items ≡ into.old.items) }
+    ensures appended { OnOk result (StartsWith into.new.items into.old.items) }
+    ensures same { OnErr result (into.new.items ≡ into.old.items) }
 {
     append(alloc, &PrintedEdit(edit), into)
 }

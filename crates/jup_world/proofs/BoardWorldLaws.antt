@@ -1,5 +1,5 @@
 -- Worlds of boards are sound: as they are opened, after each event, and after want of memory.
-use Rattle.std.proofs.Common.{◌≡◌, ℕ, ◌≤◌, sym, subst, List, [], ◌∷◌, arith, Some}
+use Rattle.std.proofs.Common.{◌≡◌, refl, ℕ, ◌+◌, ◌≤◌, sym, subst, List, [], ◌∷◌, arith, Some}
 use Rattle.jup_window.specs.Boards.{Windows}
 use Rattle.jup_window.specs.BareBoards.{only_site-held}
 use Rattle.jup_window.specs.BoardOperations.{board_operations}
@@ -13,6 +13,7 @@ use Rattle.jup_world.specs.BoardWorlds.{BoardWorld, BoardLink, BoardAttached, Bo
 use Rattle.jup_world.proofs.SoundRuns.{sound-opened, sound-happens}
 use Rattle.jup_world.proofs.SoundFetched.{sound-fetched}
 use Rattle.jup_world.proofs.BacklogLaws.{counts-happens, counts-fetched}
+use Rattle.jup_world.proofs.TallyLaws.{tallied-happens, tallied-fetched}
 
 -- a world of boards that is opened
 pub opened_sound : (b : Windows) (limit : ℕ) → IsOpening b → limit ≤ 16777216 → IsBoardWorld (opened_world board_operations b limit)
@@ -20,6 +21,7 @@ opened_sound b limit opening low = record {
   sound = sound-opened board_operations board_laws most_items limit b opening.distinct (board_small b opening.short) (omega arith) (omega arith)
       (λ n held. only_site-held 0 b n opening.unsigned held);
   counts = λ i. tt;
+  tallied = record { given = refl; made = tt };
 }
 
 -- events keep it so
@@ -27,6 +29,7 @@ pub happens_sound : (w : BoardWorld) (event : BoardEvent) → IsBoardWorld w →
 happens_sound w event is = record {
   sound = sound-happens board_operations board_laws most_items w event is.sound;
   counts = counts-happens board_operations board_laws most_items w is.sound is.counts event;
+  tallied = tallied-happens board_operations w is.tallied (is.sound.no_edit (w.star.given + 1) (omega arith)) event;
 }
 
 -- any events
@@ -40,6 +43,7 @@ pub fetched_sound : (w : BoardWorld) (i n : ℕ) (l : BoardLink) (a : BoardAttac
 fetched_sound w i n l a fl fa is = record {
   sound = sound-fetched board_operations board_laws most_items w is.sound i n l a fl fa;
   counts = counts-fetched board_operations board_laws w is.counts i n l a fl fa;
+  tallied = tallied-fetched board_operations w is.tallied i n l;
 }
 
 -- a world that is reached is sound

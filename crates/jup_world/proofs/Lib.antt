@@ -29,6 +29,7 @@ pub mod PlaceKept
 pub mod QuietWorlds
 pub mod Received
 pub mod ReplyLaws
+pub mod RoundLaws
 pub mod Rows
 pub mod Shown
 pub mod Silent
@@ -45,6 +46,7 @@ pub mod Stands
 pub mod StarKeepsLinks
 pub mod StarRuns
 pub mod StarTakes
+pub mod TallyLaws
 pub mod TraceLaws
 pub mod TwoKept
 pub mod Withheld

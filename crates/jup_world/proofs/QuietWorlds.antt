@@ -11,11 +11,13 @@ use Rattle.jup_world.specs.WorldFields.{bare_attached}
 use Rattle.jup_world.specs.SiteNumbers.{AreAscending}
 use Rattle.jup_world.specs.Promises.{Promises}
 use Rattle.jup_world.specs.Backlogs.{BacklogIsShort}
+use Rattle.jup_world.specs.Tallies.{Tallies}
 use Rattle.jup_world.specs.Headline.{AllAgree}
 use Rattle.jup_world.specs.BoardWorlds.{BoardWorld, BoardLink, BoardAttached}
 use Rattle.jup_world.specs.Happenings.{IsQuietAt, AllQuiet, IsWorld}
 use Rattle.jup_world.proofs.SoundRuns.{sound-promises}
 use Rattle.jup_world.proofs.BacklogLaws.{counts-backlog}
+use Rattle.jup_world.proofs.TallyLaws.{tallies}
 use Rattle.jup_world.proofs.CallFacts.{some_link}
 
 -- # One site more
@@ -89,6 +91,9 @@ promises w is = sound-promises board_operations board_laws most_items w is.board
 
 pub backlogs : (w : BoardWorld) → IsWorld w → BacklogIsShort board_operations w
 backlogs w is = counts-backlog board_operations board_laws most_items w is.board.sound is.board.counts
+
+pub tallies_of : (w : BoardWorld) → IsWorld w → Tallies board_operations w
+tallies_of w is = tallies board_operations w is.board.tallied
 
 pub all_agree : (w : BoardWorld) → IsWorld w → IsQuiet board_operations w → AllAgree w
 all_agree w is quiet = record {

@@ -58,6 +58,12 @@ found_at i [] at d place = absurd place
 found_at i (a ∷ later) zero d place = rw place refl
 found_at i (a ∷ later) (suc at) d place = rw place.0 (found_at i later at d place.1)
 
+-- and has that number
+pub number_at : (i : ℕ) (sites : List Attached) (at : ℕ) (d : Attached) → IsSiteAt i (map bare_attached sites) at → (get_or sites at d).site.number ≡ i
+number_at i [] at d place = absurd place
+number_at i (a ∷ later) zero d place = eqb-true _ _ place
+number_at i (a ∷ later) (suc at) d place = number_at i later at d place.1
+
 -- # Ascending numbers
 
 -- no site of a number stands among those above it

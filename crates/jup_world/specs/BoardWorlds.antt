@@ -10,6 +10,7 @@ use Rattle.jup_world.specs.WorldStates.{WorldOf, AttachedOf, EventOf, ReplyOf, o
 use Rattle.jup_world.specs.WorldSteps.{run}
 use Rattle.jup_world.specs.Sound.{IsSound}
 use Rattle.jup_world.specs.Backlogs.{AllCount}
+use Rattle.jup_world.specs.Tallies.{IsTallied}
 
 -- such a world
 abbrev pub BoardWorld : Type 0
@@ -35,6 +36,7 @@ BoardReply = ReplyOf board_operations
 pub record IsBoardWorld (w : BoardWorld) : Type 0 where
   pub sound : IsSound board_operations most_items w
   pub counts : AllCount board_operations w
+  pub tallied : IsTallied board_operations w
 
 -- a world that some events made of one that was opened
 pub record IsReached (w : BoardWorld) : Type 0 where

@@ -13,10 +13,12 @@ pub mod NumberedReplies
 pub mod Openings
 pub mod Promises
 pub mod Replies
+pub mod Rounds
 pub mod Runs
 pub mod ScriptEnds
 pub mod SiteNumbers
 pub mod Sound
+pub mod Tallies
 pub mod Texts
 pub mod Traces
 pub mod Turns

@@ -7,6 +7,7 @@ ghost use Rattle.jup_world.specs.WorldSteps.{outcome, run};
 ghost use Rattle.jup_world.specs.Promises.{Promises, OrderIsKept};
 ghost use Rattle.jup_world.specs.Replies.{RepliesTo};
 ghost use Rattle.jup_world.specs.Backlogs.{BacklogIsShort};
+ghost use Rattle.jup_world.specs.Tallies.{Tallies};
 ghost use Rattle.jup_world.specs.Headline.{AllAgree};
 ghost use Rattle.jup_world.specs.LaneWorlds.{LaneEvent, LaneWorld, IsStill, messages_of};
 ghost use Rattle.jup_world.specs.LaneSteps.{AllSteps};
@@ -20,6 +21,7 @@ ghost use Rattle.jup_lane.specs.Messages.{ups, downs};
 ///   no message is on its way they hold equal boards;
 /// - whatever event comes next is answered, nothing is withheld, and no edit is refused on its way up but by
 ///   an order that is full;
+/// - as many numbers were given as joins are told, and each site made as many edits as are told of it;
 /// - a site's backlog is the edits that it made less those that it was told were received: at most 1,024,
 ///   and 63 whenever no message is on its way;
 /// - whatever events come next, the star and each site that is attached before and after keep the order of
@@ -30,6 +32,7 @@ pub fn worlds_agree()
     ensures kept { (w : BoardWorld) → IsReached w → Promises board_operations w }
     ensures replies { (w : BoardWorld) → IsReached w → (event : BoardEvent)
         → RepliesTo board_operations w event (outcome board_operations w event).reply }
+    ensures tallies { (w : BoardWorld) → IsReached w → Tallies board_operations w }
     ensures backlog { (w : BoardWorld) → IsReached w → BacklogIsShort board_operations w }
     ensures order { (w : BoardWorld) → IsReached w → (events : List BoardEvent)
         → OrderIsKept board_operations w (run board_operations w events) }

@@ -1,15 +1,17 @@
 //! A star with its sites and the messages on their way between them, and what has happened.
-ghost use Rattle.std.specs.Prelude.{◌≡◌, ◌⊎◌, ◌↔◌, ◌+◌, ◌<◌, [], ◌∷◌, ◌++◌, length, vec_len, None, Some, IsTrue, IfOk, IfErr, IfSome, OnOk, OnErr};
+ghost use Rattle.std.specs.Prelude.{◌≡◌, ◌⊎◌, ◌↔◌, ◌+◌, ◌<◌, false, [], ◌∷◌, ◌++◌, length, vec_len, None, Some, is_some, IsTrue, IfOk, IfErr, IfSome, OnOk, OnErr};
 ghost use Rattle.std.specs.Vec.{vec_capacity};
 ghost use Rattle.std.specs.Option.{option_copied, option_map};
 ghost use Rattle.jup_window.specs.Entries.{EachWidget};
 ghost use Rattle.jup_window.specs.Boards.{bare, content, meaning};
 ghost use Rattle.jup_window.specs.BoardOperations.{board_operations};
+ghost use Rattle.jup_star.specs.StarStates.{link_of};
 ghost use Rattle.jup_star.specs.StarCalls.{star_open_fault};
 ghost use Rattle.jup_star.specs.declared.faults.OpenFault.TheVariants as open_fault;
 ghost use Rattle.jup_star.specs.Openings.{IsShort};
 ghost use Rattle.jup_world.specs.Turns.{turns, edits};
-ghost use Rattle.jup_world.specs.Traces.{order_of, view};
+ghost use Rattle.jup_world.specs.Traces.{order_of, made, view};
+ghost use Rattle.jup_world.specs.Tallies.{numbers_given};
 ghost use Rattle.jup_world.specs.NumberedReplies.{lane_event, numbered_reply, noted_trace};
 ghost use Rattle.jup_world.specs.Promises.{OrderIsKept};
 ghost use Rattle.jup_world.specs.Headline.{AllAgree};
@@ -158,12 +160,13 @@ impl World {
         &self.opening
     }
 
-    /// The star. At every moment its order is the one that the trace tells, and its content is what that
-    /// order means.
+    /// The star. At every moment its order is the one that the trace tells, its content is what that order
+    /// means, and it has given as many numbers as the trace tells of joins.
     pub fn star(&self) -> &Star
         ensures star { result.now ≡ self.now.star }
         ensures order { result.now.order ≡ order_of (plain_trace self.now.trace) }
         ensures content { content result.now.board ≡ meaning (content self.now.opening) (edits (turns 0 (order_of (plain_trace self.now.trace)))) }
+        ensures given { result.now.given ≡ numbers_given (plain_trace self.now.trace) }
     {
         &self.star
     }
@@ -173,11 +176,16 @@ impl World {
         &self.sites
     }
 
-    /// The attached site of a number. At every moment its content is what the entries that it was told, and
-    /// its own edits that are not among them, mean; and its backlog is the edits that it made less those
+    /// The site of a number, which is attached exactly where it has a link at the star, and then has not
+    /// stopped. At every moment its content is what the entries that it was told, and its own edits that are
+    /// not among them, mean; it made the edits that the trace says; and its backlog is those less the ones
     /// that it was told are taken.
     pub fn site(&self, number: u32) -> Option<&Site>
         ensures site { option_copied result ≡ option_map (λ a. a.site) (lane_site number self.now.sites) }
+        ensures attached { is_some result ≡ is_some (link_of number self.now.star.links) }
+        ensures number { IfSome result (λ site. site.now.number ≡ number) }
+        ensures running { IfSome result (λ site. site.now.stopped ≡ false) }
+        ensures made { IfSome result (λ site. site.now.made ≡ length (made number (plain_trace self.now.trace))) }
         ensures content { IfSome result (λ site. content site.now.board ≡ meaning (content self.now.opening) (view number (plain_trace self.now.trace))) }
         ensures backlog { IfSome result (λ site. site.now.made ≡ site.now.end.acknowledged + length site.now.end.outgoing) }
     {

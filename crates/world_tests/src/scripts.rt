@@ -193,6 +193,20 @@ fn a_two_script_prints_texts_in_their_one_spelling(rt: HostRuntime) {
     assert_eq!(rt; replies.as_slice(), printed.as_bytes());
 }
 
+// Many more edits than are acknowledged at once, none of which has been delivered.
+#[test]
+fn one_end_edits_on_while_the_other_hears_nothing(rt: HostRuntime) {
+    let alloc = rt.alloc();
+    let mut two = Two::open(alloc, [].as_slice()).expect(&rt, "memory");
+    let insert = TwoEvent::Client(TwoEdit::Insert(0, 'a'));
+    for (event, reply) in [(insert, TwoReply::Made), (TwoEvent::Up, TwoReply::Moved)] {
+        for _ in 0..1_000 {
+            assert_eq!(rt; two.step(alloc, &event).expect(&rt, "memory"), reply);
+        }
+    }
+    assert_eq!(rt; (two.client().len(), two.server().len()), (1_000, 1_000));
+}
+
 #[test]
 fn edits_at_two_ends_are_refused_by_their_numbers(rt: HostRuntime) -> Result<(), Fail> {
     let alloc = rt.alloc();

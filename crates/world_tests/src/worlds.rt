@@ -493,3 +493,15 @@ fn a_run_that_lacks_memory_goes_on(rt: HostRuntime) {
         assert!(rt; reads(&world, number, "xyab"));
     }
 }
+
+#[test]
+fn a_trace_tells_of_more_than_65536_events(rt: HostRuntime) {
+    let alloc = rt.alloc();
+    let mut world = world_of(&rt, alloc, LIMIT, "text 1 \"\"", 1);
+    for _ in 0..65_536 {
+        let reply = world.step(alloc, &Event::Up(1)).expect(&rt, "memory");
+        assert_eq!(rt; reply, Reply::Nothing);
+    }
+    // The join is the first.
+    assert_eq!(rt; world.trace().len(), 65_537);
+}

@@ -8,6 +8,7 @@ ghost use Rattle.jup_world.specs.Promises.{OrderIsKept};
 ghost use Rattle.jup_world.specs.LaneWorlds.{Plain, LaneSite, messages_of, lane_site, IsStill};
 ghost use Rattle.jup_world.specs.LaneSteps.{AllSteps, IsHalted};
 ghost use Rattle.jup_world.specs.Runs.{IsDelivered, IsDeliveredInPart};
+ghost use Rattle.jup_world.specs.Rounds.{IsDrained, IsRound, Sweeps, Visits, Delivers};
 ghost use Rattle.jup_world.specs.Drains.{way_event, Settles, MovesNothing, NothingMoves};
 ghost use Rattle.jup_world.specs.Events.{Nothing};
 
@@ -74,6 +75,7 @@ impl World {
     /// `Nothing`, and then for each ascending `Down` until that does. It ends after a round of `Nothing`
     /// alone. Its events stand in the trace; where memory is refused, those before it do.
     pub fn drain(&mut self, alloc: Global) -> Result<(), NoMemory>
+        ensures rounds { OnOk result (IsDrained self.old self.new) }
         ensures delivered { OnOk result (IsDelivered self.old self.new) }
         ensures quiet { OnOk result (IsStill self.new) }
         ensures err { OnErr result (IsDeliveredInPart self.old self.new) }
@@ -86,6 +88,7 @@ impl World {
 
     // Rounds until nothing moves.
     fn settle(&mut self, alloc: Global) -> Result<(), NoMemory>
+        ensures rounds { OnOk result (IsDrained self.old self.new) }
         ensures delivered { OnOk result (IsDelivered self.old self.new) }
         ensures quiet { OnOk result (IsQuiet board_operations (messages_of self.new)) }
         ensures err { OnErr result (IsDeliveredInPart self.old self.new) }
@@ -96,6 +99,7 @@ impl World {
 
     // Whether anything was moved.
     fn round(&mut self, alloc: Global) -> Result<bool, NoMemory>
+        ensures round { IfOk result (λ moved. IsRound moved self.old self.new) }
         ensures moved { IfOk result (λ moved. Settles moved self.old self.new) }
         ensures quiet { IfOk result (λ moved. IsFalse moved → IsQuiet board_operations (messages_of self.new)) }
         ensures err { OnErr result (IsDeliveredInPart self.old self.new) }
@@ -108,6 +112,7 @@ impl World {
 
     // At each attached site.
     fn move_all(&mut self, alloc: Global, way: Way) -> Result<bool, NoMemory>
+        ensures sweeps { IfOk result (λ moved. Sweeps way moved self.old self.new) }
         ensures moved { IfOk result (λ moved. Settles moved self.old self.new) }
         ensures nothing { IfOk result (λ moved. IsFalse moved → NothingMoves way (messages_of self.old)) }
         ensures err { OnErr result (IsDeliveredInPart self.old self.new) }
@@ -131,6 +136,7 @@ impl World {
 
     // Repeats a delivery at a site, if it is attached, until nothing is there.
     fn exhaust(&mut self, alloc: Global, way: Way, number: u32) -> Result<bool, NoMemory>
+        ensures visits { IfOk result (λ moved. Visits way number moved (lane_site number self.old.sites) self.old self.new) }
         ensures moved { IfOk result (λ moved. Settles moved self.old self.new) }
         ensures nothing { IfOk result (λ moved. IsFalse moved → MovesNothing way number (messages_of self.old)) }
         ensures err { OnErr result (IsDeliveredInPart self.old self.new) }
@@ -147,6 +153,7 @@ impl World {
 
     // Whether a delivery moved a message.
     fn move_one(&mut self, alloc: Global, way: Way, number: u32) -> Result<bool, NoMemory>
+        ensures delivers { IfOk result (λ moved. Delivers way number moved self.old self.new) }
         ensures moved { IfOk result (λ moved. Settles moved self.old self.new) }
         ensures nothing { IfOk result (λ moved. IsFalse moved → (outcome board_operations (messages_of self.old) (way_event way number)).reply ≡ Nothing) }
         ensures err { OnErr result (IsDeliveredInPart self.old self.new) }

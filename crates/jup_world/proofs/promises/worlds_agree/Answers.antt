@@ -4,6 +4,7 @@ use Rattle.jup_star.specs.StarStates.{most_items}
 use Rattle.jup_world.proofs.SoundRuns.{sound-promises}
 use Rattle.jup_world.proofs.ReplyLaws.{replies}
 use Rattle.jup_world.proofs.BacklogLaws.{counts-backlog}
+use Rattle.jup_world.proofs.TallyLaws.{tallies}
 use Rattle.jup_world.proofs.StarRuns.{run-follows}
 use Rattle.jup_world.proofs.SiteRuns.{run_follows}
 use Rattle.jup_world.proofs.BoardWorldLaws.{reached_sound}
@@ -14,6 +15,9 @@ returns-clause-kept c w reached = sound-promises board_operations board_laws mos
 
 pub returns-clause-replies : goal.returns-clause-replies
 returns-clause-replies c w reached event = replies board_operations board_laws most_items w (reached_sound w reached).sound event
+
+pub returns-clause-tallies : goal.returns-clause-tallies
+returns-clause-tallies c w reached = tallies board_operations w (reached_sound w reached).tallied
 
 pub returns-clause-backlog : goal.returns-clause-backlog
 returns-clause-backlog c w reached =

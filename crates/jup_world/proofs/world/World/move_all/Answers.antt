@@ -1,6 +1,7 @@
 use Rattle.std.proofs.Common.{arith}
 use Rattle.jup_world.proofs.CallFacts.{on_err}
 use Rattle.jup_world.proofs.DrainSteps.{part_both, settles_both, next_none, none_moves}
+use Rattle.jup_world.proofs.RoundLaws.{pass_more}
 use Rattle.jup_world.proofs.world.World.move_all.Goals as goal
 
 pub returns-in_err-moved-clause-err : goal.returns-in_err-moved-clause-err
@@ -11,9 +12,17 @@ loop-before-preserved c =
     let e = c.in_ok-moved.ensures in (
       settles_both c.loop-before.moved c.in_ok-moved.field-0 _ _ _ c.loop-before.invariant.0 e.moved,
       next_none _ _ c.args.way c.loop-before.before c.loop-before.moved c.in_ok-moved.field-0 c.loop-before.invariant.0 c.loop-before.invariant.1 e.nothing,
+      pass_more c.args.way c.loop-before.before c.loop-before.moved c.in_ok-moved.field-0 _ _ _ c.loop-before.invariant.2 e.visits,
     )
 
 pub returns-clause-nothing : goal.returns-clause-nothing
 returns-clause-nothing c none =
     none_moves c.args.self.now c.args.way c.last_number-before-end.result c.last_number-before-end.ensures
     (λ i low high. c.loop-before.invariant.1 none i low (omega (arith, c.loop-before-test.false)))
+
+pub returns-clause-sweeps : goal.returns-clause-sweeps
+returns-clause-sweeps c = record {
+  last = c.loop-before.before;
+  all = λ i a found. (let bounds = c.last_number-before-end.ensures i a found in (bounds.0, omega (arith, bounds.1, c.loop-before-test.false)));
+  passes = c.loop-before.invariant.2;
+}

@@ -1,4 +1,4 @@
-use Rattle.std.proofs.Common.{subst}
+use Rattle.std.proofs.Common.{refl, subst}
 use Rattle.std.proofs.lemmas.Bool.{or_parts}
 use Rattle.jup_world.specs.LaneHappenings.{IsLaneWorld}
 use Rattle.jup_world.specs.Drains.{Settles}
@@ -19,3 +19,13 @@ returns-clause-quiet c none =
     (subst (λ b. Settles b c.args.self.now c.move_all.new.self) both.0 c.in_ok-up.ensures.moved)
     (subst (λ b. Settles b c.move_all.new.self c.move_all-2.new.self) both.1 c.in_ok-down.ensures.moved)
     (c.in_ok-up.ensures.nothing both.0) (c.in_ok-down.ensures.nothing both.1)
+
+pub returns-clause-round : goal.returns-clause-round
+returns-clause-round c = record {
+  up = c.in_ok-up.up;
+  down = c.in_ok-down.down;
+  between = c.move_all.new.self;
+  some = refl;
+  ups = c.in_ok-up.ensures.sweeps;
+  downs = c.in_ok-down.ensures.sweeps;
+}

@@ -1,11 +1,12 @@
 use Rattle.jup_world.specs.Runs.{IsDelivered}
 use Rattle.jup_world.specs.Weights.{weight}
 use Rattle.jup_world.specs.LaneWorlds.{messages_of}
+use Rattle.jup_world.proofs.RoundLaws.{Rounds}
 use Rattle.jup_world.proofs.world.World.settle.Given as goal
 
--- messages were delivered
+-- messages were delivered, in rounds
 abbrev pub invariant-loop : goal.invariant-loop
-invariant-loop l = IsDelivered l.initial.self l.self
+invariant-loop l = IsDelivered l.initial.self l.self × Rounds l.initial.self l.self
 
 abbrev pub decreases-loop : goal.decreases-loop
 decreases-loop l = weight (messages_of l.self)

@@ -1,4 +1,4 @@
-use Rattle.std.proofs.Common.{◌≡◌, ◌∙◌, List, sym, ap, subst, map, Some, None, rules}
+use Rattle.std.proofs.Common.{◌≡◌, ◌∙◌, List, sym, ap, subst, map, Some, None, is_some, false, rules}
 use Rattle.std.specs.Option.{option_map}
 use Rattle.jup_world.specs.contracts.world.World.{the_view}
 use Rattle.jup_world.specs.WorldStates.{attached}
@@ -7,10 +7,10 @@ use Rattle.jup_world.specs.WorldFields.{lane_of, bare_attached}
 use Rattle.jup_world.specs.SiteNumbers.{AreAscending}
 use Rattle.jup_world.specs.declared.world.attached.Attached.{Attached}
 use Rattle.jup_world.specs.LaneWorlds.{lane_site, messages_of}
-use Rattle.jup_world.proofs.SitePlaces.{found_at}
+use Rattle.jup_world.proofs.SitePlaces.{found_at, number_at}
 use Rattle.jup_world.proofs.LaneSites.{bare_map}
 use Rattle.jup_world.proofs.LaneEvents.{lane_found, lane_none}
-use Rattle.jup_world.proofs.QuietWorlds.{promises, backlogs}
+use Rattle.jup_world.proofs.QuietWorlds.{promises, backlogs, tallies_of}
 use Rattle.jup_world.proofs.world.World.site.Goals as goal
 
 pub place_of-requires : goal.place_of-requires
@@ -31,6 +31,32 @@ returns-clause-content c =
     ∙ found_at c.args.number c.self.inside.sites.items c.in_ok-at.at c.index.result.now place ∙ ap (λ a. Some (bare_attached a)) (sym c.index.ensures) in
     rw (← c.self.view_is) ((promises (messages_of (the_view c.self.inside)) c.self.invariant.world).site_content c.args.number (bare_attached c.index.result.now) found)
 
+pub returns-clause-attached : goal.returns-clause-attached
+returns-clause-attached c =
+    let place = rw c.deref.ensures.value at c.in_ok-at.ensures.place in
+    let found = ap (attached c.args.number) (bare_map c.self.inside.sites.items)
+    ∙ found_at c.args.number c.self.inside.sites.items c.in_ok-at.at c.index.result.now place ∙ ap (λ a. Some (bare_attached a)) (sym c.index.ensures) in
+    rw (← c.self.view_is) (sym (ap is_some found) ∙ (promises (messages_of (the_view c.self.inside)) c.self.invariant.world).linked c.args.number)
+
+pub returns-clause-number : goal.returns-clause-number
+returns-clause-number c =
+    let place = rw c.deref.ensures.value at c.in_ok-at.ensures.place in
+    ap (λ (a : Attached). a.site.number) c.index.ensures ∙ number_at c.args.number c.self.inside.sites.items c.in_ok-at.at c.index.result.now place
+
+pub returns-clause-running : goal.returns-clause-running
+returns-clause-running c =
+    let place = rw c.deref.ensures.value at c.in_ok-at.ensures.place in
+    let found = ap (attached c.args.number) (bare_map c.self.inside.sites.items)
+    ∙ found_at c.args.number c.self.inside.sites.items c.in_ok-at.at c.index.result.now place ∙ ap (λ a. Some (bare_attached a)) (sym c.index.ensures) in
+    (promises (messages_of (the_view c.self.inside)) c.self.invariant.world).running c.args.number (bare_attached c.index.result.now) found
+
+pub returns-clause-made : goal.returns-clause-made
+returns-clause-made c =
+    let place = rw c.deref.ensures.value at c.in_ok-at.ensures.place in
+    let found = ap (attached c.args.number) (bare_map c.self.inside.sites.items)
+    ∙ found_at c.args.number c.self.inside.sites.items c.in_ok-at.at c.index.result.now place ∙ ap (λ a. Some (bare_attached a)) (sym c.index.ensures) in
+    rw (← c.self.view_is) ((tallies_of (messages_of (the_view c.self.inside)) c.self.invariant.world).made c.args.number (bare_attached c.index.result.now) found)
+
 pub returns-clause-backlog : goal.returns-clause-backlog
 returns-clause-backlog c =
     let place = rw c.deref.ensures.value at c.in_ok-at.ensures.place in
@@ -43,3 +69,10 @@ returns-in_err-at-clause-site c =
     let none = rw c.deref.ensures.value at c.in_err-at.ensures.place in
     let absent : lane_site c.args.number c.args.self.now.sites ≡ None = rw (← c.self.view_is) (lane_none c.args.number c.self.inside.sites.items none) in
     rw absent (search rules)
+
+pub returns-in_err-at-clause-attached : goal.returns-in_err-at-clause-attached
+returns-in_err-at-clause-attached c =
+    let none = rw c.deref.ensures.value at c.in_err-at.ensures.place in
+    let absent = ap (attached c.args.number) (bare_map c.self.inside.sites.items) ∙ none in
+    let gone : is_some c.from_residual.result ≡ false = search rules in
+    rw (← c.self.view_is) (gone ∙ sym (ap is_some absent) ∙ (promises (messages_of (the_view c.self.inside)) c.self.invariant.world).linked c.args.number)

@@ -2,16 +2,24 @@
 //! exit status, and what a command line asks for. Nothing here reads or writes.
 #![tactic(auto)]
 
+mod batches;
 mod client_end;
 mod daemon_end;
 mod ending;
 mod faults;
 mod messages;
+mod no_words;
+mod patience;
+mod pongs;
 mod words;
 
+pub use batches::{BATCH, is_last_batch};
 pub use client_end::ClientEnd;
 pub use daemon_end::DaemonEnd;
 pub use ending::{Ending, Stop};
 pub use faults::SessionFault;
 pub use messages::{down_of, line_of_down, line_of_up, up_of};
+pub use no_words::without_words;
+pub use patience::next_wait;
+pub use pongs::Pongs;
 pub use words::{DaemonWords, client_words, daemon_words};

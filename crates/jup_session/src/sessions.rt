@@ -4,6 +4,7 @@ mod bell;
 mod greeting;
 pub(crate) mod hangup;
 mod link;
+pub(crate) mod outgoing;
 pub(crate) mod output;
 mod reading;
 mod serving;

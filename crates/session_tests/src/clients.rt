@@ -125,6 +125,41 @@ fn the_64th_edit_is_acknowledged(rt: HostRuntime) {
     );
 }
 
+// A text so many times, between a first and a last one.
+fn repeated(
+    rt: &impl Abort,
+    alloc: Global,
+    first: &str,
+    text: &str,
+    count: u32,
+    last: &str,
+) -> String {
+    let mut all = String::from_str(alloc, first).expect(rt, "memory");
+    for _ in 0..count {
+        all.push_str(text).expect(rt, "memory");
+    }
+    all.push_str(last).expect(rt, "memory");
+    all
+}
+
+#[test]
+fn the_1025th_edit_without_a_sync_is_refused(rt: HostRuntime) {
+    let alloc = rt.alloc();
+    let commands = repeated(&rt, alloc, "", "set 1 3 on\n", 1_025, "");
+    let printed = repeated(
+        &rt,
+        alloc,
+        "site 1\n",
+        "made set 1 3 on\n",
+        1_024,
+        "refused 7\nbye\n",
+    );
+    let from = "welcome 1 2000\nwindow 1\ntoggle 3 off\nready\n";
+    let ran = run(alloc, commands.as_bytes(), from.as_bytes());
+    assert_eq!(rt; ran.end, Ok(()));
+    assert_eq!(rt; str::from_utf8(ran.out.as_slice()), Ok(printed.as_str()));
+}
+
 #[test]
 fn servers_that_greet_wrongly(rt: HostRuntime) {
     for (from, number) in [

@@ -6,7 +6,8 @@ use std::io::{ErrorKind, Read, Write};
 use std::net::{Net, SocketAddr, TcpListener, TcpStream};
 use std::sync::Wait;
 use std::sync::atomic::{AtomicU32, Ordering};
-use std::thread::Threads;
+use std::thread::{Threads, sleep};
+use std::time::{Clock, Duration};
 
 /// Gives its text, and then fails.
 #[derive(Drop)]
@@ -69,6 +70,58 @@ impl<'a> Write for FailsAt<'a> {
     }
 }
 
+/// Gives a line at each read, and counts them.
+#[derive(Drop)]
+pub(crate) struct LineByLine<'a> {
+    pub(crate) text: &'a [u8],
+    pub(crate) given: &'a AtomicU32,
+}
+
+impl<'a> Read for LineByLine<'a> {
+    fn read(&mut self, buf: &mut [u8]) -> io::Result<usize> {
+        self.given.fetch_add(1, Ordering::SeqCst);
+        let len = match self.text.iter().position(|byte| *byte == b'\n') {
+            Some(at) => at + 1,
+            None => self.text.len(),
+        };
+        let text = self.text;
+        let (mut line, rest) = text.split_at(len);
+        self.text = rest;
+        line.read(buf)
+    }
+}
+
+/// Takes its second write only after a second, or once many lines were given, and tells how many were.
+#[derive(Drop)]
+pub(crate) struct Slow<'a, R> {
+    pub(crate) rt: &'a R,
+    pub(crate) writes: u32,
+    pub(crate) text: &'a mut Vec<u8>,
+    pub(crate) given: &'a AtomicU32,
+    pub(crate) seen: &'a AtomicU32,
+}
+
+impl<'a, R: Clock> Write for Slow<'a, R> {
+    fn write(&mut self, buf: &[u8]) -> io::Result<usize> {
+        self.writes = self.writes.saturating_add(1);
+        if self.writes == 2 {
+            for _ in 0..1_000 {
+                let given = self.given.load(Ordering::SeqCst);
+                self.seen.store(given, Ordering::SeqCst);
+                if given > 2_000 {
+                    break;
+                }
+                sleep(self.rt, Duration::from_millis(1));
+            }
+        }
+        self.text.write(buf)
+    }
+
+    fn flush(&mut self) -> io::Result<()> {
+        Ok(())
+    }
+}
+
 /// Lets up to a number of edits through, and counts how often it was asked and told.
 #[derive(Drop)]
 pub(crate) struct Counting {
@@ -107,6 +160,16 @@ pub(crate) struct Impatient<'a, R> {
 impl<'a, R: Threads> Threads for Impatient<'a, R> {}
 
 impl<'a, R: Wait> Wait for Impatient<'a, R> {}
+
+impl<'a, R: Clock> Clock for Impatient<'a, R> {
+    fn monotonic(&self) -> io::Result<Duration> {
+        self.rt.monotonic()
+    }
+
+    fn since_1970(&self) -> io::Result<Duration> {
+        self.rt.since_1970()
+    }
+}
 
 impl<'a, R: Net<Listener = TcpListener, Stream = TcpStream>> Net for Impatient<'a, R> {
     type Stream = TcpStream;

@@ -65,7 +65,7 @@ pub(crate) struct Told {
 
 /// Runs the daemon.
 pub(crate) fn serve<
-    R: Net<Listener = TcpListener, Stream = TcpStream> + Threads + Wait + Sync,
+    R: Net<Listener = TcpListener, Stream = TcpStream> + Threads + Wait + Clock + Sync,
     I: Read + Drop,
 >(rt: &R, alloc: Global, words: &[String], layout: I) -> Told {
     let (mut out, mut errors) = (Vec::new(alloc), Vec::new(alloc));
@@ -78,7 +78,7 @@ pub(crate) fn serve<
 }
 
 /// Runs the client.
-pub(crate) fn connect<R: Net<Listener = TcpListener, Stream = TcpStream>>(
+pub(crate) fn connect<R: Net<Listener = TcpListener, Stream = TcpStream> + Clock>(
     rt: &R,
     alloc: Global,
     words: &[String],

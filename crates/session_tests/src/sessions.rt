@@ -2,11 +2,12 @@
 ghost use Rattle.std.specs.Prelude.{◌≡◌, ◌≤◌, length, IfSome};
 ghost use Rattle.jup_hub.specs.Passes.{IsPassOf};
 
-use crate::fakes::{Counting, FailsAfter, FailsAt, OneByOne};
+use crate::fakes::{Counting, FailsAfter, FailsAt, LineByLine, OneByOne, Slow};
 use jup_hub::{Hub, Pass};
 use jup_link::Msg;
 use jup_seq::SeqOp;
 use jup_session::{Bell, Ending, Gate, Open, serve_link};
+use jup_setting::SetOp;
 use jup_star::{Star, Up, is_short};
 use jup_text::write_board;
 use jup_value::{Item, Name};
@@ -16,10 +17,11 @@ use std::alloc::Global;
 use std::fmt::Write;
 use std::io::Read;
 use std::process::Abort;
-use std::str;
 use std::sync::Wait;
-use std::sync::atomic::Ordering;
+use std::sync::atomic::{AtomicU32, Ordering};
 use std::thread::Threads;
+use std::time::Clock;
+use std::{io, str};
 
 const EMPTY_TEXT: &[u8] = b"window 1\ntext 1\n";
 
@@ -228,6 +230,160 @@ fn all_that_waits_is_written_before_bye(rt: HostRuntime) {
     ended(&rt, &left, Ending::Bye, written.as_str());
 }
 
+// A session whose writer is slow at its first pong. How many lines were read meanwhile.
+fn read_while_slow<R: Threads + Wait + Clock + Sync + Abort>(
+    rt: &R,
+    alloc: Global,
+    text: &[u8],
+    written: &mut Vec<u8>,
+) -> u32 {
+    let (hub, pass) = opened(rt, alloc, EMPTY_TEXT, 100);
+    let (given, seen) = (AtomicU32::new(0), AtomicU32::new(0));
+    let from = LineByLine {
+        text,
+        given: &given,
+    };
+    let to = Slow {
+        rt,
+        writes: 0,
+        text: written,
+        given: &given,
+        seen: &seen,
+    };
+    let (_, ending) = serve_link(rt, alloc, from, to, &hub, pass, &Bell::new(), &Open);
+    assert_eq!(rt; ending, Ending::Bye);
+    seen.load(Ordering::SeqCst)
+}
+
+// The greeting, the pings whose pongs are owed, and one more, which is read and waits.
+#[test]
+fn a_site_is_owed_at_most_1024_pongs(rt: HostRuntime) {
+    let alloc = rt.alloc();
+    let from = numbered(&rt, alloc, "hello 1\n", "ping", 3_000, "bye\n");
+    let answer = numbered(&rt, alloc, GREETING, "pong", 3_000, "bye\n");
+    let mut written = Vec::new(alloc);
+    let read = read_while_slow(&rt, alloc, from.as_bytes(), &mut written);
+    assert!(rt; read <= 1_026, "{read} lines were read");
+    assert_eq!(rt; str::from_utf8(written.as_slice()), Ok(answer.as_str()));
+}
+
+/// Greets. Then another pass leaves for the first site, and a ping comes.
+#[derive(Drop)]
+struct LeftBy<'a, R> {
+    rt: &'a R,
+    hub: &'a Hub,
+    pass: Pass,
+    reads: u32,
+    ghost ours: { IsPassOf hub.now pass },
+}
+
+impl<'a, R: Wait> Read for LeftBy<'a, R> {
+    fn read(&mut self, buf: &mut [u8]) -> io::Result<usize> {
+        self.reads = self.reads.saturating_add(1);
+        let mut text: &[u8] = match self.reads {
+            1 => b"hello 1\n",
+            2 => {
+                let _ = self.hub.leave(self.rt, &mut self.pass, 1);
+                b"ping 1\n"
+            }
+            _ => b"",
+        };
+        text.read(buf)
+    }
+}
+
+#[test]
+fn another_pass_leaves_for_the_site(rt: HostRuntime) {
+    let alloc = rt.alloc();
+    let (hub, mut pass) = opened(&rt, alloc, EMPTY_TEXT, 100);
+    let from = LeftBy {
+        rt: &rt,
+        hub: &hub,
+        pass: hub.split(&mut pass),
+        reads: 0,
+    };
+    let mut to = Vec::new(alloc);
+    let (_, ending) = serve_link(&rt, alloc, from, &mut to, &hub, pass, &Bell::new(), &Open);
+    assert_eq!(rt; ending, Ending::Gone);
+    assert_eq!(rt; str::from_utf8(to.as_slice()), Ok(CUT_ANSWER));
+}
+
+const TOGGLE: &[u8] = b"window 1\ntoggle 3 off\n";
+
+// A site's setting of the toggle, before it heard anything.
+fn setting(mine: u32) -> Up {
+    Up::Op(Msg {
+        mine,
+        heard: 0,
+        op: BoardOp {
+            win: 1,
+            wid: 3,
+            op: WidgetOp::Toggle(SetOp::Set(true)),
+        },
+    })
+}
+
+/// Greets. Then site 1 sets the toggle 65 times, and after that the lines come.
+#[derive(Drop)]
+struct Crossing<'a, R> {
+    rt: &'a R,
+    alloc: Global,
+    hub: &'a Hub,
+    pass: Pass,
+    lines: &'a [u8],
+    reads: u32,
+    ghost ours: { IsPassOf hub.now pass },
+}
+
+impl<'a, R: Wait> Read for Crossing<'a, R> {
+    fn read(&mut self, buf: &mut [u8]) -> io::Result<usize> {
+        self.reads = self.reads.saturating_add(1);
+        if self.reads == 1 {
+            let mut hello: &[u8] = b"hello 1\n";
+            return hello.read(buf);
+        }
+        if self.reads == 2 {
+            for mine in 0..65 {
+                let up = setting(mine);
+                let _ = self.hub.take(self.rt, self.alloc, &mut self.pass, 1, &up);
+            }
+        }
+        self.lines.read(buf)
+    }
+}
+
+// The lines of so many settings of the toggle, none of which heard the others, between two texts.
+fn settings(rt: &impl Abort, alloc: Global, first: &str, count: u32, last: &str) -> String {
+    let mut text = String::from_str(alloc, first).expect(rt, "there is memory");
+    for mine in 0..count {
+        write!(text, "op {mine} 0 1 3 toggle set on\n").expect(rt, "there is memory");
+    }
+    text.push_str(last).expect(rt, "there is memory");
+    text
+}
+
+#[test]
+fn the_64th_edit_is_acknowledged_each_way(rt: HostRuntime) {
+    let alloc = rt.alloc();
+    let (hub, mut pass) = opened(&rt, alloc, TOGGLE, 1_000);
+    assert!(rt; hub.join_site(&rt, alloc, &mut pass).is_ok());
+    let lines = settings(&rt, alloc, "", 65, "ack 64\nping 1\nbye\n");
+    let greeting = "welcome 2 1000\nwindow 1\ntoggle 3 off\nready\n";
+    let written = settings(&rt, alloc, greeting, 65, "ack 64\npong 1\nbye\n");
+    let from = Crossing {
+        rt: &rt,
+        alloc,
+        hub: &hub,
+        pass: hub.split(&mut pass),
+        lines: lines.as_bytes(),
+        reads: 0,
+    };
+    let mut to = Vec::new(alloc);
+    let (_, ending) = serve_link(&rt, alloc, from, &mut to, &hub, pass, &Bell::new(), &Open);
+    assert_eq!(rt; ending, Ending::Bye);
+    assert_eq!(rt; str::from_utf8(to.as_slice()), Ok(written.as_str()));
+}
+
 #[test]
 fn the_read_behind_the_greeting_fails(rt: HostRuntime) {
     let from = FailsAfter { text: b"hello 1\n" };
@@ -318,7 +474,7 @@ fn a_gate_that_stays_shut(rt: HostRuntime) {
         Ending::Fault(60),
         "welcome 1 100\nwindow 1\ntext 1\nready\nerror 60\n",
     );
-    assert_eq!(rt; gate.asked.load(Ordering::SeqCst), 100_000);
+    assert_eq!(rt; gate.asked.load(Ordering::SeqCst), 100_001);
     assert_eq!(rt; gate.told.load(Ordering::SeqCst), 0);
     assert_eq!(rt; left.taken, 0);
 }

@@ -1,5 +1,5 @@
 //! What a site's thread does.
-ghost use Rattle.std.specs.Prelude.{◌≡◌, false, IfOk, [], ◌∷◌};
+ghost use Rattle.std.specs.Prelude.{◌≡◌, true, false, IfOk, IfErr, [], ◌∷◌};
 ghost use Rattle.jup_star.specs.SiteCalls.{is_edit_memory};
 ghost use Rattle.jup_hub.specs.Passes.{view_of, IsPassOf};
 ghost use Rattle.jup_app.specs.Plays.{link_with, Handles, Answered, Played};
@@ -8,15 +8,11 @@ use crate::runs::calls::Caller;
 use crate::runs::receive::receive;
 use crate::runs::stop::Stop;
 use jup_hub::Hub;
-use jup_session::Gate;
+use jup_session::{Gate, pass_gate};
 use jup_star::{Site, Up};
 use jup_window::{Command, Edit, EditFault};
 use std::alloc::Global;
 use std::sync::Wait;
-use std::thread;
-
-// How often a gate that is not ready is asked again.
-const TRIES: u32 = 100_000;
 
 /// A site with its pass, and what its commands were answered.
 #[derive(Drop)]
@@ -29,23 +25,10 @@ pub(crate) struct Player {
     pub(crate) replies: Vec<Result<Edit, EditFault>>,
 }
 
-// Asks the gate until it is ready.
-fn pass_gate<G: Gate>(gate: &G, site: u32, nth: u32) -> Result<(), Stop> {
-    for _ in 0..TRIES {
-        if gate.ready(site, nth) {
-            return Ok(());
-        }
-        thread::yield_now();
-    }
-    if gate.ready(site, nth) {
-        return Ok(());
-    }
-    Err(Stop::GateShut)
-}
-
 // A fault that is an answer: all but want of memory.
 fn declined(fault: EditFault) -> Result<EditFault, Stop>
-    ensures { IfOk result (λ f. (f ≡ fault) × (is_edit_memory fault ≡ false)) }
+    ensures answer { IfOk result (λ f. (f ≡ fault) × (is_edit_memory fault ≡ false)) }
+    ensures stop { IfErr result (λ _. is_edit_memory fault ≡ true) }
 {
     match fault {
         EditFault::NoMemory => Err(Stop::NoMemory),
@@ -89,10 +72,13 @@ impl Player {
         ensures handled { IfOk result (λ _. Handles self.old.number (view_of self.old.caller.pass) (view_of self.new.caller.pass) self.old.caller.calls self.new.caller.calls (link_with self.old.site (up.now ∷ [])) (link_with self.new.site [])) }
     {
         let nth = self.taken.saturating_add(1);
-        pass_gate(gate, self.number, nth)?;
-        self.caller.take(rt, alloc, hub, self.number, up)?;
-        self.taken = nth;
+        if !pass_gate(gate, self.number, nth) {
+            return Err(Stop::GateShut);
+        }
+        let answer = self.caller.take(rt, alloc, hub, self.number, up);
         gate.answered(self.number, nth);
+        answer?;
+        self.taken = nth;
         Ok(())
     }
 

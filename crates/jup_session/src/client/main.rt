@@ -8,11 +8,12 @@ use jup_rules::{ClientEnd, client_words};
 use std::alloc::Global;
 use std::io::{Read, Write};
 use std::net::{Net, TcpListener, TcpStream};
+use std::time::Clock;
 
 /// Connects as the words say, does what the input asks for, and answers the exit status: 0 after `quit` or
 /// the end of the input, 1 for a failed read, write or connect, 2 for the words, 3 for memory, 4 for a fault.
 pub fn client_main<
-    R: Net<Listener = TcpListener, Stream = TcpStream>,
+    R: Net<Listener = TcpListener, Stream = TcpStream> + Clock,
     C: Read + Drop,
     O: Write,
     E: Write,
@@ -48,7 +49,7 @@ pub fn client_main<
 }
 
 // Runs the client over a connection of its own.
-fn connected<R: Net<Listener = TcpListener, Stream = TcpStream>, C: Read + Drop, O: Write>(
+fn connected<R: Net<Listener = TcpListener, Stream = TcpStream> + Clock, C: Read + Drop, O: Write>(
     rt: &R,
     alloc: Global,
     addr: &str,
@@ -60,7 +61,7 @@ fn connected<R: Net<Listener = TcpListener, Stream = TcpStream>, C: Read + Drop,
     };
     let _ = stream.set_nodelay(true);
     let end = run_client(alloc, input, out, &stream, &stream);
-    hang_up(&stream);
+    hang_up(rt, &stream);
     end
 }
 

@@ -4,6 +4,7 @@ ghost use Rattle.jup_hub.specs.Passes.{IsPassOf};
 
 use super::telling::tell;
 use crate::sessions::hangup::hang_up;
+use crate::sessions::outgoing::Outgoing;
 use crate::{Bell, Open, serve_link};
 use jup_hub::{Hub, Pass};
 use jup_rules::{DaemonEnd, daemon_words};
@@ -17,6 +18,7 @@ use std::net::{Net, TcpListener, TcpStream};
 use std::sync::Wait;
 use std::thread;
 use std::thread::Threads;
+use std::time::Clock;
 
 /// The longest layout, in bytes.
 const LONGEST_LAYOUT: u64 = 16_777_216;
@@ -25,7 +27,7 @@ const LONGEST_LAYOUT: u64 = 16_777_216;
 /// session, 1 for a failed read, write, bind or accept, 2 for the words, 3 for memory, 5 for the layout, 6
 /// where the hub can't be closed.
 pub fn daemon_main<
-    R: Net<Listener = TcpListener, Stream = TcpStream> + Threads + Wait + Sync,
+    R: Net<Listener = TcpListener, Stream = TcpStream> + Threads + Wait + Clock + Sync,
     I: Read + Drop,
     O: Write,
     E: Write,
@@ -40,7 +42,7 @@ pub fn daemon_main<
 
 // Serves all sessions, and prints the order's length and the board.
 fn serve<
-    R: Net<Listener = TcpListener, Stream = TcpStream> + Threads + Wait + Sync,
+    R: Net<Listener = TcpListener, Stream = TcpStream> + Threads + Wait + Clock + Sync,
     I: Read + Drop,
     O: Write,
 >(rt: &R, alloc: Global, words: &[String], input: I, out: &mut O) -> Result<(), DaemonEnd> {
@@ -55,7 +57,7 @@ fn serve<
     let listen = &told.listen;
     writeln!(out, "listening {listen}")?;
     out.flush()?;
-    let pass = serve_all(rt, alloc, &listener, &hub, pass, told.sessions)?;
+    let pass = serve_all(rt, alloc, listener, &hub, pass, told.sessions)?;
     match hub.close(pass) {
         Ok(closed) => report(alloc, &closed.star, out),
         Err(_) => Err(DaemonEnd::Held),
@@ -106,11 +108,12 @@ fn report<O: Write>(alloc: Global, star: &Star, out: &mut O) -> Result<(), Daemo
     Ok(())
 }
 
-// Accepts the sessions, each in a thread of its own. The scope waits for all that run, on each way out.
-fn serve_all<R: Threads + Wait + Sync>(
+// Accepts the sessions, each in a thread of its own. The scope waits for all that run, on each way out. Nobody
+// listens meanwhile: who comes after the last one is refused, and does not wait for what never comes.
+fn serve_all<R: Threads + Wait + Clock + Sync>(
     rt: &R,
     alloc: Global,
-    listener: &TcpListener,
+    listener: TcpListener,
     hub: &Hub,
     mut pass: Pass,
     sessions: u32,
@@ -139,13 +142,14 @@ fn serve_all<R: Threads + Wait + Sync>(
                     return Err(DaemonEnd::NoMemory);
                 }
             }
+            drop(listener);
             Ok(pass)
         },
     )
 }
 
 // One session over a socket.
-fn session<R: Threads + Wait + Sync>(
+fn session<R: Threads + Wait + Clock + Sync>(
     rt: &R,
     alloc: Global,
     stream: &TcpStream,
@@ -156,6 +160,7 @@ fn session<R: Threads + Wait + Sync>(
     requires { IsPassOf hub.now pass }
 {
     let _ = stream.set_nodelay(true);
-    let _ = serve_link(rt, alloc, stream, stream, hub, pass, bell, &Open);
-    hang_up(stream);
+    let to = Outgoing::new(stream);
+    let _ = serve_link(rt, alloc, stream, to, hub, pass, bell, &Open);
+    hang_up(rt, stream);
 }

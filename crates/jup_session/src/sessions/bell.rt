@@ -1,34 +1,69 @@
-//! A bell that wakes all who wait for news.
+//! A bell that wakes all who wait for news, or one site.
 
+use std::array;
 use std::sync::{Condvar, Mutex, Wait};
 
-/// Counts its rings, wrapping.
+/// Places at a bell. Up to 64 sites are attached at a time; those whose numbers follow one another have one each.
+const PLACES: usize = 64;
+
+/// Rings at all places, or where one site waits. Each place counts its rings, wrapping.
 #[derive(Drop)]
 pub struct Bell {
+    places: [Place; PLACES],
+}
+
+/// Where some sites wait.
+#[derive(Drop)]
+struct Place {
     rings: Mutex<u64>,
     rung: Condvar,
 }
 
-impl Bell {
-    pub fn new() -> Bell {
-        Bell {
+impl Place {
+    fn new() -> Place {
+        Place {
             rings: Mutex::new(0),
             rung: Condvar::new(),
         }
     }
 
-    pub fn ring<R: Wait>(&self, rt: &R) {
+    fn ring<R: Wait>(&self, rt: &R) {
         let mut rings = self.rings.lock(rt);
         *rings = rings.wrapping_add(1);
         drop(rings);
         self.rung.notify_all();
     }
+}
 
-    /// Waits until the count of rings is not the one that was seen, and answers it. No ring is missed: the
-    /// counts are compared under the lock.
-    pub fn wait<R: Wait>(&self, rt: &R, seen: u64) -> u64 {
-        let rings = self.rings.lock(rt);
-        let rings = self.rung.wait_while(rt, rings, |rings| *rings == seen);
+impl Bell {
+    pub fn new() -> Bell {
+        Bell {
+            places: array::from_fn(|_| Place::new()),
+        }
+    }
+
+    /// Wakes all sites.
+    pub fn ring<R: Wait>(&self, rt: &R) {
+        for place in &self.places {
+            place.ring(rt);
+        }
+    }
+
+    /// Wakes one site, and those that share its place.
+    pub fn ring_for<R: Wait>(&self, rt: &R, site: u32) {
+        self.place(site).ring(rt);
+    }
+
+    /// Waits until the count of rings at a site's place is not the one that was seen, and answers it. No ring is
+    /// missed: the counts are compared under the lock.
+    pub fn wait<R: Wait>(&self, rt: &R, site: u32, seen: u64) -> u64 {
+        let place = self.place(site);
+        let rings = place.rings.lock(rt);
+        let rings = place.rung.wait_while(rt, rings, |rings| *rings == seen);
         *rings
+    }
+
+    fn place(&self, site: u32) -> &Place {
+        &self.places[site as usize % PLACES]
     }
 }

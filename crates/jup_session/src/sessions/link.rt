@@ -4,7 +4,7 @@ ghost use Rattle.jup_hub.specs.Passes.{IsPassOf};
 
 use super::Bell;
 use jup_hub::{Hub, Pass};
-use jup_rules::Ending;
+use jup_rules::{Ending, Pongs};
 use std::alloc::Global;
 use std::sync::{Mutex, Wait};
 
@@ -16,10 +16,22 @@ pub(crate) struct Link<'a> {
     pub(crate) bell: &'a Bell,
     /// The ending, once one half has noted it.
     pub(crate) noted: &'a Mutex<Option<Ending>>,
+    /// The pongs that the site is owed.
+    pub(crate) pongs: &'a Mutex<Pongs>,
     pub(crate) site: u32,
 }
 
 impl<'a> Link<'a> {
+    /// Rings where this site waits.
+    pub(crate) fn ring<R: Wait>(&self, rt: &R) {
+        self.bell.ring_for(rt, self.site);
+    }
+
+    /// Waits for a ring after those that were seen.
+    pub(crate) fn wait<R: Wait>(&self, rt: &R, seen: u64) -> u64 {
+        self.bell.wait(rt, self.site, seen)
+    }
+
     /// Notes the ending, unless one stands.
     pub(crate) fn note<R: Wait>(&self, rt: &R, ending: Ending) {
         let mut noted = self.noted.lock(rt);
@@ -43,11 +55,36 @@ impl<'a> Link<'a> {
     {
         let _ = self.hub.leave(rt, pass, self.site);
         self.note(rt, ending);
-        self.bell.ring(rt);
+        self.ring(rt);
     }
 
     /// The ending that stands.
     pub(crate) fn ending<R: Wait>(&self, rt: &R) -> Option<Ending> {
         *self.noted.lock(rt)
+    }
+
+    /// Counts a ping that is to be taken, once the site is owed fewer pongs than it may be. False where an ending
+    /// was noted before that.
+    pub(crate) fn take_ping<R: Wait>(&self, rt: &R) -> bool {
+        let mut seen = 0;
+        for _ in rt.forever() {
+            let is_taken = self.pongs.lock(rt).take_ping();
+            if is_taken {
+                return true;
+            }
+            if self.ending(rt).is_some() {
+                return false;
+            }
+            seen = self.wait(rt, seen);
+        }
+        unreachable!()
+    }
+
+    /// Counts pongs that were written, and rings where the other half may wait for that.
+    pub(crate) fn pay<R: Wait>(&self, rt: &R, pongs: u32) {
+        let may_wait = self.pongs.lock(rt).pay(pongs);
+        if may_wait {
+            self.ring(rt);
+        }
     }
 }

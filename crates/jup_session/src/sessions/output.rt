@@ -6,15 +6,15 @@ use jup_wire::{Line, MOST, write_reserved};
 use std::alloc::Global;
 use std::io::Write;
 
-/// Bytes that are gathered before they are written: 64 lines of the longest kind.
-const ROOM: usize = 8_192;
+/// Bytes that are gathered before they are written: 16 lines of the longest kind. Each session keeps this room while it is idle.
+const ROOM: usize = 2_048;
 
 /// A writer that gathers lines. It makes its room once, so that no line is refused for want of memory.
 #[derive(Drop)]
 pub(crate) struct Output<O: Write + Drop> {
     to: O,
     text: Vec<u8>,
-    ghost has_room: { 8192 ≤ vec_capacity text },
+    ghost has_room: { 2048 ≤ vec_capacity text },
 }
 
 impl<O: Write + Drop> Output<O> {

@@ -4,19 +4,15 @@ ghost use Rattle.jup_hub.specs.Passes.{IsPassOf};
 
 use super::link::Link;
 use super::source::Source;
-use crate::Gate;
+use crate::{Gate, pass_gate};
 use jup_hub::{HubFault, Pass};
 use jup_rules::{Ending, SessionFault, up_of};
 use jup_star::{StarFault, Up};
 use jup_wire::Line;
 use std::io::Read;
 use std::sync::Wait;
-use std::thread::yield_now;
 
-/// How often a gate is asked.
-const MOST_ASKED: u32 = 100_000;
-
-/// The answer of the hub where the other half has left it, or a fault of the site has detached it.
+/// The answer of the hub where the other half has left it, or another pass for this site.
 const NO_LINK: SessionFault = SessionFault::Hub(HubFault::Star(StarFault::NoLink));
 
 /// Takes what the site sends, up to the ending, which it notes.
@@ -30,43 +26,51 @@ pub(crate) fn read_half<R: Wait, I: Read + Drop, G: Gate>(
     requires { IsPassOf link.now.hub.now pass.old }
     ensures { IsPassOf link.now.hub.now pass.new }
 {
-    if let Some(ending) = heard(rt, source, link, pass, gate) {
-        link.note(rt, ending);
-    }
-    link.bell.ring(rt);
+    let ending = heard(rt, source, link, pass, gate);
+    link.note(rt, ending);
+    link.ring(rt);
 }
 
-// Takes line after line. `None` where the link is gone already: then the other half has noted why.
+// Takes line after line. Where the link is gone already the other half has noted why, or the site has left by
+// another pass.
 fn heard<R: Wait, I: Read + Drop, G: Gate>(
     rt: &R,
     source: &mut Source<I>,
     link: &Link<'_>,
     pass: &mut Pass,
     gate: &G,
-) -> Option<Ending>
+) -> Ending
     requires { IsPassOf link.now.hub.now pass.old }
     ensures { IsPassOf link.now.hub.now pass.new }
 {
     let mut edits = 0u32;
     for _ in 0..u64::MAX {
         let up = match source.next_line(link.alloc) {
-            Ok(Line::Bye) => return Some(Ending::Bye),
+            Ok(Line::Bye) => return Ending::Bye,
             Ok(line) => up_of(line),
-            Err(stop) => return Some(stop.into()),
+            Err(stop) => return stop.into(),
         };
         let Some(up) = up else {
-            return Some(SessionFault::Misplaced.into());
+            return SessionFault::Misplaced.into();
         };
         match taken(rt, link, pass, gate, &up, &mut edits) {
-            Ok(()) => link.bell.ring(rt),
-            Err(NO_LINK) => return None,
-            Err(fault) => return Some(fault.into()),
+            Ok(()) => ring(rt, link, &up),
+            Err(NO_LINK) => return Ending::Gone,
+            Err(fault) => return fault.into(),
         }
     }
-    Some(SessionFault::ReadsSpent.into())
+    SessionFault::ReadsSpent.into()
 }
 
-// One take, that of an edit behind the gate.
+// An edit is for all sites; what answers another message is for its own.
+fn ring<R: Wait>(rt: &R, link: &Link<'_>, up: &Up) {
+    match up {
+        Up::Op(_) => link.bell.ring(rt),
+        Up::Ack(_) | Up::Ping(_) => link.ring(rt),
+    }
+}
+
+// One take, that of an edit behind the gate, that of a ping once the site is owed few enough pongs.
 fn taken<R: Wait, G: Gate>(
     rt: &R,
     link: &Link<'_>,
@@ -78,10 +82,15 @@ fn taken<R: Wait, G: Gate>(
     requires { IsPassOf link.now.hub.now pass.old }
     ensures { IsPassOf link.now.hub.now pass.new }
 {
+    if matches!(up, Up::Ping(_)) && !link.take_ping(rt) {
+        return Err(NO_LINK);
+    }
     let is_edit = matches!(up, Up::Op(_));
     if is_edit {
         *edits = edits.saturating_add(1);
-        pass_gate(gate, link.site, *edits)?;
+        if !pass_gate(gate, link.site, *edits) {
+            return Err(SessionFault::GateShut);
+        }
     }
     let answer = link.hub.take(rt, link.alloc, pass, link.site, up);
     if is_edit {
@@ -91,15 +100,4 @@ fn taken<R: Wait, G: Gate>(
         Ok(_) => Ok(()),
         Err(fault) => Err(SessionFault::Hub(fault)),
     }
-}
-
-// Asks the gate until it is open.
-fn pass_gate<G: Gate>(gate: &G, site: u32, nth: u32) -> Result<(), SessionFault> {
-    for _ in 0..MOST_ASKED {
-        if gate.ready(site, nth) {
-            return Ok(());
-        }
-        yield_now();
-    }
-    Err(SessionFault::GateShut)
 }

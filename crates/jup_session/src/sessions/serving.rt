@@ -11,7 +11,7 @@ use super::source::Source;
 use super::writing::write_half;
 use crate::Gate;
 use jup_hub::{Hub, Pass};
-use jup_rules::{Ending, SessionFault};
+use jup_rules::{Ending, Pongs, SessionFault};
 use std::alloc::Global;
 use std::io::{Read, Write};
 use std::sync::{Mutex, Wait};
@@ -48,11 +48,13 @@ pub fn serve_link<R: Threads + Wait + Sync, I: Read + Drop, O: Write + Send + Dr
         Err(ending) => return (pass, ending),
     };
     let noted = Mutex::new(None);
+    let pongs = Mutex::new(Pongs::new());
     let link = Link {
         alloc,
         hub,
         bell,
         noted: &noted,
+        pongs: &pongs,
         site,
     };
     let pass = both_halves(rt, source, output, &link, pass, gate);

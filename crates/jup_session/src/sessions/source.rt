@@ -13,8 +13,8 @@ use std::io;
 use std::io::{ErrorKind, Read};
 use std::marker::PhantomData;
 
-/// Bytes that one read asks for.
-const PIECE: usize = 4_096;
+/// Bytes that one read asks for. They lie on the reading thread's stack, of which an idle session keeps what it ever touched.
+const PIECE: usize = 1_024;
 
 /// Reads that a session or a client may make.
 pub(crate) const MOST_READS: u32 = u32::MAX;

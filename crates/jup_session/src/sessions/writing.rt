@@ -5,13 +5,10 @@ ghost use Rattle.jup_hub.specs.Passes.{IsPassOf};
 use super::link::Link;
 use super::output::Output;
 use jup_hub::{HubFault, Pass};
-use jup_rules::{Ending, SessionFault, line_of_down};
-use jup_star::{Downs, StarFault};
+use jup_rules::{BATCH, Ending, SessionFault, is_last_batch, line_of_down};
+use jup_star::{Down, Downs, StarFault};
 use std::io::Write;
 use std::sync::Wait;
-
-/// Messages that one fetch asks for.
-const BATCH: u32 = 64;
 
 /// What a fetch left.
 #[derive(Clone, Copy, PartialEq, Eq)]
@@ -43,7 +40,7 @@ pub(crate) fn write_half<R: Wait, O: Write + Drop>(
         let ending = link.ending(rt).unwrap_or(Ending::Gone);
         let _ = tell(&mut output, ending);
     }
-    link.bell.ring(rt);
+    link.ring(rt);
     pass
 }
 
@@ -68,7 +65,7 @@ fn forwarded<R: Wait, O: Write + Drop>(
 {
     let mut seen = 0;
     for _ in rt.forever() {
-        seen = link.bell.wait(rt, seen);
+        seen = link.wait(rt, seen);
         // Read before the fetch, which then has all that the other half caused.
         let is_over = link.ending(rt).is_some();
         let has_news = link.hub.news(pass);
@@ -98,8 +95,9 @@ fn forward<R: Wait, O: Write + Drop>(
             Err(HubFault::Star(StarFault::NoLink)) => return Ok(Outbox::Gone),
             Err(fault) => return Err(SessionFault::Hub(fault)),
         };
-        let is_last = downs.as_slice().len() < BATCH as usize;
-        write_downs(output, downs)?;
+        let is_last = is_last_batch(downs.as_slice().len());
+        let pongs = write_downs(output, downs)?;
+        link.pay(rt, pongs);
         if is_last {
             return Ok(Outbox::Empty);
         }
@@ -107,13 +105,18 @@ fn forward<R: Wait, O: Write + Drop>(
     unreachable!()
 }
 
-// Writes messages, in order.
-fn write_downs<O: Write + Drop>(output: &mut Output<O>, downs: Downs) -> Result<(), SessionFault> {
+// Writes messages, in order, and answers how many of them were pongs.
+fn write_downs<O: Write + Drop>(output: &mut Output<O>, downs: Downs) -> Result<u32, SessionFault> {
+    let mut pongs = 0u32;
     if downs.as_slice().is_empty() {
-        return Ok(());
+        return Ok(pongs);
     }
     for down in downs.into_messages() {
+        if matches!(down, Down::Pong(_)) {
+            pongs = pongs.saturating_add(1);
+        }
         output.put(&line_of_down(down))?;
     }
-    output.send()
+    output.send()?;
+    Ok(pongs)
 }

@@ -1,0 +1,57 @@
+//! How many pongs a site is owed.
+ghost use Rattle.std.specs.Prelude.{◌≡◌, ◌+◌, ◌-◌, ◌<◌, ◌≤◌, ◌↔◌, IsTrue, if◌then◌else◌};
+
+use std::marker::Model;
+
+/// Pongs that a site may be owed.
+const MOST: u32 = 1_024;
+
+/// The pongs that a site is owed: one for each ping that was taken, until it is written. Contracts see their number.
+///
+/// A site that pings and never reads would else fill its outbox without end, and others would lack the memory.
+#[derive(Debug, Drop)]
+pub struct Pongs {
+    owed: u32,
+}
+
+impl Model for Pongs {
+    ghost use Rattle.std.specs.Prelude.{ℕ, ◌≤◌};
+
+    ghost Value = { ℕ };
+
+    ghost view = { λ p. p.owed };
+
+    ghost invariant = { λ p. p.owed ≤ 1024 };
+}
+
+impl Pongs {
+    /// No pong is owed yet.
+    pub fn new() -> Pongs
+        ensures { result ≡ 0 }
+    {
+        Pongs { owed: 0 }
+    }
+
+    /// Counts a ping that is to be taken. False where 1,024 pongs are owed: then it has to wait.
+    pub fn take_ping(&mut self) -> bool
+        ensures taken { IsTrue result ↔ (self.old < 1024) }
+        ensures owed { self.new ≡ (if result then self.old + 1 else self.old) }
+        ensures most { self.new ≤ 1024 }
+    {
+        let is_taken = self.owed < MOST;
+        if is_taken {
+            self.owed += 1;
+        }
+        is_taken
+    }
+
+    /// Takes off pongs that were written. True where a ping may be taken that had to wait before.
+    pub fn pay(&mut self, count: u32) -> bool
+        ensures owed { self.new ≡ self.old - count }
+        ensures again { IsTrue result ↔ (1024 ≤ self.old) × (self.new < 1024) }
+    {
+        let had_to_wait = self.owed == MOST;
+        self.owed = self.owed.saturating_sub(count);
+        had_to_wait && self.owed < MOST
+    }
+}

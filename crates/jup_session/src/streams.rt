@@ -1,0 +1,24 @@
+//! Standard streams that were closed when the program began.
+
+use std::fs::{File, Files};
+use std::os::fd::AsRawFd;
+
+/// The number of standard error, the last of the three streams.
+const LAST_STREAM: i32 = 2;
+
+/// Puts a file that is empty, and takes no writes, in the place of each standard stream that is closed, and keeps it there
+/// as long as the result is held. Else the next socket would take that place: what is printed would go to the peer, and
+/// what the peer sends would be read as commands.
+pub fn hold_streams<R: Files<File = File>>(rt: &R) -> [Option<File>; 3] {
+    [held(rt), held(rt), held(rt)]
+}
+
+// A file in the lowest place that is free, where that is a standard stream's.
+fn held<R: Files<File = File>>(rt: &R) -> Option<File> {
+    let file = File::open(rt, "/dev/null").ok()?;
+    if file.as_raw_fd() <= LAST_STREAM {
+        Some(file)
+    } else {
+        None
+    }
+}

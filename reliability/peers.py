@@ -1,0 +1,119 @@
+"""What the scripts of this folder share: a `jupd` on a free port of loopback, and peers that speak the lines of a link.
+
+Each script takes the path of a built `jupd`; with none it has `./run` build one.
+"""
+import os
+import resource
+import socket
+import subprocess
+import sys
+import tempfile
+import time
+
+ROOT = os.path.dirname(os.path.dirname(os.path.abspath(__file__)))
+
+
+def program(name="jupd"):
+    """The path of the program: the script's argument, or what `./run` built."""
+    if name == "jupd" and len(sys.argv) > 1:
+        return os.path.abspath(sys.argv[1])
+    subprocess.run([f"{ROOT}/run", name, "--help"], stdout=subprocess.DEVNULL, check=True)
+    return f"{ROOT}/crates/{name}/out/run/{name}"
+
+
+def free_port():
+    with socket.socket() as probe:
+        probe.bind(("127.0.0.1", 0))
+        return probe.getsockname()[1]
+
+
+class Daemon:
+    """A `jupd` that serves a layout. It is stopped at the end of the `with`."""
+
+    def __init__(self, layout, sessions, limit=1_000_000, most_memory=None):
+        self.port = free_port()
+        words = ["--listen", f"127.0.0.1:{self.port}", "--limit", str(limit), "--sessions", str(sessions)]
+        bound = lambda: most_memory and resource.setrlimit(resource.RLIMIT_AS, (most_memory, most_memory))
+        with tempfile.TemporaryFile() as text:
+            text.write(layout)
+            text.seek(0)
+            self.process = subprocess.Popen([program(), *words], stdin=text, stdout=subprocess.PIPE, preexec_fn=bound)
+        assert self.process.stdout.readline().startswith(b"listening ")
+
+    def __enter__(self):
+        return self
+
+    def __exit__(self, *_):
+        self.process.kill()
+        self.process.wait()
+
+    def resident(self, kind="VmRSS"):
+        """Its resident memory, in kB: all of it, or as RssAnon what is not the program's code."""
+        with open(f"/proc/{self.process.pid}/status") as status:
+            return next(int(line.split()[1]) for line in status if line.startswith(kind))
+
+    def ends_within(self, seconds):
+        """Whether it ends by itself, with status 0, in so many seconds. What it prints is read meanwhile, into `printed`."""
+        try:
+            self.printed = self.process.communicate(timeout=seconds)[0]
+            return self.process.returncode == 0
+        except subprocess.TimeoutExpired:
+            return False
+
+
+class Peer:
+    """One end of a link."""
+
+    def __init__(self, daemon, receive_buffer=None):
+        self.socket = socket.socket()
+        if receive_buffer:
+            self.socket.setsockopt(socket.SOL_SOCKET, socket.SO_RCVBUF, receive_buffer)
+        self.socket.settimeout(30)
+        self.socket.connect(("127.0.0.1", daemon.port))
+        self.socket.setsockopt(socket.IPPROTO_TCP, socket.TCP_NODELAY, 1)
+        self.lines = self.socket.makefile("rb")
+        self.site, self.edits, self.heard, self.pings = 0, 0, 0, 0
+
+    def send(self, text):
+        self.socket.sendall(text)
+
+    def hello(self):
+        """Greets, and reads to `ready`."""
+        self.send(b"hello 1\n")
+        self.site = int(self.lines.readline().split()[1])
+        while self.lines.readline() != b"ready\n":
+            pass
+
+    def edit(self):
+        """Inserts a character at the front of text 1 of window 1."""
+        self.edits += 1
+        self.send(b"op %d %d 1 1 text ins 0 %d.%d 97\n" % (self.edits - 1, self.heard, self.site, self.edits))
+
+    def sync(self):
+        """Pings, and reads to the pong."""
+        self.pings += 1
+        self.send(b"ping %d\n" % self.pings)
+        while True:
+            line = self.lines.readline()
+            if line.startswith(b"op "):
+                self.heard += 1
+            elif line == b"pong %d\n" % self.pings:
+                return
+            elif not line.startswith(b"ack "):
+                raise AssertionError(f"site {self.site} read {line}")
+
+    def bye(self):
+        self.send(b"bye\n")
+        while self.lines.readline() not in (b"bye\n", b""):
+            pass
+
+
+def shows(what, holds):
+    """Prints what was seen, and ends the script where it is not as it has to be."""
+    print(("yes: " if holds else "NO:  ") + what, flush=True)
+    if not holds:
+        sys.exit(1)
+
+
+def wait(seconds):
+    time.sleep(seconds)

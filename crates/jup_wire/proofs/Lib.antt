@@ -1,4 +1,5 @@
 pub mod Options
+pub mod OneMore
 pub mod Numbers
 pub mod Splits
 pub mod Readers

@@ -1,10 +1,11 @@
 //! Boards as lines.
-ghost use Rattle.std.specs.Prelude.{◌≡◌, ◌++◌, OnOk, IfOk};
+ghost use Rattle.std.specs.Prelude.{◌≡◌, OnOk, IfOk};
 ghost use Rattle.jup_value.specs.Items.{AreDistinct};
 ghost use Rattle.jup_wire.specs.BoardLines.{item_lines, widget_lines, window_lines, board_lines, IsWidget, IsWindow, IsBoard};
 
 use crate::line::Line;
 use crate::reader::Lines;
+use crate::sink::LineSink;
 use jup_value::{Label, Name, Seq};
 use jup_window::{Board, Widget, Window};
 use jup_xform::NoMemory;
@@ -45,32 +46,32 @@ impl ItemValue for Label {
     }
 }
 
-// Appends the lines of a sequence's items, in order.
-fn push_items<V: ItemValue>(into: &mut Lines, items: &Seq<V>) -> Result<(), NoMemory>
-    ensures lines { OnOk result (into.new ≡ into.old ++ item_lines V.line_of items.now.items) }
+// Puts the lines of a sequence's items, in order.
+fn put_items<S: LineSink, V: ItemValue>(sink: &mut S, items: &Seq<V>) -> Result<(), S::Fault>
+    ensures lines { OnOk result (S.takes sink.old (item_lines V.line_of items.now.items) sink.new) }
     ensures distinct { AreDistinct items.now.items }
 {
     for item in items.iter() {
-        into.push(V::line(item.name, item.value))?;
+        sink.put(V::line(item.name, item.value))?;
     }
     Ok(())
 }
 
-fn push_widget(into: &mut Lines, wid: u16, widget: &Widget) -> Result<(), NoMemory>
-    ensures lines { OnOk result (into.new ≡ into.old ++ widget_lines (wid, widget.now)) }
+fn put_widget<S: LineSink>(sink: &mut S, wid: u16, widget: &Widget) -> Result<(), S::Fault>
+    ensures lines { OnOk result (S.takes sink.old (widget_lines (wid, widget.now)) sink.new) }
     ensures sound { OnOk result (IsWidget (wid, widget.now)) }
 {
     match widget {
         Widget::Text(items) => {
-            into.push(Line::Text(wid))?;
-            push_items(into, items)
+            sink.put(Line::Text(wid))?;
+            put_items(sink, items)
         }
         Widget::List(items) => {
-            into.push(Line::List(wid))?;
-            push_items(into, items)
+            sink.put(Line::List(wid))?;
+            put_items(sink, items)
         }
-        Widget::Toggle(toggle) => into.push(Line::Toggle(wid, toggle.on)),
-        Widget::Slider(slider) => into.push(Line::Slider {
+        Widget::Toggle(toggle) => sink.put(Line::Toggle(wid, toggle.on)),
+        Widget::Slider(slider) => sink.put(Line::Slider {
             wid,
             lo: slider.lo(),
             hi: slider.hi(),
@@ -79,25 +80,34 @@ fn push_widget(into: &mut Lines, wid: u16, widget: &Widget) -> Result<(), NoMemo
     }
 }
 
-fn push_window(into: &mut Lines, win: u16, window: &Window) -> Result<(), NoMemory>
-    ensures lines { OnOk result (into.new ≡ into.old ++ window_lines (win, window.now)) }
+fn put_window<S: LineSink>(sink: &mut S, win: u16, window: &Window) -> Result<(), S::Fault>
+    ensures lines { OnOk result (S.takes sink.old (window_lines (win, window.now)) sink.new) }
     ensures sound { OnOk result (IsWindow (win, window.now)) }
 {
-    into.push(Line::Window(win))?;
+    sink.put(Line::Window(win))?;
     for (wid, widget) in window.widgets() {
-        push_widget(into, *wid, widget)?;
+        put_widget(sink, *wid, widget)?;
     }
     Ok(())
 }
 
-/// A board as lines: each window's line, and behind it each widget's with its items, all ascending by id.
+/// Puts the lines of a board: each window's line, and behind it each widget's with its items, all ascending by id.
+pub fn put_board<S: LineSink>(sink: &mut S, board: &Board) -> Result<(), S::Fault>
+    ensures lines { OnOk result (S.takes sink.old (board_lines board.now) sink.new) }
+    ensures sound { OnOk result (IsBoard board.now) }
+{
+    for (win, window) in board.windows() {
+        put_window(sink, *win, window)?;
+    }
+    Ok(())
+}
+
+/// A board as lines, as `put_board` puts them.
 pub fn lines_of(alloc: Global, board: &Board) -> Result<Lines, NoMemory>
     ensures lines { IfOk result (λ made. made ≡ board_lines board.now) }
     ensures sound { IfOk result (λ made. IsBoard board.now) }
 {
     let mut made = Lines::new(alloc);
-    for (win, window) in board.windows() {
-        push_window(&mut made, *win, window)?;
-    }
+    put_board(&mut made, board)?;
     Ok(made)
 }

@@ -14,10 +14,11 @@ mod parse;
 mod part;
 mod reader;
 mod refusals;
+mod sink;
 mod spell;
 mod writing;
 
-pub use board_lines::lines_of;
+pub use board_lines::{lines_of, put_board};
 pub use faults::WireFault;
 pub use fields::feed_of;
 pub use laws::{has_spelling, on_the_way, one_reading, one_spelling};
@@ -25,4 +26,5 @@ pub use layouts::{LayoutFault, board_of, layout};
 pub use line::Line;
 pub use parse::read_line;
 pub use reader::{Fed, Lines, Reader};
+pub use sink::LineSink;
 pub use writing::{MOST, write, write_reserved};

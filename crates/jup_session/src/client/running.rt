@@ -10,7 +10,7 @@ use jup_star::{Down, Site, Up};
 use jup_text::{write_board, write_edit};
 use jup_value::Label;
 use jup_window::{Board, BoardOp, Command, EditFault, WidgetOp};
-use jup_wire::{Line, board_of};
+use jup_wire::{Line, LineSink, board_of};
 use std::alloc::Global;
 use std::io::{Read, Write};
 use std::marker::PhantomData;
@@ -31,7 +31,7 @@ impl<F: Read + Drop, T: Write + Drop> Client<F, T> {
             return Err(ClientEnd::NoMemory);
         };
         let mut source = Source::new(from);
-        output.put(&Line::Hello)?;
+        output.put(Line::Hello)?;
         output.send()?;
         let (number, limit) = match source.next_line(alloc)? {
             Line::Welcome { site, limit } => (*site, *limit),
@@ -48,10 +48,10 @@ impl<F: Read + Drop, T: Write + Drop> Client<F, T> {
 
     // Tells the server what the site sends up.
     fn tell(&mut self, up: Up) -> Result<(), ClientEnd> {
-        self.send(&line_of_up(up))
+        self.send(line_of_up(up))
     }
 
-    fn send(&mut self, line: &Line) -> Result<(), ClientEnd> {
+    fn send(&mut self, line: Line) -> Result<(), ClientEnd> {
         self.output.put(line)?;
         self.output.send()?;
         Ok(())
@@ -63,7 +63,7 @@ impl<F: Read + Drop, T: Write + Drop> Client<F, T> {
             return Err(SessionFault::ReadsSpent.into());
         };
         self.pings = count;
-        self.send(&Line::Ping(count))?;
+        self.send(Line::Ping(count))?;
         for _ in 0..u64::MAX {
             let line = self.source.next_line(alloc)?;
             let Some(down) = down_of(line) else {
@@ -118,7 +118,7 @@ impl<F: Read + Drop, T: Write + Drop> Client<F, T> {
                 print(out, text.as_slice())?;
             }
             Request::Quit => {
-                self.send(&Line::Bye)?;
+                self.send(Line::Bye)?;
                 print(out, b"bye\n")?;
                 return Ok(true);
             }

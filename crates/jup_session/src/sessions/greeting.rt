@@ -1,6 +1,8 @@
 //! The greeting of a session: up to the line `ready`.
-ghost use Rattle.std.specs.Prelude.{◌≡◌};
+ghost use Rattle.std.specs.Prelude.{◌≡◌, OnOk};
 ghost use Rattle.jup_hub.specs.Passes.{IsPassOf};
+ghost use Rattle.jup_session.specs.Outputs.{PutsLines};
+ghost use Rattle.jup_session.specs.Greetings.{welcome_lines};
 
 use super::output::Output;
 use super::source::Source;
@@ -8,9 +10,7 @@ use super::writing::tell;
 use jup_hub::{Hub, Pass};
 use jup_rules::{Ending, SessionFault};
 use jup_star::Joined;
-use jup_value::{Label, Seq};
-use jup_window::{Board, Widget, Window};
-use jup_wire::Line;
+use jup_wire::{Line, LineSink, put_board};
 use std::alloc::Global;
 use std::io::{Read, Write};
 use std::sync::Wait;
@@ -67,67 +67,13 @@ fn greeted<R: Wait, I: Read + Drop>(
 
 // Tells the site its number, the limit and the board. It takes no memory: a line is made when it is put, so a peer
 // that does not read costs no more than its copy of the board.
-fn welcome<O: Write + Drop>(output: &mut Output<O>, joined: &Joined) -> Result<(), SessionFault> {
+fn welcome<O: Write + Drop>(output: &mut Output<O>, joined: &Joined) -> Result<(), SessionFault>
+    ensures lines { OnOk result (PutsLines output.old (welcome_lines joined.now) output.new) }
+{
     let site = joined.site;
     let limit = joined.limit;
-    output.put(&Line::Welcome { site, limit })?;
+    output.put(Line::Welcome { site, limit })?;
     put_board(output, &joined.board)?;
-    output.put(&Line::Ready)?;
+    output.put(Line::Ready)?;
     output.send()
-}
-
-// Puts the lines of a board, as `lines_of` has them.
-fn put_board<O: Write + Drop>(output: &mut Output<O>, board: &Board) -> Result<(), SessionFault> {
-    for (win, window) in board.windows() {
-        output.put(&Line::Window(*win))?;
-        put_widgets(output, window)?;
-    }
-    Ok(())
-}
-
-fn put_widgets<O: Write + Drop>(
-    output: &mut Output<O>,
-    window: &Window,
-) -> Result<(), SessionFault> {
-    for (wid, widget) in window.widgets() {
-        output.put(&line_of_widget(*wid, widget))?;
-        match widget {
-            Widget::Text(text) => put_text(output, text)?,
-            Widget::List(list) => put_list(output, list)?,
-            Widget::Toggle(_) | Widget::Slider(_) => {}
-        }
-    }
-    Ok(())
-}
-
-fn put_text<O: Write + Drop>(output: &mut Output<O>, text: &Seq<char>) -> Result<(), SessionFault> {
-    for item in text.iter() {
-        output.put(&Line::Char(item.name, item.value))?;
-    }
-    Ok(())
-}
-
-fn put_list<O: Write + Drop>(
-    output: &mut Output<O>,
-    list: &Seq<Label>,
-) -> Result<(), SessionFault> {
-    for item in list.iter() {
-        output.put(&Line::Item(item.name, item.value))?;
-    }
-    Ok(())
-}
-
-// The line of a widget, without its items.
-fn line_of_widget(wid: u16, widget: &Widget) -> Line {
-    match widget {
-        Widget::Text(_) => Line::Text(wid),
-        Widget::List(_) => Line::List(wid),
-        Widget::Toggle(toggle) => Line::Toggle(wid, toggle.on),
-        Widget::Slider(slider) => Line::Slider {
-            wid,
-            lo: slider.lo(),
-            hi: slider.hi(),
-            value: slider.value(),
-        },
-    }
 }

@@ -1,12 +1,15 @@
 //! The half of a session that fetches and writes.
-ghost use Rattle.std.specs.Prelude.{◌≡◌};
+ghost use Rattle.std.specs.Prelude.{◌≡◌, [], ◌∷◌, OnOk};
 ghost use Rattle.jup_hub.specs.Passes.{IsPassOf};
+ghost use Rattle.jup_rules.specs.Endings.{last_line};
+ghost use Rattle.jup_session.specs.Outputs.{PutsLines};
 
 use super::link::Link;
 use super::output::Output;
 use jup_hub::{HubFault, Pass};
 use jup_rules::{BATCH, Ending, SessionFault, is_last_batch, line_of_down};
 use jup_star::{Down, Downs, StarFault};
+use jup_wire::LineSink;
 use std::io::Write;
 use std::sync::Wait;
 
@@ -48,8 +51,10 @@ pub(crate) fn write_half<R: Wait, O: Write + Drop>(
 pub(crate) fn tell<O: Write + Drop>(
     output: &mut Output<O>,
     ending: Ending,
-) -> Result<(), SessionFault> {
-    output.put(&ending.line())?;
+) -> Result<(), SessionFault>
+    ensures line { OnOk result (PutsLines output.old (last_line ending ∷ []) output.new) }
+{
+    output.put(ending.line())?;
     output.send()
 }
 
@@ -115,7 +120,7 @@ fn write_downs<O: Write + Drop>(output: &mut Output<O>, downs: Downs) -> Result<
         if matches!(down, Down::Pong(_)) {
             pongs = pongs.saturating_add(1);
         }
-        output.put(&line_of_down(down))?;
+        output.put(line_of_down(down))?;
     }
     output.send()?;
     Ok(pongs)

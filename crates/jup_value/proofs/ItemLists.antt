@@ -1,10 +1,11 @@
-use Rattle.std.proofs.Common.{◌≡◌, ℕ, zero, suc, ◌+◌, ◌<◌, ◌≤◌, Bool, true, false, ◌||◌, cond, eqb, List, [], ◌∷◌, length, Option, Some, None, refl, sym, ap, ◌∙◌, arith, inl, inr}
+use Rattle.std.proofs.Common.{◌≡◌, ℕ, zero, suc, ◌+◌, ◌<◌, ◌≤◌, Bool, true, false, ◌||◌, cond, eqb, List, [], ◌∷◌, set, get_or, length, Option, Some, None, refl, sym, ap, ◌∙◌, arith, inl, inr}
 use Rattle.std.specs.Prelude.{insert, remove, IsNone, ◌↔◌}
 use Rattle.std.specs.List.{position_from}
+use Rattle.std.specs.Option.{option_map}
 use Rattle.std.proofs.lemmas.Bool.{eqb-true, eq-eqb, cases_Bool, and_parts, or_parts, or_from, or_right, false_from_ne_true, false≢true}
 use Rattle.jup_value.specs.declared.names.Name.{Name}
 use Rattle.jup_value.specs.declared.names.Item.{Item}
-use Rattle.jup_value.specs.Items.{name_eq, has_name, AreDistinct, name_at, place_of, value_of, stands_before}
+use Rattle.jup_value.specs.Items.{name_eq, has_name, AreDistinct, name_at, place_of, value_of, stands_before, with_value}
 
 -- # Names
 
@@ -217,7 +218,118 @@ name_at-remove_above (x ∷ xs) zero k l h = refl
 name_at-remove_above (x ∷ xs) (suc i) zero l h = absurd (omega arith)
 name_at-remove_above (x ∷ xs) (suc i) (suc k) l h = name_at-remove_above xs i k (omega arith) (omega arith)
 
+-- # Another value
+
+-- an item whose value is written in place
+pub set-with_value : {V : Type 0} → (xs : List (Item V)) (i : ℕ) (x : Item V) (v : V) → x ≡ get_or xs i x → set xs i (record x { value = v }) ≡ with_value xs i v
+set-with_value [] i x v h = refl
+set-with_value {V} (x ∷ xs) zero y v h = ap (λ (z : Item V). record z { value = v } ∷ xs) h
+set-with_value (x ∷ xs) (suc i) y v h = ap (λ ys. x ∷ ys) (set-with_value xs i y v h)
+
+-- as many items are there
+pub length-with_value : {V : Type 0} → (xs : List (Item V)) (i : ℕ) (v : V) → length (with_value xs i v) ≡ length xs
+length-with_value [] i v = refl
+length-with_value (x ∷ xs) zero v = refl
+length-with_value (x ∷ xs) (suc i) v = ap suc (length-with_value xs i v)
+
+-- and the same names
+pub has_name-with_value : {V : Type 0} → (n : Name) (xs : List (Item V)) (i : ℕ) (v : V) → has_name n (with_value xs i v) ≡ has_name n xs
+has_name-with_value n [] i v = refl
+has_name-with_value n (x ∷ xs) zero v = refl
+has_name-with_value n (x ∷ xs) (suc i) v = rw (has_name-with_value n xs i v) refl
+
+-- which stay distinct
+pub AreDistinct-with_value : {V : Type 0} → (xs : List (Item V)) (i : ℕ) (v : V) → AreDistinct xs → AreDistinct (with_value xs i v)
+AreDistinct-with_value [] i v d = tt
+AreDistinct-with_value (x ∷ xs) zero v d = d
+AreDistinct-with_value (x ∷ xs) (suc i) v d = (has_name-with_value x.name xs i v ∙ d.0, AreDistinct-with_value xs i v d.1)
+
+-- at their places
+pub name_at-with_value : {V : Type 0} → (xs : List (Item V)) (k i : ℕ) (v : V) → name_at k (with_value xs i v) ≡ name_at k xs
+name_at-with_value [] k i v = refl
+name_at-with_value (x ∷ xs) zero zero v = refl
+name_at-with_value (x ∷ xs) zero (suc i) v = refl
+name_at-with_value (x ∷ xs) (suc k) zero v = refl
+name_at-with_value (x ∷ xs) (suc k) (suc i) v = name_at-with_value xs k i v
+
+-- and in their order
+pub stands_before-with_value : {V : Type 0} → (m n : Name) (xs : List (Item V)) (i : ℕ) (v : V) → stands_before m n (with_value xs i v) ≡ stands_before m n xs
+stands_before-with_value m n [] i v = refl
+stands_before-with_value m n (x ∷ xs) zero v = refl
+stands_before-with_value m n (x ∷ xs) (suc i) v = rw (has_name-with_value n xs i v, stands_before-with_value m n xs i v) refl
+
+-- of two choices by one test the second is not made
+cond_again : {A : Type 0} (s : Bool) (a b c : A) → cond s a c ≡ cond s a (cond s b c)
+cond_again true a b c = refl
+cond_again false a b c = refl
+
+-- where names are distinct, the name at the place has the value and each other what it had
+pub value_of-with_value : {V : Type 0} → (n m : Name) (xs : List (Item V)) (i : ℕ) (v : V) → AreDistinct xs → name_at i xs ≡ Some m → value_of n (with_value xs i v) ≡ cond (name_eq m n) (Some v) (value_of n xs)
+value_of-with_value n m [] i v d h = absurd cc
+value_of-with_value n m (x ∷ xs) zero v d h =
+    let e : x.name ≡ m = cc in
+    rw (← e) (cond_again (name_eq x.name n) (Some v) (Some x.value) (value_of n xs))
+value_of-with_value n m (x ∷ xs) (suc i) v d h =
+    rw (value_of-with_value n m xs i v d.1 h) (swap_cond (name_eq x.name n) (name_eq m n) (Some x.value) (Some v) (value_of n xs) (λ s t. name_at_apart xs i x.name m h d.0 (same_third x.name m n s t)))
+
+-- another value in place of that of a name that a list has
+held_first : {A : Type 0} (s : Bool) (a v : A) (held : Bool) (later : Option A) → (s || held) ≡ true → (held ≡ true → option_map (λ w. v) later ≡ Some v) → option_map (λ w. v) (cond s (Some a) later) ≡ Some v
+held_first true a v held later h f = refl
+held_first false a v held later h f = f h
+
+pub value_of-held : {V : Type 0} → (n : Name) (xs : List (Item V)) (v : V) → has_name n xs ≡ true → option_map (λ w. v) (value_of n xs) ≡ Some v
+value_of-held n [] v h = absurd (false≢true h)
+value_of-held n (x ∷ xs) v h = held_first (name_eq x.name n) x.value v (has_name n xs) (value_of n xs) h (value_of-held n xs v)
+
 -- # Two changes, in either order
+
+-- an insertion at p, and another value at q from p on
+pub with_value-insert_below : {V : Type 0} → (xs : List (Item V)) (p q : ℕ) (a : Item V) (v : V) → p ≤ q → p ≤ length xs → with_value (insert xs p a) (suc q) v ≡ insert (with_value xs q v) p a
+with_value-insert_below xs zero q a v l h = refl
+with_value-insert_below [] (suc p) q a v l h = absurd (omega arith)
+with_value-insert_below (x ∷ xs) (suc p) zero a v l h = absurd (omega arith)
+with_value-insert_below (x ∷ xs) (suc p) (suc q) a v l h = ap (λ ys. x ∷ ys) (with_value-insert_below xs p q a v (omega arith) (omega arith))
+
+-- an insertion past another value at q
+pub with_value-insert_above : {V : Type 0} → (xs : List (Item V)) (p q : ℕ) (a : Item V) (v : V) → q < p → p ≤ length xs → with_value (insert xs p a) q v ≡ insert (with_value xs q v) p a
+with_value-insert_above xs zero q a v l h = absurd (omega arith)
+with_value-insert_above [] (suc p) q a v l h = absurd (omega arith)
+with_value-insert_above (x ∷ xs) (suc p) zero a v l h = refl
+with_value-insert_above (x ∷ xs) (suc p) (suc q) a v l h = ap (λ ys. x ∷ ys) (with_value-insert_above xs p q a v (omega arith) (omega arith))
+
+-- a removal at q, and another value past it
+pub with_value-remove_below : {V : Type 0} → (xs : List (Item V)) (p q : ℕ) (v : V) → q ≤ p → q < length xs → with_value (remove xs q) p v ≡ remove (with_value xs (suc p) v) q
+with_value-remove_below [] p q v l h = absurd (omega arith)
+with_value-remove_below (x ∷ xs) p zero v l h = refl
+with_value-remove_below (x ∷ xs) zero (suc q) v l h = absurd (omega arith)
+with_value-remove_below (x ∷ xs) (suc p) (suc q) v l h = ap (λ ys. x ∷ ys) (with_value-remove_below xs p q v (omega arith) (omega arith))
+
+-- a removal past another value at p
+pub with_value-remove_above : {V : Type 0} → (xs : List (Item V)) (p q : ℕ) (v : V) → p < q → with_value (remove xs q) p v ≡ remove (with_value xs p v) q
+with_value-remove_above xs p zero v l = absurd (omega arith)
+with_value-remove_above [] p (suc q) v l = refl
+with_value-remove_above (x ∷ xs) zero (suc q) v l = refl
+with_value-remove_above (x ∷ xs) (suc p) (suc q) v l = ap (λ ys. x ∷ ys) (with_value-remove_above xs p q v (omega arith))
+
+-- an item that is removed may have any value
+pub remove-with_value : {V : Type 0} → (xs : List (Item V)) (p : ℕ) (v : V) → remove (with_value xs p v) p ≡ remove xs p
+remove-with_value [] p v = refl
+remove-with_value (x ∷ xs) zero v = refl
+remove-with_value (x ∷ xs) (suc p) v = ap (λ ys. x ∷ ys) (remove-with_value xs p v)
+
+-- of two values at one place the last stands
+pub with_value-with_value : {V : Type 0} → (xs : List (Item V)) (p : ℕ) (v w : V) → with_value (with_value xs p v) p w ≡ with_value xs p w
+with_value-with_value [] p v w = refl
+with_value-with_value (x ∷ xs) zero v w = refl
+with_value-with_value (x ∷ xs) (suc p) v w = ap (λ ys. x ∷ ys) (with_value-with_value xs p v w)
+
+-- and of two at different places both, in either order
+pub with_value_comm : {V : Type 0} → (xs : List (Item V)) (p q : ℕ) (v w : V) → (p ≡ q → ⊥) → with_value (with_value xs p v) q w ≡ with_value (with_value xs q w) p v
+with_value_comm [] p q v w h = refl
+with_value_comm (x ∷ xs) zero zero v w h = absurd (h refl)
+with_value_comm (x ∷ xs) zero (suc q) v w h = refl
+with_value_comm (x ∷ xs) (suc p) zero v w h = refl
+with_value_comm (x ∷ xs) (suc p) (suc q) v w h = ap (λ ys. x ∷ ys) (with_value_comm xs p q v w (λ e. h (ap suc e)))
 
 -- an insertion at p and one at q, from p on
 pub insert-insert : {X : Type 0} → (xs : List X) (p q : ℕ) (a b : X) → p ≤ q → q ≤ length xs → insert (insert xs p a) (suc q) b ≡ insert (insert xs q b) p a

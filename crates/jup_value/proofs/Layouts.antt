@@ -5,7 +5,8 @@ use Rattle.std.proofs.lemmas.List.{take-append-drop, length-take-le, length-drop
 use Rattle.jup_value.specs.declared.names.Name.{Name}
 use Rattle.jup_value.specs.declared.names.Item.{Item}
 use Rattle.std.specs.List.{position_from}
-use Rattle.jup_value.specs.Items.{name_eq}
+use Rattle.jup_value.specs.Items.{name_eq, with_value}
+use Rattle.jup_value.proofs.ItemLists.{length-with_value}
 use Rattle.std.proofs.lemmas.List.Edits.{length-insert, length-remove, insert-append_left, insert-append_right, remove-append_left, remove-append_right}
 use Rattle.std.proofs.lemmas.List.Sums.{sum_by-cons, sum_by_more}
 use Rattle.jup_value.specs.Layout.{joined, put_in, left_half, right_half, split_with, take_in, with_item_at, without_item_at, AreBlocks}
@@ -135,6 +136,38 @@ found bs ns i off at table l place offset =
     let count = count_in_blocks bs ns i table in_bs in
     let below = offset l in
     record { within = in_bs; offset = omega arith; place = place_in_blocks bs ns i off at table place }
+
+-- another value for an item
+
+with_value-append_left : {V : Type 0} (xs ys : List (Item V)) (i : ℕ) (v : V) → i < length xs → with_value (xs ++ ys) i v ≡ with_value xs i v ++ ys
+with_value-append_left [] ys i v l = absurd (omega arith)
+with_value-append_left (x ∷ xs) ys zero v l = refl
+with_value-append_left (x ∷ xs) ys (suc i) v l = ap (λ zs. x ∷ zs) (with_value-append_left xs ys i v (omega arith))
+
+with_value-append_right : {V : Type 0} (xs ys : List (Item V)) (i k : ℕ) (v : V) → k ≡ length xs + i → with_value (xs ++ ys) k v ≡ xs ++ with_value ys i v
+with_value-append_right [] ys i k v e = let here : k ≡ i = omega arith in rw here refl
+with_value-append_right (x ∷ xs) ys i zero v e = absurd (omega arith)
+with_value-append_right (x ∷ xs) ys i (suc k) v e = ap (λ zs. x ∷ zs) (with_value-append_right xs ys i k v (omega arith))
+
+pub joined-set_value : {V : Type 0} → (bs : List (List (Item V))) (i p at : ℕ) (b : List (Item V)) (v : V) → i < length bs → b ≡ get_or bs i b → p < length b → at ≡ length (joined (take i bs)) + p
+    → joined (set bs i (with_value b p v)) ≡ with_value (joined bs) at v
+joined-set_value [] i p at b v l e h place = absurd (omega arith)
+joined-set_value (c ∷ cs) zero p at b v l e h place =
+    let here : at ≡ p = omega arith in
+    rw (here, ← e) (sym (with_value-append_left b (joined cs) p v h))
+joined-set_value (c ∷ cs) (suc i) p at b v l e h place =
+    let sizes = length-append c (joined (take i cs)) in
+    ap (λ d. c ++ d) (joined-set_value cs i p (at - length c) b v (omega arith) e h (omega arith)) ∙ sym (with_value-append_right c (joined cs) (at - length c) at v (omega arith))
+
+pub table-set_value : {V : Type 0} → (bs : List (List (Item V))) (i p : ℕ) (b : List (Item V)) (v : V) → b ≡ get_or bs i b → map length bs ≡ map length (set bs i (with_value b p v))
+table-set_value [] i p b v e = refl
+table-set_value (c ∷ cs) zero p b v e = rw (length-with_value b p v, ← e) refl
+table-set_value (c ∷ cs) (suc i) p b v e = ap (λ ns. length c ∷ ns) (table-set_value cs i p b v e)
+
+pub AreBlocks-set_value : {V : Type 0} → (bs : List (List (Item V))) (i p : ℕ) (b : List (Item V)) (v : V) → b ≡ get_or bs i b → AreBlocks bs → AreBlocks (set bs i (with_value b p v))
+AreBlocks-set_value [] i p b v e a = tt
+AreBlocks-set_value (c ∷ cs) zero p b v e a = let same = length-with_value b p v in let here = ap length e in (omega arith, omega arith, a.2)
+AreBlocks-set_value (c ∷ cs) (suc i) p b v e a = (a.0, a.1, AreBlocks-set_value cs i p b v e a.2)
 
 -- a removal
 

@@ -4,7 +4,7 @@ use Rattle.std.proofs.lemmas.Bool.{eqb-true, eq-eqb, cases_Bool, and_parts, or_p
 use Rattle.std.specs.List.{position_from}
 use Rattle.jup_value.specs.declared.names.Name.{Name}
 use Rattle.jup_value.specs.declared.names.Item.{Item}
-use Rattle.jup_value.specs.Items.{name_eq, has_name, place_of}
+use Rattle.jup_value.specs.Items.{name_eq, has_name, place_of, with_value}
 use Rattle.jup_value.specs.Marks.{is_marked, AreMarked, marks_below, raised, AreAbove, AreAscending}
 use Rattle.jup_value.proofs.ItemLists.{name_eq_same}
 
@@ -160,6 +160,11 @@ AreMarked-remove ms [] zero a = tt
 AreMarked-remove ms [] (suc i) a = tt
 AreMarked-remove ms (x ∷ xs) zero a = a.1
 AreMarked-remove ms (x ∷ xs) (suc i) a = (a.0, AreMarked-remove ms xs i a.1)
+
+pub AreMarked-with_value : {V : Type 0} → (ms : List Name) (xs : List (Item V)) (i : ℕ) (v : V) → AreMarked ms xs → AreMarked ms (with_value xs i v)
+AreMarked-with_value ms [] i v a = tt
+AreMarked-with_value ms (x ∷ xs) zero v a = a
+AreMarked-with_value ms (x ∷ xs) (suc i) v a = (a.0, AreMarked-with_value ms xs i v a.1)
 
 -- a name that no item has stands at no place
 none_from : {V : Type 0} (k : ℕ) (n : Name) (xs : List (Item V)) → has_name n xs ≡ false → position_from (λ x. name_eq x.name n) k xs ≡ None

@@ -1,4 +1,4 @@
-use Rattle.std.specs.Prelude.{◌≡◌, ℕ, Bool, false, ◌&&◌, ◌||◌, ◌==◌, List, [], ◌∷◌, Option, Some, None, if◌then◌else◌, refl, slice_get}
+use Rattle.std.specs.Prelude.{◌≡◌, ℕ, zero, suc, Bool, false, ◌&&◌, ◌||◌, ◌==◌, List, [], ◌∷◌, Option, Some, None, if◌then◌else◌, refl, slice_get}
 use Rattle.std.specs.Option.{option_map}
 use Rattle.std.specs.List.{position_from}
 use Rattle.std.specs.Coded.{Coded, code_by, coded×, coded_ℕ, coded_list}
@@ -36,6 +36,12 @@ value_of n (x ∷ xs) = if name_eq x.name n then Some x.value else value_of n xs
 abbrev pub stands_before : {V : Type 0} → Name → Name → List (Item V) → Bool
 stands_before m n [] = false
 stands_before m n (x ∷ xs) = if name_eq x.name m then has_name n xs else stands_before m n xs
+
+-- the items, of which that at a place has another value
+abbrev pub with_value : {V : Type 0} → List (Item V) → ℕ → V → List (Item V)
+with_value [] p v = []
+with_value (x ∷ xs) zero v = record x { value = v } ∷ xs
+with_value (x ∷ xs) (suc p) v = x ∷ with_value xs p v
 
 -- what a contract sees of a sequence: its items, and for how many insertions it has room
 pub record Items (V : Type 0) : Type 0 where

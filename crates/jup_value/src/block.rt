@@ -1,7 +1,7 @@
 //! A block: a list of at most 128 items, and the room that it moves into as it grows.
 ghost use Rattle.std.specs.Prelude.{◌≡◌, ◌+◌, ◌<◌, ◌≤◌, [], ◌∷◌, length, insert, remove, slice_get, vec_len, vec_capacity, IfOk, IfSome};
 ghost use Rattle.std.specs.Option.{option_copied};
-ghost use Rattle.jup_value.specs.Items.{place_of};
+ghost use Rattle.jup_value.specs.Items.{place_of, with_value};
 ghost use Rattle.jup_value.specs.Layout.{left_half, right_half};
 
 use crate::{Item, Name, NoMemory};
@@ -161,6 +161,14 @@ impl<V: Copy> Block<V> {
         ensures items { self.new ≡ remove self.old at }
     {
         self.items.remove(at as usize)
+    }
+
+    /// Gives the item at a place another value.
+    pub fn set_value(&mut self, at: u32, value: V)
+        requires { at < length self.old }
+        ensures { self.new ≡ with_value self.old at value }
+    {
+        self.items[at as usize].value = value;
     }
 
     /// Moves the items of a full block from the 64th on into another, and puts an item into one of the two.

@@ -1,7 +1,7 @@
 //! Sequences of items with distinct names.
 ghost use Rattle.std.specs.Prelude.{◌≡◌, ◌+◌, ◌*◌, ◌<◌, ◌≤◌, ◌↔◌, [], length, insert, remove, slice_get, false, IsTrue, IsNone, OnOk, OnErr, IfOk};
 ghost use Rattle.std.specs.Option.{option_copied};
-ghost use Rattle.jup_value.specs.Items.{has_name, place_of, AreDistinct};
+ghost use Rattle.jup_value.specs.Items.{has_name, place_of, with_value, AreDistinct};
 
 use crate::block::{Block, Room};
 use crate::iter::{Iter, iter_blocks};
@@ -182,6 +182,17 @@ impl<V: Copy> Seq<V> {
         let (block, offset) = find_item(&self.lengths, self.count, at);
         self.count -= 1;
         take_item(&mut self.blocks, &mut self.lengths, block, offset)
+    }
+
+    /// Gives the item at a place another value. It keeps its name and its place, and no memory is taken.
+    pub fn set_value(&mut self, at: u32, value: V)
+        requires { at < length self.old.items }
+        ensures items { self.new.items ≡ with_value self.old.items at value }
+        ensures spare { self.old.spare ≤ self.new.spare }
+    {
+        let (index, offset) = find_item(&self.lengths, self.count, at);
+        let block = &mut self.blocks[index];
+        block.set_value(offset, value);
     }
 
     /// A sequence with the same items.

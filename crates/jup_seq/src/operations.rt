@@ -1,10 +1,11 @@
-//! Insertions into sequences, and deletions from them.
+//! Insertions into sequences, deletions from them, and other values for their items.
 ghost use Rattle.std.specs.Prelude.{◌≡◌, ℕ, ◌↔◌, ◌+◌, ◌<◌, ◌≤◌, length, false, refl, IsTrue, Ok, OnOk, OnErr};
 ghost use Rattle.jup_value.specs.Items.{has_name, name_at};
 ghost use Rattle.jup_value.specs.declared.names.Name.{Name as ItemName};
+ghost use Rattle.jup_seq.specs.declared.operations.SeqOp.TheVariants.{Relabel};
 ghost use Rattle.jup_seq.specs.Operations.{bare, IsSmall, HasDistinctNames, KeepsOrder, IsValid, after, HasRoom, AreApart, client_past, server_past};
 ghost use Rattle.jup_seq.specs.Edits.{Content, content, meaning, edit_of};
-ghost use Rattle.jup_seq.specs.Names.{Holds, InsertsName, DeletesName, IsFresh};
+ghost use Rattle.jup_seq.specs.Names.{Holds, InsertsName, DeletesName, ChangesName, IsFresh};
 ghost use Rattle.jup_seq.specs.Squares as squares;
 ghost use Rattle.jup_seq.specs.EditLists as edit_lists;
 ghost use Rattle.jup_seq.specs.Names as names;
@@ -24,7 +25,10 @@ pub enum SeqOp<V> {
     Insert { place: u32, item: Item<V> },
     /// Takes out the item at the place, which has the name.
     Delete { place: u32, name: Name },
-    /// What is left of a deletion where the other end deleted the same item.
+    /// Gives the item at the place, which has the name, another value.
+    Relabel { place: u32, name: Name, value: V },
+    /// What is left of a deletion, or a relabel, where the other end deleted the same item, and of a
+    /// server's relabel where the client relabelled the same item.
     Nothing,
 }
 
@@ -41,6 +45,8 @@ pub enum SeqEdit<V> {
     Put(Name, V),
     /// The item of the name is taken out.
     Deleted(Name),
+    /// The item of the name is given the value.
+    Relabelled(Name, V),
     Nothing,
 }
 
@@ -58,6 +64,30 @@ fn stands_at<V: Copy>(state: &Seq<V>, place: u32, name: Name) -> bool
     ensures { IsTrue result ↔ (name_at place state.now.items ≡ Some name) }
 {
     state.get(place).is_some_and(|item| item.name == name)
+}
+
+// A client's relabel past a server's operation.
+fn relabel_past<V: Copy>(place: u32, name: Name, value: V, other: &SeqOp<V>) -> SeqOp<V>
+    ensures { result ≡ client_past (Relabel place name value) other.now }
+{
+    match other {
+        SeqOp::Insert { place: at, .. } if *at <= place => {
+            SeqOp::Relabel {
+                place: place.saturating_add(1),
+                name,
+                value,
+            }
+        }
+        SeqOp::Delete { name: gone, .. } if *gone == name => SeqOp::Nothing,
+        SeqOp::Delete { place: at, .. } if *at < place => {
+            SeqOp::Relabel {
+                place: place - 1,
+                name,
+                value,
+            }
+        }
+        _ => SeqOp::Relabel { place, name, value },
+    }
 }
 
 impl<V: Copy> SeqOp<V> {
@@ -93,11 +123,15 @@ impl<V: Copy> SeqOp<V> {
                     name: *name,
                 }
             }
+            (SeqOp::Relabel { place, name, value }, _) => relabel_past(
+                *place, *name, *value, other,
+            ),
             _ => *self,
         }
     }
 
-    // A server's operation past a client's: of two insertions at one place it stands right.
+    // A server's operation past a client's: of two insertions at one place it stands right, and of two
+    // relabels of one item it falls away.
     fn past_client(&self, other: &SeqOp<V>) -> SeqOp<V>
         ensures { result ≡ server_past self.now other.now }
     {
@@ -108,6 +142,9 @@ impl<V: Copy> SeqOp<V> {
                     place: place.saturating_add(1),
                     item: *item,
                 }
+            }
+            (SeqOp::Relabel { name, .. }, SeqOp::Relabel { name: again, .. }) if name == again => {
+                SeqOp::Nothing
             }
             _ => self.past_server(other),
         }
@@ -155,7 +192,7 @@ impl<V: Copy> Transform for SeqOp<V> {
 
     ghost deletes = { DeletesName };
 
-    ghost changes = { DeletesName };
+    ghost changes = { ChangesName };
 
     ghost client_past = { client_past };
 
@@ -168,7 +205,9 @@ impl<V: Copy> Transform for SeqOp<V> {
     fn valid(&self, state: &Seq<V>) -> bool {
         match self {
             SeqOp::Insert { place, item } => takes(state, *place, item.name),
-            SeqOp::Delete { place, name } => stands_at(state, *place, *name),
+            SeqOp::Delete { place, name } | SeqOp::Relabel { place, name, .. } => {
+                stands_at(state, *place, *name)
+            }
             SeqOp::Nothing => true,
         }
     }
@@ -198,7 +237,7 @@ impl<V: Copy> Transform for SeqOp<V> {
     {
         match self {
             SeqOp::Insert { .. } => state.reserve_more(beside + 1).map_err(|_| NoMemory),
-            SeqOp::Delete { .. } | SeqOp::Nothing => Ok(()),
+            SeqOp::Delete { .. } | SeqOp::Relabel { .. } | SeqOp::Nothing => Ok(()),
         }
     }
 
@@ -208,6 +247,7 @@ impl<V: Copy> Transform for SeqOp<V> {
             SeqOp::Delete { place, .. } => {
                 let _item = state.remove(place);
             }
+            SeqOp::Relabel { place, value, .. } => state.set_value(place, value),
             SeqOp::Nothing => {}
         }
     }
@@ -236,6 +276,7 @@ impl<V: Copy> Transform for SeqOp<V> {
         Ok(match *self {
             SeqOp::Insert { item, .. } => SeqEdit::Put(item.name, item.value),
             SeqOp::Delete { name, .. } => SeqEdit::Deleted(name),
+            SeqOp::Relabel { name, value, .. } => SeqEdit::Relabelled(name, value),
             SeqOp::Nothing => SeqEdit::Nothing,
         })
     }

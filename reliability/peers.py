@@ -79,7 +79,7 @@ class Peer:
 
     def hello(self):
         """Greets, and reads to `ready`."""
-        self.send(b"hello 1\n")
+        self.send(b"hello 2\n")
         self.site = int(self.lines.readline().split()[1])
         while self.lines.readline() != b"ready\n":
             pass

@@ -1,5 +1,5 @@
-//! Commands: `ins W I PLACE char Q`, `ins W I PLACE item Q`, `del W I PLACE`, `set W I on`, `set W I off`
-//! and `set W I NUMBER`.
+//! Commands: `ins W I PLACE char Q`, `ins W I PLACE item Q`, `del W I PLACE`, `rel W I PLACE Q`, `set W I on`,
+//! `set W I off` and `set W I NUMBER`.
 
 use super::quoted::{read_quoted_char, read_quoted_label};
 use super::words::{read_id, read_integer, read_number, read_switch};
@@ -28,6 +28,15 @@ pub fn read_command(line: &[u8]) -> Option<Command> {
             wid,
             place: read_number(rest)?,
         }),
+        "rel" => {
+            let (place, label) = rest.split_once(' ')?;
+            Some(Command::Relabel {
+                win,
+                wid,
+                place: read_number(place)?,
+                label: read_quoted_label(label)?,
+            })
+        }
         "set" => Some(Command::Set {
             win,
             wid,

@@ -1,4 +1,4 @@
-//! Edits: `ins W I NAME Q`, `del W I NAME` and `set W I VALUE`.
+//! Edits: `ins W I NAME Q`, `del W I NAME`, `rel W I NAME Q` and `set W I VALUE`.
 ghost use Rattle.std.specs.Prelude.{◌≡◌, OnOk, OnErr};
 ghost use Rattle.std.specs.Io.{StartsWith};
 
@@ -44,6 +44,12 @@ impl fmt::Display for PrintedEdit<'_> {
                 let site = name.site;
                 let number = name.number;
                 write!(f, "del {win} {wid} {site}.{number}")
+            }
+            Effect::Relabelled(name, value) => {
+                let value = QuotedLabel(value);
+                let site = name.site;
+                let number = name.number;
+                write!(f, "rel {win} {wid} {site}.{number} {value}")
             }
             Effect::Toggled(on) => {
                 let on = switch_word(*on);

@@ -9,7 +9,7 @@ use Rattle.jup_window.specs.declared.board_operations.BoardOp.{BoardOp}
 use Rattle.jup_window.specs.declared.edits.Edit.{Edit}
 use Rattle.jup_window.specs.declared.faults.EditFault.{EditFault}
 use Rattle.jup_window.specs.declared.commands.Command.{Command}
-use Rattle.jup_window.specs.declared.commands.Command.TheVariants.{Insert as InsertAt, Delete as DeleteAt, Set as SetValue}
+use Rattle.jup_window.specs.declared.commands.Command.TheVariants.{Insert as InsertAt, Delete as DeleteAt, Relabel as RelabelAt, Set as SetValue}
 use Rattle.jup_window.specs.Entries.{same_place}
 use Rattle.jup_window.specs.EntryLaws.{same_place-refl}
 use Rattle.jup_window.specs.Widgets as widget
@@ -138,6 +138,7 @@ next_is_fresh (InsertAt win wid p v) i k b known =
     false_from_ne_true (board.held (win, wid) (next_name i k) b) (λ held.
     let le : suc k ≤ k = known (record { at = (win, wid); name = next_name i k }) held refl in absurd (omega (arith, le)))
 next_is_fresh (DeleteAt win wid p) i k b known = tt
+next_is_fresh (RelabelAt win wid p v) i k b known = tt
 next_is_fresh (SetValue win wid s) i k b known = tt
 
 -- a command's operation is valid

@@ -70,7 +70,7 @@ impl Transform for BoardOp {
 
     ghost deletes = { board.Deletes };
 
-    ghost changes = { board.Deletes };
+    ghost changes = { board.Changes };
 
     ghost client_past = { board.client_past };
 

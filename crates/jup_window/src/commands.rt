@@ -1,6 +1,6 @@
 //! Commands of a user, and the operations that they become.
 ghost use Rattle.std.specs.Prelude.{◌≡◌, IfOk};
-ghost use Rattle.jup_window.specs.Commands.{insertion, deletion, insertion_on, deletion_on, setting_on, on_widget, command_place, named_widget, named, map_ok, IsFresh, shown};
+ghost use Rattle.jup_window.specs.Commands.{insertion, deletion, relabel, insertion_on, deletion_on, relabel_on, setting_on, on_widget, command_place, named_widget, named, map_ok, IsFresh, shown};
 ghost use Rattle.jup_window.specs.Boards.{bare, after, IsValid};
 
 use crate::board_operations::BoardOp;
@@ -46,6 +46,13 @@ pub enum Command {
         wid: u16,
         place: u32,
     },
+    /// Gives the item at the place of a list another label.
+    Relabel {
+        win: u16,
+        wid: u16,
+        place: u32,
+        label: Label,
+    },
     Set {
         win: u16,
         wid: u16,
@@ -72,6 +79,19 @@ fn delete_at<V: Copy>(state: &Seq<V>, place: u32) -> Result<SeqOp<V>, EditFault>
         Some(item) => Ok(SeqOp::Delete {
             place,
             name: item.name,
+        }),
+        None => Err(EditFault::BadPlace),
+    }
+}
+
+fn relabel_at<V: Copy>(state: &Seq<V>, place: u32, value: V) -> Result<SeqOp<V>, EditFault>
+    ensures { result ≡ relabel place value state.now }
+{
+    match state.get(place) {
+        Some(Item { name, .. }) => Ok(SeqOp::Relabel {
+            place,
+            name: *name,
+            value,
         }),
         None => Err(EditFault::BadPlace),
     }
@@ -108,6 +128,15 @@ fn deletion_from(widget: &Widget, place: u32) -> Result<WidgetOp, EditFault>
     }
 }
 
+fn relabel_in(widget: &Widget, place: u32, label: Label) -> Result<WidgetOp, EditFault>
+    ensures { result ≡ relabel_on place label widget.now }
+{
+    match widget {
+        Widget::List(list) => Ok(WidgetOp::List(relabel_at(list, place, label)?)),
+        Widget::Text(_) | Widget::Toggle(_) | Widget::Slider(_) => Err(EditFault::WrongKind),
+    }
+}
+
 fn setting_of(widget: &Widget, setting: Setting) -> Result<WidgetOp, EditFault>
     ensures { result ≡ setting_on setting widget.now }
 {
@@ -131,6 +160,7 @@ impl Command {
         match *self {
             Command::Insert { win, wid, .. }
             | Command::Delete { win, wid, .. }
+            | Command::Relabel { win, wid, .. }
             | Command::Set { win, wid, .. } => (win, wid),
         }
     }
@@ -142,6 +172,7 @@ impl Command {
         match *self {
             Command::Insert { place, value, .. } => insertion_into(widget, place, value, name),
             Command::Delete { place, .. } => deletion_from(widget, place),
+            Command::Relabel { place, label, .. } => relabel_in(widget, place, label),
             Command::Set { setting, .. } => setting_of(widget, setting),
         }
     }
@@ -165,8 +196,8 @@ fn named_widget(board: &Board, win: u16, wid: u16) -> Result<&Widget, EditFault>
 }
 
 impl Board {
-    /// The operation of a command: an insertion under the given name, or a deletion of the item at
-    /// the place under its own. It takes no memory. Refused, in this order: no such window, no such
+    /// The operation of a command: an insertion under the given name, or a deletion or a relabel of the
+    /// item at the place under its own. It takes no memory. Refused, in this order: no such window, no such
     /// widget, a command or a value that does not fit the widget, a place past the end, a value
     /// outside the slider's bounds, an insertion into a sequence of 65,536 items or more.
     pub fn name_it(&self, command: &Command, name: Name) -> Result<BoardOp, EditFault>

@@ -14,6 +14,8 @@ pub enum Effect {
     PutLabel(Name, Label),
     /// The item with the name is gone, from a text or from a list.
     Deleted(Name),
+    /// The item with the name is given another label, in a list.
+    Relabelled(Name, Label),
     /// A toggle is set.
     Toggled(bool),
     /// A slider is set.
@@ -36,7 +38,11 @@ impl Effect {
     {
         match *self {
             Effect::PutChar(name, _) | Effect::PutLabel(name, _) => Some(name),
-            Effect::Deleted(_) | Effect::Toggled(_) | Effect::Slid(_) | Effect::Nothing => None,
+            Effect::Deleted(_)
+            | Effect::Relabelled(..)
+            | Effect::Toggled(_)
+            | Effect::Slid(_)
+            | Effect::Nothing => None,
         }
     }
 }

@@ -1,6 +1,6 @@
 //! What boards hold and what their edits mean, written out. The laws of `Transform` speak of an
 //! implementation's own words for these; these functions do nothing but say which they are for boards.
-ghost use Rattle.std.specs.Prelude.{◌≡◌, ◌≢◌, ◌↔◌, ℕ, ℤ, Bool, List, [], ◌∷◌, ◌++◌, Contains, Some, None};
+ghost use Rattle.std.specs.Prelude.{◌≡◌, ◌≢◌, ◌↔◌, ℕ, ℤ, Bool, List, [], ◌∷◌, ◌++◌, Contains, ◌⊎◌, Some, None};
 ghost use Rattle.jup_value.specs.declared.names.Name.{Name};
 ghost use Rattle.jup_value.specs.declared.names.Item.{Item};
 ghost use Rattle.jup_value.specs.Items.{Items};
@@ -13,7 +13,7 @@ ghost use Rattle.jup_window.specs.declared.widgets.Widget.{Widget};
 ghost use Rattle.jup_window.specs.declared.board_operations.BoardOp.{BoardOp};
 ghost use Rattle.jup_window.specs.declared.edits.Edit.{Edit};
 ghost use Rattle.jup_window.specs.Entries.{Place, EachWidget, widget_at};
-ghost use Rattle.jup_window.specs.Widgets.{InSequences, AreOfOneKind, AreOperationsOfOneKind};
+ghost use Rattle.jup_window.specs.Widgets.{InSequences, IsNoRelabel, AreOfOneKind, AreOperationsOfOneKind};
 ghost use Rattle.jup_window.specs.Effects.{Chars, Labelled, On, At};
 ghost use Rattle.jup_window.specs.Boards.{Windows, Content, Placed, place, edit_place};
 ghost use Rattle.jup_window.specs.Contents.{op_at, edit_at, character, label};
@@ -52,12 +52,13 @@ pub fn board_content()
         → widget_at p board ≡ None → ⟦<BoardOp as Transform>⟧.content board p ≡ None }
 {}
 
-/// An operation may be applied where its ids name a widget of its kind and it may be applied there.
+/// An operation may be applied where its ids name a widget of its kind and it may be applied there; but a
+/// relabel of a text may not.
 pub fn operation_validity()
     ensures text { (p : Place) (op : SeqOp ℕ) (board : Windows) (text : Items ℕ)
         → widget_at p board ≡ Some (Widget.Text text)
         → ⟦<BoardOp as Transform>⟧.is_valid (op_at p (WidgetOp.Text op)) board
-        ↔ ⟦<SeqOp<char> as Transform>⟧.is_valid op text }
+        ↔ (IsNoRelabel op × ⟦<SeqOp<char> as Transform>⟧.is_valid op text) }
     ensures list { (p : Place) (op : SeqOp (List ℕ)) (board : Windows) (list : Items (List ℕ))
         → widget_at p board ≡ Some (Widget.List list)
         → ⟦<BoardOp as Transform>⟧.is_valid (op_at p (WidgetOp.List op)) board
@@ -147,8 +148,9 @@ pub fn board_order()
         → ⟦<SeqOp<Label> as Transform>⟧.keeps_order v w }
 {}
 
-/// An insertion puts its value under its name, a deletion deletes its name, whatever the place in
-/// the sequence, and a setting sets its value, each on the widget that the operation's ids name.
+/// An insertion puts its value under its name, a deletion deletes its name, and a relabel of a list gives
+/// its name its label, whatever the place in the sequence, and a setting sets its value, each on the widget
+/// that the operation's ids name. A relabel of a text has no edit.
 pub fn operation_edits()
     ensures character { (p : Place) (at : ℕ) (item : Item ℕ)
         → ⟦<BoardOp as Transform>⟧.edit_of (op_at p (WidgetOp.Text (SeqOp.Insert at item)))
@@ -162,6 +164,12 @@ pub fn operation_edits()
     ensures deletion_in_list { (p : Place) (at : ℕ) (name : Name)
         → ⟦<BoardOp as Transform>⟧.edit_of (op_at p (WidgetOp.List (SeqOp.Delete at name)))
         ≡ edit_at p (Effect.Deleted name) }
+    ensures relabel_in_list { (p : Place) (at : ℕ) (name : Name) (value : List ℕ)
+        → ⟦<BoardOp as Transform>⟧.edit_of (op_at p (WidgetOp.List (SeqOp.Relabel at name value)))
+        ≡ edit_at p (Effect.Relabelled name value) }
+    ensures relabel_in_text { (p : Place) (at : ℕ) (name : Name) (value : ℕ)
+        → ⟦<BoardOp as Transform>⟧.edit_of (op_at p (WidgetOp.Text (SeqOp.Relabel at name value)))
+        ≡ edit_at p Effect.Nothing }
     ensures toggle { (p : Place) (on : Bool)
         → ⟦<BoardOp as Transform>⟧.edit_of (op_at p (WidgetOp.Toggle (SetOp.Set on)))
         ≡ edit_at p (Effect.Toggled on) }
@@ -196,7 +204,8 @@ pub fn premises()
         → ⟦<BoardOp as Transform>⟧.inserts (⟦<BoardOp as Transform>⟧.edit_of s) n → m.name ≢ n.name) }
 {}
 
-/// The names that an edit inserts, and those that it deletes, each in the widget of the edit's ids.
+/// The names that an edit inserts, those that it deletes, and those that it changes, which are those that
+/// it deletes or gives another label, each in the widget of the edit's ids.
 pub fn edited_names()
     ensures character { (p : Place) (name : Name) (value : ℕ) (n : Placed)
         → ⟦<BoardOp as Transform>⟧.inserts (edit_at p (Effect.PutChar name value)) n
@@ -213,6 +222,15 @@ pub fn edited_names()
         → ¬ ⟦<BoardOp as Transform>⟧.inserts edit n }
     ensures nothing_deleted { (edit : Edit) (n : Placed) → edit.what ≢ Effect.Deleted n.name
         → ¬ ⟦<BoardOp as Transform>⟧.deletes edit n }
+    ensures changed_by_deletion { (p : Place) (name : Name) (n : Placed)
+        → ⟦<BoardOp as Transform>⟧.changes (edit_at p (Effect.Deleted name)) n
+        ↔ (n ≡ record { at = p; name = name }) }
+    ensures changed_by_relabel { (p : Place) (name : Name) (value : List ℕ) (n : Placed)
+        → ⟦<BoardOp as Transform>⟧.changes (edit_at p (Effect.Relabelled name value)) n
+        ↔ (n ≡ record { at = p; name = name }) }
+    ensures nothing_changed { (edit : Edit) (n : Placed) → edit.what ≢ Effect.Deleted n.name
+        → ((value : List ℕ) → edit.what ≢ Effect.Relabelled n.name value)
+        → ¬ ⟦<BoardOp as Transform>⟧.changes edit n }
 {}
 
 /// What a list of edits makes of a text: the names that it had and those that are inserted, less
@@ -235,21 +253,36 @@ pub fn text_meaning()
         ≡ character name (before p) }
 {}
 
-/// What a list of edits makes of a list of labels: as of a text.
+/// What a list of edits makes of a list of labels: the names that it had and those that are inserted,
+/// less those that are deleted anywhere in the list, each with the label of its last relabel, else of its
+/// last insertion, else with its own.
 pub fn list_meaning()
     ensures deleted { (before : Content) (edits : List Edit) (p : Place) (name : Name)
         → Contains edits (edit_at p (Effect.Deleted name))
         → label name (⟦<BoardOp as Transform>⟧.meaning before edits p) ≡ None }
+    ensures relabelled { (before : Content) (earlier later : List Edit) (p : Place) (name : Name)
+        (value other : List ℕ) (list : SeqContent (List ℕ)) → before p ≡ Some (Labelled list)
+        → let edits = earlier ++ edit_at p (Effect.Relabelled name value) ∷ later in
+        ¬ Contains edits (edit_at p (Effect.Deleted name))
+        → ((next : List ℕ) → ¬ Contains later (edit_at p (Effect.Relabelled name next)))
+        → (list name ≡ Some other) ⊎ Contains edits (edit_at p (Effect.PutLabel name other))
+        → label name (⟦<BoardOp as Transform>⟧.meaning before edits p) ≡ Some value }
     ensures inserted { (before : Content) (earlier later : List Edit) (p : Place) (name : Name)
         (value : List ℕ) (list : SeqContent (List ℕ)) → before p ≡ Some (Labelled list)
         → let edits = earlier ++ edit_at p (Effect.PutLabel name value) ∷ later in
         ¬ Contains edits (edit_at p (Effect.Deleted name))
+        → ((other : List ℕ) → ¬ Contains edits (edit_at p (Effect.Relabelled name other)))
         → ((other : List ℕ) → ¬ Contains later (edit_at p (Effect.PutLabel name other)))
         → label name (⟦<BoardOp as Transform>⟧.meaning before edits p) ≡ Some value }
     ensures kept { (before : Content) (edits : List Edit) (p : Place) (name : Name)
         → ¬ Contains edits (edit_at p (Effect.Deleted name))
+        → ((other : List ℕ) → ¬ Contains edits (edit_at p (Effect.Relabelled name other)))
         → ((other : List ℕ) → ¬ Contains edits (edit_at p (Effect.PutLabel name other)))
         → label name (⟦<BoardOp as Transform>⟧.meaning before edits p) ≡ label name (before p) }
+    ensures absent { (before : Content) (edits : List Edit) (p : Place) (name : Name)
+        → label name (before p) ≡ None
+        → ((other : List ℕ) → ¬ Contains edits (edit_at p (Effect.PutLabel name other)))
+        → label name (⟦<BoardOp as Transform>⟧.meaning before edits p) ≡ None }
 {}
 
 /// What a list of edits makes of a toggle or a slider: its last setting, and where it has none,

@@ -7,7 +7,7 @@ use Rattle.std.proofs.lemmas.Option.{none-some, same_Some}
 use Rattle.std.proofs.lemmas.Slice.Eq.{bytes_eq-Decides}
 use Rattle.jup_wire.specs.declared.faults.WireFault.TheVariants.{BadLine, BadVersion}
 use Rattle.jup_wire.specs.declared.line.Line.{Line}
-use Rattle.jup_wire.specs.Grammar.{HasSpelling, line_text, IsNoLine, IsBad}
+use Rattle.jup_wire.specs.Grammar.{this_version, HasSpelling, line_text, IsNoLine, IsBad}
 use Rattle.jup_wire.specs.Reading.{split_of, number_of, line_of, version_of, refusal_of}
 use Rattle.jup_wire.proofs.Options.{bind_some}
 use Rattle.jup_wire.proofs.Numbers.{number_takes, number_again}
@@ -38,15 +38,15 @@ pub refused : (bytes : List ℕ) (version : Option ℕ) → line_of bytes ≡ No
 refused bytes None none named =
     (no_line bytes none, λ other. none-some other.0 (named ∙ ap version_of other.1.2 ∙ version_again other.0 other.1.0))
 refused bytes (Some n) none named =
-    elim (cases_Bool (eqb n 1)) [
+    elim (cases_Bool (eqb n this_version)) [
       | inl one ↦ subst (λ b. IsBad (cond b BadLine BadVersion) bytes) (sym one) (
         no_line bytes none,
         λ other.
             let same : other.0 ≡ n = same_Some other.0 n (sym (named ∙ ap version_of other.1.2 ∙ version_again other.0 other.1.0)) in
-            other.1.1 (same ∙ eqb-true n 1 one),
+            other.1.1 (same ∙ eqb-true n this_version one),
       )
       | inr differs ↦ subst (λ b. IsBad (cond b BadLine BadVersion) bytes) (sym differs)
-          (let t = version_takes bytes n (sym named) in (n, (t.0, eqb-false n 1 differs, t.1)))
+          (let t = version_takes bytes n (sym named) in (n, (t.0, eqb-false n this_version differs, t.1)))
     ]
 
 -- what read_line is to say of a line

@@ -16,7 +16,7 @@ use Rattle.jup_setting.specs.declared.operation.SetOp.TheVariants as set
 use Rattle.jup_window.specs.declared.widget_operations.WidgetOp.{WidgetOp}
 use Rattle.jup_window.specs.declared.widget_operations.WidgetOp.TheVariants as widget
 use Rattle.jup_wire.specs.Grammar.{name_text, switch_text, seq_fields, set_fields, body_fields, IsU32, IsName, IsInt, IsSeqOp, IsSetOp, IsBody}
-use Rattle.jup_wire.specs.Reading.{◌>>=◌, split_of, pair_of, number_of, scalar_of, int_of, name_of, switch_of, label_of, headed_by, insert_of, delete_of, seq_of, set_of, body_table, body_of}
+use Rattle.jup_wire.specs.Reading.{◌>>=◌, split_of, pair_of, number_of, scalar_of, int_of, name_of, switch_of, label_of, headed_by, insert_of, delete_of, relabel_of, seq_of, set_of, body_table, body_of}
 use Rattle.jup_wire.proofs.Readers.{IsReader, IsField, within, pair_reader, behind, headed_takes}
 use Rattle.jup_wire.proofs.Leaves.{lacks-decimal, number_reader, scalar_reader, switch_reader, label_reader, name_reader, name_field, int_reader}
 
@@ -44,29 +44,34 @@ pub deletion_reader : IsReader (pair_of 32 number_of name_of) (λ x. decimal x.0
 deletion_reader = pair_reader 32 number_of decimal IsU32 10 number_reader name_of name_text IsName 21 name_reader number_field refl
 
 module _ {V : Type 0} (value : List ℕ → Option V) (text : V → List ℕ) (IsValue : V → Type 0) (limit : ℕ) (reader : IsReader value text IsValue limit) where
-  insertion_reader : IsReader (pair_of 32 number_of (pair_of 32 name_of value)) (λ x. decimal x.0 ++ 32 ∷ (name_text x.1.0 ++ 32 ∷ text x.1.1)) (λ x. IsU32 x.0 × (IsName x.1.0 × IsValue x.1.1)) (33 + limit)
-  insertion_reader =
+  -- a place, a name and a value, as an insertion and a relabel have them
+  valued_reader : IsReader (pair_of 32 number_of (pair_of 32 name_of value)) (λ x. decimal x.0 ++ 32 ∷ (name_text x.1.0 ++ 32 ∷ text x.1.1)) (λ x. IsU32 x.0 × (IsName x.1.0 × IsValue x.1.1)) (33 + limit)
+  valued_reader =
       let named = pair_reader 32 name_of name_text IsName 21 name_reader value text IsValue limit reader name_field refl in
       let placed = pair_reader 32 number_of decimal IsU32 10 number_reader (pair_of 32 name_of value) (λ x. name_text x.0 ++ 32 ∷ text x.1) (λ x. IsName x.0 × IsValue x.1) (22 + limit) named number_field refl in
       within (33 + limit) (omega arith) placed
 
   seq_takes : (bytes : List ℕ) (op : SeqOp V) → seq_of value bytes ≡ Some op → IsSeqOp IsValue op × (bytes ≡ seq_text text op)
-  unfolding seq_of insert_of delete_of
+  unfolding seq_of insert_of delete_of relabel_of
   seq_takes bytes op e =
-      let table : List (List ℕ × (List ℕ → Option (SeqOp V))) = (codes "ins", insert_of value) ∷ (codes "del", delete_of) ∷ [] in
+      let table : List (List ℕ × (List ℕ → Option (SeqOp V))) = (codes "ins", insert_of value) ∷ (codes "del", delete_of) ∷ (codes "rel", relabel_of value) ∷ [] in
       word_or (seq_text text) (IsSeqOp IsValue) (codes "no") seq.Nothing tt refl (headed_by table bytes) bytes op
       (headed_takes (seq_text text) (IsSeqOp IsValue) table (
-        behind (codes "ins") (pair_of 32 number_of (pair_of 32 name_of value)) _ _ _ insertion_reader (λ x. seq.Insert x.0 (record { name = x.1.0; value = x.1.1 })) (seq_text text) (IsSeqOp IsValue) (λ x is. (is, refl)),
+        behind (codes "ins") (pair_of 32 number_of (pair_of 32 name_of value)) _ _ _ valued_reader (λ x. seq.Insert x.0 (record { name = x.1.0; value = x.1.1 })) (seq_text text) (IsSeqOp IsValue) (λ x is. (is, refl)),
         (
           behind (codes "del") (pair_of 32 number_of name_of) _ _ _ deletion_reader (λ x. seq.Delete x.0 x.1) (seq_text text) (IsSeqOp IsValue) (λ x is. (is, refl)),
-          tt,
+          (
+            behind (codes "rel") (pair_of 32 number_of (pair_of 32 name_of value)) _ _ _ valued_reader (λ x. seq.Relabel x.0 x.1.0 x.1.1) (seq_text text) (IsSeqOp IsValue) (λ x is. (is, refl)),
+            tt,
+          ),
         ),
       ) bytes op) e
 
   seq_again : (op : SeqOp V) → IsSeqOp IsValue op → seq_of value (seq_text text op) ≡ Some op
-  unfolding seq_of insert_of delete_of split_of
-  seq_again (seq.Insert place item) is = rw (insertion_reader.again (place, (item.name, item.value)) is) refl
+  unfolding seq_of insert_of delete_of relabel_of split_of
+  seq_again (seq.Insert place item) is = rw (valued_reader.again (place, (item.name, item.value)) is) refl
   seq_again (seq.Delete place name) is = rw (deletion_reader.again (place, name) is) refl
+  seq_again (seq.Relabel place name value) is = rw (valued_reader.again (place, (name, value)) is) refl
   seq_again seq.Nothing is = refl
 
   pub seq_reader : IsReader (seq_of value) (seq_text text) (IsSeqOp IsValue) (37 + limit)
@@ -74,13 +79,15 @@ module _ {V : Type 0} (value : List ℕ → Option V) (text : V → List ℕ) (I
     takes = seq_takes;
     again = seq_again;
     one_line = elim [
-      | seq.Insert place item ↦ λ is. insertion_reader.one_line (place, (item.name, item.value)) is
+      | seq.Insert place item ↦ λ is. valued_reader.one_line (place, (item.name, item.value)) is
       | seq.Delete place name ↦ λ is. deletion_reader.one_line (place, name) is
+      | seq.Relabel place name value ↦ λ is. valued_reader.one_line (place, (name, value)) is
       | seq.Nothing ↦ λ is. refl
     ];
     short = elim [
-      | seq.Insert place item ↦ λ is. omega (arith, insertion_reader.short (place, (item.name, item.value)) is)
+      | seq.Insert place item ↦ λ is. omega (arith, valued_reader.short (place, (item.name, item.value)) is)
       | seq.Delete place name ↦ λ is. omega (arith, deletion_reader.short (place, name) is)
+      | seq.Relabel place name value ↦ λ is. omega (arith, valued_reader.short (place, (name, value)) is)
       | seq.Nothing ↦ λ is. omega arith
     ];
   }
@@ -111,6 +118,7 @@ body_text op = join_with_byte 32 (body_fields op)
 pub joined_seq : {V : Type 0} (word : List ℕ) (text : V → List ℕ) (op : SeqOp V) → join_with_byte 32 (word ∷ seq_fields text op) ≡ word ++ 32 ∷ seq_text text op
 joined_seq word text (seq.Insert place item) = refl
 joined_seq word text (seq.Delete place name) = refl
+joined_seq word text (seq.Relabel place name value) = refl
 joined_seq word text seq.Nothing = refl
 
 pub joined_set : {V : Type 0} (word : List ℕ) (text : V → List ℕ) (op : SetOp V) → join_with_byte 32 (word ∷ set_fields text op) ≡ word ++ 32 ∷ set_text text op

@@ -7,7 +7,7 @@ use Rattle.jup_wire.specs.declared.faults.WireFault.{WireFault}
 use Rattle.jup_wire.specs.declared.faults.WireFault.TheVariants.{BadLine, LongLine, BadVersion, EarlyEnd}
 use Rattle.jup_wire.specs.Streams.{IsPart, IsBadLine, IsFaulty, Progress, HasRead, stream_of}
 use Rattle.jup_wire.specs.declared.line.Line.{Line}
-use Rattle.jup_wire.specs.Grammar.{line_text, spelling, HasSpelling, IsLine, IsBad, IsOtherVersion}
+use Rattle.jup_wire.specs.Grammar.{this_version, line_text, spelling, HasSpelling, IsLine, IsBad, IsOtherVersion}
 use Rattle.jup_wire.specs.Reading.{◌>>=◌, split_of, line_of, version_of, refusal_of, headed_of, hello_of}
 use Rattle.jup_wire.proofs.Splits.{lacks, split_again, split_lacks}
 use Rattle.jup_wire.proofs.Options.{none_from}
@@ -93,23 +93,23 @@ long_stops told more len open_ended =
     }
 
 -- a text that is bad is read as no line, and refused as it says
-no_greeting : (v : ℕ) → v < 2 ^ 32 → v ≢ 1 → line_of (codes "hello " ++ decimal v) ≡ None
+no_greeting : (v : ℕ) → v < 2 ^ 32 → v ≢ this_version → line_of (codes "hello " ++ decimal v) ≡ None
 unfolding line_of headed_of hello_of split_of
-no_greeting v lt ne = rw (number_again v lt, ne_eqb v 1 ne) refl
+no_greeting v lt ne = rw (number_again v lt, ne_eqb v this_version ne) refl
 
 bad_line_refusal : (text : List ℕ) (v : Option ℕ) → v ≡ version_of text → (IsOtherVersion text → ⊥) → refusal_of v ≡ BadLine
 bad_line_refusal text None e not = refl
 bad_line_refusal text (Some n) e not =
-    elim (cases_Bool (eqb n 1)) [
-      | inl one ↦ cond-true (eqb n 1) BadLine BadVersion one
-      | inr differs ↦ absurd (not (let t = version_takes text n (sym e) in (n, (t.0, eqb-false n 1 differs, t.1))))
+    elim (cases_Bool (eqb n this_version)) [
+      | inl one ↦ cond-true (eqb n this_version) BadLine BadVersion one
+      | inr differs ↦ absurd (not (let t = version_takes text n (sym e) in (n, (t.0, eqb-false n this_version differs, t.1))))
     ]
 
 refusal_tells : (fault : WireFault) (text : List ℕ) → IsBad fault text → (refusal_of (version_of text) ≡ fault) × (line_of text ≡ None)
 refusal_tells BadLine text bad =
     (bad_line_refusal text (version_of text) refl bad.1, none_from (line_of text) (λ line e. let t = line_reader.takes text line e in bad.0 line t.0 t.1))
 refusal_tells BadVersion text bad = (
-  ap refusal_of (ap version_of bad.1.2 ∙ version_again bad.0 bad.1.0) ∙ cond-false (eqb bad.0 1) BadLine BadVersion (ne_eqb bad.0 1 bad.1.1),
+  ap refusal_of (ap version_of bad.1.2 ∙ version_again bad.0 bad.1.0) ∙ cond-false (eqb bad.0 this_version) BadLine BadVersion (ne_eqb bad.0 this_version bad.1.1),
   ap line_of bad.1.2 ∙ no_greeting bad.0 bad.1.0 bad.1.1,
 )
 refusal_tells LongLine text bad = absurd bad

@@ -11,7 +11,7 @@ use Rattle.jup_window.specs.declared.widget_operations.WidgetOp.{WidgetOp}
 use Rattle.jup_window.specs.declared.widget_operations.WidgetOp.TheVariants as widget
 use Rattle.jup_wire.specs.declared.line.Line.{Line}
 use Rattle.jup_wire.specs.declared.line.Line.TheVariants.{Hello, Welcome, Window, Text, List as ListLine, Toggle, Slider, Char, Item as ItemLine, Ready, Op, Ack, Ping, Pong, Bye, Error}
-use Rattle.jup_wire.specs.Grammar.{name_text, switch_text, body_fields, line_text, IsU32, IsId, IsInt, IsName, IsBody, HasSpelling}
+use Rattle.jup_wire.specs.Grammar.{this_version, name_text, switch_text, body_fields, line_text, IsU32, IsId, IsInt, IsName, IsBody, HasSpelling}
 use Rattle.jup_wire.specs.Reading.{split_of, pair_of, number_of, id_of, scalar_of, int_of, name_of, switch_of, label_of, body_of, headed_by, hello_of, welcome_of, toggle_of, slider_of, char_of, item_of, op_of, line_table, headed_of, line_of}
 use Rattle.jup_wire.proofs.Options.{bind_some}
 use Rattle.jup_wire.proofs.Numbers.{number_takes, number_again}
@@ -69,10 +69,10 @@ joined_op mine heard win wid (widget.Slider op) = refl
 hello_takes : TakesBehind line_text HasSpelling (codes "hello", hello_of)
 unfolding hello_of digits
 hello_takes rest line e =
-    let b = bind_some (number_of rest) (λ version. cond (eqb version 1) (Some Hello) None) line e in
-    let c = cond_some (eqb b.0 1) Hello line b.2 in
+    let b = bind_some (number_of rest) (λ version. cond (eqb version this_version) (Some Hello) None) line e in
+    let c = cond_some (eqb b.0 this_version) Hello line b.2 in
     let t = number_takes rest b.0 b.1 in
-    let spelled : rest ≡ codes "1" = t.1 ∙ ap decimal (eqb-true b.0 1 c.0) in
+    let spelled : rest ≡ codes "2" = t.1 ∙ ap decimal (eqb-true b.0 this_version c.0) in
     subst (λ l. HasSpelling l × (codes "hello" ++ 32 ∷ rest ≡ line_text l)) c.1 (tt, ap (λ (r : List ℕ). codes "hello" ++ 32 ∷ r) spelled)
 
 line_takes : (bytes : List ℕ) (line : Line) → line_of bytes ≡ Some line → HasSpelling line × (bytes ≡ line_text line)
@@ -124,9 +124,9 @@ line_takes bytes line e =
     )
     bytes line)) e
 
-version_again : number_of (codes "1") ≡ Some 1
+version_again : number_of (codes "2") ≡ Some 2
 unfolding digits
-version_again = number_again 1 (lit< tt)
+version_again = number_again 2 (lit< tt)
 
 line_again : (line : Line) → HasSpelling line → line_of (line_text line) ≡ Some line
 unfolding line_of headed_of split_of hello_of welcome_of toggle_of slider_of char_of item_of op_of

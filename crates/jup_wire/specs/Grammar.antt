@@ -29,6 +29,7 @@ switch_text false = codes "off"
 abbrev pub seq_fields : {V : Type 0} → (V → List ℕ) → SeqOp V → List (List ℕ)
 seq_fields text (seq.Insert place item) = codes "ins" ∷ decimal place ∷ name_text item.name ∷ text item.value ∷ []
 seq_fields text (seq.Delete place name) = codes "del" ∷ decimal place ∷ name_text name ∷ []
+seq_fields text (seq.Relabel place name value) = codes "rel" ∷ decimal place ∷ name_text name ∷ text value ∷ []
 seq_fields text seq.Nothing = codes "no" ∷ []
 
 -- the fields of a setting, without its kind
@@ -43,9 +44,13 @@ body_fields (widget.List op) = codes "list" ∷ seq_fields (λ label. label) op
 body_fields (widget.Toggle op) = codes "toggle" ∷ set_fields switch_text op
 body_fields (widget.Slider op) = codes "slider" ∷ set_fields signed_decimal op
 
+-- the version of the protocol, as a greeting names it
+abbrev pub this_version : ℕ
+this_version = 2
+
 -- the fields of a line
 abbrev pub fields : Line → List (List ℕ)
-fields Hello = codes "hello" ∷ codes "1" ∷ []
+fields Hello = codes "hello" ∷ codes "2" ∷ []
 fields (Welcome site limit) = codes "welcome" ∷ decimal site ∷ decimal limit ∷ []
 fields (Window win) = codes "window" ∷ decimal win ∷ []
 fields (Text wid) = codes "text" ∷ decimal wid ∷ []
@@ -86,6 +91,7 @@ IsName name = IsU32 name.site × IsU32 name.number
 abbrev pub IsSeqOp : {V : Type 0} → (V → Type 0) → SeqOp V → Type 0
 IsSeqOp IsValue (seq.Insert place item) = IsU32 place × (IsName item.name × IsValue item.value)
 IsSeqOp IsValue (seq.Delete place name) = IsU32 place × IsName name
+IsSeqOp IsValue (seq.Relabel place name value) = IsU32 place × (IsName name × IsValue value)
 IsSeqOp IsValue seq.Nothing = Unit {0}
 
 abbrev pub IsSetOp : {V : Type 0} → (V → Type 0) → SetOp V → Type 0
@@ -123,7 +129,7 @@ IsLine bytes line = HasSpelling line × (bytes ≡ spelling line)
 
 -- a greeting with another version
 abbrev pub IsOtherVersion : List ℕ → Type 0
-IsOtherVersion text = (version : ℕ) × (IsU32 version × (version ≢ 1) × (text ≡ codes "hello " ++ decimal version))
+IsOtherVersion text = (version : ℕ) × (IsU32 version × (version ≢ this_version) × (text ≡ codes "hello " ++ decimal version))
 
 -- no line of the table
 abbrev pub IsNoLine : List ℕ → Type 0

@@ -11,6 +11,7 @@ use Rattle.jup_setting.specs.declared.operation.SetOp.{SetOp}
 use Rattle.jup_setting.specs.declared.operation.SetOp.TheVariants as set
 use Rattle.jup_window.specs.declared.widget_operations.WidgetOp.{WidgetOp}
 use Rattle.jup_window.specs.declared.widget_operations.WidgetOp.TheVariants as widget
+use Rattle.jup_wire.specs.Grammar.{this_version}
 use Rattle.jup_wire.specs.declared.faults.WireFault.{WireFault}
 use Rattle.jup_wire.specs.declared.faults.WireFault.TheVariants.{BadLine, BadVersion}
 use Rattle.jup_wire.specs.declared.line.Line.{Line}
@@ -91,11 +92,14 @@ headed_by table bytes = split_of 32 bytes >>= λ parts. dispatch table parts.0 p
 unfoldable pub insert_of : {V : Type 0} → (List ℕ → Option V) → List ℕ → Option (SeqOp V)
 insert_of value bytes = pair_of 32 number_of (pair_of 32 name_of value) bytes >>= λ x. Some (seq.Insert x.0 (record { name = x.1.0; value = x.1.1 }))
 
+unfoldable pub relabel_of : {V : Type 0} → (List ℕ → Option V) → List ℕ → Option (SeqOp V)
+relabel_of value bytes = pair_of 32 number_of (pair_of 32 name_of value) bytes >>= λ x. Some (seq.Relabel x.0 x.1.0 x.1.1)
+
 unfoldable pub delete_of : {V : Type 0} → List ℕ → Option (SeqOp V)
 delete_of bytes = pair_of 32 number_of name_of bytes >>= λ x. Some (seq.Delete x.0 x.1)
 
 unfoldable pub seq_of : {V : Type 0} → (List ℕ → Option V) → List ℕ → Option (SeqOp V)
-seq_of value bytes = if bytes_eq bytes (codes "no") then Some seq.Nothing else headed_by ((codes "ins", insert_of value) ∷ (codes "del", delete_of) ∷ []) bytes
+seq_of value bytes = if bytes_eq bytes (codes "no") then Some seq.Nothing else headed_by ((codes "ins", insert_of value) ∷ (codes "del", delete_of) ∷ (codes "rel", relabel_of value) ∷ []) bytes
 
 unfoldable pub set_of : {V : Type 0} → (List ℕ → Option V) → List ℕ → Option (SetOp V)
 set_of value bytes = if bytes_eq bytes (codes "no") then Some set.Nothing else headed_by ((codes "set", λ rest. value rest >>= λ x. Some (set.Set x)) ∷ []) bytes
@@ -113,7 +117,7 @@ body_of bytes = headed_by body_table bytes
 
 -- the lines of more than one field, by their first
 unfoldable pub hello_of : List ℕ → Option Line
-hello_of rest = number_of rest >>= λ version. if version == 1 then Some Hello else None
+hello_of rest = number_of rest >>= λ version. if version == this_version then Some Hello else None
 
 unfoldable pub welcome_of : List ℕ → Option Line
 welcome_of rest = pair_of 32 number_of number_of rest >>= λ x. Some (Welcome x.0 x.1)
@@ -166,4 +170,4 @@ version_of bytes = split_of 32 bytes >>= λ parts. if bytes_eq parts.0 (codes "h
 -- what is wrong with a line that is none, by the version that it names as a greeting
 abbrev pub refusal_of : Option ℕ → WireFault
 refusal_of None = BadLine
-refusal_of (Some version) = if version == 1 then BadLine else BadVersion
+refusal_of (Some version) = if version == this_version then BadLine else BadVersion

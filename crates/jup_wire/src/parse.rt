@@ -3,7 +3,7 @@
 ghost use Rattle.std.specs.Prelude.{◌≡◌, Ok, IfOk, IfErr};
 ghost use Rattle.jup_wire.specs.declared.line.Line.{Line};
 ghost use Rattle.jup_wire.specs.Grammar.{HasSpelling, line_text, IsBad};
-ghost use Rattle.jup_wire.specs.Reading.{insert_of, delete_of, seq_of, set_of, body_of, welcome_of, hello_of, toggle_of, slider_of, char_of, item_of, op_of, headed_of, line_of, version_of, refusal_of};
+ghost use Rattle.jup_wire.specs.Reading.{insert_of, delete_of, relabel_of, seq_of, set_of, body_of, welcome_of, hello_of, toggle_of, slider_of, char_of, item_of, op_of, headed_of, line_of, version_of, refusal_of};
 
 use crate::faults::WireFault;
 use crate::fields::{FieldValue, field, id_before, number, number_before, split};
@@ -13,6 +13,9 @@ use jup_seq::SeqOp;
 use jup_setting::SetOp;
 use jup_value::{Item, Label, Name};
 use jup_window::{BoardOp, WidgetOp};
+
+/// The version of the protocol, as a greeting names it.
+const THIS_VERSION: u32 = 2;
 
 /// The line that the bytes are, which have no line feed behind them, or what is wrong with them: `BadLine`,
 /// or `BadVersion`.
@@ -32,7 +35,7 @@ fn refusal(version: Option<u32>) -> WireFault
     ensures { result ≡ refusal_of version }
 {
     match version {
-        Some(version) if version != 1 => WireFault::BadVersion,
+        Some(version) if version != THIS_VERSION => WireFault::BadVersion,
         _ => WireFault::BadLine,
     }
 }
@@ -119,7 +122,7 @@ fn headed(word: &[u8], rest: &[u8]) -> Option<Line>
 fn hello(rest: &[u8]) -> Option<Line>
     ensures { result ≡ hello_of rest.now }
 {
-    if number(rest)? == 1 {
+    if number(rest)? == THIS_VERSION {
         Some(Line::Hello)
     } else {
         None
@@ -224,6 +227,9 @@ fn seq_op<V: FieldValue>(bytes: &[u8]) -> Option<SeqOp<V>>
     if act == b"del".as_slice() {
         return deletion(rest);
     }
+    if act == b"rel".as_slice() {
+        return relabel(rest);
+    }
     None
 }
 
@@ -247,6 +253,16 @@ fn deletion<V>(bytes: &[u8]) -> Option<SeqOp<V>>
     let (place, rest) = number_before(bytes, b' ')?;
     let name = Name::read(rest)?;
     Some(SeqOp::Delete { place, name })
+}
+
+#[tactic(auto, unfolding(crate::specs::Reading::relabel_of))]
+fn relabel<V: FieldValue>(bytes: &[u8]) -> Option<SeqOp<V>>
+    ensures { result ≡ relabel_of V.read_of bytes.now }
+{
+    let (place, rest) = number_before(bytes, b' ')?;
+    let (name, rest) = field::<Name>(rest)?;
+    let value = V::read(rest)?;
+    Some(SeqOp::Relabel { place, name, value })
 }
 
 #[tactic(auto, unfolding(crate::specs::Reading::set_of))]

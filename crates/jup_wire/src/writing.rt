@@ -51,7 +51,7 @@ fn push_line(out: &mut Vec<u8>, line: &Line)
     ensures { Appends out.old out.new (line_text line.now) 127 }
 {
     match line {
-        Line::Hello => push(out, b"hello 1"),
+        Line::Hello => push(out, b"hello 2"),
         Line::Welcome { site, limit } => {
             push(out, b"welcome");
             push_field(out, site);
@@ -119,6 +119,12 @@ fn push_seq<V: Spelled>(out: &mut Vec<u8>, op: &SeqOp<V>)
             push(out, b" del");
             push_field(out, place);
             push_field(out, name);
+        }
+        SeqOp::Relabel { place, name, value } => {
+            push(out, b" rel");
+            push_field(out, place);
+            push_field(out, name);
+            push_field(out, value);
         }
         SeqOp::Nothing => push(out, b" no"),
     }

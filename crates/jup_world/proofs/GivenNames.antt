@@ -4,8 +4,8 @@ use Rattle.std.specs.List.{list_any, list_all}
 use Rattle.std.proofs.lemmas.Bool.{or_parts, or_from, and_from, and_parts}
 use Rattle.jup_value.specs.declared.names.Name.{Name}
 use Rattle.jup_value.specs.declared.names.Item.{Item}
-use Rattle.jup_value.specs.Items.{name_eq}
-use Rattle.jup_seq.specs.declared.operations.SeqOp.TheVariants.{Insert, Delete, Nothing as NoSeqOp}
+use Rattle.jup_value.specs.Items.{name_eq, with_value}
+use Rattle.jup_seq.specs.declared.operations.SeqOp.TheVariants.{Insert, Delete, Relabel, Nothing as NoSeqOp}
 use Rattle.jup_window.specs.declared.widgets.Widget.{Widget}
 use Rattle.jup_window.specs.declared.widgets.Widget.TheVariants.{Text, List as Labels, Toggle, Slider}
 use Rattle.jup_window.specs.declared.widget_operations.WidgetOp.{WidgetOp}
@@ -41,6 +41,14 @@ none_insert p xs n y none new = none_append p (take n xs) (y ∷ drop n xs) (non
 none_remove : {X : Type 0} (p : X → Bool) (xs : List X) (n : ℕ) → list_any p xs ≡ false → list_any p (remove xs n) ≡ false
 none_remove p xs n none = none_append p (take n xs) (drop (suc n) xs) (none_take p xs n none) (none_drop p xs (suc n) none)
 
+-- names stay as they are where a value is changed
+none_relabel : {V : Type 0} (p : Name → Bool) (xs : List (Item V)) (n : ℕ) (v : V) → list_any (λ z. p z.name) xs ≡ false → list_any (λ z. p z.name) (with_value xs n v) ≡ false
+none_relabel p [] n v none = none
+none_relabel p (x ∷ xs) zero v none = none
+none_relabel p (x ∷ xs) (suc n) v none =
+    let both = or_parts (p x.name) (list_any (λ z. p z.name) xs) none in
+    or_from (p x.name) (list_any (λ z. p z.name) (with_value xs n v)) both.0 (none_relabel p xs n v both.1)
+
 -- # Widgets and boards
 
 name_eq_self : (n : Name) → name_eq n n ≡ true
@@ -50,9 +58,11 @@ name_eq_self n = and_from (n.site == n.site) (n.number == n.number) (eq-eqb n.si
 widget_none : (i : ℕ) (o : WidgetOp) (w : Widget) → ((n : Name) → effects.inserts n (effects.effect_of o) ≡ true → n.site ≡ i → ⊥) → some_in_widget i w ≡ false → some_in_widget i (widget.after o w) ≡ false
 widget_none i (OnText (Insert p y)) (Text x) other none = none_insert (λ z. z.name.site == i) x.items p y none (ne_eqb y.name.site i (other y.name (name_eq_self y.name)))
 widget_none i (OnText (Delete p n)) (Text x) other none = none_remove (λ z. z.name.site == i) x.items p none
+widget_none i (OnText (Relabel p n v)) (Text x) other none = none_relabel (λ m. m.site == i) x.items p v none
 widget_none i (OnText NoSeqOp) (Text x) other none = none
 widget_none i (OnList (Insert p y)) (Labels x) other none = none_insert (λ z. z.name.site == i) x.items p y none (ne_eqb y.name.site i (other y.name (name_eq_self y.name)))
 widget_none i (OnList (Delete p n)) (Labels x) other none = none_remove (λ z. z.name.site == i) x.items p none
+widget_none i (OnList (Relabel p n v)) (Labels x) other none = none_relabel (λ m. m.site == i) x.items p v none
 widget_none i (OnList NoSeqOp) (Labels x) other none = none
 widget_none i (OnToggle o) (Toggle x) other none = none
 widget_none i (OnSlider o) (Slider x) other none = none

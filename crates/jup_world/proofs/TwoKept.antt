@@ -9,7 +9,7 @@ use Rattle.jup_value.specs.declared.names.Item.{Item}
 use Rattle.jup_value.specs.Items.{Items, name_eq, has_name}
 use Rattle.jup_value.proofs.ItemLists.{name_eq_refl, name_eq_same}
 use Rattle.jup_seq.specs.declared.operations.SeqOp.{SeqOp}
-use Rattle.jup_seq.specs.declared.operations.SeqOp.TheVariants.{Insert as InsertOp, Delete as DeleteOp, Nothing as NoOp}
+use Rattle.jup_seq.specs.declared.operations.SeqOp.TheVariants.{Insert as InsertOp, Delete as DeleteOp, Relabel as RelabelOp, Nothing as NoOp}
 use Rattle.jup_seq.specs.Operations.{after, IsValid, AreApart}
 use Rattle.jup_seq.specs.Edits.{edit_of}
 use Rattle.jup_seq.specs.Names.{InsertsName, held_before}
@@ -53,8 +53,10 @@ apart_sites i j ne (InsertOp q z) (InsertOp p y) under_i under_j =
     false_from_ne_true (name_eq y.name z.name)
     (λ same. ne (sym (under_i z.name (name_eq_refl z.name)) ∙ ap (λ (n : Name). n.site) (sym (name_eq_same y.name z.name same)) ∙ under_j y.name (name_eq_refl y.name)))
 apart_sites i j ne (DeleteOp q n) (InsertOp p y) under_i under_j = tt
+apart_sites i j ne (RelabelOp q n v) (InsertOp p y) under_i under_j = tt
 apart_sites i j ne NoOp (InsertOp p y) under_i under_j = tt
 apart_sites i j ne o (DeleteOp p m) under_i under_j = tt
+apart_sites i j ne o (RelabelOp p m v) under_i under_j = tt
 apart_sites i j ne o NoOp under_i under_j = tt
 
 -- and apart from all messages of the other site

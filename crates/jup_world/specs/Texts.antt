@@ -7,7 +7,7 @@ use Rattle.jup_seq.specs.declared.operations.SeqOp.{SeqOp}
 use Rattle.jup_seq.specs.declared.operations.SeqEdit.{SeqEdit}
 use Rattle.jup_seq.specs.Operations.{bare, IsSmall, HasDistinctNames, KeepsOrder, IsValid, after, HasRoom, AreApart, client_past, server_past}
 use Rattle.jup_seq.specs.Edits.{Content, content, meaning, edit_of}
-use Rattle.jup_seq.specs.Names.{Holds, InsertsName, DeletesName, IsFresh}
+use Rattle.jup_seq.specs.Names.{Holds, InsertsName, DeletesName, ChangesName, IsFresh}
 use Rattle.jup_seq.specs.Squares.{square}
 use Rattle.jup_seq.specs.Effects.{distinct_after, small_after, small_below, small_before, apart_swap, apart_client, apart_server}
 
@@ -32,7 +32,7 @@ texts = record {
   holds = Holds;
   inserts = InsertsName;
   deletes = DeletesName;
-  changes = DeletesName;
+  changes = ChangesName;
   client_past = client_past;
   server_past = server_past;
   Shape = Unit {0};

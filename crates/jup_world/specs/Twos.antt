@@ -5,7 +5,7 @@ use Rattle.jup_value.specs.declared.names.Name.{Name}
 use Rattle.jup_value.specs.declared.names.Item.{Item}
 use Rattle.jup_value.specs.Items.{Items, has_name}
 use Rattle.jup_seq.specs.declared.operations.SeqOp.{SeqOp}
-use Rattle.jup_seq.specs.declared.operations.SeqOp.TheVariants.{Insert as InsertOp, Delete as DeleteOp, Nothing as NoOp}
+use Rattle.jup_seq.specs.declared.operations.SeqOp.TheVariants.{Insert as InsertOp, Delete as DeleteOp, Relabel as RelabelOp, Nothing as NoOp}
 use Rattle.jup_seq.specs.Operations.{after}
 use Rattle.jup_seq.specs.Edits.{edit_of}
 use Rattle.jup_seq.specs.Names.{InsertsName}
@@ -56,6 +56,7 @@ two_operation site e (Delete place) = deletion e.made place (slice_get e.text.it
 abbrev pub insertions : SeqOp ℕ → ℕ
 insertions (InsertOp place item) = 1
 insertions (DeleteOp place name) = 0
+insertions (RelabelOp place name value) = 0
 insertions NoOp = 0
 
 -- an end that made an operation: it is applied at once, and sent

@@ -119,7 +119,7 @@ fn insertions(op: &TextOp) -> u32
 {
     match op {
         SeqOp::Insert { .. } => 1,
-        SeqOp::Delete { .. } | SeqOp::Nothing => 0,
+        SeqOp::Delete { .. } | SeqOp::Relabel { .. } | SeqOp::Nothing => 0,
     }
 }
 

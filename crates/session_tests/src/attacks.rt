@@ -42,7 +42,7 @@ fn attack<R: Net<Listener = TcpListener, Stream = TcpStream> + Clock>(
 ) -> io::Result<()> {
     let stream = linked(rt, ADDR)?;
     let mut to = &stream;
-    to.write_all(b"hello 1\n")?;
+    to.write_all(b"hello 2\n")?;
     read_to(&stream, b"ready\n", heard)?;
     to.write_all(DELETION.as_bytes())?;
     read_to(&stream, b"pong 1\n", heard)?;

@@ -47,7 +47,7 @@ fn a_client_over_memory(rt: HostRuntime) {
     ended_well(
         &rt,
         &ran,
-        "hello 1\nop 0 0 1 1 text ins 0 1.1 97\nping 1\nbye\n",
+        "hello 2\nop 0 0 1 1 text ins 0 1.1 97\nping 1\nbye\n",
         "site 1\nmade ins 1 1 1.1 \"a\"\nsynced\nwindow 1\ntext 1 \"a\"\nbye\n",
     );
 }
@@ -63,9 +63,25 @@ fn commands_that_make_no_edit(rt: HostRuntime) {
     ended_well(
         &rt,
         &ran,
-        "hello 1\nop 0 0 1 3 toggle set on\nbye\n",
+        "hello 2\nop 0 0 1 3 toggle set on\nbye\n",
         "site 1\nbad command\nbad command\nbad command\nrefused 4\nrefused 3\n\
         made set 1 3 on\nrefused 1\nwindow 1\ntext 1 \"\"\ntoggle 3 on\nbye\n",
+    );
+}
+
+#[test]
+fn of_two_relabels_the_own_stands_at_the_client(rt: HostRuntime) {
+    let ran = run(
+        rt.alloc(),
+        b"rel 1 2 0 \"jam\"\nrel 1 2 1 \"tea\"\nsync\nshow\nquit\n",
+        b"welcome 1 100\nwindow 1\nlist 2\nitem 0.1 tea\nready\n\
+        op 0 0 1 2 list rel 0 0.1 milk\npong 1\n",
+    );
+    ended_well(
+        &rt,
+        &ran,
+        "hello 2\nop 0 0 1 2 list rel 0 0.1 jam\nping 1\nbye\n",
+        "site 1\nmade rel 1 2 0.1 \"jam\"\nrefused 4\nsynced\nwindow 1\nlist 2 \"jam\"\nbye\n",
     );
 }
 
@@ -93,7 +109,7 @@ fn a_command_that_is_too_long(rt: HostRuntime) {
     ended_well(
         &rt,
         &ran,
-        "hello 1\nping 1\nbye\n",
+        "hello 2\nping 1\nbye\n",
         "site 1\nbad command\nsynced\nbye\n",
     );
 }
@@ -120,7 +136,7 @@ fn the_64th_edit_is_acknowledged(rt: HostRuntime) {
     ended_well(
         &rt,
         &ran,
-        "hello 1\nping 1\nack 64\nping 2\nbye\n",
+        "hello 2\nping 1\nack 64\nping 2\nbye\n",
         "site 1\nsynced\nwindow 1\ntext 1 \"\"\ntoggle 3 on\nsynced\nbye\n",
     );
 }
@@ -166,7 +182,7 @@ fn servers_that_greet_wrongly(rt: HostRuntime) {
         ("error 30\n", 30),
         ("ready\n", 44),
         ("welcom\n", 40),
-        ("hello 2\n", 42),
+        ("hello 1\n", 42),
         ("", 43),
         ("welcome 1 100\nwindow 1\n", 43),
         ("welcome 1 100\nerror 8\n", 8),
@@ -183,7 +199,7 @@ fn servers_that_greet_wrongly(rt: HostRuntime) {
         ended_in_fault(&rt, &ran, number, "");
         assert_eq!(rt;
             str::from_utf8(ran.to.as_slice()),
-            Ok("hello 1\n"),
+            Ok("hello 2\n"),
             "{from}"
         );
     }

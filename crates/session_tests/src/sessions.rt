@@ -108,7 +108,7 @@ fn ended(rt: &impl Abort, left: &Left, ending: Ending, written: &str) {
     assert_eq!(rt; str::from_utf8(left.written.as_slice()), Ok(written));
 }
 
-const TYPED: &[u8] = b"hello 1\nop 0 0 1 1 text ins 0 1.1 97\nping 7\nbye\n";
+const TYPED: &[u8] = b"hello 2\nop 0 0 1 1 text ins 0 1.1 97\nping 7\nbye\n";
 
 const TYPED_ANSWER: &str = "welcome 1 100\nwindow 1\ntext 1\nready\npong 7\nbye\n";
 
@@ -138,7 +138,7 @@ fn a_session_of_single_bytes(rt: HostRuntime) {
 
 // A line behind the greeting that ends the session in a fault, with nothing taken.
 fn is_refused<R: Threads + Wait + Sync + Abort>(rt: &R, alloc: Global, line: &str, number: u32) {
-    let from = format!(in alloc; "hello 1\n{line}").expect(rt, "there is memory");
+    let from = format!(in alloc; "hello 2\n{line}").expect(rt, "there is memory");
     let written = format!(in alloc; "{GREETING}error {number}\n").expect(rt, "there is memory");
     let left = ran(rt, alloc, from.as_bytes(), &Open);
     ended(rt, &left, Ending::Fault(number), written.as_str());
@@ -158,7 +158,7 @@ fn faults_behind_the_greeting(rt: HostRuntime) {
         ("op 00 0 1 1 text no\n", 40),
         ("pi", 43),
         ("welcome 1 100\n", 44),
-        ("hello 1\n", 44),
+        ("hello 2\n", 44),
     ] {
         is_refused(&rt, rt.alloc(), line, number);
     }
@@ -166,7 +166,7 @@ fn faults_behind_the_greeting(rt: HostRuntime) {
 
 #[test]
 fn a_line_of_300_bytes(rt: HostRuntime) {
-    let greeting: &[u8] = b"hello 1\n";
+    let greeting: &[u8] = b"hello 2\n";
     let long = [b'x'; 300];
     let left = ran(&rt, rt.alloc(), greeting.chain(long.as_slice()), &Open);
     ended(
@@ -180,9 +180,9 @@ fn a_line_of_300_bytes(rt: HostRuntime) {
 #[test]
 fn sessions_that_do_not_join(rt: HostRuntime) {
     for (from, written, ending) in [
-        ("hello 2\n", "error 42\n", Ending::Fault(42)),
+        ("hello 1\n", "error 42\n", Ending::Fault(42)),
         ("ping 1\n", "error 44\n", Ending::Fault(44)),
-        ("hello 01\n", "error 40\n", Ending::Fault(40)),
+        ("hello 02\n", "error 40\n", Ending::Fault(40)),
         ("hel", "error 43\n", Ending::Fault(43)),
         ("", "bye\n", Ending::Gone),
     ] {
@@ -193,7 +193,7 @@ fn sessions_that_do_not_join(rt: HostRuntime) {
 
 #[test]
 fn a_site_that_just_ends(rt: HostRuntime) {
-    let from: &[u8] = b"hello 1\nping 4\n";
+    let from: &[u8] = b"hello 2\nping 4\n";
     let left = ran(&rt, rt.alloc(), from, &Open);
     ended(
         &rt,
@@ -224,7 +224,7 @@ fn numbered(
 fn all_that_waits_is_written_before_bye(rt: HostRuntime) {
     let alloc = rt.alloc();
     // More than three fetches bring.
-    let from = numbered(&rt, alloc, "hello 1\n", "ping", 200, "bye\n");
+    let from = numbered(&rt, alloc, "hello 2\n", "ping", 200, "bye\n");
     let written = numbered(&rt, alloc, GREETING, "pong", 200, "bye\n");
     let left = ran(&rt, alloc, from.as_bytes(), &Open);
     ended(&rt, &left, Ending::Bye, written.as_str());
@@ -259,7 +259,7 @@ fn read_while_slow<R: Threads + Wait + Clock + Sync + Abort>(
 #[test]
 fn a_site_is_owed_at_most_1024_pongs(rt: HostRuntime) {
     let alloc = rt.alloc();
-    let from = numbered(&rt, alloc, "hello 1\n", "ping", 3_000, "bye\n");
+    let from = numbered(&rt, alloc, "hello 2\n", "ping", 3_000, "bye\n");
     let answer = numbered(&rt, alloc, GREETING, "pong", 3_000, "bye\n");
     let mut written = Vec::new(alloc);
     let read = read_while_slow(&rt, alloc, from.as_bytes(), &mut written);
@@ -281,7 +281,7 @@ impl<'a, R: Wait> Read for LeftBy<'a, R> {
     fn read(&mut self, buf: &mut [u8]) -> io::Result<usize> {
         self.reads = self.reads.saturating_add(1);
         let mut text: &[u8] = match self.reads {
-            1 => b"hello 1\n",
+            1 => b"hello 2\n",
             2 => {
                 let _ = self.hub.leave(self.rt, &mut self.pass, 1);
                 b"ping 1\n"
@@ -339,7 +339,7 @@ impl<'a, R: Wait> Read for Crossing<'a, R> {
     fn read(&mut self, buf: &mut [u8]) -> io::Result<usize> {
         self.reads = self.reads.saturating_add(1);
         if self.reads == 1 {
-            let mut hello: &[u8] = b"hello 1\n";
+            let mut hello: &[u8] = b"hello 2\n";
             return hello.read(buf);
         }
         if self.reads == 2 {
@@ -386,7 +386,7 @@ fn the_64th_edit_is_acknowledged_each_way(rt: HostRuntime) {
 
 #[test]
 fn the_read_behind_the_greeting_fails(rt: HostRuntime) {
-    let from = FailsAfter { text: b"hello 1\n" };
+    let from = FailsAfter { text: b"hello 2\n" };
     let left = ran(&rt, rt.alloc(), from, &Open);
     ended(
         &rt,
@@ -431,7 +431,7 @@ fn write_fails<R: Threads + Wait + Sync + Abort>(rt: &R, alloc: Global, writes: 
         writes,
         text: &mut text,
     };
-    let from: &[u8] = b"hello 1\nping 7\nbye\n";
+    let from: &[u8] = b"hello 2\nping 7\nbye\n";
     let (mut pass, ending) = serve_link(rt, alloc, from, to, &hub, pass, &Bell::new(), &Open);
     assert_eq!(rt;
         hub.take(rt, alloc, &mut pass, 1, &first_edit(1)),
@@ -506,7 +506,7 @@ fn a_full_order(rt: HostRuntime) {
         alloc,
         &hub,
         pass,
-        b"hello 1\nop 0 0 1 1 text ins 0 1.1 97\nop 1 0 1 1 text ins 0 1.2 97\nbye\n",
+        b"hello 2\nop 0 0 1 1 text ins 0 1.1 97\nop 1 0 1 1 text ins 0 1.2 97\nbye\n",
         Ending::Fault(32),
         "welcome 1 1\nwindow 1\ntext 1\nready\nerror 32\n",
     );
@@ -524,7 +524,7 @@ fn a_full_star(rt: HostRuntime) {
         alloc,
         &hub,
         pass,
-        b"hello 1\nbye\n",
+        b"hello 2\nbye\n",
         Ending::Fault(30),
         "error 30\n",
     );
@@ -546,7 +546,7 @@ fn a_board_that_takes_many_writes(rt: HostRuntime) {
     assert!(rt; board.len() < 100_000);
     let (hub, pass) = opened(&rt, alloc, board.as_bytes(), 100);
     let written = format!(in alloc; "welcome 1 100\n{board}ready\nbye\n").expect(&rt, "memory");
-    let from: &[u8] = b"hello 1\nbye\n";
+    let from: &[u8] = b"hello 2\nbye\n";
     served(&rt, alloc, &hub, pass, from, Ending::Bye, written.as_str());
 }
 

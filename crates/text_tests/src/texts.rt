@@ -39,6 +39,15 @@ fn a_command_is_read_from_its_one_spelling(rt: HostRuntime) -> Result<(), Fail> 
                 place: 0,
             },
         ),
+        (
+            "rel 1 2 4294967295 \"a \\\"b\\\" \\\\\"",
+            Command::Relabel {
+                win: 1,
+                wid: 2,
+                place: 4_294_967_295,
+                label,
+            },
+        ),
         ("set 1 2 on", setting(Setting::Toggle(true))),
         ("set 1 2 off", setting(Setting::Toggle(false))),
         ("set 1 2 -5", setting(Setting::Slider(-5))),
@@ -59,6 +68,10 @@ fn a_command_is_read_from_its_one_spelling(rt: HostRuntime) -> Result<(), Fail> 
         "ins 01 2 0 char \"a\"",
         "del 1 2",
         "del 1 2 0 ",
+        "rel 1 2 0",
+        "rel 1 2 0 tea",
+        "rel 1 2 0 \"\"",
+        "rel 1 2 0 item \"tea\"",
         "set 1 2 yes",
         "set 1 2 +5",
         "sync",
@@ -82,6 +95,10 @@ fn an_edit_is_printed_with_its_name(rt: HostRuntime) -> Result<(), Fail> {
             "ins 3 4 1.12 \"red\"",
         ),
         (Effect::Deleted(name), "del 3 4 1.12"),
+        (
+            Effect::Relabelled(name, Label::read(b"\"tea\"")?),
+            "rel 3 4 1.12 \"\\\"tea\\\"\"",
+        ),
         (Effect::Toggled(true), "set 3 4 on"),
         (Effect::Slid(-5), "set 3 4 -5"),
     ] {

@@ -135,7 +135,7 @@ fn bytes_of_a_layout_that_are_no_line_have_their_line(rt: HostRuntime) {
     check_fault(&rt, layout(alloc, b"window 1"), 1, 43);
     check_fault(&rt, layout(alloc, b"window 1\ntext 01\n"), 2, 40);
     check_fault(&rt, layout(alloc, &[b'x'; 256]), 1, 41);
-    check_fault(&rt, layout(alloc, b"window 1\nhello 2\n"), 2, 42);
+    check_fault(&rt, layout(alloc, b"window 1\nhello 1\n"), 2, 42);
     // The first line that has a fault counts.
     check_fault(&rt, layout(alloc, b"window 0\nwindow 01\n"), 1, 12);
 }

@@ -88,7 +88,7 @@ fn check_line(rt: &impl Abort, alloc: Global, line: &Line, text: &[u8]) {
 
 #[test]
 fn sessions_as_bytes(rt: HostRuntime) {
-    check_line(&rt, rt.alloc(), &Line::Hello, b"hello 1\n");
+    check_line(&rt, rt.alloc(), &Line::Hello, b"hello 2\n");
     let welcome = Line::Welcome {
         site: 1,
         limit: 100,
@@ -186,6 +186,25 @@ fn operations_as_bytes(rt: HostRuntime) {
 }
 
 #[test]
+fn relabels_as_bytes(rt: HostRuntime) {
+    let relabel = WidgetOp::List(SeqOp::Relabel {
+        place: 4_294_967_295,
+        name: name(65_535, 2),
+        value: label(&rt, b"red ink"),
+    });
+    let text = b"op 0 0 1 2 list rel 4294967295 65535.2 red ink\n";
+    check_line(&rt, rt.alloc(), &op(0, 0, 1, 2, relabel), text);
+    assert_eq!(rt;
+        fault_of(b"op 0 0 1 2 list rel 0 0.1"),
+        Some(WireFault::BadLine)
+    );
+    assert_eq!(rt;
+        fault_of(b"op 0 0 1 2 list rel 0.1 tea"),
+        Some(WireFault::BadLine)
+    );
+}
+
+#[test]
 fn settings_as_bytes(rt: HostRuntime) {
     for (setting, text) in [
         (
@@ -246,8 +265,8 @@ fn bytes_outside_the_grammar_are_refused(rt: HostRuntime) {
         b"ping  7\n".as_slice(),
         b"ping\n".as_slice(),
         b"\n".as_slice(),
-        b"hello 01\n".as_slice(),
-        b"hello 1 \n".as_slice(),
+        b"hello 02\n".as_slice(),
+        b"hello 2 \n".as_slice(),
         b"window 65536\n".as_slice(),
         b"slider 1 -0 1 0\n".as_slice(),
         b"slider 1 0 2147483648 0\n".as_slice(),
@@ -260,7 +279,7 @@ fn bytes_outside_the_grammar_are_refused(rt: HostRuntime) {
         assert_eq!(rt; refused.fault, Some(WireFault::BadLine));
         assert!(rt; refused.lines.as_slice().is_empty());
     }
-    let other = fed(&rt, rt.alloc(), &mut Reader::new(), b"hello 2\n");
+    let other = fed(&rt, rt.alloc(), &mut Reader::new(), b"hello 1\n");
     assert_eq!(rt; other.fault, Some(WireFault::BadVersion));
 }
 
@@ -285,7 +304,7 @@ fn lines_before_a_fault_are_given_and_none_after(rt: HostRuntime) {
     let first = fed(&rt, rt.alloc(), &mut reader, b"ping 7\npi");
     assert_eq!(rt; first.lines.as_slice().len(), 1);
     assert_eq!(rt; reader.finish(), Err(WireFault::EarlyEnd));
-    let second = fed(&rt, rt.alloc(), &mut reader, b"ng 8\nhello 2\nping 9\n");
+    let second = fed(&rt, rt.alloc(), &mut reader, b"ng 8\nhello 1\nping 9\n");
     assert_eq!(rt; second.lines.as_slice().len(), 1);
     assert_eq!(rt; second.lines.as_slice()[0], Line::Ping(8));
     assert_eq!(rt; second.fault, Some(WireFault::BadVersion));
@@ -327,7 +346,7 @@ fn text_of_256_bytes_is_long_with_its_line_feed_too(rt: HostRuntime) {
 #[test]
 fn texts_that_are_no_line_by_themselves(rt: HostRuntime) {
     assert_eq!(rt; fault_of(b"ping 07"), Some(WireFault::BadLine));
-    assert_eq!(rt; fault_of(b"hello 2"), Some(WireFault::BadVersion));
+    assert_eq!(rt; fault_of(b"hello 1"), Some(WireFault::BadVersion));
     assert_eq!(rt; fault_of(b"ping 7\n"), Some(WireFault::BadLine));
     assert_eq!(rt; feed_of(b"ping 7\nbye\n"), Some(6));
     assert_eq!(rt; feed_of(b"ping 7"), None);

@@ -1,4 +1,4 @@
-//! Sequences of many items: how many blocks they stand in, which names are found, and growths that are refused.
+//! Sequences of many items: how many blocks they stand in, which names are found, other values, and growths that are refused.
 use jup_value::{Item, Name, NoMemory, Seq};
 use std::alloc::Global;
 
@@ -77,6 +77,41 @@ fn copy_keeps_the_blocks(rt: HostRuntime) {
     let copied = seq.copy(rt.alloc()).expect(&rt, "memory");
     assert_eq!(rt; copied.blocks(), 3);
     assert!(rt; counts(&copied, 100, 300));
+}
+
+// Gives the item at a place another value.
+fn set_value(seq: &mut Seq<u32>, at: u32, value: u32) {
+    if at < seq.len() {
+        seq.set_value(at, value);
+    }
+}
+
+// The item of site 0 with this number and this value.
+fn item(number: u32, value: u32) -> Item<u32> {
+    Item {
+        name: Name { site: 0, number },
+        value,
+    }
+}
+
+// The first and the last item of each of the blocks 64, 64, 64 and 108 long.
+#[test]
+fn another_value_leaves_names_places_and_blocks(rt: HostRuntime) {
+    let mut seq = filled(rt.alloc(), 300, true).expect(&rt, "memory");
+    for at in [0, 63, 64, 127, 128, 191, 192, 299] {
+        set_value(&mut seq, at, 1000);
+        assert_eq!(rt; seq.get(at), Some(&item(at, 1000)), "place {at}");
+        assert_eq!(rt;
+            seq.place_of(Name {
+                site: 0,
+                number: at
+            }),
+            Some(at)
+        );
+        set_value(&mut seq, at, at);
+        assert!(rt; counts(&seq, 0, 300), "place {at}");
+    }
+    assert_eq!(rt; seq.blocks(), 4);
 }
 
 // As long as a layout may make a sequence, and longer.

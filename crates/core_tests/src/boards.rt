@@ -241,6 +241,60 @@ fn each_kind_of_command_is_applied(rt: HostRuntime) {
     }
 }
 
+// Window 1 has an empty text 1, and a list 2 of one item, 0.1 red.
+fn one_label(rt: &impl Abort, alloc: Global) -> Board {
+    let name = Name { site: 0, number: 1 };
+    let value = Label::read(b"red").expect(rt, "a label");
+    let mut list = Seq::new(alloc);
+    list.reserve_one().expect(rt, "there is memory");
+    if list.is_empty() && list.place_of(name).is_none() {
+        list.insert(0, Item { name, value });
+    }
+    let mut board = windows(rt, alloc, 1);
+    for (wid, widget) in [(1, Widget::Text(Seq::new(alloc))), (2, Widget::List(list))] {
+        board.add_widget(1, wid, widget).expect(rt, "it is new");
+    }
+    board
+}
+
+fn relabel(win: u16, wid: u16, place: u32, label: Label) -> Command {
+    Command::Relabel {
+        win,
+        wid,
+        place,
+        label,
+    }
+}
+
+#[test]
+fn relabels_are_refused_in_order(rt: HostRuntime) {
+    let board = one_label(&rt, rt.alloc());
+    let label = Label::read(b"z").expect(&rt, "a label");
+    for (win, wid, place, number) in [
+        (9, 9, 0, 1),
+        (1, 9, 0, 2),
+        (1, 1, 0, 3),
+        (1, 2, 1, 4),
+        (1, 2, 0, 0),
+    ] {
+        assert_eq!(rt; refusal(&board, relabel(win, wid, place, label)), number);
+    }
+}
+
+#[test]
+fn item_is_relabelled(rt: HostRuntime) {
+    let mut board = one_label(&rt, rt.alloc());
+    let label = Label::read(b"z").expect(&rt, "a label");
+    let command = relabel(1, 2, 0, label);
+    let what = Effect::Relabelled(Name { site: 0, number: 1 }, label);
+    assert!(rt; is_made(rt.alloc(), &board, &command, what, false));
+    assert!(rt; apply(rt.alloc(), &mut board, command));
+    assert!(rt; !board.same(&one_label(&rt, rt.alloc())));
+    let back = Label::read(b"red").expect(&rt, "a label");
+    assert!(rt; apply(rt.alloc(), &mut board, relabel(1, 2, 0, back)));
+    assert!(rt; board.same(&one_label(&rt, rt.alloc())));
+}
+
 // An operation on the text.
 fn on_text(op: SeqOp<char>) -> BoardOp {
     BoardOp {
@@ -304,4 +358,24 @@ fn refused_growth_leaves_the_board(rt: HostRuntime) {
             .copy(rt.alloc())
             .map_or(true, |copied| copied.same(&board))
     );
+}
+
+#[test]
+fn text_takes_no_relabel(rt: HostRuntime) {
+    let mut board = windows(&rt, rt.alloc(), 1);
+    let text = long_text(rt.alloc(), 1).expect(&rt, "there is memory");
+    let added = board.add_widget(1, 1, Widget::Text(text));
+    added.expect(&rt, "it is new");
+    let op = on_text(SeqOp::Relabel {
+        place: 0,
+        name: Name { site: 0, number: 0 },
+        value: 'z',
+    });
+    assert!(rt; !op.valid(&board));
+    let nothing = Edit {
+        win: 1,
+        wid: 1,
+        what: Effect::Nothing,
+    };
+    assert_eq!(rt; op.edit(rt.alloc()), Ok(nothing));
 }

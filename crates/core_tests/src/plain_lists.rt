@@ -79,7 +79,17 @@ fn take(seq: &mut Seq<u32>, plain: &mut Vec<Item<u32>>, at: u32) -> bool {
     seq.get(at) == plain.get(at as usize) && seq.remove(at) == plain.remove(at as usize)
 }
 
-// One call of both: an insertion more often than not while both grow, else a removal.
+// Gives the item at a place another value in both, and says whether both then have the same there.
+fn set_value(seq: &mut Seq<u32>, plain: &mut [Item<u32>], at: u32, value: u32) -> bool {
+    if at >= seq.len() || at as usize >= plain.len() {
+        return seq.is_empty() && plain.is_empty();
+    }
+    seq.set_value(at, value);
+    plain[at as usize].value = value;
+    seq.get(at) == plain.get(at as usize)
+}
+
+// One call of both: often another value, else an insertion more often than not while both grow, else a removal.
 fn play(
     dice: &mut Dice,
     seq: &mut Seq<u32>,
@@ -87,6 +97,11 @@ fn play(
     grows: bool,
 ) -> Result<bool, NoMemory> {
     let len = seq.len();
+    if dice.roll(4) == 0 {
+        let at = dice.place(len.saturating_sub(1));
+        let value = dice.roll(1000);
+        return Ok(set_value(seq, plain, at, value));
+    }
     if (dice.roll(8) == 0) == grows {
         let at = dice.place(len.saturating_sub(1));
         return Ok(take(seq, plain, at));

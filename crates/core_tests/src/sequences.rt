@@ -21,6 +21,15 @@ fn delete(place: u32, number: u32) -> TextOp {
     }
 }
 
+// The relabel at a place of such an item.
+fn relabel(place: u32, number: u32, value: char) -> TextOp {
+    SeqOp::Relabel {
+        place,
+        name: Name { site: 0, number },
+        value,
+    }
+}
+
 // Applies an operation where it is valid and there is memory, and says whether it did.
 fn attempt<T: Transform>(alloc: Global, op: &T, state: &mut T::State) -> bool
     requires { T.can_reserve 0 }
@@ -112,6 +121,48 @@ fn deletion_moves_up_past_an_insertion_at_its_place(rt: HostRuntime) {
 }
 
 #[test]
+fn relabel_moves_with_its_item(rt: HostRuntime) {
+    for (own, other, moved, end) in [
+        (
+            relabel(1, 2, 'z'),
+            insert(1, 2, 'y'),
+            relabel(2, 2, 'z'),
+            "pyzr",
+        ),
+        (
+            relabel(1, 2, 'z'),
+            insert(2, 2, 'y'),
+            relabel(1, 2, 'z'),
+            "pzyr",
+        ),
+        (relabel(2, 3, 'z'), delete(0, 1), relabel(1, 3, 'z'), "qz"),
+        (relabel(0, 1, 'z'), delete(2, 3), relabel(0, 1, 'z'), "zq"),
+        (relabel(1, 2, 'z'), delete(1, 2), SeqOp::Nothing, "pr"),
+        (
+            relabel(1, 2, 'z'),
+            SeqOp::Nothing,
+            relabel(1, 2, 'z'),
+            "pzr",
+        ),
+    ] {
+        assert_eq!(rt; pair(own, other), (moved, other));
+        assert!(rt; meet(rt.alloc(), "pqr", own, other, end));
+        assert_eq!(rt; pair(other, own), (other, moved));
+        assert!(rt; meet(rt.alloc(), "pqr", other, own, end));
+    }
+}
+
+#[test]
+fn of_two_relabels_of_one_item_the_clients_stands(rt: HostRuntime) {
+    let (c, s) = (relabel(1, 2, 'c'), relabel(1, 2, 's'));
+    assert_eq!(rt; pair(c, s), (c, SeqOp::Nothing));
+    assert!(rt; meet(rt.alloc(), "pqr", c, s, "pcr"));
+    let (c, s) = (relabel(0, 1, 'c'), relabel(2, 3, 's'));
+    assert_eq!(rt; pair(c, s), (c, s));
+    assert!(rt; meet(rt.alloc(), "pqr", c, s, "cqs"));
+}
+
+#[test]
 fn insertion_goes_across_a_queue(rt: HostRuntime) {
     let mut op = insert(0, 1, 'a');
     let mut queue = [delete(0, 1), insert(0, 2, 'x')];
@@ -142,4 +193,36 @@ fn label_is_put_into_a_list_and_deleted(rt: HostRuntime) {
     assert!(rt; !attempt(rt.alloc(), &put, &mut list));
     assert!(rt; attempt(rt.alloc(), &gone, &mut list));
     assert!(rt; list.is_empty());
+}
+
+#[test]
+fn label_is_given_to_the_item_of_its_name_alone(rt: HostRuntime) {
+    let name = Name { site: 1, number: 1 };
+    let red = Label::read(b"red").expect(&rt, "a label");
+    let green = Label::read(b"green").expect(&rt, "a label");
+    let item = Item { name, value: red };
+    let put: ListOp = SeqOp::Insert { place: 0, item };
+    let relabel: ListOp = SeqOp::Relabel {
+        place: 0,
+        name,
+        value: green,
+    };
+    assert_eq!(rt;
+        relabel.edit(rt.alloc()),
+        Ok(SeqEdit::Relabelled(name, green))
+    );
+    assert_eq!(rt; relabel.copy(rt.alloc()), Ok(relabel));
+    assert!(rt; relabel.apart(&put) && put.apart(&relabel) && put.fresh_after(&relabel));
+
+    let mut list = Seq::new(rt.alloc());
+    assert!(rt; !attempt(rt.alloc(), &relabel, &mut list));
+    assert!(rt; attempt(rt.alloc(), &put, &mut list));
+    assert!(rt; attempt(rt.alloc(), &relabel, &mut list));
+    assert_eq!(rt; list.get(0), Some(&Item { name, value: green }));
+    let other: ListOp = SeqOp::Relabel {
+        place: 0,
+        name: Name { site: 1, number: 2 },
+        value: red,
+    };
+    assert!(rt; !attempt(rt.alloc(), &other, &mut list));
 }

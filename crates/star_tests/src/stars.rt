@@ -120,12 +120,22 @@ fn a_stranger_is_refused_by_name_and_no_other_site_is(rt: HostRuntime) {
         wid: 1,
         op: WidgetOp::Text(SeqOp::Nothing),
     };
+    let text_relabel = BoardOp {
+        win: 1,
+        wid: 1,
+        op: WidgetOp::Text(SeqOp::Relabel {
+            place: 0,
+            name: first_of(1),
+            value: 'a',
+        }),
+    };
     for (mine, heard, op, number) in [
         (1, 0, insertion(0, first_of(2)), 20),
         (0, 5, insertion(0, first_of(2)), 21),
         (0, 0, insertion(0, first_of(1)), 22),
         (0, 0, insertion(99, first_of(2)), 23),
         (0, 0, nothing, 24),
+        (0, 0, text_relabel, 24),
     ] {
         assert_eq!(rt; refusal_of_two(&rt, rt.alloc(), mine, heard, op), number);
     }

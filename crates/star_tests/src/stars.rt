@@ -4,7 +4,7 @@ ghost use Rattle.jup_star.specs.Openings.{IsShort};
 
 use jup_link::Msg;
 use jup_seq::SeqOp;
-use jup_star::{Down, Made, Site, SiteFault, Star, StarFault, Up, is_short};
+use jup_star::{Down, Entry, Made, OpenFault, Site, SiteFault, Star, StarFault, Up, is_short};
 use jup_value::{Item, Name, Seq};
 use jup_window::{Board, BoardOp, Command, Edit, EditFault, Setting, Value, Widget, WidgetOp};
 use std::alloc::Global;
@@ -99,18 +99,25 @@ fn first_message(op: BoardOp) -> Up {
     })
 }
 
+// The number of a star's fault, or 0.
+fn star_number(fault: Option<StarFault>) -> u32 {
+    match fault {
+        Some(fault) => fault.number(),
+        None => 0,
+    }
+}
+
 // The number of the fault that a star has in an edit of site 2, after which site 2 has no link and the
 // edit of site 1 is taken.
 fn refusal_of_two(rt: &impl Abort, alloc: Global, mine: u32, heard: u32, op: BoardOp) -> u32 {
     let mut star = star_of_two(rt, alloc);
     let refused = star.take(alloc, 2, &Up::Op(Msg { mine, heard, op }));
-    let number = refused.err().map_or(0, |fault| fault.number());
     assert_eq!(rt; star.take(alloc, 2, &Up::Ping(7)), Err(StarFault::NoLink));
     assert!(rt; reads(star.board(), ""));
     let next = first_message(insertion(0, first_of(1)));
     assert_eq!(rt; star.take(alloc, 1, &next), Ok(Some(0)));
     assert!(rt; reads(star.board(), "a"));
-    number
+    star_number(refused.err())
 }
 
 #[test]
@@ -141,16 +148,32 @@ fn a_stranger_is_refused_by_name_and_no_other_site_is(rt: HostRuntime) {
     }
 }
 
+// The number of a site's fault, or 0.
+fn site_number(fault: Option<SiteFault>) -> u32 {
+    match fault {
+        Some(fault) => fault.number(),
+        None => 0,
+    }
+}
+
+// The number of an edit's refusal, or 0.
+fn edit_number(fault: Option<EditFault>) -> u32 {
+    match fault {
+        Some(fault) => fault.number(),
+        None => 0,
+    }
+}
+
 // The number of the fault that site 1 has in a message, after which it has stopped with its board as it was.
 fn refusal_of_one(rt: &impl Abort, alloc: Global, down: &Down) -> u32 {
     let mut site = lone_site(rt, alloc, 1);
     let refused = site.deliver(alloc, down);
     let edited = site.edit(alloc, &insert(0, 'a'));
-    assert_eq!(rt; edited.err().map(|fault| fault.number()), Some(25));
+    assert_eq!(rt; edit_number(edited.err()), 25);
     let pong = site.deliver(alloc, &Down::Pong(0));
     assert_eq!(rt; pong, Err(SiteFault::Stopped));
     assert!(rt; reads(site.board(), ""));
-    refused.err().map_or(0, |fault| fault.number())
+    site_number(refused.err())
 }
 
 #[test]
@@ -166,10 +189,18 @@ fn a_site_stops_at_a_bad_message(rt: HostRuntime) {
     }
 }
 
+// The number of the fault with which a star or a site is not opened, or 0.
+fn open_number(fault: Option<OpenFault>) -> u32 {
+    match fault {
+        Some(fault) => fault.number(),
+        None => 0,
+    }
+}
+
 // The number of the fault with which a site is not opened, or 0.
 fn site_refusal(alloc: Global, number: u32, board: Board) -> u32 {
     let site = Site::open(alloc, number, LIMIT, board);
-    site.err().map_or(0, |fault| fault.number())
+    open_number(site.err())
 }
 
 #[test]
@@ -189,7 +220,7 @@ fn star_refusal(alloc: Global, board: Board, limit: u32) -> u32
     requires { EachWidget IsShort board }
 {
     let star = Star::open(alloc, board, limit);
-    star.err().map_or(0, |fault| fault.number())
+    open_number(star.err())
 }
 
 #[test]
@@ -211,7 +242,7 @@ fn sixty_four_sites_join(rt: HostRuntime) {
         joins(&rt, alloc, &mut star);
     }
     let more = star.join(alloc);
-    assert_eq!(rt; more.err().map(|fault| fault.number()), Some(30));
+    assert_eq!(rt; star_number(more.err()), 30);
     assert_eq!(rt; star.leave(7), Ok(()));
     assert_eq!(rt; joins(&rt, alloc, &mut star), 65);
 }
@@ -225,7 +256,7 @@ fn each_site_number_is_given_once(rt: HostRuntime) {
         assert_eq!(rt; star.leave(number), Ok(()));
     }
     let more = star.join(alloc);
-    assert_eq!(rt; more.err().map(|fault| fault.number()), Some(31));
+    assert_eq!(rt; star_number(more.err()), 31);
 }
 
 // The third site of a star, from which two have come and one has gone.
@@ -296,10 +327,9 @@ fn raced(rt: &impl Abort, alloc: Global) -> Race {
 fn the_order_has_edits_as_they_were_made(rt: HostRuntime) {
     let race = raced(&rt, rt.alloc());
     assert_eq!(rt; race.places, [Ok(Some(0)), Ok(Some(1))]);
-    let order = race.star.order();
-    assert_eq!(rt; order.len(), 2);
-    assert_eq!(rt; (order[0].site, order[1].site), (1, 2));
-    assert_eq!(rt; [order[0].edit, order[1].edit], race.edits);
+    let [a, x] = race.edits;
+    let wanted = [Entry { site: 1, edit: a }, Entry { site: 2, edit: x }];
+    assert_eq!(rt; race.star.order(), wanted.as_slice());
 }
 
 #[test]
@@ -369,7 +399,7 @@ fn a_site_makes_1024_edits_without_an_acknowledgement(rt: HostRuntime) {
         assert!(rt; site.edit(alloc, &switch_on()).is_ok());
     }
     let more = site.edit(alloc, &switch_on());
-    assert_eq!(rt; more.err().map(|fault| fault.number()), Some(7));
+    assert_eq!(rt; edit_number(more.err()), 7);
     assert_eq!(rt; site.deliver(alloc, &Down::Ack(64)), Ok(None));
     assert!(rt; site.edit(alloc, &switch_on()).is_ok());
     assert_eq!(rt; site.backlog(), 961);
@@ -383,20 +413,28 @@ fn a_ping_is_answered(rt: HostRuntime) {
     let downs = star.fetch(alloc, 1, 1).expect(&rt, "memory");
     assert_eq!(rt; downs.as_slice(), [Down::Pong(7)].as_slice());
     let absent = star.fetch(alloc, 9, 1);
-    assert_eq!(rt; absent.err().map(|fault| fault.number()), Some(33));
+    assert_eq!(rt; star_number(absent.err()), 33);
 }
 
 // Run these with each allocation refused in turn: a call that lacks memory changes nothing, and made again
 // it gives its answer. What the test itself lacks ends it.
 
+// The number that the next site is given, or why there is none.
+fn next_number(alloc: Global, star: &mut Star) -> Result<u32, StarFault> {
+    match star.join(alloc) {
+        Ok(joined) => Ok(joined.site),
+        Err(fault) => Err(fault),
+    }
+}
+
 #[test]
 fn a_join_that_lacks_memory_gives_no_number(rt: HostRuntime) {
     let alloc = rt.alloc();
     let mut star = opened(&rt, alloc);
-    let mut number = star.join(alloc).map(|joined| joined.site);
+    let mut number = next_number(alloc, &mut star);
     if number == Err(StarFault::NoMemory) {
         assert_eq!(rt; star.waiting(1), None);
-        number = star.join(alloc).map(|joined| joined.site);
+        number = next_number(alloc, &mut star);
     }
     assert_eq!(rt; number, Ok(1));
 }
@@ -420,6 +458,13 @@ fn an_edit_that_lacks_memory_is_not_shown(rt: HostRuntime) {
     assert!(rt; reads(site.board(), "a"));
 }
 
+// The star shows nothing, and sends site 2 nothing.
+fn took_nothing(rt: &impl Abort, star: &Star) {
+    assert!(rt; reads(star.board(), ""));
+    assert_eq!(rt; star.order().len(), 0);
+    assert_eq!(rt; star.waiting(2), Some(0));
+}
+
 #[test]
 fn an_edit_that_the_star_lacks_memory_for_is_not_sent(rt: HostRuntime) {
     let alloc = rt.alloc();
@@ -427,9 +472,7 @@ fn an_edit_that_the_star_lacks_memory_for_is_not_sent(rt: HostRuntime) {
     let up = first_message(insertion(0, first_of(1)));
     let mut place = star.take(alloc, 1, &up);
     if place == Err(StarFault::NoMemory) {
-        assert!(rt; reads(star.board(), ""));
-        assert_eq!(rt; star.order().len(), 0);
-        assert_eq!(rt; star.waiting(2), Some(0));
+        took_nothing(&rt, &star);
         place = star.take(alloc, 1, &up);
     }
     assert_eq!(rt; place, Ok(Some(0)));

@@ -172,21 +172,41 @@ fn insertion_goes_across_a_queue(rt: HostRuntime) {
     assert_eq!(rt; queue[1], insert(1, 2, 'x'));
 }
 
+const FIRST: Name = Name { site: 1, number: 1 };
+
+// The insertion of a label at the head of a list.
+fn put_in(value: Label) -> ListOp {
+    SeqOp::Insert {
+        place: 0,
+        item: Item { name: FIRST, value },
+    }
+}
+
+// The deletion of that label, written over another operation.
+fn taken_out() -> ListOp {
+    let mut gone = SeqOp::Nothing;
+    SeqOp::Delete {
+        place: 0,
+        name: FIRST,
+    }
+    .write_to(&mut gone);
+    gone
+}
+
+#[test]
+fn operations_on_a_list_are_copied_and_told_apart(rt: HostRuntime) {
+    let red = Label::read(b"red").expect(&rt, "a label");
+    let (put, gone) = (put_in(red), taken_out());
+    assert!(rt; put.edit(rt.alloc()) == Ok(SeqEdit::Put(FIRST, red)));
+    assert!(rt; gone.edit(rt.alloc()) == Ok(SeqEdit::Deleted(FIRST)));
+    assert!(rt; put.copy(rt.alloc()) == Ok(put));
+    assert!(rt; put.apart(&gone) && !put.apart(&put) && !put.fresh_after(&gone));
+}
+
 #[test]
 fn label_is_put_into_a_list_and_deleted(rt: HostRuntime) {
-    let name = Name { site: 1, number: 1 };
-    let value = Label::read(b"red").expect(&rt, "a label");
-    let put: ListOp = SeqOp::Insert {
-        place: 0,
-        item: Item { name, value },
-    };
-    let mut gone: ListOp = SeqOp::Nothing;
-    SeqOp::Delete { place: 0, name }.write_to(&mut gone);
-    assert_eq!(rt; put.edit(rt.alloc()), Ok(SeqEdit::Put(name, value)));
-    assert_eq!(rt; gone.edit(rt.alloc()), Ok(SeqEdit::Deleted(name)));
-    assert_eq!(rt; put.copy(rt.alloc()), Ok(put));
-    assert!(rt; put.apart(&gone) && !put.apart(&put) && !put.fresh_after(&gone));
-
+    let put = put_in(Label::read(b"red").expect(&rt, "a label"));
+    let gone = taken_out();
     let mut list = Seq::new(rt.alloc());
     assert!(rt; !attempt(rt.alloc(), &gone, &mut list));
     assert!(rt; attempt(rt.alloc(), &put, &mut list));

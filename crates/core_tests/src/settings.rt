@@ -1,79 +1,100 @@
+//! Which values a slider takes, two settings at once, a setting past a queue, and each call once.
 use jup_setting::{BadBounds, SetOp, SettingEdit, Slider, Toggle};
 use jup_xform::{Side, Transform, across, meet};
-use std::test::Fail;
 
 const ON: SetOp<bool> = SetOp::Set(true);
 
 const OFF: SetOp<bool> = SetOp::Set(false);
 
+const NOTHING: SetOp<bool> = SetOp::Nothing;
+
+// The bounds and the value of a slider, where there is such a one.
+fn parts(lo: i32, hi: i32, value: i32) -> Result<[i32; 3], BadBounds> {
+    match Slider::new(lo, hi, value) {
+        Ok(slider) => Ok([slider.lo(), slider.hi(), slider.value()]),
+        Err(bad) => Err(bad),
+    }
+}
+
 #[test]
-fn a_slider_holds_the_values_within_its_bounds(rt: HostRuntime) -> Result<(), Fail> {
-    let slider = Slider::new(0, 10, 5)?;
-    assert_eq!(rt; (slider.lo(), slider.hi(), slider.value()), (0, 10, 5));
+fn a_slider_holds_the_values_within_its_bounds(rt: HostRuntime) {
+    assert_eq!(rt; parts(0, 10, 5), Ok([0, 10, 5]));
+    assert_eq!(rt; parts(i32::MIN, i32::MIN, i32::MIN), Ok([i32::MIN; 3]));
+    assert_eq!(rt; BadBounds.number(), 13);
+}
+
+#[test]
+fn there_is_no_slider_with_other_values(rt: HostRuntime) {
     for (lo, hi, value) in [(5, 4, 5), (0, 10, 11), (0, 10, -1)] {
         assert_eq!(rt;
-            Slider::new(lo, hi, value),
+            parts(lo, hi, value),
             Err(BadBounds),
             "{value} from {lo} to {hi}"
         );
     }
-    assert_eq!(rt;
-        Slider::new(i32::MIN, i32::MIN, i32::MIN)?.value(),
-        i32::MIN
-    );
-    assert_eq!(rt; BadBounds.number(), 13);
-    for (op, valid) in [
-        (SetOp::Set(10), true),
-        (SetOp::Set(11), false),
-        (SetOp::Set(-1), false),
-        (SetOp::Nothing, true),
-    ] {
-        assert_eq!(rt; op.valid(&slider), valid, "{op:?}");
-    }
-    Ok(())
 }
 
 #[test]
-fn the_later_of_two_settings_stands_at_both_ends(rt: HostRuntime) -> Result<(), Fail> {
+fn a_setting_is_valid_within_the_bounds(rt: HostRuntime) {
+    let slider = Slider::new(0, 10, 5).expect(&rt, "5 is from 0 to 10");
+    for (value, valid) in [(10, true), (11, false), (-1, false)] {
+        assert_eq!(rt; SetOp::Set(value).valid(&slider), valid, "{value}");
+    }
+    assert!(rt; SetOp::<i32>::Nothing.valid(&slider));
+}
+
+#[test]
+fn the_later_of_two_settings_stands_at_both_ends(rt: HostRuntime) {
     let mut client = Toggle { on: false };
     let mut server = Toggle { on: false };
     meet(&mut client, &mut server, ON, OFF);
-    assert_eq!(rt; (client.on, server.on), (true, true));
+    assert!(rt; client.on && server.on);
+}
 
-    let mut client = Slider::new(0, 10, 5)?;
+#[test]
+fn a_setting_beside_none_stands_at_both_ends(rt: HostRuntime) {
+    let mut client = Slider::new(0, 10, 5).expect(&rt, "5 is from 0 to 10");
     let mut server = client;
     meet(&mut client, &mut server, SetOp::Nothing, SetOp::Set(3));
-    assert_eq!(rt; (client.value(), server.value()), (3, 3));
-    Ok(())
+    assert_eq!(rt; [client.value(), server.value()], [3, 3]);
+}
+
+// What a setting and a queue become as they pass.
+fn passed(
+    mut op: SetOp<bool>,
+    mut queue: [SetOp<bool>; 3],
+    side: Side,
+) -> (SetOp<bool>, [SetOp<bool>; 3]) {
+    across(&mut op, &mut queue, side);
+    (op, queue)
 }
 
 #[test]
 fn a_setting_passes_a_queue(rt: HostRuntime) {
-    let mut op = ON;
-    let mut queue = [OFF, SetOp::Nothing, OFF];
-    across(&mut op, &mut queue, Side::Server);
-    assert_eq!(rt; op, ON);
-    assert_eq!(rt; queue, [SetOp::Nothing, SetOp::Nothing, SetOp::Nothing]);
-
-    let mut op = ON;
-    let mut queue = [SetOp::Nothing, OFF];
-    across(&mut op, &mut queue, Side::Client);
-    assert_eq!(rt; op, SetOp::Nothing);
-    assert_eq!(rt; queue, [SetOp::Nothing, OFF]);
+    for (queue, side, op, after) in [
+        ([OFF, NOTHING, OFF], Side::Server, ON, [NOTHING; 3]),
+        (
+            [NOTHING, NOTHING, OFF],
+            Side::Client,
+            NOTHING,
+            [NOTHING, NOTHING, OFF],
+        ),
+    ] {
+        let (moved, past) = passed(ON, queue, side);
+        assert!(rt; moved == op && past == after);
+    }
 }
 
 #[test]
-fn copies_and_edits_take_no_memory(rt: HostRuntime) -> Result<(), Fail> {
-    assert_eq!(rt; ON.copy(rt.alloc())?, ON);
-    assert_eq!(rt; ON.edit(rt.alloc())?, SettingEdit::Set(true));
-    assert_eq!(rt;
-        SetOp::<i32>::Nothing.edit(rt.alloc())?,
-        SettingEdit::Nothing
-    );
+fn copies_and_edits_take_no_memory(rt: HostRuntime) {
+    assert!(rt; ON.copy(rt.alloc()) == Ok(ON));
+    assert!(rt; ON.edit(rt.alloc()) == Ok(SettingEdit::Set(true)));
+    let nothing = SetOp::<i32>::Nothing.edit(rt.alloc());
+    assert!(rt; nothing == Ok(SettingEdit::Nothing));
     let mut into = OFF;
     ON.write_to(&mut into);
-    assert_eq!(rt; into, ON);
-    ON.reserve(rt.alloc(), 7, &mut Toggle { on: false })?;
+    assert!(rt; into == ON);
+    let mut toggle = Toggle { on: false };
+    assert!(rt; ON.reserve(rt.alloc(), 7, &mut toggle).is_ok());
     assert!(rt; ON.apart(&OFF) && ON.fresh_after(&OFF));
-    Ok(())
 }

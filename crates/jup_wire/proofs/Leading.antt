@@ -5,7 +5,8 @@ use Rattle.std.proofs.lemmas.Bool.{and_parts, and_from, eq-eqb, ne_eqb, not_from
 use Rattle.std.proofs.lemmas.Fmt.{decimal_is_IsNumeral}
 use Rattle.std.proofs.lemmas.List.{take-append-le, take_more, get_or_append_left, get_or-take, length-take}
 use Rattle.jup_wire.specs.Reading.{◌>>=◌, with_rest, split_of, field_of, number_of, id_of}
-use Rattle.jup_wire.proofs.Numbers.{IsValueOf, Continues, number_takes, number_of_none, number_of_zeros, number_from_value, digits_of_decimal, value_ends}
+use Rattle.jup_number.proofs.Numbers.{IsValueOf, Continues, value_ends}
+use Rattle.jup_wire.proofs.Numbers.{number_takes, number_of_none, number_of_zeros, number_from_value, digits_of_decimal}
 use Rattle.jup_wire.proofs.Splits.{lacks, lacks-append, split_parts, split_again, split_lacks}
 
 -- a field, by where its separator stands

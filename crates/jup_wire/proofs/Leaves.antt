@@ -20,8 +20,10 @@ use Rattle.jup_value.specs.Labels.{IsLabelText}
 use Rattle.jup_value.specs.declared.labels.BadLabel.{BadLabel}
 use Rattle.jup_wire.specs.Grammar.{name_text, switch_text, IsU32, IsId, IsInt, IsName}
 use Rattle.jup_wire.specs.Reading.{◌>>=◌, pair_of, number_of, id_of, scalar_of, int_of, name_of, switch_of, is_label, label_of}
-use Rattle.jup_wire.proofs.Options.{bind_some}
-use Rattle.jup_wire.proofs.Numbers.{number_takes, number_again, digits_of_decimal, digit_below}
+use Rattle.jup_number.specs.Spelled.{IsReadingOf}
+use Rattle.jup_number.proofs.Numbers.{digit_below}
+use Rattle.jup_wire.proofs.Options.{bind_some, none_from}
+use Rattle.jup_wire.proofs.Numbers.{number_takes, number_again, digits_of_decimal}
 use Rattle.jup_wire.proofs.Splits.{lacks, lacks-append}
 use Rattle.jup_wire.proofs.Readers.{IsReader, IsField, pair_reader}
 
@@ -216,6 +218,11 @@ int_again (negsuc n) is =
     let small : n < 2 ^ 31 = is.sfits in
     let passes : (ltb 0 (suc n) && leb (suc n) (2 ^ 31)) ≡ true = and_from (ltb 0 (suc n)) (leb (suc n) (2 ^ 31)) (lt-ltb 0 (suc n) (omega arith)) (le-leb (suc n) (2 ^ 31) (omega arith)) in
     rw (number_again (suc n) (omega arith), passes) refl
+
+-- what reads the one spelling reads so
+pub int_is : (bytes : List ℕ) (r : Option ℤ) → IsReadingOf signed_decimal IsInt bytes r → r ≡ int_of bytes
+int_is bytes (Some z) read = sym (ap int_of read.1 ∙ int_again z read.0)
+int_is bytes None none = sym (none_from (int_of bytes) (λ z e. let t = int_takes bytes z e in none z t.0 t.1))
 
 pub int_reader : IsReader int_of signed_decimal IsInt 11
 int_reader = record {

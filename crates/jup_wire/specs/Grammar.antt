@@ -1,9 +1,9 @@
 -- The lines and their bytes: the fields of a line with one space between them, and a line feed at the end.
-use Rattle.std.specs.Prelude.{◌≡◌, ◌≢◌, ℕ, ◌^◌, ◌<◌, ℤ, Bool, true, false, List, [], ◌∷◌, ◌++◌, codes, decimal, FitsSigned, refl}
-use Rattle.std.specs.Int.{w32}
+use Rattle.std.specs.Prelude.{◌≡◌, ◌≢◌, ℕ, ◌^◌, ◌<◌, Bool, true, false, List, [], ◌∷◌, ◌++◌, codes, decimal, refl}
 use Rattle.std.specs.Fmt.{signed_decimal, digits}
 use Rattle.std.specs.Char.{IsScalar}
 use Rattle.std.specs.List.{join_with_byte}
+pub use Rattle.jup_number.specs.Numbers.{IsU32, IsInt}
 use Rattle.jup_value.specs.Labels.{IsLabelText}
 use Rattle.jup_value.specs.declared.names.Name.{Name}
 use Rattle.jup_seq.specs.declared.operations.SeqOp.{SeqOp}
@@ -76,14 +76,8 @@ abbrev pub spelling : Line → List ℕ
 spelling line = line_text line ++ 10 ∷ []
 
 -- the ranges of the numbers and texts that a line may hold
-abbrev pub IsU32 : ℕ → Type 0
-IsU32 n = n < 2 ^ 32
-
 abbrev pub IsId : ℕ → Type 0
 IsId n = n < 2 ^ 16
-
-abbrev pub IsInt : ℤ → Type 0
-IsInt z = FitsSigned w32 z
 
 abbrev pub IsName : Name → Type 0
 IsName name = IsU32 name.site × IsU32 name.number

@@ -1,11 +1,10 @@
 //! The fields of a line, read one after the other.
 
-ghost use Rattle.std.specs.Prelude.{◌≡◌, ◌==◌, length, IfSome, position, ℕ, ◌+◌, ◌*◌, ◌<◌, ◌^◌, List, take, drop, Option};
-ghost use Rattle.std.specs.Char.{digit_value};
-ghost use Rattle.std.specs.Option.{SomeIff};
+ghost use Rattle.std.specs.Prelude.{◌≡◌, ◌==◌, length, IfSome, position, ℕ, ◌+◌, ◌<◌, List, take, drop, Option};
 ghost use Rattle.std.specs.Str.Parse.{AllDigits, digits_value};
 ghost use Rattle.jup_wire.specs.Reading.{Gives, with_rest, split_of, field_of, number_of, id_of, scalar_of, int_of, name_of, switch_of, label_of};
 
+use jup_number::{read_integer, read_number, with_digit};
 use jup_value::{Label, Name};
 use memchr::memchr;
 
@@ -120,16 +119,8 @@ impl FieldValue for char {
 impl FieldValue for i32 {
     ghost read_of = { int_of };
 
-    #[tactic(auto, unfolding(crate::specs::Reading::int_of))]
     fn read(bytes: &[u8]) -> Option<i32> {
-        if bytes.is_empty() || bytes[0] != b'-' {
-            return i32::try_from(number(bytes)?).ok();
-        }
-        let magnitude = number(&bytes[1..])?;
-        if magnitude == 0 {
-            return None;
-        }
-        i32::try_from(-i64::from(magnitude)).ok()
+        read_integer(bytes)
     }
 }
 
@@ -174,33 +165,5 @@ impl FieldValue for Label {
 pub(crate) fn number(digits: &[u8]) -> Option<u32>
     ensures { result ≡ number_of digits.now }
 {
-    if digits.is_empty() {
-        return None;
-    }
-    if digits[0] == b'0' && digits.len() > 1 {
-        return None;
-    }
-    value_of(digits)
-}
-
-/// The number that the digits write, leading zeros or not.
-fn value_of(digits: &[u8]) -> Option<u32>
-    ensures { SomeIff result (AllDigits 10 digits.now × (digits_value 10 digits.now < 2 ^ 32)) (digits_value 10 digits.now) }
-{
-    let mut value = 0;
-    for digit in digits {
-        value = with_digit(value, *digit)?;
-    }
-    Some(value)
-}
-
-/// The number with one more digit at its end.
-fn with_digit(value: u32, digit: u8) -> Option<u32>
-    ensures { SomeIff result ((digit_value digit < 10) × (value * 10 + digit_value digit < 2 ^ 32)) (value * 10 + digit_value digit) }
-{
-    if !digit.is_ascii_digit() {
-        return None;
-    }
-    let next = u64::from(value) * 10 + u64::from(digit - b'0');
-    u32::try_from(next).ok()
+    read_number(digits)
 }

@@ -1,5 +1,5 @@
 use Rattle.std.proofs.Common.{◌≡◌, true, take}
-use Rattle.jup_wire.proofs.Numbers.{IsValueOf}
+use Rattle.jup_number.proofs.Numbers.{IsValueOf}
 use Rattle.jup_wire.proofs.Splits.{lacks}
 use Rattle.jup_wire.proofs.fields.number_before.Given as goal
 

@@ -1,1 +1,4 @@
 pub mod Numbering
+pub mod Hexadecimals
+pub mod Quoting
+pub mod LabelQuotes

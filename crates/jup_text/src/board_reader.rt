@@ -2,7 +2,7 @@
 //! the whole board in the order of its lines.
 
 use self::numbered::Numbered;
-use super::quoted::{inside, next_char, next_quoted_label};
+use super::quoted::{is_end, next_char, next_quoted_label, opened};
 use super::words::{read_id, read_integer, read_switch};
 use jup_setting::{Slider, Toggle};
 use jup_value::Label;
@@ -106,13 +106,16 @@ impl BoardReader {
 // The items of a quoted text, numbered after the last.
 fn read_text(alloc: Global, last: u32, text: &str) -> Result<Numbered<char>, Untaken> {
     let mut items = Numbered::new(alloc, last);
-    let mut rest = inside(text).ok_or(Untaken::BadLine)?;
-    while !rest.is_empty() {
-        let (value, later) = next_char(rest).ok_or(Untaken::BadLine)?;
+    let mut rest = opened(text.as_bytes()).ok_or(Untaken::BadLine)?;
+    while let Some((value, later)) = next_char(rest) {
         items.push(value)?;
         rest = later;
     }
-    Ok(items)
+    if is_end(rest) {
+        Ok(items)
+    } else {
+        Err(Untaken::BadLine)
+    }
 }
 
 // A list's id, and what follows it: a space and a label for each item.
@@ -128,9 +131,11 @@ fn read_labels(alloc: Global, last: u32, labels: &[u8]) -> Result<Numbered<Label
     let mut items = Numbered::new(alloc, last);
     let mut rest = labels;
     while let [b' ', label @ ..] = rest {
-        let (value, len) = next_quoted_label(label).ok_or(Untaken::BadLine)?;
+        let Some((value, later)) = next_quoted_label(label) else {
+            return Err(Untaken::BadLine);
+        };
         items.push(value)?;
-        rest = &label[len..];
+        rest = later;
     }
     match rest {
         [] => Ok(items),

@@ -1,5 +1,5 @@
 use Rattle.std.proofs.Common.{length}
 use Rattle.jup_text.proofs.board_reader.read_text.Given as goal
 
-abbrev pub decreases-loop-rest : goal.decreases-loop-rest
-decreases-loop-rest l = length l.rest
+abbrev pub decreases-loop-value : goal.decreases-loop-value
+decreases-loop-value l = length l.rest

@@ -1,9 +1,15 @@
-use Rattle.std.proofs.Common.{◌<◌, ◌≤◌, length}
+use Rattle.std.proofs.Common.{◌≡◌, ◌<◌, ◌≤◌, length, take}
+use Rattle.jup_text.proofs.Quoting.{HasRead}
 use Rattle.jup_text.proofs.quoted.next_quoted_label.Given as goal
 
--- the bytes so far have room, and the quote was read
+-- the bytes so far have room, and are what was read
 abbrev pub invariant-loop-value : goal.invariant-loop-value
-invariant-loop-value l = (l.len ≤ 48) × (length l.rest < length l.text)
+invariant-loop-value l = record {
+  held : length l.bytes ≡ 48;
+  room : l.len ≤ 48;
+  read : HasRead l.text (take l.len l.bytes) l.rest;
+  shorter : length l.rest < length l.text;
+}
 
 abbrev pub decreases-loop-value : goal.decreases-loop-value
 decreases-loop-value l = length l.rest

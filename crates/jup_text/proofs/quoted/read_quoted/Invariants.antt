@@ -1,9 +1,13 @@
 use Rattle.std.proofs.Common.{◌+◌, ◌≤◌, length, vec_len}
+use Rattle.jup_text.proofs.Quoting.{HasRead}
 use Rattle.jup_text.proofs.quoted.read_quoted.Given as goal
 
--- each character took a byte at least
-abbrev pub invariant-loop-rest : goal.invariant-loop-rest
-invariant-loop-rest l = vec_len l.chars + length l.rest ≤ length l.word
+-- the characters so far, each of a byte at least, and what follows them
+abbrev pub invariant-loop-value : goal.invariant-loop-value
+invariant-loop-value l = record {
+  read : HasRead l.word l.chars.items l.rest;
+  short : vec_len l.chars + length l.rest ≤ length l.word;
+}
 
-abbrev pub decreases-loop-rest : goal.decreases-loop-rest
-decreases-loop-rest l = length l.rest
+abbrev pub decreases-loop-value : goal.decreases-loop-value
+decreases-loop-value l = length l.rest

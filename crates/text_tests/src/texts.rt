@@ -140,3 +140,40 @@ fn a_board_is_printed_ascending(rt: HostRuntime) -> Result<(), Fail> {
     assert_eq!(rt; text.as_slice(), wanted.as_bytes());
     Ok(())
 }
+
+#[test]
+fn a_carriage_return_is_no_part_of_a_command(rt: HostRuntime) {
+    for line in [
+        "set 1 2 on\r",
+        "set 1 2 5\r",
+        "del 1 2 0\r",
+        "ins 1 2 0 char \"a\"\r",
+        "ins 1 2 0 item \"a\"\r",
+    ] {
+        assert_eq!(rt; read_command(line.as_bytes()), None, "{line}");
+    }
+}
+
+#[test]
+fn the_last_characters_are_read(rt: HostRuntime) {
+    for (line, value) in [
+        ("ins 1 65535 7 char \"\\u{ffff}\"", '\u{ffff}'),
+        ("ins 1 65535 7 char \"\\u{100000}\"", '\u{100000}'),
+        ("ins 1 65535 7 char \"\\u{10ffff}\"", '\u{10ffff}'),
+    ] {
+        let command = insertion(Value::Char(value));
+        assert_eq!(rt; read_command(line.as_bytes()), Some(command), "{line}");
+    }
+}
+
+#[test]
+fn a_label_has_48_bytes_at_most(rt: HostRuntime) -> Result<(), Fail> {
+    let text = "012345678901234567890123456789012345678901234567";
+    let label = Label::read(text.as_bytes())?;
+    let line = format!(in rt.alloc(); "ins 1 65535 7 item \"{text}\"")?;
+    let command = insertion(Value::Label(label));
+    assert_eq!(rt; read_command(line.as_bytes()), Some(command));
+    let line = format!(in rt.alloc(); "ins 1 65535 7 item \"{text}8\"")?;
+    assert_eq!(rt; read_command(line.as_bytes()), None);
+    Ok(())
+}

@@ -1,6 +1,7 @@
 //! Clients over memory.
 
 use crate::fakes::{FailsAfter, FailsAt};
+use crate::texts::lines;
 use jup_session::{ClientEnd, run_client};
 use std::alloc::Global;
 use std::io::Read;
@@ -114,25 +115,12 @@ fn a_command_that_is_too_long(rt: HostRuntime) {
     );
 }
 
-// The lines of a server that greets, sends so many settings, and answers two syncs.
-fn settings(rt: &impl Abort, alloc: Global, count: u32) -> Vec<u8> {
-    let mut from = Vec::new(alloc);
-    from.extend_from_slice(GREETED.as_bytes())
-        .expect(rt, "memory");
-    for k in 0..count {
-        let line = format!(in alloc; "op {k} 0 1 3 toggle set on\n").expect(rt, "memory");
-        from.extend_from_slice(line.as_bytes()).expect(rt, "memory");
-    }
-    from.extend_from_slice(b"pong 1\npong 2\n")
-        .expect(rt, "memory");
-    from
-}
-
 #[test]
 fn the_64th_edit_is_acknowledged(rt: HostRuntime) {
     let alloc = rt.alloc();
-    let from = settings(&rt, alloc, 64);
-    let ran = run(alloc, b"sync\nshow\nsync\n", from.as_slice());
+    let setting = "op # 0 1 3 toggle set on";
+    let from = lines(&rt, alloc, GREETED, setting, 0..64, "pong 1\npong 2\n");
+    let ran = run(alloc, b"sync\nshow\nsync\n", from.as_bytes());
     ended_well(
         &rt,
         &ran,
@@ -141,35 +129,12 @@ fn the_64th_edit_is_acknowledged(rt: HostRuntime) {
     );
 }
 
-// A text so many times, between a first and a last one.
-fn repeated(
-    rt: &impl Abort,
-    alloc: Global,
-    first: &str,
-    text: &str,
-    count: u32,
-    last: &str,
-) -> String {
-    let mut all = String::from_str(alloc, first).expect(rt, "memory");
-    for _ in 0..count {
-        all.push_str(text).expect(rt, "memory");
-    }
-    all.push_str(last).expect(rt, "memory");
-    all
-}
-
 #[test]
 fn the_1025th_edit_without_a_sync_is_refused(rt: HostRuntime) {
     let alloc = rt.alloc();
-    let commands = repeated(&rt, alloc, "", "set 1 3 on\n", 1_025, "");
-    let printed = repeated(
-        &rt,
-        alloc,
-        "site 1\n",
-        "made set 1 3 on\n",
-        1_024,
-        "refused 7\nbye\n",
-    );
+    let commands = lines(&rt, alloc, "", "set 1 3 on", 0..1_025, "");
+    let end = "refused 7\nbye\n";
+    let printed = lines(&rt, alloc, "site 1\n", "made set 1 3 on", 0..1_024, end);
     let from = "welcome 1 2000\nwindow 1\ntoggle 3 off\nready\n";
     let ran = run(alloc, commands.as_bytes(), from.as_bytes());
     assert_eq!(rt; ran.end, Ok(()));

@@ -15,3 +15,5 @@ mod programs;
 mod sessions;
 #[cfg(test)]
 mod strangers;
+#[cfg(test)]
+mod texts;

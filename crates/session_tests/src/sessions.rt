@@ -3,6 +3,7 @@ ghost use Rattle.std.specs.Prelude.{◌≡◌, ◌≤◌, length, IfSome};
 ghost use Rattle.jup_hub.specs.Passes.{IsPassOf};
 
 use crate::fakes::{Counting, FailsAfter, FailsAt, LineByLine, OneByOne, Slow};
+use crate::texts::lines;
 use jup_hub::{Hub, Pass};
 use jup_link::Msg;
 use jup_seq::SeqOp;
@@ -14,7 +15,6 @@ use jup_value::{Item, Name};
 use jup_window::{BoardOp, WidgetOp};
 use jup_wire::layout;
 use std::alloc::Global;
-use std::fmt::Write;
 use std::io::Read;
 use std::process::Abort;
 use std::sync::Wait;
@@ -203,29 +203,12 @@ fn a_site_that_just_ends(rt: HostRuntime) {
     );
 }
 
-// So many lines of a kind, numbered from 0, between a first and a last text.
-fn numbered(
-    rt: &impl Abort,
-    alloc: Global,
-    first: &str,
-    word: &str,
-    count: u32,
-    last: &str,
-) -> String {
-    let mut text = String::from_str(alloc, first).expect(rt, "there is memory");
-    for k in 0..count {
-        write!(text, "{word} {k}\n").expect(rt, "there is memory");
-    }
-    text.push_str(last).expect(rt, "there is memory");
-    text
-}
-
 #[test]
 fn all_that_waits_is_written_before_bye(rt: HostRuntime) {
     let alloc = rt.alloc();
     // More than three fetches bring.
-    let from = numbered(&rt, alloc, "hello 2\n", "ping", 200, "bye\n");
-    let written = numbered(&rt, alloc, GREETING, "pong", 200, "bye\n");
+    let from = lines(&rt, alloc, "hello 2\n", "ping #", 0..200, "bye\n");
+    let written = lines(&rt, alloc, GREETING, "pong #", 0..200, "bye\n");
     let left = ran(&rt, alloc, from.as_bytes(), &Open);
     ended(&rt, &left, Ending::Bye, written.as_str());
 }
@@ -259,8 +242,8 @@ fn read_while_slow<R: Threads + Wait + Clock + Sync + Abort>(
 #[test]
 fn a_site_is_owed_at_most_1024_pongs(rt: HostRuntime) {
     let alloc = rt.alloc();
-    let from = numbered(&rt, alloc, "hello 2\n", "ping", 3_000, "bye\n");
-    let answer = numbered(&rt, alloc, GREETING, "pong", 3_000, "bye\n");
+    let from = lines(&rt, alloc, "hello 2\n", "ping #", 0..3_000, "bye\n");
+    let answer = lines(&rt, alloc, GREETING, "pong #", 0..3_000, "bye\n");
     let mut written = Vec::new(alloc);
     let read = read_while_slow(&rt, alloc, from.as_bytes(), &mut written);
     assert!(rt; read <= 1_026, "{read} lines were read");
@@ -310,6 +293,9 @@ fn another_pass_leaves_for_the_site(rt: HostRuntime) {
 
 const TOGGLE: &[u8] = b"window 1\ntoggle 3 off\n";
 
+// The setting of a number, with none of the other's heard.
+const SETTING: &str = "op # 0 1 3 toggle set on";
+
 // A site's setting of the toggle, before it heard anything.
 fn setting(mine: u32) -> Up {
     Up::Op(Msg {
@@ -352,30 +338,27 @@ impl<'a, R: Wait> Read for Crossing<'a, R> {
     }
 }
 
-// The lines of so many settings of the toggle, none of which heard the others, between two texts.
-fn settings(rt: &impl Abort, alloc: Global, first: &str, count: u32, last: &str) -> String {
-    let mut text = String::from_str(alloc, first).expect(rt, "there is memory");
-    for mine in 0..count {
-        write!(text, "op {mine} 0 1 3 toggle set on\n").expect(rt, "there is memory");
-    }
-    text.push_str(last).expect(rt, "there is memory");
-    text
-}
-
 #[test]
 fn the_64th_edit_is_acknowledged_each_way(rt: HostRuntime) {
     let alloc = rt.alloc();
     let (hub, mut pass) = opened(&rt, alloc, TOGGLE, 1_000);
     assert!(rt; hub.join_site(&rt, alloc, &mut pass).is_ok());
-    let lines = settings(&rt, alloc, "", 65, "ack 64\nping 1\nbye\n");
+    let sent = lines(&rt, alloc, "", SETTING, 0..65, "ack 64\nping 1\nbye\n");
     let greeting = "welcome 2 1000\nwindow 1\ntoggle 3 off\nready\n";
-    let written = settings(&rt, alloc, greeting, 65, "ack 64\npong 1\nbye\n");
+    let written = lines(
+        &rt,
+        alloc,
+        greeting,
+        SETTING,
+        0..65,
+        "ack 64\npong 1\nbye\n",
+    );
     let from = Crossing {
         rt: &rt,
         alloc,
         hub: &hub,
         pass: hub.split(&mut pass),
-        lines: lines.as_bytes(),
+        lines: sent.as_bytes(),
         reads: 0,
     };
     let mut to = Vec::new(alloc);
@@ -530,19 +513,17 @@ fn a_full_star(rt: HostRuntime) {
     );
 }
 
-// The lines of a board with a text of so many items.
-fn long_layout(rt: &impl Abort, alloc: Global, count: u32) -> String {
-    let mut text = String::from_str(alloc, "window 1\ntext 1\n").expect(rt, "there is memory");
-    for k in 1..=count {
-        write!(text, "char 0.{k} 97\n").expect(rt, "there is memory");
-    }
-    text
-}
-
 #[test]
 fn a_board_that_takes_many_writes(rt: HostRuntime) {
     let alloc = rt.alloc();
-    let board = long_layout(&rt, alloc, 2_000);
+    let board = lines(
+        &rt,
+        alloc,
+        "window 1\ntext 1\n",
+        "char 0.# 97",
+        1..2_001,
+        "",
+    );
     assert!(rt; board.len() < 100_000);
     let (hub, pass) = opened(&rt, alloc, board.as_bytes(), 100);
     let written = format!(in alloc; "welcome 1 100\n{board}ready\nbye\n").expect(&rt, "memory");

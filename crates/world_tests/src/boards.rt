@@ -8,12 +8,6 @@ use test_boards::board_of;
 
 pub(crate) const LIMIT: u32 = 100_000;
 
-// A world over the board of these lines, with no site.
-pub(crate) fn world_over(rt: &impl Abort, alloc: Global, limit: u32, lines: &[&str]) -> World {
-    let board = board_of(alloc, lines).expect(rt, "a board");
-    World::open(alloc, board, limit).expect(rt, "a layout and a limit")
-}
-
 // A world over a window 1 with this widget, and with so many sites.
 pub(crate) fn world_of(
     rt: &impl Abort,
@@ -22,7 +16,8 @@ pub(crate) fn world_of(
     widget: &str,
     sites: u32,
 ) -> World {
-    let mut world = world_over(rt, alloc, limit, &["window 1", widget]);
+    let board = board_of(alloc, &["window 1", widget]).expect(rt, "a board");
+    let mut world = World::open(alloc, board, limit).expect(rt, "a layout and a limit");
     for _ in 0..sites {
         world.step(alloc, &Event::Join).expect(rt, "memory");
     }
@@ -76,16 +71,18 @@ pub(crate) fn made(what: Effect) -> Reply {
     })
 }
 
-// Plays events, each of which has to have its reply and stand in the trace.
+// The event happens, has this reply, and stands in the trace.
+pub(crate) fn gives(rt: &impl Abort, alloc: Global, world: &mut World, event: Event, reply: Reply) {
+    let replied = world.step(alloc, &event).expect(rt, "memory");
+    assert_eq!(rt; replied, reply, "{event:?}");
+    let happened = Happened { event, reply };
+    assert_eq!(rt; world.trace().last().copied(), Some(happened));
+}
+
+// The same, of one event after the other.
 pub(crate) fn plays(rt: &impl Abort, alloc: Global, world: &mut World, events: &[(Event, Reply)]) {
     for (event, reply) in events {
-        let replied = world.step(alloc, event).expect(rt, "memory");
-        assert_eq!(rt; replied, *reply, "{event:?}");
-        let happened = Happened {
-            event: *event,
-            reply: *reply,
-        };
-        assert_eq!(rt; world.trace().last().copied(), Some(happened));
+        gives(rt, alloc, world, *event, *reply);
     }
 }
 
@@ -112,7 +109,7 @@ fn printed(rt: &impl Abort, alloc: Global, world: &World, number: u32) -> Vec<u8
 }
 
 // The star, as number 0, or a site shows window 1 with this widget.
-pub(crate) fn shows(rt: &impl Abort, alloc: Global, world: &World, number: u32, widget: &str) {
+fn shows(rt: &impl Abort, alloc: Global, world: &World, number: u32, widget: &str) {
     let text = printed(rt, alloc, world, number);
     let wanted = format!(in alloc; "window 1\n{widget}\n").expect(rt, "memory");
     assert_eq!(rt; text.as_slice(), wanted.as_bytes(), "{number}");
@@ -136,18 +133,5 @@ pub(crate) fn reads(world: &World, number: u32, letters: &str) -> bool {
     match shown(world, number) {
         Some(board) => test_boards::reads(board, letters),
         None => false,
-    }
-}
-
-// Plays events as `plays` does, after each of which the star or a site shows a widget.
-pub(crate) fn plays_and_shows(
-    rt: &impl Abort,
-    alloc: Global,
-    world: &mut World,
-    events: &[(Event, Reply, u32, &str)],
-) {
-    for (event, reply, number, widget) in events {
-        plays(rt, alloc, world, &[(*event, *reply)]);
-        shows(rt, alloc, world, *number, widget);
     }
 }

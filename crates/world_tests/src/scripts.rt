@@ -6,7 +6,7 @@ use jup_world::{
 use std::alloc::Global;
 use std::io;
 use std::io::{ErrorKind, Read, Write};
-use std::test::Fail;
+use std::process::Abort;
 
 // Gives its text, and then fails.
 #[derive(Drop)]
@@ -36,22 +36,40 @@ impl Write for Full {
 }
 
 // The replies to a script, and how it ended.
-fn play(alloc: Global, script: &str) -> (Vec<u8>, Result<(), ScriptEnd>) {
+pub(crate) fn play(alloc: Global, script: &str) -> (Vec<u8>, Result<(), ScriptEnd>) {
     let mut replies = Vec::new(alloc);
     let end = run_script(alloc, script.as_bytes(), &mut replies);
     (replies, end)
 }
 
+// The script is played to its end, and prints this.
+pub(crate) fn prints(rt: &impl Abort, alloc: Global, script: &str, printed: &str) {
+    let (replies, end) = play(alloc, script);
+    assert_eq!(rt; end, Ok(()), "{script}");
+    assert_eq!(rt; replies.as_slice(), printed.as_bytes(), "{script}");
+}
+
+// The script ends at this bad line, and prints what was due before.
+pub(crate) fn is_bad_at(rt: &impl Abort, alloc: Global, script: &str, line: u32, printed: &str) {
+    let (replies, end) = play(alloc, script);
+    assert_eq!(rt; end, Err(ScriptEnd::Bad(line)), "{script}");
+    assert_eq!(rt; replies.as_slice(), printed.as_bytes(), "{script}");
+}
+
 #[test]
-fn both_ends_show_the_clients_setting(rt: HostRuntime) -> Result<(), Fail> {
-    assert_eq!(rt; pair_toggle(false, true, false), (true, true));
-    assert_eq!(rt; pair_toggle(true, false, true), (false, false));
-    let slider = Slider::new(0, 10, 5)?;
-    assert_eq!(rt; pair_slider(&slider, 7, 3), Ok((7, 7)));
-    assert_eq!(rt; pair_slider(&slider, 11, 3), Err(EditFault::BadValue));
-    assert_eq!(rt; pair_slider(&slider, 7, -1), Err(EditFault::BadValue));
+fn both_ends_show_the_clients_setting(rt: HostRuntime) {
+    for on in [false, true] {
+        assert_eq!(rt; pair_toggle(on, !on, on), (!on, !on));
+    }
+    let slider = Slider::new(0, 10, 5).expect(&rt, "5 is from 0 to 10");
+    for (client, server, shown) in [
+        (7, 3, Ok((7, 7))),
+        (11, 3, Err(EditFault::BadValue)),
+        (7, -1, Err(EditFault::BadValue)),
+    ] {
+        assert_eq!(rt; pair_slider(&slider, client, server), shown);
+    }
     assert_eq!(rt; EditFault::BadValue.number(), 5);
-    Ok(())
 }
 
 #[test]
@@ -74,9 +92,7 @@ fn a_pair_script_prints_both_ends(rt: HostRuntime) {
             "c s' -7\ns c' -7\n",
         ),
     ] {
-        let (replies, end) = play(rt.alloc(), script);
-        assert_eq!(rt; end, Ok(()), "{script}");
-        assert_eq!(rt; replies.as_slice(), printed.as_bytes(), "{script}");
+        prints(&rt, rt.alloc(), script, printed);
     }
 }
 
@@ -126,17 +142,14 @@ fn a_bad_line_is_told_by_its_number(rt: HostRuntime) {
         ("two\nstart \"\"\nup 1\n", 3),
         ("two\nstart \"\"\nshow", 3),
     ] {
-        let (replies, end) = play(rt.alloc(), script);
-        assert_eq!(rt; end, Err(ScriptEnd::Bad(line)), "{script}");
-        assert!(rt; replies.is_empty(), "{script}");
+        is_bad_at(&rt, rt.alloc(), script, line, "");
     }
 }
 
 #[test]
 fn replies_that_were_due_stand_before_a_bad_line(rt: HostRuntime) {
-    let (replies, end) = play(rt.alloc(), "pair toggle on\nclient off\nserver on\nmore\n");
-    assert_eq!(rt; end, Err(ScriptEnd::Bad(4)));
-    assert_eq!(rt; replies.as_slice(), b"c s' off\ns c' off\n".as_slice());
+    let script = "pair toggle on\nclient off\nserver on\nmore\n";
+    is_bad_at(&rt, rt.alloc(), script, 4, "c s' off\ns c' off\n");
 }
 
 #[test]
@@ -167,7 +180,7 @@ fn a_failed_read_prints_nothing_and_a_failed_write_is_told(rt: HostRuntime) {
 }
 
 #[test]
-fn the_ends_of_scripts_have_texts_numbers_and_statuses(rt: HostRuntime) -> Result<(), Fail> {
+fn the_ends_of_scripts_have_texts_numbers_and_statuses(rt: HostRuntime) {
     for (end, text, number, status) in [
         (ScriptEnd::Bad(7), "line 7: bad script", 40, 2),
         (ScriptEnd::LongInput, "script too long", 47, 2),
@@ -175,11 +188,10 @@ fn the_ends_of_scripts_have_texts_numbers_and_statuses(rt: HostRuntime) -> Resul
         (ScriptEnd::ReadFailed, "io fault", 70, 1),
         (ScriptEnd::WriteFailed, "io fault", 71, 1),
     ] {
-        let told = format!(in rt.alloc(); "{end}")?;
+        let told = format!(in rt.alloc(); "{end}").expect(&rt, "memory");
         assert_eq!(rt; told.as_str(), text);
         assert_eq!(rt; (end.number(), end.status()), (number, status), "{text}");
     }
-    Ok(())
 }
 
 #[test]
@@ -188,9 +200,18 @@ fn a_two_script_prints_texts_in_their_one_spelling(rt: HostRuntime) {
         "two\nstart \"\\\"\\\\ ~\\u{e9}\\u{0}\\u{1f600}\"\nserver del 7\nserver del 3\nclient ins 0 \"\\u{7f}\"\nshow\n";
     let printed =
         "refused 4\nmade\nmade\nclient \"\\u{7f}\\\"\\\\ ~\\u{e9}\\u{0}\\u{1f600}\"\nserver \"\\\"\\\\ \\u{e9}\\u{0}\\u{1f600}\"\nquiet no\n";
-    let (replies, end) = play(rt.alloc(), script);
-    assert_eq!(rt; end, Ok(()));
-    assert_eq!(rt; replies.as_slice(), printed.as_bytes());
+    prints(&rt, rt.alloc(), script, printed);
+}
+
+// An event of two ends has this reply.
+fn replies(rt: &impl Abort, alloc: Global, two: &mut Two, event: &TwoEvent, reply: TwoReply) {
+    let replied = two.step(alloc, event).expect(rt, "memory");
+    assert_eq!(rt; replied, reply, "{event:?}");
+}
+
+// Both ends have texts of this many items.
+fn both_have(rt: &impl Abort, two: &Two, len: u32) {
+    assert_eq!(rt; (two.client().len(), two.server().len()), (len, len));
 }
 
 // Many more edits than are acknowledged at once, none of which has been delivered.
@@ -201,44 +222,43 @@ fn one_end_edits_on_while_the_other_hears_nothing(rt: HostRuntime) {
     let insert = TwoEvent::Client(TwoEdit::Insert(0, 'a'));
     for (event, reply) in [(insert, TwoReply::Made), (TwoEvent::Up, TwoReply::Moved)] {
         for _ in 0..1_000 {
-            assert_eq!(rt; two.step(alloc, &event).expect(&rt, "memory"), reply);
+            replies(&rt, alloc, &mut two, &event, reply);
         }
     }
-    assert_eq!(rt; (two.client().len(), two.server().len()), (1_000, 1_000));
+    both_have(&rt, &two, 1_000);
+}
+
+// Two ends of a link over a text of 65,535 items.
+fn long_two(rt: &impl Abort, alloc: Global) -> Two {
+    let start = vec![in alloc; 'z'; 65_535].expect(rt, "memory");
+    Two::open(alloc, start.as_slice()).expect(rt, "memory")
 }
 
 #[test]
-fn edits_at_two_ends_are_refused_by_their_numbers(rt: HostRuntime) -> Result<(), Fail> {
-    let alloc = rt.alloc();
+fn edits_at_two_ends_are_refused_by_their_numbers(rt: HostRuntime) {
+    let mut two = long_two(&rt, rt.alloc());
+    let bad_place = TwoReply::Refused(EditFault::BadPlace);
     let insert = TwoEdit::Insert(0, 'a');
-    let start = vec![in alloc; 'z'; 65_535]?;
-    let mut two = Two::open(alloc, start.as_slice())?;
+    let last_of_65536 = TwoEdit::Delete(65_535);
     for (event, reply) in [
         (TwoEvent::Up, TwoReply::Nothing),
         (TwoEvent::Down, TwoReply::Nothing),
-        (
-            TwoEvent::Client(TwoEdit::Insert(65_536, 'a')),
-            TwoReply::Refused(EditFault::BadPlace),
-        ),
-        (
-            TwoEvent::Client(TwoEdit::Delete(65_535)),
-            TwoReply::Refused(EditFault::BadPlace),
-        ),
+        (TwoEvent::Client(TwoEdit::Insert(65_536, 'a')), bad_place),
+        (TwoEvent::Client(last_of_65536), bad_place),
         (TwoEvent::Client(insert), TwoReply::Made),
         (TwoEvent::Server(insert), TwoReply::Made),
         (
             TwoEvent::Client(insert),
             TwoReply::Refused(EditFault::LongText),
         ),
-        (TwoEvent::Client(TwoEdit::Delete(65_535)), TwoReply::Made),
+        (TwoEvent::Client(last_of_65536), TwoReply::Made),
         (TwoEvent::Up, TwoReply::Moved),
         (TwoEvent::Up, TwoReply::Moved),
         (TwoEvent::Up, TwoReply::Nothing),
         (TwoEvent::Down, TwoReply::Moved),
     ] {
-        assert_eq!(rt; two.step(alloc, &event)?, reply, "{event:?}");
+        replies(&rt, rt.alloc(), &mut two, &event, reply);
     }
     assert!(rt; two.quiet());
-    assert_eq!(rt; (two.client().len(), two.server().len()), (65_536, 65_536));
-    Ok(())
+    both_have(&rt, &two, 65_536);
 }

@@ -1,24 +1,12 @@
 //! Scripts of a star and its sites.
-use jup_world::{ScriptEnd, run_script};
+use super::scripts::{is_bad_at, play, prints};
+use jup_world::ScriptEnd;
 use std::alloc::Global;
+use std::fmt::Write;
 use std::process::Abort;
-use std::test::Fail;
 
 // A script over one text, with sites 1 and 2.
 const START: &str = "star 100\nwindow 1\ntext 1 \"\"\njoin\njoin\n";
-
-// The replies to a script, and how it ended.
-fn play(alloc: Global, script: &str) -> (Vec<u8>, Result<(), ScriptEnd>) {
-    let mut replies = Vec::new(alloc);
-    let end = run_script(alloc, script.as_bytes(), &mut replies);
-    (replies, end)
-}
-
-fn prints(rt: &impl Abort, alloc: Global, script: &str, printed: &str) {
-    let (replies, end) = play(alloc, script);
-    assert_eq!(rt; end, Ok(()), "{script}");
-    assert_eq!(rt; replies.as_slice(), printed.as_bytes(), "{script}");
-}
 
 #[test]
 fn a_star_script_prints_each_kind_of_reply(rt: HostRuntime) {
@@ -104,95 +92,104 @@ fn a_bad_board_is_told_by_its_line(rt: HostRuntime) {
         ("star 1\nwindows 1\n", 2),
         ("star 1\n\n", 2),
     ] {
-        let (replies, end) = play(rt.alloc(), script);
-        assert_eq!(rt; end, Err(ScriptEnd::Bad(line)), "{script}");
-        assert!(rt; replies.is_empty(), "{script}");
+        is_bad_at(&rt, rt.alloc(), script, line, "");
     }
+}
+
+// The line is bad behind the start.
+fn is_bad_event(rt: &impl Abort, alloc: Global, line: &str) {
+    let script = format!(in alloc; "{START}{line}").expect(rt, "memory");
+    is_bad_at(rt, alloc, script.as_str(), 6, "joined 1\njoined 2\n");
 }
 
 #[test]
-fn a_bad_event_is_told_by_its_line(rt: HostRuntime) -> Result<(), Fail> {
+fn a_bad_event_is_told_by_its_line(rt: HostRuntime) {
     for line in [
-        "join 1",
-        "leave",
-        "leave 01",
-        "leave 4294967296",
-        "edit 1",
-        "edit 1 sync",
-        "edit ins 1 1 0 char \"a\"",
-        "edit 1 ins 1 1 0 char \"ab\"",
-        "edit 1 del 1 1 -1",
-        "up",
-        "up 1 ",
-        "down x",
-        "ping 1",
-        "ping 1 7 8",
-        "pushup 1",
-        "pushup 1 -1",
-        "pushdown 1 4294967296",
-        "drain 1",
-        "shows",
-        "window 2",
-        "toggle 3 on",
-        "",
+        "join 1\nshow\n",
+        "leave\nshow\n",
+        "leave 01\nshow\n",
+        "leave 4294967296\nshow\n",
+        "edit 1\nshow\n",
+        "edit 1 sync\nshow\n",
+        "edit ins 1 1 0 char \"a\"\nshow\n",
+        "edit 1 ins 1 1 0 char \"ab\"\nshow\n",
+        "edit 1 del 1 1 -1\nshow\n",
+        "up\nshow\n",
+        "up 1 \nshow\n",
+        "down x\nshow\n",
+        "ping 1\nshow\n",
+        "ping 1 7 8\nshow\n",
+        "pushup 1\nshow\n",
+        "pushup 1 -1\nshow\n",
+        "pushdown 1 4294967296\nshow\n",
+        "drain 1\nshow\n",
+        "shows\nshow\n",
+        "window 2\nshow\n",
+        "toggle 3 on\nshow\n",
+        "\nshow\n",
+        "show",
     ] {
-        let script = format!(in rt.alloc(); "{START}{line}\nshow\n")?;
-        let (replies, end) = play(rt.alloc(), script.as_str());
-        assert_eq!(rt; end, Err(ScriptEnd::Bad(6)), "{line}");
-        assert_eq!(rt; replies.as_slice(), b"joined 1\njoined 2\n".as_slice());
+        is_bad_event(&rt, rt.alloc(), line);
     }
-    let cut = format!(in rt.alloc(); "{START}show")?;
-    let (_, end) = play(rt.alloc(), cut.as_str());
-    assert_eq!(rt; end, Err(ScriptEnd::Bad(6)));
-    Ok(())
 }
 
-// A script with so many lines of a word and an id after its start.
+// A script with so many lines of a word and an id behind its start.
 fn counted(
+    rt: &impl Abort,
     alloc: Global,
     start: &str,
     word: &str,
     value: &str,
     count: u32,
-) -> Result<String, Fail> {
-    let mut script = String::from_str(alloc, start)?;
+) -> String {
+    let mut script = String::from_str(alloc, start).expect(rt, "memory");
     for id in 1..=count {
-        writeln!(script, "{word} {id}{value}")?;
+        writeln!(script, "{word} {id}{value}").expect(rt, "memory");
     }
-    Ok(script)
+    script
 }
 
 #[test]
-fn a_window_has_at_most_64_widgets_and_a_board_64_windows(rt: HostRuntime) -> Result<(), Fail> {
+fn a_window_has_at_most_64_widgets_and_a_board_64_windows(rt: HostRuntime) {
     let alloc = rt.alloc();
     for (start, word, value, bad) in [
         ("star 1\nwindow 1\n", "toggle", " on", 67),
         ("star 1\n", "window", "", 66),
     ] {
-        let full = counted(alloc, start, word, value, 64)?;
-        let (_, played) = play(alloc, full.as_str());
-        assert_eq!(rt; played, Ok(()), "{word}");
-        let over = counted(alloc, start, word, value, 65)?;
-        let (_, refused) = play(alloc, over.as_str());
-        assert_eq!(rt; refused, Err(ScriptEnd::Bad(bad)), "{word}");
+        let full = counted(&rt, alloc, start, word, value, 64);
+        prints(&rt, alloc, full.as_str(), "");
+        let over = counted(&rt, alloc, start, word, value, 65);
+        is_bad_at(&rt, alloc, over.as_str(), bad, "");
     }
-    Ok(())
+}
+
+// How a script ends whose one widget has so many items.
+fn end_of_long(
+    rt: &impl Abort,
+    alloc: Global,
+    start: &str,
+    item: &str,
+    count: u32,
+    end: &str,
+) -> Result<(), ScriptEnd> {
+    let mut script = String::from_str(alloc, "star 1\nwindow 1\n").expect(rt, "memory");
+    script.push_str(start).expect(rt, "memory");
+    for _ in 0..count {
+        script.push_str(item).expect(rt, "memory");
+    }
+    script.push_str(end).expect(rt, "memory");
+    let (_, played) = play(alloc, script.as_str());
+    played
 }
 
 #[test]
-fn a_text_or_a_list_has_at_most_65536_items(rt: HostRuntime) -> Result<(), Fail> {
-    for (start, item, end) in [("text 1 \"", "z", "\""), ("list 1", " \"z\"", "")] {
-        let mut script = String::from_str(rt.alloc(), "star 1\nwindow 1\n")?;
-        script.push_str(start)?;
-        for _ in 0..65_536 {
-            script.push_str(item)?;
+fn a_text_or_a_list_has_at_most_65536_items(rt: HostRuntime) {
+    for (start, item, end) in [("text 1 \"", "z", "\"\n"), ("list 1", " \"z\"", "\n")] {
+        for (count, played) in [(65_536, Ok(())), (65_537, Err(ScriptEnd::Bad(3)))] {
+            assert_eq!(rt;
+                end_of_long(&rt, rt.alloc(), start, item, count, end),
+                played
+            );
         }
-        let longest = format!(in rt.alloc(); "{script}{end}\n")?;
-        let (_, played) = play(rt.alloc(), longest.as_str());
-        assert_eq!(rt; played, Ok(()), "{start}");
-        let long = format!(in rt.alloc(); "{script}{item}{end}\n")?;
-        let (_, refused) = play(rt.alloc(), long.as_str());
-        assert_eq!(rt; refused, Err(ScriptEnd::Bad(3)), "{start}");
     }
-    Ok(())
 }

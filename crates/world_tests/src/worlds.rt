@@ -1,11 +1,11 @@
-//! Runs of worlds that were worked out by hand.
+//! What a world tells beside its boards: its order, its trace, what its sites wait for; and its bounds. Whole runs that were
+//! worked out by hand are scripts of `examples/`.
 use super::boards::{
-    LIMIT, all_show, deletes, drain, is_quiet, made, plays, plays_and_shows, reads, sets, shows,
-    types, world_of, world_over,
+    LIMIT, all_show, deletes, drain, gives, is_quiet, made, plays, reads, sets, types, world_of,
 };
 use jup_star::{Entry, OpenFault, StarFault};
 use jup_value::Name;
-use jup_window::{Board, Command, Edit, EditFault, Effect, Setting, Value, Widget};
+use jup_window::{Board, Edit, EditFault, Effect, Setting, Widget};
 use jup_world::{Event, Halted, Reply, World};
 use std::alloc::Global;
 use std::process::Abort;
@@ -21,9 +21,9 @@ const ON: Setting = Setting::Toggle(true);
 
 const OFF: Setting = Setting::Toggle(false);
 
-// Site 1 sets widget 1 on, and makes that edit.
-fn switched_on() -> (Event, Reply) {
-    (sets(1, ON), made(Effect::Toggled(true)))
+// Site 1 sets widget 1 on.
+fn switches_on(rt: &impl Abort, alloc: Global, world: &mut World) {
+    gives(rt, alloc, world, sets(1, ON), made(Effect::Toggled(true)));
 }
 
 // The star has taken these edits of widget 1, each with its site.
@@ -59,21 +59,24 @@ fn two_sites_type_at_one_place(rt: HostRuntime) {
     took(&rt, &world, &[(1, put(1, 1, 'a')), (2, put(2, 1, 'x'))]);
 }
 
+// A world over this widget whose two sites did this.
+fn ran(rt: &impl Abort, alloc: Global, widget: &str, events: &[Event]) -> World {
+    let mut world = world_of(rt, alloc, LIMIT, widget, 2);
+    assert_eq!(rt; world.run(alloc, events), Ok(()));
+    world
+}
+
 // A first round moves a message down to each site, and a second finds nothing.
 #[test]
 fn a_drain_ends_after_a_round_of_nothing(rt: HostRuntime) {
     let alloc = rt.alloc();
-    let mut world = world_of(&rt, alloc, LIMIT, "text 1 \"\"", 2);
-    let played = world.run(
-        alloc,
-        &[
-            types(1, 0, 'a'),
-            types(2, 0, 'x'),
-            Event::Up(1),
-            Event::Up(2),
-        ],
-    );
-    assert_eq!(rt; played, Ok(()));
+    let events = [
+        types(1, 0, 'a'),
+        types(2, 0, 'x'),
+        Event::Up(1),
+        Event::Up(2),
+    ];
+    let mut world = ran(&rt, alloc, "text 1 \"\"", &events);
     let before = world.trace().len();
     drain(&rt, alloc, &mut world);
     let wanted = [
@@ -95,122 +98,32 @@ fn a_drain_ends_after_a_round_of_nothing(rt: HostRuntime) {
 }
 
 #[test]
-fn two_sites_type_two_characters_each(rt: HostRuntime) {
-    let alloc = rt.alloc();
-    let mut world = world_of(&rt, alloc, LIMIT, "text 1 \"\"", 2);
-    let events = [
-        (types(1, 0, 'a'), made(put(1, 1, 'a')), 1, "text 1 \"a\""),
-        (types(1, 1, 'b'), made(put(1, 2, 'b')), 1, "text 1 \"ab\""),
-        (types(2, 0, 'x'), made(put(2, 1, 'x')), 2, "text 1 \"x\""),
-        (types(2, 1, 'y'), made(put(2, 2, 'y')), 2, "text 1 \"xy\""),
-        (Event::Up(1), Reply::Taken(0), 0, "text 1 \"a\""),
-        (Event::Up(2), Reply::Taken(1), 0, "text 1 \"xa\""),
-        (Event::Up(1), Reply::Taken(2), 0, "text 1 \"xab\""),
-        (Event::Up(2), Reply::Taken(3), 0, "text 1 \"xyab\""),
-    ];
-    plays_and_shows(&rt, alloc, &mut world, &events);
-    drain(&rt, alloc, &mut world);
-    all_show(&rt, alloc, &world, 2, "text 1 \"xyab\"");
-}
-
-#[test]
-fn one_deletion_is_made_twice(rt: HostRuntime) {
-    let alloc = rt.alloc();
-    let mut world = world_of(&rt, alloc, LIMIT, "text 1 \"z\"", 2);
-    let events = [
-        (deletes(1, 0), made(FIRST)),
-        (deletes(2, 0), made(FIRST)),
-        (Event::Up(1), Reply::Taken(0)),
-        (Event::Up(2), Reply::Taken(1)),
-        (Event::Down(1), Reply::Shown),
-    ];
-    plays(&rt, alloc, &mut world, &events);
+fn the_order_has_both_deletions_of_one_item(rt: HostRuntime) {
+    let events = [deletes(1, 0), deletes(2, 0), Event::Up(1), Event::Up(2)];
+    let world = ran(&rt, rt.alloc(), "text 1 \"z\"", &events);
     took(&rt, &world, &[(1, FIRST), (2, FIRST)]);
-    plays(&rt, alloc, &mut world, &[(Event::Down(2), Reply::Shown)]);
-    all_show(&rt, alloc, &world, 2, "text 1 \"\"");
 }
 
+// The message that shows site 1 the setting of site 2 tells it besides that the star has its own.
 #[test]
-fn typing_meets_a_deletion(rt: HostRuntime) {
-    let alloc = rt.alloc();
-    let mut world = world_of(&rt, alloc, LIMIT, "text 1 \"z\"", 2);
+fn a_message_down_acknowledges_what_the_star_took(rt: HostRuntime) {
     let events = [
-        (types(1, 0, 'a'), made(put(1, 1, 'a')), 1, "text 1 \"az\""),
-        (types(1, 1, 'b'), made(put(1, 2, 'b')), 1, "text 1 \"abz\""),
-        (deletes(2, 0), made(FIRST), 2, "text 1 \"\""),
-        (types(2, 0, 'x'), made(put(2, 1, 'x')), 2, "text 1 \"x\""),
-        (Event::Up(2), Reply::Taken(0), 0, "text 1 \"\""),
-        (Event::Up(1), Reply::Taken(1), 0, "text 1 \"a\""),
-        (Event::Up(2), Reply::Taken(2), 0, "text 1 \"xa\""),
-        (Event::Up(1), Reply::Taken(3), 0, "text 1 \"xab\""),
-        (Event::Down(1), Reply::Shown, 1, "text 1 \"ab\""),
-        (Event::Down(1), Reply::Shown, 1, "text 1 \"xab\""),
-        (Event::Down(2), Reply::Shown, 2, "text 1 \"xa\""),
-        (Event::Down(2), Reply::Shown, 2, "text 1 \"xab\""),
+        sets(1, ON),
+        Event::Up(1),
+        Event::Down(2),
+        sets(2, OFF),
+        Event::Up(2),
+        Event::Down(1),
     ];
-    plays_and_shows(&rt, alloc, &mut world, &events);
-    all_show(&rt, alloc, &world, 2, "text 1 \"xab\"");
-}
-
-#[test]
-fn a_setting_after_another_is_no_rival(rt: HostRuntime) {
-    let alloc = rt.alloc();
-    let mut world = world_of(&rt, alloc, LIMIT, "toggle 1 off", 2);
-    let events = [
-        (sets(1, ON), made(Effect::Toggled(true)), 1, "toggle 1 on"),
-        (Event::Up(1), Reply::Taken(0), 0, "toggle 1 on"),
-        (Event::Down(2), Reply::Shown, 2, "toggle 1 on"),
-        (
-            sets(2, OFF),
-            made(Effect::Toggled(false)),
-            2,
-            "toggle 1 off",
-        ),
-        (Event::Up(2), Reply::Taken(1), 0, "toggle 1 off"),
-        (Event::Down(1), Reply::Shown, 1, "toggle 1 off"),
-    ];
-    plays_and_shows(&rt, alloc, &mut world, &events);
-    // The message told site 1 that the star has its edit.
+    let world = ran(&rt, rt.alloc(), "toggle 1 off", &events);
     assert_eq!(rt; world.site(1).map(|site| site.backlog()), Some(0));
-    all_show(&rt, alloc, &world, 2, "toggle 1 off");
 }
 
 #[test]
-fn the_later_setting_stands(rt: HostRuntime) {
+fn a_world_tells_the_board_that_it_was_opened_with(rt: HostRuntime) {
     let alloc = rt.alloc();
-    let mut world = world_of(&rt, alloc, LIMIT, "toggle 1 off", 2);
-    let events = [
-        (sets(1, ON), made(Effect::Toggled(true)), 2, "toggle 1 off"),
-        (
-            sets(2, OFF),
-            made(Effect::Toggled(false)),
-            2,
-            "toggle 1 off",
-        ),
-        (Event::Up(1), Reply::Taken(0), 0, "toggle 1 on"),
-        (Event::Up(2), Reply::Taken(1), 0, "toggle 1 off"),
-        (Event::Down(1), Reply::Shown, 1, "toggle 1 off"),
-        (Event::Down(2), Reply::Shown, 2, "toggle 1 off"),
-    ];
-    plays_and_shows(&rt, alloc, &mut world, &events);
-    drain(&rt, alloc, &mut world);
-    all_show(&rt, alloc, &world, 2, "toggle 1 off");
-}
-
-#[test]
-fn an_insertion_meets_a_deletion_at_its_place(rt: HostRuntime) {
-    let alloc = rt.alloc();
-    let second = Effect::Deleted(Name { site: 0, number: 2 });
-    let mut world = world_of(&rt, alloc, LIMIT, "text 1 \"ab\"", 2);
-    let events = [
-        (types(1, 1, 'x'), made(put(1, 1, 'x'))),
-        (deletes(2, 1), made(second)),
-        (Event::Up(1), Reply::Taken(0)),
-        (Event::Up(2), Reply::Taken(1)),
-    ];
-    plays(&rt, alloc, &mut world, &events);
-    drain(&rt, alloc, &mut world);
-    all_show(&rt, alloc, &world, 2, "text 1 \"ax\"");
+    let events = [types(1, 1, 'x'), Event::Up(1)];
+    let world = ran(&rt, alloc, "text 1 \"ab\"", &events);
     let opening = board_of(alloc, &["window 1", "text 1 \"ab\""]).expect(&rt, "a board");
     assert!(rt; world.opening().same(&opening));
 }
@@ -238,7 +151,15 @@ fn a_text_of_65536_items_takes_no_typing(rt: HostRuntime) {
     let full = long_text(&rt, alloc, 65_536);
     let mut world = world_of(&rt, alloc, LIMIT, full.as_str(), 1);
     let refused = Reply::Refused(EditFault::LongText);
-    plays(&rt, alloc, &mut world, &[(types(1, 0, 'a'), refused)]);
+    gives(&rt, alloc, &mut world, types(1, 0, 'a'), refused);
+}
+
+// The length of the text that the star, as number 0, or a site shows.
+fn shown_len(world: &World, number: u32) -> Option<u32> {
+    match world.site(number) {
+        Some(site) => text_len(site.board()),
+        None => text_len(world.star().board()),
+    }
 }
 
 // The bound holds where an edit is made, and not where edits meet.
@@ -246,19 +167,16 @@ fn a_text_of_65536_items_takes_no_typing(rt: HostRuntime) {
 fn edits_that_meet_may_pass_the_bound(rt: HostRuntime) {
     let alloc = rt.alloc();
     let long = long_text(&rt, alloc, 65_535);
-    let mut world = world_of(&rt, alloc, LIMIT, long.as_str(), 2);
     let events = [
-        (types(1, 0, 'a'), made(put(1, 1, 'a'))),
-        (types(2, 0, 'x'), made(put(2, 1, 'x'))),
-        (Event::Up(1), Reply::Taken(0)),
-        (Event::Up(2), Reply::Taken(1)),
+        types(1, 0, 'a'),
+        types(2, 0, 'x'),
+        Event::Up(1),
+        Event::Up(2),
     ];
-    plays(&rt, alloc, &mut world, &events);
+    let mut world = ran(&rt, alloc, long.as_str(), &events);
     drain(&rt, alloc, &mut world);
-    assert_eq!(rt; text_len(world.star().board()), Some(65_537));
-    for number in 1..3 {
-        let len = world.site(number).and_then(|site| text_len(site.board()));
-        assert_eq!(rt; len, Some(65_537));
+    for number in 0..3 {
+        assert_eq!(rt; shown_len(&world, number), Some(65_537), "{number}");
     }
 }
 
@@ -267,185 +185,51 @@ fn a_site_waits_for_an_acknowledgement_after_1024_edits(rt: HostRuntime) {
     let alloc = rt.alloc();
     let mut world = world_of(&rt, alloc, LIMIT, "toggle 1 off", 2);
     for _ in 0..1024 {
-        plays(&rt, alloc, &mut world, &[switched_on()]);
+        switches_on(&rt, alloc, &mut world);
     }
     let refused = Reply::Refused(EditFault::Backlog);
-    plays(&rt, alloc, &mut world, &[(sets(1, ON), refused)]);
+    gives(&rt, alloc, &mut world, sets(1, ON), refused);
     for place in 0..64 {
-        plays(
-            &rt,
-            alloc,
-            &mut world,
-            &[(Event::Up(1), Reply::Taken(place))],
-        );
+        gives(&rt, alloc, &mut world, Event::Up(1), Reply::Taken(place));
     }
-    plays(
-        &rt,
-        alloc,
-        &mut world,
-        &[(Event::Down(1), Reply::Heard), switched_on()],
-    );
+    gives(&rt, alloc, &mut world, Event::Down(1), Reply::Heard);
+    switches_on(&rt, alloc, &mut world);
     assert_eq!(rt; world.site(1).map(|site| site.backlog()), Some(961));
 }
 
-#[test]
-fn commands_are_refused_by_their_first_fault(rt: HostRuntime) {
-    let alloc = rt.alloc();
-    let board = ["window 1", "text 1 \"\"", "slider 4 0 10 5"];
-    let mut world = world_over(&rt, alloc, LIMIT, &board);
-    let slides = |value: i32| {
-        Event::Edit(
-            1,
-            Command::Set {
-                win: 1,
-                wid: 4,
-                setting: Setting::Slider(value),
-            },
-        )
-    };
-    let types_at = |win: u16, wid: u16| {
-        Event::Edit(
-            1,
-            Command::Insert {
-                win,
-                wid,
-                place: 0,
-                value: Value::Char('a'),
-            },
-        )
-    };
-    let slid = Edit {
-        win: 1,
-        wid: 4,
-        what: Effect::Slid(10),
-    };
-    let events = [
-        (Event::Join, Reply::Joined(1)),
-        (slides(10), Reply::Made(slid)),
-        (slides(11), Reply::Refused(EditFault::BadValue)),
-        (sets(1, ON), Reply::Refused(EditFault::WrongKind)),
-        (types_at(9, 1), Reply::Refused(EditFault::NoWindow)),
-        (types_at(1, 9), Reply::Refused(EditFault::NoWidget)),
-    ];
-    plays(&rt, alloc, &mut world, &events);
-    shows(&rt, alloc, &world, 1, "text 1 \"\"\nslider 4 0 10 10");
-}
-
-#[test]
-fn a_site_that_joins_late_opens_with_the_present_board(rt: HostRuntime) {
-    let alloc = rt.alloc();
-    let mut world = world_of(&rt, alloc, LIMIT, "text 1 \"\"", 2);
-    let events = [
-        (types(1, 0, 'a'), made(put(1, 1, 'a')), 1, "text 1 \"a\""),
-        (types(2, 0, 'b'), made(put(2, 1, 'b')), 2, "text 1 \"b\""),
-        (Event::Up(1), Reply::Taken(0), 0, "text 1 \"a\""),
-        (Event::Up(2), Reply::Taken(1), 0, "text 1 \"ba\""),
-        (types(1, 1, 'c'), made(put(1, 2, 'c')), 1, "text 1 \"ac\""),
-        (Event::Join, Reply::Joined(3), 3, "text 1 \"ba\""),
-        (Event::Up(1), Reply::Taken(2), 0, "text 1 \"bac\""),
-        (Event::Down(3), Reply::Shown, 3, "text 1 \"bac\""),
-    ];
-    plays_and_shows(&rt, alloc, &mut world, &events);
-    drain(&rt, alloc, &mut world);
-    all_show(&rt, alloc, &world, 3, "text 1 \"bac\"");
-    let typed = [(types(3, 0, 'd'), made(put(3, 1, 'd')), 3, "text 1 \"dbac\"")];
-    plays_and_shows(&rt, alloc, &mut world, &typed);
-}
-
-#[test]
-fn what_was_not_taken_leaves_with_its_site(rt: HostRuntime) {
-    let alloc = rt.alloc();
-    let mut world = world_of(&rt, alloc, LIMIT, "text 1 \"\"", 2);
-    let events = [
-        (types(1, 0, 'a'), made(put(1, 1, 'a'))),
-        (Event::Leave(1), Reply::Left),
-    ];
-    plays(&rt, alloc, &mut world, &events);
-    drain(&rt, alloc, &mut world);
-    assert!(rt; world.site(1).is_none());
-    shows(&rt, alloc, &world, 0, "text 1 \"\"");
-    shows(&rt, alloc, &world, 2, "text 1 \"\"");
-    took(&rt, &world, &[]);
-    plays(&rt, alloc, &mut world, &[(Event::Join, Reply::Joined(3))]);
-}
-
-#[test]
-fn a_full_order_detaches_the_site_that_goes_on(rt: HostRuntime) {
-    let alloc = rt.alloc();
-    let mut world = world_of(&rt, alloc, 2, "text 1 \"\"", 3);
-    let events = [
-        (types(1, 0, 'a'), made(put(1, 1, 'a'))),
-        (types(2, 0, 'b'), made(put(2, 1, 'b'))),
-        (types(3, 0, 'c'), made(put(3, 1, 'c'))),
-        (Event::Up(1), Reply::Taken(0)),
-        (Event::Up(2), Reply::Taken(1)),
-        (Event::Up(3), Reply::Detached(StarFault::LogFull)),
-    ];
-    plays(&rt, alloc, &mut world, &events);
-    assert!(rt; world.site(3).is_none());
-    drain(&rt, alloc, &mut world);
-    all_show(&rt, alloc, &world, 2, "text 1 \"ba\"");
+// Site 1 sets widget 1 on so many times, each of which the star takes and site 2 is handed.
+fn switches_on_for_both(rt: &impl Abort, alloc: Global, world: &mut World, times: u32) {
+    for place in 0..times {
+        switches_on(rt, alloc, world);
+        gives(rt, alloc, world, Event::Up(1), Reply::Taken(place));
+    }
+    for _ in 0..times {
+        gives(rt, alloc, world, Event::Down(2), Reply::Shown);
+    }
 }
 
 #[test]
 fn a_ping_is_answered_and_64_edits_are_acknowledged(rt: HostRuntime) {
     let alloc = rt.alloc();
     let mut world = world_of(&rt, alloc, LIMIT, "toggle 1 off", 2);
-    let events = [
-        (Event::Ping(1, 7), Reply::Asked),
-        (Event::Up(1), Reply::Heard),
-        (Event::Down(1), Reply::Heard),
-    ];
-    plays(&rt, alloc, &mut world, &events);
-    for place in 0..64 {
-        plays(
-            &rt,
-            alloc,
-            &mut world,
-            &[switched_on(), (Event::Up(1), Reply::Taken(place))],
-        );
-    }
-    for _ in 0..64 {
-        plays(&rt, alloc, &mut world, &[(Event::Down(2), Reply::Shown)]);
-    }
-    let events = [
-        (Event::Up(2), Reply::Heard),
-        (Event::Up(2), Reply::Nothing),
-        (Event::Down(1), Reply::Heard),
-    ];
-    plays(&rt, alloc, &mut world, &events);
+    gives(&rt, alloc, &mut world, Event::Ping(1, 7), Reply::Asked);
+    gives(&rt, alloc, &mut world, Event::Up(1), Reply::Heard);
+    gives(&rt, alloc, &mut world, Event::Down(1), Reply::Heard);
+    switches_on_for_both(&rt, alloc, &mut world, 64);
+    gives(&rt, alloc, &mut world, Event::Up(2), Reply::Heard);
+    gives(&rt, alloc, &mut world, Event::Up(2), Reply::Nothing);
+    gives(&rt, alloc, &mut world, Event::Down(1), Reply::Heard);
     all_show(&rt, alloc, &world, 2, "toggle 1 on");
-}
-
-#[test]
-fn nothing_happens_to_a_site_that_is_not_there(rt: HostRuntime) {
-    let alloc = rt.alloc();
-    let mut world = world_of(&rt, alloc, LIMIT, "text 1 \"\"", 1);
-    for event in [
-        Event::Up(1),
-        Event::Down(1),
-        Event::Leave(0),
-        Event::Leave(2),
-        types(2, 0, 'a'),
-        Event::Up(2),
-        Event::Down(2),
-        Event::Ping(2, 7),
-    ] {
-        plays(&rt, alloc, &mut world, &[(event, Reply::Nothing)]);
-    }
-    all_show(&rt, alloc, &world, 1, "text 1 \"\"");
 }
 
 #[test]
 fn sixty_four_sites_join_and_no_more(rt: HostRuntime) {
     let alloc = rt.alloc();
     let mut world = world_of(&rt, alloc, LIMIT, "text 1 \"\"", 64);
-    let events = [
-        (Event::Join, Reply::NoJoin(StarFault::Full)),
-        (Event::Leave(7), Reply::Left),
-        (Event::Join, Reply::Joined(65)),
-    ];
-    plays(&rt, alloc, &mut world, &events);
+    let full = Reply::NoJoin(StarFault::Full);
+    gives(&rt, alloc, &mut world, Event::Join, full);
+    gives(&rt, alloc, &mut world, Event::Leave(7), Reply::Left);
+    gives(&rt, alloc, &mut world, Event::Join, Reply::Joined(65));
 }
 
 #[test]

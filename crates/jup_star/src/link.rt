@@ -3,6 +3,7 @@ ghost use Rattle.std.specs.Prelude.{◌≡◌, ◌≤◌, ◌<◌, length, take,
 ghost use Rattle.jup_link.specs.Links.{IsNumber, IsCount, generated};
 ghost use Rattle.jup_window.specs.BoardOperations.{board_operations};
 ghost use Rattle.jup_star.specs.FirstFaults.{first_fault, fault_of};
+ghost use Rattle.std.specs.Option.{option_to_list};
 ghost use Rattle.jup_star.specs.LinkStates.{opened_link, link_acked, link_ponged, link_fetched, link_sent, link_heard, operation_at};
 ghost use Rattle.jup_star.specs.StarStates.{early_fault, edit_tests, ack_tests, log_tests};
 ghost use Rattle.jup_star.specs.Rooms.{bare_link, HasRoom};
@@ -131,6 +132,14 @@ impl Link {
     {
         let msg = self.end.send(*op, *op);
         self.outbox.push(Down::Op(msg));
+    }
+
+    // Moves the oldest message out of the outbox, if there is one. It takes no memory.
+    pub(crate) fn fetch_one(&mut self) -> Option<Down>
+        ensures fetched { option_to_list result ≡ take 1 (bare_link self.old).outbox }
+        ensures link { bare_link self.new ≡ link_fetched 1 (bare_link self.old) }
+    {
+        self.outbox.fetch_one()
     }
 
     // Moves up to `max` of the oldest messages out of the outbox.

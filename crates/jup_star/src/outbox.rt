@@ -3,6 +3,7 @@ ghost use Rattle.std.specs.Prelude.{◌≡◌, ℕ, ◌+◌, ◌≤◌, [], ◌�
 ghost use Rattle.std.specs.VecDeque.{deque_len, deque_capacity};
 ghost use Rattle.std.specs.Prelude.{vec_len};
 ghost use Rattle.std.specs.Vec.{vec_capacity};
+ghost use Rattle.std.specs.Option.{option_to_list};
 
 use crate::Down;
 use jup_link::Msg;
@@ -111,6 +112,14 @@ impl Outbox {
         ensures { self.new.messages ≡ self.old.messages ++ message ∷ [] }
     {
         self.messages.push_back_reserved(message);
+    }
+
+    // Moves the oldest message out, if there is one. It takes no memory.
+    pub(crate) fn fetch_one(&mut self) -> Option<Down>
+        ensures fetched { option_to_list result ≡ take 1 self.old.messages }
+        ensures rest { self.new.messages ≡ drop 1 self.old.messages }
+    {
+        self.messages.pop_front()
     }
 
     // Moves up to `max` of the oldest messages out.

@@ -1,9 +1,10 @@
 //! The star.
 ghost use Rattle.std.specs.Prelude.{◌≡◌, ◌≤◌, ◌<◌, false, length, IfOk};
-ghost use Rattle.std.specs.Option.{option_map};
+ghost use Rattle.std.specs.Option.{option_map, option_to_list};
 ghost use Rattle.jup_window.specs.Boards.{bare};
 ghost use Rattle.jup_window.specs.Entries.{EachWidget};
 ghost use Rattle.jup_star.specs.FirstFaults.{fault_of};
+ghost use Rattle.jup_window.specs.Commands.{map_ok};
 ghost use Rattle.jup_star.specs.Openings.{IsShort};
 ghost use Rattle.jup_star.specs.OtherLinks.{OthersStayInStep};
 ghost use Rattle.jup_star.specs.StarStates.{link_of, opened_star};
@@ -18,7 +19,7 @@ use crate::link::Link;
 use crate::links::{detach, link_at};
 use crate::order::Order;
 use crate::take::{carry_out, reserve_edit};
-use crate::{Downs, Entry, OpenFault, StarFault, Up};
+use crate::{Down, Downs, Entry, OpenFault, StarFault, Up};
 use jup_link::Msg;
 use jup_window::{Board, BoardOp};
 use jup_xform::NoMemory;
@@ -242,6 +243,17 @@ impl Star {
             Ok(downs) => downs,
         };
         Ok(downs)
+    }
+
+    /// Takes the oldest message out of a site's outbox, if one waits. It takes no memory. Refused: no link.
+    pub fn fetch_one(&mut self, site: u32) -> Result<Option<Down>, StarFault>
+        ensures call { Answers (Fetch site 1) self.old self.new (Fetched (map_ok option_to_list result)) }
+        ensures memory { lacks_memory result ≡ false }
+    {
+        let Some(at) = link_at(&self.links, site) else {
+            return Err(StarFault::NoLink);
+        };
+        Ok(self.links[at].fetch_one())
     }
 
     /// Detaches a site. Refused: no link.

@@ -150,17 +150,14 @@ pub fetch_fetched : (i : ℕ) (s t : BoardStar) (l : BoardLink) (downs : List (D
 unfolding reply_of star_after
 fetch_fetched i s t l downs found answers = ((let told = rw found at answers.0 in cc), rw found at answers.1)
 
-pub fetch_refused : (i : ℕ) (s t : BoardStar) (fault : StarFault) → is_some (link_of i s.links) ≡ true → Answers (Fetch i 1) s t (FetchedReply (Err fault)) → t ≡ s
+pub fetch_linked : (i : ℕ) (s t : BoardStar) (fault : StarFault) → is_some (link_of i s.links) ≡ true → is_no_memory fault ≡ false
+    → Answers (Fetch i 1) s t (FetchedReply (Err fault)) → ⊥
 unfolding reply_of star_after
-fetch_refused i s t fault linked answers = cases (is_no_memory fault) refl
+fetch_linked i s t fault linked memory answers = let call = rw memory at answers in none (link_of i s.links) linked call.0
   where
-    none : (o : Option BoardLink) → is_some o ≡ true → FetchedReply (Err fault) ≡ FetchedReply (fetch_result 1 o) → t ≡ s
+    none : (o : Option BoardLink) → is_some o ≡ true → FetchedReply (Err fault) ≡ FetchedReply (fetch_result 1 o) → ⊥
     none None some told = absurd (cc)
     none (Some l) some told = absurd (cc)
-
-    cases : (b : Bool) → is_no_memory fault ≡ b → t ≡ s
-    cases true e = let call = rw e at answers in call.0
-    cases false e = let call = rw e at answers in none (link_of i s.links) linked call.0
 
 -- # A down stream that was empty
 

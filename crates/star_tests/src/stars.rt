@@ -416,6 +416,18 @@ fn a_ping_is_answered(rt: HostRuntime) {
     assert_eq!(rt; star_number(absent.err()), 33);
 }
 
+#[test]
+fn one_message_is_fetched_without_a_list(rt: HostRuntime) {
+    let alloc = rt.alloc();
+    let mut star = star_of_two(&rt, alloc);
+    assert_eq!(rt; star.fetch_one(1), Ok(None));
+    assert_eq!(rt; star.take(alloc, 1, &Up::Ping(7)), Ok(None));
+    assert_eq!(rt; star.take(alloc, 1, &Up::Ping(8)), Ok(None));
+    assert_eq!(rt; star.fetch_one(1), Ok(Some(Down::Pong(7))));
+    assert_eq!(rt; star.waiting(1), Some(1));
+    assert_eq!(rt; star_number(star.fetch_one(9).err()), 33);
+}
+
 // Run these with each allocation refused in turn: a call that lacks memory changes nothing, and made again
 // it gives its answer. What the test itself lacks ends it.
 

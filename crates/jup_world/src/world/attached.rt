@@ -1,5 +1,6 @@
 //! An attached site with its streams.
 ghost use Rattle.std.specs.Prelude.{◌≡◌, ◌↔◌, ◌<◌, ◌≤◌, ◌+◌, ◌-◌, ◌^◌, ◌++◌, true, false, ℕ, [], map, min, length, Some, None, is_some, nat_eq, position, MatchOption, IsTrue, IfSome, IfOk, IfErr, OnOk, OnErr};
+ghost use Rattle.std.specs.Option.{option_to_list};
 ghost use Rattle.jup_window.specs.BoardOperations.{board_operations};
 ghost use Rattle.jup_star.specs.StarStates.{link_of};
 ghost use Rattle.jup_star.specs.SiteStates.{edit_answer};
@@ -110,14 +111,13 @@ fn pushed(count: usize) -> Reply
 }
 
 // Writes a message that was fetched, if one was.
-fn send_one(lane: &mut Lane<Down>, fetched: &[Down])
-    requires room { MOST_MESSAGE ≤ lane.old.spare }
-    requires one { length fetched.now ≤ 1 }
-    ensures way { lane.new.way ≡ sent (bytes_of_all downs fetched.now) lane.old.way }
-    ensures messages { messages downs lane.new.way ≡ messages downs lane.old.way ++ fetched.now }
+fn send_one(lane: &mut Lane<Down>, fetched: &Option<Down>)
+    requires { MOST_MESSAGE ≤ lane.old.spare }
+    ensures way { lane.new.way ≡ sent (bytes_of_all downs (option_to_list fetched.now)) lane.old.way }
+    ensures messages { messages downs lane.new.way ≡ messages downs lane.old.way ++ option_to_list fetched.now }
     ensures carry { Carries downs lane.old.way → Carries downs lane.new.way }
 {
-    if let Some(down) = fetched.first() {
+    if let Some(down) = fetched {
         lane.send(down);
     }
 }
@@ -215,12 +215,12 @@ impl Attached {
         ensures moved { OnErr result ((l : BoardLink) → link_of self.old.site.number star.old.links ≡ Some l
             → RestsDown l (lane_of self.old) (lane_of self.new)) }
     {
-        self.refill(alloc, star)?;
+        self.refill(star)?;
         self.hand(alloc)
     }
 
     // Fetches the oldest message of the site's outbox, if nothing is on its way down.
-    fn refill(&mut self, alloc: Global, star: &mut Star) -> Result<(), NoMemory>
+    fn refill(&mut self, star: &mut Star) -> Result<(), NoMemory>
         requires { is_some (link_of self.old.site.number star.old.links) ≡ true }
         ensures site { OnOk result ((l : BoardLink) → link_of self.old.site.number star.old.links ≡ Some l
             → bare_attached self.new ≡ refilled l (bare_attached self.old)) }
@@ -232,13 +232,13 @@ impl Attached {
         ensures same_star { OnErr result (star.new ≡ star.old) }
     {
         if self.down.is_idle() {
-            self.fill(alloc, star)?;
+            self.fill(star)?;
         }
         Ok(())
     }
 
     // Fetches the oldest message of the site's outbox, if the down stream has no byte.
-    fn fill(&mut self, alloc: Global, star: &mut Star) -> Result<(), NoMemory>
+    fn fill(&mut self, star: &mut Star) -> Result<(), NoMemory>
         requires { is_some (link_of self.old.site.number star.old.links) ≡ true }
         ensures site { OnOk result ((l : BoardLink) → link_of self.old.site.number star.old.links ≡ Some l
             → bare_attached self.new ≡ with_filled self.old.down.way.stream l (bare_attached self.old)) }
@@ -252,10 +252,10 @@ impl Attached {
         let number = self.site.number();
         if self.down.is_stream_empty() && star.waiting(number) != Some(0) {
             self.down.reserve()?;
-            let Ok(downs) = star.fetch(alloc, number, 1) else {
-                return Err(NoMemory);
+            let Ok(fetched) = star.fetch_one(number) else {
+                unreachable!();
             };
-            send_one(&mut self.down, downs.as_slice());
+            send_one(&mut self.down, &fetched);
         }
         Ok(())
     }
@@ -324,7 +324,7 @@ impl Attached {
         ensures moved { OnErr result ((l : BoardLink) → link_of self.old.site.number star.old.links ≡ Some l
             → RestsDown l (lane_of self.old) (lane_of self.new)) }
     {
-        self.fill(alloc, star)?;
+        self.fill(star)?;
         let count = self.down.push(alloc, most)?;
         Ok(pushed(count))
     }

@@ -1,4 +1,5 @@
-use Rattle.std.proofs.Common.{◌≡◌, ◌++◌, ◌∙◌, List, [], length, refl, sym, ap, subst, is_some, arith, length-take}
+use Rattle.std.proofs.Common.{◌≡◌, ◌++◌, ◌∙◌, List, [], refl, sym, ap, subst, is_some}
+use Rattle.std.specs.Option.{option_to_list}
 use Rattle.jup_window.specs.declared.board_operations.BoardOp.{BoardOp}
 use Rattle.jup_star.specs.declared.messages.Down.{Down}
 use Rattle.jup_star.specs.StarStates.{link_of, fetched}
@@ -6,28 +7,22 @@ use Rattle.jup_lane.specs.Codecs.{bytes_of_all}
 use Rattle.jup_lane.specs.Lanes.{Way, messages, sent, Carries}
 use Rattle.jup_lane.specs.Messages.{downs}
 use Rattle.jup_world.specs.WorldFields.{bare_attached}
-use Rattle.jup_world.proofs.CallFacts.{fetch_fetched, fetch_refused, some_wait, some_link}
+use Rattle.jup_world.proofs.CallFacts.{fetch_fetched, fetch_linked, some_wait}
 use Rattle.jup_world.proofs.LaneReads.{fetched_site, fetched_star, fetched_way}
 use Rattle.jup_world.proofs.world.attached.Attached.fill.Goals as goal
 
-pub returns-in_default-clause-same_star : goal.returns-in_default-clause-same_star
-returns-in_default-clause-same_star c =
-    fetch_refused c.number-number.result _ _ c.in_default.field-0 (ap (λ n. is_some (link_of n c.args.star.now.links)) c.number-number.ensures ∙ c.requires) c.in_default.ensures
-
-pub send_one-requires-clause-one : goal.send_one-requires-clause-one
-send_one-requires-clause-one c =
-    let there = some_link (link_of c.number-number.result c.args.star.now.links) (ap (λ n. is_some (link_of n c.args.star.now.links)) c.number-number.ensures ∙ c.requires) in
-    let one = (fetch_fetched c.number-number.result _ _ there.0 c.in-Ok.downs there.1 c.in-Ok.ensures).0 in
-    let long = ap length (c.as_slice.ensures ∙ one) ∙ length-take 1 there.0.outbox in
-    omega (arith, long)
+pub unreachable-requires : goal.unreachable-requires
+unreachable-requires c =
+    let linked = ap (λ n. is_some (link_of n c.args.star.now.links)) c.number-number.ensures ∙ c.requires in
+    fetch_linked c.number-number.result _ _ c.in_default.field-0 linked c.in_default.ensures.memory c.in_default.ensures.call
 
 pub returns-in-Ok-clause-site : goal.returns-in-Ok-clause-site
 returns-in-Ok-clause-site c l found =
     let empty : c.args.self.now.down.way.stream ≡ [] = c.is_stream_empty.ensures.0 c.if-is_stream_empty.true in
     let link = ap (λ n. link_of n c.args.star.now.links) c.number-number.ensures ∙ found in
     let waits = some_wait c.number-number.result c.args.star.now l c.waiting.result link c.waiting.ensures (sym c.ne.ensures ∙ c.if-ne.true) in
-    let one = c.as_slice.ensures ∙ (fetch_fetched c.number-number.result _ _ l c.in-Ok.downs link c.in-Ok.ensures).0 in
-    let ds = c.send_one.ensures.messages ∙ ap (λ (w : Way). messages downs w ++ c.as_slice.result.now) c.reserve.ensures.way
+    let one = (fetch_fetched c.number-number.result _ _ l (option_to_list c.in-Ok.fetched) link c.in-Ok.ensures.call).0 in
+    let ds = c.send_one.ensures.messages ∙ ap (λ (w : Way). messages downs w ++ option_to_list c.in-Ok.fetched) c.reserve.ensures.way
     ∙ ap (λ (ds : List (Down BoardOp)). messages downs c.args.self.now.down.way ++ ds) one in
     fetched_site (bare_attached c.args.self.now) _ c.args.self.now.down.way.stream l empty waits (λ j. record (bare_attached c.args.self.now) { down = ds j })
 
@@ -37,18 +32,18 @@ returns-in-Ok-clause-star c l found =
     let link = ap (λ n. link_of n c.args.star.now.links) c.number-number.ensures ∙ found in
     let waits = some_wait c.number-number.result c.args.star.now l c.waiting.result link c.waiting.ensures (sym c.ne.ensures ∙ c.if-ne.true) in
     fetched_star c.args.self.now.site.number c.args.self.now.down.way.stream l.outbox c.args.star.now _ empty waits
-    ((fetch_fetched c.number-number.result _ _ l c.in-Ok.downs link c.in-Ok.ensures).1 ∙ ap (λ n. fetched n 1 c.args.star.now) c.number-number.ensures)
+    ((fetch_fetched c.number-number.result _ _ l (option_to_list c.in-Ok.fetched) link c.in-Ok.ensures.call).1 ∙ ap (λ n. fetched n 1 c.args.star.now) c.number-number.ensures)
 
 pub returns-in-Ok-clause-filled : goal.returns-in-Ok-clause-filled
 returns-in-Ok-clause-filled c l found =
     let empty : c.args.self.now.down.way.stream ≡ [] = c.is_stream_empty.ensures.0 c.if-is_stream_empty.true in
     let link = ap (λ n. link_of n c.args.star.now.links) c.number-number.ensures ∙ found in
     let waits = some_wait c.number-number.result c.args.star.now l c.waiting.result link c.waiting.ensures (sym c.ne.ensures ∙ c.if-ne.true) in
-    let one = c.as_slice.ensures ∙ (fetch_fetched c.number-number.result _ _ l c.in-Ok.downs link c.in-Ok.ensures).0 in
+    let one = (fetch_fetched c.number-number.result _ _ l (option_to_list c.in-Ok.fetched) link c.in-Ok.ensures.call).0 in
     record {
       site = refl;
       up = refl;
-      down = fetched_way c.args.self.now.down.way _ c.args.self.now.down.way.stream l.outbox c.as_slice.result.now empty waits one
-          (c.send_one.ensures.way ∙ ap (λ (w : Way). sent (bytes_of_all downs c.as_slice.result.now) w) c.reserve.ensures.way);
+      down = fetched_way c.args.self.now.down.way _ c.args.self.now.down.way.stream l.outbox (option_to_list c.in-Ok.fetched) empty waits one
+          (c.send_one.ensures.way ∙ ap (λ (w : Way). sent (bytes_of_all downs (option_to_list c.in-Ok.fetched)) w) c.reserve.ensures.way);
       carry = λ is. c.send_one.ensures.carry (subst (Carries downs) (sym c.reserve.ensures.way) is);
     }

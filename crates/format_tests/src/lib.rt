@@ -1,4 +1,4 @@
-//! Lines and layouts, by their public calls.
+//! Lines of a link, layouts, and printed texts, by their public calls.
 #![tactic(auto)]
 
 ghost use Rattle.std.specs.Prelude.{◌≡◌};
@@ -7,3 +7,5 @@ ghost use Rattle.std.specs.Prelude.{◌≡◌};
 mod layouts;
 #[cfg(test)]
 mod lines;
+#[cfg(test)]
+mod texts;

@@ -1,7 +1,9 @@
-//! Sites and the star, by their public calls.
+//! Sites, the star and the hub that shares one among threads, by their public calls.
 #![tactic(auto)]
 
 ghost use Rattle.std.specs.Prelude.{◌≡◌};
 
+#[cfg(test)]
+mod hubs;
 #[cfg(test)]
 mod stars;

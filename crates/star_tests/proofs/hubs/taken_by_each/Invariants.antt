@@ -1,6 +1,6 @@
 use Rattle.std.proofs.Common.{All, vec_len}
 use Rattle.jup_hub.specs.Passes.{IsPassOf}
-use Rattle.hub_tests.proofs.hubs.taken_by_each.Given as goal
+use Rattle.star_tests.proofs.hubs.taken_by_each.Given as goal
 
 abbrev pub invariant-loop-b : goal.invariant-loop-b
 invariant-loop-b g l = IsPassOf l.hub l.a × All (IsPassOf l.hub) l.passes.items

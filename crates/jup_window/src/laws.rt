@@ -1,6 +1,6 @@
 //! What boards hold and what their edits mean, written out. The laws of `Transform` speak of an
 //! implementation's own words for these; these functions do nothing but say which they are for boards.
-ghost use Rattle.std.specs.Prelude.{◌≡◌, ◌≢◌, ◌↔◌, ℕ, ℤ, Bool, List, [], ◌∷◌, ◌++◌, Contains, ◌⊎◌, Some, None};
+ghost use Rattle.std.specs.Prelude.{◌≡◌, ◌≢◌, ◌↔◌, ℕ, ℤ, Bool, List, [], ◌∷◌, ◌++◌, Contains, ◌⊎◌, Some, None, IsTrue};
 ghost use Rattle.jup_value.specs.declared.names.Name.{Name};
 ghost use Rattle.jup_value.specs.declared.names.Item.{Item};
 ghost use Rattle.jup_value.specs.Items.{Items};
@@ -13,7 +13,7 @@ ghost use Rattle.jup_window.specs.declared.widgets.Widget.{Widget};
 ghost use Rattle.jup_window.specs.declared.board_operations.BoardOp.{BoardOp};
 ghost use Rattle.jup_window.specs.declared.edits.Edit.{Edit};
 ghost use Rattle.jup_window.specs.Entries.{Place, EachWidget, widget_at};
-ghost use Rattle.jup_window.specs.Widgets.{InSequences, IsNoRelabel, AreOfOneKind, AreOperationsOfOneKind};
+ghost use Rattle.jup_window.specs.Widgets.{InSequences, is_no_relabel, AreOfOneKind, AreOperationsOfOneKind};
 ghost use Rattle.jup_window.specs.Effects.{Chars, Labelled, On, At};
 ghost use Rattle.jup_window.specs.Boards.{Windows, Content, Placed, place, edit_place};
 ghost use Rattle.jup_window.specs.Contents.{op_at, edit_at, character, label};
@@ -58,7 +58,7 @@ pub fn operation_validity()
     ensures text { (p : Place) (op : SeqOp ℕ) (board : Windows) (text : Items ℕ)
         → widget_at p board ≡ Some (Widget.Text text)
         → ⟦<BoardOp as Transform>⟧.is_valid (op_at p (WidgetOp.Text op)) board
-        ↔ (IsNoRelabel op × ⟦<SeqOp<char> as Transform>⟧.is_valid op text) }
+        ↔ (IsTrue (is_no_relabel op) × ⟦<SeqOp<char> as Transform>⟧.is_valid op text) }
     ensures list { (p : Place) (op : SeqOp (List ℕ)) (board : Windows) (list : Items (List ℕ))
         → widget_at p board ≡ Some (Widget.List list)
         → ⟦<BoardOp as Transform>⟧.is_valid (op_at p (WidgetOp.List op)) board

@@ -1,12 +1,14 @@
 //! The star's end of a link to a site.
-ghost use Rattle.std.specs.Prelude.{◌≡◌, ◌≤◌, ◌<◌, length, take, OnOk, OnErr, IfOk};
+ghost use Rattle.std.specs.Prelude.{◌≡◌, ◌≤◌, ◌<◌, length, take, IsTrue, IfSome, OnOk, OnErr, IfOk};
 ghost use Rattle.jup_link.specs.Links.{IsNumber, IsCount, generated};
+ghost use Rattle.jup_window.specs.Widgets.{relabels_no_text};
 ghost use Rattle.jup_window.specs.BoardOperations.{board_operations};
 ghost use Rattle.jup_star.specs.FirstFaults.{first_fault, fault_of};
 ghost use Rattle.std.specs.Option.{option_to_list};
 ghost use Rattle.jup_star.specs.LinkStates.{opened_link, link_acked, link_ponged, link_fetched, link_sent, link_heard, operation_at};
 ghost use Rattle.jup_star.specs.StarStates.{early_fault, edit_tests, ack_tests, log_tests};
 ghost use Rattle.jup_star.specs.Rooms.{bare_link, HasRoom};
+ghost use Rattle.jup_star.specs.TextRelabels.{DownRelabelsNoText};
 
 use crate::ends::{acknowledge, check_counts, receive};
 use crate::outbox::Outbox;
@@ -126,6 +128,7 @@ impl Link {
 
     // Sends an operation to the site.
     pub(crate) fn send(&mut self, op: &BoardOp)
+        requires relabels { IsTrue (relabels_no_text op.now.op) }
         requires room { HasRoom self.old }
         requires counted { generated self.old.end.link < 4294967295 }
         ensures { bare_link self.new ≡ link_sent op.now (bare_link self.old) }
@@ -137,6 +140,7 @@ impl Link {
     // Moves the oldest message out of the outbox, if there is one. It takes no memory.
     pub(crate) fn fetch_one(&mut self) -> Option<Down>
         ensures fetched { option_to_list result ≡ take 1 (bare_link self.old).outbox }
+        ensures relabels { IfSome result DownRelabelsNoText }
         ensures link { bare_link self.new ≡ link_fetched 1 (bare_link self.old) }
     {
         self.outbox.fetch_one()

@@ -1,5 +1,6 @@
 //! The links of a star.
 ghost use Rattle.std.specs.Prelude.{◌≡◌, ◌<◌, not, nat_eq, map, filter, position, length, MatchOption, IsTrue, IfSome, OnOk, if◌then◌else◌};
+ghost use Rattle.jup_window.specs.Widgets.{relabels_no_text};
 ghost use Rattle.jup_star.specs.LinkStates.{is_of, link_sent};
 ghost use Rattle.jup_star.specs.StarStates.{IsNew, AreApart};
 ghost use Rattle.jup_star.specs.Places.{IsPlace};
@@ -55,6 +56,7 @@ pub(crate) fn reserve_all(links: &mut [Link]) -> Result<(), NoMemory>
 
 /// Sends an operation to each link but that of the site that it came from.
 pub(crate) fn send_others(links: &mut [Link], site: u32, op: &BoardOp)
+    requires relabels { IsTrue (relabels_no_text op.now.op) }
     requires room { OthersHaveRoom site links.old }
     requires counted { AllCount (map bare_link links.old) }
     ensures { map bare_link links.new ≡ map (λ l. if is_of site l then l else link_sent op.now l) (map bare_link links.old) }

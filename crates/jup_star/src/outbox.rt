@@ -1,9 +1,10 @@
 //! Messages that wait to be fetched.
-ghost use Rattle.std.specs.Prelude.{◌≡◌, ℕ, ◌+◌, ◌≤◌, [], ◌∷◌, ◌++◌, length, take, drop, OnOk, OnErr, IfOk};
+ghost use Rattle.std.specs.Prelude.{◌≡◌, ℕ, ◌+◌, ◌≤◌, [], ◌∷◌, ◌++◌, length, take, drop, All, IfSome, OnOk, OnErr, IfOk};
 ghost use Rattle.std.specs.VecDeque.{deque_len, deque_capacity};
 ghost use Rattle.std.specs.Prelude.{vec_len};
 ghost use Rattle.std.specs.Vec.{vec_capacity};
 ghost use Rattle.std.specs.Option.{option_to_list};
+ghost use Rattle.jup_star.specs.TextRelabels.{DownRelabelsNoText};
 
 use crate::Down;
 use jup_link::Msg;
@@ -15,40 +16,45 @@ use std::alloc::Global;
 use std::collections::VecDeque;
 use std::marker::{Model, PhantomData};
 
-/// Messages down, oldest first. Contracts see the list.
+/// Messages down, oldest first. Contracts see the list. None relabels a text.
 #[derive(Drop)]
 pub struct Downs {
     messages: Vec<Down>,
 }
 
 impl Model for Downs {
-    ghost use Rattle.std.specs.Prelude.{List};
+    ghost use Rattle.std.specs.Prelude.{List, All};
     ghost use Rattle.jup_window.specs.declared.board_operations.BoardOp.{BoardOp};
     ghost use Rattle.jup_star.specs.declared.messages.Down.{Down};
+    ghost use Rattle.jup_star.specs.TextRelabels.{DownRelabelsNoText};
 
     ghost Value = { List (Down BoardOp) };
 
     ghost view = { λ d. d.messages.items };
+
+    ghost invariant = { λ d. All DownRelabelsNoText d.messages.items };
 }
 
 impl Downs {
     /// The messages. It takes no memory.
     pub fn into_messages(self) -> Vec<Down>
-        ensures { result.items ≡ self }
+        ensures messages { result.items ≡ self }
+        ensures relabels { All DownRelabelsNoText result.items }
     {
         self.messages
     }
 
     /// The messages.
     pub fn as_slice(&self) -> &[Down]
-        ensures { result.now ≡ self.now }
+        ensures messages { result.now ≡ self.now }
+        ensures relabels { All DownRelabelsNoText result.now }
     {
         &self.messages
     }
 }
 
 /// The messages of a link that were not fetched yet, oldest first. Contracts see them, and `spare`, the
-/// number of further messages that there is room for.
+/// number of further messages that there is room for. None relabels a text.
 #[derive(Drop)]
 pub(crate) struct Outbox {
     messages: VecDeque<Down>,
@@ -57,14 +63,17 @@ pub(crate) struct Outbox {
 }
 
 impl Model for Outbox {
-    ghost use Rattle.std.specs.Prelude.{◌-◌};
+    ghost use Rattle.std.specs.Prelude.{◌-◌, All};
     ghost use Rattle.std.specs.VecDeque.{deque_len, deque_capacity};
     ghost use Rattle.jup_window.specs.declared.board_operations.BoardOp.{BoardOp};
     ghost use Rattle.jup_star.specs.Queues.{OutboxState};
+    ghost use Rattle.jup_star.specs.TextRelabels.{DownRelabelsNoText};
 
     ghost Value = { OutboxState BoardOp };
 
     ghost view = { λ o. record { messages = o.messages.items; spare = deque_capacity o.messages - deque_len o.messages } };
+
+    ghost invariant = { λ o. All DownRelabelsNoText o.messages.items };
 }
 
 // Moves the first `count` elements of a queue to the end of a list that has room for them.
@@ -108,7 +117,8 @@ impl Outbox {
 
     // Puts a message at the end. It takes no memory.
     pub(crate) fn push(&mut self, message: Down)
-        requires { 1 ≤ self.old.spare }
+        requires room { 1 ≤ self.old.spare }
+        requires relabels { DownRelabelsNoText message }
         ensures { self.new.messages ≡ self.old.messages ++ message ∷ [] }
     {
         self.messages.push_back_reserved(message);
@@ -117,6 +127,7 @@ impl Outbox {
     // Moves the oldest message out, if there is one. It takes no memory.
     pub(crate) fn fetch_one(&mut self) -> Option<Down>
         ensures fetched { option_to_list result ≡ take 1 self.old.messages }
+        ensures relabels { IfSome result DownRelabelsNoText }
         ensures rest { self.new.messages ≡ drop 1 self.old.messages }
     {
         self.messages.pop_front()

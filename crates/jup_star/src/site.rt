@@ -8,6 +8,7 @@ ghost use Rattle.jup_star.specs.FirstFaults.{fault_of, first_fault};
 ghost use Rattle.jup_star.specs.LinkStates.{operation_at, end_after};
 ghost use Rattle.jup_star.specs.SiteStates.{opened_site, edit_answer, heard_tests, shown_tests};
 ghost use Rattle.jup_star.specs.SiteCalls.{site_open_fault, EditAnswers, DeliverAnswers, Bears, is_edit_memory};
+ghost use Rattle.jup_star.specs.TextRelabels.{UpRelabelsNoText};
 ghost use Rattle.jup_star.specs.declared.messages.Down.TheVariants.{Op, Ack, Pong};
 
 use crate::edits::edit_of;
@@ -222,6 +223,7 @@ impl Site {
         ensures shown { OnOk result (self.new.board
             ≡ shown command.now (next_name self.old.number self.old.named) self.old.board) }
         ensures bears { IfOk result (λ made. Bears made.edit made.up) }
+        ensures relabels { IfOk result (λ made. UpRelabelsNoText made.up) }
     {
         let op = match self.name_it(command) {
             Err(fault) => return Err(fault),

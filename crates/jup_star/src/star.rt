@@ -1,5 +1,5 @@
 //! The star.
-ghost use Rattle.std.specs.Prelude.{◌≡◌, ◌≤◌, ◌<◌, false, length, IfOk};
+ghost use Rattle.std.specs.Prelude.{◌≡◌, ◌≤◌, ◌<◌, false, length, IfOk, IfSome};
 ghost use Rattle.std.specs.Option.{option_map, option_to_list};
 ghost use Rattle.jup_window.specs.Boards.{bare};
 ghost use Rattle.jup_window.specs.Entries.{EachWidget};
@@ -9,6 +9,7 @@ ghost use Rattle.jup_star.specs.Openings.{IsShort};
 ghost use Rattle.jup_star.specs.OtherLinks.{OthersStayInStep};
 ghost use Rattle.jup_star.specs.StarStates.{link_of, opened_star};
 ghost use Rattle.jup_star.specs.StarCalls.{Answers, bare_joined, lacks_memory, star_open_fault};
+ghost use Rattle.jup_star.specs.TextRelabels.{DownRelabelsNoText};
 ghost use Rattle.jup_star.specs.declared.messages.Up.TheVariants.{Op, Ack, Ping};
 ghost use Rattle.jup_star.specs.declared.calls.Call.TheVariants.{Join, Take, Fetch, Leave};
 ghost use Rattle.jup_star.specs.declared.calls.Reply.TheVariants.{Joined as JoinedReply, Taken, Fetched, Left};
@@ -248,6 +249,7 @@ impl Star {
     /// Takes the oldest message out of a site's outbox, if one waits. It takes no memory. Refused: no link.
     pub fn fetch_one(&mut self, site: u32) -> Result<Option<Down>, StarFault>
         ensures call { Answers (Fetch site 1) self.old self.new (Fetched (map_ok option_to_list result)) }
+        ensures relabels { IfOk result (λ fetched. IfSome fetched DownRelabelsNoText) }
         ensures memory { lacks_memory result ≡ false }
     {
         let Some(at) = link_at(&self.links, site) else {

@@ -4,7 +4,9 @@ use jup_seq::SeqOp;
 use jup_setting::SetOp;
 use jup_value::{Item, Label, Name};
 use jup_window::{BoardOp, WidgetOp};
-use jup_wire::{Fed, Line, MOST, Reader, WireFault, feed_of, read_line, write, write_reserved};
+use jup_wire::{
+    Fed, Line, MOST, Reader, WireFault, feed_of, has_spelling, read_line, write, write_reserved,
+};
 use std::alloc::Global;
 use std::marker::PhantomData;
 use std::process::Abort;
@@ -45,6 +47,18 @@ fn is_written(rt: &impl Abort, alloc: Global, line: &Line, text: &[u8]) {
     assert_eq!(rt; reserved.as_slice(), text);
 }
 
+// The line has no spelling: nothing is written for it, with all room that there may be.
+fn is_not_written(rt: &impl Abort, alloc: Global, line: &Line) {
+    assert!(rt; !has_spelling(line));
+    let mut written = Vec::new(alloc);
+    write(alloc, &Line::Bye, &mut written).expect(rt, "memory");
+    assert_eq!(rt; write(alloc, line, &mut written), Ok(()));
+    assert_eq!(rt; written.as_slice(), b"bye\n".as_slice());
+    let mut reserved = Vec::with_capacity(alloc, MOST).expect(rt, "memory");
+    write_reserved(line, &mut reserved);
+    assert!(rt; reserved.is_empty());
+}
+
 // The bytes before their line feed, which is the last, are the line by themselves.
 fn is_read_by_itself(rt: &impl Abort, line: &Line, text: &[u8]) {
     let (_, before) = text.split_last().expect(rt, "a line feed");
@@ -77,6 +91,7 @@ fn is_read_in_bytes(rt: &impl Abort, alloc: Global, line: &Line, text: &[u8]) {
 
 // The line is written so, and these bytes are read as it, whole and byte by byte.
 fn check_line(rt: &impl Abort, alloc: Global, line: &Line, text: &[u8]) {
+    assert!(rt; has_spelling(line));
     is_written(rt, alloc, line, text);
     let mut whole = Reader::new();
     let all = fed(rt, alloc, &mut whole, text);
@@ -200,6 +215,24 @@ fn relabels_as_bytes(rt: HostRuntime) {
     );
     assert_eq!(rt;
         fault_of(b"op 0 0 1 2 list rel 0.1 tea"),
+        Some(WireFault::BadLine)
+    );
+}
+
+#[test]
+fn relabel_of_a_text_is_no_line(rt: HostRuntime) {
+    let relabel = WidgetOp::Text(SeqOp::Relabel {
+        place: 0,
+        name: name(0, 1),
+        value: 'a',
+    });
+    is_not_written(&rt, rt.alloc(), &op(0, 0, 1, 1, relabel));
+    let text = b"op 0 0 1 1 text rel 0 0.1 97\n";
+    let refused = fed(&rt, rt.alloc(), &mut Reader::new(), text);
+    assert_eq!(rt; refused.fault, Some(WireFault::BadLine));
+    assert!(rt; refused.lines.as_slice().is_empty());
+    assert_eq!(rt;
+        fault_of(b"op 0 0 1 1 text rel 0 0.1 97"),
         Some(WireFault::BadLine)
     );
 }

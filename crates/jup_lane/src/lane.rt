@@ -111,7 +111,8 @@ impl<M: Message> Lane<M> {
 
     /// Writes a message into the stream. It takes no memory.
     pub fn send(&mut self, message: &M)
-        requires { MOST_MESSAGE ≤ self.old.spare }
+        requires may_go { M.may_go message.now }
+        requires room { MOST_MESSAGE ≤ self.old.spare }
         ensures spelled { (codec M.Message).IsSpelled message.now }
         ensures way { self.new.way ≡ sent (bytes_of (codec M.Message) message.now) self.old.way }
         ensures messages { messages (codec M.Message) self.new.way ≡ messages (codec M.Message) self.old.way ++ message.now ∷ [] }

@@ -24,7 +24,10 @@ pub const MOST_MESSAGE: usize = MOST;
 
 /// What a link carries: a message of one line or of several.
 pub trait Message: Drop {
-    /// The messages that have a spelling: those that a program can hold.
+    /// The messages that may be sent: any other has a line without a spelling.
+    ghost may_go: { Self → Type 0 };
+
+    /// The messages that have a spelling: those that a program can hold and that may be sent.
     ghost is_spelled: { Self → Type 0 };
 
     /// The lines of a message.
@@ -41,7 +44,8 @@ pub trait Message: Drop {
 
     /// Appends the lines of a message, and takes no memory.
     fn write(&self, out: &mut Vec<u8>)
-        requires { HasRoom out.old MOST_MESSAGE }
+        requires may_go { may_go self.now }
+        requires room { HasRoom out.old MOST_MESSAGE }
         ensures spelled { is_spelled self.now }
         ensures items { out.new.items ≡ out.old.items ++ flat_map spelling (lines self.now) }
         ensures capacity { vec_capacity out.old ≤ vec_capacity out.new };
@@ -58,7 +62,10 @@ pub trait Message: Drop {
 }
 
 impl Message for Up {
+    ghost use Rattle.jup_star.specs.TextRelabels.{UpRelabelsNoText};
     ghost use Rattle.jup_lane.specs.MessageLines.{ups_laws};
+
+    ghost may_go = { UpRelabelsNoText };
 
     ghost is_spelled = { λ u. HasSpelling (up_line u) };
 
@@ -109,7 +116,10 @@ impl Message for Up {
 }
 
 impl Message for Down {
+    ghost use Rattle.jup_star.specs.TextRelabels.{DownRelabelsNoText};
     ghost use Rattle.jup_lane.specs.MessageLines.{downs_laws};
+
+    ghost may_go = { DownRelabelsNoText };
 
     ghost is_spelled = { λ d. HasSpelling (down_line d) };
 

@@ -76,7 +76,8 @@ impl Stream {
 
     /// Writes a message behind the others. It takes no memory.
     pub(crate) fn write<M: Message>(&mut self, message: &M)
-        requires { MOST_MESSAGE ≤ self.old.spare }
+        requires may_go { M.may_go message.now }
+        requires room { MOST_MESSAGE ≤ self.old.spare }
         ensures spelled { (codec M.Message).IsSpelled message.now }
         ensures bytes { self.new.bytes ≡ self.old.bytes ++ bytes_of (codec M.Message) message.now }
     {

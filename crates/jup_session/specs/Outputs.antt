@@ -5,7 +5,7 @@ use Rattle.std.proofs.lemmas.List.Concat.{flat_map-append}
 use Rattle.std.specs.List.{flat_map}
 use Rattle.std.specs.Io.KnownBytes.{append_known, Appends}
 use Rattle.jup_wire.specs.declared.line.Line.{Line}
-use Rattle.jup_wire.specs.Grammar.{spelling}
+use Rattle.jup_wire.specs.Grammar.{line_bytes}
 
 -- the bytes that are written, where they are known, and those that are gathered
 abbrev pub Gathered : Type 0
@@ -17,7 +17,7 @@ all_put (written, gathered) = append_known written gathered
 
 -- these lines were put
 abbrev pub PutsLines : Gathered → List Line → Gathered → Type 0
-PutsLines before lines behind = Appends (all_put before) (all_put behind) (flat_map spelling lines)
+PutsLines before lines behind = Appends (all_put before) (all_put behind) (flat_map line_bytes lines)
 
 pub puts_none : (put : Gathered) → PutsLines put [] put
 puts_none (None, gathered) = tt
@@ -31,5 +31,5 @@ appends_more (Some a) (Some b) (Some c) xs ys one two = two ∙ ap (λ t. t ++ y
 
 pub puts_more : (a b c : Gathered) (xs ys : List Line) → PutsLines a xs b → PutsLines b ys c → PutsLines a (xs ++ ys) c
 puts_more a b c xs ys one two =
-    subst (Appends (all_put a) (all_put c)) (sym (flat_map-append spelling xs ys))
-    (appends_more (all_put a) (all_put b) (all_put c) (flat_map spelling xs) (flat_map spelling ys) one two)
+    subst (Appends (all_put a) (all_put c)) (sym (flat_map-append line_bytes xs ys))
+    (appends_more (all_put a) (all_put b) (all_put c) (flat_map line_bytes xs) (flat_map line_bytes ys) one two)

@@ -1,6 +1,6 @@
 -- The values of single fields: what is read is spelled so, and what is spelled so is read.
 use Rattle.std.proofs.Common.{◌≡◌, ℕ, zero, suc, ◌^◌, ◌<◌, ◌≤◌, Bool, true, false, ◌&&◌, cond, ltb, leb, List, [], ◌∷◌, length, Option, Some, None, Result, Ok, Err, refl, sym, ap, subst, ◌∙◌, arith, eqb, lit<, lit≤, inl, inr, get_or}
-use Rattle.std.specs.Prelude.{IfOk, IsOk, ◌↔◌, All, decimal, codes, ℤ, pos, negsuc, neg_ℤ}
+use Rattle.std.specs.Prelude.{IfOk, IsOk, IsTrue, ◌↔◌, All, decimal, codes, ℤ, pos, negsuc, neg_ℤ}
 use Rattle.std.specs.Fmt.{signed_decimal}
 use Rattle.std.specs.Str.{bytes_eq}
 use Rattle.std.proofs.lemmas.Slice.Eq.{bytes_eq-Decides}
@@ -91,20 +91,32 @@ number_reader = record {
   short = λ n lt. length-decimal-le 10 n (lit< tt) (omega arith) (omega arith);
 }
 
--- a reader whose values have to pass a test
-refined : {A : Type 0} (read : List ℕ → Option A) (text : A → List ℕ) (Is : A → Type 0) (limit : ℕ) → IsReader read text Is limit
-    → (test : A → Bool) (Passes : A → Type 0) → ((a : A) → Decides (test a) (Passes a)) → ((a : A) → Passes a → Is a) → (less : ℕ) → ((a : A) → Passes a → length (text a) ≤ less)
-    → IsReader (λ bytes. read bytes >>= λ a. cond (test a) (Some a) None) text Passes less
-refined read text Is limit reader test Passes decides includes less short = record {
+-- a reader of those values that pass a test
+pub tested : {A : Type 0} (read : List ℕ → Option A) (text : A → List ℕ) (Is : A → Type 0) (limit : ℕ) → IsReader read text Is limit
+    → (test : A → Bool) → IsReader (λ bytes. read bytes >>= λ a. cond (test a) (Some a) None) text (λ a. IsTrue (test a) × Is a) limit
+tested read text Is limit reader test = record {
   takes = λ bytes a e.
       let b = bind_some (read bytes) (λ a. cond (test a) (Some a) None) a e in
       let c = cond_some (test b.0) b.0 a b.2 in
       let t = reader.takes bytes b.0 b.1 in
-      subst (λ x. Passes x × (bytes ≡ text x)) c.1 ((decides b.0).0 c.0, t.1);
-  again = λ a is. rw (reader.again a (includes a is), (decides a).1 is) refl;
-  one_line = λ a is. reader.one_line a (includes a is);
-  short = short;
+      subst (λ x. (IsTrue (test x) × Is x) × (bytes ≡ text x)) c.1 ((c.0, t.0), t.1);
+  again = λ a is. rw (reader.again a is.1, is.0) refl;
+  one_line = λ a is. reader.one_line a is.1;
+  short = λ a is. reader.short a is.1;
 }
+
+-- the same where the test decides what is read, and that is shorter
+refined : {A : Type 0} (read : List ℕ → Option A) (text : A → List ℕ) (Is : A → Type 0) (limit : ℕ) → IsReader read text Is limit
+    → (test : A → Bool) (Passes : A → Type 0) → ((a : A) → Decides (test a) (Passes a)) → ((a : A) → Passes a → Is a) → (less : ℕ) → ((a : A) → Passes a → length (text a) ≤ less)
+    → IsReader (λ bytes. read bytes >>= λ a. cond (test a) (Some a) None) text Passes less
+refined read text Is limit reader test Passes decides includes less short =
+    let passing = tested read text Is limit reader test in
+    record {
+      takes = λ bytes a e. let t = passing.takes bytes a e in ((decides a).0 t.0.0, t.1);
+      again = λ a is. passing.again a ((decides a).1 is, includes a is);
+      one_line = λ a is. passing.one_line a ((decides a).1 is, includes a is);
+      short = short;
+    }
 
 pub id_reader : IsReader id_of decimal IsId 5
 unfolding id_of

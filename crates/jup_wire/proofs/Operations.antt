@@ -1,6 +1,6 @@
 -- Operations as fields: what is read is spelled so, and what is spelled so is read.
 use Rattle.std.proofs.Common.{◌≡◌, ℕ, ◌+◌, cond, List, [], ◌∷◌, ◌++◌, Option, Some, refl, sym, subst, ◌∙◌, arith, inl, inr, lit≤}
-use Rattle.std.specs.Prelude.{decimal, codes}
+use Rattle.std.specs.Prelude.{IsTrue, decimal, codes}
 use Rattle.std.specs.Fmt.{signed_decimal}
 use Rattle.std.specs.Char.{IsScalar}
 use Rattle.std.specs.List.{join_with_byte}
@@ -15,10 +15,11 @@ use Rattle.jup_setting.specs.declared.operation.SetOp.{SetOp}
 use Rattle.jup_setting.specs.declared.operation.SetOp.TheVariants as set
 use Rattle.jup_window.specs.declared.widget_operations.WidgetOp.{WidgetOp}
 use Rattle.jup_window.specs.declared.widget_operations.WidgetOp.TheVariants as widget
+use Rattle.jup_window.specs.Widgets.{is_no_relabel}
 use Rattle.jup_wire.specs.Grammar.{name_text, switch_text, seq_fields, set_fields, body_fields, IsU32, IsName, IsInt, IsSeqOp, IsSetOp, IsBody}
-use Rattle.jup_wire.specs.Reading.{◌>>=◌, split_of, pair_of, number_of, scalar_of, int_of, name_of, switch_of, label_of, headed_by, insert_of, delete_of, relabel_of, seq_of, set_of, body_table, body_of}
+use Rattle.jup_wire.specs.Reading.{◌>>=◌, split_of, pair_of, number_of, scalar_of, int_of, name_of, switch_of, label_of, headed_by, insert_of, delete_of, relabel_of, seq_of, text_of, set_of, body_table, body_of}
 use Rattle.jup_wire.proofs.Readers.{IsReader, IsField, within, pair_reader, behind, headed_takes}
-use Rattle.jup_wire.proofs.Leaves.{lacks-decimal, number_reader, scalar_reader, switch_reader, label_reader, name_reader, name_field, int_reader}
+use Rattle.jup_wire.proofs.Leaves.{tested, lacks-decimal, number_reader, scalar_reader, switch_reader, label_reader, name_reader, name_field, int_reader}
 
 number_field : IsField 32 decimal IsU32
 number_field = lacks-decimal 32 (lit≤ tt)
@@ -125,8 +126,9 @@ pub joined_set : {V : Type 0} (word : List ℕ) (text : V → List ℕ) (op : Se
 joined_set word text (set.Set x) = refl
 joined_set word text set.Nothing = refl
 
-text_op_reader : IsReader (seq_of scalar_of) (seq_text decimal) (IsSeqOp IsScalar) 44
-text_op_reader = seq_reader scalar_of decimal IsScalar 7 scalar_reader
+text_op_reader : IsReader text_of (seq_text decimal) (λ op. IsTrue (is_no_relabel op) × IsSeqOp IsScalar op) 44
+unfolding text_of
+text_op_reader = tested (seq_of scalar_of) (seq_text decimal) (IsSeqOp IsScalar) 44 (seq_reader scalar_of decimal IsScalar 7 scalar_reader) is_no_relabel
 
 list_op_reader : IsReader (seq_of label_of) (seq_text (λ label. label)) (IsSeqOp IsLabelText) 85
 list_op_reader = seq_reader label_of (λ label. label) IsLabelText 48 label_reader
@@ -140,7 +142,7 @@ slider_op_reader = set_reader int_of signed_decimal IsInt 11 int_reader
 body_takes : (bytes : List ℕ) (op : WidgetOp) → body_of bytes ≡ Some op → IsBody op × (bytes ≡ body_text op)
 unfolding body_of
 body_takes = headed_takes body_text IsBody body_table (
-  behind (codes "text") (seq_of scalar_of) _ _ _ text_op_reader widget.Text body_text IsBody (λ op is. (is, sym (joined_seq (codes "text") decimal op))),
+  behind (codes "text") text_of _ _ _ text_op_reader widget.Text body_text IsBody (λ op is. (is, sym (joined_seq (codes "text") decimal op))),
   (
     behind (codes "list") (seq_of label_of) _ _ _ list_op_reader widget.List body_text IsBody (λ op is. (is, sym (joined_seq (codes "list") (λ label. label) op))),
     (

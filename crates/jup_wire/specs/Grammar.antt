@@ -1,5 +1,5 @@
 -- The lines and their bytes: the fields of a line with one space between them, and a line feed at the end.
-use Rattle.std.specs.Prelude.{◌≡◌, ◌≢◌, ℕ, ◌^◌, ◌<◌, Bool, true, false, List, [], ◌∷◌, ◌++◌, codes, decimal, refl}
+use Rattle.std.specs.Prelude.{◌≡◌, ◌≢◌, ℕ, ◌^◌, ◌<◌, Bool, true, false, IsTrue, if◌then◌else◌, List, [], ◌∷◌, ◌++◌, codes, decimal, refl}
 use Rattle.std.specs.Fmt.{signed_decimal, digits}
 use Rattle.std.specs.Char.{IsScalar}
 use Rattle.std.specs.List.{join_with_byte}
@@ -12,6 +12,7 @@ use Rattle.jup_setting.specs.declared.operation.SetOp.{SetOp}
 use Rattle.jup_setting.specs.declared.operation.SetOp.TheVariants as set
 use Rattle.jup_window.specs.declared.widget_operations.WidgetOp.{WidgetOp}
 use Rattle.jup_window.specs.declared.widget_operations.WidgetOp.TheVariants as widget
+use Rattle.jup_window.specs.Widgets.{is_no_relabel, relabels_no_text}
 use Rattle.jup_wire.specs.declared.faults.WireFault.{WireFault}
 use Rattle.jup_wire.specs.declared.faults.WireFault.TheVariants.{BadLine, LongLine, BadVersion, EarlyEnd}
 use Rattle.jup_wire.specs.declared.line.Line.{Line}
@@ -71,7 +72,7 @@ fields (Error number) = codes "error" ∷ decimal number ∷ []
 abbrev pub line_text : Line → List ℕ
 line_text line = join_with_byte 32 (fields line)
 
--- the one spelling of a line
+-- the one spelling of a line that has one
 abbrev pub spelling : Line → List ℕ
 spelling line = line_text line ++ 10 ∷ []
 
@@ -92,13 +93,14 @@ abbrev pub IsSetOp : {V : Type 0} → (V → Type 0) → SetOp V → Type 0
 IsSetOp IsValue (set.Set value) = IsValue value
 IsSetOp IsValue set.Nothing = Unit {0}
 
+-- a text is not relabelled
 abbrev pub IsBody : WidgetOp → Type 0
-IsBody (widget.Text op) = IsSeqOp IsScalar op
+IsBody (widget.Text op) = IsTrue (is_no_relabel op) × IsSeqOp IsScalar op
 IsBody (widget.List op) = IsSeqOp IsLabelText op
 IsBody (widget.Toggle op) = IsSetOp (λ on. Unit {0}) op
 IsBody (widget.Slider op) = IsSetOp IsInt op
 
--- the lines that have a spelling: those that a program can hold
+-- the lines that have a spelling
 abbrev pub HasSpelling : Line → Type 0
 HasSpelling Hello = Unit {0}
 HasSpelling (Welcome site limit) = IsU32 site × IsU32 limit
@@ -116,6 +118,15 @@ HasSpelling (Ping k) = IsU32 k
 HasSpelling (Pong k) = IsU32 k
 HasSpelling Bye = Unit {0}
 HasSpelling (Error number) = IsU32 number
+
+-- whether a line that a program holds has a spelling: all do but a relabel of a text
+abbrev pub is_spelled : Line → Bool
+is_spelled (Op msg) = relabels_no_text msg.op.op
+is_spelled line = true
+
+-- what is written for a line: its spelling, and nothing where it has none
+abbrev pub line_bytes : Line → List ℕ
+line_bytes line = if is_spelled line then spelling line else []
 
 -- the grammar: these bytes are this line
 abbrev pub IsLine : List ℕ → Line → Type 0

@@ -11,6 +11,7 @@ use Rattle.jup_setting.specs.declared.operation.SetOp.{SetOp}
 use Rattle.jup_setting.specs.declared.operation.SetOp.TheVariants as set
 use Rattle.jup_window.specs.declared.widget_operations.WidgetOp.{WidgetOp}
 use Rattle.jup_window.specs.declared.widget_operations.WidgetOp.TheVariants as widget
+use Rattle.jup_window.specs.Widgets.{is_no_relabel}
 use Rattle.jup_wire.specs.Grammar.{this_version}
 use Rattle.jup_wire.specs.declared.faults.WireFault.{WireFault}
 use Rattle.jup_wire.specs.declared.faults.WireFault.TheVariants.{BadLine, BadVersion}
@@ -101,12 +102,19 @@ delete_of bytes = pair_of 32 number_of name_of bytes >>= λ x. Some (seq.Delete 
 unfoldable pub seq_of : {V : Type 0} → (List ℕ → Option V) → List ℕ → Option (SeqOp V)
 seq_of value bytes = if bytes_eq bytes (codes "no") then Some seq.Nothing else headed_by ((codes "ins", insert_of value) ∷ (codes "del", delete_of) ∷ (codes "rel", relabel_of value) ∷ []) bytes
 
+-- an operation on a text, which has no relabels
+abbrev pub if_no_relabel : {V : Type 0} → SeqOp V → Option (SeqOp V)
+if_no_relabel op = if is_no_relabel op then Some op else None
+
+unfoldable pub text_of : List ℕ → Option (SeqOp ℕ)
+text_of bytes = seq_of scalar_of bytes >>= if_no_relabel
+
 unfoldable pub set_of : {V : Type 0} → (List ℕ → Option V) → List ℕ → Option (SetOp V)
 set_of value bytes = if bytes_eq bytes (codes "no") then Some set.Nothing else headed_by ((codes "set", λ rest. value rest >>= λ x. Some (set.Set x)) ∷ []) bytes
 
 abbrev pub body_table : List (List ℕ × (List ℕ → Option WidgetOp))
 body_table =
-    (codes "text", λ rest. seq_of scalar_of rest >>= λ op. Some (widget.Text op))
+    (codes "text", λ rest. text_of rest >>= λ op. Some (widget.Text op))
     ∷ (codes "list", λ rest. seq_of label_of rest >>= λ op. Some (widget.List op))
     ∷ (codes "toggle", λ rest. set_of switch_of rest >>= λ op. Some (widget.Toggle op))
     ∷ (codes "slider", λ rest. set_of int_of rest >>= λ op. Some (widget.Slider op))

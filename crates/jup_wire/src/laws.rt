@@ -1,15 +1,17 @@
 //! What holds of all lines and streams.
 
-ghost use Rattle.std.specs.Prelude.{◌≡◌, ℕ, List, ◌++◌, None};
+ghost use Rattle.std.specs.Prelude.{◌≡◌, ◌↔◌, ℕ, List, ◌++◌, None, IsTrue};
 ghost use Rattle.std.specs.List.{flat_map, AllByRecursion};
 ghost use Rattle.jup_wire.specs.declared.line.Line.{Line};
 ghost use Rattle.jup_wire.specs.declared.line.Line.TheVariants.{Op};
-ghost use Rattle.jup_wire.specs.Grammar.{HasSpelling, IsLine, IsName, spelling};
+ghost use Rattle.jup_window.specs.Widgets.{relabels_no_text};
+ghost use Rattle.jup_wire.specs.Grammar.{HasSpelling, IsLine, IsName, is_spelled, spelling};
 ghost use Rattle.jup_wire.specs.Streams.{HasRead, Progress};
 
 use crate::line::Line;
+use jup_seq::SeqOp;
 use jup_value::Name;
-use jup_window::BoardOp;
+use jup_window::{BoardOp, WidgetOp};
 
 // The values of a line are those of their types: they are known to be where they are passed by value.
 fn is_name(name: Name)
@@ -18,15 +20,18 @@ fn is_name(name: Name)
     let _name = name;
 }
 
-fn has_body(mine: u32, heard: u32, op: BoardOp)
-    ensures { HasSpelling (Op (record { mine = mine; heard = heard; op = op })) }
+fn has_body(mine: u32, heard: u32, op: BoardOp) -> bool
+    ensures test { result ≡ relabels_no_text op.op }
+    ensures spelling { IsTrue result ↔ HasSpelling (Op (record { mine = mine; heard = heard; op = op })) }
 {
     let _op = (mine, heard, op);
+    !matches!(op.op, WidgetOp::Text(SeqOp::Relabel { .. }))
 }
 
-/// Each line that a program holds has a spelling.
-pub fn has_spelling(line: &Line)
-    ensures { HasSpelling line.now }
+/// Whether a line has a spelling. Each that a program holds has one, but for a relabel of a text.
+pub fn has_spelling(line: &Line) -> bool
+    ensures test { result ≡ is_spelled line.now }
+    ensures spelling { IsTrue result ↔ HasSpelling line.now }
 {
     match line {
         Line::Welcome { site, limit } => {
@@ -46,12 +51,13 @@ pub fn has_spelling(line: &Line)
             is_name(*name);
             let _text = label.bytes();
         }
-        Line::Op(msg) => has_body(msg.mine, msg.heard, msg.op),
+        Line::Op(msg) => return has_body(msg.mine, msg.heard, msg.op),
         Line::Ack(number) | Line::Ping(number) | Line::Pong(number) | Line::Error(number) => {
             let _number = *number;
         }
         Line::Hello | Line::Ready | Line::Bye => {}
     }
+    true
 }
 
 /// No spelling of a line begins another, and none is that of two lines.

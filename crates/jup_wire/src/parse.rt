@@ -3,13 +3,13 @@
 ghost use Rattle.std.specs.Prelude.{◌≡◌, Ok, IfOk, IfErr};
 ghost use Rattle.jup_wire.specs.declared.line.Line.{Line};
 ghost use Rattle.jup_wire.specs.Grammar.{HasSpelling, line_text, IsBad};
-ghost use Rattle.jup_wire.specs.Reading.{insert_of, delete_of, relabel_of, seq_of, set_of, body_of, welcome_of, hello_of, toggle_of, slider_of, char_of, item_of, op_of, headed_of, line_of, version_of, refusal_of};
+ghost use Rattle.jup_wire.specs.Reading.{insert_of, delete_of, relabel_of, seq_of, text_of, set_of, body_of, welcome_of, hello_of, toggle_of, slider_of, char_of, item_of, op_of, headed_of, line_of, version_of, refusal_of};
 
 use crate::faults::WireFault;
 use crate::fields::{FieldValue, field, id_before, number, number_before, split};
 use crate::line::Line;
 use jup_link::Msg;
-use jup_seq::SeqOp;
+use jup_seq::{SeqOp, TextOp};
 use jup_setting::SetOp;
 use jup_value::{Item, Label, Name};
 use jup_window::{BoardOp, WidgetOp};
@@ -199,7 +199,7 @@ fn body(bytes: &[u8]) -> Option<WidgetOp>
 {
     let (kind, rest) = split(bytes, b' ')?;
     if kind == b"text".as_slice() {
-        return Some(WidgetOp::Text(seq_op::<char>(rest)?));
+        return Some(WidgetOp::Text(text_op(rest)?));
     }
     if kind == b"list".as_slice() {
         return Some(WidgetOp::List(seq_op::<Label>(rest)?));
@@ -231,6 +231,17 @@ fn seq_op<V: FieldValue>(bytes: &[u8]) -> Option<SeqOp<V>>
         return relabel(rest);
     }
     None
+}
+
+/// An operation on a text, which has no relabels.
+#[tactic(auto, unfolding(crate::specs::Reading::text_of))]
+fn text_op(bytes: &[u8]) -> Option<TextOp>
+    ensures { result ≡ text_of bytes.now }
+{
+    match seq_op(bytes)? {
+        SeqOp::Relabel { .. } => None,
+        op => Some(op),
+    }
 }
 
 #[tactic(auto, unfolding(crate::specs::Reading::insert_of))]

@@ -1,7 +1,7 @@
 //! Writing lines.
 
-ghost use Rattle.std.specs.Prelude.{◌≡◌, ◌+◌, ◌≤◌, ◌∷◌, ◌++◌, length, IsOk, OnOk, OnErr, vec_capacity};
-ghost use Rattle.jup_wire.specs.Grammar.{HasSpelling, seq_fields, set_fields, body_fields, line_text, spelling};
+ghost use Rattle.std.specs.Prelude.{◌≡◌, ◌↔◌, ◌+◌, ◌≤◌, ◌∷◌, ◌++◌, length, IsTrue, IsOk, OnOk, OnErr, vec_capacity};
+ghost use Rattle.jup_wire.specs.Grammar.{HasSpelling, is_spelled, line_bytes, seq_fields, set_fields, body_fields, line_text};
 ghost use Rattle.jup_wire.specs.Rooms.{HasRoom, Appends};
 ghost use Rattle.jup_wire.specs.Spellings.{after_spaces};
 
@@ -17,10 +17,10 @@ use std::alloc::Global;
 /// No line has a longer spelling.
 pub const MOST: usize = 128;
 
-/// Appends the one spelling of a line. An `Err` appends nothing.
+/// Appends the one spelling of a line, or nothing for a line that has none. An `Err` appends nothing.
 pub fn write(_alloc: Global, line: &Line, out: &mut Vec<u8>) -> Result<(), NoMemory>
-    ensures line { OnOk result (HasSpelling line.now) }
-    ensures ok { OnOk result (out.new.items ≡ out.old.items ++ spelling line.now) }
+    ensures line { OnOk result (IsTrue (is_spelled line.now) ↔ HasSpelling line.now) }
+    ensures ok { OnOk result (out.new.items ≡ out.old.items ++ line_bytes line.now) }
     ensures err { OnErr result (out.new.items ≡ out.old.items) }
     ensures room { HasRoom out.old MOST → IsOk result }
 {
@@ -31,17 +31,18 @@ pub fn write(_alloc: Global, line: &Line, out: &mut Vec<u8>) -> Result<(), NoMem
     Ok(())
 }
 
-/// Appends the one spelling of a line, and takes no memory.
+/// The same, and takes no memory.
 pub fn write_reserved(line: &Line, out: &mut Vec<u8>)
     requires { HasRoom out.old MOST }
-    ensures line { HasSpelling line.now }
-    ensures items { out.new.items ≡ out.old.items ++ spelling line.now }
-    ensures short { length (spelling line.now) ≤ MOST }
+    ensures line { IsTrue (is_spelled line.now) ↔ HasSpelling line.now }
+    ensures items { out.new.items ≡ out.old.items ++ line_bytes line.now }
+    ensures short { length (line_bytes line.now) ≤ MOST }
     ensures capacity { vec_capacity out.old ≤ vec_capacity out.new }
 {
-    has_spelling(line);
-    push_line(out, line);
-    push(out, b"\n");
+    if has_spelling(line) {
+        push_line(out, line);
+        push(out, b"\n");
+    }
 }
 
 /// Appends a line without its line feed.

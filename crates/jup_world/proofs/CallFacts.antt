@@ -1,22 +1,29 @@
 -- What the answers of a site and of the star say.
-use Rattle.std.proofs.Common.{◌≡◌, refl, sym, ◌∙◌, ap, ℕ, Bool, true, false, List, [], ◌∷◌, ◌++◌, take, length, Option, Some, None, is_some, not, eqb, option_map, Result, Ok, Err, OnErr}
+use Rattle.std.proofs.Common.{◌≡◌, refl, sym, ◌∙◌, ap, ℕ, Bool, true, false, List, [], ◌∷◌, ◌++◌, take, length, Option, Some, None, is_some, not, eqb, option_map, cond, nat_le, Result, Ok, Err, OnErr, subst}
 use Rattle.std.specs.Option.{option_eq}
+use Rattle.std.proofs.lemmas.Option.{same_Some}
+use Rattle.jup_link.specs.Links.{Link}
 use Rattle.jup_window.specs.declared.board_operations.BoardOp.{BoardOp}
 use Rattle.jup_window.specs.declared.faults.EditFault.{EditFault}
 use Rattle.jup_window.specs.declared.commands.Command.{Command}
 use Rattle.jup_window.specs.FaultNumbers.{edit_fault_number}
 use Rattle.jup_window.specs.BoardOperations.{board_operations}
 use Rattle.jup_star.specs.declared.messages.Up.{Up}
+use Rattle.jup_star.specs.declared.messages.Up.TheVariants.{Ack as UpAck}
 use Rattle.jup_star.specs.declared.messages.Down.{Down}
+use Rattle.jup_star.specs.declared.messages.Down.TheVariants.{Op as DownOp, Ack as DownAck, Pong as DownPong}
 use Rattle.jup_star.specs.declared.site.Made.{Made}
 use Rattle.jup_star.specs.declared.star.Joined.{Joined as JoinedSite}
 use Rattle.jup_star.specs.declared.faults.StarFault.{StarFault}
+use Rattle.jup_star.specs.declared.faults.SiteFault.{SiteFault}
 use Rattle.jup_star.specs.declared.calls.Call.TheVariants.{Join, Take, Fetch, Leave}
 use Rattle.jup_star.specs.declared.calls.Reply.TheVariants.{Joined as JoinedReply, Taken as TakenReply, Fetched as FetchedReply, Left as LeftReply}
 use Rattle.jup_star.specs.StarStates.{link_of, join_fault, joined, left, fetched, up_fault, taken, place_taken}
-use Rattle.jup_star.specs.SiteStates.{edit_answer}
+use Rattle.jup_star.specs.LinkStates.{end_after}
+use Rattle.jup_star.specs.SiteStates.{edit_answer, owed_up, deliver_fault}
+use Rattle.jup_star.specs.TextRelabels.{UpRelabelsNoText}
 use Rattle.jup_star.specs.StarCalls.{BoardStar, BoardLink, Answers, reply_of, star_after, is_no_memory, joining, bare_joined, take_result, after_take, fetch_result}
-use Rattle.jup_star.specs.SiteCalls.{BoardSite, EditAnswers, made_result, made_by, after_edit, is_edit_memory}
+use Rattle.jup_star.specs.SiteCalls.{BoardSite, EditAnswers, DeliverAnswers, deliver_result, made_result, made_by, after_edit, is_edit_memory}
 use Rattle.jup_world.specs.Events.{Made as MadeReply, Refused}
 use Rattle.jup_world.specs.Replies.{edit_reply}
 use Rattle.jup_world.specs.BoardWorlds.{BoardAttached, BoardReply}
@@ -158,6 +165,25 @@ fetch_linked i s t fault linked memory answers = let call = rw memory at answers
     none : (o : Option BoardLink) → is_some o ≡ true → FetchedReply (Err fault) ≡ FetchedReply (fetch_result 1 o) → ⊥
     none None some told = absurd (cc)
     none (Some l) some told = absurd (cc)
+
+-- # What a site sends back
+
+owed_up-relabels_no_text : (e : Link BoardOp) (back : Up BoardOp) → Some back ≡ owed_up e → UpRelabelsNoText back
+owed_up-relabels_no_text e back = cases (nat_le 64 e.unanswered)
+  where
+    cases : (b : Bool) → Some back ≡ cond b (Some (UpAck e.received)) None → UpRelabelsNoText back
+    cases true told = subst UpRelabelsNoText (sym (same_Some back (UpAck e.received) told)) tt
+    cases false told = absurd (cc)
+
+sent_back-relabels_no_text : (down : Down BoardOp) (s : BoardSite) (back : Up BoardOp) (fault : Option SiteFault) → Ok (Some back) ≡ deliver_result down s fault → UpRelabelsNoText back
+sent_back-relabels_no_text (DownOp m) s back None told = owed_up-relabels_no_text (end_after board_operations s.end m) back (cc)
+sent_back-relabels_no_text (DownAck n) s back None told = absurd (cc)
+sent_back-relabels_no_text (DownPong k) s back None told = absurd (cc)
+sent_back-relabels_no_text down s back (Some fault) told = absurd (cc)
+
+-- it is an acknowledgement
+pub delivered-relabels_no_text : (down : Down BoardOp) (s t : BoardSite) (back : Up BoardOp) → DeliverAnswers down s t (Ok (Some back)) → UpRelabelsNoText back
+delivered-relabels_no_text down s t back answers = sent_back-relabels_no_text down s back (deliver_fault board_operations down s) answers.0
 
 -- # A down stream that was empty
 

@@ -183,6 +183,7 @@ fn servers_that_answer_wrongly(rt: HostRuntime) {
         ("ack 1\n", 21),
         ("op 0 0 1 1 text ins 0 1.1 97\n", 22),
         ("op 0 0 1 1 text ins 9 2.1 97\n", 23),
+        ("op 0 0 1 1 text rel 0 0.1 97\n", 40),
     ] {
         let from = greeted_and(&rt, alloc, answer);
         let ran = run(alloc, b"sync\nquit\n", from.as_bytes());

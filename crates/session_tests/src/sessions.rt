@@ -156,6 +156,7 @@ fn faults_behind_the_greeting(rt: HostRuntime) {
         ("op 0 0 1 1 text ins 99 1.1 97\n", 23),
         ("op 0 0 1 1 text no\n", 24),
         ("op 00 0 1 1 text no\n", 40),
+        ("op 0 0 1 1 text rel 0 0.1 97\n", 40),
         ("pi", 43),
         ("welcome 1 100\n", 44),
         ("hello 2\n", 44),

@@ -5,6 +5,7 @@ ghost use Rattle.jup_window.specs.BoardOperations.{board_operations};
 ghost use Rattle.jup_star.specs.StarStates.{link_of};
 ghost use Rattle.jup_star.specs.SiteStates.{edit_answer};
 ghost use Rattle.jup_star.specs.StarCalls.{BoardLink, is_no_memory};
+ghost use Rattle.jup_star.specs.TextRelabels.{DownRelabelsNoText};
 ghost use Rattle.jup_lane.specs.Codecs.{bytes_of_all};
 ghost use Rattle.jup_lane.specs.Lanes.{no_bytes, messages, sent, oldest_length, Carries};
 ghost use Rattle.jup_lane.specs.Messages.{ups, downs};
@@ -112,7 +113,8 @@ fn pushed(count: usize) -> Reply
 
 // Writes a message that was fetched, if one was.
 fn send_one(lane: &mut Lane<Down>, fetched: &Option<Down>)
-    requires { MOST_MESSAGE ≤ lane.old.spare }
+    requires relabels { IfSome fetched.now DownRelabelsNoText }
+    requires room { MOST_MESSAGE ≤ lane.old.spare }
     ensures way { lane.new.way ≡ sent (bytes_of_all downs (option_to_list fetched.now)) lane.old.way }
     ensures messages { messages downs lane.new.way ≡ messages downs lane.old.way ++ option_to_list fetched.now }
     ensures carry { Carries downs lane.old.way → Carries downs lane.new.way }

@@ -4,9 +4,13 @@ use Rattle.jup_lane.specs.Messages.{ups, downs}
 use Rattle.jup_lane.specs.MessageLines.{ups_laws}
 use Rattle.jup_world.specs.WorldFields.{lane_of}
 use Rattle.jup_world.specs.declared.world.attached.Attached.{Attached}
+use Rattle.jup_world.proofs.CallFacts.{delivered-relabels_no_text}
 use Rattle.jup_world.proofs.LaneReads.{handed-site, sent-carries}
 use Rattle.jup_world.proofs.world.attached.Attached.hand.Goals as goal
 use Rattle.jup_world.proofs.world.attached.Attached.hand.Goals.{in-Ok-Some, in-Ok-None}
+
+pub send-requires-clause-may_go : goal.send-requires-clause-may_go
+send-requires-clause-may_go c = delivered-relabels_no_text c.in-Some.down c.args.self.now.site c.deliver.new.self c.in-Ok-Some.back (rw c.in-Ok-Some.field-0-is at c.in-Ok-Some.ensures)
 
 pub returns-clause-read : goal.returns-clause-read
 returns-clause-read c =

@@ -94,7 +94,7 @@ fn edit(
     command: &Command,
 ) -> Result<Reply, NoMemory>
     requires { AreReady star.now (map bare_attached sites.old.items) }
-    ensures plays { IfOk result (λ reply. Plays (event.Edit number command.now) star.now (map bare_attached sites.old.items)
+    ensures plays { IfOk result (λ reply. LanePlays (Plain (event.Edit number command.now)) star.now (map lane_of sites.old.items)
         (numbered_reply reply) star.now (map bare_attached sites.new.items)) }
     ensures read { OnOk result (AreRead (Plain (event.Edit number command.now)) star.now (map lane_of sites.old.items) (map lane_of sites.new.items)) }
     ensures same { OnErr result (map lane_of sites.new.items ≡ map lane_of sites.old.items) }

@@ -1,4 +1,4 @@
-use Rattle.jup_world.specs.Events.{Join, Leave, Edit as MakeEdit, Up as MoveUp, Down as MoveDown, Ping as SendPing}
+use Rattle.jup_world.specs.Events.{Join, Leave, Up as MoveUp, Down as MoveDown, Ping as SendPing}
 use Rattle.jup_world.specs.NumberedReplies.{numbered_reply}
 use Rattle.jup_world.proofs.LaneEvents.{plain_plays, plain_result}
 use Rattle.jup_world.proofs.world.happening.happen.Goals as goal
@@ -8,9 +8,6 @@ returns-in-Join-clause-plays c = rw c.in-Join.is (plain_result Join c.args.star.
 
 pub returns-in-Leave-clause-plays : goal.returns-in-Leave-clause-plays
 returns-in-Leave-clause-plays c = rw c.in-Leave.is (plain_plays (Leave c.in-Leave.number) c.args.star.now c.leave.new.star c.args.sites.now.items c.leave.new.sites.items (numbered_reply c.leave.result) c.leave.ensures.plays)
-
-pub returns-in-Edit-clause-plays : goal.returns-in-Edit-clause-plays
-returns-in-Edit-clause-plays c = rw c.in-Edit.is (plain_result (MakeEdit c.in-Edit.number c.in-Edit.command) c.args.star.now c.args.star.now c.args.sites.now.items c.edit.new.sites.items c.edit.result c.edit.ensures.plays)
 
 pub returns-in-Up-clause-plays : goal.returns-in-Up-clause-plays
 returns-in-Up-clause-plays c = rw c.in-Up.is (plain_result (MoveUp c.in-Up.number) c.args.star.now c.move_up.new.star c.args.sites.now.items c.move_up.new.sites.items c.move_up.result c.move_up.ensures.plays)

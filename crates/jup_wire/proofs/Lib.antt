@@ -12,6 +12,7 @@ pub mod Streaming
 pub mod Written
 pub mod Unique
 pub mod Drafting
+pub mod HeldNames
 pub mod Counting
 pub mod LinesTaken
 pub mod RoundTrip

@@ -158,9 +158,14 @@ Follows view (Ok a) due = due ≡ Ok (view a)
 Follows view (Err NoMemory) due = Unit {0}
 Follows view (Err refusal) due = due ≡ Err refusal
 
+-- memory is refused a sequence only where it has no room; but names that are kept take memory of their own
+abbrev pub LacksRoom : Naming → ℕ → Type 0
+LacksRoom Distinct spare = Unit {0}
+LacksRoom (Numbered count) spare = spare ≡ 0
+
 -- a sequence with one item more at its end, unless it is refused
 abbrev pub Appended : {V : Type 0} → Naming → Items V → Item V → Result (Items V × Naming) Refusal → Type 0
 Appended naming before item (Ok after) =
     (item_refusal naming item.name before.items ≡ None) × (after.0.items ≡ before.items ++ item ∷ []) × (after.1 ≡ next_naming naming)
-Appended naming before item (Err NoMemory) = Unit {0}
+Appended naming before item (Err NoMemory) = LacksRoom naming before.spare
 Appended naming before item (Err refusal) = item_refusal naming item.name before.items ≡ Some refusal

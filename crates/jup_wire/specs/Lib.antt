@@ -3,6 +3,7 @@ pub mod BoardLines
 pub mod Drafts
 pub mod Grammar
 pub mod Layouts
+pub mod Names
 pub mod Parts
 pub mod Reading
 pub mod Rooms

@@ -1,19 +1,24 @@
 //! The board that lines describe, line by line.
-ghost use Rattle.std.specs.Prelude.{◌≡◌, ◌<◌, length, Ok, IsNone, None};
+ghost use Rattle.std.specs.Prelude.{◌≡◌, ◌<◌, List, length, not, Ok, Some, IsNone, None, IfOk, OnOk, OnErr};
 ghost use Rattle.std.specs.Option.{option_copied};
 ghost use Rattle.jup_window.specs.Additions.{entry_fault, widget_fault};
 ghost use Rattle.jup_window.specs.Entries.{at_id, change_at, with_entry};
 ghost use Rattle.jup_window.specs.Boards as boards;
 ghost use Rattle.jup_window.specs.Widgets as widgets;
 ghost use Rattle.jup_wire.specs.declared.line.Line.TheVariants as lines;
+ghost use Rattle.jup_value.specs.declared.names.Item.{Item};
+ghost use Rattle.jup_value.specs.Items.{has_name};
+ghost use Rattle.jup_wire.specs.Names.{AreKept, AddsName};
 ghost use Rattle.jup_wire.specs.Drafts.{blank, whole, with_window, with_widget, with_char_in, with_label_in, taken, items_in_last, Follows, Appended};
 
 use crate::line::Line;
+use crate::names::Names;
 use crate::naming::Naming;
 use crate::refusals::Refusal;
 use jup_setting::{Slider, Toggle};
-use jup_value::{Item, Label, Seq};
+use jup_value::{Item, Label, Name, Seq};
 use jup_window::{Board, BoardFault, Widget};
+use jup_xform::NoMemory;
 use std::alloc::Global;
 use std::marker::Model;
 
@@ -30,6 +35,8 @@ pub(crate) struct Draft {
     // The last widget line's widget, which still takes items, and before it the window that it belongs to.
     home: Option<u16>,
     last: Option<(u16, Widget)>,
+    // The names of its items, where these are not numbered.
+    names: Names,
     naming: Naming,
 }
 
@@ -37,6 +44,7 @@ impl Model for Draft {
     ghost use Rattle.std.specs.Prelude.{IsTrue};
     ghost use Rattle.jup_window.specs.Boards as boards;
     ghost use Rattle.jup_wire.specs.Drafts.{Drafted, bare_last, is_free};
+    ghost use Rattle.jup_wire.specs.Names.{AreKeptIn};
 
     ghost Value = { Drafted };
 
@@ -48,7 +56,10 @@ impl Model for Draft {
       naming = d.naming;
     } };
 
-    ghost invariant = { λ d. IsTrue (is_free d.home d.last d.board) };
+    ghost invariant = { λ d. record {
+      free : IsTrue (is_free d.home d.last d.board);
+      kept : AreKeptIn d.naming d.last d.names;
+    } };
 }
 
 // What stands under an id.
@@ -101,19 +112,44 @@ fn put(mut board: Board, win: u16, wid: u16, widget: Widget) -> Result<Board, Re
     }
 }
 
+// Whether no item of a sequence has the name, which is then among the names, where these are kept. A number
+// of a layout is above all before it, so that nothing is searched.
+fn is_new<V: Copy>(
+    items: &Seq<V>,
+    names: &mut Names,
+    naming: Naming,
+    name: Name,
+) -> Result<bool, NoMemory>
+    requires { AreKept naming items.now.items names.old }
+    ensures new { IfOk result (λ new. new ≡ not (has_name name items.now.items)) }
+    ensures memory { OnErr result (naming ≡ Naming.Distinct) }
+    ensures kept { OnOk result ((after : List (Item V)) → AddsName name items.now.items after → AreKept naming after names.new) }
+{
+    match naming {
+        Naming::Distinct => names.add(name),
+        Naming::Numbered(_) => Ok(items.place_of(name).is_none()),
+    }
+}
+
 // The sequence with one item more at its end, and what is asked of the next item.
 fn appended<V: Copy>(
     mut items: Seq<V>,
+    names: &mut Names,
     naming: Naming,
     item: Item<V>,
 ) -> Result<(Seq<V>, Naming), Refusal>
-    requires { length items.items < 4294967295 }
-    ensures { Appended naming items item result }
+    requires short { length items.items < 4294967295 }
+    requires kept { AreKept naming items.items names.old }
+    ensures appended { Appended naming items item result }
+    ensures kept { IfOk result (λ after. AreKept naming after.0.items names.new) }
 {
     if let Some(refusal) = naming.refusal(item.name, items.len()) {
         return Err(refusal);
     }
-    if items.place_of(item.name).is_some() {
+    let Ok(new) = is_new(&items, names, naming, item.name) else {
+        return Err(Refusal::NoMemory);
+    };
+    if !new {
         return Err(Refusal::BadItemName);
     }
     if items.reserve_one().is_err() {
@@ -134,6 +170,7 @@ impl Draft {
             window: None,
             home: None,
             last: None,
+            names: Names::new(alloc),
             naming,
         }
     }
@@ -164,6 +201,7 @@ impl Draft {
             mut board,
             home,
             last,
+            names,
             naming,
             ..
         } = self;
@@ -175,11 +213,14 @@ impl Draft {
             window: Some(win),
             home,
             last,
+            names,
             naming,
         })
     }
 
-    fn with_widget(self, wid: u16, widget: Widget) -> Result<Draft, Refusal>
+    // Its items would not be among the names.
+    fn with_widget(self, alloc: Global, wid: u16, widget: Widget) -> Result<Draft, Refusal>
+        requires { items_in_last (Some (wid, widget)) ≡ 0 }
         ensures { Follows (λ d. d) result (with_widget wid (widgets.bare widget) self) }
     {
         let Some(win) = self.window else {
@@ -195,6 +236,7 @@ impl Draft {
             window: Some(win),
             home: Some(win),
             last: Some((wid, widget)),
+            names: Names::new(alloc),
             naming,
         })
     }
@@ -208,16 +250,18 @@ impl Draft {
             window,
             home,
             last,
+            mut names,
             naming,
         } = self;
         match last {
             Some((wid, Widget::Text(items))) => {
-                let (items, naming) = appended(items, naming, item)?;
+                let (items, naming) = appended(items, &mut names, naming, item)?;
                 Ok(Draft {
                     board,
                     window,
                     home,
                     last: Some((wid, Widget::Text(items))),
+                    names,
                     naming,
                 })
             }
@@ -234,16 +278,18 @@ impl Draft {
             window,
             home,
             last,
+            mut names,
             naming,
         } = self;
         match last {
             Some((wid, Widget::List(items))) => {
-                let (items, naming) = appended(items, naming, item)?;
+                let (items, naming) = appended(items, &mut names, naming, item)?;
                 Ok(Draft {
                     board,
                     window,
                     home,
                     last: Some((wid, Widget::List(items))),
+                    names,
                     naming,
                 })
             }
@@ -251,14 +297,21 @@ impl Draft {
         }
     }
 
-    fn with_slider(self, wid: u16, lo: i32, hi: i32, value: i32) -> Result<Draft, Refusal>
+    fn with_slider(
+        self,
+        alloc: Global,
+        wid: u16,
+        lo: i32,
+        hi: i32,
+        value: i32,
+    ) -> Result<Draft, Refusal>
         ensures { Follows (λ d. d) result (taken self (lines.Slider wid lo hi value)) }
     {
         if self.window.is_none() {
             return Err(Refusal::Misplaced);
         }
         match Slider::new(lo, hi, value) {
-            Ok(slider) => self.with_widget(wid, Widget::Slider(slider)),
+            Ok(slider) => self.with_widget(alloc, wid, Widget::Slider(slider)),
             Err(_) => Err(Refusal::BadBounds),
         }
     }
@@ -270,10 +323,14 @@ impl Draft {
     {
         match line {
             Line::Window(win) => self.with_window(alloc, *win),
-            Line::Text(wid) => self.with_widget(*wid, Widget::Text(Seq::new(alloc))),
-            Line::List(wid) => self.with_widget(*wid, Widget::List(Seq::new(alloc))),
-            Line::Toggle(wid, on) => self.with_widget(*wid, Widget::Toggle(Toggle { on: *on })),
-            Line::Slider { wid, lo, hi, value } => self.with_slider(*wid, *lo, *hi, *value),
+            Line::Text(wid) => self.with_widget(alloc, *wid, Widget::Text(Seq::new(alloc))),
+            Line::List(wid) => self.with_widget(alloc, *wid, Widget::List(Seq::new(alloc))),
+            Line::Toggle(wid, on) => self.with_widget(
+                alloc,
+                *wid,
+                Widget::Toggle(Toggle { on: *on }),
+            ),
+            Line::Slider { wid, lo, hi, value } => self.with_slider(alloc, *wid, *lo, *hi, *value),
             Line::Char(name, value) => self.with_char(Item {
                 name: *name,
                 value: *value,

@@ -9,6 +9,7 @@ mod fields;
 mod laws;
 mod layouts;
 mod line;
+mod names;
 mod naming;
 mod parse;
 mod part;

@@ -10,9 +10,11 @@ returns-in-Err c =
     rw c.of_board.ensures (window_refused c.args.win c.args.self c.self.inside.board c.in-Err.fault (ap (λ d. d.board) (sym c.self.view_is)) c.in-Err.ensures.refusal)
 
 pub invariant_of-result : goal.invariant_of-result
-invariant_of-result c =
-    subst (λ b. IsTrue (is_free c.self.inside.home c.self.inside.last b)) (sym c.in_default.ensures.ok)
-    (free-more c.self.inside.home c.self.inside.last c.self.inside.board c.args.win (allowed _ c.in_default.ensures.refusal) c.self.invariant)
+invariant_of-result c = record {
+  free = subst (λ b. IsTrue (is_free c.self.inside.home c.self.inside.last b)) (sym c.in_default.ensures.ok)
+      (free-more c.self.inside.home c.self.inside.last c.self.inside.board c.args.win (allowed _ c.in_default.ensures.refusal) c.self.invariant.free);
+  kept = c.self.invariant.kept;
+}
 
 pub returns : goal.returns
 returns c =

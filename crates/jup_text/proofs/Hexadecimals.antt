@@ -1,20 +1,16 @@
 -- Numbers in lower case hexadecimal.
-use Rattle.std.proofs.Common.{◌≡◌, ◌≢◌, ℕ, zero, suc, ◌+◌, ◌*◌, ◌/◌, ◌%◌, ◌^◌, ◌<◌, ◌≤◌, false, List, [], ◌∷◌, ◌++◌, map, length, get_or, take, drop, add-one, Bool, ◌==◌, Some, None, refl, sym, ap, subst, ◌∙◌, arith, inl, inr, append-nil, ◌⊎◌, ltb, lit<, lit≤}
+use Rattle.std.proofs.Common.{◌≡◌, ◌≢◌, ℕ, zero, suc, ◌+◌, ◌*◌, ◌/◌, ◌%◌, ◌^◌, ◌<◌, ◌≤◌, false, List, [], ◌∷◌, ◌++◌, map, length, get_or, take, refl, sym, ap, subst, ◌∙◌, arith, inl, inr, append-nil, ◌⊎◌, ltb, lit<, lit≤}
 use Rattle.std.specs.Fmt.{digits, digits_onto, digit_glyph}
-use Rattle.std.specs.Prelude.{position}
-use Rattle.std.specs.List.{AllByRecursion, position_or_len, before_first, after_first}
 use Rattle.std.specs.Str.Parse.{digits_value}
 use Rattle.std.specs.Int.Digits.{digits_of, AllBelowBase}
-use Rattle.std.proofs.lemmas.Bool.{cases_eq, cases_lt, eq-eqb, ne_eqb, cond-true, cond-false, lt-ltb, le-ltb, ltb-true, eqb-true}
+use Rattle.std.proofs.lemmas.Bool.{cases_eq, cases_lt, eq-eqb, ne_eqb, cond-true, cond-false, lt-ltb, le-ltb}
 use Rattle.std.proofs.lemmas.Fmt.{hex_one_digit, digits_is_IsNumeral}
-use Rattle.std.proofs.lemmas.Option.{none-some, cond_some}
-use Rattle.std.proofs.lemmas.List.Sums.{split_at_first, passes_at_first}
-use Rattle.std.proofs.Math.Seq.{take-append_seam}
 use Rattle.std.proofs.lemmas.Int.Digits.{digits_of_step, length-digits_of_step, length-digits_of-le, first_digits_of, all_below_base_digits_of}
-use Rattle.std.proofs.lemmas.List.{take_all, take_more, length-map, get_or-map, map-append, length-append}
+use Rattle.std.proofs.lemmas.List.{take_all, take_more, length-map, get_or-map, map-append}
 use Rattle.std.proofs.Math.Nat.{pow-le-pow_right}
 use Rattle.std.proofs.lemmas.Grind.{pow_more}
 use Rattle.jup_text.specs.Quotes.{hexadecimal}
+use Rattle.jup_text.proofs.Splits.{Lacks}
 
 abbrev pub glyph : ℕ → ℕ
 glyph = digit_glyph false
@@ -150,7 +146,7 @@ length_not_read digits n (inr long) small same = absurd (omega (arith, long, ap 
 -- ---- no digit is a closing brace
 
 abbrev pub Braceless : List ℕ → Type 0
-Braceless bytes = AllByRecursion (λ byte. byte ≢ 125) bytes
+Braceless bytes = Lacks 125 bytes
 
 glyph_no_brace : (d : ℕ) → d < 16 → glyph d ≢ 125
 glyph_no_brace d small e = elim (cases_lt d 10) [
@@ -175,55 +171,3 @@ hex_value n small = (digits_is_IsNumeral 16 false (lit≤ tt) (lit≤ tt) n (ome
 pub hex_injective : (m n : ℕ) → m < 2 ^ 24 → n < 2 ^ 24 → hexadecimal m ≡ hexadecimal n → m ≡ n
 hex_injective m n m_small n_small same =
     sym (hex_value m m_small) ∙ ap (digits_value 16) same ∙ hex_value n n_small
-
--- ---- the first closing brace
-
-abbrev pub is_brace : ℕ → Bool
-is_brace byte = byte == 125
-
-brace_first : (ds rest : List ℕ) → Braceless ds → position_or_len is_brace (ds ++ 125 ∷ rest) ≡ length ds
-brace_first [] rest lacks = refl
-brace_first (d ∷ ds) rest lacks = let behind = brace_first ds rest lacks.1 in rw (ne_eqb d 125 lacks.0) (omega (arith, behind))
-
-brace_within : (ds rest : List ℕ) → length ds < length (ds ++ 125 ∷ rest)
-brace_within ds rest = omega (arith, length-append ds (125 ∷ rest))
-
-pub no_brace : (text : List ℕ) → None ≡ position is_brace text → (ds rest : List ℕ) → Braceless ds → text ≢ ds ++ 125 ∷ rest
-no_brace text none ds rest lacks same =
-    let first = brace_first ds rest lacks in
-    let within : position_or_len is_brace (ds ++ 125 ∷ rest) < length (ds ++ 125 ∷ rest) = omega (arith, first, brace_within ds rest) in
-    let found : position is_brace (ds ++ 125 ∷ rest) ≡ Some (position_or_len is_brace (ds ++ 125 ∷ rest)) = cond-true _ _ _ (lt-ltb _ _ within) in
-    none-some _ (none ∙ ap (position is_brace) same ∙ found)
-
-found_at : (text : List ℕ) (end : ℕ) → Some end ≡ position is_brace text → (position_or_len is_brace text < length text) × (position_or_len is_brace text ≡ end)
-found_at text end e = let c = cond_some (ltb (position_or_len is_brace text) (length text)) (position_or_len is_brace text) end (sym e) in (ltb-true _ _ c.0, c.1)
-
-pub brace_here : (text : List ℕ) (end : ℕ) → Some end ≡ position is_brace text → text ≡ take end text ++ 125 ∷ drop (end + 1) text
-brace_here text end e =
-    let f = found_at text end e in
-    let parts = split_at_first is_brace text 0 f.0 in
-    let byte = eqb-true _ 125 (passes_at_first is_brace text 0 f.0) in
-    parts ∙ ap (λ (b : ℕ). take (position_or_len is_brace text) text ++ b ∷ drop (position_or_len is_brace text + 1) text) byte ∙ ap (λ (i : ℕ). take i text ++ 125 ∷ drop (i + 1) text) f.1
-
-drop_past : (xs ys : List ℕ) → drop (length xs + 1) (xs ++ 125 ∷ ys) ≡ ys
-drop_past xs ys = rw add-one (go xs)
-  where
-    go : (zs : List ℕ) → drop (suc (length zs)) (zs ++ 125 ∷ ys) ≡ ys
-    go [] = refl
-    go (z ∷ zs) = go zs
-
--- what stands before the first brace, and what behind it
-pub brace_cut : (ds rest : List ℕ) → Braceless ds → ◌≡◌ {A = List ℕ × List ℕ} (before_first is_brace (ds ++ 125 ∷ rest), after_first is_brace (ds ++ 125 ∷ rest)) (ds, rest)
-brace_cut ds rest lacks =
-    let cut : ℕ → List ℕ × List ℕ = λ i. (take i (ds ++ 125 ∷ rest), drop (i + 1) (ds ++ 125 ∷ rest)) in
-    let with_front : List ℕ → List ℕ × List ℕ = λ t. (t, drop (length ds + 1) (ds ++ 125 ∷ rest)) in
-    let with_rest : List ℕ → List ℕ × List ℕ = λ t. (ds, t) in
-    ap cut (brace_first ds rest lacks) ∙ ap with_front (take-append_seam ds (125 ∷ rest)) ∙ ap with_rest (drop_past ds rest)
-
-pub brace_parts : (text ds rest : List ℕ) (end : ℕ) → Some end ≡ position is_brace text → Braceless ds → text ≡ ds ++ 125 ∷ rest → (take end text ≡ ds) × (drop (end + 1) text ≡ rest)
-brace_parts text ds rest end e lacks same =
-    let at = (found_at text end e).1 in
-    let at_place : ℕ → List ℕ × List ℕ = λ i. (take i text, drop (i + 1) text) in
-    let at_first : List ℕ → List ℕ × List ℕ = λ t. (before_first is_brace t, after_first is_brace t) in
-    let cut : at_place end ≡ (ds, rest) = ap at_place (sym at) ∙ ap at_first same ∙ brace_cut ds rest lacks in
-    (ap (λ (p : List ℕ × List ℕ). p.0) cut, ap (λ (p : List ℕ × List ℕ). p.1) cut)

@@ -1,4 +1,7 @@
 pub mod Numbering
+pub mod Splits
 pub mod Hexadecimals
 pub mod Quoting
 pub mod LabelQuotes
+pub mod CommandWords
+pub mod Printing

@@ -8,7 +8,8 @@ use lib.Utf8.{scalar_cases, low_scalar}
 use Rattle.std.proofs.lemmas.List.{take_all, flat_map_more}
 use Rattle.std.proofs.lemmas.Bool.{cases_eq, cases_lt, eq-eqb, ne_eqb, le-leb, lt-leb}
 use Rattle.jup_text.specs.Quotes.{hexadecimal, quoted_char, quoted, AreScalars}
-use Rattle.jup_text.proofs.Hexadecimals.{is_brace, hex_braceless, hex_injective, hex_value, no_brace, brace_here, brace_parts, brace_cut}
+use Rattle.jup_text.proofs.Hexadecimals.{hex_braceless, hex_injective, hex_value}
+use Rattle.jup_text.proofs.Splits.{is_byte, no_byte, byte_here, byte_parts, byte_cut}
 
 -- ---- the three ways to spell a character
 
@@ -68,35 +69,35 @@ unnumbered text none c rest is =
     (λ no_quote no_backslash low high same. no_backslash (sym (ap (λ (bs : List ℕ). get_or bs 0 0) same)))
     (λ number same. none c rest is number (ap (drop 3) same ∙ append_assoc (hexadecimal c) (125 ∷ []) rest))
 
-pub numbered_read : (text : List ℕ) (end c : ℕ) → Some end ≡ position is_brace text → take end text ≡ hexadecimal c → IsNumbered c
+pub numbered_read : (text : List ℕ) (end c : ℕ) → Some end ≡ position (is_byte 125) text → take end text ≡ hexadecimal c → IsNumbered c
     → 92 ∷ 117 ∷ 123 ∷ text ≡ quoted_char c ++ drop (end + 1) text
 numbered_read text end c found digits number =
-    let here : text ≡ hexadecimal c ++ 125 ∷ drop (end + 1) text = brace_here text end found ∙ ap (λ (ds : List ℕ). ds ++ 125 ∷ drop (end + 1) text) digits in
+    let here : text ≡ hexadecimal c ++ 125 ∷ drop (end + 1) text = byte_here 125 text end found ∙ ap (λ (ds : List ℕ). ds ++ 125 ∷ drop (end + 1) text) digits in
     ap (λ (t : List ℕ). 92 ∷ 117 ∷ 123 ∷ t) (here ∙ sym (append_assoc (hexadecimal c) (125 ∷ []) (drop (end + 1) text))) ∙ ap (λ (t : List ℕ). t ++ drop (end + 1) text) (sym (quoted_number c number))
 
 -- with the digits of a number in front, no character but that one is read
-pub numbered_same : (text : List ℕ) (end n : ℕ) → Some end ≡ position is_brace text → (n < 2 ^ 24) × (take end text ≡ hexadecimal n)
+pub numbered_same : (text : List ℕ) (end n : ℕ) → Some end ≡ position (is_byte 125) text → (n < 2 ^ 24) × (take end text ≡ hexadecimal n)
     → (IsScalar n → IsNumbered n → ⊥) → NoNumber text
 numbered_same text end n found digits none c rest is number same =
     let small = scalar_small c is in
-    let parts = brace_parts text (hexadecimal c) rest end found (hex_braceless c small) same in
+    let parts = byte_parts 125 text (hexadecimal c) rest end found (hex_braceless c small) same in
     let e : n ≡ c = hex_injective n c digits.0 small (sym digits.1 ∙ parts.0) in
     none (subst IsScalar (sym e) is) (subst IsNumbered (sym e) number)
 
-pub numbered_none : (text : List ℕ) (end : ℕ) → Some end ≡ position is_brace text → ((n : ℕ) → n < 2 ^ 24 → take end text ≢ hexadecimal n) → NoNumber text
+pub numbered_none : (text : List ℕ) (end : ℕ) → Some end ≡ position (is_byte 125) text → ((n : ℕ) → n < 2 ^ 24 → take end text ≢ hexadecimal n) → NoNumber text
 numbered_none text end found none c rest is number same =
     let small = scalar_small c is in
-    none c small (brace_parts text (hexadecimal c) rest end found (hex_braceless c small) same).0
+    none c small (byte_parts 125 text (hexadecimal c) rest end found (hex_braceless c small) same).0
 
-pub unbraced : (text : List ℕ) → None ≡ position is_brace text → NoNumber text
-unbraced text none c rest is number same = no_brace text none (hexadecimal c) rest (hex_braceless c (scalar_small c is)) same
+pub unbraced : (text : List ℕ) → None ≡ position (is_byte 125) text → NoNumber text
+unbraced text none c rest is number same = no_byte 125 text none (hexadecimal c) rest (hex_braceless c (scalar_small c is)) same
 
 -- ---- the front of a spelling tells the character
 
 -- the character at the front of a text that has one, and what follows it
 front : List ℕ → ℕ × List ℕ
 front [] = (0, [])
-front (b ∷ bs) = cond (eqb b 92) (cond (eqb (get_or bs 0 0) 117) (digits_value 16 (before_first is_brace (drop 2 bs)), after_first is_brace (drop 2 bs)) (get_or bs 0 0, drop 1 bs)) (b, bs)
+front (b ∷ bs) = cond (eqb b 92) (cond (eqb (get_or bs 0 0) 117) (digits_value 16 (before_first (is_byte 125) (drop 2 bs)), after_first (is_byte 125) (drop 2 bs)) (get_or bs 0 0, drop 1 bs)) (b, bs)
 
 front_again : (c : ℕ) (rest : List ℕ) → IsScalar c → ◌≡◌ {A = ℕ × List ℕ} (front (quoted_char c ++ rest)) (c, rest)
 unfolding front
@@ -107,8 +108,8 @@ front_again c rest is =
     (λ number.
     let small = scalar_small c is in
     let behind : drop 2 (117 ∷ 123 ∷ (hexadecimal c ++ 125 ∷ []) ++ rest) ≡ hexadecimal c ++ 125 ∷ rest = append_assoc (hexadecimal c) (125 ∷ []) rest in
-    let cut = brace_cut (hexadecimal c) rest (hex_braceless c small) in
-    let at_first : List ℕ → ℕ × List ℕ = λ t. (digits_value 16 (before_first is_brace t), after_first is_brace t) in
+    let cut = byte_cut 125 (hexadecimal c) rest (hex_braceless c small) in
+    let at_first : List ℕ → ℕ × List ℕ = λ t. (digits_value 16 (before_first (is_byte 125) t), after_first (is_byte 125) t) in
     let by_parts : List ℕ × List ℕ → ℕ × List ℕ = λ p. (digits_value 16 p.0, p.1) in
     let by_number : ℕ → ℕ × List ℕ = λ n. (n, rest) in
     ap at_first behind ∙ ap by_parts cut ∙ ap by_number (hex_value c small))

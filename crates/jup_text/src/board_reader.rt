@@ -3,7 +3,7 @@
 
 use self::numbered::Numbered;
 use super::quoted::{is_end, next_char, next_quoted_label, opened};
-use super::words::{read_id, read_integer, read_switch};
+use super::words::{id_of, read_integer, read_switch};
 use jup_setting::{Slider, Toggle};
 use jup_value::Label;
 use jup_window::{Board, BoardFault, Widget};
@@ -73,7 +73,7 @@ impl BoardReader {
     }
 
     fn take_window(&mut self, alloc: Global, id: &str) -> Result<(), Untaken> {
-        let win = read_id(id).ok_or(Untaken::BadLine)?;
+        let win = id_of(id.as_bytes()).ok_or(Untaken::BadLine)?;
         self.board.add_window(alloc, win)?;
         self.window = Some(win);
         Ok(())
@@ -81,7 +81,7 @@ impl BoardReader {
 
     fn take_text(&mut self, alloc: Global, rest: &str) -> Result<(), Untaken> {
         let (id, text) = rest.split_once(' ').ok_or(Untaken::BadLine)?;
-        let wid = read_id(id).ok_or(Untaken::BadLine)?;
+        let wid = id_of(id.as_bytes()).ok_or(Untaken::BadLine)?;
         let text = read_text(alloc, self.last, text)?;
         self.last = text.last();
         self.put(wid, Widget::Text(text.into_items()))
@@ -89,7 +89,7 @@ impl BoardReader {
 
     fn take_list(&mut self, alloc: Global, rest: &str) -> Result<(), Untaken> {
         let (id, labels) = split_id(rest);
-        let wid = read_id(id).ok_or(Untaken::BadLine)?;
+        let wid = id_of(id.as_bytes()).ok_or(Untaken::BadLine)?;
         let list = read_labels(alloc, self.last, labels)?;
         self.last = list.last();
         self.put(wid, Widget::List(list.into_items()))
@@ -146,7 +146,7 @@ fn read_labels(alloc: Global, last: u32, labels: &[u8]) -> Result<Numbered<Label
 // A toggle or a slider with its id.
 fn read_setting(word: &str, rest: &str) -> Option<(u16, Widget)> {
     let mut words = rest.split(' ');
-    let wid = read_id(words.next()?)?;
+    let wid = id_of(words.next()?.as_bytes())?;
     let widget = match word {
         "toggle" => {
             let on = read_switch(words.next()?)?;

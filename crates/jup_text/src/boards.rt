@@ -1,6 +1,9 @@
 //! Boards: a line for each window, and after it one for each of its widgets, ascending by id.
-ghost use Rattle.std.specs.Prelude.{◌≡◌, OnOk, OnErr};
-ghost use Rattle.std.specs.Io.{StartsWith};
+ghost use Rattle.std.specs.Prelude.{◌≡◌, ◌∷◌, ◌++◌, Some, OnOk, OnErr};
+ghost use Rattle.std.specs.Fmt.{AppendsText, DisplaysOnOk};
+ghost use Rattle.std.specs.List.{flat_map};
+ghost use Rattle.jup_text.specs.Boards.{board_text, window_lines, widget_line};
+ghost use Rattle.jup_text.specs.Quotes.{quoted};
 
 use super::quoted::{Quoted, QuotedLabel};
 use super::words::switch_word;
@@ -12,7 +15,7 @@ use std::fmt;
 
 /// Appends a board as it is printed, each line with its line feed, or nothing where memory is refused.
 pub fn write_board(alloc: Global, board: &Board, into: &mut Vec<u8>) -> Result<(), NoMemory>
-    ensures appended { OnOk result (StartsWith into.new.items into.old.items) }
+    ensures appended { OnOk result (into.new.items ≡ into.old.items ++ board_text board.now) }
     ensures same { OnErr result (into.new.items ≡ into.old.items) }
 {
     append(alloc, &PrintedBoard(board), into)
@@ -24,7 +27,7 @@ pub(super) fn append<D: fmt::Display>(
     text: &D,
     into: &mut Vec<u8>,
 ) -> Result<(), NoMemory>
-    ensures appended { OnOk result (StartsWith into.new.items into.old.items) }
+    ensures appended { OnOk result (AppendsText into.old.items into.new.items (D.output text.now)) }
     ensures same { OnErr result (into.new.items ≡ into.old.items) }
 {
     let Ok(text) = format!(in alloc; "{text}") else {
@@ -39,27 +42,32 @@ pub(super) fn append<D: fmt::Display>(
 pub struct PrintedBoard<'a>(pub &'a Board);
 
 impl fmt::Display for PrintedBoard<'_> {
+    ghost output = { λ board. Some (board_text board.0.now) };
+
     fn fmt<W: fmt::Write>(&self, f: &mut fmt::Formatter<W>) -> fmt::Result {
-        for (win, window) in self.0.windows() {
-            writeln!(f, "window {win}")?;
-            write_window(f, window)?;
+        for entry in self.0.windows() {
+            write_window(f, entry)?;
         }
         Ok(())
     }
 }
 
-fn write_window<W: fmt::Write>(f: &mut fmt::Formatter<W>, window: &Window) -> fmt::Result {
-    for (wid, widget) in window.widgets() {
-        write_widget(f, *wid, widget)?;
+// Writes a window's line, and those of its widgets.
+fn write_window<W: fmt::Write>(f: &mut fmt::Formatter<W>, entry: &(u16, Window)) -> fmt::Result
+    ensures { DisplaysOnOk W.Write.write_str_gives f.old result (Some (window_lines entry.now)) f.new }
+{
+    let (win, window) = entry;
+    writeln!(f, "window {win}")?;
+    for entry in window.widgets() {
+        write_widget(f, entry)?;
     }
     Ok(())
 }
 
-fn write_widget<W: fmt::Write>(
-    f: &mut fmt::Formatter<W>,
-    wid: u16,
-    widget: &Widget,
-) -> fmt::Result {
+fn write_widget<W: fmt::Write>(f: &mut fmt::Formatter<W>, entry: &(u16, Widget)) -> fmt::Result
+    ensures { DisplaysOnOk W.Write.write_str_gives f.old result (Some (widget_line entry.now)) f.new }
+{
+    let (wid, widget) = entry;
     match widget {
         Widget::Text(text) => {
             let text = Quoted(text);
@@ -83,7 +91,11 @@ fn write_widget<W: fmt::Write>(
     }
 }
 
-fn write_labels<W: fmt::Write>(f: &mut fmt::Formatter<W>, list: &Seq<Label>) -> fmt::Result {
+// Writes each label behind a space.
+fn write_labels<W: fmt::Write>(f: &mut fmt::Formatter<W>, list: &Seq<Label>) -> fmt::Result
+    ensures { DisplaysOnOk W.Write.write_str_gives f.old result
+        (Some (flat_map (λ item. 32 ∷ quoted item.value) list.now.items)) f.new }
+{
     for item in list.iter() {
         let label = QuotedLabel(&item.value);
         write!(f, " {label}")?;

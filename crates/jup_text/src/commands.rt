@@ -1,61 +1,105 @@
 //! Commands: `ins W I PLACE char Q`, `ins W I PLACE item Q`, `del W I PLACE`, `rel W I PLACE Q`, `set W I on`,
 //! `set W I off` and `set W I NUMBER`.
+ghost use Rattle.std.specs.Prelude.{◌≡◌, ◌≢◌, ◌<◌, ◌^◌, ◌∷◌, ◌++◌, ℕ, List, decimal, IfSome, IfNone};
+ghost use Rattle.jup_number.specs.Numbers.{IsU32};
+ghost use Rattle.jup_number.specs.Spelled.{IsReadingOf};
+ghost use Rattle.jup_value.specs.Labels.{IsLabelText};
+ghost use Rattle.jup_text.specs.Commands.{command_text, value_text, setting_word, IsCommand, IsId, IsValue, IsSetting};
+ghost use Rattle.jup_text.specs.Quotes.{quoted};
 
-use super::quoted::{read_quoted_char, read_quoted_label};
-use super::words::{read_id, read_integer, read_number, read_switch};
+use super::quoted::{char_of, label_of};
+use super::words::{id_of, next_word, switch_of};
+use jup_number::{read_integer, read_number};
+use jup_value::Label;
 use jup_window::{Command, Setting, Value};
-use std::str;
 
 /// Reads a command. It takes no memory.
-pub fn read_command(line: &[u8]) -> Option<Command> {
-    let (verb, rest) = str::from_utf8(line).ok()?.split_once(' ')?;
-    let (win, rest) = rest.split_once(' ')?;
-    let (wid, rest) = rest.split_once(' ')?;
-    let win = read_id(win)?;
-    let wid = read_id(wid)?;
-    match verb {
-        "ins" => {
-            let (place, value) = rest.split_once(' ')?;
-            Some(Command::Insert {
-                win,
-                wid,
-                place: read_number(place)?,
-                value: read_value(value)?,
-            })
-        }
-        "del" => Some(Command::Delete {
+pub fn read_command(line: &[u8]) -> Option<Command>
+    ensures { IsReadingOf command_text IsCommand line.now result }
+{
+    let (verb, rest) = next_word(line)?;
+    let (win, rest) = next_id(rest)?;
+    let (wid, rest) = next_id(rest)?;
+    if verb == b"ins".as_slice() {
+        let (place, value) = read_insertion(rest)?;
+        return Some(Command::Insert {
             win,
             wid,
-            place: read_number(rest)?,
-        }),
-        "rel" => {
-            let (place, label) = rest.split_once(' ')?;
-            Some(Command::Relabel {
-                win,
-                wid,
-                place: read_number(place)?,
-                label: read_quoted_label(label)?,
-            })
-        }
-        "set" => Some(Command::Set {
+            place,
+            value,
+        });
+    }
+    if verb == b"del".as_slice() {
+        let place = read_number(rest)?;
+        return Some(Command::Delete { win, wid, place });
+    }
+    if verb == b"rel".as_slice() {
+        let (place, label) = read_relabel(rest)?;
+        return Some(Command::Relabel {
             win,
             wid,
-            setting: read_setting(rest)?,
-        }),
-        _ => None,
+            place,
+            label,
+        });
     }
+    if verb == b"set".as_slice() {
+        let setting = read_setting(rest)?;
+        return Some(Command::Set { win, wid, setting });
+    }
+    None
 }
 
-fn read_value(text: &str) -> Option<Value> {
-    match text.split_once(' ')? {
-        ("char", value) => Some(Value::Char(read_quoted_char(value)?)),
-        ("item", value) => Some(Value::Label(read_quoted_label(value)?)),
-        _ => None,
-    }
+// The id before the first space, and what follows that space.
+fn next_id(text: &[u8]) -> Option<(u16, &[u8])>
+    ensures read { IfSome result (λ read. IsId read.0 × (text.now ≡ decimal read.0 ++ 32 ∷ read.1.now)) }
+    ensures none { IfNone result ((id : ℕ) (rest : List ℕ) → IsId id → text.now ≢ decimal id ++ 32 ∷ rest) }
+{
+    let (word, rest) = next_word(text)?;
+    Some((id_of(word)?, rest))
 }
 
-fn read_setting(word: &str) -> Option<Setting> {
-    match read_switch(word) {
+// The place before the first space, and what follows that space.
+fn next_place(text: &[u8]) -> Option<(u32, &[u8])>
+    ensures read { IfSome result (λ read. IsU32 read.0 × (text.now ≡ decimal read.0 ++ 32 ∷ read.1.now)) }
+    ensures none { IfNone result ((place : ℕ) (rest : List ℕ) → IsU32 place → text.now ≢ decimal place ++ 32 ∷ rest) }
+{
+    let (word, rest) = next_word(text)?;
+    Some((read_number(word)?, rest))
+}
+
+// A place, and the value of an item that is put there.
+fn read_insertion(text: &[u8]) -> Option<(u32, Value)>
+    ensures { IsReadingOf (λ read. decimal read.0 ++ 32 ∷ value_text read.1) (λ read. IsU32 read.0 × IsValue read.1) text.now result }
+{
+    let (place, rest) = next_place(text)?;
+    Some((place, read_value(rest)?))
+}
+
+// A place, and the label that its item is given.
+fn read_relabel(text: &[u8]) -> Option<(u32, Label)>
+    ensures { IsReadingOf (λ read. decimal read.0 ++ 32 ∷ quoted read.1) (λ read. IsU32 read.0 × IsLabelText read.1) text.now result }
+{
+    let (place, rest) = next_place(text)?;
+    Some((place, label_of(rest)?))
+}
+
+fn read_value(text: &[u8]) -> Option<Value>
+    ensures { IsReadingOf value_text IsValue text.now result }
+{
+    let (kind, rest) = next_word(text)?;
+    if kind == b"char".as_slice() {
+        return Some(Value::Char(char_of(rest)?));
+    }
+    if kind == b"item".as_slice() {
+        return Some(Value::Label(label_of(rest)?));
+    }
+    None
+}
+
+fn read_setting(word: &[u8]) -> Option<Setting>
+    ensures { IsReadingOf setting_word IsSetting word.now result }
+{
+    match switch_of(word) {
         Some(on) => Some(Setting::Toggle(on)),
         None => Some(Setting::Slider(read_integer(word)?)),
     }

@@ -42,7 +42,14 @@ pub fn read_quoted(alloc: Global, word: &str) -> Result<Option<Vec<char>>, NoMem
 pub fn read_quoted_char(word: &str) -> Option<char>
     ensures { IsReadingOf (λ c. quoted (c ∷ [])) IsScalar word.now result }
 {
-    let (value, rest) = next_char(opened(word.as_bytes())?)?;
+    char_of(word.as_bytes())
+}
+
+/// The character that bytes spell in quotes.
+pub(crate) fn char_of(word: &[u8]) -> Option<char>
+    ensures { IsReadingOf (λ c. quoted (c ∷ [])) IsScalar word.now result }
+{
+    let (value, rest) = next_char(opened(word)?)?;
     if is_end(rest) { Some(value) } else { None }
 }
 
@@ -61,11 +68,11 @@ pub(crate) fn is_end(text: &[u8]) -> bool
     text == b"\"".as_slice()
 }
 
-/// Reads a label.
-pub(crate) fn read_quoted_label(word: &str) -> Option<Label>
+/// The label that bytes spell in quotes.
+pub(crate) fn label_of(word: &[u8]) -> Option<Label>
     ensures { IsReadingOf quoted IsLabelText word.now result }
 {
-    let Some((label, rest)) = next_quoted_label(word.as_bytes()) else {
+    let Some((label, rest)) = next_quoted_label(word) else {
         return None;
     };
     if rest.is_empty() { Some(label) } else { None }

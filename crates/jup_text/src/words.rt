@@ -1,20 +1,34 @@
-//! Switches and numbers.
-ghost use Rattle.std.specs.Prelude.{◌<◌, ◌^◌, decimal};
+//! Switches, numbers, and the words of a line.
+ghost use Rattle.std.specs.Prelude.{◌≡◌, ◌≢◌, ◌==◌, ◌<◌, ◌^◌, ◌∷◌, ◌++◌, ℕ, List, length, position, decimal, IfSome, IfNone};
 ghost use Rattle.std.specs.Fmt.{signed_decimal};
 ghost use Rattle.jup_number.specs.Numbers.{IsU32, IsInt};
 ghost use Rattle.jup_number.specs.Spelled.{IsReadingOf};
+ghost use Rattle.jup_text.specs.Words.{IsWord, switch_text};
 
 /// Reads `on` or `off`.
-pub fn read_switch(word: &str) -> Option<bool> {
-    match word {
-        "on" => Some(true),
-        "off" => Some(false),
-        _ => None,
+pub fn read_switch(word: &str) -> Option<bool>
+    ensures { IsReadingOf switch_text (λ on. Unit {0}) word.now result }
+{
+    switch_of(word.as_bytes())
+}
+
+/// The switch that bytes spell.
+pub(crate) fn switch_of(word: &[u8]) -> Option<bool>
+    ensures { IsReadingOf switch_text (λ on. Unit {0}) word.now result }
+{
+    if word == b"on".as_slice() {
+        return Some(true);
     }
+    if word == b"off".as_slice() {
+        return Some(false);
+    }
+    None
 }
 
 /// How a switch is printed.
-pub fn switch_word(on: bool) -> &'static str {
+pub fn switch_word(on: bool) -> &'static str
+    ensures { result.now ≡ switch_text on }
+{
     if on { "on" } else { "off" }
 }
 
@@ -32,13 +46,30 @@ pub fn read_number(word: &str) -> Option<u32>
     jup_number::read_number(word.as_bytes())
 }
 
-/// Reads the id of a window or of a widget.
-pub(crate) fn read_id(word: &str) -> Option<u16>
+/// The id of a window or of a widget that bytes spell.
+pub(crate) fn id_of(word: &[u8]) -> Option<u16>
     ensures { IsReadingOf decimal (λ id. id < 2 ^ 16) word.now result }
 {
-    let number = read_number(word)?;
+    let number = jup_number::read_number(word)?;
     if number > 0xFFFF {
         return None;
     }
     Some(number as u16)
+}
+
+/// The word before the first space, and what follows that space.
+pub(crate) fn next_word(text: &[u8]) -> Option<(&[u8], &[u8])>
+    ensures read { IfSome result (λ read. IsWord read.0.now × (text.now ≡ read.0.now ++ 32 ∷ read.1.now)) }
+    ensures none { IfNone result ((word rest : List ℕ) → IsWord word → text.now ≢ word ++ 32 ∷ rest) }
+{
+    let at = space_of(text)?;
+    Some((&text[..at], &text[at + 1..]))
+}
+
+// Where the first space stands.
+fn space_of(text: &[u8]) -> Option<usize>
+    ensures place { result ≡ position (λ byte. byte == 32) text.now }
+    ensures within { IfSome result (λ at. at < length text.now) }
+{
+    text.iter().position(|byte| *byte == b' ')
 }

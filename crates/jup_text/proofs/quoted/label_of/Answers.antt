@@ -1,13 +1,13 @@
 use Rattle.std.proofs.Common.{◌≢◌, [], sym, ◌∙◌, append-nil, rules}
 use Rattle.jup_text.specs.Quotes.{quoted}
 use Rattle.jup_text.proofs.LabelQuotes.{one_label}
-use Rattle.jup_text.proofs.quoted.read_quoted_label.Goals as goal
+use Rattle.jup_text.proofs.quoted.label_of.Goals as goal
 
 pub returns-else-is_empty : goal.returns-else-is_empty
 returns-else-is_empty c =
     let more : c.in-Some.rest.now ≢ [] = search rules in
     let read = c.in-Some.ensures.read in
-    one_label c.args.word.now c.in-Some.label c.in-Some.rest.now read.0 (sym c.as_bytes.ensures.value ∙ read.1) more
+    one_label c.args.word.now c.in-Some.label c.in-Some.rest.now read.0 read.1 more
 
 pub returns-in_default : goal.returns-in_default
-returns-in_default c label is same = c.in_default.ensures.none label [] is (c.as_bytes.ensures.value ∙ same ∙ sym (append-nil (quoted label)))
+returns-in_default c label is same = c.in_default.ensures.none label [] is (same ∙ sym (append-nil (quoted label)))

@@ -1,6 +1,6 @@
 use Rattle.std.proofs.Common.{◌≡◌, sym, ◌∙◌, arith}
 use Rattle.std.proofs.lemmas.Fmt.{decimal_injective}
-use Rattle.jup_text.proofs.words.read_id.Goals as goal
+use Rattle.jup_text.proofs.words.id_of.Goals as goal
 
 pub returns-then-number-gt65535 : goal.returns-then-number-gt65535
 returns-then-number-gt65535 c value small same =

@@ -1,0 +1,177 @@
+-- A command's text by its first words: its kind, its ids, and what stands behind them.
+use Rattle.std.proofs.Common.{◌≡◌, ◌≢◌, ℕ, ◌^◌, ◌<◌, List, [], ◌∷◌, ◌++◌, get_or, refl, sym, ap, ◌∙◌, arith, lit<}
+use Rattle.std.specs.Prelude.{codes, decimal}
+use Rattle.std.specs.Char.{digit_value}
+use Rattle.std.specs.Str.Parse.{AllDigits}
+use Rattle.std.proofs.lemmas.Fmt.{decimal_is_IsNumeral}
+use Rattle.jup_window.specs.declared.commands.Command.{Command}
+use Rattle.jup_window.specs.declared.commands.Command.TheVariants.{Insert, Delete, Relabel, Set}
+use Rattle.jup_window.specs.declared.commands.Setting.{Setting}
+use Rattle.jup_window.specs.declared.commands.Value.{Value}
+use Rattle.jup_window.specs.declared.commands.Value.TheVariants.{Char, Label}
+use Rattle.jup_number.specs.Numbers.{IsU32}
+use Rattle.jup_value.specs.Labels.{IsLabelText}
+use Rattle.jup_text.specs.Quotes.{quoted}
+use Rattle.jup_text.specs.Words.{IsWord}
+use Rattle.jup_text.specs.Commands.{command_text, value_text, setting_word, IsCommand, IsId, IsValue, IsSetting}
+use Rattle.jup_text.proofs.Splits.{same_parts}
+
+-- ---- words
+
+-- a number is a word
+digits_word : (ds : List ℕ) → AllDigits 10 ds → IsWord ds
+digits_word [] all = tt
+digits_word (d ∷ ds) all = (λ e. absurd (omega (arith, ap digit_value e, all.0)), digits_word ds all.1)
+
+pub number_word : (n : ℕ) → n < 2 ^ 32 → IsWord (decimal n)
+number_word n small = digits_word (decimal n) (decimal_is_IsNumeral n (omega (arith, small))).0.1
+
+pub id_word : (id : ℕ) → IsId id → IsWord (decimal id)
+id_word id small = number_word id (omega (arith, small))
+
+-- a first word that spells no value of a kind
+pub no_first : {A : Type 0} (text : A → List ℕ) (Is : A → Type 0) → ((a : A) → Is a → IsWord (text a))
+    → (bytes word rest : List ℕ) → IsWord word → bytes ≡ word ++ 32 ∷ rest → ((a : A) → Is a → word ≢ text a)
+    → (a : A) (behind : List ℕ) → Is a → bytes ≢ text a ++ 32 ∷ behind
+no_first text Is words bytes word rest is parts none a behind a_is same = none a a_is (same_parts 32 word (text a) rest behind is (words a a_is) (sym parts ∙ same)).0
+
+-- what stands behind the first word is not that
+pub no_second : (bytes word rest other behind : List ℕ) → IsWord word → IsWord other → bytes ≡ word ++ 32 ∷ rest → rest ≢ behind → bytes ≢ other ++ 32 ∷ behind
+no_second bytes word rest other behind is other_is parts none same = none (same_parts 32 word other rest behind is other_is (sym parts ∙ same)).1
+
+-- ---- the parts of a command's text
+
+abbrev pub kind_of : Command → List ℕ
+kind_of (Insert win wid place value) = codes "ins"
+kind_of (Delete win wid place) = codes "del"
+kind_of (Relabel win wid place label) = codes "rel"
+kind_of (Set win wid setting) = codes "set"
+
+abbrev pub behind_ids : Command → List ℕ
+behind_ids (Insert win wid place value) = decimal place ++ 32 ∷ value_text value
+behind_ids (Delete win wid place) = decimal place
+behind_ids (Relabel win wid place label) = decimal place ++ 32 ∷ quoted label
+behind_ids (Set win wid setting) = setting_word setting
+
+-- a line begins with a word and two ids
+pub record HasHead (line kind : List ℕ) (win wid : ℕ) (rest : List ℕ) : Type 0 where
+  pub word : IsWord kind
+  pub win_in : IsId win
+  pub wid_in : IsId wid
+  pub spelled : line ≡ kind ++ 32 ∷ (decimal win ++ 32 ∷ (decimal wid ++ 32 ∷ rest))
+
+letters : (a b c : ℕ) → 32 < a → 32 < b → 32 < c → IsWord (a ∷ b ∷ c ∷ [])
+letters a b c first second third =
+    (λ e. absurd (omega (arith, e, first)), (λ e. absurd (omega (arith, e, second)), (λ e. absurd (omega (arith, e, third)), tt)))
+
+command_win : Command → ℕ
+command_win (Insert win wid place value) = win
+command_win (Delete win wid place) = win
+command_win (Relabel win wid place label) = win
+command_win (Set win wid setting) = win
+
+command_wid : Command → ℕ
+command_wid (Insert win wid place value) = wid
+command_wid (Delete win wid place) = wid
+command_wid (Relabel win wid place label) = wid
+command_wid (Set win wid setting) = wid
+
+command_head : (c : Command) → IsCommand c → HasHead (command_text c) (kind_of c) (command_win c) (command_wid c) (behind_ids c)
+unfolding command_win command_wid
+command_head (Insert win wid place (Char v)) is = record { word = letters 105 110 115 (lit< tt) (lit< tt) (lit< tt); win_in = is.0; wid_in = is.1.0; spelled = refl }
+command_head (Insert win wid place (Label v)) is = record { word = letters 105 110 115 (lit< tt) (lit< tt) (lit< tt); win_in = is.0; wid_in = is.1.0; spelled = refl }
+command_head (Delete win wid place) is = record { word = letters 100 101 108 (lit< tt) (lit< tt) (lit< tt); win_in = is.0; wid_in = is.1.0; spelled = refl }
+command_head (Relabel win wid place label) is = record { word = letters 114 101 108 (lit< tt) (lit< tt) (lit< tt); win_in = is.0; wid_in = is.1.0; spelled = refl }
+command_head (Set win wid setting) is = record { word = letters 115 101 116 (lit< tt) (lit< tt) (lit< tt); win_in = is.0; wid_in = is.1.0; spelled = refl }
+
+-- of two such heads of one line the words are one, and what follows the ids
+same_head : (line kind other rest behind : List ℕ) (win wid k l : ℕ) → HasHead line kind win wid rest → HasHead line other k l behind → (kind ≡ other) × (rest ≡ behind)
+same_head line kind other rest behind win wid k l h g =
+    let first = same_parts 32 kind other _ _ h.word g.word (sym h.spelled ∙ g.spelled) in
+    let second = same_parts 32 (decimal win) (decimal k) _ _ (id_word win h.win_in) (id_word k g.win_in) first.1 in
+    let third = same_parts 32 (decimal wid) (decimal l) _ _ (id_word wid h.wid_in) (id_word l g.wid_in) second.1 in
+    (first.0, third.1)
+
+pub head_same : (line kind rest : List ℕ) (win wid : ℕ) → HasHead line kind win wid rest → (c : Command) → IsCommand c → line ≡ command_text c → (kind ≡ kind_of c) × (rest ≡ behind_ids c)
+head_same line kind rest win wid h c is same =
+    let g = command_head c is in
+    same_head line kind (kind_of c) rest (behind_ids c) win wid (command_win c) (command_wid c) h
+    (record { word = g.word; win_in = g.win_in; wid_in = g.wid_in; spelled = same ∙ g.spelled })
+
+-- ---- lines that are no command
+
+pub no_kind : (line : List ℕ) → ((word rest : List ℕ) → IsWord word → line ≢ word ++ 32 ∷ rest) → (c : Command) → IsCommand c → line ≢ command_text c
+no_kind line none c is same = let g = command_head c is in none (kind_of c) _ g.word (same ∙ g.spelled)
+
+pub no_window : (line kind rest : List ℕ) → IsWord kind → line ≡ kind ++ 32 ∷ rest → ((id : ℕ) (behind : List ℕ) → IsId id → rest ≢ decimal id ++ 32 ∷ behind)
+    → (c : Command) → IsCommand c → line ≢ command_text c
+no_window line kind rest word parts none c is same =
+    let g = command_head c is in
+    none (command_win c) _ g.win_in (same_parts 32 kind (kind_of c) rest _ word g.word (sym parts ∙ same ∙ g.spelled)).1
+
+pub no_widget : (line kind first rest : List ℕ) (win : ℕ) → IsWord kind → IsId win → line ≡ kind ++ 32 ∷ first → first ≡ decimal win ++ 32 ∷ rest
+    → ((id : ℕ) (behind : List ℕ) → IsId id → rest ≢ decimal id ++ 32 ∷ behind) → (c : Command) → IsCommand c → line ≢ command_text c
+no_widget line kind first rest win word win_in parts again none c is same =
+    let g = command_head c is in
+    let second = (same_parts 32 kind (kind_of c) first _ word g.word (sym parts ∙ same ∙ g.spelled)).1 in
+    none (command_wid c) _ g.wid_in (same_parts 32 (decimal win) (decimal (command_win c)) rest _ (id_word win win_in) (id_word (command_win c) g.win_in) (sym again ∙ second)).1
+
+pub head_read : (line kind first second rest : List ℕ) (win wid : ℕ) → IsWord kind → IsId win → IsId wid → line ≡ kind ++ 32 ∷ first → first ≡ decimal win ++ 32 ∷ second
+    → second ≡ decimal wid ++ 32 ∷ rest → HasHead line kind win wid rest
+head_read line kind first second rest win wid word win_in wid_in one two three = record {
+  word = word;
+  win_in = win_in;
+  wid_in = wid_in;
+  spelled = one ∙ ap (λ (t : List ℕ). kind ++ 32 ∷ t) (two ∙ ap (λ (t : List ℕ). decimal win ++ 32 ∷ t) three);
+}
+
+pub no_insertion : (line rest : List ℕ) (win wid : ℕ) → HasHead line (codes "ins") win wid rest
+    → ((place : ℕ) (value : Value) → IsU32 place → IsValue value → rest ≢ decimal place ++ 32 ∷ value_text value) → (c : Command) → IsCommand c → line ≢ command_text c
+no_insertion line rest win wid h none (Insert k l place value) is same = none place value is.1.1.0 is.1.1.1 (head_same line _ rest win wid h (Insert k l place value) is same).1
+no_insertion line rest win wid h none (Delete k l place) is same = absurd (omega (arith, ap (λ (bs : List ℕ). get_or bs 0 0) (head_same line _ rest win wid h (Delete k l place) is same).0))
+no_insertion line rest win wid h none (Relabel k l place label) is same = absurd (omega (arith, ap (λ (bs : List ℕ). get_or bs 0 0) (head_same line _ rest win wid h (Relabel k l place label) is same).0))
+no_insertion line rest win wid h none (Set k l setting) is same = absurd (omega (arith, ap (λ (bs : List ℕ). get_or bs 0 0) (head_same line _ rest win wid h (Set k l setting) is same).0))
+
+pub no_deletion : (line rest : List ℕ) (win wid : ℕ) → HasHead line (codes "del") win wid rest
+    → ((place : ℕ) → IsU32 place → rest ≢ decimal place) → (c : Command) → IsCommand c → line ≢ command_text c
+no_deletion line rest win wid h none (Insert k l place value) is same = absurd (omega (arith, ap (λ (bs : List ℕ). get_or bs 0 0) (head_same line _ rest win wid h (Insert k l place value) is same).0))
+no_deletion line rest win wid h none (Delete k l place) is same = none place is.1.1 (head_same line _ rest win wid h (Delete k l place) is same).1
+no_deletion line rest win wid h none (Relabel k l place label) is same = absurd (omega (arith, ap (λ (bs : List ℕ). get_or bs 0 0) (head_same line _ rest win wid h (Relabel k l place label) is same).0))
+no_deletion line rest win wid h none (Set k l setting) is same = absurd (omega (arith, ap (λ (bs : List ℕ). get_or bs 0 0) (head_same line _ rest win wid h (Set k l setting) is same).0))
+
+pub no_relabel : (line rest : List ℕ) (win wid : ℕ) → HasHead line (codes "rel") win wid rest
+    → ((place : ℕ) (label : List ℕ) → IsU32 place → IsLabelText label → rest ≢ decimal place ++ 32 ∷ quoted label) → (c : Command) → IsCommand c → line ≢ command_text c
+no_relabel line rest win wid h none (Insert k l place value) is same = absurd (omega (arith, ap (λ (bs : List ℕ). get_or bs 0 0) (head_same line _ rest win wid h (Insert k l place value) is same).0))
+no_relabel line rest win wid h none (Delete k l place) is same = absurd (omega (arith, ap (λ (bs : List ℕ). get_or bs 0 0) (head_same line _ rest win wid h (Delete k l place) is same).0))
+no_relabel line rest win wid h none (Relabel k l place label) is same = none place label is.1.1.0 is.1.1.1 (head_same line _ rest win wid h (Relabel k l place label) is same).1
+no_relabel line rest win wid h none (Set k l setting) is same = absurd (omega (arith, ap (λ (bs : List ℕ). get_or bs 0 0) (head_same line _ rest win wid h (Set k l setting) is same).0))
+
+pub no_setting : (line rest : List ℕ) (win wid : ℕ) → HasHead line (codes "set") win wid rest
+    → ((setting : Setting) → IsSetting setting → rest ≢ setting_word setting) → (c : Command) → IsCommand c → line ≢ command_text c
+no_setting line rest win wid h none (Insert k l place value) is same = absurd (omega (arith, ap (λ (bs : List ℕ). get_or bs 0 0) (head_same line _ rest win wid h (Insert k l place value) is same).0))
+no_setting line rest win wid h none (Delete k l place) is same = absurd (omega (arith, ap (λ (bs : List ℕ). get_or bs 0 0) (head_same line _ rest win wid h (Delete k l place) is same).0))
+no_setting line rest win wid h none (Relabel k l place label) is same = absurd (omega (arith, ap (λ (bs : List ℕ). get_or bs 0 0) (head_same line _ rest win wid h (Relabel k l place label) is same).0))
+no_setting line rest win wid h none (Set k l setting) is same = none setting is.1.1 (head_same line _ rest win wid h (Set k l setting) is same).1
+
+pub other_kind : (line kind rest : List ℕ) (win wid : ℕ) → HasHead line kind win wid rest → kind ≢ codes "ins" → kind ≢ codes "del" → kind ≢ codes "rel" → kind ≢ codes "set"
+    → (c : Command) → IsCommand c → line ≢ command_text c
+other_kind line kind rest win wid h ins del rel set (Insert k l place value) is same = ins (head_same line kind rest win wid h (Insert k l place value) is same).0
+other_kind line kind rest win wid h ins del rel set (Delete k l place) is same = del (head_same line kind rest win wid h (Delete k l place) is same).0
+other_kind line kind rest win wid h ins del rel set (Relabel k l place label) is same = rel (head_same line kind rest win wid h (Relabel k l place label) is same).0
+other_kind line kind rest win wid h ins del rel set (Set k l setting) is same = set (head_same line kind rest win wid h (Set k l setting) is same).0
+
+-- ---- values
+
+four_letters : (a b c d : ℕ) → 32 < a → 32 < b → 32 < c → 32 < d → IsWord (a ∷ b ∷ c ∷ d ∷ [])
+four_letters a b c d first second third fourth = (λ e. absurd (omega (arith, e, first)), letters b c d second third fourth)
+
+-- a text of no word, or of another word than those of a value
+pub no_value : (text : List ℕ) → ((word rest : List ℕ) → IsWord word → text ≢ word ++ 32 ∷ rest) → (value : Value) → IsValue value → text ≢ value_text value
+no_value text none (Char c) is same = none (codes "char") _ (four_letters 99 104 97 114 (lit< tt) (lit< tt) (lit< tt) (lit< tt)) same
+no_value text none (Label label) is same = none (codes "item") _ (four_letters 105 116 101 109 (lit< tt) (lit< tt) (lit< tt) (lit< tt)) same
+
+pub other_value : (text kind rest : List ℕ) → IsWord kind → text ≡ kind ++ 32 ∷ rest → kind ≢ codes "char" → kind ≢ codes "item" → (value : Value) → IsValue value → text ≢ value_text value
+other_value text kind rest word parts char item (Char c) is same =
+    char (same_parts 32 kind (codes "char") rest _ word (four_letters 99 104 97 114 (lit< tt) (lit< tt) (lit< tt) (lit< tt)) (sym parts ∙ same)).0
+other_value text kind rest word parts char item (Label label) is same =
+    item (same_parts 32 kind (codes "item") rest _ word (four_letters 105 116 101 109 (lit< tt) (lit< tt) (lit< tt) (lit< tt)) (sym parts ∙ same)).0

@@ -1,0 +1,10 @@
+use Rattle.std.proofs.Common.{take}
+use Rattle.std.specs.Fmt.{HasWritten, IsPlainFormatter}
+use Rattle.std.specs.List.{flat_map}
+use Rattle.jup_text.specs.Boards.{window_lines}
+use Rattle.jup_text.proofs.boards.PrintedBoardDisplay.fmt.Given as goal
+
+-- the windows so far are written
+abbrev pub invariant-loop-entry : goal.invariant-loop-entry
+invariant-loop-entry g l =
+    IsPlainFormatter l.initial.f → HasWritten g.W.Write.write_str_gives l.initial.f (flat_map window_lines (take l.entry-index l.entry-items)) l.f

@@ -1,0 +1,23 @@
+-- Edits as text: their words, with one space between them.
+use Rattle.std.specs.Prelude.{ℕ, List, [], ◌∷◌, codes, decimal}
+use Rattle.std.specs.Fmt.{signed_decimal}
+use Rattle.std.specs.List.{join_with_byte}
+use Rattle.jup_window.specs.declared.edits.Edit.{Edit}
+use Rattle.jup_window.specs.declared.edits.Effect.{Effect}
+use Rattle.jup_window.specs.declared.edits.Effect.TheVariants.{PutChar, PutLabel, Deleted, Relabelled, Toggled, Slid, Nothing}
+use Rattle.jup_text.specs.Quotes.{quoted}
+use Rattle.jup_text.specs.Words.{switch_text, name_text}
+
+-- the words of an effect on the widget with these ids
+abbrev pub effect_words : ℕ → ℕ → Effect → List (List ℕ)
+effect_words win wid (PutChar name value) = codes "ins" ∷ decimal win ∷ decimal wid ∷ name_text name ∷ quoted (value ∷ []) ∷ []
+effect_words win wid (PutLabel name label) = codes "ins" ∷ decimal win ∷ decimal wid ∷ name_text name ∷ quoted label ∷ []
+effect_words win wid (Deleted name) = codes "del" ∷ decimal win ∷ decimal wid ∷ name_text name ∷ []
+effect_words win wid (Relabelled name label) = codes "rel" ∷ decimal win ∷ decimal wid ∷ name_text name ∷ quoted label ∷ []
+effect_words win wid (Toggled on) = codes "set" ∷ decimal win ∷ decimal wid ∷ switch_text on ∷ []
+effect_words win wid (Slid value) = codes "set" ∷ decimal win ∷ decimal wid ∷ signed_decimal value ∷ []
+effect_words win wid Nothing = []
+
+-- an edit as it is printed; one that changes nothing is no text
+abbrev pub edit_text : Edit → List ℕ
+edit_text edit = join_with_byte 32 (effect_words edit.win edit.wid edit.what)

@@ -3,7 +3,7 @@ use Rattle.std.proofs.Common.{◌≡◌, ◌≢◌, ℕ, ◌^◌, ◌<◌, List,
 use Rattle.std.specs.Prelude.{codes, decimal}
 use Rattle.std.specs.Char.{digit_value}
 use Rattle.std.specs.Str.Parse.{AllDigits}
-use Rattle.std.proofs.lemmas.Fmt.{decimal_is_IsNumeral}
+use Rattle.std.proofs.lemmas.Fmt.{decimal_is_IsNumeral, decimal_injective}
 use Rattle.jup_window.specs.declared.commands.Command.{Command}
 use Rattle.jup_window.specs.declared.commands.Command.TheVariants.{Insert, Delete, Relabel, Set}
 use Rattle.jup_window.specs.declared.commands.Setting.{Setting}
@@ -64,20 +64,19 @@ letters : (a b c : ℕ) → 32 < a → 32 < b → 32 < c → IsWord (a ∷ b ∷
 letters a b c first second third =
     (λ e. absurd (omega (arith, e, first)), (λ e. absurd (omega (arith, e, second)), (λ e. absurd (omega (arith, e, third)), tt)))
 
-command_win : Command → ℕ
+abbrev pub command_win : Command → ℕ
 command_win (Insert win wid place value) = win
 command_win (Delete win wid place) = win
 command_win (Relabel win wid place label) = win
 command_win (Set win wid setting) = win
 
-command_wid : Command → ℕ
+abbrev pub command_wid : Command → ℕ
 command_wid (Insert win wid place value) = wid
 command_wid (Delete win wid place) = wid
 command_wid (Relabel win wid place label) = wid
 command_wid (Set win wid setting) = wid
 
-command_head : (c : Command) → IsCommand c → HasHead (command_text c) (kind_of c) (command_win c) (command_wid c) (behind_ids c)
-unfolding command_win command_wid
+pub command_head : (c : Command) → IsCommand c → HasHead (command_text c) (kind_of c) (command_win c) (command_wid c) (behind_ids c)
 command_head (Insert win wid place (Char v)) is = record { word = letters 105 110 115 (lit< tt) (lit< tt) (lit< tt); win_in = is.0; wid_in = is.1.0; spelled = refl }
 command_head (Insert win wid place (Label v)) is = record { word = letters 105 110 115 (lit< tt) (lit< tt) (lit< tt); win_in = is.0; wid_in = is.1.0; spelled = refl }
 command_head (Delete win wid place) is = record { word = letters 100 101 108 (lit< tt) (lit< tt) (lit< tt); win_in = is.0; wid_in = is.1.0; spelled = refl }
@@ -97,6 +96,17 @@ head_same line kind rest win wid h c is same =
     let g = command_head c is in
     same_head line kind (kind_of c) rest (behind_ids c) win wid (command_win c) (command_wid c) h
     (record { word = g.word; win_in = g.win_in; wid_in = g.wid_in; spelled = same ∙ g.spelled })
+
+-- and the ids
+pub head_ids : (c d : Command) → IsCommand c → IsCommand d → command_text c ≡ command_text d → (command_win c ≡ command_win d) × (command_wid c ≡ command_wid d)
+head_ids c d c_is d_is same =
+    let h = command_head c c_is in
+    let g = command_head d d_is in
+    let first = same_parts 32 (kind_of c) (kind_of d) _ _ h.word g.word (sym h.spelled ∙ same ∙ g.spelled) in
+    let second = same_parts 32 (decimal (command_win c)) (decimal (command_win d)) _ _ (id_word (command_win c) h.win_in) (id_word (command_win d) g.win_in) first.1 in
+    let third = same_parts 32 (decimal (command_wid c)) (decimal (command_wid d)) _ _ (id_word (command_wid c) h.wid_in) (id_word (command_wid d) g.wid_in) second.1 in
+    let id : (i j : ℕ) → IsId i → IsId j → decimal i ≡ decimal j → i ≡ j = λ i j i_is j_is e. decimal_injective i j (omega (arith, i_is)) (omega (arith, j_is)) e in
+    (id (command_win c) (command_win d) h.win_in g.win_in second.0, id (command_wid c) (command_wid d) h.wid_in g.wid_in third.0)
 
 -- ---- lines that are no command
 

@@ -4,4 +4,5 @@ pub mod Hexadecimals
 pub mod Quoting
 pub mod LabelQuotes
 pub mod CommandWords
+pub mod OneCommand
 pub mod Printing

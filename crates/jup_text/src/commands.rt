@@ -1,9 +1,10 @@
 //! Commands: `ins W I PLACE char Q`, `ins W I PLACE item Q`, `del W I PLACE`, `rel W I PLACE Q`, `set W I on`,
 //! `set W I off` and `set W I NUMBER`.
-ghost use Rattle.std.specs.Prelude.{◌≡◌, ◌≢◌, ◌<◌, ◌^◌, ◌∷◌, ◌++◌, ℕ, List, decimal, IfSome, IfNone};
+ghost use Rattle.std.specs.Prelude.{◌≡◌, ◌≢◌, ◌<◌, ◌^◌, ◌∷◌, ◌++◌, ℕ, List, decimal, Some, IfSome, IfNone};
 ghost use Rattle.jup_number.specs.Numbers.{IsU32};
 ghost use Rattle.jup_number.specs.Spelled.{IsReadingOf};
 ghost use Rattle.jup_value.specs.Labels.{IsLabelText};
+ghost use Rattle.jup_window.specs.declared.commands.Command.{Command};
 ghost use Rattle.jup_text.specs.Commands.{command_text, value_text, setting_word, IsCommand, IsId, IsValue, IsSetting};
 ghost use Rattle.jup_text.specs.Quotes.{quoted};
 
@@ -15,6 +16,15 @@ use jup_window::{Command, Setting, Value};
 
 /// Reads a command. It takes no memory.
 pub fn read_command(line: &[u8]) -> Option<Command>
+    ensures spelling { IsReadingOf command_text IsCommand line.now result }
+    ensures every { (command : Command) → IsCommand command → line.now ≡ command_text command
+        → result ≡ Some command }
+{
+    worded(line)
+}
+
+// The command that the words of a line spell.
+fn worded(line: &[u8]) -> Option<Command>
     ensures { IsReadingOf command_text IsCommand line.now result }
 {
     let (verb, rest) = next_word(line)?;

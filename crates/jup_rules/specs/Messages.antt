@@ -19,3 +19,15 @@ down_of (Op msg) = Some (DownOp msg)
 down_of (Ack count) = Some (DownAck count)
 down_of (Pong count) = Some (DownPong count)
 down_of _ = None
+
+-- the line of a message to the star
+abbrev pub up_line : Up BoardOp → Line
+up_line (UpOp msg) = Op msg
+up_line (UpAck count) = Ack count
+up_line (UpPing count) = Ping count
+
+-- and of one to a site
+abbrev pub down_line : Down BoardOp → Line
+down_line (DownOp msg) = Op msg
+down_line (DownAck count) = Ack count
+down_line (DownPong count) = Pong count

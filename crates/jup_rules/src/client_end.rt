@@ -1,5 +1,6 @@
 //! Why a client ends early.
-ghost use Rattle.std.specs.Prelude.{◌≡◌, ◌≤◌};
+ghost use Rattle.std.specs.Prelude.{◌≡◌, ◌≢◌, ◌≤◌};
+ghost use Rattle.std.specs.IoError.{error_kind};
 ghost use Rattle.jup_rules.specs.Numbers.{client_end_number, client_end_status};
 
 use crate::{SessionFault, Stop};
@@ -7,6 +8,8 @@ use jup_hub::HubFault;
 use jup_star::{OpenFault, SiteFault, StarFault};
 use jup_wire::{LayoutFault, WireFault};
 use jup_xform::NoMemory;
+use std::io;
+use std::io::ErrorKind;
 use thiserror::Error;
 
 /// Why a client ends early.
@@ -36,6 +39,18 @@ impl ClientEnd {
         }
     }
 
+    /// The end of a client that could not connect: for want of memory, or by a failed read or write.
+    pub fn unconnected(error: &io::Error) -> ClientEnd
+        ensures memory { error_kind error.now ≡ ErrorKind.OutOfMemory → result ≡ ClientEnd.NoMemory }
+        ensures other { error_kind error.now ≢ ErrorKind.OutOfMemory → result ≡ ClientEnd.ReadFailed }
+    {
+        if error.kind() == ErrorKind::OutOfMemory {
+            ClientEnd::NoMemory
+        } else {
+            ClientEnd::ReadFailed
+        }
+    }
+
     /// The exit status of a client that ends so.
     pub fn status(self) -> u8
         ensures status { result ≡ client_end_status self }
@@ -50,12 +65,20 @@ impl ClientEnd {
 }
 
 impl From<NoMemory> for ClientEnd {
+    ghost use Rattle.jup_rules.specs.declared.client_end.ClientEnd.TheVariants.{NoMemory as Ended};
+
+    ghost from_gives = { λ _ made. made ≡ Ended };
+
     fn from(_fault: NoMemory) -> ClientEnd {
         ClientEnd::NoMemory
     }
 }
 
 impl From<SessionFault> for ClientEnd {
+    ghost use Rattle.jup_rules.specs.ClientEnds.{end_of_fault};
+
+    ghost from_gives = { λ fault made. made ≡ end_of_fault fault };
+
     fn from(fault: SessionFault) -> ClientEnd {
         match fault {
             SessionFault::NoMemory | SessionFault::Hub(HubFault::Star(StarFault::NoMemory)) => {
@@ -69,6 +92,10 @@ impl From<SessionFault> for ClientEnd {
 }
 
 impl From<Stop> for ClientEnd {
+    ghost use Rattle.jup_rules.specs.ClientEnds.{end_of_stop};
+
+    ghost from_gives = { λ fault made. made ≡ end_of_stop fault };
+
     fn from(stop: Stop) -> ClientEnd {
         match stop {
             // A server says that it ends.
@@ -79,6 +106,10 @@ impl From<Stop> for ClientEnd {
 }
 
 impl From<LayoutFault> for ClientEnd {
+    ghost use Rattle.jup_rules.specs.ClientEnds.{end_of_layout};
+
+    ghost from_gives = { λ fault made. made ≡ end_of_layout fault };
+
     fn from(fault: LayoutFault) -> ClientEnd {
         if fault.line == 0 {
             ClientEnd::NoMemory
@@ -89,6 +120,10 @@ impl From<LayoutFault> for ClientEnd {
 }
 
 impl From<OpenFault> for ClientEnd {
+    ghost use Rattle.jup_rules.specs.ClientEnds.{end_of_open};
+
+    ghost from_gives = { λ fault made. made ≡ end_of_open fault };
+
     fn from(fault: OpenFault) -> ClientEnd {
         match fault {
             OpenFault::NoMemory => ClientEnd::NoMemory,
@@ -98,6 +133,10 @@ impl From<OpenFault> for ClientEnd {
 }
 
 impl From<SiteFault> for ClientEnd {
+    ghost use Rattle.jup_rules.specs.ClientEnds.{end_of_site};
+
+    ghost from_gives = { λ fault made. made ≡ end_of_site fault };
+
     fn from(fault: SiteFault) -> ClientEnd {
         match fault {
             SiteFault::NoMemory => ClientEnd::NoMemory,

@@ -44,18 +44,30 @@ impl DaemonEnd {
 }
 
 impl From<AllocError> for DaemonEnd {
+    ghost use Rattle.jup_rules.specs.declared.daemon_end.DaemonEnd.TheVariants.{NoMemory as Ended};
+
+    ghost from_gives = { λ _ made. made ≡ Ended };
+
     fn from(_error: AllocError) -> DaemonEnd {
         DaemonEnd::NoMemory
     }
 }
 
 impl From<NoMemory> for DaemonEnd {
+    ghost use Rattle.jup_rules.specs.declared.daemon_end.DaemonEnd.TheVariants.{NoMemory as Ended};
+
+    ghost from_gives = { λ _ made. made ≡ Ended };
+
     fn from(_error: NoMemory) -> DaemonEnd {
         DaemonEnd::NoMemory
     }
 }
 
 impl From<io::Error> for DaemonEnd {
+    ghost use Rattle.jup_rules.specs.DaemonEnds.{IsEndOfIo};
+
+    ghost from_gives = { λ error made. IsEndOfIo error made };
+
     fn from(error: io::Error) -> DaemonEnd {
         if error.kind() == ErrorKind::OutOfMemory {
             DaemonEnd::NoMemory
@@ -66,6 +78,10 @@ impl From<io::Error> for DaemonEnd {
 }
 
 impl From<LayoutFault> for DaemonEnd {
+    ghost use Rattle.jup_rules.specs.DaemonEnds.{end_of_layout};
+
+    ghost from_gives = { λ fault made. made ≡ end_of_layout fault };
+
     fn from(fault: LayoutFault) -> DaemonEnd {
         // A layout that memory was refused for has no line.
         if fault.line == 0 {
@@ -77,6 +93,10 @@ impl From<LayoutFault> for DaemonEnd {
 }
 
 impl From<clap::Error> for DaemonEnd {
+    ghost use Rattle.jup_rules.specs.DaemonEnds.{IsEndOfWords};
+
+    ghost from_gives = { λ error made. IsEndOfWords error made };
+
     fn from(error: clap::Error) -> DaemonEnd {
         if error.kind() == WordsKind::OutOfMemory {
             DaemonEnd::NoMemory

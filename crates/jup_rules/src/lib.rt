@@ -4,22 +4,30 @@
 
 mod batches;
 mod client_end;
+mod client_state;
 mod daemon_end;
 mod ending;
 mod faults;
 mod messages;
 mod no_words;
+mod opening;
 mod patience;
 mod pongs;
+mod telling;
 mod words;
 
 pub use batches::{BATCH, is_last_batch};
 pub use client_end::ClientEnd;
+pub use client_state::{
+    Answer, ClientState, Heard, Request, Told, board_line_in, greeting_in, request_of,
+};
 pub use daemon_end::DaemonEnd;
 pub use ending::{Ending, Stop};
 pub use faults::SessionFault;
 pub use messages::{down_of, line_of_down, line_of_up, up_of};
 pub use no_words::without_words;
+pub use opening::star_of_layout;
 pub use patience::next_wait;
 pub use pongs::Pongs;
+pub use telling::{report_text, told_text};
 pub use words::{DaemonWords, client_words, daemon_words};

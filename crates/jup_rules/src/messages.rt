@@ -1,6 +1,6 @@
 //! The messages of a link as lines, and lines as messages.
 ghost use Rattle.std.specs.Prelude.{◌≡◌, Some};
-ghost use Rattle.jup_rules.specs.Messages.{up_of, down_of};
+ghost use Rattle.jup_rules.specs.Messages.{up_of, down_of, up_line, down_line};
 
 use jup_link::Msg;
 use jup_star::{Down, Up};
@@ -33,7 +33,8 @@ pub fn down_of(line: &Line) -> Option<Down>
 
 /// The line of a message to the star: the star finds that message in it.
 pub fn line_of_up(up: Up) -> Line
-    ensures { up_of result ≡ Some up }
+    ensures found { up_of result ≡ Some up }
+    ensures line { result ≡ up_line up }
 {
     match up {
         Up::Op(msg) => Line::Op(msg),
@@ -44,7 +45,8 @@ pub fn line_of_up(up: Up) -> Line
 
 /// The line of a message to a site: the site finds that message in it.
 pub fn line_of_down(down: Down) -> Line
-    ensures { down_of result ≡ Some down }
+    ensures found { down_of result ≡ Some down }
+    ensures line { result ≡ down_line down }
 {
     match down {
         Down::Op(msg) => Line::Op(msg),

@@ -8,12 +8,20 @@ mod attacks;
 #[cfg(test)]
 mod clients;
 #[cfg(test)]
+mod commanded;
+#[cfg(test)]
 mod fakes;
 #[cfg(test)]
+mod handed_on;
+#[cfg(test)]
 mod programs;
+#[cfg(test)]
+mod reported;
 #[cfg(test)]
 mod sessions;
 #[cfg(test)]
 mod strangers;
 #[cfg(test)]
 mod texts;
+#[cfg(test)]
+mod watched;

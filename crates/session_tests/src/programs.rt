@@ -108,7 +108,7 @@ fn failed(rt: &impl Abort, told: &Told, status: u8, out: &str, errors: &str) {
 }
 
 // Runs the client, and again while it answers 1.
-fn connected<R: Net<Listener = TcpListener, Stream = TcpStream> + Clock>(
+pub(crate) fn connected<R: Net<Listener = TcpListener, Stream = TcpStream> + Clock>(
     rt: &R,
     alloc: Global,
     words: &[String],

@@ -23,7 +23,7 @@ use std::thread::Threads;
 use std::time::Clock;
 use std::{io, str};
 
-const EMPTY_TEXT: &[u8] = b"window 1\ntext 1\n";
+pub(crate) const EMPTY_TEXT: &[u8] = b"window 1\ntext 1\n";
 
 // A hub over the board of a layout, if there is memory.
 fn made(alloc: Global, text: &[u8], limit: u32) -> Option<(Hub, Pass)>
@@ -42,7 +42,7 @@ fn made(alloc: Global, text: &[u8], limit: u32) -> Option<(Hub, Pass)>
 }
 
 // The same, where there is memory.
-fn opened(rt: &impl Abort, alloc: Global, text: &[u8], limit: u32) -> (Hub, Pass)
+pub(crate) fn opened(rt: &impl Abort, alloc: Global, text: &[u8], limit: u32) -> (Hub, Pass)
     requires { length text.now ≤ 16777216 }
     ensures { IsPassOf result.0 result.1 }
 {
@@ -108,9 +108,9 @@ fn ended(rt: &impl Abort, left: &Left, ending: Ending, written: &str) {
     assert_eq!(rt; str::from_utf8(left.written.as_slice()), Ok(written));
 }
 
-const TYPED: &[u8] = b"hello 2\nop 0 0 1 1 text ins 0 1.1 97\nping 7\nbye\n";
+pub(crate) const TYPED: &[u8] = b"hello 2\nop 0 0 1 1 text ins 0 1.1 97\nping 7\nbye\n";
 
-const TYPED_ANSWER: &str = "welcome 1 100\nwindow 1\ntext 1\nready\npong 7\nbye\n";
+pub(crate) const TYPED_ANSWER: &str = "welcome 1 100\nwindow 1\ntext 1\nready\npong 7\nbye\n";
 
 #[test]
 fn a_session_over_memory(rt: HostRuntime) {

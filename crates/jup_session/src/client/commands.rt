@@ -2,9 +2,7 @@
 ghost use Rattle.std.specs.Prelude.{◌≤◌};
 
 use crate::sessions::source::{MOST_READS, is_interrupted};
-use jup_rules::{ClientEnd, SessionFault};
-use jup_text::read_command;
-use jup_window::Command;
+use jup_rules::{ClientEnd, Request, SessionFault, request_of};
 use std::alloc::Global;
 use std::io::Read;
 
@@ -13,17 +11,6 @@ const LONGEST: usize = 4_096;
 
 /// Bytes that one read asks for.
 const PIECE: usize = 4_096;
-
-/// What a user asks for.
-#[derive(Clone, Copy)]
-pub(crate) enum Request {
-    Edit(Command),
-    Sync,
-    Show,
-    Quit,
-    /// A line that is none of these.
-    Bad,
-}
 
 /// Where requests come from.
 #[derive(Drop)]
@@ -35,6 +22,8 @@ pub(crate) struct Requests<C: Read + Drop> {
     // The line so far, and whether it has more bytes than a line may have.
     line: Vec<u8>,
     is_long: bool,
+    // Whether the input has ended: then it is not read again, which a terminal would wait for.
+    is_over: bool,
 }
 
 impl<C: Read + Drop> Requests<C> {
@@ -45,6 +34,7 @@ impl<C: Read + Drop> Requests<C> {
             given: 0,
             line: Vec::new(alloc),
             is_long: false,
+            is_over: false,
         }
     }
 
@@ -56,14 +46,10 @@ impl<C: Read + Drop> Requests<C> {
             if self.fill_line()? {
                 return Ok(self.request());
             }
-            if !self.read(reads)? {
-                let is_line = self.is_long || !self.line.is_empty();
-                return Ok(if is_line {
-                    self.request()
-                } else {
-                    Request::Quit
-                });
+            if self.is_over {
+                return Ok(self.last_request());
             }
+            self.read(reads)?;
         }
         Err(SessionFault::ReadsSpent.into())
     }
@@ -87,40 +73,44 @@ impl<C: Read + Drop> Requests<C> {
         Ok(false)
     }
 
-    // One read. False at the end of the input.
-    fn read(&mut self, reads: &mut u32) -> Result<bool, ClientEnd> {
+    // One read.
+    fn read(&mut self, reads: &mut u32) -> Result<(), ClientEnd> {
         if *reads == MOST_READS {
             return Err(SessionFault::ReadsSpent.into());
         }
         *reads += 1;
         let mut piece = [0u8; PIECE];
         let len = match self.from.read(&mut piece) {
-            Ok(0) => return Ok(false),
-            Ok(len) => len,
+            Ok(len) => {
+                self.is_over = len == 0;
+                len
+            }
             Err(error) if is_interrupted(&error) => 0,
             Err(_) => return Err(ClientEnd::ReadFailed),
         };
         self.given = 0;
         self.piece.clear();
         match self.piece.extend_from_slice(&piece[..len]) {
-            Ok(()) => Ok(true),
+            Ok(()) => Ok(()),
             Err(_) => Err(ClientEnd::NoMemory),
+        }
+    }
+
+    // What the end of the input asks for: what its last line does, where that has no line feed.
+    fn last_request(&self) -> Request {
+        if self.is_long || !self.line.is_empty() {
+            self.request()
+        } else {
+            Request::Quit
         }
     }
 
     // What the line asks for.
     fn request(&self) -> Request {
         if self.is_long {
-            return Request::Bad;
-        }
-        match self.line.as_slice() {
-            b"sync" => Request::Sync,
-            b"show" => Request::Show,
-            b"quit" => Request::Quit,
-            line => match read_command(line) {
-                Some(command) => Request::Edit(command),
-                None => Request::Bad,
-            },
+            Request::Bad
+        } else {
+            request_of(self.line.as_slice())
         }
     }
 }

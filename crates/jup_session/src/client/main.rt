@@ -56,8 +56,9 @@ fn connected<R: Net<Listener = TcpListener, Stream = TcpStream> + Clock, C: Read
     input: C,
     out: &mut O,
 ) -> Result<(), ClientEnd> {
-    let Ok(stream) = TcpStream::connect(rt, addr) else {
-        return Err(ClientEnd::ReadFailed);
+    let stream = match TcpStream::connect(rt, addr) {
+        Ok(stream) => stream,
+        Err(error) => return Err(ClientEnd::unconnected(&error)),
     };
     let _ = stream.set_nodelay(true);
     let end = run_client(alloc, input, out, &stream, &stream);

@@ -1,5 +1,5 @@
 //! The daemon's run.
-ghost use Rattle.std.specs.Prelude.{◌≡◌, ◌≤◌, IfOk, length, vec_len};
+ghost use Rattle.std.specs.Prelude.{◌≡◌, ◌≤◌, IfOk, vec_len};
 ghost use Rattle.jup_hub.specs.Passes.{IsPassOf};
 
 use super::telling::tell;
@@ -7,11 +7,8 @@ use crate::sessions::hangup::hang_up;
 use crate::sessions::outgoing::Outgoing;
 use crate::{Bell, Open, serve_link};
 use jup_hub::{Hub, Pass};
-use jup_rules::{DaemonEnd, daemon_words};
-use jup_star::{OpenFault, Star, is_short};
-use jup_text::write_board;
-use jup_window::BoardFault;
-use jup_wire::{LayoutFault, layout};
+use jup_rules::{DaemonEnd, daemon_words, report_text, star_of_layout};
+use jup_star::Star;
 use std::alloc::Global;
 use std::io::{Read, Write};
 use std::net::{Net, TcpListener, TcpStream};
@@ -48,7 +45,7 @@ fn serve<
 >(rt: &R, alloc: Global, words: &[String], input: I, out: &mut O) -> Result<(), DaemonEnd> {
     let told = daemon_words(alloc, words)?;
     let text = read_layout(alloc, input)?;
-    let star = opened(alloc, text.as_slice(), told.limit)?;
+    let star = star_of_layout(alloc, text.as_slice(), told.limit)?;
     drop(text);
     let listener = TcpListener::bind(rt, told.listen.as_str())?;
     let Ok((hub, pass)) = Hub::open(alloc, star) else {
@@ -76,33 +73,9 @@ fn read_layout<I: Read + Drop>(alloc: Global, input: I) -> Result<Vec<u8>, Daemo
     Ok(text)
 }
 
-// A star over the board of a layout.
-fn opened(alloc: Global, text: &[u8], limit: u32) -> Result<Star, DaemonEnd>
-    requires { length text.now ≤ 16777216 }
-{
-    let board = layout(alloc, text)?;
-    // The words and the layout rule these refusals out: each is told as a fault of the whole layout.
-    if !is_short(&board) {
-        return Err(whole_layout(BoardFault::TooMany.number()));
-    }
-    match Star::open(alloc, board, limit) {
-        Ok(star) => Ok(star),
-        Err(OpenFault::NoMemory) => Err(DaemonEnd::NoMemory),
-        Err(fault) => Err(whole_layout(fault.number())),
-    }
-}
-
-// A fault of the whole layout.
-fn whole_layout(number: u32) -> DaemonEnd {
-    DaemonEnd::Layout(LayoutFault { line: 0, number })
-}
-
 // Prints how many edits were taken, and the board.
 fn report<O: Write>(alloc: Global, star: &Star, out: &mut O) -> Result<(), DaemonEnd> {
-    let mut text = Vec::new(alloc);
-    write_board(alloc, star.board(), &mut text)?;
-    let taken = star.order().len();
-    writeln!(out, "order {taken}")?;
+    let text = report_text(alloc, star)?;
     out.write_all(text.as_slice())?;
     out.flush()?;
     Ok(())

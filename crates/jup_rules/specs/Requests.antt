@@ -1,0 +1,18 @@
+-- What a line of commands asks for.
+use Rattle.std.specs.Prelude.{◌≡◌, ◌≢◌, ℕ, List, codes}
+use Rattle.jup_rules.specs.declared.client_state.Request.{Request}
+use Rattle.jup_rules.specs.declared.client_state.Request.TheVariants.{Edit, Sync, Show, Quit, Bad}
+
+-- none of the three words
+pub record IsNoWord (line : List ℕ) : Type 0 where
+  pub no_sync : line ≢ codes "sync"
+  pub no_show : line ≢ codes "show"
+  pub no_quit : line ≢ codes "quit"
+
+-- a word is the whole line, with nothing before or behind it
+abbrev pub IsRequestOf : List ℕ → Request → Type 0
+IsRequestOf line Sync = line ≡ codes "sync"
+IsRequestOf line Show = line ≡ codes "show"
+IsRequestOf line Quit = line ≡ codes "quit"
+IsRequestOf line (Edit command) = IsNoWord line
+IsRequestOf line Bad = IsNoWord line

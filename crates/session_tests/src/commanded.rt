@@ -1,0 +1,128 @@
+//! What a client makes of its commands, and of what its server answers.
+
+use crate::fakes::{FailsAt, OneByOne};
+use crate::handed_on::Holding;
+use jup_session::{ClientEnd, run_client};
+use std::alloc::Global;
+use std::io::{ErrorKind, Read};
+use std::process::Abort;
+use std::{io, str};
+
+const GREETED: &str = "welcome 1 100\nwindow 1\ntext 1\ntoggle 3 off\nready\n";
+
+// What a client prints of these commands, whose server says this.
+fn printed(rt: &impl Abort, alloc: Global, commands: &[u8], from: &[u8], lines: &str) {
+    let (mut to, mut out) = (Vec::new(alloc), Vec::new(alloc));
+    let end = run_client(alloc, commands, &mut out, from, &mut to);
+    assert_eq!(rt; end, Ok(()));
+    assert_eq!(rt; str::from_utf8(out.as_slice()), Ok(lines));
+}
+
+#[test]
+fn only_its_own_pong_ends_a_sync(rt: HostRuntime) {
+    printed(
+        &rt,
+        rt.alloc(),
+        b"sync\nshow\n",
+        b"welcome 1 100\nwindow 1\ntoggle 3 off\nready\n\
+        pong 0\npong 2\nop 0 0 1 3 toggle set on\npong 1\n",
+        "site 1\nsynced\nwindow 1\ntoggle 3 on\nbye\n",
+    );
+}
+
+#[test]
+fn words_with_more_behind_them_are_no_commands(rt: HostRuntime) {
+    printed(
+        &rt,
+        rt.alloc(),
+        b"sync\r\nshow\r\nquit\r\nquit \n sync\nset 1 3 on\r\n",
+        GREETED.as_bytes(),
+        "site 1\nbad command\nbad command\nbad command\nbad command\nbad command\nbad command\nbye\n",
+    );
+}
+
+#[test]
+fn a_read_of_commands_that_is_interrupted_is_made_again(rt: HostRuntime) {
+    let alloc = rt.alloc();
+    let (mut to, mut out) = (Vec::new(alloc), Vec::new(alloc));
+    let commands = OneByOne {
+        text: b"set 1 3 on\nquit\n",
+        is_next: false,
+    };
+    let end = run_client(alloc, commands, &mut out, GREETED.as_bytes(), &mut to);
+    assert_eq!(rt; end, Ok(()));
+    assert_eq!(rt;
+        str::from_utf8(out.as_slice()),
+        Ok("site 1\nmade set 1 3 on\nbye\n")
+    );
+}
+
+#[test]
+fn an_edit_that_was_not_sent_is_not_told(rt: HostRuntime) {
+    let alloc = rt.alloc();
+    let (mut text, mut out) = (Vec::new(alloc), Vec::new(alloc));
+    let link = FailsAt {
+        writes: 1,
+        text: &mut text,
+    };
+    let commands: &[u8] = b"set 1 3 on\nquit\n";
+    let end = run_client(alloc, commands, &mut out, GREETED.as_bytes(), link);
+    assert_eq!(rt; end, Err(ClientEnd::WriteFailed));
+    assert_eq!(rt; str::from_utf8(out.as_slice()), Ok("site 1\n"));
+}
+
+#[test]
+fn a_client_flushes_what_it_sends_and_prints(rt: HostRuntime) {
+    let alloc = rt.alloc();
+    let (mut sent, mut out) = (Vec::new(alloc), Vec::new(alloc));
+    let link = Holding::new(Vec::new(alloc), &mut sent);
+    let mut shown = Holding::new(Vec::new(alloc), &mut out);
+    let commands: &[u8] = b"set 1 3 on\nquit\n";
+    let end = run_client(alloc, commands, &mut shown, GREETED.as_bytes(), link);
+    drop(shown);
+    assert_eq!(rt; end, Ok(()));
+    assert_eq!(rt;
+        str::from_utf8(sent.as_slice()),
+        Ok("hello 2\nop 0 0 1 3 toggle set on\nbye\n")
+    );
+    assert_eq!(rt;
+        str::from_utf8(out.as_slice()),
+        Ok("site 1\nmade set 1 3 on\nbye\n")
+    );
+}
+
+/// Gives its text and its end, as a terminal does, and then fails.
+#[derive(Drop)]
+struct EndsOnce<'a> {
+    text: &'a [u8],
+    has_ended: bool,
+}
+
+impl<'a> Read for EndsOnce<'a> {
+    fn read(&mut self, buf: &mut [u8]) -> io::Result<usize> {
+        if !self.text.is_empty() {
+            return self.text.read(buf);
+        }
+        if self.has_ended {
+            return Err(io::Error::from(ErrorKind::ConnectionReset));
+        }
+        self.has_ended = true;
+        Ok(0)
+    }
+}
+
+#[test]
+fn the_end_of_the_commands_is_read_once(rt: HostRuntime) {
+    let alloc = rt.alloc();
+    let (mut to, mut out) = (Vec::new(alloc), Vec::new(alloc));
+    let commands = EndsOnce {
+        text: b"set 1 3 on",
+        has_ended: false,
+    };
+    let end = run_client(alloc, commands, &mut out, GREETED.as_bytes(), &mut to);
+    assert_eq!(rt; end, Ok(()));
+    assert_eq!(rt;
+        str::from_utf8(out.as_slice()),
+        Ok("site 1\nmade set 1 3 on\nbye\n")
+    );
+}

@@ -1,0 +1,119 @@
+//! What a daemon prints, and which words it takes.
+
+use crate::fakes::Impatient;
+use crate::handed_on::{Holding, OneLine};
+use crate::programs::{client_of, connected, daemon_at, printed, serve};
+use crate::texts::lines;
+use jup_session::{daemon_main, daemon_words};
+use std::alloc::Global;
+use std::net::{Net, TcpListener, TcpStream};
+use std::str;
+use std::sync::Wait;
+use std::thread::{Threads, join};
+use std::time::Clock;
+
+const TOGGLE: &[u8] = b"window 1\ntoggle 3 off\n";
+
+// A daemon whose report is handed on once it is flushed. Its status.
+fn serve_held<R: Net<Listener = TcpListener, Stream = TcpStream> + Threads + Wait + Clock + Sync>(
+    rt: &R,
+    alloc: Global,
+    words: &[String],
+    text: &mut Vec<u8>,
+) -> u8 {
+    let mut out = Holding::new(Vec::new(alloc), text);
+    let mut errors = Vec::new(alloc);
+    daemon_main(rt, alloc, words, TOGGLE, &mut out, &mut errors)
+}
+
+// A daemon that can print one line. Its status.
+fn serve_cut<R: Net<Listener = TcpListener, Stream = TcpStream> + Threads + Wait + Clock + Sync>(
+    rt: &R,
+    alloc: Global,
+    words: &[String],
+    text: &mut Vec<u8>,
+    errors: &mut Vec<u8>,
+) -> u8 {
+    let mut out = OneLine { text };
+    daemon_main(rt, alloc, words, TOGGLE, &mut out, errors)
+}
+
+#[test]
+fn an_order_of_300_edits_is_counted(rt: HostRuntime) {
+    let alloc = rt.alloc();
+    let daemon = daemon_at(&rt, alloc, "127.0.0.1:47021", "1000", "1");
+    let client = client_of(&rt, alloc, "127.0.0.1:47021");
+    let commands = lines(&rt, alloc, "", "set 1 3 on", 0..300, "sync\nquit\n");
+    let (told, other) = join(
+        &rt,
+        || serve(&rt, alloc, &daemon, TOGGLE),
+        || connected(&rt, alloc, &client, commands.as_bytes()),
+    );
+    assert_eq!(rt; other, 0);
+    printed(
+        &rt,
+        &told,
+        0,
+        "listening 127.0.0.1:47021\norder 300\nwindow 1\ntoggle 3 on\n",
+    );
+}
+
+#[test]
+fn a_report_that_can_not_be_printed_is_a_failed_write(rt: HostRuntime) {
+    let alloc = rt.alloc();
+    let daemon = daemon_at(&rt, alloc, "127.0.0.1:47022", "1000", "1");
+    let client = client_of(&rt, alloc, "127.0.0.1:47022");
+    let (mut text, mut errors) = (Vec::new(alloc), Vec::new(alloc));
+    let (status, other) = join(
+        &rt,
+        || serve_cut(&rt, alloc, &daemon, &mut text, &mut errors),
+        || connected(&rt, alloc, &client, b"quit\n"),
+    );
+    assert_eq!(rt; (status, other), (1, 0));
+    assert_eq!(rt; str::from_utf8(errors.as_slice()), Ok("io fault\n"));
+    assert_eq!(rt;
+        str::from_utf8(text.as_slice()),
+        Ok("listening 127.0.0.1:47022\n")
+    );
+}
+
+#[test]
+fn a_daemon_flushes_its_report(rt: HostRuntime) {
+    let alloc = rt.alloc();
+    let daemon = daemon_at(&rt, alloc, "127.0.0.1:47023", "1000", "1");
+    let client = client_of(&rt, alloc, "127.0.0.1:47023");
+    let mut text = Vec::new(alloc);
+    let (status, other) = join(
+        &rt,
+        || serve_held(&rt, alloc, &daemon, &mut text),
+        || connected(&rt, alloc, &client, b"quit\n"),
+    );
+    assert_eq!(rt; (status, other), (0, 0));
+    assert_eq!(rt;
+        str::from_utf8(text.as_slice()),
+        Ok("listening 127.0.0.1:47023\norder 0\nwindow 1\ntoggle 3 off\n")
+    );
+}
+
+#[test]
+fn a_daemon_says_that_it_listens_before_it_accepts(rt: HostRuntime) {
+    let alloc = rt.alloc();
+    let daemon = daemon_at(&rt, alloc, "127.0.0.1:47024", "1000", "1");
+    let mut text = Vec::new(alloc);
+    let status = serve_held(&Impatient { rt: &rt }, alloc, &daemon, &mut text);
+    assert_eq!(rt; status, 1);
+    assert_eq!(rt;
+        str::from_utf8(text.as_slice()),
+        Ok("listening 127.0.0.1:47024\n")
+    );
+}
+
+#[test]
+fn the_highest_words_are_taken(rt: HostRuntime) {
+    let alloc = rt.alloc();
+    let words = daemon_at(&rt, alloc, "127.0.0.1:47012", "16777216", "1024");
+    let told = daemon_words(alloc, &words)
+        .ok()
+        .expect(&rt, "they are good");
+    assert_eq!(rt; (told.limit, told.sessions), (16_777_216, 1_024));
+}

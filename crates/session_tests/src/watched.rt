@@ -1,0 +1,76 @@
+//! A gate that looks at the hub, and lines that are handed on once they are flushed.
+ghost use Rattle.jup_hub.specs.Passes.{IsPassOf};
+
+use crate::handed_on::Holding;
+use crate::sessions::{EMPTY_TEXT, TYPED, TYPED_ANSWER, opened};
+use jup_hub::{Hub, Pass};
+use jup_session::{Bell, Ending, Gate, Open, serve_link};
+use std::str;
+use std::sync::atomic::{AtomicU32, Ordering};
+use std::sync::{Mutex, Wait};
+
+/// A hub, and a pass of it.
+#[derive(Drop)]
+struct Sight<'a> {
+    hub: &'a Hub,
+    pass: Pass,
+    ghost ours: { IsPassOf hub.now pass },
+}
+
+impl<'a> Sight<'a> {
+    // Whether there was an event since the last look.
+    fn looks(&mut self) -> bool {
+        self.hub.news(&mut self.pass)
+    }
+}
+
+/// Looks at the hub as it is asked, and as it is told. Counts the edits whose take stood between.
+#[derive(Drop)]
+struct Watching<'a, R> {
+    rt: &'a R,
+    sight: Mutex<Sight<'a>>,
+    takes: AtomicU32,
+}
+
+impl<'a, R: Wait> Gate for Watching<'a, R> {
+    fn ready(&self, _site: u32, _nth: u32) -> bool {
+        let _ = self.sight.lock(self.rt).looks();
+        true
+    }
+
+    fn answered(&self, _site: u32, _nth: u32) {
+        if self.sight.lock(self.rt).looks() {
+            self.takes.fetch_add(1, Ordering::SeqCst);
+        }
+    }
+}
+
+#[test]
+fn the_gate_is_told_once_the_hub_has_taken(rt: HostRuntime) {
+    let alloc = rt.alloc();
+    let (hub, mut pass) = opened(&rt, alloc, EMPTY_TEXT, 100);
+    let sight = Sight {
+        hub: &hub,
+        pass: hub.split(&mut pass),
+    };
+    let gate = Watching {
+        rt: &rt,
+        sight: Mutex::new(sight),
+        takes: AtomicU32::new(0),
+    };
+    let mut to = Vec::new(alloc);
+    let (_, ending) = serve_link(&rt, alloc, TYPED, &mut to, &hub, pass, &Bell::new(), &gate);
+    assert_eq!(rt; ending, Ending::Bye);
+    assert_eq!(rt; gate.takes.load(Ordering::SeqCst), 1);
+}
+
+#[test]
+fn a_session_flushes_its_lines(rt: HostRuntime) {
+    let alloc = rt.alloc();
+    let (hub, pass) = opened(&rt, alloc, EMPTY_TEXT, 100);
+    let mut written = Vec::new(alloc);
+    let to = Holding::new(Vec::new(alloc), &mut written);
+    let (_, ending) = serve_link(&rt, alloc, TYPED, to, &hub, pass, &Bell::new(), &Open);
+    assert_eq!(rt; ending, Ending::Bye);
+    assert_eq!(rt; str::from_utf8(written.as_slice()), Ok(TYPED_ANSWER));
+}

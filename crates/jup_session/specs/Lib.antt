@@ -1,2 +1,3 @@
 pub mod Outputs
 pub mod Greetings
+pub mod Sessions

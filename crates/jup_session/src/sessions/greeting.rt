@@ -1,8 +1,9 @@
 //! The greeting of a session: up to the line `ready`.
-ghost use Rattle.std.specs.Prelude.{◌≡◌, OnOk};
-ghost use Rattle.jup_hub.specs.Passes.{IsPassOf};
+ghost use Rattle.std.specs.Prelude.{◌≡◌, OnOk, OnErr, IfOk};
+ghost use Rattle.jup_hub.specs.Passes.{view_of, IsPassOf};
 ghost use Rattle.jup_session.specs.Outputs.{PutsLines};
 ghost use Rattle.jup_session.specs.Greetings.{welcome_lines};
+ghost use Rattle.jup_session.specs.Sessions.{Joins, IsSession};
 
 use super::output::Output;
 use super::source::Source;
@@ -25,7 +26,9 @@ pub(crate) fn begun<R: Wait, I: Read + Drop, O: Write + Drop>(
     pass: &mut Pass,
 ) -> Result<u32, Ending>
     requires { IsPassOf hub.now pass.old }
-    ensures { IsPassOf hub.now pass.new }
+    ensures pass { IsPassOf hub.now pass.new }
+    ensures joined { IfOk result (λ site. Joins site (view_of pass.old) (view_of pass.new)) }
+    ensures over { OnErr result (IsSession (view_of pass.old) (view_of pass.new)) }
 {
     let joined = match greeted(rt, alloc, source, hub, pass) {
         Ok(joined) => joined,
@@ -53,7 +56,9 @@ fn greeted<R: Wait, I: Read + Drop>(
     pass: &mut Pass,
 ) -> Result<Joined, Ending>
     requires { IsPassOf hub.now pass.old }
-    ensures { IsPassOf hub.now pass.new }
+    ensures pass { IsPassOf hub.now pass.new }
+    ensures joined { IfOk result (λ joined. Joins joined.site (view_of pass.old) (view_of pass.new)) }
+    ensures over { OnErr result (IsSession (view_of pass.old) (view_of pass.new)) }
 {
     let is_greeting = matches!(source.next_line(alloc)?, Line::Hello);
     if !is_greeting {

@@ -1,6 +1,8 @@
 //! What both halves of a session share.
 ghost use Rattle.std.specs.Prelude.{◌≡◌};
-ghost use Rattle.jup_hub.specs.Passes.{IsPassOf};
+ghost use Rattle.jup_hub.specs.Knowledge.{joined_with};
+ghost use Rattle.jup_hub.specs.Passes.{view_of, IsPassOf};
+ghost use Rattle.jup_session.specs.Sessions.{Serves};
 
 use super::Bell;
 use jup_hub::{Hub, Pass};
@@ -42,7 +44,8 @@ impl<'a> Link<'a> {
     pub(crate) fn rejoined(&self, mut pass: Pass, other: Pass) -> Pass
         requires one { IsPassOf self.now.hub.now pass }
         requires two { IsPassOf self.now.hub.now other }
-        ensures { IsPassOf self.now.hub.now result }
+        ensures pass { IsPassOf self.now.hub.now result }
+        ensures both { view_of result ≡ joined_with (view_of pass) (view_of other) }
     {
         self.hub.rejoin(&mut pass, other);
         pass
@@ -51,7 +54,8 @@ impl<'a> Link<'a> {
     /// Leaves the hub, notes why, and rings.
     pub(crate) fn abandon<R: Wait>(&self, rt: &R, pass: &mut Pass, ending: Ending)
         requires { IsPassOf self.now.hub.now pass.old }
-        ensures { IsPassOf self.now.hub.now pass.new }
+        ensures pass { IsPassOf self.now.hub.now pass.new }
+        ensures serves { Serves self.now.site (view_of pass.old) (view_of pass.new) }
     {
         let _ = self.hub.leave(rt, pass, self.site);
         self.note(rt, ending);

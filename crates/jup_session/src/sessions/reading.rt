@@ -1,6 +1,7 @@
 //! The half of a session that reads and takes.
 ghost use Rattle.std.specs.Prelude.{◌≡◌};
-ghost use Rattle.jup_hub.specs.Passes.{IsPassOf};
+ghost use Rattle.jup_hub.specs.Passes.{view_of, IsPassOf};
+ghost use Rattle.jup_session.specs.Sessions.{Serves};
 
 use super::link::Link;
 use super::source::Source;
@@ -24,7 +25,8 @@ pub(crate) fn read_half<R: Wait, I: Read + Drop, G: Gate>(
     gate: &G,
 )
     requires { IsPassOf link.now.hub.now pass.old }
-    ensures { IsPassOf link.now.hub.now pass.new }
+    ensures pass { IsPassOf link.now.hub.now pass.new }
+    ensures serves { Serves link.now.site (view_of pass.old) (view_of pass.new) }
 {
     let ending = heard(rt, source, link, pass, gate);
     link.note(rt, ending);
@@ -41,7 +43,8 @@ fn heard<R: Wait, I: Read + Drop, G: Gate>(
     gate: &G,
 ) -> Ending
     requires { IsPassOf link.now.hub.now pass.old }
-    ensures { IsPassOf link.now.hub.now pass.new }
+    ensures pass { IsPassOf link.now.hub.now pass.new }
+    ensures serves { Serves link.now.site (view_of pass.old) (view_of pass.new) }
 {
     let mut edits = 0u32;
     for _ in 0..u64::MAX {
@@ -80,7 +83,8 @@ fn taken<R: Wait, G: Gate>(
     edits: &mut u32,
 ) -> Result<(), SessionFault>
     requires { IsPassOf link.now.hub.now pass.old }
-    ensures { IsPassOf link.now.hub.now pass.new }
+    ensures pass { IsPassOf link.now.hub.now pass.new }
+    ensures serves { Serves link.now.site (view_of pass.old) (view_of pass.new) }
 {
     if matches!(up, Up::Ping(_)) && !link.take_ping(rt) {
         return Err(NO_LINK);

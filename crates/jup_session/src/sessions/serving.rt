@@ -1,6 +1,7 @@
 //! One session, from its first line to its last.
 ghost use Rattle.std.specs.Prelude.{◌≡◌};
-ghost use Rattle.jup_hub.specs.Passes.{IsPassOf};
+ghost use Rattle.jup_hub.specs.Passes.{view_of, IsPassOf};
+ghost use Rattle.jup_session.specs.Sessions.{HasMadeNone, HasServed, BothServe, IsSession};
 
 use super::Bell;
 use super::greeting::begun;
@@ -20,7 +21,8 @@ use std::thread::{Promise, Threads};
 
 /// Runs a session: greets the site, then takes what it sends, and sends what the hub has for it.
 ///
-/// It reads in this thread, and writes in one of its own. The site has left the hub when this returns.
+/// It reads in this thread, and writes in one of its own. Of the hub it asks at most one join, and then calls for the site that
+/// joined alone, which has left when this returns.
 pub fn serve_link<R: Threads + Wait + Sync, I: Read + Drop, O: Write + Send + Drop, G: Gate>(
     rt: &R,
     alloc: Global,
@@ -32,13 +34,15 @@ pub fn serve_link<R: Threads + Wait + Sync, I: Read + Drop, O: Write + Send + Dr
     gate: &G,
 ) -> (Pass, Ending)
     requires { IsPassOf hub.now pass }
-    ensures { IsPassOf hub.now result.0 }
+    ensures pass { IsPassOf hub.now result.0 }
+    ensures session { IsSession (view_of pass) (view_of result.0) }
 {
     let mut output = match Output::new(alloc, writer) {
         Ok(output) => output,
         Err(mut writer) => {
             // The line of the fault, for which no memory is asked.
             let _ = writer.write_all(b"error 8\n");
+            let _ = writer.flush();
             return (pass, SessionFault::NoMemory.into());
         }
     };
@@ -68,7 +72,7 @@ struct PassOf<'a> {
 }
 
 impl<'a> Promise<Pass> for PassOf<'a> {
-    ghost kept_by = { λ p r. IsPassOf p.link.now.hub.now r };
+    ghost kept_by = { λ p r. IsPassOf p.link.now.hub.now r × HasServed p.link.now.site (view_of r) };
 }
 
 // The reading half runs here, the writing half in a thread of its own. Where that can't be started it is run
@@ -82,21 +86,22 @@ fn both_halves<R: Threads + Wait + Sync, I: Read + Drop, O: Write + Send + Drop,
     gate: &G,
 ) -> Pass
     requires { IsPassOf link.now.hub.now pass }
-    ensures { IsPassOf link.now.hub.now result }
+    ensures pass { IsPassOf link.now.hub.now result }
+    ensures served { BothServe link.now.site (view_of pass) (view_of result) }
 {
     let theirs = link.hub.split(&mut pass);
     thread::scope(
         thread::scope_env(),
         rt,
         |scope| -> Pass
-            requires { IsPassOf link.now.hub.now pass × IsPassOf link.now.hub.now theirs }
-            ensures { IsPassOf link.entry.now.hub.now result }
+            requires { IsPassOf link.now.hub.now pass × IsPassOf link.now.hub.now theirs × HasMadeNone (view_of theirs) }
+            ensures { IsPassOf link.entry.now.hub.now result × BothServe link.entry.now.site (view_of pass) (view_of result) }
         {
             let child = scope.spawn_with(
                 PassOf { link },
                 move || -> Pass
-                    requires { IsPassOf link.now.hub.now theirs }
-                    ensures { IsPassOf link.entry.now.hub.now result }
+                    requires { IsPassOf link.now.hub.now theirs × HasMadeNone (view_of theirs) }
+                    ensures { IsPassOf link.entry.now.hub.now result × HasServed link.entry.now.site (view_of result) }
                 { write_half(rt, output, link, theirs) },
             );
             let theirs = match child {

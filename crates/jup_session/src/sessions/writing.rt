@@ -1,8 +1,9 @@
 //! The half of a session that fetches and writes.
-ghost use Rattle.std.specs.Prelude.{◌≡◌, [], ◌∷◌, OnOk};
-ghost use Rattle.jup_hub.specs.Passes.{IsPassOf};
+ghost use Rattle.std.specs.Prelude.{◌≡◌, ◌↔◌, [], ◌∷◌, IsTrue, OnOk};
+ghost use Rattle.jup_hub.specs.Passes.{view_of, IsPassOf};
 ghost use Rattle.jup_rules.specs.Endings.{last_line};
 ghost use Rattle.jup_session.specs.Outputs.{PutsLines};
+ghost use Rattle.jup_session.specs.Sessions.{Serves, Leaves, HasMadeNone, HasServed};
 
 use super::link::Link;
 use super::output::Output;
@@ -28,15 +29,18 @@ pub(crate) fn write_half<R: Wait, O: Write + Drop>(
     link: &Link<'_>,
     mut pass: Pass,
 ) -> Pass
-    requires { IsPassOf link.now.hub.now pass }
-    ensures { IsPassOf link.now.hub.now result }
+    requires pass { IsPassOf link.now.hub.now pass }
+    requires new { HasMadeNone (view_of pass) }
+    ensures pass { IsPassOf link.now.hub.now result }
+    ensures served { HasServed link.now.site (view_of result) }
 {
     let left = forwarded(rt, &mut output, link, &mut pass);
+    let is_gone = is_gone(&left);
     // Noted before the site leaves: the other half notes nothing where it finds the link gone.
     if let Err(fault) = left {
         link.note(rt, fault.into());
     }
-    if left != Ok(Outbox::Gone) {
+    if !is_gone {
         let _ = link.hub.leave(rt, &mut pass, link.site);
     }
     if left != Err(SessionFault::WriteFailed) {
@@ -45,6 +49,13 @@ pub(crate) fn write_half<R: Wait, O: Write + Drop>(
     }
     link.ring(rt);
     pass
+}
+
+// Whether the site has no link any more.
+fn is_gone(left: &Result<Outbox, SessionFault>) -> bool
+    ensures { IsTrue result ↔ (left.now ≡ Ok Outbox.Gone) }
+{
+    matches!(left, Ok(Outbox::Gone))
 }
 
 /// Writes the line of an ending.
@@ -66,7 +77,9 @@ fn forwarded<R: Wait, O: Write + Drop>(
     pass: &mut Pass,
 ) -> Result<Outbox, SessionFault>
     requires { IsPassOf link.now.hub.now pass.old }
-    ensures { IsPassOf link.now.hub.now pass.new }
+    ensures pass { IsPassOf link.now.hub.now pass.new }
+    ensures serves { Serves link.now.site (view_of pass.old) (view_of pass.new) }
+    ensures gone { result ≡ Ok Outbox.Gone → Leaves link.now.site (view_of pass.old) (view_of pass.new) }
 {
     let mut seen = 0;
     for _ in rt.forever() {
@@ -92,7 +105,9 @@ fn forward<R: Wait, O: Write + Drop>(
     pass: &mut Pass,
 ) -> Result<Outbox, SessionFault>
     requires { IsPassOf link.now.hub.now pass.old }
-    ensures { IsPassOf link.now.hub.now pass.new }
+    ensures pass { IsPassOf link.now.hub.now pass.new }
+    ensures serves { Serves link.now.site (view_of pass.old) (view_of pass.new) }
+    ensures gone { result ≡ Ok Outbox.Gone → Leaves link.now.site (view_of pass.old) (view_of pass.new) }
 {
     for _ in rt.forever() {
         let downs = match link.hub.fetch(rt, link.alloc, pass, link.site, BATCH) {

@@ -1,0 +1,224 @@
+-- What the calls of a session come to.
+use Rattle.std.proofs.Common.{◌≡◌, ℕ, ◌⊎◌, inl, inr, Bool, true, false, List, [], ◌∷◌, ◌++◌, length, Result, Ok, Err, MatchBool, refl, sym, ap, ◌∙◌, subst}
+use Rattle.std.proofs.lemmas.List.{append_assoc, append-nil}
+use Rattle.jup_star.specs.StarCalls.{BoardStar, is_no_memory, bare_joined}
+use Rattle.jup_star.specs.declared.star.Joined.{Joined as JoinedSite}
+use Rattle.jup_star.specs.declared.faults.StarFault.{StarFault}
+use Rattle.jup_star.specs.declared.faults.StarFault.TheVariants.{NoLink}
+use Rattle.jup_star.specs.declared.messages.Down.{Down}
+use Rattle.jup_window.specs.declared.board_operations.BoardOp.{BoardOp}
+use Rattle.jup_star.specs.declared.calls.Call.{Call}
+use Rattle.jup_star.specs.declared.calls.Call.TheVariants.{Join, Take, Fetch, Leave}
+use Rattle.jup_star.specs.declared.calls.Reply.{Reply}
+use Rattle.jup_star.specs.declared.calls.Reply.TheVariants.{Joined, Taken, Fetched, Left}
+use Rattle.jup_hub.specs.declared.fault.HubFault.{HubFault}
+use Rattle.jup_hub.specs.declared.fault.HubFault.TheVariants.{Star, Spent}
+use Rattle.jup_hub.specs.declared.view.Entry.{Entry}
+use Rattle.jup_hub.specs.declared.view.Tally.{Tally}
+use Rattle.jup_hub.specs.declared.view.View.{View}
+use Rattle.jup_hub.specs.Faults.{is_out_of_memory}
+use Rattle.jup_hub.specs.Histories.{entry}
+use Rattle.jup_hub.specs.Knowledge.{tally, tallies, after_split, split_from, joined_with, having_seen, Called, ComesToAsk, IsSpent}
+use Rattle.jup_hub.specs.Passes.{Made}
+use Rattle.jup_session.specs.Sessions.{IsCallFor, AreCallsFor, AreTalliesFor, HasLeft, IsFull, SomeLeft, FollowsJoin, IsOneSite, IsSession, Serves, Leaves, HasMadeNone, HasServed, IsJoinOf, Joins, BothServe}
+
+-- calls for a site, and more of them
+more_calls : (site : ℕ) (xs ys : List Entry) → AreCallsFor site xs → AreCallsFor site ys → AreCallsFor site (xs ++ ys)
+more_calls site [] ys one two = two
+more_calls site (x ∷ xs) ys one two = (one.0, more_calls site xs ys one.1 two)
+
+left_later : (xs ys : List Entry) → HasLeft ys → HasLeft (xs ++ ys)
+left_later [] ys h = h
+left_later (x ∷ xs) ys h = inr (left_later xs ys h)
+
+-- a pass that is as it was
+pub serves_none : (site : ℕ) (v : View) → Serves site v v
+serves_none site v = record { calls = []; number = refl; made = sym (append-nil v.made); kept = refl; alone = tt }
+
+serves_same : (site : ℕ) (v w : View) → w ≡ v → Serves site v w
+serves_same site v w e = subst (λ (x : View). Serves site v x) (sym e) (serves_none site v)
+
+-- one that has seen more
+pub serves_news : (site : ℕ) (v w : View) (log : List Entry) → w ≡ having_seen log v → Serves site v w
+serves_news site v w log e = subst (λ (x : View). Serves site v x) (sym e) (record { calls = []; number = refl; made = sym (append-nil v.made); kept = refl; alone = tt })
+
+-- one that another was split from
+pub serves_split : (site : ℕ) (v w : View) → w ≡ after_split v → Serves site v w
+serves_split site v w e = subst (λ (x : View). Serves site v x) (sym e) (record { calls = []; number = refl; made = sym (append-nil v.made); kept = refl; alone = tt })
+
+-- and the one that was split off
+pub split_makes_none : (v w : View) → w ≡ split_from v → HasMadeNone w
+split_makes_none v w e = subst HasMadeNone (sym e) (refl, refl)
+
+-- first some calls, then others
+pub serves_both : (site : ℕ) (u v w : View) → Serves site u v → Serves site v w → Serves site u w
+serves_both site u v w one two = record {
+  calls = one.calls ++ two.calls;
+  number = two.number ∙ one.number;
+  made = two.made ∙ ap (λ (l : List Entry). l ++ two.calls) one.made ∙ append_assoc u.made one.calls two.calls;
+  kept = two.kept ∙ one.kept;
+  alone = more_calls site one.calls two.calls one.alone two.alone;
+}
+
+pub leaves_after : (site : ℕ) (u v w : View) → Serves site u v → Leaves site v w → Leaves site u w
+leaves_after site u v w one two = record {
+  calls = one.calls ++ two.calls;
+  number = two.number ∙ one.number;
+  made = two.made ∙ ap (λ (l : List Entry). l ++ two.calls) one.made ∙ append_assoc u.made one.calls two.calls;
+  kept = two.kept ∙ one.kept;
+  alone = more_calls site one.calls two.calls one.alone two.alone;
+  left = elim two.left [ inl h ↦ inl (left_later one.calls two.calls h) | inr h ↦ inr h ];
+}
+
+pub leaves_serves : (site : ℕ) (v w : View) → Leaves site v w → Serves site v w
+leaves_serves site v w l = record { calls = l.calls; number = l.number; made = l.made; kept = l.kept; alone = l.alone }
+
+called : (site : ℕ) (call : Call) (reply : Reply) (v w : View) → IsCallFor site call → Called call reply v w → Serves site v w
+called site call reply v w is c = record {
+  calls = entry v.number call reply ∷ [];
+  number = ap (λ (x : View). x.number) c.view;
+  made = ap (λ (x : View). x.made) c.view;
+  kept = ap (λ (x : View). x.kept) c.view;
+  alone = (is, tt);
+}
+
+-- a call for the site, whatever it is answered
+pub serves_call : {A : Type 0} (site : ℕ) (reply : Result A StarFault → Reply) (call : Call) (v w : View) (r : Result A HubFault) → IsCallFor site call → Made reply call v w r → Serves site v w
+serves_call site reply call v w (Ok x) is m = called site call (reply (Ok x)) v w is m
+serves_call site reply call v w (Err Spent) is m = serves_same site v w m.0
+serves_call site reply call v w (Err (Star e)) is m = go (is_no_memory e) m
+  where
+    go : (b : Bool) → MatchBool b ((w ≡ v) × ComesToAsk call v) (Called call (reply (Err e)) v w) → Serves site v w
+    go true h = serves_same site v w h.0
+    go false h = called site call (reply (Err e)) v w is h
+
+full : (v w : View) → w ≡ v → IsSpent v → IsFull w.opening (tally w.number w.made)
+full v w e h = subst (λ (x : View). IsFull x.opening (tally x.number x.made)) (sym e) (h.0, h.1.legal, h.1.tallied.0, h.2)
+
+-- a departure
+pub leaves_by_leaving : (site : ℕ) (v w : View) (r : Result (Unit {0}) HubFault) → Made (λ a. Left a) (Leave site) v w r → is_out_of_memory r ≡ false → Leaves site v w
+leaves_by_leaving site v w (Ok x) m never = gone m
+  where
+    gone : Called (Leave site) (Left (Ok x)) v w → Leaves site v w
+    gone c = let s : Serves site v w = called site (Leave site) (Left (Ok x)) v w refl c in record {
+      calls = entry v.number (Leave site) (Left (Ok x)) ∷ [];
+      number = s.number;
+      made = ap (λ (y : View). y.made) c.view;
+      kept = s.kept;
+      alone = (refl, tt);
+      left = inl (inl tt);
+    }
+leaves_by_leaving site v w (Err Spent) m never = let s : Serves site v w = serves_same site v w m.0 in record {
+  calls = s.calls;
+  number = s.number;
+  made = s.made;
+  kept = s.kept;
+  alone = s.alone;
+  left = inr (full v w m.0 m.1);
+}
+leaves_by_leaving site v w (Err (Star e)) m never = gone (subst (λ b. MatchBool b ((w ≡ v) × ComesToAsk (Leave site) v) (Called (Leave site) (Left (Err e)) v w)) never m)
+  where
+    gone : Called (Leave site) (Left (Err e)) v w → Leaves site v w
+    gone c = let s : Serves site v w = called site (Leave site) (Left (Err e)) v w refl c in record {
+      calls = entry v.number (Leave site) (Left (Err e)) ∷ [];
+      number = s.number;
+      made = ap (λ (y : View). y.made) c.view;
+      kept = s.kept;
+      alone = (refl, tt);
+      left = inl (inl tt);
+    }
+
+-- a fetch that finds no link
+pub leaves_by_fetching : (site max : ℕ) (v w : View) (fault : HubFault) → fault ≡ Star NoLink → Made (λ a. Fetched a) (Fetch site max) v w (Err fault) → Leaves site v w
+leaves_by_fetching site max v w fault is made = let c : Called (Fetch site max) (Fetched (Err NoLink)) v w = subst (λ (e : HubFault). Made (λ a. Fetched a) (Fetch site max) v w (Err e)) is made in let s : Serves site v w = called site (Fetch site max) (Fetched (Err NoLink)) v w refl c in record {
+  calls = entry v.number (Fetch site max) (Fetched (Err NoLink)) ∷ [];
+  number = s.number;
+  made = ap (λ (y : View). y.made) c.view;
+  kept = s.kept;
+  alone = (refl, tt);
+  left = inl (inl tt);
+}
+
+-- a pass that had made nothing
+pub served_alone : (site : ℕ) (v w : View) → HasMadeNone v → Leaves site v w → HasServed site w
+served_alone site v w none l =
+    let made : w.made ≡ l.calls = l.made ∙ ap (λ (x : List Entry). x ++ l.calls) none.0 in record {
+      alone = subst (λ (x : List Entry). AreCallsFor site x) (sym made) l.alone;
+      kept = l.kept ∙ none.1;
+      left = elim l.left [ inl h ↦ inl (subst HasLeft (sym made) h) | inr h ↦ inr h ];
+    }
+
+-- the other is taken in
+pub both_serve : (site : ℕ) (v u h w : View) → Serves site v u → HasServed site h → h.opening ≡ u.opening → w ≡ joined_with u h → BothServe site v w
+both_serve site v u h w one two same e = subst (λ (x : View). BothServe site v x) (sym e) (record {
+  calls = one.calls;
+  other = tally h.number h.made;
+  number = one.number;
+  made = one.made;
+  kept = ap (λ (l : List Tally). l ++ tallies h) one.kept ∙ ap (λ (l : List Tally). v.kept ++ (tally h.number h.made) ∷ l) two.kept;
+  alone = one.alone;
+  other_alone = two.alone;
+  left = elim two.left [ inl q ↦ inl q | inr q ↦ inr (subst (λ (o : BoardStar). IsFull o (tally h.number h.made)) same q) ];
+})
+
+-- a session that made no call
+pub session_none : (v : View) → IsSession v v
+session_none v = record { calls = []; others = []; number = refl; made = sym (append-nil v.made); kept = sym (append-nil v.kept); one_site = refl }
+
+session_same : (v w : View) → w ≡ v → IsSession v w
+session_same v w e = subst (λ (x : View). IsSession v x) (sym e) (session_none v)
+
+-- the join of a site
+pub joins : (v w : View) (j : JoinedSite) → Called Join (Joined (bare_joined (Ok j))) v w → Joins j.site v w
+joins v w j c = record {
+  join = entry v.number Join (Joined (bare_joined (Ok j)));
+  number = ap (λ (x : View). x.number) c.view;
+  made = ap (λ (x : View). x.made) c.view;
+  kept = ap (λ (x : View). x.kept) c.view;
+  is_join = refl;
+}
+
+-- one that is refused is all of the session
+pub session_refused : (v w : View) (fault : HubFault) → Made (λ r. Joined (bare_joined r)) Join v w (Err fault) → IsSession v w
+session_refused v w Spent m = session_same v w m.0
+session_refused v w (Star e) m = go (is_no_memory e) m
+  where
+    go : (b : Bool) → MatchBool b ((w ≡ v) × ComesToAsk Join v) (Called Join (Joined (Err e)) v w) → IsSession v w
+    go true h = session_same v w h.0
+    go false c = record {
+      calls = entry v.number Join (Joined (Err e)) ∷ [];
+      others = [];
+      number = ap (λ (x : View). x.number) c.view;
+      made = ap (λ (x : View). x.made) c.view;
+      kept = ap (λ (x : View). x.kept) c.view ∙ sym (append-nil v.kept);
+      one_site = (refl, refl);
+    }
+
+follows : (site : ℕ) (w : View) (call : Call) (reply : Reply) (later : List Entry) (others : List Tally) → IsJoinOf site call reply → AreCallsFor site later → AreTalliesFor site others
+    → HasLeft later ⊎ IsFull w.opening (tally w.number w.made) ⊎ SomeLeft w.opening others → FollowsJoin w call reply later others
+follows site w Join (Joined (Ok j)) later others is one two left =
+    (subst (λ (s : ℕ). AreCallsFor s later) (sym is) one, subst (λ (s : ℕ). AreTalliesFor s others) (sym is) two, left)
+follows site w call reply later others is one two left = absurd is
+
+-- a site that joined and left at once
+pub session_left : (site : ℕ) (v u w : View) → Joins site v u → Leaves site u w → IsSession v w
+session_left site v u w j l = record {
+  calls = j.join ∷ l.calls;
+  others = [];
+  number = l.number ∙ j.number;
+  made = l.made ∙ ap (λ (x : List Entry). x ++ l.calls) j.made ∙ append_assoc v.made (j.join ∷ []) l.calls;
+  kept = l.kept ∙ j.kept ∙ sym (append-nil v.kept);
+  one_site = follows site w j.join.call j.join.reply l.calls [] j.is_join l.alone tt (elim l.left [ inl h ↦ inl h | inr h ↦ inr (inl h) ]);
+}
+
+-- and one that both halves served
+pub session_served : (site : ℕ) (v u w : View) → Joins site v u → BothServe site u w → IsSession v w
+session_served site v u w j b = record {
+  calls = j.join ∷ b.calls;
+  others = b.other ∷ [];
+  number = b.number ∙ j.number;
+  made = b.made ∙ ap (λ (x : List Entry). x ++ b.calls) j.made ∙ append_assoc v.made (j.join ∷ []) b.calls;
+  kept = b.kept ∙ ap (λ (x : List Tally). x ++ b.other ∷ []) j.kept;
+  one_site = follows site w j.join.call j.join.reply b.calls (b.other ∷ []) j.is_join b.alone (b.other_alone, tt)
+      (inr (inr (elim b.left [ inl h ↦ inl h | inr h ↦ inr (inl h) ])));
+}

@@ -1,0 +1,123 @@
+-- What a session calls of its hub.
+use Rattle.std.specs.Prelude.{◌≡◌, ℕ, ◌⊎◌, List, [], ◌∷◌, ◌++◌, length, Ok, Err}
+use Rattle.std.specs.List.{AllByRecursion}
+use Rattle.jup_star.specs.StarCalls.{BoardStar}
+use Rattle.jup_star.specs.declared.faults.StarFault.TheVariants.{NoLink}
+use Rattle.jup_star.specs.declared.calls.Call.{Call}
+use Rattle.jup_star.specs.declared.calls.Call.TheVariants.{Join, Take, Fetch, Leave}
+use Rattle.jup_star.specs.declared.calls.Reply.{Reply}
+use Rattle.jup_star.specs.declared.calls.Reply.TheVariants.{Joined, Fetched}
+use Rattle.jup_hub.specs.declared.view.Entry.{Entry}
+use Rattle.jup_hub.specs.declared.view.Tally.{Tally}
+use Rattle.jup_hub.specs.declared.view.View.{View}
+use Rattle.jup_hub.specs.Histories.{IsLegal, calls_by}
+use Rattle.jup_hub.specs.Knowledge.{tally}
+
+-- a call for this site
+abbrev pub IsCallFor : ℕ → Call → Type 0
+IsCallFor site Join = ⊥
+IsCallFor site (Take i up) = i ≡ site
+IsCallFor site (Fetch i max) = i ≡ site
+IsCallFor site (Leave i) = i ≡ site
+
+-- each of these is one
+abbrev pub AreCallsFor : ℕ → List Entry → Type 0
+AreCallsFor site calls = AllByRecursion (λ e. IsCallFor site e.call) calls
+
+-- under each number stand such calls alone
+abbrev pub AreTalliesFor : ℕ → List Tally → Type 0
+AreTalliesFor site others = AllByRecursion (λ t. AreCallsFor site t.calls) others
+
+-- a departure, or an answer that the site has no link
+abbrev pub TellsGone : Call → Reply → Type 0
+TellsGone (Leave i) reply = Unit {0}
+TellsGone (Fetch i max) (Fetched (Err NoLink)) = Unit {0}
+TellsGone call reply = ⊥
+
+-- one of these calls is that
+abbrev pub HasLeft : List Entry → Type 0
+HasLeft [] = ⊥
+HasLeft (e ∷ es) = TellsGone e.call e.reply ⊎ HasLeft es
+
+-- the history in which just these calls stand under a number is as long as a count can be
+abbrev pub IsFull : BoardStar → Tally → Type 0
+IsFull opening t = (log : List Entry) × IsLegal opening log × (calls_by t.number log ≡ t.calls) × (length log ≡ 18446744073709551615)
+
+-- the calls under one of these numbers say that the site has left, or no call can say so any more
+abbrev pub SomeLeft : BoardStar → List Tally → Type 0
+SomeLeft opening [] = ⊥
+SomeLeft opening (t ∷ ts) = HasLeft t.calls ⊎ IsFull opening t ⊎ SomeLeft opening ts
+
+-- what follows a join, where w is the pass at the end: nothing where it was refused; else calls for the site that joined alone, until it has left
+abbrev pub FollowsJoin : View → Call → Reply → List Entry → List Tally → Type 0
+FollowsJoin w Join (Joined (Ok joined)) later others =
+    AreCallsFor joined.site later × AreTalliesFor joined.site others
+    × (HasLeft later ⊎ IsFull w.opening (tally w.number w.made) ⊎ SomeLeft w.opening others)
+FollowsJoin w Join (Joined (Err fault)) later others = (later ≡ []) × (others ≡ [])
+FollowsJoin w call reply later others = ⊥
+
+-- the first call of a session is a join
+abbrev pub IsOneSite : View → List Entry → List Tally → Type 0
+IsOneSite w [] others = others ≡ []
+IsOneSite w (first ∷ later) others = FollowsJoin w first.call first.reply later others
+
+-- A session from the pass v to the pass w. Under the pass's own number, and under those that it took in, stand no further calls but at most one join
+-- and then calls for the site that joined; and that site has left
+pub record IsSession (v w : View) : Type 0 where
+  pub calls : List Entry
+  pub others : List Tally
+  pub number : w.number ≡ v.number
+  pub made : w.made ≡ v.made ++ calls
+  pub kept : w.kept ≡ v.kept ++ others
+  pub one_site : IsOneSite w calls others
+
+-- the pass made calls for a site, and took in no other
+pub record Serves (site : ℕ) (v w : View) : Type 0 where
+  pub calls : List Entry
+  pub number : w.number ≡ v.number
+  pub made : w.made ≡ v.made ++ calls
+  pub kept : w.kept ≡ v.kept
+  pub alone : AreCallsFor site calls
+
+-- the same, until the site had left
+pub record Leaves (site : ℕ) (v w : View) : Type 0 where
+  pub calls : List Entry
+  pub number : w.number ≡ v.number
+  pub made : w.made ≡ v.made ++ calls
+  pub kept : w.kept ≡ v.kept
+  pub alone : AreCallsFor site calls
+  pub left : HasLeft calls ⊎ IsFull w.opening (tally w.number w.made)
+
+-- the pass has made no call yet, and took in no other
+abbrev pub HasMadeNone : View → Type 0
+HasMadeNone v = (v.made ≡ []) × (v.kept ≡ [])
+
+-- all that the pass has made are calls for a site, until that had left
+pub record HasServed (site : ℕ) (v : View) : Type 0 where
+  pub alone : AreCallsFor site v.made
+  pub kept : v.kept ≡ []
+  pub left : HasLeft v.made ⊎ IsFull v.opening (tally v.number v.made)
+
+-- the join of a site
+abbrev pub IsJoinOf : ℕ → Call → Reply → Type 0
+IsJoinOf site Join (Joined (Ok joined)) = joined.site ≡ site
+IsJoinOf site call reply = ⊥
+
+-- the pass has joined a site
+pub record Joins (site : ℕ) (v w : View) : Type 0 where
+  pub join : Entry
+  pub number : w.number ≡ v.number
+  pub made : w.made ≡ v.made ++ join ∷ []
+  pub kept : w.kept ≡ v.kept
+  pub is_join : IsJoinOf site join.call join.reply
+
+-- the pass served a site, and took in another that did so until the site had left
+pub record BothServe (site : ℕ) (v w : View) : Type 0 where
+  pub calls : List Entry
+  pub other : Tally
+  pub number : w.number ≡ v.number
+  pub made : w.made ≡ v.made ++ calls
+  pub kept : w.kept ≡ v.kept ++ other ∷ []
+  pub alone : AreCallsFor site calls
+  pub other_alone : AreCallsFor site other.calls
+  pub left : HasLeft other.calls ⊎ IsFull w.opening other

@@ -2,6 +2,7 @@ pub mod Agreeing
 pub mod Assembly
 pub mod Count
 pub mod Draining
+pub mod Fetched
 pub mod Handled
 pub mod Joining
 pub mod Logs

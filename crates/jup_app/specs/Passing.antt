@@ -1,5 +1,5 @@
 -- What the first pass of a run knows before and after the sites' threads.
-use Rattle.std.specs.Prelude.{◌≡◌, ℕ, ◌+◌, List, [], ◌∷◌, ◌++◌, length, map, Result, Ok}
+use Rattle.std.specs.Prelude.{◌≡◌, ℕ, ◌+◌, List, [], ◌∷◌, ◌++◌, length, map, Option, Some, None, Result, Ok, Err}
 use Rattle.jup_star.specs.declared.calls.Call.TheVariants.{Join}
 use Rattle.jup_star.specs.declared.calls.Reply.TheVariants.{Joined as JoinedReply}
 use Rattle.jup_star.specs.declared.star.Joined.{Joined}
@@ -67,6 +67,12 @@ pub record IsSeated (hub : Hub) (history : List Entry) (site : BoardSite) (p : P
 -- what is left of a player
 abbrev pub end_of : Player → SiteEnd
 end_of p = record { site = p.site; replies = p.replies }
+
+-- why the first that was stopped was
+abbrev pub first_stop : List (Result Player Stop) → Option Stop
+first_stop [] = None
+first_stop (Ok player ∷ results) = first_stop results
+first_stop (Err stop ∷ results) = Some stop
 
 -- the tallies of players
 abbrev pub all_tallies : List Player → List Tally

@@ -1,16 +1,17 @@
 -- What a pass has done for one site.
-use Rattle.std.specs.Prelude.{◌≡◌, ℕ, ◌+◌, cond, eqb, List, [], ◌∷◌, ◌++◌, length, drop, map, Result, Ok, Err}
+use Rattle.std.specs.Prelude.{◌≡◌, ℕ, ◌+◌, ◌<◌, cond, eqb, List, [], ◌∷◌, ◌++◌, length, drop, map, Result, Ok, Err}
 use Rattle.jup_window.specs.declared.commands.Command.{Command}
 use Rattle.jup_window.specs.declared.edits.Edit.{Edit}
 use Rattle.jup_window.specs.declared.faults.EditFault.{EditFault}
 use Rattle.jup_window.specs.FaultNumbers.{edit_fault_number}
 use Rattle.jup_star.specs.declared.calls.Call.TheVariants.{Fetch}
+use Rattle.jup_star.specs.declared.calls.Reply.{Reply}
 use Rattle.jup_star.specs.declared.calls.Reply.TheVariants.{Fetched}
 use Rattle.jup_star.specs.SiteCalls.{BoardSite}
 use Rattle.jup_hub.specs.declared.view.Entry.{Entry}
 use Rattle.jup_hub.specs.declared.view.View.{View}
-use Rattle.jup_hub.specs.Histories.{BeginsWith}
-use Rattle.jup_hub.specs.Knowledge.{Called}
+use Rattle.jup_hub.specs.Histories.{entry, BeginsWith}
+use Rattle.jup_hub.specs.Knowledge.{longest, Called, Meets}
 use Rattle.jup_world.specs.BoardWorlds.{BoardAttached}
 use Rattle.jup_app.specs.Runs.{BoardUp, BoardDown, EditAnswer, Made, made, Step, calls_of, edits_of, IsPlayed, all_delivered, AcceptsAll, site_of}
 
@@ -62,6 +63,18 @@ pub record Handles (i : ℕ) (v w : View) (before after : ℕ) (l m : BoardAttac
 pub record IsDelivering (ds : List BoardDown) (k : ℕ) (start now : BoardAttached) : Type 0 where
   pub left : all_delivered (drop k ds) now ≡ all_delivered ds start
   pub accepts : AcceptsAll (drop k ds) now → AcceptsAll ds start
+
+-- the next call of the pass was a fetch for site i
+pub record Fetches (i : ℕ) (v w : View) : Type 0 where
+  pub reply : Reply
+  pub later : List Entry
+  pub made : w.made ≡ v.made ++ entry v.number (Fetch i 64) reply ∷ later
+
+-- The pass met a history. Where that was longer than all that it had seen, its next call was such a fetch
+pub record CatchesUp (i : ℕ) (v w : View) : Type 0 where
+  pub history : List Entry
+  pub met : Meets v history
+  pub fetched : longest v.seen < length history → Fetches i v w
 
 -- a fetch that gave nothing
 abbrev pub FoundNothing : ℕ → View → View → Type 0

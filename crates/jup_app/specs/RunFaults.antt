@@ -5,6 +5,11 @@ use Rattle.jup_window.specs.Boards.{Windows}
 use Rattle.jup_star.specs.StarCalls.{star_open_fault}
 use Rattle.jup_star.specs.declared.faults.OpenFault.{OpenFault}
 use Rattle.jup_star.specs.declared.faults.OpenFault.TheVariants as refusal
+use Rattle.jup_star.specs.declared.faults.StarFault.TheVariants as star
+use Rattle.jup_star.specs.declared.faults.SiteFault.{SiteFault}
+use Rattle.jup_star.specs.declared.faults.SiteFault.TheVariants as site
+use Rattle.jup_hub.specs.declared.fault.HubFault.{HubFault}
+use Rattle.jup_hub.specs.declared.fault.HubFault.TheVariants as hub
 use Rattle.jup_app.specs.declared.runs.stop.Stop.{Stop}
 use Rattle.jup_app.specs.declared.runs.stop.Stop.TheVariants as stop
 use Rattle.jup_app.specs.declared.runs.fault.RunFault.{RunFault}
@@ -26,7 +31,18 @@ open_refusal refusal.NoMemory = NoMemory
 open_refusal refusal.BadLimit = BadLimit
 open_refusal refusal.BadSite = BadSite
 
--- and of a run that has begun
+-- why a run stops where the hub refuses a call
+abbrev pub stop_of_hub : HubFault → Stop
+stop_of_hub (hub.Star star.NoMemory) = stop.NoMemory
+stop_of_hub (hub.Star star.LogFull) = stop.LogFull
+stop_of_hub fault = stop.RunBroken
+
+-- or a site a message
+abbrev pub stop_of_site : SiteFault → Stop
+stop_of_site site.NoMemory = stop.NoMemory
+stop_of_site fault = stop.RunBroken
+
+-- the refusal of a run that has begun
 abbrev pub stopped_by : Stop → RunFault
 stopped_by stop.NoMemory = NoMemory
 stopped_by stop.LogFull = LogFull

@@ -1,11 +1,11 @@
 //! What the first pass of a run does before and after the sites' threads.
-ghost use Rattle.std.specs.Prelude.{◌≡◌, ◌+◌, List, length, IfOk, Ok, [], All, vec_len};
+ghost use Rattle.std.specs.Prelude.{◌≡◌, ◌+◌, List, length, IfOk, IfSome, Ok, [], All, vec_len};
 ghost use Rattle.jup_star.specs.declared.calls.Call.TheVariants.{Join};
 ghost use Rattle.jup_star.specs.declared.calls.Reply.TheVariants.{Joined as JoinedReply};
 ghost use Rattle.jup_hub.specs.declared.view.Entry.{Entry};
 ghost use Rattle.jup_hub.specs.Knowledge.{Called, joined_with};
 ghost use Rattle.jup_hub.specs.Passes.{view_of, IsPassOf};
-ghost use Rattle.jup_app.specs.Passing.{told_to, IsFresh, HasJoinedAll, HasMet, IsSame, IsSeated, HasTaken, end_of};
+ghost use Rattle.jup_app.specs.Passing.{told_to, IsFresh, HasJoinedAll, HasMet, IsSame, IsSeated, HasTaken, end_of, first_stop};
 
 use crate::runs::calls::Caller;
 use crate::runs::drain::SiteEnd;
@@ -71,8 +71,19 @@ pub(crate) fn seat(alloc: Global, hub: &Hub, caller: &mut Caller, site: Site) ->
     }
 }
 
-/// Takes in the passes of players whose threads have ended. The first site whose thread was refused tells
-/// why.
+// Why the first site that was stopped was.
+fn first_stop(results: &[Result<Player, Stop>]) -> Option<Stop>
+    ensures { result ≡ first_stop results.now }
+{
+    for played in results {
+        if let Err(stop) = played {
+            return Some(*stop);
+        }
+    }
+    None
+}
+
+/// Takes in the passes of players whose threads have ended. The first site that was stopped tells why.
 pub(crate) fn rejoin_all(
     alloc: Global,
     hub: &Hub,
@@ -82,8 +93,12 @@ pub(crate) fn rejoin_all(
     requires pass { IsPassOf hub.now caller.old.pass }
     requires passes { All (λ r. IfOk r (λ p. IsPassOf hub.now p.caller.pass)) results.items }
     ensures pass { IsPassOf hub.now caller.new.pass }
+    ensures stopped { IfSome (first_stop results.items) (λ stop. result ≡ Err stop) }
     ensures taken { IfOk result (λ ends. HasTaken (view_of caller.old.pass) (view_of caller.new.pass) caller.old.calls caller.new.calls results.items ends.items) }
 {
+    if let Some(stop) = first_stop(results.as_slice()) {
+        return Err(stop);
+    }
     let mut ends = Vec::new(alloc);
     for result in results {
         ends.push(rejoin(hub, caller, result?)?)?;

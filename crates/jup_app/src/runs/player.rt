@@ -2,7 +2,7 @@
 ghost use Rattle.std.specs.Prelude.{◌≡◌, true, false, IfOk, IfErr, [], ◌∷◌};
 ghost use Rattle.jup_star.specs.SiteCalls.{is_edit_memory};
 ghost use Rattle.jup_hub.specs.Passes.{view_of, IsPassOf};
-ghost use Rattle.jup_app.specs.Plays.{link_with, Handles, Answered, Played};
+ghost use Rattle.jup_app.specs.Plays.{link_with, Handles, CatchesUp, Answered, Played};
 
 use crate::runs::calls::Caller;
 use crate::runs::receive::receive;
@@ -28,7 +28,7 @@ pub(crate) struct Player {
 // A fault that is an answer: all but want of memory.
 fn declined(fault: EditFault) -> Result<EditFault, Stop>
     ensures answer { IfOk result (λ f. (f ≡ fault) × (is_edit_memory fault ≡ false)) }
-    ensures stop { IfErr result (λ _. is_edit_memory fault ≡ true) }
+    ensures stop { IfErr result (λ stop. (stop ≡ Stop.NoMemory) × (is_edit_memory fault ≡ true)) }
 {
     match fault {
         EditFault::NoMemory => Err(Stop::NoMemory),
@@ -43,8 +43,10 @@ impl Player {
         ensures pass { IsPassOf hub.now self.new.caller.pass }
         ensures same { (self.new.number ≡ self.old.number) × (self.new.replies ≡ self.old.replies) }
         ensures handled { IfOk result (λ _. Handles self.old.number (view_of self.old.caller.pass) (view_of self.new.caller.pass) self.old.caller.calls self.new.caller.calls (link_with self.old.site []) (link_with self.new.site [])) }
+        ensures caught { IfOk result (λ _. CatchesUp self.old.number (view_of self.old.caller.pass) (view_of self.new.caller.pass)) }
     {
-        if hub.news(&mut self.caller.pass) {
+        let is_late = hub.news(&mut self.caller.pass);
+        if is_late {
             receive(
                 rt,
                 alloc,
@@ -95,6 +97,7 @@ impl Player {
         ensures pass { IsPassOf hub.now self.new.caller.pass }
         ensures number { self.new.number ≡ self.old.number }
         ensures answered { IfOk result (λ _. Answered self.old.number (view_of self.old.caller.pass) (view_of self.new.caller.pass) self.old.caller.calls self.new.caller.calls self.old.site self.new.site command.now self.old.replies.items self.new.replies.items) }
+        ensures caught { IfOk result (λ _. CatchesUp self.old.number (view_of self.old.caller.pass) (view_of self.new.caller.pass)) }
     {
         self.catch_up(rt, alloc, hub)?;
         match self.site.edit(alloc, command) {

@@ -3,7 +3,7 @@ ghost use Rattle.std.specs.Prelude.{◌≡◌, IfOk, [], IsFalse};
 ghost use Rattle.jup_star.specs.SiteCalls.{BoardSite};
 ghost use Rattle.jup_hub.specs.Passes.{view_of, IsPassOf};
 ghost use Rattle.jup_app.specs.Runs.{IsAccepted, AcceptsAll, delivered, all_delivered};
-ghost use Rattle.jup_app.specs.Plays.{link_with, Handles, FoundNothing};
+ghost use Rattle.jup_app.specs.Plays.{link_with, Handles, Fetches, FoundNothing};
 
 use crate::runs::calls::Caller;
 use crate::runs::stop::Stop;
@@ -74,6 +74,7 @@ pub(crate) fn receive<R: Wait>(
     requires { IsPassOf hub.now caller.old.pass }
     ensures pass { IsPassOf hub.now caller.new.pass }
     ensures handled { IfOk result (λ _. Handles number (view_of caller.old.pass) (view_of caller.new.pass) caller.old.calls caller.new.calls (link_with site.old []) (link_with site.new [])) }
+    ensures fetched { IfOk result (λ _. Fetches number (view_of caller.old.pass) (view_of caller.new.pass)) }
     ensures nothing { IfOk result (λ some. IsFalse some → FoundNothing number (view_of caller.old.pass) (view_of caller.new.pass)) }
 {
     let downs = caller.fetch(rt, alloc, hub, number, MOST)?;

@@ -1,4 +1,5 @@
 //! Why a run that has begun comes to no end.
+ghost use Rattle.std.specs.Prelude.{◌≡◌};
 
 use jup_hub::HubFault;
 use jup_star::{SiteFault, StarFault};
@@ -15,6 +16,10 @@ pub(crate) enum Stop {
 }
 
 impl From<HubFault> for Stop {
+    ghost use Rattle.jup_app.specs.RunFaults.{stop_of_hub};
+
+    ghost from_gives = { λ fault made. made ≡ stop_of_hub fault };
+
     fn from(fault: HubFault) -> Stop {
         match fault {
             HubFault::Star(StarFault::NoMemory) => Stop::NoMemory,
@@ -25,6 +30,10 @@ impl From<HubFault> for Stop {
 }
 
 impl From<SiteFault> for Stop {
+    ghost use Rattle.jup_app.specs.RunFaults.{stop_of_site};
+
+    ghost from_gives = { λ fault made. made ≡ stop_of_site fault };
+
     fn from(fault: SiteFault) -> Stop {
         match fault {
             SiteFault::NoMemory => Stop::NoMemory,
@@ -34,12 +43,20 @@ impl From<SiteFault> for Stop {
 }
 
 impl From<AllocError> for Stop {
+    ghost use Rattle.jup_app.specs.declared.runs.stop.Stop.TheVariants.{NoMemory as Lacking};
+
+    ghost from_gives = { λ _ made. made ≡ Lacking };
+
     fn from(_refused: AllocError) -> Stop {
         Stop::NoMemory
     }
 }
 
 impl<T: Drop> From<AllocFailed<T>> for Stop {
+    ghost use Rattle.jup_app.specs.declared.runs.stop.Stop.TheVariants.{NoMemory as Lacking};
+
+    ghost from_gives = { λ _ made. made ≡ Lacking };
+
     fn from(_refused: AllocFailed<T>) -> Stop {
         Stop::NoMemory
     }

@@ -21,14 +21,14 @@ loop-result-init c =
 
 pub loop-result-preserved : goal.loop-result-preserved
 loop-result-preserved c =
-    let step = c.in-Some.ensures.steps.0 in
+    let step = c.in-Some-result.ensures.steps.0 in
     let all = c.loop-result.invariant in
     record {
       can_next = tt;
       is_finite = tt;
       fits = c.in_ok-rejoin.ensures.pass;
       passes = all_tail (λ (r : Result Player Stop). IfOk r (λ p. IsPassOf c.args.hub.now p.caller.pass)) _ _ _ step all.passes;
-      done = all.done ++ c.in-Some.result ∷ [];
-      split = all.split ∙ ap (λ xs. all.done ++ xs) step ∙ sym (append_assoc all.done (c.in-Some.result ∷ []) (into_iter_items c.next.new.self));
+      done = all.done ++ c.in-Some-result.result ∷ [];
+      split = all.split ∙ ap (λ xs. all.done ++ xs) step ∙ sym (append_assoc all.done (c.in-Some-result.result ∷ []) (into_iter_items c.next.new.self));
       taken = taken_more _ _ _ _ _ _ _ _ _ _ _ _ all.taken c.in_ok-result.was c.in_ok-rejoin.ensures.end c.in_ok-rejoin.ensures.count c.in_ok-rejoin.ensures.view c.in_ok-push.ensures.items;
     }

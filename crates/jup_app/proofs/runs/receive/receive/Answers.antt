@@ -1,5 +1,7 @@
-use Rattle.std.proofs.Common.{arith, lit<, sym, ◌∙◌}
+use Rattle.std.proofs.Common.{[], arith, lit<, sym, ◌∙◌}
+use Rattle.std.proofs.lemmas.List.{append-nil}
 use Rattle.jup_app.proofs.Handled.{got_nothing, got_through, handles_both, no_elements}
+use Rattle.jup_app.proofs.Fetched.{fetches_first}
 use Rattle.jup_app.proofs.runs.receive.receive.Goals as goal
 
 pub returns-then-is_empty-clause-handled : goal.returns-then-is_empty-clause-handled
@@ -11,3 +13,11 @@ returns-clause-handled g c =
     handles_both _ _ _ _ _ _ _ _ _ _
     (got_through _ 64 _ _ _ _ _ _ _ _ _ _ _ c.in_ok-downs.ensures.called c.in_ok-downs.ensures.count (lit< tt) c.as_slice-2.ensures.messages c.new-owed.ensures.items c.as_slice-3.ensures.value c.in_ok-deliver_all.ensures.accepted c.in_ok-deliver_all.ensures.link)
     (c.in_ok-take_all.ensures.took _)
+
+pub returns-then-is_empty-clause-fetched : goal.returns-then-is_empty-clause-fetched
+returns-then-is_empty-clause-fetched g c = fetches_first _ _ _ _ _ [] c.in_ok-downs.ensures.called (sym (append-nil _))
+
+pub returns-clause-fetched : goal.returns-clause-fetched
+returns-clause-fetched g c =
+    let took = c.in_ok-take_all.ensures.took c.args.site.now in
+    fetches_first _ _ _ _ _ took.plays.calls c.in_ok-downs.ensures.called took.plays.made

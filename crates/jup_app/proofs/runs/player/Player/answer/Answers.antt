@@ -1,5 +1,6 @@
 use Rattle.std.proofs.Common.{◌∙◌, sym, ap, Ok, Err, [], ◌∷◌, ◌++◌}
 use Rattle.jup_app.proofs.Worked.{works_made, declined_answer, handles_for}
+use Rattle.jup_app.proofs.Fetched.{caught_handles}
 use Rattle.jup_app.proofs.runs.player.Player.answer.Goals as goal
 
 pub returns-in_ok-receive-in-Ok-clause-answered : goal.returns-in_ok-receive-in-Ok-clause-answered
@@ -18,3 +19,7 @@ pub returns-in_ok-push-in-Err-clause-answered : goal.returns-in_ok-push-in-Err-c
 returns-in_ok-push-in-Err-clause-answered g c =
     declined_answer _ _ _ _ _ _ _ _ _ _ _ _ _ c.in_ok-catch_up.ensures.handled c.in-Err.ensures.answer c.in_ok-declined-in-Err.ensures.answer
     (c.in_ok-push-in-Err.ensures.items ∙ ap (λ v. v.items ++ Err c.in_ok-declined-in-Err.field-0 ∷ []) c.in_ok-catch_up.ensures.same.1)
+
+pub returns-in_ok-receive-in-Ok-clause-caught : goal.returns-in_ok-receive-in-Ok-clause-caught
+returns-in_ok-receive-in-Ok-clause-caught g c =
+    caught_handles _ _ _ _ _ _ _ _ _ (caught_handles _ _ _ _ _ _ _ _ _ c.in_ok-catch_up.ensures.caught c.in_ok-send-in-Ok.ensures.handled) c.in_ok-receive-in-Ok.ensures.handled

@@ -5,7 +5,7 @@ use jup_xform::{Side, Transform, across};
 use std::alloc::Global;
 
 // The first insertion of a site.
-fn insert(place: u32, site: u32, value: char) -> TextOp {
+pub(crate) fn insert(place: u32, site: u32, value: char) -> TextOp {
     let name = Name { site, number: 1 };
     SeqOp::Insert {
         place,
@@ -14,7 +14,7 @@ fn insert(place: u32, site: u32, value: char) -> TextOp {
 }
 
 // The deletion at a place of an item of the opening text, which is the number-th of it.
-fn delete(place: u32, number: u32) -> TextOp {
+pub(crate) fn delete(place: u32, number: u32) -> TextOp {
     SeqOp::Delete {
         place,
         name: Name { site: 0, number },
@@ -31,7 +31,7 @@ fn relabel(place: u32, number: u32, value: char) -> TextOp {
 }
 
 // Applies an operation where it is valid and there is memory, and says whether it did.
-fn attempt<T: Transform>(alloc: Global, op: &T, state: &mut T::State) -> bool
+pub(crate) fn attempt<T: Transform>(alloc: Global, op: &T, state: &mut T::State) -> bool
     requires { T.can_reserve 0 }
 {
     if !op.valid(state) || op.reserve(alloc, 0, state).is_err() {
@@ -42,7 +42,7 @@ fn attempt<T: Transform>(alloc: Global, op: &T, state: &mut T::State) -> bool
 }
 
 // An opening text.
-fn text(alloc: Global, letters: &str) -> Seq<char> {
+pub(crate) fn text(alloc: Global, letters: &str) -> Seq<char> {
     let mut seq = Seq::new(alloc);
     for value in letters.chars() {
         let place = seq.len();
@@ -57,7 +57,7 @@ fn text(alloc: Global, letters: &str) -> Seq<char> {
 }
 
 // Whether the text has these letters.
-fn reads(seq: &Seq<char>, letters: &str) -> bool {
+pub(crate) fn reads(seq: &Seq<char>, letters: &str) -> bool {
     let mut rest = letters.chars();
     for item in seq.iter() {
         if rest.next() != Some(item.value) {

@@ -4,3 +4,4 @@ pub mod Effects
 pub mod Names
 pub mod Operations
 pub mod Squares
+pub mod Traces

@@ -4,5 +4,7 @@
 
 pub mod laws;
 mod operations;
+mod singles;
 
 pub use operations::{ListOp, SeqEdit, SeqOp, TextOp};
+pub use singles::SeqTrace;

@@ -16,7 +16,7 @@ use jup_xform::{NoMemory, Transform};
 use std::alloc::Global;
 
 /// A sequence of so many items takes no further insertion.
-const LARGEST: u32 = 2_147_483_648;
+pub(crate) const LARGEST: u32 = 2_147_483_648;
 
 /// An operation on a sequence. Places are counted from 0.
 #[derive(Clone, Copy, Debug, PartialEq, Eq)]

@@ -142,10 +142,10 @@ next_is_fresh (RelabelAt win wid p v) i k b known = tt
 next_is_fresh (SetValue win wid s) i k b known = tt
 
 -- a command's operation is valid
-command_accepted : (b : board.Windows) (c : Command) (i k : ℕ) (op : BoardOp) → board.IsSmall 1 b
+command_accepted : (b : board.Windows) (c : Command) (i k : ℕ) (op : BoardOp)
     → ((n : board.Placed) → board.Holds b n → n.name.site ≡ i → n.name.number ≤ k)
     → numbered (named c (next_name i k) b) ≡ Ok op → board.IsValid op b
-command_accepted b c i k op small known e =
+command_accepted b c i k op known e =
     named_valid c (next_name i k) b op (next_is_fresh c i k b known) (numbered_ok (named c (next_name i k) b) op e)
 
 -- operations on boards have every law that a star and its sites rest on

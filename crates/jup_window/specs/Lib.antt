@@ -19,6 +19,7 @@ pub mod FaultNumbers
 pub mod NamedCommands
 pub mod Operations
 pub mod Sites
+pub mod Traces
 pub mod WidgetLaws
 pub mod WidgetNames
 pub mod Widgets

@@ -21,8 +21,19 @@ pub struct BoardOp {
 }
 
 impl BoardOp {
+    /// What the operation means. It takes no memory.
+    pub fn meaning(&self) -> Edit
+        ensures { result ≡ board.edit_of self.now }
+    {
+        Edit {
+            win: self.win,
+            wid: self.wid,
+            what: self.op.effect(),
+        }
+    }
+
     // Whether both are on one widget.
-    fn is_with(&self, other: &BoardOp) -> bool
+    pub(crate) fn is_with(&self, other: &BoardOp) -> bool
         ensures { result ≡ same_place (board.place self.now) (board.place other.now) }
     {
         self.win == other.win && self.wid == other.wid
@@ -131,11 +142,7 @@ impl Transform for BoardOp {
     fn edit(&self, _alloc: Global) -> Result<Edit, NoMemory>
         ensures { result ≡ Ok (board.edit_of self.now) }
     {
-        Ok(Edit {
-            win: self.win,
-            wid: self.wid,
-            what: self.op.effect(),
-        })
+        Ok(self.meaning())
     }
 
     ghost square = { board_laws.square };

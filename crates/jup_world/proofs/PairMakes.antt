@@ -2,7 +2,7 @@
 use Rattle.std.proofs.Common.{◌≡◌, ℕ, ◌+◌, ◌≤◌, ◌<◌, ◌⊎◌, false, List, [], ◌∷◌, ◌++◌, length, nat_eq, ap, sym, ◌∙◌, subst, inl, inr, arith, IsTrue, append_assoc, length-append, le_refl, Ok, leb-false}
 use Rattle.std.proofs.lemmas.Bool.{eqb-false}
 use Rattle.jup_xform.specs.Grid.{AllApart}
-use Rattle.jup_link.specs.LinkSteps.{small_le, client_lengths, client_distinct, client_small, client_sends, client_generated}
+use Rattle.jup_link.specs.LinkSteps.{small_le, client_lengths, client_distinct, client_sends, client_generated}
 use Rattle.jup_link.specs.Links.{after_send, message}
 use Rattle.jup_link.specs.Messages.{next_message}
 use Rattle.jup_link.specs.InStep.{InStepAt}
@@ -50,12 +50,11 @@ module _ (O : Operations) (L : AreLawful O) where
         let step = h.in_step in
         let lengths : length h.site_ahead ≤ length a.site.end.outgoing = client_lengths O.t L.lawful step in
         let short : length a.site.end.outgoing < 1024 = leb-false 1024 (length a.site.end.outgoing) answer.1 in
-        let board_small : O.t.is_small 1 a.site.board = client_small O.t L.lawful 1 step (small_le O.t L.lawful (1 + length h.site_ahead) h.room h.from (omega (arith, h.enough)) h.small) in
         let known_counts : ℕ → ℕ = own_counts O i a.site.named (λ j. named_by O i j past) in
         let more_counts : ℕ → ℕ = own_counts O i (a.site.named + O.insertions (O.t.edit_of op)) (λ j. named_by O i j past) in
         let more : (j : ℕ) → known_counts j ≤ more_counts j = own_counts-more O L i a.site.named (a.site.named + O.insertions (O.t.edit_of op)) (λ j. named_by O i j past) (λ j. named_by O i j past) (omega arith) (λ j. le_refl _) in
         let accepted : O.t.is_valid op a.site.board =
-        L.command_accepted a.site.board command i a.site.named op board_small (λ n x e. own_known O L i a.site.named (λ j. named_by O i j past) n h.positive e (h.board_known n x)) made_at in
+        L.command_accepted a.site.board command i a.site.named op (λ n x e. own_known O L i a.site.named (λ j. named_by O i j past) n h.positive e (h.board_known n x)) made_at in
         let changes : ChangesHeld O known_counts (O.t.edit_of op) = λ n x. elim (L.keeps.changes_held a.site.board op n accepted x) [ inl held ↦ inl (h.board_known n held) | inr new ↦ inr new ] in
         let all : List O.Edit = (edits past ++ own_edits rest) ++ h.raw in
         let effect : O.t.content (O.t.after op a.site.board) ≡ O.t.meaning first (all ++ O.t.edit_of op ∷ []) =
@@ -123,9 +122,7 @@ module _ (O : Operations) (L : AreLawful O) where
     -- is valid on its board
     made_valid : O.t.is_valid op a.site.board
     made_valid =
-        let lengths : length h.site_ahead ≤ length a.site.end.outgoing = client_lengths O.t L.lawful h.in_step in
-        let board_small : O.t.is_small 1 a.site.board = client_small O.t L.lawful 1 h.in_step (small_le O.t L.lawful (1 + length h.site_ahead) h.room h.from (omega (arith, h.enough, h.backlog)) h.small) in
-        L.command_accepted a.site.board command i a.site.named op board_small (λ n x e. own_known O L i a.site.named (λ j. named_by O i j past) n h.positive e (h.board_known n x)) made_at
+        L.command_accepted a.site.board command i a.site.named op (λ n x e. own_known O L i a.site.named (λ j. named_by O i j past) n h.positive e (h.board_known n x)) made_at
 
     -- and keeps the order of its items
     pub made_keeps_order : O.t.keeps_order a.site.board (O.t.after op a.site.board)

@@ -39,3 +39,10 @@ pub record KeepsMeaning {Op State Edit : Type 0} (t : Ghosts Op State Edit) : Ty
       ≡ t.meaning k (before ++ t.edit_of s ∷ (between ++ t.edit_of c ∷ later))
   pub edit_server : (c s : Op) → t.are_apart c s → (k : t.Content) (before later : List Edit)
       → t.meaning k (before ++ t.edit_of c ∷ t.edit_of (t.server_past s c) ∷ later) ≡ t.meaning k (before ++ t.edit_of s ∷ t.edit_of c ∷ later)
+
+-- the laws of `Transform` by which an operation past another stays fresh, and another stays fresh after it
+pub record KeepsFresh {Op State Edit : Type 0} (t : Ghosts Op State Edit) : Type 0 where
+  pub fresh_client : (c s o : Op) → t.is_fresh c o → t.is_fresh (t.client_past c s) o
+  pub fresh_server : (s c o : Op) → t.is_fresh s o → t.is_fresh (t.server_past s c) o
+  pub fresh_of_client : (c s o : Op) → t.is_fresh o c → t.is_fresh o (t.client_past c s)
+  pub fresh_of_server : (s c o : Op) → t.is_fresh o s → t.is_fresh o (t.server_past s c)

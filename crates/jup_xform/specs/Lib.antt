@@ -1,3 +1,10 @@
+pub mod Batches
+pub mod BatchEdits
+pub mod BatchKept
+pub mod BatchLaws
+pub mod BatchMeaning
+pub mod BatchesAreLawful
+pub mod BoundLaws
 pub mod Grid
 pub mod GridLaws
 pub mod Laws

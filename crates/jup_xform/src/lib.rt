@@ -11,13 +11,15 @@ ghost use Rattle.jup_xform.specs.Members.{SomeOf};
 
 use std::alloc::Global;
 
+mod batch;
 mod concurrent;
 mod memory;
 mod row;
 
+pub use batch::{Batch, Edits, Single};
 pub use concurrent::meet;
 pub use memory::NoMemory;
-pub use row::{Side, across};
+pub use row::{Side, across, grid};
 
 /// An operation on a state, which can be transformed past an operation that the other end of a link
 /// made at the same time. `c` stands for a client's operation and `s` for a server's.

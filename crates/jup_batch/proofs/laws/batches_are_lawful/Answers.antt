@@ -1,0 +1,5 @@
+use Rattle.jup_batch.specs.BoardBatches.{batch_laws}
+use Rattle.jup_batch.proofs.laws.batches_are_lawful.Goals as goal
+
+pub returns : goal.returns
+returns c = batch_laws

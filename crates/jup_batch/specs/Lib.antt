@@ -1,0 +1,3 @@
+pub mod Batched
+pub mod BatchedLaws
+pub mod BoardBatches

@@ -1,5 +1,8 @@
 -- What the programs print.
-use Rattle.std.specs.Prelude.{◌≡◌, ℕ, List, [], ◌∷◌, ◌++◌, length, codes, decimal}
+use Rattle.std.specs.Prelude.{ℕ, List, [], ◌∷◌, ◌++◌, length, codes, decimal}
+use Rattle.jup_window.specs.Boards.{Windows}
+use Rattle.jup_text.specs.Boards.{board_text}
+use Rattle.jup_text.specs.Edits.{edit_text}
 use Rattle.jup_star.specs.StarCalls.{BoardStar}
 use Rattle.jup_rules.specs.declared.client_state.Told.{Told}
 use Rattle.jup_rules.specs.declared.client_state.Told.TheVariants.{Site, Made, Refused, Synced, Board, Bye, BadCommand}
@@ -12,16 +15,16 @@ line_of words = words ++ 10 ∷ []
 abbrev pub numbered : List ℕ → ℕ → List ℕ
 numbered word number = word ++ 32 ∷ decimal number
 
--- edits and boards are spelled by others; an edit stands in a line of its own
-abbrev pub IsTextOf : Told → List ℕ → Type 0
-IsTextOf (Site number) text = text ≡ line_of (numbered (codes "site") number)
-IsTextOf (Made edit) text = (spelled : List ℕ) × (text ≡ codes "made " ++ line_of spelled)
-IsTextOf (Refused number) text = text ≡ line_of (numbered (codes "refused") number)
-IsTextOf Synced text = text ≡ line_of (codes "synced")
-IsTextOf Board text = Unit {0}
-IsTextOf Bye text = text ≡ line_of (codes "bye")
-IsTextOf BadCommand text = text ≡ line_of (codes "bad command")
+-- what a client prints to tell its user, and the board where it was asked for
+abbrev pub told_text : Told → Windows → List ℕ
+told_text (Site number) board = line_of (numbered (codes "site") number)
+told_text (Made edit) board = codes "made " ++ line_of (edit_text edit)
+told_text (Refused number) board = line_of (numbered (codes "refused") number)
+told_text Synced board = line_of (codes "synced")
+told_text Board board = board_text board
+told_text Bye board = line_of (codes "bye")
+told_text BadCommand board = line_of (codes "bad command")
 
 -- how many edits were taken, and then the board
-abbrev pub IsReportOf : BoardStar → List ℕ → Type 0
-IsReportOf star text = (board : List ℕ) × (text ≡ line_of (numbered (codes "order") (length star.order)) ++ board)
+abbrev pub report_text : BoardStar → List ℕ
+report_text star = line_of (numbered (codes "order") (length star.order)) ++ board_text star.board

@@ -1,6 +1,6 @@
 //! What the programs print.
 ghost use Rattle.std.specs.Prelude.{◌≡◌, ◌++◌, ◌∷◌, [], OnOk, IfOk, decimal};
-ghost use Rattle.jup_rules.specs.Texts.{IsTextOf, IsReportOf};
+ghost use Rattle.jup_rules.specs.Texts as texts;
 
 use crate::Told;
 use jup_star::Star;
@@ -11,7 +11,7 @@ use std::alloc::Global;
 
 /// What a client prints to tell its user, each line with its line feed.
 pub fn told_text(alloc: Global, told: &Told, board: &Board) -> Result<Vec<u8>, NoMemory>
-    ensures { IfOk result (λ text. IsTextOf told.now text.items) }
+    ensures { IfOk result (λ text. text.items ≡ texts.told_text told.now board.now) }
 {
     let mut text = Vec::new(alloc);
     match told {
@@ -32,7 +32,7 @@ pub fn told_text(alloc: Global, told: &Told, board: &Board) -> Result<Vec<u8>, N
 
 /// What a daemon prints after its last session: how many edits were taken, and the board.
 pub fn report_text(alloc: Global, star: &Star) -> Result<Vec<u8>, NoMemory>
-    ensures { IfOk result (λ text. IsReportOf star.now text.items) }
+    ensures { IfOk result (λ text. text.items ≡ texts.report_text star.now) }
 {
     let mut text = Vec::new(alloc);
     append_number(alloc, "order", star.order().len(), &mut text)?;

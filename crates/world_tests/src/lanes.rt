@@ -1,4 +1,7 @@
 //! One way of a link, byte by byte.
+ghost use Rattle.std.specs.Prelude.{IsTrue};
+ghost use Rattle.jup_window.specs.Widgets.{relabels_no_text};
+
 use jup_lane::{Lane, Message};
 use jup_link::Msg;
 use jup_seq::SeqOp;
@@ -9,7 +12,9 @@ use std::alloc::Global;
 use std::process::Abort;
 
 // Site 1 puts an 'a' first into text 1 of window 1, which is spelled "op 0 0 1 1 text ins 0 1.1 97".
-fn first_edit() -> Msg<BoardOp> {
+fn first_edit() -> Msg<BoardOp>
+    ensures { IsTrue (relabels_no_text result.op.op) }
+{
     Msg {
         mine: 0,
         heard: 0,
@@ -27,7 +32,9 @@ fn first_edit() -> Msg<BoardOp> {
     }
 }
 
-fn send<M: Message>(rt: &impl Abort, lane: &mut Lane<M>, message: &M) {
+fn send<M: Message>(rt: &impl Abort, lane: &mut Lane<M>, message: &M)
+    requires { M.may_go message.now }
+{
     lane.reserve().expect(rt, "memory");
     lane.send(message);
 }
@@ -63,13 +70,12 @@ fn a_message_is_pushed_in_two_parts(rt: HostRuntime) {
 fn messages_come_in_order_however_they_are_pushed(rt: HostRuntime) {
     let alloc = rt.alloc();
     let mut lane: Lane<Down> = Lane::new(alloc);
-    let sent = [Down::Ack(64), Down::Op(first_edit()), Down::Pong(7)];
-    for message in &sent {
-        send(&rt, &mut lane, message);
-    }
+    send(&rt, &mut lane, &Down::Ack(64));
+    send(&rt, &mut lane, &Down::Op(first_edit()));
+    send(&rt, &mut lane, &Down::Pong(7));
     // "ack 64" and its line feed, and the "op" of the next.
     assert_eq!(rt; push(&rt, alloc, &mut lane, 9), 9);
-    for message in sent {
+    for message in [Down::Ack(64), Down::Op(first_edit()), Down::Pong(7)] {
         assert_eq!(rt; handed(&rt, alloc, &mut lane), Some(message));
     }
     assert!(rt; lane.is_idle());

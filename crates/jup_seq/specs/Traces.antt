@@ -14,6 +14,7 @@ use Rattle.jup_seq.specs.declared.operations.SeqOp.TheVariants.{Insert, Delete, 
 use Rattle.jup_seq.specs.declared.singles.SeqTrace.{SeqTrace}
 use Rattle.jup_seq.specs.Operations.{HasDistinctNames, IsValid, after, next_place}
 use Rattle.jup_seq.specs.Effects.{distinct_after}
+use Rattle.jup_seq.specs.Squares.{next_place-small}
 
 -- where a name stands after an operation, from where it stood
 abbrev pub place_after : {V : Type 0} → Name → Option ℕ → SeqOp V → Option ℕ
@@ -79,9 +80,6 @@ none_insert false n r y x e l h = has_name-insert n x.items r y ∙ ap (λ b. b 
 
 at_place : {V : Type 0} (n : Name) (p q : ℕ) (x : Items V) → p ≡ q → name_at q x.items ≡ Some n → Stands n (Some p) x
 at_place n p q x e h = ap (λ j. name_at j x.items) e ∙ h
-
-next_place-small : (p : ℕ) → p < 4294967295 → next_place p ≡ suc p
-next_place-small p h = omega arith
 
 some_insert : {V : Type 0} (n : Name) (q r : ℕ) (y : Item V) (x : Items V) → IsValid (Insert r y) x → name_at q x.items ≡ Some n
     → Stands n (Some (cond (nat_le r q) (next_place q) q)) (after (Insert r y) x)

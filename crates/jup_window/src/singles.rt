@@ -14,6 +14,7 @@ use jup_xform::{Single, Transform};
 /// What of a widget tells whether an operation may be applied to it.
 #[derive(Clone, Copy, Debug, PartialEq, Eq)]
 pub enum WidgetTrace {
+    /// What is traced in a text or a list.
     Sequence(SeqTrace),
     /// Whether the setting takes the value.
     Setting(bool),

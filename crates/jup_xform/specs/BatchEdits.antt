@@ -1,3 +1,4 @@
+-- Edits of batches in a row: a batch past another means, behind that one's edits, what it meant.
 use Rattle.std.specs.Prelude.{◌≡◌, List, [], ◌∷◌, ◌++◌, refl}
 use Rattle.std.proofs.Common.{ap, sym, ◌∙◌, append_assoc}
 use Rattle.jup_xform.specs.declared.Transform.{Ghosts}

@@ -1,3 +1,4 @@
+-- The effect of two concurrent batches, and the room and the shape that a batch keeps past another.
 use Rattle.std.specs.Prelude.{◌≡◌, ℕ, ◌+◌, ◌-◌, ◌*◌, ◌≤◌, List, [], ◌∷◌, length, refl}
 use Rattle.std.proofs.Common.{ap, suc, zero, subst, sym, ◌∙◌, arith, inl, inr}
 use Rattle.jup_xform.specs.declared.Transform.{Ghosts}

@@ -1,3 +1,4 @@
+-- The laws of batches that speak of no edits: pairs of operations, smallness, and the square of two batches.
 use Rattle.std.specs.Prelude.{◌≡◌, ℕ, ◌+◌, ◌-◌, ◌*◌, ◌≤◌, ◌⊎◌, List, [], ◌∷◌, ◌++◌, length, refl}
 use Rattle.std.proofs.Common.{ap, suc, sym, ◌∙◌, arith, length-append, append-nil, append_assoc, inl, inr}
 use Rattle.jup_xform.specs.declared.Transform.{Ghosts}

@@ -1,3 +1,4 @@
+-- What batches insert, change and hold, the order that they keep, and that the effect of one is that of its edits.
 use Rattle.std.specs.Prelude.{◌≡◌, ◌⊎◌, List, [], ◌∷◌}
 use Rattle.std.proofs.Common.{ap, sym, ◌∙◌, append-nil, inl, inr}
 use Rattle.jup_xform.specs.declared.Transform.{Ghosts}

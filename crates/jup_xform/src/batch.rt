@@ -22,13 +22,16 @@ pub trait Single: Transform {
     /// What of a state tells whether the operation may be applied.
     type Trace: Copy;
 
+    /// That this is the operation's trace of a state.
     ghost is_trace: { Self → Self.State → Self.Trace → Type 0 };
 
-    /// The trace of the first operation after the second, and whether it allows the first.
+    /// The trace of the first operation, once the second was applied.
     ghost trace_past: { Self → Self.Trace → Self → Self.Trace };
 
+    /// That a trace allows its operation to be applied.
     ghost allows: { Self → Self.Trace → Type 0 };
 
+    /// The trace that is taken of a state, before any operation is applied.
     fn trace(&self, state: &Self::State) -> Self::Trace
         ensures { is_trace self.now (Self.bare state.now) result };
 
@@ -36,12 +39,14 @@ pub trait Single: Transform {
     fn trace_after(&self, trace: Self::Trace, earlier: &Self) -> Self::Trace
         ensures { result ≡ trace_past self.now trace earlier.now };
 
+    /// Whether the operation may be applied where it has this trace.
     fn allowed_by(&self, trace: Self::Trace) -> bool
         ensures { IsTrue result ↔ allows self.now trace };
 
-    /// A trace stays one past a valid operation, and tells whether its operation may be applied.
+    /// A trace stays one past a valid operation.
     ghost traced: { (o e : Self) (x : Self.State) (r : Self.Trace) → Self.is_valid e x → is_trace o x r → is_trace o (Self.after e x) (trace_past o r e) };
 
+    /// It allows its operation exactly where that is valid.
     ghost told: { (o : Self) (x : Self.State) (r : Self.Trace) → is_trace o x r → (allows o r ↔ Self.is_valid o x) };
 }
 

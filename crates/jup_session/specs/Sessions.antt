@@ -39,16 +39,17 @@ abbrev pub HasLeft : List Entry → Type 0
 HasLeft [] = ⊥
 HasLeft (e ∷ es) = TellsGone e.call e.reply ⊎ HasLeft es
 
--- the history in which just these calls stand under a number is as long as a count can be
+-- some legal history in which just these calls stand under a number is as long as a count can be. One that long can always be thought of, since others
+-- may call as often as they like: so what is said up to it, that a site has left, is no promise, and tests show it
 abbrev pub IsFull : BoardStar → Tally → Type 0
 IsFull opening t = (log : List Entry) × IsLegal opening log × (calls_by t.number log ≡ t.calls) × (length log ≡ 18446744073709551615)
 
--- the calls under one of these numbers say that the site has left, or no call can say so any more
+-- the calls under one of these numbers say that the site has left, or there is such a history
 abbrev pub SomeLeft : BoardStar → List Tally → Type 0
 SomeLeft opening [] = ⊥
 SomeLeft opening (t ∷ ts) = HasLeft t.calls ⊎ IsFull opening t ⊎ SomeLeft opening ts
 
--- what follows a join, where w is the pass at the end: nothing where it was refused; else calls for the site that joined alone, until it has left
+-- what follows a join, where w is the pass at the end: nothing where it was refused; else calls for the site that joined alone; that it has left is said up to `IsFull`
 abbrev pub FollowsJoin : View → Call → Reply → List Entry → List Tally → Type 0
 FollowsJoin w Join (Joined (Ok joined)) later others =
     AreCallsFor joined.site later × AreTalliesFor joined.site others
@@ -62,7 +63,7 @@ IsOneSite w [] others = others ≡ []
 IsOneSite w (first ∷ later) others = FollowsJoin w first.call first.reply later others
 
 -- A session from the pass v to the pass w. Under the pass's own number, and under those that it took in, stand no further calls but at most one join
--- and then calls for the site that joined; and that site has left
+-- and then calls for the site that joined alone. That this site has left is said only up to a history as long as a count can be (`IsFull`)
 pub record IsSession (v w : View) : Type 0 where
   pub calls : List Entry
   pub others : List Tally
@@ -79,7 +80,7 @@ pub record Serves (site : ℕ) (v w : View) : Type 0 where
   pub kept : w.kept ≡ v.kept
   pub alone : AreCallsFor site calls
 
--- the same, until the site had left
+-- the same, until the site had left, up to `IsFull`
 pub record Leaves (site : ℕ) (v w : View) : Type 0 where
   pub calls : List Entry
   pub number : w.number ≡ v.number
@@ -92,7 +93,7 @@ pub record Leaves (site : ℕ) (v w : View) : Type 0 where
 abbrev pub HasMadeNone : View → Type 0
 HasMadeNone v = (v.made ≡ []) × (v.kept ≡ [])
 
--- all that the pass has made are calls for a site, until that had left
+-- all that the pass has made are calls for a site, until that had left, up to `IsFull`
 pub record HasServed (site : ℕ) (v : View) : Type 0 where
   pub alone : AreCallsFor site v.made
   pub kept : v.kept ≡ []
@@ -111,7 +112,7 @@ pub record Joins (site : ℕ) (v w : View) : Type 0 where
   pub kept : w.kept ≡ v.kept
   pub is_join : IsJoinOf site join.call join.reply
 
--- the pass served a site, and took in another that did so until the site had left
+-- the pass served a site, and took in another that did so until the site had left, up to `IsFull`
 pub record BothServe (site : ℕ) (v w : View) : Type 0 where
   pub calls : List Entry
   pub other : Tally

@@ -1,0 +1,158 @@
+"""What this folder's files say: transcripts with the boards that they open with, the table of transforms, and the table of lines."""
+import glob
+import json
+import os
+import re
+
+from links import Differs
+
+HERE = os.path.dirname(os.path.abspath(__file__))
+LIMIT = 1000
+# The windows that the tables are played in.
+LINES_WINDOW, LISTS_WINDOW, TEXTS_WINDOW, SETTINGS_WINDOW = 61, 62, 63, 64
+TRANSFORM_WINDOWS = {LISTS_WINDOW: "lists", TEXTS_WINDOW: "texts", SETTINGS_WINDOW: "settings"}
+WORDS = {LISTS_WINDOW: "list", TEXTS_WINDOW: "text"}
+BOARD_WORDS = ("window", "text", "list", "toggle", "slider")
+
+
+def rows_of(name):
+    """The lines of a file of this folder that are neither empty nor a comment."""
+    with open(f"{HERE}/{name}", encoding="utf-8") as file:
+        rows = [it.rstrip() for it in file if not it.startswith("#")]
+    return [it for it in rows if it]
+
+
+def spread(row):
+    """The lines that braces stand for: `A sends op {0..2} 0` is three."""
+    found = re.search(r"\{(\d+)\.\.(\d+)\}", row)
+    if not found:
+        return [row]
+    numbers = range(int(found[1]), int(found[2]) + 1)
+    return [f"{row[: found.start()]}{it}{row[found.end() :]}" for it in numbers]
+
+
+def text_of(text):
+    """What stands behind `bytes`: a JSON string, and how many times."""
+    found = re.fullmatch(r'(".*")(?: (\d+) times)?', text)
+    return json.loads(found[1]) * int(found[2] or 1)
+
+
+def lines_of(printed):
+    """The lines of a link that a printed board is; its k-th item is named 0.k."""
+    lines, items = [], 0
+    for row in printed:
+        word, wid, *rest = row.split(" ", 2)
+        if word not in ("text", "list"):
+            lines.append(row)
+            continue
+        lines.append(f"{word} {wid}")
+        quoted = re.findall(r'"([^"]*)"', rest[0]) if rest else []
+        values = [f"char 0.# {ord(it)}" for it in quoted[0]] if word == "text" else [f"item 0.# {it}" for it in quoted]
+        lines += [it.replace("#", str(items + at + 1), 1) for at, it in enumerate(values)]
+        items += len(values)
+    return lines
+
+
+class Board:
+    """A board as it is printed, its lines, and how many items it has."""
+
+    def __init__(self, printed):
+        self.lines = lines_of(printed)
+        self.window = int(printed[0].split()[1]) if printed else 0
+        self.items = sum(it.startswith(("char ", "item ")) for it in self.lines)
+
+
+class Transcript:
+    """A board, the limit of its server, and the steps in order."""
+
+    def __init__(self, path):
+        self.name = os.path.relpath(path, HERE)
+        rows = rows_of(self.name)
+        self.limit = int(rows.pop(0).split()[1]) if rows[0].startswith("limit ") else LIMIT
+        count = next(at for at, row in enumerate(rows) if row.split()[0] not in BOARD_WORDS)
+        self.board = Board(rows[:count])
+        self.steps = [step for row in rows[count:] for step in spread(row)]
+
+    def play(self, acts):
+        """Does each step by the act whose words it has."""
+        verbs = "|".join(sorted(acts, key=len, reverse=True))
+        for step in self.steps:
+            who, verb, rest = re.fullmatch(rf"(\w+) ({verbs})(?: (.*))?", step).groups("")
+            try:
+                acts[verb](who, rest)
+            except Differs as differs:
+                raise Differs(f"at `{step}`: {differs}") from None
+
+
+def transcripts(folder):
+    return [Transcript(it) for it in sorted(glob.glob(f"{HERE}/{folder}/*.session"))]
+
+
+class Transform:
+    """A row of the table: two concurrent operations, what each becomes, and what is then shown."""
+
+    def __init__(self, number, row):
+        cells = [it.strip() for it in row.split("|")]
+        self.kind, self.start, self.client, self.server, self.client_after, self.server_after, self.shown = cells
+        self.number, self.text = number, row
+
+    def is_in(self, window):
+        """Whether it is played in this window of the tables."""
+        return window in {"sequence": (LISTS_WINDOW, TEXTS_WINDOW), "list": (LISTS_WINDOW,)}.get(self.kind, (SETTINGS_WINDOW,))
+
+
+def transforms():
+    return [Transform(at + 1, row) for at, row in enumerate(rows_of("transforms"))]
+
+
+class LineRow:
+    """A line that a reader is given: which reader, the line, and the number of the fault that it tells, or None where it takes the line."""
+
+    def __init__(self, row):
+        self.reader, fault, text = row.split(" ", 2)
+        self.fault, self.text = None if fault == "taken" else int(fault), json.loads(text)
+
+
+def lines_for(reader):
+    return [it for it in map(LineRow, rows_of("lines")) if it.reader == reader]
+
+
+def widget(word, number, start, value):
+    """A widget of the table of transforms that holds a value, as it is printed. A list's labels are single letters."""
+    if word == "slider":
+        value = f"{start.rpartition(' ')[0]} {value}"
+    letters = {"text": [f'"{value}"'], "list": [f'"{it}"' for it in value]}
+    return " ".join([word, str(number), *letters.get(word, [value])])
+
+
+def table_board(window):
+    """The board of a table: one of each widget for the lines, and for each row of the transforms a widget of its number."""
+    if window == LINES_WINDOW:
+        return [f"window {window}", 'text 1 "Hi"', 'list 2 "red"', "toggle 3 off", "slider 4 -5 10 0"]
+    rows = [it for it in transforms() if it.is_in(window)]
+    return [f"window {window}", *(widget(WORDS.get(window, it.kind), it.number, it.start, it.start.split(" ")[-1]) for it in rows)]
+
+
+def layout(limit):
+    """The layout that a server of this limit opens with, as text, and for each window the number of items before it."""
+    boards = [it.board for it in transcripts("servers") if it.limit == limit]
+    if limit == LIMIT:
+        boards += [Board(table_board(it)) for it in (LINES_WINDOW, *TRANSFORM_WINDOWS)]
+    lines, before, items = [], {}, 0
+    for board in boards:
+        assert board.window not in before, f"two transcripts have window {board.window}"
+        before[board.window] = items
+        lines += [renamed(it, {0: (0, items)}) for it in board.lines]
+        items += board.items
+    return "".join(f"{it}\n" for it in lines), before
+
+
+def renamed(line, numbers):
+    """A line with its names under the numbers that sites have in fact, and counted from another item on."""
+
+    def name(found):
+        site, item = int(found[1]), int(found[2])
+        actual, before = numbers.get(site, (site, 0))
+        return f"{actual}.{item + before}"
+
+    return re.sub(r"(?<![\w.])(0|[1-9]\d*)\.(0|[1-9]\d*)(?![\w.])", name, line)

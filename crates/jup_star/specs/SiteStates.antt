@@ -50,6 +50,7 @@ abbrev pub heard_tests : {Operation : Type 0} → Link Operation → ℕ → Lis
 heard_tests e n = test (accepts_count e n) BadAck ∷ []
 
 module _ (O : Operations) where
+  -- a site of a kind of operations
   abbrev pub SiteOf : Type 0
   SiteOf = SiteState O.Op O.State
 

@@ -33,6 +33,7 @@ abbrev pub at_link : {Operation : Type 0} → ℕ → (LinkState Operation → L
 at_link i change links = map (λ l. if is_of i l then change l else l) links
 
 module _ {Operation State Edit : Type 0} where
+  -- the star with other links
   abbrev pub with_links : StarState Operation State Edit → List (LinkState Operation) → StarState Operation State Edit
   with_links s links = record s { links = links }
 
@@ -63,6 +64,7 @@ abbrev pub log_tests : ℕ → ℕ → List (Test StarFault)
 log_tests limit count = test (nat_lt count limit) LogFull ∷ []
 
 module _ (O : Operations) where
+  -- a star of a kind of operations
   abbrev pub StarOf : Type 0
   StarOf = StarState O.Op O.State O.Edit
 

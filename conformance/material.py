@@ -96,9 +96,26 @@ class Transform:
         self.kind, self.start, self.client, self.server, self.client_after, self.server_after, self.shown = cells
         self.number, self.text = number, row
 
+    def closes(self):
+        """Whether both ways round the two operations, and what they become, make of the start what is shown."""
+        one = done(done(self.start, self.client, "x"), self.server_after, "y")
+        other = done(done(self.start, self.server, "y"), self.client_after, "x")
+        return one == other == " ".join([*self.start.split(" ")[:-1], self.shown])
+
     def is_in(self, window):
         """Whether it is played in this window of the tables."""
         return window in {"sequence": (LISTS_WINDOW, TEXTS_WINDOW), "list": (LISTS_WINDOW,)}.get(self.kind, (SETTINGS_WINDOW,))
+
+
+def done(state, operation, letter):
+    """What an operation makes of letters, or of a setting behind its bounds."""
+    verb, _, rest = operation.partition(" ")
+    if verb == "no":
+        return state
+    if verb == "set":
+        return " ".join([*state.split(" ")[:-1], rest])
+    put, until = {"ins": (letter, 0), "del": ("", 1), "rel": (letter.upper(), 1)}[verb]
+    return state[: int(rest)] + put + state[int(rest) + until :]
 
 
 def transforms():

@@ -11,7 +11,7 @@ use std::process::Abort;
 
 const NAME: Name = Name { site: 1, number: 1 };
 
-fn toggle() -> Widget {
+pub(crate) fn toggle() -> Widget {
     Widget::Toggle(Toggle { on: false })
 }
 
@@ -32,7 +32,7 @@ fn four_widgets(rt: &impl Abort, alloc: Global) -> Board {
     board
 }
 
-fn insert(wid: u16, place: u32, value: Value) -> Command {
+pub(crate) fn insert(wid: u16, place: u32, value: Value) -> Command {
     Command::Insert {
         win: 1,
         wid,
@@ -41,24 +41,28 @@ fn insert(wid: u16, place: u32, value: Value) -> Command {
     }
 }
 
-fn insert_letter(wid: u16, place: u32) -> Command {
+pub(crate) fn insert_letter(wid: u16, place: u32) -> Command {
     insert(wid, place, Value::Char('a'))
 }
 
-fn delete(wid: u16, place: u32) -> Command {
+pub(crate) fn delete(wid: u16, place: u32) -> Command {
     Command::Delete { win: 1, wid, place }
 }
 
-fn set(win: u16, wid: u16, setting: Setting) -> Command {
+pub(crate) fn set(win: u16, wid: u16, setting: Setting) -> Command {
     Command::Set { win, wid, setting }
 }
 
-// The operation of a command under the name, where the board holds no name of its site.
-fn named(board: &Board, command: &Command) -> Result<BoardOp, EditFault> {
-    if board.has_site(NAME.site) {
+// The operation of a command under a name, where the board holds no name of its site.
+pub(crate) fn named_as(board: &Board, command: &Command, name: Name) -> Result<BoardOp, EditFault> {
+    if board.has_site(name.site) {
         return Err(EditFault::Stopped);
     }
-    board.name_it(command, NAME)
+    board.name_it(command, name)
+}
+
+fn named(board: &Board, command: &Command) -> Result<BoardOp, EditFault> {
+    named_as(board, command, NAME)
 }
 
 // The number of a command's refusal, or 0.
@@ -81,7 +85,7 @@ fn attempt<T: Transform>(alloc: Global, op: &T, state: &mut T::State) -> bool
 }
 
 // A board with windows of the ids from 1, each empty.
-fn windows(rt: &impl Abort, alloc: Global, count: u16) -> Board {
+pub(crate) fn windows(rt: &impl Abort, alloc: Global, count: u16) -> Board {
     let mut board = Board::new(alloc);
     for win in 1..=count {
         board.add_window(alloc, win).expect(rt, "it is new");
@@ -151,7 +155,7 @@ fn commands_are_refused_in_order(rt: HostRuntime) {
 }
 
 // A text of so many items.
-fn long_text(alloc: Global, items: u32) -> Result<Seq<char>, NoMemory> {
+pub(crate) fn long_text(alloc: Global, items: u32) -> Result<Seq<char>, NoMemory> {
     let mut text = Seq::new(alloc);
     for number in 0..items {
         text.reserve_one()?;
@@ -257,7 +261,7 @@ fn one_label(rt: &impl Abort, alloc: Global) -> Board {
     board
 }
 
-fn relabel(win: u16, wid: u16, place: u32, label: Label) -> Command {
+pub(crate) fn relabel(win: u16, wid: u16, place: u32, label: Label) -> Command {
     Command::Relabel {
         win,
         wid,
@@ -378,4 +382,29 @@ fn text_takes_no_relabel(rt: HostRuntime) {
         what: Effect::Nothing,
     };
     assert_eq!(rt; op.edit(rt.alloc()), Ok(nothing));
+}
+
+#[test]
+fn command_is_judged_by_what_is_told_of_items(rt: HostRuntime) {
+    let board = one_label(&rt, rt.alloc());
+    let list = board.named_widget(1, 2).expect(&rt, "it is there");
+    assert_eq!(rt; list.item_count(), 1);
+    assert_eq!(rt; list.name_at(0), Some(Name { site: 0, number: 1 }));
+    assert_eq!(rt; list.name_at(1), None);
+    let command = delete(2, 7);
+    assert_eq!(rt; (command.ids(), command.place()), ((1, 2), 7));
+    let last = SeqOp::Delete {
+        place: 7,
+        name: NAME,
+    };
+    assert_eq!(rt;
+        command.on_widget(list, NAME, 8, Some(NAME)),
+        Ok(WidgetOp::List(last))
+    );
+    assert_eq!(rt;
+        command.on_widget(list, NAME, 1, None),
+        Err(EditFault::BadPlace)
+    );
+    assert!(rt; matches!(board.named_widget(1, 9), Err(EditFault::NoWidget)));
+    assert!(rt; matches!(board.named_widget(9, 2), Err(EditFault::NoWindow)));
 }

@@ -1,5 +1,5 @@
 //! Worked pairs of concurrent operations on a text, and each call once on a list of labels.
-use jup_seq::{ListOp, SeqEdit, SeqOp, TextOp};
+use jup_seq::{ListOp, SeqEdit, SeqOp, Source, TextOp};
 use jup_value::{Item, Label, Name, Seq};
 use jup_xform::{Side, Transform, across};
 use std::alloc::Global;
@@ -65,6 +65,30 @@ pub(crate) fn reads(seq: &Seq<char>, letters: &str) -> bool {
         }
     }
     rest.next().is_none()
+}
+
+#[test]
+fn item_is_followed_back_over_an_operation(rt: HostRuntime) {
+    let put = insert(1, 1, 'X');
+    assert_eq!(rt; put.source(0), Source::Place(0));
+    assert_eq!(rt;
+        put.source(1),
+        Source::Inserted(Name { site: 1, number: 1 })
+    );
+    assert_eq!(rt; put.source(2), Source::Place(1));
+    let cut = delete(1, 2);
+    assert_eq!(rt; cut.source(0), Source::Place(0));
+    assert_eq!(rt; cut.source(1), Source::Place(2));
+    let other = relabel(1, 2, 'y');
+    assert_eq!(rt; other.source(1), Source::Place(1));
+    assert_eq!(rt;
+        (
+            put.length_after(3),
+            cut.length_after(3),
+            other.length_after(3)
+        ),
+        (4, 2, 3)
+    );
 }
 
 // What a pair of operations becomes.

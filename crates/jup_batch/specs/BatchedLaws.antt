@@ -91,7 +91,7 @@ module _ (O : Operations) (L : AreLawful O) where
   pub stepped : (x : O.State) (c : O.Command) (cs : List O.Command) (i k : ℕ) (ops : List O.Op) → operations_of O x (c ∷ cs) i k ≡ Ok ops → Stepped x c cs i k ops
   stepped x c cs i k ops e = first_stepped x c cs i k ops (O.operation_of x c i k) refl e
 
-  none_stepped : (ops : List O.Op) → ◌≡◌ {A = Result (List O.Op) ℕ} (Ok []) (Ok ops) → ops ≡ []
+  pub none_stepped : (ops : List O.Op) → ◌≡◌ {A = Result (List O.Op) ℕ} (Ok []) (Ok ops) → ops ≡ []
   none_stepped ops e = let is : [] ≡ ops = cc in sym is
 
   -- as many operations as commands

@@ -4,7 +4,22 @@
 //! list, and that it has every law that they rest on.
 #![tactic(auto)]
 
+use jup_window::{BoardOp, Command, Edit};
+use jup_xform::{Batch, Edits, Few};
+
 mod edits;
+mod later;
 pub mod laws;
+mod naming;
 
 pub use edits::{all_insertions, bear_next, one_bears_site, one_is_nothing};
+pub use naming::{MOST_COMMANDS, name_after, name_all};
+
+/// What a link of boards carries: 1 to 32 operations that are one edit.
+pub type BoardBatch = Batch<BoardOp>;
+
+/// The edits of such a batch, in the order of its operations.
+pub type BoardEdits = Edits<Edit>;
+
+/// What a user asks for in one gesture: commands in order, each of the board after those before it.
+pub type Commands = Few<Command>;

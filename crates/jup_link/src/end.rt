@@ -113,6 +113,7 @@ impl<T: Transform> End<T> {
         ensures sent { IfOk result (λ msg. sent msg ≡ message self.old.link op) }
         ensures ok { OnOk result (self.new.link ≡ after_send self.old.link op) }
         ensures err { OnErr result (self.new.link ≡ self.old.link) }
+        ensures refused { OnErr result (T.copies_freely op → self.old.spare ≡ 0) }
     {
         let kept = op.copy(alloc)?;
         self.reserve_one()?;

@@ -68,7 +68,7 @@ IsTrace Nothing x r = Unit {0}
 
 -- where a name stands after an operation
 
-name_at-insert : {V : Type 0} (xs : List (Item V)) (r : ℕ) (y : Item V) → r ≤ length xs → name_at r (insert xs r y) ≡ Some y.name
+pub name_at-insert : {V : Type 0} (xs : List (Item V)) (r : ℕ) (y : Item V) → r ≤ length xs → name_at r (insert xs r y) ≡ Some y.name
 name_at-insert xs zero y l = refl
 name_at-insert [] (suc r) y l = absurd (omega (arith, l))
 name_at-insert (x ∷ xs) (suc r) y l = name_at-insert xs r y (omega (arith, l))
@@ -118,7 +118,7 @@ stands_after n (Some q) (Relabel r m w) x d v h = name_at-with_value x.items q r
 stands_after n None Nothing x d v h = h
 stands_after n (Some q) Nothing x d v h = h
 
-length_is : {V : Type 0} (k : ℕ) (e : SeqOp V) (x : Items V) → IsValid e x → length x.items ≡ k → length (after e x).items ≡ length_after k e
+pub length_is : {V : Type 0} (k : ℕ) (e : SeqOp V) (x : Items V) → IsValid e x → length x.items ≡ k → length (after e x).items ≡ length_after k e
 length_is k (Insert r y) x v h = omega (arith, length-insert x.items r y v.0, h, v.2)
 length_is k (Delete r m) x v h = omega (arith, length-remove x.items r (name_at_within x.items r m v), h)
 length_is k (Relabel r m w) x v h = length-with_value x.items r w ∙ h

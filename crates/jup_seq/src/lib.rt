@@ -5,6 +5,8 @@
 pub mod laws;
 mod operations;
 mod singles;
+mod sources;
 
 pub use operations::{ListOp, SeqEdit, SeqOp, TextOp};
 pub use singles::SeqTrace;
+pub use sources::Source;

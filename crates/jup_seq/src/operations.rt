@@ -202,6 +202,8 @@ impl<V: Copy> Transform for SeqOp<V> {
 
     ghost shape = { λ o. tt };
 
+    ghost copies_freely = { λ o. Unit {0} };
+
     fn valid(&self, state: &Seq<V>) -> bool {
         match self {
             SeqOp::Insert { place, item } => takes(state, *place, item.name),

@@ -14,17 +14,6 @@ pub struct SeqTrace {
     len: u32,
 }
 
-// How many items there are after an operation.
-fn length_after<V>(len: u32, op: &SeqOp<V>) -> u32
-    ensures { result ≡ traces.length_after len op.now }
-{
-    match op {
-        SeqOp::Insert { .. } => len.saturating_add(1),
-        SeqOp::Delete { .. } => len.saturating_sub(1),
-        SeqOp::Relabel { .. } | SeqOp::Nothing => len,
-    }
-}
-
 // What is traced of a name in a sequence.
 fn name_trace<V: Copy>(state: &Seq<V>, name: Name) -> SeqTrace
     ensures { traces.IsNameTrace name (bare state.now) result }
@@ -47,7 +36,7 @@ impl SeqTrace {
             (Some(at), SeqOp::Delete { place, .. }) if *place < at => Some(at - 1),
             (place, _) => place,
         };
-        let len = length_after(self.len, op);
+        let len = op.length_after(self.len);
         SeqTrace { place, len }
     }
 }

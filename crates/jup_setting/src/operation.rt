@@ -73,6 +73,8 @@ impl<V: SettingValue> Transform for SetOp<V> {
 
     ghost shape = { λ o. tt };
 
+    ghost copies_freely = { λ o. Unit {0} };
+
     fn valid(&self, widget: &V::Widget) -> bool {
         match self {
             SetOp::Set(value) => value.allowed_by(widget),

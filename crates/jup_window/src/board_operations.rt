@@ -91,6 +91,8 @@ impl Transform for BoardOp {
 
     ghost shape = { λ o. tt };
 
+    ghost copies_freely = { λ o. Unit {0} };
+
     fn valid(&self, state: &Board) -> bool {
         match state.widget(self.win, self.wid) {
             Some(widget) => self.op.valid(widget),

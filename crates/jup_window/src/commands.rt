@@ -1,6 +1,6 @@
 //! Commands of a user, and the operations that they become.
 ghost use Rattle.std.specs.Prelude.{◌≡◌, IfOk};
-ghost use Rattle.jup_window.specs.Commands.{insertion, deletion, relabel, insertion_on, deletion_on, relabel_on, setting_on, on_widget, command_place, named_widget, named, map_ok, IsFresh, shown};
+ghost use Rattle.jup_window.specs.Commands.{insertion, deletion, relabel, insertion_on, deletion_on, relabel_on, setting_on, told_on, command_place, item_place, named_widget, named, map_ok, IsFresh, shown};
 ghost use Rattle.jup_window.specs.Boards.{bare, after, IsValid};
 
 use crate::board_operations::BoardOp;
@@ -11,7 +11,7 @@ use crate::widget_operations::WidgetOp;
 use crate::widgets::Widget;
 use jup_seq::SeqOp;
 use jup_setting::SetOp;
-use jup_value::{Item, Label, Name, Seq};
+use jup_value::{Item, Label, Name};
 
 /// The most items that a text or a list of a layout has. A sequence this long or longer takes no insertion of
 /// a command.
@@ -60,39 +60,35 @@ pub enum Command {
     },
 }
 
-fn insert_at<V: Copy>(state: &Seq<V>, place: u32, item: Item<V>) -> Result<SeqOp<V>, EditFault>
-    ensures { result ≡ insertion place item state.now }
+// An insertion into a sequence of so many items.
+fn insert_at<V: Copy>(place: u32, item: Item<V>, count: u32) -> Result<SeqOp<V>, EditFault>
+    ensures { result ≡ insertion place item count }
 {
-    if place > state.len() {
+    if place > count {
         return Err(EditFault::BadPlace);
     }
-    if state.len() >= LONGEST_SEQUENCE {
+    if count >= LONGEST_SEQUENCE {
         return Err(EditFault::LongText);
     }
     Ok(SeqOp::Insert { place, item })
 }
 
-fn delete_at<V: Copy>(state: &Seq<V>, place: u32) -> Result<SeqOp<V>, EditFault>
-    ensures { result ≡ deletion place state.now }
+// The deletion of an item that has this name, if there is one.
+fn delete_at<V: Copy>(place: u32, held: Option<Name>) -> Result<SeqOp<V>, EditFault>
+    ensures { result ≡ deletion place held }
 {
-    match state.get(place) {
-        Some(item) => Ok(SeqOp::Delete {
-            place,
-            name: item.name,
-        }),
+    match held {
+        Some(name) => Ok(SeqOp::Delete { place, name }),
         None => Err(EditFault::BadPlace),
     }
 }
 
-fn relabel_at<V: Copy>(state: &Seq<V>, place: u32, value: V) -> Result<SeqOp<V>, EditFault>
-    ensures { result ≡ relabel place value state.now }
+// The relabel of an item that has this name, if there is one.
+fn relabel_at<V: Copy>(place: u32, value: V, held: Option<Name>) -> Result<SeqOp<V>, EditFault>
+    ensures { result ≡ relabel place value held }
 {
-    match state.get(place) {
-        Some(Item { name, .. }) => Ok(SeqOp::Relabel {
-            place,
-            name: *name,
-            value,
-        }),
+    match held {
+        Some(name) => Ok(SeqOp::Relabel { place, name, value }),
         None => Err(EditFault::BadPlace),
     }
 }
@@ -102,37 +98,43 @@ fn insertion_into(
     place: u32,
     value: Value,
     name: Name,
+    count: u32,
 ) -> Result<WidgetOp, EditFault>
-    ensures { result ≡ insertion_on place value name widget.now }
+    ensures { result ≡ insertion_on place value name count widget.now }
 {
     match (widget, value) {
-        (Widget::Text(text), Value::Char(value)) => {
-            let op = insert_at(text, place, Item { name, value })?;
+        (Widget::Text(_), Value::Char(value)) => {
+            let op = insert_at(place, Item { name, value }, count)?;
             Ok(WidgetOp::Text(op))
         }
-        (Widget::List(list), Value::Label(value)) => {
-            let op = insert_at(list, place, Item { name, value })?;
+        (Widget::List(_), Value::Label(value)) => {
+            let op = insert_at(place, Item { name, value }, count)?;
             Ok(WidgetOp::List(op))
         }
         _ => Err(EditFault::WrongKind),
     }
 }
 
-fn deletion_from(widget: &Widget, place: u32) -> Result<WidgetOp, EditFault>
-    ensures { result ≡ deletion_on place widget.now }
+fn deletion_from(widget: &Widget, place: u32, held: Option<Name>) -> Result<WidgetOp, EditFault>
+    ensures { result ≡ deletion_on place held widget.now }
 {
     match widget {
-        Widget::Text(text) => Ok(WidgetOp::Text(delete_at(text, place)?)),
-        Widget::List(list) => Ok(WidgetOp::List(delete_at(list, place)?)),
+        Widget::Text(_) => Ok(WidgetOp::Text(delete_at(place, held)?)),
+        Widget::List(_) => Ok(WidgetOp::List(delete_at(place, held)?)),
         Widget::Toggle(_) | Widget::Slider(_) => Err(EditFault::WrongKind),
     }
 }
 
-fn relabel_in(widget: &Widget, place: u32, label: Label) -> Result<WidgetOp, EditFault>
-    ensures { result ≡ relabel_on place label widget.now }
+fn relabel_in(
+    widget: &Widget,
+    place: u32,
+    label: Label,
+    held: Option<Name>,
+) -> Result<WidgetOp, EditFault>
+    ensures { result ≡ relabel_on place label held widget.now }
 {
     match widget {
-        Widget::List(list) => Ok(WidgetOp::List(relabel_at(list, place, label)?)),
+        Widget::List(_) => Ok(WidgetOp::List(relabel_at(place, label, held)?)),
         Widget::Text(_) | Widget::Toggle(_) | Widget::Slider(_) => Err(EditFault::WrongKind),
     }
 }
@@ -153,8 +155,8 @@ fn setting_of(widget: &Widget, setting: Setting) -> Result<WidgetOp, EditFault>
 }
 
 impl Command {
-    // The ids of its window and of its widget.
-    fn ids(&self) -> (u16, u16)
+    /// The ids of its window and of its widget.
+    pub fn ids(&self) -> (u16, u16)
         ensures { result ≡ command_place self.now }
     {
         match *self {
@@ -165,14 +167,36 @@ impl Command {
         }
     }
 
-    // The operation on a widget, with a name for an insertion.
-    fn on_widget(&self, widget: &Widget, name: Name) -> Result<WidgetOp, EditFault>
-        ensures { result ≡ on_widget self.now name widget.now }
+    /// The place that it names in a text or a list. It is 0 where a value is set.
+    pub fn place(&self) -> u32
+        ensures { result ≡ item_place self.now }
     {
         match *self {
-            Command::Insert { place, value, .. } => insertion_into(widget, place, value, name),
-            Command::Delete { place, .. } => deletion_from(widget, place),
-            Command::Relabel { place, label, .. } => relabel_in(widget, place, label),
+            Command::Insert { place, .. }
+            | Command::Delete { place, .. }
+            | Command::Relabel { place, .. } => place,
+            Command::Set { .. } => 0,
+        }
+    }
+
+    /// The operation on a widget, with a name for an insertion. Of the widget's items only their count
+    /// and the name of the one at the command's place, if there is one, are looked at, as they are given
+    /// here: so they may be those of the widget as it is after other operations.
+    pub fn on_widget(
+        &self,
+        widget: &Widget,
+        name: Name,
+        count: u32,
+        held: Option<Name>,
+    ) -> Result<WidgetOp, EditFault>
+        ensures { result ≡ told_on self.now name count held widget.now }
+    {
+        match *self {
+            Command::Insert { place, value, .. } => {
+                insertion_into(widget, place, value, name, count)
+            }
+            Command::Delete { place, .. } => deletion_from(widget, place, held),
+            Command::Relabel { place, label, .. } => relabel_in(widget, place, label, held),
             Command::Set { setting, .. } => setting_of(widget, setting),
         }
     }
@@ -182,20 +206,23 @@ impl Command {
         ensures { result ≡ named self.now name board.now }
     {
         let (win, wid) = self.ids();
-        let op = self.on_widget(named_widget(board, win, wid)?, name)?;
+        let widget = board.named_widget(win, wid)?;
+        let held = widget.name_at(self.place());
+        let op = self.on_widget(widget, name, widget.item_count(), held)?;
         Ok(BoardOp { win, wid, op })
     }
 }
 
-// The widget that ids name.
-fn named_widget(board: &Board, win: u16, wid: u16) -> Result<&Widget, EditFault>
-    ensures { map_ok (λ widget. widget.now) result ≡ named_widget (win, wid) board.now }
-{
-    let window = get(board.windows(), win).ok_or(EditFault::NoWindow)?;
-    get(window.widgets(), wid).ok_or(EditFault::NoWidget)
-}
-
 impl Board {
+    /// The widget that the ids of a window and of a widget name. Refused, in this order: no such window,
+    /// no such widget.
+    pub fn named_widget(&self, win: u16, wid: u16) -> Result<&Widget, EditFault>
+        ensures { map_ok (λ widget. widget.now) result ≡ named_widget (win, wid) self.now }
+    {
+        let window = get(self.windows(), win).ok_or(EditFault::NoWindow)?;
+        get(window.widgets(), wid).ok_or(EditFault::NoWidget)
+    }
+
     /// The operation of a command: an insertion under the given name, or a deletion or a relabel of the
     /// item at the place under its own. It takes no memory. Refused, in this order: no such window, no such
     /// widget, a command or a value that does not fit the widget, a place past the end, a value

@@ -56,6 +56,8 @@ pub enum EditFault {
     NoMemory,
     #[error("the site has made all of its edits")]
     Spent,
+    #[error("not 1 to 32 commands")]
+    BadBatch,
     #[error("the site has stopped")]
     Stopped,
 }
@@ -75,6 +77,7 @@ impl EditFault {
             EditFault::Backlog => 7,
             EditFault::NoMemory => 8,
             EditFault::Spent => 9,
+            EditFault::BadBatch => 15,
             EditFault::Stopped => 25,
         }
     }

@@ -12,3 +12,4 @@ pub mod Members
 pub mod RowLaws
 pub mod Rows
 pub mod Sides
+pub mod Stores

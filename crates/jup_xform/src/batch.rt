@@ -1,9 +1,10 @@
 //! Lists of operations as one operation: what a user does in one gesture. A batch is transformed past another by
 //! the grid of both lists.
 
-ghost use Rattle.std.specs.Prelude.{◌≡◌, ℕ, ◌+◌, ◌-◌, ◌*◌, ◌≤◌, ◌↔◌, IsTrue, List, [], ◌∷◌, length, OnOk, IfOk};
+ghost use Rattle.std.specs.Prelude.{◌≡◌, ℕ, ◌+◌, ◌-◌, ◌*◌, ◌≤◌, ◌↔◌, IsTrue, List, [], ◌∷◌, length, OnOk, OnErr, IfOk};
 ghost use Rattle.jup_xform.specs.Grid.{after_all, AreValid};
-ghost use Rattle.jup_xform.specs.Batches.{EachTo, EachPair, edits, shapes, Inserts, Deletes, Changes, batch_meaning, IsValidBatch, is_small_batch, has_batch_room, can_reserve_batch, batch_client_past, batch_server_past};
+ghost use Rattle.jup_xform.specs.Batches.{EachTo, EachPair, edits, shapes, Inserts, Deletes, Changes, batch_meaning, IsValidBatch, is_small_batch, has_batch_room, can_reserve_batch, batch_client_past, batch_server_past, copies_freely_batch};
+ghost use Rattle.jup_xform.specs.Stores.{items_of};
 ghost use Rattle.jup_xform.specs.GridLaws.{distinct_after_all};
 ghost use Rattle.jup_xform.specs.BoundLaws.{lawful, keeps_meaning, keeps_fresh};
 ghost use Rattle.jup_xform.specs.BatchLaws.{batch_square, batch_small_after, batch_small_below, batch_small_before, EachPair-swap, EachPair-left, EachPair-right};
@@ -12,7 +13,8 @@ ghost use Rattle.jup_xform.specs.BatchEdits.{batch_meaning_more, batch_edit_clie
 ghost use Rattle.jup_xform.specs.BatchKept.{batch_effect_two, batch_room_less, batch_room_past, batch_shape_past};
 
 use crate::row::grid;
-use crate::{NoMemory, Transform};
+use crate::store::Store;
+use crate::{Few, NoMemory, Transform};
 use std::alloc::Global;
 use std::marker::Model;
 
@@ -50,44 +52,25 @@ pub trait Single: Transform {
     ghost told: { (o : Self) (x : Self.State) (r : Self.Trace) → is_trace o x r → (allows o r ↔ Self.is_valid o x) };
 }
 
-/// A list of 1 to 32 operations.
+/// A list of 1 to 32 operations. One alone takes no memory.
 #[derive(Drop)]
 pub struct Batch<T> {
-    ops: Vec<T>,
+    ops: Store<T>,
 }
 
 impl<T> Model for Batch<T> {
     ghost use Rattle.std.specs.Prelude.{◌≤◌, List, length};
+    ghost use Rattle.jup_xform.specs.Stores.{items_of};
 
     ghost Value = { List T };
 
-    ghost view = { λ b. b.ops.items };
+    ghost view = { λ b. items_of b.ops };
 
-    ghost invariant = { λ b. (1 ≤ length b.ops.items) × (length b.ops.items ≤ 32) };
+    ghost invariant = { λ b. (1 ≤ length (items_of b.ops)) × (length (items_of b.ops) ≤ 32) };
 }
 
 /// The edits of a batch, in the order of its operations.
-#[derive(Drop)]
-pub struct Edits<E> {
-    edits: Vec<E>,
-}
-
-impl<E> Model for Edits<E> {
-    ghost use Rattle.std.specs.Prelude.{List};
-
-    ghost Value = { List E };
-
-    ghost view = { λ b. b.edits.items };
-}
-
-impl<E> Edits<E> {
-    /// The edits in order.
-    pub fn as_slice(&self) -> &[E]
-        ensures { result.now ≡ self.now }
-    {
-        self.edits.as_slice()
-    }
-}
+pub type Edits<E> = Few<E>;
 
 impl<T> Batch<T> {
     /// A batch of these operations, which are 1 to 32.
@@ -96,7 +79,9 @@ impl<T> Batch<T> {
         requires few { length ops.items ≤ 32 }
         ensures { result ≡ ops.items }
     {
-        Batch { ops }
+        Batch {
+            ops: Store::More(ops),
+        }
     }
 
     /// The operations in order. Callers learn here, too, that they are 1 to 32.
@@ -106,6 +91,64 @@ impl<T> Batch<T> {
         ensures few { length result.now ≤ 32 }
     {
         self.ops.as_slice()
+    }
+}
+
+impl<T: Transform> Batch<T> {
+    /// A batch of copies of these operations, which are 1 to 32. One that is copied without memory takes none.
+    pub fn from_slice(alloc: Global, ops: &[T]) -> Result<Batch<T>, NoMemory>
+        requires some { 1 ≤ length ops.now }
+        requires few { length ops.now ≤ 32 }
+        ensures ops { IfOk result (λ batch. batch ≡ ops.now) }
+        ensures refused { OnErr result (copies_freely_batch T.Transform ops.now → ⊥) }
+    {
+        let ops = match ops {
+            [op] => Store::One([op.copy(alloc)?]),
+            _ => Store::More(copies_of(alloc, ops)?),
+        };
+        Ok(Batch { ops })
+    }
+}
+
+/// Copies of operations.
+fn copies_of<T: Transform>(alloc: Global, ops: &[T]) -> Result<Vec<T>, NoMemory>
+    ensures { IfOk result (λ copies. copies.items ≡ ops.now) }
+{
+    let mut copies = Vec::with_capacity(alloc, ops.len()).map_err(|_| NoMemory)?;
+    for op in ops {
+        copies.push(op.copy(alloc)?).map_err(|_| NoMemory)?;
+    }
+    Ok(copies)
+}
+
+/// The edits of operations.
+fn edits_of<T: Transform>(alloc: Global, ops: &[T]) -> Result<Vec<T::Edit>, NoMemory>
+    ensures { IfOk result (λ all. all.items ≡ edits T.Transform ops.now) }
+{
+    let mut all = Vec::with_capacity(alloc, ops.len()).map_err(|_| NoMemory)?;
+    for op in ops {
+        all.push(op.edit(alloc)?).map_err(|_| NoMemory)?;
+    }
+    Ok(all)
+}
+
+/// Moves a client's list and a server's past one another: the grid, said of each list as of the other.
+fn cross<T: Transform>(c: &mut [T], s: &mut [T])
+    ensures client { c.new ≡ batch_client_past T.Transform c.old s.old }
+    ensures server { s.new ≡ batch_server_past T.Transform s.old c.old }
+{
+    grid(c, s);
+}
+
+/// The same where the server's list stands.
+fn cross_store<T: Transform>(c: &mut [T], s: &mut Store<T>)
+    ensures client { c.new ≡ batch_client_past T.Transform c.old (items_of s.old) }
+    ensures server { items_of s.new ≡ batch_server_past T.Transform (items_of s.old) c.old }
+    ensures same_length { length (items_of s.new) ≡ length (items_of s.old) }
+{
+    match s {
+        Store::One(one) => cross(c, &mut one[..]),
+        Store::More(list) => cross(c, list.as_mut_slice()),
     }
 }
 
@@ -150,6 +193,10 @@ fn valid_after<T: Single>(op: &T, earlier: &[T], state: &T::State) -> bool
     requires { AreValid T.Transform earlier.now (T.bare state.now) }
     ensures { IsTrue result ↔ T.is_valid op.now (after_all T.Transform earlier.now (T.bare state.now)) }
 {
+    // The first is judged on the state as it is, which may be quicker than by a trace.
+    if earlier.is_empty() {
+        return op.valid(state);
+    }
     let mut trace = op.trace(state);
     for one in earlier {
         trace = op.trace_after(trace, one);
@@ -227,10 +274,13 @@ impl<T: Single> Transform for Batch<T> {
 
     ghost shape = { shapes T.Transform };
 
+    ghost copies_freely = { copies_freely_batch T.Transform };
+
     fn valid(&self, state: &T::State) -> bool {
-        for at in 0..self.ops.len() {
-            let op = &self.ops[at];
-            let earlier = &self.ops.as_slice()[..at];
+        let ops = self.as_slice();
+        for at in 0..ops.len() {
+            let op = &ops[at];
+            let earlier = &ops[..at];
             if !may_follow(op, earlier, state) {
                 return false;
             }
@@ -239,8 +289,8 @@ impl<T: Single> Transform for Batch<T> {
     }
 
     fn apart(&self, other: &Batch<T>) -> bool {
-        for op in other.ops.as_slice() {
-            if !all_apart(self.ops.as_slice(), op) {
+        for op in other.as_slice() {
+            if !all_apart(self.as_slice(), op) {
                 return false;
             }
         }
@@ -248,8 +298,8 @@ impl<T: Single> Transform for Batch<T> {
     }
 
     fn fresh_after(&self, earlier: &Batch<T>) -> bool {
-        for op in earlier.ops.as_slice() {
-            if !all_fresh(self.ops.as_slice(), op) {
+        for op in earlier.as_slice() {
+            if !all_fresh(self.as_slice(), op) {
                 return false;
             }
         }
@@ -257,41 +307,43 @@ impl<T: Single> Transform for Batch<T> {
     }
 
     fn reserve(&self, alloc: Global, beside: u32, state: &mut T::State) -> Result<(), NoMemory> {
-        let others = beside * 32 + (self.ops.len() as u32 - 1);
-        for op in self.ops.as_slice() {
+        let others = beside * 32 + (self.as_slice().len() as u32 - 1);
+        for op in self.as_slice() {
             op.reserve(alloc, others, state)?;
         }
         Ok(())
     }
 
     fn apply(&self, state: &mut T::State) {
-        for op in self.ops.as_slice() {
+        for op in self.as_slice() {
             op.apply(state);
         }
     }
 
     fn transform(c: &mut Batch<T>, s: &mut Batch<T>) {
-        grid(c.ops.as_mut_slice(), s.ops.as_mut_slice());
+        match &mut c.ops {
+            Store::One(one) => cross_store(&mut one[..], &mut s.ops),
+            Store::More(list) => cross_store(list.as_mut_slice(), &mut s.ops),
+        }
     }
 
     fn copy(&self, alloc: Global) -> Result<Batch<T>, NoMemory> {
-        let mut ops = Vec::with_capacity(alloc, self.ops.len()).map_err(|_| NoMemory)?;
-        for op in self.ops.as_slice() {
-            ops.push(op.copy(alloc)?).map_err(|_| NoMemory)?;
-        }
-        Ok(Batch { ops })
+        Batch::from_slice(alloc, self.as_slice())
     }
 
     fn write_to(&self, into: &mut Batch<T>) {
-        write_all(self.ops.as_slice(), into.ops.as_mut_slice());
+        match &mut into.ops {
+            Store::One(one) => write_all(self.as_slice(), &mut one[..]),
+            Store::More(list) => write_all(self.as_slice(), list.as_mut_slice()),
+        }
     }
 
     fn edit(&self, alloc: Global) -> Result<Edits<T::Edit>, NoMemory> {
-        let mut edits = Vec::with_capacity(alloc, self.ops.len()).map_err(|_| NoMemory)?;
-        for op in self.ops.as_slice() {
-            edits.push(op.edit(alloc)?).map_err(|_| NoMemory)?;
-        }
-        Ok(Edits { edits })
+        let edits = match self.as_slice() {
+            [op] => Store::One([op.edit(alloc)?]),
+            ops => Store::More(edits_of(alloc, ops)?),
+        };
+        Ok(Few::of(edits))
     }
 
     ghost square = { batch_square T.Transform.own (lawful T.Transform) (keeps_fresh T.Transform) };

@@ -5,19 +5,23 @@
 //! members are the words, its methods compute them, and its laws are proved of each operation type.
 #![tactic(auto)]
 
-ghost use Rattle.std.specs.Prelude.{◌≡◌, ℕ, ◌+◌, ◌↔◌, ◌⊎◌, IsTrue, List, [], ◌∷◌, ◌++◌, OnOk, IfOk};
+ghost use Rattle.std.specs.Prelude.{◌≡◌, ℕ, ◌+◌, ◌↔◌, ◌⊎◌, IsTrue, List, [], ◌∷◌, ◌++◌, OnOk, OnErr, IfOk};
 ghost use Rattle.jup_xform.specs.Rows.{row_operation};
 ghost use Rattle.jup_xform.specs.Members.{SomeOf};
 
 use std::alloc::Global;
 
 mod batch;
+mod comparing;
 mod concurrent;
+mod few;
 mod memory;
 mod row;
+mod store;
 
 pub use batch::{Batch, Edits, Single};
 pub use concurrent::meet;
+pub use few::Few;
 pub use memory::NoMemory;
 pub use row::{Side, across, grid};
 
@@ -93,6 +97,9 @@ pub trait Transform: Drop {
 
     ghost shape: { Self → Shape };
 
+    /// The operations of which a copy takes no memory.
+    ghost copies_freely: { Self → Type 0 };
+
     /// Whether the operation may be applied to the state.
     fn valid(&self, state: &Self::State) -> bool
         ensures { IsTrue result ↔ is_valid self.now (bare state.now) };
@@ -105,12 +112,14 @@ pub trait Transform: Drop {
     fn fresh_after(&self, earlier: &Self) -> bool
         ensures { IsTrue result ↔ is_fresh self.now earlier.now };
 
-    /// Makes room for this operation and for `beside` others in the same sequence.
+    /// Makes room for this operation and for `beside` others in the same sequence. Memory is refused only
+    /// where there is not room already.
     fn reserve(&self, alloc: Global, beside: u32, state: &mut Self::State) -> Result<(), NoMemory>
         requires { can_reserve beside }
         ensures ok { OnOk result (has_room self.now beside state.new) }
         ensures same { bare state.new ≡ bare state.old }
-        ensures kept { (o : Self) (n : ℕ) → has_room o n state.old → has_room o n state.new };
+        ensures kept { (o : Self) (n : ℕ) → has_room o n state.old → has_room o n state.new }
+        ensures refused_without_room { OnErr result (has_room self.now beside state.old → ⊥) };
 
     /// Applies the operation. It takes no memory, and lowers the room of a state by one at most.
     fn apply(&self, state: &mut Self::State)
@@ -125,7 +134,8 @@ pub trait Transform: Drop {
         ensures server { s.new ≡ server_past s.old c.old };
 
     fn copy(&self, alloc: Global) -> Result<Self, NoMemory>
-        ensures { IfOk result (λ copied. copied ≡ self.now) };
+        ensures copied { IfOk result (λ copied. copied ≡ self.now) }
+        ensures refused { OnErr result (copies_freely self.now → ⊥) };
 
     /// Overwrites an operation of the same shape. It takes no memory.
     fn write_to(&self, into: &mut Self)

@@ -1,0 +1,3 @@
+pub mod LaterCommands
+pub mod LaterWidgets
+pub mod NamedAll

@@ -1,0 +1,149 @@
+-- What `Boards` says of one operation, said of a batch of them: the words of the contracts of stars and sites
+use Rattle.std.proofs.Common.{◌≡◌, ℕ, ◌≤◌, Bool, true, false, List, [], ◌∷◌, length, Option, Some, None, refl, ap, ◌∙◌, sym, inl, inr, arith}
+use Rattle.std.proofs.lemmas.Bool.{or_parts, eq-eqb, false≢true}
+use Rattle.jup_xform.specs.declared.Transform.{Ghosts}
+use Rattle.jup_xform.specs.Grid.{after_all}
+use Rattle.jup_xform.specs.Batches.{edits, shapes, IsValidBatch, has_batch_room, is_small_batch, batches, batch_meaning, copies_freely_batch, Inserts as BatchInserts}
+use Rattle.jup_xform.specs.BatchLaws.{length-grid_rows}
+use Rattle.jup_xform.specs.BatchKept.{batch_shape_past, batch_room_past}
+use Rattle.jup_window.specs.declared.board_operations.BoardOp.{BoardOp}
+use Rattle.jup_window.specs.declared.commands.Command.{Command}
+use Rattle.jup_window.specs.declared.edits.Edit.{Edit}
+use Rattle.jup_value.specs.declared.names.Name.{Name}
+use Rattle.jup_value.proofs.ItemLists.{name_eq_same}
+use Rattle.jup_window.specs.Entries.{same_place}
+use Rattle.jup_window.specs.Effects.{inserted_name, is_name}
+use Rattle.jup_window.specs.Edits.{count_of, is_of_site}
+use Rattle.jup_window.specs.Boards as board
+use Rattle.jup_window.specs.BoardNames.{inserts_at_all}
+use Rattle.jup_window.specs.BoardLaws.{room_client as one_room_client, room_server as one_room_server}
+use Rattle.jup_window.specs.BoardOperations.{boards, board_operations}
+use Rattle.jup_batch.specs.Batched.{all_insertions, one_bears_site}
+use Rattle.jup_batch.specs.BoardBatches.{board_batches}
+
+-- operations on boards, their edits, and commands, as lists
+abbrev pub BoardBatch : Type 0
+BoardBatch = List BoardOp
+
+abbrev pub BoardEdits : Type 0
+BoardEdits = List Edit
+
+abbrev pub Commands : Type 0
+Commands = List Command
+
+abbrev pub boards_of : Ghosts BoardBatch board.Windows BoardEdits
+boards_of = batches boards
+
+-- what a contract sees of a board, a board but for its room, and its content: those of single operations
+abbrev pub Windows : Type 0
+Windows = board.Windows
+
+abbrev pub bare : Windows → Windows
+bare b = board.bare b
+
+abbrev pub content : Windows → board.Content
+content b = board.content b
+
+-- the content after the edits of batches, in order
+abbrev pub meaning : board.Content → List BoardEdits → board.Content
+meaning m es = batch_meaning boards m es
+
+abbrev pub after : BoardBatch → Windows → Windows
+after os b = after_all boards os b
+
+abbrev pub edit_of : BoardBatch → BoardEdits
+edit_of os = edits boards os
+
+abbrev pub IsValid : BoardBatch → Windows → Type 0
+IsValid os b = IsValidBatch boards os b
+
+abbrev pub HasRoom : BoardBatch → ℕ → Windows → Type 0
+HasRoom os n b = has_batch_room boards os n b
+
+abbrev pub IsSmall : ℕ → Windows → Type 0
+IsSmall n b = is_small_batch boards n b
+
+abbrev pub HasDistinctNames : Windows → Type 0
+HasDistinctNames b = board.HasDistinctNames b
+
+abbrev pub Placed : Type 0
+Placed = board.Placed
+
+abbrev pub Holds : Windows → Placed → Type 0
+Holds b n = board.Holds b n
+
+abbrev pub Inserts : BoardEdits → Placed → Type 0
+Inserts es n = BatchInserts boards es n
+
+abbrev pub accepts : BoardBatch → Windows → Bool
+accepts os b = board_batches.accepts os b
+
+abbrev pub insertions : BoardEdits → ℕ
+insertions es = all_insertions board_operations es
+
+abbrev pub bears_site : ℕ → BoardEdits → Bool
+bears_site i es = one_bears_site board_operations i es
+
+-- what is fixed of a batch where it is made: how many operations it has
+abbrev pub Shape : Type 0
+Shape = List (Unit {0})
+
+abbrev pub shape : BoardBatch → Shape
+shape os = shapes boards os
+
+-- what a transform keeps of a batch
+
+pub room_client : (n : ℕ) (x : Windows) (c s : BoardBatch) → HasRoom c n x → HasRoom (boards_of.client_past c s) n x
+room_client n x c s room = batch_room_past boards boards.client_past boards.server_past one_room_client n x c s room
+
+pub room_server : (n : ℕ) (x : Windows) (s c : BoardBatch) → HasRoom s n x → HasRoom (boards_of.server_past s c) n x
+room_server n x s c room = batch_room_past boards boards.server_past boards.client_past one_room_server n x s c room
+
+pub shape_client : (c s : BoardBatch) → shape (boards_of.client_past c s) ≡ shape c
+shape_client c s = batch_shape_past boards boards.client_past boards.server_past (λ o p. refl) c s
+
+pub shape_server : (s c : BoardBatch) → shape (boards_of.server_past s c) ≡ shape s
+shape_server s c = batch_shape_past boards boards.server_past boards.client_past (λ o p. refl) s c
+
+pub length_client : (c s : BoardBatch) → length (boards_of.client_past c s) ≡ length c
+length_client c s = length-grid_rows boards.are_apart boards.client_past boards.server_past c s
+
+pub length_server : (s c : BoardBatch) → length (boards_of.server_past s c) ≡ length s
+length_server s c = length-grid_rows boards.are_apart boards.server_past boards.client_past s c
+
+-- each operation inserts one item at most
+
+count_few : (o : Option Name) → count_of o ≤ 1
+count_few None = omega arith
+count_few (Some n) = omega arith
+
+pub insertions_few : (os : BoardBatch) → insertions (edit_of os) ≤ length os
+insertions_few [] = omega arith
+insertions_few (o ∷ os) =
+    let one = count_few (inserted_name (board.edit_of o).what) in
+    let rest = insertions_few os in
+    omega (arith, one, rest)
+
+-- an edit that bears no name of a site inserts none
+
+named_by : (i : ℕ) (n : Name) (o : Option Name) → is_name n o ≡ true → n.site ≡ i → is_of_site i o ≡ false → ⊥
+named_by i n None has own other = false≢true has
+named_by i n (Some m) has own other =
+    let same : m ≡ n = name_eq_same m n has in
+    false≢true (sym other ∙ eq-eqb m.site i (ap (λ (k : Name). k.site) same ∙ own))
+
+pub foreign : (i : ℕ) (es : BoardEdits) (n : Placed) → bears_site i es ≡ false → Inserts es n → n.name.site ≡ i → ⊥
+foreign i [] n other has own = absurd has
+foreign i (e ∷ es) n other (inl has) own =
+    let parts = or_parts (board_operations.bears_site i e) (one_bears_site board_operations i es) other in
+    named_by i n.name (inserted_name e.what) (inserts_at_all (same_place (board.edit_place e) n.at) n.name e.what has) own parts.0
+foreign i (e ∷ es) n other (inr has) own =
+    let parts = or_parts (board_operations.bears_site i e) (one_bears_site board_operations i es) other in
+    foreign i es n parts.1 has own
+
+-- one operation is copied where it stands
+
+pub several_operations : (os : BoardBatch) → 1 ≤ length os → (copies_freely_batch boards os → ⊥) → 2 ≤ length os
+several_operations [] some copied = absurd (omega (arith, some))
+several_operations (o ∷ []) some copied = absurd (copied tt)
+several_operations (o ∷ (p ∷ os)) some copied = omega arith

@@ -1,0 +1,8 @@
+-- The elements of a list, wherever they stand
+use Rattle.std.specs.Prelude.{List}
+use Rattle.jup_xform.specs.declared.store.Store.{Store}
+use Rattle.jup_xform.specs.declared.store.Store.TheVariants.{One, More}
+
+abbrev pub items_of : {T : Type 0} → Store T → List T
+items_of (One xs) = xs
+items_of (More v) = v.items

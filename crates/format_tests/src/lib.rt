@@ -1,8 +1,10 @@
-//! Lines of a link, layouts, and printed texts, by their public calls.
+//! Lines of a link and messages of them, layouts, and printed texts, by their public calls.
 #![tactic(auto)]
 
 ghost use Rattle.std.specs.Prelude.{◌≡◌};
 
+#[cfg(test)]
+mod gathering;
 #[cfg(test)]
 mod layouts;
 #[cfg(test)]

@@ -1,17 +1,17 @@
 //! Each kind of line as bytes written by hand, and the faults, whole and byte by byte.
-use jup_link::Msg;
 use jup_seq::SeqOp;
 use jup_setting::SetOp;
 use jup_value::{Item, Label, Name};
 use jup_window::{BoardOp, WidgetOp};
 use jup_wire::{
-    Fed, Line, MOST, Reader, WireFault, feed_of, has_spelling, read_line, write, write_reserved,
+    Fed, LONGEST, Line, MOST, Reader, WireFault, feed_of, has_spelling, read_line, write,
+    write_reserved,
 };
 use std::alloc::Global;
 use std::marker::PhantomData;
 use std::process::Abort;
 
-fn name(site: u32, number: u32) -> Name {
+pub(crate) fn name(site: u32, number: u32) -> Name {
     Name { site, number }
 }
 
@@ -19,12 +19,12 @@ fn label(rt: &impl Abort, text: &[u8]) -> Label {
     Label::read(text).expect(rt, "a label")
 }
 
-fn op(mine: u32, heard: u32, win: u16, wid: u16, op: WidgetOp) -> Line {
-    Line::Op(Msg {
-        mine,
-        heard,
-        op: BoardOp { win, wid, op },
-    })
+fn batch(mine: u32, heard: u32, count: u32) -> Line {
+    Line::Batch { mine, heard, count }
+}
+
+fn operation(win: u16, wid: u16, op: WidgetOp) -> Line {
+    Line::Do(BoardOp { win, wid, op })
 }
 
 // What a reader gives for a piece.
@@ -42,7 +42,7 @@ fn is_written(rt: &impl Abort, alloc: Global, line: &Line, text: &[u8]) {
     let mut written = Vec::new(alloc);
     write(alloc, line, &mut written).expect(rt, "memory");
     assert_eq!(rt; written.as_slice(), text);
-    let mut reserved = Vec::with_capacity(alloc, MOST).expect(rt, "memory");
+    let mut reserved = Vec::with_capacity(alloc, LONGEST).expect(rt, "memory");
     write_reserved(line, &mut reserved);
     assert_eq!(rt; reserved.as_slice(), text);
 }
@@ -54,7 +54,7 @@ fn is_not_written(rt: &impl Abort, alloc: Global, line: &Line) {
     write(alloc, &Line::Bye, &mut written).expect(rt, "memory");
     assert_eq!(rt; write(alloc, line, &mut written), Ok(()));
     assert_eq!(rt; written.as_slice(), b"bye\n".as_slice());
-    let mut reserved = Vec::with_capacity(alloc, MOST).expect(rt, "memory");
+    let mut reserved = Vec::with_capacity(alloc, LONGEST).expect(rt, "memory");
     write_reserved(line, &mut reserved);
     assert!(rt; reserved.is_empty());
 }
@@ -69,7 +69,7 @@ fn is_read_by_itself(rt: &impl Abort, line: &Line, text: &[u8]) {
 // What is wrong with bytes that are no line.
 fn fault_of(text: &[u8]) -> Option<WireFault> {
     // Types that a line holds, named so that the borrow checker knows of them.
-    let _of: PhantomData<(SeqOp<Label>, WidgetOp, BoardOp, Msg<BoardOp>)> = PhantomData;
+    let _of: PhantomData<(SeqOp<Label>, WidgetOp, BoardOp)> = PhantomData;
     match read_line(text) {
         Ok(_) => None,
         Err(fault) => Some(fault),
@@ -103,7 +103,7 @@ fn check_line(rt: &impl Abort, alloc: Global, line: &Line, text: &[u8]) {
 
 #[test]
 fn sessions_as_bytes(rt: HostRuntime) {
-    check_line(&rt, rt.alloc(), &Line::Hello, b"hello 2\n");
+    check_line(&rt, rt.alloc(), &Line::Hello, b"hello 3\n");
     let welcome = Line::Welcome {
         site: 1,
         limit: 100,
@@ -152,6 +152,17 @@ fn layouts_as_bytes(rt: HostRuntime) {
 }
 
 #[test]
+fn batches_as_bytes(rt: HostRuntime) {
+    const LARGEST: u32 = 4_294_967_295;
+    check_line(&rt, rt.alloc(), &batch(0, 0, 1), b"batch 0 0 1\n");
+    let longest = b"batch 4294967295 4294967295 32\n";
+    assert_eq!(rt; longest.len(), 31);
+    check_line(&rt, rt.alloc(), &batch(LARGEST, LARGEST, 32), longest);
+    is_not_written(&rt, rt.alloc(), &batch(0, 0, 0));
+    is_not_written(&rt, rt.alloc(), &batch(0, 0, 33));
+}
+
+#[test]
 fn operations_as_bytes(rt: HostRuntime) {
     let insert = WidgetOp::Text(SeqOp::Insert {
         place: 0,
@@ -163,8 +174,8 @@ fn operations_as_bytes(rt: HostRuntime) {
     check_line(
         &rt,
         rt.alloc(),
-        &op(0, 0, 1, 1, insert),
-        b"op 0 0 1 1 text ins 0 1.1 97\n",
+        &operation(1, 1, insert),
+        b"do 1 1 text ins 0 1.1 97\n",
     );
     let delete = WidgetOp::Text(SeqOp::Delete {
         place: 5,
@@ -173,14 +184,14 @@ fn operations_as_bytes(rt: HostRuntime) {
     check_line(
         &rt,
         rt.alloc(),
-        &op(1, 2, 3, 4, delete),
-        b"op 1 2 3 4 text del 5 2.3\n",
+        &operation(3, 4, delete),
+        b"do 3 4 text del 5 2.3\n",
     );
     check_line(
         &rt,
         rt.alloc(),
-        &op(0, 0, 1, 1, WidgetOp::Text(SeqOp::Nothing)),
-        b"op 0 0 1 1 text no\n",
+        &operation(1, 1, WidgetOp::Text(SeqOp::Nothing)),
+        b"do 1 1 text no\n",
     );
     let delete = WidgetOp::List(SeqOp::Delete {
         place: 0,
@@ -189,14 +200,14 @@ fn operations_as_bytes(rt: HostRuntime) {
     check_line(
         &rt,
         rt.alloc(),
-        &op(0, 0, 1, 2, delete),
-        b"op 0 0 1 2 list del 0 0.2\n",
+        &operation(1, 2, delete),
+        b"do 1 2 list del 0 0.2\n",
     );
     check_line(
         &rt,
         rt.alloc(),
-        &op(0, 0, 1, 2, WidgetOp::List(SeqOp::Nothing)),
-        b"op 0 0 1 2 list no\n",
+        &operation(1, 2, WidgetOp::List(SeqOp::Nothing)),
+        b"do 1 2 list no\n",
     );
 }
 
@@ -207,14 +218,14 @@ fn relabels_as_bytes(rt: HostRuntime) {
         name: name(65_535, 2),
         value: label(&rt, b"red ink"),
     });
-    let text = b"op 0 0 1 2 list rel 4294967295 65535.2 red ink\n";
-    check_line(&rt, rt.alloc(), &op(0, 0, 1, 2, relabel), text);
+    let text = b"do 1 2 list rel 4294967295 65535.2 red ink\n";
+    check_line(&rt, rt.alloc(), &operation(1, 2, relabel), text);
     assert_eq!(rt;
-        fault_of(b"op 0 0 1 2 list rel 0 0.1"),
+        fault_of(b"do 1 2 list rel 0 0.1"),
         Some(WireFault::BadLine)
     );
     assert_eq!(rt;
-        fault_of(b"op 0 0 1 2 list rel 0.1 tea"),
+        fault_of(b"do 1 2 list rel 0.1 tea"),
         Some(WireFault::BadLine)
     );
 }
@@ -226,13 +237,13 @@ fn relabel_of_a_text_is_no_line(rt: HostRuntime) {
         name: name(0, 1),
         value: 'a',
     });
-    is_not_written(&rt, rt.alloc(), &op(0, 0, 1, 1, relabel));
-    let text = b"op 0 0 1 1 text rel 0 0.1 97\n";
+    is_not_written(&rt, rt.alloc(), &operation(1, 1, relabel));
+    let text = b"do 1 1 text rel 0 0.1 97\n";
     let refused = fed(&rt, rt.alloc(), &mut Reader::new(), text);
     assert_eq!(rt; refused.fault, Some(WireFault::BadLine));
     assert!(rt; refused.lines.as_slice().is_empty());
     assert_eq!(rt;
-        fault_of(b"op 0 0 1 1 text rel 0 0.1 97"),
+        fault_of(b"do 1 1 text rel 0 0.1 97"),
         Some(WireFault::BadLine)
     );
 }
@@ -242,32 +253,32 @@ fn settings_as_bytes(rt: HostRuntime) {
     for (setting, text) in [
         (
             WidgetOp::Toggle(SetOp::Set(true)),
-            b"op 0 0 1 3 toggle set on\n".as_slice(),
+            b"do 1 3 toggle set on\n".as_slice(),
         ),
         (
             WidgetOp::Toggle(SetOp::Set(false)),
-            b"op 0 0 1 3 toggle set off\n".as_slice(),
+            b"do 1 3 toggle set off\n".as_slice(),
         ),
         (
             WidgetOp::Toggle(SetOp::Nothing),
-            b"op 0 0 1 3 toggle no\n".as_slice(),
+            b"do 1 3 toggle no\n".as_slice(),
         ),
         (
             WidgetOp::Slider(SetOp::Set(-5)),
-            b"op 0 0 1 3 slider set -5\n".as_slice(),
+            b"do 1 3 slider set -5\n".as_slice(),
         ),
         (
             WidgetOp::Slider(SetOp::Nothing),
-            b"op 0 0 1 3 slider no\n".as_slice(),
+            b"do 1 3 slider no\n".as_slice(),
         ),
     ] {
-        check_line(&rt, rt.alloc(), &op(0, 0, 1, 3, setting), text);
+        check_line(&rt, rt.alloc(), &operation(1, 3, setting), text);
     }
 }
 
-// A list insertion with the largest numbers and a label of 48 bytes has 128 bytes.
+// A list insertion with the largest numbers and a label of 48 bytes has 106 bytes.
 #[test]
-fn longest_line_has_128_bytes(rt: HostRuntime) {
+fn longest_line_has_106_bytes(rt: HostRuntime) {
     const LARGEST: u32 = 4_294_967_295;
     let insert = WidgetOp::List(SeqOp::Insert {
         place: LARGEST,
@@ -277,20 +288,22 @@ fn longest_line_has_128_bytes(rt: HostRuntime) {
         },
     });
     let text =
-        b"op 4294967295 4294967295 65535 65535 list ins 4294967295 4294967295.4294967295 xxxxxxxxxxxxxxxxxxxxxxxxxxxxxxxxxxxxxxxxxxxxxxxx\n";
-    assert_eq!(rt; text.len(), MOST);
-    check_line(
-        &rt,
-        rt.alloc(),
-        &op(LARGEST, LARGEST, 65_535, 65_535, insert),
-        text,
-    );
+        b"do 65535 65535 list ins 4294967295 4294967295.4294967295 xxxxxxxxxxxxxxxxxxxxxxxxxxxxxxxxxxxxxxxxxxxxxxxx\n";
+    assert_eq!(rt; text.len(), LONGEST);
+    assert!(rt; LONGEST <= MOST);
+    check_line(&rt, rt.alloc(), &operation(65_535, 65_535, insert), text);
 }
 
 #[test]
 fn bytes_outside_the_grammar_are_refused(rt: HostRuntime) {
     for text in [
-        b"op 00 0 1 1 text no\n".as_slice(),
+        b"batch 00 0 1\n".as_slice(),
+        b"batch 0 0 0\n".as_slice(),
+        b"batch 0 0 33\n".as_slice(),
+        b"batch 0 0 01\n".as_slice(),
+        b"batch 0 0\n".as_slice(),
+        b"do 01 1 text no\n".as_slice(),
+        b"op 0 0 1 1 text no\n".as_slice(),
         b"ping 007\n".as_slice(),
         b"ping 4294967296\n".as_slice(),
         b"ping +7\n".as_slice(),
@@ -298,8 +311,8 @@ fn bytes_outside_the_grammar_are_refused(rt: HostRuntime) {
         b"ping  7\n".as_slice(),
         b"ping\n".as_slice(),
         b"\n".as_slice(),
-        b"hello 02\n".as_slice(),
-        b"hello 2 \n".as_slice(),
+        b"hello 03\n".as_slice(),
+        b"hello 3 \n".as_slice(),
         b"window 65536\n".as_slice(),
         b"slider 1 -0 1 0\n".as_slice(),
         b"slider 1 0 2147483648 0\n".as_slice(),
@@ -312,8 +325,10 @@ fn bytes_outside_the_grammar_are_refused(rt: HostRuntime) {
         assert_eq!(rt; refused.fault, Some(WireFault::BadLine));
         assert!(rt; refused.lines.as_slice().is_empty());
     }
-    let other = fed(&rt, rt.alloc(), &mut Reader::new(), b"hello 1\n");
-    assert_eq!(rt; other.fault, Some(WireFault::BadVersion));
+    for text in [b"hello 1\n", b"hello 2\n"] {
+        let other = fed(&rt, rt.alloc(), &mut Reader::new(), text);
+        assert_eq!(rt; other.fault, Some(WireFault::BadVersion));
+    }
 }
 
 #[test]

@@ -18,8 +18,8 @@ use Rattle.std.proofs.lemmas.Bool.Decides.{Decides-and, Decides-ltb, Decides-by_
 use Rattle.std.proofs.lemmas.Option.{cond_some, same_Some}
 use Rattle.jup_value.specs.Labels.{IsLabelText}
 use Rattle.jup_value.specs.declared.labels.BadLabel.{BadLabel}
-use Rattle.jup_wire.specs.Grammar.{name_text, switch_text, IsU32, IsId, IsInt, IsName}
-use Rattle.jup_wire.specs.Reading.{◌>>=◌, pair_of, number_of, id_of, scalar_of, int_of, name_of, switch_of, is_label, label_of}
+use Rattle.jup_wire.specs.Grammar.{name_text, switch_text, IsU32, IsId, IsInt, IsName, IsCount, is_count}
+use Rattle.jup_wire.specs.Reading.{◌>>=◌, pair_of, number_of, id_of, count_of, scalar_of, int_of, name_of, switch_of, is_label, label_of}
 use Rattle.jup_number.specs.Spelled.{IsReadingOf}
 use Rattle.jup_number.proofs.Numbers.{digit_below}
 use Rattle.jup_wire.proofs.Options.{bind_some, none_from}
@@ -121,6 +121,10 @@ refined read text Is limit reader test Passes decides includes less short =
 pub id_reader : IsReader id_of decimal IsId 5
 unfolding id_of
 id_reader = refined number_of decimal IsU32 10 number_reader (λ n. ltb n (2 ^ 16)) IsId (λ n. Decides-ltb n (2 ^ 16)) (λ n lt. omega (arith, lt)) 5 (λ n lt. length-decimal-le 5 n (lit< tt) (omega arith) (omega arith))
+
+pub count_reader : IsReader count_of decimal IsCount 2
+unfolding count_of
+count_reader = refined number_of decimal IsU32 10 number_reader is_count IsCount (λ n. Decides-and (leb 1 n) (leb n 32) (Decides-leb 1 n) (Decides-leb n 32)) (λ n is. omega (arith, is.1)) 2 (λ n is. length-decimal-le 2 n (lit< tt) (omega (arith, is.1)) (omega (arith, is.1)))
 
 scalar_small : (n : ℕ) → IsScalar n → n < 10 ^ 7
 scalar_small n is = elim (scalar_cases n is) [ inl low ↦ omega arith | inr high ↦ omega (arith, high.1) ]

@@ -127,7 +127,8 @@ taken d (line.Item name value) = with_label_in d.last (record { name = name; val
 taken d line.Hello = Err Misplaced
 taken d (line.Welcome site limit) = Err Misplaced
 taken d line.Ready = Err Misplaced
-taken d (line.Op msg) = Err Misplaced
+taken d (line.Batch mine heard count) = Err Misplaced
+taken d (line.Do op) = Err Misplaced
 taken d (line.Ack n) = Err Misplaced
 taken d (line.Ping n) = Err Misplaced
 taken d (line.Pong n) = Err Misplaced

@@ -1,5 +1,5 @@
 -- The lines and their bytes: the fields of a line with one space between them, and a line feed at the end.
-use Rattle.std.specs.Prelude.{◌≡◌, ◌≢◌, ℕ, ◌^◌, ◌<◌, Bool, true, false, IsTrue, if◌then◌else◌, List, [], ◌∷◌, ◌++◌, codes, decimal, refl}
+use Rattle.std.specs.Prelude.{◌≡◌, ◌≢◌, ℕ, ◌^◌, ◌<◌, ◌≤◌, Bool, true, false, ◌&&◌, IsTrue, nat_le, if◌then◌else◌, List, [], ◌∷◌, ◌++◌, codes, decimal, refl}
 use Rattle.std.specs.Fmt.{signed_decimal, digits}
 use Rattle.std.specs.Char.{IsScalar}
 use Rattle.std.specs.List.{join_with_byte}
@@ -16,7 +16,7 @@ use Rattle.jup_window.specs.Widgets.{is_no_relabel, relabels_no_text}
 use Rattle.jup_wire.specs.declared.faults.WireFault.{WireFault}
 use Rattle.jup_wire.specs.declared.faults.WireFault.TheVariants.{BadLine, LongLine, BadVersion, EarlyEnd}
 use Rattle.jup_wire.specs.declared.line.Line.{Line}
-use Rattle.jup_wire.specs.declared.line.Line.TheVariants.{Hello, Welcome, Window, Text, List as ListLine, Toggle, Slider, Char, Item, Ready, Op, Ack, Ping, Pong, Bye, Error}
+use Rattle.jup_wire.specs.declared.line.Line.TheVariants.{Hello, Welcome, Window, Text, List as ListLine, Toggle, Slider, Char, Item, Ready, Batch, Do, Ack, Ping, Pong, Bye, Error}
 
 -- a name: its site, a dot, its number
 abbrev pub name_text : Name → List ℕ
@@ -47,11 +47,11 @@ body_fields (widget.Slider op) = codes "slider" ∷ set_fields signed_decimal op
 
 -- the version of the protocol, as a greeting names it
 abbrev pub this_version : ℕ
-this_version = 2
+this_version = 3
 
 -- the fields of a line
 abbrev pub fields : Line → List (List ℕ)
-fields Hello = codes "hello" ∷ codes "2" ∷ []
+fields Hello = codes "hello" ∷ codes "3" ∷ []
 fields (Welcome site limit) = codes "welcome" ∷ decimal site ∷ decimal limit ∷ []
 fields (Window win) = codes "window" ∷ decimal win ∷ []
 fields (Text wid) = codes "text" ∷ decimal wid ∷ []
@@ -61,7 +61,8 @@ fields (Slider wid lo hi value) = codes "slider" ∷ decimal wid ∷ signed_deci
 fields (Char name scalar) = codes "char" ∷ name_text name ∷ decimal scalar ∷ []
 fields (Item name label) = codes "item" ∷ name_text name ∷ label ∷ []
 fields Ready = codes "ready" ∷ []
-fields (Op msg) = codes "op" ∷ decimal msg.mine ∷ decimal msg.heard ∷ decimal msg.op.win ∷ decimal msg.op.wid ∷ body_fields msg.op.op
+fields (Batch mine heard count) = codes "batch" ∷ decimal mine ∷ decimal heard ∷ decimal count ∷ []
+fields (Do op) = codes "do" ∷ decimal op.win ∷ decimal op.wid ∷ body_fields op.op
 fields (Ack count) = codes "ack" ∷ decimal count ∷ []
 fields (Ping k) = codes "ping" ∷ decimal k ∷ []
 fields (Pong k) = codes "pong" ∷ decimal k ∷ []
@@ -79,6 +80,13 @@ spelling line = line_text line ++ 10 ∷ []
 -- the ranges of the numbers and texts that a line may hold
 abbrev pub IsId : ℕ → Type 0
 IsId n = n < 2 ^ 16
+
+-- how many operations a batch may have
+abbrev pub IsCount : ℕ → Type 0
+IsCount n = (1 ≤ n) × (n ≤ 32)
+
+abbrev pub is_count : ℕ → Bool
+is_count n = nat_le 1 n && nat_le n 32
 
 abbrev pub IsName : Name → Type 0
 IsName name = IsU32 name.site × IsU32 name.number
@@ -112,16 +120,18 @@ HasSpelling (Slider wid lo hi value) = IsId wid × (IsInt lo × (IsInt hi × IsI
 HasSpelling (Char name scalar) = IsName name × IsScalar scalar
 HasSpelling (Item name label) = IsName name × IsLabelText label
 HasSpelling Ready = Unit {0}
-HasSpelling (Op msg) = IsU32 msg.mine × (IsU32 msg.heard × (IsId msg.op.win × (IsId msg.op.wid × IsBody msg.op.op)))
+HasSpelling (Batch mine heard count) = IsU32 mine × (IsU32 heard × IsCount count)
+HasSpelling (Do op) = IsId op.win × (IsId op.wid × IsBody op.op)
 HasSpelling (Ack count) = IsU32 count
 HasSpelling (Ping k) = IsU32 k
 HasSpelling (Pong k) = IsU32 k
 HasSpelling Bye = Unit {0}
 HasSpelling (Error number) = IsU32 number
 
--- whether a line that a program holds has a spelling: all do but a relabel of a text
+-- whether a line that a program holds has a spelling: all do but a batch of no operation or of too many, and a relabel of a text
 abbrev pub is_spelled : Line → Bool
-is_spelled (Op msg) = relabels_no_text msg.op.op
+is_spelled (Batch mine heard count) = is_count count
+is_spelled (Do op) = relabels_no_text op.op
 is_spelled line = true
 
 -- what is written for a line: its spelling, and nothing where it has none

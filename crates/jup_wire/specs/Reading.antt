@@ -12,11 +12,11 @@ use Rattle.jup_setting.specs.declared.operation.SetOp.TheVariants as set
 use Rattle.jup_window.specs.declared.widget_operations.WidgetOp.{WidgetOp}
 use Rattle.jup_window.specs.declared.widget_operations.WidgetOp.TheVariants as widget
 use Rattle.jup_window.specs.Widgets.{is_no_relabel}
-use Rattle.jup_wire.specs.Grammar.{this_version}
+use Rattle.jup_wire.specs.Grammar.{this_version, is_count}
 use Rattle.jup_wire.specs.declared.faults.WireFault.{WireFault}
 use Rattle.jup_wire.specs.declared.faults.WireFault.TheVariants.{BadLine, BadVersion}
 use Rattle.jup_wire.specs.declared.line.Line.{Line}
-use Rattle.jup_wire.specs.declared.line.Line.TheVariants.{Hello, Welcome, Window, Text, List as ListLine, Toggle, Slider, Char, Item as ItemLine, Ready, Op, Ack, Ping, Pong, Bye, Error}
+use Rattle.jup_wire.specs.declared.line.Line.TheVariants.{Hello, Welcome, Window, Text, List as ListLine, Toggle, Slider, Char, Item as ItemLine, Ready, Batch, Do, Ack, Ping, Pong, Bye, Error}
 
 infixl 10 ◌>>=◌
 abbrev pub ◌>>=◌ : {A B : Type 0} → Option A → (A → Option B) → Option B
@@ -58,6 +58,10 @@ pair_of separator first second bytes = do
 -- an id: a number below 2 ^ 16
 unfoldable pub id_of : List ℕ → Option ℕ
 id_of bytes = number_of bytes >>= λ n. if nat_lt n (2 ^ 16) then Some n else None
+
+-- how many operations a batch has
+unfoldable pub count_of : List ℕ → Option ℕ
+count_of bytes = number_of bytes >>= λ n. if is_count n then Some n else None
 
 unfoldable pub scalar_of : List ℕ → Option ℕ
 scalar_of bytes = number_of bytes >>= λ n. if scalar n then Some n else None
@@ -142,9 +146,11 @@ char_of rest = pair_of 32 name_of scalar_of rest >>= λ x. Some (Char x.0 x.1)
 unfoldable pub item_of : List ℕ → Option Line
 item_of rest = pair_of 32 name_of label_of rest >>= λ x. Some (ItemLine x.0 x.1)
 
-unfoldable pub op_of : List ℕ → Option Line
-op_of rest = pair_of 32 number_of (pair_of 32 number_of (pair_of 32 id_of (pair_of 32 id_of body_of))) rest
-    >>= λ x. Some (Op (record { mine = x.0; heard = x.1.0; op = record { win = x.1.1.0; wid = x.1.1.1.0; op = x.1.1.1.1 } }))
+unfoldable pub batch_of : List ℕ → Option Line
+batch_of rest = pair_of 32 number_of (pair_of 32 number_of count_of) rest >>= λ x. Some (Batch x.0 x.1.0 x.1.1)
+
+unfoldable pub do_of : List ℕ → Option Line
+do_of rest = pair_of 32 id_of (pair_of 32 id_of body_of) rest >>= λ x. Some (Do (record { win = x.0; wid = x.1.0; op = x.1.1 }))
 
 abbrev pub line_table : List (List ℕ × (List ℕ → Option Line))
 line_table =
@@ -157,7 +163,8 @@ line_table =
     ∷ (codes "slider", slider_of)
     ∷ (codes "char", char_of)
     ∷ (codes "item", item_of)
-    ∷ (codes "op", op_of)
+    ∷ (codes "batch", batch_of)
+    ∷ (codes "do", do_of)
     ∷ (codes "ack", λ rest. number_of rest >>= λ count. Some (Ack count))
     ∷ (codes "ping", λ rest. number_of rest >>= λ k. Some (Ping k))
     ∷ (codes "pong", λ rest. number_of rest >>= λ k. Some (Pong k))

@@ -2,8 +2,10 @@
 
 ghost use Rattle.std.specs.Prelude.{◌≡◌, ◌==◌, length, IfSome, position, ℕ, ◌+◌, ◌<◌, List, take, drop, Option};
 ghost use Rattle.std.specs.Str.Parse.{AllDigits, digits_value};
-ghost use Rattle.jup_wire.specs.Reading.{Gives, with_rest, split_of, field_of, number_of, id_of, scalar_of, int_of, name_of, switch_of, label_of};
+ghost use Rattle.jup_wire.specs.Reading.{Gives, with_rest, split_of, field_of, number_of, id_of, scalar_of, int_of, name_of, switch_of, label_of, count_of};
+ghost use Rattle.jup_wire.specs.Grammar.{is_count as is_count_of};
 
+use crate::line::MOST_OPERATIONS;
 use jup_number::{read_integer, read_number, with_digit};
 use jup_value::{Label, Name};
 use memchr::memchr;
@@ -166,4 +168,20 @@ pub(crate) fn number(digits: &[u8]) -> Option<u32>
     ensures { result ≡ number_of digits.now }
 {
     read_number(digits)
+}
+
+/// Whether a batch may have so many operations.
+pub(crate) fn is_count(count: u32) -> bool
+    ensures { result ≡ is_count_of count }
+{
+    (1..=MOST_OPERATIONS).contains(&count)
+}
+
+/// How many operations a batch has.
+#[tactic(auto, unfolding(crate::specs::Reading::count_of))]
+pub(crate) fn count(bytes: &[u8]) -> Option<u32>
+    ensures { result ≡ count_of bytes.now }
+{
+    let count = number(bytes)?;
+    if is_count(count) { Some(count) } else { None }
 }

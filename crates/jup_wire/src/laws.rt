@@ -3,11 +3,12 @@
 ghost use Rattle.std.specs.Prelude.{◌≡◌, ◌↔◌, ℕ, List, ◌++◌, None, IsTrue};
 ghost use Rattle.std.specs.List.{flat_map, AllByRecursion};
 ghost use Rattle.jup_wire.specs.declared.line.Line.{Line};
-ghost use Rattle.jup_wire.specs.declared.line.Line.TheVariants.{Op};
+ghost use Rattle.jup_wire.specs.declared.line.Line.TheVariants.{Batch, Do};
 ghost use Rattle.jup_window.specs.Widgets.{relabels_no_text};
-ghost use Rattle.jup_wire.specs.Grammar.{HasSpelling, IsLine, IsName, is_spelled, spelling};
+ghost use Rattle.jup_wire.specs.Grammar.{HasSpelling, IsLine, IsName, is_count, is_spelled, spelling};
 ghost use Rattle.jup_wire.specs.Streams.{HasRead, Progress};
 
+use crate::fields::is_count;
 use crate::line::Line;
 use jup_seq::SeqOp;
 use jup_value::Name;
@@ -20,15 +21,24 @@ fn is_name(name: Name)
     let _name = name;
 }
 
-fn has_body(mine: u32, heard: u32, op: BoardOp) -> bool
-    ensures test { result ≡ relabels_no_text op.op }
-    ensures spelling { IsTrue result ↔ HasSpelling (Op (record { mine = mine; heard = heard; op = op })) }
+fn has_count(mine: u32, heard: u32, count: u32) -> bool
+    ensures test { result ≡ is_count count }
+    ensures spelling { IsTrue result ↔ HasSpelling (Batch mine heard count) }
 {
-    let _op = (mine, heard, op);
+    let _numbers = (mine, heard);
+    is_count(count)
+}
+
+fn has_body(op: BoardOp) -> bool
+    ensures test { result ≡ relabels_no_text op.op }
+    ensures spelling { IsTrue result ↔ HasSpelling (Do op) }
+{
+    let _op = op;
     !matches!(op.op, WidgetOp::Text(SeqOp::Relabel { .. }))
 }
 
-/// Whether a line has a spelling. Each that a program holds has one, but for a relabel of a text.
+/// Whether a line has a spelling. Each that a program holds has one, but for a batch of no operation or of
+/// more than 32, and for a relabel of a text.
 pub fn has_spelling(line: &Line) -> bool
     ensures test { result ≡ is_spelled line.now }
     ensures spelling { IsTrue result ↔ HasSpelling line.now }
@@ -51,7 +61,8 @@ pub fn has_spelling(line: &Line) -> bool
             is_name(*name);
             let _text = label.bytes();
         }
-        Line::Op(msg) => return has_body(msg.mine, msg.heard, msg.op),
+        Line::Batch { mine, heard, count } => return has_count(*mine, *heard, *count),
+        Line::Do(op) => return has_body(*op),
         Line::Ack(number) | Line::Ping(number) | Line::Pong(number) | Line::Error(number) => {
             let _number = *number;
         }

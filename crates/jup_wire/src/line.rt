@@ -1,11 +1,13 @@
 //! The lines of a link and of a layout.
 
-use jup_link::Msg;
 use jup_value::{Label, Name};
 use jup_window::BoardOp;
 
+/// No batch has more operations.
+pub const MOST_OPERATIONS: u32 = 32;
+
 /// A line.
-#[derive(Debug, Drop, PartialEq, Eq)]
+#[derive(Clone, Copy, Debug, PartialEq, Eq)]
 pub enum Line {
     Hello,
     Welcome {
@@ -25,7 +27,13 @@ pub enum Line {
     Char(Name, char),
     Item(Name, Label),
     Ready,
-    Op(Msg<BoardOp>),
+    /// A message of so many operations, each of which follows on a line of its own.
+    Batch {
+        mine: u32,
+        heard: u32,
+        count: u32,
+    },
+    Do(BoardOp),
     Ack(u32),
     Ping(u32),
     Pong(u32),

@@ -3,19 +3,18 @@
 ghost use Rattle.std.specs.Prelude.{◌≡◌, Ok, IfOk, IfErr};
 ghost use Rattle.jup_wire.specs.declared.line.Line.{Line};
 ghost use Rattle.jup_wire.specs.Grammar.{HasSpelling, line_text, IsBad};
-ghost use Rattle.jup_wire.specs.Reading.{insert_of, delete_of, relabel_of, seq_of, text_of, set_of, body_of, welcome_of, hello_of, toggle_of, slider_of, char_of, item_of, op_of, headed_of, line_of, version_of, refusal_of};
+ghost use Rattle.jup_wire.specs.Reading.{insert_of, delete_of, relabel_of, seq_of, text_of, set_of, body_of, welcome_of, hello_of, toggle_of, slider_of, char_of, item_of, batch_of, do_of, headed_of, line_of, version_of, refusal_of};
 
 use crate::faults::WireFault;
-use crate::fields::{FieldValue, field, id_before, number, number_before, split};
+use crate::fields::{FieldValue, count, field, id_before, number, number_before, split};
 use crate::line::Line;
-use jup_link::Msg;
 use jup_seq::{SeqOp, TextOp};
 use jup_setting::SetOp;
 use jup_value::{Item, Label, Name};
 use jup_window::{BoardOp, WidgetOp};
 
 /// The version of the protocol, as a greeting names it.
-const THIS_VERSION: u32 = 2;
+const THIS_VERSION: u32 = 3;
 
 /// The line that the bytes are, which have no line feed behind them, or what is wrong with them: `BadLine`,
 /// or `BadVersion`.
@@ -73,8 +72,11 @@ fn headed(word: &[u8], rest: &[u8]) -> Option<Line>
     ensures { result ≡ headed_of word.now rest.now }
 {
     // Most lines are operations.
-    if word == b"op".as_slice() {
-        return op(rest);
+    if word == b"do".as_slice() {
+        return operation(rest);
+    }
+    if word == b"batch".as_slice() {
+        return batch(rest);
     }
     if word == b"hello".as_slice() {
         return hello(rest);
@@ -176,20 +178,24 @@ fn item(rest: &[u8]) -> Option<Line>
     Some(Line::Item(name, label))
 }
 
-#[tactic(auto, unfolding(crate::specs::Reading::op_of))]
-fn op(rest: &[u8]) -> Option<Line>
-    ensures { result ≡ op_of rest.now }
+#[tactic(auto, unfolding(crate::specs::Reading::batch_of))]
+fn batch(rest: &[u8]) -> Option<Line>
+    ensures { result ≡ batch_of rest.now }
 {
     let (mine, rest) = number_before(rest, b' ')?;
     let (heard, rest) = number_before(rest, b' ')?;
+    let count = count(rest)?;
+    Some(Line::Batch { mine, heard, count })
+}
+
+#[tactic(auto, unfolding(crate::specs::Reading::do_of))]
+fn operation(rest: &[u8]) -> Option<Line>
+    ensures { result ≡ do_of rest.now }
+{
     let (win, rest) = id_before(rest)?;
     let (wid, rest) = id_before(rest)?;
     let op = body(rest)?;
-    Some(Line::Op(Msg {
-        mine,
-        heard,
-        op: BoardOp { win, wid, op },
-    }))
+    Some(Line::Do(BoardOp { win, wid, op }))
 }
 
 /// An operation on a widget, by the widget's kind.

@@ -12,7 +12,6 @@ use crate::fields::split_line;
 use crate::line::Line;
 use crate::parse::read_line;
 use crate::part::{MOST_PART, Part};
-use jup_link::Msg;
 use jup_seq::SeqOp;
 use jup_value::Label;
 use jup_window::{BoardOp, WidgetOp};
@@ -142,7 +141,7 @@ impl Model for Lines {
 
 impl Lines {
     /// No lines.
-    pub(crate) fn new(alloc: Global) -> Lines
+    pub fn new(alloc: Global) -> Lines
         ensures { result ≡ [] }
     {
         Lines {
@@ -155,7 +154,7 @@ impl Lines {
         ensures err { OnErr result (self.new ≡ self.old) }
     {
         // Types that a line holds, named so that the borrow checker knows of them.
-        let _of: PhantomData<(SeqOp<Label>, WidgetOp, BoardOp, Msg<BoardOp>)> = PhantomData;
+        let _of: PhantomData<(SeqOp<Label>, WidgetOp, BoardOp)> = PhantomData;
         match self.items.push(line) {
             Ok(()) => Ok(()),
             Err(_) => Err(NoMemory),

@@ -14,8 +14,11 @@ use jup_window::WidgetOp;
 use jup_xform::NoMemory;
 use std::alloc::Global;
 
-/// No line has a longer spelling.
+/// The room that `write` makes, which is enough for any line.
 pub const MOST: usize = 128;
+
+/// No line has a longer spelling.
+pub const LONGEST: usize = 106;
 
 /// Appends the one spelling of a line, or nothing for a line that has none. An `Err` appends nothing.
 pub fn write(_alloc: Global, line: &Line, out: &mut Vec<u8>) -> Result<(), NoMemory>
@@ -33,10 +36,10 @@ pub fn write(_alloc: Global, line: &Line, out: &mut Vec<u8>) -> Result<(), NoMem
 
 /// The same, and takes no memory.
 pub fn write_reserved(line: &Line, out: &mut Vec<u8>)
-    requires { HasRoom out.old MOST }
+    requires { HasRoom out.old LONGEST }
     ensures line { IsTrue (is_spelled line.now) ↔ HasSpelling line.now }
     ensures items { out.new.items ≡ out.old.items ++ line_bytes line.now }
-    ensures short { length (line_bytes line.now) ≤ MOST }
+    ensures short { length (line_bytes line.now) ≤ LONGEST }
     ensures capacity { vec_capacity out.old ≤ vec_capacity out.new }
 {
     if has_spelling(line) {
@@ -48,11 +51,11 @@ pub fn write_reserved(line: &Line, out: &mut Vec<u8>)
 /// Appends a line without its line feed.
 #[tactic(auto, using(crate::proofs::Written::joined))]
 fn push_line(out: &mut Vec<u8>, line: &Line)
-    requires { HasRoom out.old 127 }
-    ensures { Appends out.old out.new (line_text line.now) 127 }
+    requires { HasRoom out.old 105 }
+    ensures { Appends out.old out.new (line_text line.now) 105 }
 {
     match line {
-        Line::Hello => push(out, b"hello 2"),
+        Line::Hello => push(out, b"hello 3"),
         Line::Welcome { site, limit } => {
             push(out, b"welcome");
             push_field(out, site);
@@ -80,12 +83,15 @@ fn push_line(out: &mut Vec<u8>, line: &Line)
             push_field(out, label);
         }
         Line::Ready => push(out, b"ready"),
-        Line::Op(msg) => {
-            push_word(out, b"op", &msg.mine);
-            push_field(out, &msg.heard);
-            push_field(out, &msg.op.win);
-            push_field(out, &msg.op.wid);
-            push_body(out, &msg.op.op);
+        Line::Batch { mine, heard, count } => {
+            push_word(out, b"batch", mine);
+            push_field(out, heard);
+            push_field(out, count);
+        }
+        Line::Do(op) => {
+            push_word(out, b"do", &op.win);
+            push_field(out, &op.wid);
+            push_body(out, &op.op);
         }
         Line::Ack(count) => push_word(out, b"ack", count),
         Line::Ping(k) => push_word(out, b"ping", k),

@@ -1,0 +1,231 @@
+//! Messages as lines written by hand, and lines gathered into messages, however their bytes are cut.
+use crate::lines::name;
+use jup_batch::BoardBatch;
+use jup_gather::{Gather, Gathered, lines_of_op};
+use jup_link::Msg;
+use jup_seq::SeqOp;
+use jup_setting::SetOp;
+use jup_value::{Item, Label};
+use jup_window::{BoardOp, WidgetOp};
+use jup_wire::{Line, Reader, write};
+use jup_xform::{Batch, NoMemory};
+use std::alloc::Global;
+use std::marker::PhantomData;
+use std::process::Abort;
+
+// The k-th of some operations, from 1: a character is put at the front of a text.
+fn insertion(k: u32) -> BoardOp {
+    let item = Item {
+        name: name(1, k),
+        value: 'a',
+    };
+    BoardOp {
+        win: 1,
+        wid: 1,
+        op: WidgetOp::Text(SeqOp::Insert { place: 0, item }),
+    }
+}
+
+// A message of so many operations.
+fn message(rt: &impl Abort, alloc: Global, count: u32) -> Msg<BoardBatch> {
+    // Types that an operation holds, named so that the borrow checker knows of them.
+    let _of: PhantomData<(SeqOp<Label>, WidgetOp)> = PhantomData;
+    let mut ops = Vec::new(alloc);
+    for k in 1..=count {
+        ops.push(insertion(k)).expect(rt, "memory");
+    }
+    assert!(rt; 1 <= ops.len() && ops.len() <= 32);
+    Msg {
+        mine: 5,
+        heard: 7,
+        op: Batch::new(ops),
+    }
+}
+
+// What a gathering gives for a line.
+fn pushed(rt: &impl Abort, alloc: Global, gather: &mut Gather, line: &Line) -> Gathered {
+    gather.push(alloc, line).expect(rt, "memory")
+}
+
+const TOGGLED: BoardOp = BoardOp {
+    win: 1,
+    wid: 3,
+    op: WidgetOp::Toggle(SetOp::Set(true)),
+};
+
+const TWO: Line = Line::Batch {
+    mine: 5,
+    heard: 7,
+    count: 2,
+};
+
+// The bytes of a message's lines.
+fn bytes_of(rt: &impl Abort, alloc: Global, msg: &Msg<BoardBatch>) -> Vec<u8> {
+    let lines = lines_of_op(alloc, msg).expect(rt, "memory");
+    let mut bytes = Vec::new(alloc);
+    for line in lines.as_slice() {
+        write(alloc, line, &mut bytes).expect(rt, "memory");
+    }
+    bytes
+}
+
+#[test]
+fn message_as_bytes(rt: HostRuntime) {
+    let msg = message(&rt, rt.alloc(), 2);
+    assert_eq!(rt;
+        bytes_of(&rt, rt.alloc(), &msg).as_slice(),
+        b"batch 5 7 2\ndo 1 1 text ins 0 1.1 97\ndo 1 1 text ins 0 1.2 97\n".as_slice()
+    );
+}
+
+// Whether this message came.
+fn is_message(gathered: &Gathered, msg: &Msg<BoardBatch>) -> bool {
+    matches!(gathered, Gathered::Whole(whole) if whole == msg)
+}
+
+// The bytes come in pieces of one size: the last of them gives the message, and no other gives anything.
+fn comes_in_pieces(
+    rt: &impl Abort,
+    alloc: Global,
+    bytes: &[u8],
+    size: usize,
+    msg: &Msg<BoardBatch>,
+) {
+    let mut reader = Reader::new();
+    let mut gather = Gather::new();
+    let mut held = 0usize;
+    let mut came = false;
+    for piece in bytes.chunks(size.max(1)) {
+        let fed = reader.feed(alloc, piece).expect(rt, "memory");
+        for line in fed.lines.as_slice() {
+            let gathered = pushed(rt, alloc, &mut gather, line);
+            assert!(rt; !came);
+            if gathered == Gathered::Held {
+                held = held.saturating_add(1);
+                assert!(rt; gather.part());
+            } else {
+                came = is_message(&gathered, msg);
+                assert!(rt; came);
+            }
+        }
+    }
+    assert_eq!(rt; held, msg.op.as_slice().len());
+    assert!(rt; came && !gather.part());
+}
+
+#[test]
+fn message_of_32_operations_comes_over_any_cut(rt: HostRuntime) {
+    let msg = message(&rt, rt.alloc(), 32);
+    let bytes = bytes_of(&rt, rt.alloc(), &msg);
+    for size in 1..=bytes.len() {
+        comes_in_pieces(&rt, rt.alloc(), bytes.as_slice(), size, &msg);
+    }
+}
+
+#[test]
+fn message_of_one_operation_comes_whole(rt: HostRuntime) {
+    let msg = message(&rt, rt.alloc(), 1);
+    let bytes = bytes_of(&rt, rt.alloc(), &msg);
+    assert_eq!(rt;
+        bytes.as_slice(),
+        b"batch 5 7 1\ndo 1 1 text ins 0 1.1 97\n".as_slice()
+    );
+    comes_in_pieces(&rt, rt.alloc(), bytes.as_slice(), bytes.len(), &msg);
+}
+
+#[test]
+fn other_lines_stand_alone(rt: HostRuntime) {
+    let alloc = rt.alloc();
+    let mut gather = Gather::new();
+    for line in [Line::Hello, Line::Ack(64), Line::Ping(7), Line::Bye] {
+        assert_eq!(rt;
+            pushed(&rt, alloc, &mut gather, &line),
+            Gathered::Plain(line)
+        );
+        assert!(rt; !gather.part());
+    }
+}
+
+// After these lines every line is misplaced, whichever comes.
+fn is_stopped(rt: &impl Abort, alloc: Global, gather: &mut Gather) {
+    for line in [Line::Ping(7), TWO, Line::Do(TOGGLED), Line::Bye] {
+        assert_eq!(rt; pushed(rt, alloc, gather, &line), Gathered::Misplaced);
+        assert!(rt; !gather.part());
+    }
+}
+
+#[test]
+fn line_among_operations_is_misplaced_for_ever(rt: HostRuntime) {
+    let alloc = rt.alloc();
+    let mut gather = Gather::new();
+    assert_eq!(rt; pushed(&rt, alloc, &mut gather, &TWO), Gathered::Held);
+    assert_eq!(rt;
+        pushed(&rt, alloc, &mut gather, &Line::Do(TOGGLED)),
+        Gathered::Held
+    );
+    assert!(rt; gather.part());
+    assert_eq!(rt;
+        pushed(&rt, alloc, &mut gather, &Line::Ping(1)),
+        Gathered::Misplaced
+    );
+    is_stopped(&rt, alloc, &mut gather);
+}
+
+#[test]
+fn operation_without_its_batch_line_is_misplaced_for_ever(rt: HostRuntime) {
+    let alloc = rt.alloc();
+    let mut gather = Gather::new();
+    assert_eq!(rt;
+        pushed(&rt, alloc, &mut gather, &Line::Do(TOGGLED)),
+        Gathered::Misplaced
+    );
+    is_stopped(&rt, alloc, &mut gather);
+}
+
+#[test]
+fn batch_of_no_message_is_misplaced(rt: HostRuntime) {
+    let alloc = rt.alloc();
+    for count in [0, 33] {
+        let mut gather = Gather::new();
+        let line = Line::Batch {
+            mine: 0,
+            heard: 0,
+            count,
+        };
+        assert_eq!(rt; pushed(&rt, alloc, &mut gather, &line), Gathered::Misplaced);
+        is_stopped(&rt, alloc, &mut gather);
+    }
+}
+
+// Run these with each allocation refused in turn: a call that lacks memory changes nothing, and made again
+// it gives its answer. What the test itself lacks ends it.
+
+#[test]
+fn a_line_that_lacks_memory_is_not_held(rt: HostRuntime) {
+    let alloc = rt.alloc();
+    let mut gather = Gather::new();
+    let mut gathered = gather.push(alloc, &TWO);
+    if gathered == Err(NoMemory) {
+        assert!(rt; !gather.part());
+        gathered = gather.push(alloc, &TWO);
+    }
+    assert_eq!(rt; gathered, Ok(Gathered::Held));
+    assert_eq!(rt;
+        pushed(&rt, alloc, &mut gather, &Line::Do(TOGGLED)),
+        Gathered::Held
+    );
+    assert!(rt; gather.part());
+}
+
+#[test]
+fn lines_that_lack_memory_are_made_again(rt: HostRuntime) {
+    let alloc = rt.alloc();
+    let msg = message(&rt, alloc, 2);
+    let mut lines = lines_of_op(alloc, &msg);
+    if lines.is_err() {
+        lines = lines_of_op(alloc, &msg);
+    }
+    let lines = lines.expect(&rt, "memory");
+    assert_eq!(rt; lines.as_slice().len(), 3);
+    assert_eq!(rt; lines.as_slice()[0], TWO);
+}

@@ -1,0 +1,4 @@
+pub mod Begun
+pub mod OneGathering
+pub mod Runs
+pub mod WholeMessages

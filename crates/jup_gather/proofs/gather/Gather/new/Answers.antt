@@ -1,0 +1,5 @@
+use Rattle.jup_gather.proofs.Runs.{at_first}
+use Rattle.jup_gather.proofs.gather.Gather.new.Goals as goal
+
+pub returns-clause-gathered : goal.returns-clause-gathered
+returns-clause-gathered c = at_first

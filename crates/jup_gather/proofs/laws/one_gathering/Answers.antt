@@ -1,0 +1,5 @@
+use Rattle.jup_gather.proofs.OneGathering.{one_gathering}
+use Rattle.jup_gather.proofs.laws.one_gathering.Goals as goal
+
+pub returns : goal.returns
+returns c = one_gathering

@@ -1,0 +1,147 @@
+//! What one line makes of what is held.
+
+ghost use Rattle.std.specs.Prelude.{◌≡◌, [], ◌∷◌, Some, IfOk, OnErr, ◌≤◌};
+ghost use Rattle.jup_wire.specs.declared.line.Line.TheVariants as lines;
+ghost use Rattle.jup_gather.specs.Gathering.{Gathers, AsksMemory};
+ghost use Rattle.jup_gather.specs.Held.{held, part_lines};
+
+use crate::gathered::Gathered;
+use crate::part::Part;
+use jup_batch::BoardBatch;
+use jup_link::Msg;
+use jup_seq::SeqOp;
+use jup_value::Label;
+use jup_window::{BoardOp, WidgetOp};
+use jup_wire::{Line, MOST_OPERATIONS};
+use jup_xform::{Batch, NoMemory};
+use std::alloc::Global;
+use std::marker::PhantomData;
+
+/// What is held of the lines so far.
+#[derive(Drop)]
+pub(crate) enum State {
+    /// No line.
+    Nothing,
+    /// The lines of a message that has begun.
+    Begun(Part),
+    /// No more lines are gathered: one had no place.
+    Stopped,
+}
+
+/// What is held behind a line, and what the line came to.
+#[derive(Drop)]
+pub(crate) struct Step {
+    pub(crate) state: State,
+    pub(crate) gathered: Gathered,
+}
+
+impl Step {
+    /// The message is there.
+    fn whole(mine: u32, heard: u32, op: BoardBatch) -> Step
+        ensures { result ≡ record { state = State.Nothing; gathered = Gathered.Whole (record { mine = mine; heard = heard; op = op }) } }
+    {
+        Step {
+            state: State::Nothing,
+            gathered: Gathered::Whole(Msg { mine, heard, op }),
+        }
+    }
+
+    /// A line has no place.
+    pub(crate) fn misplaced() -> Step
+        ensures { result ≡ record { state = State.Stopped; gathered = Gathered.Misplaced } }
+    {
+        Step {
+            state: State::Stopped,
+            gathered: Gathered::Misplaced,
+        }
+    }
+}
+
+/// A batch line where nothing is held.
+fn begin_message(alloc: Global, mine: u32, heard: u32, count: u32) -> Result<Step, NoMemory>
+    ensures step { IfOk result (λ step. Gathers (Some []) (lines.Batch mine heard count) step.gathered (held step.state)) }
+    ensures refused { OnErr result (2 ≤ count) }
+{
+    if !(1..=MOST_OPERATIONS).contains(&count) {
+        return Ok(Step::misplaced());
+    }
+    // One operation is not put into a list.
+    let room = if count == 1 { 0 } else { count as usize };
+    let Ok(ops) = Vec::with_capacity(alloc, room) else {
+        return Err(NoMemory);
+    };
+    Ok(Step {
+        state: State::Begun(Part {
+            mine,
+            heard,
+            count,
+            ops,
+        }),
+        gathered: Gathered::Held,
+    })
+}
+
+/// A line where nothing is held.
+pub(crate) fn begin(alloc: Global, line: Line) -> Result<Step, NoMemory>
+    ensures step { IfOk result (λ step. Gathers (Some []) line step.gathered (held step.state)) }
+    ensures refused { OnErr result (AsksMemory line) }
+{
+    match line {
+        Line::Batch { mine, heard, count } => begin_message(alloc, mine, heard, count),
+        Line::Do(_) => Ok(Step::misplaced()),
+        line => Ok(Step {
+            state: State::Nothing,
+            gathered: Gathered::Plain(line),
+        }),
+    }
+}
+
+/// A batch of one operation. It takes no memory.
+fn one(alloc: Global, op: BoardOp) -> BoardBatch
+    ensures { result ≡ op ∷ [] }
+{
+    match Batch::from_slice(alloc, &[op]) {
+        Ok(batch) => batch,
+        Err(_) => unreachable!(),
+    }
+}
+
+/// An operation behind a message that has begun.
+fn take(alloc: Global, part: Part, op: BoardOp) -> Step
+    ensures { Gathers (Some (part_lines part)) (lines.Do op) result.gathered (held result.state) }
+{
+    // Types that an operation holds, named so that the borrow checker knows of them.
+    let _of: PhantomData<(SeqOp<Label>, WidgetOp)> = PhantomData;
+    let Part {
+        mine,
+        heard,
+        count,
+        mut ops,
+    } = part;
+    if count == 1 {
+        return Step::whole(mine, heard, one(alloc, op));
+    }
+    ops.push_reserved(op);
+    if ops.len() == count as usize {
+        return Step::whole(mine, heard, Batch::new(ops));
+    }
+    Step {
+        state: State::Begun(Part {
+            mine,
+            heard,
+            count,
+            ops,
+        }),
+        gathered: Gathered::Held,
+    }
+}
+
+/// A line behind a message that has begun. It takes no memory.
+pub(crate) fn go_on(alloc: Global, part: Part, line: Line) -> Step
+    ensures { Gathers (Some (part_lines part)) line result.gathered (held result.state) }
+{
+    match line {
+        Line::Do(op) => take(alloc, part, op),
+        _ => Step::misplaced(),
+    }
+}

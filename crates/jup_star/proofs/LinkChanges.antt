@@ -1,12 +1,11 @@
 -- What a change of one link, or of all, does to the list of links.
-use Rattle.std.proofs.Common.{◌≡◌, refl, sym, ◌∙◌, ap, subst, ℕ, zero, suc, ◌+◌, ◌-◌, ◌<◌, ◌≤◌, Bool, true, false, cond, not, List, [], ◌∷◌, length, map, get_or, nat_eq, nat_le, Option, Some, None, arith}
+use Rattle.std.proofs.Common.{◌≡◌, refl, sym, ◌∙◌, ap, subst, ℕ, zero, suc, ◌+◌, ◌-◌, ◌<◌, ◌≤◌, Bool, true, false, cond, not, List, [], ◌∷◌, length, map, get_or, nat_eq, nat_le, Some, None, arith}
 use Rattle.std.proofs.Math.ListN.{set}
 use Rattle.std.proofs.lemmas.List.{length-drop, length-append}
 use Rattle.std.proofs.lemmas.Bool.{eqb-true}
-use Rattle.jup_window.specs.declared.board_operations.BoardOp.{BoardOp}
-use Rattle.jup_window.specs.declared.edits.Edit.{Edit}
-use Rattle.jup_window.specs.Boards as board
-use Rattle.jup_window.specs.BoardOperations.{boards, board_operations}
+use Rattle.jup_batch.specs.BatchBoards.{BoardBatch}
+use Rattle.jup_batch.specs.BatchBoards.{boards_of as boards}
+use Rattle.jup_batch.specs.BoardBatches.{board_batches}
 use Rattle.jup_link.specs.Links.{Link as EndLink, generated, IsCount, after_ack, unheard}
 use Rattle.jup_link.specs.declared.Msg.{Msg}
 use Rattle.jup_star.specs.LinkStates.{is_of, link_sent, link_heard, end_after}
@@ -15,9 +14,7 @@ use Rattle.jup_star.specs.StarCalls.{BoardLink}
 use Rattle.jup_star.specs.Places.{IsPlace}
 use Rattle.jup_xform.specs.RowLaws.{length-row_entries}
 use Rattle.jup_xform.specs.Sides.{past, opposite}
-use Rattle.jup_value.specs.declared.names.Name.{Name}
-use Rattle.jup_window.specs.Edits.{insertions, count_of}
-use Rattle.jup_window.specs.Effects.{inserted_name}
+use Rattle.jup_batch.specs.BatchBoards.{insertions_few}
 
 pub found_new : (i : ℕ) (ls : List BoardLink) → IsNew i ls → link_of i ls ≡ None
 found_new i [] new = refl
@@ -144,27 +141,20 @@ pub length_without : (i : ℕ) (ls : List BoardLink) → length (without i ls) �
 length_without i [] = omega arith
 length_without i (l ∷ ls) = length_kept l (without i ls) (length ls) (is_of i l) (length_without i ls)
 
-pub paid_generated : (e : EndLink BoardOp) (b : Bool) → generated (cond b (after_ack e) e) ≡ generated e
+pub paid_generated : (e : EndLink BoardBatch) (b : Bool) → generated (cond b (after_ack e) e) ≡ generated e
 paid_generated e true = refl
 paid_generated e false = refl
 
-count_few : (o : Option Name) → count_of o ≤ 1
-count_few None = omega arith
-count_few (Some n) = omega arith
-
-pub insertions_few : (e : Edit) → insertions e ≤ 1
-insertions_few e = count_few (inserted_name e.what)
-
-pub received_generated : (e : EndLink BoardOp) (m : Msg BoardOp) → IsCount e m.heard → generated (end_after board_operations e m) ≤ generated e
+pub received_generated : (e : EndLink BoardBatch) (m : Msg BoardBatch) → IsCount e m.heard → generated (end_after board_batches e m) ≤ generated e
 received_generated e m count =
     let low = count.low in let high = count.high in
     omega (arith, length-row_entries (past boards (opposite e.side)) (past boards e.side) m.op (unheard e m.heard), length-drop (m.heard - e.acknowledged) e.outgoing)
 
-pub heard_bounded : (a n : ℕ) (m : Msg BoardOp) (l : BoardLink) → IsCount l.end m.heard → IsBounded a n l → IsBounded a (n + 1) (link_heard board_operations m l)
-heard_bounded a n m l count bounded = record {
+pub heard_bounded : (a n : ℕ) (m : Msg BoardBatch) (l : BoardLink) → IsCount l.end m.heard → length m.op ≤ 32 → IsBounded a n l → IsBounded a (n + 1) (link_heard board_batches m l)
+heard_bounded a n m l count few bounded = record {
   given = bounded.given;
-  sent = let sum = paid_generated (end_after board_operations l.end m) (nat_le 64 (end_after board_operations l.end m).unanswered) in let less = received_generated l.end m count in let sent = bounded.sent in omega arith;
-  insertions = let few = insertions_few (board.edit_of m.op) in let before = bounded.insertions in omega arith;
+  sent = let sum = paid_generated (end_after board_batches l.end m) (nat_le 64 (end_after board_batches l.end m).unanswered) in let less = received_generated l.end m count in let sent = bounded.sent in omega arith;
+  insertions = let each = insertions_few m.op in let before = bounded.insertions in omega arith;
 }
 
 pub more_bounded : (a n : ℕ) (l : BoardLink) → IsBounded a n l → IsBounded a (n + 1) l
@@ -174,13 +164,13 @@ cond_bounded : (a n : ℕ) (k l : BoardLink) (b : Bool) → IsBounded a n k → 
 cond_bounded a n k l true one two = one
 cond_bounded a n k l false one two = two
 
-sent_bounded : (a n : ℕ) (op : BoardOp) (l : BoardLink) → IsBounded a n l → IsBounded a (n + 1) (link_sent op l)
+sent_bounded : (a n : ℕ) (op : BoardBatch) (l : BoardLink) → IsBounded a n l → IsBounded a (n + 1) (link_sent op l)
 sent_bounded a n op l bounded = record { given = bounded.given; sent = let h = bounded.sent in simp length-append (omega arith); insertions = let h = bounded.insertions in omega arith }
 
-each_bounded : (i a n : ℕ) (op : BoardOp) (k : BoardLink) → IsBounded a n k → IsBounded a (n + 1) (cond (is_of i k) k (link_sent op k))
+each_bounded : (i a n : ℕ) (op : BoardBatch) (k : BoardLink) → IsBounded a n k → IsBounded a (n + 1) (cond (is_of i k) k (link_sent op k))
 each_bounded i a n op k bounded = cond_bounded a (n + 1) k (link_sent op k) (is_of i k) (more_bounded a n k bounded) (sent_bounded a n op k bounded)
 
-pub send_bounded : (i a n : ℕ) (op : BoardOp) (ls : List BoardLink) (at : ℕ) (new : BoardLink) → IsPlace i ls at → is_of i new ≡ true
+pub send_bounded : (i a n : ℕ) (op : BoardBatch) (ls : List BoardLink) (at : ℕ) (new : BoardLink) → IsPlace i ls at → is_of i new ≡ true
     → IsBounded a (n + 1) new → AreBounded a n ls → AreBounded a (n + 1) (map (λ k. cond (is_of i k) k (link_sent op k)) (set ls at new))
 send_bounded i a n op [] at new place of one all = absurd place
 send_bounded i a n op (l ∷ ls) zero new place of one all = (rw of one, bounded_map (λ k. cond (is_of i k) k (link_sent op k)) a n a (n + 1) (each_bounded i a n op) ls all.1)

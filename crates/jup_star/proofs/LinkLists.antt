@@ -3,6 +3,7 @@ use Rattle.std.proofs.Common.{◌≡◌, refl, sym, ap, subst, ℕ, zero, suc, �
 use Rattle.std.proofs.Math.ListN.{set}
 use Rattle.std.proofs.Math.Seq.{map-set_same}
 use Rattle.jup_link.specs.Links.{generated}
+use Rattle.jup_batch.specs.BatchBoards.{Shape}
 use Rattle.jup_star.specs.LinkStates.{is_of}
 use Rattle.jup_star.specs.StarCalls.{BoardLink}
 use Rattle.jup_star.specs.Rooms.{bare_link, HasRoom, AllHaveRoom, OthersHaveRoom, AllCount}
@@ -12,21 +13,21 @@ use Rattle.jup_star.specs.declared.link.Link.{Link}
 pub same_set : (ls : List Link) (i : ℕ) (d new : Link) → bare_link new ≡ bare_link (get_or ls i d) → map bare_link (set ls i new) ≡ map bare_link ls
 same_set ls i d new same = map-set_same bare_link ls i new d same
 
-pub room_set : (ls : List Link) (i : ℕ) (new : Link) → i < length ls → HasRoom new → AllHaveRoom (take i ls) → AllHaveRoom (take (suc i) (set ls i new))
+pub room_set : {u : Shape} (ls : List Link) (i : ℕ) (new : Link) → i < length ls → HasRoom u new → AllHaveRoom u (take i ls) → AllHaveRoom u (take (suc i) (set ls i new))
 room_set [] i new below room all = absurd (omega arith)
 room_set (l ∷ ls) zero new below room all = (room, tt)
 room_set (l ∷ ls) (suc i) new below room all = (all.0, room_set ls i new (omega arith) room all.1)
 
 -- what is known of each link from a place on
-pub room_at : (ls : List Link) (i : ℕ) (d : Link) → i < length ls → AllHaveRoom (drop i ls) → HasRoom (get_or ls i d)
+pub room_at : {u : Shape} (ls : List Link) (i : ℕ) (d : Link) → i < length ls → AllHaveRoom u (drop i ls) → HasRoom u (get_or ls i d)
 room_at [] i d below all = absurd (omega arith)
 room_at (k ∷ ls) zero d below all = all.0
 room_at (k ∷ ls) (suc i) d below all = room_at ls i d (omega arith) all
 
-pub room_after : (ls : List Link) (i : ℕ) (new : Link) → AllHaveRoom (drop i ls) → AllHaveRoom (drop (suc i) (set ls i new))
-room_after [] i new all = tt
-room_after (k ∷ ls) zero new all = all.1
-room_after (k ∷ ls) (suc i) new all = room_after ls i new all
+pub room_after : (u : Shape) (ls : List Link) (i : ℕ) (new : Link) → AllHaveRoom u (drop i ls) → AllHaveRoom u (drop (suc i) (set ls i new))
+room_after u [] i new all = tt
+room_after u (k ∷ ls) zero new all = all.1
+room_after u (k ∷ ls) (suc i) new all = room_after u ls i new all
 
 pub counted_at : (ls : List Link) (i : ℕ) (d : Link) → i < length ls → AllCount (map bare_link (drop i ls)) → generated (get_or ls i d).end.link < 4294967295
 counted_at [] i d below all = absurd (omega arith)
@@ -52,22 +53,22 @@ not_passed f [] i d below made = absurd (omega arith)
 not_passed f (k ∷ ls) zero d below made = ap (λ (x : BoardLink). x ∷ map f (map bare_link ls)) (sym made)
 not_passed f (k ∷ ls) (suc i) d below made = ap (λ (xs : List BoardLink). bare_link k ∷ xs) (not_passed f ls i d (omega arith) made)
 
-pub other_at : (j : ℕ) (ls : List Link) (i : ℕ) (d : Link) → i < length ls → OthersHaveRoom j (drop i ls) → is_of j (bare_link (get_or ls i d)) ≡ false → HasRoom (get_or ls i d)
+pub other_at : {u : Shape} (j : ℕ) (ls : List Link) (i : ℕ) (d : Link) → i < length ls → OthersHaveRoom u j (drop i ls) → is_of j (bare_link (get_or ls i d)) ≡ false → HasRoom u (get_or ls i d)
 other_at j [] i d below all = absurd (omega arith)
 other_at j (k ∷ ls) zero d below all = all.0
 other_at j (k ∷ ls) (suc i) d below all = other_at j ls i d (omega arith) all
 
-others : (j : ℕ) (ls : List Link) → AllHaveRoom ls → OthersHaveRoom j ls
-others j [] all = tt
-others j (k ∷ ls) all = ((λ other. all.0), others j ls all.1)
+others : (u : Shape) (j : ℕ) (ls : List Link) → AllHaveRoom u ls → OthersHaveRoom u j ls
+others u j [] all = tt
+others u j (k ∷ ls) all = ((λ other. all.0), others u j ls all.1)
 
 -- the link of the site may have used its room
-pub others_set : (j : ℕ) (ls : List Link) (at : ℕ) (new : Link) → is_of j (bare_link new) ≡ true → AllHaveRoom ls → OthersHaveRoom j (set ls at new)
-others_set j [] at new of all = tt
-others_set j (k ∷ ls) zero new of all = ((λ other. cc), others j ls all.1)
-others_set j (k ∷ ls) (suc at) new of all = ((λ other. all.0), others_set j ls at new of all.1)
+pub others_set : (u : Shape) (j : ℕ) (ls : List Link) (at : ℕ) (new : Link) → is_of j (bare_link new) ≡ true → AllHaveRoom u ls → OthersHaveRoom u j (set ls at new)
+others_set u j [] at new of all = tt
+others_set u j (k ∷ ls) zero new of all = ((λ other. cc), others u j ls all.1)
+others_set u j (k ∷ ls) (suc at) new of all = ((λ other. all.0), others_set u j ls at new of all.1)
 
-pub has_room_at : (ls : List Link) (i : ℕ) (d : Link) → i < length ls → AllHaveRoom ls → HasRoom (get_or ls i d)
+pub has_room_at : {u : Shape} (ls : List Link) (i : ℕ) (d : Link) → i < length ls → AllHaveRoom u ls → HasRoom u (get_or ls i d)
 has_room_at [] i d below all = absurd (omega arith)
 has_room_at (k ∷ ls) zero d below all = all.0
 has_room_at (k ∷ ls) (suc i) d below all = has_room_at ls i d (omega arith) all.1

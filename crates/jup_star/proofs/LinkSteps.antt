@@ -2,7 +2,7 @@
 use Rattle.std.proofs.Common.{◌≡◌, refl, sym, ◌∙◌, ap, subst, ℕ, zero, suc, ◌-◌, ◌<◌, true, List, [], ◌∷◌, length, map, get_or, nat_eq, Option, Some, None, arith, MatchOption, IfSome}
 use Rattle.std.proofs.Math.ListN.{set}
 use Rattle.std.proofs.lemmas.List.{map-set, length-drop, length-map}
-use Rattle.jup_window.specs.declared.board_operations.BoardOp.{BoardOp}
+use Rattle.jup_batch.specs.BatchBoards.{BoardBatch}
 use Rattle.jup_link.specs.Links.{IsCount}
 use Rattle.jup_link.specs.declared.Msg.{Msg}
 use Rattle.jup_star.specs.LinkStates.{is_of, link_acked, link_ponged, link_fetched}
@@ -78,7 +78,7 @@ pub found_is : (i : ℕ) (ls : List Link) (at : ℕ) (d : Link) (l : BoardLink) 
 found_is i ls at d l place found = some_is _ _ (sym (place_found i ls at d place) ∙ found)
 
 -- the link that stands at the place of a site can hear what that site's link can
-pub can_hear : (i at : ℕ) (m : Msg BoardOp) (ls : List Link) (d l : Link) → l ≡ get_or ls at d → IsPlace i (map bare_link ls) at → IsHeardBy i m (map bare_link ls)
+pub can_hear : (i at : ℕ) (m : Msg BoardBatch) (ls : List Link) (d l : Link) → l ≡ get_or ls at d → IsPlace i (map bare_link ls) at → IsHeardBy i m (map bare_link ls)
     → CanHear m (bare_link l)
 can_hear i at m ls d l is place heard =
     let P : Link → Type 0 = λ k. CanHear m (bare_link k) in subst P (sym is) (heard (bare_link (get_or ls at d)) (place_found i ls at d place))

@@ -1,5 +1,5 @@
 -- What of every site each call keeps.
-use Rattle.std.proofs.Common.{◌≡◌, refl, sym, ◌∙◌, ap, ℕ, ◌+◌, ◌≤◌, ◌<◌, Bool, true, false, cond, List, [], ◌∷◌, length, nat_le, Option, Some, None, Result, Ok, Err, inl, inr, arith}
+use Rattle.std.proofs.Common.{◌≡◌, refl, sym, ℕ, ◌+◌, ◌≤◌, ◌<◌, Bool, true, false, cond, List, [], ◌∷◌, length, nat_le, ap, suc, None, Result, Ok, Err, inl, inr, arith}
 use Rattle.std.specs.Prelude.{◌⊎◌}
 use Rattle.std.proofs.lemmas.List.{length-append}
 use Rattle.jup_link.specs.Links.{Link, IsCount, answered, after_send}
@@ -9,58 +9,54 @@ use Rattle.jup_xform.specs.declared.row.Side.TheVariants.{Client, Server}
 use Rattle.jup_xform.specs.Rows.{row_operation}
 use Rattle.jup_xform.specs.Sides.{past, opposite}
 use Rattle.jup_link.specs.Links.{unheard}
-use Rattle.jup_window.specs.declared.board_operations.BoardOp.{BoardOp}
+use Rattle.jup_batch.specs.BatchBoards.{BoardBatch}
 use Rattle.jup_window.specs.declared.commands.Command.{Command}
-use Rattle.jup_window.specs.Boards as board
-use Rattle.jup_window.specs.BoardNames as names
-use Rattle.jup_value.specs.declared.names.Name.{Name}
-use Rattle.jup_value.proofs.ItemLists.{name_eq_same}
-use Rattle.jup_window.specs.declared.edits.Edit.{Edit}
-use Rattle.jup_window.specs.Entries.{same_place}
-use Rattle.jup_window.specs.Effects.{inserted_name, is_name}
-use Rattle.jup_window.specs.Edits.{insertions, bears_next, bears_site, is_of_site}
-use Rattle.std.proofs.lemmas.Bool.{false≢true, eq-eqb, not-true}
+use Rattle.jup_batch.specs.BatchBoards as board
+use Rattle.jup_batch.specs.BatchBoards.{BoardEdits}
+use Rattle.jup_batch.specs.BatchBoards.{insertions, insertions_few, bears_site, foreign}
+use Rattle.std.proofs.lemmas.Bool.{not-true}
 use Rattle.jup_star.specs.FirstFaults.{first_fault}
 use Rattle.jup_star.proofs.TestLists.{all_hold}
 use Rattle.jup_star.proofs.FaultSteps.{count_is}
 use Rattle.jup_star.specs.declared.messages.Down.TheVariants.{Op}
-use Rattle.jup_window.specs.BoardOperations.{boards, board_operations}
-use Rattle.jup_window.specs.BoardsAreLawful.{board_laws}
+use Rattle.jup_batch.specs.BatchBoards.{boards_of as boards}
+use Rattle.jup_batch.specs.BoardBatches.{board_batches}
+use Rattle.jup_batch.specs.BoardBatches.{batch_laws as board_laws}
 use Rattle.jup_star.specs.LinkStates.{operation_at, end_after}
 use Rattle.jup_star.specs.SiteStates.{IsSite, within_bounds, edit_answer, edited, received, shown_tests}
 use Rattle.jup_star.specs.SiteCalls.{BoardSite}
 use Rattle.jup_star.proofs.SiteNames.{AreKnown}
-use Rattle.jup_star.proofs.LinkChanges.{insertions_few, paid_generated, received_generated}
+use Rattle.jup_star.proofs.LinkChanges.{paid_generated, received_generated}
 
 -- what a site makes of a command is what the board makes of it
-bounded_operation : (s : BoardSite) (r : Result BoardOp ℕ) (op : BoardOp) → within_bounds board_operations s r ≡ Ok op → r ≡ Ok op
+bounded_operation : (s : BoardSite) (r : Result BoardBatch ℕ) (op : BoardBatch) → within_bounds board_batches s r ≡ Ok op → r ≡ Ok op
 bounded_operation s (Err n) op is = cc
 bounded_operation s (Ok o) op is = backlog (nat_le 1024 (length s.end.outgoing)) (nat_le s.limit s.made) is where
-  backlog : (a b : Bool) → cond {A = Result BoardOp ℕ} a (Err 7) (cond {A = Result BoardOp ℕ} b (Err 9) (Ok o)) ≡ Ok op → ◌≡◌ {A = Result BoardOp ℕ} (Ok o) (Ok op)
+  backlog : (a b : Bool) → cond {A = Result BoardBatch ℕ} a (Err 7) (cond {A = Result BoardBatch ℕ} b (Err 9) (Ok o)) ≡ Ok op → ◌≡◌ {A = Result BoardBatch ℕ} (Ok o) (Ok op)
   backlog true b h = cc
   backlog false true h = cc
   backlog false false h = h
 
-pub answer_operation : (s : BoardSite) (command : Command) (op : BoardOp) → edit_answer board_operations command s ≡ Ok op
-    → board_operations.operation_of s.board command s.number s.named ≡ Ok op
-answer_operation s command op is = running s.stopped is where
-  running : (b : Bool) → (cond {A = Result BoardOp ℕ} b (Err 25) (within_bounds board_operations s (board_operations.operation_of s.board command s.number s.named))) ≡ Ok op
-      → board_operations.operation_of s.board command s.number s.named ≡ Ok op
+pub answer_operation : (s : BoardSite) (commands : List Command) (op : BoardBatch) → edit_answer board_batches commands s ≡ Ok op
+    → board_batches.operation_of s.board commands s.number s.named ≡ Ok op
+answer_operation s commands op is = running s.stopped is where
+  running : (b : Bool) → (cond {A = Result BoardBatch ℕ} b (Err 25) (within_bounds board_batches s (board_batches.operation_of s.board commands s.number s.named))) ≡ Ok op
+      → board_batches.operation_of s.board commands s.number s.named ≡ Ok op
   running true h = cc
   running false h = bounded_operation s _ op h
 
 -- an edit of the site
-known_edited : (i k : ℕ) (b : board.Windows) (op : BoardOp) → AreKnown i k b → board.IsValid op b → bears_next i k (board.edit_of op) ≡ true
+known_edited : (i k : ℕ) (b : board.Windows) (op : BoardBatch) → AreKnown i k b → board.IsValid op b → board_batches.bears_next i k (board.edit_of op) ≡ true
     → AreKnown i (k + insertions (board.edit_of op)) (board.after op b)
-known_edited i k b op known valid next n held own = by_case (names.held_before b op n valid held) where
+known_edited i k b op known valid next n held own = by_case (board_laws.keeps.held_before b op n valid held) where
   by_case : board.Holds b n ⊎ board.Inserts (board.edit_of op) n → n.name.number ≤ k + insertions (board.edit_of op)
   by_case before = elim before [ inl had ↦ (let low = known n had own in omega arith) | inr new ↦ board_laws.next_within i k (board.edit_of op) n next new ]
 
-pub edited_site : (s : BoardSite) (command : Command) (op : BoardOp) → edit_answer board_operations command s ≡ Ok op → board.IsValid op s.board → s.made < s.limit
-    → IsSite board_operations s → IsSite board_operations (edited board_operations op s)
-edited_site s command op is valid room site =
-    let next = board_laws.command_next s.board command s.number s.named op (answer_operation s command op is) in
-    let few = insertions_few (board.edit_of op) in
+pub edited_site : (s : BoardSite) (commands : List Command) (op : BoardBatch) → edit_answer board_batches commands s ≡ Ok op → board.IsValid op s.board → s.made < s.limit
+    → IsSite board_batches s → IsSite board_batches (edited board_batches op s)
+edited_site s commands op is valid room site =
+    let next = board_laws.command_next s.board commands s.number s.named op (answer_operation s commands op is) in
+    let few = insertions_few op in let short = valid.few in
     record {
       limited = site.limited;
       counted = omega arith;
@@ -70,42 +66,32 @@ edited_site s command op is valid room site =
     }
 
 -- a site with another board, end and count of insertions, and one edit more
-pub edited_with : (s : BoardSite) (op : BoardOp) (b : board.Windows) (e : Link BoardOp) (k : ℕ) → b ≡ board.after op s.board → e ≡ after_send s.end op → k ≡ insertions (board.edit_of op)
-    → ◌≡◌ {A = BoardSite} (record s { board = b; end = e; made = s.made + 1; named = s.named + k }) (edited board_operations op s)
+pub edited_with : (s : BoardSite) (op : BoardBatch) (b : board.Windows) (e : Link BoardBatch) (k : ℕ) → b ≡ board.after op s.board → e ≡ after_send s.end op → k ≡ insertions (board.edit_of op)
+    → ◌≡◌ {A = BoardSite} (record s { board = b; end = e; made = s.made + 1; named = s.named + k }) (edited board_batches op s)
 edited_with s op b e k board end count = rw (board, end, count) refl
 
 -- an edit of another site: what it inserts is named by its site, and past other operations it inserts nothing else
-inserts_past : (side : Side) (o e : BoardOp) (n : board.Placed) → board.Inserts (board.edit_of (past boards side o e)) n → board.Inserts (board.edit_of o) n
-inserts_past Client o e n h = names.inserts_client o e n h
-inserts_past Server o e n h = names.inserts_server o e n h
+inserts_past : (side : Side) (o e : BoardBatch) (n : board.Placed) → board.Inserts (board.edit_of (past boards side o e)) n → board.Inserts (board.edit_of o) n
+inserts_past Client o e n h = board_laws.keeps.inserts_client o e n h
+inserts_past Server o e n h = board_laws.keeps.inserts_server o e n h
 
-inserts_row : (side : Side) (o : BoardOp) (es : List BoardOp) (n : board.Placed) → board.Inserts (board.edit_of (row_operation (past boards side) o es)) n → board.Inserts (board.edit_of o) n
+inserts_row : (side : Side) (o : BoardBatch) (es : List BoardBatch) (n : board.Placed) → board.Inserts (board.edit_of (row_operation (past boards side) o es)) n → board.Inserts (board.edit_of o) n
 inserts_row side o [] n h = h
 inserts_row side o (e ∷ es) n h = inserts_past side o e n (inserts_row side (past boards side o e) es n h)
 
-named_by : (i : ℕ) (n : Name) (o : Option Name) → is_name n o ≡ true → n.site ≡ i → is_of_site i o ≡ false → ⊥
-named_by i n None has own other = false≢true has
-named_by i n (Some m) has own other =
-    let same : m ≡ n = name_eq_same m n has in
-    false≢true (sym other ∙ eq-eqb m.site i (ap (λ (k : Name). k.site) same ∙ own))
-
-foreign : (i : ℕ) (e : Edit) (n : board.Placed) → bears_site i e ≡ false → board.Inserts e n → n.name.site ≡ i → ⊥
-foreign i e n other has own =
-    named_by i n.name (inserted_name e.what) (names.inserts_at_all (same_place (board.edit_place e) n.at) n.name e.what has) own other
-
-known_shown : (i k : ℕ) (b : board.Windows) (e : Link BoardOp) (m : Msg BoardOp) → AreKnown i k b → board.IsValid (operation_at board_operations e m) b
-    → bears_site i (board.edit_of m.op) ≡ false → AreKnown i k (board.after (operation_at board_operations e m) b)
-known_shown i k b e m known valid other n held own = by_case (names.held_before b (operation_at board_operations e m) n valid held) where
-  by_case : board.Holds b n ⊎ board.Inserts (board.edit_of (operation_at board_operations e m)) n → n.name.number ≤ k
+known_shown : (i k : ℕ) (b : board.Windows) (e : Link BoardBatch) (m : Msg BoardBatch) → AreKnown i k b → board.IsValid (operation_at board_batches e m) b
+    → bears_site i (board.edit_of m.op) ≡ false → AreKnown i k (board.after (operation_at board_batches e m) b)
+known_shown i k b e m known valid other n held own = by_case (board_laws.keeps.held_before b (operation_at board_batches e m) n valid held) where
+  by_case : board.Holds b n ⊎ board.Inserts (board.edit_of (operation_at board_batches e m)) n → n.name.number ≤ k
   by_case before = elim before [
     | inl had ↦ known n had own
     | inr new ↦ absurd (foreign i (board.edit_of m.op) n other (inserts_row (opposite e.side) m.op (unheard e m.heard) n new) own)
   ]
 
-pub shown_site : (s : BoardSite) (m : Msg BoardOp) → board.IsValid (operation_at board_operations s.end m) s.board → bears_site s.number (board.edit_of m.op) ≡ false
-    → IsCount s.end m.heard → IsSite board_operations s → IsSite board_operations (received board_operations (Op m) s)
+pub shown_site : (s : BoardSite) (m : Msg BoardBatch) → board.IsValid (operation_at board_batches s.end m) s.board → bears_site s.number (board.edit_of m.op) ≡ false
+    → IsCount s.end m.heard → IsSite board_batches s → IsSite board_batches (received board_batches (Op m) s)
 shown_site s m valid other count site =
-    let paid = paid_generated (end_after board_operations s.end m) (nat_le 64 (end_after board_operations s.end m).unanswered) in
+    let paid = paid_generated (end_after board_batches s.end m) (nat_le 64 (end_after board_batches s.end m).unanswered) in
     let less = received_generated s.end m count in
     record {
       limited = site.limited;
@@ -116,13 +102,18 @@ shown_site s m valid other count site =
     }
 
 -- a site with another board and end
-pub shown_with : (s : BoardSite) (m : Msg BoardOp) (b : board.Windows) (e : Link BoardOp) → b ≡ board.after (operation_at board_operations s.end m) s.board
-    → e ≡ answered (end_after board_operations s.end m) → ◌≡◌ {A = BoardSite} (record s { board = b; end = e }) (received board_operations (Op m) s)
+pub shown_with : (s : BoardSite) (m : Msg BoardBatch) (b : board.Windows) (e : Link BoardBatch) → b ≡ board.after (operation_at board_batches s.end m) s.board
+    → e ≡ answered (end_after board_batches s.end m) → ◌≡◌ {A = BoardSite} (record s { board = b; end = e }) (received board_batches (Op m) s)
 shown_with s m b e board end = rw (board, end) refl
 
 -- an edit without an early fault bears no name of the site, and acknowledges what can be
-pub shown_foreign : (number : ℕ) (e : Link BoardOp) (m : Msg BoardOp) → None ≡ first_fault (shown_tests board_operations number e m) → bears_site number (board.edit_of m.op) ≡ false
-shown_foreign number e m first = not-true _ (all_hold (shown_tests board_operations number e m) (sym first)).1.1.0
+pub shown_foreign : (number : ℕ) (e : Link BoardBatch) (m : Msg BoardBatch) → None ≡ first_fault (shown_tests board_batches number e m) → bears_site number (board.edit_of m.op) ≡ false
+shown_foreign number e m first = not-true _ (all_hold (shown_tests board_batches number e m) (sym first)).1.1.0
 
-pub shown_count : (number : ℕ) (e : Link BoardOp) (m : Msg BoardOp) → None ≡ first_fault (shown_tests board_operations number e m) → IsCount e m.heard
-shown_count number e m first = count_is _ _ (all_hold (shown_tests board_operations number e m) (sym first)).1.0
+pub shown_count : (number : ℕ) (e : Link BoardBatch) (m : Msg BoardBatch) → None ≡ first_fault (shown_tests board_batches number e m) → IsCount e m.heard
+shown_count number e m first = count_is _ _ (all_hold (shown_tests board_batches number e m) (sym first)).1.0
+
+-- as many edits as operations
+pub length_edits : (os : BoardBatch) → length (board.edit_of os) ≡ length os
+length_edits [] = refl
+length_edits (o ∷ os) = ap suc (length_edits os)

@@ -2,16 +2,17 @@
 use Rattle.std.proofs.Common.{◌≡◌, refl, subst, ℕ, ◌+◌, ◌-◌, ◌<◌, ◌≤◌, false, cond, List, [], ◌∷◌, ◌++◌, length, map, get_or, nat_eq, arith, ne_eqb}
 use Rattle.std.proofs.Math.ListN.{set}
 use Rattle.std.proofs.lemmas.List.{length-append, length-map, length-set}
-use Rattle.jup_window.specs.declared.board_operations.BoardOp.{BoardOp}
-use Rattle.jup_window.specs.Boards as board
+use Rattle.jup_batch.specs.BatchBoards.{BoardBatch}
+use Rattle.jup_batch.specs.BatchBoards as board
 use Rattle.jup_window.specs.Entries.{EachWidget}
-use Rattle.jup_window.specs.BoardOperations.{boards, board_operations}
-use Rattle.jup_window.specs.BoardsAreLawful.{boards_lawful}
+use Rattle.jup_batch.specs.BatchBoards.{boards_of as boards}
+use Rattle.jup_batch.specs.BoardBatches.{board_batches}
+use Rattle.jup_batch.specs.BoardBatches.{batch_laws}
 use Rattle.jup_link.specs.Links.{IsCount}
 use Rattle.jup_link.specs.LinkSteps.{small_next}
 use Rattle.jup_link.specs.declared.Msg.{Msg}
 use Rattle.jup_star.specs.LinkStates.{is_of, opened_link, link_sent, link_heard}
-use Rattle.jup_star.specs.StarStates.{IsNew, AreApart, IsBounded, AreBounded, most_items, entry, links_after, opened_star, taken_edit, left, with_links, joined}
+use Rattle.jup_star.specs.StarStates.{IsNew, AreApart, IsBounded, AreBounded, most_batches, entry, links_after, opened_star, taken_edit, left, with_links, joined}
 use Rattle.jup_star.specs.Openings.{IsShort}
 use Rattle.jup_star.specs.StarCalls.{BoardLink, BoardStar, IsStar}
 use Rattle.jup_star.specs.Places.{IsPlace}
@@ -55,16 +56,16 @@ set_star s at d new below same bounded star = record {
   short = star.short;
 }
 
-pub taken_star : (i at : ℕ) (m : Msg BoardOp) (op : BoardOp) (s : BoardStar) (d : BoardLink) → IsPlace i s.links at
-    → length s.order < s.limit → IsCount (get_or s.links at d).end m.heard → board.IsValid op s.board → IsStar s → IsStar (taken_edit board_operations i m op s)
-taken_star i at m op s d place room count valid star =
+pub taken_star : (i at : ℕ) (m : Msg BoardBatch) (op : BoardBatch) (s : BoardStar) (d : BoardLink) → IsPlace i s.links at
+    → length s.order < s.limit → IsCount (get_or s.links at d).end m.heard → length m.op ≤ 32 → board.IsValid op s.board → IsStar s → IsStar (taken_edit board_batches i m op s)
+taken_star i at m op s d place room count few valid star =
     let below = below_at i s.links at place in
-    let new : BoardLink = link_heard board_operations m (get_or s.links at d) in
-    let bounded = heard_bounded s.given (length s.order) m (get_or s.links at d) count (bounded_at _ _ s.links at d below star.bounded) in
+    let new : BoardLink = link_heard board_batches m (get_or s.links at d) in
+    let bounded = heard_bounded s.given (length s.order) m (get_or s.links at d) count few (bounded_at _ _ s.links at d below star.bounded) in
     let send : BoardLink → BoardLink = λ k. cond (is_of i k) k (link_sent op k) in
-    let same : map send (set s.links at new) ≡ links_after board_operations i m op s.links = set_place (link_heard board_operations m) (link_sent op) i s.links at d new star.apart place refl (of_at i s.links at d place) in
+    let same : map send (set s.links at new) ≡ links_after board_batches i m op s.links = set_place (link_heard board_batches m) (link_sent op) i s.links at d new star.apart place refl (of_at i s.links at d place) in
     let P : List BoardLink → Type 0 = λ ls. (length ls ≤ 64) × (AreBounded s.given (length s.order + 1) ls) × AreApart ls in
-    let all : P (links_after board_operations i m op s.links) = subst P same (
+    let all : P (links_after board_batches i m op s.links) = subst P same (
       (let h = star.few in simp (length-map, length-set) (omega arith)),
       send_bounded i _ _ op s.links at new place (of_at i s.links at d place) bounded star.bounded,
       apart_map send (λ k. cond_site k (link_sent op k) (is_of i k) refl) (set s.links at new) (apart_set s.links at d new below refl star.apart),
@@ -76,8 +77,8 @@ taken_star i at m op s d place room count valid star =
       few = all.0;
       bounded = simp length-append all.1;
       apart = all.2;
-      short = small_next boards boards_lawful (most_items - length s.order) _ s.board op
-          (let limited = star.limited in omega (arith, length-append s.order (entry board_operations i m ∷ []))) star.short valid;
+      short = small_next boards batch_laws.lawful (most_batches - length s.order) _ s.board op
+          (let limited = star.limited in omega (arith, length-append s.order (entry board_batches i m ∷ []))) star.short valid;
     }
 
 new_end : (j i : ℕ) (ls : List BoardLink) (new : BoardLink) → is_of j new ≡ false → IsNew j ls → IsNew j (ls ++ new ∷ [])

@@ -6,7 +6,7 @@ use Rattle.jup_link.specs.Links.{Link}
 use Rattle.jup_link.specs.Streams.{operation_count, AllMessages}
 use Rattle.jup_link.specs.InStep.{InStep}
 use Rattle.jup_window.specs.Operations.{Operations}
-use Rattle.jup_window.specs.BoardOperations.{board_operations}
+use Rattle.jup_batch.specs.BoardBatches.{board_batches}
 use Rattle.jup_star.specs.declared.messages.Up.{Up}
 use Rattle.jup_star.specs.declared.messages.Down.{Down}
 use Rattle.jup_star.specs.LinkStates.{LinkState}
@@ -42,5 +42,5 @@ module _ (O : Operations) where
 
 -- of a star of boards, the link of every site but one stays in step with whoever is at its far end
 unfoldable pub OthersStayInStep : BoardStar → BoardStar → ℕ → Type 0
-OthersStayInStep before after site = (other : ℕ) (far : FarEnd board_operations) → other ≢ site → SendsAsSite board_operations other far
-    → StaysInStep board_operations far before after other
+OthersStayInStep before after site = (other : ℕ) (far : FarEnd board_batches) → other ≢ site → SendsAsSite board_batches other far
+    → StaysInStep board_batches far before after other

@@ -1,16 +1,14 @@
 -- The calls on a site: memory aside, each has one reply and one next site.
-use Rattle.std.specs.Prelude.{◌≡◌, ℕ, Bool, true, false, ◌&&◌, ◌∷◌, [], nat_le, not, Option, Some, None, is_none, is_ok, Result, Ok, Err, MatchBool}
+use Rattle.std.specs.Prelude.{◌≡◌, ℕ, List, Bool, true, false, ◌&&◌, ◌||◌, ◌∷◌, [], length, nat_le, not, Option, Some, None, is_none, is_ok, Result, Ok, Err, MatchBool}
 use Rattle.jup_link.specs.Messages.{next_message}
-use Rattle.jup_window.specs.declared.board_operations.BoardOp.{BoardOp}
-use Rattle.jup_window.specs.declared.edits.Edit.{Edit}
+use Rattle.jup_batch.specs.BatchBoards.{BoardBatch, BoardEdits}
 use Rattle.jup_window.specs.declared.commands.Command.{Command}
 use Rattle.jup_window.specs.declared.faults.EditFault.{EditFault}
-use Rattle.jup_window.specs.declared.faults.EditFault.TheVariants.{NoWindow, NoWidget, WrongKind, BadPlace, BadValue, LongText, Backlog, NoMemory, Spent, Stopped}
-use Rattle.jup_window.specs.Boards as board
-use Rattle.jup_window.specs.Edits.{insertions}
+use Rattle.jup_window.specs.declared.faults.EditFault.TheVariants.{NoWindow, NoWidget, WrongKind, BadPlace, BadValue, LongText, Backlog, NoMemory, Spent, BadBatch, Stopped}
+use Rattle.jup_batch.specs.BatchBoards as board
 use Rattle.jup_window.specs.Sites.{has_site}
 use Rattle.jup_window.specs.FaultNumbers.{edit_fault_number}
-use Rattle.jup_window.specs.BoardOperations.{board_operations}
+use Rattle.jup_batch.specs.BoardBatches.{board_batches}
 use Rattle.jup_star.specs.declared.messages.Up.{Up}
 use Rattle.jup_star.specs.declared.messages.Up.TheVariants.{Op as UpOp, Ack as UpAck, Ping as UpPing}
 use Rattle.jup_star.specs.declared.messages.Down.{Down}
@@ -25,7 +23,7 @@ use Rattle.jup_star.specs.SiteStates.{SiteState, edit_answer, edited, deliver_te
 
 -- a site of boards
 abbrev pub BoardSite : Type 0
-BoardSite = SiteState BoardOp board.Windows
+BoardSite = SiteState BoardBatch board.Windows
 
 -- why a site is not opened
 abbrev pub site_open_fault : ℕ → ℕ → board.Windows → Option OpenFault
@@ -36,24 +34,24 @@ site_open_fault number limit b = first_fault (
     ∷ [])
 
 -- what a site tells of an edit that it made, and the message of it
-abbrev pub made_by : BoardOp → BoardSite → Made
+abbrev pub made_by : BoardBatch → BoardSite → Made
 made_by op s = record { edit = board.edit_of op; up = UpOp (next_message s.end op) }
 
 -- what a site answers to a command, a refusal as its number
-abbrev pub made_result : BoardSite → Result BoardOp ℕ → Result Made ℕ
+abbrev pub made_result : BoardSite → Result BoardBatch ℕ → Result Made ℕ
 made_result s (Ok op) = Ok (made_by op s)
 made_result s (Err n) = Err n
 
-abbrev pub edit_reply : Command → BoardSite → Result Made ℕ
-edit_reply command s = made_result s (edit_answer board_operations command s)
+abbrev pub edit_reply : List Command → BoardSite → Result Made ℕ
+edit_reply command s = made_result s (edit_answer board_batches command s)
 
 -- and the site that it leaves
-abbrev pub after_edit : BoardSite → Result BoardOp ℕ → BoardSite
-after_edit s (Ok op) = edited board_operations op s
+abbrev pub after_edit : BoardSite → Result BoardBatch ℕ → BoardSite
+after_edit s (Ok op) = edited board_batches op s
 after_edit s (Err n) = s
 
-abbrev pub site_edited : Command → BoardSite → BoardSite
-site_edited command s = after_edit s (edit_answer board_operations command s)
+abbrev pub site_edited : List Command → BoardSite → BoardSite
+site_edited command s = after_edit s (edit_answer board_batches command s)
 
 abbrev pub with_number : Result Made EditFault → Result Made ℕ
 with_number (Ok made) = Ok made
@@ -69,6 +67,7 @@ is_edit_memory LongText = false
 is_edit_memory Backlog = false
 is_edit_memory NoMemory = true
 is_edit_memory Spent = false
+is_edit_memory BadBatch = false
 is_edit_memory Stopped = false
 
 abbrev pub edit_lacks_memory : Result Made EditFault → Bool
@@ -77,32 +76,37 @@ edit_lacks_memory (Err fault) = is_edit_memory fault
 
 -- what a command does at a site: where memory is refused nothing, and no other refusal held; else the reply and the next site
 -- are those of the command
-abbrev pub EditAnswers : Command → BoardSite → BoardSite → Result Made EditFault → Type 0
+abbrev pub EditAnswers : List Command → BoardSite → BoardSite → Result Made EditFault → Type 0
 EditAnswers command s t r = MatchBool (edit_lacks_memory r)
-    ((t ≡ s) × (is_ok (edit_answer board_operations command s) ≡ true))
+    ((t ≡ s) × (is_ok (edit_answer board_batches command s) ≡ true))
     ((with_number r ≡ edit_reply command s) × (t ≡ site_edited command s))
 
 -- a message up is of an operation that makes the edit
-abbrev pub Bears : Edit → Up BoardOp → Type 0
+abbrev pub Bears : BoardEdits → Up BoardBatch → Type 0
 Bears e (UpOp m) = board.edit_of m.op ≡ e
 Bears e (UpAck n) = ⊥
 Bears e (UpPing k) = ⊥
 
 -- what a site answers to a message
-abbrev pub deliver_result : Down BoardOp → BoardSite → Option SiteFault → Result (Option (Up BoardOp)) SiteFault
-deliver_result down s None = Ok (sent_back board_operations down s)
+abbrev pub deliver_result : Down BoardBatch → BoardSite → Option SiteFault → Result (Option (Up BoardBatch)) SiteFault
+deliver_result down s None = Ok (sent_back board_batches down s)
 deliver_result down s (Some e) = Err e
 
-abbrev pub deliver_reply : Down BoardOp → BoardSite → Result (Option (Up BoardOp)) SiteFault
-deliver_reply down s = deliver_result down s (deliver_fault board_operations down s)
+abbrev pub deliver_reply : Down BoardBatch → BoardSite → Result (Option (Up BoardBatch)) SiteFault
+deliver_reply down s = deliver_result down s (deliver_fault board_batches down s)
 
 -- and the site that it leaves
-abbrev pub site_delivered : Down BoardOp → BoardSite → BoardSite
-site_delivered down s = after_fault board_operations down s (deliver_fault board_operations down s)
+abbrev pub site_delivered : Down BoardBatch → BoardSite → BoardSite
+site_delivered down s = after_fault board_batches down s (deliver_fault board_batches down s)
 
--- whether a message comes to ask for memory: only an edit that inserts an item does
-abbrev pub deliver_asks : Down BoardOp → BoardSite → Bool
-deliver_asks (Op m) s = is_none (first_fault (deliver_tests board_operations s m)) && nat_le 1 (insertions (board.edit_of m.op))
+-- whether a site needs memory for a batch of another: only for one that inserts an item, and for one of several operations, of
+-- which a copy is made
+abbrev pub asks_room : BoardBatch → Bool
+asks_room os = nat_le 1 (board.insertions (board.edit_of os)) || nat_le 2 (length os)
+
+-- whether a message comes to ask for memory
+abbrev pub deliver_asks : Down BoardBatch → BoardSite → Bool
+deliver_asks (Op m) s = is_none (first_fault (deliver_tests board_batches s m)) && asks_room m.op
 deliver_asks (Ack n) s = false
 deliver_asks (Pong k) s = false
 
@@ -114,13 +118,13 @@ is_site_memory BadName = false
 is_site_memory BadOp = false
 is_site_memory SiteStopped = false
 
-abbrev pub deliver_lacks_memory : Result (Option (Up BoardOp)) SiteFault → Bool
+abbrev pub deliver_lacks_memory : Result (Option (Up BoardBatch)) SiteFault → Bool
 deliver_lacks_memory (Ok back) = false
 deliver_lacks_memory (Err fault) = is_site_memory fault
 
 -- what a message does at a site: where memory is refused nothing, and no refusal that is tested before that held; else the
 -- reply and the next site are those of the message
-abbrev pub DeliverAnswers : Down BoardOp → BoardSite → BoardSite → Result (Option (Up BoardOp)) SiteFault → Type 0
+abbrev pub DeliverAnswers : Down BoardBatch → BoardSite → BoardSite → Result (Option (Up BoardBatch)) SiteFault → Type 0
 DeliverAnswers down s t r = MatchBool (deliver_lacks_memory r)
     ((t ≡ s) × (deliver_asks down s ≡ true))
     ((r ≡ deliver_reply down s) × (t ≡ site_delivered down s))

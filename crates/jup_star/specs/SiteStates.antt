@@ -1,5 +1,5 @@
 -- A site, and what each call answers and leaves. It is said of any operations: a site's are those on boards.
-use Rattle.std.specs.Prelude.{◌≡◌, ℕ, ◌+◌, ◌≤◌, Bool, true, false, not, List, [], ◌∷◌, ◌++◌, length, nat_le, Option, Some, None, Result, Ok, Err, if◌then◌else◌}
+use Rattle.std.specs.Prelude.{◌≡◌, ℕ, ◌+◌, ◌*◌, ◌≤◌, Bool, true, false, not, List, [], ◌∷◌, ◌++◌, length, nat_le, Option, Some, None, Result, Ok, Err, if◌then◌else◌}
 use Rattle.jup_xform.specs.declared.row.Side.TheVariants.{Client}
 use Rattle.jup_link.specs.Links.{Link, opened, generated, accepts_count, after_send, after_count, answered}
 use Rattle.jup_link.specs.declared.Msg.{Msg}
@@ -112,5 +112,5 @@ module _ (O : Operations) where
     pub limited : s.limit ≤ 16777216
     pub counted : s.made ≤ s.limit
     pub sent : generated s.end ≤ s.made
-    pub insertions : s.named ≤ s.made
+    pub insertions : s.named ≤ 32 * s.made
     pub known : (n : O.t.Name) → O.t.holds s.board n → O.site_of n ≡ s.number → O.number_of n ≤ s.named

@@ -1,9 +1,8 @@
 -- A call on a star: memory aside, it has one reply and one next star.
 use Rattle.std.specs.Prelude.{◌≡◌, ℕ, ◌+◌, ◌-◌, ◌≤◌, ◌&&◌, nat_le, [], ◌∷◌, Bool, true, false, List, length, take, Option, Some, None, is_none, Result, Ok, Err, MatchBool}
-use Rattle.jup_window.specs.declared.board_operations.BoardOp.{BoardOp}
-use Rattle.jup_window.specs.declared.edits.Edit.{Edit}
-use Rattle.jup_window.specs.Boards as board
-use Rattle.jup_window.specs.BoardOperations.{board_operations}
+use Rattle.jup_batch.specs.BatchBoards.{BoardBatch, BoardEdits}
+use Rattle.jup_batch.specs.BatchBoards as board
+use Rattle.jup_batch.specs.BoardBatches.{board_batches}
 use Rattle.jup_star.specs.declared.messages.Down.{Down}
 use Rattle.jup_star.specs.declared.messages.Up.{Up}
 use Rattle.jup_star.specs.declared.messages.Up.TheVariants.{Op, Ack, Ping}
@@ -19,14 +18,14 @@ use Rattle.jup_star.specs.declared.calls.Reply.TheVariants.{Joined as JoinedRepl
 use Rattle.jup_window.specs.Sites.{only_site}
 use Rattle.jup_star.specs.FirstFaults.{test, first_fault}
 use Rattle.jup_star.specs.LinkStates.{LinkState}
-use Rattle.jup_star.specs.StarStates.{StarState, AreApart, AreBounded, most_items, link_of, join_fault, joined, early_fault, take_fault, taken, place_taken, left, fetched}
+use Rattle.jup_star.specs.StarStates.{StarState, AreApart, AreBounded, most_batches, link_of, join_fault, joined, early_fault, take_fault, taken, place_taken, left, fetched}
 
 -- a star of boards, and one of its links
 abbrev pub BoardStar : Type 0
-BoardStar = StarState BoardOp board.Windows Edit
+BoardStar = StarState BoardBatch board.Windows BoardEdits
 
 abbrev pub BoardLink : Type 0
-BoardLink = LinkState BoardOp
+BoardLink = LinkState BoardBatch
 
 -- what holds of every star: it has no more entries than it may, and no more sites than there may be; its links are as said; and no
 -- sequence has grown by more than an item for each entry
@@ -37,7 +36,7 @@ pub record IsStar (s : BoardStar) : Type 0 where
   pub few : length s.links ≤ 64
   pub bounded : AreBounded s.given (length s.order) s.links
   pub apart : AreApart s.links
-  pub short : board.IsSmall (most_items - length s.order) s.board
+  pub short : board.IsSmall (most_batches - length s.order) s.board
 
 -- what a site is told as it joins, but for the room of its board
 abbrev pub joining : BoardStar → Joined
@@ -55,17 +54,17 @@ abbrev pub after_join : BoardStar → Option StarFault → BoardStar
 after_join s None = joined s
 after_join s (Some e) = s
 
-abbrev pub take_result : BoardStar → Up BoardOp → Option StarFault → Result (Option ℕ) StarFault
-take_result s up None = Ok (place_taken board_operations s up)
+abbrev pub take_result : BoardStar → Up BoardBatch → Option StarFault → Result (Option ℕ) StarFault
+take_result s up None = Ok (place_taken board_batches s up)
 take_result s up (Some e) = Err e
 
 -- a take that is refused leaves the star without that link
-abbrev pub after_take : ℕ → Up BoardOp → BoardStar → Option BoardLink → Option StarFault → BoardStar
+abbrev pub after_take : ℕ → Up BoardBatch → BoardStar → Option BoardLink → Option StarFault → BoardStar
 after_take i up s None fault = s
-after_take i up s (Some l) None = taken board_operations i up l s
+after_take i up s (Some l) None = taken board_batches i up l s
 after_take i up s (Some l) (Some e) = left i s
 
-abbrev pub fetch_result : ℕ → Option BoardLink → Result (List (Down BoardOp)) StarFault
+abbrev pub fetch_result : ℕ → Option BoardLink → Result (List (Down BoardBatch)) StarFault
 fetch_result max None = Err NoLink
 fetch_result max (Some l) = Ok (take max l.outbox)
 
@@ -84,21 +83,21 @@ after_leave i s (Some l) = left i s
 -- what a star answers to a call
 unfoldable pub reply_of : Call → BoardStar → Reply
 reply_of Join s = JoinedReply (join_result s (join_fault s))
-reply_of (Take i up) s = TakenReply (take_result s up (take_fault board_operations s up (link_of i s.links)))
+reply_of (Take i up) s = TakenReply (take_result s up (take_fault board_batches s up (link_of i s.links)))
 reply_of (Fetch i max) s = FetchedReply (fetch_result max (link_of i s.links))
 reply_of (Leave i) s = LeftReply (leave_result (link_of i s.links))
 
 -- and the star that it leaves
 unfoldable pub star_after : Call → BoardStar → BoardStar
 star_after Join s = after_join s (join_fault s)
-star_after (Take i up) s = after_take i up s (link_of i s.links) (take_fault board_operations s up (link_of i s.links))
+star_after (Take i up) s = after_take i up s (link_of i s.links) (take_fault board_batches s up (link_of i s.links))
 star_after (Fetch i max) s = after_fetch i max s (link_of i s.links)
 star_after (Leave i) s = after_leave i s (link_of i s.links)
 
 -- whether a take comes to ask for memory: an acknowledgement never does
-abbrev pub take_asks : BoardStar → Up BoardOp → Option BoardLink → Bool
+abbrev pub take_asks : BoardStar → Up BoardBatch → Option BoardLink → Bool
 take_asks s up None = false
-take_asks s (Op m) (Some l) = is_none (early_fault board_operations s.limit (length s.order) l m)
+take_asks s (Op m) (Some l) = is_none (early_fault board_batches s.limit (length s.order) l m)
 take_asks s (Ack n) (Some l) = false
 take_asks s (Ping k) (Some l) = true
 

@@ -1,5 +1,5 @@
 -- The star, and what each call answers and leaves. It is said of any operations: the star's are those on boards.
-use Rattle.std.specs.Prelude.{◌≡◌, ℕ, ◌+◌, ◌≤◌, Bool, false, not, List, [], ◌∷◌, ◌++◌, length, map, filter, find, nat_lt, Option, Some, None, if◌then◌else◌}
+use Rattle.std.specs.Prelude.{◌≡◌, ℕ, ◌+◌, ◌*◌, ◌≤◌, Bool, false, not, List, [], ◌∷◌, ◌++◌, length, map, filter, find, nat_lt, Option, Some, None, if◌then◌else◌}
 use Rattle.jup_link.specs.Links.{Link, generated, accepts_count}
 use Rattle.jup_link.specs.declared.Msg.{Msg}
 use Rattle.jup_window.specs.Operations.{Operations}
@@ -130,12 +130,12 @@ AreApart (l ∷ ls) = IsNew l.site ls × AreApart ls
 pub record IsBounded {Operation : Type 0} (most count : ℕ) (l : LinkState Operation) : Type 0 where
   pub given : l.site ≤ most
   pub sent : generated l.end ≤ count
-  pub insertions : l.named ≤ count
+  pub insertions : l.named ≤ 32 * count
 
 abbrev pub AreBounded : {Operation : Type 0} → ℕ → ℕ → List (LinkState Operation) → Type 0
 AreBounded most count [] = Unit {0}
 AreBounded most count (l ∷ ls) = IsBounded most count l × AreBounded most count ls
 
--- how many more items a sequence of at most 65,536 may take
-abbrev pub most_items : ℕ
-most_items = 2147418111
+-- how many batches of 32 items a sequence of at most 65,536 may take: 32 times this and 31 more are 2,147,418,111
+abbrev pub most_batches : ℕ
+most_batches = 67106815

@@ -1,17 +1,18 @@
 //! The edits of operations.
-ghost use Rattle.std.specs.Prelude.{◌≡◌};
-ghost use Rattle.jup_window.specs.Boards as board;
+ghost use Rattle.std.specs.Prelude.{◌≡◌, IfOk};
+ghost use Rattle.jup_batch.specs.BatchBoards as board;
 
-use jup_window::{BoardOp, Edit, Effect};
-use jup_xform::Transform;
+use jup_batch::{BoardBatch, BoardEdits};
+use jup_window::Effect;
+use jup_xform::{NoMemory, Transform};
 use std::alloc::Global;
 use std::marker::PhantomData;
 
-/// The edit that an operation on a board makes. It takes no memory.
-pub(crate) fn edit_of(alloc: Global, op: &BoardOp) -> Edit
-    ensures { result ≡ board.edit_of op.now }
+/// The edits that a batch makes.
+pub(crate) fn edits_of(alloc: Global, op: &BoardBatch) -> Result<BoardEdits, NoMemory>
+    ensures { IfOk result (λ edits. edits ≡ board.edit_of op.now) }
 {
     // The checker learns of the type within an edit from this.
     let _within: PhantomData<Effect> = PhantomData;
-    op.edit(alloc).unwrap()
+    op.edit(alloc)
 }

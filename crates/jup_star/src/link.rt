@@ -1,20 +1,20 @@
 //! The star's end of a link to a site.
 ghost use Rattle.std.specs.Prelude.{◌≡◌, ◌≤◌, ◌<◌, length, take, IsTrue, IfSome, OnOk, OnErr, IfOk};
 ghost use Rattle.jup_link.specs.Links.{IsNumber, IsCount, generated};
-ghost use Rattle.jup_window.specs.Widgets.{relabels_no_text};
-ghost use Rattle.jup_window.specs.BoardOperations.{board_operations};
+ghost use Rattle.jup_batch.specs.BatchBoards as board;
+ghost use Rattle.jup_batch.specs.BoardBatches.{board_batches};
 ghost use Rattle.jup_star.specs.FirstFaults.{first_fault, fault_of};
 ghost use Rattle.std.specs.Option.{option_to_list};
 ghost use Rattle.jup_star.specs.LinkStates.{opened_link, link_acked, link_ponged, link_fetched, link_sent, link_heard, operation_at};
 ghost use Rattle.jup_star.specs.StarStates.{early_fault, edit_tests, ack_tests, log_tests};
 ghost use Rattle.jup_star.specs.Rooms.{bare_link, HasRoom};
-ghost use Rattle.jup_star.specs.TextRelabels.{DownRelabelsNoText};
+ghost use Rattle.jup_star.specs.TextRelabels.{RelabelNoText, DownRelabelsNoText};
 
 use crate::ends::{acknowledge, check_counts, receive};
 use crate::outbox::Outbox;
 use crate::{Down, Downs, StarFault};
+use jup_batch::{BoardBatch, all_insertions, bear_next, one_is_nothing};
 use jup_link::{End, Msg};
-use jup_window::{BoardOp, Edit};
 use jup_xform::{NoMemory, Side, Transform};
 use std::alloc::Global;
 
@@ -22,9 +22,18 @@ use std::alloc::Global;
 #[derive(Drop)]
 pub(crate) struct Link {
     pub(crate) site: u32,
-    pub(crate) end: End<BoardOp>,
+    pub(crate) end: End<BoardBatch>,
     pub(crate) outbox: Outbox,
     pub(crate) named: u32,
+    pub(crate) copies: Option<Copies>,
+}
+
+/// Copies of an operation that is about to be sent: one for the queue, and one for the message. They are
+/// made while memory may still be refused, and written over with the operation as it is then sent.
+#[derive(Drop)]
+pub(crate) struct Copies {
+    pub(crate) kept: BoardBatch,
+    pub(crate) sent: BoardBatch,
 }
 
 // The first fault of an edit for want of room in the order.
@@ -37,6 +46,16 @@ fn check_log(limit: u32, count: usize) -> Result<(), StarFault>
     Ok(())
 }
 
+// Copies of an operation.
+fn copies_of(alloc: Global, op: &BoardBatch) -> Result<Copies, NoMemory>
+    ensures { IfOk result (λ copies. (copies.kept ≡ op.now) × (copies.sent ≡ op.now)) }
+{
+    Ok(Copies {
+        kept: op.copy(alloc)?,
+        sent: op.copy(alloc)?,
+    })
+}
+
 impl Link {
     pub(crate) fn new(alloc: Global, site: u32) -> Link
         ensures { bare_link result ≡ opened_link site }
@@ -46,16 +65,19 @@ impl Link {
             end: End::new(alloc, Side::Server),
             outbox: Outbox::new(alloc),
             named: 0,
+            copies: None,
         }
     }
 
-    // Makes room for one message and one operation.
-    pub(crate) fn reserve(&mut self) -> Result<(), NoMemory>
-        ensures room { OnOk result (HasRoom self.new) }
+    // Makes room for one message and one operation, and copies of the operation.
+    pub(crate) fn reserve(&mut self, alloc: Global, op: &BoardBatch) -> Result<(), NoMemory>
+        ensures room { OnOk result (HasRoom (board.shape op.now) self.new) }
         ensures same { bare_link self.new ≡ bare_link self.old }
     {
         self.outbox.reserve_one()?;
-        self.end.reserve_one()
+        self.end.reserve_one()?;
+        self.copies = Some(copies_of(alloc, op)?);
+        Ok(())
     }
 
     // The first fault of an edit, but for what its operation meets on the board.
@@ -63,25 +85,25 @@ impl Link {
         &self,
         limit: u32,
         count: usize,
-        msg: &Msg<BoardOp>,
-        edit: &Edit,
+        msg: &Msg<BoardBatch>,
     ) -> Result<(), StarFault>
-        requires { edit.now ≡ board_operations.t.edit_of msg.now.op }
-        ensures { fault_of result ≡ early_fault board_operations limit count (bare_link self.now) msg.now }
+        requires named { self.now.named ≤ 536870912 }
+        ensures { fault_of result ≡ early_fault board_batches limit count (bare_link self.now) msg.now }
     {
         check_counts(&self.end, msg)?;
-        self.check_edit(edit)?;
+        self.check_edit(&msg.op)?;
         check_log(limit, count)
     }
 
     // The first fault of what an edit means.
-    fn check_edit(&self, edit: &Edit) -> Result<(), StarFault>
-        ensures { fault_of result ≡ first_fault (edit_tests board_operations (bare_link self.now) edit.now) }
+    fn check_edit(&self, op: &BoardBatch) -> Result<(), StarFault>
+        requires { self.now.named ≤ 536870912 }
+        ensures { fault_of result ≡ first_fault (edit_tests board_batches (bare_link self.now) (board.edit_of op.now)) }
     {
-        if edit.is_nothing() {
+        if one_is_nothing(op.as_slice()) {
             return Err(StarFault::NotAnEdit);
         }
-        if !edit.bears_next(self.site, self.named) {
+        if !bear_next(op.as_slice(), self.site, self.named) {
             return Err(StarFault::BadName);
         }
         Ok(())
@@ -99,16 +121,15 @@ impl Link {
     }
 
     // Receives an edit, and acknowledges what is then owed. The operation is to be applied to the board.
-    pub(crate) fn hear(&mut self, msg: &Msg<BoardOp>, edit: &Edit) -> BoardOp
-        requires number { IsNumber self.old.end.link msg.now.mine }
-        requires count { IsCount self.old.end.link msg.now.heard }
+    pub(crate) fn hear(&mut self, msg: Msg<BoardBatch>) -> BoardBatch
+        requires number { IsNumber self.old.end.link msg.mine }
+        requires count { IsCount self.old.end.link msg.heard }
         requires room { 1 ≤ self.old.outbox.spare }
-        requires edit { edit.now ≡ board_operations.t.edit_of msg.now.op }
-        requires named { self.old.named ≤ 16777216 }
-        ensures op { result ≡ operation_at board_operations self.old.end.link msg.now }
-        ensures link { bare_link self.new ≡ link_heard board_operations msg.now (bare_link self.old) }
+        requires named { self.old.named ≤ 536870912 }
+        ensures op { result ≡ operation_at board_batches self.old.end.link msg }
+        ensures link { bare_link self.new ≡ link_heard board_batches msg (bare_link self.old) }
     {
-        self.named += edit.insertions();
+        self.named += all_insertions(msg.op.as_slice());
         let op = receive(&mut self.end, msg);
         if let Some(heard) = acknowledge(&mut self.end) {
             self.outbox.push(Down::Ack(heard));
@@ -127,13 +148,18 @@ impl Link {
     }
 
     // Sends an operation to the site.
-    pub(crate) fn send(&mut self, op: &BoardOp)
-        requires relabels { IsTrue (relabels_no_text op.now.op) }
-        requires room { HasRoom self.old }
+    pub(crate) fn send(&mut self, op: &BoardBatch)
+        requires relabels { RelabelNoText op.now }
+        requires room { HasRoom (board.shape op.now) self.old }
         requires counted { generated self.old.end.link < 4294967295 }
         ensures { bare_link self.new ≡ link_sent op.now (bare_link self.old) }
     {
-        let msg = self.end.send(*op, *op);
+        let Some(mut copies) = self.copies.take() else {
+            return;
+        };
+        op.write_to(&mut copies.kept);
+        op.write_to(&mut copies.sent);
+        let msg = self.end.send(copies.sent, copies.kept);
         self.outbox.push(Down::Op(msg));
     }
 

@@ -1,14 +1,16 @@
 //! The links of a star.
 ghost use Rattle.std.specs.Prelude.{◌≡◌, ◌<◌, not, nat_eq, map, filter, position, length, MatchOption, IsTrue, IfSome, OnOk, if◌then◌else◌};
-ghost use Rattle.jup_window.specs.Widgets.{relabels_no_text};
+ghost use Rattle.jup_batch.specs.BatchBoards as board;
+ghost use Rattle.jup_star.specs.TextRelabels.{RelabelNoText};
 ghost use Rattle.jup_star.specs.LinkStates.{is_of, link_sent};
 ghost use Rattle.jup_star.specs.StarStates.{IsNew, AreApart};
 ghost use Rattle.jup_star.specs.Places.{IsPlace};
 ghost use Rattle.jup_star.specs.Rooms.{bare_link, AllHaveRoom, OthersHaveRoom, AllCount};
 
 use crate::link::Link;
-use jup_window::BoardOp;
+use jup_batch::BoardBatch;
 use jup_xform::NoMemory;
+use std::alloc::Global;
 
 // The place of the first link of a site.
 fn place_of(links: &[Link], site: u32) -> Option<usize>
@@ -43,21 +45,25 @@ pub(crate) fn link_at(links: &[Link], site: u32) -> Option<usize>
     place_of(links, site)
 }
 
-/// Makes room in each link for one message and one operation.
-pub(crate) fn reserve_all(links: &mut [Link]) -> Result<(), NoMemory>
+/// Makes room in each link for one message and one operation, and copies of the operation.
+pub(crate) fn reserve_all(
+    alloc: Global,
+    links: &mut [Link],
+    op: &BoardBatch,
+) -> Result<(), NoMemory>
     ensures same { map bare_link links.new ≡ map bare_link links.old }
-    ensures room { OnOk result (AllHaveRoom links.new) }
+    ensures room { OnOk result (AllHaveRoom (board.shape op.now) links.new) }
 {
     for link in links.iter_mut() {
-        link.reserve()?;
+        link.reserve(alloc, op)?;
     }
     Ok(())
 }
 
 /// Sends an operation to each link but that of the site that it came from.
-pub(crate) fn send_others(links: &mut [Link], site: u32, op: &BoardOp)
-    requires relabels { IsTrue (relabels_no_text op.now.op) }
-    requires room { OthersHaveRoom site links.old }
+pub(crate) fn send_others(links: &mut [Link], site: u32, op: &BoardBatch)
+    requires relabels { RelabelNoText op.now }
+    requires room { OthersHaveRoom (board.shape op.now) site links.old }
     requires counted { AllCount (map bare_link links.old) }
     ensures { map bare_link links.new ≡ map (λ l. if is_of site l then l else link_sent op.now l) (map bare_link links.old) }
 {

@@ -1,11 +1,11 @@
 //! What travels between a site and the star, and what the star keeps of it.
 
+use jup_batch::{BoardBatch, BoardEdits};
 use jup_link::Msg;
-use jup_window::{BoardOp, Edit};
 
 /// What a site sends up to the star.
 #[derive(Debug, Drop, PartialEq, Eq)]
-pub enum Up<T = BoardOp> {
+pub enum Up<T = BoardBatch> {
     /// An edit of the site.
     Op(Msg<T>),
     /// How many operations the site received.
@@ -16,7 +16,7 @@ pub enum Up<T = BoardOp> {
 
 /// What the star sends down to a site.
 #[derive(Debug, Drop, PartialEq, Eq)]
-pub enum Down<T = BoardOp> {
+pub enum Down<T = BoardBatch> {
     /// An edit of another site.
     Op(Msg<T>),
     /// How many operations the star received from the site.
@@ -26,8 +26,8 @@ pub enum Down<T = BoardOp> {
 }
 
 /// An entry of the star's order: an edit as the message of its site bore it.
-#[derive(Clone, Copy, Debug, PartialEq, Eq)]
-pub struct Entry<E = Edit> {
+#[derive(Debug, Drop, PartialEq, Eq)]
+pub struct Entry<E = BoardEdits> {
     pub site: u32,
     pub edit: E,
 }

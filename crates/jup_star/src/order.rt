@@ -2,6 +2,7 @@
 ghost use Rattle.std.specs.Prelude.{◌≡◌, ◌≤◌, [], ◌∷◌, ◌++◌, length, OnOk, OnErr};
 
 use crate::Entry;
+use jup_batch::BoardEdits;
 use jup_window::{Edit, Effect};
 use jup_xform::NoMemory;
 use std::alloc::Global;
@@ -13,16 +14,16 @@ use std::marker::{Model, PhantomData};
 pub(crate) struct Order {
     entries: Vec<Entry>,
     // The checker learns of the types within an entry from a field that names them.
-    within: PhantomData<(Effect, Edit)>,
+    within: PhantomData<(Effect, Edit, BoardEdits)>,
 }
 
 impl Model for Order {
     ghost use Rattle.std.specs.Prelude.{◌-◌, vec_len};
     ghost use Rattle.std.specs.Vec.{vec_capacity};
-    ghost use Rattle.jup_window.specs.declared.edits.Edit.{Edit};
+    ghost use Rattle.jup_batch.specs.BatchBoards.{BoardEdits};
     ghost use Rattle.jup_star.specs.Queues.{OrderState};
 
-    ghost Value = { OrderState Edit };
+    ghost Value = { OrderState BoardEdits };
 
     ghost view = { λ o. record { entries = o.entries.items; spare = vec_capacity o.entries - vec_len o.entries } };
 }

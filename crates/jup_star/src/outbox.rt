@@ -7,6 +7,7 @@ ghost use Rattle.std.specs.Option.{option_to_list};
 ghost use Rattle.jup_star.specs.TextRelabels.{DownRelabelsNoText};
 
 use crate::Down;
+use jup_batch::BoardBatch;
 use jup_link::Msg;
 use jup_seq::SeqOp;
 use jup_value::Label;
@@ -24,11 +25,11 @@ pub struct Downs {
 
 impl Model for Downs {
     ghost use Rattle.std.specs.Prelude.{List, All};
-    ghost use Rattle.jup_window.specs.declared.board_operations.BoardOp.{BoardOp};
+    ghost use Rattle.jup_batch.specs.BatchBoards.{BoardBatch};
     ghost use Rattle.jup_star.specs.declared.messages.Down.{Down};
     ghost use Rattle.jup_star.specs.TextRelabels.{DownRelabelsNoText};
 
-    ghost Value = { List (Down BoardOp) };
+    ghost Value = { List (Down BoardBatch) };
 
     ghost view = { λ d. d.messages.items };
 
@@ -59,17 +60,17 @@ impl Downs {
 pub(crate) struct Outbox {
     messages: VecDeque<Down>,
     // The checker learns of the types within a message from a field that names them.
-    within: PhantomData<(SeqOp<Label>, WidgetOp, BoardOp, Msg<BoardOp>)>,
+    within: PhantomData<(SeqOp<Label>, WidgetOp, BoardOp, BoardBatch, Msg<BoardBatch>)>,
 }
 
 impl Model for Outbox {
     ghost use Rattle.std.specs.Prelude.{◌-◌, All};
     ghost use Rattle.std.specs.VecDeque.{deque_len, deque_capacity};
-    ghost use Rattle.jup_window.specs.declared.board_operations.BoardOp.{BoardOp};
+    ghost use Rattle.jup_batch.specs.BatchBoards.{BoardBatch};
     ghost use Rattle.jup_star.specs.Queues.{OutboxState};
     ghost use Rattle.jup_star.specs.TextRelabels.{DownRelabelsNoText};
 
-    ghost Value = { OutboxState BoardOp };
+    ghost Value = { OutboxState BoardBatch };
 
     ghost view = { λ o. record { messages = o.messages.items; spare = deque_capacity o.messages - deque_len o.messages } };
 

@@ -1,36 +1,50 @@
 //! A site.
-ghost use Rattle.std.specs.Prelude.{◌≡◌, ◌≤◌, ◌<◌, true, false, length, IfOk, IfErr, OnOk};
+ghost use Rattle.std.specs.Prelude.{◌≡◌, ◌≤◌, ◌<◌, true, false, [], ◌∷◌, Ok, Err, length, IfOk, IfErr, OnOk, OnErr};
 ghost use Rattle.jup_link.specs.Links.{IsNumber, IsCount, opened, after_count};
-ghost use Rattle.jup_window.specs.Boards.{bare, after, IsValid, HasRoom};
-ghost use Rattle.jup_window.specs.BoardOperations.{accepts, next_name, numbered, board_operations};
-ghost use Rattle.jup_window.specs.Commands.{shown};
+ghost use Rattle.jup_batch.specs.BatchBoards.{bare, after, edit_of, IsValid, HasRoom};
+ghost use Rattle.jup_window.specs.BoardOperations.{board_operations, next_name, numbered};
+ghost use Rattle.jup_batch.specs.Batched.{operations_of};
+ghost use Rattle.jup_batch.specs.BatchBoards.{accepts};
+ghost use Rattle.jup_batch.specs.BoardBatches.{board_batches};
+ghost use Rattle.jup_window.specs.Commands.{shown, map_ok};
+ghost use Rattle.jup_batch.specs.ShownCommands.{all_shown};
+ghost use Rattle.jup_window.specs.FaultNumbers.{edit_fault_number};
 ghost use Rattle.jup_star.specs.FirstFaults.{fault_of, first_fault};
 ghost use Rattle.jup_star.specs.LinkStates.{operation_at, end_after};
 ghost use Rattle.jup_star.specs.SiteStates.{opened_site, edit_answer, heard_tests, shown_tests};
-ghost use Rattle.jup_star.specs.SiteCalls.{site_open_fault, EditAnswers, DeliverAnswers, Bears, is_edit_memory};
+ghost use Rattle.jup_star.specs.SiteCalls.{site_open_fault, EditAnswers, DeliverAnswers, Bears, is_edit_memory, asks_room};
 ghost use Rattle.jup_star.specs.TextRelabels.{UpRelabelsNoText};
 ghost use Rattle.jup_star.specs.declared.messages.Down.TheVariants.{Op, Ack, Pong};
 
-use crate::edits::edit_of;
-use crate::ends::{acknowledge, check_counts, receive};
+use crate::edits::edits_of;
+use crate::ends::{acknowledge, check_counts, copy_of, receive};
 use crate::limits::{HIGHEST_LIMIT, LAST_SITE};
 use crate::take::fits;
 use crate::{Down, OpenFault, SiteFault, Up};
+use jup_batch::{BoardBatch, BoardEdits, MOST_COMMANDS, all_insertions, name_all, one_bears_site};
 use jup_link::{End, Msg};
 use jup_seq::SeqOp;
+use jup_setting::SetOp;
 use jup_value::{Label, Name};
 use jup_window::{Board, BoardOp, Command, Edit, EditFault, Effect, WidgetOp};
-use jup_xform::{NoMemory, Side, Transform};
+use jup_xform::{Batch, NoMemory, Side, Transform};
 use std::alloc::Global;
 use std::marker::{Model, PhantomData};
+
+// No operation: the place of one that is still to be named.
+const NO_OPERATION: BoardOp = BoardOp {
+    win: 0,
+    wid: 0,
+    op: WidgetOp::Toggle(SetOp::Nothing),
+};
 
 /// The most edits of a site that the star has not acknowledged.
 const MOST_UNACKNOWLEDGED: u32 = 1024;
 
 /// An edit that a site made, and the message that tells the star of it.
-#[derive(Debug, Drop, PartialEq, Eq)]
+#[derive(Drop)]
 pub struct Made {
-    pub edit: Edit,
+    pub edit: BoardEdits,
     pub up: Up,
 }
 
@@ -44,21 +58,32 @@ pub struct Site {
     number: u32,
     limit: u32,
     board: Board,
-    end: End<BoardOp>,
+    end: End<BoardBatch>,
     made: u32,
     named: u32,
     stopped: bool,
     // The checker learns of the types within operations and edits from a field that names them.
-    within: PhantomData<(SeqOp<Label>, WidgetOp, BoardOp, Msg<BoardOp>, Effect, Edit)>,
+    within: PhantomData<
+        (
+            SeqOp<Label>,
+            WidgetOp,
+            BoardOp,
+            BoardBatch,
+            Msg<BoardBatch>,
+            Effect,
+            Edit,
+            BoardEdits,
+        ),
+    >,
 }
 
 impl Model for Site {
-    ghost use Rattle.jup_window.specs.declared.board_operations.BoardOp.{BoardOp};
-    ghost use Rattle.jup_window.specs.Boards.{Windows, bare};
-    ghost use Rattle.jup_window.specs.BoardOperations.{board_operations};
+    ghost use Rattle.jup_batch.specs.BatchBoards.{BoardBatch};
+    ghost use Rattle.jup_batch.specs.BatchBoards.{Windows, bare};
+    ghost use Rattle.jup_batch.specs.BoardBatches.{board_batches};
     ghost use Rattle.jup_star.specs.SiteStates.{SiteState, IsSite};
 
-    ghost Value = { SiteState BoardOp Windows };
+    ghost Value = { SiteState BoardBatch Windows };
 
     ghost view = { λ s. record {
       number = s.number;
@@ -70,7 +95,7 @@ impl Model for Site {
       stopped = s.stopped;
     } };
 
-    ghost invariant = { λ s. IsSite board_operations (record {
+    ghost invariant = { λ s. IsSite board_batches (record {
       number = s.number;
       limit = s.limit;
       board = bare s.board;
@@ -133,10 +158,10 @@ impl Site {
 
     // The operation that a command makes, or the first refusal.
     fn name_it(&self, command: &Command) -> Result<BoardOp, EditFault>
-        ensures answer { numbered result ≡ edit_answer board_operations command.now self.now }
+        ensures answer { map_ok (λ op. op ∷ []) (numbered result) ≡ edit_answer board_batches (command.now ∷ []) self.now }
         ensures memory { IfErr result (λ fault. is_edit_memory fault ≡ false) }
-        ensures valid { IfOk result (λ op. IsValid op self.now.board) }
-        ensures shown { IfOk result (λ op. after op self.now.board
+        ensures valid { IfOk result (λ op. IsValid (op ∷ []) self.now.board) }
+        ensures shown { IfOk result (λ op. after (op ∷ []) self.now.board
             ≡ shown command.now (next_name self.now.number self.now.named) self.now.board) }
         ensures room { IfOk result (λ op. self.now.made < self.now.limit) }
     {
@@ -155,6 +180,29 @@ impl Site {
             return Err(EditFault::Spent);
         }
         Ok(op)
+    }
+
+    // Writes the operations that commands make, or tells the first refusal.
+    fn name_batch(&self, commands: &[Command], ops: &mut [BoardOp]) -> Result<(), EditFault>
+        requires running { self.now.stopped ≡ false }
+        requires some { 1 ≤ length commands.now }
+        requires few { length commands.now ≤ 32 }
+        requires long { length ops.old ≡ length commands.now }
+        ensures refused { IfErr result (λ fault. edit_answer board_batches commands.now self.now ≡ Err (edit_fault_number fault)) }
+        ensures memory { IfErr result (λ fault. is_edit_memory fault ≡ false) }
+        ensures ok { OnOk result (edit_answer board_batches commands.now self.now ≡ Ok ops.new) }
+        ensures named { OnOk result (operations_of board_operations self.now.board commands.now self.now.number self.now.named ≡ Ok ops.new) }
+        ensures room { OnOk result (self.now.made < self.now.limit) }
+        ensures same_length { length ops.new ≡ length commands.now }
+    {
+        name_all(&self.board, commands, self.number, self.named, ops)?;
+        if self.end.backlog() >= MOST_UNACKNOWLEDGED {
+            return Err(EditFault::Backlog);
+        }
+        if self.made >= self.limit {
+            return Err(EditFault::Spent);
+        }
+        Ok(())
     }
 
     /// Takes a message of the star, and answers an acknowledgement where one is then owed. An edit is shown
@@ -178,21 +226,25 @@ impl Site {
     }
 
     // Takes an edit of another site.
-    fn deliver_edit(&mut self, alloc: Global, msg: &Msg<BoardOp>) -> Result<Option<Up>, SiteFault>
+    fn deliver_edit(
+        &mut self,
+        alloc: Global,
+        msg: &Msg<BoardBatch>,
+    ) -> Result<Option<Up>, SiteFault>
         requires { self.old.stopped ≡ false }
         ensures { DeliverAnswers (Op msg.now) self.old self.new result }
     {
-        match check_shown(alloc, self.number, &self.end, msg) {
+        match check_shown(self.number, &self.end, msg) {
             Err(fault) => {
                 halt(alloc, &mut self.end, &mut self.stopped);
                 return Err(fault);
             }
             Ok(()) => {}
         }
-        match msg.op.reserve(alloc, 0, &mut self.board) {
+        let msg = match reserve_shown(alloc, msg, &mut self.board) {
             Err(NoMemory) => return Err(SiteFault::NoMemory),
-            Ok(()) => {}
-        }
+            Ok(msg) => msg,
+        };
         if !show(&mut self.board, &mut self.end, msg) {
             halt(alloc, &mut self.end, &mut self.stopped);
             return Err(SiteFault::BadOp);
@@ -219,34 +271,68 @@ impl Site {
     /// in this order: the site is stopped, what [`Board::name_it`] refuses, 1,024 edits are not
     /// acknowledged, all edits were made, no memory. A refusal changes nothing.
     pub fn edit(&mut self, alloc: Global, command: &Command) -> Result<Made, EditFault>
-        ensures answer { EditAnswers command.now self.old self.new result }
+        ensures answer { EditAnswers (command.now ∷ []) self.old self.new result }
         ensures shown { OnOk result (self.new.board
             ≡ shown command.now (next_name self.old.number self.old.named) self.old.board) }
+        ensures edits { IfOk result (λ made. length made.edit ≡ 1) }
         ensures bears { IfOk result (λ made. Bears made.edit made.up) }
         ensures relabels { IfOk result (λ made. UpRelabelsNoText made.up) }
     {
-        let op = match self.name_it(command) {
+        let ops = match self.name_it(command) {
             Err(fault) => return Err(fault),
-            Ok(op) => op,
+            Ok(op) => [op],
         };
-        match reserve_made(alloc, &op, &mut self.board, &mut self.end) {
+        let prepared = match prepare(alloc, &ops, &mut self.board, &mut self.end) {
             Err(NoMemory) => return Err(EditFault::NoMemory),
-            Ok(()) => {}
-        }
-        op.apply(&mut self.board);
-        let msg = self.end.send(op, op);
-        let edit = edit_of(alloc, &op);
+            Ok(prepared) => prepared,
+        };
+        prepared.op.apply(&mut self.board);
         self.made += 1;
-        self.named += edit.insertions();
+        self.named += all_insertions(&ops);
+        let msg = self.end.send(prepared.op, prepared.kept);
         Ok(Made {
-            edit,
+            edit: prepared.edits,
+            up: Up::Op(msg),
+        })
+    }
+
+    /// Makes one edit of 1 to 32 commands, each judged on the board after those before it: the board shows all
+    /// of them at once, and one message tells the star. Refused, in this order: the site is stopped, not 1 to
+    /// 32 commands, what [`Board::name_it`] refuses of the first command that is refused, 1,024 edits are not
+    /// acknowledged, all edits were made, no memory. A refusal changes nothing.
+    pub fn edit_batch(&mut self, alloc: Global, commands: &[Command]) -> Result<Made, EditFault>
+        ensures answer { EditAnswers commands.now self.old self.new result }
+        ensures shown { OnOk result (self.new.board ≡ all_shown commands.now self.old.number self.old.named self.old.board) }
+        ensures edits { IfOk result (λ made. length made.edit ≡ length commands.now) }
+        ensures bears { IfOk result (λ made. Bears made.edit made.up) }
+        ensures relabels { IfOk result (λ made. UpRelabelsNoText made.up) }
+    {
+        if self.stopped {
+            return Err(EditFault::Stopped);
+        }
+        if !(1..=MOST_COMMANDS).contains(&commands.len()) {
+            return Err(EditFault::BadBatch);
+        }
+        let mut all = [NO_OPERATION; MOST_COMMANDS];
+        let ops = &mut all[..commands.len()];
+        self.name_batch(commands, ops)?;
+        let prepared = match prepare(alloc, ops, &mut self.board, &mut self.end) {
+            Err(NoMemory) => return Err(EditFault::NoMemory),
+            Ok(prepared) => prepared,
+        };
+        prepared.op.apply(&mut self.board);
+        self.made += 1;
+        self.named += all_insertions(ops);
+        let msg = self.end.send(prepared.op, prepared.kept);
+        Ok(Made {
+            edit: prepared.edits,
             up: Up::Op(msg),
         })
     }
 }
 
 // Stops a site: its link is gone.
-fn halt(alloc: Global, end: &mut End<BoardOp>, stopped: &mut bool)
+fn halt(alloc: Global, end: &mut End<BoardBatch>, stopped: &mut bool)
     ensures end { end.new.link ≡ opened Side.Client }
     ensures stopped { stopped.new ≡ true }
 {
@@ -255,7 +341,7 @@ fn halt(alloc: Global, end: &mut End<BoardOp>, stopped: &mut bool)
 }
 
 // Takes an acknowledgement.
-fn hear(end: &mut End<BoardOp>, heard: u32) -> Result<(), SiteFault>
+fn hear(end: &mut End<BoardBatch>, heard: u32) -> Result<(), SiteFault>
     ensures fault { fault_of result ≡ first_fault (heard_tests end.old.link heard) }
     ensures count { OnOk result (IsCount end.old.link heard) }
     ensures ok { OnOk result (end.new.link ≡ after_count end.old.link heard) }
@@ -265,32 +351,42 @@ fn hear(end: &mut End<BoardOp>, heard: u32) -> Result<(), SiteFault>
 }
 
 // The first fault of an edit of another site, but for what its operation meets on the board.
-fn check_shown(
-    alloc: Global,
-    number: u32,
-    end: &End<BoardOp>,
-    msg: &Msg<BoardOp>,
-) -> Result<(), SiteFault>
-    ensures { fault_of result ≡ first_fault (shown_tests board_operations number end.now.link msg.now) }
+fn check_shown(number: u32, end: &End<BoardBatch>, msg: &Msg<BoardBatch>) -> Result<(), SiteFault>
+    ensures { fault_of result ≡ first_fault (shown_tests board_batches number end.now.link msg.now) }
 {
     check_counts(end, msg)?;
-    if edit_of(alloc, &msg.op).bears_site(number) {
+    if one_bears_site(msg.op.as_slice(), number) {
         return Err(SiteFault::BadName);
     }
     Ok(())
 }
 
+// Makes all room that an edit of another site needs, and a copy of its message.
+fn reserve_shown(
+    alloc: Global,
+    msg: &Msg<BoardBatch>,
+    board: &mut Board,
+) -> Result<Msg<BoardBatch>, NoMemory>
+    ensures board { bare board.new ≡ bare board.old }
+    ensures room { OnOk result (HasRoom msg.now.op 0 board.new) }
+    ensures msg { IfOk result (λ copied. copied ≡ msg.now) }
+    ensures asks { OnErr result (asks_room msg.now.op ≡ true) }
+{
+    msg.op.reserve(alloc, 0, board)?;
+    copy_of(alloc, msg)
+}
+
 // Receives an edit of another site and applies it, where it fits the board, and answers whether it does.
 // It takes no memory.
-fn show(board: &mut Board, end: &mut End<BoardOp>, msg: &Msg<BoardOp>) -> bool
-    requires number { IsNumber end.old.link msg.now.mine }
-    requires count { IsCount end.old.link msg.now.heard }
-    requires room { HasRoom msg.now.op 0 board.old }
-    ensures fits { result ≡ accepts (operation_at board_operations end.old.link msg.now) (bare board.old) }
-    ensures end { end.new.link ≡ end_after board_operations end.old.link msg.now }
+fn show(board: &mut Board, end: &mut End<BoardBatch>, msg: Msg<BoardBatch>) -> bool
+    requires number { IsNumber end.old.link msg.mine }
+    requires count { IsCount end.old.link msg.heard }
+    requires room { HasRoom msg.op 0 board.old }
+    ensures fits { result ≡ accepts (operation_at board_batches end.old.link msg) (bare board.old) }
+    ensures end { end.new.link ≡ end_after board_batches end.old.link msg }
     ensures same { result ≡ false → bare board.new ≡ bare board.old }
     ensures shown { result ≡ true
-        → bare board.new ≡ after (operation_at board_operations end.old.link msg.now) (bare board.old) }
+        → bare board.new ≡ after (operation_at board_batches end.old.link msg) (bare board.old) }
 {
     let op = receive(end, msg);
     if !fits(&op, board) {
@@ -300,18 +396,35 @@ fn show(board: &mut Board, end: &mut End<BoardOp>, msg: &Msg<BoardOp>) -> bool
     true
 }
 
-// Makes all room that an edit of the site needs.
-fn reserve_made(
+/// An edit of the site as it goes into the queue and into its message, and what it means.
+#[derive(Drop)]
+struct Prepared {
+    op: BoardBatch,
+    kept: BoardBatch,
+    edits: BoardEdits,
+}
+
+// Makes all room and all copies that an edit of the site needs.
+fn prepare(
     alloc: Global,
-    op: &BoardOp,
+    ops: &[BoardOp],
     board: &mut Board,
-    end: &mut End<BoardOp>,
-) -> Result<(), NoMemory>
+    end: &mut End<BoardBatch>,
+) -> Result<Prepared, NoMemory>
+    requires some { 1 ≤ length ops.now }
+    requires few { length ops.now ≤ 32 }
     ensures board { bare board.new ≡ bare board.old }
     ensures end { end.new.link ≡ end.old.link }
-    ensures board_room { OnOk result (HasRoom op.now 0 board.new) }
+    ensures board_room { OnOk result (HasRoom ops.now 0 board.new) }
     ensures end_room { OnOk result (1 ≤ end.new.spare) }
+    ensures op { IfOk result (λ prepared. prepared.op ≡ ops.now) }
+    ensures kept { IfOk result (λ prepared. prepared.kept ≡ ops.now) }
+    ensures edits { IfOk result (λ prepared. prepared.edits ≡ edit_of ops.now) }
 {
+    let op = Batch::from_slice(alloc, ops)?;
+    let kept = op.copy(alloc)?;
+    let edits = edits_of(alloc, &op)?;
     op.reserve(alloc, 0, board)?;
-    end.reserve_one()
+    end.reserve_one()?;
+    Ok(Prepared { op, kept, edits })
 }

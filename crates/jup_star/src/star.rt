@@ -1,7 +1,7 @@
 //! The star.
 ghost use Rattle.std.specs.Prelude.{◌≡◌, ◌≤◌, ◌<◌, false, length, IfOk, IfSome};
 ghost use Rattle.std.specs.Option.{option_map, option_to_list};
-ghost use Rattle.jup_window.specs.Boards.{bare};
+ghost use Rattle.jup_batch.specs.BatchBoards.{bare};
 ghost use Rattle.jup_window.specs.Entries.{EachWidget};
 ghost use Rattle.jup_star.specs.FirstFaults.{fault_of};
 ghost use Rattle.jup_window.specs.Commands.{map_ok};
@@ -14,15 +14,15 @@ ghost use Rattle.jup_star.specs.declared.messages.Up.TheVariants.{Op, Ack, Ping}
 ghost use Rattle.jup_star.specs.declared.calls.Call.TheVariants.{Join, Take, Fetch, Leave};
 ghost use Rattle.jup_star.specs.declared.calls.Reply.TheVariants.{Joined as JoinedReply, Taken, Fetched, Left};
 
-use crate::edits::edit_of;
 use crate::limits::{HIGHEST_LIMIT, LAST_SITE};
 use crate::link::Link;
 use crate::links::{detach, link_at};
 use crate::order::Order;
 use crate::take::{carry_out, reserve_edit};
 use crate::{Down, Downs, Entry, OpenFault, StarFault, Up};
+use jup_batch::BoardBatch;
 use jup_link::Msg;
-use jup_window::{Board, BoardOp};
+use jup_window::Board;
 use jup_xform::NoMemory;
 use std::alloc::Global;
 use std::marker::Model;
@@ -55,14 +55,14 @@ pub struct Star {
 
 impl Model for Star {
     ghost use Rattle.std.specs.Prelude.{map};
-    ghost use Rattle.jup_window.specs.declared.board_operations.BoardOp.{BoardOp};
-    ghost use Rattle.jup_window.specs.declared.edits.Edit.{Edit};
-    ghost use Rattle.jup_window.specs.Boards.{Windows, bare};
+    ghost use Rattle.jup_batch.specs.BatchBoards.{BoardBatch};
+    ghost use Rattle.jup_batch.specs.BatchBoards.{BoardEdits};
+    ghost use Rattle.jup_batch.specs.BatchBoards.{Windows, bare};
     ghost use Rattle.jup_star.specs.StarStates.{StarState};
     ghost use Rattle.jup_star.specs.StarCalls.{IsStar};
     ghost use Rattle.jup_star.specs.Rooms.{bare_link};
 
-    ghost Value = { StarState BoardOp Windows Edit };
+    ghost Value = { StarState BoardBatch Windows BoardEdits };
 
     ghost view = { λ s. record {
       limit = s.limit;
@@ -160,7 +160,7 @@ impl Star {
         &mut self,
         alloc: Global,
         site: u32,
-        msg: &Msg<BoardOp>,
+        msg: &Msg<BoardBatch>,
     ) -> Result<Option<u32>, StarFault>
         ensures { Answers (Take site (Op msg.now)) self.old self.new (Taken result) }
     {
@@ -168,31 +168,33 @@ impl Star {
             return Err(StarFault::NoLink);
         };
         let place = self.order.len();
-        let edit = edit_of(alloc, &msg.op);
-        match self.links[at].check(self.limit, place, msg, &edit) {
+        match self.links[at].check(self.limit, place, msg) {
             Err(fault) => {
                 detach(&mut self.links, site);
                 return Err(fault);
             }
             Ok(()) => {}
         }
-        match reserve_edit(
+        let prepared = match reserve_edit(
             alloc,
-            &msg.op,
+            msg,
             &mut self.board,
             &mut self.links,
             &mut self.order,
         ) {
             Err(NoMemory) => return Err(StarFault::NoMemory),
-            Ok(()) => {}
-        }
-        let entry = Entry { site, edit };
+            Ok(prepared) => prepared,
+        };
+        let entry = Entry {
+            site,
+            edit: prepared.edits,
+        };
         if !carry_out(
             &mut self.board,
             &mut self.links,
             &mut self.order,
             at,
-            msg,
+            prepared.msg,
             entry,
         ) {
             detach(&mut self.links, site);

@@ -1,7 +1,8 @@
 //! How a star takes an edit.
-ghost use Rattle.std.specs.Prelude.{◌≡◌, ◌≤◌, ◌<◌, true, false, [], ◌∷◌, ◌++◌, map, slice_set, vec_len, OnOk};
-ghost use Rattle.jup_window.specs.Boards.{bare, after, edit_of, HasRoom};
-ghost use Rattle.jup_window.specs.BoardOperations.{accepts, board_operations};
+ghost use Rattle.std.specs.Prelude.{◌≡◌, ◌≤◌, ◌<◌, true, false, [], ◌∷◌, ◌++◌, map, slice_set, vec_len, OnOk, IfOk};
+ghost use Rattle.jup_batch.specs.BatchBoards.{bare, after, edit_of, shape, HasRoom};
+ghost use Rattle.jup_batch.specs.BoardBatches.{board_batches};
+ghost use Rattle.jup_batch.specs.BatchBoards.{accepts};
 ghost use Rattle.jup_star.specs.LinkStates.{operation_at, link_heard};
 ghost use Rattle.jup_star.specs.StarStates.{without, link_of, AreApart, links_after};
 ghost use Rattle.jup_star.specs.StarCalls.{BoardLink};
@@ -9,55 +10,70 @@ ghost use Rattle.jup_star.specs.Places.{IsPlace, IsHeardBy};
 ghost use Rattle.jup_star.specs.Rooms.{bare_link, AllHaveRoom, OthersHaveRoom, AllCount};
 
 use crate::Entry;
+use crate::edits::edits_of;
+use crate::ends::copy_of;
 use crate::link::Link;
 use crate::links::{reserve_all, send_others};
 use crate::order::Order;
+use jup_batch::{BoardBatch, BoardEdits};
 use jup_link::Msg;
-use jup_window::{Board, BoardOp};
+use jup_window::Board;
 use jup_xform::{NoMemory, Transform};
 use std::alloc::Global;
 
-/// Makes all room that an edit will need.
+/// What an edit takes with it, made while memory may still be refused: its message, and its entry.
+#[derive(Drop)]
+pub(crate) struct Prepared {
+    pub(crate) msg: Msg<BoardBatch>,
+    pub(crate) edits: BoardEdits,
+}
+
+/// Makes all room that an edit will need, and all copies.
 pub(crate) fn reserve_edit(
     alloc: Global,
-    op: &BoardOp,
+    msg: &Msg<BoardBatch>,
     board: &mut Board,
     links: &mut Vec<Link>,
     order: &mut Order,
-) -> Result<(), NoMemory>
+) -> Result<Prepared, NoMemory>
     ensures board { bare board.new ≡ bare board.old }
     ensures links { map bare_link links.new.items ≡ map bare_link links.old.items }
     ensures order { order.new.entries ≡ order.old.entries }
-    ensures board_room { OnOk result (HasRoom op.now 0 board.new) }
-    ensures link_room { OnOk result (AllHaveRoom links.new.items) }
+    ensures board_room { OnOk result (HasRoom msg.now.op 0 board.new) }
+    ensures link_room { OnOk result (AllHaveRoom (shape msg.now.op) links.new.items) }
     ensures order_room { OnOk result (1 ≤ order.new.spare) }
+    ensures msg { IfOk result (λ prepared. prepared.msg ≡ msg.now) }
+    ensures edits { IfOk result (λ prepared. prepared.edits ≡ edit_of msg.now.op) }
 {
-    op.reserve(alloc, 0, board)?;
+    msg.op.reserve(alloc, 0, board)?;
     order.reserve_one()?;
-    reserve_all(links)
+    reserve_all(alloc, links, &msg.op)?;
+    Ok(Prepared {
+        msg: copy_of(alloc, msg)?,
+        edits: edits_of(alloc, &msg.op)?,
+    })
 }
 
 /// Whether an operation may be applied to a board.
-pub(crate) fn fits(op: &BoardOp, board: &Board) -> bool
+pub(crate) fn fits(op: &BoardBatch, board: &Board) -> bool
     ensures { result ≡ accepts op.now (bare board.now) }
 {
     op.valid(board)
 }
 
 // Hands an edit to the link that it came by.
-fn hear_at(links: &mut Vec<Link>, at: usize, msg: &Msg<BoardOp>, entry: &Entry) -> BoardOp
-    requires place { IsPlace entry.now.site (map bare_link links.old.items) at }
+fn hear_at(links: &mut Vec<Link>, at: usize, site: u32, msg: Msg<BoardBatch>) -> BoardBatch
+    requires place { IsPlace site (map bare_link links.old.items) at }
     requires below { at < vec_len links.old }
-    requires heard { IsHeardBy entry.now.site msg.now (map bare_link links.old.items) }
-    requires edit { entry.now.edit ≡ edit_of msg.now.op }
-    requires room { AllHaveRoom links.old.items }
-    ensures op { (l : BoardLink) → link_of entry.now.site (map bare_link links.old.items) ≡ Some l
-        → result ≡ operation_at board_operations l.end msg.now }
-    ensures links { (l : BoardLink) → link_of entry.now.site (map bare_link links.old.items) ≡ Some l
-        → map bare_link links.new.items ≡ slice_set (map bare_link links.old.items) at (link_heard board_operations msg.now l) }
-    ensures room { OthersHaveRoom entry.now.site links.new.items }
+    requires heard { IsHeardBy site msg (map bare_link links.old.items) }
+    requires room { AllHaveRoom (shape msg.op) links.old.items }
+    ensures op { (l : BoardLink) → link_of site (map bare_link links.old.items) ≡ Some l
+        → result ≡ operation_at board_batches l.end msg }
+    ensures links { (l : BoardLink) → link_of site (map bare_link links.old.items) ≡ Some l
+        → map bare_link links.new.items ≡ slice_set (map bare_link links.old.items) at (link_heard board_batches msg l) }
+    ensures room { OthersHaveRoom (shape msg.op) site links.new.items }
 {
-    links[at].hear(msg, &entry.edit)
+    links[at].hear(msg)
 }
 
 /// Applies the operation of a message and sends it on, where it fits the board, and answers whether it
@@ -67,31 +83,31 @@ pub(crate) fn carry_out(
     links: &mut Vec<Link>,
     order: &mut Order,
     at: usize,
-    msg: &Msg<BoardOp>,
+    msg: Msg<BoardBatch>,
     entry: Entry,
 ) -> bool
     requires place { IsPlace entry.site (map bare_link links.old.items) at }
     requires below { at < vec_len links.old }
-    requires heard { IsHeardBy entry.site msg.now (map bare_link links.old.items) }
-    requires edit { entry.edit ≡ edit_of msg.now.op }
+    requires heard { IsHeardBy entry.site msg (map bare_link links.old.items) }
+    requires edit { entry.edit ≡ edit_of msg.op }
     requires apart { AreApart (map bare_link links.old.items) }
     requires counted { AllCount (map bare_link links.old.items) }
-    requires board_room { HasRoom msg.now.op 0 board.old }
-    requires link_room { AllHaveRoom links.old.items }
+    requires board_room { HasRoom msg.op 0 board.old }
+    requires link_room { AllHaveRoom (shape msg.op) links.old.items }
     requires order_room { 1 ≤ order.old.spare }
 
     ensures fits { (l : BoardLink) → link_of entry.site (map bare_link links.old.items) ≡ Some l
-        → result ≡ accepts (operation_at board_operations l.end msg.now) (bare board.old) }
+        → result ≡ accepts (operation_at board_batches l.end msg) (bare board.old) }
     ensures others { result ≡ false → without entry.site (map bare_link links.new.items) ≡ without entry.site (map bare_link links.old.items) }
     ensures same_board { result ≡ false → bare board.new ≡ bare board.old }
     ensures same_order { result ≡ false → order.new.entries ≡ order.old.entries }
     ensures board { result ≡ true → (l : BoardLink) → link_of entry.site (map bare_link links.old.items) ≡ Some l
-        → bare board.new ≡ after (operation_at board_operations l.end msg.now) (bare board.old) }
+        → bare board.new ≡ after (operation_at board_batches l.end msg) (bare board.old) }
     ensures links { result ≡ true → (l : BoardLink) → link_of entry.site (map bare_link links.old.items) ≡ Some l
-        → map bare_link links.new.items ≡ links_after board_operations entry.site msg.now (operation_at board_operations l.end msg.now) (map bare_link links.old.items) }
+        → map bare_link links.new.items ≡ links_after board_batches entry.site msg (operation_at board_batches l.end msg) (map bare_link links.old.items) }
     ensures order { result ≡ true → order.new.entries ≡ order.old.entries ++ entry ∷ [] }
 {
-    let op = hear_at(links, at, msg, &entry);
+    let op = hear_at(links, at, entry.site, msg);
     if !fits(&op, board) {
         return false;
     }

@@ -10,11 +10,12 @@ use jup_seq::SeqOp;
 use jup_star::{Down, Downs, Entry, Star, StarFault, Up};
 use jup_value::{Item, Name};
 use jup_window::{Board, BoardOp, Edit, Effect, WidgetOp};
+use jup_xform::Few;
 use std::alloc::Global;
 use std::process::Abort;
 use std::sync::Wait;
 use std::thread::join;
-use test_boards::{board_of, reads};
+use test_boards::{alone, board_of, reads};
 
 const LIMIT: u32 = 100_000;
 
@@ -46,22 +47,23 @@ fn insertion(site: u32) -> BoardOp {
 }
 
 // The message that tells of it.
-fn told_of(site: u32) -> Up {
+fn told_of(alloc: Global, site: u32) -> Up {
     Up::Op(Msg {
         mine: 0,
         heard: 0,
-        op: insertion(site),
+        op: alone(alloc, insertion(site)),
     })
 }
 
 // How it stands in the order.
-fn entry_of(site: u32) -> Entry {
+fn entry_of(alloc: Global, site: u32) -> Entry {
     let name = Name { site, number: 1 };
-    let edit = Edit {
+    let put = Edit {
         win: 1,
         wid: 1,
         what: Effect::PutChar(name, 'a'),
     };
+    let edit = Few::from_slice(alloc, &[put]).unwrap();
     Entry { site, edit }
 }
 
@@ -92,11 +94,11 @@ fn closed(rt: &impl Abort, hub: Hub, pass: Pass) -> Closed
 }
 
 // Whether just the first edit of site 1 was fetched.
-fn tells_of_one(downs: &Downs) -> bool {
+fn tells_of_one(alloc: Global, downs: &Downs) -> bool {
     let edit = Down::Op(Msg {
         mine: 0,
         heard: 0,
-        op: insertion(1),
+        op: alone(alloc, insertion(1)),
     });
     downs.as_slice() == [edit].as_slice()
 }
@@ -108,19 +110,31 @@ fn each_call_of_two_passes_is_an_event(rt: HostRuntime) {
     assert_eq!(rt; joins(&rt, alloc, &hub, &mut a), 1);
     assert_eq!(rt; joins(&rt, alloc, &hub, &mut a), 2);
     let mut b = hub.split(&mut a);
-    assert_eq!(rt; hub.take(&rt, alloc, &mut a, 1, &told_of(1)), Ok(Some(0)));
-    assert_eq!(rt; hub.take(&rt, alloc, &mut b, 2, &told_of(2)), Ok(Some(1)));
+    assert_eq!(rt;
+        hub.take(&rt, alloc, &mut a, 1, &told_of(alloc, 1)),
+        Ok(Some(0))
+    );
+    assert_eq!(rt;
+        hub.take(&rt, alloc, &mut b, 2, &told_of(alloc, 2)),
+        Ok(Some(1))
+    );
     hub.rejoin(&mut a, b);
     let Closed { star, events } = closed(&rt, hub, a);
     assert_eq!(rt; events, 4);
-    assert_eq!(rt; star.order(), [entry_of(1), entry_of(2)].as_slice());
+    assert_eq!(rt;
+        star.order(),
+        [entry_of(alloc, 1), entry_of(alloc, 2)].as_slice()
+    );
 }
 
 #[test]
 fn a_pass_split_from_another_fetches_what_it_took(rt: HostRuntime) {
     let alloc = rt.alloc();
     let (hub, mut a) = hub_of(&rt, alloc, 2);
-    assert_eq!(rt; hub.take(&rt, alloc, &mut a, 1, &told_of(1)), Ok(Some(0)));
+    assert_eq!(rt;
+        hub.take(&rt, alloc, &mut a, 1, &told_of(alloc, 1)),
+        Ok(Some(0))
+    );
     let mut b = hub.split(&mut a);
     assert!(rt; fetches_one(&rt, alloc, &hub, &mut b));
     let none = hub.fetch(&rt, alloc, &mut b, 9, 1);
@@ -129,7 +143,7 @@ fn a_pass_split_from_another_fetches_what_it_took(rt: HostRuntime) {
     hub.rejoin(&mut a, b);
     let Closed { star, events } = closed(&rt, hub, a);
     assert_eq!(rt; events, 4);
-    assert_eq!(rt; star.order(), [entry_of(1)].as_slice());
+    assert_eq!(rt; star.order(), [entry_of(alloc, 1)].as_slice());
     assert!(rt; reads(star.board(), "a"));
 }
 
@@ -139,7 +153,10 @@ fn news_after_take(rt: HostRuntime) {
     let (hub, mut a) = hub_of(&rt, alloc, 1);
     let mut b = hub.split(&mut a);
     assert!(rt; !hub.news(&mut b));
-    assert_eq!(rt; hub.take(&rt, alloc, &mut a, 1, &told_of(1)), Ok(Some(0)));
+    assert_eq!(rt;
+        hub.take(&rt, alloc, &mut a, 1, &told_of(alloc, 1)),
+        Ok(Some(0))
+    );
     assert!(rt; hub.news(&mut b));
     assert!(rt; !hub.news(&mut b));
     assert!(rt; !hub.news(&mut a));
@@ -159,7 +176,7 @@ fn taken<R: Wait>(rt: &R, alloc: Global, hub: &Hub, mut pass: Pass, site: u32) -
     requires { IsPassOf hub.now pass }
     ensures { IsPassOf hub.now result }
 {
-    let _ = hub.take(rt, alloc, &mut pass, site, &told_of(site));
+    let _ = hub.take(rt, alloc, &mut pass, site, &told_of(alloc, site));
     pass
 }
 
@@ -178,7 +195,7 @@ fn fetches_one<R: Wait>(rt: &R, alloc: Global, hub: &Hub, pass: &mut Pass) -> bo
     ensures { IsPassOf hub.now pass.new }
 {
     match hub.fetch(rt, alloc, pass, 2, 10) {
-        Ok(downs) => tells_of_one(&downs),
+        Ok(downs) => tells_of_one(alloc, &downs),
         Err(_) => false,
     }
 }
@@ -240,7 +257,7 @@ fn taken_by_each<R: Wait>(rt: &R, alloc: Global, hub: &Hub, a: &mut Pass, passes
     let mut place: u32 = 1;
     while let Some(mut b) = passes.pop() {
         let site: u32 = place.saturating_add(1);
-        let taken = hub.take(rt, alloc, &mut b, site, &told_of(site));
+        let taken = hub.take(rt, alloc, &mut b, site, &told_of(alloc, site));
         if taken != Ok(Some(place)) {
             return false;
         }
@@ -255,7 +272,10 @@ fn each_of_64_passes_takes_once(rt: HostRuntime) {
     let alloc = rt.alloc();
     let (hub, mut a) = hub_of(&rt, alloc, 64);
     let passes = split_often(&rt, alloc, &hub, &mut a, 63);
-    assert_eq!(rt; hub.take(&rt, alloc, &mut a, 1, &told_of(1)), Ok(Some(0)));
+    assert_eq!(rt;
+        hub.take(&rt, alloc, &mut a, 1, &told_of(alloc, 1)),
+        Ok(Some(0))
+    );
     assert!(rt; taken_by_each(&rt, alloc, &hub, &mut a, passes));
     let Closed { star, events } = closed(&rt, hub, a);
     assert_eq!(rt; events, 64);
@@ -286,10 +306,10 @@ fn a_take_that_lacks_memory_is_no_event(rt: HostRuntime) {
     let alloc = rt.alloc();
     let (hub, mut a) = hub_of(&rt, alloc, 2);
     let mut b = hub.split(&mut a);
-    let mut place = hub.take(&rt, alloc, &mut a, 1, &told_of(1));
+    let mut place = hub.take(&rt, alloc, &mut a, 1, &told_of(alloc, 1));
     if place == Err(HubFault::Star(StarFault::NoMemory)) {
         assert!(rt; !hub.news(&mut b));
-        place = hub.take(&rt, alloc, &mut a, 1, &told_of(1));
+        place = hub.take(&rt, alloc, &mut a, 1, &told_of(alloc, 1));
     }
     assert_eq!(rt; place, Ok(Some(0)));
     assert_eq!(rt; closed(&rt, hub, a).events, 1);

@@ -4,6 +4,8 @@
 ghost use Rattle.std.specs.Prelude.{◌≡◌};
 
 #[cfg(test)]
+mod batches;
+#[cfg(test)]
 mod hubs;
 #[cfg(test)]
 mod stars;

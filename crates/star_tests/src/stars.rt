@@ -2,15 +2,16 @@
 ghost use Rattle.jup_window.specs.Entries.{EachWidget};
 ghost use Rattle.jup_star.specs.Openings.{IsShort};
 
+use jup_batch::BoardBatch;
 use jup_link::Msg;
 use jup_seq::SeqOp;
 use jup_star::{Down, Entry, Made, OpenFault, Site, SiteFault, Star, StarFault, Up, is_short};
 use jup_value::{Item, Name, Seq};
-use jup_window::{Board, BoardOp, Command, Edit, EditFault, Setting, Value, Widget, WidgetOp};
+use jup_window::{Board, BoardOp, Command, EditFault, Setting, Value, Widget, WidgetOp};
 use std::alloc::Global;
 use std::marker::PhantomData;
 use std::process::Abort;
-use test_boards::{board_of, reads};
+use test_boards::{alone, board_of, reads};
 
 const LIMIT: u32 = 100_000;
 
@@ -60,7 +61,7 @@ fn lone_site(rt: &impl Abort, alloc: Global, number: u32) -> Site {
     Site::open(alloc, number, LIMIT, blank(rt, alloc)).expect(rt, "a site's number")
 }
 
-fn insertion(place: u32, name: Name) -> BoardOp {
+pub(crate) fn insertion(place: u32, name: Name) -> BoardOp {
     let item = Item { name, value: 'a' };
     BoardOp {
         win: 1,
@@ -69,11 +70,11 @@ fn insertion(place: u32, name: Name) -> BoardOp {
     }
 }
 
-fn first_of(site: u32) -> Name {
+pub(crate) fn first_of(site: u32) -> Name {
     Name { site, number: 1 }
 }
 
-fn insert(place: u32, value: char) -> Command {
+pub(crate) fn insert(place: u32, value: char) -> Command {
     Command::Insert {
         win: 1,
         wid: 1,
@@ -91,11 +92,11 @@ fn switch_on() -> Command {
 }
 
 // The message with which site 1 begins.
-fn first_message(op: BoardOp) -> Up {
+fn first_message(alloc: Global, op: BoardOp) -> Up {
     Up::Op(Msg {
         mine: 0,
         heard: 0,
-        op,
+        op: alone(alloc, op),
     })
 }
 
@@ -107,14 +108,15 @@ fn star_number(fault: Option<StarFault>) -> u32 {
     }
 }
 
-// The number of the fault that a star has in an edit of site 2, after which site 2 has no link and the
-// edit of site 1 is taken.
-fn refusal_of_two(rt: &impl Abort, alloc: Global, mine: u32, heard: u32, op: BoardOp) -> u32 {
+// The number of the fault that a star has in an edit of site 2, after which site 2 has no link, site 1 is
+// told nothing, and its edit is the first that is taken.
+pub(crate) fn refusal_of_two(rt: &impl Abort, alloc: Global, msg: Msg<BoardBatch>) -> u32 {
     let mut star = star_of_two(rt, alloc);
-    let refused = star.take(alloc, 2, &Up::Op(Msg { mine, heard, op }));
+    let refused = star.take(alloc, 2, &Up::Op(msg));
     assert_eq!(rt; star.take(alloc, 2, &Up::Ping(7)), Err(StarFault::NoLink));
+    assert_eq!(rt; star.waiting(1), Some(0));
     assert!(rt; reads(star.board(), ""));
-    let next = first_message(insertion(0, first_of(1)));
+    let next = first_message(alloc, insertion(0, first_of(1)));
     assert_eq!(rt; star.take(alloc, 1, &next), Ok(Some(0)));
     assert!(rt; reads(star.board(), "a"));
     star_number(refused.err())
@@ -144,7 +146,9 @@ fn a_stranger_is_refused_by_name_and_no_other_site_is(rt: HostRuntime) {
         (0, 0, nothing, 24),
         (0, 0, text_relabel, 24),
     ] {
-        assert_eq!(rt; refusal_of_two(&rt, rt.alloc(), mine, heard, op), number);
+        let op = alone(rt.alloc(), op);
+        let msg = Msg { mine, heard, op };
+        assert_eq!(rt; refusal_of_two(&rt, rt.alloc(), msg), number);
     }
 }
 
@@ -157,7 +161,7 @@ fn site_number(fault: Option<SiteFault>) -> u32 {
 }
 
 // The number of an edit's refusal, or 0.
-fn edit_number(fault: Option<EditFault>) -> u32 {
+pub(crate) fn edit_number(fault: Option<EditFault>) -> u32 {
     match fault {
         Some(fault) => fault.number(),
         None => 0,
@@ -178,14 +182,18 @@ fn refusal_of_one(rt: &impl Abort, alloc: Global, down: &Down) -> u32 {
 
 #[test]
 fn a_site_stops_at_a_bad_message(rt: HostRuntime) {
-    let edit = |mine: u32, op: BoardOp| -> Down { Down::Op(Msg { mine, heard: 0, op }) };
+    let alloc = rt.alloc();
+    let edit = |mine: u32, op: BoardOp| -> Down {
+        let op = alone(alloc, op);
+        Down::Op(Msg { mine, heard: 0, op })
+    };
     for (down, number) in [
         (edit(1, insertion(0, first_of(2))), 20),
         (Down::Ack(1), 21),
         (edit(0, insertion(0, first_of(1))), 22),
         (edit(0, insertion(99, first_of(2))), 23),
     ] {
-        assert_eq!(rt; refusal_of_one(&rt, rt.alloc(), &down), number);
+        assert_eq!(rt; refusal_of_one(&rt, alloc, &down), number);
     }
 }
 
@@ -271,7 +279,7 @@ fn an_edit_that_was_not_taken_leaves_with_its_site(rt: HostRuntime) {
     let alloc = rt.alloc();
     let mut star = star_of_two(&rt, alloc);
     let (_site, made) = typed(&rt, alloc, 1, 'a');
-    assert!(rt; !made.edit.is_nothing());
+    assert_eq!(rt; made.edit.as_slice().len(), 1);
     assert_eq!(rt; star.leave(1), Ok(()));
     assert_eq!(rt; (star.waiting(1), star.waiting(2)), (None, Some(0)));
     assert_eq!(rt; star.order().len(), 0);
@@ -279,7 +287,12 @@ fn an_edit_that_was_not_taken_leaves_with_its_site(rt: HostRuntime) {
 }
 
 // Hands a site all that waits for it, and answers how many messages that were.
-fn deliver_all(rt: &impl Abort, alloc: Global, star: &mut Star, site: &mut Site) -> usize {
+pub(crate) fn deliver_all(
+    rt: &impl Abort,
+    alloc: Global,
+    star: &mut Star,
+    site: &mut Site,
+) -> usize {
     let downs = star
         .fetch(alloc, site.number(), u32::MAX)
         .expect(rt, "memory");
@@ -297,14 +310,14 @@ fn typed(rt: &impl Abort, alloc: Global, number: u32, value: char) -> (Site, Mad
     (site, made)
 }
 
-// Two sites that inserted at the head of one text before either heard of the other, and the star, which took
-// both edits.
+// Two sites that inserted at the head of one text before either heard of the other, what they made, and the
+// star, which took both edits.
 #[derive(Drop)]
 struct Race {
     star: Star,
     one: Site,
     two: Site,
-    edits: [Edit; 2],
+    made: [Entry; 2],
     places: [Result<Option<u32>, StarFault>; 2],
 }
 
@@ -313,12 +326,19 @@ fn raced(rt: &impl Abort, alloc: Global) -> Race {
     let (one, a) = typed(rt, alloc, 1, 'a');
     let (two, x) = typed(rt, alloc, 2, 'x');
     let places = [star.take(alloc, 1, &a.up), star.take(alloc, 2, &x.up)];
-    let edits = [a.edit, x.edit];
+    let first = Entry {
+        site: 1,
+        edit: a.edit,
+    };
+    let second = Entry {
+        site: 2,
+        edit: x.edit,
+    };
     Race {
         star,
         one,
         two,
-        edits,
+        made: [first, second],
         places,
     }
 }
@@ -327,9 +347,7 @@ fn raced(rt: &impl Abort, alloc: Global) -> Race {
 fn the_order_has_edits_as_they_were_made(rt: HostRuntime) {
     let race = raced(&rt, rt.alloc());
     assert_eq!(rt; race.places, [Ok(Some(0)), Ok(Some(1))]);
-    let [a, x] = race.edits;
-    let wanted = [Entry { site: 1, edit: a }, Entry { site: 2, edit: x }];
-    assert_eq!(rt; race.star.order(), wanted.as_slice());
+    assert_eq!(rt; race.star.order(), race.made.as_slice());
 }
 
 #[test]
@@ -481,7 +499,7 @@ fn took_nothing(rt: &impl Abort, star: &Star) {
 fn an_edit_that_the_star_lacks_memory_for_is_not_sent(rt: HostRuntime) {
     let alloc = rt.alloc();
     let mut star = star_of_two(&rt, alloc);
-    let up = first_message(insertion(0, first_of(1)));
+    let up = first_message(alloc, insertion(0, first_of(1)));
     let mut place = star.take(alloc, 1, &up);
     if place == Err(StarFault::NoMemory) {
         took_nothing(&rt, &star);
@@ -512,7 +530,7 @@ fn an_edit_that_a_site_lacks_memory_for_is_not_shown(rt: HostRuntime) {
     let down = Down::Op(Msg {
         mine: 0,
         heard: 0,
-        op: insertion(0, first_of(2)),
+        op: alone(alloc, insertion(0, first_of(2))),
     });
     let mut back = site.deliver(alloc, &down);
     if back == Err(SiteFault::NoMemory) {

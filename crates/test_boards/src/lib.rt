@@ -1,13 +1,18 @@
-//! Boards for tests: given as they are printed, and read back.
+//! What tests share: boards, given as they are printed and read back; batches of one operation; and numbers that look random.
 #![tactic(auto)]
 
-ghost use Rattle.std.specs.Prelude.{IfSome};
+ghost use Rattle.std.specs.Prelude.{◌≡◌, [], ◌∷◌, IfSome};
 ghost use Rattle.jup_window.specs.Entries.{EachWidget};
 ghost use Rattle.jup_star.specs.Openings.{IsShort};
 
+mod dice;
+
+pub use dice::Dice;
+use jup_batch::BoardBatch;
 use jup_star::is_short;
 use jup_text::BoardReader;
-use jup_window::{Board, Widget};
+use jup_window::{Board, BoardOp, Widget};
+use jup_xform::Batch;
 use std::alloc::Global;
 
 /// The board of these lines, which a star may be opened with; none where a line is bad or memory is refused.
@@ -34,4 +39,11 @@ pub fn reads(board: &Board, letters: &str) -> bool {
         }
     }
     rest.next().is_none()
+}
+
+/// A batch of one operation. It takes no memory.
+pub fn alone(alloc: Global, op: BoardOp) -> BoardBatch
+    ensures { result ≡ op ∷ [] }
+{
+    Batch::from_slice(alloc, &[op]).unwrap()
 }

@@ -1,10 +1,16 @@
-use Rattle.std.proofs.Common.{subst, sym}
-use Rattle.jup_window.specs.declared.board_operations.BoardOp.{BoardOp}
-use Rattle.jup_window.specs.Boards as board
+use Rattle.std.proofs.Common.{subst, sym, ◌∙◌, arith}
+use Rattle.jup_batch.specs.BatchBoards.{BoardBatch}
+use Rattle.jup_batch.specs.BatchBoards as board
+use Rattle.jup_batch.specs.BoardBatches.{batch_laws}
 use Rattle.jup_star.proofs.Carrying.{room_operation}
 use Rattle.jup_star.proofs.site.show.Goals as goal
 
-pub apply-requires-clause-room : goal.apply-requires-clause-room
-apply-requires-clause-room c =
-    let P : BoardOp → Type 0 = λ o. board.HasRoom o 0 c.args.board.now in
-    subst P (sym c.receive-op.ensures.op) (room_operation c.args.board.now c.args.end.now.link c.args.msg.now c.requires.room)
+pub apply-requires : goal.apply-requires
+apply-requires c =
+    let P : BoardBatch → Type 0 = λ o. board.HasRoom o 0 c.args.board.now in (
+      omega arith,
+      (
+        (batch_laws.decides c.receive-op.result (board.bare c.args.board.now)).0 (sym c.fits.ensures ∙ c.if-not-fits.false),
+        subst P (sym c.receive-op.ensures.op) (room_operation c.args.board.now c.args.end.now.link c.args.msg c.requires.room),
+      ),
+    )

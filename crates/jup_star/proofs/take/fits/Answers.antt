@@ -1,7 +1,7 @@
-use Rattle.jup_window.specs.Boards as board
-use Rattle.jup_window.specs.BoardTests.{decides}
+use Rattle.jup_batch.specs.BatchBoards as board
+use Rattle.jup_batch.specs.BoardBatches.{batch_laws}
 use Rattle.jup_star.proofs.SameTests.{same_test}
 use Rattle.jup_star.proofs.take.fits.Goals as goal
 
 pub returns : goal.returns
-returns c = same_test _ _ _ c.valid.ensures (decides c.args.op.now (board.bare c.args.board.now))
+returns c = same_test _ _ _ c.valid.ensures (batch_laws.decides c.args.op.now (board.bare c.args.board.now))

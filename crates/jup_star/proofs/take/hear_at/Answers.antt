@@ -1,6 +1,7 @@
 use Rattle.std.proofs.Common.{ap, ◌∙◌, sym, map, subst, slice_set, ◌≤◌}
 use Rattle.std.proofs.lemmas.List.{map-set}
-use Rattle.jup_window.specs.BoardOperations.{board_operations}
+use Rattle.jup_batch.specs.BoardBatches.{board_batches}
+use Rattle.jup_batch.specs.BatchBoards.{shape}
 use Rattle.jup_star.specs.declared.link.Link.{Link}
 use Rattle.jup_star.specs.LinkStates.{is_of, operation_at, link_heard}
 use Rattle.jup_star.specs.StarCalls.{BoardLink}
@@ -21,23 +22,23 @@ hear-requires-clause-named c = (can_hear _ _ _ _ _ _ c.index_mut.ensures.value c
 pub hear-requires-clause-room : goal.hear-requires-clause-room
 hear-requires-clause-room c =
     let P : Link → Type 0 = λ l. 1 ≤ l.outbox.spare in
-    let below = place_below c.args.entry.now.site c.args.links.now.items c.args.at c.requires.place in
+    let below = place_below c.args.site c.args.links.now.items c.args.at c.requires.place in
     subst P (sym c.index_mut.ensures.value) (has_room_at c.args.links.now.items c.args.at c.index_mut.result.now below c.requires.room).outbox
 
 pub returns-clause-op : goal.returns-clause-op
 returns-clause-op c = λ l found.
-    c.hear.ensures.op ∙ ap (λ (k : Link). operation_at board_operations k.end.link c.args.msg.now) c.index_mut.ensures.value
-    ∙ ap (λ (k : BoardLink). operation_at board_operations k.end c.args.msg.now) (found_is c.args.entry.now.site c.args.links.now.items c.args.at c.index_mut.result.now l c.requires.place found)
+    c.hear.ensures.op ∙ ap (λ (k : Link). operation_at board_batches k.end.link c.args.msg) c.index_mut.ensures.value
+    ∙ ap (λ (k : BoardLink). operation_at board_batches k.end c.args.msg) (found_is c.args.site c.args.links.now.items c.args.at c.index_mut.result.now l c.requires.place found)
 
 pub returns-clause-links : goal.returns-clause-links
 returns-clause-links c = λ l found.
     map-set bare_link c.args.links.now.items c.args.at c.hear.new.self
     ∙ ap (λ (k : BoardLink). slice_set (map bare_link c.args.links.now.items) c.args.at k)
-    (c.hear.ensures.link ∙ ap (λ (k : Link). link_heard board_operations c.args.msg.now (bare_link k)) c.index_mut.ensures.value
-    ∙ ap (link_heard board_operations c.args.msg.now) (found_is c.args.entry.now.site c.args.links.now.items c.args.at c.index_mut.result.now l c.requires.place found))
+    (c.hear.ensures.link ∙ ap (λ (k : Link). link_heard board_batches c.args.msg (bare_link k)) c.index_mut.ensures.value
+    ∙ ap (link_heard board_batches c.args.msg) (found_is c.args.site c.args.links.now.items c.args.at c.index_mut.result.now l c.requires.place found))
 
 pub returns-clause-room : goal.returns-clause-room
 returns-clause-room c =
-    let site = ap (is_of c.args.entry.now.site) c.hear.ensures.link ∙ ap (λ (k : Link). is_of c.args.entry.now.site (bare_link k)) c.index_mut.ensures.value in
-    others_set c.args.entry.now.site c.args.links.now.items c.args.at c.hear.new.self
-    (site ∙ place_of_site c.args.entry.now.site c.args.links.now.items c.args.at c.index_mut.result.now c.requires.place) c.requires.room
+    let site = ap (is_of c.args.site) c.hear.ensures.link ∙ ap (λ (k : Link). is_of c.args.site (bare_link k)) c.index_mut.ensures.value in
+    others_set (shape c.args.msg.op) c.args.site c.args.links.now.items c.args.at c.hear.new.self
+    (site ∙ place_of_site c.args.site c.args.links.now.items c.args.at c.index_mut.result.now c.requires.place) c.requires.room

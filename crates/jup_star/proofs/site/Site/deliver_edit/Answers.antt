@@ -1,10 +1,12 @@
-use Rattle.std.proofs.Common.{◌∙◌, sym, ap, subst}
+use Rattle.std.proofs.Common.{◌≡◌, None, ◌∙◌, sym, ap, subst}
 use Rattle.jup_link.specs.Links.{answered}
-use Rattle.jup_window.specs.Boards as board
-use Rattle.jup_window.specs.BoardOperations.{board_operations, accepts}
-use Rattle.jup_window.specs.BoardTests.{valid-accepts}
+use Rattle.jup_batch.specs.BatchBoards as board
+use Rattle.jup_batch.specs.BoardBatches.{board_batches}
+use Rattle.jup_batch.specs.BatchBoards.{accepts}
+use Rattle.jup_batch.specs.BoardBatches.{batch_laws}
+use Rattle.jup_star.specs.FirstFaults.{first_fault}
 use Rattle.jup_star.specs.LinkStates.{operation_at}
-use Rattle.jup_star.specs.SiteStates.{IsSite}
+use Rattle.jup_star.specs.SiteStates.{IsSite, shown_tests}
 use Rattle.jup_star.specs.SiteCalls.{BoardSite}
 use Rattle.jup_star.specs.contracts.site.Site.{the_view}
 use Rattle.jup_star.proofs.SiteKeeps.{shown_foreign, shown_count, shown_site, shown_with}
@@ -13,11 +15,13 @@ use Rattle.jup_star.proofs.site.Site.deliver_edit.Goals as goal
 pub invariant_of-self-2 : goal.invariant_of-self-2
 invariant_of-self-2 c =
     let s : BoardSite = the_view c.self.inside in
-    let m = c.args.msg.now in
-    let op = operation_at board_operations s.end m in
+    let m = c.in-Ok-reserve_shown.msg in
+    let told = c.in-Ok-reserve_shown.ensures.msg in
+    let op = operation_at board_batches s.end m in
     let shows = c.if-not-show.false in
-    let same = c.in-Ok-reserve.ensures.same in
-    let valid = valid-accepts op s.board (ap (accepts op) (sym same) ∙ sym c.show.ensures.fits ∙ shows) in
-    subst (IsSite board_operations)
+    let same = c.in-Ok-reserve_shown.ensures.board in
+    let valid = (batch_laws.decides op s.board).0 (ap (accepts op) (sym same) ∙ sym c.show.ensures.fits ∙ shows) in
+    let early : None ≡ first_fault (shown_tests board_batches s.number s.end m) = c.in-Ok.ensures ∙ ap (λ x. first_fault (shown_tests board_batches s.number s.end x)) (sym told) in
+    subst (IsSite board_batches)
     (sym (shown_with s m _ _ (c.show.ensures.shown shows ∙ ap (board.after op) same) (c.acknowledge.ensures.end ∙ ap answered c.show.ensures.end)))
-    (shown_site s m valid (shown_foreign s.number s.end m c.in-Ok.ensures) (shown_count s.number s.end m c.in-Ok.ensures) c.self.invariant)
+    (shown_site s m valid (shown_foreign s.number s.end m early) (shown_count s.number s.end m early) c.self.invariant)

@@ -1,4 +1,4 @@
-use Rattle.jup_window.specs.Boards as board
+use Rattle.jup_batch.specs.BatchBoards as board
 use Rattle.jup_star.proofs.SiteNames.{fresh_next}
 use Rattle.jup_star.proofs.site.Site.name_it.Goals as goal
 

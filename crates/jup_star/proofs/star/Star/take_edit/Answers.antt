@@ -1,12 +1,16 @@
-use Rattle.std.proofs.Common.{◌≡◌, ap, ◌∙◌, sym, map, subst, List, length, Some, None, Ok, ◌++◌, ◌∷◌, []}
-use Rattle.jup_window.specs.declared.edits.Edit.{Edit}
-use Rattle.jup_window.specs.Boards as board
-use Rattle.jup_window.specs.BoardOperations.{board_operations, accepts}
+use Rattle.std.proofs.Common.{arith, ◌≡◌, ap, ◌∙◌, sym, map, subst, List, length, Some, None, Ok, ◌++◌, ◌∷◌, []}
+use Rattle.jup_batch.specs.BatchBoards.{BoardEdits}
+use Rattle.jup_batch.specs.BatchBoards as board
+use Rattle.jup_batch.specs.BoardBatches.{board_batches}
+use Rattle.jup_batch.specs.BatchBoards.{accepts}
 use Rattle.jup_star.specs.declared.messages.Entry.{Entry}
 use Rattle.jup_star.specs.declared.messages.Up.TheVariants.{Op}
+use Rattle.jup_link.specs.declared.Msg.{Msg}
+use Rattle.jup_batch.specs.BatchBoards.{BoardBatch}
+use Rattle.jup_star.specs.Places.{CanHear}
 use Rattle.jup_star.specs.declared.calls.Reply.TheVariants.{Taken}
 use Rattle.jup_star.specs.LinkStates.{operation_at}
-use Rattle.jup_star.specs.StarStates.{link_of, without, with_links, links_after}
+use Rattle.jup_star.specs.StarStates.{early_fault, link_of, without, with_links, links_after}
 use Rattle.jup_star.specs.StarCalls.{BoardLink, IsStar}
 use Rattle.jup_star.specs.Rooms.{bare_link, AllCount}
 use Rattle.jup_star.specs.contracts.star.Star.{the_view}
@@ -14,7 +18,7 @@ use Rattle.jup_star.proofs.LinkPlaces.{detached}
 use Rattle.jup_star.proofs.LinkChanges.{found_new, found_some}
 use Rattle.jup_star.proofs.StarKeeps.{left_star}
 use Rattle.jup_star.proofs.CallSteps.{take_no_link}
-use Rattle.jup_star.proofs.TakeSteps.{checked, edit_detached, edit_waits, waits_star, edit_misfits, misfits_star, edit_taken, edit_star, heard_by, all_count}
+use Rattle.jup_star.proofs.TakeSteps.{checked, edit_detached, edit_waits, waits_star, edit_misfits, misfits_star, edit_taken, edit_star, heard_by, all_count, named_few}
 use Rattle.jup_star.proofs.star.Star.take_edit.Goals as goal
 
 pub returns-in_default : goal.returns-in_default
@@ -55,7 +59,7 @@ carry_out-requires-clause-heard c = λ l there.
     let found : link_of c.args.site (map bare_link c.self.inside.links.items) ≡ Some l = ap (link_of c.args.site) (sym c.in-Ok-reserve_edit.ensures.links) ∙ there in
     let early = checked c.args.site c.in-Some.at c.self.inside.limit c.len-place.result (length c.self.inside.order.entries) c.self.inside.links.items c.index.result.now l
     c.args.msg.now None place c.index.ensures c.len-place.ensures found c.in-Ok.ensures in
-    heard_by (the_view c.self.inside) c.args.site c.in-Some.at c.args.msg.now l c.self.invariant place found early
+    subst (λ m. CanHear m l) (sym c.in-Ok-reserve_edit.ensures.msg) (heard_by (the_view c.self.inside) c.args.site c.in-Some.at c.args.msg.now l c.self.invariant place found early)
 
 pub carry_out-requires-clause-counted : goal.carry_out-requires-clause-counted
 carry_out-requires-clause-counted c = subst AllCount (sym c.in-Ok-reserve_edit.ensures.links) (all_count (the_view c.self.inside) c.self.invariant)
@@ -76,8 +80,11 @@ returns-then-not-carry_out c =
     let there = ap (link_of c.args.site) c.in-Ok-reserve_edit.ensures.links ∙ found.1 in
     let early = checked c.args.site c.in-Some.at c.self.inside.limit c.len-place.result (length c.self.inside.order.entries) c.self.inside.links.items c.index.result.now found.0
     c.args.msg.now None place c.index.ensures c.len-place.ensures found.1 c.in-Ok.ensures in
-    let op = operation_at board_operations found.0.end c.args.msg.now in
-    rw (← c.self.view_is) (edit_misfits (the_view c.self.inside) c.args.site c.args.msg.now found.0 _ _ _ found.1 early
+    let m = c.in-Ok-reserve_edit.prepared.msg in
+    let told : m ≡ c.args.msg.now = c.in-Ok-reserve_edit.ensures.msg in
+    let early_m = early ∙ ap (λ x. early_fault board_batches (the_view c.self.inside).limit (length c.self.inside.order.entries) found.0 x) (sym told) in
+    let op = operation_at board_batches found.0.end m in
+    rw (← c.self.view_is) (edit_misfits (the_view c.self.inside) c.args.site m c.args.msg.now told found.0 _ _ _ found.1 early_m
     (ap (accepts op) (sym c.in-Ok-reserve_edit.ensures.board) ∙ sym (c.carry_out.ensures.fits found.0 there) ∙ misfits)
     (c.carry_out.ensures.same_board misfits ∙ c.in-Ok-reserve_edit.ensures.board)
     (ap (map bare_link) c.detach-then-not-carry_out.ensures ∙ detached c.args.site _ ∙ c.carry_out.ensures.others misfits ∙ ap (without c.args.site) c.in-Ok-reserve_edit.ensures.links)
@@ -91,13 +98,16 @@ invariant_of-self-else-not-carry_out c =
     let there = ap (link_of c.args.site) c.in-Ok-reserve_edit.ensures.links ∙ found.1 in
     let early = checked c.args.site c.in-Some.at c.self.inside.limit c.len-place.result (length c.self.inside.order.entries) c.self.inside.links.items c.index.result.now found.0
     c.args.msg.now None place c.index.ensures c.len-place.ensures found.1 c.in-Ok.ensures in
-    let op = operation_at board_operations found.0.end c.args.msg.now in
-    edit_star (the_view c.self.inside) c.args.site c.in-Some.at c.args.msg.now found.0 _ _ _ c.self.invariant place found.1 early
+    let m = c.in-Ok-reserve_edit.prepared.msg in
+    let told : m ≡ c.args.msg.now = c.in-Ok-reserve_edit.ensures.msg in
+    let early_m = early ∙ ap (λ x. early_fault board_batches (the_view c.self.inside).limit (length c.self.inside.order.entries) found.0 x) (sym told) in
+    let op = operation_at board_batches found.0.end m in
+    edit_star (the_view c.self.inside) c.args.site c.in-Some.at m found.0 _ _ _ c.self.invariant place found.1 early_m
     (ap (accepts op) (sym c.in-Ok-reserve_edit.ensures.board) ∙ sym (c.carry_out.ensures.fits found.0 there) ∙ fits)
     (c.carry_out.ensures.board fits found.0 there ∙ ap (board.after op) c.in-Ok-reserve_edit.ensures.board)
-    (c.carry_out.ensures.links fits found.0 there ∙ ap (links_after board_operations c.args.site c.args.msg.now op) c.in-Ok-reserve_edit.ensures.links)
-    (c.carry_out.ensures.order fits ∙ ap (λ (es : List (Entry Edit)). es ++ record { site = c.args.site; edit = c.edit_of-edit.result } ∷ []) c.in-Ok-reserve_edit.ensures.order
-    ∙ ap (λ (e : Edit). c.self.inside.order.entries ++ record { site = c.args.site; edit = e } ∷ []) c.edit_of-edit.ensures)
+    (c.carry_out.ensures.links fits found.0 there ∙ ap (links_after board_batches c.args.site m op) c.in-Ok-reserve_edit.ensures.links)
+    (c.carry_out.ensures.order fits ∙ ap (λ (es : List (Entry BoardEdits)). es ++ record { site = c.args.site; edit = c.in-Ok-reserve_edit.prepared.edits } ∷ []) c.in-Ok-reserve_edit.ensures.order
+    ∙ ap (λ (e : BoardEdits). c.self.inside.order.entries ++ record { site = c.args.site; edit = e } ∷ []) (c.in-Ok-reserve_edit.ensures.edits ∙ ap (λ (x : Msg BoardBatch). board.edit_of x.op) (sym told)))
 
 pub returns : goal.returns
 returns c =
@@ -107,11 +117,21 @@ returns c =
     let there = ap (link_of c.args.site) c.in-Ok-reserve_edit.ensures.links ∙ found.1 in
     let early = checked c.args.site c.in-Some.at c.self.inside.limit c.len-place.result (length c.self.inside.order.entries) c.self.inside.links.items c.index.result.now found.0
     c.args.msg.now None place c.index.ensures c.len-place.ensures found.1 c.in-Ok.ensures in
-    let op = operation_at board_operations found.0.end c.args.msg.now in
-    let call = edit_taken (the_view c.self.inside) c.args.site c.args.msg.now found.0 _ _ _ found.1 early
+    let m = c.in-Ok-reserve_edit.prepared.msg in
+    let told : m ≡ c.args.msg.now = c.in-Ok-reserve_edit.ensures.msg in
+    let early_m = early ∙ ap (λ x. early_fault board_batches (the_view c.self.inside).limit (length c.self.inside.order.entries) found.0 x) (sym told) in
+    let op = operation_at board_batches found.0.end m in
+    let call = edit_taken (the_view c.self.inside) c.args.site m c.args.msg.now told found.0 _ _ _ found.1 early_m
     (ap (accepts op) (sym c.in-Ok-reserve_edit.ensures.board) ∙ sym (c.carry_out.ensures.fits found.0 there) ∙ fits)
     (c.carry_out.ensures.board fits found.0 there ∙ ap (board.after op) c.in-Ok-reserve_edit.ensures.board)
-    (c.carry_out.ensures.links fits found.0 there ∙ ap (links_after board_operations c.args.site c.args.msg.now op) c.in-Ok-reserve_edit.ensures.links)
-    (c.carry_out.ensures.order fits ∙ ap (λ (es : List (Entry Edit)). es ++ record { site = c.args.site; edit = c.edit_of-edit.result } ∷ []) c.in-Ok-reserve_edit.ensures.order
-    ∙ ap (λ (e : Edit). c.self.inside.order.entries ++ record { site = c.args.site; edit = e } ∷ []) c.edit_of-edit.ensures) in
+    (c.carry_out.ensures.links fits found.0 there ∙ ap (links_after board_batches c.args.site m op) c.in-Ok-reserve_edit.ensures.links)
+    (c.carry_out.ensures.order fits ∙ ap (λ (es : List (Entry BoardEdits)). es ++ record { site = c.args.site; edit = c.in-Ok-reserve_edit.prepared.edits } ∷ []) c.in-Ok-reserve_edit.ensures.order
+    ∙ ap (λ (e : BoardEdits). c.self.inside.order.entries ++ record { site = c.args.site; edit = e } ∷ []) (c.in-Ok-reserve_edit.ensures.edits ∙ ap (λ (x : Msg BoardBatch). board.edit_of x.op) (sym told))) in
     rw (← c.self.view_is) (ap (λ n. Taken (Ok (Some n))) c.len-place.ensures ∙ call.0, call.1)
+
+pub check-requires : goal.check-requires
+check-requires c =
+    let place = rw c.deref.ensures.value at c.in-Some.ensures.place in
+    let star = c.self.invariant in
+    let counted = star.counted in let limited = star.limited in
+    record { named = named_few c.self.inside.given (length c.self.inside.order.entries) c.args.site c.in-Some.at c.self.inside.links.items c.index.result.now (omega (arith, counted, limited)) star.bounded place c.index.ensures }

@@ -1,0 +1,386 @@
+//! Edits of several commands: a site makes them in one gesture, and a star takes each as one.
+ghost use Rattle.std.specs.Prelude.{◌≤◌, length};
+ghost use Rattle.jup_window.specs.Entries.{EachWidget};
+ghost use Rattle.jup_star.specs.Openings.{IsShort};
+
+use crate::stars::{deliver_all, edit_number, first_of, insert, insertion, refusal_of_two};
+use jup_batch::BoardBatch;
+use jup_link::Msg;
+use jup_seq::{SeqOp, TextOp};
+use jup_star::{Down, Entry, Made, Site, SiteFault, Star, StarFault, Up};
+use jup_text::write_board;
+use jup_value::{Item, Label, Name};
+use jup_window::{Board, BoardOp, Command, Edit, EditFault, Effect, Setting, Value, WidgetOp};
+use jup_xform::Batch;
+use std::alloc::Global;
+use std::process::Abort;
+use test_boards::{alone, board_of, reads};
+
+const LIMIT: u32 = 100_000;
+
+// Window 1 has this text 1, a list 2 of one label, a toggle 3 that is off, and a slider 4 at 3.
+fn layout(rt: &impl Abort, alloc: Global, text: &str) -> Board
+    ensures { EachWidget IsShort result }
+{
+    let text = format!(in alloc; "text 1 \"{text}\"").expect(rt, "memory");
+    let lines = [
+        "window 1",
+        &text,
+        "list 2 \"m\"",
+        "toggle 3 off",
+        "slider 4 0 9 3",
+    ];
+    board_of(alloc, &lines).expect(rt, "a board")
+}
+
+// A star over this layout and the sites 1 and 2, which have joined it.
+#[derive(Drop)]
+struct Pair {
+    star: Star,
+    one: Site,
+    two: Site,
+}
+
+fn pair_over(rt: &impl Abort, alloc: Global, text: &str) -> Pair {
+    let board = layout(rt, alloc, text);
+    let mut star = Star::open(alloc, board, LIMIT).expect(rt, "a layout and a limit");
+    let one = joins(rt, alloc, &mut star);
+    let two = joins(rt, alloc, &mut star);
+    Pair { star, one, two }
+}
+
+// The next site of a star.
+fn joins(rt: &impl Abort, alloc: Global, star: &mut Star) -> Site {
+    let joined = star.join(alloc).expect(rt, "a free link");
+    Site::open(alloc, joined.site, joined.limit, joined.board).expect(rt, "a site's number")
+}
+
+// Site 1 with a board of its own.
+fn lone_site(rt: &impl Abort, alloc: Global, text: &str) -> Site {
+    Site::open(alloc, 1, LIMIT, layout(rt, alloc, text)).expect(rt, "a site's number")
+}
+
+fn delete(place: u32) -> Command {
+    Command::Delete {
+        win: 1,
+        wid: 1,
+        place,
+    }
+}
+
+fn set(wid: u16, setting: Setting) -> Command {
+    Command::Set {
+        win: 1,
+        wid,
+        setting,
+    }
+}
+
+fn on_text(op: TextOp) -> BoardOp {
+    let op = WidgetOp::Text(op);
+    BoardOp { win: 1, wid: 1, op }
+}
+
+// The insertion of an item of a site, which is the number-th of it.
+fn put(place: u32, site: u32, number: u32, value: char) -> BoardOp {
+    let name = Name { site, number };
+    let item = Item { name, value };
+    on_text(SeqOp::Insert { place, item })
+}
+
+// The deletion of an item of the layout.
+fn cut(place: u32, number: u32) -> BoardOp {
+    let name = Name { site: 0, number };
+    on_text(SeqOp::Delete { place, name })
+}
+
+// An edit of text 1.
+fn edit(what: Effect) -> Edit {
+    Edit {
+        win: 1,
+        wid: 1,
+        what,
+    }
+}
+
+fn batch_of(rt: &impl Abort, alloc: Global, ops: &[BoardOp]) -> BoardBatch
+    requires some { 1 ≤ length ops.now }
+    requires few { length ops.now ≤ 32 }
+{
+    Batch::from_slice(alloc, ops).expect(rt, "memory")
+}
+
+// An edit that the star sends.
+fn down(rt: &impl Abort, alloc: Global, mine: u32, heard: u32, ops: &[BoardOp]) -> Down
+    requires some { 1 ≤ length ops.now }
+    requires few { length ops.now ≤ 32 }
+{
+    let op = batch_of(rt, alloc, ops);
+    Down::Op(Msg { mine, heard, op })
+}
+
+fn makes(rt: &impl Abort, alloc: Global, site: &mut Site, commands: &[Command]) -> Made {
+    site.edit_batch(alloc, commands).expect(rt, "an edit")
+}
+
+// The star takes the first edits of sites 1 and 2, in this order.
+fn takes_both(rt: &impl Abort, alloc: Global, star: &mut Star, one: &Up, two: &Up) {
+    assert_eq!(rt; star.take(alloc, 1, one), Ok(Some(0)));
+    assert_eq!(rt; star.take(alloc, 2, two), Ok(Some(1)));
+}
+
+// The star takes an edit of each site, and each site is handed the other's.
+fn exchange(rt: &impl Abort, alloc: Global, pair: &mut Pair, one: &Up, two: &Up) {
+    takes_both(rt, alloc, &mut pair.star, one, two);
+    assert_eq!(rt; deliver_all(rt, alloc, &mut pair.star, &mut pair.one), 1);
+    assert_eq!(rt; deliver_all(rt, alloc, &mut pair.star, &mut pair.two), 1);
+}
+
+// The text 1 of the star and of both sites.
+fn all_read(rt: &impl Abort, pair: &Pair, letters: &str) {
+    for board in [pair.star.board(), pair.one.board(), pair.two.board()] {
+        assert!(rt; reads(board, letters));
+    }
+}
+
+#[test]
+fn a_batch_that_undoes_itself_is_one_edit(rt: HostRuntime) {
+    let alloc = rt.alloc();
+    let mut pair = pair_over(&rt, alloc, "");
+    let made = makes(&rt, alloc, &mut pair.one, &[insert(0, 'a'), delete(0)]);
+    let name = first_of(1);
+    let wanted = [
+        edit(Effect::PutChar(name, 'a')),
+        edit(Effect::Deleted(name)),
+    ];
+    assert_eq!(rt; made.edit.as_slice(), wanted.as_slice());
+    assert_eq!(rt; pair.star.take(alloc, 1, &made.up), Ok(Some(0)));
+    assert_eq!(rt; deliver_all(&rt, alloc, &mut pair.star, &mut pair.two), 1);
+    all_read(&rt, &pair, "");
+    let entry = Entry {
+        site: 1,
+        edit: made.edit,
+    };
+    assert_eq!(rt; pair.star.order(), [entry].as_slice());
+}
+
+#[test]
+fn a_batch_of_one_command_is_the_edit_of_that_command(rt: HostRuntime) {
+    let alloc = rt.alloc();
+    let mut one = lone_site(&rt, alloc, "");
+    let batched = makes(&rt, alloc, &mut one, &[insert(0, 'a')]);
+    let mut other = lone_site(&rt, alloc, "");
+    let single = other.edit(alloc, &insert(0, 'a')).expect(&rt, "an edit");
+    assert_eq!(rt; batched.up, single.up);
+    assert_eq!(rt; batched.edit, single.edit);
+}
+
+#[test]
+fn names_go_on_after_a_batch(rt: HostRuntime) {
+    let alloc = rt.alloc();
+    let mut site = lone_site(&rt, alloc, "");
+    let first = [insert(0, 'a'), delete(0), insert(0, 'b')];
+    makes(&rt, alloc, &mut site, &first);
+    let made = makes(&rt, alloc, &mut site, &[insert(1, 'c'), insert(2, 'd')]);
+    let op = batch_of(&rt, alloc, &[put(1, 1, 3, 'c'), put(2, 1, 4, 'd')]);
+    let wanted = Msg {
+        mine: 1,
+        heard: 0,
+        op,
+    };
+    assert_eq!(rt; made.up, Up::Op(wanted));
+    assert_eq!(rt; site.backlog(), 2);
+}
+
+// The number of the refusal of a batch of commands by a site with this text, or 0.
+fn batch_refusal(rt: &impl Abort, alloc: Global, text: &str, commands: &[Command]) -> u32 {
+    let mut site = lone_site(rt, alloc, text);
+    edit_number(site.edit_batch(alloc, commands).err())
+}
+
+#[test]
+fn batches_are_refused_by_number(rt: HostRuntime) {
+    let alloc = rt.alloc();
+    assert_eq!(rt; batch_refusal(&rt, alloc, "", &[delete(0)]), 4);
+    assert_eq!(rt; batch_refusal(&rt, alloc, "", &[]), 15);
+    assert_eq!(rt; batch_refusal(&rt, alloc, "", &[insert(0, 'a'); 33]), 15);
+    assert_eq!(rt; batch_refusal(&rt, alloc, "", &[insert(0, 'a'); 32]), 0);
+    assert_eq!(rt;
+        batch_refusal(&rt, alloc, "", &[insert(0, 'a'), delete(1)]),
+        4
+    );
+}
+
+#[test]
+fn a_batch_refused_at_its_second_command_changes_nothing(rt: HostRuntime) {
+    let alloc = rt.alloc();
+    let mut site = lone_site(&rt, alloc, "pqr");
+    let refused = site.edit_batch(alloc, &[insert(0, 'a'), delete(9)]);
+    assert_eq!(rt; edit_number(refused.err()), 4);
+    assert!(rt; reads(site.board(), "pqr"));
+    assert_eq!(rt; site.backlog(), 0);
+    let made = site.edit(alloc, &insert(0, 'b')).expect(&rt, "an edit");
+    let wanted = Msg {
+        mine: 0,
+        heard: 0,
+        op: alone(alloc, put(0, 1, 1, 'b')),
+    };
+    assert_eq!(rt; made.up, Up::Op(wanted));
+}
+
+#[test]
+fn a_star_takes_a_batch_whole_or_not_at_all(rt: HostRuntime) {
+    let alloc = rt.alloc();
+    for (second, number) in [
+        (on_text(SeqOp::Nothing), 24),
+        (put(1, 2, 3, 'b'), 22),
+        (put(1, 1, 2, 'b'), 22),
+        (put(99, 2, 2, 'b'), 23),
+        (cut(0, 1), 23),
+    ] {
+        let ops = [insertion(0, first_of(2)), second];
+        let msg = Msg {
+            mine: 0,
+            heard: 0,
+            op: batch_of(&rt, alloc, &ops),
+        };
+        assert_eq!(rt; refusal_of_two(&rt, alloc, msg), number);
+    }
+}
+
+#[test]
+fn other_sites_are_sent_the_whole_batch_moved_past_earlier_ones(rt: HostRuntime) {
+    let alloc = rt.alloc();
+    let mut pair = pair_over(&rt, alloc, "pqr");
+    assert_eq!(rt; joins(&rt, alloc, &mut pair.star).number(), 3);
+    let typed = makes(&rt, alloc, &mut pair.one, &[insert(1, 'X'), insert(2, 'Y')]);
+    let erased = makes(&rt, alloc, &mut pair.two, &[delete(1), delete(1)]);
+    takes_both(&rt, alloc, &mut pair.star, &typed.up, &erased.up);
+    let put = [put(1, 1, 1, 'X'), put(2, 1, 2, 'Y')];
+    let cut = [cut(3, 2), cut(3, 3)];
+    for (site, mine, heard, ops) in [
+        (1, 0, 1, &cut),
+        (2, 0, 0, &put),
+        (3, 0, 0, &put),
+        (3, 1, 0, &cut),
+    ] {
+        let wanted = down(&rt, alloc, mine, heard, ops);
+        assert_eq!(rt; pair.star.fetch_one(site), Ok(Some(wanted)));
+    }
+}
+
+#[test]
+fn two_batches_on_one_text_meet(rt: HostRuntime) {
+    let alloc = rt.alloc();
+    let mut pair = pair_over(&rt, alloc, "pqr");
+    let typed = makes(&rt, alloc, &mut pair.one, &[insert(1, 'X'), insert(2, 'Y')]);
+    let erased = makes(&rt, alloc, &mut pair.two, &[delete(1), delete(1)]);
+    exchange(&rt, alloc, &mut pair, &typed.up, &erased.up);
+    all_read(&rt, &pair, "pXY");
+    assert_eq!(rt; pair.star.order().len(), 2);
+}
+
+#[test]
+fn two_batches_meet_in_the_other_order(rt: HostRuntime) {
+    let alloc = rt.alloc();
+    let mut pair = pair_over(&rt, alloc, "pqr");
+    let erased = makes(&rt, alloc, &mut pair.one, &[delete(1), delete(1)]);
+    let typed = makes(&rt, alloc, &mut pair.two, &[insert(1, 'X'), insert(2, 'Y')]);
+    exchange(&rt, alloc, &mut pair, &erased.up, &typed.up);
+    all_read(&rt, &pair, "pXY");
+    assert_eq!(rt; pair.star.order().len(), 2);
+}
+
+// A board, as it is printed.
+fn shows(rt: &impl Abort, alloc: Global, board: &Board, printed: &[u8]) {
+    let mut text = Vec::new(alloc);
+    write_board(alloc, board, &mut text).expect(rt, "memory");
+    assert_eq!(rt; text.as_slice(), printed);
+}
+
+#[test]
+fn batches_on_several_widgets_end_equal(rt: HostRuntime) {
+    let alloc = rt.alloc();
+    let mut pair = pair_over(&rt, alloc, "pqr");
+    let [n, red] = [&b"n"[..], &b"red"[..]].map(|text| Label::read(text).expect(&rt, "a label"));
+    let relabel = Command::Relabel {
+        win: 1,
+        wid: 2,
+        place: 0,
+        label: n,
+    };
+    let on = set(3, Setting::Toggle(true));
+    let slide = |value: i32| -> Command { set(4, Setting::Slider(value)) };
+    let first = [insert(0, 'a'), on, relabel, slide(5)];
+    let one = makes(&rt, alloc, &mut pair.one, &first);
+    let listed = Command::Insert {
+        win: 1,
+        wid: 2,
+        place: 0,
+        value: Value::Label(red),
+    };
+    let second = [delete(0), listed, slide(7), insert(2, 'b')];
+    let two = makes(&rt, alloc, &mut pair.two, &second);
+    exchange(&rt, alloc, &mut pair, &one.up, &two.up);
+    let printed = b"window 1\ntext 1 \"aqrb\"\nlist 2 \"red\" \"n\"\ntoggle 3 on\nslider 4 0 9 7\n";
+    for board in [pair.star.board(), pair.one.board(), pair.two.board()] {
+        shows(&rt, alloc, board, printed);
+    }
+}
+
+// Run these with each allocation refused in turn: a batch of several commands that lacks memory changes nothing,
+// and made or handed over again it gives its answer. One of one command needs none where the board does not.
+
+#[test]
+fn a_batch_that_lacks_memory_is_not_shown(rt: HostRuntime) {
+    let alloc = rt.alloc();
+    let mut site = lone_site(&rt, alloc, "pqr");
+    let commands = [insert(0, 'a'), delete(1), set(3, Setting::Toggle(true))];
+    let mut refusal = site.edit_batch(alloc, &commands).err();
+    if refusal == Some(EditFault::NoMemory) {
+        assert!(rt; reads(site.board(), "pqr"));
+        assert_eq!(rt; site.backlog(), 0);
+        refusal = site.edit_batch(alloc, &commands).err();
+    }
+    assert_eq!(rt; refusal, None);
+    assert!(rt; reads(site.board(), "aqr"));
+    assert_eq!(rt; site.backlog(), 1);
+}
+
+#[test]
+fn a_batch_that_the_star_lacks_memory_for_is_not_sent(rt: HostRuntime) {
+    let alloc = rt.alloc();
+    let mut pair = pair_over(&rt, alloc, "pqr");
+    let made = makes(&rt, alloc, &mut pair.one, &[insert(0, 'a'), delete(1)]);
+    let mut place = pair.star.take(alloc, 1, &made.up);
+    if place == Err(StarFault::NoMemory) {
+        assert!(rt; reads(pair.star.board(), "pqr"));
+        assert_eq!(rt; pair.star.waiting(2), Some(0));
+        place = pair.star.take(alloc, 1, &made.up);
+    }
+    assert_eq!(rt; place, Ok(Some(0)));
+    assert_eq!(rt; pair.star.waiting(2), Some(1));
+}
+
+#[test]
+fn a_batch_that_a_site_lacks_memory_for_is_not_shown(rt: HostRuntime) {
+    let alloc = rt.alloc();
+    let mut site = lone_site(&rt, alloc, "pqr");
+    let down = down(&rt, alloc, 0, 0, &[put(0, 2, 1, 'a'), cut(1, 1)]);
+    let mut back = site.deliver(alloc, &down);
+    if back == Err(SiteFault::NoMemory) {
+        assert!(rt; reads(site.board(), "pqr"));
+        back = site.deliver(alloc, &down);
+    }
+    assert_eq!(rt; back, Ok(None));
+    assert!(rt; reads(site.board(), "aqr"));
+}
+
+#[test]
+fn one_deletion_is_shown_without_memory(rt: HostRuntime) {
+    let alloc = rt.alloc();
+    let mut site = lone_site(&rt, alloc, "pqr");
+    let down = down(&rt, alloc, 0, 0, &[cut(0, 1)]);
+    assert_eq!(rt; site.deliver(alloc, &down), Ok(None));
+    assert!(rt; reads(site.board(), "qr"));
+}

@@ -119,10 +119,10 @@ module _ {Message : Type 0} (C : Codec Message) (L : IsCodec C) where
 
   -- so what begins its lines is the oldest message, if it has all its bytes
   pub whole_is : (w : Way) (tray : List Line) (p : Progress) (o : Option Message) → Carries C w → p.fault ≡ None → HasRead w.read tray p
-      → ((ms : List Message) (more : List Line) → tray ++ more ≡ flat_map C.lines ms → IsFirst C.lines tray ms o) → IsWhole C w o
+      → ((ms : List Message) (more : List Line) → AllByRecursion C.IsSpelled ms → tray ++ more ≡ flat_map C.lines ms → IsFirst C.lines tray ms o) → IsWhole C w o
   whole_is w tray p o is none read firsts =
       let f = tray_first w tray p is read in
-      cases (messages C w) refl o (firsts (messages C w) f.0 f.1)
+      cases (messages C w) refl o (firsts (messages C w) f.0 is.spelled f.1)
     where
       cases : (ms : List Message) → messages C w ≡ ms → (x : Option Message) → IsFirst C.lines tray ms x → IsWholeOf C ms w.read x
       cases [] e x first = first
@@ -229,7 +229,7 @@ module _ {Message : Type 0} (C : Codec Message) (L : IsCodec C) where
 
   -- the same of what a call returned
   pub whole_result : {E : Type 0} (w : Way) (tray : List Line) (p : Progress) (r : Result (Option Message) E) → Carries C w → p.fault ≡ None → HasRead w.read tray p
-      → IfOk r (λ o. (ms : List Message) (more : List Line) → tray ++ more ≡ flat_map C.lines ms → IsFirst C.lines tray ms o) → IfOk r (λ o. IsWhole C w o)
+      → IfOk r (λ o. (ms : List Message) (more : List Line) → AllByRecursion C.IsSpelled ms → tray ++ more ≡ flat_map C.lines ms → IsFirst C.lines tray ms o) → IfOk r (λ o. IsWhole C w o)
   whole_result w tray p (Ok o) is none read firsts = whole_is w tray p o is none read firsts
   whole_result w tray p (Err e) is none read firsts = firsts
 

@@ -9,7 +9,6 @@ ghost use Rattle.jup_lane.specs.Lanes.{no_bytes, sent, moved, handed_over, IsIdl
 
 use crate::message::{MOST_MESSAGE, Message};
 use crate::stream::Stream;
-use jup_link::Msg;
 use jup_seq::SeqOp;
 use jup_value::Label;
 use jup_window::{BoardOp, WidgetOp};
@@ -29,7 +28,7 @@ pub struct Lane<M: Message> {
     tray: VecDeque<Line>,
     reader: Reader,
     stream: Stream,
-    within: PhantomData<(M, SeqOp<Label>, WidgetOp, BoardOp, Msg<BoardOp>)>,
+    within: PhantomData<(M, SeqOp<Label>, WidgetOp, BoardOp)>,
 }
 
 // Drops the oldest lines of a tray.
@@ -48,7 +47,7 @@ fn push_spelled(tray: &mut VecDeque<Line>, text: &[u8]) -> Result<(), NoMemory>
     ensures err { OnErr result (tray.new.items ≡ tray.old.items) }
 {
     // Types that a line holds, named so that the borrow checker knows of them.
-    let _of: PhantomData<(SeqOp<Label>, WidgetOp, BoardOp, Msg<BoardOp>)> = PhantomData;
+    let _of: PhantomData<(SeqOp<Label>, WidgetOp, BoardOp)> = PhantomData;
     tray.reserve(1).map_err(|_| NoMemory)?;
     match read_line(text) {
         Ok(line) => tray.push_back_reserved(line),

@@ -8,6 +8,8 @@
 ghost use Rattle.jup_lane.specs.Codecs.{IsCodec};
 ghost use Rattle.jup_lane.specs.Messages.{ups, downs};
 
+mod edits;
+mod first;
 mod lane;
 mod message;
 mod stream;

@@ -1,26 +1,26 @@
 //! What a link carries: messages, each of some lines.
 ghost use Rattle.std.specs.Prelude.{◌≡◌, ◌+◌, ◌≤◌, ℕ, List, [], ◌∷◌, ◌++◌, length, IfOk};
 ghost use Rattle.std.specs.List.{flat_map, AllByRecursion};
-ghost use Rattle.std.specs.Vec.{vec_len, vec_capacity};
+ghost use Rattle.std.specs.Vec.{vec_capacity};
 ghost use Rattle.jup_wire.specs.declared.line.Line.{Line};
 ghost use Rattle.jup_wire.specs.Grammar.{spelling, HasSpelling};
 ghost use Rattle.jup_wire.specs.Rooms.{HasRoom};
 ghost use Rattle.jup_lane.specs.Codecs.{IsFirst};
-ghost use Rattle.jup_lane.specs.Messages.{up_line, ups_of, down_line, downs_of};
+ghost use Rattle.jup_lane.specs.Messages.{up_piece, ups_of, down_piece, downs_of};
 
-use jup_link::Msg;
-use jup_seq::SeqOp;
+use crate::edits::write_op;
+use crate::first::{down_of, first_of, up_of};
 use jup_star::{Down, Up};
-use jup_value::Label;
-use jup_window::{BoardOp, WidgetOp};
-use jup_wire::{Line, MOST, write_reserved};
+use jup_wire::{LONGEST, Line, write_reserved};
 use jup_xform::NoMemory;
 use std::alloc::Global;
 use std::collections::VecDeque;
-use std::marker::PhantomData;
 
-/// No message has a longer spelling.
-pub const MOST_MESSAGE: usize = MOST;
+/// No batch line has a longer spelling.
+const LONGEST_BATCH: usize = 31;
+
+/// No message has a longer spelling: a batch line, and 32 lines more.
+pub const MOST_MESSAGE: usize = LONGEST_BATCH + 32 * LONGEST;
 
 /// What a link carries: a message of one line or of several.
 pub trait Message: Drop {
@@ -50,11 +50,11 @@ pub trait Message: Drop {
         ensures items { out.new.items ≡ out.old.items ++ flat_map spelling (lines self.now) }
         ensures capacity { vec_capacity out.old ≤ vec_capacity out.new };
 
-    /// The message that begins some lines, which begin those of messages; none where not all of its lines
-    /// are there.
+    /// The message that begins some lines, which begin those of messages that have a spelling; none where not
+    /// all of its lines are there.
     fn first(alloc: Global, there: &VecDeque<Line>) -> Result<Option<Self>, NoMemory>
-        ensures { IfOk result (λ first. (ms : List Self) (more : List Line) → there.now.items ++ more ≡ flat_map lines ms
-            → IsFirst lines there.now.items ms first) };
+        ensures { IfOk result (λ first. (ms : List Self) (more : List Line) → AllByRecursion is_spelled ms
+            → there.now.items ++ more ≡ flat_map lines ms → IsFirst lines there.now.items ms first) };
 
     /// Of how many lines it is.
     fn count(&self) -> usize
@@ -62,14 +62,15 @@ pub trait Message: Drop {
 }
 
 impl Message for Up {
+    ghost use Rattle.jup_gather.specs.Pieces.{piece_lines};
     ghost use Rattle.jup_star.specs.TextRelabels.{UpRelabelsNoText};
     ghost use Rattle.jup_lane.specs.MessageLines.{ups_laws};
 
     ghost may_go = { UpRelabelsNoText };
 
-    ghost is_spelled = { λ u. HasSpelling (up_line u) };
+    ghost is_spelled = { λ u. AllByRecursion HasSpelling (piece_lines (up_piece u)) };
 
-    ghost lines = { λ u. up_line u ∷ [] };
+    ghost lines = { λ u. piece_lines (up_piece u) };
 
     ghost gather = { ups_of };
 
@@ -80,50 +81,35 @@ impl Message for Up {
     ghost gathers = { ups_laws.gathers };
 
     fn write(&self, out: &mut Vec<u8>) {
-        // Types that a line holds, named so that the borrow checker knows of them.
-        let _of: PhantomData<(SeqOp<Label>, WidgetOp, BoardOp, Msg<BoardOp>)> = PhantomData;
-        let line = match self {
-            Up::Op(msg) => Line::Op(Msg {
-                mine: msg.mine,
-                heard: msg.heard,
-                op: msg.op,
-            }),
-            Up::Ack(count) => Line::Ack(*count),
-            Up::Ping(number) => Line::Ping(*number),
-        };
-        write_reserved(&line, out);
+        match self {
+            Up::Op(msg) => write_op(msg, out),
+            Up::Ack(count) => write_reserved(&Line::Ack(*count), out),
+            Up::Ping(number) => write_reserved(&Line::Ping(*number), out),
+        }
     }
 
-    fn first(_alloc: Global, there: &VecDeque<Line>) -> Result<Option<Up>, NoMemory> {
-        let Some(line) = there.front() else {
-            return Ok(None);
-        };
-        Ok(match line {
-            Line::Op(msg) => Some(Up::Op(Msg {
-                mine: msg.mine,
-                heard: msg.heard,
-                op: msg.op,
-            })),
-            Line::Ack(count) => Some(Up::Ack(*count)),
-            Line::Ping(number) => Some(Up::Ping(*number)),
-            _ => None,
-        })
+    fn first(alloc: Global, there: &VecDeque<Line>) -> Result<Option<Up>, NoMemory> {
+        Ok(up_of(first_of(alloc, there)?))
     }
 
     fn count(&self) -> usize {
-        1
+        match self {
+            Up::Op(msg) => msg.op.as_slice().len() + 1,
+            Up::Ack(_) | Up::Ping(_) => 1,
+        }
     }
 }
 
 impl Message for Down {
+    ghost use Rattle.jup_gather.specs.Pieces.{piece_lines};
     ghost use Rattle.jup_star.specs.TextRelabels.{DownRelabelsNoText};
     ghost use Rattle.jup_lane.specs.MessageLines.{downs_laws};
 
     ghost may_go = { DownRelabelsNoText };
 
-    ghost is_spelled = { λ d. HasSpelling (down_line d) };
+    ghost is_spelled = { λ d. AllByRecursion HasSpelling (piece_lines (down_piece d)) };
 
-    ghost lines = { λ d. down_line d ∷ [] };
+    ghost lines = { λ d. piece_lines (down_piece d) };
 
     ghost gather = { downs_of };
 
@@ -134,37 +120,21 @@ impl Message for Down {
     ghost gathers = { downs_laws.gathers };
 
     fn write(&self, out: &mut Vec<u8>) {
-        // Types that a line holds, named so that the borrow checker knows of them.
-        let _of: PhantomData<(SeqOp<Label>, WidgetOp, BoardOp, Msg<BoardOp>)> = PhantomData;
-        let line = match self {
-            Down::Op(msg) => Line::Op(Msg {
-                mine: msg.mine,
-                heard: msg.heard,
-                op: msg.op,
-            }),
-            Down::Ack(count) => Line::Ack(*count),
-            Down::Pong(number) => Line::Pong(*number),
-        };
-        write_reserved(&line, out);
+        match self {
+            Down::Op(msg) => write_op(msg, out),
+            Down::Ack(count) => write_reserved(&Line::Ack(*count), out),
+            Down::Pong(number) => write_reserved(&Line::Pong(*number), out),
+        }
     }
 
-    fn first(_alloc: Global, there: &VecDeque<Line>) -> Result<Option<Down>, NoMemory> {
-        let Some(line) = there.front() else {
-            return Ok(None);
-        };
-        Ok(match line {
-            Line::Op(msg) => Some(Down::Op(Msg {
-                mine: msg.mine,
-                heard: msg.heard,
-                op: msg.op,
-            })),
-            Line::Ack(count) => Some(Down::Ack(*count)),
-            Line::Pong(number) => Some(Down::Pong(*number)),
-            _ => None,
-        })
+    fn first(alloc: Global, there: &VecDeque<Line>) -> Result<Option<Down>, NoMemory> {
+        Ok(down_of(first_of(alloc, there)?))
     }
 
     fn count(&self) -> usize {
-        1
+        match self {
+            Down::Op(msg) => msg.op.as_slice().len() + 1,
+            Down::Ack(_) | Down::Pong(_) => 1,
+        }
     }
 }

@@ -1,5 +1,5 @@
 -- Commands as text: their words, with one space between them.
-use Rattle.std.specs.Prelude.{ℕ, ◌^◌, ◌<◌, List, [], ◌∷◌, codes, decimal}
+use Rattle.std.specs.Prelude.{ℕ, ◌^◌, ◌<◌, ◌≤◌, List, [], ◌∷◌, codes, decimal}
 use Rattle.std.specs.Fmt.{signed_decimal}
 use Rattle.std.specs.Char.{IsScalar}
 use Rattle.std.specs.List.{join_with_byte}
@@ -49,6 +49,14 @@ IsCommand (Insert win wid place value) = IsId win × (IsId wid × (IsU32 place �
 IsCommand (Delete win wid place) = IsId win × (IsId wid × IsU32 place)
 IsCommand (Relabel win wid place label) = IsId win × (IsId wid × (IsU32 place × IsLabelText label))
 IsCommand (Set win wid setting) = IsId win × (IsId wid × IsSetting setting)
+
+-- the line that begins a batch of so many commands, which stand on lines of their own
+abbrev pub batch_text : ℕ → List ℕ
+batch_text count = join_with_byte 32 (codes "batch" ∷ decimal count ∷ [])
+
+-- so many lines of commands are read; whether a site makes an edit of them is another question
+abbrev pub IsBatchCount : ℕ → Type 0
+IsBatchCount count = count ≤ 64
 
 -- parts of a command's text, for what reads them: the value of an insertion, and what stands behind the ids
 abbrev pub value_text : Value → List ℕ

@@ -1,7 +1,7 @@
 -- Edits as text: their words, with one space between them.
-use Rattle.std.specs.Prelude.{ℕ, List, [], ◌∷◌, codes, decimal}
+use Rattle.std.specs.Prelude.{ℕ, List, [], ◌∷◌, ◌++◌, codes, decimal}
 use Rattle.std.specs.Fmt.{signed_decimal}
-use Rattle.std.specs.List.{join_with_byte}
+use Rattle.std.specs.List.{flat_map, join_with_byte}
 use Rattle.jup_window.specs.declared.edits.Edit.{Edit}
 use Rattle.jup_window.specs.declared.edits.Effect.{Effect}
 use Rattle.jup_window.specs.declared.edits.Effect.TheVariants.{PutChar, PutLabel, Deleted, Relabelled, Toggled, Slid, Nothing}
@@ -21,3 +21,12 @@ effect_words win wid Nothing = []
 -- an edit as it is printed; one that changes nothing is no text
 abbrev pub edit_text : Edit → List ℕ
 edit_text edit = join_with_byte 32 (effect_words edit.win edit.wid edit.what)
+
+-- an edit behind another, with a semicolon and a space between them
+abbrev pub other_text : Edit → List ℕ
+other_text edit = codes "; " ++ edit_text edit
+
+-- edits as they are printed
+abbrev pub edits_text : List Edit → List ℕ
+edits_text [] = []
+edits_text (e ∷ es) = edit_text e ++ flat_map other_text es

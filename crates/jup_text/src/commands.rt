@@ -1,11 +1,11 @@
 //! Commands: `ins W I PLACE char Q`, `ins W I PLACE item Q`, `del W I PLACE`, `rel W I PLACE Q`, `set W I on`,
-//! `set W I off` and `set W I NUMBER`.
+//! `set W I off` and `set W I NUMBER`; and `batch K`, which K lines of commands follow.
 ghost use Rattle.std.specs.Prelude.{◌≡◌, ◌≢◌, ◌<◌, ◌^◌, ◌∷◌, ◌++◌, ℕ, List, decimal, Some, IfSome, IfNone};
 ghost use Rattle.jup_number.specs.Numbers.{IsU32};
 ghost use Rattle.jup_number.specs.Spelled.{IsReadingOf};
 ghost use Rattle.jup_value.specs.Labels.{IsLabelText};
 ghost use Rattle.jup_window.specs.declared.commands.Command.{Command};
-ghost use Rattle.jup_text.specs.Commands.{command_text, value_text, setting_word, IsCommand, IsId, IsValue, IsSetting};
+ghost use Rattle.jup_text.specs.Commands.{command_text, batch_text, value_text, setting_word, IsCommand, IsBatchCount, IsId, IsValue, IsSetting};
 ghost use Rattle.jup_text.specs.Quotes.{quoted};
 
 use super::quoted::{char_of, label_of};
@@ -14,6 +14,9 @@ use jup_number::{read_integer, read_number};
 use jup_value::Label;
 use jup_window::{Command, Setting, Value};
 
+/// Lines of commands that a batch may have. A site makes an edit of 32 at most.
+const MOST_LINES: u32 = 64;
+
 /// Reads a command. It takes no memory.
 pub fn read_command(line: &[u8]) -> Option<Command>
     ensures spelling { IsReadingOf command_text IsCommand line.now result }
@@ -21,6 +24,17 @@ pub fn read_command(line: &[u8]) -> Option<Command>
         → result ≡ Some command }
 {
     worded(line)
+}
+
+/// Reads the line that begins a batch: how many lines of commands follow, up to 64. It takes no memory.
+pub fn read_batch(line: &[u8]) -> Option<u32>
+    ensures { IsReadingOf batch_text IsBatchCount line.now result }
+{
+    let count = read_number(line.strip_prefix(b"batch ")?)?;
+    if count > MOST_LINES {
+        return None;
+    }
+    Some(count)
 }
 
 // The command that the words of a line spell.

@@ -1,6 +1,8 @@
 //! Edits: `ins W I NAME Q`, `del W I NAME`, `rel W I NAME Q` and `set W I VALUE`.
 ghost use Rattle.std.specs.Prelude.{◌≡◌, ◌++◌, Some, OnOk, OnErr};
-ghost use Rattle.jup_text.specs.Edits.{edit_text};
+ghost use Rattle.std.specs.Fmt.{DisplaysOnOk};
+ghost use Rattle.std.specs.List.{flat_map};
+ghost use Rattle.jup_text.specs.Edits.{edit_text, other_text, edits_text};
 ghost use Rattle.jup_text.specs.Words.{name_text};
 
 use super::boards::append;
@@ -8,22 +10,50 @@ use super::quoted::{QuotedChar, QuotedLabel};
 use super::words::switch_word;
 use jup_value::Name;
 use jup_window::{Edit, Effect};
-use jup_xform::NoMemory;
+use jup_xform::{Edits, NoMemory};
 use std::alloc::Global;
 use std::fmt;
 
-/// Appends an edit as it is printed. An edit that changes nothing has no spelling, and appends
-/// nothing; nor does one where memory is refused.
-pub fn write_edit(alloc: Global, edit: &Edit, into: &mut Vec<u8>) -> Result<(), NoMemory>
-    ensures appended { OnOk result (into.new.items ≡ into.old.items ++ edit_text edit.now) }
+/// Appends the edits of a batch as they are printed, with `; ` between them. An edit that changes nothing has no
+/// spelling; nothing is appended where memory is refused.
+pub fn write_edit(alloc: Global, edits: &Edits<Edit>, into: &mut Vec<u8>) -> Result<(), NoMemory>
+    ensures appended { OnOk result (into.new.items ≡ into.old.items ++ edits_text edits.now) }
     ensures same { OnErr result (into.new.items ≡ into.old.items) }
 {
-    append(alloc, &PrintedEdit(edit), into)
+    append(alloc, &PrintedEdits(edits.as_slice()), into)
+}
+
+/// Edits as they are printed.
+#[derive(Drop)]
+pub struct PrintedEdits<'a>(pub &'a [Edit]);
+
+impl fmt::Display for PrintedEdits<'_> {
+    ghost output = { λ edits. Some (edits_text edits.0.now) };
+
+    fn fmt<W: fmt::Write>(&self, f: &mut fmt::Formatter<W>) -> fmt::Result {
+        let Some((first, others)) = self.0.split_first() else {
+            return Ok(());
+        };
+        let first = PrintedEdit(first);
+        write!(f, "{first}")?;
+        write_others(f, others)
+    }
+}
+
+// Writes each edit behind `; `.
+fn write_others<W: fmt::Write>(f: &mut fmt::Formatter<W>, edits: &[Edit]) -> fmt::Result
+    ensures { DisplaysOnOk W.Write.write_str_gives f.old result (Some (flat_map other_text edits.now)) f.new }
+{
+    for edit in edits {
+        let edit = PrintedEdit(edit);
+        write!(f, "; {edit}")?;
+    }
+    Ok(())
 }
 
 /// An edit as it is printed.
 #[derive(Drop)]
-pub struct PrintedEdit<'a>(pub &'a Edit);
+struct PrintedEdit<'a>(&'a Edit);
 
 impl fmt::Display for PrintedEdit<'_> {
     ghost output = { λ edit. Some (edit_text edit.0.now) };

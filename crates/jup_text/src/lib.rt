@@ -11,7 +11,7 @@ mod words;
 
 pub use board_reader::{BoardReader, Untaken, is_board_line};
 pub use boards::{PrintedBoard, write_board};
-pub use commands::read_command;
-pub use edits::{PrintedEdit, write_edit};
+pub use commands::{read_batch, read_command};
+pub use edits::{PrintedEdits, write_edit};
 pub use quoted::{Quoted, read_quoted, read_quoted_char};
 pub use words::{read_integer, read_number, read_switch, switch_word};

@@ -1,13 +1,12 @@
 -- What the answers of a site and of the star say.
-use Rattle.std.proofs.Common.{◌≡◌, refl, sym, ◌∙◌, ap, ℕ, Bool, true, false, List, [], ◌∷◌, ◌++◌, take, length, Option, Some, None, is_some, not, eqb, option_map, cond, nat_le, Result, Ok, Err, OnErr, subst}
+use Rattle.std.proofs.Common.{◌≡◌, refl, sym, ◌∙◌, ap, ℕ, Bool, true, false, List, [], ◌∷◌, ◌++◌, take, length, Option, Some, None, is_some, not, eqb, option_map, cond, nat_le, Result, Ok, Err, OnErr, subst, IfSome}
 use Rattle.std.specs.Option.{option_eq}
 use Rattle.std.proofs.lemmas.Option.{same_Some}
+use Rattle.jup_batch.specs.BatchBoards.{BoardBatch, Commands}
 use Rattle.jup_link.specs.Links.{Link}
-use Rattle.jup_window.specs.declared.board_operations.BoardOp.{BoardOp}
 use Rattle.jup_window.specs.declared.faults.EditFault.{EditFault}
-use Rattle.jup_window.specs.declared.commands.Command.{Command}
 use Rattle.jup_window.specs.FaultNumbers.{edit_fault_number}
-use Rattle.jup_window.specs.BoardOperations.{board_operations}
+use Rattle.jup_batch.specs.BoardBatches.{board_batches}
 use Rattle.jup_star.specs.declared.messages.Up.{Up}
 use Rattle.jup_star.specs.declared.messages.Up.TheVariants.{Ack as UpAck}
 use Rattle.jup_star.specs.declared.messages.Down.{Down}
@@ -31,14 +30,14 @@ use Rattle.jup_world.specs.Happenings.{with_answer, refilled_from, refilled, fet
 
 -- # A site's edit
 
-made_same : (r : Result BoardOp ℕ) (s : BoardSite) (made : Made) → ◌≡◌ {A = Result Made ℕ} (Ok made) (made_result s r) → ◌≡◌ {A = BoardReply} (MadeReply made.edit) (edit_reply board_operations r)
+made_same : (r : Result BoardBatch ℕ) (s : BoardSite) (made : Made) → ◌≡◌ {A = Result Made ℕ} (Ok made) (made_result s r) → ◌≡◌ {A = BoardReply} (MadeReply made.edit) (edit_reply board_batches r)
 made_same (Ok op) s made e = ap (λ (m : Made). MadeReply m.edit) (let same : made ≡ made_by op s = cc in same)
 made_same (Err n) s made e = absurd (cc)
 
-pub edit_made : (command : Command) (s t : BoardSite) (made : Made) → EditAnswers command s t (Ok made) → ◌≡◌ {A = BoardReply} (MadeReply made.edit) (edit_reply board_operations (edit_answer board_operations command s))
-edit_made command s t made answers = made_same (edit_answer board_operations command s) s made answers.0
+pub edit_made : (command : Commands) (s t : BoardSite) (made : Made) → EditAnswers command s t (Ok made) → ◌≡◌ {A = BoardReply} (MadeReply made.edit) (edit_reply board_batches (edit_answer board_batches command s))
+edit_made command s t made answers = made_same (edit_answer board_batches command s) s made answers.0
 
-sent_same : (r : Result BoardOp ℕ) (a : BoardAttached) (t : BoardSite) (ups : List (Up BoardOp)) (made : Made) → ◌≡◌ {A = Result Made ℕ} (Ok made) (made_result a.site r) → t ≡ after_edit a.site r → ups ≡ a.up ++ made.up ∷ []
+sent_same : (r : Result BoardBatch ℕ) (a : BoardAttached) (t : BoardSite) (ups : List (Up BoardBatch)) (made : Made) → ◌≡◌ {A = Result Made ℕ} (Ok made) (made_result a.site r) → t ≡ after_edit a.site r → ups ≡ a.up ++ made.up ∷ []
     → ◌≡◌ {A = BoardAttached} (record { site = t; up = ups; down = a.down }) (with_answer r a)
 sent_same (Ok op) a t ups made e f g =
     let same : made ≡ made_by op a.site = cc in
@@ -46,31 +45,31 @@ sent_same (Ok op) a t ups made e f g =
     λ i. record { site = f i; up = all i; down = a.down }
 sent_same (Err n) a t ups made e f g = absurd (cc)
 
-pub edit_sent : (command : Command) (a : BoardAttached) (t : BoardSite) (ups : List (Up BoardOp)) (made : Made) → EditAnswers command a.site t (Ok made) → ups ≡ a.up ++ made.up ∷ []
-    → ◌≡◌ {A = BoardAttached} (record { site = t; up = ups; down = a.down }) (with_answer (edit_answer board_operations command a.site) a)
-edit_sent command a t ups made answers g = sent_same (edit_answer board_operations command a.site) a t ups made answers.0 answers.1 g
+pub edit_sent : (command : Commands) (a : BoardAttached) (t : BoardSite) (ups : List (Up BoardBatch)) (made : Made) → EditAnswers command a.site t (Ok made) → ups ≡ a.up ++ made.up ∷ []
+    → ◌≡◌ {A = BoardAttached} (record { site = t; up = ups; down = a.down }) (with_answer (edit_answer board_batches command a.site) a)
+edit_sent command a t ups made answers g = sent_same (edit_answer board_batches command a.site) a t ups made answers.0 answers.1 g
 
-refused_reply : (r : Result BoardOp ℕ) (s : BoardSite) (n : ℕ) → ◌≡◌ {A = Result Made ℕ} (Err n) (made_result s r) → ◌≡◌ {A = BoardReply} (Refused n) (edit_reply board_operations r)
+refused_reply : (r : Result BoardBatch ℕ) (s : BoardSite) (n : ℕ) → ◌≡◌ {A = Result Made ℕ} (Err n) (made_result s r) → ◌≡◌ {A = BoardReply} (Refused n) (edit_reply board_batches r)
 refused_reply (Ok op) s n e = absurd (cc)
 refused_reply (Err m) s n e = ap (λ (k : ℕ). Refused k) (let same : n ≡ m = cc in same)
 
-refused_same : (r : Result BoardOp ℕ) (a : BoardAttached) (t : BoardSite) (n : ℕ) → ◌≡◌ {A = Result Made ℕ} (Err n) (made_result a.site r) → t ≡ after_edit a.site r → ◌≡◌ {A = BoardAttached} (record a { site = t }) (with_answer r a)
+refused_same : (r : Result BoardBatch ℕ) (a : BoardAttached) (t : BoardSite) (n : ℕ) → ◌≡◌ {A = Result Made ℕ} (Err n) (made_result a.site r) → t ≡ after_edit a.site r → ◌≡◌ {A = BoardAttached} (record a { site = t }) (with_answer r a)
 refused_same (Ok op) a t n e f = absurd (cc)
 refused_same (Err m) a t n e f = λ i. record { site = f i; up = a.up; down = a.down }
 
-pub edit_refused : (command : Command) (s t : BoardSite) (fault refusal : EditFault) → is_edit_memory fault ≡ false → refusal ≡ fault → EditAnswers command s t (Err fault)
-    → ◌≡◌ {A = BoardReply} (Refused (edit_fault_number refusal)) (edit_reply board_operations (edit_answer board_operations command s))
+pub edit_refused : (command : Commands) (s t : BoardSite) (fault refusal : EditFault) → is_edit_memory fault ≡ false → refusal ≡ fault → EditAnswers command s t (Err fault)
+    → ◌≡◌ {A = BoardReply} (Refused (edit_fault_number refusal)) (edit_reply board_batches (edit_answer board_batches command s))
 edit_refused command s t fault refusal other same answers =
     let call = rw other at answers in
-    ap (λ (f : EditFault). Refused (edit_fault_number f)) same ∙ refused_reply (edit_answer board_operations command s) s (edit_fault_number fault) call.0
+    ap (λ (f : EditFault). Refused (edit_fault_number f)) same ∙ refused_reply (edit_answer board_batches command s) s (edit_fault_number fault) call.0
 
-pub edit_stays : (command : Command) (a : BoardAttached) (t : BoardSite) (ups : List (Up BoardOp)) (fault : EditFault) → is_edit_memory fault ≡ false → EditAnswers command a.site t (Err fault) → ups ≡ a.up
-    → ◌≡◌ {A = BoardAttached} (record { site = t; up = ups; down = a.down }) (with_answer (edit_answer board_operations command a.site) a)
+pub edit_stays : (command : Commands) (a : BoardAttached) (t : BoardSite) (ups : List (Up BoardBatch)) (fault : EditFault) → is_edit_memory fault ≡ false → EditAnswers command a.site t (Err fault) → ups ≡ a.up
+    → ◌≡◌ {A = BoardAttached} (record { site = t; up = ups; down = a.down }) (with_answer (edit_answer board_batches command a.site) a)
 edit_stays command a t ups fault other answers same =
     let call = rw other at answers in
-    (λ i. record { site = t; up = same i; down = a.down }) ∙ refused_same (edit_answer board_operations command a.site) a t (edit_fault_number fault) call.0 call.1
+    (λ i. record { site = t; up = same i; down = a.down }) ∙ refused_same (edit_answer board_batches command a.site) a t (edit_fault_number fault) call.0 call.1
 
-pub edit_wanted : (command : Command) (s t : BoardSite) (fault : EditFault) → is_edit_memory fault ≡ true → EditAnswers command s t (Err fault) → t ≡ s
+pub edit_wanted : (command : Commands) (s t : BoardSite) (fault : EditFault) → is_edit_memory fault ≡ true → EditAnswers command s t (Err fault) → t ≡ s
 edit_wanted command s t fault memory answers = let call = rw memory at answers in call.0
 
 -- # The star's answers
@@ -94,40 +93,40 @@ leave_none i s t fault other answers = cases (link_of i s.links) refl
     cases None e = (rw e at call.1, e)
     cases (Some l) e = let reply = rw e at call.0 in absurd (cc)
 
-pub take_taken : (i : ℕ) (up : Up BoardOp) (s t : BoardStar) (l : BoardLink) (place : Option ℕ) → link_of i s.links ≡ Some l → Answers (Take i up) s t (TakenReply (Ok place))
-    → (up_fault board_operations s l up ≡ None) × (place ≡ place_taken board_operations s up) × (t ≡ taken board_operations i up l s)
+pub take_taken : (i : ℕ) (up : Up BoardBatch) (s t : BoardStar) (l : BoardLink) (place : Option ℕ) → link_of i s.links ≡ Some l → Answers (Take i up) s t (TakenReply (Ok place))
+    → (up_fault board_batches s l up ≡ None) × (place ≡ place_taken board_batches s up) × (t ≡ taken board_batches i up l s)
 unfolding reply_of star_after
-take_taken i up s t l place found answers = cases (up_fault board_operations s l up) refl
+take_taken i up s t l place found answers = cases (up_fault board_batches s l up) refl
   where
-    reply : TakenReply (Ok place) ≡ TakenReply (take_result s up (up_fault board_operations s l up))
+    reply : TakenReply (Ok place) ≡ TakenReply (take_result s up (up_fault board_batches s l up))
     reply = rw found at answers.0
 
-    after : t ≡ after_take i up s (Some l) (up_fault board_operations s l up)
+    after : t ≡ after_take i up s (Some l) (up_fault board_batches s l up)
     after = rw found at answers.1
 
-    cases : (o : Option StarFault) → up_fault board_operations s l up ≡ o → (up_fault board_operations s l up ≡ None) × (place ≡ place_taken board_operations s up) × (t ≡ taken board_operations i up l s)
+    cases : (o : Option StarFault) → up_fault board_batches s l up ≡ o → (up_fault board_batches s l up ≡ None) × (place ≡ place_taken board_batches s up) × (t ≡ taken board_batches i up l s)
     cases None e = (e, (let told = rw e at reply in cc), rw e at after)
     cases (Some fault) e = let told = rw e at reply in absurd (cc)
 
-pub take_refused : (i : ℕ) (up : Up BoardOp) (s t : BoardStar) (l : BoardLink) (fault : StarFault) → is_no_memory fault ≡ false → link_of i s.links ≡ Some l → Answers (Take i up) s t (TakenReply (Err fault))
-    → (up_fault board_operations s l up ≡ Some fault) × (t ≡ left i s)
+pub take_refused : (i : ℕ) (up : Up BoardBatch) (s t : BoardStar) (l : BoardLink) (fault : StarFault) → is_no_memory fault ≡ false → link_of i s.links ≡ Some l → Answers (Take i up) s t (TakenReply (Err fault))
+    → (up_fault board_batches s l up ≡ Some fault) × (t ≡ left i s)
 unfolding reply_of star_after
-take_refused i up s t l fault other found answers = cases (up_fault board_operations s l up) refl
+take_refused i up s t l fault other found answers = cases (up_fault board_batches s l up) refl
   where
     call : (TakenReply (Err fault) ≡ reply_of (Take i up) s) × (t ≡ star_after (Take i up) s)
     call = rw other at answers
 
-    reply : TakenReply (Err fault) ≡ TakenReply (take_result s up (up_fault board_operations s l up))
+    reply : TakenReply (Err fault) ≡ TakenReply (take_result s up (up_fault board_batches s l up))
     reply = rw found at call.0
 
-    after : t ≡ after_take i up s (Some l) (up_fault board_operations s l up)
+    after : t ≡ after_take i up s (Some l) (up_fault board_batches s l up)
     after = rw found at call.1
 
-    cases : (o : Option StarFault) → up_fault board_operations s l up ≡ o → (up_fault board_operations s l up ≡ Some fault) × (t ≡ left i s)
+    cases : (o : Option StarFault) → up_fault board_batches s l up ≡ o → (up_fault board_batches s l up ≡ Some fault) × (t ≡ left i s)
     cases None e = let told = rw e at reply in absurd (cc)
     cases (Some found_fault) e = let told = rw e at reply in (e ∙ cc, rw e at after)
 
-pub take_wanted : (i : ℕ) (up : Up BoardOp) (s t : BoardStar) (fault : StarFault) → is_no_memory fault ≡ true → Answers (Take i up) s t (TakenReply (Err fault)) → t ≡ s
+pub take_wanted : (i : ℕ) (up : Up BoardBatch) (s t : BoardStar) (fault : StarFault) → is_no_memory fault ≡ true → Answers (Take i up) s t (TakenReply (Err fault)) → t ≡ s
 take_wanted i up s t fault memory answers = let call = rw memory at answers in call.0
 
 pub join_joined : (s t : BoardStar) (j : JoinedSite) → Answers Join s t (JoinedReply (bare_joined (Ok j))) → (join_fault s ≡ None) × (bare_joined (Ok j) ≡ Ok (joining s)) × (t ≡ joined s)
@@ -152,7 +151,7 @@ join_refused s t fault other answers = cases (join_fault s) refl
 pub join_wanted : (s t : BoardStar) (fault : StarFault) → is_no_memory fault ≡ true → Answers Join s t (JoinedReply (bare_joined (Err fault))) → t ≡ s
 join_wanted s t fault memory answers = let call = rw memory at answers in call.0
 
-pub fetch_fetched : (i : ℕ) (s t : BoardStar) (l : BoardLink) (downs : List (Down BoardOp)) → link_of i s.links ≡ Some l → Answers (Fetch i 1) s t (FetchedReply (Ok downs))
+pub fetch_fetched : (i : ℕ) (s t : BoardStar) (l : BoardLink) (downs : List (Down BoardBatch)) → link_of i s.links ≡ Some l → Answers (Fetch i 1) s t (FetchedReply (Ok downs))
     → (downs ≡ take 1 l.outbox) × (t ≡ fetched i 1 s)
 unfolding reply_of star_after
 fetch_fetched i s t l downs found answers = ((let told = rw found at answers.0 in cc), rw found at answers.1)
@@ -168,35 +167,36 @@ fetch_linked i s t fault linked memory answers = let call = rw memory at answers
 
 -- # What a site sends back
 
-owed_up-relabels_no_text : (e : Link BoardOp) (back : Up BoardOp) → Some back ≡ owed_up e → UpRelabelsNoText back
+owed_up-relabels_no_text : (e : Link BoardBatch) (back : Up BoardBatch) → Some back ≡ owed_up e → UpRelabelsNoText back
 owed_up-relabels_no_text e back = cases (nat_le 64 e.unanswered)
   where
     cases : (b : Bool) → Some back ≡ cond b (Some (UpAck e.received)) None → UpRelabelsNoText back
     cases true told = subst UpRelabelsNoText (sym (same_Some back (UpAck e.received) told)) tt
     cases false told = absurd (cc)
 
-sent_back-relabels_no_text : (down : Down BoardOp) (s : BoardSite) (back : Up BoardOp) (fault : Option SiteFault) → Ok (Some back) ≡ deliver_result down s fault → UpRelabelsNoText back
-sent_back-relabels_no_text (DownOp m) s back None told = owed_up-relabels_no_text (end_after board_operations s.end m) back (cc)
+sent_back-relabels_no_text : (down : Down BoardBatch) (s : BoardSite) (back : Up BoardBatch) (fault : Option SiteFault) → Ok (Some back) ≡ deliver_result down s fault → UpRelabelsNoText back
+sent_back-relabels_no_text (DownOp m) s back None told = owed_up-relabels_no_text (end_after board_batches s.end m) back (cc)
 sent_back-relabels_no_text (DownAck n) s back None told = absurd (cc)
 sent_back-relabels_no_text (DownPong k) s back None told = absurd (cc)
 sent_back-relabels_no_text down s back (Some fault) told = absurd (cc)
 
 -- it is an acknowledgement
-pub delivered-relabels_no_text : (down : Down BoardOp) (s t : BoardSite) (back : Up BoardOp) → DeliverAnswers down s t (Ok (Some back)) → UpRelabelsNoText back
-delivered-relabels_no_text down s t back answers = sent_back-relabels_no_text down s back (deliver_fault board_operations down s) answers.0
+pub delivered-relabels_no_text : (down : Down BoardBatch) (s t : BoardSite) (back : Option (Up BoardBatch)) → DeliverAnswers down s t (Ok back) → IfSome back UpRelabelsNoText
+delivered-relabels_no_text down s t None answers = tt
+delivered-relabels_no_text down s t (Some up) answers = sent_back-relabels_no_text down s up (deliver_fault board_batches down s) answers.0
 
 -- # A down stream that was empty
 
-pub filled : (a : BoardAttached) (l : BoardLink) (downs : List (Down BoardOp)) → a.down ≡ [] → downs ≡ take 1 l.outbox
+pub filled : (a : BoardAttached) (l : BoardLink) (downs : List (Down BoardBatch)) → a.down ≡ [] → downs ≡ take 1 l.outbox
     → ◌≡◌ {A = BoardAttached} (record { site = a.site; up = a.up; down = downs }) (refilled l a)
 filled a l downs empty e =
-    let all = e ∙ ap (λ (ds : List (Down BoardOp)). refilled_from ds l.outbox) (sym empty) in
+    let all = e ∙ ap (λ (ds : List (Down BoardBatch)). refilled_from ds l.outbox) (sym empty) in
     λ i. record { site = a.site; up = a.up; down = all i }
 
 pub filled_star : (a : BoardAttached) (l : BoardLink) (s t : BoardStar) → a.down ≡ [] → (l.outbox ≡ [] → ⊥) → t ≡ fetched a.site.number 1 s → t ≡ refilled_star l a s
-filled_star a l s t empty waits e = e ∙ there l.outbox waits ∙ ap (λ (ds : List (Down BoardOp)). fetched_for a.site.number ds l.outbox s) (sym empty)
+filled_star a l s t empty waits e = e ∙ there l.outbox waits ∙ ap (λ (ds : List (Down BoardBatch)). fetched_for a.site.number ds l.outbox s) (sym empty)
   where
-    there : (os : List (Down BoardOp)) → (os ≡ [] → ⊥) → fetched a.site.number 1 s ≡ fetched_for a.site.number [] os s
+    there : (os : List (Down BoardBatch)) → (os ≡ [] → ⊥) → fetched a.site.number 1 s ≡ fetched_for a.site.number [] os s
     there [] not_empty = absurd (not_empty refl)
     there (d ∷ os) not_empty = refl
 

@@ -2,16 +2,15 @@
 use Rattle.std.proofs.Common.{◌≡◌, refl, sym, ◌∙◌, ap, subst, ℕ, ◌+◌, ◌-◌, ◌<◌, ◌≤◌, Bool, true, false, not, ◌||◌, List, [], ◌∷◌, ◌++◌, length, map, nat_eq, slice_get, take, Option, Some, None, option_map, is_some, Result, Ok, Err, OnOk, OnErr, IfErr, arith, ◌↔◌, IsTrue, IsFalse, eqb-true, le_refl, cond}
 use Rattle.std.proofs.lemmas.Bool.{eqb-false, or_parts}
 use Rattle.std.proofs.lemmas.List.{map-append}
-use Rattle.jup_window.specs.declared.edits.Edit.{Edit}
 use Rattle.jup_window.specs.declared.faults.EditFault.{EditFault}
-use Rattle.jup_window.specs.declared.board_operations.BoardOp.{BoardOp}
-use Rattle.jup_window.specs.BoardOperations.{board_operations}
-use Rattle.jup_window.specs.BoardsAreLawful.{board_laws}
+use Rattle.jup_batch.specs.BoardBatches.{board_batches}
+use Rattle.jup_batch.specs.BoardBatches.{batch_laws}
+use Rattle.jup_batch.specs.BatchBoards.{BoardBatch, BoardEdits}
 use Rattle.jup_star.specs.declared.messages.Up.{Up}
 use Rattle.jup_star.specs.declared.messages.Down.{Down}
 use Rattle.jup_star.specs.declared.faults.StarFault.{StarFault}
 use Rattle.jup_star.specs.declared.faults.SiteFault.{SiteFault}
-use Rattle.jup_star.specs.StarStates.{link_of, up_fault, place_taken, most_items}
+use Rattle.jup_star.specs.StarStates.{link_of, up_fault, place_taken, most_batches}
 use Rattle.jup_star.specs.SiteStates.{deliver_fault}
 use Rattle.jup_world.specs.Events.{Join, Leave, Edit as MakeEdit, Up as MoveUp, Down as MoveDown, Ping as SendPing}
 use Rattle.jup_world.specs.declared.events.Reply.{Reply}
@@ -46,7 +45,7 @@ use Rattle.jup_world.proofs.LaneOrder.{steps_order, spared_order}
 -- # One delivery
 
 -- a reply is nothing as its number is
-pub nothing_numbered : (r : Reply Edit EditFault) → ◌≡◌ {A = BoardReply} (numbered_reply r) Nothing → r ≡ answer.Nothing
+pub nothing_numbered : (r : Reply BoardEdits EditFault) → ◌≡◌ {A = BoardReply} (numbered_reply r) Nothing → r ≡ answer.Nothing
 nothing_numbered (answer.Joined i) e = absurd (cc)
 nothing_numbered (answer.NoJoin fault) e = absurd (cc)
 nothing_numbered answer.Left e = absurd (cc)
@@ -61,10 +60,10 @@ nothing_numbered (answer.Moved count) e = absurd (cc)
 nothing_numbered answer.Nothing e = refl
 
 -- a delivery that moves nothing leaves the star and the sites
-nothing_leaves : (w : BoardWorld) (event : BoardEvent) → IsDelivery event → (outcome board_operations w event).reply ≡ Nothing
-    → ((happens board_operations w event).star ≡ w.star) × ((happens board_operations w event).sites ≡ w.sites)
-nothing_leaves w (MoveUp i) delivers none = nothing_up board_operations board_laws w i none
-nothing_leaves w (MoveDown i) delivers none = nothing_down board_operations board_laws w i none
+nothing_leaves : (w : BoardWorld) (event : BoardEvent) → IsDelivery event → (outcome board_batches w event).reply ≡ Nothing
+    → ((happens board_batches w event).star ≡ w.star) × ((happens board_batches w event).sites ≡ w.sites)
+nothing_leaves w (MoveUp i) delivers none = nothing_up board_batches batch_laws w i none
+nothing_leaves w (MoveDown i) delivers none = nothing_down board_batches batch_laws w i none
 nothing_leaves w Join delivers none = absurd delivers
 nothing_leaves w (Leave i) delivers none = absurd delivers
 nothing_leaves w (MakeEdit i command) delivers none = absurd delivers
@@ -73,8 +72,8 @@ nothing_leaves w (SendPing i k) delivers none = absurd delivers
 one_delivered : (w v : LaneWorld) (event : BoardEvent) → IsDelivery event → Steps w (Plain event) v → IsDelivered w v
 one_delivered w v event delivers step = record { events = event ∷ []; deliveries = (delivers, tt); steps = (v, step, refl) }
 
-pub settles_one : (w v : LaneWorld) (event : BoardEvent) (reply : Reply Edit EditFault) (nothing : Bool) → IsWorld (messages_of w) → IsDelivery event → Steps w (Plain event) v
-    → numbered_reply reply ≡ (outcome board_operations (messages_of w) event).reply → (IsTrue nothing ↔ (reply ≡ answer.Nothing)) → Settles (not nothing) w v
+pub settles_one : (w v : LaneWorld) (event : BoardEvent) (reply : Reply BoardEdits EditFault) (nothing : Bool) → IsWorld (messages_of w) → IsDelivery event → Steps w (Plain event) v
+    → numbered_reply reply ≡ (outcome board_batches (messages_of w) event).reply → (IsTrue nothing ↔ (reply ≡ answer.Nothing)) → Settles (not nothing) w v
 settles_one w v event reply nothing is delivers step answer test = record {
   delivered = one_delivered w v event delivers step;
   lighter = λ some. subst (λ u. weight u < weight (messages_of w)) (sym step.messages)
@@ -91,7 +90,7 @@ settles_one w v event reply nothing is delivers step answer test = record {
     was true none = refl
     was false none = absurd (cc)
 
-    still : IsFalse (not nothing) → (outcome board_operations (messages_of w) event).reply ≡ Nothing
+    still : IsFalse (not nothing) → (outcome board_batches (messages_of w) event).reply ≡ Nothing
     still none = sym answer ∙ ap numbered_reply (test.0 (was nothing none))
 
 -- memory was refused at one
@@ -148,40 +147,40 @@ settles_both false two w v u p q = record {
 
 -- # What a delivery answers does not hang on what has happened
 
-up_alike : (w v : BoardWorld) (i : ℕ) (l : BoardLink) (us : List (Up BoardOp)) → v.star ≡ w.star → (first_up board_operations v i l us).reply ≡ (first_up board_operations w i l us).reply
+up_alike : (w v : BoardWorld) (i : ℕ) (l : BoardLink) (us : List (Up BoardBatch)) → v.star ≡ w.star → (first_up board_batches v i l us).reply ≡ (first_up board_batches w i l us).reply
 up_alike w v i l [] e = refl
-up_alike w v i l (up ∷ us) e = (λ j. (up_outcome board_operations v i l up (up_fault board_operations (e j) l up)).reply) ∙ cases (up_fault board_operations w.star l up)
+up_alike w v i l (up ∷ us) e = (λ j. (up_outcome board_batches v i l up (up_fault board_batches (e j) l up)).reply) ∙ cases (up_fault board_batches w.star l up)
   where
-    cases : (f : Option StarFault) → (up_outcome board_operations v i l up f).reply ≡ (up_outcome board_operations w i l up f).reply
-    cases None = (λ j. place_reply board_operations (place_taken board_operations (e j) up))
+    cases : (f : Option StarFault) → (up_outcome board_batches v i l up f).reply ≡ (up_outcome board_batches w i l up f).reply
+    cases None = (λ j. place_reply board_batches (place_taken board_batches (e j) up))
     cases (Some fault) = refl
 
-down_alike : (w v : BoardWorld) (i : ℕ) (a : BoardAttached) (ds os : List (Down BoardOp)) → (first_down board_operations v i a ds os).reply ≡ (first_down board_operations w i a ds os).reply
-down_alike w v i a (d ∷ ds) os = cases (deliver_fault board_operations d a.site)
+down_alike : (w v : BoardWorld) (i : ℕ) (a : BoardAttached) (ds os : List (Down BoardBatch)) → (first_down board_batches v i a ds os).reply ≡ (first_down board_batches w i a ds os).reply
+down_alike w v i a (d ∷ ds) os = cases (deliver_fault board_batches d a.site)
   where
-    cases : (f : Option SiteFault) → (down_outcome board_operations v i 0 d ds f).reply ≡ (down_outcome board_operations w i 0 d ds f).reply
+    cases : (f : Option SiteFault) → (down_outcome board_batches v i 0 d ds f).reply ≡ (down_outcome board_batches w i 0 d ds f).reply
     cases None = refl
     cases (Some fault) = refl
-down_alike w v i a [] (d ∷ os) = cases (deliver_fault board_operations d a.site)
+down_alike w v i a [] (d ∷ os) = cases (deliver_fault board_batches d a.site)
   where
-    cases : (f : Option SiteFault) → (down_outcome board_operations v i 1 d [] f).reply ≡ (down_outcome board_operations w i 1 d [] f).reply
+    cases : (f : Option SiteFault) → (down_outcome board_batches v i 1 d [] f).reply ≡ (down_outcome board_batches w i 1 d [] f).reply
     cases None = refl
     cases (Some fault) = refl
 down_alike w v i a [] [] = refl
 
-at_alike : (w v : BoardWorld) (i : ℕ) (f g : BoardLink → BoardAttached → Outcome board_operations) → v.star ≡ w.star → v.sites ≡ w.sites → ((l : BoardLink) (a : BoardAttached) → (f l a).reply ≡ (g l a).reply)
-    → (at_number board_operations v i f).reply ≡ (at_number board_operations w i g).reply
-at_alike w v i f g e p same = (λ j. (at_linked board_operations v i f (link_of i (e j).links)).reply) ∙ linked (link_of i w.star.links)
+at_alike : (w v : BoardWorld) (i : ℕ) (f g : BoardLink → BoardAttached → Outcome board_batches) → v.star ≡ w.star → v.sites ≡ w.sites → ((l : BoardLink) (a : BoardAttached) → (f l a).reply ≡ (g l a).reply)
+    → (at_number board_batches v i f).reply ≡ (at_number board_batches w i g).reply
+at_alike w v i f g e p same = (λ j. (at_linked board_batches v i f (link_of i (e j).links)).reply) ∙ linked (link_of i w.star.links)
   where
-    there : (l : BoardLink) (oa : Option BoardAttached) → (at_attached board_operations v l f oa).reply ≡ (at_attached board_operations w l g oa).reply
+    there : (l : BoardLink) (oa : Option BoardAttached) → (at_attached board_batches v l f oa).reply ≡ (at_attached board_batches w l g oa).reply
     there l None = refl
     there l (Some a) = same l a
 
-    linked : (ol : Option BoardLink) → (at_linked board_operations v i f ol).reply ≡ (at_linked board_operations w i g ol).reply
+    linked : (ol : Option BoardLink) → (at_linked board_batches v i f ol).reply ≡ (at_linked board_batches w i g ol).reply
     linked None = refl
-    linked (Some l) = (λ j. (at_attached board_operations v l f (attached i (p j))).reply) ∙ there l (attached i w.sites)
+    linked (Some l) = (λ j. (at_attached board_batches v l f (attached i (p j))).reply) ∙ there l (attached i w.sites)
 
-pub alike : (w v : BoardWorld) (way : Way) (i : ℕ) → v.star ≡ w.star → v.sites ≡ w.sites → (outcome board_operations v (way_event way i)).reply ≡ (outcome board_operations w (way_event way i)).reply
+pub alike : (w v : BoardWorld) (way : Way) (i : ℕ) → v.star ≡ w.star → v.sites ≡ w.sites → (outcome board_batches v (way_event way i)).reply ≡ (outcome board_batches w (way_event way i)).reply
 alike w v WayUp i e p = at_alike w v i _ _ e p (λ l a. up_alike w v i l a.up e)
 alike w v WayDown i e p = at_alike w v i _ _ e p (λ l a. down_alike w v i a a.down l.outbox)
 
@@ -197,9 +196,9 @@ way_delivers WayDown i = tt
 
 -- a round in which nothing moved leaves a quiet world
 pub round_quiet : (w v u : LaneWorld) → IsWorld (messages_of u) → Settles false w v → Settles false v u → NothingMoves WayUp (messages_of w) → NothingMoves WayDown (messages_of v)
-    → IsQuiet board_operations (messages_of u)
+    → IsQuiet board_batches (messages_of u)
 round_quiet w v u is one two up down =
-    nothing_quiet board_operations board_laws most_items (messages_of u) is.board.sound
+    nothing_quiet board_batches batch_laws most_batches (messages_of u) is.board.sound
     (λ i a found. (
       moves_none (messages_of u) (messages_of w) WayUp i (sym (two.same_star refl ∙ one.same_star refl)) (sym (two.same_sites refl ∙ one.same_sites refl)) (up i) a found,
       moves_none (messages_of u) (messages_of v) WayDown i (sym (two.same_star refl)) (sym (two.same_sites refl)) (down i) a found,
@@ -208,10 +207,10 @@ round_quiet w v u is one two up down =
 pub keeps_delivered : (w v : LaneWorld) → IsLaneWorld w → IsDelivered w v → IsLaneWorld v
 keeps_delivered w v is some = steps_keep (map (λ e. Plain e) some.events) w v is some.steps
 
-order_delivered : (w v : LaneWorld) → IsLaneWorld w → IsDelivered w v → OrderIsKept board_operations (messages_of w) (messages_of v)
+order_delivered : (w v : LaneWorld) → IsLaneWorld w → IsDelivered w v → OrderIsKept board_batches (messages_of w) (messages_of v)
 order_delivered w v is some = steps_order (map (λ e. Plain e) some.events) w v is some.steps
 
-order_in_part : (w v : LaneWorld) → IsLaneWorld w → IsDeliveredInPart w v → OrderIsKept board_operations (messages_of w) (messages_of v)
+order_in_part : (w v : LaneWorld) → IsLaneWorld w → IsDeliveredInPart w v → OrderIsKept board_batches (messages_of w) (messages_of v)
 order_in_part w v is some =
     spared_order (map (λ e. Plain e) some.delivered.events) w some.between v (Plain some.event) is some.delivered.steps (keeps_delivered w some.between is some.delivered).world some.spared
 
@@ -315,17 +314,17 @@ settles_last one two w v u p q none = subst (λ b. Settles b w u) (same one two 
 
 -- # Order kept, whatever the answer
 
-pub order_drained : (w v : LaneWorld) (r : Result (Unit {0}) NoMemory) → IsLaneWorld w → OnOk r (IsDelivered w v) → OnErr r (IsDeliveredInPart w v) → OrderIsKept board_operations (messages_of w) (messages_of v)
+pub order_drained : (w v : LaneWorld) (r : Result (Unit {0}) NoMemory) → IsLaneWorld w → OnOk r (IsDelivered w v) → OnErr r (IsDeliveredInPart w v) → OrderIsKept board_batches (messages_of w) (messages_of v)
 order_drained w v (Ok x) is delivered part = order_delivered w v is delivered
 order_drained w v (Err fault) is delivered part = order_in_part w v is part
 
 -- a world in which no message is on its way has no byte there
-pub still_drained : (w v : LaneWorld) (r : Result (Unit {0}) NoMemory) → IsLaneWorld w → OnOk r (IsDelivered w v) → OnOk r (IsQuiet board_operations (messages_of v)) → OnOk r (IsStill v)
+pub still_drained : (w v : LaneWorld) (r : Result (Unit {0}) NoMemory) → IsLaneWorld w → OnOk r (IsDelivered w v) → OnOk r (IsQuiet board_batches (messages_of v)) → OnOk r (IsStill v)
 still_drained w v (Ok x) is delivered quiet = (still_quiet v (keeps_delivered w v is delivered).carry).1 quiet
 still_drained w v (Err fault) is delivered quiet = tt
 
 pub order_played : (w v : LaneWorld) (events : List LaneEvent) (r : Result (Unit {0}) Halted) → IsLaneWorld w → OnOk r (AllSteps w events v)
-    → IfErr r (λ halted. IsHalted w events halted.done v) → OrderIsKept board_operations (messages_of w) (messages_of v)
+    → IfErr r (λ halted. IsHalted w events halted.done v) → OrderIsKept board_batches (messages_of w) (messages_of v)
 order_played w v events (Ok x) is played halted = steps_order events w v is played
 order_played w v events (Err fault) is played halted =
     spared_order (take fault.done events) w halted.between v halted.event is halted.steps (steps_keep (take fault.done events) w halted.between is halted.steps).world halted.spared

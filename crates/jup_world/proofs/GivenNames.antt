@@ -1,5 +1,5 @@
 -- No item of the star's board has the number of a site that was not given one.
-use Rattle.std.proofs.Common.{◌≡◌, refl, ℕ, zero, suc, ◌<◌, Bool, true, false, ◌&&◌, ◌==◌, cond, List, [], ◌∷◌, ◌++◌, take, drop, insert, remove, arith, eqb-true, eq-eqb, ne_eqb}
+use Rattle.std.proofs.Common.{◌≡◌, refl, ℕ, zero, suc, ◌<◌, Bool, true, false, ◌&&◌, ◌==◌, cond, List, [], ◌∷◌, ◌++◌, take, drop, insert, remove, arith, eqb-true, eq-eqb, ne_eqb, inl, inr}
 use Rattle.std.specs.List.{list_any, list_all}
 use Rattle.std.proofs.lemmas.Bool.{or_parts, or_from, and_from, and_parts}
 use Rattle.jup_value.specs.declared.names.Name.{Name}
@@ -15,6 +15,8 @@ use Rattle.jup_window.specs.Entries.{change_at}
 use Rattle.jup_window.specs.Widgets as widget
 use Rattle.jup_window.specs.Effects as effects
 use Rattle.jup_window.specs.Boards as board
+use Rattle.jup_batch.specs.BatchBoards as batch
+use Rattle.jup_batch.specs.BatchBoards.{BoardBatch}
 use Rattle.jup_window.specs.Sites.{some_in_widget, every_in_widget, some_in_window, every_in_window, has_site, only_site}
 
 -- # Items
@@ -89,7 +91,7 @@ none_change {A = A} p f k keeps (e ∷ es) none = step (e.0 == k) (or_parts (p e
     step true both rest = or_from (p (f e.1)) (list_any (λ x. p x.1) es) (keeps e.1 both.0) both.1
     step false both rest = or_from (p e.1) (list_any (λ x. p x.1) (change_at k f es)) both.0 rest
 
-pub board_none : (i : ℕ) (o : BoardOp) (b : board.Windows) → ((n : board.Placed) → board.Inserts (board.edit_of o) n → n.name.site ≡ i → ⊥) → has_site i b ≡ false → has_site i (board.after o b) ≡ false
+board_none : (i : ℕ) (o : BoardOp) (b : board.Windows) → ((n : board.Placed) → board.Inserts (board.edit_of o) n → n.name.site ≡ i → ⊥) → has_site i b ≡ false → has_site i (board.after o b) ≡ false
 board_none i o b other none =
     none_change (some_in_window i) (λ ws. change_at o.wid (widget.after o.op) ws) o.win (λ ws. none_change (some_in_widget i) (widget.after o.op) o.wid (λ w. widget_none i o.op w inserted) ws) b none
   where
@@ -98,6 +100,13 @@ board_none i o b other none =
 
     inserted : (n : Name) → effects.inserts n (effects.effect_of o.op) ≡ true → n.site ≡ i → ⊥
     inserted n put is = other (record { at = (o.win, o.wid); name = n }) (rw here put) is
+
+-- and so do those of a batch
+pub batch_none : (i : ℕ) (os : BoardBatch) (b : board.Windows) → ((n : board.Placed) → batch.Inserts (batch.edit_of os) n → n.name.site ≡ i → ⊥) → has_site i b ≡ false
+    → has_site i (batch.after os b) ≡ false
+batch_none i [] b other none = none
+batch_none i (o ∷ os) b other none =
+    batch_none i os (board.after o b) (λ n put own. other n (inr put) own) (board_none i o b (λ n put own. other n (inl put) own) none)
 
 -- # Layouts
 

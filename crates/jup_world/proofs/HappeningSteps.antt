@@ -2,11 +2,9 @@
 use Rattle.std.proofs.Common.{◌≡◌, refl, sym, ◌∙◌, ap, subst, inl, inr, ℕ, ◌++◌, Bool, true, false, List, [], ◌∷◌, map, get_or, take, drop, Some, is_some, Result, Ok, Err, IfOk, OnOk, OnErr, eqb-true, cond}
 use Rattle.std.proofs.Math.ListN.{set}
 use Rattle.jup_xform.specs.declared.NoMemory.{NoMemory}
-use Rattle.jup_window.specs.declared.board_operations.BoardOp.{BoardOp}
-use Rattle.jup_window.specs.declared.commands.Command.{Command}
-use Rattle.jup_window.specs.declared.edits.Edit.{Edit}
 use Rattle.jup_window.specs.declared.faults.EditFault.{EditFault}
-use Rattle.jup_window.specs.BoardOperations.{board_operations}
+use Rattle.jup_batch.specs.BoardBatches.{board_batches}
+use Rattle.jup_batch.specs.BatchBoards.{BoardBatch, BoardEdits, Commands}
 use Rattle.jup_star.specs.declared.messages.Up.{Up}
 use Rattle.jup_star.specs.declared.messages.Down.{Down}
 use Rattle.jup_star.specs.declared.faults.StarFault.{StarFault}
@@ -63,43 +61,43 @@ module _ (s : BoardStar) (sites : List Attached) (ready : AreReady s (map bare_a
   unchanged new made = same_set sites at e new (made ∙ ap bare_attached value)
 
   -- an edit
-  pub edit_plays : (command : Command) (r : Result (Reply Edit EditFault) NoMemory) (new : Attached)
-      → IfOk r (λ reply. numbered_reply reply ≡ edit_reply board_operations (edit_answer board_operations command e.site))
-      → OnOk r (bare_attached new ≡ with_answer (edit_answer board_operations command e.site) (bare_attached e))
+  pub edit_plays : (command : Commands) (r : Result (Reply BoardEdits EditFault) NoMemory) (new : Attached)
+      → IfOk r (λ reply. numbered_reply reply ≡ edit_reply board_batches (edit_answer board_batches command e.site))
+      → OnOk r (bare_attached new ≡ with_answer (edit_answer board_batches command e.site) (bare_attached e))
       → IfOk r (λ reply. Plays (MakeEdit i command) s (map bare_attached sites) (numbered_reply reply) s (map bare_attached (set sites at new)))
   edit_plays command (Ok reply) new is made =
       let l = some_link (link_of i s.links) linked in
-      plays_edit s s (map bare_attached sites) _ i command (numbered_reply reply) l.0 (bare_attached e) l.1 found is refl (changed (with_answer (edit_answer board_operations command e.site)) new made)
+      plays_edit s s (map bare_attached sites) _ i command (numbered_reply reply) l.0 (bare_attached e) l.1 found is refl (changed (with_answer (edit_answer board_batches command e.site)) new made)
   edit_plays command (Err fault) new is made = tt
 
-  pub stays : (r : Result (Reply Edit EditFault) NoMemory) (new : Attached) → OnErr r (bare_attached new ≡ bare_attached e) → OnErr r (map bare_attached (set sites at new) ≡ map bare_attached sites)
+  pub stays : (r : Result (Reply BoardEdits EditFault) NoMemory) (new : Attached) → OnErr r (bare_attached new ≡ bare_attached e) → OnErr r (map bare_attached (set sites at new) ≡ map bare_attached sites)
   stays (Ok reply) new same = tt
   stays (Err fault) new same = unchanged new same
 
   -- a ping
-  pub ping_plays : (k : ℕ) (new : Attached) → bare_attached new ≡ pinged board_operations k (bare_attached e) → Plays (SendPing i k) s (map bare_attached sites) Asked s (map bare_attached (set sites at new))
+  pub ping_plays : (k : ℕ) (new : Attached) → bare_attached new ≡ pinged board_batches k (bare_attached e) → Plays (SendPing i k) s (map bare_attached sites) Asked s (map bare_attached (set sites at new))
   ping_plays k new made =
       let l = some_link (link_of i s.links) linked in
-      plays_ping s s (map bare_attached sites) _ i k l.0 (bare_attached e) l.1 found refl (changed (pinged board_operations k) new made)
+      plays_ping s s (map bare_attached sites) _ i k l.0 (bare_attached e) l.1 found refl (changed (pinged board_batches k) new made)
 
   -- messages up
-  pub up_plays : (t : BoardStar) (reply : Reply Edit EditFault) (new : Attached) → Rises e.site.number (messages ups e.up.way) s t (numbered_reply reply) → bare_attached new ≡ one_taken board_operations (bare_attached e)
+  pub up_plays : (t : BoardStar) (reply : Reply BoardEdits EditFault) (new : Attached) → Rises e.site.number (messages ups e.up.way) s t (numbered_reply reply) → bare_attached new ≡ one_taken board_batches (bare_attached e)
       → Plays (MoveUp i) s (map bare_attached sites) (numbered_reply reply) t (map bare_attached (set sites at new))
   up_plays t reply new rises made = cases (messages ups e.up.way) refl (subst (λ n. Rises n (messages ups e.up.way) s t (numbered_reply reply)) number rises)
     where
       l : (k : BoardLink) × (link_of i s.links ≡ Some k)
       l = some_link (link_of i s.links) linked
 
-      none_taken : (messages ups e.up.way) ≡ [] → one_taken board_operations (bare_attached e) ≡ bare_attached e
+      none_taken : (messages ups e.up.way) ≡ [] → one_taken board_batches (bare_attached e) ≡ bare_attached e
       none_taken empty = λ j. record { site = e.site; up = (ap (drop 1) empty ∙ sym empty) j; down = (messages downs e.down.way) }
 
-      cases : (us : List (Up BoardOp)) → (messages ups e.up.way) ≡ us → Rises i us s t (numbered_reply reply) → Plays (MoveUp i) s (map bare_attached sites) (numbered_reply reply) t (map bare_attached (set sites at new))
+      cases : (us : List (Up BoardBatch)) → (messages ups e.up.way) ≡ us → Rises i us s t (numbered_reply reply) → Plays (MoveUp i) s (map bare_attached sites) (numbered_reply reply) t (map bare_attached (set sites at new))
       cases [] empty told =
           subst (λ r. Plays (MoveUp i) s (map bare_attached sites) r t (map bare_attached (set sites at new))) (sym told.0)
           (plays_no_up s t (map bare_attached sites) _ i l.0 (bare_attached e) l.1 found empty told.1 (unchanged new (made ∙ none_taken empty)))
       cases (up ∷ ups) first told =
           subst (λ r. Plays (MoveUp i) s (map bare_attached sites) r t (map bare_attached (set sites at new))) (sym told.1)
-          (plays_taken s t (map bare_attached sites) _ i l.0 (bare_attached e) up ups told.0 l.1 found first (take_taken i up s t l.0 told.0 l.1 told.2) (changed (one_taken board_operations) new made))
+          (plays_taken s t (map bare_attached sites) _ i l.0 (bare_attached e) up ups told.0 l.1 found first (take_taken i up s t l.0 told.0 l.1 told.2) (changed (one_taken board_batches) new made))
 
   pub refused_plays : (t : BoardStar) (fault refusal : StarFault) (new : Attached) (next : List BoardAttached) → IsRefused e.site.number (messages ups e.up.way) s t fault → is_no_memory fault ≡ false → refusal ≡ fault
       → bare_attached new ≡ bare_attached e → next ≡ without_site i (map bare_attached (set sites at new)) → Plays (MoveUp i) s (map bare_attached sites) (Detached refusal) t next
@@ -108,7 +106,7 @@ module _ (s : BoardStar) (sites : List Attached) (ready : AreReady s (map bare_a
       l : (k : BoardLink) × (link_of i s.links ≡ Some k)
       l = some_link (link_of i s.links) linked
 
-      cases : (us : List (Up BoardOp)) → (messages ups e.up.way) ≡ us → IsRefused i us s t fault → Plays (MoveUp i) s (map bare_attached sites) (Detached refusal) t next
+      cases : (us : List (Up BoardBatch)) → (messages ups e.up.way) ≡ us → IsRefused i us s t fault → Plays (MoveUp i) s (map bare_attached sites) (Detached refusal) t next
       cases [] empty told = absurd told
       cases (up ∷ ups) first told =
           plays_detached s t (map bare_attached sites) next i l.0 (bare_attached e) up ups fault refusal l.1 found first (take_refused i up s t l.0 fault other l.1 told) same (gone ∙ ap (without_site i) (unchanged new made))
@@ -117,7 +115,7 @@ module _ (s : BoardStar) (sites : List Attached) (ready : AreReady s (map bare_a
   pub refused_same : (t : BoardStar) (fault : StarFault) → IsRefused e.site.number (messages ups e.up.way) s t fault → is_no_memory fault ≡ true → t ≡ s
   refused_same t fault refused memory = cases (messages ups e.up.way) refused
     where
-      cases : (us : List (Up BoardOp)) → IsRefused e.site.number us s t fault → t ≡ s
+      cases : (us : List (Up BoardBatch)) → IsRefused e.site.number us s t fault → t ≡ s
       cases [] told = absurd told
       cases (up ∷ more) told = take_wanted e.site.number up s t fault memory told
 
@@ -128,12 +126,12 @@ module _ (s : BoardStar) (sites : List Attached) (ready : AreReady s (map bare_a
       link : link_of i s.links ≡ Some l
       link = ap (λ n. link_of n s.links) (sym number) ∙ there
 
-      cases : (ds os : List (Down BoardOp)) → (messages downs e.down.way) ≡ ds → l.outbox ≡ os → FitsFirst (refilled_from ds os) e.site
+      cases : (ds os : List (Down BoardBatch)) → (messages downs e.down.way) ≡ ds → l.outbox ≡ os → FitsFirst (refilled_from ds os) e.site
       cases [] [] p q = tt
-      cases [] (d ∷ os) p q = ready.fits i l (bare_attached e) d os link found (ap (λ (ds : List (Down BoardOp)). ds ++ l.outbox) p ∙ q)
-      cases (d ∷ ds) os p q = ready.fits i l (bare_attached e) d (ds ++ l.outbox) link found (ap (λ (xs : List (Down BoardOp)). xs ++ l.outbox) p)
+      cases [] (d ∷ os) p q = ready.fits i l (bare_attached e) d os link found (ap (λ (ds : List (Down BoardBatch)). ds ++ l.outbox) p ∙ q)
+      cases (d ∷ ds) os p q = ready.fits i l (bare_attached e) d (ds ++ l.outbox) link found (ap (λ (xs : List (Down BoardBatch)). xs ++ l.outbox) p)
 
-  pub down_plays : (t : BoardStar) (r : Result (Reply Edit EditFault) NoMemory) (new : Attached)
+  pub down_plays : (t : BoardStar) (r : Result (Reply BoardEdits EditFault) NoMemory) (new : Attached)
       → IfOk r (λ reply. (l : BoardLink) → link_of e.site.number s.links ≡ Some l → numbered_reply reply ≡ first_reply (refilled l (bare_attached e)))
       → OnOk r ((l : BoardLink) → link_of e.site.number s.links ≡ Some l → bare_attached new ≡ handed (refilled l (bare_attached e)))
       → OnOk r ((l : BoardLink) → link_of e.site.number s.links ≡ Some l → t ≡ refilled_star l (bare_attached e) s)
@@ -145,7 +143,7 @@ module _ (s : BoardStar) (sites : List Attached) (ready : AreReady s (map bare_a
       (changed (λ b. handed_as (messages downs e.down.way) l.0.outbox b) new (site l.0 l.1 ∙ handed_site l.0 (bare_attached e)))
   down_plays t (Err fault) new is site star = tt
 
-  pub down_spared : (t : BoardStar) (r : Result (Reply Edit EditFault) NoMemory) (new : Attached) (l : BoardLink) → link_of i s.links ≡ Some l
+  pub down_spared : (t : BoardStar) (r : Result (Reply BoardEdits EditFault) NoMemory) (new : Attached) (l : BoardLink) → link_of i s.links ≡ Some l
       → OnErr r ((k : BoardLink) → link_of e.site.number s.links ≡ Some k → SparesAt k (bare_attached e) s (bare_attached new) t)
       → OnErr r (Spares i l s (map bare_attached sites) t (map bare_attached (set sites at new)))
   down_spared t (Ok reply) new l link spared = tt
@@ -154,7 +152,7 @@ module _ (s : BoardStar) (sites : List Attached) (ready : AreReady s (map bare_a
       there : link_of e.site.number s.links ≡ Some l
       there = ap (λ n. link_of n s.links) number ∙ link
 
-      ds : List (Down BoardOp)
+      ds : List (Down BoardBatch)
       ds = messages downs e.down.way
 
       same_star : ds ≡ [] → l.outbox ≡ [] → refilled_star l (bare_attached e) s ≡ s
@@ -164,20 +162,20 @@ module _ (s : BoardStar) (sites : List Attached) (ready : AreReady s (map bare_a
       same_down p q = (λ j. refilled_from (p j) (q j)) ∙ sym p
 
       taken_down : ds ≡ [] → refilled_from ds l.outbox ≡ ds ++ take 1 l.outbox
-      taken_down p = ap (λ (xs : List (Down BoardOp)). refilled_from xs l.outbox) p ∙ ap (λ (xs : List (Down BoardOp)). xs ++ take 1 l.outbox) (sym p)
+      taken_down p = ap (λ (xs : List (Down BoardBatch)). refilled_from xs l.outbox) p ∙ ap (λ (xs : List (Down BoardBatch)). xs ++ take 1 l.outbox) (sym p)
 
       -- either nothing could be fetched, or a message was
-      fetched_too : (xs os : List (Down BoardOp)) → ds ≡ xs → l.outbox ≡ os → bare_attached new ≡ refilled l (bare_attached e) → t ≡ refilled_star l (bare_attached e) s
+      fetched_too : (xs os : List (Down BoardBatch)) → ds ≡ xs → l.outbox ≡ os → bare_attached new ≡ refilled l (bare_attached e) → t ≡ refilled_star l (bare_attached e) s
           → Spares i l s (map bare_attached sites) t (map bare_attached (set sites at new))
       fetched_too [] [] p q site star =
           inl (star ∙ same_star p q, unchanged new (site ∙ (λ j. record { site = e.site; up = messages ups e.up.way; down = same_down p q j })))
       fetched_too [] (d ∷ os) p q site star =
           inr (
             star ∙ (λ j. fetched_for e.site.number (p j) (q j) s) ∙ ap (λ n. fetched n 1 s) number,
-            changed (with_fetched board_operations 1 l) new (site ∙ (λ j. record { site = e.site; up = messages ups e.up.way; down = taken_down p j })),
+            changed (with_fetched board_batches 1 l) new (site ∙ (λ j. record { site = e.site; up = messages ups e.up.way; down = taken_down p j })),
           )
       fetched_too (d ∷ xs) os p q site star =
-          inl (star ∙ (λ j. fetched_for e.site.number (p j) l.outbox s), unchanged new (site ∙ (λ j. record { site = e.site; up = messages ups e.up.way; down = (ap (λ (xs : List (Down BoardOp)). refilled_from xs l.outbox) p ∙ sym p) j })))
+          inl (star ∙ (λ j. fetched_for e.site.number (p j) l.outbox s), unchanged new (site ∙ (λ j. record { site = e.site; up = messages ups e.up.way; down = (ap (λ (xs : List (Down BoardBatch)). refilled_from xs l.outbox) p ∙ sym p) j })))
 
       choose : SparesAt l (bare_attached e) s (bare_attached new) t → Spares i l s (map bare_attached sites) t (map bare_attached (set sites at new))
       choose (inl same) = inl (same.1, unchanged new same.0)

@@ -2,11 +2,9 @@
 use Rattle.std.proofs.Common.{◌≡◌, ◌⊎◌, refl, sym, ◌∙◌, ap, subst, inl, inr, ℕ, zero, suc, ◌+◌, ◌-◌, min, Bool, true, false, List, [], ◌∷◌, ◌++◌, length, map, get_or, nat_eq, Option, Some, None, option_map, Result, Ok, Err, IfOk, OnOk, OnErr, arith, eq-eqb, eqb-true}
 use Rattle.std.proofs.Math.ListN.{set}
 use Rattle.jup_xform.specs.declared.NoMemory.{NoMemory}
-use Rattle.jup_window.specs.declared.board_operations.BoardOp.{BoardOp}
-use Rattle.jup_window.specs.declared.commands.Command.{Command}
-use Rattle.jup_window.specs.declared.edits.Edit.{Edit}
 use Rattle.jup_window.specs.declared.faults.EditFault.{EditFault}
-use Rattle.jup_window.specs.BoardOperations.{board_operations}
+use Rattle.jup_batch.specs.BoardBatches.{board_batches}
+use Rattle.jup_batch.specs.BatchBoards.{BoardBatch, BoardEdits, Commands}
 use Rattle.jup_star.specs.declared.messages.Down.{Down}
 use Rattle.jup_star.specs.declared.messages.Down.TheVariants.{Op as DownOp, Ack as DownAck, Pong as DownPong}
 use Rattle.jup_star.specs.StarStates.{link_of, fetched}
@@ -41,9 +39,9 @@ use Rattle.jup_world.proofs.LaneSites.{bare_map, set_found, end_found, carry_set
 pub plain_plays : (e : BoardEvent) (star t : BoardStar) (sites next : List Attached) (reply : BoardReply) → Plays e star (map bare_attached sites) reply t (map bare_attached next)
     → LanePlays (Plain e) star (map lane_of sites) reply t (map bare_attached next)
 plain_plays e star t sites next reply plays opening trace =
-    ap (λ (xs : List BoardAttached). outcome board_operations (record { opening = opening; star = star; sites = xs; trace = plain_trace trace }) e) (bare_map sites) ∙ plays opening (plain_trace trace)
+    ap (λ (xs : List BoardAttached). outcome board_batches (record { opening = opening; star = star; sites = xs; trace = plain_trace trace }) e) (bare_map sites) ∙ plays opening (plain_trace trace)
 
-pub plain_result : (e : BoardEvent) (star t : BoardStar) (sites next : List Attached) (r : Result (Reply Edit EditFault) NoMemory)
+pub plain_result : (e : BoardEvent) (star t : BoardStar) (sites next : List Attached) (r : Result (Reply BoardEdits EditFault) NoMemory)
     → IfOk r (λ reply. Plays e star (map bare_attached sites) (numbered_reply reply) t (map bare_attached next))
     → IfOk r (λ reply. LanePlays (Plain e) star (map lane_of sites) (numbered_reply reply) t (map bare_attached next))
 plain_result e star t sites next (Ok reply) plays = plain_plays e star t sites next (numbered_reply reply) plays
@@ -137,17 +135,17 @@ without_set i (a ∷ later) zero new place is = rw (is, place) refl
 without_set i (a ∷ later) (suc at) new place is = rw place.0 (ap (λ (xs : List LaneSite). lane_of a ∷ xs) (without_set i later at new place.1 is))
 
 -- a site keeps its number
-answer_number : (r : Result BoardOp ℕ) (a : BoardAttached) → (with_answer r a).site.number ≡ a.site.number
+answer_number : (r : Result BoardBatch ℕ) (a : BoardAttached) → (with_answer r a).site.number ≡ a.site.number
 answer_number (Ok op) a = refl
 answer_number (Err n) a = refl
 
-handed_number : (ds : List (Down BoardOp)) (a : BoardAttached) → (handed_first ds a).site.number ≡ a.site.number
+handed_number : (ds : List (Down BoardBatch)) (a : BoardAttached) → (handed_first ds a).site.number ≡ a.site.number
 handed_number [] a = refl
 handed_number (DownOp m ∷ ds) a = refl
 handed_number (DownAck n ∷ ds) a = refl
 handed_number (DownPong k ∷ ds) a = refl
 
-filled_number : (stream : List ℕ) (l : BoardLink) (os : List (Down BoardOp)) (a : BoardAttached) → (filled_messages stream l os a).site.number ≡ a.site.number
+filled_number : (stream : List ℕ) (l : BoardLink) (os : List (Down BoardBatch)) (a : BoardAttached) → (filled_messages stream l os a).site.number ≡ a.site.number
 filled_number [] l [] a = refl
 filled_number [] l (d ∷ os) a = refl
 filled_number (b ∷ stream) l os a = refl
@@ -217,10 +215,10 @@ module _ (s : BoardStar) (sites : List Attached) (ready : AreReady s (map bare_a
       fetched_cases : Spares i l s (map bare_attached sites) t (map bare_attached (set sites at new))
           → ((t ≡ s) × (map bare_site (map lane_of (set sites at new)) ≡ map bare_site (map lane_of sites)))
           ⊎ ((k : ℕ) × (m : BoardLink) × (a : LaneSite) × TouchesDown event k × (link_of k s.links ≡ Some m) × (lane_site k (map lane_of sites) ≡ Some a)
-          × (t ≡ fetched k 1 s) × (map bare_site (map lane_of (set sites at new)) ≡ at_site k (with_fetched board_operations 1 m) (map bare_site (map lane_of sites))))
+          × (t ≡ fetched k 1 s) × (map bare_site (map lane_of (set sites at new)) ≡ at_site k (with_fetched board_batches 1 m) (map bare_site (map lane_of sites))))
       fetched_cases (inl same) = inl (same.0, bare_map (set sites at new) ∙ same.1 ∙ sym (bare_map sites))
       fetched_cases (inr f) =
-          inr (i, l, lane_of e, touches, link, there, f.0, bare_map (set sites at new) ∙ f.1 ∙ ap (λ (xs : List BoardAttached). at_site i (with_fetched board_operations 1 l) xs) (sym (bare_map sites)))
+          inr (i, l, lane_of e, touches, link, there, f.0, bare_map (set sites at new) ∙ f.1 ∙ ap (λ (xs : List BoardAttached). at_site i (with_fetched board_batches 1 l) xs) (sym (bare_map sites)))
 
       up_cases : (j : ℕ) (a b : LaneSite) → ((i ≡ j) × (a ≡ lane_of (get_or sites at e)) × (b ≡ lane_of new)) ⊎ ((nat_eq i j ≡ false) × (b ≡ a)) → b.up ≡ a.up
       up_cases j a b (inl here) = ap (λ (x : LaneSite). x.up) here.2 ∙ rests.up ∙ ap (λ (x : LaneSite). x.up) (ap lane_of value ∙ sym here.1)
@@ -255,7 +253,7 @@ module _ (s : BoardStar) (sites : List Attached) (ready : AreReady s (map bare_a
       → reply ≡ push_reply (min n (length (filled_stream e.down.way.stream l.outbox))) → bare_attached new ≡ with_filled e.down.way.stream l (bare_attached e)
       → t ≡ star_filled i e.down.way.stream l.outbox s → LanePlays (PushDown i n) s (map lane_of sites) reply t (map bare_attached (set sites at new))
   push_down_plays n t reply new l link is made star opening trace =
-      (λ k. unchanged_world board_operations (filled_for m i (link k) (there k)) (push_reply (min n (length (there_down (link k) (there k))))))
+      (λ k. unchanged_world board_batches (filled_for m i (link k) (there k)) (push_reply (min n (length (there_down (link k) (there k))))))
       ∙ cases e.down.way.stream l.outbox made star is
     where
       m : BoardWorld
@@ -264,15 +262,15 @@ module _ (s : BoardStar) (sites : List Attached) (ready : AreReady s (map bare_a
       stays : bare_attached new ≡ bare_attached e → map bare_site (map lane_of sites) ≡ map bare_attached (set sites at new)
       stays same = bare_map sites ∙ sym (unchanged s sites ready i at e place value new same)
 
-      cases : (stream : List ℕ) (os : List (Down BoardOp)) → bare_attached new ≡ filled_messages stream l os (bare_attached e) → t ≡ star_filled i stream os s
+      cases : (stream : List ℕ) (os : List (Down BoardBatch)) → bare_attached new ≡ filled_messages stream l os (bare_attached e) → t ≡ star_filled i stream os s
           → reply ≡ push_reply (min n (length (filled_stream stream os)))
-          → unchanged_world board_operations (filled_from m i l stream os) (push_reply (min n (length (filled_stream stream os))))
+          → unchanged_world board_batches (filled_from m i l stream os) (push_reply (min n (length (filled_stream stream os))))
           ≡ record { reply = reply; star = t; sites = map bare_attached (set sites at new) }
       cases [] [] same f r = λ k. record { reply = sym r k; star = sym f k; sites = stays same k }
       cases [] (d ∷ os) fetches f r = λ k. record {
         reply = sym r k;
         star = sym f k;
-        sites = (ap (λ (xs : List BoardAttached). at_site i (with_fetched board_operations 1 l) xs) (bare_map sites) ∙ sym (changed s sites ready i at e place value (with_fetched board_operations 1 l) new fetches)) k;
+        sites = (ap (λ (xs : List BoardAttached). at_site i (with_fetched board_batches 1 l) xs) (bare_map sites) ∙ sym (changed s sites ready i at e place value (with_fetched board_batches 1 l) new fetches)) k;
       }
       cases (b ∷ stream) os same f r = λ k. record { reply = sym r k; star = sym f k; sites = stays same k }
 
@@ -282,10 +280,10 @@ module _ (s : BoardStar) (sites : List Attached) (ready : AreReady s (map bare_a
   fills_spared t new l (inl same) = inl (same.1, unchanged s sites ready i at e place value new same.0)
   fills_spared t new l (inr more) = cases e.down.way.stream l.outbox more.0 (more.1 ∙ ap (λ k. star_filled k e.down.way.stream l.outbox s) (number s sites ready i at e place value))
     where
-      cases : (stream : List ℕ) (os : List (Down BoardOp)) → bare_attached new ≡ filled_messages stream l os (bare_attached e) → t ≡ star_filled i stream os s
+      cases : (stream : List ℕ) (os : List (Down BoardBatch)) → bare_attached new ≡ filled_messages stream l os (bare_attached e) → t ≡ star_filled i stream os s
           → Spares i l s (map bare_attached sites) t (map bare_attached (set sites at new))
       cases [] [] same f = inl (f, unchanged s sites ready i at e place value new same)
-      cases [] (d ∷ os) fetches f = inr (f, changed s sites ready i at e place value (with_fetched board_operations 1 l) new fetches)
+      cases [] (d ∷ os) fetches f = inr (f, changed s sites ready i at e place value (with_fetched board_batches 1 l) new fetches)
       cases (b ∷ stream) os same f = inl (f, unchanged s sites ready i at e place value new same)
 
   -- # What the calls of a site leave
@@ -300,22 +298,22 @@ module _ (s : BoardStar) (sites : List Attached) (ready : AreReady s (map bare_a
   only_link : (k : BoardLink) → link_of i s.links ≡ Some k → link.0 ≡ k
   only_link k there = let mine = link.1 in cc
 
-  pub same_result : (r : Result (Reply Edit EditFault) NoMemory) (new : Attached) → OnErr r (lane_of new ≡ lane_of e) → OnErr r (map lane_of (set sites at new) ≡ map lane_of sites)
+  pub same_result : (r : Result (Reply BoardEdits EditFault) NoMemory) (new : Attached) → OnErr r (lane_of new ≡ lane_of e) → OnErr r (map lane_of (set sites at new) ≡ map lane_of sites)
   same_result (Ok reply) new same = tt
   same_result (Err fault) new same = site_same new same
 
-  pub edit_read : (command : Command) (r : Result (Reply Edit EditFault) NoMemory) (new : Attached) → OnOk r (bare_attached new ≡ with_answer (edit_answer board_operations command e.site) (bare_attached e))
+  pub edit_read : (command : Commands) (r : Result (Reply BoardEdits EditFault) NoMemory) (new : Attached) → OnOk r (bare_attached new ≡ with_answer (edit_answer board_batches command e.site) (bare_attached e))
       → OnOk r (IsRead (lane_of e) (length e.up.way.read) (length e.down.way.read) (lane_of new)) → OnOk r (AreRead (Plain (MakeEdit i command)) s (map lane_of sites) (map lane_of (set sites at new)))
   edit_read command (Err fault) new made is = tt
   edit_read command (Ok reply) new made is =
-      site_read (Plain (MakeEdit i command)) new _ _ (ap (λ (a : BoardAttached). a.site.number) made ∙ answer_number (edit_answer board_operations command e.site) (bare_attached e)) is refl (λ l there. refl)
+      site_read (Plain (MakeEdit i command)) new _ _ (ap (λ (a : BoardAttached). a.site.number) made ∙ answer_number (edit_answer board_batches command e.site) (bare_attached e)) is refl (λ l there. refl)
       ((λ j a other. refl), (λ j l a other. refl))
 
-  pub up_read_at : (new : Attached) → bare_attached new ≡ one_taken board_operations (bare_attached e)
+  pub up_read_at : (new : Attached) → bare_attached new ≡ one_taken board_batches (bare_attached e)
       → IsRead (lane_of e) (length e.up.way.read - oldest_length ups (messages ups e.up.way)) (length e.down.way.read) (lane_of new) → AreRead (Plain (MoveUp i)) s (map lane_of sites) (map lane_of (set sites at new))
   up_read_at new made is = site_read (Plain (MoveUp i)) new _ _ (ap (λ (a : BoardAttached). a.site.number) made) is (rw (same_number i) refl) (λ l there. refl) (up_reads i)
 
-  pub down_read_at : (r : Result (Reply Edit EditFault) NoMemory) (new : Attached)
+  pub down_read_at : (r : Result (Reply BoardEdits EditFault) NoMemory) (new : Attached)
       → OnOk r ((l : BoardLink) → link_of e.site.number s.links ≡ Some l → bare_attached new ≡ handed (refilled l (bare_attached e)))
       → OnOk r ((l : BoardLink) → link_of e.site.number s.links ≡ Some l → IsRead (lane_of e) (length e.up.way.read) (length e.down.way.read - oldest_length downs (messages downs e.down.way ++ l.outbox)) (lane_of new))
       → OnOk r (AreRead (Plain (MoveDown i)) s (map lane_of sites) (map lane_of (set sites at new)))
@@ -326,7 +324,7 @@ module _ (s : BoardStar) (sites : List Attached) (ready : AreReady s (map bare_a
       (λ l there. rw (same_number i) (ap (λ (k : BoardLink). length e.down.way.read - oldest_length downs (messages downs e.down.way ++ k.outbox)) (only_link l there)))
       (down_reads i)
 
-  pub down_result : (t : BoardStar) (r : Result (Reply Edit EditFault) NoMemory) (new : Attached)
+  pub down_result : (t : BoardStar) (r : Result (Reply BoardEdits EditFault) NoMemory) (new : Attached)
       → OnErr r ((l : BoardLink) → link_of e.site.number s.links ≡ Some l → SparesAt l (bare_attached e) s (bare_attached new) t)
       → OnErr r ((l : BoardLink) → link_of e.site.number s.links ≡ Some l → RestsDown l (lane_of e) (lane_of new))
       → OnErr r (SitesRest (Plain (MoveDown i)) s (map lane_of sites) t (map lane_of (set sites at new)))
@@ -334,18 +332,18 @@ module _ (s : BoardStar) (sites : List Attached) (ready : AreReady s (map bare_a
   down_result t (Err fault) new spared moved =
       down_rests (Plain (MoveDown i)) t link.0 new refl link.1 (down_spared s sites ready i at e place value t (Err fault) new link.0 link.1 spared) (moved link.0 link_there)
 
-  pub push_up_result : (n : ℕ) (r : Result (Reply Edit EditFault) NoMemory) (new : Attached) → IfOk r (λ reply. numbered_reply reply ≡ push_reply (min n (length e.up.way.stream)))
+  pub push_up_result : (n : ℕ) (r : Result (Reply BoardEdits EditFault) NoMemory) (new : Attached) → IfOk r (λ reply. numbered_reply reply ≡ push_reply (min n (length e.up.way.stream)))
       → OnOk r (bare_attached new ≡ bare_attached e) → IfOk r (λ reply. LanePlays (PushUp i n) s (map lane_of sites) (numbered_reply reply) s (map bare_attached (set sites at new)))
   push_up_result n (Err fault) new is made = tt
   push_up_result n (Ok reply) new is made = push_up_plays n (numbered_reply reply) new is made
 
-  pub push_up_read_at : (n : ℕ) (r : Result (Reply Edit EditFault) NoMemory) (new : Attached) → OnOk r (bare_attached new ≡ bare_attached e)
+  pub push_up_read_at : (n : ℕ) (r : Result (Reply BoardEdits EditFault) NoMemory) (new : Attached) → OnOk r (bare_attached new ≡ bare_attached e)
       → OnOk r (IsRead (lane_of e) (length e.up.way.read + min n (length e.up.way.stream)) (length e.down.way.read) (lane_of new))
       → OnOk r (AreRead (PushUp i n) s (map lane_of sites) (map lane_of (set sites at new)))
   push_up_read_at n (Err fault) new made is = tt
   push_up_read_at n (Ok reply) new made is = site_read (PushUp i n) new _ _ (ap (λ (a : BoardAttached). a.site.number) made) is (rw (same_number i) refl) (λ l there. refl) (push_up_reads i n)
 
-  pub push_down_result : (n : ℕ) (t : BoardStar) (r : Result (Reply Edit EditFault) NoMemory) (new : Attached)
+  pub push_down_result : (n : ℕ) (t : BoardStar) (r : Result (Reply BoardEdits EditFault) NoMemory) (new : Attached)
       → IfOk r (λ reply. (l : BoardLink) → link_of e.site.number s.links ≡ Some l → numbered_reply reply ≡ push_reply (min n (length (filled_stream e.down.way.stream l.outbox))))
       → OnOk r ((l : BoardLink) → link_of e.site.number s.links ≡ Some l → bare_attached new ≡ with_filled e.down.way.stream l (bare_attached e))
       → OnOk r ((l : BoardLink) → link_of e.site.number s.links ≡ Some l → t ≡ star_filled e.site.number e.down.way.stream l.outbox s)
@@ -355,7 +353,7 @@ module _ (s : BoardStar) (sites : List Attached) (ready : AreReady s (map bare_a
       push_down_plays n t (numbered_reply reply) new link.0 link.1 (is link.0 link_there) (made link.0 link_there)
       (star link.0 link_there ∙ ap (λ k. star_filled k e.down.way.stream link.0.outbox s) (number s sites ready i at e place value))
 
-  pub push_down_read_at : (n : ℕ) (r : Result (Reply Edit EditFault) NoMemory) (new : Attached)
+  pub push_down_read_at : (n : ℕ) (r : Result (Reply BoardEdits EditFault) NoMemory) (new : Attached)
       → OnOk r ((l : BoardLink) → link_of e.site.number s.links ≡ Some l → bare_attached new ≡ with_filled e.down.way.stream l (bare_attached e))
       → OnOk r ((l : BoardLink) → link_of e.site.number s.links ≡ Some l → IsRead (lane_of e) (length e.up.way.read) (length e.down.way.read + min n (length (filled_stream e.down.way.stream l.outbox))) (lane_of new))
       → OnOk r (AreRead (PushDown i n) s (map lane_of sites) (map lane_of (set sites at new)))
@@ -366,7 +364,7 @@ module _ (s : BoardStar) (sites : List Attached) (ready : AreReady s (map bare_a
       (λ l there. rw (same_number i) (ap (λ (k : BoardLink). length e.down.way.read + min n (length (filled_stream e.down.way.stream k.outbox))) (only_link l there)))
       (push_down_reads i n)
 
-  pub push_down_spared : (n : ℕ) (t : BoardStar) (r : Result (Reply Edit EditFault) NoMemory) (new : Attached)
+  pub push_down_spared : (n : ℕ) (t : BoardStar) (r : Result (Reply BoardEdits EditFault) NoMemory) (new : Attached)
       → OnErr r ((l : BoardLink) → link_of e.site.number s.links ≡ Some l → FillsAt l (bare_attached e) e.down.way.stream s (bare_attached new) t)
       → OnErr r ((l : BoardLink) → link_of e.site.number s.links ≡ Some l → RestsDown l (lane_of e) (lane_of new))
       → OnErr r (SitesRest (PushDown i n) s (map lane_of sites) t (map lane_of (set sites at new)))
@@ -384,12 +382,12 @@ push_up_none s sites i n none opening trace = λ k. record {
 
 pub push_down_none : (s : BoardStar) (sites : List Attached) (i n : ℕ) → attached i (map bare_attached sites) ≡ None → LanePlays (PushDown i n) s (map lane_of sites) Nothing s (map bare_attached sites)
 push_down_none s sites i n none opening trace =
-    (λ k. unchanged_world board_operations (filled_for m i (link_of i s.links) (lane_none i sites none k)) (push_reply (min n (length (there_down (link_of i s.links) (lane_none i sites none k))))))
+    (λ k. unchanged_world board_batches (filled_for m i (link_of i s.links) (lane_none i sites none k)) (push_reply (min n (length (there_down (link_of i s.links) (lane_none i sites none k))))))
     ∙ cases (link_of i s.links)
   where
     m : BoardWorld
     m = messages_of (record { opening = opening; star = s; sites = map lane_of sites; trace = trace })
 
-    cases : (ol : Option BoardLink) → unchanged_world board_operations (filled_for m i ol None) (push_reply (min n (length (there_down ol None)))) ≡ record { reply = Nothing; star = s; sites = map bare_attached sites }
+    cases : (ol : Option BoardLink) → unchanged_world board_batches (filled_for m i ol None) (push_reply (min n (length (there_down ol None)))) ≡ record { reply = Nothing; star = s; sites = map bare_attached sites }
     cases None = λ k. record { reply = ap push_reply (min-none n) k; star = s; sites = bare_map sites k }
     cases (Some l) = λ k. record { reply = ap push_reply (min-none n) k; star = s; sites = bare_map sites k }

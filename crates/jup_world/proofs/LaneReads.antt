@@ -1,14 +1,14 @@
 -- What a site's calls leave of its two ways: how many bytes are read, and that all are still those of messages.
 use Rattle.std.proofs.Common.{◌≡◌, ◌⊎◌, refl, sym, ◌∙◌, ap, subst, inl, inr, ℕ, ◌+◌, ◌-◌, min, List, [], ◌∷◌, ◌++◌, length, take, Option, Some, None, Result, Ok, Err, OnOk, OnErr, arith, append-nil, length-append, length-drop}
 use Rattle.std.proofs.lemmas.List.{length-take}
-use Rattle.jup_window.specs.declared.board_operations.BoardOp.{BoardOp}
+use Rattle.jup_batch.specs.BatchBoards.{BoardBatch}
 use Rattle.jup_star.specs.declared.messages.Down.{Down}
 use Rattle.jup_lane.specs.Codecs.{Codec, IsCodec, bytes_of, bytes_of_all}
 use Rattle.jup_lane.specs.Lanes.{Way, moved, sent, handed_over, filled_to, messages, Carries, IsFilled, IsMovedOn, oldest_length}
 use Rattle.jup_lane.proofs.LaneLaws.{carried-moved, carried-sent, carried-handed}
 use Rattle.jup_lane.proofs.Whole.{moved-none, length-moved}
 use Rattle.jup_lane.specs.Messages.{ups, downs}
-use Rattle.jup_window.specs.BoardOperations.{board_operations}
+use Rattle.jup_batch.specs.BoardBatches.{board_batches}
 use Rattle.jup_star.specs.StarStates.{fetched}
 use Rattle.jup_star.specs.StarCalls.{BoardStar}
 use Rattle.jup_world.specs.WorldSteps.{with_fetched}
@@ -70,39 +70,39 @@ module _ {Message : Type 0} (C : Codec Message) (L : IsCodec C) where
 -- # A down stream that was filled
 
 -- its reader has what it had
-pub filled_way-read : (stream : List ℕ) (outbox : List (Down BoardOp)) (w : Way) → (filled_way stream outbox w).read ≡ w.read
+pub filled_way-read : (stream : List ℕ) (outbox : List (Down BoardBatch)) (w : Way) → (filled_way stream outbox w).read ≡ w.read
 filled_way-read [] [] w = refl
 filled_way-read [] (d ∷ os) w = refl
 filled_way-read (b ∷ stream) os w = refl
 
-pub filled_way-stream : (w : Way) (outbox : List (Down BoardOp)) → (filled_way w.stream outbox w).stream ≡ filled_stream w.stream outbox
+pub filled_way-stream : (w : Way) (outbox : List (Down BoardBatch)) → (filled_way w.stream outbox w).stream ≡ filled_stream w.stream outbox
 filled_way-stream w outbox = cases w.stream outbox refl
   where
-    cases : (s : List ℕ) (os : List (Down BoardOp)) → w.stream ≡ s → (filled_way s os w).stream ≡ filled_stream s os
+    cases : (s : List ℕ) (os : List (Down BoardBatch)) → w.stream ≡ s → (filled_way s os w).stream ≡ filled_stream s os
     cases [] [] e = e
     cases [] (d ∷ os) e = ap (λ t. t ++ bytes_of downs d) e
     cases (b ∷ s) os e = e
 
 -- a message was fetched into a stream that had no byte
-pub fetched_site : (a b : BoardAttached) (stream : List ℕ) (l : BoardLink) → stream ≡ [] → (l.outbox ≡ [] → ⊥) → b ≡ with_fetched board_operations 1 l a → b ≡ with_filled stream l a
+pub fetched_site : (a b : BoardAttached) (stream : List ℕ) (l : BoardLink) → stream ≡ [] → (l.outbox ≡ [] → ⊥) → b ≡ with_fetched board_batches 1 l a → b ≡ with_filled stream l a
 fetched_site a b stream l empty waits made = made ∙ there l.outbox waits ∙ ap (λ (st : List ℕ). filled_messages st l l.outbox a) (sym empty)
   where
-    there : (os : List (Down BoardOp)) → (os ≡ [] → ⊥) → with_fetched board_operations 1 l a ≡ filled_messages [] l os a
+    there : (os : List (Down BoardBatch)) → (os ≡ [] → ⊥) → with_fetched board_batches 1 l a ≡ filled_messages [] l os a
     there [] none = absurd (none refl)
     there (d ∷ os) none = refl
 
-pub fetched_star : (i : ℕ) (stream : List ℕ) (outbox : List (Down BoardOp)) (s t : BoardStar) → stream ≡ [] → (outbox ≡ [] → ⊥) → t ≡ fetched i 1 s → t ≡ star_filled i stream outbox s
+pub fetched_star : (i : ℕ) (stream : List ℕ) (outbox : List (Down BoardBatch)) (s t : BoardStar) → stream ≡ [] → (outbox ≡ [] → ⊥) → t ≡ fetched i 1 s → t ≡ star_filled i stream outbox s
 fetched_star i stream outbox s t empty waits made = made ∙ there outbox waits ∙ ap (λ (st : List ℕ). star_filled i st outbox s) (sym empty)
   where
-    there : (os : List (Down BoardOp)) → (os ≡ [] → ⊥) → fetched i 1 s ≡ star_filled i [] os s
+    there : (os : List (Down BoardBatch)) → (os ≡ [] → ⊥) → fetched i 1 s ≡ star_filled i [] os s
     there [] none = absurd (none refl)
     there (d ∷ os) none = refl
 
-pub fetched_way : (w v : Way) (stream : List ℕ) (outbox gone : List (Down BoardOp)) → stream ≡ [] → (outbox ≡ [] → ⊥) → gone ≡ take 1 outbox → v ≡ sent (bytes_of_all downs gone) w → v ≡ filled_way stream outbox w
+pub fetched_way : (w v : Way) (stream : List ℕ) (outbox gone : List (Down BoardBatch)) → stream ≡ [] → (outbox ≡ [] → ⊥) → gone ≡ take 1 outbox → v ≡ sent (bytes_of_all downs gone) w → v ≡ filled_way stream outbox w
 fetched_way w v stream outbox gone empty waits is made =
-    made ∙ ap (λ (ds : List (Down BoardOp)). sent (bytes_of_all downs ds) w) is ∙ there outbox waits ∙ ap (λ (st : List ℕ). filled_way st outbox w) (sym empty)
+    made ∙ ap (λ (ds : List (Down BoardBatch)). sent (bytes_of_all downs ds) w) is ∙ there outbox waits ∙ ap (λ (st : List ℕ). filled_way st outbox w) (sym empty)
   where
-    there : (os : List (Down BoardOp)) → (os ≡ [] → ⊥) → sent (bytes_of_all downs (take 1 os)) w ≡ filled_way [] os w
+    there : (os : List (Down BoardBatch)) → (os ≡ [] → ⊥) → sent (bytes_of_all downs (take 1 os)) w ≡ filled_way [] os w
     there [] none = absurd (none refl)
     there (d ∷ os) none = ap (λ (t : List ℕ). sent t w) (append-nil (bytes_of downs d))
 
@@ -110,20 +110,20 @@ fetched_way w v stream outbox gone empty waits is made =
 pub refilled_idle : (a b : BoardAttached) (stream : List ℕ) (l : BoardLink) → a.down ≡ [] → stream ≡ [] → b ≡ with_filled stream l a → b ≡ refilled l a
 refilled_idle a b stream l none empty made = made ∙ ap (λ (st : List ℕ). filled_messages st l l.outbox a) empty ∙ there l l.outbox refl
   where
-    there : (k : BoardLink) (os : List (Down BoardOp)) → k.outbox ≡ os → filled_messages [] k os a ≡ refilled k a
+    there : (k : BoardLink) (os : List (Down BoardBatch)) → k.outbox ≡ os → filled_messages [] k os a ≡ refilled k a
     there k [] e =
-        let all : a.down ≡ refilled_from a.down k.outbox = none ∙ sym (ap (take 1) e) ∙ ap (λ (ds : List (Down BoardOp)). refilled_from ds k.outbox) (sym none) in
+        let all : a.down ≡ refilled_from a.down k.outbox = none ∙ sym (ap (take 1) e) ∙ ap (λ (ds : List (Down BoardBatch)). refilled_from ds k.outbox) (sym none) in
         λ j. record { site = a.site; up = a.up; down = all j }
     there k (d ∷ os) e =
         let all : a.down ++ take 1 k.outbox ≡ refilled_from a.down k.outbox =
-        ap (λ (ds : List (Down BoardOp)). ds ++ take 1 k.outbox) none ∙ ap (λ (ds : List (Down BoardOp)). refilled_from ds k.outbox) (sym none) in
+        ap (λ (ds : List (Down BoardBatch)). ds ++ take 1 k.outbox) none ∙ ap (λ (ds : List (Down BoardBatch)). refilled_from ds k.outbox) (sym none) in
         λ j. record { site = a.site; up = a.up; down = all j }
 
 pub refilled_idle_star : (a : BoardAttached) (stream : List ℕ) (l : BoardLink) (s t : BoardStar) → a.down ≡ [] → stream ≡ [] → t ≡ star_filled a.site.number stream l.outbox s → t ≡ refilled_star l a s
 refilled_idle_star a stream l s t none empty made =
-    made ∙ ap (λ (st : List ℕ). star_filled a.site.number st l.outbox s) empty ∙ there l.outbox ∙ ap (λ (ds : List (Down BoardOp)). fetched_for a.site.number ds l.outbox s) (sym none)
+    made ∙ ap (λ (st : List ℕ). star_filled a.site.number st l.outbox s) empty ∙ there l.outbox ∙ ap (λ (ds : List (Down BoardBatch)). fetched_for a.site.number ds l.outbox s) (sym none)
   where
-    there : (os : List (Down BoardOp)) → star_filled a.site.number [] os s ≡ fetched_for a.site.number [] os s
+    there : (os : List (Down BoardBatch)) → star_filled a.site.number [] os s ≡ fetched_for a.site.number [] os s
     there [] = refl
     there (d ∷ os) = refl
 
@@ -157,7 +157,7 @@ rests_none l a b same = record {
 }
 
 -- a message was handed to the site
-pub handed-site : (a b : LaneSite) (mid down : Way) (m : Down BoardOp) → IsFilled downs a.down mid (Some m) → down ≡ mid → b.down ≡ handed_over (length (bytes_of downs m)) down
+pub handed-site : (a b : LaneSite) (mid down : Way) (m : Down BoardBatch) → IsFilled downs a.down mid (Some m) → down ≡ mid → b.down ≡ handed_over (length (bytes_of downs m)) down
     → messages downs down ≡ m ∷ messages downs b.down → length b.up.read ≡ length a.up.read → (Carries ups a.up → Carries ups b.up)
     → IsRead a (length a.up.read) (length a.down.read - oldest_length downs (messages downs a.down)) b
 handed-site a b mid down m filled same handed first up carry = record {
@@ -168,7 +168,7 @@ handed-site a b mid down m filled same handed first up carry = record {
 }
 
 -- a refilled way, of which a message was handed over
-first_of_both : (ds os : List (Down BoardOp)) → oldest_length downs (refilled_from ds os) ≡ oldest_length downs (ds ++ os)
+first_of_both : (ds os : List (Down BoardBatch)) → oldest_length downs (refilled_from ds os) ≡ oldest_length downs (ds ++ os)
 first_of_both [] [] = refl
 first_of_both [] (d ∷ os) = refl
 first_of_both (d ∷ ds) os = refl

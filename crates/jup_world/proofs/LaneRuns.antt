@@ -2,9 +2,9 @@
 use Rattle.std.proofs.Common.{◌≡◌, ◌⊎◌, ℕ, ◌+◌, ◌<◌, List, [], ◌∷◌, ◌++◌, length, map, take, get_or, Some, option_map, refl, sym, ap, subst, inl, inr, ◌∙◌}
 use Rattle.std.proofs.lemmas.List.{take_more, take-map, map-append}
 use Rattle.std.proofs.lemmas.Option.{slice_get-map, slice_get-get_or}
-use Rattle.jup_window.specs.BoardOperations.{board_operations}
-use Rattle.jup_window.specs.BoardsAreLawful.{board_laws}
-use Rattle.jup_star.specs.StarStates.{link_of, most_items, fetched}
+use Rattle.jup_batch.specs.BoardBatches.{board_batches}
+use Rattle.jup_batch.specs.BoardBatches.{batch_laws}
+use Rattle.jup_star.specs.StarStates.{link_of, most_batches, fetched}
 use Rattle.jup_star.specs.StarCalls.{BoardStar}
 use Rattle.jup_world.specs.Events.{Join, Leave, Edit as MakeEdit, Up as MoveUp, Down as MoveDown, Ping as SendPing}
 use Rattle.jup_world.specs.WorldStates.{at_site}
@@ -28,23 +28,23 @@ played_lanes w event reply t next trace plays read more carry = record {
   messages =
       (λ k. record { opening = w.opening; star = t; sites = bare_map next k; trace = (ap plain_trace more ∙ plain-noted w.trace event reply) k })
       ∙ sym (ap after (plays w.opening w.trace));
-  trace = more ∙ ap (λ (r : BoardReply). w.trace ++ record { event = event; reply = r } ∷ []) (sym (ap (λ (o : Outcome board_operations). o.reply) (plays w.opening w.trace)));
+  trace = more ∙ ap (λ (r : BoardReply). w.trace ++ record { event = event; reply = r } ∷ []) (sym (ap (λ (o : Outcome board_batches). o.reply) (plays w.opening w.trace)));
   carry = read.carry carry;
   up = read.up;
   down = read.down;
 }
   where
-    after : Outcome board_operations → BoardWorld
+    after : Outcome board_batches → BoardWorld
     after o = record { opening = w.opening; star = o.star; sites = o.sites; trace = plain_trace w.trace ++ plain_happened event o.reply }
 
 -- its reply
 pub played_reply : (w : LaneWorld) (event : LaneEvent) (reply : BoardReply) (t : BoardStar) (next : List Attached) → LanePlays event w.star w.sites reply t (map bare_attached next)
     → reply ≡ (lane_outcome w event).reply
-played_reply w event reply t next plays = sym (ap (λ (o : Outcome board_operations). o.reply) (plays w.opening w.trace))
+played_reply w event reply t next plays = sym (ap (λ (o : Outcome board_batches). o.reply) (plays w.opening w.trace))
 
 -- is what it should be
 answered : (w : LaneWorld) (event : LaneEvent) → IsWorld (messages_of w) → AnswersTo w event (lane_outcome w event).reply
-answered w (Plain event) is = replies board_operations board_laws most_items (messages_of w) is.board.sound event
+answered w (Plain event) is = replies board_batches batch_laws most_batches (messages_of w) is.board.sound event
 answered w (PushUp i n) is = refl
 answered w (PushDown i n) is = refl
 
@@ -70,10 +70,10 @@ rests w event t next trace rest kept carry = record {
 
     messages : ((t ≡ w.star) × (map bare_site next ≡ map bare_site w.sites))
         ⊎ ((i : ℕ) × (l : BoardLink) × (a : LaneSite) × TouchesDown event i × (link_of i w.star.links ≡ Some l) × (lane_site i w.sites ≡ Some a)
-        × (t ≡ fetched i 1 w.star) × (map bare_site next ≡ at_site i (with_fetched board_operations 1 l) (map bare_site w.sites)))
+        × (t ≡ fetched i 1 w.star) × (map bare_site next ≡ at_site i (with_fetched board_batches 1 l) (map bare_site w.sites)))
         → (messages_of world ≡ messages_of w)
         ⊎ ((i : ℕ) × (l : BoardLink) × (a : LaneSite) × TouchesDown event i × (link_of i w.star.links ≡ Some l) × (lane_site i w.sites ≡ Some a)
-        × (messages_of world ≡ only_fetched board_operations (messages_of w) i 1 l))
+        × (messages_of world ≡ only_fetched board_batches (messages_of w) i 1 l))
     messages (inl same) = inl (λ j. record { opening = w.opening; star = same.0 j; sites = same.1 j; trace = plain_trace (kept j) })
     messages (inr f) = inr (f.0, f.1, f.2, f.3, f.4, f.5, λ j. record { opening = w.opening; star = f.6 j; sites = f.7 j; trace = plain_trace (kept j) })
 

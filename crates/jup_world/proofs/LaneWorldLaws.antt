@@ -1,8 +1,8 @@
 -- A world of bytes keeps what the world of its messages keeps.
 use Rattle.std.proofs.Common.{◌≡◌, ◌↔◌, ◌⊎◌, ℕ, Bool, true, false, cond, List, [], ◌∷◌, ◌++◌, length, map, take, drop, nat_eq, Option, Some, None, option_map, refl, sym, ap, subst, inl, inr, ◌∙◌, append-nil, append_assoc}
 use Rattle.std.proofs.Math.Seq.{drop-append_seam, take-append_seam}
-use Rattle.jup_window.specs.declared.board_operations.BoardOp.{BoardOp}
-use Rattle.jup_window.specs.BoardOperations.{board_operations}
+use Rattle.jup_batch.specs.BoardBatches.{board_batches}
+use Rattle.jup_batch.specs.BatchBoards.{BoardBatch}
 use Rattle.jup_star.specs.declared.messages.Down.{Down}
 use Rattle.jup_star.specs.StarStates.{link_of}
 use Rattle.jup_lane.specs.MessageLines.{ups_laws, downs_laws}
@@ -52,10 +52,10 @@ carry_at i (b ∷ sites) a all e = step (nat_eq b.site.number i) (carry_at i sit
 -- # Quiet
 
 -- no byte is on its way just where no message is
-pub still_quiet : (w : LaneWorld) → AllCarry w.sites → IsStill w ↔ IsQuiet board_operations (messages_of w)
+pub still_quiet : (w : LaneWorld) → AllCarry w.sites → IsStill w ↔ IsQuiet board_batches (messages_of w)
 still_quiet w all = (to, from)
   where
-    to : IsStill w → IsQuiet board_operations (messages_of w)
+    to : IsStill w → IsQuiet board_batches (messages_of w)
     to still i l b fl fb = at (lane_site i w.sites) refl
       where
         at : (o : Option LaneSite) → lane_site i w.sites ≡ o → (b.up ≡ []) × (b.down ≡ []) × (l.outbox ≡ [])
@@ -67,7 +67,7 @@ still_quiet w all = (to, from)
             let c = carry_at i w.sites a all e in
             (ap (λ x. x.up) (sym same) ∙ idle_none ups ups_laws a.up c.0 none.0, ap (λ x. x.down) (sym same) ∙ idle_none downs downs_laws a.down c.1 none.1, none.2)
 
-    from : IsQuiet board_operations (messages_of w) → IsStill w
+    from : IsQuiet board_batches (messages_of w) → IsStill w
     from quiet i l a fl fa =
         let f : attached i (map bare_site w.sites) ≡ Some (bare_site a) = bare_found i w.sites ∙ ap (option_map bare_site) fa in
         let none = quiet i l (bare_site a) fl f in
@@ -90,7 +90,7 @@ plain-noted t event reply = plain-append t _ ∙ ap (λ hs. plain_trace t ++ hs)
 pub filled_spared : (w : LaneWorld) (i : ℕ) → IsSpared (messages_of w) (filled_for (messages_of w) i (link_of i w.star.links) (lane_site i w.sites))
 filled_spared w i = cases (link_of i w.star.links) refl (lane_site i w.sites) refl
   where
-    from : (l : BoardLink) → link_of i w.star.links ≡ Some l → (a : LaneSite) → lane_site i w.sites ≡ Some a → (stream : List ℕ) (outbox : List (Down BoardOp))
+    from : (l : BoardLink) → link_of i w.star.links ≡ Some l → (a : LaneSite) → lane_site i w.sites ≡ Some a → (stream : List ℕ) (outbox : List (Down BoardBatch))
         → IsSpared (messages_of w) (filled_from (messages_of w) i l stream outbox)
     from l fl a fa [] [] = inl refl
     from l fl a fa [] (d ∷ os) = inr (i, l, bare_site a, fl, bare_found i w.sites ∙ ap (option_map bare_site) fa, refl)
@@ -115,9 +115,9 @@ after_down w i n = cases (link_of i w.star.links) (lane_site i w.sites)
     kept : (m : BoardWorld) → m.opening ≡ w.opening → m.trace ≡ plain_trace w.trace → after m ≡ m
     kept m o t = λ j. record { opening = sym o j; star = m.star; sites = m.sites; trace = (append-nil (plain_trace w.trace) ∙ sym t) j }
 
-    from : (l : BoardLink) (stream : List ℕ) (outbox : List (Down BoardOp)) → after (filled_from (messages_of w) i l stream outbox) ≡ filled_from (messages_of w) i l stream outbox
+    from : (l : BoardLink) (stream : List ℕ) (outbox : List (Down BoardBatch)) → after (filled_from (messages_of w) i l stream outbox) ≡ filled_from (messages_of w) i l stream outbox
     from l [] [] = kept (messages_of w) refl refl
-    from l [] (d ∷ os) = kept (only_fetched board_operations (messages_of w) i 1 l) refl refl
+    from l [] (d ∷ os) = kept (only_fetched board_batches (messages_of w) i 1 l) refl refl
     from l (b ∷ stream) os = kept (messages_of w) refl refl
 
     cases : (ol : Option BoardLink) (oa : Option LaneSite) → after (filled_for (messages_of w) i ol oa) ≡ filled_for (messages_of w) i ol oa
@@ -153,9 +153,9 @@ pub steps_more : (w v u : LaneWorld) (events : List LaneEvent) (e : LaneEvent) �
 steps_more w v u events e first step = steps_append events (e ∷ []) w v u first (u, step, refl)
 
 -- plain ones are a run of the world of messages
-pub steps_run : (events : List BoardEvent) (w v : LaneWorld) → AllSteps w (map (λ e. Plain e) events) v → messages_of v ≡ run board_operations (messages_of w) events
+pub steps_run : (events : List BoardEvent) (w v : LaneWorld) → AllSteps w (map (λ e. Plain e) events) v → messages_of v ≡ run board_batches (messages_of w) events
 steps_run [] w v same = ap messages_of same
-steps_run (e ∷ es) w v next = steps_run es next.0 v next.2 ∙ ap (λ m. run board_operations m es) next.1.messages
+steps_run (e ∷ es) w v next = steps_run es next.0 v next.2 ∙ ap (λ m. run board_batches m es) next.1.messages
 
 -- # Want of memory
 
@@ -164,7 +164,7 @@ rests_spared w v event rests = spared rests.messages
   where
     spared : (messages_of v ≡ messages_of w)
         ⊎ ((i : ℕ) × (l : BoardLink) × (a : LaneSite) × TouchesDown event i × (link_of i w.star.links ≡ Some l) × (lane_site i w.sites ≡ Some a)
-        × (messages_of v ≡ only_fetched board_operations (messages_of w) i 1 l)) → IsSpared (messages_of w) (messages_of v)
+        × (messages_of v ≡ only_fetched board_batches (messages_of w) i 1 l)) → IsSpared (messages_of w) (messages_of v)
     spared (inl same) = inl same
     spared (inr f) = inr (f.0, f.1, bare_site f.2, f.4, bare_found f.0 w.sites ∙ ap (option_map bare_site) f.5, f.6)
 

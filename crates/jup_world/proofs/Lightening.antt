@@ -1,8 +1,8 @@
 -- Each delivery that moves a message leaves less on its way.
 use Rattle.std.proofs.Common.{◌≡◌, refl, sym, ap, subst, ℕ, zero, suc, ◌+◌, ◌*◌, ◌<◌, ◌≤◌, Bool, true, false, cond, List, [], ◌∷◌, ◌++◌, drop, nat_eq, Option, Some, None, option_map, option_to_list, arith, nat_le, eq-eqb}
 use Rattle.std.proofs.lemmas.Bool.{eqb-false}
-use Rattle.jup_window.specs.declared.board_operations.BoardOp.{BoardOp}
-use Rattle.jup_window.specs.BoardOperations.{board_operations}
+use Rattle.jup_batch.specs.BoardBatches.{board_batches}
+use Rattle.jup_batch.specs.BatchBoards.{BoardBatch}
 use Rattle.jup_link.specs.Links.{Link}
 use Rattle.jup_link.specs.Messages.{next_message}
 use Rattle.jup_link.specs.declared.Msg.{Msg}
@@ -13,7 +13,7 @@ use Rattle.jup_star.specs.declared.messages.Down.TheVariants.{Op as DownOp, Ack 
 use Rattle.jup_star.specs.declared.faults.StarFault.{StarFault}
 use Rattle.jup_star.specs.declared.faults.SiteFault.{SiteFault}
 use Rattle.jup_star.specs.LinkStates.{owed_down, link_acked, link_ponged, link_fetched, link_sent, link_heard, operation_at, end_after}
-use Rattle.jup_star.specs.StarStates.{link_of, without, at_link, links_after, up_fault, most_items}
+use Rattle.jup_star.specs.StarStates.{link_of, without, at_link, links_after, up_fault, most_batches}
 use Rattle.jup_star.specs.SiteStates.{deliver_fault, sent_back}
 use Rattle.jup_world.specs.Events.{Join, Leave, Edit as MakeEdit, Up as MoveUp, Down as MoveDown, Ping as SendPing}
 use Rattle.jup_world.specs.Events.{Nothing}
@@ -62,28 +62,28 @@ sum_outweighs (suc n) i d f g below each = cases (nat_eq i n) refl (each n) (λ 
 
 -- # One link
 
-down-append : (xs ys : List (Down BoardOp)) → down_weight (xs ++ ys) ≡ down_weight xs + down_weight ys
+down-append : (xs ys : List (Down BoardBatch)) → down_weight (xs ++ ys) ≡ down_weight xs + down_weight ys
 down-append [] ys = omega arith
 down-append (DownOp m ∷ xs) ys = omega (arith, down-append xs ys)
 down-append (DownAck n ∷ xs) ys = omega (arith, down-append xs ys)
 down-append (DownPong k ∷ xs) ys = omega (arith, down-append xs ys)
 
-up-append : (given : ℕ) (xs ys : List (Up BoardOp)) → up_weight given (xs ++ ys) ≡ up_weight given xs + up_weight given ys
+up-append : (given : ℕ) (xs ys : List (Up BoardBatch)) → up_weight given (xs ++ ys) ≡ up_weight given xs + up_weight given ys
 up-append given [] ys = omega arith
 up-append given (UpOp m ∷ xs) ys = omega (arith, up-append given xs ys)
 up-append given (UpAck n ∷ xs) ys = omega (arith, up-append given xs ys)
 up-append given (UpPing k ∷ xs) ys = omega (arith, up-append given xs ys)
 
 -- an acknowledgement weighs one
-owed_little : (e : Link BoardOp) (b : Bool) → down_weight (cond b (DownAck e.received ∷ []) []) ≤ 1
+owed_little : (e : Link BoardBatch) (b : Bool) → down_weight (cond b (DownAck e.received ∷ []) []) ≤ 1
 owed_little e true = omega arith
 owed_little e false = omega arith
 
-owed_up_little : (given : ℕ) (e : Link BoardOp) (b : Bool) → up_weight given (option_to_list (cond b (Some (UpAck e.received)) None)) ≤ 1
+owed_up_little : (given : ℕ) (e : Link BoardBatch) (b : Bool) → up_weight given (option_to_list (cond b (Some (UpAck e.received)) None)) ≤ 1
 owed_up_little given e true = omega arith
 owed_up_little given e false = omega arith
 
-module _ (w : BoardWorld) (sound : IsSound board_operations most_items w) (i : ℕ) (l : BoardLink) (a : BoardAttached) (fl : link_of i w.star.links ≡ Some l) (fa : attached i w.sites ≡ Some a) where
+module _ (w : BoardWorld) (sound : IsSound board_batches most_batches w) (i : ℕ) (l : BoardLink) (a : BoardAttached) (fl : link_of i w.star.links ≡ Some l) (fa : attached i w.sites ≡ Some a) where
   -- what was on its way over each link
   abbrev before : ℕ → ℕ
   before j = link_weight w.star.given (link_of j w.star.links) (attached j w.sites)
@@ -128,110 +128,110 @@ module _ (w : BoardWorld) (sound : IsSound board_operations most_items w) (i : �
       (at_removal (λ k. k.site) (λ b. b.site.number) (Falls 1) i w.star.links w.sites (at_here (λ b. 0 + cond b 1 0 ≤ before i) (omega (arith, here_before))) others_stay)
 
   -- an edit is sent over another link
-  sent_more : (op : BoardOp) (ol : Option BoardLink) (oa : Option BoardAttached) → link_weight w.star.given (option_map (link_sent op) ol) oa ≤ link_weight w.star.given ol oa + 2
+  sent_more : (op : BoardBatch) (ol : Option BoardLink) (oa : Option BoardAttached) → link_weight w.star.given (option_map (link_sent op) ol) oa ≤ link_weight w.star.given ol oa + 2
   sent_more op None None = omega arith
   sent_more op None (Some b) = omega arith
   sent_more op (Some k) None = omega arith
   sent_more op (Some k) (Some b) = omega (arith, down-append k.outbox (DownOp (next_message k.end op) ∷ []))
 
   -- this link hears an edit, and all others are sent it
-  edit_falls : (m : Msg BoardOp) (us : List (Up BoardOp)) → a.up ≡ UpOp m ∷ us
-      → sum_to (suc w.star.given) (λ j. link_weight w.star.given (link_of j (links_after board_operations i m (operation_at board_operations l.end m) w.star.links)) (attached j (at_site i (one_taken board_operations) w.sites))) + 1 ≤ weight_of w.star w.sites
+  edit_falls : (m : Msg BoardBatch) (us : List (Up BoardBatch)) → a.up ≡ UpOp m ∷ us
+      → sum_to (suc w.star.given) (λ j. link_weight w.star.given (link_of j (links_after board_batches i m (operation_at board_batches l.end m) w.star.links)) (attached j (at_site i (one_taken board_batches) w.sites))) + 1 ≤ weight_of w.star w.sites
   edit_falls m us first =
-      let paid : down_weight (link_heard board_operations m l).outbox ≤ down_weight l.outbox + 1 =
-      (let little = owed_little (end_after board_operations l.end m) (nat_le 64 (end_after board_operations l.end m).unanswered) in omega (arith, down-append l.outbox (owed_down (end_after board_operations l.end m)))) in
+      let paid : down_weight (link_heard board_batches m l).outbox ≤ down_weight l.outbox + 1 =
+      (let little = owed_little (end_after board_batches l.end m) (nat_le 64 (end_after board_batches l.end m).unanswered) in omega (arith, down-append l.outbox (owed_down (end_after board_batches l.end m)))) in
       let less : up_weight w.star.given (drop 1 a.up) + (2 * w.star.given + 10) ≡ up_weight w.star.given a.up = subst (λ ups. up_weight w.star.given (drop 1 ups) + (2 * w.star.given + 10) ≡ up_weight w.star.given ups) (sym first) (omega arith) in
       let all = sum_outweighs (suc w.star.given) i (2 * w.star.given + 10) before _ among
-      (at_all (λ k. k.site) (λ b. b.site.number) (Outweighs (2 * w.star.given + 10)) i (link_heard board_operations m) (link_sent (operation_at board_operations l.end m)) (one_taken board_operations) (λ k. refl) (λ k. refl) (λ b. refl) w.star.links w.sites l a fl fa
-      (at_here (λ b. up_weight w.star.given (drop 1 a.up) + (down_weight a.down + down_weight (link_heard board_operations m l).outbox) + cond b (2 * w.star.given + 10) 0 ≤ before i + 2) (omega (arith, here_before, less, paid)))
-      (λ j e. at_other j (λ b. link_weight w.star.given (option_map (link_sent (operation_at board_operations l.end m)) (link_of j w.star.links)) (attached j w.sites) + cond b (2 * w.star.given + 10) 0 ≤ before j + 2) e
-      (let more = sent_more (operation_at board_operations l.end m) (link_of j w.star.links) (attached j w.sites) in omega arith))) in
+      (at_all (λ k. k.site) (λ b. b.site.number) (Outweighs (2 * w.star.given + 10)) i (link_heard board_batches m) (link_sent (operation_at board_batches l.end m)) (one_taken board_batches) (λ k. refl) (λ k. refl) (λ b. refl) w.star.links w.sites l a fl fa
+      (at_here (λ b. up_weight w.star.given (drop 1 a.up) + (down_weight a.down + down_weight (link_heard board_batches m l).outbox) + cond b (2 * w.star.given + 10) 0 ≤ before i + 2) (omega (arith, here_before, less, paid)))
+      (λ j e. at_other j (λ b. link_weight w.star.given (option_map (link_sent (operation_at board_batches l.end m)) (link_of j w.star.links)) (attached j w.sites) + cond b (2 * w.star.given + 10) 0 ≤ before j + 2) e
+      (let more = sent_more (operation_at board_batches l.end m) (link_of j w.star.links) (attached j w.sites) in omega arith))) in
       omega arith
 
   -- # Events
 
   -- an outcome leaves less on its way
-  abbrev Lightens : Outcome board_operations → Type 0
+  abbrev Lightens : Outcome board_batches → Type 0
   Lightens o = weight_of o.star o.sites < weight_of w.star w.sites
 
-  up_some : (up : Up BoardOp) (us : List (Up BoardOp)) → 1 ≤ up_weight w.star.given (up ∷ us)
+  up_some : (up : Up BoardBatch) (us : List (Up BoardBatch)) → 1 ≤ up_weight w.star.given (up ∷ us)
   up_some (UpOp m) us = omega arith
   up_some (UpAck n) us = omega arith
   up_some (UpPing k) us = omega arith
 
   -- the first message of an up stream is gone
-  up_lighter : (up : Up BoardOp) (us : List (Up BoardOp)) → a.up ≡ up ∷ us → up_weight w.star.given (drop 1 a.up) + up_weight w.star.given (up ∷ []) ≡ up_weight w.star.given a.up
+  up_lighter : (up : Up BoardBatch) (us : List (Up BoardBatch)) → a.up ≡ up ∷ us → up_weight w.star.given (drop 1 a.up) + up_weight w.star.given (up ∷ []) ≡ up_weight w.star.given a.up
   up_lighter up us first = subst (λ ups. up_weight w.star.given (drop 1 ups) + up_weight w.star.given (up ∷ []) ≡ up_weight w.star.given ups) (sym first) (split up)
     where
-      split : (x : Up BoardOp) → up_weight w.star.given us + up_weight w.star.given (x ∷ []) ≡ up_weight w.star.given (x ∷ us)
+      split : (x : Up BoardBatch) → up_weight w.star.given us + up_weight w.star.given (x ∷ []) ≡ up_weight w.star.given (x ∷ us)
       split (UpOp m) = omega arith
       split (UpAck n) = omega arith
       split (UpPing k) = omega arith
 
-  up_falls : (up : Up BoardOp) (us : List (Up BoardOp)) (f : Option StarFault) → a.up ≡ up ∷ us → Lightens (up_outcome board_operations w i l up f)
+  up_falls : (up : Up BoardBatch) (us : List (Up BoardBatch)) (f : Option StarFault) → a.up ≡ up ∷ us → Lightens (up_outcome board_batches w i l up f)
   up_falls up us (Some fault) first = let less = dropped_falls (subst (λ ups. 1 ≤ up_weight w.star.given ups) (sym first) (up_some up us)) in omega arith
   up_falls (UpOp m) us None first = let less = edit_falls m us first in omega arith
   up_falls (UpAck n) us None first =
-      let less = one_falls (link_acked n) (one_taken board_operations) (λ k. refl) (λ b. refl) (omega (arith, up_lighter (UpAck n) us first)) in omega arith
+      let less = one_falls (link_acked n) (one_taken board_batches) (λ k. refl) (λ b. refl) (omega (arith, up_lighter (UpAck n) us first)) in omega arith
   up_falls (UpPing k) us None first =
-      let less = one_falls (link_ponged k) (one_taken board_operations) (λ x. refl) (λ b. refl) (omega (arith, up_lighter (UpPing k) us first, down-append l.outbox (DownPong k ∷ []))) in omega arith
+      let less = one_falls (link_ponged k) (one_taken board_batches) (λ x. refl) (λ b. refl) (omega (arith, up_lighter (UpPing k) us first, down-append l.outbox (DownPong k ∷ []))) in omega arith
 
-  first_up_falls : (us : List (Up BoardOp)) → a.up ≡ us → ((first_up board_operations w i l us).reply ≡ Nothing → ⊥) → Lightens (first_up board_operations w i l us)
+  first_up_falls : (us : List (Up BoardBatch)) → a.up ≡ us → ((first_up board_batches w i l us).reply ≡ Nothing → ⊥) → Lightens (first_up board_batches w i l us)
   first_up_falls [] e some = absurd (some refl)
-  first_up_falls (up ∷ us) e some = up_falls up us (up_fault board_operations w.star l up) e
+  first_up_falls (up ∷ us) e some = up_falls up us (up_fault board_batches w.star l up) e
 
   -- what a site sends back is lighter than what it was handed
-  back_light : (d : Down BoardOp) → up_weight w.star.given (option_to_list (sent_back board_operations d a.site)) + 1 ≤ down_weight (d ∷ [])
-  back_light (DownOp m) = let little = owed_up_little w.star.given (end_after board_operations a.site.end m) (nat_le 64 (end_after board_operations a.site.end m).unanswered) in omega arith
+  back_light : (d : Down BoardBatch) → up_weight w.star.given (option_to_list (sent_back board_batches d a.site)) + 1 ≤ down_weight (d ∷ [])
+  back_light (DownOp m) = let little = owed_up_little w.star.given (end_after board_batches a.site.end m) (nat_le 64 (end_after board_batches a.site.end m).unanswered) in omega arith
   back_light (DownAck n) = omega arith
   back_light (DownPong k) = omega arith
 
-  one_down : (d : Down BoardOp) (ds : List (Down BoardOp)) → down_weight (d ∷ ds) ≡ down_weight (d ∷ []) + down_weight ds
+  one_down : (d : Down BoardBatch) (ds : List (Down BoardBatch)) → down_weight (d ∷ ds) ≡ down_weight (d ∷ []) + down_weight ds
   one_down (DownOp m) ds = omega arith
   one_down (DownAck n) ds = omega arith
   one_down (DownPong k) ds = omega arith
 
-  received_number : (d : Down BoardOp) (ds : List (Down BoardOp)) (b : BoardAttached) → (one_handed board_operations d ds b).site.number ≡ b.site.number
+  received_number : (d : Down BoardBatch) (ds : List (Down BoardBatch)) (b : BoardAttached) → (one_handed board_batches d ds b).site.number ≡ b.site.number
   received_number (DownOp m) ds b = refl
   received_number (DownAck n) ds b = refl
   received_number (DownPong k) ds b = refl
 
-  handed_falls : (gone : ℕ) (d : Down BoardOp) (ds : List (Down BoardOp)) (f : Option SiteFault) → down_weight ds + down_weight (drop gone l.outbox) + down_weight (d ∷ []) ≡ down_weight a.down + down_weight l.outbox
-      → ((down_outcome board_operations w i gone d ds f).reply ≡ Nothing → ⊥) → Lightens (down_outcome board_operations w i gone d ds f)
+  handed_falls : (gone : ℕ) (d : Down BoardBatch) (ds : List (Down BoardBatch)) (f : Option SiteFault) → down_weight ds + down_weight (drop gone l.outbox) + down_weight (d ∷ []) ≡ down_weight a.down + down_weight l.outbox
+      → ((down_outcome board_batches w i gone d ds f).reply ≡ Nothing → ⊥) → Lightens (down_outcome board_batches w i gone d ds f)
   handed_falls gone d ds (Some fault) e some = absurd (some refl)
   handed_falls gone d ds None e some =
       let light = back_light d in
-      let less = one_falls (link_fetched gone) (one_handed board_operations d ds) (λ k. refl) (received_number d ds)
-      (omega (arith, e, up-append w.star.given a.up (option_to_list (sent_back board_operations d a.site)))) in omega arith
+      let less = one_falls (link_fetched gone) (one_handed board_batches d ds) (λ k. refl) (received_number d ds)
+      (omega (arith, e, up-append w.star.given a.up (option_to_list (sent_back board_batches d a.site)))) in omega arith
 
-  first_down_falls : (ds os : List (Down BoardOp)) → a.down ≡ ds → l.outbox ≡ os → ((first_down board_operations w i a ds os).reply ≡ Nothing → ⊥) → Lightens (first_down board_operations w i a ds os)
+  first_down_falls : (ds os : List (Down BoardBatch)) → a.down ≡ ds → l.outbox ≡ os → ((first_down board_batches w i a ds os).reply ≡ Nothing → ⊥) → Lightens (first_down board_batches w i a ds os)
   first_down_falls (d ∷ ds) os p q some =
-      handed_falls 0 d ds (deliver_fault board_operations d a.site) (let here = ap down_weight p in omega (arith, here, one_down d ds)) some
+      handed_falls 0 d ds (deliver_fault board_batches d a.site) (let here = ap down_weight p in omega (arith, here, one_down d ds)) some
   first_down_falls [] (d ∷ os) p q some =
-      handed_falls 1 d [] (deliver_fault board_operations d a.site)
-      (let here = ap down_weight p in let there = ap down_weight q in let rest = ap (λ (xs : List (Down BoardOp)). down_weight (drop 1 xs)) q in omega (arith, here, there, rest, one_down d os)) some
+      handed_falls 1 d [] (deliver_fault board_batches d a.site)
+      (let here = ap down_weight p in let there = ap down_weight q in let rest = ap (λ (xs : List (Down BoardBatch)). down_weight (drop 1 xs)) q in omega (arith, here, there, rest, one_down d os)) some
   first_down_falls [] [] p q some = absurd (some refl)
 
 -- # Deliveries
 
 -- an event at a site that answers something
-at_falls : (w : BoardWorld) (i : ℕ) (f : BoardLink → BoardAttached → Outcome board_operations)
+at_falls : (w : BoardWorld) (i : ℕ) (f : BoardLink → BoardAttached → Outcome board_batches)
     → ((l : BoardLink) (a : BoardAttached) → link_of i w.star.links ≡ Some l → attached i w.sites ≡ Some a → ((f l a).reply ≡ Nothing → ⊥) → weight_of (f l a).star (f l a).sites < weight_of w.star w.sites)
-    → ((at_number board_operations w i f).reply ≡ Nothing → ⊥) → weight_of (at_number board_operations w i f).star (at_number board_operations w i f).sites < weight_of w.star w.sites
+    → ((at_number board_batches w i f).reply ≡ Nothing → ⊥) → weight_of (at_number board_batches w i f).star (at_number board_batches w i f).sites < weight_of w.star w.sites
 at_falls w i f each some = linked (link_of i w.star.links) refl some
   where
-    there : (l : BoardLink) → link_of i w.star.links ≡ Some l → (o : Option BoardAttached) → attached i w.sites ≡ o → ((at_attached board_operations w l f o).reply ≡ Nothing → ⊥)
-        → weight_of (at_attached board_operations w l f o).star (at_attached board_operations w l f o).sites < weight_of w.star w.sites
+    there : (l : BoardLink) → link_of i w.star.links ≡ Some l → (o : Option BoardAttached) → attached i w.sites ≡ o → ((at_attached board_batches w l f o).reply ≡ Nothing → ⊥)
+        → weight_of (at_attached board_batches w l f o).star (at_attached board_batches w l f o).sites < weight_of w.star w.sites
     there l fl None fa answers = absurd (answers refl)
     there l fl (Some a) fa answers = each l a fl fa answers
 
-    linked : (o : Option BoardLink) → link_of i w.star.links ≡ o → ((at_linked board_operations w i f o).reply ≡ Nothing → ⊥)
-        → weight_of (at_linked board_operations w i f o).star (at_linked board_operations w i f o).sites < weight_of w.star w.sites
+    linked : (o : Option BoardLink) → link_of i w.star.links ≡ o → ((at_linked board_batches w i f o).reply ≡ Nothing → ⊥)
+        → weight_of (at_linked board_batches w i f o).star (at_linked board_batches w i f o).sites < weight_of w.star w.sites
     linked None fl answers = absurd (answers refl)
     linked (Some l) fl answers = there l fl (attached i w.sites) refl answers
 
 -- a delivery that answers something leaves less on its way
-pub delivery_lightens : (w : BoardWorld) (event : BoardEvent) → IsSound board_operations most_items w → IsDelivery event → ((outcome board_operations w event).reply ≡ Nothing → ⊥) → weight (happens board_operations w event) < weight w
+pub delivery_lightens : (w : BoardWorld) (event : BoardEvent) → IsSound board_batches most_batches w → IsDelivery event → ((outcome board_batches w event).reply ≡ Nothing → ⊥) → weight (happens board_batches w event) < weight w
 unfolding weight
 delivery_lightens w (MoveUp i) s delivers some = at_falls w i _ (λ l a fl fa answers. first_up_falls w s i l a fl fa a.up refl answers) some
 delivery_lightens w (MoveDown i) s delivers some = at_falls w i _ (λ l a fl fa answers. first_down_falls w s i l a fl fa a.down l.outbox refl refl answers) some

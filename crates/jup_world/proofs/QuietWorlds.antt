@@ -1,9 +1,9 @@
 -- Worlds in which no message is on its way.
 use Rattle.std.proofs.Common.{◌≡◌, refl, sym, ◌∙◌, ap, subst, ℕ, zero, suc, ◌+◌, ◌<◌, Bool, true, false, cond, List, [], ◌∷◌, length, map, get_or, drop, Some, is_some, option_map, arith, ◌↔◌, eqb-true, eq-eqb, ne_eqb}
 use Rattle.std.proofs.lemmas.List.{nil_from_length}
-use Rattle.jup_window.specs.BoardOperations.{board_operations}
-use Rattle.jup_window.specs.BoardsAreLawful.{board_laws}
-use Rattle.jup_star.specs.StarStates.{link_of, most_items}
+use Rattle.jup_batch.specs.BoardBatches.{board_batches}
+use Rattle.jup_batch.specs.BoardBatches.{batch_laws}
+use Rattle.jup_star.specs.StarStates.{link_of, most_batches}
 use Rattle.jup_star.specs.StarCalls.{BoardStar}
 use Rattle.jup_world.specs.declared.world.attached.Attached.{Attached}
 use Rattle.jup_world.specs.WorldStates.{attached, is_number, IsQuiet}
@@ -65,18 +65,18 @@ all_found least most (x ∷ later) P up each star quiet = (quiet x (each x.site.
         let other : is_number i x ≡ false = ne_eqb x.site.number i (λ e. absurd (omega arith)) in
         each i a (let low = up.0 in omega arith) (rw other found) number
 
-pub quiet_world : (w : BoardWorld) → IsWorld w → AllQuiet w.star w.sites ↔ IsQuiet board_operations w
+pub quiet_world : (w : BoardWorld) → IsWorld w → AllQuiet w.star w.sites ↔ IsQuiet board_batches w
 quiet_world w is = (to, from)
   where
-    to : AllQuiet w.star w.sites → IsQuiet board_operations w
+    to : AllQuiet w.star w.sites → IsQuiet board_batches w
     to all i l a fl fa =
         let one = found_quiet w.star i a w.sites fa all in
         (one.0.0, one.0.1, none_waits i w.star l fl (ap (λ n. option_map (λ k. length k.outbox) (link_of n w.star.links)) (sym one.1) ∙ one.0.2))
 
     linked : (i : ℕ) → is_some (attached i w.sites) ≡ is_some (link_of i w.star.links)
-    linked = (sound-promises board_operations board_laws most_items w is.board.sound).linked
+    linked = (sound-promises board_batches batch_laws most_batches w is.board.sound).linked
 
-    from : IsQuiet board_operations w → AllQuiet w.star w.sites
+    from : IsQuiet board_batches w → AllQuiet w.star w.sites
     from quiet = all_found 0 w.star.given w.sites (λ a. IsQuietAt a w.star) is.numbered.ascending
         (λ i a low found number.
         let l = some_link (link_of i w.star.links) (sym (linked i) ∙ ap is_some found) in
@@ -86,16 +86,16 @@ quiet_world w is = (to, from)
 
 -- # What a world promises
 
-pub promises : (w : BoardWorld) → IsWorld w → Promises board_operations w
-promises w is = sound-promises board_operations board_laws most_items w is.board.sound
+pub promises : (w : BoardWorld) → IsWorld w → Promises board_batches w
+promises w is = sound-promises board_batches batch_laws most_batches w is.board.sound
 
-pub backlogs : (w : BoardWorld) → IsWorld w → BacklogIsShort board_operations w
-backlogs w is = counts-backlog board_operations board_laws most_items w is.board.sound is.board.counts
+pub backlogs : (w : BoardWorld) → IsWorld w → BacklogIsShort board_batches w
+backlogs w is = counts-backlog board_batches batch_laws most_batches w is.board.sound is.board.counts
 
-pub tallies_of : (w : BoardWorld) → IsWorld w → Tallies board_operations w
-tallies_of w is = tallies board_operations w is.board.tallied
+pub tallies_of : (w : BoardWorld) → IsWorld w → Tallies board_batches w
+tallies_of w is = tallies board_batches w is.board.tallied
 
-pub all_agree : (w : BoardWorld) → IsWorld w → IsQuiet board_operations w → AllAgree w
+pub all_agree : (w : BoardWorld) → IsWorld w → IsQuiet board_batches w → AllAgree w
 all_agree w is quiet = record {
   equal = (promises w is).equal quiet;
   content = (promises w is).star_content;

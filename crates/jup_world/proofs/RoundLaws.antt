@@ -1,9 +1,9 @@
 -- Each delivery of a drain belongs to its round.
 use Rattle.std.proofs.Common.{◌≡◌, refl, sym, ◌∙◌, ap, subst, ℕ, ◌+◌, suc, Bool, true, false, not, ◌||◌, nat_lt, Option, Some, None, is_some, arith, ◌↔◌, IsTrue, IsFalse}
 use Rattle.std.proofs.lemmas.Bool.{lt-ltb}
-use Rattle.jup_window.specs.declared.edits.Edit.{Edit}
 use Rattle.jup_window.specs.declared.faults.EditFault.{EditFault}
-use Rattle.jup_window.specs.BoardOperations.{board_operations}
+use Rattle.jup_batch.specs.BoardBatches.{board_batches}
+use Rattle.jup_batch.specs.BatchBoards.{BoardEdits}
 use Rattle.jup_world.specs.declared.events.Reply.{Reply}
 use Rattle.jup_world.specs.declared.events.Reply.TheVariants as answer
 use Rattle.jup_world.specs.Events.{Nothing}
@@ -17,15 +17,15 @@ use Rattle.jup_world.specs.Rounds.{Repeats, Delivers, Visits, Passes, IsRound}
 use Rattle.jup_world.proofs.DrainSteps.{nothing_numbered}
 
 -- one delivery, and what it tells
-pub delivery_told : (way : Way) (i : ℕ) (w v : LaneWorld) (reply : Reply Edit EditFault) (nothing : Bool) → Steps w (Plain (way_event way i)) v
-    → numbered_reply reply ≡ (outcome board_operations (messages_of w) (way_event way i)).reply → (IsTrue nothing ↔ (reply ≡ answer.Nothing)) → Delivers way i (not nothing) w v
+pub delivery_told : (way : Way) (i : ℕ) (w v : LaneWorld) (reply : Reply BoardEdits EditFault) (nothing : Bool) → Steps w (Plain (way_event way i)) v
+    → numbered_reply reply ≡ (outcome board_batches (messages_of w) (way_event way i)).reply → (IsTrue nothing ↔ (reply ≡ answer.Nothing)) → Delivers way i (not nothing) w v
 delivery_told way i w v reply nothing step tells test = record { step = step; nothing = (still nothing test.0, none nothing test.1) }
   where
-    still : (b : Bool) → (IsTrue b → reply ≡ answer.Nothing) → IsFalse (not b) → (outcome board_operations (messages_of w) (way_event way i)).reply ≡ Nothing
+    still : (b : Bool) → (IsTrue b → reply ≡ answer.Nothing) → IsFalse (not b) → (outcome board_batches (messages_of w) (way_event way i)).reply ≡ Nothing
     still true is e = sym tells ∙ ap numbered_reply (is refl)
     still false is e = absurd cc
 
-    none : (b : Bool) → (reply ≡ answer.Nothing → IsTrue b) → (outcome board_operations (messages_of w) (way_event way i)).reply ≡ Nothing → IsFalse (not b)
+    none : (b : Bool) → (reply ≡ answer.Nothing → IsTrue b) → (outcome board_batches (messages_of w) (way_event way i)).reply ≡ Nothing → IsFalse (not b)
     none true is e = refl
     none false is e = absurd (let h = is (nothing_numbered reply (tells ∙ e)) in cc)
 

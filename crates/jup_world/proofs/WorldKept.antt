@@ -1,12 +1,12 @@
 -- What holds of every world of the program: as it is opened, after each event, and after want of memory.
 use Rattle.std.proofs.Common.{◌≡◌, refl, sym, ◌∙◌, ap, subst, inl, inr, ℕ, ◌≤◌, Bool, true, false, ◌&&◌, List, [], ◌∷◌, ◌++◌, drop, length, nat_le, Option, Some, None, Result, Ok, Err, arith, leb-false, append-nil, drop_of_length-le, le_refl}
 use Rattle.std.proofs.lemmas.Bool.{leb-true}
-use Rattle.jup_window.specs.Boards as board
+use Rattle.jup_batch.specs.BatchBoards as board
 use Rattle.jup_window.specs.Sites.{has_site, only_site}
-use Rattle.jup_window.specs.declared.board_operations.BoardOp.{BoardOp}
 use Rattle.jup_window.specs.Entries.{EachWidget}
-use Rattle.jup_window.specs.BoardOperations.{board_operations}
-use Rattle.jup_window.specs.BoardsAreLawful.{board_laws}
+use Rattle.jup_batch.specs.BoardBatches.{board_batches}
+use Rattle.jup_batch.specs.BoardBatches.{batch_laws}
+use Rattle.jup_batch.specs.BatchBoards.{BoardBatch}
 use Rattle.jup_star.specs.declared.messages.Up.{Up}
 use Rattle.jup_star.specs.declared.messages.Up.TheVariants.{Op as UpOp, Ack as UpAck, Ping as UpPing}
 use Rattle.jup_star.specs.declared.messages.Down.{Down}
@@ -16,7 +16,7 @@ use Rattle.jup_star.specs.declared.faults.SiteFault.{SiteFault}
 use Rattle.jup_star.specs.declared.faults.OpenFault.TheVariants.{BadLimit, BadSite}
 use Rattle.jup_star.specs.FirstFaults.{test, first_fault}
 use Rattle.jup_star.specs.LinkStates.{operation_at}
-use Rattle.jup_star.specs.StarStates.{link_of, join_fault, up_fault, most_items}
+use Rattle.jup_star.specs.StarStates.{link_of, join_fault, up_fault, most_batches}
 use Rattle.jup_star.specs.SiteStates.{edit_answer, deliver_fault}
 use Rattle.jup_star.specs.StarCalls.{BoardStar, star_open_fault}
 use Rattle.jup_star.specs.Openings.{IsShort}
@@ -33,13 +33,13 @@ use Rattle.jup_world.specs.Happenings.{AreNumbered, AreReady, OldestFits, IsWorl
 use Rattle.jup_world.proofs.SoundRuns.{sound-promises}
 use Rattle.jup_world.proofs.Withheld.{fall_fits}
 use Rattle.jup_world.proofs.SitePlaces.{ascending_without, ascending_at, ascending_end}
-use Rattle.jup_world.proofs.GivenNames.{board_none, layout_none}
+use Rattle.jup_world.proofs.GivenNames.{batch_none, layout_none}
 use Rattle.jup_world.proofs.BoardWorldLaws.{opened_sound, happens_sound, fetched_sound}
 
 -- # Numbers
 
 -- what an outcome leaves
-abbrev KeepsNumbers : Outcome board_operations → Type 0
+abbrev KeepsNumbers : Outcome board_batches → Type 0
 KeepsNumbers o = AreNumbered o.star o.sites
 
 -- the star stays, and the sites keep their numbers
@@ -51,7 +51,7 @@ sites_numbered s t xs ys is given limit same up = record {
   named = λ i above. ap (has_site i) same ∙ is.named i (omega arith);
 }
 
-join_numbered : (w : BoardWorld) → AreNumbered w.star w.sites → (f : Option StarFault) → KeepsNumbers (join_outcome board_operations w f)
+join_numbered : (w : BoardWorld) → AreNumbered w.star w.sites → (f : Option StarFault) → KeepsNumbers (join_outcome board_batches w f)
 join_numbered w is (Some fault) = is
 join_numbered w is None = record {
   ascending = ascending_end 0 w.star.given _ w.sites refl is.ascending;
@@ -60,70 +60,70 @@ join_numbered w is None = record {
   named = λ i above. is.named i (omega arith);
 }
 
-edit_numbered : (w : BoardWorld) → AreNumbered w.star w.sites → (i : ℕ) (r : Result BoardOp ℕ) → KeepsNumbers (edit_outcome board_operations w i r)
+edit_numbered : (w : BoardWorld) → AreNumbered w.star w.sites → (i : ℕ) (r : Result BoardBatch ℕ) → KeepsNumbers (edit_outcome board_batches w i r)
 edit_numbered w is i (Err n) = is
-edit_numbered w is i (Ok op) = sites_numbered w.star w.star w.sites _ is refl refl refl (ascending_at (with_edit board_operations op) i 0 w.star.given (λ a. refl) w.sites is.ascending)
+edit_numbered w is i (Ok op) = sites_numbered w.star w.star w.sites _ is refl refl refl (ascending_at (with_edit board_batches op) i 0 w.star.given (λ a. refl) w.sites is.ascending)
 
 -- a link that is there has a number that was given
-pub link_given : (w : BoardWorld) → IsSound board_operations most_items w → (i : ℕ) (l : BoardLink) → link_of i w.star.links ≡ Some l → i ≤ w.star.given
+pub link_given : (w : BoardWorld) → IsSound board_batches most_batches w → (i : ℕ) (l : BoardLink) → link_of i w.star.links ≡ Some l → i ≤ w.star.given
 link_given w s i l found = cases (nat_le i w.star.given) refl
   where
     cases : (b : Bool) → nat_le i w.star.given ≡ b → i ≤ w.star.given
     cases true e = leb-true i w.star.given e
     cases false e = absurd (let none = s.star.no_link i (leb-false i w.star.given e) in cc)
 
-up_numbered : (w : BoardWorld) → IsSound board_operations most_items w → AreNumbered w.star w.sites → (i : ℕ) (l : BoardLink) → link_of i w.star.links ≡ Some l → l.site ≡ i → (up : Up BoardOp) (f : Option StarFault) → up_fault board_operations w.star l up ≡ f
-    → KeepsNumbers (up_outcome board_operations w i l up f)
+up_numbered : (w : BoardWorld) → IsSound board_batches most_batches w → AreNumbered w.star w.sites → (i : ℕ) (l : BoardLink) → link_of i w.star.links ≡ Some l → l.site ≡ i → (up : Up BoardBatch) (f : Option StarFault) → up_fault board_batches w.star l up ≡ f
+    → KeepsNumbers (up_outcome board_batches w i l up f)
 up_numbered w s is i l found number up (Some fault) e = sites_numbered w.star _ w.sites _ is refl refl refl (ascending_without i 0 w.star.given w.sites is.ascending)
 up_numbered w s is i l found number (UpOp m) None e = record {
-  ascending = ascending_at (one_taken board_operations) i 0 w.star.given (λ a. refl) w.sites is.ascending;
+  ascending = ascending_at (one_taken board_batches) i 0 w.star.given (λ a. refl) w.sites is.ascending;
   positive = is.positive;
   limited = is.limited;
-  named = λ j above. board_none j (operation_at board_operations l.end m) w.star.board
-      (λ n put same. let site = taken_site board_operations board_laws w.star l m n e put in let given = link_given w s i l found in absurd (omega arith)) (is.named j above);
+  named = λ j above. batch_none j (operation_at board_batches l.end m) w.star.board
+      (λ n put same. let site = taken_site board_batches batch_laws w.star l m n e put in let given = link_given w s i l found in absurd (omega arith)) (is.named j above);
 }
-up_numbered w s is i l found number (UpAck k) None e = sites_numbered w.star _ w.sites _ is refl refl refl (ascending_at (one_taken board_operations) i 0 w.star.given (λ a. refl) w.sites is.ascending)
-up_numbered w s is i l found number (UpPing k) None e = sites_numbered w.star _ w.sites _ is refl refl refl (ascending_at (one_taken board_operations) i 0 w.star.given (λ a. refl) w.sites is.ascending)
+up_numbered w s is i l found number (UpAck k) None e = sites_numbered w.star _ w.sites _ is refl refl refl (ascending_at (one_taken board_batches) i 0 w.star.given (λ a. refl) w.sites is.ascending)
+up_numbered w s is i l found number (UpPing k) None e = sites_numbered w.star _ w.sites _ is refl refl refl (ascending_at (one_taken board_batches) i 0 w.star.given (λ a. refl) w.sites is.ascending)
 
-first_up_numbered : (w : BoardWorld) → IsSound board_operations most_items w → AreNumbered w.star w.sites → (i : ℕ) (l : BoardLink) → link_of i w.star.links ≡ Some l → l.site ≡ i → (us : List (Up BoardOp)) → KeepsNumbers (first_up board_operations w i l us)
+first_up_numbered : (w : BoardWorld) → IsSound board_batches most_batches w → AreNumbered w.star w.sites → (i : ℕ) (l : BoardLink) → link_of i w.star.links ≡ Some l → l.site ≡ i → (us : List (Up BoardBatch)) → KeepsNumbers (first_up board_batches w i l us)
 first_up_numbered w s is i l found number [] = is
-first_up_numbered w s is i l found number (up ∷ us) = up_numbered w s is i l found number up (up_fault board_operations w.star l up) refl
+first_up_numbered w s is i l found number (up ∷ us) = up_numbered w s is i l found number up (up_fault board_batches w.star l up) refl
 
-handed_numbered : (w : BoardWorld) → AreNumbered w.star w.sites → (i gone : ℕ) (d : Down BoardOp) (ds : List (Down BoardOp)) (f : Option SiteFault) → KeepsNumbers (down_outcome board_operations w i gone d ds f)
+handed_numbered : (w : BoardWorld) → AreNumbered w.star w.sites → (i gone : ℕ) (d : Down BoardBatch) (ds : List (Down BoardBatch)) (f : Option SiteFault) → KeepsNumbers (down_outcome board_batches w i gone d ds f)
 handed_numbered w is i gone d ds (Some fault) = is
-handed_numbered w is i gone d ds None = sites_numbered w.star _ w.sites _ is refl refl refl (ascending_at (one_handed board_operations d ds) i 0 w.star.given (received_number d) w.sites is.ascending)
+handed_numbered w is i gone d ds None = sites_numbered w.star _ w.sites _ is refl refl refl (ascending_at (one_handed board_batches d ds) i 0 w.star.given (received_number d) w.sites is.ascending)
   where
-    received_number : (d : Down BoardOp) (a : BoardAttached) → (one_handed board_operations d ds a).site.number ≡ a.site.number
+    received_number : (d : Down BoardBatch) (a : BoardAttached) → (one_handed board_batches d ds a).site.number ≡ a.site.number
     received_number (DownOp m) a = refl
     received_number (DownAck n) a = refl
     received_number (DownPong k) a = refl
 
-down_numbered : (w : BoardWorld) → AreNumbered w.star w.sites → (i : ℕ) (a : BoardAttached) (ds os : List (Down BoardOp)) → KeepsNumbers (first_down board_operations w i a ds os)
-down_numbered w is i a (d ∷ ds) os = handed_numbered w is i 0 d ds (deliver_fault board_operations d a.site)
-down_numbered w is i a [] (d ∷ os) = handed_numbered w is i 1 d [] (deliver_fault board_operations d a.site)
+down_numbered : (w : BoardWorld) → AreNumbered w.star w.sites → (i : ℕ) (a : BoardAttached) (ds os : List (Down BoardBatch)) → KeepsNumbers (first_down board_batches w i a ds os)
+down_numbered w is i a (d ∷ ds) os = handed_numbered w is i 0 d ds (deliver_fault board_batches d a.site)
+down_numbered w is i a [] (d ∷ os) = handed_numbered w is i 1 d [] (deliver_fault board_batches d a.site)
 down_numbered w is i a [] [] = is
 
 -- an event at a site
-at_numbered : (w : BoardWorld) → AreNumbered w.star w.sites → (i : ℕ) (f : BoardLink → BoardAttached → Outcome board_operations)
-    → ((l : BoardLink) (a : BoardAttached) → link_of i w.star.links ≡ Some l → KeepsNumbers (f l a)) → KeepsNumbers (at_number board_operations w i f)
+at_numbered : (w : BoardWorld) → AreNumbered w.star w.sites → (i : ℕ) (f : BoardLink → BoardAttached → Outcome board_batches)
+    → ((l : BoardLink) (a : BoardAttached) → link_of i w.star.links ≡ Some l → KeepsNumbers (f l a)) → KeepsNumbers (at_number board_batches w i f)
 at_numbered w is i f h = linked (link_of i w.star.links) refl
   where
-    there : (l : BoardLink) → link_of i w.star.links ≡ Some l → (o : Option BoardAttached) → KeepsNumbers (at_attached board_operations w l f o)
+    there : (l : BoardLink) → link_of i w.star.links ≡ Some l → (o : Option BoardAttached) → KeepsNumbers (at_attached board_batches w l f o)
     there l found None = is
     there l found (Some a) = h l a found
 
-    linked : (o : Option BoardLink) → link_of i w.star.links ≡ o → KeepsNumbers (at_linked board_operations w i f o)
+    linked : (o : Option BoardLink) → link_of i w.star.links ≡ o → KeepsNumbers (at_linked board_batches w i f o)
     linked None found = is
     linked (Some l) found = there l found (attached i w.sites)
 
 -- each event
-pub numbered_outcome : (w : BoardWorld) (e : BoardEvent) → IsSound board_operations most_items w → AreNumbered w.star w.sites → KeepsNumbers (outcome board_operations w e)
+pub numbered_outcome : (w : BoardWorld) (e : BoardEvent) → IsSound board_batches most_batches w → AreNumbered w.star w.sites → KeepsNumbers (outcome board_batches w e)
 numbered_outcome w Join s is = join_numbered w is (join_fault w.star)
 numbered_outcome w (Leave i) s is = at_numbered w is i _ (λ l a found. sites_numbered w.star _ w.sites _ is refl refl refl (ascending_without i 0 w.star.given w.sites is.ascending))
-numbered_outcome w (MakeEdit i command) s is = at_numbered w is i _ (λ l a found. edit_numbered w is i (edit_answer board_operations command a.site))
+numbered_outcome w (MakeEdit i command) s is = at_numbered w is i _ (λ l a found. edit_numbered w is i (edit_answer board_batches command a.site))
 numbered_outcome w (MoveUp i) s is = at_numbered w is i _ (λ l a found. first_up_numbered w s is i l found (link_site i l w.star.links found) a.up)
 numbered_outcome w (MoveDown i) s is = at_numbered w is i _ (λ l a found. down_numbered w is i a a.down l.outbox)
-numbered_outcome w (SendPing i k) s is = at_numbered w is i _ (λ l a found. sites_numbered w.star _ w.sites _ is refl refl refl (ascending_at (pinged board_operations k) i 0 w.star.given (λ a. refl) w.sites is.ascending))
+numbered_outcome w (SendPing i k) s is = at_numbered w is i _ (λ l a found. sites_numbered w.star _ w.sites _ is refl refl refl (ascending_at (pinged board_batches k) i 0 w.star.given (λ a. refl) w.sites is.ascending))
 
 -- # Worlds
 
@@ -133,7 +133,7 @@ open_held true true false none = absurd (cc)
 open_held true false c none = absurd (cc)
 open_held false b c none = absurd (cc)
 
-pub world_opened : (b : board.Windows) (limit : ℕ) → star_open_fault (board.bare b) limit ≡ None → board.HasDistinctNames b → EachWidget IsShort b → IsWorld (opened_world board_operations (board.bare b) limit)
+pub world_opened : (b : board.Windows) (limit : ℕ) → star_open_fault (board.bare b) limit ≡ None → board.HasDistinctNames b → EachWidget IsShort b → IsWorld (opened_world board_batches (board.bare b) limit)
 world_opened b limit none distinct short =
     let held = open_held (nat_le 1 limit) (nat_le limit 16777216) (only_site 0 (board.bare b)) none in
     record {
@@ -146,29 +146,29 @@ world_opened b limit none distinct short =
       };
     }
 
-pub world_happens : (w : BoardWorld) (e : BoardEvent) → IsWorld w → IsWorld (happens board_operations w e)
+pub world_happens : (w : BoardWorld) (e : BoardEvent) → IsWorld w → IsWorld (happens board_batches w e)
 world_happens w e is = record { board = happens_sound w e is.board; numbered = numbered_outcome w e is.board.sound is.numbered }
 
 pub world_spared : (w v : BoardWorld) → IsWorld w → IsSpared w v → IsWorld v
 world_spared w v is (inl same) = subst IsWorld (sym same) is
 world_spared w v is (inr fetched) = subst IsWorld (sym fetched.5) (still fetched.0 fetched.1 fetched.2 fetched.3 fetched.4)
   where
-    still : (i : ℕ) (l : BoardLink) (a : BoardAttached) → link_of i w.star.links ≡ Some l → attached i w.sites ≡ Some a → IsWorld (only_fetched board_operations w i 1 l)
+    still : (i : ℕ) (l : BoardLink) (a : BoardAttached) → link_of i w.star.links ≡ Some l → attached i w.sites ≡ Some a → IsWorld (only_fetched board_batches w i 1 l)
     still i l a fl fa = record {
       board = fetched_sound w i 1 l a fl fa is.board;
-      numbered = sites_numbered w.star _ w.sites _ is.numbered refl refl refl (ascending_at (with_fetched board_operations 1 l) i 0 w.star.given (λ b. refl) w.sites is.numbered.ascending);
+      numbered = sites_numbered w.star _ w.sites _ is.numbered refl refl refl (ascending_at (with_fetched board_batches 1 l) i 0 w.star.given (λ b. refl) w.sites is.numbered.ascending);
     }
 
 -- # What an event asks
 
-oldest_fits : (w : BoardWorld) → IsSound board_operations most_items w → OldestFits w.star w.sites
+oldest_fits : (w : BoardWorld) → IsSound board_batches most_batches w → OldestFits w.star w.sites
 oldest_fits w s i l a down rest fl fa e =
-    let all : rest ++ drop (length l.outbox) l.outbox ≡ rest = ap (λ (ds : List (Down BoardOp)). rest ++ ds) (drop_of_length-le l.outbox (le_refl _)) ∙ append-nil rest in
-    fall_fits board_operations board_laws most_items w s i l a fl fa down (length l.outbox) rest (ap downs (e ∙ ap (λ (ds : List (Down BoardOp)). down ∷ ds) (sym all)))
+    let all : rest ++ drop (length l.outbox) l.outbox ≡ rest = ap (λ (ds : List (Down BoardBatch)). rest ++ ds) (drop_of_length-le l.outbox (le_refl _)) ∙ append-nil rest in
+    fall_fits board_batches batch_laws most_batches w s i l a fl fa down (length l.outbox) rest (ap downs (e ∙ ap (λ (ds : List (Down BoardBatch)). down ∷ ds) (sym all)))
 
 pub world_ready : (w : BoardWorld) → IsWorld w → AreReady w.star w.sites
 world_ready w is = record {
   numbered = is.numbered;
-  linked = (sound-promises board_operations board_laws most_items w is.board.sound).linked;
+  linked = (sound-promises board_batches batch_laws most_batches w is.board.sound).linked;
   fits = oldest_fits w is.board.sound;
 }

@@ -1,6 +1,6 @@
 -- The rounds in which a world is drained.
 use Rattle.std.specs.Prelude.{◌≡◌, ◌<◌, ℕ, Some, IsTrue, IsFalse, Bool}
-use Rattle.jup_window.specs.BoardOperations.{board_operations}
+use Rattle.jup_batch.specs.BoardBatches.{board_batches}
 use Rattle.jup_world.specs.Events.{Up as MoveUp, Down as MoveDown}
 use Rattle.jup_world.specs.Events.{Nothing}
 use Rattle.jup_world.specs.declared.world.draining.Way.{Way}
@@ -26,7 +26,7 @@ pub record Settles (moved : Bool) (w v : LaneWorld) : Type 0 where
 
 -- a delivery at this site, if it is attached, moves nothing
 abbrev pub MovesNothing : Way → ℕ → BoardWorld → Type 0
-MovesNothing way i w = (a : BoardAttached) → attached i w.sites ≡ Some a → (outcome board_operations w (way_event way i)).reply ≡ Nothing
+MovesNothing way i w = (a : BoardAttached) → attached i w.sites ≡ Some a → (outcome board_batches w (way_event way i)).reply ≡ Nothing
 
 -- nor does one at any
 abbrev pub NothingMoves : Way → BoardWorld → Type 0

@@ -1,12 +1,9 @@
 -- What an event does to a star and its sites, whatever else their world keeps.
 use Rattle.std.specs.Prelude.{◌≡◌, ◌⊎◌, ◌<◌, ◌≤◌, ℕ, false, List, [], ◌∷◌, ◌++◌, take, length, Option, Some, None, is_some, Result, Ok, Err}
 use Rattle.std.specs.Option.{option_map}
-use Rattle.jup_window.specs.Boards.{Windows}
+use Rattle.jup_batch.specs.BatchBoards.{BoardBatch, BoardEdits, Commands, Windows}
 use Rattle.jup_window.specs.Sites.{has_site}
-use Rattle.jup_window.specs.declared.board_operations.BoardOp.{BoardOp}
-use Rattle.jup_window.specs.declared.commands.Command.{Command}
-use Rattle.jup_window.specs.declared.edits.Edit.{Edit}
-use Rattle.jup_window.specs.BoardOperations.{board_operations}
+use Rattle.jup_batch.specs.BoardBatches.{board_batches}
 use Rattle.jup_star.specs.declared.messages.Down.{Down}
 use Rattle.jup_star.specs.StarStates.{link_of, fetched}
 use Rattle.jup_star.specs.SiteStates.{deliver_fault}
@@ -26,33 +23,33 @@ use Rattle.jup_world.specs.SiteNumbers.{AreAscending}
 -- an event at this star and these sites answers this, and leaves those
 abbrev pub Plays : BoardEvent → BoardStar → List BoardAttached → BoardReply → BoardStar → List BoardAttached → Type 0
 Plays event star sites reply next_star next_sites =
-    (opening : Windows) (trace : List (Happened Command Edit ℕ))
-    → outcome board_operations (record { opening = opening; star = star; sites = sites; trace = trace }) event
+    (opening : Windows) (trace : List (Happened Commands BoardEdits ℕ))
+    → outcome board_batches (record { opening = opening; star = star; sites = sites; trace = trace }) event
     ≡ record { reply = reply; star = next_star; sites = next_sites }
 
 -- want of memory left all as it was, but that the oldest message of the outbox of a link may stand in its empty down stream
 abbrev pub Spares : ℕ → BoardLink → BoardStar → List BoardAttached → BoardStar → List BoardAttached → Type 0
 Spares i l star sites next_star next_sites =
     ((next_star ≡ star) × (next_sites ≡ sites))
-    ⊎ ((next_star ≡ fetched i 1 star) × (next_sites ≡ at_site i (with_fetched board_operations 1 l) sites))
+    ⊎ ((next_star ≡ fetched i 1 star) × (next_sites ≡ at_site i (with_fetched board_batches 1 l) sites))
 
 -- a site that makes the edit of an operation, or was refused
-abbrev pub with_answer : Result BoardOp ℕ → BoardAttached → BoardAttached
-with_answer (Ok op) a = with_edit board_operations op a
+abbrev pub with_answer : Result BoardBatch ℕ → BoardAttached → BoardAttached
+with_answer (Ok op) a = with_edit board_batches op a
 with_answer (Err number) a = a
 
 -- the star was handed the oldest message of a site's up stream, if there is one, and took it
-abbrev pub Rises : ℕ → List (Up BoardOp) → BoardStar → BoardStar → BoardReply → Type 0
+abbrev pub Rises : ℕ → List (Up BoardBatch) → BoardStar → BoardStar → BoardReply → Type 0
 Rises i [] star next reply = (reply ≡ Nothing) × (next ≡ star)
-Rises i (up ∷ ups) star next reply = (place : Option ℕ) × (reply ≡ place_reply board_operations place) × Answers (Take i up) star next (Taken (Ok place))
+Rises i (up ∷ ups) star next reply = (place : Option ℕ) × (reply ≡ place_reply board_batches place) × Answers (Take i up) star next (Taken (Ok place))
 
 -- or refused it
-abbrev pub IsRefused : ℕ → List (Up BoardOp) → BoardStar → BoardStar → StarFault → Type 0
+abbrev pub IsRefused : ℕ → List (Up BoardBatch) → BoardStar → BoardStar → StarFault → Type 0
 IsRefused i [] star next fault = ⊥
 IsRefused i (up ∷ ups) star next fault = Answers (Take i up) star next (Taken (Err fault))
 
 -- a site whose empty down stream was given the oldest message of its outbox
-abbrev pub refilled_from : List (Down BoardOp) → List (Down BoardOp) → List (Down BoardOp)
+abbrev pub refilled_from : List (Down BoardBatch) → List (Down BoardBatch) → List (Down BoardBatch)
 refilled_from [] outbox = take 1 outbox
 refilled_from (down ∷ downs) outbox = down ∷ downs
 
@@ -60,7 +57,7 @@ abbrev pub refilled : BoardLink → BoardAttached → BoardAttached
 refilled l a = record a { down = refilled_from a.down l.outbox }
 
 -- and the star that it was fetched from
-abbrev pub fetched_for : ℕ → List (Down BoardOp) → List (Down BoardOp) → BoardStar → BoardStar
+abbrev pub fetched_for : ℕ → List (Down BoardBatch) → List (Down BoardBatch) → BoardStar → BoardStar
 fetched_for i [] [] star = star
 fetched_for i [] (down ∷ outbox) star = fetched i 1 star
 fetched_for i (down ∷ downs) outbox star = star
@@ -69,24 +66,24 @@ abbrev pub refilled_star : BoardLink → BoardAttached → BoardStar → BoardSt
 refilled_star l a star = fetched_for a.site.number a.down l.outbox star
 
 -- a site that was handed the oldest message of its down stream, and what that answers
-abbrev pub handed_first : List (Down BoardOp) → BoardAttached → BoardAttached
+abbrev pub handed_first : List (Down BoardBatch) → BoardAttached → BoardAttached
 handed_first [] a = a
-handed_first (down ∷ downs) a = one_handed board_operations down downs a
+handed_first (down ∷ downs) a = one_handed board_batches down downs a
 
 abbrev pub handed : BoardAttached → BoardAttached
 handed a = handed_first a.down a
 
-abbrev pub reply_to : List (Down BoardOp) → BoardReply
+abbrev pub reply_to : List (Down BoardBatch) → BoardReply
 reply_to [] = Nothing
-reply_to (down ∷ downs) = down_reply board_operations down
+reply_to (down ∷ downs) = down_reply board_batches down
 
 abbrev pub first_reply : BoardAttached → BoardReply
 first_reply a = reply_to a.down
 
 -- the site takes it
-abbrev pub FitsFirst : List (Down BoardOp) → BoardSite → Type 0
+abbrev pub FitsFirst : List (Down BoardBatch) → BoardSite → Type 0
 FitsFirst [] site = Unit {0}
-FitsFirst (down ∷ downs) site = deliver_fault board_operations down site ≡ None
+FitsFirst (down ∷ downs) site = deliver_fault board_batches down site ≡ None
 
 abbrev pub FirstFits : BoardAttached → Type 0
 FirstFits a = FitsFirst a.down a.site
@@ -114,9 +111,9 @@ pub record AreNumbered (star : BoardStar) (sites : List BoardAttached) : Type 0 
 -- the oldest message on its way down to a site is one that it takes
 abbrev pub OldestFits : BoardStar → List BoardAttached → Type 0
 OldestFits star sites =
-    (i : ℕ) (l : BoardLink) (a : BoardAttached) (down : Down BoardOp) (downs : List (Down BoardOp))
+    (i : ℕ) (l : BoardLink) (a : BoardAttached) (down : Down BoardBatch) (downs : List (Down BoardBatch))
     → link_of i star.links ≡ Some l → attached i sites ≡ Some a → a.down ++ l.outbox ≡ down ∷ downs
-    → deliver_fault board_operations down a.site ≡ None
+    → deliver_fault board_batches down a.site ≡ None
 
 -- what an event asks of a star and its sites
 pub record AreReady (star : BoardStar) (sites : List BoardAttached) : Type 0 where
@@ -134,4 +131,4 @@ abbrev pub IsSpared : BoardWorld → BoardWorld → Type 0
 IsSpared w v =
     (v ≡ w)
     ⊎ ((i : ℕ) × (l : BoardLink) × (a : BoardAttached) × (link_of i w.star.links ≡ Some l) × (attached i w.sites ≡ Some a)
-    × (v ≡ only_fetched board_operations w i 1 l))
+    × (v ≡ only_fetched board_batches w i 1 l))

@@ -1,6 +1,6 @@
 -- What all sites come to, once no message is on its way.
 use Rattle.std.specs.Prelude.{◌≡◌, ◌≤◌, ℕ, length, Some}
-use Rattle.jup_window.specs.Boards.{content, meaning}
+use Rattle.jup_batch.specs.BatchBoards.{content, meaning}
 use Rattle.jup_world.specs.Turns.{turns, edits, own_edits}
 use Rattle.jup_world.specs.WorldStates.{attached}
 use Rattle.jup_world.specs.Traces.{order_of, made}

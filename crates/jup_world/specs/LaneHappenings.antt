@@ -1,8 +1,7 @@
 -- What an event does to a star and its sites whose links carry bytes, whatever else their world keeps.
 use Rattle.std.specs.Prelude.{◌≡◌, ◌⊎◌, ℕ, List, [], ◌∷◌, length, map, Some}
-use Rattle.jup_window.specs.Boards.{Windows}
-use Rattle.jup_window.specs.declared.board_operations.BoardOp.{BoardOp}
-use Rattle.jup_window.specs.BoardOperations.{board_operations}
+use Rattle.jup_batch.specs.BatchBoards.{BoardBatch, Windows}
+use Rattle.jup_batch.specs.BoardBatches.{board_batches}
 use Rattle.jup_star.specs.declared.messages.Down.{Down}
 use Rattle.jup_star.specs.StarStates.{link_of, fetched}
 use Rattle.jup_star.specs.StarCalls.{BoardStar}
@@ -64,16 +63,16 @@ pub record RestsDown (l : BoardLink) (a b : LaneSite) : Type 0 where
   pub carry : Carries downs a.down → Carries downs b.down
 
 -- the messages of a site whose down stream was filled, if it had no byte
-abbrev pub filled_messages : List ℕ → BoardLink → List (Down BoardOp) → BoardAttached → BoardAttached
+abbrev pub filled_messages : List ℕ → BoardLink → List (Down BoardBatch) → BoardAttached → BoardAttached
 filled_messages [] l [] a = a
-filled_messages [] l (down ∷ outbox) a = with_fetched board_operations 1 l a
+filled_messages [] l (down ∷ outbox) a = with_fetched board_batches 1 l a
 filled_messages (byte ∷ stream) l outbox a = a
 
 abbrev pub with_filled : List ℕ → BoardLink → BoardAttached → BoardAttached
 with_filled stream l a = filled_messages stream l l.outbox a
 
 -- and the star that it was fetched from
-abbrev pub star_filled : ℕ → List ℕ → List (Down BoardOp) → BoardStar → BoardStar
+abbrev pub star_filled : ℕ → List ℕ → List (Down BoardBatch) → BoardStar → BoardStar
 star_filled i [] [] star = star
 star_filled i [] (down ∷ outbox) star = fetched i 1 star
 star_filled i (byte ∷ stream) outbox star = star
@@ -102,7 +101,7 @@ pub record AreRead (event : LaneEvent) (star : BoardStar) (sites next_sites : Li
 pub record SitesRest (event : LaneEvent) (star : BoardStar) (sites : List LaneSite) (next_star : BoardStar) (next_sites : List LaneSite) : Type 0 where
   pub messages : ((next_star ≡ star) × (map bare_site next_sites ≡ map bare_site sites))
       ⊎ ((i : ℕ) × (l : BoardLink) × (a : LaneSite) × TouchesDown event i × (link_of i star.links ≡ Some l) × (lane_site i sites ≡ Some a)
-      × (next_star ≡ fetched i 1 star) × (map bare_site next_sites ≡ at_site i (with_fetched board_operations 1 l) (map bare_site sites)))
+      × (next_star ≡ fetched i 1 star) × (map bare_site next_sites ≡ at_site i (with_fetched board_batches 1 l) (map bare_site sites)))
   pub carry : AllCarry sites → AllCarry next_sites
   pub up : (j : ℕ) (a b : LaneSite) → lane_site j sites ≡ Some a → lane_site j next_sites ≡ Some b → (b.up ≡ a.up) ⊎ (TouchesUp event j × IsMovedOn a.up b.up)
   pub down : (j : ℕ) (l : BoardLink) (a b : LaneSite) → link_of j star.links ≡ Some l → lane_site j sites ≡ Some a → lane_site j next_sites ≡ Some b

@@ -1,8 +1,8 @@
 -- What an event does to a world whose links carry bytes, and what want of memory leaves.
 use Rattle.std.specs.Prelude.{◌≡◌, ◌⊎◌, ℕ, ◌+◌, ◌-◌, cond, min, nat_eq, List, [], ◌∷◌, ◌++◌, length, Option, Some, None, slice_get, take}
-use Rattle.jup_window.specs.BoardOperations.{board_operations}
+use Rattle.jup_batch.specs.BoardBatches.{board_batches}
+use Rattle.jup_batch.specs.BatchBoards.{BoardBatch}
 use Rattle.jup_star.specs.declared.messages.Down.{Down}
-use Rattle.jup_window.specs.declared.board_operations.BoardOp.{BoardOp}
 use Rattle.jup_star.specs.StarStates.{link_of}
 use Rattle.jup_lane.specs.Codecs.{bytes_of}
 use Rattle.jup_lane.specs.Lanes.{Way, sent, messages, IsMovedOn, oldest_length}
@@ -25,7 +25,7 @@ there_up None = []
 there_up (Some a) = a.up.stream
 
 -- those that stand in a down stream once it is filled: where it has none, those of the oldest message of the outbox
-abbrev pub filled_stream : List ℕ → List (Down BoardOp) → List ℕ
+abbrev pub filled_stream : List ℕ → List (Down BoardBatch) → List ℕ
 filled_stream [] [] = []
 filled_stream [] (down ∷ outbox) = bytes_of downs down
 filled_stream (byte ∷ stream) outbox = byte ∷ stream
@@ -38,9 +38,9 @@ there_down (Some l) None = []
 there_down (Some l) (Some a) = filled_stream a.down.stream l.outbox
 
 -- the messages, once an empty down stream was filled
-abbrev pub filled_from : BoardWorld → ℕ → BoardLink → List ℕ → List (Down BoardOp) → BoardWorld
+abbrev pub filled_from : BoardWorld → ℕ → BoardLink → List ℕ → List (Down BoardBatch) → BoardWorld
 filled_from m i l [] [] = m
-filled_from m i l [] (down ∷ outbox) = only_fetched board_operations m i 1 l
+filled_from m i l [] (down ∷ outbox) = only_fetched board_batches m i 1 l
 filled_from m i l (byte ∷ stream) outbox = m
 
 abbrev pub filled_for : BoardWorld → ℕ → Option BoardLink → Option LaneSite → BoardWorld
@@ -50,11 +50,11 @@ filled_for m i (Some l) None = m
 filled_for m i (Some l) (Some a) = filled_from m i l a.down.stream l.outbox
 
 -- each event: a push changes no message, but that it fills an empty down stream
-abbrev pub lane_outcome : LaneWorld → LaneEvent → Outcome board_operations
-lane_outcome w (Plain event) = outcome board_operations (messages_of w) event
-lane_outcome w (PushUp i n) = unchanged board_operations (messages_of w) (push_reply (min n (length (there_up (lane_site i w.sites)))))
+abbrev pub lane_outcome : LaneWorld → LaneEvent → Outcome board_batches
+lane_outcome w (Plain event) = outcome board_batches (messages_of w) event
+lane_outcome w (PushUp i n) = unchanged board_batches (messages_of w) (push_reply (min n (length (there_up (lane_site i w.sites)))))
 lane_outcome w (PushDown i n) =
-    unchanged board_operations (filled_for (messages_of w) i (link_of i w.star.links) (lane_site i w.sites))
+    unchanged board_batches (filled_for (messages_of w) i (link_of i w.star.links) (lane_site i w.sites))
     (push_reply (min n (length (there_down (link_of i w.star.links) (lane_site i w.sites)))))
 
 -- the messages after it
@@ -95,14 +95,14 @@ AllSteps w (e ∷ es) v = (u : LaneWorld) × Steps w e u × AllSteps u es v
 
 -- what an event answers: a push `Nothing` where it moves no byte, else how many
 abbrev pub AnswersTo : LaneWorld → LaneEvent → BoardReply → Type 0
-AnswersTo w (Plain event) r = RepliesTo board_operations (messages_of w) event r
+AnswersTo w (Plain event) r = RepliesTo board_batches (messages_of w) event r
 AnswersTo w (PushUp i n) r = r ≡ push_reply (min n (length (there_up (lane_site i w.sites))))
 AnswersTo w (PushDown i n) r = r ≡ push_reply (min n (length (there_down (link_of i w.star.links) (lane_site i w.sites))))
 
 -- # Want of memory
 
 -- a down stream that had no byte may have been given the oldest message of the outbox
-abbrev pub filled_way : List ℕ → List (Down BoardOp) → Way → Way
+abbrev pub filled_way : List ℕ → List (Down BoardBatch) → Way → Way
 filled_way [] [] way = way
 filled_way [] (down ∷ outbox) way = sent (bytes_of downs down) way
 filled_way (byte ∷ stream) outbox way = way
@@ -125,7 +125,7 @@ pub record Rests (w : LaneWorld) (event : LaneEvent) (v : LaneWorld) : Type 0 wh
   pub trace : v.trace ≡ w.trace
   pub messages : (messages_of v ≡ messages_of w)
       ⊎ ((i : ℕ) × (l : BoardLink) × (a : LaneSite) × TouchesDown event i × (link_of i w.star.links ≡ Some l) × (lane_site i w.sites ≡ Some a)
-      × (messages_of v ≡ only_fetched board_operations (messages_of w) i 1 l))
+      × (messages_of v ≡ only_fetched board_batches (messages_of w) i 1 l))
   pub carry : AllCarry v.sites
   pub up : (j : ℕ) (a b : LaneSite) → lane_site j w.sites ≡ Some a → lane_site j v.sites ≡ Some b → (b.up ≡ a.up) ⊎ (TouchesUp event j × IsMovedOn a.up b.up)
   pub down : (j : ℕ) (l : BoardLink) (a b : LaneSite) → link_of j w.star.links ≡ Some l → lane_site j w.sites ≡ Some a → lane_site j v.sites ≡ Some b

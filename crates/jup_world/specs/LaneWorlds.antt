@@ -1,9 +1,6 @@
 -- A world whose links carry bytes, and the world whose links carry the messages that these bytes are.
 use Rattle.std.specs.Prelude.{◌≡◌, ℕ, Bool, not, nat_eq, List, [], ◌∷◌, ◌++◌, map, filter, find, Option, Some}
-use Rattle.jup_window.specs.Boards.{Windows}
-use Rattle.jup_window.specs.declared.board_operations.BoardOp.{BoardOp}
-use Rattle.jup_window.specs.declared.commands.Command.{Command}
-use Rattle.jup_window.specs.declared.edits.Edit.{Edit}
+use Rattle.jup_batch.specs.BatchBoards.{BoardBatch, BoardEdits, Commands, Windows}
 use Rattle.jup_star.specs.StarStates.{link_of, opened_star}
 use Rattle.jup_star.specs.SiteStates.{SiteState}
 use Rattle.jup_star.specs.StarCalls.{BoardStar}
@@ -25,7 +22,7 @@ pub record Noted : Type 0 where
 
 -- an attached site, and both ways of its link
 pub record LaneSite : Type 0 where
-  pub site : SiteState BoardOp Windows
+  pub site : SiteState BoardBatch Windows
   pub up : Way
   pub down : Way
 
@@ -41,12 +38,12 @@ abbrev pub bare_site : LaneSite → BoardAttached
 bare_site a = record { site = a.site; up = messages ups a.up; down = messages downs a.down }
 
 -- what stands in a trace but for the pushes
-abbrev pub plain_happened : LaneEvent → BoardReply → List (Happened Command Edit ℕ)
+abbrev pub plain_happened : LaneEvent → BoardReply → List (Happened Commands BoardEdits ℕ)
 plain_happened (Plain event) reply = record { event = event; reply = reply } ∷ []
 plain_happened (PushUp i n) reply = []
 plain_happened (PushDown i n) reply = []
 
-abbrev pub plain_trace : List Noted → List (Happened Command Edit ℕ)
+abbrev pub plain_trace : List Noted → List (Happened Commands BoardEdits ℕ)
 plain_trace [] = []
 plain_trace (h ∷ hs) = plain_happened h.event h.reply ++ plain_trace hs
 

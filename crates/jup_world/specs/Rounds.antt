@@ -1,6 +1,6 @@
 -- The rounds in which a world is drained: which deliveries are tried, and in which order.
 use Rattle.std.specs.Prelude.{◌≡◌, ◌≤◌, ◌↔◌, ◌||◌, ℕ, zero, suc, Bool, true, false, nat_lt, IsFalse, Option, Some, None}
-use Rattle.jup_window.specs.BoardOperations.{board_operations}
+use Rattle.jup_batch.specs.BoardBatches.{board_batches}
 use Rattle.jup_world.specs.Events.{Nothing}
 use Rattle.jup_world.specs.declared.world.draining.Way.{Way}
 use Rattle.jup_world.specs.declared.world.draining.Way.TheVariants.{Up, Down}
@@ -17,7 +17,7 @@ Repeats {A = A} R (suc n) w v = (u : A) × Repeats R n w u × R u v
 -- a delivery of this way at a site, which answered `Nothing` or moved a message
 pub record Delivers (way : Way) (i : ℕ) (moved : Bool) (w v : LaneWorld) : Type 0 where
   pub step : Steps w (Plain (way_event way i)) v
-  pub nothing : IsFalse moved ↔ ((outcome board_operations (messages_of w) (way_event way i)).reply ≡ Nothing)
+  pub nothing : IsFalse moved ↔ ((outcome board_batches (messages_of w) (way_event way i)).reply ≡ Nothing)
 
 -- deliveries at a site until one answers `Nothing`, and whether there was another
 pub record Exhausts (way : Way) (i : ℕ) (moved : Bool) (w v : LaneWorld) : Type 0 where

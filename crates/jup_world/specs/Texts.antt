@@ -37,6 +37,7 @@ texts = record {
   server_past = server_past;
   Shape = Unit {0};
   shape = λ o. tt;
+  copies_freely = λ o. Unit {0};
 }
 
 -- the laws that a link needs of them

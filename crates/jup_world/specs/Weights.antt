@@ -1,6 +1,6 @@
 -- How much is on its way in a world: each delivery that moves a message leaves less, so a world can be drained.
 use Rattle.std.specs.Prelude.{ℕ, zero, suc, ◌+◌, ◌*◌, List, [], ◌∷◌, Option, Some, None}
-use Rattle.jup_window.specs.declared.board_operations.BoardOp.{BoardOp}
+use Rattle.jup_batch.specs.BatchBoards.{BoardBatch}
 use Rattle.jup_star.specs.declared.messages.Up.{Up}
 use Rattle.jup_star.specs.declared.messages.Up.TheVariants.{Op as UpOp, Ack as UpAck, Ping as UpPing}
 use Rattle.jup_star.specs.declared.messages.Down.{Down}
@@ -11,14 +11,14 @@ use Rattle.jup_world.specs.WorldStates.{attached}
 use Rattle.jup_world.specs.BoardWorlds.{BoardWorld, BoardLink, BoardAttached}
 
 -- an edit on its way up weighs more than all that it may bring down, the more sites there were
-abbrev pub up_weight : ℕ → List (Up BoardOp) → ℕ
+abbrev pub up_weight : ℕ → List (Up BoardBatch) → ℕ
 up_weight given [] = 0
 up_weight given (UpOp m ∷ us) = 2 * given + 10 + up_weight given us
 up_weight given (UpAck n ∷ us) = 1 + up_weight given us
 up_weight given (UpPing k ∷ us) = 2 + up_weight given us
 
 -- what is on its way down
-abbrev pub down_weight : List (Down BoardOp) → ℕ
+abbrev pub down_weight : List (Down BoardBatch) → ℕ
 down_weight [] = 0
 down_weight (DownOp m ∷ ds) = 2 + down_weight ds
 down_weight (DownAck n ∷ ds) = 1 + down_weight ds

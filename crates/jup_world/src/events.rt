@@ -1,12 +1,17 @@
 //! What may happen in a world, and what each event answers.
-ghost use Rattle.std.specs.Prelude.{◌≡◌, ◌↔◌, IsTrue};
+ghost use Rattle.std.specs.Prelude.{◌≡◌, ◌↔◌, ◌⊎◌, ◌≤◌, [], IsTrue, IfOk};
+ghost use Rattle.std.specs.Vec.{vec_capacity};
+ghost use Rattle.jup_world.specs.NumberedReplies.{lane_event, numbered_reply, most_edits, MakesFew};
 ghost use Rattle.jup_world.specs.declared.events.Reply.TheVariants.{Nothing as nothing};
 
+use jup_batch::{BoardEdits, Commands};
 use jup_star::StarFault;
 use jup_window::{Command, Edit, EditFault};
+use jup_xform::{Few, NoMemory};
+use std::alloc::Global;
 
 /// What may happen in a world.
-#[derive(Clone, Copy, Debug, PartialEq, Eq)]
+#[derive(Debug, Drop, PartialEq, Eq)]
 pub enum Event<C = Command> {
     /// A site joins.
     Join,
@@ -14,6 +19,8 @@ pub enum Event<C = Command> {
     Leave(u32),
     /// This site edits.
     Edit(u32, C),
+    /// This site makes one edit of these commands, each of the board after those before it.
+    Batch(u32, Commands),
     /// The star takes the oldest message from this site.
     Up(u32),
     /// This site is handed the oldest message to it.
@@ -28,13 +35,13 @@ pub enum Event<C = Command> {
 }
 
 /// What an event answers.
-#[derive(Clone, Copy, Debug, PartialEq, Eq)]
-pub enum Reply<E = Edit, F = EditFault> {
+#[derive(Debug, Drop, PartialEq, Eq)]
+pub enum Reply<E = BoardEdits, F = EditFault> {
     /// A site of this number joined.
     Joined(u32),
     NoJoin(StarFault),
     Left,
-    /// The site made this edit.
+    /// The site made this edit: what each of its operations means.
     Made(E),
     Refused(F),
     /// The edit stands at this place of the star's order.
@@ -52,7 +59,81 @@ pub enum Reply<E = Edit, F = EditFault> {
     Nothing,
 }
 
+impl Event {
+    /// A copy of the event, which takes memory only for the commands of a batch.
+    pub fn copy(&self, alloc: Global) -> Result<Event, NoMemory>
+        ensures copied { IfOk result (λ copied. lane_event copied ≡ lane_event self.now) }
+    {
+        Ok(match self {
+            Event::Join => Event::Join,
+            Event::Leave(number) => Event::Leave(*number),
+            Event::Edit(number, command) => Event::Edit(*number, *command),
+            Event::Batch(number, commands) => Event::Batch(
+                *number,
+                Few::from_slice(alloc, commands.as_slice())?,
+            ),
+            Event::Up(number) => Event::Up(*number),
+            Event::Down(number) => Event::Down(*number),
+            Event::Ping(number, count) => Event::Ping(*number, *count),
+            Event::PushUp(number, most) => Event::PushUp(*number, *most),
+            Event::PushDown(number, most) => Event::PushDown(*number, *most),
+        })
+    }
+
+    /// The most edits that the event may make: one for each command.
+    pub(crate) fn most_edits(&self) -> usize
+        ensures { result ≡ most_edits self.now }
+    {
+        match self {
+            Event::Edit(_, _) => 1,
+            Event::Batch(_, commands) => commands.as_slice().len(),
+            Event::Join
+            | Event::Leave(_)
+            | Event::Up(_)
+            | Event::Down(_)
+            | Event::Ping(_, _)
+            | Event::PushUp(_, _)
+            | Event::PushDown(_, _) => 0,
+        }
+    }
+}
+
+/// An empty list with room for so many edits, made before an edit whose reply is to be copied.
+pub fn room_for(alloc: Global, most: usize) -> Result<Vec<Edit>, NoMemory>
+    ensures empty { IfOk result (λ list. list.items ≡ []) }
+    ensures room { IfOk result (λ list. (most ≤ 1) ⊎ (most ≤ vec_capacity list)) }
+{
+    let mut list = Vec::new(alloc);
+    if most > 1 {
+        list.reserve(most).map_err(|_| NoMemory)?;
+    }
+    Ok(list)
+}
+
 impl Reply {
+    /// A copy of the reply, whose edits go into a list that has room for them; one alone needs none. It takes
+    /// no memory.
+    pub fn copy_into(&self, list: Vec<Edit>) -> Reply
+        requires empty { list.items ≡ [] }
+        requires room { MakesFew self.now (vec_capacity list) }
+        ensures { numbered_reply result ≡ numbered_reply self.now }
+    {
+        match self {
+            Reply::Joined(number) => Reply::Joined(*number),
+            Reply::NoJoin(fault) => Reply::NoJoin(*fault),
+            Reply::Left => Reply::Left,
+            Reply::Made(edits) => Reply::Made(edits.copy_into(list)),
+            Reply::Refused(fault) => Reply::Refused(*fault),
+            Reply::Taken(place) => Reply::Taken(*place),
+            Reply::Heard => Reply::Heard,
+            Reply::Detached(fault) => Reply::Detached(*fault),
+            Reply::Shown => Reply::Shown,
+            Reply::Asked => Reply::Asked,
+            Reply::Moved(count) => Reply::Moved(*count),
+            Reply::Nothing => Reply::Nothing,
+        }
+    }
+
     /// Whether there was no such site, or no message to it or from it, or no byte was moved.
     pub fn is_nothing(&self) -> bool
         ensures { IsTrue result ↔ (self.now ≡ nothing) }
@@ -75,8 +156,8 @@ impl Reply {
 }
 
 /// An event with its reply.
-#[derive(Clone, Copy, Debug, PartialEq, Eq)]
-pub struct Happened<C = Command, E = Edit, F = EditFault> {
+#[derive(Debug, Drop, PartialEq, Eq)]
+pub struct Happened<C = Command, E = BoardEdits, F = EditFault> {
     pub event: Event<C>,
     pub reply: Reply<E, F>,
 }

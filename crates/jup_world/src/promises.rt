@@ -1,7 +1,7 @@
 //! What every world keeps, whatever happens in it.
 
 ghost use Rattle.std.specs.Prelude.{◌≡◌, List, length};
-ghost use Rattle.jup_window.specs.BoardOperations.{board_operations};
+ghost use Rattle.jup_batch.specs.BoardBatches.{board_batches};
 ghost use Rattle.jup_world.specs.BoardWorlds.{BoardWorld, BoardEvent, IsReached};
 ghost use Rattle.jup_world.specs.WorldSteps.{outcome, run};
 ghost use Rattle.jup_world.specs.Promises.{Promises, OrderIsKept};
@@ -29,13 +29,13 @@ ghost use Rattle.jup_lane.specs.Messages.{ups, downs};
 ///
 /// It does nothing: its contract is the theorem.
 pub fn worlds_agree()
-    ensures kept { (w : BoardWorld) → IsReached w → Promises board_operations w }
+    ensures kept { (w : BoardWorld) → IsReached w → Promises board_batches w }
     ensures replies { (w : BoardWorld) → IsReached w → (event : BoardEvent)
-        → RepliesTo board_operations w event (outcome board_operations w event).reply }
-    ensures tallies { (w : BoardWorld) → IsReached w → Tallies board_operations w }
-    ensures backlog { (w : BoardWorld) → IsReached w → BacklogIsShort board_operations w }
+        → RepliesTo board_batches w event (outcome board_batches w event).reply }
+    ensures tallies { (w : BoardWorld) → IsReached w → Tallies board_batches w }
+    ensures backlog { (w : BoardWorld) → IsReached w → BacklogIsShort board_batches w }
     ensures order { (w : BoardWorld) → IsReached w → (events : List BoardEvent)
-        → OrderIsKept board_operations w (run board_operations w events) }
+        → OrderIsKept board_batches w (run board_batches w events) }
 {}
 
 /// After any list of events, pushes among them, in a world whose links carry bytes:
@@ -48,7 +48,7 @@ pub fn worlds_agree()
 pub fn bytes_agree()
     ensures agree { (events : List LaneEvent) (w v : LaneWorld) → IsLaneWorld w → AllSteps w events v → IsStill v → AllAgree (messages_of v) }
     ensures order { (events : List LaneEvent) (w v : LaneWorld) → IsLaneWorld w → AllSteps w events v
-        → OrderIsKept board_operations (messages_of w) (messages_of v) }
+        → OrderIsKept board_batches (messages_of w) (messages_of v) }
     ensures up { (a b : Way) → Carries ups a → Carries ups b → messages ups a ≡ messages ups b → length a.read ≡ length b.read → a ≡ b }
     ensures down { (a b : Way) → Carries downs a → Carries downs b → messages downs a ≡ messages downs b → length a.read ≡ length b.read → a ≡ b }
 {}

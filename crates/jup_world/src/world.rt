@@ -1,10 +1,10 @@
 //! A star with its sites and the messages on their way between them, and what has happened.
-ghost use Rattle.std.specs.Prelude.{◌≡◌, ◌⊎◌, ◌↔◌, ◌+◌, ◌<◌, false, [], ◌∷◌, ◌++◌, length, vec_len, None, Some, is_some, IsTrue, IfOk, IfErr, IfSome, OnOk, OnErr};
+ghost use Rattle.std.specs.Prelude.{◌≡◌, ◌⊎◌, ◌↔◌, ◌+◌, ◌<◌, ◌≤◌, false, [], ◌∷◌, ◌++◌, length, vec_len, None, Some, is_some, IsTrue, IfOk, IfErr, IfSome, OnOk, OnErr};
 ghost use Rattle.std.specs.Vec.{vec_capacity};
 ghost use Rattle.std.specs.Option.{option_copied, option_map};
 ghost use Rattle.jup_window.specs.Entries.{EachWidget};
-ghost use Rattle.jup_window.specs.Boards.{bare, content, meaning};
-ghost use Rattle.jup_window.specs.BoardOperations.{board_operations};
+ghost use Rattle.jup_batch.specs.BatchBoards.{bare, content, meaning};
+ghost use Rattle.jup_batch.specs.BoardBatches.{board_batches};
 ghost use Rattle.jup_star.specs.StarStates.{link_of};
 ghost use Rattle.jup_star.specs.StarCalls.{star_open_fault};
 ghost use Rattle.jup_star.specs.declared.faults.OpenFault.TheVariants as open_fault;
@@ -12,7 +12,7 @@ ghost use Rattle.jup_star.specs.Openings.{IsShort};
 ghost use Rattle.jup_world.specs.Turns.{turns, edits};
 ghost use Rattle.jup_world.specs.Traces.{order_of, made, view};
 ghost use Rattle.jup_world.specs.Tallies.{numbers_given};
-ghost use Rattle.jup_world.specs.NumberedReplies.{lane_event, numbered_reply, noted_trace};
+ghost use Rattle.jup_world.specs.NumberedReplies.{lane_event, numbered_reply, noted_trace, most_edits, MakesFew};
 ghost use Rattle.jup_world.specs.Promises.{OrderIsKept};
 ghost use Rattle.jup_world.specs.Headline.{AllAgree};
 ghost use Rattle.jup_world.specs.LaneWorlds.{messages_of, plain_trace, lane_site, opened_lanes, IsStill};
@@ -20,7 +20,7 @@ ghost use Rattle.jup_world.specs.LaneSteps.{lane_outcome, Steps, AnswersTo, IsSp
 
 use self::attached::are_quiet;
 use self::happening::happen;
-use crate::{Event, Happened, Reply};
+use crate::{Event, Happened, Reply, room_for};
 use jup_star::{OpenFault, Site, Star, is_short};
 use jup_value::Label;
 use jup_window::{Board, Edit, Effect, Setting, Value};
@@ -51,7 +51,7 @@ pub struct World {
 
 impl Model for World {
     ghost use Rattle.std.specs.Prelude.{map};
-    ghost use Rattle.jup_window.specs.Boards.{bare};
+    ghost use Rattle.jup_batch.specs.BatchBoards.{bare};
     ghost use Rattle.jup_world.specs.WorldFields.{lane_of};
     ghost use Rattle.jup_world.specs.NumberedReplies.{noted_trace};
     ghost use Rattle.jup_world.specs.LaneWorlds.{LaneWorld};
@@ -74,17 +74,40 @@ impl Model for World {
     }) };
 }
 
+// What an event takes with it into the trace, made while memory may still be refused: a copy of it, and room
+// for the edits that it may make.
+#[derive(Drop)]
+struct Note {
+    event: Event,
+    edits: Vec<Edit>,
+}
+
+impl Note {
+    fn of(alloc: Global, event: &Event) -> Result<Note, NoMemory>
+        ensures event { IfOk result (λ note. lane_event note.event ≡ lane_event event.now) }
+        ensures empty { IfOk result (λ note. note.edits.items ≡ []) }
+        ensures room { IfOk result (λ note. (most_edits event.now ≤ 1) ⊎ (most_edits event.now ≤ vec_capacity note.edits)) }
+    {
+        Ok(Note {
+            event: event.copy(alloc)?,
+            edits: room_for(alloc, event.most_edits())?,
+        })
+    }
+}
+
 // Puts an event with its reply at the end of a trace that has room for it.
-fn note(trace: &mut Vec<Happened>, event: &Event, reply: &Reply)
-    requires { vec_len trace.old < vec_capacity trace.old }
+fn keep(trace: &mut Vec<Happened>, note: Note, reply: &Reply)
+    requires room { vec_len trace.old < vec_capacity trace.old }
+    requires empty { note.edits.items ≡ [] }
+    requires edits { MakesFew reply.now (vec_capacity note.edits) }
     ensures { noted_trace trace.new.items
-        ≡ noted_trace trace.old.items ++ record { event = lane_event event.now; reply = numbered_reply reply.now } ∷ [] }
+        ≡ noted_trace trace.old.items ++ record { event = lane_event note.event; reply = numbered_reply reply.now } ∷ [] }
 {
     // The checker learns of the types within an event from this.
     let _within: PhantomData<(Value, Setting, Label, Effect, Edit)> = PhantomData;
     trace.push_reserved(Happened {
-        event: *event,
-        reply: *reply,
+        event: note.event,
+        reply: reply.copy_into(note.edits),
     });
 }
 
@@ -122,11 +145,12 @@ impl World {
         ensures withheld { IfOk result (λ reply. AnswersTo self.old (lane_event event.now) (numbered_reply reply)) }
         ensures ok { OnOk result (Steps self.old (lane_event event.now) self.new) }
         ensures err { OnErr result (IsSparedBy self.old (lane_event event.now) self.new) }
-        ensures order { OrderIsKept board_operations (messages_of self.old) (messages_of self.new) }
+        ensures order { OrderIsKept board_batches (messages_of self.old) (messages_of self.new) }
     {
         self.trace.reserve(1).map_err(|_| NoMemory)?;
+        let note = Note::of(alloc, event)?;
         let reply = happen(alloc, &mut self.star, &mut self.sites, event)?;
-        note(&mut self.trace, event, &reply);
+        keep(&mut self.trace, note, &reply);
         Ok(reply)
     }
 

@@ -1,7 +1,9 @@
 //! Worlds over boards that are given as they are printed, the events that are played in them, and what
 //! they show.
+use jup_batch::BoardEdits;
 use jup_window::{Board, Command, Edit, Effect, Setting, Value};
 use jup_world::{Event, Happened, Reply, World, write_board};
+use jup_xform::Few;
 use std::alloc::Global;
 use std::process::Abort;
 use test_boards::board_of;
@@ -24,30 +26,40 @@ pub(crate) fn world_of(
     world
 }
 
+// An insertion into text 1.
+pub(crate) fn insert(place: u32, value: char) -> Command {
+    let value = Value::Char(value);
+    Command::Insert {
+        win: 1,
+        wid: 1,
+        place,
+        value,
+    }
+}
+
+// A deletion from text 1.
+pub(crate) fn delete(place: u32) -> Command {
+    Command::Delete {
+        win: 1,
+        wid: 1,
+        place,
+    }
+}
+
 // The site types into text 1.
 pub(crate) fn types(site: u32, place: u32, value: char) -> Event {
-    let value = Value::Char(value);
-    Event::Edit(
-        site,
-        Command::Insert {
-            win: 1,
-            wid: 1,
-            place,
-            value,
-        },
-    )
+    Event::Edit(site, insert(place, value))
 }
 
 // The site deletes from text 1.
 pub(crate) fn deletes(site: u32, place: u32) -> Event {
-    Event::Edit(
-        site,
-        Command::Delete {
-            win: 1,
-            wid: 1,
-            place,
-        },
-    )
+    Event::Edit(site, delete(place))
+}
+
+// The site makes one edit of these commands.
+pub(crate) fn batch(rt: &impl Abort, alloc: Global, site: u32, commands: &[Command]) -> Event {
+    let commands = Few::from_slice(alloc, commands).expect(rt, "memory");
+    Event::Batch(site, commands)
 }
 
 // The site sets widget 1.
@@ -62,13 +74,23 @@ pub(crate) fn sets(site: u32, setting: Setting) -> Event {
     )
 }
 
+// The edits with these effects on widget 1.
+pub(crate) fn edits(rt: &impl Abort, alloc: Global, effects: &[Effect]) -> BoardEdits {
+    let mut list = Vec::new(alloc);
+    for what in effects {
+        let edit = Edit {
+            win: 1,
+            wid: 1,
+            what: *what,
+        };
+        list.push(edit).expect(rt, "memory");
+    }
+    Few::from_slice(alloc, list.as_slice()).expect(rt, "memory")
+}
+
 // The site made an edit with this effect on widget 1.
-pub(crate) fn made(what: Effect) -> Reply {
-    Reply::Made(Edit {
-        win: 1,
-        wid: 1,
-        what,
-    })
+pub(crate) fn made(rt: &impl Abort, alloc: Global, what: Effect) -> Reply {
+    Reply::Made(edits(rt, alloc, &[what]))
 }
 
 // The event happens, has this reply, and stands in the trace.
@@ -76,14 +98,7 @@ pub(crate) fn gives(rt: &impl Abort, alloc: Global, world: &mut World, event: Ev
     let replied = world.step(alloc, &event).expect(rt, "memory");
     assert_eq!(rt; replied, reply, "{event:?}");
     let happened = Happened { event, reply };
-    assert_eq!(rt; world.trace().last().copied(), Some(happened));
-}
-
-// The same, of one event after the other.
-pub(crate) fn plays(rt: &impl Abort, alloc: Global, world: &mut World, events: &[(Event, Reply)]) {
-    for (event, reply) in events {
-        gives(rt, alloc, world, *event, *reply);
-    }
+    assert_eq!(rt; world.trace().last(), Some(&happened));
 }
 
 // Delivers all that is on its way.

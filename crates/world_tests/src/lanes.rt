@@ -1,7 +1,7 @@
 //! One way of a link, byte by byte.
-ghost use Rattle.std.specs.Prelude.{IsTrue};
-ghost use Rattle.jup_window.specs.Widgets.{relabels_no_text};
+ghost use Rattle.jup_star.specs.TextRelabels.{RelabelNoText};
 
+use jup_batch::BoardBatch;
 use jup_lane::{Lane, Message};
 use jup_link::Msg;
 use jup_seq::SeqOp;
@@ -10,25 +10,27 @@ use jup_value::{Item, Name};
 use jup_window::{BoardOp, WidgetOp};
 use std::alloc::Global;
 use std::process::Abort;
+use test_boards::alone;
 
-// Site 1 puts an 'a' first into text 1 of window 1, which is spelled "op 0 0 1 1 text ins 0 1.1 97".
-fn first_edit() -> Msg<BoardOp>
-    ensures { IsTrue (relabels_no_text result.op.op) }
+// Site 1 puts an 'a' first into text 1 of window 1, which is spelled "batch 0 0 1" and "do 1 1 text ins 0 1.1 97".
+fn first_edit(alloc: Global) -> Msg<BoardBatch>
+    ensures { RelabelNoText result.op }
 {
+    let op = BoardOp {
+        win: 1,
+        wid: 1,
+        op: WidgetOp::Text(SeqOp::Insert {
+            place: 0,
+            item: Item {
+                name: Name { site: 1, number: 1 },
+                value: 'a',
+            },
+        }),
+    };
     Msg {
         mine: 0,
         heard: 0,
-        op: BoardOp {
-            win: 1,
-            wid: 1,
-            op: WidgetOp::Text(SeqOp::Insert {
-                place: 0,
-                item: Item {
-                    name: Name { site: 1, number: 1 },
-                    value: 'a',
-                },
-            }),
-        },
+        op: alone(alloc, op),
     }
 }
 
@@ -55,13 +57,14 @@ fn a_message_is_pushed_in_two_parts(rt: HostRuntime) {
     let alloc = rt.alloc();
     let mut lane: Lane<Up> = Lane::new(alloc);
     assert!(rt; lane.is_idle() && lane.is_stream_empty());
-    send(&rt, &mut lane, &Up::Op(first_edit()));
-    assert_eq!(rt; push(&rt, alloc, &mut lane, 28), 28);
+    send(&rt, &mut lane, &Up::Op(first_edit(alloc)));
+    assert_eq!(rt; push(&rt, alloc, &mut lane, 36), 36);
     assert!(rt; !lane.is_idle() && !lane.is_stream_empty());
     assert_eq!(rt; push(&rt, alloc, &mut lane, 5), 1);
     assert_eq!(rt; push(&rt, alloc, &mut lane, 5), 0);
     assert!(rt; !lane.is_idle() && lane.is_stream_empty());
-    assert_eq!(rt; handed(&rt, alloc, &mut lane), Some(Up::Op(first_edit())));
+    let first = Some(Up::Op(first_edit(alloc)));
+    assert_eq!(rt; handed(&rt, alloc, &mut lane), first);
     assert!(rt; lane.is_idle());
     assert_eq!(rt; handed(&rt, alloc, &mut lane), None);
 }
@@ -71,11 +74,11 @@ fn messages_come_in_order_however_they_are_pushed(rt: HostRuntime) {
     let alloc = rt.alloc();
     let mut lane: Lane<Down> = Lane::new(alloc);
     send(&rt, &mut lane, &Down::Ack(64));
-    send(&rt, &mut lane, &Down::Op(first_edit()));
+    send(&rt, &mut lane, &Down::Op(first_edit(alloc)));
     send(&rt, &mut lane, &Down::Pong(7));
-    // "ack 64" and its line feed, and the "op" of the next.
+    // "ack 64" and its line feed, and the first two letters of the next.
     assert_eq!(rt; push(&rt, alloc, &mut lane, 9), 9);
-    for message in [Down::Ack(64), Down::Op(first_edit()), Down::Pong(7)] {
+    for message in [Down::Ack(64), Down::Op(first_edit(alloc)), Down::Pong(7)] {
         assert_eq!(rt; handed(&rt, alloc, &mut lane), Some(message));
     }
     assert!(rt; lane.is_idle());

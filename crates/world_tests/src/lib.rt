@@ -4,13 +4,21 @@
 ghost use Rattle.std.specs.Prelude.{◌≡◌};
 
 #[cfg(test)]
+mod batches;
+#[cfg(test)]
 mod boards;
 #[cfg(test)]
+mod content;
+#[cfg(test)]
 mod lanes;
+#[cfg(test)]
+mod ledger;
 #[cfg(test)]
 mod messages;
 #[cfg(test)]
 mod pushes;
+#[cfg(test)]
+mod random_batches;
 #[cfg(test)]
 mod scripts;
 #[cfg(test)]

@@ -1,38 +1,49 @@
-//! A run over a star and two sites, each of whose operations goes through the bytes of its line.
+//! A run over a star and two sites, each of whose edits goes through the bytes of its lines.
 use super::boards::LIMIT;
+use jup_batch::BoardBatch;
+use jup_gather::{Gather, Gathered, lines_of_op};
 use jup_link::Msg;
 use jup_star::{Down, Made, Site, Star, Up};
 use jup_text::write_board;
-use jup_window::{Board, BoardOp, Command, Value};
-use jup_wire::{Line, Reader, write};
+use jup_window::{Board, Command, Value};
+use jup_wire::{Reader, write};
 use std::alloc::Global;
 use std::marker::PhantomData;
 use std::process::Abort;
 use test_boards::board_of;
 
-// A message as the other end reads it.
-fn read_back(rt: &impl Abort, alloc: Global, msg: Msg<BoardOp>) -> Msg<BoardOp> {
+// The bytes of a message's lines.
+fn bytes_of(rt: &impl Abort, alloc: Global, msg: &Msg<BoardBatch>) -> Vec<u8> {
+    let lines = lines_of_op(alloc, msg).expect(rt, "memory");
     let mut bytes = Vec::new(alloc);
-    write(alloc, &Line::Op(msg), &mut bytes).expect(rt, "memory");
+    for line in lines.as_slice() {
+        write(alloc, line, &mut bytes).expect(rt, "memory");
+    }
+    bytes
+}
+
+// A message as the other end reads it.
+fn read_back(rt: &impl Abort, alloc: Global, msg: &Msg<BoardBatch>) -> Msg<BoardBatch> {
+    let bytes = bytes_of(rt, alloc, msg);
     let fed = Reader::new()
         .feed(alloc, bytes.as_slice())
         .expect(rt, "memory");
-    match fed.lines.as_slice() {
-        [Line::Op(msg)] => Msg {
-            mine: msg.mine,
-            heard: msg.heard,
-            op: msg.op,
-        },
-        _ => panic!(rt; "it is read as something else"),
+    let mut gather = Gather::new();
+    for line in fed.lines.as_slice() {
+        if let Gathered::Whole(msg) = gather.push(alloc, line).expect(rt, "memory") {
+            return msg;
+        }
     }
+    panic!(rt; "it is read as something else")
 }
 
 // The star takes what a site made.
 fn goes_up(rt: &impl Abort, alloc: Global, star: &mut Star, site: u32, made: Made) -> Option<u32> {
-    let Up::Op(msg) = made.up else {
+    let Made { up, .. } = made;
+    let Up::Op(msg) = up else {
         panic!(rt; "no operation goes up");
     };
-    let up = Up::Op(read_back(rt, alloc, msg));
+    let up = Up::Op(read_back(rt, alloc, &msg));
     star.take(alloc, site, &up)
         .expect(rt, "an edit that is taken")
 }
@@ -43,7 +54,7 @@ fn goes_down(rt: &impl Abort, alloc: Global, star: &mut Star, site: &mut Site) {
     let Some(Down::Op(msg)) = downs.into_messages().pop() else {
         panic!(rt; "no operation comes down");
     };
-    let down = Down::Op(read_back(rt, alloc, msg));
+    let down = Down::Op(read_back(rt, alloc, &msg));
     let answer = site
         .deliver(alloc, &down)
         .expect(rt, "an edit that is shown");

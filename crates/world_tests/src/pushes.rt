@@ -4,16 +4,17 @@ use jup_value::Name;
 use jup_window::Effect;
 use jup_world::{Event, Reply};
 
-// Of the 29 bytes of "op 0 0 1 1 text ins 0 1.1 97" and its line feed, the star's reader is given 28 first.
+// The message is "batch 0 0 1" and "do 1 1 text ins 0 1.1 97", which are 37 bytes with their line feeds. The star's reader is given
+// 36 first.
 #[test]
 fn a_message_is_taken_once_its_last_byte_was_pushed(rt: HostRuntime) {
     let alloc = rt.alloc();
     let mut world = world_of(&rt, alloc, LIMIT, "text 1 \"\"", 1);
     let first = Name { site: 1, number: 1 };
-    let typed = made(Effect::PutChar(first, 'a'));
+    let typed = made(&rt, alloc, Effect::PutChar(first, 'a'));
     gives(&rt, alloc, &mut world, types(1, 0, 'a'), typed);
     for (most, reply) in [
-        (28, Reply::Moved(28)),
+        (36, Reply::Moved(36)),
         (5, Reply::Moved(1)),
         (5, Reply::Nothing),
     ] {

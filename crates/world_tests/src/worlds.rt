@@ -1,17 +1,17 @@
 //! What a world tells beside its boards: its order, its trace, what its sites wait for; and its bounds. Whole runs that were
 //! worked out by hand are scripts of `examples/`.
 use super::boards::{
-    LIMIT, all_show, deletes, drain, gives, is_quiet, made, plays, reads, sets, types, world_of,
+    LIMIT, all_show, deletes, drain, edits, gives, is_quiet, made, reads, sets, types, world_of,
 };
 use jup_star::{Entry, OpenFault, StarFault};
 use jup_value::Name;
-use jup_window::{Board, Edit, EditFault, Effect, Setting, Widget};
+use jup_window::{Board, EditFault, Effect, Setting, Widget};
 use jup_world::{Event, Halted, Reply, World};
 use std::alloc::Global;
 use std::process::Abort;
 use test_boards::board_of;
 
-fn put(site: u32, number: u32, value: char) -> Effect {
+pub(crate) fn put(site: u32, number: u32, value: char) -> Effect {
     Effect::PutChar(Name { site, number }, value)
 }
 
@@ -23,19 +23,16 @@ const OFF: Setting = Setting::Toggle(false);
 
 // Site 1 sets widget 1 on.
 fn switches_on(rt: &impl Abort, alloc: Global, world: &mut World) {
-    gives(rt, alloc, world, sets(1, ON), made(Effect::Toggled(true)));
+    let switched = made(rt, alloc, Effect::Toggled(true));
+    gives(rt, alloc, world, sets(1, ON), switched);
 }
 
-// The star has taken these edits of widget 1, each with its site.
-fn took(rt: &impl Abort, world: &World, edits: &[(u32, Effect)]) {
+// The star has taken an edit of each of these sites, with these effects on widget 1.
+pub(crate) fn took(rt: &impl Abort, alloc: Global, world: &World, all: &[(u32, &[Effect])]) {
     let order = world.star().order();
-    assert_eq!(rt; order.len(), edits.len());
-    for (entry, (site, what)) in order.iter().zip(edits) {
-        let edit = Edit {
-            win: 1,
-            wid: 1,
-            what: *what,
-        };
+    assert_eq!(rt; order.len(), all.len());
+    for (entry, (site, effects)) in order.iter().zip(all) {
+        let edit = edits(rt, alloc, effects);
         assert_eq!(rt; *entry, Entry { site: *site, edit });
     }
 }
@@ -44,19 +41,21 @@ fn took(rt: &impl Abort, world: &World, edits: &[(u32, Effect)]) {
 fn two_sites_type_at_one_place(rt: HostRuntime) {
     let alloc = rt.alloc();
     let mut world = world_of(&rt, alloc, LIMIT, "text 1 \"\"", 0);
-    let events = [
+    for (event, reply) in [
         (Event::Join, Reply::Joined(1)),
         (Event::Join, Reply::Joined(2)),
-        (types(1, 0, 'a'), made(put(1, 1, 'a'))),
-        (types(2, 0, 'x'), made(put(2, 1, 'x'))),
+        (types(1, 0, 'a'), made(&rt, alloc, put(1, 1, 'a'))),
+        (types(2, 0, 'x'), made(&rt, alloc, put(2, 1, 'x'))),
         (Event::Up(1), Reply::Taken(0)),
         (Event::Up(2), Reply::Taken(1)),
-    ];
-    plays(&rt, alloc, &mut world, &events);
+    ] {
+        gives(&rt, alloc, &mut world, event, reply);
+    }
     assert!(rt; !is_quiet(&world));
     drain(&rt, alloc, &mut world);
     all_show(&rt, alloc, &world, 2, "text 1 \"xa\"");
-    took(&rt, &world, &[(1, put(1, 1, 'a')), (2, put(2, 1, 'x'))]);
+    let order: [(u32, &[Effect]); 2] = [(1, &[put(1, 1, 'a')]), (2, &[put(2, 1, 'x')])];
+    took(&rt, alloc, &world, &order);
 }
 
 // A world over this widget whose two sites did this.
@@ -93,15 +92,16 @@ fn a_drain_ends_after_a_round_of_nothing(rt: HostRuntime) {
     ];
     assert_eq!(rt; (before, world.trace().len()), (6, 16));
     for (happened, (event, reply)) in world.trace().iter().skip(6).zip(&wanted) {
-        assert_eq!(rt; (happened.event, happened.reply), (*event, *reply));
+        assert_eq!(rt; (&happened.event, &happened.reply), (event, reply));
     }
 }
 
 #[test]
 fn the_order_has_both_deletions_of_one_item(rt: HostRuntime) {
     let events = [deletes(1, 0), deletes(2, 0), Event::Up(1), Event::Up(2)];
-    let world = ran(&rt, rt.alloc(), "text 1 \"z\"", &events);
-    took(&rt, &world, &[(1, FIRST), (2, FIRST)]);
+    let alloc = rt.alloc();
+    let world = ran(&rt, alloc, "text 1 \"z\"", &events);
+    took(&rt, alloc, &world, &[(1, &[FIRST]), (2, &[FIRST])]);
 }
 
 // The message that shows site 1 the setting of site 2 tells it besides that the star has its own.

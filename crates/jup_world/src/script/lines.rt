@@ -29,6 +29,7 @@ impl<'a> Script<'a> {
     /// a last line that has no line feed, is bad.
     pub(crate) fn next_line(&mut self) -> Result<Option<&'a str>, ScriptEnd>
         ensures shorter { IfOk result (λ line. IsSome line → length self.new.rest.now < length self.old.rest.now) }
+        ensures rest { length self.new.rest.now ≤ length self.old.rest.now }
         ensures short { IfOk result (λ line. IfSome line (λ text. length text.now ≤ 16777216)) }
         ensures end { IfErr result ComesInPlay }
     {
@@ -49,6 +50,7 @@ impl<'a> Script<'a> {
 
     /// The next line, which is bad where there is none.
     pub(crate) fn required_line(&mut self) -> Result<&'a str, ScriptEnd>
+        ensures rest { length self.new.rest.now ≤ length self.old.rest.now }
         ensures short { IfOk result (λ text. length text.now ≤ 16777216) }
         ensures end { IfErr result ComesInPlay }
     {

@@ -1,17 +1,22 @@
 //! Scripts of the mode `star`: a star and its sites over a board.
-ghost use Rattle.std.specs.Prelude.{IfErr};
+ghost use Rattle.std.specs.Prelude.{◌≤◌, length, IfErr};
 ghost use Rattle.jup_world.specs.ScriptEnds.{ComesInPlay};
 
 use super::ScriptEnd;
 use super::lines::Script;
 use crate::{Event, Reply, World};
+use jup_batch::Commands;
 use jup_star::{OpenFault, is_short};
 use jup_text::{
-    BoardReader, PrintedBoard, PrintedEdit, Untaken, is_board_line, read_command, read_number,
+    BoardReader, PrintedBoard, PrintedEdits, Untaken, is_board_line, read_batch, read_command,
+    read_number,
 };
-use jup_window::Board;
+use jup_value::Label;
+use jup_window::{Board, Command, Setting, Value};
+use jup_xform::{Few, NoMemory};
 use std::alloc::Global;
 use std::io::Write;
+use std::marker::PhantomData;
 use std::{fmt, io};
 
 /// The highest limit of a star.
@@ -83,15 +88,16 @@ fn open(alloc: Global, board: Board, limit: u32) -> Result<World, ScriptEnd>
     }
 }
 
-// Plays one line, and prints what it answers.
+// Plays one line, with those that follow it where it begins a batch, and prints what it answers.
 fn play_line<W: Write>(
     alloc: Global,
     world: &mut World,
     line: &str,
-    script: &Script<'_>,
+    script: &mut Script<'_>,
     replies: &mut W,
 ) -> Result<(), ScriptEnd>
-    ensures { IfErr result ComesInPlay }
+    ensures rest { length script.new.rest.now ≤ length script.old.rest.now }
+    ensures end { IfErr result ComesInPlay }
 {
     match line {
         "show" => show(world, replies).map_err(|_| ScriptEnd::WriteFailed),
@@ -99,10 +105,75 @@ fn play_line<W: Write>(
             world.drain(alloc).map_err(|_| ScriptEnd::NoMemory)?;
             writeln!(replies, "drained").map_err(|_| ScriptEnd::WriteFailed)
         }
-        _ => match event_of(line) {
-            Some(event) => step(alloc, world, &event, replies),
-            None => Err(script.bad_line()),
-        },
+        _ => {
+            let event = read_event(alloc, line, script)?;
+            step(alloc, world, &event, replies)
+        }
+    }
+}
+
+// The event of a line, and of those that follow it where it begins a batch.
+fn read_event(alloc: Global, line: &str, script: &mut Script<'_>) -> Result<Event, ScriptEnd>
+    ensures rest { length script.new.rest.now ≤ length script.old.rest.now }
+    ensures end { IfErr result ComesInPlay }
+{
+    if let Some((site, count)) = batch_of(line) {
+        let commands = read_commands(alloc, count, script)?;
+        return Ok(Event::Batch(site, commands));
+    }
+    match event_of(line) {
+        Some(event) => Ok(event),
+        None => Err(script.bad_line()),
+    }
+}
+
+// The site of a batch, and how many lines of commands follow: `edit S batch K`.
+fn batch_of(line: &str) -> Option<(u32, u32)> {
+    let (site, batch) = line.strip_prefix("edit ")?.split_once(' ')?;
+    Some((read_number(site)?, read_batch(batch.as_bytes())?))
+}
+
+// The commands of a batch. Whether a site makes an edit of so many is for the site to say.
+fn read_commands(alloc: Global, count: u32, script: &mut Script<'_>) -> Result<Commands, ScriptEnd>
+    ensures rest { length script.new.rest.now ≤ length script.old.rest.now }
+    ensures end { IfErr result ComesInPlay }
+{
+    let commands = next_commands(alloc, count, script)?;
+    match Few::from_slice(alloc, commands.as_slice()) {
+        Ok(commands) => Ok(commands),
+        Err(NoMemory) => Err(ScriptEnd::NoMemory),
+    }
+}
+
+// So many lines, each a command.
+fn next_commands(
+    alloc: Global,
+    count: u32,
+    script: &mut Script<'_>,
+) -> Result<Vec<Command>, ScriptEnd>
+    ensures rest { length script.new.rest.now ≤ length script.old.rest.now }
+    ensures end { IfErr result ComesInPlay }
+{
+    // The checker learns of the types within a command from this.
+    let _within: PhantomData<(Command, Value, Setting, Label)> = PhantomData;
+    let mut commands = Vec::new(alloc);
+    for _ in 0..count {
+        let command = next_command(script)?;
+        if commands.push(command).is_err() {
+            return Err(ScriptEnd::NoMemory);
+        }
+    }
+    Ok(commands)
+}
+
+// The next line, which is bad where it is no command.
+fn next_command(script: &mut Script<'_>) -> Result<Command, ScriptEnd>
+    ensures rest { length script.new.rest.now ≤ length script.old.rest.now }
+    ensures end { IfErr result ComesInPlay }
+{
+    match read_command(script.required_line()?.as_bytes()) {
+        Some(command) => Ok(command),
+        None => Err(script.bad_line()),
     }
 }
 
@@ -166,6 +237,7 @@ fn site_of(event: &Event) -> u32 {
         Event::Join => 0,
         Event::Leave(site)
         | Event::Edit(site, _)
+        | Event::Batch(site, _)
         | Event::Up(site)
         | Event::Down(site)
         | Event::Ping(site, _)
@@ -187,9 +259,9 @@ impl fmt::Display for PrintedReply {
             Reply::Joined(site) => write_numbered(f, "joined", *site),
             Reply::NoJoin(fault) => write_numbered(f, "refused", fault.number()),
             Reply::Left => write_numbered(f, "left", self.site),
-            Reply::Made(edit) => {
-                let edit = PrintedEdit(edit);
-                write!(f, "made {edit}")
+            Reply::Made(edits) => {
+                let edits = PrintedEdits(edits.as_slice());
+                write!(f, "made {edits}")
             }
             Reply::Refused(fault) => write_numbered(f, "refused", fault.number()),
             Reply::Taken(place) => write_numbered(f, "taken", *place),

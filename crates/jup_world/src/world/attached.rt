@@ -1,18 +1,18 @@
 //! An attached site with its streams.
-ghost use Rattle.std.specs.Prelude.{◌≡◌, ◌↔◌, ◌<◌, ◌≤◌, ◌+◌, ◌-◌, ◌^◌, ◌++◌, true, false, ℕ, [], map, min, length, Some, None, is_some, nat_eq, position, MatchOption, IsTrue, IfSome, IfOk, IfErr, OnOk, OnErr};
+ghost use Rattle.std.specs.Prelude.{◌≡◌, ◌↔◌, ◌<◌, ◌≤◌, ◌+◌, ◌-◌, ◌^◌, ◌++◌, true, false, ℕ, [], ◌∷◌, map, min, length, Some, None, is_some, nat_eq, position, MatchOption, IsTrue, IfSome, IfOk, IfErr, OnOk, OnErr};
 ghost use Rattle.std.specs.Option.{option_to_list};
-ghost use Rattle.jup_window.specs.BoardOperations.{board_operations};
+ghost use Rattle.jup_batch.specs.BoardBatches.{board_batches};
 ghost use Rattle.jup_star.specs.StarStates.{link_of};
 ghost use Rattle.jup_star.specs.SiteStates.{edit_answer};
 ghost use Rattle.jup_star.specs.StarCalls.{BoardLink, is_no_memory};
-ghost use Rattle.jup_star.specs.TextRelabels.{DownRelabelsNoText};
+ghost use Rattle.jup_star.specs.TextRelabels.{UpRelabelsNoText, DownRelabelsNoText};
 ghost use Rattle.jup_lane.specs.Codecs.{bytes_of_all};
 ghost use Rattle.jup_lane.specs.Lanes.{no_bytes, messages, sent, oldest_length, Carries};
 ghost use Rattle.jup_lane.specs.Messages.{ups, downs};
 ghost use Rattle.jup_world.specs.WorldStates.{attached};
 ghost use Rattle.jup_world.specs.WorldSteps.{one_taken, place_reply, pinged};
 ghost use Rattle.jup_world.specs.Replies.{edit_reply};
-ghost use Rattle.jup_world.specs.NumberedReplies.{numbered_reply};
+ghost use Rattle.jup_world.specs.NumberedReplies.{numbered_reply, MakesFew};
 ghost use Rattle.jup_world.specs.SiteNumbers.{AreAscending, IsSiteAt};
 ghost use Rattle.jup_world.specs.WorldFields.{lane_of, bare_attached};
 ghost use Rattle.jup_world.specs.LaneSteps.{push_reply, filled_stream};
@@ -21,6 +21,7 @@ ghost use Rattle.jup_world.specs.Happenings.{with_answer, Rises, IsRefused, refi
 
 use super::refusals::edit_refusal;
 use crate::Reply;
+use jup_batch::{BoardBatch, BoardEdits};
 use jup_lane::{Lane, MOST_MESSAGE};
 use jup_link::Msg;
 use jup_seq::SeqOp;
@@ -39,12 +40,24 @@ pub struct Attached {
     pub up: Lane<Up>,
     pub down: Lane<Down>,
     // The checker learns of the types within messages from a field that names them.
-    within: PhantomData<(SeqOp<Label>, WidgetOp, BoardOp, Msg<BoardOp>, Effect, Edit)>,
+    within: PhantomData<
+        (
+            SeqOp<Label>,
+            WidgetOp,
+            BoardOp,
+            BoardBatch,
+            Msg<BoardBatch>,
+            Effect,
+            Edit,
+            BoardEdits,
+        ),
+    >,
 }
 
 // What a message that the star took answers: the place of an edit in the order.
 fn taken(place: Option<u32>) -> Reply
-    ensures { numbered_reply result ≡ place_reply board_operations place }
+    ensures reply { numbered_reply result ≡ place_reply board_batches place }
+    ensures few { MakesFew result 0 }
 {
     match place {
         Some(place) => Reply::Taken(place),
@@ -124,6 +137,19 @@ fn send_one(lane: &mut Lane<Down>, fetched: &Option<Down>)
     }
 }
 
+// Writes a message that a site sends back, if it does.
+fn send_back(lane: &mut Lane<Up>, back: &Option<Up>)
+    requires relabels { IfSome back.now UpRelabelsNoText }
+    requires room { MOST_MESSAGE ≤ lane.old.spare }
+    ensures read { length lane.new.way.read ≡ length lane.old.way.read }
+    ensures messages { messages ups lane.new.way ≡ messages ups lane.old.way ++ option_to_list back.now }
+    ensures carry { Carries ups lane.old.way → Carries ups lane.new.way }
+{
+    if let Some(up) = back {
+        lane.send(up);
+    }
+}
+
 impl Attached {
     /// A site that has just joined.
     pub fn new(alloc: Global, site: Site) -> Attached
@@ -141,9 +167,10 @@ impl Attached {
     /// The site makes the edit of a command, and its message goes last into the up stream.
     pub fn edit(&mut self, alloc: Global, command: &Command) -> Result<Reply, NoMemory>
         ensures reply { IfOk result (λ reply. numbered_reply reply
-            ≡ edit_reply board_operations (edit_answer board_operations command.now self.old.site)) }
+            ≡ edit_reply board_batches (edit_answer board_batches (command.now ∷ []) self.old.site)) }
+        ensures few { IfOk result (λ reply. MakesFew reply 1) }
         ensures ok { OnOk result (bare_attached self.new
-            ≡ with_answer (edit_answer board_operations command.now self.old.site) (bare_attached self.old)) }
+            ≡ with_answer (edit_answer board_batches (command.now ∷ []) self.old.site) (bare_attached self.old)) }
         ensures read { OnOk result (IsRead (lane_of self.old) (length self.old.up.way.read) (length self.old.down.way.read) (lane_of self.new)) }
         ensures err { OnErr result (bare_attached self.new ≡ bare_attached self.old) }
         ensures same { OnErr result (lane_of self.new ≡ lane_of self.old) }
@@ -158,9 +185,30 @@ impl Attached {
         }
     }
 
+    /// The site makes one edit of commands, and its message goes last into the up stream.
+    pub fn edit_batch(&mut self, alloc: Global, commands: &[Command]) -> Result<Reply, NoMemory>
+        ensures reply { IfOk result (λ reply. numbered_reply reply
+            ≡ edit_reply board_batches (edit_answer board_batches commands.now self.old.site)) }
+        ensures few { IfOk result (λ reply. MakesFew reply (length commands.now)) }
+        ensures ok { OnOk result (bare_attached self.new
+            ≡ with_answer (edit_answer board_batches commands.now self.old.site) (bare_attached self.old)) }
+        ensures read { OnOk result (IsRead (lane_of self.old) (length self.old.up.way.read) (length self.old.down.way.read) (lane_of self.new)) }
+        ensures err { OnErr result (bare_attached self.new ≡ bare_attached self.old) }
+        ensures same { OnErr result (lane_of self.new ≡ lane_of self.old) }
+    {
+        self.up.reserve()?;
+        match self.site.edit_batch(alloc, commands) {
+            Ok(Made { edit, up }) => {
+                self.up.send(&up);
+                Ok(Reply::Made(edit))
+            }
+            Err(fault) => Ok(Reply::Refused(edit_refusal(fault)?)),
+        }
+    }
+
     /// The site sends a ping.
     pub(crate) fn ping(&mut self, count: u32) -> Result<(), NoMemory>
-        ensures ok { OnOk result (bare_attached self.new ≡ pinged board_operations count (bare_attached self.old)) }
+        ensures ok { OnOk result (bare_attached self.new ≡ pinged board_batches count (bare_attached self.old)) }
         ensures read { OnOk result (IsRead (lane_of self.old) (length self.old.up.way.read) (length self.old.down.way.read) (lane_of self.new)) }
         ensures err { OnErr result (bare_attached self.new ≡ bare_attached self.old) }
         ensures same { OnErr result (lane_of self.new ≡ lane_of self.old) }
@@ -172,11 +220,12 @@ impl Attached {
 
     /// Moves the oldest message up: the star takes it, or refuses it.
     pub fn move_up(&mut self, alloc: Global, star: &mut Star) -> Result<Reply, StarFault>
+        ensures few { IfOk result (λ reply. MakesFew reply 0) }
         ensures taken { IfOk result (λ reply. Rises self.old.site.number (messages ups self.old.up.way) star.old star.new (numbered_reply reply)) }
         ensures refused { IfErr result (λ fault. is_no_memory fault ≡ false
             → IsRefused self.old.site.number (messages ups self.old.up.way) star.old star.new fault) }
         ensures memory { IfErr result (λ fault. is_no_memory fault ≡ true → star.new ≡ star.old) }
-        ensures ok { OnOk result (bare_attached self.new ≡ one_taken board_operations (bare_attached self.old)) }
+        ensures ok { OnOk result (bare_attached self.new ≡ one_taken board_batches (bare_attached self.old)) }
         ensures read { OnOk result (IsRead (lane_of self.old)
             (length self.old.up.way.read - oldest_length ups (messages ups self.old.up.way)) (length self.old.down.way.read) (lane_of self.new)) }
         ensures err { OnErr result (bare_attached self.new ≡ bare_attached self.old) }
@@ -203,6 +252,7 @@ impl Attached {
         requires linked { is_some (link_of self.old.site.number star.old.links) ≡ true }
         requires fits { (l : BoardLink) → link_of self.old.site.number star.old.links ≡ Some l
             → FirstFits (refilled l (bare_attached self.old)) }
+        ensures few { IfOk result (λ reply. MakesFew reply 0) }
         ensures reply { IfOk result (λ reply. (l : BoardLink) → link_of self.old.site.number star.old.links ≡ Some l
             → numbered_reply reply ≡ first_reply (refilled l (bare_attached self.old))) }
         ensures site { OnOk result ((l : BoardLink) → link_of self.old.site.number star.old.links ≡ Some l
@@ -266,6 +316,7 @@ impl Attached {
     // stream.
     fn hand(&mut self, alloc: Global) -> Result<Reply, NoMemory>
         requires { FirstFits (bare_attached self.old) }
+        ensures few { IfOk result (λ reply. MakesFew reply 0) }
         ensures reply { IfOk result (λ reply. numbered_reply reply ≡ first_reply (bare_attached self.old)) }
         ensures ok { OnOk result (bare_attached self.new ≡ handed (bare_attached self.old)) }
         ensures read { OnOk result (IsRead (lane_of self.old) (length self.old.up.way.read)
@@ -281,18 +332,19 @@ impl Attached {
             Down::Op(_) => Reply::Shown,
             Down::Ack(_) | Down::Pong(_) => Reply::Heard,
         };
-        match self.site.deliver(alloc, &down) {
-            Ok(Some(back)) => self.up.send(&back),
-            Ok(None) => {}
+        let back = match self.site.deliver(alloc, &down) {
+            Ok(back) => back,
             Err(SiteFault::NoMemory) => return Err(NoMemory),
             Err(_) => unreachable!(),
-        }
+        };
+        send_back(&mut self.up, &back);
         self.down.drop_first(&down);
         Ok(reply)
     }
 
     /// Moves up to so many bytes of the up stream to the star's reader.
     pub(crate) fn push_up(&mut self, alloc: Global, most: u32) -> Result<Reply, NoMemory>
+        ensures few { IfOk result (λ reply. MakesFew reply 0) }
         ensures reply { IfOk result (λ reply. numbered_reply reply ≡ push_reply (min most (length self.old.up.way.stream))) }
         ensures ok { OnOk result (bare_attached self.new ≡ bare_attached self.old) }
         ensures read { OnOk result (IsRead (lane_of self.old)
@@ -312,6 +364,7 @@ impl Attached {
         most: u32,
     ) -> Result<Reply, NoMemory>
         requires { is_some (link_of self.old.site.number star.old.links) ≡ true }
+        ensures few { IfOk result (λ reply. MakesFew reply 0) }
         ensures reply { IfOk result (λ reply. (l : BoardLink) → link_of self.old.site.number star.old.links ≡ Some l
             → numbered_reply reply ≡ push_reply (min most (length (filled_stream self.old.down.way.stream l.outbox)))) }
         ensures site { OnOk result ((l : BoardLink) → link_of self.old.site.number star.old.links ≡ Some l

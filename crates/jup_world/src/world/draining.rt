@@ -1,6 +1,6 @@
 //! Runs of a world, and its draining.
 ghost use Rattle.std.specs.Prelude.{◌≡◌, ℕ, ◌<◌, ◌≤◌, length, map, Some, IsFalse, OnOk, OnErr, IfOk, IfErr};
-ghost use Rattle.jup_window.specs.BoardOperations.{board_operations};
+ghost use Rattle.jup_batch.specs.BoardBatches.{board_batches};
 ghost use Rattle.jup_world.specs.WorldStates.{IsQuiet};
 ghost use Rattle.jup_world.specs.NumberedReplies.{lane_event};
 ghost use Rattle.jup_world.specs.WorldSteps.{outcome};
@@ -51,7 +51,7 @@ impl World {
         ensures ok { OnOk result (AllSteps self.old (map lane_event events.now) self.new) }
         ensures done { IfErr result (λ halted. halted.done < length events.now) }
         ensures err { IfErr result (λ halted. IsHalted self.old (map lane_event events.now) halted.done self.new) }
-        ensures order { OrderIsKept board_operations (messages_of self.old) (messages_of self.new) }
+        ensures order { OrderIsKept board_batches (messages_of self.old) (messages_of self.new) }
     {
         // The clause on order rests on what is so of every world.
         let _opened = &self.trace;
@@ -79,7 +79,7 @@ impl World {
         ensures delivered { OnOk result (IsDelivered self.old self.new) }
         ensures quiet { OnOk result (IsStill self.new) }
         ensures err { OnErr result (IsDeliveredInPart self.old self.new) }
-        ensures order { OrderIsKept board_operations (messages_of self.old) (messages_of self.new) }
+        ensures order { OrderIsKept board_batches (messages_of self.old) (messages_of self.new) }
     {
         // The clauses on order and quiet rest on what is so of every world.
         let _opened = &self.trace;
@@ -90,7 +90,7 @@ impl World {
     fn settle(&mut self, alloc: Global) -> Result<(), NoMemory>
         ensures rounds { OnOk result (IsDrained self.old self.new) }
         ensures delivered { OnOk result (IsDelivered self.old self.new) }
-        ensures quiet { OnOk result (IsQuiet board_operations (messages_of self.new)) }
+        ensures quiet { OnOk result (IsQuiet board_batches (messages_of self.new)) }
         ensures err { OnErr result (IsDeliveredInPart self.old self.new) }
     {
         while self.round(alloc)? {}
@@ -101,7 +101,7 @@ impl World {
     fn round(&mut self, alloc: Global) -> Result<bool, NoMemory>
         ensures round { IfOk result (λ moved. IsRound moved self.old self.new) }
         ensures moved { IfOk result (λ moved. Settles moved self.old self.new) }
-        ensures quiet { IfOk result (λ moved. IsFalse moved → IsQuiet board_operations (messages_of self.new)) }
+        ensures quiet { IfOk result (λ moved. IsFalse moved → IsQuiet board_batches (messages_of self.new)) }
         ensures err { OnErr result (IsDeliveredInPart self.old self.new) }
     {
         let up = self.move_all(alloc, Way::Up)?;
@@ -155,7 +155,7 @@ impl World {
     fn move_one(&mut self, alloc: Global, way: Way, number: u32) -> Result<bool, NoMemory>
         ensures delivers { IfOk result (λ moved. Delivers way number moved self.old self.new) }
         ensures moved { IfOk result (λ moved. Settles moved self.old self.new) }
-        ensures nothing { IfOk result (λ moved. IsFalse moved → (outcome board_operations (messages_of self.old) (way_event way number)).reply ≡ Nothing) }
+        ensures nothing { IfOk result (λ moved. IsFalse moved → (outcome board_batches (messages_of self.old) (way_event way number)).reply ≡ Nothing) }
         ensures err { OnErr result (IsDeliveredInPart self.old self.new) }
     {
         // The checker learns of the types within a reply from this.

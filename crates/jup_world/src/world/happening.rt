@@ -1,9 +1,9 @@
 //! What an event does to a star and its sites.
-ghost use Rattle.std.specs.Prelude.{◌≡◌, map, is_some, IfOk, OnOk, OnErr};
+ghost use Rattle.std.specs.Prelude.{◌≡◌, [], ◌∷◌, length, map, is_some, IfOk, OnOk, OnErr};
 ghost use Rattle.jup_star.specs.StarStates.{link_of};
 ghost use Rattle.jup_world.specs.WorldStates.{attached, without_site};
 ghost use Rattle.jup_world.specs.WorldFields.{lane_of, bare_attached};
-ghost use Rattle.jup_world.specs.NumberedReplies.{lane_event, numbered_reply};
+ghost use Rattle.jup_world.specs.NumberedReplies.{lane_event, numbered_reply, most_edits, MakesFew};
 ghost use Rattle.jup_world.specs.Happenings.{Plays, AreReady};
 ghost use Rattle.jup_world.specs.LaneWorlds.{Plain, PushUp, PushDown, without_lane};
 ghost use Rattle.jup_world.specs.LaneHappenings.{LanePlays, AreRead, SitesRest, LaneSpares};
@@ -28,6 +28,7 @@ pub(crate) fn happen(
     requires { AreReady star.old (map bare_attached sites.old.items) }
     ensures plays { IfOk result (λ reply. LanePlays (lane_event event.now) star.old (map lane_of sites.old.items)
         (numbered_reply reply) star.new (map bare_attached sites.new.items)) }
+    ensures few { IfOk result (λ reply. MakesFew reply (most_edits event.now)) }
     ensures read { OnOk result (AreRead (lane_event event.now) star.old (map lane_of sites.old.items) (map lane_of sites.new.items)) }
     ensures spared { OnErr result (LaneSpares (lane_event event.now) star.old (map lane_of sites.old.items)
         star.new (map lane_of sites.new.items)) }
@@ -36,6 +37,13 @@ pub(crate) fn happen(
         Event::Join => join(alloc, star, sites),
         Event::Leave(number) => Ok(leave(star, sites, *number)),
         Event::Edit(number, command) => edit(alloc, star, sites, *number, command),
+        Event::Batch(number, commands) => edit_batch(
+            alloc,
+            star,
+            sites,
+            *number,
+            commands.as_slice(),
+        ),
         Event::Up(number) => move_up(alloc, star, sites, *number),
         Event::Down(number) => move_down(alloc, star, sites, *number),
         Event::Ping(number, count) => ping(star, sites, *number, *count),
@@ -46,6 +54,7 @@ pub(crate) fn happen(
 
 fn join(alloc: Global, star: &mut Star, sites: &mut Vec<Attached>) -> Result<Reply, NoMemory>
     requires { AreReady star.old (map bare_attached sites.old.items) }
+    ensures few { IfOk result (λ reply. MakesFew reply 0) }
     ensures plays { IfOk result (λ reply. Plays event.Join star.old (map bare_attached sites.old.items)
         (numbered_reply reply) star.new (map bare_attached sites.new.items)) }
     ensures read { OnOk result (AreRead (Plain (event.Join)) star.old (map lane_of sites.old.items) (map lane_of sites.new.items)) }
@@ -73,6 +82,7 @@ fn drop_site(sites: &mut Vec<Attached>, number: u32)
 
 fn leave(star: &mut Star, sites: &mut Vec<Attached>, number: u32) -> Reply
     requires { is_some (attached number (map bare_attached sites.old.items)) ≡ is_some (link_of number star.old.links) }
+    ensures few { MakesFew result 0 }
     ensures plays { Plays (event.Leave number) star.old (map bare_attached sites.old.items)
         (numbered_reply result) star.new (map bare_attached sites.new.items) }
     ensures read { AreRead (Plain (event.Leave number)) star.old (map lane_of sites.old.items) (map lane_of sites.new.items) }
@@ -94,9 +104,10 @@ fn edit(
     command: &Command,
 ) -> Result<Reply, NoMemory>
     requires { AreReady star.now (map bare_attached sites.old.items) }
-    ensures plays { IfOk result (λ reply. LanePlays (Plain (event.Edit number command.now)) star.now (map lane_of sites.old.items)
+    ensures plays { IfOk result (λ reply. LanePlays (Plain (event.Edit number (command.now ∷ []))) star.now (map lane_of sites.old.items)
         (numbered_reply reply) star.now (map bare_attached sites.new.items)) }
-    ensures read { OnOk result (AreRead (Plain (event.Edit number command.now)) star.now (map lane_of sites.old.items) (map lane_of sites.new.items)) }
+    ensures few { IfOk result (λ reply. MakesFew reply 1) }
+    ensures read { OnOk result (AreRead (Plain (event.Edit number (command.now ∷ []))) star.now (map lane_of sites.old.items) (map lane_of sites.new.items)) }
     ensures same { OnErr result (map lane_of sites.new.items ≡ map lane_of sites.old.items) }
 {
     match place_of(sites, number) {
@@ -105,8 +116,29 @@ fn edit(
     }
 }
 
+fn edit_batch(
+    alloc: Global,
+    star: &Star,
+    sites: &mut Vec<Attached>,
+    number: u32,
+    commands: &[Command],
+) -> Result<Reply, NoMemory>
+    requires { AreReady star.now (map bare_attached sites.old.items) }
+    ensures plays { IfOk result (λ reply. LanePlays (Plain (event.Edit number commands.now)) star.now (map lane_of sites.old.items)
+        (numbered_reply reply) star.now (map bare_attached sites.new.items)) }
+    ensures few { IfOk result (λ reply. MakesFew reply (length commands.now)) }
+    ensures read { OnOk result (AreRead (Plain (event.Edit number commands.now)) star.now (map lane_of sites.old.items) (map lane_of sites.new.items)) }
+    ensures same { OnErr result (map lane_of sites.new.items ≡ map lane_of sites.old.items) }
+{
+    match place_of(sites, number) {
+        Some(at) => sites[at].edit_batch(alloc, commands),
+        None => Ok(Reply::Nothing),
+    }
+}
+
 fn ping(star: &Star, sites: &mut Vec<Attached>, number: u32, count: u32) -> Result<Reply, NoMemory>
     requires { AreReady star.now (map bare_attached sites.old.items) }
+    ensures few { IfOk result (λ reply. MakesFew reply 0) }
     ensures plays { IfOk result (λ reply. Plays (event.Ping number count) star.now (map bare_attached sites.old.items)
         (numbered_reply reply) star.now (map bare_attached sites.new.items)) }
     ensures read { OnOk result (AreRead (Plain (event.Ping number count)) star.now (map lane_of sites.old.items) (map lane_of sites.new.items)) }
@@ -127,6 +159,7 @@ fn move_up(
     number: u32,
 ) -> Result<Reply, NoMemory>
     requires { AreReady star.old (map bare_attached sites.old.items) }
+    ensures few { IfOk result (λ reply. MakesFew reply 0) }
     ensures plays { IfOk result (λ reply. Plays (event.Up number) star.old (map bare_attached sites.old.items)
         (numbered_reply reply) star.new (map bare_attached sites.new.items)) }
     ensures read { OnOk result (AreRead (Plain (event.Up number)) star.old (map lane_of sites.old.items) (map lane_of sites.new.items)) }
@@ -153,6 +186,7 @@ fn move_down(
     number: u32,
 ) -> Result<Reply, NoMemory>
     requires { AreReady star.old (map bare_attached sites.old.items) }
+    ensures few { IfOk result (λ reply. MakesFew reply 0) }
     ensures plays { IfOk result (λ reply. Plays (event.Down number) star.old (map bare_attached sites.old.items)
         (numbered_reply reply) star.new (map bare_attached sites.new.items)) }
     ensures read { OnOk result (AreRead (Plain (event.Down number)) star.old (map lane_of sites.old.items) (map lane_of sites.new.items)) }
@@ -173,6 +207,7 @@ fn push_up(
     most: u32,
 ) -> Result<Reply, NoMemory>
     requires { AreReady star.now (map bare_attached sites.old.items) }
+    ensures few { IfOk result (λ reply. MakesFew reply 0) }
     ensures plays { IfOk result (λ reply. LanePlays (PushUp number most) star.now (map lane_of sites.old.items)
         (numbered_reply reply) star.now (map bare_attached sites.new.items)) }
     ensures read { OnOk result (AreRead (PushUp number most) star.now (map lane_of sites.old.items) (map lane_of sites.new.items)) }
@@ -193,6 +228,7 @@ fn push_down(
     most: u32,
 ) -> Result<Reply, NoMemory>
     requires { AreReady star.old (map bare_attached sites.old.items) }
+    ensures few { IfOk result (λ reply. MakesFew reply 0) }
     ensures plays { IfOk result (λ reply. LanePlays (PushDown number most) star.old (map lane_of sites.old.items)
         (numbered_reply reply) star.new (map bare_attached sites.new.items)) }
     ensures read { OnOk result (AreRead (PushDown number most) star.old (map lane_of sites.old.items) (map lane_of sites.new.items)) }

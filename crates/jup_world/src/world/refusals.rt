@@ -23,6 +23,7 @@ pub(crate) fn edit_refusal(fault: EditFault) -> Result<EditFault, NoMemory>
         | EditFault::LongText
         | EditFault::Backlog
         | EditFault::Spent
+        | EditFault::BadBatch
         | EditFault::Stopped => Ok(fault),
     }
 }

@@ -1,6 +1,6 @@
-use Rattle.jup_window.specs.BoardOperations.{board_operations}
-use Rattle.jup_window.specs.BoardsAreLawful.{board_laws}
-use Rattle.jup_star.specs.StarStates.{most_items}
+use Rattle.jup_batch.specs.BoardBatches.{board_batches}
+use Rattle.jup_batch.specs.BoardBatches.{batch_laws}
+use Rattle.jup_star.specs.StarStates.{most_batches}
 use Rattle.jup_world.proofs.SoundRuns.{sound-promises}
 use Rattle.jup_world.proofs.ReplyLaws.{replies}
 use Rattle.jup_world.proofs.BacklogLaws.{counts-backlog}
@@ -11,23 +11,23 @@ use Rattle.jup_world.proofs.BoardWorldLaws.{reached_sound}
 use Rattle.jup_world.proofs.promises.worlds_agree.Goals as goal
 
 pub returns-clause-kept : goal.returns-clause-kept
-returns-clause-kept c w reached = sound-promises board_operations board_laws most_items w (reached_sound w reached).sound
+returns-clause-kept c w reached = sound-promises board_batches batch_laws most_batches w (reached_sound w reached).sound
 
 pub returns-clause-replies : goal.returns-clause-replies
-returns-clause-replies c w reached event = replies board_operations board_laws most_items w (reached_sound w reached).sound event
+returns-clause-replies c w reached event = replies board_batches batch_laws most_batches w (reached_sound w reached).sound event
 
 pub returns-clause-tallies : goal.returns-clause-tallies
-returns-clause-tallies c w reached = tallies board_operations w (reached_sound w reached).tallied
+returns-clause-tallies c w reached = tallies board_batches w (reached_sound w reached).tallied
 
 pub returns-clause-backlog : goal.returns-clause-backlog
 returns-clause-backlog c w reached =
     let is = reached_sound w reached in
-    counts-backlog board_operations board_laws most_items w is.sound is.counts
+    counts-backlog board_batches batch_laws most_batches w is.sound is.counts
 
 pub returns-clause-order : goal.returns-clause-order
 returns-clause-order c w reached events =
     let sound = (reached_sound w reached).sound in
     record {
-      star = (run-follows board_operations board_laws events most_items w sound).order;
-      sites = λ i a b before after. (run_follows board_operations board_laws events most_items w sound i a b before after).order;
+      star = (run-follows board_batches batch_laws events most_batches w sound).order;
+      sites = λ i a b before after. (run_follows board_batches batch_laws events most_batches w sound i a b before after).order;
     }

@@ -20,3 +20,9 @@ returns-in-Ping-clause-plays c = rw c.in-Ping.is (plain_result (SendPing c.in-Pi
 
 pub returns-in-PushUp-clause-plays : goal.returns-in-PushUp-clause-plays
 returns-in-PushUp-clause-plays c = rw c.in-PushUp.is c.push_up.ensures.plays
+
+pub returns-in-Edit-clause-plays : goal.returns-in-Edit-clause-plays
+returns-in-Edit-clause-plays c = rw c.in-Edit.is c.edit.ensures.plays
+
+pub returns-in-Batch-clause-plays : goal.returns-in-Batch-clause-plays
+returns-in-Batch-clause-plays c = rw c.in-Batch.is (rw c.as_slice.ensures at c.edit_batch.ensures.plays)

@@ -1,6 +1,6 @@
 use Rattle.std.proofs.Common.{◌≡◌, ◌++◌, ◌∙◌, List, [], refl, sym, ap, subst, is_some}
 use Rattle.std.specs.Option.{option_to_list}
-use Rattle.jup_window.specs.declared.board_operations.BoardOp.{BoardOp}
+use Rattle.jup_batch.specs.BatchBoards.{BoardBatch}
 use Rattle.jup_star.specs.declared.messages.Down.{Down}
 use Rattle.jup_star.specs.StarStates.{link_of, fetched}
 use Rattle.jup_lane.specs.Codecs.{bytes_of_all}
@@ -23,7 +23,7 @@ returns-in-Ok-clause-site c l found =
     let waits = some_wait c.number-number.result c.args.star.now l c.waiting.result link c.waiting.ensures (sym c.ne.ensures ∙ c.if-ne.true) in
     let one = (fetch_fetched c.number-number.result _ _ l (option_to_list c.in-Ok.fetched) link c.in-Ok.ensures.call).0 in
     let ds = c.send_one.ensures.messages ∙ ap (λ (w : Way). messages downs w ++ option_to_list c.in-Ok.fetched) c.reserve.ensures.way
-    ∙ ap (λ (ds : List (Down BoardOp)). messages downs c.args.self.now.down.way ++ ds) one in
+    ∙ ap (λ (ds : List (Down BoardBatch)). messages downs c.args.self.now.down.way ++ ds) one in
     fetched_site (bare_attached c.args.self.now) _ c.args.self.now.down.way.stream l empty waits (λ j. record (bare_attached c.args.self.now) { down = ds j })
 
 pub returns-in-Ok-clause-star : goal.returns-in-Ok-clause-star

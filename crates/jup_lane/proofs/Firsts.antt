@@ -1,0 +1,163 @@
+-- What lines begin with, by what they are gathered to.
+use Rattle.std.proofs.Common.{◌≡◌, ◌+◌, ◌<◌, ◌≤◌, inl, inr, List, [], ◌∷◌, ◌++◌, length, Option, Some, None, refl, sym, ap, subst, ◌∙◌, append_assoc, arith, length-append}
+use Rattle.std.specs.Prelude.{MatchOption}
+use Rattle.std.specs.List.{flat_map, AllByRecursion}
+use Rattle.std.proofs.lemmas.Bool.{cases_lt}
+use Rattle.std.proofs.lemmas.List.{append-nil, nil_from_length}
+use Rattle.std.proofs.lemmas.List.Concat.{flat_map-cons}
+use Rattle.jup_batch.specs.BatchBoards.{BoardBatch}
+use Rattle.jup_star.specs.declared.messages.Up.{Up}
+use Rattle.jup_star.specs.declared.messages.Up.TheVariants.{Op as UpOp, Ack as UpAck, Ping as UpPing}
+use Rattle.jup_star.specs.declared.messages.Down.{Down}
+use Rattle.jup_star.specs.declared.messages.Down.TheVariants.{Op as DownOp, Ack as DownAck, Pong as DownPong}
+use Rattle.jup_wire.specs.declared.line.Line.{Line}
+use Rattle.jup_wire.specs.declared.line.Line.TheVariants as line
+use Rattle.jup_wire.specs.Grammar.{HasSpelling}
+use Rattle.jup_gather.specs.declared.gathered.Gathered.{Gathered}
+use Rattle.jup_gather.specs.declared.gathered.Gathered.TheVariants.{Whole, Plain, Held, Misplaced}
+use Rattle.jup_gather.specs.Pieces.{Piece, Message, Alone, piece_lines, IsPiece, BeginsNone, IsPart}
+use Rattle.jup_gather.specs.Gathering.{Gathers}
+use Rattle.jup_gather.proofs.OneGathering.{one_piece, part_begins_none}
+use Rattle.jup_lane.specs.Codecs.{IsFirst}
+use Rattle.jup_lane.specs.Messages.{up_piece, down_piece, ups, downs}
+use Rattle.jup_lane.specs.Firsts.{IsFirstOf, up_from, down_from}
+
+-- ---- lines that are gone over
+
+-- the lines so far are a part that is held, and these are left
+abbrev pub IsHeld : Option (List Line) → List Line → List Line → Type 0
+IsHeld held left there = MatchOption held ⊥ (λ part. (part ++ left ≡ there) × IsPart part)
+
+pub held_first : (held : Option (List Line)) (left there : List Line) → held ≡ Some [] → IsPart [] → left ≡ there → IsHeld held left there
+held_first held left there none part same = subst (λ h. IsHeld h left there) (sym none) (same, part)
+
+pub held_more : (held new : Option (List Line)) (left rest there : List Line) (line : Line) (gathered : Gathered) → IsHeld held left there → left ≡ line ∷ rest → Gathers held line gathered new → gathered ≡ Held → IsHeld new rest there
+held_more None new left rest there line gathered is cut step e = absurd is
+held_more (Some part) new left rest there line gathered is cut step e =
+    let next : Gathers (Some part) line Held new = subst (λ g. Gathers (Some part) line g new) e step in
+    subst (λ h. IsHeld h rest there) (sym next.1) (append_assoc part (line ∷ []) rest ∙ ap (λ ls. part ++ ls) (sym cut) ∙ is.0, next.0)
+
+found : (part : List Line) (line : Line) (rest : List Line) (gathered : Gathered) (new : Option (List Line)) → Gathers (Some part) line gathered new → (gathered ≡ Held → ⊥) → IsFirstOf (part ++ line ∷ rest) (Some gathered)
+found part line rest (Whole m) new step other = (step.0, (rest, sym (append_assoc part (line ∷ []) rest) ∙ ap (λ ls. ls ++ rest) step.1))
+found part line rest (Plain plain) new step other = (subst (λ l. IsPiece (Alone l)) (sym step.2) step.1, (rest, ap (λ ls. ls ++ line ∷ rest) step.0 ∙ ap (λ l. l ∷ rest) (sym step.2)))
+found part line rest Held new step other = absurd (other refl)
+found part line rest Misplaced new step other = λ more piece later is e. step.0 (rest ++ more) piece later is (sym (append_assoc part (line ∷ rest) more) ∙ e)
+
+pub first_found : (held new : Option (List Line)) (left rest there : List Line) (line : Line) (gathered : Gathered) → IsHeld held left there → left ≡ line ∷ rest → Gathers held line gathered new → (gathered ≡ Held → ⊥) → IsFirstOf there (Some gathered)
+first_found None new left rest there line gathered is cut step other = absurd is
+first_found (Some part) new left rest there line gathered is cut step other =
+    subst (λ ls. IsFirstOf ls (Some gathered)) (ap (λ ls. part ++ ls) (sym cut) ∙ is.0) (found part line rest gathered new step other)
+
+pub none_found : (held : Option (List Line)) (left there : List Line) → IsHeld held left there → length left ≡ 0 → BeginsNone there
+none_found None left there is none = absurd is
+none_found (Some part) left there is none =
+    part_begins_none there (subst IsPart (sym (append-nil part) ∙ ap (λ ls. part ++ ls) (sym (nil_from_length left none)) ∙ is.0) is.1)
+
+-- ---- lines that begin those of messages
+
+-- what begins some lines, where a piece's lines are the first of them and of those behind
+IsPieceThere : Piece → List Line → Option Gathered → Type 0
+IsPieceThere piece there None = length there < length (piece_lines piece)
+IsPieceThere piece there (Some (Whole m)) = (piece ≡ Message m) × (length (piece_lines piece) ≤ length there)
+IsPieceThere piece there (Some (Plain plain)) = (piece ≡ Alone plain) × (length (piece_lines piece) ≤ length there)
+IsPieceThere piece there (Some Held) = ⊥
+IsPieceThere piece there (Some Misplaced) = ⊥
+
+-- the shorter of two that begin one list begins the longer
+begins_longer : (xs ys short bs : List Line) → xs ++ ys ≡ short ++ bs → length short ≤ length xs → (more : List Line) × (xs ≡ short ++ more)
+begins_longer xs ys [] bs e le = (xs, refl)
+begins_longer [] ys (a ∷ short) bs e le = absurd (omega (arith, le))
+begins_longer (x ∷ xs) ys (a ∷ short) bs e le =
+    let rest = begins_longer xs ys short bs (cc) (omega (arith, le)) in
+    let first : x ≡ a = cc in
+    let later = rest.1 in
+    (rest.0, cc)
+
+there_is : (there more : List Line) (piece other : Piece) (rest later : List Line) → IsPiece piece → IsPiece other → there ≡ piece_lines other ++ rest → there ++ more ≡ piece_lines piece ++ later
+    → (piece ≡ other) × (length (piece_lines piece) ≤ length there)
+there_is there more piece other rest later is is_other e all =
+    let both : piece_lines piece ++ later ≡ piece_lines other ++ (rest ++ more) = sym all ∙ ap (λ ls. ls ++ more) e ∙ append_assoc (piece_lines other) rest more in
+    let one = one_piece piece other later (rest ++ more) is is_other both in
+    let long : length there ≡ length (piece_lines piece) + length rest = ap length e ∙ length-append (piece_lines other) rest ∙ ap (λ p. length (piece_lines p) + length rest) (sym one.0) in
+    (one.0, omega (arith, long))
+
+piece_there : (there more : List Line) (piece : Piece) (later : List Line) (first : Option Gathered) → IsPiece piece → there ++ more ≡ piece_lines piece ++ later → IsFirstOf there first → IsPieceThere piece there first
+unfolding IsPieceThere
+piece_there there more piece later None is all none =
+    elim (cases_lt (length there) (length (piece_lines piece))) [
+      | inl lt ↦ lt
+      | inr le ↦ absurd (let rest = begins_longer there more (piece_lines piece) later all le in none piece rest.0 is rest.1)
+    ]
+piece_there there more piece later (Some (Whole m)) is all first = there_is there more piece (Message m) first.1.0 later is first.0 first.1.1 all
+piece_there there more piece later (Some (Plain plain)) is all first = there_is there more piece (Alone plain) first.1.0 later is first.0 first.1.1 all
+piece_there there more piece later (Some Held) is all first = first
+piece_there there more piece later (Some Misplaced) is all none = none more piece later is all
+
+-- no lines, no message
+nothing_there : (there more : List Line) (first : Option Gathered) → there ++ more ≡ [] → IsFirstOf there first → first ≡ None
+nothing_there there more None e first = refl
+nothing_there [] more (Some (Whole m)) e first = let none = first.1.1 in absurd cc
+nothing_there [] more (Some (Plain plain)) e first = let none = first.1.1 in absurd cc
+nothing_there [] more (Some Held) e first = absurd first
+nothing_there [] more (Some Misplaced) e first = absurd (first (line.Bye ∷ []) (Alone line.Bye) [] refl refl)
+nothing_there (l ∷ there) more (Some gathered) e first = absurd cc
+
+-- ---- messages up
+
+up_sound : (u : Up BoardBatch) → AllByRecursion HasSpelling (ups.lines u) → IsPiece (up_piece u)
+up_sound (UpOp m) is = is.0.1.1
+up_sound (UpAck n) is = refl
+up_sound (UpPing k) is = refl
+
+up_is : (u : Up BoardBatch) (us : List (Up BoardBatch)) (there : List Line) (first : Option Gathered) → IsPieceThere (up_piece u) there first → IsFirst ups.lines there (u ∷ us) (up_from first)
+unfolding IsPieceThere
+up_is u us there None is = is
+up_is (UpOp m) us there (Some (Whole n)) is = (let same = is.0 in cc, is.1)
+up_is (UpOp m) us there (Some (Plain plain)) is = absurd (let same = is.0 in cc)
+up_is (UpAck n) us there (Some (Whole m)) is = absurd (let same = is.0 in cc)
+up_is (UpAck n) us there (Some (Plain plain)) is =
+    let same : line.Ack n ≡ plain = (let e = is.0 in cc) in
+    subst (λ l. IsFirst ups.lines there (UpAck n ∷ us) (up_from (Some (Plain l)))) same (refl, is.1)
+up_is (UpPing k) us there (Some (Whole m)) is = absurd (let same = is.0 in cc)
+up_is (UpPing k) us there (Some (Plain plain)) is =
+    let same : line.Ping k ≡ plain = (let e = is.0 in cc) in
+    subst (λ l. IsFirst ups.lines there (UpPing k ∷ us) (up_from (Some (Plain l)))) same (refl, is.1)
+up_is u us there (Some Held) is = absurd is
+up_is u us there (Some Misplaced) is = absurd is
+
+pub up_first : (there : List Line) (first : Option Gathered) (up : Option (Up BoardBatch)) → IsFirstOf there first → up ≡ up_from first
+    → (us : List (Up BoardBatch)) (more : List Line) → AllByRecursion ups.IsSpelled us → there ++ more ≡ flat_map ups.lines us → IsFirst ups.lines there us up
+up_first there first up is same [] more all e = same ∙ ap up_from (nothing_there there more first e is)
+up_first there first up is same (u ∷ us) more all e =
+    subst (IsFirst ups.lines there (u ∷ us)) (sym same)
+    (up_is u us there first (piece_there there more (up_piece u) (flat_map ups.lines us) first (up_sound u all.0) (e ∙ flat_map-cons ups.lines u us) is))
+
+-- ---- messages down
+
+down_sound : (d : Down BoardBatch) → AllByRecursion HasSpelling (downs.lines d) → IsPiece (down_piece d)
+down_sound (DownOp m) is = is.0.1.1
+down_sound (DownAck n) is = refl
+down_sound (DownPong k) is = refl
+
+down_is : (d : Down BoardBatch) (ds : List (Down BoardBatch)) (there : List Line) (first : Option Gathered) → IsPieceThere (down_piece d) there first → IsFirst downs.lines there (d ∷ ds) (down_from first)
+unfolding IsPieceThere
+down_is d ds there None is = is
+down_is (DownOp m) ds there (Some (Whole n)) is = (let same = is.0 in cc, is.1)
+down_is (DownOp m) ds there (Some (Plain plain)) is = absurd (let same = is.0 in cc)
+down_is (DownAck n) ds there (Some (Whole m)) is = absurd (let same = is.0 in cc)
+down_is (DownAck n) ds there (Some (Plain plain)) is =
+    let same : line.Ack n ≡ plain = (let e = is.0 in cc) in
+    subst (λ l. IsFirst downs.lines there (DownAck n ∷ ds) (down_from (Some (Plain l)))) same (refl, is.1)
+down_is (DownPong k) ds there (Some (Whole m)) is = absurd (let same = is.0 in cc)
+down_is (DownPong k) ds there (Some (Plain plain)) is =
+    let same : line.Pong k ≡ plain = (let e = is.0 in cc) in
+    subst (λ l. IsFirst downs.lines there (DownPong k ∷ ds) (down_from (Some (Plain l)))) same (refl, is.1)
+down_is d ds there (Some Held) is = absurd is
+down_is d ds there (Some Misplaced) is = absurd is
+
+pub down_first : (there : List Line) (first : Option Gathered) (down : Option (Down BoardBatch)) → IsFirstOf there first → down ≡ down_from first
+    → (ds : List (Down BoardBatch)) (more : List Line) → AllByRecursion downs.IsSpelled ds → there ++ more ≡ flat_map downs.lines ds → IsFirst downs.lines there ds down
+down_first there first down is same [] more all e = same ∙ ap down_from (nothing_there there more first e is)
+down_first there first down is same (d ∷ ds) more all e =
+    subst (IsFirst downs.lines there (d ∷ ds)) (sym same)
+    (down_is d ds there first (piece_there there more (down_piece d) (flat_map downs.lines ds) first (down_sound d all.0) (e ∙ flat_map-cons downs.lines d ds) is))

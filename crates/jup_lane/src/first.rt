@@ -1,0 +1,63 @@
+//! The first message of some lines.
+ghost use Rattle.std.specs.Prelude.{◌≡◌, IfOk, IsTrue};
+ghost use Rattle.jup_gather.specs.Pieces.{BeginsNone};
+ghost use Rattle.jup_lane.specs.Firsts.{IsFirstOf, up_from, down_from};
+
+use jup_gather::{Gather, Gathered};
+use jup_star::{Down, Up};
+use jup_wire::Line;
+use jup_xform::NoMemory;
+use std::alloc::Global;
+use std::collections::VecDeque;
+
+// Whether a message begins these lines that has more of them.
+fn is_short(there: &VecDeque<Line>) -> bool
+    ensures { IsTrue result → BeginsNone there.now.items }
+{
+    match there.front() {
+        Some(Line::Batch { count, .. }) => there.len() <= *count as usize,
+        _ => false,
+    }
+}
+
+/// What some lines begin with: a message or a line that stands alone, if all its lines are there.
+pub(crate) fn first_of(alloc: Global, there: &VecDeque<Line>) -> Result<Option<Gathered>, NoMemory>
+    ensures { IfOk result (λ first. IsFirstOf there.now.items first) }
+{
+    // So each line of a message is gathered once.
+    if is_short(there) {
+        return Ok(None);
+    }
+    let mut gather = Gather::new();
+    for line in there.iter() {
+        match gather.push(alloc, line)? {
+            Gathered::Held => {}
+            gathered => return Ok(Some(gathered)),
+        }
+    }
+    Ok(None)
+}
+
+/// The message up that it is.
+pub(crate) fn up_of(first: Option<Gathered>) -> Option<Up>
+    ensures { result ≡ up_from first }
+{
+    match first {
+        Some(Gathered::Whole(msg)) => Some(Up::Op(msg)),
+        Some(Gathered::Plain(Line::Ack(count))) => Some(Up::Ack(count)),
+        Some(Gathered::Plain(Line::Ping(number))) => Some(Up::Ping(number)),
+        _ => None,
+    }
+}
+
+/// The message down that it is.
+pub(crate) fn down_of(first: Option<Gathered>) -> Option<Down>
+    ensures { result ≡ down_from first }
+{
+    match first {
+        Some(Gathered::Whole(msg)) => Some(Down::Op(msg)),
+        Some(Gathered::Plain(Line::Ack(count))) => Some(Down::Ack(count)),
+        Some(Gathered::Plain(Line::Pong(number))) => Some(Down::Pong(number)),
+        _ => None,
+    }
+}

@@ -1,0 +1,181 @@
+//! Random edits of one to five commands at three sites, on a widget of each kind. After each event every board holds what the edits
+//! mean that its end was told of.
+use super::boards::{LIMIT, batch, drain, is_quiet};
+use super::content::Content;
+use super::ledger::Ledger;
+use jup_value::Label;
+use jup_window::{Board, Command, Setting, Value};
+use jup_world::{Event, Reply, World};
+use std::alloc::Global;
+use std::marker::PhantomData;
+use std::process::Abort;
+use test_boards::{Dice, board_of};
+
+const SITES: u32 = 3;
+
+// How many events happen before all is delivered.
+const EVENTS: u32 = 200;
+
+fn opened(rt: &impl Abort, alloc: Global) -> World {
+    let lines = [
+        "window 1",
+        "text 1 \"pqr\"",
+        "list 2 \"red\" \"green\"",
+        "toggle 3 off",
+        "slider 4 0 10 5",
+    ];
+    let board = board_of(alloc, &lines).expect(rt, "a board");
+    let mut world = World::open(alloc, board, LIMIT).expect(rt, "a layout and a limit");
+    for _ in 0..SITES {
+        world.step(alloc, &Event::Join).expect(rt, "memory");
+    }
+    world
+}
+
+// The board of the star, as number 0, or of a site.
+fn board_at(world: &World, number: u32) -> &Board {
+    match world.site(number) {
+        Some(site) => site.board(),
+        None => world.star().board(),
+    }
+}
+
+// A place in a widget, or the one behind its last item.
+fn place(dice: &mut Dice, board: &Board, wid: u16) -> u32 {
+    let count = board.widget(1, wid).map_or(0, |widget| widget.item_count());
+    dice.roll(count.saturating_add(1))
+}
+
+fn label(rt: &impl Abort, dice: &mut Dice) -> Label {
+    let text: &[u8] = if dice.once_in(2) { b"blue" } else { b"grey" };
+    Label::read(text).expect(rt, "a label")
+}
+
+// A command on the text or the list.
+fn item_command(rt: &impl Abort, dice: &mut Dice, board: &Board) -> Command {
+    let win = 1;
+    match dice.roll(5) {
+        0 => Command::Insert {
+            win,
+            wid: 1,
+            place: place(dice, board, 1),
+            value: Value::Char('a'),
+        },
+        1 => Command::Insert {
+            win,
+            wid: 2,
+            place: place(dice, board, 2),
+            value: Value::Label(label(rt, dice)),
+        },
+        2 => Command::Delete {
+            win,
+            wid: 1,
+            place: place(dice, board, 1),
+        },
+        3 => Command::Delete {
+            win,
+            wid: 2,
+            place: place(dice, board, 2),
+        },
+        _ => Command::Relabel {
+            win,
+            wid: 2,
+            place: place(dice, board, 2),
+            label: label(rt, dice),
+        },
+    }
+}
+
+fn command(rt: &impl Abort, dice: &mut Dice, board: &Board) -> Command {
+    let win = 1;
+    match dice.roll(4) {
+        0 => Command::Set {
+            win,
+            wid: 3,
+            setting: Setting::Toggle(dice.once_in(2)),
+        },
+        // The slider has no 11.
+        1 => Command::Set {
+            win,
+            wid: 4,
+            setting: Setting::Slider(i32::try_from(dice.roll(12)).unwrap_or(0)),
+        },
+        _ => item_command(rt, dice, board),
+    }
+}
+
+// One to five commands, each as if it were alone on the board, so that some of them are refused behind the others.
+fn commands(rt: &impl Abort, alloc: Global, dice: &mut Dice, board: &Board) -> Vec<Command> {
+    // The checker learns of the types within a command from this.
+    let _within: PhantomData<(Value, Setting, Label)> = PhantomData;
+    let mut all = Vec::new(alloc);
+    for _ in 0..=dice.roll(5) {
+        all.push(command(rt, dice, board)).expect(rt, "memory");
+    }
+    all
+}
+
+// A site edits, one of its messages moves, or some bytes of one.
+fn event(rt: &impl Abort, alloc: Global, dice: &mut Dice, world: &World) -> Event {
+    let site = dice.roll(SITES).saturating_add(1);
+    match dice.roll(8) {
+        0 | 1 => {
+            let all = commands(rt, alloc, dice, board_at(world, site));
+            batch(rt, alloc, site, &all)
+        }
+        2 | 3 => Event::Up(site),
+        4 | 5 => Event::Down(site),
+        6 => Event::PushUp(site, dice.roll(60)),
+        _ => Event::PushDown(site, dice.roll(60)),
+    }
+}
+
+// The star and each site hold what the trace says that they should.
+fn all_hold(rt: &impl Abort, alloc: Global, world: &World, ledger: &Ledger) {
+    for number in 0..=SITES {
+        let held = Content::of(rt, alloc, board_at(world, number));
+        let wanted = ledger.content(rt, alloc, world.opening(), number);
+        assert!(rt; held.same(&wanted), "{number}");
+    }
+}
+
+// All sites show the star's board, and nothing is on its way.
+fn all_agree(rt: &impl Abort, world: &World) {
+    for number in 1..=SITES {
+        assert!(rt;
+            board_at(world, number).same(world.star().board()),
+            "{number}"
+        );
+    }
+    assert!(rt; is_quiet(world));
+}
+
+// How many edits were refused.
+fn refusals(world: &World) -> usize {
+    world
+        .trace()
+        .iter()
+        .filter(|happened| matches!(happened.reply, Reply::Refused(_)))
+        .count()
+}
+
+// Some edits are refused, and more are not, so that neither kind is missing.
+#[test]
+fn every_board_holds_what_its_end_was_told(rt: HostRuntime) {
+    let alloc = rt.alloc();
+    let mut world = opened(&rt, alloc);
+    let mut ledger = Ledger::new(alloc);
+    let mut dice = Dice::of(1995);
+    for _ in 0..EVENTS {
+        let event = event(&rt, alloc, &mut dice, &world);
+        world.step(alloc, &event).expect(&rt, "memory");
+        ledger.read(&rt, world.trace());
+        all_hold(&rt, alloc, &world, &ledger);
+    }
+    drain(&rt, alloc, &mut world);
+    ledger.read(&rt, world.trace());
+    all_hold(&rt, alloc, &world, &ledger);
+    all_agree(&rt, &world);
+    assert_eq!(rt; ledger.made(), world.star().order().len());
+    assert!(rt; refusals(&world) >= 5 && ledger.made() >= 30);
+}

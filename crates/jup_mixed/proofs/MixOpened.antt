@@ -2,9 +2,9 @@
 use Rattle.std.proofs.Common.{◌≡◌, ℕ, ◌+◌, ◌≤◌, sym, refl, subst, arith}
 use Rattle.jup_window.specs.Operations.{Operations, AreLawful}
 use Rattle.jup_window.specs.BareBoards.{only_site-held}
-use Rattle.jup_window.specs.BoardOperations.{board_operations}
-use Rattle.jup_window.specs.BoardsAreLawful.{board_laws}
-use Rattle.jup_star.specs.StarStates.{opened_star, most_items}
+use Rattle.jup_batch.specs.BoardBatches.{board_batches}
+use Rattle.jup_batch.specs.BoardBatches.{batch_laws}
+use Rattle.jup_star.specs.StarStates.{opened_star, most_batches}
 use Rattle.jup_star.proofs.ShortBoards.{board_small}
 use Rattle.jup_world.specs.WorldStates.{opened_world}
 use Rattle.jup_world.proofs.SoundRuns.{sound-opened}
@@ -26,8 +26,8 @@ module _ (O : Operations) (L : AreLawful O) where
   }
 
 -- after any events on boards
-pub mixed-sound : (m : BoardMix) → IsMixed m → IsSoundMix board_operations most_items m
-mixed-sound m r = subst (IsSoundMix board_operations most_items) (sym r.is)
-    (sound-mix_run board_operations board_laws r.events most_items (opened_mix board_operations r.board r.limit)
-    (mix-opened board_operations board_laws most_items r.limit r.board r.opening.distinct (board_small r.board r.opening.short) (let low = r.limited in omega arith) (omega arith)
+pub mixed-sound : (m : BoardMix) → IsMixed m → IsSoundMix board_batches most_batches m
+mixed-sound m r = subst (IsSoundMix board_batches most_batches) (sym r.is)
+    (sound-mix_run board_batches batch_laws r.events most_batches (opened_mix board_batches r.board r.limit)
+    (mix-opened board_batches batch_laws most_batches r.limit r.board r.opening.distinct (board_small r.board r.opening.short) (let low = r.limited in omega arith) (omega arith)
     (λ n held. only_site-held 0 r.board n r.opening.unsigned held)))

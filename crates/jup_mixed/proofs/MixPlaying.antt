@@ -1,12 +1,9 @@
 -- What the program does is what the definitions of an event say.
 use Rattle.std.proofs.Common.{◌≡◌, inl, inr, refl, sym, ◌∙◌, ap, subst, ℕ, ◌+◌, true, false, cond, List, [], ◌∷◌, ◌++◌, take, length, nat_eq, Option, Some, None, is_some, option_map, Result, Ok, Err, IfOk, OnOk, OnErr}
 use Rattle.jup_xform.specs.declared.NoMemory.{NoMemory}
-use Rattle.jup_window.specs.Boards.{Windows}
-use Rattle.jup_window.specs.declared.board_operations.BoardOp.{BoardOp}
-use Rattle.jup_window.specs.declared.commands.Command.{Command}
-use Rattle.jup_window.specs.declared.edits.Edit.{Edit}
+use Rattle.jup_batch.specs.BatchBoards.{BoardBatch, BoardEdits, Commands, Windows}
 use Rattle.jup_window.specs.declared.faults.EditFault.{EditFault}
-use Rattle.jup_window.specs.BoardOperations.{board_operations}
+use Rattle.jup_batch.specs.BoardBatches.{board_batches}
 use Rattle.jup_star.specs.declared.messages.Up.{Up}
 use Rattle.jup_star.specs.declared.messages.Down.{Down}
 use Rattle.jup_star.specs.declared.faults.StarFault.{StarFault}
@@ -33,26 +30,26 @@ use Rattle.jup_mixed.specs.MixPromises.{BoardMix}
 use Rattle.jup_mixed.specs.MixFields.{MixPlays, MixSpares, IsReady}
 
 -- these parts as a whole
-abbrev mix_of : Windows → BoardStar → Option BoardAttached → List (MixHappened Command BoardOp Edit ℕ) → BoardMix
+abbrev mix_of : Windows → BoardStar → Option BoardAttached → List (MixHappened Commands BoardBatch BoardEdits ℕ) → BoardMix
 mix_of opening s o trace = record { opening = opening; star = s; site = o; trace = trace }
 
 -- a stranger joins
 pub plays_joined : (s t : BoardStar) (o : Option BoardAttached) (n : ℕ) → join_fault s ≡ None → n ≡ s.given + 1 → t ≡ joined s → MixPlays JoinStray s o (Joined n) t o
-plays_joined s t o n none number e opening trace = ap (stray_joins board_operations (mix_of opening s o trace)) none ∙ (λ j. record { reply = Joined (sym number j); star = sym e j; site = o })
+plays_joined s t o n none number e opening trace = ap (stray_joins board_batches (mix_of opening s o trace)) none ∙ (λ j. record { reply = Joined (sym number j); star = sym e j; site = o })
 
 pub plays_no_join : (s t : BoardStar) (o : Option BoardAttached) (fault : StarFault) → join_fault s ≡ Some fault → t ≡ s → MixPlays JoinStray s o (NoJoin fault) t o
-plays_no_join s t o fault full e opening trace = ap (stray_joins board_operations (mix_of opening s o trace)) full ∙ (λ j. record { reply = NoJoin fault; star = sym e j; site = o })
+plays_no_join s t o fault full e opening trace = ap (stray_joins board_batches (mix_of opening s o trace)) full ∙ (λ j. record { reply = NoJoin fault; star = sym e j; site = o })
 
 -- an event of a stranger's link that is there, or is not
-stray_there : (m : BoardMix) (j : ℕ) (f : BoardLink → MixOutcome board_operations) (l : BoardLink) → nat_eq j 1 ≡ false → link_of j m.star.links ≡ Some l → at_stray board_operations m j f ≡ f l
+stray_there : (m : BoardMix) (j : ℕ) (f : BoardLink → MixOutcome board_batches) (l : BoardLink) → nat_eq j 1 ≡ false → link_of j m.star.links ≡ Some l → at_stray board_batches m j f ≡ f l
 stray_there m j f l apart fl =
-    ap (λ b. cond b (still board_operations m Nothing) (at_link_of board_operations m f (link_of j m.star.links))) apart
-    ∙ ap (λ o. at_link_of board_operations m f o) fl
+    ap (λ b. cond b (still board_batches m Nothing) (at_link_of board_batches m f (link_of j m.star.links))) apart
+    ∙ ap (λ o. at_link_of board_batches m f o) fl
 
-stray_none : (m : BoardMix) (j : ℕ) (f : BoardLink → MixOutcome board_operations) → nat_eq j 1 ≡ false → link_of j m.star.links ≡ None → at_stray board_operations m j f ≡ still board_operations m Nothing
+stray_none : (m : BoardMix) (j : ℕ) (f : BoardLink → MixOutcome board_batches) → nat_eq j 1 ≡ false → link_of j m.star.links ≡ None → at_stray board_batches m j f ≡ still board_batches m Nothing
 stray_none m j f apart fl =
-    ap (λ b. cond b (still board_operations m Nothing) (at_link_of board_operations m f (link_of j m.star.links))) apart
-    ∙ ap (λ o. at_link_of board_operations m f o) fl
+    ap (λ b. cond b (still board_batches m Nothing) (at_link_of board_batches m f (link_of j m.star.links))) apart
+    ∙ ap (λ o. at_link_of board_batches m f o) fl
 
 -- it leaves
 pub plays_left : (s t : BoardStar) (o : Option BoardAttached) (j : ℕ) (l : BoardLink) → nat_eq j 1 ≡ false → link_of j s.links ≡ Some l → t ≡ left j s → MixPlays (LeaveStray j) s o Left t o
@@ -67,16 +64,16 @@ waits_there None w e f = absurd (let none : is_some w ≡ false = ap is_some e i
 waits_there (Some l) w e f = (l, refl)
 
 -- its message is taken, or refused
-pub plays_stray : (s t : BoardStar) (o : Option BoardAttached) (j : ℕ) (up : Up BoardOp) (l : BoardLink) (place : Option ℕ) (reply : BoardReply) → nat_eq j 1 ≡ false → link_of j s.links ≡ Some l
-    → (up_fault board_operations s l up ≡ None) × (place ≡ place_taken board_operations s up) × (t ≡ taken board_operations j up l s) → reply ≡ place_reply board_operations place → MixPlays (Stray j up) s o reply t o
+pub plays_stray : (s t : BoardStar) (o : Option BoardAttached) (j : ℕ) (up : Up BoardBatch) (l : BoardLink) (place : Option ℕ) (reply : BoardReply) → nat_eq j 1 ≡ false → link_of j s.links ≡ Some l
+    → (up_fault board_batches s l up ≡ None) × (place ≡ place_taken board_batches s up) × (t ≡ taken board_batches j up l s) → reply ≡ place_reply board_batches place → MixPlays (Stray j up) s o reply t o
 plays_stray s t o j up l place reply apart fl call is opening trace =
-    stray_there (mix_of opening s o trace) j _ l apart fl ∙ ap (stray_sends board_operations (mix_of opening s o trace) j l up) call.0
-    ∙ (λ i. record { reply = (ap (place_reply board_operations) (sym call.1) ∙ sym is) i; star = sym call.2 i; site = o })
+    stray_there (mix_of opening s o trace) j _ l apart fl ∙ ap (stray_sends board_batches (mix_of opening s o trace) j l up) call.0
+    ∙ (λ i. record { reply = (ap (place_reply board_batches) (sym call.1) ∙ sym is) i; star = sym call.2 i; site = o })
 
-pub plays_stray_refused : (s t : BoardStar) (o : Option BoardAttached) (j : ℕ) (up : Up BoardOp) (l : BoardLink) (fault refusal : StarFault) → nat_eq j 1 ≡ false → link_of j s.links ≡ Some l
-    → (up_fault board_operations s l up ≡ Some fault) × (t ≡ left j s) → refusal ≡ fault → MixPlays (Stray j up) s o (Detached refusal) t o
+pub plays_stray_refused : (s t : BoardStar) (o : Option BoardAttached) (j : ℕ) (up : Up BoardBatch) (l : BoardLink) (fault refusal : StarFault) → nat_eq j 1 ≡ false → link_of j s.links ≡ Some l
+    → (up_fault board_batches s l up ≡ Some fault) × (t ≡ left j s) → refusal ≡ fault → MixPlays (Stray j up) s o (Detached refusal) t o
 plays_stray_refused s t o j up l fault refusal apart fl call same opening trace =
-    stray_there (mix_of opening s o trace) j _ l apart fl ∙ ap (stray_sends board_operations (mix_of opening s o trace) j l up) call.0
+    stray_there (mix_of opening s o trace) j _ l apart fl ∙ ap (stray_sends board_batches (mix_of opening s o trace) j l up) call.0
     ∙ (λ i. record { reply = Detached (sym same i); star = sym call.1 i; site = o })
 
 -- the site as it is ready
@@ -88,58 +85,58 @@ module _ (s : BoardStar) (a : Attached) (ready : IsReady s (Some (bare_attached 
   fl = (ready (bare_attached a) refl).1.1
 
   -- an event of the site
-  home_there : (opening : Windows) (trace : List (MixHappened Command BoardOp Edit ℕ)) (f : BoardLink → BoardAttached → MixOutcome board_operations)
-      → at_home board_operations (mix_of opening s (Some (bare_attached a)) trace) f (link_of 1 s.links) (Some (bare_attached a)) ≡ f (ready (bare_attached a) refl).1.0 (bare_attached a)
-  home_there opening trace f = ap (λ o. at_home board_operations (mix_of opening s (Some (bare_attached a)) trace) f o (Some (bare_attached a))) fl
+  home_there : (opening : Windows) (trace : List (MixHappened Commands BoardBatch BoardEdits ℕ)) (f : BoardLink → BoardAttached → MixOutcome board_batches)
+      → at_home board_batches (mix_of opening s (Some (bare_attached a)) trace) f (link_of 1 s.links) (Some (bare_attached a)) ≡ f (ready (bare_attached a) refl).1.0 (bare_attached a)
+  home_there opening trace f = ap (λ o. at_home board_batches (mix_of opening s (Some (bare_attached a)) trace) f o (Some (bare_attached a))) fl
 
   -- it edits
-  edit_is : (m : BoardMix) (b : BoardAttached) → m.site ≡ Some b → (r : Result BoardOp ℕ) → home_edit board_operations m b r ≡ record { reply = edit_reply board_operations r; star = m.star; site = Some (with_answer r b) }
+  edit_is : (m : BoardMix) (b : BoardAttached) → m.site ≡ Some b → (r : Result BoardBatch ℕ) → home_edit board_batches m b r ≡ record { reply = edit_reply board_batches r; star = m.star; site = Some (with_answer r b) }
   edit_is m b fa (Ok op) = refl
-  edit_is m b fa (Err n) = λ j. record { reply = edit_reply board_operations (Err n); star = m.star; site = fa j }
+  edit_is m b fa (Err n) = λ j. record { reply = edit_reply board_batches (Err n); star = m.star; site = fa j }
 
-  pub edit_plays : (command : Command) (r : Result (Reply Edit EditFault) NoMemory) (new : Attached)
-      → IfOk r (λ reply. numbered_reply reply ≡ edit_reply board_operations (edit_answer board_operations command a.site))
-      → OnOk r (bare_attached new ≡ with_answer (edit_answer board_operations command a.site) (bare_attached a))
+  pub edit_plays : (command : Commands) (r : Result (Reply BoardEdits EditFault) NoMemory) (new : Attached)
+      → IfOk r (λ reply. numbered_reply reply ≡ edit_reply board_batches (edit_answer board_batches command a.site))
+      → OnOk r (bare_attached new ≡ with_answer (edit_answer board_batches command a.site) (bare_attached a))
       → IfOk r (λ reply. MixPlays (HomeEdit command) s (Some (bare_attached a)) (numbered_reply reply) s (Some (bare_attached new)))
   edit_plays command (Ok reply) new is made = λ opening trace.
-      home_there opening trace _ ∙ edit_is (mix_of opening s (Some (bare_attached a)) trace) (bare_attached a) refl (edit_answer board_operations command a.site)
+      home_there opening trace _ ∙ edit_is (mix_of opening s (Some (bare_attached a)) trace) (bare_attached a) refl (edit_answer board_batches command a.site)
       ∙ (λ j. record { reply = sym is j; star = s; site = Some (sym made j) })
   edit_plays command (Err fault) new is made = tt
 
   -- the star takes its oldest message
-  pub up_plays : (t : BoardStar) (reply : Reply Edit EditFault) (new : Attached) → Rises a.site.number (messages ups a.up.way) s t (numbered_reply reply) → bare_attached new ≡ one_taken board_operations (bare_attached a)
+  pub up_plays : (t : BoardStar) (reply : Reply BoardEdits EditFault) (new : Attached) → Rises a.site.number (messages ups a.up.way) s t (numbered_reply reply) → bare_attached new ≡ one_taken board_batches (bare_attached a)
       → MixPlays HomeUp s (Some (bare_attached a)) (numbered_reply reply) t (Some (bare_attached new))
   up_plays t reply new rises made opening trace = home_there opening trace _ ∙ cases (messages ups a.up.way) refl (subst (λ n. Rises n (messages ups a.up.way) s t (numbered_reply reply)) number rises)
     where
-      none_taken : (messages ups a.up.way) ≡ [] → bare_attached a ≡ one_taken board_operations (bare_attached a)
-      none_taken empty = λ j. record { site = a.site; up = (empty ∙ sym (ap (λ (us : List (Up BoardOp)). lib_drop us) empty)) j; down = messages downs a.down.way }
+      none_taken : (messages ups a.up.way) ≡ [] → bare_attached a ≡ one_taken board_batches (bare_attached a)
+      none_taken empty = λ j. record { site = a.site; up = (empty ∙ sym (ap (λ (us : List (Up BoardBatch)). lib_drop us) empty)) j; down = messages downs a.down.way }
         where
-          lib_drop : List (Up BoardOp) → List (Up BoardOp)
-          lib_drop us = (one_taken board_operations (record { site = a.site; up = us; down = messages downs a.down.way })).up
+          lib_drop : List (Up BoardBatch) → List (Up BoardBatch)
+          lib_drop us = (one_taken board_batches (record { site = a.site; up = us; down = messages downs a.down.way })).up
 
-      cases : (us : List (Up BoardOp)) → (messages ups a.up.way) ≡ us → Rises 1 us s t (numbered_reply reply)
-          → first_home_up board_operations (mix_of opening s (Some (bare_attached a)) trace) (ready (bare_attached a) refl).1.0 (bare_attached a) us ≡ record { reply = numbered_reply reply; star = t; site = Some (bare_attached new) }
+      cases : (us : List (Up BoardBatch)) → (messages ups a.up.way) ≡ us → Rises 1 us s t (numbered_reply reply)
+          → first_home_up board_batches (mix_of opening s (Some (bare_attached a)) trace) (ready (bare_attached a) refl).1.0 (bare_attached a) us ≡ record { reply = numbered_reply reply; star = t; site = Some (bare_attached new) }
       cases [] empty told = λ j. record { reply = sym told.0 j; star = sym told.1 j; site = Some ((none_taken empty ∙ sym made) j) }
       cases (up ∷ more) first told =
           let call = take_taken 1 up s t (ready (bare_attached a) refl).1.0 told.0 fl told.2 in
-          ap (home_up board_operations (mix_of opening s (Some (bare_attached a)) trace) (ready (bare_attached a) refl).1.0 (bare_attached a) up) call.0
-          ∙ (λ j. record { reply = (ap (place_reply board_operations) (sym call.1) ∙ sym told.1) j; star = sym call.2 j; site = Some (sym made j) })
+          ap (home_up board_batches (mix_of opening s (Some (bare_attached a)) trace) (ready (bare_attached a) refl).1.0 (bare_attached a) up) call.0
+          ∙ (λ j. record { reply = (ap (place_reply board_batches) (sym call.1) ∙ sym told.1) j; star = sym call.2 j; site = Some (sym made j) })
 
   pub refused_plays : (t : BoardStar) (fault refusal : StarFault) → IsRefused a.site.number (messages ups a.up.way) s t fault → is_no_memory fault ≡ false → refusal ≡ fault → MixPlays HomeUp s (Some (bare_attached a)) (Detached refusal) t None
   refused_plays t fault refusal refused other same opening trace = home_there opening trace _ ∙ cases (messages ups a.up.way) (subst (λ n. IsRefused n (messages ups a.up.way) s t fault) number refused)
     where
-      cases : (us : List (Up BoardOp)) → IsRefused 1 us s t fault
-          → first_home_up board_operations (mix_of opening s (Some (bare_attached a)) trace) (ready (bare_attached a) refl).1.0 (bare_attached a) us ≡ record { reply = Detached refusal; star = t; site = None }
+      cases : (us : List (Up BoardBatch)) → IsRefused 1 us s t fault
+          → first_home_up board_batches (mix_of opening s (Some (bare_attached a)) trace) (ready (bare_attached a) refl).1.0 (bare_attached a) us ≡ record { reply = Detached refusal; star = t; site = None }
       cases [] told = absurd told
       cases (up ∷ more) told =
           let call = take_refused 1 up s t (ready (bare_attached a) refl).1.0 fault other fl told in
-          ap (home_up board_operations (mix_of opening s (Some (bare_attached a)) trace) (ready (bare_attached a) refl).1.0 (bare_attached a) up) call.0
+          ap (home_up board_batches (mix_of opening s (Some (bare_attached a)) trace) (ready (bare_attached a) refl).1.0 (bare_attached a) up) call.0
           ∙ (λ j. record { reply = Detached (sym same j); star = sym call.1 j; site = None })
 
   pub refused_same : (t : BoardStar) (fault : StarFault) → IsRefused a.site.number (messages ups a.up.way) s t fault → is_no_memory fault ≡ true → t ≡ s
   refused_same t fault refused memory = cases (messages ups a.up.way) refused
     where
-      cases : (us : List (Up BoardOp)) → IsRefused a.site.number us s t fault → t ≡ s
+      cases : (us : List (Up BoardBatch)) → IsRefused a.site.number us s t fault → t ≡ s
       cases [] told = absurd told
       cases (up ∷ more) told = take_wanted a.site.number up s t fault memory told
 
@@ -153,26 +150,26 @@ module _ (s : BoardStar) (a : Attached) (ready : IsReady s (Some (bare_attached 
   fits_first : FirstFits (refilled (ready (bare_attached a) refl).1.0 (bare_attached a))
   fits_first = cases (messages downs a.down.way) (ready (bare_attached a) refl).1.0.outbox refl refl
     where
-      cases : (ds os : List (Down BoardOp)) → (messages downs a.down.way) ≡ ds → (ready (bare_attached a) refl).1.0.outbox ≡ os → FitsFirst (refilled_from ds os) a.site
+      cases : (ds os : List (Down BoardBatch)) → (messages downs a.down.way) ≡ ds → (ready (bare_attached a) refl).1.0.outbox ≡ os → FitsFirst (refilled_from ds os) a.site
       cases [] [] p q = tt
-      cases [] (d ∷ os) p q = (ready (bare_attached a) refl).1.2 d os (ap (λ (ds : List (Down BoardOp)). ds ++ (ready (bare_attached a) refl).1.0.outbox) p ∙ q)
-      cases (d ∷ ds) os p q = (ready (bare_attached a) refl).1.2 d (ds ++ (ready (bare_attached a) refl).1.0.outbox) (ap (λ (xs : List (Down BoardOp)). xs ++ (ready (bare_attached a) refl).1.0.outbox) p)
+      cases [] (d ∷ os) p q = (ready (bare_attached a) refl).1.2 d os (ap (λ (ds : List (Down BoardBatch)). ds ++ (ready (bare_attached a) refl).1.0.outbox) p ∙ q)
+      cases (d ∷ ds) os p q = (ready (bare_attached a) refl).1.2 d (ds ++ (ready (bare_attached a) refl).1.0.outbox) (ap (λ (xs : List (Down BoardBatch)). xs ++ (ready (bare_attached a) refl).1.0.outbox) p)
 
   pub down_fits : (k : BoardLink) → link_of a.site.number s.links ≡ Some k → FirstFits (refilled k (bare_attached a))
   down_fits k there = let same : (ready (bare_attached a) refl).1.0 ≡ k = (let one = at_number in cc) in subst (λ (x : BoardLink). FirstFits (refilled x (bare_attached a))) same fits_first
 
-  handed_down : (opening : Windows) (trace : List (MixHappened Command BoardOp Edit ℕ)) (b : BoardAttached) → b.site.number ≡ 1 → (ds os : List (Down BoardOp)) → FitsFirst (refilled_from ds os) b.site
-      → first_home_down board_operations (mix_of opening s (Some (record b { down = ds })) trace) (record b { down = ds }) ds os
+  handed_down : (opening : Windows) (trace : List (MixHappened Commands BoardBatch BoardEdits ℕ)) (b : BoardAttached) → b.site.number ≡ 1 → (ds os : List (Down BoardBatch)) → FitsFirst (refilled_from ds os) b.site
+      → first_home_down board_batches (mix_of opening s (Some (record b { down = ds })) trace) (record b { down = ds }) ds os
       ≡ record { reply = reply_to (refilled_from ds os); star = fetched_for b.site.number ds os s; site = Some (handed_first (refilled_from ds os) (record b { down = refilled_from ds os })) }
   handed_down opening trace b one [] [] fit = refl
   handed_down opening trace b one [] (d ∷ os) fit =
-      ap (home_down board_operations (mix_of opening s (Some (record b { down = [] })) trace) (record b { down = [] }) 1 d []) fit
-      ∙ (λ j. record { reply = down_reply board_operations d; star = fetched (sym one j) 1 s; site = Some (one_handed board_operations d [] b) })
+      ap (home_down board_batches (mix_of opening s (Some (record b { down = [] })) trace) (record b { down = [] }) 1 d []) fit
+      ∙ (λ j. record { reply = down_reply board_batches d; star = fetched (sym one j) 1 s; site = Some (one_handed board_batches d [] b) })
   handed_down opening trace b one (d ∷ ds) os fit =
-      ap (home_down board_operations (mix_of opening s (Some (record b { down = d ∷ ds })) trace) (record b { down = d ∷ ds }) 0 d ds) fit
-      ∙ (λ j. record { reply = down_reply board_operations d; star = ap (λ (ls : List BoardLink). record s { links = ls }) (map_kept (λ (k : BoardLink). k.site) 1 s.links) j; site = Some (one_handed board_operations d ds b) })
+      ap (home_down board_batches (mix_of opening s (Some (record b { down = d ∷ ds })) trace) (record b { down = d ∷ ds }) 0 d ds) fit
+      ∙ (λ j. record { reply = down_reply board_batches d; star = ap (λ (ls : List BoardLink). record s { links = ls }) (map_kept (λ (k : BoardLink). k.site) 1 s.links) j; site = Some (one_handed board_batches d ds b) })
 
-  pub down_plays : (t : BoardStar) (r : Result (Reply Edit EditFault) NoMemory) (new : Attached)
+  pub down_plays : (t : BoardStar) (r : Result (Reply BoardEdits EditFault) NoMemory) (new : Attached)
       → IfOk r (λ reply. (k : BoardLink) → link_of a.site.number s.links ≡ Some k → numbered_reply reply ≡ first_reply (refilled k (bare_attached a)))
       → OnOk r ((k : BoardLink) → link_of a.site.number s.links ≡ Some k → bare_attached new ≡ handed (refilled k (bare_attached a)))
       → OnOk r ((k : BoardLink) → link_of a.site.number s.links ≡ Some k → t ≡ refilled_star k (bare_attached a) s)
@@ -182,13 +179,13 @@ module _ (s : BoardStar) (a : Attached) (ready : IsReady s (Some (bare_attached 
       ∙ (λ j. record { reply = sym (is _ at_number) j; star = sym (star _ at_number) j; site = Some (sym (site _ at_number) j) })
   down_plays t (Err fault) new is site star = tt
 
-  pub down_spared : (t : BoardStar) (r : Result (Reply Edit EditFault) NoMemory) (new : Attached)
+  pub down_spared : (t : BoardStar) (r : Result (Reply BoardEdits EditFault) NoMemory) (new : Attached)
       → OnErr r ((k : BoardLink) → link_of a.site.number s.links ≡ Some k → SparesAt k (bare_attached a) s (bare_attached new) t)
       → OnErr r (MixSpares s (Some (bare_attached a)) t (Some (bare_attached new)))
   down_spared t (Ok reply) new spared = tt
   down_spared t (Err fault) new spared = choose (spared _ at_number)
     where
-      too : (ds os : List (Down BoardOp)) → (messages downs a.down.way) ≡ ds → (ready (bare_attached a) refl).1.0.outbox ≡ os
+      too : (ds os : List (Down BoardBatch)) → (messages downs a.down.way) ≡ ds → (ready (bare_attached a) refl).1.0.outbox ≡ os
           → bare_attached new ≡ refilled (ready (bare_attached a) refl).1.0 (bare_attached a) → t ≡ refilled_star (ready (bare_attached a) refl).1.0 (bare_attached a) s
           → MixSpares s (Some (bare_attached a)) t (Some (bare_attached new))
       too [] [] p q site star = inl (
@@ -201,11 +198,11 @@ module _ (s : BoardStar) (a : Attached) (ready : IsReady s (Some (bare_attached 
         fl,
         refl,
         star ∙ (λ j. fetched_for a.site.number (p j) (q j) s) ∙ ap (λ n. fetched n 1 s) number,
-        ap Some (site ∙ (λ j. record { site = a.site; up = messages ups a.up.way; down = (ap (λ (xs : List (Down BoardOp)). refilled_from xs (ready (bare_attached a) refl).1.0.outbox) p ∙ ap (λ (xs : List (Down BoardOp)). xs ++ take 1 (ready (bare_attached a) refl).1.0.outbox) (sym p)) j })),
+        ap Some (site ∙ (λ j. record { site = a.site; up = messages ups a.up.way; down = (ap (λ (xs : List (Down BoardBatch)). refilled_from xs (ready (bare_attached a) refl).1.0.outbox) p ∙ ap (λ (xs : List (Down BoardBatch)). xs ++ take 1 (ready (bare_attached a) refl).1.0.outbox) (sym p)) j })),
       )
       too (d ∷ ds) os p q site star = inl (
         star ∙ (λ j. fetched_for a.site.number (p j) (ready (bare_attached a) refl).1.0.outbox s),
-        ap Some (site ∙ (λ j. record { site = a.site; up = messages ups a.up.way; down = (ap (λ (xs : List (Down BoardOp)). refilled_from xs (ready (bare_attached a) refl).1.0.outbox) p ∙ sym p) j })),
+        ap Some (site ∙ (λ j. record { site = a.site; up = messages ups a.up.way; down = (ap (λ (xs : List (Down BoardBatch)). refilled_from xs (ready (bare_attached a) refl).1.0.outbox) p ∙ sym p) j })),
       )
 
       choose : SparesAt (ready (bare_attached a) refl).1.0 (bare_attached a) s (bare_attached new) t → MixSpares s (Some (bare_attached a)) t (Some (bare_attached new))
@@ -218,14 +215,14 @@ module _ (s : BoardStar) (site : Option Attached) (a : Attached) (is : site ≡ 
   pub ready_there : IsReady s (Some (bare_attached a))
   ready_there = subst (λ (o : Option Attached). IsReady s (option_map bare_attached o)) is ready
 
-  pub edit_plays_at : (command : Command) (r : Result (Reply Edit EditFault) NoMemory) (new : Attached)
-      → IfOk r (λ reply. numbered_reply reply ≡ edit_reply board_operations (edit_answer board_operations command a.site))
-      → OnOk r (bare_attached new ≡ with_answer (edit_answer board_operations command a.site) (bare_attached a))
+  pub edit_plays_at : (command : Commands) (r : Result (Reply BoardEdits EditFault) NoMemory) (new : Attached)
+      → IfOk r (λ reply. numbered_reply reply ≡ edit_reply board_batches (edit_answer board_batches command a.site))
+      → OnOk r (bare_attached new ≡ with_answer (edit_answer board_batches command a.site) (bare_attached a))
       → IfOk r (λ reply. MixPlays (HomeEdit command) s (option_map bare_attached site) (numbered_reply reply) s (Some (bare_attached new)))
   edit_plays_at command r new told made = subst (λ (o : Option Attached). IfOk r (λ reply. MixPlays (HomeEdit command) s (option_map bare_attached o) (numbered_reply reply) s (Some (bare_attached new)))) (sym is)
       (edit_plays s a ready_there command r new told made)
 
-  pub up_plays_at : (t : BoardStar) (reply : Reply Edit EditFault) (new : Attached) → Rises a.site.number (messages ups a.up.way) s t (numbered_reply reply) → bare_attached new ≡ one_taken board_operations (bare_attached a)
+  pub up_plays_at : (t : BoardStar) (reply : Reply BoardEdits EditFault) (new : Attached) → Rises a.site.number (messages ups a.up.way) s t (numbered_reply reply) → bare_attached new ≡ one_taken board_batches (bare_attached a)
       → MixPlays HomeUp s (option_map bare_attached site) (numbered_reply reply) t (Some (bare_attached new))
   up_plays_at t reply new rises made = subst (λ (o : Option Attached). MixPlays HomeUp s (option_map bare_attached o) (numbered_reply reply) t (Some (bare_attached new))) (sym is) (up_plays s a ready_there t reply new rises made)
 
@@ -233,7 +230,7 @@ module _ (s : BoardStar) (site : Option Attached) (a : Attached) (is : site ≡ 
       → MixPlays HomeUp s (option_map bare_attached site) (Detached refusal) t None
   refused_plays_at t fault refusal refused other same = subst (λ (o : Option Attached). MixPlays HomeUp s (option_map bare_attached o) (Detached refusal) t None) (sym is) (refused_plays s a ready_there t fault refusal refused other same)
 
-  pub down_plays_at : (t : BoardStar) (r : Result (Reply Edit EditFault) NoMemory) (new : Attached)
+  pub down_plays_at : (t : BoardStar) (r : Result (Reply BoardEdits EditFault) NoMemory) (new : Attached)
       → IfOk r (λ reply. (k : BoardLink) → link_of a.site.number s.links ≡ Some k → numbered_reply reply ≡ first_reply (refilled k (bare_attached a)))
       → OnOk r ((k : BoardLink) → link_of a.site.number s.links ≡ Some k → bare_attached new ≡ handed (refilled k (bare_attached a)))
       → OnOk r ((k : BoardLink) → link_of a.site.number s.links ≡ Some k → t ≡ refilled_star k (bare_attached a) s)
@@ -241,7 +238,7 @@ module _ (s : BoardStar) (site : Option Attached) (a : Attached) (is : site ≡ 
   down_plays_at t r new told made star = subst (λ (o : Option Attached). IfOk r (λ reply. MixPlays HomeDown s (option_map bare_attached o) (numbered_reply reply) t (Some (bare_attached new)))) (sym is)
       (down_plays s a ready_there t r new told made star)
 
-  pub down_spared_at : (t : BoardStar) (r : Result (Reply Edit EditFault) NoMemory) (new : Attached)
+  pub down_spared_at : (t : BoardStar) (r : Result (Reply BoardEdits EditFault) NoMemory) (new : Attached)
       → OnErr r ((k : BoardLink) → link_of a.site.number s.links ≡ Some k → SparesAt k (bare_attached a) s (bare_attached new) t)
       → OnErr r (MixSpares s (option_map bare_attached site) t (Some (bare_attached new)))
   down_spared_at t r new spared = subst (λ (o : Option Attached). OnErr r (MixSpares s (option_map bare_attached o) t (Some (bare_attached new)))) (sym is) (down_spared s a ready_there t r new spared)

@@ -1,7 +1,7 @@
 -- What holds of every one of the program: after each event, and after want of memory.
 use Rattle.std.proofs.Common.{◌≡◌, Bool, true, nat_le, inl, inr, refl, sym, ◌∙◌, ap, subst, ℕ, ◌+◌, ◌≤◌, List, [], ◌∷◌, ◌++◌, drop, length, Option, Some, None, option_map, arith, append-nil, drop_of_length-le, le_refl}
 use Rattle.std.proofs.lemmas.Bool.{leb-true}
-use Rattle.jup_window.specs.Boards as board
+use Rattle.jup_batch.specs.BatchBoards as board
 use Rattle.jup_window.specs.Entries.{EachWidget}
 use Rattle.jup_window.specs.Sites.{only_site}
 use Rattle.jup_star.specs.FirstFaults.{test}
@@ -16,15 +16,13 @@ use Rattle.jup_world.specs.Happenings.{IsQuietAt}
 use Rattle.jup_mixed.specs.MixStates.{IsHomeQuiet}
 use Rattle.jup_mixed.specs.MixFields.{HomeAgrees}
 use Rattle.jup_mixed.proofs.MixKept.{mix-promises}
-use Rattle.jup_window.specs.declared.board_operations.BoardOp.{BoardOp}
-use Rattle.jup_window.specs.declared.commands.Command.{Command}
-use Rattle.jup_window.specs.declared.edits.Edit.{Edit}
+use Rattle.jup_batch.specs.BatchBoards.{BoardBatch, BoardEdits, Commands}
 use Rattle.jup_window.specs.Operations.{Operations, AreLawful}
-use Rattle.jup_window.specs.BoardOperations.{board_operations}
-use Rattle.jup_window.specs.BoardsAreLawful.{board_laws}
+use Rattle.jup_batch.specs.BoardBatches.{board_batches}
+use Rattle.jup_batch.specs.BoardBatches.{batch_laws}
 use Rattle.jup_star.specs.declared.messages.Down.{Down}
 use Rattle.jup_star.specs.LinkStates.{LinkState, link_fetched}
-use Rattle.jup_star.specs.StarStates.{link_of, fetched, most_items}
+use Rattle.jup_star.specs.StarStates.{link_of, fetched, most_batches}
 use Rattle.jup_star.specs.SiteStates.{deliver_fault}
 use Rattle.jup_star.specs.StarCalls.{BoardStar}
 use Rattle.jup_star.specs.Streams.{downs}
@@ -79,37 +77,37 @@ module _ (O : Operations) (L : AreLawful O) (most : ℕ) (m : MixOf O) (h : IsSo
 -- an event finds the site ready
 pub mix_ready : (m : BoardMix) → IsMix m → IsReady m.star m.site
 mix_ready m h a fa =
-    let there = home_linked board_operations board_laws most_items m h a fa in (
-      site_number board_operations board_laws most_items m h there.0 a there.1 fa,
-      (there.0, there.1, oldest_fits board_operations board_laws most_items m h there.0 a there.1 fa),
+    let there = home_linked board_batches batch_laws most_batches m h a fa in (
+      site_number board_batches batch_laws most_batches m h there.0 a there.1 fa,
+      (there.0, there.1, oldest_fits board_batches batch_laws most_batches m h there.0 a there.1 fa),
     )
 
 -- a trace
 abbrev pub MixTrace : Type 0
-MixTrace = List (MixHappened Command BoardOp Edit ℕ)
+MixTrace = List (MixHappened Commands BoardBatch BoardEdits ℕ)
 
 -- after an event that was played
 pub mix_played : (m : BoardMix) (event : BoardMixEvent) (reply : BoardReply) (t : BoardStar) (next : Option BoardAttached) (trace : MixTrace) → MixPlays event m.star m.site reply t next
-    → trace ≡ m.trace ++ record { event = event; reply = reply } ∷ [] → ◌≡◌ {A = BoardMix} (record { opening = m.opening; star = t; site = next; trace = trace }) (mix_happens board_operations m event)
+    → trace ≡ m.trace ++ record { event = event; reply = reply } ∷ [] → ◌≡◌ {A = BoardMix} (record { opening = m.opening; star = t; site = next; trace = trace }) (mix_happens board_batches m event)
 mix_played m event reply t next trace plays more =
     ap (λ (h : MixTrace). record { opening = m.opening; star = t; site = next; trace = h }) more
-    ∙ sym (ap (with_mix board_operations m event) (plays m.opening m.trace))
+    ∙ sym (ap (with_mix board_batches m event) (plays m.opening m.trace))
 
 -- its reply
-pub mix_reply : (m : BoardMix) (event : BoardMixEvent) (reply : BoardReply) (t : BoardStar) (next : Option BoardAttached) → MixPlays event m.star m.site reply t next → reply ≡ (mix_outcome board_operations m event).reply
-mix_reply m event reply t next plays = sym (ap (λ (o : MixOutcome board_operations). o.reply) (plays m.opening m.trace))
+pub mix_reply : (m : BoardMix) (event : BoardMixEvent) (reply : BoardReply) (t : BoardStar) (next : Option BoardAttached) → MixPlays event m.star m.site reply t next → reply ≡ (mix_outcome board_batches m event).reply
+mix_reply m event reply t next plays = sym (ap (λ (o : MixOutcome board_batches). o.reply) (plays m.opening m.trace))
 
 -- it is sound
-pub mix_next : (m : BoardMix) (event : BoardMixEvent) → IsMix m → IsMix (mix_happens board_operations m event)
-mix_next m event h = sound-mix board_operations board_laws most_items m event h
+pub mix_next : (m : BoardMix) (event : BoardMixEvent) → IsMix m → IsMix (mix_happens board_batches m event)
+mix_next m event h = sound-mix board_batches batch_laws most_batches m event h
 
 -- and keeps the order of items
-pub mix_keeps : (m : BoardMix) (event : BoardMixEvent) → IsMix m → MixOrderIsKept board_operations m (mix_happens board_operations m event)
-mix_keeps m event h = mix-order board_operations board_laws (event ∷ []) most_items m h
+pub mix_keeps : (m : BoardMix) (event : BoardMixEvent) → IsMix m → MixOrderIsKept board_batches m (mix_happens board_batches m event)
+mix_keeps m event h = mix-order board_batches batch_laws (event ∷ []) most_batches m h
 
 -- and is answered as it should be
-pub mix_answered : (m : BoardMix) (event : BoardMixEvent) → IsMix m → MixReplies board_operations m event (mix_outcome board_operations m event)
-mix_answered m event h = mix-replies board_operations board_laws most_items m h event
+pub mix_answered : (m : BoardMix) (event : BoardMixEvent) → IsMix m → MixReplies board_batches m event (mix_outcome board_batches m event)
+mix_answered m event h = mix-replies board_batches batch_laws most_batches m h event
 
 -- after want of memory
 pub mix_spared : (m : BoardMix) (t : BoardStar) (next : Option BoardAttached) (trace : MixTrace) → MixSpares m.star m.site t next → trace ≡ m.trace → IsMixSpared m (record { opening = m.opening; star = t; site = next; trace = trace })
@@ -118,13 +116,13 @@ mix_spared m t next trace (inr more) e = inr (more.0, more.1, more.2, more.3, (�
 
 pub mix_still : (m k : BoardMix) → IsMix m → IsMixSpared m k → IsMix k
 mix_still m k h (inl same) = subst IsMix (sym same) h
-mix_still m k h (inr more) = subst IsMix (sym more.4) (mix-fetched board_operations board_laws most_items m h more.0 more.1 more.2 more.3 1)
+mix_still m k h (inr more) = subst IsMix (sym more.4) (mix-fetched board_batches batch_laws most_batches m h more.0 more.1 more.2 more.3 1)
 
 -- as it is opened
-pub mix_new : (b : board.Windows) (limit : ℕ) → star_open_fault (board.bare b) limit ≡ None → board.HasDistinctNames b → EachWidget IsShort b → IsMix (opened_mix board_operations (board.bare b) limit)
+pub mix_new : (b : board.Windows) (limit : ℕ) → star_open_fault (board.bare b) limit ≡ None → board.HasDistinctNames b → EachWidget IsShort b → IsMix (opened_mix board_batches (board.bare b) limit)
 mix_new b limit none distinct short =
     let held = open_held (nat_le 1 limit) (nat_le limit 16777216) (only_site 0 (board.bare b)) none in
-    mixed-sound (opened_mix board_operations (board.bare b) limit) (record {
+    mixed-sound (opened_mix board_batches (board.bare b) limit) (record {
       board = board.bare b;
       limit = limit;
       events = [];
@@ -134,11 +132,11 @@ mix_new b limit none distinct short =
     })
 
 -- whether no message is on its way from the site or to it, as the program tests it
-home_quiet : (m : BoardMix) → IsMix m → (a : BoardAttached) → m.site ≡ Some a → IsQuietAt a m.star ↔ IsHomeQuiet board_operations m
+home_quiet : (m : BoardMix) → IsMix m → (a : BoardAttached) → m.site ≡ Some a → IsQuietAt a m.star ↔ IsHomeQuiet board_batches m
 home_quiet m h a fa = (to, from)
   where
-    there : (l : BoardLink) × (link_of 1 m.star.links ≡ Some l) × Standing board_operations most_items (board_operations.t.content m.opening) (turns 1 m.star.order) m.star.board (mix_made m.trace) 0 (mix_shown m.trace) 1 l a
-    there = home_linked board_operations board_laws most_items m h a fa
+    there : (l : BoardLink) × (link_of 1 m.star.links ≡ Some l) × Standing board_batches most_batches (board_batches.t.content m.opening) (turns 1 m.star.order) m.star.board (mix_made m.trace) 0 (mix_shown m.trace) 1 l a
+    there = home_linked board_batches batch_laws most_batches m h a fa
 
     lengths : Option BoardLink → Option ℕ
     lengths o = option_map (λ (l : BoardLink). length l.outbox) o
@@ -146,27 +144,27 @@ home_quiet m h a fa = (to, from)
     number : a.site.number ≡ 1
     number = there.2.pair.site_number
 
-    to : IsQuietAt a m.star → IsHomeQuiet board_operations m
+    to : IsQuietAt a m.star → IsHomeQuiet board_batches m
     to q l b fl fb =
         let same : a ≡ b = cc in
         let counted : lengths (Some l) ≡ Some 0 = ap lengths (sym fl) ∙ ap (λ n. lengths (link_of n m.star.links)) (sym number) ∙ q.2 in
         let zero : length l.outbox ≡ 0 = cc in
         subst (λ (x : BoardAttached). (x.up ≡ []) × (x.down ≡ []) × (l.outbox ≡ [])) same (q.0, q.1, nil_from_length l.outbox zero)
 
-    from : IsHomeQuiet board_operations m → IsQuietAt a m.star
+    from : IsHomeQuiet board_batches m → IsQuietAt a m.star
     from q =
         let all = q there.0 a there.1 fa in
-        (all.0, all.1, ap (λ n. lengths (link_of n m.star.links)) number ∙ ap lengths there.1 ∙ ap (λ (os : List (Down BoardOp)). Some (length os)) all.2)
+        (all.0, all.1, ap (λ n. lengths (link_of n m.star.links)) number ∙ ap lengths there.1 ∙ ap (λ (os : List (Down BoardBatch)). Some (length os)) all.2)
 
 -- so where the site may be absent
-pub some_quiet : (m : BoardMix) → IsMix m → (a : BoardAttached) → m.site ≡ Some a → (b : Bool) → IsTrue b ↔ IsQuietAt a m.star → IsTrue b ↔ IsHomeQuiet board_operations m
+pub some_quiet : (m : BoardMix) → IsMix m → (a : BoardAttached) → m.site ≡ Some a → (b : Bool) → IsTrue b ↔ IsQuietAt a m.star → IsTrue b ↔ IsHomeQuiet board_batches m
 some_quiet m h a fa b test = let quiet = home_quiet m h a fa in ((λ yes. quiet.0 (test.0 yes)), (λ yes. test.1 (quiet.1 yes)))
 
-pub none_quiet : (m : BoardMix) → m.site ≡ None → IsTrue true ↔ IsHomeQuiet board_operations m
+pub none_quiet : (m : BoardMix) → m.site ≡ None → IsTrue true ↔ IsHomeQuiet board_batches m
 none_quiet m gone = ((λ yes l a fl fa. absurd (cc)), (λ yes. refl))
 
 -- then it is level with the star
-pub quiet_agrees : (m : BoardMix) → IsMix m → IsHomeQuiet board_operations m → HomeAgrees m
+pub quiet_agrees : (m : BoardMix) → IsMix m → IsHomeQuiet board_batches m → HomeAgrees m
 quiet_agrees m h q a fa =
-    let kept = mix-promises board_operations board_laws most_items m h in
+    let kept = mix-promises board_batches batch_laws most_batches m h in
     (kept.equal q a fa, kept.whole q a fa)

@@ -2,9 +2,9 @@
 use Rattle.std.specs.Prelude.{◌≡◌, ◌≢◌, ◌⊎◌, ℕ, ◌≤◌, false, IsTrue, List, [], ◌∷◌, ◌++◌, length, Some, None, is_some}
 use Rattle.jup_link.specs.InStep.{InStep}
 use Rattle.jup_link.specs.declared.Msg.{Msg}
-use Rattle.jup_window.specs.Boards.{Windows}
+use Rattle.jup_batch.specs.BatchBoards.{Windows}
 use Rattle.jup_window.specs.Operations.{Operations}
-use Rattle.jup_window.specs.BoardOperations.{board_operations}
+use Rattle.jup_batch.specs.BoardBatches.{board_batches}
 use Rattle.jup_star.specs.declared.messages.Up.{Up}
 use Rattle.jup_star.specs.declared.messages.Up.TheVariants.{Op as UpOp, Ack as UpAck, Ping as UpPing}
 use Rattle.jup_star.specs.declared.faults.StarFault.{StarFault}
@@ -105,11 +105,11 @@ module _ (O : Operations) where
 
 -- a star of boards with one site and strangers
 abbrev pub BoardMix : Type 0
-BoardMix = MixOf board_operations
+BoardMix = MixOf board_batches
 
 -- what may happen
 abbrev pub BoardMixEvent : Type 0
-BoardMixEvent = MixEventOf board_operations
+BoardMixEvent = MixEventOf board_batches
 
 -- one that some events made of one that was opened
 pub record IsMixed (m : BoardMix) : Type 0 where
@@ -118,4 +118,4 @@ pub record IsMixed (m : BoardMix) : Type 0 where
   pub events : List BoardMixEvent
   pub opening : IsOpening board
   pub limited : limit ≤ 16777216
-  pub is : m ≡ mix_run board_operations (opened_mix board_operations board limit) events
+  pub is : m ≡ mix_run board_batches (opened_mix board_batches board limit) events

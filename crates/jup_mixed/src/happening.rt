@@ -1,17 +1,17 @@
 //! What each event does to the star and the site.
-ghost use Rattle.std.specs.Prelude.{◌≡◌, IfOk, OnErr};
+ghost use Rattle.std.specs.Prelude.{◌≡◌, length, IfOk, OnErr};
 ghost use Rattle.std.specs.Option.{option_map};
 ghost use Rattle.jup_world.specs.WorldFields.{bare_attached};
-ghost use Rattle.jup_world.specs.NumberedReplies.{numbered_reply};
+ghost use Rattle.jup_world.specs.NumberedReplies.{numbered_reply, MakesFew};
 ghost use Rattle.jup_mixed.specs.declared.events.MixEvent.TheVariants as event;
-ghost use Rattle.jup_mixed.specs.MixFields.{MixPlays, MixSpares, IsReady};
+ghost use Rattle.jup_mixed.specs.MixFields.{most_edits, MixPlays, MixSpares, IsReady};
 
 use crate::MixEvent;
 use jup_link::Msg;
 use jup_star::{Star, Up};
 use jup_window::Command;
 use jup_world::{Attached, Reply, star_refusal};
-use jup_xform::NoMemory;
+use jup_xform::{Few, NoMemory, Transform};
 use std::alloc::Global;
 
 /// The number of the site.
@@ -27,11 +27,12 @@ pub(crate) fn happen(
     requires { IsReady star.old (option_map bare_attached site.old) }
     ensures plays { IfOk result (λ reply. MixPlays event.now star.old (option_map bare_attached site.old)
         (numbered_reply reply) star.new (option_map bare_attached site.new)) }
+    ensures few { IfOk result (λ reply. MakesFew reply (most_edits event.now)) }
     ensures spared { OnErr result (MixSpares star.old (option_map bare_attached site.old)
         star.new (option_map bare_attached site.new)) }
 {
     match event {
-        MixEvent::Edit(command) => edit(alloc, star, site, command),
+        MixEvent::Edit(commands) => edit(alloc, star, site, commands.as_slice()),
         MixEvent::Up => move_up(alloc, star, site),
         MixEvent::Down => move_down(alloc, star, site),
         MixEvent::JoinStray => join_stray(alloc, star, site),
@@ -44,15 +45,16 @@ fn edit(
     alloc: Global,
     star: &Star,
     site: &mut Option<Attached>,
-    command: &Command,
+    commands: &[Command],
 ) -> Result<Reply, NoMemory>
     requires { IsReady star.now (option_map bare_attached site.old) }
-    ensures plays { IfOk result (λ reply. MixPlays (event.Edit command.now) star.now (option_map bare_attached site.old)
+    ensures plays { IfOk result (λ reply. MixPlays (event.Edit commands.now) star.now (option_map bare_attached site.old)
         (numbered_reply reply) star.now (option_map bare_attached site.new)) }
+    ensures few { IfOk result (λ reply. MakesFew reply (length commands.now)) }
     ensures same { OnErr result (option_map bare_attached site.new ≡ option_map bare_attached site.old) }
 {
     match site {
-        Some(home) => home.edit(alloc, command),
+        Some(home) => home.edit_batch(alloc, commands),
         None => Ok(Reply::Nothing),
     }
 }
@@ -60,6 +62,7 @@ fn edit(
 // The star takes the oldest message of the site, or detaches it.
 fn move_up(alloc: Global, star: &mut Star, site: &mut Option<Attached>) -> Result<Reply, NoMemory>
     requires { IsReady star.old (option_map bare_attached site.old) }
+    ensures few { IfOk result (λ reply. MakesFew reply 0) }
     ensures plays { IfOk result (λ reply. MixPlays event.Up star.old (option_map bare_attached site.old)
         (numbered_reply reply) star.new (option_map bare_attached site.new)) }
     ensures same_star { OnErr result (star.new ≡ star.old) }
@@ -81,6 +84,7 @@ fn move_up(alloc: Global, star: &mut Star, site: &mut Option<Attached>) -> Resul
 // The site is handed the oldest message on its way down.
 fn move_down(alloc: Global, star: &mut Star, site: &mut Option<Attached>) -> Result<Reply, NoMemory>
     requires { IsReady star.old (option_map bare_attached site.old) }
+    ensures few { IfOk result (λ reply. MakesFew reply 0) }
     ensures plays { IfOk result (λ reply. MixPlays event.Down star.old (option_map bare_attached site.old)
         (numbered_reply reply) star.new (option_map bare_attached site.new)) }
     ensures spared { OnErr result (MixSpares star.old (option_map bare_attached site.old) star.new (option_map bare_attached site.new)) }
@@ -92,6 +96,7 @@ fn move_down(alloc: Global, star: &mut Star, site: &mut Option<Attached>) -> Res
 }
 
 fn join_stray(alloc: Global, star: &mut Star, site: &Option<Attached>) -> Result<Reply, NoMemory>
+    ensures few { IfOk result (λ reply. MakesFew reply 0) }
     ensures plays { IfOk result (λ reply. MixPlays event.JoinStray star.old (option_map bare_attached site.now)
         (numbered_reply reply) star.new (option_map bare_attached site.now)) }
     ensures same { OnErr result (star.new ≡ star.old) }
@@ -110,6 +115,7 @@ fn take_stray(
     link: u32,
     up: &Up,
 ) -> Result<Reply, NoMemory>
+    ensures few { IfOk result (λ reply. MakesFew reply 0) }
     ensures plays { IfOk result (λ reply. MixPlays (event.Stray link up.now) star.old (option_map bare_attached site.now)
         (numbered_reply reply) star.new (option_map bare_attached site.now)) }
     ensures same { OnErr result (star.new ≡ star.old) }
@@ -125,8 +131,9 @@ fn take_stray(
 }
 
 fn leave_stray(star: &mut Star, site: &Option<Attached>, link: u32) -> Reply
-    ensures { MixPlays (event.LeaveStray link) star.old (option_map bare_attached site.now)
+    ensures plays { MixPlays (event.LeaveStray link) star.old (option_map bare_attached site.now)
         (numbered_reply result) star.new (option_map bare_attached site.now) }
+    ensures few { MakesFew result 0 }
 {
     if link == HOME {
         return Reply::Nothing;
@@ -137,33 +144,47 @@ fn leave_stray(star: &mut Star, site: &Option<Attached>, link: u32) -> Reply
     }
 }
 
-/// An equal event.
-pub(crate) fn copy_event(event: &MixEvent) -> MixEvent
-    ensures { result ≡ event.now }
+/// The most edits that an event may make: one for each command.
+pub(crate) fn most_edits(event: &MixEvent) -> usize
+    ensures { result ≡ most_edits event.now }
 {
     match event {
-        MixEvent::Edit(command) => MixEvent::Edit(*command),
-        MixEvent::Up => MixEvent::Up,
-        MixEvent::Down => MixEvent::Down,
-        MixEvent::JoinStray => MixEvent::JoinStray,
-        MixEvent::Stray(link, up) => MixEvent::Stray(*link, copy_up(up)),
-        MixEvent::LeaveStray(link) => MixEvent::LeaveStray(*link),
+        MixEvent::Edit(commands) => commands.as_slice().len(),
+        MixEvent::Up
+        | MixEvent::Down
+        | MixEvent::JoinStray
+        | MixEvent::Stray(_, _)
+        | MixEvent::LeaveStray(_) => 0,
     }
 }
 
-// An equal message.
-fn copy_up(up: &Up) -> Up
-    ensures { result ≡ up.now }
+/// An equal event.
+pub(crate) fn copy_event(alloc: Global, event: &MixEvent) -> Result<MixEvent, NoMemory>
+    ensures { IfOk result (λ copied. copied ≡ event.now) }
 {
-    match up {
+    Ok(match event {
+        MixEvent::Edit(commands) => MixEvent::Edit(Few::from_slice(alloc, commands.as_slice())?),
+        MixEvent::Up => MixEvent::Up,
+        MixEvent::Down => MixEvent::Down,
+        MixEvent::JoinStray => MixEvent::JoinStray,
+        MixEvent::Stray(link, up) => MixEvent::Stray(*link, copy_up(alloc, up)?),
+        MixEvent::LeaveStray(link) => MixEvent::LeaveStray(*link),
+    })
+}
+
+// An equal message.
+fn copy_up(alloc: Global, up: &Up) -> Result<Up, NoMemory>
+    ensures { IfOk result (λ copied. copied ≡ up.now) }
+{
+    Ok(match up {
         Up::Op(Msg { mine, heard, op }) => {
             Up::Op(Msg {
                 mine: *mine,
                 heard: *heard,
-                op: *op,
+                op: op.copy(alloc)?,
             })
         }
         Up::Ack(heard) => Up::Ack(*heard),
         Up::Ping(count) => Up::Ping(*count),
-    }
+    })
 }

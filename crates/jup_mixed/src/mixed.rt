@@ -1,30 +1,31 @@
 //! A star with one site of this product, and links of strangers, which send any messages.
-ghost use Rattle.std.specs.Prelude.{◌≡◌, ◌⊎◌, ◌↔◌, ◌∷◌, ◌++◌, ◌<◌, [], vec_len, None, Some, IsTrue, IfOk, IfErr, IfSome, OnOk, OnErr};
+ghost use Rattle.std.specs.Prelude.{◌≡◌, ◌⊎◌, ◌↔◌, ◌∷◌, ◌++◌, ◌<◌, ◌≤◌, [], vec_len, None, Some, IsTrue, IfOk, IfErr, IfSome, OnOk, OnErr};
 ghost use Rattle.std.specs.Vec.{vec_capacity};
 ghost use Rattle.std.specs.Option.{option_map, option_copied};
 ghost use Rattle.jup_window.specs.Entries.{EachWidget};
-ghost use Rattle.jup_window.specs.Boards.{bare, content, meaning};
-ghost use Rattle.jup_window.specs.BoardOperations.{board_operations};
+ghost use Rattle.jup_batch.specs.BatchBoards.{bare, content, meaning};
+ghost use Rattle.jup_batch.specs.BoardBatches.{board_batches};
 ghost use Rattle.jup_star.specs.StarCalls.{star_open_fault};
 ghost use Rattle.jup_star.specs.declared.faults.OpenFault.TheVariants as open_fault;
 ghost use Rattle.jup_star.specs.Openings.{IsShort};
-ghost use Rattle.jup_world.specs.NumberedReplies.{numbered_reply};
+ghost use Rattle.jup_world.specs.NumberedReplies.{numbered_reply, MakesFew};
 ghost use Rattle.jup_mixed.specs.MixStates.{opened_mix, IsHomeQuiet};
 ghost use Rattle.jup_mixed.specs.MixSteps.{mix_outcome, mix_happens};
 ghost use Rattle.jup_mixed.specs.MixTraces.{mix_view};
 ghost use Rattle.jup_world.specs.Sound.{edits_in};
 ghost use Rattle.jup_mixed.specs.MixPromises.{MixReplies, MixOrderIsKept};
-ghost use Rattle.jup_mixed.specs.MixFields.{numbered_mix, IsMixSpared, HomeAgrees};
+ghost use Rattle.jup_mixed.specs.MixFields.{numbered_mix, most_edits, IsMixSpared, HomeAgrees};
 
-use crate::happening::{copy_event, happen};
+use crate::happening::{copy_event, happen, most_edits};
 use crate::{MixEvent, MixHappened};
+use jup_batch::{BoardBatch, BoardEdits, Commands};
 use jup_link::Msg;
 use jup_seq::SeqOp;
 use jup_setting::SetOp;
 use jup_star::{OpenFault, Site, Star, Up, is_short};
 use jup_value::Label;
 use jup_window::{Board, BoardOp, Command, Edit, Effect, Setting, Value, WidgetOp};
-use jup_world::{Attached, Reply};
+use jup_world::{Attached, Reply, room_for};
 use jup_xform::NoMemory;
 use std::alloc::Global;
 use std::marker::{Model, PhantomData};
@@ -41,7 +42,7 @@ pub struct Mixed {
 
 impl Model for Mixed {
     ghost use Rattle.std.specs.Option.{option_map};
-    ghost use Rattle.jup_window.specs.Boards.{bare};
+    ghost use Rattle.jup_batch.specs.BatchBoards.{bare};
     ghost use Rattle.jup_world.specs.WorldFields.{bare_attached};
     ghost use Rattle.jup_mixed.specs.MixPromises.{BoardMix};
     ghost use Rattle.jup_mixed.specs.MixFields.{numbered_mix, IsMix};
@@ -70,27 +71,53 @@ type Within = (
     SetOp<bool>,
     WidgetOp,
     BoardOp,
-    Msg<BoardOp>,
+    BoardBatch,
+    Msg<BoardBatch>,
     Up,
     Command,
+    Commands,
     Value,
     Setting,
     Label,
     Effect,
     Edit,
+    BoardEdits,
 );
 
+// What an event takes with it into the trace, made while memory may still be refused: a copy of it, and room
+// for the edits that it may make.
+#[derive(Drop)]
+struct Note {
+    event: MixEvent,
+    edits: Vec<Edit>,
+}
+
+impl Note {
+    fn of(alloc: Global, event: &MixEvent) -> Result<Note, NoMemory>
+        ensures event { IfOk result (λ note. note.event ≡ event.now) }
+        ensures empty { IfOk result (λ note. note.edits.items ≡ []) }
+        ensures room { IfOk result (λ note. (most_edits event.now ≤ 1) ⊎ (most_edits event.now ≤ vec_capacity note.edits)) }
+    {
+        Ok(Note {
+            event: copy_event(alloc, event)?,
+            edits: room_for(alloc, most_edits(event))?,
+        })
+    }
+}
+
 // Puts an event with its reply at the end of a trace that has room for it.
-fn note(trace: &mut Vec<MixHappened>, event: &MixEvent, reply: &Reply)
-    requires { vec_len trace.old < vec_capacity trace.old }
+fn keep(trace: &mut Vec<MixHappened>, note: Note, reply: &Reply)
+    requires room { vec_len trace.old < vec_capacity trace.old }
+    requires empty { note.edits.items ≡ [] }
+    requires edits { MakesFew reply.now (vec_capacity note.edits) }
     ensures { numbered_mix trace.new.items
-        ≡ numbered_mix trace.old.items ++ record { event = event.now; reply = numbered_reply reply.now } ∷ [] }
+        ≡ numbered_mix trace.old.items ++ record { event = note.event; reply = numbered_reply reply.now } ∷ [] }
 {
     // The checker learns of the types within an event from this.
     let _within: PhantomData<Within> = PhantomData;
     trace.push_reserved(MixHappened {
-        event: copy_event(event),
-        reply: *reply,
+        event: note.event,
+        reply: reply.copy_into(note.edits),
     });
 }
 
@@ -100,7 +127,7 @@ impl Mixed {
     /// an item that is not of a layout, whose items have site 0, no memory.
     pub fn open(alloc: Global, board: Board, limit: u32) -> Result<Mixed, OpenFault>
         requires short { EachWidget IsShort board }
-        ensures opened { IfOk result (λ mixed. mixed ≡ opened_mix board_operations (bare board) limit) }
+        ensures opened { IfOk result (λ mixed. mixed ≡ opened_mix board_batches (bare board) limit) }
         ensures accepts { OnOk result (star_open_fault (bare board) limit ≡ None) }
         ensures refusal { IfErr result (λ fault. ((fault ≡ open_fault.NoMemory) × (star_open_fault (bare board) limit ≡ None))
             ⊎ (star_open_fault (bare board) limit ≡ Some fault)) }
@@ -127,17 +154,18 @@ impl Mixed {
     /// Plays one event, which then stands in the trace with its reply. Where memory is refused nothing has
     /// changed, but that one message may stand in the site's down stream that stood in its outbox.
     pub fn step(&mut self, alloc: Global, event: &MixEvent) -> Result<Reply, NoMemory>
-        ensures reply { IfOk result (λ reply. numbered_reply reply ≡ (mix_outcome board_operations self.old event.now).reply) }
-        ensures withheld { OnOk result (MixReplies board_operations self.old event.now (mix_outcome board_operations self.old event.now)) }
-        ensures ok { OnOk result (self.new ≡ mix_happens board_operations self.old event.now) }
+        ensures reply { IfOk result (λ reply. numbered_reply reply ≡ (mix_outcome board_batches self.old event.now).reply) }
+        ensures withheld { OnOk result (MixReplies board_batches self.old event.now (mix_outcome board_batches self.old event.now)) }
+        ensures ok { OnOk result (self.new ≡ mix_happens board_batches self.old event.now) }
         ensures err { OnErr result (IsMixSpared self.old self.new) }
-        ensures order { OnOk result (MixOrderIsKept board_operations self.old self.new) }
+        ensures order { OnOk result (MixOrderIsKept board_batches self.old self.new) }
     {
         // The checker learns of the types within an event from this.
         let _within: PhantomData<Within> = PhantomData;
         self.trace.reserve(1).map_err(|_| NoMemory)?;
+        let note = Note::of(alloc, event)?;
         let reply = happen(alloc, &mut self.star, &mut self.site, event)?;
-        note(&mut self.trace, event, &reply);
+        keep(&mut self.trace, note, &reply);
         Ok(reply)
     }
 
@@ -151,7 +179,7 @@ impl Mixed {
     /// The star. At every moment its content is what its order means.
     pub fn star(&self) -> &Star
         ensures star { result.now ≡ self.now.star }
-        ensures content { content result.now.board ≡ meaning (content self.now.opening) (edits_in board_operations result.now.order) }
+        ensures content { content result.now.board ≡ meaning (content self.now.opening) (edits_in board_batches result.now.order) }
     {
         &self.star
     }
@@ -178,7 +206,7 @@ impl Mixed {
     /// Whether no message is on its way from site 1 or to it. Then its board is the star's, and the order
     /// has each of its edits once, in its order.
     pub fn quiet(&self) -> bool
-        ensures quiet { IsTrue result ↔ IsHomeQuiet board_operations self.now }
+        ensures quiet { IsTrue result ↔ IsHomeQuiet board_batches self.now }
         ensures agree { IsTrue result → HomeAgrees self.now }
     {
         match &self.site {

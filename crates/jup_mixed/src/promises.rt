@@ -1,7 +1,7 @@
 //! What every star with one site and strangers keeps, whatever they send.
 
 ghost use Rattle.std.specs.Prelude.{List};
-ghost use Rattle.jup_window.specs.BoardOperations.{board_operations};
+ghost use Rattle.jup_batch.specs.BoardBatches.{board_batches};
 ghost use Rattle.jup_mixed.specs.MixSteps.{mix_outcome, mix_run};
 ghost use Rattle.jup_mixed.specs.MixPromises.{MixPromises, MixReplies, OnlyFull, MixOrderIsKept, BoardMix, BoardMixEvent, IsMixed};
 
@@ -18,10 +18,10 @@ ghost use Rattle.jup_mixed.specs.MixPromises.{MixPromises, MixReplies, OnlyFull,
 ///
 /// It does nothing: its contract is the theorem.
 pub fn mixed_agree()
-    ensures kept { (m : BoardMix) → IsMixed m → MixPromises board_operations m }
+    ensures kept { (m : BoardMix) → IsMixed m → MixPromises board_batches m }
     ensures replies { (m : BoardMix) → IsMixed m → (event : BoardMixEvent)
-        → MixReplies board_operations m event (mix_outcome board_operations m event) }
-    ensures detached { (m : BoardMix) → IsMixed m → OnlyFull board_operations m }
+        → MixReplies board_batches m event (mix_outcome board_batches m event) }
+    ensures detached { (m : BoardMix) → IsMixed m → OnlyFull board_batches m }
     ensures order { (m : BoardMix) → IsMixed m → (events : List BoardMixEvent)
-        → MixOrderIsKept board_operations m (mix_run board_operations m events) }
+        → MixOrderIsKept board_batches m (mix_run board_batches m events) }
 {}

@@ -6,14 +6,17 @@ use jup_star::{OpenFault, StarFault, Up};
 use jup_value::{Item, Name};
 use jup_window::{Edit, Effect};
 use jup_world::Reply;
+use jup_xform::Few;
+use std::alloc::Global;
 use test_boards::board_of;
 
-fn made(number: u32, value: char) -> Reply {
-    Reply::Made(Edit {
+fn made(alloc: Global, number: u32, value: char) -> Reply {
+    let put = Edit {
         win: 1,
         wid: 1,
         what: Effect::PutChar(Name { site: 1, number }, value),
-    })
+    };
+    Reply::Made(Few::from_slice(alloc, &[put]).unwrap())
 }
 
 fn inserts(site: u32, number: u32, value: char) -> SeqOp<char> {
@@ -25,9 +28,9 @@ fn inserts(site: u32, number: u32, value: char) -> SeqOp<char> {
 }
 
 // The stranger of link 2 deletes the first item of the layout.
-fn deletes() -> MixEvent {
+fn deletes(alloc: Global) -> MixEvent {
     let name = Name { site: 0, number: 1 };
-    strays(2, 0, SeqOp::Delete { place: 0, name })
+    strays(alloc, 2, 0, SeqOp::Delete { place: 0, name })
 }
 
 fn asks(link: u32) -> MixEvent {
@@ -39,17 +42,29 @@ fn asks(link: u32) -> MixEvent {
 fn a_stranger_deletes_and_then_says_it_again(rt: HostRuntime) {
     let alloc = rt.alloc();
     let mut mixed = mixed_over(&rt, alloc, "text 1 \"ab\"");
-    plays(&rt, alloc, &mut mixed, types(2, 'c'), made(1, 'c'));
+    plays(
+        &rt,
+        alloc,
+        &mut mixed,
+        types(alloc, 2, 'c'),
+        made(alloc, 1, 'c'),
+    );
     joins(&rt, alloc, &mut mixed, 2);
-    plays(&rt, alloc, &mut mixed, deletes(), Reply::Taken(0));
+    plays(&rt, alloc, &mut mixed, deletes(alloc), Reply::Taken(0));
     plays(&rt, alloc, &mut mixed, MixEvent::Up, Reply::Taken(1));
     plays(&rt, alloc, &mut mixed, MixEvent::Down, Reply::Shown);
     read(&rt, &mixed, "bc", "bc");
     assert!(rt; mixed.quiet());
     let again = Reply::Detached(StarFault::BadCount);
-    plays(&rt, alloc, &mut mixed, deletes(), again);
-    plays(&rt, alloc, &mut mixed, deletes(), Reply::Nothing);
-    plays(&rt, alloc, &mut mixed, types(0, 'd'), made(2, 'd'));
+    plays(&rt, alloc, &mut mixed, deletes(alloc), again);
+    plays(&rt, alloc, &mut mixed, deletes(alloc), Reply::Nothing);
+    plays(
+        &rt,
+        alloc,
+        &mut mixed,
+        types(alloc, 0, 'd'),
+        made(alloc, 2, 'd'),
+    );
     assert!(rt; !mixed.quiet());
     plays(&rt, alloc, &mut mixed, MixEvent::Up, Reply::Taken(2));
     read(&rt, &mixed, "dbc", "dbc");
@@ -61,7 +76,13 @@ fn a_stranger_deletes_and_then_says_it_again(rt: HostRuntime) {
 fn strangers_are_refused_by_name(rt: HostRuntime) {
     let alloc = rt.alloc();
     let mut mixed = mixed_over(&rt, alloc, "text 1 \"ab\"");
-    plays(&rt, alloc, &mut mixed, types(2, 'c'), made(1, 'c'));
+    plays(
+        &rt,
+        alloc,
+        &mut mixed,
+        types(alloc, 2, 'c'),
+        made(alloc, 1, 'c'),
+    );
     for (link, mine, op, fault) in [
         (2, 1, inserts(2, 1, 'x'), StarFault::BadCount),
         (3, 0, inserts(1, 1, 'x'), StarFault::BadName),
@@ -70,12 +91,18 @@ fn strangers_are_refused_by_name(rt: HostRuntime) {
     ] {
         joins(&rt, alloc, &mut mixed, link);
         let refused = Reply::Detached(fault);
-        plays(&rt, alloc, &mut mixed, strays(link, mine, op), refused);
         plays(
             &rt,
             alloc,
             &mut mixed,
-            strays(link, mine, op),
+            strays(alloc, link, mine, op),
+            refused,
+        );
+        plays(
+            &rt,
+            alloc,
+            &mut mixed,
+            strays(alloc, link, mine, op),
             Reply::Nothing,
         );
     }
@@ -93,7 +120,7 @@ fn strangers_are_refused_by_name(rt: HostRuntime) {
 fn a_stranger_speaks_for_no_other_link(rt: HostRuntime) {
     let alloc = rt.alloc();
     let mut mixed = mixed_over(&rt, alloc, "text 1 \"ab\"");
-    let as_home = strays(1, 0, inserts(1, 1, 'x'));
+    let as_home = strays(alloc, 1, 0, inserts(1, 1, 'x'));
     plays(&rt, alloc, &mut mixed, as_home, Reply::Nothing);
     plays(
         &rt,
@@ -113,7 +140,13 @@ fn a_stranger_speaks_for_no_other_link(rt: HostRuntime) {
         Reply::Nothing,
     );
     plays(&rt, alloc, &mut mixed, asks(2), Reply::Nothing);
-    plays(&rt, alloc, &mut mixed, types(2, 'c'), made(1, 'c'));
+    plays(
+        &rt,
+        alloc,
+        &mut mixed,
+        types(alloc, 2, 'c'),
+        made(alloc, 1, 'c'),
+    );
     plays(&rt, alloc, &mut mixed, MixEvent::Up, Reply::Taken(0));
     read(&rt, &mixed, "abc", "abc");
 }
@@ -124,9 +157,15 @@ fn a_stranger_fills_the_order(rt: HostRuntime) {
     let alloc = rt.alloc();
     let board = board_of(alloc, &["window 1", "text 1 \"ab\""]).expect(&rt, "a board");
     let mut mixed = Mixed::open(alloc, board, 1).expect(&rt, "a limit of one");
-    plays(&rt, alloc, &mut mixed, types(2, 'c'), made(1, 'c'));
+    plays(
+        &rt,
+        alloc,
+        &mut mixed,
+        types(alloc, 2, 'c'),
+        made(alloc, 1, 'c'),
+    );
     joins(&rt, alloc, &mut mixed, 2);
-    plays(&rt, alloc, &mut mixed, deletes(), Reply::Taken(0));
+    plays(&rt, alloc, &mut mixed, deletes(alloc), Reply::Taken(0));
     let full = Reply::Detached(StarFault::LogFull);
     plays(&rt, alloc, &mut mixed, MixEvent::Up, full);
     assert!(rt; mixed.site().is_none());

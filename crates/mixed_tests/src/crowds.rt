@@ -1,14 +1,17 @@
 //! Ten thousand messages of four strangers, valid, half valid and senseless, beside one site that edits.
-use crate::events::{mixed_over, step};
+use crate::events::{insert, mixed_over, step};
+use jup_batch::all_insertions;
 use jup_link::Msg;
 use jup_mixed::{MixEvent, Mixed};
 use jup_seq::SeqOp;
 use jup_star::{Star, Up};
 use jup_value::{Item, Name, Seq};
-use jup_window::{Board, BoardOp, Command, Value, Widget, WidgetOp};
+use jup_window::{Board, BoardOp, Command, Widget, WidgetOp};
 use jup_world::Reply;
+use jup_xform::{Batch, Few};
 use std::alloc::Global;
 use std::process::Abort;
+use test_boards::Dice;
 
 /// How many messages the strangers send.
 const MESSAGES: u32 = 10_000;
@@ -16,32 +19,12 @@ const MESSAGES: u32 = 10_000;
 /// More turns than they need for that.
 const TURNS: u32 = 20_000;
 
-/// Numbers that look random and are the same in each run: a linear congruence, of which the upper half counts.
-#[derive(Drop)]
-struct Dice {
-    state: u32,
-}
-
-impl Dice {
-    // A number below this, which is not 0.
-    fn roll(&mut self, below: u32) -> u32 {
-        let next = self.state.wrapping_mul(1_664_525);
-        self.state = next.wrapping_add(1_013_904_223);
-        (self.state >> 16).checked_rem(below).unwrap_or(0)
-    }
-
-    // Once in so many times.
-    fn once_in(&mut self, times: u32) -> bool {
-        self.roll(times) == 0
-    }
-
-    // The number, or once in forty times the next.
-    fn slips(&mut self, number: u32) -> u32 {
-        if self.once_in(40) {
-            number.saturating_add(1)
-        } else {
-            number
-        }
+// The number, or once in forty times the next.
+fn slips(dice: &mut Dice, number: u32) -> u32 {
+    if dice.once_in(40) {
+        number.saturating_add(1)
+    } else {
+        number
     }
 }
 
@@ -52,7 +35,7 @@ struct Stranger {
     link: u32,
     /// How many edits the order had at its join.
     joined_at: u32,
-    /// How many of its edits were taken, how many of these were insertions, and how many of others it has heard.
+    /// How many of its edits were taken, how many insertions are in these, and how many of others it has heard.
     made: u32,
     named: u32,
     heard: u32,
@@ -101,6 +84,14 @@ fn name_at(board: &Board, place: u32) -> Option<Name> {
     }
 }
 
+fn on_text(op: SeqOp<char>) -> BoardOp {
+    BoardOp {
+        win: 1,
+        wid: 1,
+        op: WidgetOp::Text(op),
+    }
+}
+
 impl Stranger {
     // How many edits of others the star sent to it.
     fn told(&self, star: &Star) -> u32 {
@@ -120,23 +111,12 @@ impl Stranger {
         }
     }
 
-    // An edit of text 1: an insertion, the deletion of what stands at a place, or nothing.
-    fn operation(&self, dice: &mut Dice, board: &Board) -> SeqOp<char> {
-        let length = length_of(board);
-        if dice.once_in(40) {
-            return SeqOp::Nothing;
-        }
-        if dice.once_in(3) {
-            let place = dice.roll(length.max(1));
-            let from = dice.slips(place);
-            if let Some(name) = name_at(board, from) {
-                return SeqOp::Delete { place, name };
-            }
-        }
-        let site = dice.slips(self.link);
-        let number = dice.slips(self.named.saturating_add(1));
+    // An insertion into text 1, behind so many that were taken.
+    fn insertion(&self, dice: &mut Dice, board: &Board, named: u32) -> SeqOp<char> {
+        let site = slips(dice, self.link);
+        let number = slips(dice, named.saturating_add(1));
         SeqOp::Insert {
-            place: dice.roll(length.saturating_add(2)),
+            place: dice.roll(length_of(board).saturating_add(2)),
             item: Item {
                 name: Name { site, number },
                 value: 's',
@@ -144,8 +124,42 @@ impl Stranger {
         }
     }
 
+    // The first operation of an edit: an insertion, the deletion of what stands at a place, or nothing.
+    fn operation(&self, dice: &mut Dice, board: &Board) -> SeqOp<char> {
+        if dice.once_in(40) {
+            return SeqOp::Nothing;
+        }
+        if dice.once_in(3) {
+            let place = dice.roll(length_of(board).max(1));
+            let from = slips(dice, place);
+            if let Some(name) = name_at(board, from) {
+                return SeqOp::Delete { place, name };
+            }
+        }
+        self.insertion(dice, board, self.named)
+    }
+
+    // The operations of an edit of text 1: one, and at times an insertion more.
+    fn operations(
+        &self,
+        rt: &impl Abort,
+        alloc: Global,
+        dice: &mut Dice,
+        board: &Board,
+    ) -> Vec<BoardOp> {
+        let mut ops = Vec::new(alloc);
+        let first = self.operation(dice, board);
+        ops.push(on_text(first)).expect(rt, "memory");
+        if dice.once_in(4) {
+            let named = self.named.saturating_add(all_insertions(&ops));
+            let next = self.insertion(dice, board, named);
+            ops.push(on_text(next)).expect(rt, "memory");
+        }
+        ops
+    }
+
     // What it sends next: mostly an edit.
-    fn message(&self, dice: &mut Dice, star: &Star) -> Up {
+    fn message(&self, rt: &impl Abort, alloc: Global, dice: &mut Dice, star: &Star) -> Up {
         if dice.once_in(16) {
             return Up::Ping(dice.roll(100));
         }
@@ -153,30 +167,24 @@ impl Stranger {
         if dice.once_in(8) {
             return Up::Ack(heard);
         }
-        let op = BoardOp {
-            win: 1,
-            wid: 1,
-            op: WidgetOp::Text(self.operation(dice, star.board())),
-        };
-        let mine = dice.slips(self.made);
-        Up::Op(Msg { mine, heard, op })
+        let ops = self.operations(rt, alloc, dice, star.board());
+        assert!(rt; 1 <= ops.len() && ops.len() <= 32);
+        Up::Op(Msg {
+            mine: slips(dice, self.made),
+            heard,
+            op: Batch::new(ops),
+        })
     }
 
     // After a message that was taken, or heard.
     fn after(&self, up: &Up) -> Stranger {
         match up {
-            Up::Op(msg) => {
-                let inserted = match msg.op.op {
-                    WidgetOp::Text(SeqOp::Insert { .. }) => 1,
-                    _ => 0,
-                };
-                Stranger {
-                    made: self.made.saturating_add(1),
-                    named: self.named.saturating_add(inserted),
-                    heard: msg.heard,
-                    ..*self
-                }
-            }
+            Up::Op(msg) => Stranger {
+                made: self.made.saturating_add(1),
+                named: self.named.saturating_add(all_insertions(msg.op.as_slice())),
+                heard: msg.heard,
+                ..*self
+            },
             Up::Ack(heard) => Stranger {
                 heard: *heard,
                 ..*self
@@ -207,7 +215,7 @@ fn sends(
     stranger: &mut Stranger,
     mixed: &mut Mixed,
 ) -> Reply {
-    let up = stranger.message(dice, mixed.star());
+    let up = stranger.message(rt, alloc, dice, mixed.star());
     let next = stranger.after(&up);
     if dice.once_in(50) {
         return step(rt, alloc, mixed, &MixEvent::Stray(1, up));
@@ -245,23 +253,28 @@ fn stranger_goes_on(
     }
 }
 
-// What the site types or deletes next.
+// What the site types or deletes.
 fn command(dice: &mut Dice, board: &Board) -> Command {
     let length = length_of(board);
-    if dice.once_in(3) {
+    if dice.once_in(2) {
         Command::Delete {
             win: 1,
             wid: 1,
             place: dice.roll(length.max(1)),
         }
     } else {
-        Command::Insert {
-            win: 1,
-            wid: 1,
-            place: dice.roll(length.saturating_add(1)),
-            value: Value::Char('h'),
-        }
+        insert(dice.roll(length.saturating_add(1)), 'h')
     }
+}
+
+// What it makes next: an edit of one or two commands.
+fn edit(rt: &impl Abort, alloc: Global, dice: &mut Dice, board: &Board) -> MixEvent {
+    let mut commands = Vec::new(alloc);
+    for _ in 0..=dice.roll(2) {
+        let next = command(dice, board);
+        commands.push(next).expect(rt, "memory");
+    }
+    MixEvent::Edit(Few::from_slice(alloc, &commands).expect(rt, "memory"))
 }
 
 // The site edits, or one of its messages moves; it is never detached.
@@ -269,7 +282,7 @@ fn site_goes_on(rt: &impl Abort, alloc: Global, dice: &mut Dice, mixed: &mut Mix
     let event = match dice.roll(4) {
         0 => {
             let site = mixed.site().expect(rt, "the site is attached");
-            MixEvent::Edit(command(dice, site.board()))
+            edit(rt, alloc, dice, site.board())
         }
         1 => MixEvent::Up,
         _ => MixEvent::Down,
@@ -280,7 +293,7 @@ fn site_goes_on(rt: &impl Abort, alloc: Global, dice: &mut Dice, mixed: &mut Mix
 
 // All messages of the strangers, and what became of them.
 fn crowd(rt: &impl Abort, alloc: Global, mixed: &mut Mixed) -> Tally {
-    let mut dice = Dice { state: 1995 };
+    let mut dice = Dice::of(1995);
     let mut strangers = [ABSENT; 4];
     let mut tally = Tally {
         sent: 0,

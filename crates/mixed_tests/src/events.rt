@@ -5,9 +5,10 @@ use jup_seq::SeqOp;
 use jup_star::Up;
 use jup_window::{BoardOp, Command, Value, WidgetOp};
 use jup_world::Reply;
+use jup_xform::Few;
 use std::alloc::Global;
 use std::process::Abort;
-use test_boards::{board_of, reads};
+use test_boards::{alone, board_of, reads};
 
 /// How many edits a star takes here.
 const LIMIT: u32 = 100_000;
@@ -44,25 +45,39 @@ pub(crate) fn plays(
     assert_eq!(rt; step(rt, alloc, mixed, &event), wanted, "{event:?}");
 }
 
-/// The site types into text 1.
-pub(crate) fn types(place: u32, value: char) -> MixEvent {
+/// An insertion into text 1.
+pub(crate) fn insert(place: u32, value: char) -> Command {
     let value = Value::Char(value);
-    MixEvent::Edit(Command::Insert {
+    Command::Insert {
         win: 1,
         wid: 1,
         place,
         value,
-    })
+    }
+}
+
+/// The site makes an edit of one command, which takes no memory.
+pub(crate) fn edits(alloc: Global, command: Command) -> MixEvent {
+    MixEvent::Edit(Few::from_slice(alloc, &[command]).unwrap())
+}
+
+/// The site types into text 1.
+pub(crate) fn types(alloc: Global, place: u32, value: char) -> MixEvent {
+    edits(alloc, insert(place, value))
 }
 
 /// A stranger sends its `mine`-th edit of text 1, without having heard of any other.
-pub(crate) fn strays(link: u32, mine: u32, op: SeqOp<char>) -> MixEvent {
+pub(crate) fn strays(alloc: Global, link: u32, mine: u32, op: SeqOp<char>) -> MixEvent {
     let op = BoardOp {
         win: 1,
         wid: 1,
         op: WidgetOp::Text(op),
     };
-    let msg = Msg { mine, heard: 0, op };
+    let msg = Msg {
+        mine,
+        heard: 0,
+        op: alone(alloc, op),
+    };
     MixEvent::Stray(link, Up::Op(msg))
 }
 

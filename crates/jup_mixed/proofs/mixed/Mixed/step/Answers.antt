@@ -1,11 +1,11 @@
 use Rattle.std.proofs.Common.{◌∙◌, ◌++◌, ◌∷◌, [], sym, ap, subst}
 use Rattle.std.specs.Option.{option_map}
-use Rattle.jup_window.specs.BoardOperations.{board_operations}
+use Rattle.jup_batch.specs.BoardBatches.{board_batches}
 use Rattle.jup_world.specs.WorldFields.{bare_attached}
 use Rattle.jup_world.specs.NumberedReplies.{numbered_reply}
 use Rattle.jup_mixed.specs.contracts.mixed.Mixed.{the_view}
 use Rattle.jup_mixed.specs.MixFields.{numbered_mix, IsMix}
-use Rattle.jup_mixed.specs.MixPromises.{MixOrderIsKept}
+use Rattle.jup_mixed.specs.MixPromises.{BoardMixEvent, MixOrderIsKept}
 use Rattle.jup_mixed.proofs.MixProgram.{MixTrace, mix_answered, mix_ready, mix_played, mix_next, mix_keeps, mix_spared, mix_still}
 use Rattle.jup_mixed.proofs.mixed.Mixed.step.Goals as goal
 
@@ -20,7 +20,8 @@ invariant_of-self-in_err-reply c =
 pub invariant_of-self-2 : goal.invariant_of-self-2
 invariant_of-self-2 c =
     let m = the_view c.self.inside in
-    let trace = c.note.ensures
+    let trace = c.keep.ensures
+    ∙ ap (λ (e : BoardMixEvent). numbered_mix c.reserve.new.self.items ++ record { event = e; reply = numbered_reply c.in_ok-reply.reply } ∷ []) c.in_ok-note.ensures.event
     ∙ ap (λ (h : MixTrace). h ++ record { event = c.args.event.now; reply = numbered_reply c.in_ok-reply.reply } ∷ []) (ap numbered_mix c.reserve.ensures.items) in
     subst IsMix (sym (mix_played m c.args.event.now (numbered_reply c.in_ok-reply.reply) c.happen.new.star (option_map bare_attached c.happen.new.site) _ c.in_ok-reply.ensures.plays trace))
     (mix_next m c.args.event.now c.self.invariant)
@@ -31,8 +32,9 @@ returns-clause-withheld c = rw (← c.self.view_is) (mix_answered (the_view c.se
 pub returns-clause-order : goal.returns-clause-order
 returns-clause-order c =
     let m = the_view c.self.inside in
-    let trace = c.note.ensures
+    let trace = c.keep.ensures
+    ∙ ap (λ (e : BoardMixEvent). numbered_mix c.reserve.new.self.items ++ record { event = e; reply = numbered_reply c.in_ok-reply.reply } ∷ []) c.in_ok-note.ensures.event
     ∙ ap (λ (h : MixTrace). h ++ record { event = c.args.event.now; reply = numbered_reply c.in_ok-reply.reply } ∷ []) (ap numbered_mix c.reserve.ensures.items) in
-    rw (← c.self.view_is) (subst (MixOrderIsKept board_operations m)
+    rw (← c.self.view_is) (subst (MixOrderIsKept board_batches m)
     (sym (mix_played m c.args.event.now (numbered_reply c.in_ok-reply.reply) c.happen.new.star (option_map bare_attached c.happen.new.site) _ c.in_ok-reply.ensures.plays trace))
     (mix_keeps m c.args.event.now c.self.invariant))

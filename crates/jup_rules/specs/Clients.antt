@@ -1,7 +1,8 @@
 -- What a client sends and tells.
-use Rattle.std.specs.Prelude.{◌≡◌, ◌==◌, ◌<◌, ◌⊎◌, ℕ, ◌+◌, Bool, true, false, if◌then◌else◌, List, Option, Some, None, Result, Ok, Err, codes, decimal, ◌++◌, ◌∷◌, []}
+use Rattle.std.specs.Prelude.{◌≡◌, ◌==◌, ◌⊎◌, ℕ, ◌+◌, Bool, false, if◌then◌else◌, List, Option, Some, None, Result, Ok, Err, ◌∷◌, []}
 use Rattle.std.specs.Option.{option_map}
-use Rattle.jup_window.specs.declared.board_operations.BoardOp.{BoardOp}
+use Rattle.jup_batch.specs.BatchBoards.{BoardBatch}
+use Rattle.jup_window.specs.declared.commands.Command.{Command}
 use Rattle.jup_window.specs.declared.faults.EditFault.{EditFault}
 use Rattle.jup_window.specs.FaultNumbers.{edit_fault_number}
 use Rattle.jup_star.specs.SiteCalls.{EditAnswers, DeliverAnswers, is_edit_memory, site_open_fault}
@@ -9,20 +10,25 @@ use Rattle.jup_star.specs.SiteStates.{opened_site}
 use Rattle.jup_star.specs.declared.messages.Down.{Down}
 use Rattle.jup_star.specs.declared.messages.Down.TheVariants.{Op as DownOp, Ack as DownAck, Pong as DownPong}
 use Rattle.jup_star.specs.declared.messages.Up.{Up}
+use Rattle.jup_star.specs.declared.messages.Up.TheVariants.{Ping as UpPing}
 use Rattle.jup_star.specs.declared.site.Made.{Made}
 use Rattle.jup_star.specs.declared.faults.SiteFault.{SiteFault}
 use Rattle.jup_wire.specs.declared.line.Line.{Line}
 use Rattle.jup_wire.specs.declared.line.Line.TheVariants as line
+use Rattle.jup_gather.specs.declared.gathered.Gathered.{Gathered}
+use Rattle.jup_gather.specs.declared.gathered.Gathered.TheVariants.{Whole, Plain, Held, Misplaced}
+use Rattle.jup_gather.specs.Gathering.{Gathers}
+use Rattle.jup_rules.specs.declared.said.Said.{Said}
+use Rattle.jup_rules.specs.declared.said.Said.TheVariants.{Up as SaysUp, Bye as SaysBye}
 use Rattle.jup_rules.specs.declared.client_end.ClientEnd.{ClientEnd}
 use Rattle.jup_rules.specs.declared.client_end.ClientEnd.TheVariants.{Fault, NoMemory}
-use Rattle.jup_rules.specs.declared.client_state.Request.{Request}
-use Rattle.jup_rules.specs.declared.client_state.Request.TheVariants.{Edit, Sync, Show, Quit, Bad}
+use Rattle.jup_rules.specs.declared.request.Request.{Request}
+use Rattle.jup_rules.specs.declared.request.Request.TheVariants.{Edit, Batch, Sync, Show, Quit, Bad}
 use Rattle.jup_rules.specs.declared.client_state.Told.{Told}
 use Rattle.jup_rules.specs.declared.client_state.Told.TheVariants as told
 use Rattle.jup_rules.specs.declared.client_state.Answer.{Answer}
 use Rattle.jup_rules.specs.declared.client_state.Heard.{Heard}
 use Rattle.jup_rules.specs.declared.client_state.ClientState.{ClientState}
-use Rattle.jup_rules.specs.Messages.{down_of, up_line}
 use Rattle.jup_rules.specs.ClientEnds.{end_of_site, end_of_layout, end_of_open}
 use Rattle.jup_window.specs.Boards.{Windows}
 use Rattle.jup_star.specs.declared.faults.OpenFault.{OpenFault}
@@ -51,54 +57,75 @@ board_line_in (line.Char name value) = Ok (Some (line.Char name value))
 board_line_in (line.Item name label) = Ok (Some (line.Item name label))
 board_line_in other = Err (refusal_of other)
 
--- a line to send and what the user is told, each by itself and together
-abbrev pub sending : Line → Told → Answer
-sending line told = record { line = Some line; told = told }
+-- what is said to the server and what the user is told, together, and the latter by itself
+abbrev pub saying : Said → Told → Answer
+saying said told = record { said = Some said; told = told }
 
 abbrev pub telling : Told → Answer
-telling told = record { line = None; told = told }
+telling told = record { said = None; told = told }
 
 -- an edit that was made is sent and told; a refusal is told by its number, but want of memory ends the client
 abbrev pub edit_answer : Result Made EditFault → Result Answer ClientEnd
-edit_answer (Ok made) = Ok (sending (up_line made.up) (told.Made made.edit))
+edit_answer (Ok made) = Ok (saying (SaysUp made.up) (told.Made made.edit))
 edit_answer (Err fault) = if is_edit_memory fault then Err NoMemory else Ok (telling (told.Refused (edit_fault_number fault)))
 
 -- pings are numbered from 1, and where no number is left the client ends
 abbrev pub sync_answer : ℕ → Result Answer ClientEnd
-sync_answer pings = if pings == 4294967295 then Err (Fault 46) else Ok (sending (line.Ping (pings + 1)) told.Synced)
+sync_answer pings = if pings == 4294967295 then Err (Fault 46) else Ok (saying (SaysUp (UpPing (pings + 1))) told.Synced)
 
 abbrev pub after_sync : ClientState → ClientState
 after_sync c = record c { pings = (if c.pings == 4294967295 then c.pings else c.pings + 1) }
 
+-- an edit of these commands is the site's
+abbrev pub AnswersEdit : List Command → ClientState → Result Answer ClientEnd → ClientState → Type 0
+AnswersEdit commands c r d = (outcome : Result Made EditFault) × EditAnswers commands c.site d.site outcome × (r ≡ edit_answer outcome) × (d.gather ≡ c.gather) × (d.pings ≡ c.pings)
+
 -- what a client does for a request: an edit is its site's, and all others leave the site as it is
 abbrev pub Answers : Request → ClientState → Result Answer ClientEnd → ClientState → Type 0
-Answers (Edit command) c r d = (outcome : Result Made EditFault) × EditAnswers command c.site d.site outcome × (r ≡ edit_answer outcome) × (d.pings ≡ c.pings)
+Answers (Edit command) c r d = AnswersEdit (command ∷ []) c r d
+Answers (Batch commands) c r d = AnswersEdit commands.items c r d
 Answers Sync c r d = (r ≡ sync_answer c.pings) × (d ≡ after_sync c)
 Answers Show c r d = (r ≡ Ok (telling told.Board)) × (d ≡ c)
-Answers Quit c r d = (r ≡ Ok (sending line.Bye told.Bye)) × (d ≡ c)
+Answers Quit c r d = (r ≡ Ok (saying SaysBye told.Bye)) × (d ≡ c)
 Answers Bad c r d = (r ≡ Ok (telling told.BadCommand)) × (d ≡ c)
 
 -- the pong with this number, and no other message
-abbrev pub is_pong : ℕ → Down BoardOp → Bool
+abbrev pub is_pong : ℕ → Down BoardBatch → Bool
 is_pong pings (DownPong count) = count == pings
 is_pong pings (DownOp msg) = false
 is_pong pings (DownAck count) = false
 
--- an acknowledgement that is owed is sent
-abbrev pub heard_answer : ℕ → Down BoardOp → Result (Option (Up BoardOp)) SiteFault → Result Heard ClientEnd
-heard_answer pings down (Ok owed) = Ok (record { line = option_map up_line owed; is_synced = is_pong pings down })
+-- the message that lines come to, and none where they are held; a line that is no message is refused
+abbrev pub down_in : Gathered → Result (Option (Down BoardBatch)) ClientEnd
+down_in (Whole msg) = Ok (Some (DownOp msg))
+down_in (Plain (line.Ack count)) = Ok (Some (DownAck count))
+down_in (Plain (line.Pong count)) = Ok (Some (DownPong count))
+down_in (Plain other) = Err (refusal_of other)
+down_in Held = Ok None
+down_in Misplaced = Err (Fault 44)
+
+-- an acknowledgement that is owed is said
+abbrev pub heard_answer : ℕ → Down BoardBatch → Result (Option (Up BoardBatch)) SiteFault → Result Heard ClientEnd
+heard_answer pings down (Ok owed) = Ok (record { said = option_map (λ up. SaysUp up) owed; is_synced = is_pong pings down })
 heard_answer pings down (Err fault) = Err (end_of_site fault)
 
--- a message is delivered to the site; a line that is none is refused
-abbrev pub HearsMessage : Option (Down BoardOp) → Line → ClientState → Result Heard ClientEnd → ClientState → Type 0
-HearsMessage None line c r d = (r ≡ Err (refusal_of line)) × (d ≡ c)
-HearsMessage (Some down) line c r d = (outcome : Result (Option (Up BoardOp)) SiteFault) × DeliverAnswers down c.site d.site outcome × (r ≡ heard_answer c.pings down outcome) × (d.pings ≡ c.pings)
+-- a message is delivered to the site
+abbrev pub Delivers : Down BoardBatch → ClientState → Result Heard ClientEnd → ClientState → Type 0
+Delivers down c r d = (outcome : Result (Option (Up BoardBatch)) SiteFault) × DeliverAnswers down c.site d.site outcome × (r ≡ heard_answer c.pings down outcome) × (d.pings ≡ c.pings)
 
+-- what a client does for what lines come to
+abbrev pub HearsDown : Result (Option (Down BoardBatch)) ClientEnd → ClientState → Result Heard ClientEnd → ClientState → Type 0
+HearsDown (Ok (Some down)) c r d = Delivers down c r d
+HearsDown (Ok None) c r d = (r ≡ Ok (record { said = None; is_synced = false })) × (d.site ≡ c.site) × (d.pings ≡ c.pings)
+HearsDown (Err end) c r d = (r ≡ Err end) × (d.site ≡ c.site) × (d.pings ≡ c.pings)
+
+-- a line is gathered, and what it comes to is heard; for want of memory nothing is
 abbrev pub Hears : Line → ClientState → Result Heard ClientEnd → ClientState → Type 0
-Hears line c r d = HearsMessage (down_of line) line c r d
+Hears line c r d = ((r ≡ Err NoMemory) × (d ≡ c))
+    ⊎ ((gathered : Gathered) × Gathers c.gather line gathered d.gather × HearsDown (down_in gathered) c r d)
 
 -- a client that a server greeted: its site shows the board of the lines; or the lines are none, or no site is opened so, or memory was refused
 abbrev pub IsOpened : ℕ → ℕ → List Line → Result ClientState ClientEnd → Type 0
-IsOpened site limit lines (Ok c) = (windows : Windows) × (board_with lines ≡ Ok windows) × (site_open_fault site limit windows ≡ None) × (c ≡ record { site = opened_site site limit windows; pings = 0 })
+IsOpened site limit lines (Ok c) = (windows : Windows) × (board_with lines ≡ Ok windows) × (site_open_fault site limit windows ≡ None) × (c ≡ record { site = opened_site site limit windows; gather = Some []; pings = 0 })
 IsOpened site limit lines (Err end) = (end ≡ NoMemory) ⊎ ((fault : LayoutFault) × (board_with lines ≡ Err fault) × (end ≡ end_of_layout fault))
     ⊎ ((windows : Windows) × (fault : OpenFault) × (board_with lines ≡ Ok windows) × (site_open_fault site limit windows ≡ Some fault) × (end ≡ end_of_open fault))

@@ -1,3 +1,5 @@
+pub mod Batches
+pub mod Begun
 pub mod ClientEnds
 pub mod Clients
 pub mod DaemonEnds

@@ -1,33 +1,53 @@
--- What a line has for the star, and for a site.
-use Rattle.std.specs.Prelude.{Option, Some, None}
-use Rattle.jup_window.specs.declared.board_operations.BoardOp.{BoardOp}
+-- What a site says and what it is told, as what a link brings: an edit is several lines, and all else is one.
+use Rattle.std.specs.Prelude.{◌≡◌, ◌≢◌, ◌⊎◌, List, [], ◌∷◌, ◌++◌, map, Option, Some, None, Result, Ok, Err}
+use Rattle.jup_batch.specs.BatchBoards.{BoardBatch}
 use Rattle.jup_star.specs.declared.messages.Up.{Up}
 use Rattle.jup_star.specs.declared.messages.Up.TheVariants.{Op as UpOp, Ack as UpAck, Ping as UpPing}
 use Rattle.jup_star.specs.declared.messages.Down.{Down}
 use Rattle.jup_star.specs.declared.messages.Down.TheVariants.{Op as DownOp, Ack as DownAck, Pong as DownPong}
 use Rattle.jup_wire.specs.declared.line.Line.{Line}
-use Rattle.jup_wire.specs.declared.line.Line.TheVariants.{Op, Ack, Ping, Pong}
+use Rattle.jup_wire.specs.declared.line.Line.TheVariants as line
+use Rattle.jup_gather.specs.Pieces.{Piece, Message, Alone, IsPiece, piece_lines, HasGathered}
+use Rattle.jup_gather.specs.Gathering.{pieces_of}
+use Rattle.jup_gather.specs.declared.gathered.Gathered.{Gathered}
+use Rattle.jup_gather.specs.declared.gathered.Gathered.TheVariants.{Held}
+use Rattle.jup_rules.specs.declared.said.Said.{Said}
+use Rattle.jup_rules.specs.declared.said.Said.TheVariants.{Up as SaysUp, Bye}
+use Rattle.jup_rules.specs.declared.faults.SessionFault.{SessionFault}
+use Rattle.jup_rules.specs.declared.faults.SessionFault.TheVariants.{NoMemory, Misplaced}
 
-abbrev pub up_of : Line → Option (Up BoardOp)
-up_of (Op msg) = Some (UpOp msg)
-up_of (Ack count) = Some (UpAck count)
-up_of (Ping count) = Some (UpPing count)
-up_of _ = None
+-- a message to the star
+abbrev pub up_piece : Up BoardBatch → Piece
+up_piece (UpOp msg) = Message msg
+up_piece (UpAck count) = Alone (line.Ack count)
+up_piece (UpPing number) = Alone (line.Ping number)
 
-abbrev pub down_of : Line → Option (Down BoardOp)
-down_of (Op msg) = Some (DownOp msg)
-down_of (Ack count) = Some (DownAck count)
-down_of (Pong count) = Some (DownPong count)
-down_of _ = None
+-- what a site says
+abbrev pub said_piece : Said → Piece
+said_piece (SaysUp up) = up_piece up
+said_piece Bye = Alone line.Bye
 
--- the line of a message to the star
-abbrev pub up_line : Up BoardOp → Line
-up_line (UpOp msg) = Op msg
-up_line (UpAck count) = Ack count
-up_line (UpPing count) = Ping count
+-- a message to a site
+abbrev pub down_piece : Down BoardBatch → Piece
+down_piece (DownOp msg) = Message msg
+down_piece (DownAck count) = Alone (line.Ack count)
+down_piece (DownPong number) = Alone (line.Pong number)
 
--- and of one to a site
-abbrev pub down_line : Down BoardOp → Line
-down_line (DownOp msg) = Op msg
-down_line (DownAck count) = Ack count
-down_line (DownPong count) = Pong count
+-- what lines come to is this; nothing is said yet where they are held, and what else no site says is misplaced
+abbrev pub IsSaidBy : Gathered → Result (Option Said) SessionFault → Type 0
+IsSaidBy gathered (Ok (Some said)) = pieces_of gathered ≡ said_piece said ∷ []
+IsSaidBy gathered (Ok None) = gathered ≡ Held
+IsSaidBy gathered (Err fault) = (fault ≡ Misplaced) × (gathered ≢ Held) × ((said : Said) → pieces_of gathered ≢ said_piece said ∷ [])
+
+-- by these lines a site said all that, and those of a message of which some are missing are held
+abbrev pub HasSaid : List Line → List Said → Option (List Line) → Type 0
+HasSaid lines saids held = HasGathered lines (map said_piece saids) held
+
+-- whatever comes behind it, by a line behind those that are held a site says nothing
+abbrev pub IsUnsaid : Option (List Line) → Line → Type 0
+IsUnsaid None line = Unit {0}
+IsUnsaid (Some part) line = (said : Said) (more later : List Line) → IsPiece (said_piece said) → part ++ line ∷ more ≢ piece_lines (said_piece said) ++ later
+
+-- why a line of a site is refused: memory was, which changes nothing; or by that line no site says anything
+abbrev pub IsRefused : SessionFault → Option (List Line) → Line → Option (List Line) → Type 0
+IsRefused fault old line new = ((fault ≡ NoMemory) × (new ≡ old)) ⊎ ((fault ≡ Misplaced) × IsUnsaid old line)

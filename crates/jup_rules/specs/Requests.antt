@@ -1,24 +1,60 @@
--- What a line of commands asks for.
-use Rattle.std.specs.Prelude.{◌≡◌, ◌≢◌, ℕ, List, codes}
+-- What a user asks for: a word or a command is one line, and a batch is a line and one more for each of its commands.
+use Rattle.std.specs.Prelude.{◌≡◌, ◌≢◌, ◌≤◌, ◌+◌, ℕ, ◌⊎◌, List, [], ◌∷◌, ◌++◌, length, map, Option, Some, None, codes}
+use Rattle.std.specs.List.{AllByRecursion}
 use Rattle.jup_window.specs.declared.commands.Command.{Command}
-use Rattle.jup_text.specs.Commands.{command_text, IsCommand}
-use Rattle.jup_rules.specs.declared.client_state.Request.{Request}
-use Rattle.jup_rules.specs.declared.client_state.Request.TheVariants.{Edit, Sync, Show, Quit, Bad}
+use Rattle.jup_text.specs.Commands.{command_text, batch_text, IsCommand, IsBatchCount}
+use Rattle.jup_rules.specs.declared.request.Request.{Request}
+use Rattle.jup_rules.specs.declared.request.Request.TheVariants.{Edit, Batch, Sync, Show, Quit, Bad}
+use Rattle.jup_rules.specs.Begun.{Begun}
 
--- none of the three words
-pub record IsNoWord (line : List ℕ) : Type 0 where
-  pub no_sync : line ≢ codes "sync"
-  pub no_show : line ≢ codes "show"
-  pub no_quit : line ≢ codes "quit"
+-- the lines of a request
+abbrev pub request_lines : Request → List (List ℕ)
+request_lines (Edit command) = command_text command ∷ []
+request_lines (Batch commands) = batch_text (length commands.items) ∷ map command_text commands.items
+request_lines Sync = codes "sync" ∷ []
+request_lines Show = codes "show" ∷ []
+request_lines Quit = codes "quit" ∷ []
+request_lines Bad = []
+
+-- what may be asked for
+abbrev pub IsRequest : Request → Type 0
+IsRequest (Edit command) = IsCommand command
+IsRequest (Batch commands) = IsBatchCount (length commands.items) × AllByRecursion IsCommand commands.items
+IsRequest Sync = Unit {0}
+IsRequest Show = Unit {0}
+IsRequest Quit = Unit {0}
+IsRequest Bad = ⊥
+
+-- these are the lines of that request, with nothing before or behind them; or it is bad, and they are those of none
+abbrev pub IsRequestOf : List (List ℕ) → Request → Type 0
+IsRequestOf lines request = (IsRequest request × (lines ≡ request_lines request))
+    ⊎ ((request ≡ Bad) × ((other : Request) → IsRequest other → lines ≢ request_lines other))
 
 -- the text of no command
 abbrev pub IsNoCommand : List ℕ → Type 0
 IsNoCommand line = (command : Command) → IsCommand command → line ≢ command_text command
 
--- a word, or the text of a command, is the whole line, with nothing before or behind it
-abbrev pub IsRequestOf : List ℕ → Request → Type 0
-IsRequestOf line Sync = line ≡ codes "sync"
-IsRequestOf line Show = line ≡ codes "show"
-IsRequestOf line Quit = line ≡ codes "quit"
-IsRequestOf line (Edit command) = IsNoWord line × (line ≡ command_text command)
-IsRequestOf line Bad = IsNoWord line × IsNoCommand line
+-- the commands that these lines are; or one of the lines is none
+abbrev pub AreCommands : List (List ℕ) → Option (List Command) → Type 0
+AreCommands lines (Some commands) = (lines ≡ map command_text commands) × AllByRecursion IsCommand commands
+AreCommands lines None = (before : List (List ℕ)) × (line : List ℕ) × (behind : List (List ℕ)) × (lines ≡ before ++ line ∷ behind) × IsNoCommand line
+
+-- the lines of a batch up to here
+pub record IsBegunBy (lines : List (List ℕ)) (begun : Begun) : Type 0 where
+  pub count : ℕ
+  pub others : List (List ℕ)
+  pub may : IsBatchCount count
+  pub come : lines ≡ batch_text count ∷ others
+  pub commands : AreCommands others begun.1
+  pub missing : length others + begun.0 ≡ count
+  pub some : 1 ≤ begun.0
+
+-- these lines are held: those of a batch of which some are missing, or none
+abbrev pub IsHeld : List (List ℕ) → Option Begun → Type 0
+IsHeld lines None = lines ≡ []
+IsHeld lines (Some begun) = IsBegunBy lines begun
+
+-- what lines come to: they are held where some are missing; else they are a request
+abbrev pub ComesTo : List (List ℕ) → Option Request → Option Begun → Type 0
+ComesTo lines None held = IsHeld lines held
+ComesTo lines (Some request) held = IsRequestOf lines request × (held ≡ None)

@@ -2,7 +2,7 @@
 use Rattle.std.specs.Prelude.{ℕ, List, [], ◌∷◌, ◌++◌, length, codes, decimal}
 use Rattle.jup_window.specs.Boards.{Windows}
 use Rattle.jup_text.specs.Boards.{board_text}
-use Rattle.jup_text.specs.Edits.{edit_text}
+use Rattle.jup_text.specs.Edits.{edits_text}
 use Rattle.jup_star.specs.StarCalls.{BoardStar}
 use Rattle.jup_rules.specs.declared.client_state.Told.{Told}
 use Rattle.jup_rules.specs.declared.client_state.Told.TheVariants.{Site, Made, Refused, Synced, Board, Bye, BadCommand}
@@ -18,7 +18,7 @@ numbered word number = word ++ 32 ∷ decimal number
 -- what a client prints to tell its user, and the board where it was asked for
 abbrev pub told_text : Told → Windows → List ℕ
 told_text (Site number) board = line_of (numbered (codes "site") number)
-told_text (Made edit) board = codes "made " ++ line_of (edit_text edit)
+told_text (Made edits) board = codes "made " ++ line_of (edits_text edits)
 told_text (Refused number) board = line_of (numbered (codes "refused") number)
 told_text Synced board = line_of (codes "synced")
 told_text Board board = board_text board

@@ -1,51 +1,22 @@
 //! What a client makes of its user's requests, and of the lines that its server sends.
 ghost use Rattle.std.specs.Prelude.{◌≡◌, IfOk};
-ghost use Rattle.jup_rules.specs.Requests.{IsRequestOf};
-ghost use Rattle.jup_rules.specs.Clients.{greeting_in, board_line_in, refusal_of, edit_answer, sync_answer, after_sync, IsOpened, Answers, Hears};
+ghost use Rattle.jup_rules.specs.Clients.{greeting_in, board_line_in, refusal_of, edit_answer, sync_answer, after_sync, down_in, IsOpened, Answers, Hears, Delivers};
 
-use crate::{ClientEnd, SessionFault, down_of, line_of_up};
-use jup_link::Msg;
-use jup_seq::SeqOp;
-use jup_star::{Down, Made, Site};
-use jup_text::read_command;
-use jup_value::Label;
-use jup_window::{BoardOp, Command, Edit, EditFault, WidgetOp};
+use crate::{ClientEnd, Request, Said, SessionFault};
+use jup_batch::BoardEdits;
+use jup_gather::{Gather, Gathered};
+use jup_star::{Down, Made, Site, Up};
+use jup_window::EditFault;
 use jup_wire::{Line, board_of};
 use std::alloc::Global;
-use std::marker::PhantomData;
-
-/// What a user asks for.
-#[derive(Clone, Copy)]
-pub enum Request {
-    Edit(Command),
-    Sync,
-    Show,
-    Quit,
-    /// A line that is none of these.
-    Bad,
-}
-
-/// What a line of commands asks for.
-pub fn request_of(line: &[u8]) -> Request
-    ensures { IsRequestOf line.now result }
-{
-    match line {
-        b"sync" => Request::Sync,
-        b"show" => Request::Show,
-        b"quit" => Request::Quit,
-        line => match read_command(line) {
-            Some(command) => Request::Edit(command),
-            None => Request::Bad,
-        },
-    }
-}
 
 /// What a client tells its user.
-#[derive(Clone, Copy)]
+#[derive(Drop)]
 pub enum Told {
     /// The number of its site.
     Site(u32),
-    Made(Edit),
+    /// What was made of an edit.
+    Made(BoardEdits),
     /// The number of the fault that an edit was refused for.
     Refused(u32),
     Synced,
@@ -55,24 +26,26 @@ pub enum Told {
     BadCommand,
 }
 
-/// What a client does for a request: it sends a line, if there is one, and then tells its user.
+/// What a client does for a request: it says this to its server, if anything, and then tells its user.
 #[derive(Drop)]
 pub struct Answer {
-    pub line: Option<Line>,
+    pub said: Option<Said>,
     pub told: Told,
 }
 
-/// What a client does for a line of its server: it sends a line, if there is one. `is_synced` where the line answers its last ping.
+/// What a client does for a line of its server: it says this, if anything. `is_synced` where the line answers its last ping.
 #[derive(Drop)]
 pub struct Heard {
-    pub line: Option<Line>,
+    pub said: Option<Said>,
     pub is_synced: bool,
 }
 
-/// A client beside its link: its site, and the number of its last ping, from 1; 0 where it sent none.
+/// A client beside its link: its site, the lines that it holds of a message of its server, and the number of its
+/// last ping, from 1; 0 where it sent none.
 #[derive(Drop)]
 pub struct ClientState {
     pub site: Site,
+    pub gather: Gather,
     pub pings: u32,
 }
 
@@ -88,21 +61,28 @@ impl ClientState {
     {
         let board = board_of(alloc, board)?;
         let site = Site::open(alloc, site, limit, board)?;
-        Ok(ClientState { site, pings: 0 })
+        Ok(ClientState {
+            site,
+            gather: Gather::new(),
+            pings: 0,
+        })
     }
 
     /// Does what its user asks for. A sync is over once [`hear`](ClientState::hear) says so.
     pub fn answer(&mut self, alloc: Global, request: &Request) -> Result<Answer, ClientEnd>
         ensures { Answers request.now self.old result self.new }
     {
-        let (line, told) = match request {
+        let (said, told) = match request {
             Request::Edit(command) => return edit_answer(self.site.edit(alloc, command)),
+            Request::Batch(commands) => {
+                return edit_answer(self.site.edit_batch(alloc, commands.as_slice()));
+            }
             Request::Sync => return self.sync_answer(),
             Request::Show => (None, Told::Board),
-            Request::Quit => (Some(Line::Bye), Told::Bye),
+            Request::Quit => (Some(Said::Bye), Told::Bye),
             Request::Bad => (None, Told::BadCommand),
         };
-        Ok(Answer { line, told })
+        Ok(Answer { said, told })
     }
 
     // Asks the server for all that it has.
@@ -115,28 +95,49 @@ impl ClientState {
         };
         self.pings = count;
         Ok(Answer {
-            line: Some(Line::Ping(count)),
+            said: Some(Said::Up(Up::Ping(count))),
             told: Told::Synced,
         })
     }
 
-    /// Hears a line of the server, behind the line `ready`.
+    /// Hears a line of the server, behind the line `ready`. A message of several lines is delivered by its last.
     pub fn hear(&mut self, alloc: Global, line: &Line) -> Result<Heard, ClientEnd>
         ensures { Hears line.now self.old result self.new }
     {
-        // Types that a line holds, named so that the borrow checker knows of them.
-        let _of: PhantomData<(SeqOp<Label>, WidgetOp, BoardOp, Msg<BoardOp>)> = PhantomData;
-        let Some(down) = down_of(line) else {
-            return Err(refusal_of(line));
-        };
-        let line = match self.site.deliver(alloc, &down)? {
-            Some(owed) => Some(line_of_up(owed)),
-            None => None,
-        };
+        let gathered = self.gather.push(alloc, line)?;
+        match down_in(gathered)? {
+            Some(down) => self.deliver(alloc, &down),
+            None => Ok(Heard {
+                said: None,
+                is_synced: false,
+            }),
+        }
+    }
+
+    // Delivers a message, and acknowledges it where that is owed.
+    fn deliver(&mut self, alloc: Global, down: &Down) -> Result<Heard, ClientEnd>
+        ensures delivers { Delivers down.now self.old result self.new }
+        ensures held { self.new.gather ≡ self.old.gather }
+    {
+        let owed = self.site.deliver(alloc, down)?;
         Ok(Heard {
-            line,
-            is_synced: matches!(down, Down::Pong(count) if count == self.pings),
+            said: owed.map(Said::Up),
+            is_synced: matches!(down, Down::Pong(count) if *count == self.pings),
         })
+    }
+}
+
+// The message to a site that lines come to; none where they are held.
+fn down_in(gathered: Gathered) -> Result<Option<Down>, ClientEnd>
+    ensures { result ≡ down_in gathered }
+{
+    match gathered {
+        Gathered::Held => Ok(None),
+        Gathered::Whole(msg) => Ok(Some(Down::Op(msg))),
+        Gathered::Plain(Line::Ack(count)) => Ok(Some(Down::Ack(count))),
+        Gathered::Plain(Line::Pong(number)) => Ok(Some(Down::Pong(number))),
+        Gathered::Plain(line) => Err(refusal_of(&line)),
+        Gathered::Misplaced => Err(SessionFault::Misplaced.into()),
     }
 }
 
@@ -178,12 +179,12 @@ fn edit_answer(outcome: Result<Made, EditFault>) -> Result<Answer, ClientEnd>
 {
     match outcome {
         Ok(made) => Ok(Answer {
-            line: Some(line_of_up(made.up)),
+            said: Some(Said::Up(made.up)),
             told: Told::Made(made.edit),
         }),
         Err(EditFault::NoMemory) => Err(ClientEnd::NoMemory),
         Err(fault) => Ok(Answer {
-            line: None,
+            said: None,
             told: Told::Refused(fault.number()),
         }),
     }

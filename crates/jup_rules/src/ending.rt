@@ -1,9 +1,11 @@
 //! How a session ends.
-ghost use Rattle.std.specs.Prelude.{◌≡◌};
+ghost use Rattle.std.specs.Prelude.{◌≡◌, ◌≢◌, [], Some, IsSomeAnd};
+ghost use Rattle.jup_rules.specs.declared.faults.SessionFault.{SessionFault};
 ghost use Rattle.jup_rules.specs.Endings.{last_line, standing, ending_of, ended_by};
 
 use crate::SessionFault;
-use jup_wire::Line;
+use jup_gather::Gather;
+use jup_wire::{Line, WireFault};
 
 /// How a session ended.
 #[derive(Clone, Copy, Debug, PartialEq, Eq)]
@@ -24,6 +26,19 @@ impl Ending {
         match self {
             Ending::Bye | Ending::Gone => Line::Bye,
             Ending::Fault(number) => Line::Error(number),
+        }
+    }
+
+    /// How a session ends where no further line of its site comes, and these lines are held of a message: the
+    /// site is gone only where its bytes end between messages.
+    pub fn behind(gather: &Gather, stop: Stop) -> Ending
+        ensures early { stop ≡ Stop.End → IsSomeAnd gather.now (λ part. part ≢ []) → result ≡ Ending.Fault 43 }
+        ensures gone { stop ≡ Stop.End → gather.now ≡ Some [] → result ≡ Ending.Gone }
+        ensures fault { (fault : SessionFault) → stop ≡ Stop.Fault fault → result ≡ ending_of fault }
+    {
+        match stop {
+            Stop::End if gather.part() => Ending::Fault(WireFault::EarlyEnd.number()),
+            stop => stop.into(),
         }
     }
 

@@ -2,6 +2,8 @@
 //! exit status, and what a command line asks for. Nothing here reads or writes.
 #![tactic(auto)]
 
+mod asking;
+mod batch_part;
 mod batches;
 mod client_end;
 mod client_state;
@@ -13,21 +15,24 @@ mod no_words;
 mod opening;
 mod patience;
 mod pongs;
+mod request;
+mod said;
 mod telling;
 mod words;
 
+pub use asking::Asking;
 pub use batches::{BATCH, is_last_batch};
 pub use client_end::ClientEnd;
-pub use client_state::{
-    Answer, ClientState, Heard, Request, Told, board_line_in, greeting_in, request_of,
-};
+pub use client_state::{Answer, ClientState, Heard, Told, board_line_in, greeting_in};
 pub use daemon_end::DaemonEnd;
 pub use ending::{Ending, Stop};
 pub use faults::SessionFault;
-pub use messages::{down_of, line_of_down, line_of_up, up_of};
+pub use messages::{hear_site, put_down, put_said};
 pub use no_words::without_words;
 pub use opening::star_of_layout;
 pub use patience::next_wait;
 pub use pongs::Pongs;
+pub use request::Request;
+pub use said::Said;
 pub use telling::{report_text, told_text};
 pub use words::{DaemonWords, client_words, daemon_words};

@@ -1,67 +1,70 @@
-//! The messages of a link as lines, and lines as messages.
-ghost use Rattle.std.specs.Prelude.{◌≡◌, Some};
-ghost use Rattle.jup_rules.specs.Messages.{up_of, down_of, up_line, down_line};
+//! What a link brings, and the lines of what is sent by it.
+ghost use Rattle.std.specs.Prelude.{◌≡◌, List, [], ◌∷◌, ◌++◌, OnOk, IfOk, IfErr};
+ghost use Rattle.std.specs.Option.{option_to_list};
+ghost use Rattle.jup_wire.specs.declared.line.Line.{Line};
+ghost use Rattle.jup_gather.specs.Pieces.{piece_lines};
+ghost use Rattle.jup_rules.specs.declared.said.Said.{Said};
+ghost use Rattle.jup_rules.specs.Messages.{said_piece, down_piece, IsSaidBy, HasSaid, IsRefused};
 
-use jup_link::Msg;
+use crate::{Said, SessionFault};
+use jup_gather::{Gather, Gathered, put_op};
 use jup_star::{Down, Up};
-use jup_window::BoardOp;
-use jup_wire::Line;
+use jup_wire::{Line, LineSink};
+use std::alloc::Global;
 
-/// What a line of a site has for the star.
-pub fn up_of(line: &Line) -> Option<Up>
-    ensures { result ≡ up_of line.now }
+/// Hears the next line of a site behind its greeting, and answers what the site says by the lines up to it;
+/// nothing where lines of a message are missing. Refused are a line that is misplaced, and one that no site
+/// says.
+pub fn hear_site(
+    gather: &mut Gather,
+    alloc: Global,
+    line: &Line,
+) -> Result<Option<Said>, SessionFault>
+    // Whatever came before: what was said so far is what all the lines so far say.
+    ensures said { IfOk result (λ said. (lines : List Line) (saids : List Said)
+        → HasSaid lines saids gather.old
+        → HasSaid (lines ++ line.now ∷ []) (saids ++ option_to_list said) gather.new) }
+    ensures refused { IfErr result (λ fault. IsRefused fault gather.old line.now gather.new) }
 {
-    match line {
-        Line::Op(msg) => Some(Up::Op(copy_of(msg))),
-        Line::Ack(count) => Some(Up::Ack(*count)),
-        Line::Ping(count) => Some(Up::Ping(*count)),
-        _ => None,
+    match gather.push(alloc, line) {
+        Ok(gathered) => said_by(gathered),
+        Err(_) => Err(SessionFault::NoMemory),
     }
 }
 
-/// What a line of the star has for a site.
-pub fn down_of(line: &Line) -> Option<Down>
-    ensures { result ≡ down_of line.now }
+// What a site says by what its lines come to.
+fn said_by(gathered: Gathered) -> Result<Option<Said>, SessionFault>
+    ensures { IsSaidBy gathered result }
 {
-    match line {
-        Line::Op(msg) => Some(Down::Op(copy_of(msg))),
-        Line::Ack(count) => Some(Down::Ack(*count)),
-        Line::Pong(count) => Some(Down::Pong(*count)),
-        _ => None,
+    match gathered {
+        Gathered::Held => Ok(None),
+        Gathered::Whole(msg) => Ok(Some(Said::Up(Up::Op(msg)))),
+        Gathered::Plain(Line::Ack(count)) => Ok(Some(Said::Up(Up::Ack(count)))),
+        Gathered::Plain(Line::Ping(number)) => Ok(Some(Said::Up(Up::Ping(number)))),
+        Gathered::Plain(Line::Bye) => Ok(Some(Said::Bye)),
+        Gathered::Plain(_) | Gathered::Misplaced => Err(SessionFault::Misplaced),
     }
 }
 
-/// The line of a message to the star: the star finds that message in it.
-pub fn line_of_up(up: Up) -> Line
-    ensures found { up_of result ≡ Some up }
-    ensures line { result ≡ up_line up }
+/// Puts the lines of what a site says.
+pub fn put_said<S: LineSink>(sink: &mut S, said: &Said) -> Result<(), S::Fault>
+    ensures { OnOk result (S.takes sink.old (piece_lines (said_piece said.now)) sink.new) }
 {
-    match up {
-        Up::Op(msg) => Line::Op(msg),
-        Up::Ack(count) => Line::Ack(count),
-        Up::Ping(count) => Line::Ping(count),
+    match said {
+        Said::Up(Up::Op(msg)) => put_op(sink, msg),
+        Said::Up(Up::Ack(count)) => sink.put(Line::Ack(*count)),
+        Said::Up(Up::Ping(number)) => sink.put(Line::Ping(*number)),
+        Said::Bye => sink.put(Line::Bye),
     }
 }
 
-/// The line of a message to a site: the site finds that message in it.
-pub fn line_of_down(down: Down) -> Line
-    ensures found { down_of result ≡ Some down }
-    ensures line { result ≡ down_line down }
+/// Puts the lines of a message to a site.
+pub fn put_down<S: LineSink>(sink: &mut S, down: &Down) -> Result<(), S::Fault>
+    ensures { OnOk result (S.takes sink.old (piece_lines (down_piece down.now)) sink.new) }
 {
     match down {
-        Down::Op(msg) => Line::Op(msg),
-        Down::Ack(count) => Line::Ack(count),
-        Down::Pong(count) => Line::Pong(count),
-    }
-}
-
-// A copy of a message. It takes no memory.
-fn copy_of(msg: &Msg<BoardOp>) -> Msg<BoardOp>
-    ensures { result ≡ msg.now }
-{
-    Msg {
-        mine: msg.mine,
-        heard: msg.heard,
-        op: msg.op,
+        Down::Op(msg) => put_op(sink, msg),
+        Down::Ack(count) => sink.put(Line::Ack(*count)),
+        Down::Pong(number) => sink.put(Line::Pong(*number)),
     }
 }

@@ -16,9 +16,9 @@ pub fn told_text(alloc: Global, told: &Told, board: &Board) -> Result<Vec<u8>, N
     let mut text = Vec::new(alloc);
     match told {
         Told::Site(number) => append_number(alloc, "site", *number as usize, &mut text)?,
-        Told::Made(edit) => {
+        Told::Made(edits) => {
             append(b"made ", &mut text)?;
-            write_edit(alloc, edit, &mut text)?;
+            write_edit(alloc, edits, &mut text)?;
             append(b"\n", &mut text)?;
         }
         Told::Refused(number) => append_number(alloc, "refused", *number as usize, &mut text)?,

@@ -1,16 +1,14 @@
 -- What the calls of a session come to.
-use Rattle.std.proofs.Common.{◌≡◌, ℕ, ◌⊎◌, inl, inr, Bool, true, false, List, [], ◌∷◌, ◌++◌, length, Result, Ok, Err, MatchBool, refl, sym, ap, ◌∙◌, subst}
+use Rattle.std.proofs.Common.{◌≡◌, ℕ, ◌⊎◌, inl, inr, Bool, true, false, List, [], ◌∷◌, ◌++◌, Result, Ok, Err, MatchBool, refl, sym, ap, ◌∙◌, subst}
 use Rattle.std.proofs.lemmas.List.{append_assoc, append-nil}
 use Rattle.jup_star.specs.StarCalls.{BoardStar, is_no_memory, bare_joined}
 use Rattle.jup_star.specs.declared.star.Joined.{Joined as JoinedSite}
 use Rattle.jup_star.specs.declared.faults.StarFault.{StarFault}
 use Rattle.jup_star.specs.declared.faults.StarFault.TheVariants.{NoLink}
-use Rattle.jup_star.specs.declared.messages.Down.{Down}
-use Rattle.jup_window.specs.declared.board_operations.BoardOp.{BoardOp}
 use Rattle.jup_star.specs.declared.calls.Call.{Call}
-use Rattle.jup_star.specs.declared.calls.Call.TheVariants.{Join, Take, Fetch, Leave}
+use Rattle.jup_star.specs.declared.calls.Call.TheVariants.{Join, Fetch, Leave}
 use Rattle.jup_star.specs.declared.calls.Reply.{Reply}
-use Rattle.jup_star.specs.declared.calls.Reply.TheVariants.{Joined, Taken, Fetched, Left}
+use Rattle.jup_star.specs.declared.calls.Reply.TheVariants.{Joined, Fetched, Left}
 use Rattle.jup_hub.specs.declared.fault.HubFault.{HubFault}
 use Rattle.jup_hub.specs.declared.fault.HubFault.TheVariants.{Star, Spent}
 use Rattle.jup_hub.specs.declared.view.Entry.{Entry}
@@ -20,7 +18,7 @@ use Rattle.jup_hub.specs.Faults.{is_out_of_memory}
 use Rattle.jup_hub.specs.Histories.{entry}
 use Rattle.jup_hub.specs.Knowledge.{tally, tallies, after_split, split_from, joined_with, having_seen, Called, ComesToAsk, IsSpent}
 use Rattle.jup_hub.specs.Passes.{Made}
-use Rattle.jup_session.specs.Sessions.{IsCallFor, AreCallsFor, AreTalliesFor, HasLeft, IsFull, SomeLeft, FollowsJoin, IsOneSite, IsSession, Serves, Leaves, HasMadeNone, HasServed, IsJoinOf, Joins, BothServe}
+use Rattle.jup_session.specs.Sessions.{IsCallFor, AreCallsFor, AreTalliesFor, HasLeft, IsFull, SomeLeft, FollowsJoin, IsSession, Serves, Leaves, HasMadeNone, HasServed, IsJoinOf, Joins, BothServe}
 
 -- calls for a site, and more of them
 more_calls : (site : ℕ) (xs ys : List Entry) → AreCallsFor site xs → AreCallsFor site ys → AreCallsFor site (xs ++ ys)

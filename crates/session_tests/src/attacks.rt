@@ -21,9 +21,9 @@ const DESK: &str = "window 1\ntext 1\nchar 0.1 72\nchar 0.2 105\n\
 
 const BEFORE: &str = "ins 1 1 2 char \"!\"\nsync\n";
 
-const DELETION: &str = "op 0 0 1 1 text del 0 0.1\nping 1\n";
+const DELETION: &str = "batch 0 0 1\ndo 1 1 text del 0 0.1\nping 1\n";
 
-const FORGERY: &str = "op 1 0 1 1 text ins 0 1.2 120\n";
+const FORGERY: &str = "batch 1 0 1\ndo 1 1 text ins 0 1.2 120\n";
 
 const AFTER: &str = "ins 1 1 0 char \">\"\nsync\nshow\nquit\n";
 
@@ -42,7 +42,7 @@ fn attack<R: Net<Listener = TcpListener, Stream = TcpStream> + Clock>(
 ) -> io::Result<()> {
     let stream = linked(rt, ADDR)?;
     let mut to = &stream;
-    to.write_all(b"hello 2\n")?;
+    to.write_all(b"hello 3\n")?;
     read_to(&stream, b"ready\n", heard)?;
     to.write_all(DELETION.as_bytes())?;
     read_to(&stream, b"pong 1\n", heard)?;

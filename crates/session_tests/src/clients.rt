@@ -12,13 +12,13 @@ const GREETED: &str = "welcome 1 100\nwindow 1\ntext 1\ntoggle 3 off\nready\n";
 
 // What a client sent, what it printed, and how it ended.
 #[derive(Drop)]
-struct Ran {
+pub(crate) struct Ran {
     to: Vec<u8>,
     out: Vec<u8>,
     end: Result<(), ClientEnd>,
 }
 
-fn run(alloc: Global, commands: &[u8], from: &[u8]) -> Ran {
+pub(crate) fn run(alloc: Global, commands: &[u8], from: &[u8]) -> Ran {
     let mut to = Vec::new(alloc);
     let mut out = Vec::new(alloc);
     let end = run_client(alloc, commands, &mut out, from, &mut to);
@@ -26,7 +26,7 @@ fn run(alloc: Global, commands: &[u8], from: &[u8]) -> Ran {
 }
 
 // It ended well, and sent and printed this.
-fn ended_well(rt: &impl Abort, ran: &Ran, sent: &str, printed: &str) {
+pub(crate) fn ended_well(rt: &impl Abort, ran: &Ran, sent: &str, printed: &str) {
     assert_eq!(rt; ran.end, Ok(()));
     assert_eq!(rt; str::from_utf8(ran.to.as_slice()), Ok(sent));
     assert_eq!(rt; str::from_utf8(ran.out.as_slice()), Ok(printed));
@@ -48,7 +48,7 @@ fn a_client_over_memory(rt: HostRuntime) {
     ended_well(
         &rt,
         &ran,
-        "hello 2\nop 0 0 1 1 text ins 0 1.1 97\nping 1\nbye\n",
+        "hello 3\nbatch 0 0 1\ndo 1 1 text ins 0 1.1 97\nping 1\nbye\n",
         "site 1\nmade ins 1 1 1.1 \"a\"\nsynced\nwindow 1\ntext 1 \"a\"\nbye\n",
     );
 }
@@ -64,7 +64,7 @@ fn commands_that_make_no_edit(rt: HostRuntime) {
     ended_well(
         &rt,
         &ran,
-        "hello 2\nop 0 0 1 3 toggle set on\nbye\n",
+        "hello 3\nbatch 0 0 1\ndo 1 3 toggle set on\nbye\n",
         "site 1\nbad command\nbad command\nbad command\nrefused 4\nrefused 3\n\
         made set 1 3 on\nrefused 1\nwindow 1\ntext 1 \"\"\ntoggle 3 on\nbye\n",
     );
@@ -76,12 +76,12 @@ fn of_two_relabels_the_own_stands_at_the_client(rt: HostRuntime) {
         rt.alloc(),
         b"rel 1 2 0 \"jam\"\nrel 1 2 1 \"tea\"\nsync\nshow\nquit\n",
         b"welcome 1 100\nwindow 1\nlist 2\nitem 0.1 tea\nready\n\
-        op 0 0 1 2 list rel 0 0.1 milk\npong 1\n",
+        batch 0 0 1\ndo 1 2 list rel 0 0.1 milk\npong 1\n",
     );
     ended_well(
         &rt,
         &ran,
-        "hello 2\nop 0 0 1 2 list rel 0 0.1 jam\nping 1\nbye\n",
+        "hello 3\nbatch 0 0 1\ndo 1 2 list rel 0 0.1 jam\nping 1\nbye\n",
         "site 1\nmade rel 1 2 0.1 \"jam\"\nrefused 4\nsynced\nwindow 1\nlist 2 \"jam\"\nbye\n",
     );
 }
@@ -110,7 +110,7 @@ fn a_command_that_is_too_long(rt: HostRuntime) {
     ended_well(
         &rt,
         &ran,
-        "hello 2\nping 1\nbye\n",
+        "hello 3\nping 1\nbye\n",
         "site 1\nbad command\nsynced\nbye\n",
     );
 }
@@ -118,13 +118,13 @@ fn a_command_that_is_too_long(rt: HostRuntime) {
 #[test]
 fn the_64th_edit_is_acknowledged(rt: HostRuntime) {
     let alloc = rt.alloc();
-    let setting = "op # 0 1 3 toggle set on";
+    let setting = "batch # 0 1\ndo 1 3 toggle set on";
     let from = lines(&rt, alloc, GREETED, setting, 0..64, "pong 1\npong 2\n");
     let ran = run(alloc, b"sync\nshow\nsync\n", from.as_bytes());
     ended_well(
         &rt,
         &ran,
-        "hello 2\nping 1\nack 64\nping 2\nbye\n",
+        "hello 3\nping 1\nack 64\nping 2\nbye\n",
         "site 1\nsynced\nwindow 1\ntext 1 \"\"\ntoggle 3 on\nsynced\nbye\n",
     );
 }
@@ -147,7 +147,7 @@ fn servers_that_greet_wrongly(rt: HostRuntime) {
         ("error 30\n", 30),
         ("ready\n", 44),
         ("welcom\n", 40),
-        ("hello 1\n", 42),
+        ("hello 2\n", 42),
         ("", 43),
         ("welcome 1 100\nwindow 1\n", 43),
         ("welcome 1 100\nerror 8\n", 8),
@@ -164,7 +164,7 @@ fn servers_that_greet_wrongly(rt: HostRuntime) {
         ended_in_fault(&rt, &ran, number, "");
         assert_eq!(rt;
             str::from_utf8(ran.to.as_slice()),
-            Ok("hello 2\n"),
+            Ok("hello 3\n"),
             "{from}"
         );
     }
@@ -179,11 +179,14 @@ fn servers_that_answer_wrongly(rt: HostRuntime) {
         ("bye\n", 44),
         ("ping 1\n", 44),
         ("error 32\n", 32),
-        ("op 1 0 1 3 toggle set on\n", 20),
+        ("batch 1 0 1\ndo 1 3 toggle set on\n", 20),
         ("ack 1\n", 21),
-        ("op 0 0 1 1 text ins 0 1.1 97\n", 22),
-        ("op 0 0 1 1 text ins 9 2.1 97\n", 23),
-        ("op 0 0 1 1 text rel 0 0.1 97\n", 40),
+        ("batch 0 0 1\ndo 1 1 text ins 0 1.1 97\n", 22),
+        ("batch 0 0 1\ndo 1 1 text ins 9 2.1 97\n", 23),
+        ("batch 0 0 1\ndo 1 1 text rel 0 0.1 97\n", 40),
+        ("batch 0 0 2\ndo 1 3 toggle set on\npong 1\n", 44),
+        ("batch 0 0 2\ndo 1 3 toggle set on\n", 43),
+        ("do 1 3 toggle set on\n", 44),
     ] {
         let from = greeted_and(&rt, alloc, answer);
         let ran = run(alloc, b"sync\nquit\n", from.as_bytes());
@@ -242,7 +245,8 @@ fn reads_and_writes_that_fail(rt: HostRuntime) {
     assert_eq!(rt; end_unprinted(alloc), Err(ClientEnd::WriteFailed));
 }
 
-const PRINTED: &str = "site 1\nmade ins 1 1 1.1 \"a\"\nsynced\nwindow 1\ntext 1 \"a\"\nbye\n";
+const PRINTED: &str = "site 1\nmade ins 1 1 1.1 \"a\"\nmade ins 1 1 1.2 \"b\"; del 1 1 1.1\n\
+    synced\nwindow 1\ntext 1 \"b\"\nbye\n";
 
 // Run this with each allocation refused in turn: the client says so, or did all that was asked for.
 #[test]
@@ -254,7 +258,8 @@ fn a_client_that_lacks_memory_says_so(rt: HostRuntime) {
     ) else {
         return;
     };
-    let commands: &[u8] = b"ins 1 1 0 char \"a\"\nsync\nshow\nquit\n";
+    let commands: &[u8] = b"ins 1 1 0 char \"a\"\nbatch 2\nins 1 1 1 char \"b\"\ndel 1 1 0\n\
+        sync\nshow\nquit\n";
     let from: &[u8] = b"welcome 1 100\nwindow 1\ntext 1\nready\npong 1\n";
     let end = run_client(alloc, commands, &mut out, from, &mut to);
     if end.is_ok() {

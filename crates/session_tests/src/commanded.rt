@@ -25,8 +25,20 @@ fn only_its_own_pong_ends_a_sync(rt: HostRuntime) {
         rt.alloc(),
         b"sync\nshow\n",
         b"welcome 1 100\nwindow 1\ntoggle 3 off\nready\n\
-        pong 0\npong 2\nop 0 0 1 3 toggle set on\npong 1\n",
+        pong 0\npong 2\nbatch 0 0 1\ndo 1 3 toggle set on\npong 1\n",
         "site 1\nsynced\nwindow 1\ntoggle 3 on\nbye\n",
+    );
+}
+
+#[test]
+fn all_operations_of_a_message_are_shown_at_once(rt: HostRuntime) {
+    printed(
+        &rt,
+        rt.alloc(),
+        b"sync\nshow\n",
+        b"welcome 1 100\nwindow 1\ntext 1\ntoggle 3 off\nready\n\
+        batch 0 0 2\ndo 1 1 text ins 0 2.1 120\ndo 1 3 toggle set on\npong 1\n",
+        "site 1\nsynced\nwindow 1\ntext 1 \"x\"\ntoggle 3 on\nbye\n",
     );
 }
 
@@ -83,7 +95,7 @@ fn a_client_flushes_what_it_sends_and_prints(rt: HostRuntime) {
     assert_eq!(rt; end, Ok(()));
     assert_eq!(rt;
         str::from_utf8(sent.as_slice()),
-        Ok("hello 2\nop 0 0 1 3 toggle set on\nbye\n")
+        Ok("hello 3\nbatch 0 0 1\ndo 1 3 toggle set on\nbye\n")
     );
     assert_eq!(rt;
         str::from_utf8(out.as_slice()),

@@ -6,6 +6,8 @@ ghost use Rattle.std.specs.Prelude.{◌≡◌};
 #[cfg(test)]
 mod attacks;
 #[cfg(test)]
+mod batched;
+#[cfg(test)]
 mod clients;
 #[cfg(test)]
 mod commanded;

@@ -14,6 +14,7 @@ use jup_text::write_board;
 use jup_value::{Item, Name};
 use jup_window::{BoardOp, WidgetOp};
 use jup_wire::layout;
+use jup_xform::{Batch, NoMemory};
 use std::alloc::Global;
 use std::io::Read;
 use std::process::Abort;
@@ -108,7 +109,7 @@ fn ended(rt: &impl Abort, left: &Left, ending: Ending, written: &str) {
     assert_eq!(rt; str::from_utf8(left.written.as_slice()), Ok(written));
 }
 
-pub(crate) const TYPED: &[u8] = b"hello 2\nop 0 0 1 1 text ins 0 1.1 97\nping 7\nbye\n";
+pub(crate) const TYPED: &[u8] = b"hello 3\nbatch 0 0 1\ndo 1 1 text ins 0 1.1 97\nping 7\nbye\n";
 
 pub(crate) const TYPED_ANSWER: &str = "welcome 1 100\nwindow 1\ntext 1\nready\npong 7\nbye\n";
 
@@ -138,7 +139,7 @@ fn a_session_of_single_bytes(rt: HostRuntime) {
 
 // A line behind the greeting that ends the session in a fault, with nothing taken.
 fn is_refused<R: Threads + Wait + Sync + Abort>(rt: &R, alloc: Global, line: &str, number: u32) {
-    let from = format!(in alloc; "hello 2\n{line}").expect(rt, "there is memory");
+    let from = format!(in alloc; "hello 3\n{line}").expect(rt, "there is memory");
     let written = format!(in alloc; "{GREETING}error {number}\n").expect(rt, "there is memory");
     let left = ran(rt, alloc, from.as_bytes(), &Open);
     ended(rt, &left, Ending::Fault(number), written.as_str());
@@ -149,25 +150,70 @@ fn is_refused<R: Threads + Wait + Sync + Abort>(rt: &R, alloc: Global, line: &st
 #[test]
 fn faults_behind_the_greeting(rt: HostRuntime) {
     for (line, number) in [
-        ("op 1 0 1 1 text ins 0 1.1 97\n", 20),
-        ("op 0 5 1 1 text ins 0 1.1 97\n", 21),
+        ("batch 1 0 1\ndo 1 1 text ins 0 1.1 97\n", 20),
+        ("batch 0 5 1\ndo 1 1 text ins 0 1.1 97\n", 21),
         ("ack 1\n", 21),
-        ("op 0 0 1 1 text ins 0 2.1 97\n", 22),
-        ("op 0 0 1 1 text ins 99 1.1 97\n", 23),
-        ("op 0 0 1 1 text no\n", 24),
-        ("op 00 0 1 1 text no\n", 40),
-        ("op 0 0 1 1 text rel 0 0.1 97\n", 40),
+        ("batch 0 0 1\ndo 1 1 text ins 0 2.1 97\n", 22),
+        ("batch 0 0 1\ndo 1 1 text ins 99 1.1 97\n", 23),
+        ("batch 0 0 1\ndo 1 1 text no\n", 24),
+        ("batch 00 0 1\n", 40),
+        ("batch 0 0 0\n", 40),
+        ("batch 0 0 33\n", 40),
+        ("op 0 0 1 1 text ins 0 1.1 97\n", 40),
+        ("batch 0 0 1\ndo 1 1 text rel 0 0.1 97\n", 40),
         ("pi", 43),
         ("welcome 1 100\n", 44),
-        ("hello 2\n", 44),
+        ("hello 3\n", 44),
     ] {
         is_refused(&rt, rt.alloc(), line, number);
     }
 }
 
+// Of a message that is not whole nothing is taken, though each of its operations would fit by itself.
+#[test]
+fn messages_that_are_not_whole(rt: HostRuntime) {
+    for (line, number) in [
+        ("do 1 1 text ins 0 1.1 88\n", 44),
+        ("batch 0 0 2\ndo 1 1 text ins 0 1.1 88\nping 1\n", 44),
+        ("batch 0 0 2\ndo 1 1 text ins 0 1.1 88\nbye\n", 44),
+        ("batch 0 0 2\ndo 1 1 text ins 0 1.1 88\nbatch 0 0 1\n", 44),
+        ("batch 0 0 2\ndo 1 1 text ins 0 1.1 88\n", 43),
+        ("batch 0 0 2\ndo 1 1 text ins 0 1.1 88\ndo 1 1", 43),
+        ("batch 0 0 1\n", 43),
+        ("batch 0 0 2\ndo 1 1 text ins 0 1.1 88\ndo 1\n", 40),
+        (
+            "batch 0 0 2\ndo 1 1 text ins 0 1.1 88\ndo 1 1 text del 1 0.1\n",
+            23,
+        ),
+    ] {
+        is_refused(&rt, rt.alloc(), line, number);
+    }
+}
+
+// Two insertions that are one edit.
+const PAIR: &[u8] =
+    b"hello 3\nbatch 0 0 2\ndo 1 1 text ins 0 1.1 97\ndo 1 1 text ins 1 1.2 98\nbye\n";
+
+#[test]
+fn operations_of_one_message_are_one_edit(rt: HostRuntime) {
+    let gate = Counting::new(1);
+    let from = OneByOne {
+        text: PAIR,
+        is_next: false,
+    };
+    let left = ran(&rt, rt.alloc(), from, &gate);
+    ended(&rt, &left, Ending::Bye, CUT_ANSWER);
+    assert_eq!(rt;
+        str::from_utf8(left.board.as_slice()),
+        Ok("window 1\ntext 1 \"ab\"\n")
+    );
+    assert_eq!(rt; left.taken, 1);
+    assert_eq!(rt; gate.told.load(Ordering::SeqCst), 1);
+}
+
 #[test]
 fn a_line_of_300_bytes(rt: HostRuntime) {
-    let greeting: &[u8] = b"hello 2\n";
+    let greeting: &[u8] = b"hello 3\n";
     let long = [b'x'; 300];
     let left = ran(&rt, rt.alloc(), greeting.chain(long.as_slice()), &Open);
     ended(
@@ -181,8 +227,9 @@ fn a_line_of_300_bytes(rt: HostRuntime) {
 #[test]
 fn sessions_that_do_not_join(rt: HostRuntime) {
     for (from, written, ending) in [
-        ("hello 1\n", "error 42\n", Ending::Fault(42)),
+        ("hello 2\n", "error 42\n", Ending::Fault(42)),
         ("ping 1\n", "error 44\n", Ending::Fault(44)),
+        ("batch 0 0 1\n", "error 44\n", Ending::Fault(44)),
         ("hello 02\n", "error 40\n", Ending::Fault(40)),
         ("hel", "error 43\n", Ending::Fault(43)),
         ("", "bye\n", Ending::Gone),
@@ -194,7 +241,7 @@ fn sessions_that_do_not_join(rt: HostRuntime) {
 
 #[test]
 fn a_site_that_just_ends(rt: HostRuntime) {
-    let from: &[u8] = b"hello 2\nping 4\n";
+    let from: &[u8] = b"hello 3\nping 4\n";
     let left = ran(&rt, rt.alloc(), from, &Open);
     ended(
         &rt,
@@ -208,7 +255,7 @@ fn a_site_that_just_ends(rt: HostRuntime) {
 fn all_that_waits_is_written_before_bye(rt: HostRuntime) {
     let alloc = rt.alloc();
     // More than three fetches bring.
-    let from = lines(&rt, alloc, "hello 2\n", "ping #", 0..200, "bye\n");
+    let from = lines(&rt, alloc, "hello 3\n", "ping #", 0..200, "bye\n");
     let written = lines(&rt, alloc, GREETING, "pong #", 0..200, "bye\n");
     let left = ran(&rt, alloc, from.as_bytes(), &Open);
     ended(&rt, &left, Ending::Bye, written.as_str());
@@ -243,7 +290,7 @@ fn read_while_slow<R: Threads + Wait + Clock + Sync + Abort>(
 #[test]
 fn a_site_is_owed_at_most_1024_pongs(rt: HostRuntime) {
     let alloc = rt.alloc();
-    let from = lines(&rt, alloc, "hello 2\n", "ping #", 0..3_000, "bye\n");
+    let from = lines(&rt, alloc, "hello 3\n", "ping #", 0..3_000, "bye\n");
     let answer = lines(&rt, alloc, GREETING, "pong #", 0..3_000, "bye\n");
     let mut written = Vec::new(alloc);
     let read = read_while_slow(&rt, alloc, from.as_bytes(), &mut written);
@@ -265,7 +312,7 @@ impl<'a, R: Wait> Read for LeftBy<'a, R> {
     fn read(&mut self, buf: &mut [u8]) -> io::Result<usize> {
         self.reads = self.reads.saturating_add(1);
         let mut text: &[u8] = match self.reads {
-            1 => b"hello 2\n",
+            1 => b"hello 3\n",
             2 => {
                 let _ = self.hub.leave(self.rt, &mut self.pass, 1);
                 b"ping 1\n"
@@ -295,19 +342,17 @@ fn another_pass_leaves_for_the_site(rt: HostRuntime) {
 const TOGGLE: &[u8] = b"window 1\ntoggle 3 off\n";
 
 // The setting of a number, with none of the other's heard.
-const SETTING: &str = "op # 0 1 3 toggle set on";
+const SETTING: &str = "batch # 0 1\ndo 1 3 toggle set on";
 
 // A site's setting of the toggle, before it heard anything.
-fn setting(mine: u32) -> Up {
-    Up::Op(Msg {
-        mine,
-        heard: 0,
-        op: BoardOp {
-            win: 1,
-            wid: 3,
-            op: WidgetOp::Toggle(SetOp::Set(true)),
-        },
-    })
+fn setting(alloc: Global, mine: u32) -> Result<Up, NoMemory> {
+    let op = BoardOp {
+        win: 1,
+        wid: 3,
+        op: WidgetOp::Toggle(SetOp::Set(true)),
+    };
+    let op = Batch::from_slice(alloc, &[op])?;
+    Ok(Up::Op(Msg { mine, heard: 0, op }))
 }
 
 /// Greets. Then site 1 sets the toggle 65 times, and after that the lines come.
@@ -326,13 +371,14 @@ impl<'a, R: Wait> Read for Crossing<'a, R> {
     fn read(&mut self, buf: &mut [u8]) -> io::Result<usize> {
         self.reads = self.reads.saturating_add(1);
         if self.reads == 1 {
-            let mut hello: &[u8] = b"hello 2\n";
+            let mut hello: &[u8] = b"hello 3\n";
             return hello.read(buf);
         }
         if self.reads == 2 {
             for mine in 0..65 {
-                let up = setting(mine);
-                let _ = self.hub.take(self.rt, self.alloc, &mut self.pass, 1, &up);
+                if let Ok(up) = setting(self.alloc, mine) {
+                    let _ = self.hub.take(self.rt, self.alloc, &mut self.pass, 1, &up);
+                }
             }
         }
         self.lines.read(buf)
@@ -370,7 +416,7 @@ fn the_64th_edit_is_acknowledged_each_way(rt: HostRuntime) {
 
 #[test]
 fn the_read_behind_the_greeting_fails(rt: HostRuntime) {
-    let from = FailsAfter { text: b"hello 2\n" };
+    let from = FailsAfter { text: b"hello 3\n" };
     let left = ran(&rt, rt.alloc(), from, &Open);
     ended(
         &rt,
@@ -391,18 +437,19 @@ fn the_first_read_fails(rt: HostRuntime) {
 }
 
 // The first edit of a site, an insertion into the text.
-fn first_edit(site: u32) -> Up {
+fn first_edit(alloc: Global, site: u32) -> Result<Up, NoMemory> {
     let name = Name { site, number: 1 };
     let item = Item { name, value: 'b' };
-    Up::Op(Msg {
+    let op = BoardOp {
+        win: 1,
+        wid: 1,
+        op: WidgetOp::Text(SeqOp::Insert { place: 0, item }),
+    };
+    Ok(Up::Op(Msg {
         mine: 0,
         heard: 0,
-        op: BoardOp {
-            win: 1,
-            wid: 1,
-            op: WidgetOp::Text(SeqOp::Insert { place: 0, item }),
-        },
-    })
+        op: Batch::from_slice(alloc, &[op])?,
+    }))
 }
 
 // The second session of a hub, whose writer fails at a write. The other site stays.
@@ -415,12 +462,10 @@ fn write_fails<R: Threads + Wait + Sync + Abort>(rt: &R, alloc: Global, writes: 
         writes,
         text: &mut text,
     };
-    let from: &[u8] = b"hello 2\nping 7\nbye\n";
+    let from: &[u8] = b"hello 3\nping 7\nbye\n";
     let (mut pass, ending) = serve_link(rt, alloc, from, to, &hub, pass, &Bell::new(), &Open);
-    assert_eq!(rt;
-        hub.take(rt, alloc, &mut pass, 1, &first_edit(1)),
-        Ok(Some(0))
-    );
+    let edit = first_edit(alloc, 1).expect(rt, "one operation takes no memory");
+    assert_eq!(rt; hub.take(rt, alloc, &mut pass, 1, &edit), Ok(Some(0)));
     let star = closed(rt, hub, pass);
     assert_eq!(rt; star.waiting(2), None);
     assert_eq!(rt; star.waiting(1), Some(0));
@@ -490,7 +535,7 @@ fn a_full_order(rt: HostRuntime) {
         alloc,
         &hub,
         pass,
-        b"hello 2\nop 0 0 1 1 text ins 0 1.1 97\nop 1 0 1 1 text ins 0 1.2 97\nbye\n",
+        b"hello 3\nbatch 0 0 1\ndo 1 1 text ins 0 1.1 97\nbatch 1 0 1\ndo 1 1 text ins 0 1.2 97\nbye\n",
         Ending::Fault(32),
         "welcome 1 1\nwindow 1\ntext 1\nready\nerror 32\n",
     );
@@ -508,7 +553,7 @@ fn a_full_star(rt: HostRuntime) {
         alloc,
         &hub,
         pass,
-        b"hello 2\nbye\n",
+        b"hello 3\nbye\n",
         Ending::Fault(30),
         "error 30\n",
     );
@@ -528,7 +573,7 @@ fn a_board_that_takes_many_writes(rt: HostRuntime) {
     assert!(rt; board.len() < 100_000);
     let (hub, pass) = opened(&rt, alloc, board.as_bytes(), 100);
     let written = format!(in alloc; "welcome 1 100\n{board}ready\nbye\n").expect(&rt, "memory");
-    let from: &[u8] = b"hello 2\nbye\n";
+    let from: &[u8] = b"hello 3\nbye\n";
     served(&rt, alloc, &hub, pass, from, Ending::Bye, written.as_str());
 }
 

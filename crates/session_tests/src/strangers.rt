@@ -56,7 +56,7 @@ fn listens<R: Net<Listener = TcpListener, Stream = TcpStream> + Clock>(
 ) -> io::Result<u8> {
     let stream = linked(rt, addr)?;
     let mut to = &stream;
-    to.write_all(b"hello 2\n")?;
+    to.write_all(b"hello 3\n")?;
     read_to(&stream, b"ready\n", heard)?;
     let told = connect(rt, alloc, words, b"ins 1 1 0 char \"a\"\nsync\n");
     to.write_all(b"ping 5\nbye\n")?;
@@ -86,7 +86,7 @@ fn an_edit_is_told_to_the_other_link(rt: HostRuntime) {
         &rt,
         heard.as_slice(),
         "welcome 1 100\nwindow 1\ntext 1\nready\n\
-        op 0 0 1 1 text ins 0 2.1 97\npong 5\nbye\n",
+        batch 0 0 1\ndo 1 1 text ins 0 2.1 97\npong 5\nbye\n",
     );
     printed(
         &rt,
@@ -105,7 +105,7 @@ fn fills<R: Net<Listener = TcpListener, Stream = TcpStream> + Clock>(
 ) -> io::Result<Told> {
     let stream = linked(rt, addr)?;
     let mut to = &stream;
-    to.write_all(b"hello 2\nop 0 0 1 1 text ins 0 1.1 97\nping 1\n")?;
+    to.write_all(b"hello 3\nbatch 0 0 1\ndo 1 1 text ins 0 1.1 97\nping 1\n")?;
     let mut heard = Vec::new(alloc);
     read_to(&stream, b"pong 1\n", &mut heard)?;
     let told = connect(rt, alloc, words, b"ins 1 1 0 char \"b\"\nsync\nshow\n");
@@ -147,7 +147,7 @@ fn strays<R: Net<Listener = TcpListener, Stream = TcpStream> + Clock>(
     heard: &mut Vec<u8>,
 ) -> io::Result<()> {
     let mut text = Vec::new(alloc);
-    text.extend_from_slice(b"hello 2\nwhat\n")?;
+    text.extend_from_slice(b"hello 3\nwhat\n")?;
     for _ in 0..10_000 {
         text.extend_from_slice(b"ping 1\n")?;
     }
@@ -195,11 +195,11 @@ fn among_strays<R: Net<Listener = TcpListener, Stream = TcpStream> + Clock>(
     out: &mut Vec<u8>,
 ) -> io::Result<u8> {
     let endless = [b'x'; 300];
-    let garbage = sends(rt, addr, b"hello 2\n\xff\xfe\n")?;
+    let garbage = sends(rt, addr, b"hello 3\n\xff\xfe\n")?;
     let unended = sends(rt, addr, endless.as_slice())?;
-    let silent = sends(rt, addr, b"hello 2\n")?;
-    drop(sends(rt, addr, b"hello 2\nop 0 0 1 1 te")?);
-    drop(sends(rt, addr, b"hello 2\nping 1\n")?);
+    let silent = sends(rt, addr, b"hello 3\n")?;
+    drop(sends(rt, addr, b"hello 3\nbatch 0 0 1\ndo 1 1 te")?);
+    drop(sends(rt, addr, b"hello 3\nping 1\n")?);
     let mut errors = Vec::new(alloc);
     let commands: &[u8] = b"ins 1 1 0 char \"a\"\nsync\nshow\n";
     let status = client_main(rt, alloc, words, commands, out, &mut errors);

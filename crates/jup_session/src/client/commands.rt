@@ -2,7 +2,8 @@
 ghost use Rattle.std.specs.Prelude.{◌≤◌};
 
 use crate::sessions::source::{MOST_READS, is_interrupted};
-use jup_rules::{ClientEnd, Request, SessionFault, request_of};
+use jup_rules::{Asking, ClientEnd, Request, SessionFault};
+use jup_xform::NoMemory;
 use std::alloc::Global;
 use std::io::Read;
 
@@ -12,7 +13,7 @@ const LONGEST: usize = 4_096;
 /// Bytes that one read asks for.
 const PIECE: usize = 4_096;
 
-/// Where requests come from.
+/// Where requests come from: lines, of which a batch has several.
 #[derive(Drop)]
 pub(crate) struct Requests<C: Read + Drop> {
     from: C,
@@ -24,6 +25,8 @@ pub(crate) struct Requests<C: Read + Drop> {
     is_long: bool,
     // Whether the input has ended: then it is not read again, which a terminal would wait for.
     is_over: bool,
+    // The lines of a batch that has begun.
+    asking: Asking,
 }
 
 impl<C: Read + Drop> Requests<C> {
@@ -35,19 +38,37 @@ impl<C: Read + Drop> Requests<C> {
             line: Vec::new(alloc),
             is_long: false,
             is_over: false,
+            asking: Asking::new(),
         }
     }
 
     /// The next one: `Quit` at the end of the input. A last line needs no line feed.
-    pub(crate) fn next_request(&mut self, reads: &mut u32) -> Result<Request, ClientEnd> {
+    pub(crate) fn next_request(
+        &mut self,
+        alloc: Global,
+        reads: &mut u32,
+    ) -> Result<Request, ClientEnd> {
+        for _ in 0..u64::MAX {
+            if !self.next_line(reads)? {
+                return Ok(self.asking.end());
+            }
+            if let Some(request) = self.request(alloc)? {
+                return Ok(request);
+            }
+        }
+        Err(SessionFault::ReadsSpent.into())
+    }
+
+    // Reads the next line. False at the end of the input.
+    fn next_line(&mut self, reads: &mut u32) -> Result<bool, ClientEnd> {
         self.line.clear();
         self.is_long = false;
         for _ in 0..u64::MAX {
             if self.fill_line()? {
-                return Ok(self.request());
+                return Ok(true);
             }
             if self.is_over {
-                return Ok(self.last_request());
+                return Ok(self.is_long || !self.line.is_empty());
             }
             self.read(reads)?;
         }
@@ -96,21 +117,12 @@ impl<C: Read + Drop> Requests<C> {
         }
     }
 
-    // What the end of the input asks for: what its last line does, where that has no line feed.
-    fn last_request(&self) -> Request {
-        if self.is_long || !self.line.is_empty() {
-            self.request()
-        } else {
-            Request::Quit
-        }
-    }
-
-    // What the line asks for.
-    fn request(&self) -> Request {
+    // What the lines up to this one ask for, if none is missing. A line that is too long is read as an empty one,
+    // which is no command either.
+    fn request(&mut self, alloc: Global) -> Result<Option<Request>, NoMemory> {
         if self.is_long {
-            Request::Bad
-        } else {
-            request_of(self.line.as_slice())
+            self.line.clear();
         }
+        self.asking.push(alloc, self.line.as_slice())
     }
 }

@@ -3,10 +3,9 @@
 use super::commands::Requests;
 use crate::sessions::output::Output;
 use crate::sessions::source::Source;
-use jup_link::Msg;
 use jup_rules::{
-    Answer, ClientEnd, ClientState, Request, SessionFault, Told, board_line_in, greeting_in,
-    told_text,
+    Answer, ClientEnd, ClientState, Request, Said, SessionFault, Told, board_line_in, greeting_in,
+    put_said, told_text,
 };
 use jup_seq::SeqOp;
 use jup_value::Label;
@@ -42,10 +41,10 @@ impl<F: Read + Drop, T: Write + Drop> Client<F, T> {
         })
     }
 
-    // Sends a line, if there is one.
-    fn send(&mut self, line: Option<Line>) -> Result<(), ClientEnd> {
-        if let Some(line) = line {
-            self.output.put(line)?;
+    // Says this to the server, if anything.
+    fn say(&mut self, said: Option<Said>) -> Result<(), ClientEnd> {
+        if let Some(said) = said {
+            put_said(&mut self.output, &said)?;
             self.output.send()?;
         }
         Ok(())
@@ -56,7 +55,7 @@ impl<F: Read + Drop, T: Write + Drop> Client<F, T> {
         for _ in 0..u64::MAX {
             let line = self.source.next_line(alloc)?;
             let heard = self.state.hear(alloc, line)?;
-            self.send(heard.line)?;
+            self.say(heard.said)?;
             if heard.is_synced {
                 return Ok(());
             }
@@ -71,9 +70,9 @@ impl<F: Read + Drop, T: Write + Drop> Client<F, T> {
         request: &Request,
         out: &mut O,
     ) -> Result<(), ClientEnd> {
-        let Answer { line, told } = self.state.answer(alloc, request)?;
+        let Answer { said, told } = self.state.answer(alloc, request)?;
         let text = told_text(alloc, &told, self.state.site.board())?;
-        self.send(line)?;
+        self.say(said)?;
         if matches!(request, Request::Sync) {
             self.sync(alloc)?;
         }
@@ -95,7 +94,7 @@ pub fn run_client<C: Read + Drop, O: Write, F: Read + Drop, T: Write + Drop>(
     print(out, text.as_slice())?;
     let mut requests = Requests::new(alloc, commands);
     for _ in 0..u64::MAX {
-        let request = requests.next_request(&mut client.source.reads)?;
+        let request = requests.next_request(alloc, &mut client.source.reads)?;
         client.answer(alloc, &request, out)?;
         if matches!(request, Request::Quit) {
             return Ok(());
@@ -110,7 +109,7 @@ fn read_board<F: Read + Drop>(
     source: &mut Source<F>,
 ) -> Result<Vec<Line>, ClientEnd> {
     // Types that a line holds, named so that the borrow checker knows of them.
-    let _of: PhantomData<(SeqOp<Label>, WidgetOp, BoardOp, Msg<BoardOp>)> = PhantomData;
+    let _of: PhantomData<(SeqOp<Label>, WidgetOp, BoardOp)> = PhantomData;
     let mut lines = Vec::new(alloc);
     for _ in 0..u64::MAX {
         let Some(line) = board_line_in(source.next_line(alloc)?)? else {

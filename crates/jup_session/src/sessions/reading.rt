@@ -6,10 +6,10 @@ ghost use Rattle.jup_session.specs.Sessions.{Serves};
 use super::link::Link;
 use super::source::Source;
 use crate::{Gate, pass_gate};
+use jup_gather::Gather;
 use jup_hub::{HubFault, Pass};
-use jup_rules::{Ending, SessionFault, up_of};
+use jup_rules::{Ending, Said, SessionFault, hear_site};
 use jup_star::{StarFault, Up};
-use jup_wire::Line;
 use std::io::Read;
 use std::sync::Wait;
 
@@ -33,8 +33,8 @@ pub(crate) fn read_half<R: Wait, I: Read + Drop, G: Gate>(
     link.ring(rt);
 }
 
-// Takes line after line. Where the link is gone already the other half has noted why, or the site has left by
-// another pass.
+// Takes message after message, each once its last line is there. Where the link is gone already the other half
+// has noted why, or the site has left by another pass.
 fn heard<R: Wait, I: Read + Drop, G: Gate>(
     rt: &R,
     source: &mut Source<I>,
@@ -46,15 +46,18 @@ fn heard<R: Wait, I: Read + Drop, G: Gate>(
     ensures pass { IsPassOf link.now.hub.now pass.new }
     ensures serves { Serves link.now.site (view_of pass.old) (view_of pass.new) }
 {
+    let mut gather = Gather::new();
     let mut edits = 0u32;
     for _ in 0..u64::MAX {
-        let up = match source.next_line(link.alloc) {
-            Ok(Line::Bye) => return Ending::Bye,
-            Ok(line) => up_of(line),
-            Err(stop) => return stop.into(),
+        let line = match source.next_line(link.alloc) {
+            Ok(line) => line,
+            Err(stop) => return Ending::behind(&gather, stop),
         };
-        let Some(up) = up else {
-            return SessionFault::Misplaced.into();
+        let up = match hear_site(&mut gather, link.alloc, line) {
+            Ok(None) => continue,
+            Ok(Some(Said::Up(up))) => up,
+            Ok(Some(Said::Bye)) => return Ending::Bye,
+            Err(fault) => return fault.into(),
         };
         match taken(rt, link, pass, gate, &up, &mut edits) {
             Ok(()) => ring(rt, link, &up),

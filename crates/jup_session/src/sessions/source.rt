@@ -1,7 +1,6 @@
 //! The lines of a link, read piece by piece.
 ghost use Rattle.std.specs.Prelude.{◌≤◌};
 
-use jup_link::Msg;
 use jup_rules::{SessionFault, Stop};
 use jup_seq::SeqOp;
 use jup_value::Label;
@@ -30,7 +29,7 @@ pub(crate) struct Source<I: Read + Drop> {
     fed: Option<Fed>,
     given: usize,
     // The checker learns of the types within a line from a field that names them.
-    within: PhantomData<(SeqOp<Label>, WidgetOp, BoardOp, Msg<BoardOp>, Line)>,
+    within: PhantomData<(SeqOp<Label>, WidgetOp, BoardOp, Line)>,
 }
 
 impl<I: Read + Drop> Source<I> {

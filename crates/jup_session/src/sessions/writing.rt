@@ -8,7 +8,7 @@ ghost use Rattle.jup_session.specs.Sessions.{Serves, Leaves, HasMadeNone, HasSer
 use super::link::Link;
 use super::output::Output;
 use jup_hub::{HubFault, Pass};
-use jup_rules::{BATCH, Ending, SessionFault, is_last_batch, line_of_down};
+use jup_rules::{BATCH, Ending, SessionFault, is_last_batch, put_down};
 use jup_star::{Down, Downs, StarFault};
 use jup_wire::LineSink;
 use std::io::Write;
@@ -135,7 +135,7 @@ fn write_downs<O: Write + Drop>(output: &mut Output<O>, downs: Downs) -> Result<
         if matches!(down, Down::Pong(_)) {
             pongs = pongs.saturating_add(1);
         }
-        output.put(line_of_down(down))?;
+        put_down(output, &down)?;
     }
     output.send()?;
     Ok(pongs)

@@ -1,0 +1,12 @@
+//! What a site says.
+
+use jup_star::Up;
+
+/// What a site says by its link, behind its greeting.
+#[derive(Debug, Drop, PartialEq, Eq)]
+pub enum Said {
+    /// A message to the star.
+    Up(Up),
+    /// Nothing more comes.
+    Bye,
+}

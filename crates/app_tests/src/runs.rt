@@ -101,8 +101,8 @@ pub(crate) fn agree(end: &RunEnd) -> bool {
 fn tells_the_order(end: &SiteEnd, order: &[Entry]) -> bool {
     let site = end.site.number();
     let own = order.iter().filter(|entry| entry.site == site);
-    own.map(|entry| Ok(entry.edit))
-        .eq(end.replies.iter().copied())
+    let told = end.replies.iter().map(|reply| reply.as_ref().ok());
+    own.map(|entry| Some(&entry.edit)).eq(told)
 }
 
 // The number of the refusal, or 0.

@@ -3,19 +3,17 @@ use Rattle.std.proofs.Common.{◌≡◌, ℕ, zero, suc, ◌+◌, ◌-◌, ◌<�
 use Rattle.std.proofs.Math.Dec.{eqb}
 use Rattle.std.proofs.lemmas.List.{get_or_default}
 use native.Mathlib.Decide.{dec_le}
-use Rattle.jup_window.specs.declared.board_operations.BoardOp.{BoardOp}
+use Rattle.jup_batch.specs.BatchBoards.{BoardBatch, BoardEdits, Commands, Windows, content, meaning}
 use Rattle.jup_window.specs.declared.commands.Command.{Command}
-use Rattle.jup_window.specs.declared.edits.Edit.{Edit}
 use Rattle.jup_window.specs.declared.faults.EditFault.{EditFault}
-use Rattle.jup_window.specs.Boards.{Windows, content, meaning}
-use Rattle.jup_window.specs.BoardOperations.{board_operations}
-use Rattle.jup_window.specs.BoardsAreLawful.{board_laws}
+use Rattle.jup_batch.specs.BoardBatches.{board_batches}
+use Rattle.jup_batch.specs.BoardBatches.{batch_laws}
 use Rattle.jup_star.specs.declared.messages.Entry.{Entry as OrderEntry}
 use Rattle.jup_star.specs.declared.messages.Up.TheVariants as up
 use Rattle.jup_star.specs.declared.faults.StarFault.{StarFault}
 use Rattle.jup_star.specs.declared.calls.Call.{Call}
 use Rattle.jup_star.specs.declared.calls.Call.TheVariants.{Join, Take, Fetch, Leave}
-use Rattle.jup_star.specs.StarStates.{link_of, opened_star, join_fault, take_fault, taken, most_items}
+use Rattle.jup_star.specs.StarStates.{link_of, opened_star, join_fault, take_fault, taken, most_batches}
 use Rattle.jup_star.specs.StarCalls.{BoardStar, BoardLink, after_join, after_take, after_fetch, after_leave, star_after, reply_of}
 use Rattle.jup_star.specs.declared.calls.Reply.TheVariants as reply
 use Rattle.jup_hub.specs.declared.view.Entry.{Entry}
@@ -43,21 +41,21 @@ use Rattle.jup_app.proofs.Whole.{opened_reached, star_through-append, legal_appe
 
 -- # What a site made
 
-abbrev pub made_of : List (Command × EditAnswer) → List Edit
+abbrev pub made_of : List (Commands × EditAnswer) → List BoardEdits
 made_of [] = []
 made_of ((c, Ok e) ∷ es) = e ∷ made_of es
 made_of ((c, Err n) ∷ es) = made_of es
 
-made_of-append : (xs ys : List (Command × EditAnswer)) → made_of (xs ++ ys) ≡ made_of xs ++ made_of ys
+made_of-append : (xs ys : List (Commands × EditAnswer)) → made_of (xs ++ ys) ≡ made_of xs ++ made_of ys
 made_of-append [] ys = refl
 made_of-append ((c, Ok e) ∷ xs) ys = ap (λ es. e ∷ es) (made_of-append xs ys)
 made_of-append ((c, Err n) ∷ xs) ys = made_of-append xs ys
 
-made_one : (b : Bool) (c : Command) (e : Edit) → cond b (e ∷ []) [] ≡ made_of (cond b ((c, Ok e) ∷ []) [])
+made_one : (b : Bool) (c : Commands) (e : BoardEdits) → cond b (e ∷ []) [] ≡ made_of (cond b ((c, Ok e) ∷ []) [])
 made_one true c e = refl
 made_one false c e = refl
 
-refused_one : (b : Bool) (c : Command) (n : ℕ) → [] ≡ made_of (cond b ((c, Err n) ∷ []) [])
+refused_one : (b : Bool) (c : Commands) (n : ℕ) → [] ≡ made_of (cond b ((c, Err n) ∷ []) [])
 refused_one true c n = refl
 refused_one false c n = refl
 
@@ -80,21 +78,21 @@ made_there i (event.Up j) r = refl
 made_there i (event.Down j) r = refl
 made_there i (event.Ping j k) r = refl
 
-made_is : (i : ℕ) (hs : List (Happened Command Edit ℕ)) → made i hs ≡ made_of (edits_at i hs)
+made_is : (i : ℕ) (hs : List (Happened Commands BoardEdits ℕ)) → made i hs ≡ made_of (edits_at i hs)
 made_is i [] = refl
 made_is i (h ∷ hs) = ap (λ es. es ++ made i hs) (made_there i h.event h.reply) ∙ ap (λ es. made_of (edit_at i h.event h.reply) ++ es) (made_is i hs) ∙ sym (made_of-append (edit_at i h.event h.reply) (edits_at i hs))
 
-abbrev pub made_by : List EditAnswer → List Edit
+abbrev pub made_by : List EditAnswer → List BoardEdits
 made_by [] = []
 made_by (Ok e ∷ rs) = e ∷ made_by rs
 made_by (Err n ∷ rs) = made_by rs
 
-made_of-answers : (es : List (Command × EditAnswer)) → made_of es ≡ made_by (map (λ (e : Command × EditAnswer). e.1) es)
+made_of-answers : (es : List (Commands × EditAnswer)) → made_of es ≡ made_by (map (λ (e : Commands × EditAnswer). e.1) es)
 made_of-answers [] = refl
 made_of-answers ((c, Ok e) ∷ es) = ap (λ ks. e ∷ ks) (made_of-answers es)
 made_of-answers ((c, Err n) ∷ es) = made_of-answers es
 
-made_by-answered : (rs : List (Result Edit EditFault)) → made_by (map answered rs) ≡ accepted rs
+made_by-answered : (rs : List (Result BoardEdits EditFault)) → made_by (map answered rs) ≡ accepted rs
 made_by-answered [] = refl
 made_by-answered (Ok e ∷ rs) = ap (λ es. e ∷ es) (made_by-answered rs)
 made_by-answered (Err f ∷ rs) = made_by-answered rs
@@ -103,13 +101,13 @@ made_by-answered (Err f ∷ rs) = made_by-answered rs
 
 -- each entry is of one of the first n sites
 abbrev pub OrderWithin : ℕ → BoardStar → Type 0
-OrderWithin n s = Each (λ (e : OrderEntry Edit). IsSite n e.site) s.order
+OrderWithin n s = Each (λ (e : OrderEntry BoardEdits). IsSite n e.site) s.order
 
-order_snoc : (n : ℕ) (xs : List (OrderEntry Edit)) (x : OrderEntry Edit) → Each (λ (e : OrderEntry Edit). IsSite n e.site) xs → IsSite n x.site → Each (λ (e : OrderEntry Edit). IsSite n e.site) (xs ++ x ∷ [])
+order_snoc : (n : ℕ) (xs : List (OrderEntry BoardEdits)) (x : OrderEntry BoardEdits) → Each (λ (e : OrderEntry BoardEdits). IsSite n e.site) xs → IsSite n x.site → Each (λ (e : OrderEntry BoardEdits). IsSite n e.site) (xs ++ x ∷ [])
 order_snoc n [] x all one = (one, tt)
 order_snoc n (y ∷ xs) x all one = (all.0, order_snoc n xs x all.1 one)
 
-taken_order : (n i : ℕ) (u : BoardUp) (l : BoardLink) (s : BoardStar) → IsSite n i → OrderWithin n s → OrderWithin n (taken board_operations i u l s)
+taken_order : (n i : ℕ) (u : BoardUp) (l : BoardLink) (s : BoardStar) → IsSite n i → OrderWithin n s → OrderWithin n (taken board_batches i u l s)
 taken_order n i (up.Op m) l s site all = order_snoc n s.order _ all site
 taken_order n i (up.Ack k) l s site all = all
 taken_order n i (up.Ping k) l s site all = all
@@ -118,9 +116,9 @@ taken_order n i (up.Ping k) l s site all = all
 one_call : (n : ℕ) (c : Call) (s : BoardStar) → IsSite n (site_of c) → OrderWithin n s → OrderWithin n (star_after c s) × ((star_after c s).given ≡ s.given)
 unfolding star_after
 one_call n Join s site all = absurd (omega arith)
-one_call n (Take i u) s site all = go (link_of i s.links) (take_fault board_operations s u (link_of i s.links))
+one_call n (Take i u) s site all = go (link_of i s.links) (take_fault board_batches s u (link_of i s.links))
   where
-    same : (u : BoardUp) (l : BoardLink) → (taken board_operations i u l s).given ≡ s.given
+    same : (u : BoardUp) (l : BoardLink) → (taken board_batches i u l s).given ≡ s.given
     same (up.Op m) l = refl
     same (up.Ack k) l = refl
     same (up.Ping k) l = refl
@@ -172,19 +170,19 @@ one_of (x ∷ xs) some = x
 
 module _ (board : Windows) (limit n : ℕ) (scripts : List (List Command)) (star : BoardStar) (ends : List SiteEnd) (fit : IsOpening board) (low : limit ≤ 16777216) (is : IsRunOf board limit n scripts star ends) where
   reached : IsReached (assembled_world board limit n is.logs is.later)
-  reached = reached_more (opened_world board_operations board limit) (joins n ++ assembled n is.logs is.later) (opened_reached board limit fit low)
+  reached = reached_more (opened_world board_batches board limit) (joins n ++ assembled n is.logs is.later) (opened_reached board limit fit low)
 
-  sound : IsSound board_operations most_items (assembled_world board limit n is.logs is.later)
+  sound : IsSound board_batches most_batches (assembled_world board limit n is.logs is.later)
   sound = (reached_sound (assembled_world board limit n is.logs is.later) reached).sound
 
-  promised : Promises board_operations (assembled_world board limit n is.logs is.later)
-  promised = sound-promises board_operations board_laws most_items (assembled_world board limit n is.logs is.later) sound
+  promised : Promises board_batches (assembled_world board limit n is.logs is.later)
+  promised = sound-promises board_batches batch_laws most_batches (assembled_world board limit n is.logs is.later) sound
 
   numbers : (OrderWithin n star) × (star.given ≤ n)
   numbers =
       let s0 : BoardStar = opened_star board limit in
       let first = all_joins is.joined s0 is.all_join in
-      let none : OrderWithin n (star_through s0 is.joined) = subst (λ (es : List (OrderEntry Edit)). Each (λ (e : OrderEntry Edit). IsSite n e.site) es) (sym first.0) tt in
+      let none : OrderWithin n (star_through s0 is.joined) = subst (λ (es : List (OrderEntry BoardEdits)). Each (λ (e : OrderEntry BoardEdits). IsSite n e.site) es) (sym first.0) tt in
       let both = all_calls n is.later (star_through s0 is.joined) is.sited none in
       let whole : star_through (star_through s0 is.joined) is.later ≡ star = sym (star_through-append s0 is.joined is.later) ∙ is.after in
       let given : star.given ≡ (star_through s0 is.joined).given = ap (λ (t : BoardStar). t.given) (sym whole) ∙ both.1 in
@@ -194,8 +192,8 @@ module _ (board : Windows) (limit n : ℕ) (scripts : List (List Command)) (star
   is_one : (i : ℕ) (l : BoardLink) (a : BoardAttached) → link_of i (assembled_world board limit n is.logs is.later).star.links ≡ Some l → attached i (assembled_world board limit n is.logs is.later).sites ≡ Some a → IsSite n i
   is_one i l a fl fa =
       let w : BoardWorld = assembled_world board limit n is.logs is.later in
-      let stands = subst (λ q. StandsAt board_operations most_items (board_operations.t.content w.opening) (turns i w.star.order) w.star.board (made i w.trace) (joined_at i w.trace) (shown_count i w.trace) i (Some l) q) fa
-      (subst (λ o. StandsAt board_operations most_items (board_operations.t.content w.opening) (turns i w.star.order) w.star.board (made i w.trace) (joined_at i w.trace) (shown_count i w.trace) i o (attached i w.sites)) fl (sound.stand i)) in
+      let stands = subst (λ q. StandsAt board_batches most_batches (board_batches.t.content w.opening) (turns i w.star.order) w.star.board (made i w.trace) (joined_at i w.trace) (shown_count i w.trace) i (Some l) q) fa
+      (subst (λ o. StandsAt board_batches most_batches (board_batches.t.content w.opening) (turns i w.star.order) w.star.board (made i w.trace) (joined_at i w.trace) (shown_count i w.trace) i o (attached i w.sites)) fl (sound.stand i)) in
       let given : w.star.given ≡ star.given = ap (λ (t : BoardStar). t.given) is.star_is in
       let below : n < i → ⊥ = λ above. (let none : Some l ≡ None = sym fl ∙ sound.star.no_link i (omega (arith, given, numbers.1, above)) in absurd cc) in
       (stands.pair.positive, elim (dec_le i n) [ yes within ↦ within | no above ↦ absurd (below (omega arith)) ])
@@ -204,7 +202,7 @@ module _ (board : Windows) (limit n : ℕ) (scripts : List (List Command)) (star
   found : (k : ℕ) → k < n → (d : SiteEnd) × (attached (suc k) (assembled_world board limit n is.logs is.later).sites ≡ Some (link_with (get_or ends k d).site []))
   found k within = let d = one_of ends (omega (arith, within, is.count)) in (d, is.sites k d within)
 
-  quiet : IsQuiet board_operations (assembled_world board limit n is.logs is.later)
+  quiet : IsQuiet board_batches (assembled_world board limit n is.logs is.later)
   quiet i l a fl fa =
       let w : BoardWorld = assembled_world board limit n is.logs is.later in
       let site = is_one i l a fl fa in
@@ -219,9 +217,9 @@ module _ (board : Windows) (limit n : ℕ) (scripts : List (List Command)) (star
   order_is : order_of (assembled_world board limit n is.logs is.later).trace ≡ star.order
   order_is = sym promised.order ∙ ap (λ (t : BoardStar). t.order) is.star_is
 
-  opening_is : (es : List BoardEvent) (w : BoardWorld) → (run board_operations w es).opening ≡ w.opening
+  opening_is : (es : List BoardEvent) (w : BoardWorld) → (run board_batches w es).opening ≡ w.opening
   opening_is [] w = refl
-  opening_is (e ∷ es) w = opening_is es (happens board_operations w e)
+  opening_is (e ∷ es) w = opening_is es (happens board_batches w e)
 
   pub agrees : AllAgree board star ends
   agrees =
@@ -230,12 +228,12 @@ module _ (board : Windows) (limit n : ℕ) (scripts : List (List Command)) (star
         equal = λ k d within. let inside : k < n = omega (arith, within, is.count) in
             promised.equal quiet (suc k) (link_with (get_or ends k d).site []) (is.sites k d inside) ∙ ap (λ (t : BoardStar). t.board) is.star_is;
         content = ap (λ (t : BoardStar). content t.board) (sym is.star_is) ∙ promised.star_content
-            ∙ ap (λ (b : Windows). meaning (content b) (edits (turns 0 (order_of w.trace)))) (opening_is (joins n ++ assembled n is.logs is.later) (opened_world board_operations board limit))
+            ∙ ap (λ (b : Windows). meaning (content b) (edits (turns 0 (order_of w.trace)))) (opening_is (joins n ++ assembled n is.logs is.later) (opened_world board_batches board limit))
             ∙ ap (λ o. meaning (content board) (edits (turns 0 o))) order_is;
         own = λ k d within. let inside : k < n = omega (arith, within, is.count) in
             ap (λ o. own_edits (turns (suc k) o)) (sym order_is)
             ∙ promised.whole quiet (suc k) (link_with (get_or ends k d).site []) (is.sites k d inside)
             ∙ made_is (suc k) w.trace ∙ ap made_of (is.edits k inside) ∙ made_of-answers (edits_of (is.logs (suc k)))
             ∙ ap made_by (is.replies k d inside) ∙ made_by-answered (get_or ends k d).replies.items;
-        no_other = subst (λ m. Each (λ (e : OrderEntry Edit). IsSite m e.site) star.order) (sym is.count) numbers.0;
+        no_other = subst (λ m. Each (λ (e : OrderEntry BoardEdits). IsSite m e.site) star.order) (sym is.count) numbers.0;
       }

@@ -3,7 +3,7 @@ use Rattle.std.proofs.Common.{◌≡◌, ◌≢◌, ℕ, zero, suc, ◌+◌, ◌
 use Rattle.std.proofs.lemmas.List.{get_or_default, length-map}
 use Rattle.jup_window.specs.declared.commands.Command.{Command}
 use Rattle.jup_window.specs.declared.faults.EditFault.{EditFault}
-use Rattle.jup_window.specs.declared.edits.Edit.{Edit}
+use Rattle.jup_batch.specs.BatchBoards.{BoardEdits, Commands}
 use Rattle.jup_star.specs.SiteCalls.{BoardSite}
 use Rattle.jup_world.specs.Each.{Each}
 use Rattle.jup_hub.specs.declared.hub.Hub.{Hub}
@@ -17,7 +17,7 @@ use Rattle.jup_app.specs.declared.runs.threads.Job.{Job}
 use Rattle.jup_app.specs.declared.runs.player.Player.{Player}
 use Rattle.jup_app.specs.declared.runs.stop.Stop.{Stop}
 use Rattle.jup_app.specs.declared.runs.drain.SiteEnd.{SiteEnd}
-use Rattle.jup_app.specs.Runs.{EditAnswer, Made, made, Step, calls_of, edits_of, IsPlayed}
+use Rattle.jup_app.specs.Runs.{EditAnswer, Made, made, Step, calls_of, edits_of, singles, IsPlayed}
 use Rattle.jup_app.specs.Plays.{makes, link_with, answered, Played}
 use Rattle.jup_app.specs.Passing.{all_tallies, all_calls, end_of, IsSeated}
 use Rattle.jup_app.specs.Seating.{IsJob}
@@ -31,7 +31,7 @@ pub record RanBy (joined : List Entry) (site : BoardSite) (script : List Command
   pub kept : (view_of p.caller.pass).kept ≡ []
   pub not_yet : calls_by (view_of p.caller.pass).number joined ≡ []
   pub count : p.caller.calls ≡ length (view_of p.caller.pass).made
-  pub commands : map (λ e. e.0) (edits_of steps) ≡ script
+  pub commands : map (λ e. e.0) (edits_of steps) ≡ singles script
   pub answers : map (λ e. e.1) (edits_of steps) ≡ map answered p.replies.items
   pub played : IsPlayed (link_with site []) steps (link_with p.site [])
   pub number_is : p.site.number ≡ site.number
@@ -50,8 +50,8 @@ ran_by hub joined site script job p j r =
         kept = w.plays.kept ∙ seat.kept;
         not_yet = ap (λ n. calls_by n joined) w.plays.number ∙ seat.not_yet;
         count = w.count ∙ ap (λ n. n + length w.plays.calls) seat.count ∙ plus_zero (length w.plays.calls) ∙ ap (λ (es : List Entry). length es) (sym made_is);
-        commands = ap (λ es. map (λ (e : Command × EditAnswer). e.0) es) w.edits_are ∙ r.played.commands ∙ j.script_is;
-        answers = ap (λ es. map (λ (e : Command × EditAnswer). e.1) es) w.edits_are ∙ r.played.answers;
+        commands = ap (λ es. map (λ (e : Commands × EditAnswer). e.0) es) w.edits_are ∙ r.played.commands ∙ ap singles j.script_is;
+        answers = ap (λ es. map (λ (e : Commands × EditAnswer). e.1) es) w.edits_are ∙ r.played.answers;
         played = subst (λ s. IsPlayed (link_with s []) w.steps (link_with p.site [])) seat.site_is w.plays.played;
         number_is = played_number w.steps (link_with job.player.site []) (link_with p.site []) w.plays.played ∙ ap (λ (x : BoardSite). x.number) seat.site_is;
       },

@@ -1,7 +1,7 @@
 -- The joins at the head of a history, and those of the core.
 use Rattle.std.proofs.Common.{◌≡◌, ℕ, zero, suc, ◌+◌, ◌<◌, ◌≤◌, true, false, List, [], ◌∷◌, ◌++◌, map, length, get_or, Option, Some, None, Result, Ok, Err, refl, sym, ap, ◌∙◌, subst, arith, append-nil}
 use Rattle.std.proofs.lemmas.Bool.{eq-eqb}
-use Rattle.jup_window.specs.BoardOperations.{board_operations}
+use Rattle.jup_batch.specs.BoardBatches.{board_batches}
 use Rattle.jup_star.specs.declared.faults.StarFault.{StarFault}
 use Rattle.jup_star.specs.declared.star.Joined.{Joined}
 use Rattle.jup_star.specs.declared.calls.Call.TheVariants.{Join}
@@ -35,11 +35,11 @@ pub record HasJoined (w : BoardWorld) (js : List BoardSite) (h : List Entry) : T
 
 -- the world after one join
 joined_world : BoardWorld → BoardWorld
-joined_world w = with_outcome board_operations w event.Join (join_outcome board_operations w None)
+joined_world w = with_outcome board_batches w event.Join (join_outcome board_batches w None)
 
-join_is : (w : BoardWorld) → join_fault w.star ≡ None → happens board_operations w event.Join ≡ joined_world w
+join_is : (w : BoardWorld) → join_fault w.star ≡ None → happens board_batches w event.Join ≡ joined_world w
 unfolding joined_world
-join_is w fine = ap (λ (o : Option StarFault). with_outcome board_operations w event.Join (join_outcome board_operations w o)) fine
+join_is w fine = ap (λ (o : Option StarFault). with_outcome board_batches w event.Join (join_outcome board_batches w o)) fine
 
 -- a site that was told what the star tells is the one that the core opens
 site_is : (w : BoardWorld) (j : BoardSite) → IsFresh j → told_to j ≡ joining w.star → j ≡ opened_site (w.star.given + 1) w.star.limit w.star.board
@@ -52,12 +52,12 @@ IsClear w = (i : ℕ) → w.star.given < i → attached i w.sites ≡ None
 one_here : (w : BoardWorld) (j : BoardSite) → IsClear w → j ≡ opened_site (w.star.given + 1) w.star.limit w.star.board → attached (w.star.given + 1) (joined_world w).sites ≡ Some (link_with j [])
 unfolding joined_world
 one_here w j clear is =
-    found-end (λ (a : BoardAttached). a.site.number) (w.star.given + 1) w.sites (new_site board_operations w (w.star.given + 1)) (clear (w.star.given + 1) (omega arith)) (eq-eqb (w.star.given + 1) (w.star.given + 1) refl)
+    found-end (λ (a : BoardAttached). a.site.number) (w.star.given + 1) w.sites (new_site board_batches w (w.star.given + 1)) (clear (w.star.given + 1) (omega arith)) (eq-eqb (w.star.given + 1) (w.star.given + 1) refl)
     ∙ ap (λ (s : BoardSite). Some (link_with s [])) (sym is)
 
 one_other : (w : BoardWorld) (i : ℕ) → (w.star.given + 1 ≡ i → ⊥) → attached i (joined_world w).sites ≡ attached i w.sites
 unfolding joined_world
-one_other w i ne = found-end_other (λ (a : BoardAttached). a.site.number) i w.sites (new_site board_operations w (w.star.given + 1)) (apart (w.star.given + 1) i ne)
+one_other w i ne = found-end_other (λ (a : BoardAttached). a.site.number) i w.sites (new_site board_batches w (w.star.given + 1)) (apart (w.star.given + 1) i ne)
 
 still_clear : (w : BoardWorld) → IsClear w → IsClear (joined_world w)
 unfolding joined_world
@@ -69,7 +69,7 @@ grown w = refl
 
 quiet_join : (w : BoardWorld) (i : ℕ) → edits_at i (joined_world w).trace ≡ edits_at i w.trace
 unfolding joined_world
-quiet_join w i = edits_at_last i w.trace (record { event = event.Join; reply = (join_outcome board_operations w None).reply }) ∙ append-nil (edits_at i w.trace)
+quiet_join w i = edits_at_last i w.trace (record { event = event.Join; reply = (join_outcome board_batches w None).reply }) ∙ append-nil (edits_at i w.trace)
 
 number_at : (w : BoardWorld) (j : BoardSite) (js : List BoardSite) (g : ℕ) → g ≡ w.star.given + 1 → j.number ≡ w.star.given + 1
     → ((k : ℕ) (d : BoardSite) → k < length js → (get_or js k d).number ≡ g + suc k)

@@ -9,10 +9,9 @@ use Rattle.jup_star.specs.declared.calls.Reply.{Reply}
 use Rattle.jup_star.specs.declared.calls.Reply.TheVariants as reply
 use Rattle.jup_window.specs.declared.commands.Command.{Command}
 use Rattle.jup_window.specs.declared.faults.EditFault.{EditFault}
-use Rattle.jup_window.specs.declared.edits.Edit.{Edit}
+use Rattle.jup_batch.specs.BatchBoards.{BoardEdits, Commands, Windows}
 use Rattle.jup_star.specs.SiteCalls.{BoardSite}
-use Rattle.jup_window.specs.Boards.{Windows}
-use Rattle.jup_window.specs.BoardOperations.{board_operations}
+use Rattle.jup_batch.specs.BoardBatches.{board_batches}
 use Rattle.jup_star.specs.StarStates.{opened_star, link_of}
 use Rattle.jup_world.specs.Each.{Each}
 use Rattle.jup_world.specs.Openings.{IsOpening}
@@ -209,8 +208,8 @@ module _ (board : Windows) (limit : ℕ) (opened : IsOpening board) (low : limit
     count = omega (arith, facts.count, facts.drained.drained.count, facts.taken.count, facts.joined.count, length-append a.made facts.drained.drained.calls, calls_total facts.taken.players (λ k p within. (all_logs.1 k p within).count));
   }
 
-  all_joined : HasJoined (opened_world board_operations board limit) js (parts known).joined
-  all_joined = has_joined js (opened_world board_operations board limit) (parts known).joined (parts known).joins_are facts.joined.fresh (λ i above. refl) ((legal_append (opened_star board limit) (parts known).joined ((parts known).between ++ (parts known).rest) (parts known).legal).0)
+  all_joined : HasJoined (opened_world board_batches board limit) js (parts known).joined
+  all_joined = has_joined js (opened_world board_batches board limit) (parts known).joined (parts known).joins_are facts.joined.fresh (λ i above. refl) ((legal_append (opened_star board limit) (parts known).joined ((parts known).between ++ (parts known).rest) (parts known).legal).0)
 
   site_number : (k : ℕ) → k < length js → (get_or js k no_site).number ≡ suc k
   site_number k within = all_joined.numbers k no_site within ∙ omega arith
@@ -269,7 +268,7 @@ module _ (board : Windows) (limit : ℕ) (opened : IsOpening board) (low : limit
   unfolding known
   pieces = parts known
 
-  is_ends : Ends (length js) (opened_world board_operations board limit) (joins (length js) ++ assembled (length js) (both_logs logs facts.drained.drained.logs) ((parts known).between ++ (parts known).rest)) (star_through (opened_star board limit) ((parts known).joined ++ ((parts known).between ++ (parts known).rest))) (both_logs logs facts.drained.drained.logs) lasts
+  is_ends : Ends (length js) (opened_world board_batches board limit) (joins (length js) ++ assembled (length js) (both_logs logs facts.drained.drained.logs) ((parts known).between ++ (parts known).rest)) (star_through (opened_star board limit) ((parts known).joined ++ ((parts known).between ++ (parts known).rest))) (both_logs logs facts.drained.drained.logs) lasts
   unfolding whole known
   is_ends = assembled_run board limit opened low whole (parts known) all_joined
 
@@ -308,10 +307,10 @@ module _ (board : Windows) (limit : ℕ) (opened : IsOpening board) (low : limit
     edits = λ k within. is_ends.replied (suc k) (omega arith, within);
     commands = λ k within.
         let p = one_of facts.taken.players (omega (arith, within, many_players)) in
-        ap (λ es. map (λ (z : Command × EditAnswer). z.0) es) (edits_are k) ∙ (all_logs.1 k p (omega (arith, within, many_players))).commands;
+        ap (λ es. map (λ (z : Commands × EditAnswer). z.0) es) (edits_are k) ∙ (all_logs.1 k p (omega (arith, within, many_players))).commands;
     replies = λ k x within.
         let p = one_of facts.taken.players (omega (arith, within, many_players)) in
-        ap (λ es. map (λ (z : Command × EditAnswer). z.1) es) (edits_are k) ∙ (all_logs.1 k p (omega (arith, within, many_players))).answers
+        ap (λ es. map (λ (z : Commands × EditAnswer). z.1) es) (edits_are k) ∙ (all_logs.1 k p (omega (arith, within, many_players))).answers
         ∙ sym (ap (λ v. map answered v.items) (facts.drained.drained.replies k x (omega (arith, within, many_before)) ∙ ap (λ (z : SiteEnd). z.replies) (players_before k x p within)));
     quiet = λ k l within at. quiet_there (suc k) (omega arith, within) l at;
   }

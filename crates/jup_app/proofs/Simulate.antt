@@ -3,18 +3,16 @@ use Rattle.std.proofs.Common.{◌≡◌, ℕ, zero, suc, ◌+◌, ◌<◌, ◌�
 use Rattle.std.proofs.Math.Dec.{eqb}
 use Rattle.std.proofs.lemmas.Bool.{eq-eqb, eqb-true, eqb-false}
 use Rattle.std.proofs.lemmas.Bool.Decides.{eqb_tells}
-use Rattle.jup_window.specs.declared.board_operations.BoardOp.{BoardOp}
-use Rattle.jup_window.specs.declared.commands.Command.{Command}
-use Rattle.jup_window.specs.declared.edits.Edit.{Edit}
-use Rattle.jup_window.specs.BoardOperations.{board_operations}
-use Rattle.jup_window.specs.BoardsAreLawful.{board_laws}
+use Rattle.jup_batch.specs.BatchBoards.{BoardBatch, BoardEdits, Commands}
+use Rattle.jup_batch.specs.BoardBatches.{board_batches}
+use Rattle.jup_batch.specs.BoardBatches.{batch_laws}
 use Rattle.jup_star.specs.declared.messages.Down.TheVariants as down
 use Rattle.jup_star.specs.declared.faults.StarFault.{StarFault}
 use Rattle.jup_star.specs.declared.calls.Call.{Call}
 use Rattle.jup_star.specs.declared.calls.Call.TheVariants.{Join, Take, Fetch, Leave}
 use Rattle.jup_star.specs.declared.calls.Reply.{Reply}
 use Rattle.jup_star.specs.declared.calls.Reply.TheVariants as reply
-use Rattle.jup_star.specs.StarStates.{link_of, fetched, taken, up_fault, most_items}
+use Rattle.jup_star.specs.StarStates.{link_of, fetched, taken, up_fault, most_batches}
 use Rattle.jup_star.specs.SiteStates.{edit_answer, deliver_fault}
 use Rattle.jup_star.specs.StarCalls.{BoardStar, BoardLink, reply_of, star_after}
 use Rattle.jup_star.proofs.Lookup.{found-map, found-map_other}
@@ -37,11 +35,11 @@ eqb_self i = eq-eqb i i refl
 
 -- the world after some events
 abbrev pub after : BoardWorld → List BoardEvent → BoardWorld
-after w es = run board_operations w es
+after w es = run board_batches w es
 
 pub run_append : (es fs : List BoardEvent) (w : BoardWorld) → after w (es ++ fs) ≡ after (after w es) fs
 run_append [] fs w = refl
-run_append (e ∷ es) fs w = run_append es fs (happens board_operations w e)
+run_append (e ∷ es) fs w = run_append es fs (happens board_batches w e)
 
 pub reached_more : (w : BoardWorld) (es : List BoardEvent) → IsReached w → IsReached (after w es)
 reached_more w es r = record {
@@ -50,7 +48,7 @@ reached_more w es r = record {
   events = r.events ++ es;
   opening = r.opening;
   limited = r.limited;
-  is = ap (λ x. after x es) r.is ∙ sym (run_append r.events es (opened_world board_operations r.board r.limit));
+  is = ap (λ x. after x es) r.is ∙ sym (run_append r.events es (opened_world board_batches r.board r.limit));
 }
 
 -- an attached site has a link
@@ -58,7 +56,7 @@ linked : (w : BoardWorld) (i : ℕ) (l : BoardAttached) → IsReached w → atta
 linked w i l r is = go (link_of i w.star.links) refl
   where
     both : is_some (attached i w.sites) ≡ is_some (link_of i w.star.links)
-    both = (sound-promises board_operations board_laws most_items w (reached_sound w r).sound).linked i
+    both = (sound-promises board_batches batch_laws most_batches w (reached_sound w r).sound).linked i
 
     go : (o : Option BoardLink) → link_of i w.star.links ≡ o → (k : BoardLink) × (link_of i w.star.links ≡ Some k)
     go None e = (let none : true ≡ false = ap (λ (o : Option BoardAttached). is_some o) (sym is) ∙ both ∙ ap (λ (o : Option BoardLink). is_some o) e in absurd cc)
@@ -66,7 +64,7 @@ linked w i l r is = go (link_of i w.star.links) refl
 
 -- a list of events brings the world to this star, with this site at one number and all others as they were; and what was
 -- answered to each site's commands
-pub record Leads (w : BoardWorld) (es : List BoardEvent) (i : ℕ) (s : BoardStar) (l : BoardAttached) (replies : List (Command × EditAnswer)) : Type 0 where
+pub record Leads (w : BoardWorld) (es : List BoardEvent) (i : ℕ) (s : BoardStar) (l : BoardAttached) (replies : List (Commands × EditAnswer)) : Type 0 where
   pub star : (after w es).star ≡ s
   pub here : attached i (after w es).sites ≡ Some l
   pub others : (j : ℕ) → eqb j i ≡ false → attached j (after w es).sites ≡ attached j w.sites
@@ -76,7 +74,7 @@ pub record Leads (w : BoardWorld) (es : List BoardEvent) (i : ℕ) (s : BoardSta
 leads_none : (w : BoardWorld) (i : ℕ) (l : BoardAttached) → attached i w.sites ≡ Some l → Leads w [] i w.star l []
 leads_none w i l is = record { star = refl; here = is; others = λ j ne. refl; replied = sym (append-nil (edits_at i w.trace)); silent = λ j ne. refl }
 
-pub leads_append : {w : BoardWorld} {es fs : List BoardEvent} {i : ℕ} {s t : BoardStar} {l m : BoardAttached} {rs qs : List (Command × EditAnswer)} → Leads w es i s l rs → Leads (after w es) fs i t m qs → Leads w (es ++ fs) i t m (rs ++ qs)
+pub leads_append : {w : BoardWorld} {es fs : List BoardEvent} {i : ℕ} {s t : BoardStar} {l m : BoardAttached} {rs qs : List (Commands × EditAnswer)} → Leads w es i s l rs → Leads (after w es) fs i t m qs → Leads w (es ++ fs) i t m (rs ++ qs)
 leads_append {w} {es} {fs} {i} {s} {t} {l} {m} {rs} {qs} a b =
     let same = run_append es fs w in record {
       star = ap (λ (x : BoardWorld). x.star) same ∙ b.star;
@@ -86,27 +84,27 @@ leads_append {w} {es} {fs} {i} {s} {t} {l} {m} {rs} {qs} a b =
       silent = λ j ne. ap (λ (x : BoardWorld). edits_at j x.trace) same ∙ b.silent j ne ∙ a.silent j ne;
     }
 
-pub edits_at_last : (i : ℕ) (hs : List (Happened Command Edit ℕ)) (h : Happened Command Edit ℕ) → edits_at i (hs ++ h ∷ []) ≡ edits_at i hs ++ edit_at i h.event h.reply
+pub edits_at_last : (i : ℕ) (hs : List (Happened Commands BoardEdits ℕ)) (h : Happened Commands BoardEdits ℕ) → edits_at i (hs ++ h ∷ []) ≡ edits_at i hs ++ edit_at i h.event h.reply
 edits_at_last i [] h = append-nil (edit_at i h.event h.reply)
 edits_at_last i (k ∷ hs) h = ap (λ es. edit_at i k.event k.reply ++ es) (edits_at_last i hs h) ∙ sym (append_assoc (edit_at i k.event k.reply) (edits_at i hs) (edit_at i h.event h.reply))
 
 -- what an outcome of one event does
-record Does (w : BoardWorld) (e : BoardEvent) (o : Outcome board_operations) (i : ℕ) (s : BoardStar) (l : BoardAttached) (replies : List (Command × EditAnswer)) : Type 0 where
+record Does (w : BoardWorld) (e : BoardEvent) (o : Outcome board_batches) (i : ℕ) (s : BoardStar) (l : BoardAttached) (replies : List (Commands × EditAnswer)) : Type 0 where
   star : o.star ≡ s
   here : attached i o.sites ≡ Some l
   others : (j : ℕ) → eqb j i ≡ false → attached j o.sites ≡ attached j w.sites
   replied : edit_at i e o.reply ≡ replies
   silent : (j : ℕ) → eqb j i ≡ false → edit_at j e o.reply ≡ []
 
-leads_one : {w : BoardWorld} {e : BoardEvent} {o : Outcome board_operations} {i : ℕ} {s : BoardStar} {l : BoardAttached} {rs : List (Command × EditAnswer)} → outcome board_operations w e ≡ o → Does w e o i s l rs → Leads w (e ∷ []) i s l rs
+leads_one : {w : BoardWorld} {e : BoardEvent} {o : Outcome board_batches} {i : ℕ} {s : BoardStar} {l : BoardAttached} {rs : List (Commands × EditAnswer)} → outcome board_batches w e ≡ o → Does w e o i s l rs → Leads w (e ∷ []) i s l rs
 leads_one {w} {e} {o} {i} {s} {l} {rs} is d =
-    let at : Does w e (outcome board_operations w e) i s l rs = subst (λ (x : Outcome board_operations). Does w e x i s l rs) (sym is) d in
+    let at : Does w e (outcome board_batches w e) i s l rs = subst (λ (x : Outcome board_batches). Does w e x i s l rs) (sym is) d in
     record {
       star = at.star;
       here = at.here;
       others = at.others;
-      replied = edits_at_last i w.trace (record { event = e; reply = (outcome board_operations w e).reply }) ∙ ap (λ es. edits_at i w.trace ++ es) at.replied;
-      silent = λ j ne. edits_at_last j w.trace (record { event = e; reply = (outcome board_operations w e).reply }) ∙ ap (λ es. edits_at j w.trace ++ es) (at.silent j ne) ∙ append-nil (edits_at j w.trace);
+      replied = edits_at_last i w.trace (record { event = e; reply = (outcome board_batches w e).reply }) ∙ ap (λ es. edits_at i w.trace ++ es) at.replied;
+      silent = λ j ne. edits_at_last j w.trace (record { event = e; reply = (outcome board_batches w e).reply }) ∙ ap (λ es. edits_at j w.trace ++ es) (at.silent j ne) ∙ append-nil (edits_at j w.trace);
     }
 
 eqb_flip : (i j : ℕ) → eqb j i ≡ false → eqb i j ≡ false
@@ -127,17 +125,17 @@ changed_other : (i j : ℕ) (f : BoardAttached → BoardAttached) → ((a : Boar
 changed_other i j f same sites ne = found-map_other (λ (a : BoardAttached). a.site.number) i j f (λ a. a) same (λ a. refl) sites (eqb_flip i j ne) ∙ map_same (attached j sites)
 
 -- one edit
-pub edit_leads : (w : BoardWorld) (i : ℕ) (c : Command) (l : BoardAttached) (k : BoardLink) → attached i w.sites ≡ Some l → link_of i w.star.links ≡ Some k → Leads w (event.Edit i c ∷ []) i w.star (edited c l) ((c, answer_to c l) ∷ [])
-edit_leads w i c l k is link = leads_one {o = edit_outcome board_operations w i (edit_answer board_operations c l.site)}
-    (ap (λ (o : Option BoardLink). at_linked board_operations w i (λ l a. edit_outcome board_operations w i (edit_answer board_operations c a.site)) o) link
-    ∙ ap (λ (o : Option BoardAttached). at_attached board_operations w k (λ l a. edit_outcome board_operations w i (edit_answer board_operations c a.site)) o) is)
-    (go (edit_answer board_operations c l.site))
+pub edit_leads : (w : BoardWorld) (i : ℕ) (c : Commands) (l : BoardAttached) (k : BoardLink) → attached i w.sites ≡ Some l → link_of i w.star.links ≡ Some k → Leads w (event.Edit i c ∷ []) i w.star (edited c l) ((c, answer_to c l) ∷ [])
+edit_leads w i c l k is link = leads_one {o = edit_outcome board_batches w i (edit_answer board_batches c l.site)}
+    (ap (λ (o : Option BoardLink). at_linked board_batches w i (λ l a. edit_outcome board_batches w i (edit_answer board_batches c a.site)) o) link
+    ∙ ap (λ (o : Option BoardAttached). at_attached board_batches w k (λ l a. edit_outcome board_batches w i (edit_answer board_batches c a.site)) o) is)
+    (go (edit_answer board_batches c l.site))
   where
-    go : (r : Result BoardOp ℕ) → Does w (event.Edit i c) (edit_outcome board_operations w i r) i w.star (edit_by r l) ((c, answer_by r) ∷ [])
+    go : (r : Result BoardBatch ℕ) → Does w (event.Edit i c) (edit_outcome board_batches w i r) i w.star (edit_by r l) ((c, answer_by r) ∷ [])
     go (Ok op) = record {
       star = refl;
-      here = changed_here i (with_edit board_operations op) (λ a. refl) w.sites l is;
-      others = λ j ne. changed_other i j (with_edit board_operations op) (λ a. refl) w.sites ne;
+      here = changed_here i (with_edit board_batches op) (λ a. refl) w.sites l is;
+      others = λ j ne. changed_other i j (with_edit board_batches op) (λ a. refl) w.sites ne;
       replied = rw eqb_self refl;
       silent = λ j ne. rw (eqb_flip i j ne) refl;
     }
@@ -151,23 +149,23 @@ edit_leads w i c l k is link = leads_one {o = edit_outcome board_operations w i 
 
 -- one message that is taken
 pub up_leads : (w : BoardWorld) (i : ℕ) (u : BoardUp) (p : Option ℕ) (l : BoardAttached) → attached i w.sites ≡ Some l → l.up ≡ u ∷ drop 1 l.up → reply_of (Take i u) w.star ≡ reply.Taken (Ok p)
-    → Leads w (event.Up i ∷ []) i (star_after (Take i u) w.star) (one_taken board_operations l) []
+    → Leads w (event.Up i ∷ []) i (star_after (Take i u) w.star) (one_taken board_batches l) []
 up_leads w i u p l is oldest replied =
     let t = take_gives w.star i u p replied in
-    leads_one {o = up_outcome board_operations w i t.link u None}
-    (ap (λ (o : Option BoardLink). at_linked board_operations w i (λ k a. first_up board_operations w i k a.up) o) t.is
-    ∙ ap (λ (o : Option BoardAttached). at_attached board_operations w t.link (λ k a. first_up board_operations w i k a.up) o) is
-    ∙ ap (λ (us : List BoardUp). first_up board_operations w i t.link us) oldest
-    ∙ ap (λ (f : Option StarFault). up_outcome board_operations w i t.link u f) t.fine)
+    leads_one {o = up_outcome board_batches w i t.link u None}
+    (ap (λ (o : Option BoardLink). at_linked board_batches w i (λ k a. first_up board_batches w i k a.up) o) t.is
+    ∙ ap (λ (o : Option BoardAttached). at_attached board_batches w t.link (λ k a. first_up board_batches w i k a.up) o) is
+    ∙ ap (λ (us : List BoardUp). first_up board_batches w i t.link us) oldest
+    ∙ ap (λ (f : Option StarFault). up_outcome board_batches w i t.link u f) t.fine)
     (record {
       star = sym t.after;
-      here = changed_here i (one_taken board_operations) (λ a. refl) w.sites l is;
-      others = λ j ne. changed_other i j (one_taken board_operations) (λ a. refl) w.sites ne;
+      here = changed_here i (one_taken board_batches) (λ a. refl) w.sites l is;
+      others = λ j ne. changed_other i j (one_taken board_batches) (λ a. refl) w.sites ne;
       replied = refl;
       silent = λ j ne. refl;
     })
 
-handed_number : (d : BoardDown) (ds : List BoardDown) (a : BoardAttached) → (one_handed board_operations d ds a).site.number ≡ a.site.number
+handed_number : (d : BoardDown) (ds : List BoardDown) (a : BoardAttached) → (one_handed board_batches d ds a).site.number ≡ a.site.number
 handed_number (down.Op m) ds a = refl
 handed_number (down.Ack n) ds a = refl
 handed_number (down.Pong k) ds a = refl
@@ -176,16 +174,16 @@ handed_number (down.Pong k) ds a = refl
 pub down_leads : (w : BoardWorld) (i : ℕ) (d : BoardDown) (rest : List BoardDown) (l : BoardAttached) (k : BoardLink) → attached i w.sites ≡ Some l → link_of i w.star.links ≡ Some k → l.down ≡ [] → k.outbox ≡ d ∷ rest → IsAccepted d l
     → Leads w (event.Down i ∷ []) i (fetched i 1 w.star) (delivered d l) []
 down_leads w i d rest l k is link idle waits fine =
-    leads_one {o = down_outcome board_operations w i 1 d [] None}
-    (ap (λ (o : Option BoardLink). at_linked board_operations w i (λ k a. first_down board_operations w i a a.down k.outbox) o) link
-    ∙ ap (λ (o : Option BoardAttached). at_attached board_operations w k (λ k a. first_down board_operations w i a a.down k.outbox) o) is
-    ∙ ap (λ (ds : List BoardDown). first_down board_operations w i l ds k.outbox) idle
-    ∙ ap (λ (ds : List BoardDown). first_down board_operations w i l [] ds) waits
-    ∙ ap (λ f. down_outcome board_operations w i 1 d [] f) fine)
+    leads_one {o = down_outcome board_batches w i 1 d [] None}
+    (ap (λ (o : Option BoardLink). at_linked board_batches w i (λ k a. first_down board_batches w i a a.down k.outbox) o) link
+    ∙ ap (λ (o : Option BoardAttached). at_attached board_batches w k (λ k a. first_down board_batches w i a a.down k.outbox) o) is
+    ∙ ap (λ (ds : List BoardDown). first_down board_batches w i l ds k.outbox) idle
+    ∙ ap (λ (ds : List BoardDown). first_down board_batches w i l [] ds) waits
+    ∙ ap (λ f. down_outcome board_batches w i 1 d [] f) fine)
     (record {
       star = refl;
-      here = changed_here i (one_handed board_operations d []) (handed_number d []) w.sites l is ∙ ap (λ (ds : List BoardDown). Some (one_handed board_operations d ds l)) (sym idle);
-      others = λ j ne. changed_other i j (one_handed board_operations d []) (handed_number d []) w.sites ne;
+      here = changed_here i (one_handed board_batches d []) (handed_number d []) w.sites l is ∙ ap (λ (ds : List BoardDown). Some (one_handed board_batches d ds l)) (sym idle);
+      others = λ j ne. changed_other i j (one_handed board_batches d []) (handed_number d []) w.sites ne;
       replied = refl;
       silent = λ j ne. refl;
     })
@@ -211,17 +209,17 @@ downs_lead (d ∷ ds) w i m l tidy is idle fine replied =
     subst (λ (s : BoardStar). Leads w (deliveries i (d ∷ ds)) i s (all_delivered (d ∷ ds) l) []) same
     (leads_append one (downs_lead ds w' i p.others (delivered d l) tidy' one.here (delivered_down d l ∙ idle) fine.1 next))
 
-edited_down : (c : Command) (l : BoardAttached) → (edited c l).down ≡ l.down
-edited_down c l = go (edit_answer board_operations c l.site)
+edited_down : (c : Commands) (l : BoardAttached) → (edited c l).down ≡ l.down
+edited_down c l = go (edit_answer board_batches c l.site)
   where
-    go : (r : Result BoardOp ℕ) → (edit_by r l).down ≡ l.down
+    go : (r : Result BoardBatch ℕ) → (edit_by r l).down ≡ l.down
     go (Ok op) = refl
     go (Err n) = refl
 
 -- what a log does through its first hub call, which is m
 record Called (w : BoardWorld) (i : ℕ) (log : List Step) (end : BoardAttached) (m : Made) (later : List Made) : Type 0 where
   link : BoardAttached
-  replies : List (Command × EditAnswer)
+  replies : List (Commands × EditAnswer)
   leads : Leads w (through_call i log) i (star_after m.call w.star) link replies
   replied : edits_of log ≡ replies ++ edits_of (past_call log)
   idle : link.down ≡ []
@@ -251,9 +249,9 @@ called (Took u p ∷ log) w i l end m later reached tidy is idle played calls le
     let call : m.call ≡ Take i u = ap (λ (x : Made). x.call) this in
     let replied : reply_of (Take i u) w.star ≡ reply.Taken (Ok p) = ap (λ c. reply_of c w.star) (sym call) ∙ sym legal ∙ ap (λ (x : Made). x.reply) this in
     record {
-      link = one_taken board_operations l;
+      link = one_taken board_batches l;
       replies = [];
-      leads = subst (λ (c : Call). Leads w (event.Up i ∷ []) i (star_after c w.star) (one_taken board_operations l) []) (sym call) (up_leads w i u p l is played.0 replied);
+      leads = subst (λ (c : Call). Leads w (event.Up i ∷ []) i (star_after c w.star) (one_taken board_batches l) []) (sym call) (up_leads w i u p l is played.0 replied);
       replied = refl;
       idle = idle;
       played = played.1;
@@ -319,7 +317,7 @@ apart : (i j : ℕ) → (i ≡ j → ⊥) → eqb i j ≡ false
 apart i j ne = elim (eqb_tells i j) [ inl same ↦ absurd (ne same.1) | inr other ↦ other.0 ]
 
 -- what site i shows after events of the others and of site j, which one of them may be
-half_done : (i : ℕ) (es fs : List BoardEvent) (w : BoardWorld) (j : ℕ) {s : BoardStar} {l : BoardAttached} {rs : List (Command × EditAnswer)} (end : BoardAttached) (replies : List (Command × EditAnswer))
+half_done : (i : ℕ) (es fs : List BoardEvent) (w : BoardWorld) (j : ℕ) {s : BoardStar} {l : BoardAttached} {rs : List (Commands × EditAnswer)} (end : BoardAttached) (replies : List (Commands × EditAnswer))
     → (i ≡ j → (end ≡ l) × (replies ≡ rs))
     → (i ≡ j → edits_at i (after w es).trace ≡ edits_at i w.trace)
     → ((i ≡ j → ⊥) → (attached i (after w es).sites ≡ Some end) × (edits_at i (after w es).trace ≡ edits_at i w.trace ++ replies))

@@ -1,8 +1,8 @@
 -- Joins, takes and fetches on a star.
 use Rattle.std.proofs.Common.{◌≡◌, ℕ, zero, suc, ◌+◌, ◌<◌, ◌≤◌, Bool, true, false, cond, not, List, [], ◌∷◌, ◌++◌, take, drop, map, filter, nat_eq, Option, Some, None, Result, Ok, Err, refl, sym, ap, ◌∙◌, subst, arith}
 use Rattle.std.proofs.lemmas.Bool.{eqb-true}
-use Rattle.jup_window.specs.declared.board_operations.BoardOp.{BoardOp}
-use Rattle.jup_window.specs.BoardOperations.{board_operations}
+use Rattle.jup_batch.specs.BatchBoards.{BoardBatch}
+use Rattle.jup_batch.specs.BoardBatches.{board_batches}
 use Rattle.jup_star.specs.declared.faults.StarFault.{StarFault}
 use Rattle.jup_star.specs.declared.star.Joined.{Joined}
 use Rattle.jup_star.specs.declared.messages.Up.TheVariants as up
@@ -31,25 +31,25 @@ join_gives s j is = go (join_fault s) refl is
 pub record Takes (s : BoardStar) (i : ℕ) (u : BoardUp) (p : Option ℕ) : Type 0 where
   pub link : BoardLink
   pub is : link_of i s.links ≡ Some link
-  pub fine : up_fault board_operations s link u ≡ None
-  pub after : star_after (Take i u) s ≡ taken board_operations i u link s
+  pub fine : up_fault board_batches s link u ≡ None
+  pub after : star_after (Take i u) s ≡ taken board_batches i u link s
 
 pub take_gives : (s : BoardStar) (i : ℕ) (u : BoardUp) (p : Option ℕ) → reply_of (Take i u) s ≡ Taken (Ok p) → Takes s i u p
 unfolding reply_of star_after
 take_gives s i u p is = go (link_of i s.links) refl is
   where
-    at : (l : BoardLink) → link_of i s.links ≡ Some l → (o : Option StarFault) → up_fault board_operations s l u ≡ o → Taken (take_result s u o) ≡ Taken (Ok p) → Takes s i u p
+    at : (l : BoardLink) → link_of i s.links ≡ Some l → (o : Option StarFault) → up_fault board_batches s l u ≡ o → Taken (take_result s u o) ≡ Taken (Ok p) → Takes s i u p
     at l e None f g = record {
       link = l;
       is = e;
       fine = f;
-      after = ap (λ o. after_take i u s o (take_fault board_operations s u o)) e ∙ ap (λ o. after_take i u s (Some l) o) f;
+      after = ap (λ o. after_take i u s o (take_fault board_batches s u o)) e ∙ ap (λ o. after_take i u s (Some l) o) f;
     }
     at l e (Some x) f g = absurd cc
 
-    go : (o : Option BoardLink) → link_of i s.links ≡ o → Taken (take_result s u (take_fault board_operations s u o)) ≡ Taken (Ok p) → Takes s i u p
+    go : (o : Option BoardLink) → link_of i s.links ≡ o → Taken (take_result s u (take_fault board_batches s u o)) ≡ Taken (Ok p) → Takes s i u p
     go None e f = absurd cc
-    go (Some l) e f = at l e (up_fault board_operations s l u) refl f
+    go (Some l) e f = at l e (up_fault board_batches s l u) refl f
 
 -- a fetch that was not refused
 pub record Fetches (s : BoardStar) (i m : ℕ) (ds : List BoardDown) : Type 0 where
@@ -129,13 +129,13 @@ either_site false k m l a c = c
 changed_site : (i : ℕ) (f : BoardLink → BoardLink) → ((l : BoardLink) → (f l).site ≡ l.site) → (l : BoardLink) → (cond (is_of i l) (f l) l).site ≡ l.site
 changed_site i f same l = either_site (is_of i l) (f l) l l (same l) refl
 
-tidy_taken : (i : ℕ) (u : BoardUp) (l : BoardLink) (s : BoardStar) → IsTidy s → IsTidy (taken board_operations i u l s)
+tidy_taken : (i : ℕ) (u : BoardUp) (l : BoardLink) (s : BoardStar) → IsTidy s → IsTidy (taken board_batches i u l s)
 tidy_taken i (up.Op m) l s tidy =
-    let op = operation_at board_operations l.end m in
-    tidy_map s (taken board_operations i (up.Op m) l s) (λ k. cond (is_of i k) (link_heard board_operations m k) (link_sent op k))
-    (λ k. either_site (is_of i k) (link_heard board_operations m k) (link_sent op k) k refl refl) refl refl tidy
-tidy_taken i (up.Ack n) l s tidy = tidy_map s (taken board_operations i (up.Ack n) l s) (λ k. cond (is_of i k) (link_acked n k) k) (changed_site i (link_acked n) (λ k. refl)) refl refl tidy
-tidy_taken i (up.Ping n) l s tidy = tidy_map s (taken board_operations i (up.Ping n) l s) (λ k. cond (is_of i k) (link_ponged n k) k) (changed_site i (link_ponged n) (λ k. refl)) refl refl tidy
+    let op = operation_at board_batches l.end m in
+    tidy_map s (taken board_batches i (up.Op m) l s) (λ k. cond (is_of i k) (link_heard board_batches m k) (link_sent op k))
+    (λ k. either_site (is_of i k) (link_heard board_batches m k) (link_sent op k) k refl refl) refl refl tidy
+tidy_taken i (up.Ack n) l s tidy = tidy_map s (taken board_batches i (up.Ack n) l s) (λ k. cond (is_of i k) (link_acked n k) k) (changed_site i (link_acked n) (λ k. refl)) refl refl tidy
+tidy_taken i (up.Ping n) l s tidy = tidy_map s (taken board_batches i (up.Ping n) l s) (λ k. cond (is_of i k) (link_ponged n k) k) (changed_site i (link_ponged n) (λ k. refl)) refl refl tidy
 
 tidy_fetched : (i m : ℕ) (s : BoardStar) → IsTidy s → IsTidy (fetched i m s)
 tidy_fetched i m s tidy = tidy_map s (fetched i m s) (λ k. cond (is_of i k) (link_fetched m k) k) (changed_site i (link_fetched m) (λ k. refl)) refl refl tidy
@@ -148,7 +148,7 @@ tidy_after Join s tidy = go (join_fault s)
     go : (o : Option StarFault) → IsTidy (after_join s o)
     go None = tidy_joined s tidy
     go (Some e) = tidy
-tidy_after (Take i u) s tidy = go (link_of i s.links) (take_fault board_operations s u (link_of i s.links))
+tidy_after (Take i u) s tidy = go (link_of i s.links) (take_fault board_batches s u (link_of i s.links))
   where
     go : (o : Option BoardLink) (f : Option StarFault) → IsTidy (after_take i u s o f)
     go None f = tidy

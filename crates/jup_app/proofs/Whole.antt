@@ -5,8 +5,8 @@ use Rattle.jup_star.specs.declared.calls.Call.{Call}
 use Rattle.jup_star.specs.declared.calls.Call.TheVariants.{Join, Take, Fetch, Leave}
 use Rattle.jup_star.specs.declared.calls.Reply.{Reply}
 use Rattle.jup_star.specs.declared.calls.Reply.TheVariants as reply
-use Rattle.jup_window.specs.Boards.{Windows}
-use Rattle.jup_window.specs.BoardOperations.{board_operations}
+use Rattle.jup_batch.specs.BatchBoards.{Windows}
+use Rattle.jup_batch.specs.BoardBatches.{board_batches}
 use Rattle.jup_star.specs.StarStates.{opened_star}
 use Rattle.jup_star.specs.SiteCalls.{BoardSite}
 use Rattle.jup_world.specs.Each.{Each}
@@ -169,17 +169,17 @@ own_calls {opening} {js} {hands} w p q i site =
     ∙ w.own_log i d site
 
 -- a world that was opened is reached
-pub opened_reached : (board : Windows) (limit : ℕ) → IsOpening board → limit ≤ 16777216 → IsReached (opened_world board_operations board limit)
+pub opened_reached : (board : Windows) (limit : ℕ) → IsOpening board → limit ≤ 16777216 → IsReached (opened_world board_batches board limit)
 opened_reached board limit opening low = record { board = board; limit = limit; events = []; opening = opening; limited = low; is = refl }
 
 module _ (board : Windows) (limit : ℕ) (opening : IsOpening board) (low : limit ≤ 16777216) where
   pub tracks : {js : List BoardSite} {hands : List Tally} {firsts drains : List Entry} {logs drained : ℕ → List Step} {mids ends : ℕ → BoardAttached}
       → (w : Whole (opened_star board limit) js hands firsts drains logs drained mids ends) (p : Parts (opened_star board limit) js hands w.known.history drains)
-      → HasJoined (opened_world board_operations board limit) js p.joined
-      → Tracks (length js) (after (opened_world board_operations board limit) (joins (length js))) (p.between ++ p.rest) (first_link js) (both_logs logs drained) ends
+      → HasJoined (opened_world board_batches board limit) js p.joined
+      → Tracks (length js) (after (opened_world board_batches board limit) (joins (length js))) (p.between ++ p.rest) (first_link js) (both_logs logs drained) ends
   tracks {js} {hands} {firsts} {drains} {logs} {drained} {mids} {ends} w p j =
       let n = length js in
-      let first = opened_world board_operations board limit in
+      let first = opened_world board_batches board limit in
       let tidy : IsTidy (opened_star board limit) = record { apart = tt; within = tt } in
       let q : Parted n (pass_of hands) p.between = parted w p.between p.by_hands p.hands_made in record {
         reached = reached_more first (joins n) (opened_reached board limit opening low);
@@ -202,11 +202,11 @@ module _ (board : Windows) (limit : ℕ) (opening : IsOpening board) (low : limi
   pub assembled_run : {js : List BoardSite} {hands : List Tally} {firsts drains : List Entry} {logs drained : ℕ → List Step} {mids ends : ℕ → BoardAttached}
       → (w : Whole (opened_star board limit) js hands firsts drains logs drained mids ends)
       → (p : Parts (opened_star board limit) js hands w.known.history drains)
-      → HasJoined (opened_world board_operations board limit) js p.joined
-      → Ends (length js) (opened_world board_operations board limit) (joins (length js) ++ assembled (length js) (both_logs logs drained) (p.between ++ p.rest)) (star_through (opened_star board limit) (p.joined ++ (p.between ++ p.rest))) (both_logs logs drained) ends
+      → HasJoined (opened_world board_batches board limit) js p.joined
+      → Ends (length js) (opened_world board_batches board limit) (joins (length js) ++ assembled (length js) (both_logs logs drained) (p.between ++ p.rest)) (star_through (opened_star board limit) (p.joined ++ (p.between ++ p.rest))) (both_logs logs drained) ends
   assembled_run {js} {hands} {firsts} {drains} {logs} {drained} {mids} {ends} w p j =
       let n = length js in
-      let first = opened_world board_operations board limit in
+      let first = opened_world board_batches board limit in
       let w1 = after first (joins n) in
       let es = assembled n (both_logs logs drained) (p.between ++ p.rest) in
       let rest = assembled_ends (p.between ++ p.rest) n w1 (first_link js) (both_logs logs drained) ends (tracks w p j) in

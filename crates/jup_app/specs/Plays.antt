@@ -1,7 +1,7 @@
 -- What a pass has done for one site.
 use Rattle.std.specs.Prelude.{◌≡◌, ℕ, ◌+◌, ◌<◌, cond, eqb, List, [], ◌∷◌, ◌++◌, length, drop, map, Result, Ok, Err}
 use Rattle.jup_window.specs.declared.commands.Command.{Command}
-use Rattle.jup_window.specs.declared.edits.Edit.{Edit}
+use Rattle.jup_batch.specs.BatchBoards.{BoardEdits, Commands}
 use Rattle.jup_window.specs.declared.faults.EditFault.{EditFault}
 use Rattle.jup_window.specs.FaultNumbers.{edit_fault_number}
 use Rattle.jup_star.specs.declared.calls.Call.TheVariants.{Fetch}
@@ -13,7 +13,7 @@ use Rattle.jup_hub.specs.declared.view.View.{View}
 use Rattle.jup_hub.specs.Histories.{entry, BeginsWith}
 use Rattle.jup_hub.specs.Knowledge.{longest, Called, Meets}
 use Rattle.jup_world.specs.BoardWorlds.{BoardAttached}
-use Rattle.jup_app.specs.Runs.{BoardUp, BoardDown, EditAnswer, Made, made, Step, calls_of, edits_of, IsPlayed, all_delivered, AcceptsAll, site_of}
+use Rattle.jup_app.specs.Runs.{BoardUp, BoardDown, EditAnswer, Made, made, Step, calls_of, edits_of, IsPlayed, all_delivered, AcceptsAll, site_of, singles}
 
 -- the calls of entries
 abbrev pub makes : List Entry → List Made
@@ -30,7 +30,7 @@ abbrev pub link_with : BoardSite → List BoardUp → BoardAttached
 link_with s up = record { site = s; up = up; down = [] }
 
 -- a reply of a site, with a refusal as its number
-abbrev pub answered : Result Edit EditFault → EditAnswer
+abbrev pub answered : Result BoardEdits EditFault → EditAnswer
 answered (Ok e) = Ok e
 answered (Err f) = Err (edit_fault_number f)
 
@@ -81,21 +81,21 @@ abbrev pub FoundNothing : ℕ → View → View → Type 0
 FoundNothing i v w = Called (Fetch i 64) (Fetched (Ok [])) v w
 
 -- a pass has edited, taken and fetched for site i, with this count of its calls
-pub record Works (i : ℕ) (v w : View) (before after : ℕ) (s t : BoardSite) (edits : List (Command × EditAnswer)) : Type 0 where
+pub record Works (i : ℕ) (v w : View) (before after : ℕ) (s t : BoardSite) (edits : List (Commands × EditAnswer)) : Type 0 where
   pub steps : List Step
   pub plays : Plays i v w (link_with s []) (link_with t []) steps
   pub edits_are : edits_of steps ≡ edits
   pub count : after ≡ before + length plays.calls
 
--- one command, and what it was answered
-pub record Answered (i : ℕ) (v w : View) (before after : ℕ) (s t : BoardSite) (command : Command) (old new : List (Result Edit EditFault)) : Type 0 where
-  pub reply : Result Edit EditFault
+-- the commands of one edit, and what they were answered
+pub record Answered (i : ℕ) (v w : View) (before after : ℕ) (s t : BoardSite) (commands : Commands) (old new : List (Result BoardEdits EditFault)) : Type 0 where
+  pub reply : Result BoardEdits EditFault
   pub replies : new ≡ old ++ reply ∷ []
-  pub works : Works i v w before after s t ((command, answered reply) ∷ [])
+  pub works : Works i v w before after s t ((commands, answered reply) ∷ [])
 
 -- some commands, and what they were answered
-pub record Played (i : ℕ) (v w : View) (before after : ℕ) (s t : BoardSite) (script : List Command) (replies : List (Result Edit EditFault)) : Type 0 where
-  pub edits : List (Command × EditAnswer)
-  pub commands : map (λ e. e.0) edits ≡ script
+pub record Played (i : ℕ) (v w : View) (before after : ℕ) (s t : BoardSite) (script : List Command) (replies : List (Result BoardEdits EditFault)) : Type 0 where
+  pub edits : List (Commands × EditAnswer)
+  pub commands : map (λ e. e.0) edits ≡ singles script
   pub answers : map (λ e. e.1) edits ≡ map answered replies
   pub works : Works i v w before after s t edits

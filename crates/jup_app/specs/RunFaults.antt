@@ -1,7 +1,7 @@
 -- The faults of runs.
 use Rattle.std.specs.Prelude.{◌≡◌, ℕ, ◌&&◌, nat_le, Option, Some, None, Result, Ok, Err, IfErr, if◌then◌else◌}
 use Rattle.std.specs.Option.{option_map}
-use Rattle.jup_window.specs.Boards.{Windows}
+use Rattle.jup_batch.specs.BatchBoards.{Windows}
 use Rattle.jup_star.specs.StarCalls.{star_open_fault}
 use Rattle.jup_star.specs.declared.faults.OpenFault.{OpenFault}
 use Rattle.jup_star.specs.declared.faults.OpenFault.TheVariants as refusal

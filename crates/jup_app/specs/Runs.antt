@@ -1,10 +1,8 @@
 -- The run of the core that a history and one log for each site make.
-use Rattle.std.specs.Prelude.{◌≡◌, ℕ, zero, suc, ◌<◌, ◌≤◌, cond, eqb, List, [], ◌∷◌, ◌++◌, drop, Option, None, Result, Ok, Err}
-use Rattle.jup_window.specs.declared.board_operations.BoardOp.{BoardOp}
+use Rattle.std.specs.Prelude.{◌≡◌, ℕ, zero, suc, ◌<◌, ◌≤◌, cond, eqb, List, [], ◌∷◌, ◌++◌, drop, Option, None, Result, Ok, Err, map}
 use Rattle.jup_window.specs.declared.commands.Command.{Command}
-use Rattle.jup_window.specs.declared.edits.Edit.{Edit}
-use Rattle.jup_window.specs.Boards.{edit_of}
-use Rattle.jup_window.specs.BoardOperations.{board_operations}
+use Rattle.jup_batch.specs.BatchBoards.{BoardBatch, BoardEdits, Commands, edit_of}
+use Rattle.jup_batch.specs.BoardBatches.{board_batches}
 use Rattle.jup_star.specs.declared.messages.Up.{Up}
 use Rattle.jup_star.specs.declared.messages.Down.{Down}
 use Rattle.jup_star.specs.declared.calls.Call.{Call}
@@ -22,15 +20,19 @@ use Rattle.jup_world.specs.WorldSteps.{with_edit, one_taken, one_handed}
 
 -- what a site sends up, and what it is handed
 abbrev pub BoardUp : Type 0
-BoardUp = Up BoardOp
+BoardUp = Up BoardBatch
 
 -- and is handed
 abbrev pub BoardDown : Type 0
-BoardDown = Down BoardOp
+BoardDown = Down BoardBatch
 
--- the answer to a command: the edit that was made, or the number of the refusal
+-- commands, each of them an edit of its own
+abbrev pub singles : List Command → List Commands
+singles cs = map (λ c. c ∷ []) cs
+
+-- the answer to an edit's commands: the edit that was made, or the number of the refusal
 abbrev pub EditAnswer : Type 0
-EditAnswer = Result Edit ℕ
+EditAnswer = Result BoardEdits ℕ
 
 -- a call with its reply
 pub record Made : Type 0 where
@@ -44,7 +46,7 @@ made e = record { call = e.call; reply = e.reply }
 -- a step of one site: an edit with its answer, a message that the hub took with its place in the order, or messages that a
 -- fetch of at most so many gave
 pub data Step : Type 0 where
-  Edited : Command → EditAnswer → Step
+  Edited : Commands → EditAnswer → Step
   Took : BoardUp → Option ℕ → Step
   Got : ℕ → List BoardDown → Step
 
@@ -56,33 +58,33 @@ calls_of i (Took u p ∷ log) = record { call = Take i u; reply = reply.Taken (O
 calls_of i (Got m ds ∷ log) = record { call = Fetch i m; reply = reply.Fetched (Ok ds) } ∷ calls_of i log
 
 -- the edits of a site's log: the commands, and what they were answered
-abbrev pub edits_of : List Step → List (Command × EditAnswer)
+abbrev pub edits_of : List Step → List (Commands × EditAnswer)
 edits_of [] = []
 edits_of (Edited c r ∷ log) = (c, r) ∷ edits_of log
 edits_of (Took u p ∷ log) = edits_of log
 edits_of (Got m ds ∷ log) = edits_of log
 
 -- a site with what it sent, by what a command came to
-abbrev pub edit_by : Result BoardOp ℕ → BoardAttached → BoardAttached
-edit_by (Ok op) a = with_edit board_operations op a
+abbrev pub edit_by : Result BoardBatch ℕ → BoardAttached → BoardAttached
+edit_by (Ok op) a = with_edit board_batches op a
 edit_by (Err number) a = a
 
 -- what the command is answered
-abbrev pub answer_by : Result BoardOp ℕ → EditAnswer
+abbrev pub answer_by : Result BoardBatch ℕ → EditAnswer
 answer_by (Ok op) = Ok (edit_of op)
 answer_by (Err number) = Err number
 
 -- a site after a command
-abbrev pub edited : Command → BoardAttached → BoardAttached
-edited c a = edit_by (edit_answer board_operations c a.site) a
+abbrev pub edited : Commands → BoardAttached → BoardAttached
+edited c a = edit_by (edit_answer board_batches c a.site) a
 
 -- its answer
-abbrev pub answer_to : Command → BoardAttached → EditAnswer
-answer_to c a = answer_by (edit_answer board_operations c a.site)
+abbrev pub answer_to : Commands → BoardAttached → EditAnswer
+answer_to c a = answer_by (edit_answer board_batches c a.site)
 
 -- a site after a message
 abbrev pub delivered : BoardDown → BoardAttached → BoardAttached
-delivered d a = one_handed board_operations d a.down a
+delivered d a = one_handed board_batches d a.down a
 
 -- and after some
 abbrev pub all_delivered : List BoardDown → BoardAttached → BoardAttached
@@ -91,7 +93,7 @@ all_delivered (d ∷ ds) a = all_delivered ds (delivered d a)
 
 -- the site refuses none of them
 abbrev pub IsAccepted : BoardDown → BoardAttached → Type 0
-IsAccepted d a = deliver_fault board_operations d a.site ≡ None
+IsAccepted d a = deliver_fault board_batches d a.site ≡ None
 
 -- in turn
 abbrev pub AcceptsAll : List BoardDown → BoardAttached → Type 0
@@ -103,7 +105,7 @@ AcceptsAll (d ∷ ds) a = IsAccepted d a × AcceptsAll ds (delivered d a)
 abbrev pub IsPlayed : BoardAttached → List Step → BoardAttached → Type 0
 IsPlayed a [] b = a ≡ b
 IsPlayed a (Edited c r ∷ log) b = (r ≡ answer_to c a) × IsPlayed (edited c a) log b
-IsPlayed a (Took u p ∷ log) b = (a.up ≡ u ∷ drop 1 a.up) × IsPlayed (one_taken board_operations a) log b
+IsPlayed a (Took u p ∷ log) b = (a.up ≡ u ∷ drop 1 a.up) × IsPlayed (one_taken board_batches a) log b
 IsPlayed a (Got n ds ∷ log) b = (0 < n) × AcceptsAll ds a × IsPlayed (all_delivered ds a) log b
 
 -- the site of a call; 0 for a join
@@ -163,12 +165,12 @@ abbrev pub IsSite : ℕ → ℕ → Type 0
 IsSite n i = (0 < i) × (i ≤ n)
 
 -- what a site asked and was answered at an event, if it edited there
-abbrev pub edit_at : ℕ → BoardEvent → BoardReply → List (Command × EditAnswer)
+abbrev pub edit_at : ℕ → BoardEvent → BoardReply → List (Commands × EditAnswer)
 edit_at i (event.Edit j c) (WasMade e) = cond (eqb j i) ((c, Ok e) ∷ []) []
 edit_at i (event.Edit j c) (WasRefused n) = cond (eqb j i) ((c, Err n) ∷ []) []
 edit_at i _ _ = []
 
 -- and in a whole trace
-abbrev pub edits_at : ℕ → List (Happened Command Edit ℕ) → List (Command × EditAnswer)
+abbrev pub edits_at : ℕ → List (Happened Commands BoardEdits ℕ) → List (Commands × EditAnswer)
 edits_at i [] = []
 edits_at i (h ∷ hs) = edit_at i h.event h.reply ++ edits_at i hs

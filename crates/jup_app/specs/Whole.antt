@@ -1,10 +1,9 @@
 -- What a whole run comes to.
 use Rattle.std.specs.Prelude.{◌≡◌, ℕ, suc, ◌<◌, List, [], ◌∷◌, ◌++◌, length, map, get_or, Some, Result, Ok, Err}
 use Rattle.jup_window.specs.declared.commands.Command.{Command}
-use Rattle.jup_window.specs.declared.edits.Edit.{Edit}
+use Rattle.jup_batch.specs.BatchBoards.{BoardEdits, Windows, content, meaning}
 use Rattle.jup_window.specs.declared.faults.EditFault.{EditFault}
-use Rattle.jup_window.specs.Boards.{Windows, content, meaning}
-use Rattle.jup_window.specs.BoardOperations.{board_operations}
+use Rattle.jup_batch.specs.BoardBatches.{board_batches}
 use Rattle.jup_star.specs.declared.calls.Call.TheVariants.{Join}
 use Rattle.jup_star.specs.StarStates.{opened_star, link_of}
 use Rattle.jup_star.specs.StarCalls.{BoardStar, BoardLink}
@@ -17,12 +16,12 @@ use Rattle.jup_world.specs.WorldStates.{opened_world, attached}
 use Rattle.jup_world.specs.WorldSteps.{run}
 use Rattle.jup_world.specs.Turns.{turns, edits, own_edits}
 use Rattle.jup_app.specs.declared.runs.drain.SiteEnd.{SiteEnd}
-use Rattle.jup_app.specs.Runs.{Step, calls_of, edits_of, made_at, site_of, IsSite, joins, assembled, edits_at}
+use Rattle.jup_app.specs.Runs.{Step, calls_of, edits_of, made_at, site_of, IsSite, joins, assembled, edits_at, singles}
 use Rattle.jup_app.specs.Plays.{link_with, answered}
 
 -- the world that n sites, a history after their joins and one log for each site make
 abbrev pub assembled_world : Windows → ℕ → ℕ → (ℕ → List Step) → List Entry → BoardWorld
-assembled_world board limit n logs later = run board_operations (opened_world board_operations board limit) (joins n ++ assembled n logs later)
+assembled_world board limit n logs later = run board_batches (opened_world board_batches board limit) (joins n ++ assembled n logs later)
 
 -- There is a legal history and one log for each script, of which the assembled run of the core has these replies, this star
 -- and these sites, and no message on its way
@@ -43,9 +42,9 @@ pub record IsRunOf (board : Windows) (limit n : ℕ) (scripts : List (List Comma
   pub star_is : (assembled_world board limit n logs later).star ≡ star
   pub count : length ends ≡ n
   pub sites : (k : ℕ) (d : SiteEnd) → k < n → attached (suc k) (assembled_world board limit n logs later).sites ≡ Some (link_with (get_or ends k d).site [])
-  -- the edits of each site are its script in order, with the replies that are given
+  -- the edits of each site are the commands of its script in order, each an edit, with the replies that are given
   pub edits : (k : ℕ) → k < n → edits_at (suc k) (assembled_world board limit n logs later).trace ≡ edits_of (logs (suc k))
-  pub commands : (k : ℕ) → k < n → map (λ e. e.0) (edits_of (logs (suc k))) ≡ get_or scripts k []
+  pub commands : (k : ℕ) → k < n → map (λ e. e.0) (edits_of (logs (suc k))) ≡ singles (get_or scripts k [])
   pub replies : (k : ℕ) (d : SiteEnd) → k < n → map (λ e. e.1) (edits_of (logs (suc k))) ≡ map answered (get_or ends k d).replies.items
   -- and nothing waits for any of them
   pub quiet : (k : ℕ) (l : BoardLink) → k < n → link_of (suc k) star.links ≡ Some l → l.outbox ≡ []
@@ -55,7 +54,7 @@ abbrev pub IsRun : Windows → ℕ → List (List Command) → BoardStar → Lis
 IsRun board limit scripts star ends = IsRunOf board limit (length scripts) scripts star ends
 
 -- the edits that were made
-abbrev pub accepted : List (Result Edit EditFault) → List Edit
+abbrev pub accepted : List (Result BoardEdits EditFault) → List BoardEdits
 accepted [] = []
 accepted (Ok e ∷ rs) = e ∷ accepted rs
 accepted (Err f ∷ rs) = accepted rs
@@ -69,4 +68,4 @@ pub record AllAgree (board : Windows) (star : BoardStar) (ends : List SiteEnd) :
   -- the order has each site's accepted edits once, in the order of its script
   pub own : (k : ℕ) (d : SiteEnd) → k < length ends → own_edits (turns (suc k) star.order) ≡ accepted (get_or ends k d).replies.items
   -- and nothing else
-  pub no_other : Each (λ (e : OrderEntry Edit). IsSite (length ends) e.site) star.order
+  pub no_other : Each (λ (e : OrderEntry BoardEdits). IsSite (length ends) e.site) star.order

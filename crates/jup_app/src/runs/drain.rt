@@ -6,9 +6,10 @@ ghost use Rattle.jup_app.specs.Drains.{Drained, EndsQuiet, IsDrained};
 use crate::runs::calls::Caller;
 use crate::runs::receive::receive;
 use crate::runs::stop::Stop;
+use jup_batch::BoardEdits;
 use jup_hub::Hub;
 use jup_star::Site;
-use jup_window::{Edit, EditFault};
+use jup_window::EditFault;
 use std::alloc::Global;
 use std::sync::Wait;
 
@@ -16,7 +17,7 @@ use std::sync::Wait;
 #[derive(Drop)]
 pub struct SiteEnd {
     pub site: Site,
-    pub replies: Vec<Result<Edit, EditFault>>,
+    pub replies: Vec<Result<BoardEdits, EditFault>>,
 }
 
 // Receives once for each site. Whether there was anything.

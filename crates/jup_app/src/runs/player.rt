@@ -7,10 +7,11 @@ ghost use Rattle.jup_app.specs.Plays.{link_with, Handles, CatchesUp, Answered, P
 use crate::runs::calls::Caller;
 use crate::runs::receive::receive;
 use crate::runs::stop::Stop;
+use jup_batch::BoardEdits;
 use jup_hub::Hub;
 use jup_session::{Gate, pass_gate};
 use jup_star::{Site, Up};
-use jup_window::{Command, Edit, EditFault};
+use jup_window::{Command, EditFault};
 use std::alloc::Global;
 use std::sync::Wait;
 
@@ -22,7 +23,7 @@ pub(crate) struct Player {
     pub(crate) site: Site,
     /// How many of its edits were taken.
     pub(crate) taken: u32,
-    pub(crate) replies: Vec<Result<Edit, EditFault>>,
+    pub(crate) replies: Vec<Result<BoardEdits, EditFault>>,
 }
 
 // A fault that is an answer: all but want of memory.
@@ -96,7 +97,7 @@ impl Player {
         requires { IsPassOf hub.now self.old.caller.pass }
         ensures pass { IsPassOf hub.now self.new.caller.pass }
         ensures number { self.new.number ≡ self.old.number }
-        ensures answered { IfOk result (λ _. Answered self.old.number (view_of self.old.caller.pass) (view_of self.new.caller.pass) self.old.caller.calls self.new.caller.calls self.old.site self.new.site command.now self.old.replies.items self.new.replies.items) }
+        ensures answered { IfOk result (λ _. Answered self.old.number (view_of self.old.caller.pass) (view_of self.new.caller.pass) self.old.caller.calls self.new.caller.calls self.old.site self.new.site (command.now ∷ []) self.old.replies.items self.new.replies.items) }
         ensures caught { IfOk result (λ _. CatchesUp self.old.number (view_of self.old.caller.pass) (view_of self.new.caller.pass)) }
     {
         self.catch_up(rt, alloc, hub)?;

@@ -1,6 +1,6 @@
 //! Whole runs.
 ghost use Rattle.std.specs.Prelude.{◌≡◌, ◌≤◌, [], ◌∷◌, length, map, IfOk};
-ghost use Rattle.jup_window.specs.Boards.{bare};
+ghost use Rattle.jup_batch.specs.BatchBoards.{bare};
 ghost use Rattle.jup_window.specs.Entries.{EachWidget};
 ghost use Rattle.jup_star.specs.StarStates.{opened_star};
 ghost use Rattle.jup_star.specs.Openings.{IsShort};

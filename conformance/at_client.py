@@ -8,7 +8,7 @@ SITE = 7
 
 def greet(client, board):
     """Takes the client in as a site, with a board and a limit."""
-    client.link.lines.are_next("hello 2")
+    client.link.lines.are_next("hello 3")
     client.link.send_lines(f"welcome {SITE} {material.LIMIT}", *board.lines, "ready")
     client.printed.are_next(f"site {SITE}")
 
@@ -52,10 +52,10 @@ def judge_row(client, row, count, names, height):
     """`height` is how many lines the client's board is printed in."""
     own, _, other = row.spelled(*names)
     client.types(f"{row.command()}\n")
-    client.link.lines.are_next(*f"op {count} {count} {own}".split(" / "))
+    client.link.lines.are_next(*f"batch {count} {count} 1 / do {own}".split(" / "))
     if not client.printed.next().startswith("made "):
         raise Differs("'made' was due")
-    client.link.send_lines(*f"op {count} {count} {other}".split(" / "))
+    client.link.send_lines(*f"batch {count} {count} 1 / do {other}".split(" / "))
     client.types("sync\nshow\n")
     client.link.lines.are_next(f"ping {count + 1}")
     client.link.send_lines(f"pong {count + 1}")

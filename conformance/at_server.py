@@ -76,7 +76,7 @@ class Sites:
 
     def joins(self, who):
         """Greets, and gives the lines of the board in the transcript's window."""
-        self.sends(who, "hello 2")
+        self.sends(who, "hello 3")
         self.is_told(who, f"welcome {len(self.numbers)}")
         lines = []
         while (line := self.site(who).next()) != "ready":
@@ -122,12 +122,12 @@ def judge_transforms(address, window, before):
 
 
 def judge_row(sites, count, client, client_after, server):
-    sites.sends("B", f"op {count} {count} {server} / ping {count}")
+    sites.sends("B", f"batch {count} {count} 1 / do {server} / ping {count}")
     sites.is_told("B", f"pong {count}")
-    sites.sends("A", f"op {count} {count} {client} / ping {count}")
-    sites.is_told("A", f"op {count} {count} {server} / pong {count}")
+    sites.sends("A", f"batch {count} {count} 1 / do {client} / ping {count}")
+    sites.is_told("A", f"batch {count} {count} 1 / do {server} / pong {count}")
     sites.sends("B", f"ping {count}")
-    sites.is_told("B", f"op {count} {count + 1} {client_after} / pong {count}")
+    sites.is_told("B", f"batch {count} {count + 1} 1 / do {client_after} / pong {count}")
 
 
 def are_shown(rows, lines):
@@ -167,7 +167,7 @@ def hears_pong(sites, row):
 def limit_of(address):
     """The limit that the server tells to who joins."""
     link = Link.to(address)
-    link.send_lines("hello 2")
+    link.send_lines("hello 3")
     welcome = re.fullmatch(r"welcome [1-9]\d* (\d+)", link.lines.next())
     link.close()
     return int(welcome[1]) if welcome else material.LIMIT

@@ -79,7 +79,7 @@ class Peer:
 
     def hello(self):
         """Greets, and reads to `ready`."""
-        self.send(b"hello 2\n")
+        self.send(b"hello 3\n")
         self.site = int(self.lines.readline().split()[1])
         while self.lines.readline() != b"ready\n":
             pass
@@ -87,7 +87,7 @@ class Peer:
     def edit(self):
         """Inserts a character at the front of text 1 of window 1."""
         self.edits += 1
-        self.send(b"op %d %d 1 1 text ins 0 %d.%d 97\n" % (self.edits - 1, self.heard, self.site, self.edits))
+        self.send(b"batch %d %d 1\ndo 1 1 text ins 0 %d.%d 97\n" % (self.edits - 1, self.heard, self.site, self.edits))
 
     def sync(self):
         """Pings, and reads to the pong."""
@@ -95,12 +95,18 @@ class Peer:
         self.send(b"ping %d\n" % self.pings)
         while True:
             line = self.lines.readline()
-            if line.startswith(b"op "):
-                self.heard += 1
+            if line.startswith(b"batch "):
+                self.hear(int(line.split()[3]))
             elif line == b"pong %d\n" % self.pings:
                 return
             elif not line.startswith(b"ack "):
                 raise AssertionError(f"site {self.site} read {line}")
+
+    def hear(self, count):
+        """Reads the operations of an edit behind its first line."""
+        for _ in range(count):
+            assert self.lines.readline().startswith(b"do ")
+        self.heard += 1
 
     def bye(self):
         self.send(b"bye\n")

@@ -1,4 +1,5 @@
 """Boards, operations and one end of a link, as the fakes have them: as little as a server and a client need."""
+import copy
 import re
 
 NUM, INT, ID, NAME = r"(0|[1-9]\d*)", r"(0|-?[1-9]\d*)", r"(0|[1-9]\d*)", r"(0|[1-9]\d*)\.(0|[1-9]\d*)"
@@ -100,6 +101,16 @@ def past(op, other):
     return op.at(op.place + (other.place <= op.place))
 
 
+def grid(client, server, is_tie_wrong=False):
+    """Two lists of operations, past one another: each of the client's in order past the whole of the server's as it then stands."""
+    server = list(server)
+    for at, op in enumerate(client):
+        for below, other in enumerate(server):
+            op, server[below] = transform(op, other, is_tie_wrong)
+        client = [*client[:at], op, *client[at + 1 :]]
+    return client, server
+
+
 class Board:
     """Widgets by their ids, with the window lines in order. A sequence is a list of names with values."""
 
@@ -130,6 +141,16 @@ class Board:
                 yield f"{kind} {wid}"
                 for (site, count), value in held:
                     yield f"{'char' if kind == 'text' else 'item'} {site}.{count} {value}"
+
+    def apply_all(self, ops):
+        """Does all of the operations, or refuses them and stays as it was."""
+        before = copy.deepcopy(self.windows)
+        try:
+            for op in ops:
+                self.apply(op)
+        except Fault:
+            self.windows = before
+            raise
 
     def held(self, op):
         kind, held = self.windows.get(op.win, {}).get(op.wid, (None, None))
@@ -162,16 +183,16 @@ class Board:
 
 
 class End:
-    """One end of a link: its counts, and its operations that the other end is not known to have received."""
+    """One end of a link: its counts, and its edits, lists of operations, that the other end is not known to have received."""
 
     def __init__(self, is_client, is_tie_wrong=False):
         self.is_client, self.is_tie_wrong = is_client, is_tie_wrong
         self.sent, self.heard, self.acknowledged, self.owed, self.queue = 0, 0, 0, 0, []
 
-    def message(self, op):
-        self.queue.append(op)
+    def message(self, ops):
+        self.queue.append(ops)
         self.sent, self.owed = self.sent + 1, 0
-        return f"op {self.sent - 1} {self.heard} {op}"
+        return "\n".join([f"batch {self.sent - 1} {self.heard} {len(ops)}", *(f"do {it}" for it in ops)])
 
     def take_ack(self, count):
         if not self.acknowledged <= count <= self.sent:
@@ -179,18 +200,18 @@ class End:
         del self.queue[: count - self.acknowledged]
         self.acknowledged = count
 
-    def receive(self, mine, heard, op):
+    def receive(self, mine, heard, ops):
         """What is to be applied, moved past what the other end had not received."""
         if mine != self.heard:
             raise Fault(20)
         self.take_ack(heard)
         for at, own in enumerate(self.queue):
             if self.is_client:
-                self.queue[at], op = transform(own, op, self.is_tie_wrong)
+                self.queue[at], ops = grid(own, ops, self.is_tie_wrong)
             else:
-                op, self.queue[at] = transform(op, own, self.is_tie_wrong)
+                ops, self.queue[at] = grid(ops, own, self.is_tie_wrong)
         self.heard, self.owed = self.heard + 1, self.owed + 1
-        return op
+        return ops
 
     def owes(self):
         """The acknowledgement that is due, or None."""

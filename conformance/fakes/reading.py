@@ -1,7 +1,7 @@
 """Lines of a link, read strictly, and commands as a client's user types them."""
 import re
 
-from boards import NUM, Fault, number
+from boards import NUM, Fault, number, read_op
 
 WORDS = {
     "hello": NUM,
@@ -14,6 +14,7 @@ WORDS = {
     "char": rf"{NUM}\.{NUM} {NUM}",
     "item": rf"{NUM}\.{NUM} [ -~]{{1,48}}",
     "ready": "",
+    "batch": f"{NUM} {NUM} {NUM}",
     "ack": NUM,
     "ping": NUM,
     "pong": NUM,
@@ -41,17 +42,35 @@ def read_line(line, is_lax=False):
     if is_lax:
         line = re.sub(r"(?<![\w.])0+(?=\d)", "", line)
     word, space, rest = line.partition(" ")
-    if word == "op":
-        found = re.fullmatch(rf"{NUM} {NUM} (.+)", rest)
-        if not found:
-            raise Fault(40)
-        return word, [number(found[1]), number(found[2]), found[3]]
+    if word == "do":
+        return word, [read_op(rest)]
     if word not in WORDS or bool(space) != bool(WORDS[word]) or not re.fullmatch(WORDS[word], rest):
         raise Fault(40)
-    numbers = [number(it) for it in rest.split(" ")] if re.fullmatch(r"\d+( \d+)?", rest) else [rest]
-    if word == "hello" and numbers != [2]:
+    numbers = [number(it) for it in rest.split(" ")] if re.fullmatch(r"\d+( \d+)*", rest) else [rest]
+    if word == "hello" and numbers != [3]:
         raise Fault(42)
+    if word == "batch" and not 1 <= numbers[2] <= 32:
+        raise Fault(40)
     return word, numbers
+
+
+class Gathering:
+    """The lines of a batch, until all are there."""
+
+    def __init__(self):
+        self.counts, self.left, self.ops = [], 0, []
+
+    def take(self, word, rest):
+        """The message that a line ends: its first word, and what it says; or None within a batch."""
+        if self.left != 0 if word != "do" else self.left == 0:
+            raise Fault(44)
+        if word == "batch":
+            self.counts, self.left, self.ops = rest[:2], rest[2], []
+            return None
+        if word != "do":
+            return word, rest
+        self.left, self.ops = self.left - 1, [*self.ops, *rest]
+        return None if self.left else ("batch", [*self.counts, self.ops])
 
 
 QUOTED = r'"((?:[ !#-\[\]-~]|\\"|\\\\|\\u\{(?:0|[1-9a-f][0-9a-f]*)\})*)"'

@@ -2,6 +2,7 @@ use jup_setting::{Slider, Toggle};
 use jup_text::{read_command, write_board, write_edit};
 use jup_value::{Item, Label, Name, Seq};
 use jup_window::{Board, Command, Edit, Effect, Setting, Value, Widget};
+use jup_xform::Few;
 use std::test::Fail;
 
 fn insertion(value: Value) -> Command {
@@ -108,10 +109,30 @@ fn an_edit_is_printed_with_its_name(rt: HostRuntime) -> Result<(), Fail> {
             wid: 4,
             what,
         };
-        write_edit(rt.alloc(), &edit, &mut text)?;
+        let edits = Few::from_slice(rt.alloc(), &[edit])?;
+        write_edit(rt.alloc(), &edits, &mut text)?;
         let wanted = format!(in rt.alloc(); "made {printed}")?;
         assert_eq!(rt; text.as_slice(), wanted.as_bytes());
     }
+    Ok(())
+}
+
+#[test]
+fn edits_are_printed_with_a_semicolon_between_them(rt: HostRuntime) -> Result<(), Fail> {
+    let first = Edit {
+        win: 1,
+        wid: 1,
+        what: Effect::Slid(7),
+    };
+    let second = Edit {
+        win: 2,
+        wid: 3,
+        what: Effect::Toggled(false),
+    };
+    let edits = Few::from_slice(rt.alloc(), &[first, second])?;
+    let mut text = Vec::new(rt.alloc());
+    write_edit(rt.alloc(), &edits, &mut text)?;
+    assert_eq!(rt; text.as_slice(), b"set 1 1 7; set 2 3 off".as_slice());
     Ok(())
 }
 

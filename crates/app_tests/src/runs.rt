@@ -216,36 +216,3 @@ fn a_refused_command_is_answered(rt: HostRuntime) {
     assert!(rt; replies[2].is_ok());
     assert_eq!(rt; items(end.star.board()), 0);
 }
-
-// Run this with each allocation refused in turn: the run is refused for want of memory, or runs.
-#[test]
-fn want_of_memory_refuses_a_run(rt: HostRuntime) {
-    let alloc = rt.alloc();
-    let two = insertions(&rt, alloc, 'a', 2);
-    let run = run_two(&rt, alloc, blank(&rt, alloc), LIMIT, &two, &two, &Open);
-    let number = match run {
-        Ok(end) => {
-            assert!(rt; agree(&end));
-            0
-        }
-        Err(fault) => fault.number(),
-    };
-    assert!(rt; number == 0 || number == 8);
-}
-
-// The same of many sites.
-#[test]
-fn want_of_memory_refuses_a_run_of_many(rt: HostRuntime) {
-    let alloc = rt.alloc();
-    let all = scripts(&rt, alloc, 8, 2);
-    let run = run_many(&rt, alloc, blank(&rt, alloc), LIMIT, &all, &Open);
-    let number = match run {
-        Ok(end) => {
-            assert!(rt; agree(&end));
-            assert_eq!(rt; end.star.order().len(), 16);
-            0
-        }
-        Err(fault) => fault.number(),
-    };
-    assert!(rt; number == 0 || number == 8);
-}

@@ -11,7 +11,7 @@ use std::process::Abort;
 use std::test::Fail;
 
 // The second insertion of a site.
-fn insert_next(place: u32, site: u32, value: char) -> TextOp {
+pub(crate) fn insert_next(place: u32, site: u32, value: char) -> TextOp {
     let name = Name { site, number: 2 };
     SeqOp::Insert {
         place,
@@ -62,7 +62,7 @@ fn each_operation_is_judged_after_those_before_it(rt: HostRuntime) -> Result<(),
 }
 
 // Window 1 has an empty text 1 and a toggle 2 that is off.
-fn text_and_toggle(rt: &impl Abort, alloc: Global) -> Board {
+pub(crate) fn text_and_toggle(rt: &impl Abort, alloc: Global) -> Board {
     let mut board = Board::new(alloc);
     board.add_window(alloc, 1).expect(rt, "it is new");
     let text = Widget::Text(Seq::new(alloc));
@@ -72,7 +72,7 @@ fn text_and_toggle(rt: &impl Abort, alloc: Global) -> Board {
     board
 }
 
-fn on_text(op: TextOp) -> BoardOp {
+pub(crate) fn on_text(op: TextOp) -> BoardOp {
     let op = WidgetOp::Text(op);
     BoardOp { win: 1, wid: 1, op }
 }

@@ -1,4 +1,4 @@
-//! Sequences of many items: how many blocks they stand in, which names are found, other values, and growths that are refused.
+//! Sequences of many items: how many blocks they stand in, which names are found, and other values.
 use jup_value::{Item, Name, NoMemory, Seq};
 use std::alloc::Global;
 
@@ -15,7 +15,7 @@ fn put(seq: &mut Seq<u32>, name: Name, at_end: bool) -> Result<(), NoMemory> {
 }
 
 // The items 0, 1 and so on, each put at the end, or each at the front.
-fn filled(alloc: Global, count: u32, at_end: bool) -> Result<Seq<u32>, NoMemory> {
+pub(crate) fn filled(alloc: Global, count: u32, at_end: bool) -> Result<Seq<u32>, NoMemory> {
     let mut seq = Seq::new(alloc);
     for number in 0..count {
         put(&mut seq, Name { site: 0, number }, at_end)?;
@@ -33,7 +33,7 @@ fn drop_first(seq: &mut Seq<u32>, count: u32) {
 }
 
 // Whether the items are the numbers from one up to another, in order, and each is found at its place.
-fn counts(seq: &Seq<u32>, from: u32, end: u32) -> bool {
+pub(crate) fn counts(seq: &Seq<u32>, from: u32, end: u32) -> bool {
     let mut at: u32 = 0;
     for item in seq {
         if item.value != at.saturating_add(from) || seq.get(at) != Some(item) {
@@ -149,30 +149,4 @@ fn names_are_found_whether_or_not_a_later_one_was_held(rt: HostRuntime) {
     }
     drop_first(&mut seq, 1);
     assert_eq!(rt; seq.place_of(Name { site: 2, number: 5 }), None);
-}
-
-// Puts the next item at the end, or is refused and leaves the items as they were.
-fn appends(seq: &mut Seq<u32>) -> bool {
-    let number = seq.len();
-    let blocks = seq.blocks();
-    let refused = put(seq, Name { site: 0, number }, true).is_err();
-    if refused {
-        seq.blocks() == blocks && counts(seq, 0, number)
-    } else {
-        seq.len() == number.saturating_add(1)
-    }
-}
-
-#[test]
-fn refused_room_leaves_the_items(rt: HostRuntime) {
-    let mut seq = Seq::new(rt.alloc());
-    for _ in 0..300 {
-        assert!(rt; appends(&mut seq));
-    }
-    let len = seq.len();
-    assert!(rt; 290 < len && counts(&seq, 0, len));
-    match seq.copy(rt.alloc()) {
-        Ok(copied) => assert!(rt; counts(&copied, 0, len)),
-        Err(_) => assert!(rt; counts(&seq, 0, len)),
-    }
 }

@@ -1,4 +1,4 @@
-//! Refusals in their order, each call once where it succeeds, and growths that are refused.
+//! Refusals in their order, and each call once where it succeeds.
 use jup_seq::SeqOp;
 use jup_setting::{SetOp, Slider, Toggle};
 use jup_value::{Item, Label, Name, NoMemory, Seq};
@@ -341,27 +341,6 @@ fn settings_are_moved_on_one_widget_alone(rt: HostRuntime) {
         assert_eq!(rt; c, on(3));
         assert_eq!(rt; s.op, WidgetOp::Toggle(server), "widget {wid}");
     }
-}
-
-#[test]
-fn refused_growth_leaves_the_board(rt: HostRuntime) {
-    let mut board = Board::new(rt.alloc());
-    if board.add_window(rt.alloc(), 1).is_err() {
-        assert!(rt; board.windows().is_empty());
-        return;
-    }
-    let text = Widget::Text(Seq::new(rt.alloc()));
-    if board.add_widget(1, 1, text).is_err() {
-        assert!(rt; board.widget(1, 1).is_none());
-        return;
-    }
-    let applied = apply(rt.alloc(), &mut board, insert_letter(1, 0));
-    assert_eq!(rt; board.has_site(1), applied);
-    assert!(rt;
-        board
-            .copy(rt.alloc())
-            .map_or(true, |copied| copied.same(&board))
-    );
 }
 
 #[test]

@@ -43,18 +43,13 @@ fn insert(letter: char) -> Command {
 }
 
 // Both type, and then both hear. The boards of the star and of the two, as texts.
-fn meet(
-    alloc: Global,
-    star: &mut Star,
-    one: &mut Site,
-    other: &mut Site,
-) -> anyhow::Result<Vec<u8>> {
+fn meet(alloc: Global, star: &mut Star, one: &mut Site, two: &mut Site) -> anyhow::Result<Vec<u8>> {
     edit(alloc, star, one, &insert('a'))?;
-    edit(alloc, star, other, &insert('x'))?;
+    edit(alloc, star, two, &insert('x'))?;
     hear(alloc, star, one)?;
-    hear(alloc, star, other)?;
+    hear(alloc, star, two)?;
     let mut text = Vec::new(alloc);
-    for board in [star.board(), one.board(), other.board()] {
+    for board in [star.board(), one.board(), two.board()] {
         write_board(alloc, board, &mut text)?;
     }
     Ok(text)
@@ -69,8 +64,8 @@ fn main(rt: HostRuntime) -> anyhow::Result<()> {
         return Ok(());
     }
     let mut star = Star::open(alloc, board, 1_000)?;
-    let (mut one, mut other) = (join(alloc, &mut star)?, join(alloc, &mut star)?);
-    let text = meet(alloc, &mut star, &mut one, &mut other)?;
+    let (mut one, mut two) = (join(alloc, &mut star)?, join(alloc, &mut star)?);
+    let text = meet(alloc, &mut star, &mut one, &mut two)?;
     rt.stdout().write_all(text.as_slice())?;
     Ok(())
 }

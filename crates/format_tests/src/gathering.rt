@@ -8,7 +8,7 @@ use jup_setting::SetOp;
 use jup_value::{Item, Label};
 use jup_window::{BoardOp, WidgetOp};
 use jup_wire::{Line, Reader, write};
-use jup_xform::{Batch, NoMemory};
+use jup_xform::Batch;
 use std::alloc::Global;
 use std::marker::PhantomData;
 use std::process::Abort;
@@ -27,7 +27,7 @@ fn insertion(k: u32) -> BoardOp {
 }
 
 // A message of so many operations.
-fn message(rt: &impl Abort, alloc: Global, count: u32) -> Msg<BoardBatch> {
+pub(crate) fn message(rt: &impl Abort, alloc: Global, count: u32) -> Msg<BoardBatch> {
     // Types that an operation holds, named so that the borrow checker knows of them.
     let _of: PhantomData<(SeqOp<Label>, WidgetOp)> = PhantomData;
     let mut ops = Vec::new(alloc);
@@ -43,17 +43,17 @@ fn message(rt: &impl Abort, alloc: Global, count: u32) -> Msg<BoardBatch> {
 }
 
 // What a gathering gives for a line.
-fn pushed(rt: &impl Abort, alloc: Global, gather: &mut Gather, line: &Line) -> Gathered {
+pub(crate) fn pushed(rt: &impl Abort, alloc: Global, gather: &mut Gather, line: &Line) -> Gathered {
     gather.push(alloc, line).expect(rt, "memory")
 }
 
-const TOGGLED: BoardOp = BoardOp {
+pub(crate) const TOGGLED: BoardOp = BoardOp {
     win: 1,
     wid: 3,
     op: WidgetOp::Toggle(SetOp::Set(true)),
 };
 
-const TWO: Line = Line::Batch {
+pub(crate) const TWO: Line = Line::Batch {
     mine: 5,
     heard: 7,
     count: 2,
@@ -195,37 +195,4 @@ fn batch_of_no_message_is_misplaced(rt: HostRuntime) {
         assert_eq!(rt; pushed(&rt, alloc, &mut gather, &line), Gathered::Misplaced);
         is_stopped(&rt, alloc, &mut gather);
     }
-}
-
-// Run these with each allocation refused in turn: a call that lacks memory changes nothing, and made again
-// it gives its answer. What the test itself lacks ends it.
-
-#[test]
-fn a_line_that_lacks_memory_is_not_held(rt: HostRuntime) {
-    let alloc = rt.alloc();
-    let mut gather = Gather::new();
-    let mut gathered = gather.push(alloc, &TWO);
-    if gathered == Err(NoMemory) {
-        assert!(rt; !gather.part());
-        gathered = gather.push(alloc, &TWO);
-    }
-    assert_eq!(rt; gathered, Ok(Gathered::Held));
-    assert_eq!(rt;
-        pushed(&rt, alloc, &mut gather, &Line::Do(TOGGLED)),
-        Gathered::Held
-    );
-    assert!(rt; gather.part());
-}
-
-#[test]
-fn lines_that_lack_memory_are_made_again(rt: HostRuntime) {
-    let alloc = rt.alloc();
-    let msg = message(&rt, alloc, 2);
-    let mut lines = lines_of_op(alloc, &msg);
-    if lines.is_err() {
-        lines = lines_of_op(alloc, &msg);
-    }
-    let lines = lines.expect(&rt, "memory");
-    assert_eq!(rt; lines.as_slice().len(), 3);
-    assert_eq!(rt; lines.as_slice()[0], TWO);
 }

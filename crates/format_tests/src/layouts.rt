@@ -1,11 +1,12 @@
 //! Layouts written by hand, their refusals with their lines, and boards taken back from their lines.
+use jup_layout::{LayoutFault, board_of, layout, lines_of};
 use jup_value::Name;
 use jup_window::Board;
-use jup_wire::{LayoutFault, Line, board_of, layout, lines_of, write};
+use jup_wire::{Line, write};
 use std::alloc::Global;
 use std::process::Abort;
 
-const FOUR_WIDGETS: &[u8] = b"window 1
+pub(crate) const FOUR_WIDGETS: &[u8] = b"window 1
 text 1
 char 0.1 122
 list 2

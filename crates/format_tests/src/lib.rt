@@ -6,8 +6,12 @@ ghost use Rattle.std.specs.Prelude.{◌≡◌};
 #[cfg(test)]
 mod gathering;
 #[cfg(test)]
+mod growths;
+#[cfg(test)]
 mod layouts;
 #[cfg(test)]
 mod lines;
+#[cfg(test)]
+mod printed_boards;
 #[cfg(test)]
 mod texts;

@@ -1,6 +1,7 @@
 -- The faults of runs.
 use Rattle.std.specs.Prelude.{◌≡◌, ℕ, ◌&&◌, nat_le, Option, Some, None, Result, Ok, Err, IfErr, if◌then◌else◌}
 use Rattle.std.specs.Option.{option_map}
+use Rattle.jup_limits.specs.Limits.{most_attached}
 use Rattle.jup_batch.specs.BatchBoards.{Windows}
 use Rattle.jup_star.specs.StarCalls.{star_open_fault}
 use Rattle.jup_star.specs.declared.faults.OpenFault.{OpenFault}
@@ -55,7 +56,7 @@ opening_refusal board limit = option_map open_refusal (star_open_fault board lim
 
 -- a number of sites that is not 1 to 64 is refused before that
 abbrev pub many_refusal : ℕ → Windows → ℕ → Option RunFault
-many_refusal sites board limit = if nat_le 1 sites && nat_le sites 64 then opening_refusal board limit else Some BadSites
+many_refusal sites board limit = if nat_le 1 sites && nat_le sites most_attached then opening_refusal board limit else Some BadSites
 
 -- a refusal of a run that has begun
 abbrev pub IsOfRun : RunFault → Type 0

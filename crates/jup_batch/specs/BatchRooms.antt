@@ -1,6 +1,7 @@
 -- Batches that insert nothing need no room
 use Rattle.std.proofs.Common.{◌≡◌, ℕ, ◌≤◌, [], ◌∷◌, length, Option, Some, None, sym, ap, ◌∙◌, arith}
 use Rattle.std.specs.Prelude.{IfSome, ◌≢◌, ◌+◌, ◌-◌, ◌*◌}
+use Rattle.jup_limits.specs.Limits.{most_operations}
 use Rattle.jup_xform.specs.Batches.{HaveRoom}
 use Rattle.jup_value.specs.Items.{Items}
 use Rattle.jup_seq.specs.declared.operations.SeqOp.{SeqOp}
@@ -51,5 +52,5 @@ of_all (o ∷ os) n b none = (of_board o n b (omega (arith, none)), of_all os n 
 -- a batch that lacks room inserts an item
 pub inserts_where_room_lacks : (os : board.BoardBatch) (n : ℕ) (b : board.Windows) → (board.HasRoom os n b → ⊥) → 1 ≤ board.insertions (board.edit_of os)
 inserts_where_room_lacks os n b lacks =
-    let some : board.insertions (board.edit_of os) ≢ 0 = λ none. lacks (of_all os (32 * n + (length os - 1)) b none) in
+    let some : board.insertions (board.edit_of os) ≢ 0 = λ none. lacks (of_all os (most_operations * n + (length os - 1)) b none) in
     omega (arith, some)

@@ -2,6 +2,7 @@
 use Rattle.std.proofs.Common.{◌≡◌, ℕ, suc, ◌+◌, ◌<◌, ◌≤◌, Bool, true, false, ◌&&◌, List, [], ◌∷◌, length, refl, ap, sym, ◌∙◌, ◌⊎◌, inl, inr, Ok, Err, arith}
 use Rattle.std.specs.Prelude.{Result, nat_le, if◌then◌else◌}
 use Rattle.std.proofs.lemmas.Bool.{and_parts, and_from, or_from, leb-true, le-leb}
+use Rattle.jup_limits.specs.Limits.{most_operations}
 use Rattle.jup_xform.specs.Grid.{AreValid}
 use Rattle.jup_xform.specs.Batches.{EachTo, EachPair, EachLater, edits, Inserts, Deletes, Changes, IsValidBatch}
 use Rattle.jup_xform.specs.BatchesAreLawful.{batches_are_lawful, batches_keep_meaning}
@@ -24,11 +25,11 @@ module _ (O : Operations) (L : AreLawful O) where
       and_from (O.accepts o x) (each_accepted O os (O.t.after o x)) ((L.decides o x).1 v.0) (accepted_each os (O.t.after o x) v.1)
 
   -- the length of a batch
-  pub batch_length : (n : ℕ) → is_batch O n ≡ true → (1 ≤ n) × (n ≤ 32)
-  batch_length n h = let parts = and_parts (nat_le 1 n) (nat_le n 32) h in (leb-true 1 n parts.0, leb-true n 32 parts.1)
+  pub batch_length : (n : ℕ) → is_batch O n ≡ true → (1 ≤ n) × (n ≤ most_operations)
+  batch_length n h = let parts = and_parts (nat_le 1 n) (nat_le n most_operations) h in (leb-true 1 n parts.0, leb-true n most_operations parts.1)
 
-  pub length_batch : (n : ℕ) → 1 ≤ n → n ≤ 32 → is_batch O n ≡ true
-  length_batch n some few = and_from (nat_le 1 n) (nat_le n 32) (le-leb 1 n some) (le-leb n 32 few)
+  pub length_batch : (n : ℕ) → 1 ≤ n → n ≤ most_operations → is_batch O n ≡ true
+  length_batch n some few = and_from (nat_le 1 n) (nat_le n most_operations) (le-leb 1 n some) (le-leb n most_operations few)
 
   -- names
 

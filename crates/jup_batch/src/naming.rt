@@ -8,11 +8,12 @@ ghost use Rattle.jup_window.specs.FaultNumbers.{edit_fault_number};
 ghost use Rattle.jup_batch.specs.Batched.{AreKnown, operations_of};
 
 use crate::later::told_after;
+use jup_limits::MOST_OPERATIONS;
 use jup_value::Name;
 use jup_window::{Board, BoardOp, Command, EditFault};
 
 /// The most commands that a batch is made of.
-pub const MOST_COMMANDS: usize = 32;
+pub const MOST_COMMANDS: usize = MOST_OPERATIONS as usize;
 
 /// The operation that a command becomes on the board as it is after some operations, each of which may be applied
 /// after those before it: an insertion under the given name, or a deletion or a relabel of the item that then stands

@@ -64,7 +64,7 @@ impl Gather {
     {
         let step = match mem::replace(&mut self.state, State::Nothing) {
             State::Nothing => begin(alloc, *line)?,
-            State::Begun(part) => go_on(alloc, part, *line),
+            State::Begun(part) => go_on(part, *line),
             State::Stopped => Step::misplaced(),
         };
         self.state = step.state;

@@ -2,6 +2,7 @@
 
 ghost use Rattle.std.specs.Prelude.{◌≤◌, ◌<◌};
 ghost use Rattle.std.specs.Vec.{vec_len, vec_capacity};
+ghost use Rattle.jup_limits.specs.Limits.{most_operations};
 
 use jup_window::BoardOp;
 
@@ -14,6 +15,6 @@ pub(crate) struct Part {
     pub(crate) count: u32,
     pub(crate) ops: Vec<BoardOp>,
     ghost missing: { vec_len ops < count },
-    ghost few: { count ≤ 32 },
+    ghost few: { count ≤ most_operations },
     ghost room: { 2 ≤ count → count ≤ vec_capacity ops },
 }

@@ -8,11 +8,12 @@ ghost use Rattle.jup_gather.specs.Held.{held, part_lines};
 use crate::gathered::Gathered;
 use crate::part::Part;
 use jup_batch::BoardBatch;
+use jup_limits::MOST_OPERATIONS;
 use jup_link::Msg;
 use jup_seq::SeqOp;
 use jup_value::Label;
 use jup_window::{BoardOp, WidgetOp};
-use jup_wire::{Line, MOST_OPERATIONS};
+use jup_wire::Line;
 use jup_xform::{Batch, NoMemory};
 use std::alloc::Global;
 use std::marker::PhantomData;
@@ -96,18 +97,8 @@ pub(crate) fn begin(alloc: Global, line: Line) -> Result<Step, NoMemory>
     }
 }
 
-/// A batch of one operation. It takes no memory.
-fn one(alloc: Global, op: BoardOp) -> BoardBatch
-    ensures { result ≡ op ∷ [] }
-{
-    match Batch::from_slice(alloc, &[op]) {
-        Ok(batch) => batch,
-        Err(_) => unreachable!(),
-    }
-}
-
 /// An operation behind a message that has begun.
-fn take(alloc: Global, part: Part, op: BoardOp) -> Step
+fn take(part: Part, op: BoardOp) -> Step
     ensures { Gathers (Some (part_lines part)) (lines.Do op) result.gathered (held result.state) }
 {
     // Types that an operation holds, named so that the borrow checker knows of them.
@@ -119,7 +110,7 @@ fn take(alloc: Global, part: Part, op: BoardOp) -> Step
         mut ops,
     } = part;
     if count == 1 {
-        return Step::whole(mine, heard, one(alloc, op));
+        return Step::whole(mine, heard, Batch::one(op));
     }
     ops.push_reserved(op);
     if ops.len() == count as usize {
@@ -137,11 +128,11 @@ fn take(alloc: Global, part: Part, op: BoardOp) -> Step
 }
 
 /// A line behind a message that has begun. It takes no memory.
-pub(crate) fn go_on(alloc: Global, part: Part, line: Line) -> Step
+pub(crate) fn go_on(part: Part, line: Line) -> Step
     ensures { Gathers (Some (part_lines part)) line result.gathered (held result.state) }
 {
     match line {
-        Line::Do(op) => take(alloc, part, op),
+        Line::Do(op) => take(part, op),
         _ => Step::misplaced(),
     }
 }

@@ -1,5 +1,5 @@
 -- What lines begin with, by what they are gathered to.
-use Rattle.std.proofs.Common.{◌≡◌, ◌+◌, ◌<◌, ◌≤◌, inl, inr, List, [], ◌∷◌, ◌++◌, length, Option, Some, None, refl, sym, ap, subst, ◌∙◌, append_assoc, arith, length-append}
+use Rattle.std.proofs.Common.{◌≡◌, ℕ, ◌+◌, ◌<◌, ◌≤◌, inl, inr, List, [], ◌∷◌, ◌++◌, length, get_or, Option, Some, None, refl, sym, ap, subst, ◌∙◌, append_assoc, arith, length-append}
 use Rattle.std.specs.Prelude.{MatchOption}
 use Rattle.std.specs.List.{flat_map, AllByRecursion}
 use Rattle.std.proofs.lemmas.Bool.{cases_lt}
@@ -10,6 +10,7 @@ use Rattle.jup_star.specs.declared.messages.Up.{Up}
 use Rattle.jup_star.specs.declared.messages.Up.TheVariants.{Op as UpOp, Ack as UpAck, Ping as UpPing}
 use Rattle.jup_star.specs.declared.messages.Down.{Down}
 use Rattle.jup_star.specs.declared.messages.Down.TheVariants.{Op as DownOp, Ack as DownAck, Pong as DownPong}
+use Rattle.jup_window.specs.declared.board_operations.BoardOp.{BoardOp}
 use Rattle.jup_wire.specs.declared.line.Line.{Line}
 use Rattle.jup_wire.specs.declared.line.Line.TheVariants as line
 use Rattle.jup_wire.specs.Grammar.{HasSpelling}
@@ -52,6 +53,17 @@ pub none_found : (held : Option (List Line)) (left there : List Line) → IsHeld
 none_found None left there is none = absurd is
 none_found (Some part) left there is none =
     part_begins_none there (subst IsPart (sym (append-nil part) ∙ ap (λ ls. part ++ ls) (sym (nil_from_length left none)) ∙ is.0) is.1)
+
+-- a batch line of one operation, and then the operation
+pub single_there : (there : List Line) (mine heard count : ℕ) (op : BoardOp) (ops : BoardBatch) (x y : Line) → 1 < length there → x ≡ get_or there 0 x → y ≡ get_or there 1 y → x ≡ line.Batch mine heard count → count ≡ 1
+    → y ≡ line.Do op → ops ≡ op ∷ [] → IsFirstOf there (Some (Whole (record { mine = mine; heard = heard; op = ops })))
+single_there [] mine heard count op ops x y long first second batch one do_line is = absurd (omega (arith, long))
+single_there (a ∷ []) mine heard count op ops x y long first second batch one do_line is = absurd (omega (arith, long))
+single_there (a ∷ b ∷ rest) mine heard count op ops x y long first second batch one do_line is =
+    let head : a ≡ line.Batch mine heard 1 = cc in
+    let next : b ≡ line.Do op = cc in
+    let lines : a ∷ b ∷ rest ≡ line.Batch mine heard 1 ∷ line.Do op ∷ rest = cc in
+    subst (λ (all : BoardBatch). IsFirstOf (a ∷ b ∷ rest) (Some (Whole (record { mine = mine; heard = heard; op = all })))) (sym is) ((omega arith, omega arith), (rest, lines))
 
 -- ---- lines that begin those of messages
 

@@ -1,33 +1,57 @@
 //! The first message of some lines.
-ghost use Rattle.std.specs.Prelude.{◌≡◌, IfOk, IsTrue};
+ghost use Rattle.std.specs.Prelude.{◌≡◌, IfOk, IfSome, IsTrue};
+ghost use Rattle.jup_gather.specs.declared.gathered.Gathered.TheVariants as gathered;
 ghost use Rattle.jup_gather.specs.Pieces.{BeginsNone};
 ghost use Rattle.jup_lane.specs.Firsts.{IsFirstOf, up_from, down_from};
 
+use jup_batch::BoardBatch;
 use jup_gather::{Gather, Gathered};
+use jup_link::Msg;
 use jup_star::{Down, Up};
 use jup_wire::Line;
-use jup_xform::NoMemory;
+use jup_xform::{Batch, NoMemory};
 use std::alloc::Global;
 use std::collections::VecDeque;
 
-// Whether a message begins these lines that has more of them.
-fn is_short(there: &VecDeque<Line>) -> bool
+/// Whether lines of the first message are missing, as the first line tells.
+pub(crate) fn is_short(there: &VecDeque<Line>) -> bool
     ensures { IsTrue result → BeginsNone there.now.items }
 {
     match there.front() {
         Some(Line::Batch { count, .. }) => there.len() <= *count as usize,
-        _ => false,
+        Some(_) => false,
+        None => true,
     }
+}
+
+/// The message of one operation that begins these lines, if one does.
+pub(crate) fn single(there: &VecDeque<Line>) -> Option<Msg<BoardBatch>>
+    ensures { IfSome result (λ msg. IsFirstOf there.now.items (Some (gathered.Whole msg))) }
+{
+    let Some(
+        Line::Batch {
+            mine,
+            heard,
+            count: 1,
+        },
+    ) = there.front()
+    else {
+        return None;
+    };
+    let Some(Line::Do(op)) = there.get(1) else {
+        return None;
+    };
+    Some(Msg {
+        mine: *mine,
+        heard: *heard,
+        op: Batch::one(*op),
+    })
 }
 
 /// What some lines begin with: a message or a line that stands alone, if all its lines are there.
 pub(crate) fn first_of(alloc: Global, there: &VecDeque<Line>) -> Result<Option<Gathered>, NoMemory>
     ensures { IfOk result (λ first. IsFirstOf there.now.items first) }
 {
-    // So each line of a message is gathered once.
-    if is_short(there) {
-        return Ok(None);
-    }
     let mut gather = Gather::new();
     for line in there.iter() {
         match gather.push(alloc, line)? {

@@ -1,5 +1,5 @@
 //! What a link carries: messages, each of some lines.
-ghost use Rattle.std.specs.Prelude.{◌≡◌, ◌+◌, ◌≤◌, ℕ, List, [], ◌∷◌, ◌++◌, length, IfOk};
+ghost use Rattle.std.specs.Prelude.{◌≡◌, ◌+◌, ◌≤◌, ℕ, List, [], ◌∷◌, ◌++◌, length, None, IfOk, IsTrue};
 ghost use Rattle.std.specs.List.{flat_map, AllByRecursion};
 ghost use Rattle.std.specs.Vec.{vec_capacity};
 ghost use Rattle.jup_wire.specs.declared.line.Line.{Line};
@@ -9,7 +9,7 @@ ghost use Rattle.jup_lane.specs.Codecs.{IsFirst};
 ghost use Rattle.jup_lane.specs.Messages.{up_piece, ups_of, down_piece, downs_of};
 
 use crate::edits::write_op;
-use crate::first::{down_of, first_of, up_of};
+use crate::first::{down_of, first_of, is_short, single, up_of};
 use jup_star::{Down, Up};
 use jup_wire::{LONGEST, Line, write_reserved};
 use jup_xform::NoMemory;
@@ -50,6 +50,11 @@ pub trait Message: Drop {
         ensures items { out.new.items ≡ out.old.items ++ flat_map spelling (lines self.now) }
         ensures capacity { vec_capacity out.old ≤ vec_capacity out.new };
 
+    /// Whether lines of the first message are missing, as can be told without gathering them.
+    fn is_short(there: &VecDeque<Line>) -> bool
+        ensures { IsTrue result → (ms : List Self) (more : List Line) → AllByRecursion is_spelled ms
+            → there.now.items ++ more ≡ flat_map lines ms → IsFirst lines there.now.items ms None };
+
     /// The message that begins some lines, which begin those of messages that have a spelling; none where not
     /// all of its lines are there.
     fn first(alloc: Global, there: &VecDeque<Line>) -> Result<Option<Self>, NoMemory>
@@ -88,8 +93,16 @@ impl Message for Up {
         }
     }
 
+    fn is_short(there: &VecDeque<Line>) -> bool {
+        is_short(there)
+    }
+
     fn first(alloc: Global, there: &VecDeque<Line>) -> Result<Option<Up>, NoMemory> {
-        Ok(up_of(first_of(alloc, there)?))
+        // Most messages are of one operation, and need no gathering.
+        match single(there) {
+            Some(msg) => Ok(Some(Up::Op(msg))),
+            None => Ok(up_of(first_of(alloc, there)?)),
+        }
     }
 
     fn count(&self) -> usize {
@@ -127,8 +140,16 @@ impl Message for Down {
         }
     }
 
+    fn is_short(there: &VecDeque<Line>) -> bool {
+        is_short(there)
+    }
+
     fn first(alloc: Global, there: &VecDeque<Line>) -> Result<Option<Down>, NoMemory> {
-        Ok(down_of(first_of(alloc, there)?))
+        // Most messages are of one operation, and need no gathering.
+        match single(there) {
+            Some(msg) => Ok(Some(Down::Op(msg))),
+            None => Ok(down_of(first_of(alloc, there)?)),
+        }
     }
 
     fn count(&self) -> usize {

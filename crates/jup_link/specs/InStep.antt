@@ -1,3 +1,4 @@
+-- Two ends of a link in step: what they have in common, and what each has ahead.
 use Rattle.std.specs.Prelude.{◌≡◌, ℕ, ◌+◌, ◌-◌, ◌<◌, ◌≤◌, List, [], ◌∷◌, ◌++◌, length, drop}
 use Rattle.jup_xform.specs.declared.Transform.{Ghosts}
 use Rattle.jup_xform.specs.declared.row.Side.TheVariants.{Client, Server}

@@ -1,11 +1,12 @@
-use Rattle.std.specs.Prelude.{nat_le, if◌then◌else◌, true, false, ◌≡◌, ℕ, ◌+◌, ◌<◌, List, [], ◌∷◌, ◌++◌, length, refl}
+-- Two ends stay in step: one lemma for each thing that may happen to them.
+use Rattle.std.specs.Prelude.{if◌then◌else◌, true, false, ◌≡◌, ℕ, ◌+◌, ◌<◌, List, [], ◌∷◌, ◌++◌, length, refl}
 use Rattle.std.proofs.Common.{subst, arith, append-nil}
 use Rattle.jup_xform.specs.declared.Transform.{Ghosts}
 use Rattle.jup_xform.specs.declared.row.Side.TheVariants.{Client, Server}
 use Rattle.jup_xform.specs.Grid.{after_all, mirror}
 use Rattle.jup_xform.specs.Laws.{IsLawful}
 use Rattle.jup_xform.specs.GridLaws.{small_before_all}
-use Rattle.jup_link.specs.Links.{Link, Message, Operation, Ack, IsCount, IsNumber, opened, generated, after_count, after_send, after_ack, received_operation, after_receive, message, link_after, state_after, AcceptsMessage, owed, answered}
+use Rattle.jup_link.specs.Links.{owes, Link, Message, Operation, Ack, IsCount, IsNumber, opened, generated, after_count, after_send, after_ack, received_operation, after_receive, message, link_after, state_after, AcceptsMessage, owed, answered}
 use Rattle.jup_link.specs.Streams.{MessagesApart, operation_count}
 use Rattle.jup_link.specs.InStep.{InStepAt, InStep}
 use Rattle.jup_link.specs.ComesLaws.{Comes-count}
@@ -125,7 +126,7 @@ module _ {Op State Edit : Type 0} (t : Ghosts Op State Edit) (lawful : IsLawful 
   pub InStep-server_answers : (n : ℕ) (x y : State) (c s : Link Op) (up down : List (Message Op))
       → InStep t n x y c s up down → InStep t n x y c (answered s) up (down ++ owed s)
   InStep-server_answers n x y c s up down in_step =
-      elim (nat_le 64 s.unanswered) as (λ b. InStep t n x y c (if b then after_ack s else s) up (down ++ (if b then Ack s.received ∷ [] else []))) [
+      elim (owes s.unanswered) as (λ b. InStep t n x y c (if b then after_ack s else s) up (down ++ (if b then Ack s.received ∷ [] else []))) [
         | true ↦ InStep-server_ack t lawful n x y c s up down in_step
         | false ↦ rw append-nil in_step
       ]
@@ -134,7 +135,7 @@ module _ {Op State Edit : Type 0} (t : Ghosts Op State Edit) (lawful : IsLawful 
   pub InStep-client_answers : (n : ℕ) (x y : State) (c s : Link Op) (up down : List (Message Op))
       → InStep t n x y c s up down → InStep t n x y (answered c) s (up ++ owed c) down
   InStep-client_answers n x y c s up down in_step =
-      elim (nat_le 64 c.unanswered) as (λ b. InStep t n x y (if b then after_ack c else c) s (up ++ (if b then Ack c.received ∷ [] else [])) down) [
+      elim (owes c.unanswered) as (λ b. InStep t n x y (if b then after_ack c else c) s (up ++ (if b then Ack c.received ∷ [] else [])) down) [
         | true ↦ InStep-client_ack t lawful n x y c s up down in_step
         | false ↦ rw append-nil in_step
       ]

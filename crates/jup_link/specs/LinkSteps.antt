@@ -1,3 +1,4 @@
+-- The events of the near end, and the operation that comes next.
 use Rattle.std.specs.Prelude.{◌≡◌, ℕ, ◌+◌, ◌-◌, ◌<◌, ◌≤◌, List, [], ◌∷◌, ◌++◌, length, refl}
 use Rattle.std.proofs.Common.{ap, sym, subst, arith, length-append, length-drop}
 use Rattle.jup_xform.specs.declared.Transform.{Ghosts}

@@ -1,4 +1,6 @@
+-- An end of a link: what it counts, what it accepts, and what each call makes of it.
 use Rattle.std.specs.Prelude.{nat_le, nat_lt, nat_eq, Bool, ◌&&◌, if◌then◌else◌, ◌≡◌, ℕ, ◌+◌, ◌-◌, ◌<◌, ◌≤◌, List, [], ◌∷◌, ◌++◌, length, drop}
+use Rattle.jup_limits.specs.Limits.{answer_after}
 use Rattle.jup_xform.specs.declared.Transform.{Ghosts}
 use Rattle.jup_xform.specs.declared.row.Side.{Side}
 use Rattle.jup_xform.specs.Rows.{row_operation, row_entries}
@@ -98,9 +100,13 @@ abbrev pub AcceptsMessage : {Op State Edit : Type 0} → Ghosts Op State Edit �
 AcceptsMessage t l x (Operation mine heard o) = IsNumber l mine × IsCount l heard × t.is_valid (received_operation t l heard o) x
 AcceptsMessage t l x (Ack n) = IsCount l n
 
+-- whether an end that received so many operations since it last sent anything owes an acknowledgement
+abbrev pub owes : ℕ → Bool
+owes unanswered = nat_le answer_after unanswered
+
 -- the acknowledgement that an end owes, if it does, and the end once it sent that
 abbrev pub owed : {Op : Type 0} → Link Op → List (Message Op)
-owed l = if nat_le 64 l.unanswered then Ack l.received ∷ [] else []
+owed l = if owes l.unanswered then Ack l.received ∷ [] else []
 
 abbrev pub answered : {Op : Type 0} → Link Op → Link Op
-answered l = if nat_le 64 l.unanswered then after_ack l else l
+answered l = if owes l.unanswered then after_ack l else l

@@ -1,3 +1,4 @@
+-- Messages of the program as what travels.
 use Rattle.jup_link.specs.Links.{Link, Message, Operation, generated}
 use Rattle.jup_link.specs.declared.Msg.{Msg}
 

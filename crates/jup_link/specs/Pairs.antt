@@ -1,3 +1,4 @@
+-- Both ends of a link with the messages between them, and what may happen there.
 use Rattle.std.specs.Prelude.{◌≡◌, ◌+◌, ◌<◌, List, [], ◌∷◌, ◌++◌, length}
 use Rattle.jup_xform.specs.declared.Transform.{Ghosts}
 use Rattle.jup_xform.specs.declared.row.Side.TheVariants.{Client, Server}

@@ -1,3 +1,4 @@
+-- Messages on their way, oldest first.
 use Rattle.std.specs.Prelude.{ℕ, ◌+◌, List, [], ◌∷◌}
 use Rattle.jup_xform.specs.declared.Transform.{Ghosts}
 use Rattle.jup_link.specs.Links.{Message, Operation, Ack}

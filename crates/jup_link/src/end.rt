@@ -2,17 +2,16 @@
 
 ghost use Rattle.std.specs.Prelude.{◌≡◌, ◌+◌, ◌<◌, ◌≤◌, ◌↔◌, length, drop, IsTrue, IsOk, OnOk, OnErr, IfOk, IsErrOf};
 ghost use Rattle.std.specs.VecDeque.{deque_capacity};
+ghost use Rattle.jup_limits.specs.Limits.{answer_after};
 ghost use Rattle.jup_link.specs.Links.{IsCount, IsNumber, opened, generated, after_count, after_send, after_ack, received_operation, after_receive, message};
 ghost use Rattle.jup_link.specs.Messages.{sent};
 
 use crate::{LinkFault, Msg};
+use jup_limits::ANSWER_AFTER;
 use jup_xform::{NoMemory, Side, Transform, across};
 use std::alloc::Global;
 use std::collections::VecDeque;
 use std::marker::Model;
-
-/// An end that received so many operations since it last sent anything owes an acknowledgement.
-const ANSWER_AFTER: u32 = 64;
 
 /// One end of a link: what it counted, and the queue of its operations that are not known to be received.
 ///
@@ -191,7 +190,7 @@ impl<T: Transform> End<T> {
     /// Whether this end owes an acknowledgement: it received 64 operations since it last sent an
     /// operation or an acknowledgement.
     pub fn owes(&self) -> bool
-        ensures { IsTrue result ↔ (64 ≤ self.now.link.unanswered) }
+        ensures { IsTrue result ↔ (answer_after ≤ self.now.link.unanswered) }
     {
         self.unanswered >= ANSWER_AFTER
     }

@@ -1,6 +1,6 @@
 -- What the program does is what the definitions of an event say.
 use Rattle.std.proofs.Common.{◌≡◌, inl, inr, refl, sym, ◌∙◌, ap, subst, ℕ, ◌+◌, true, false, cond, List, [], ◌∷◌, ◌++◌, take, length, nat_eq, Option, Some, None, is_some, option_map, Result, Ok, Err, IfOk, OnOk, OnErr}
-use Rattle.jup_xform.specs.declared.NoMemory.{NoMemory}
+use Rattle.jup_limits.specs.declared.NoMemory.{NoMemory}
 use Rattle.jup_batch.specs.BatchBoards.{BoardBatch, BoardEdits, Commands, Windows}
 use Rattle.jup_window.specs.declared.faults.EditFault.{EditFault}
 use Rattle.jup_batch.specs.BoardBatches.{board_batches}

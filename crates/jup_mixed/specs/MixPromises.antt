@@ -1,5 +1,6 @@
 -- What every star with one site and strangers keeps.
 use Rattle.std.specs.Prelude.{◌≡◌, ◌≢◌, ◌⊎◌, ℕ, ◌≤◌, false, IsTrue, List, [], ◌∷◌, ◌++◌, length, Some, None, is_some}
+use Rattle.jup_limits.specs.Limits.{highest_limit}
 use Rattle.jup_link.specs.InStep.{InStep}
 use Rattle.jup_link.specs.declared.Msg.{Msg}
 use Rattle.jup_batch.specs.BatchBoards.{Windows}
@@ -117,5 +118,5 @@ pub record IsMixed (m : BoardMix) : Type 0 where
   pub limit : ℕ
   pub events : List BoardMixEvent
   pub opening : IsOpening board
-  pub limited : limit ≤ 16777216
+  pub limited : limit ≤ highest_limit
   pub is : m ≡ mix_run board_batches (opened_mix board_batches board limit) events

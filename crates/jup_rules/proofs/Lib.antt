@@ -1,3 +1,4 @@
 mod Asked
 mod BareTexts
 mod SiteLines
+mod Hearing

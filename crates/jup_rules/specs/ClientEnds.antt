@@ -5,7 +5,7 @@ use Rattle.jup_star.specs.declared.faults.StarFault.TheVariants.{NoMemory as Sta
 use Rattle.jup_star.specs.declared.faults.SiteFault.{SiteFault}
 use Rattle.jup_star.specs.declared.faults.OpenFault.{OpenFault}
 use Rattle.jup_hub.specs.declared.fault.HubFault.TheVariants.{Star}
-use Rattle.jup_wire.specs.declared.layouts.LayoutFault.{LayoutFault}
+use Rattle.jup_layout.specs.declared.layouts.LayoutFault.{LayoutFault}
 use Rattle.jup_rules.specs.Numbers.{session_fault_number}
 use Rattle.jup_rules.specs.declared.ending.Stop.{Stop}
 use Rattle.jup_rules.specs.declared.ending.Stop.TheVariants.{End, Fault as StopFault}

@@ -32,8 +32,8 @@ use Rattle.jup_rules.specs.declared.client_state.ClientState.{ClientState}
 use Rattle.jup_rules.specs.ClientEnds.{end_of_site, end_of_layout, end_of_open}
 use Rattle.jup_window.specs.Boards.{Windows}
 use Rattle.jup_star.specs.declared.faults.OpenFault.{OpenFault}
-use Rattle.jup_wire.specs.declared.layouts.LayoutFault.{LayoutFault}
-use Rattle.jup_wire.specs.Layouts.{board_with}
+use Rattle.jup_layout.specs.declared.layouts.LayoutFault.{LayoutFault}
+use Rattle.jup_layout.specs.Layouts.{board_with}
 
 -- a line that does not belong where it stands: an error bears its own number, and every other is misplaced
 abbrev pub refusal_of : Line → ClientEnd

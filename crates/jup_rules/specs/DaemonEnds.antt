@@ -1,24 +1,17 @@
 -- Why a daemon ends, by what was refused, and what it serves.
 use Rattle.std.specs.Prelude.{◌≡◌, ◌≢◌, ◌==◌, ◌⊎◌, ℕ, List, Ok, Err, if◌then◌else◌}
-use Rattle.std.specs.IoError.{error_kind}
-use Rattle.std.specs.declared.io.Error.{Error as IoError}
-use Rattle.std.specs.declared.io.ErrorKind.TheVariants as io
 use Rattle.clap.specs.Values.{kind_of}
 use Rattle.clap.specs.declared.error.Error.{Error as WordsError}
 use Rattle.clap.specs.declared.error.kind.ErrorKind.TheVariants as words
 use Rattle.jup_window.specs.Boards.{Windows}
 use Rattle.jup_star.specs.StarCalls.{BoardStar}
 use Rattle.jup_star.specs.StarStates.{opened_star}
-use Rattle.jup_wire.specs.Layouts.{Describes}
-use Rattle.jup_wire.specs.declared.layouts.LayoutFault.{LayoutFault}
+use Rattle.jup_layout.specs.Layouts.{Describes}
+use Rattle.jup_layout.specs.declared.layouts.LayoutFault.{LayoutFault}
 use Rattle.jup_rules.specs.declared.daemon_end.DaemonEnd.{DaemonEnd}
-use Rattle.jup_rules.specs.declared.daemon_end.DaemonEnd.TheVariants.{Words, Layout, Io, NoMemory}
+use Rattle.jup_rules.specs.declared.daemon_end.DaemonEnd.TheVariants.{Words, Layout, NoMemory}
 
--- want of memory is told as such, and any other failure as one of reading or writing
-abbrev pub IsEndOfIo : IoError → DaemonEnd → Type 0
-IsEndOfIo error end = (error_kind error ≡ io.OutOfMemory → end ≡ NoMemory) × (error_kind error ≢ io.OutOfMemory → end ≡ Io)
-
--- and so of the words, which say themselves what is wrong with them
+-- want of memory is told as such; other refusals of the words say themselves what is wrong with them
 abbrev pub IsEndOfWords : WordsError → DaemonEnd → Type 0
 IsEndOfWords error end = (kind_of error ≡ words.OutOfMemory → end ≡ NoMemory) × (kind_of error ≢ words.OutOfMemory → end ≡ Words error)
 

@@ -4,6 +4,8 @@ pub mod ClientEnds
 pub mod Clients
 pub mod DaemonEnds
 pub mod Endings
+pub mod Gates
+pub mod Keepers
 pub mod Messages
 pub mod Numbers
 pub mod Requests

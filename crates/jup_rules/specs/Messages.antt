@@ -1,5 +1,5 @@
 -- What a site says and what it is told, as what a link brings: an edit is several lines, and all else is one.
-use Rattle.std.specs.Prelude.{◌≡◌, ◌≢◌, ◌⊎◌, List, [], ◌∷◌, ◌++◌, map, Option, Some, None, Result, Ok, Err}
+use Rattle.std.specs.Prelude.{◌≡◌, ◌≢◌, ◌⊎◌, Bool, true, false, List, [], ◌∷◌, ◌++◌, map, Option, Some, None, Result, Ok, Err}
 use Rattle.jup_batch.specs.BatchBoards.{BoardBatch}
 use Rattle.jup_star.specs.declared.messages.Up.{Up}
 use Rattle.jup_star.specs.declared.messages.Up.TheVariants.{Op as UpOp, Ack as UpAck, Ping as UpPing}
@@ -32,6 +32,16 @@ abbrev pub down_piece : Down BoardBatch → Piece
 down_piece (DownOp msg) = Message msg
 down_piece (DownAck count) = Alone (line.Ack count)
 down_piece (DownPong number) = Alone (line.Pong number)
+
+-- the lines of a message to a site
+abbrev pub down_lines : Down BoardBatch → List Line
+down_lines down = piece_lines (down_piece down)
+
+-- whether a message answers a ping
+abbrev pub is_pong : Down BoardBatch → Bool
+is_pong (DownPong number) = true
+is_pong (DownOp msg) = false
+is_pong (DownAck count) = false
 
 -- what lines come to is this; nothing is said yet where they are held, and what else no site says is misplaced
 abbrev pub IsSaidBy : Gathered → Result (Option Said) SessionFault → Type 0

@@ -5,7 +5,7 @@ use Rattle.jup_wire.specs.FaultNumbers.{wire_fault_number}
 use Rattle.jup_rules.specs.declared.faults.SessionFault.{SessionFault}
 use Rattle.jup_rules.specs.declared.faults.SessionFault.TheVariants.{Hub, Wire, NoMemory, Misplaced, ReadsSpent, GateShut, ReadFailed, WriteFailed}
 use Rattle.jup_rules.specs.declared.client_end.ClientEnd.{ClientEnd}
-use Rattle.jup_rules.specs.declared.client_end.ClientEnd.TheVariants.{Fault as ClientFault, NoMemory as ClientNoMemory, ReadFailed as ClientReadFailed, WriteFailed as ClientWriteFailed}
+use Rattle.jup_rules.specs.declared.client_end.ClientEnd.TheVariants.{Fault as ClientFault, NoMemory as ClientNoMemory, Unconnected, ReadFailed as ClientReadFailed, WriteFailed as ClientWriteFailed}
 use Rattle.jup_rules.specs.declared.daemon_end.DaemonEnd.{DaemonEnd}
 use Rattle.jup_rules.specs.declared.daemon_end.DaemonEnd.TheVariants.{Words, Layout, LongLayout, Io, NoMemory as DaemonNoMemory, Held}
 
@@ -22,6 +22,7 @@ session_fault_number WriteFailed = 71
 abbrev pub client_end_number : ClientEnd → ℕ
 client_end_number (ClientFault number) = number
 client_end_number ClientNoMemory = 8
+client_end_number Unconnected = 70
 client_end_number ClientReadFailed = 70
 client_end_number ClientWriteFailed = 71
 
@@ -29,6 +30,7 @@ client_end_number ClientWriteFailed = 71
 abbrev pub client_end_status : ClientEnd → ℕ
 client_end_status (ClientFault number) = 4
 client_end_status ClientNoMemory = 3
+client_end_status Unconnected = 1
 client_end_status ClientReadFailed = 1
 client_end_status ClientWriteFailed = 1
 
@@ -37,6 +39,6 @@ abbrev pub daemon_end_status : DaemonEnd → ℕ
 daemon_end_status (Words error) = 2
 daemon_end_status (Layout fault) = 5
 daemon_end_status LongLayout = 5
-daemon_end_status Io = 1
+daemon_end_status (Io attempt) = 1
 daemon_end_status DaemonNoMemory = 3
 daemon_end_status Held = 6

@@ -3,10 +3,11 @@ ghost use Rattle.std.specs.Prelude.{◌≡◌, ◌≢◌, ◌≤◌};
 ghost use Rattle.std.specs.IoError.{error_kind};
 ghost use Rattle.jup_rules.specs.Numbers.{client_end_number, client_end_status};
 
-use crate::{SessionFault, Stop};
+use crate::{SessionFault, Stop, cause_of};
 use jup_hub::HubFault;
+use jup_layout::LayoutFault;
 use jup_star::{OpenFault, SiteFault, StarFault};
-use jup_wire::{LayoutFault, WireFault};
+use jup_wire::WireFault;
 use jup_xform::NoMemory;
 use std::io;
 use std::io::ErrorKind;
@@ -20,6 +21,9 @@ pub enum ClientEnd {
     Fault(u32),
     #[error("no memory")]
     NoMemory,
+    /// No link could be had.
+    #[error("io fault")]
+    Unconnected,
     #[error("io fault")]
     ReadFailed,
     #[error("io fault")]
@@ -34,20 +38,31 @@ impl ClientEnd {
         match self {
             ClientEnd::Fault(number) => number,
             ClientEnd::NoMemory => 8,
-            ClientEnd::ReadFailed => 70,
+            ClientEnd::Unconnected | ClientEnd::ReadFailed => 70,
             ClientEnd::WriteFailed => 71,
         }
     }
 
-    /// The end of a client that could not connect: for want of memory, or by a failed read or write.
+    /// The end of a client that could not connect: for want of memory, or as it is.
     pub fn unconnected(error: &io::Error) -> ClientEnd
         ensures memory { error_kind error.now ≡ ErrorKind.OutOfMemory → result ≡ ClientEnd.NoMemory }
-        ensures other { error_kind error.now ≢ ErrorKind.OutOfMemory → result ≡ ClientEnd.ReadFailed }
+        ensures other { error_kind error.now ≢ ErrorKind.OutOfMemory → result ≡ ClientEnd.Unconnected }
     {
         if error.kind() == ErrorKind::OutOfMemory {
             ClientEnd::NoMemory
         } else {
-            ClientEnd::ReadFailed
+            ClientEnd::Unconnected
+        }
+    }
+
+    /// What stands behind this end, for people; `None` where its own text says so, and where no link could be had, since what was
+    /// called is known to the caller.
+    pub fn cause(self) -> Option<&'static str> {
+        match self {
+            ClientEnd::NoMemory | ClientEnd::Unconnected => None,
+            ClientEnd::Fault(_) | ClientEnd::ReadFailed | ClientEnd::WriteFailed => {
+                Some(cause_of(self.number()))
+            }
         }
     }
 
@@ -57,7 +72,7 @@ impl ClientEnd {
         ensures most { result ≤ 4 }
     {
         match self {
-            ClientEnd::ReadFailed | ClientEnd::WriteFailed => 1,
+            ClientEnd::Unconnected | ClientEnd::ReadFailed | ClientEnd::WriteFailed => 1,
             ClientEnd::NoMemory => 3,
             ClientEnd::Fault(_) => 4,
         }

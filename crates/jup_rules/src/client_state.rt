@@ -5,9 +5,10 @@ ghost use Rattle.jup_rules.specs.Clients.{greeting_in, board_line_in, refusal_of
 use crate::{ClientEnd, Request, Said, SessionFault};
 use jup_batch::BoardEdits;
 use jup_gather::{Gather, Gathered};
+use jup_layout::board_of;
 use jup_star::{Down, Made, Site, Up};
 use jup_window::EditFault;
-use jup_wire::{Line, board_of};
+use jup_wire::Line;
 use std::alloc::Global;
 
 /// What a client tells its user.

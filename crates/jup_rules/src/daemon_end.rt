@@ -1,14 +1,37 @@
 //! Why the daemon ends early.
-ghost use Rattle.std.specs.Prelude.{◌≡◌, ◌≤◌};
+ghost use Rattle.std.specs.Prelude.{◌≡◌, ◌≢◌, ◌≤◌};
+ghost use Rattle.std.specs.IoError.{error_kind};
 ghost use Rattle.jup_rules.specs.Numbers.{daemon_end_status};
 
+use crate::cause_of;
 use clap::error::ErrorKind as WordsKind;
-use jup_wire::LayoutFault;
+use jup_layout::LayoutFault;
 use jup_xform::NoMemory;
 use std::alloc::AllocError;
 use std::io;
 use std::io::ErrorKind;
 use thiserror::Error;
+
+/// What a daemon tried when a read or a write failed, or what comes before one.
+#[derive(Clone, Copy, Debug, PartialEq, Eq)]
+pub enum Attempt {
+    ReadLayout,
+    Listen,
+    Accept,
+    Print,
+}
+
+impl Attempt {
+    // What is told where it failed. Whoever was to listen knows where.
+    fn cause(self) -> Option<&'static str> {
+        match self {
+            Attempt::ReadLayout => Some("cannot read the layout"),
+            Attempt::Listen => None,
+            Attempt::Accept => Some("cannot accept a session"),
+            Attempt::Print => Some("cannot print"),
+        }
+    }
+}
 
 /// Why the daemon ends early.
 #[derive(Debug, Drop, Error)]
@@ -20,7 +43,7 @@ pub enum DaemonEnd {
     #[error("layout too long")]
     LongLayout,
     #[error("io fault")]
-    Io,
+    Io(Attempt),
     #[error("no memory")]
     NoMemory,
     #[error("hub held")]
@@ -28,13 +51,36 @@ pub enum DaemonEnd {
 }
 
 impl DaemonEnd {
+    /// The end of a daemon that tried this and failed so: for want of memory, or by a failed read or write.
+    pub fn failed(attempt: Attempt, error: &io::Error) -> DaemonEnd
+        ensures memory { error_kind error.now ≡ ErrorKind.OutOfMemory → result ≡ DaemonEnd.NoMemory }
+        ensures other { error_kind error.now ≢ ErrorKind.OutOfMemory → result ≡ DaemonEnd.Io attempt }
+    {
+        if error.kind() == ErrorKind::OutOfMemory {
+            DaemonEnd::NoMemory
+        } else {
+            DaemonEnd::Io(attempt)
+        }
+    }
+
+    /// What stands behind this end, for people; `None` where its own text says so, and for an address, which the caller has.
+    pub fn cause(&self) -> Option<&'static str> {
+        match self {
+            DaemonEnd::Layout(fault) => Some(cause_of(fault.number)),
+            DaemonEnd::Io(attempt) => attempt.cause(),
+            DaemonEnd::Words(_) | DaemonEnd::LongLayout | DaemonEnd::NoMemory | DaemonEnd::Held => {
+                None
+            }
+        }
+    }
+
     /// The exit status of a daemon that ends so.
     pub fn status(&self) -> u8
         ensures status { result ≡ daemon_end_status self.now }
         ensures most { result ≤ 6 }
     {
         match self {
-            DaemonEnd::Io => 1,
+            DaemonEnd::Io(_) => 1,
             DaemonEnd::Words(_) => 2,
             DaemonEnd::NoMemory => 3,
             DaemonEnd::Layout(_) | DaemonEnd::LongLayout => 5,
@@ -60,20 +106,6 @@ impl From<NoMemory> for DaemonEnd {
 
     fn from(_error: NoMemory) -> DaemonEnd {
         DaemonEnd::NoMemory
-    }
-}
-
-impl From<io::Error> for DaemonEnd {
-    ghost use Rattle.jup_rules.specs.DaemonEnds.{IsEndOfIo};
-
-    ghost from_gives = { λ error made. IsEndOfIo error made };
-
-    fn from(error: io::Error) -> DaemonEnd {
-        if error.kind() == ErrorKind::OutOfMemory {
-            DaemonEnd::NoMemory
-        } else {
-            DaemonEnd::Io
-        }
     }
 }
 

@@ -1,10 +1,11 @@
 //! What a link brings, and the lines of what is sent by it.
 ghost use Rattle.std.specs.Prelude.{◌≡◌, List, [], ◌∷◌, ◌++◌, OnOk, IfOk, IfErr};
+ghost use Rattle.std.specs.List.{flat_map};
 ghost use Rattle.std.specs.Option.{option_to_list};
 ghost use Rattle.jup_wire.specs.declared.line.Line.{Line};
 ghost use Rattle.jup_gather.specs.Pieces.{piece_lines};
 ghost use Rattle.jup_rules.specs.declared.said.Said.{Said};
-ghost use Rattle.jup_rules.specs.Messages.{said_piece, down_piece, IsSaidBy, HasSaid, IsRefused};
+ghost use Rattle.jup_rules.specs.Messages.{said_piece, down_lines, IsSaidBy, HasSaid, IsRefused};
 
 use crate::{Said, SessionFault};
 use jup_gather::{Gather, Gathered, put_op};
@@ -58,13 +59,23 @@ pub fn put_said<S: LineSink>(sink: &mut S, said: &Said) -> Result<(), S::Fault>
     }
 }
 
-/// Puts the lines of a message to a site.
-pub fn put_down<S: LineSink>(sink: &mut S, down: &Down) -> Result<(), S::Fault>
-    ensures { OnOk result (S.takes sink.old (piece_lines (down_piece down.now)) sink.new) }
+// Puts the lines of a message to a site.
+fn put_down<S: LineSink>(sink: &mut S, down: &Down) -> Result<(), S::Fault>
+    ensures { OnOk result (S.takes sink.old (down_lines down.now) sink.new) }
 {
     match down {
         Down::Op(msg) => put_op(sink, msg),
         Down::Ack(count) => sink.put(Line::Ack(*count)),
         Down::Pong(number) => sink.put(Line::Pong(*number)),
     }
+}
+
+/// Puts the lines of messages to a site, one message behind the other.
+pub fn put_downs<S: LineSink>(sink: &mut S, downs: &[Down]) -> Result<(), S::Fault>
+    ensures { OnOk result (S.takes sink.old (flat_map down_lines downs.now) sink.new) }
+{
+    for down in downs {
+        put_down(sink, down)?;
+    }
+    Ok(())
 }

@@ -1,16 +1,17 @@
 //! What a daemon serves.
 ghost use Rattle.std.specs.Prelude.{◌≡◌, ◌≤◌, length, IfOk, IfErr};
+ghost use Rattle.jup_limits.specs.Limits.{longest_input};
 ghost use Rattle.jup_rules.specs.DaemonEnds.{IsStarOf, IsRefusalOf};
 
 use crate::DaemonEnd;
+use jup_layout::{LayoutFault, layout};
 use jup_star::{OpenFault, Star, is_short};
 use jup_window::BoardFault;
-use jup_wire::{LayoutFault, layout};
 use std::alloc::Global;
 
 /// A star over the board of a layout, which takes at most so many edits.
 pub fn star_of_layout(alloc: Global, text: &[u8], limit: u32) -> Result<Star, DaemonEnd>
-    requires { length text.now ≤ 16777216 }
+    requires { length text.now ≤ longest_input }
     ensures star { IfOk result (λ star. IsStarOf text.now limit star) }
     ensures refusal { IfErr result (λ end. IsRefusalOf text.now end) }
 {

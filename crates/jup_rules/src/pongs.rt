@@ -1,6 +1,8 @@
 //! How many pongs a site is owed.
-ghost use Rattle.std.specs.Prelude.{◌≡◌, ◌+◌, ◌-◌, ◌<◌, ◌≤◌, ◌↔◌, IsTrue, if◌then◌else◌};
+ghost use Rattle.std.specs.Prelude.{◌≡◌, ◌+◌, ◌-◌, ◌<◌, ◌≤◌, ◌↔◌, IsTrue, if◌then◌else◌, count_by};
+ghost use Rattle.jup_rules.specs.Messages.{is_pong};
 
+use jup_star::Down;
 use std::marker::Model;
 
 /// Pongs that a site may be owed.
@@ -46,12 +48,32 @@ impl Pongs {
     }
 
     /// Takes off pongs that were written. True where a ping may be taken that had to wait before.
-    pub fn pay(&mut self, count: u32) -> bool
+    pub fn pay(&mut self, count: usize) -> bool
         ensures owed { self.new ≡ self.old - count }
         ensures again { IsTrue result ↔ (1024 ≤ self.old) × (self.new < 1024) }
     {
         let had_to_wait = self.owed == MOST;
-        self.owed = self.owed.saturating_sub(count);
+        self.owed = (self.owed as usize).saturating_sub(count) as u32;
         had_to_wait && self.owed < MOST
     }
+}
+
+/// How many of these messages are pongs.
+pub fn pongs_in(downs: &[Down]) -> usize
+    ensures { result ≡ count_by is_pong downs.now }
+{
+    let mut pongs = 0;
+    for down in downs {
+        let is_one = is_pong(down);
+        if is_one {
+            pongs += 1;
+        }
+    }
+    pongs
+}
+
+fn is_pong(down: &Down) -> bool
+    ensures { result ≡ is_pong down.now }
+{
+    matches!(down, Down::Pong(_))
 }

@@ -1,15 +1,35 @@
 //! The command lines of the daemon and of the client.
 ghost use Rattle.std.specs.Prelude.{◌≤◌, IfOk, IfSome};
+ghost use Rattle.jup_limits.specs.Limits.{highest_limit};
 
 use clap::error::ErrorKind;
 use clap::{Arg, ArgAction, Command, Error, value_parser};
+use jup_limits::HIGHEST_LIMIT;
 use std::alloc::Global;
-
-/// Edits that a star may be told to take.
-const MOST_EDITS: u32 = 16_777_216;
 
 /// Sessions that a daemon may be told to serve.
 const MOST_SESSIONS: u32 = 1_024;
+
+/// What `jupd --help` says first, and last.
+const DAEMON_ABOUT: &str =
+    "Serves one board, whose layout it reads from standard input, to many clients";
+
+const DAEMON_EXAMPLE: &str = "\
+Example:
+  $ jupd --listen 127.0.0.1:4711 --limit 1000 --sessions 2 < examples/desk.layout
+  listening 127.0.0.1:4711";
+
+/// What `jup --help` says first, and last.
+const CLIENT_ABOUT: &str = "Edits the board of a server, by commands from standard input";
+
+const CLIENT_EXAMPLE: &str = "\
+Example:
+  $ jup --connect 127.0.0.1:4711
+  site 1
+  ins 1 1 2 char \"!\"
+  made ins 1 1 1.1 \"!\"
+  quit
+  bye";
 
 /// What the daemon is told to do.
 #[derive(Drop)]
@@ -24,13 +44,13 @@ pub struct DaemonWords {
 
 /// Reads the words after the daemon's name.
 pub fn daemon_words(alloc: Global, words: &[String]) -> Result<DaemonWords, Error>
-    ensures limit { IfOk result (λ w. (1 ≤ w.limit) × (w.limit ≤ 16777216)) }
+    ensures limit { IfOk result (λ w. (1 ≤ w.limit) × (w.limit ≤ highest_limit)) }
     ensures sessions { IfOk result (λ w. (1 ≤ w.sessions) × (w.sessions ≤ 1024)) }
 {
     let listen = required(alloc, "listen")
         .value_name("ADDR")
         .help("Where to listen, as 127.0.0.1:4711");
-    let limit = count(alloc, "limit", MOST_EDITS).help(
+    let limit = count(alloc, "limit", HIGHEST_LIMIT).help(
         "How many edits are taken in all, 1 to 16777216",
     );
     let sessions = count(alloc, "sessions", MOST_SESSIONS).help(
@@ -38,12 +58,14 @@ pub fn daemon_words(alloc: Global, words: &[String]) -> Result<DaemonWords, Erro
     );
     let mut command = Command::new(alloc, "jupd")
         .no_binary_name(true)
+        .about(DAEMON_ABOUT)
+        .after_help(DAEMON_EXAMPLE)
         .arg(listen)?
         .arg(limit)?
         .arg(sessions)?;
     let matches = command.try_get_matches_from_mut(words)?;
     let listen = matches.get_str("listen");
-    let limit = within(matches.get_one("limit"), MOST_EDITS);
+    let limit = within(matches.get_one("limit"), HIGHEST_LIMIT);
     let sessions = within(matches.get_one("sessions"), MOST_SESSIONS);
     let (Some(listen), Some(limit), Some(sessions)) = (listen, limit, sessions) else {
         return Err(command.error(ErrorKind::ValueValidation, "a count out of range")?);
@@ -62,6 +84,8 @@ pub fn client_words(alloc: Global, words: &[String]) -> Result<String, Error> {
         .help("Where the server listens, as 127.0.0.1:4711");
     let mut command = Command::new(alloc, "jup")
         .no_binary_name(true)
+        .about(CLIENT_ABOUT)
+        .after_help(CLIENT_EXAMPLE)
         .arg(connect)?;
     let matches = command.try_get_matches_from_mut(words)?;
     let Some(addr) = matches.get_str("connect") else {

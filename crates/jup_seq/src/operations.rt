@@ -238,7 +238,7 @@ impl<V: Copy> Transform for SeqOp<V> {
         ensures refused_without_room { OnErr result (HasRoom self.now beside state.old → ⊥) }
     {
         match self {
-            SeqOp::Insert { .. } => state.reserve_more(beside + 1).map_err(|_| NoMemory),
+            SeqOp::Insert { .. } => state.reserve_more(beside + 1),
             SeqOp::Delete { .. } | SeqOp::Relabel { .. } | SeqOp::Nothing => Ok(()),
         }
     }

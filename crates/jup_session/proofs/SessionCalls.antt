@@ -1,14 +1,16 @@
 -- What the calls of a session come to.
-use Rattle.std.proofs.Common.{◌≡◌, ℕ, ◌⊎◌, inl, inr, Bool, true, false, List, [], ◌∷◌, ◌++◌, Result, Ok, Err, MatchBool, refl, sym, ap, ◌∙◌, subst}
+use Rattle.std.proofs.Common.{◌≡◌, ℕ, ◌⊎◌, inl, inr, Bool, true, false, List, [], ◌∷◌, ◌++◌, Option, Some, None, Result, Ok, Err, MatchBool, refl, sym, ap, ◌∙◌, subst}
 use Rattle.std.proofs.lemmas.List.{append_assoc, append-nil}
+use Rattle.jup_batch.specs.BatchBoards.{BoardBatch}
+use Rattle.jup_star.specs.declared.messages.Up.{Up}
 use Rattle.jup_star.specs.StarCalls.{BoardStar, is_no_memory, bare_joined}
 use Rattle.jup_star.specs.declared.star.Joined.{Joined as JoinedSite}
 use Rattle.jup_star.specs.declared.faults.StarFault.{StarFault}
 use Rattle.jup_star.specs.declared.faults.StarFault.TheVariants.{NoLink}
 use Rattle.jup_star.specs.declared.calls.Call.{Call}
-use Rattle.jup_star.specs.declared.calls.Call.TheVariants.{Join, Fetch, Leave}
+use Rattle.jup_star.specs.declared.calls.Call.TheVariants.{Join, Take, Fetch, Leave}
 use Rattle.jup_star.specs.declared.calls.Reply.{Reply}
-use Rattle.jup_star.specs.declared.calls.Reply.TheVariants.{Joined, Fetched, Left}
+use Rattle.jup_star.specs.declared.calls.Reply.TheVariants.{Joined, Taken, Fetched, Left}
 use Rattle.jup_hub.specs.declared.fault.HubFault.{HubFault}
 use Rattle.jup_hub.specs.declared.fault.HubFault.TheVariants.{Star, Spent}
 use Rattle.jup_hub.specs.declared.view.Entry.{Entry}
@@ -18,6 +20,11 @@ use Rattle.jup_hub.specs.Faults.{is_out_of_memory}
 use Rattle.jup_hub.specs.Histories.{entry}
 use Rattle.jup_hub.specs.Knowledge.{tally, tallies, after_split, split_from, joined_with, having_seen, Called, ComesToAsk, IsSpent}
 use Rattle.jup_hub.specs.Passes.{Made}
+use Rattle.jup_rules.specs.declared.ending.Ending.{Ending}
+use Rattle.jup_rules.specs.declared.next.Awaits.TheVariants.{Gate, Pongs}
+use Rattle.jup_rules.specs.declared.next.Incoming.{Incoming}
+use Rattle.jup_rules.specs.declared.ring.Ring.{Ring}
+use Rattle.jup_session.specs.Gates.{HasAnswered, HasToWait, HasCalled, followed_by, IsHandled}
 use Rattle.jup_session.specs.Sessions.{IsCallFor, AreCallsFor, AreTalliesFor, HasLeft, IsFull, SomeLeft, FollowsJoin, IsSession, Serves, Leaves, HasMadeNone, HasServed, IsJoinOf, Joins, BothServe}
 
 -- calls for a site, and more of them
@@ -89,6 +96,26 @@ serves_call site reply call v w (Err (Star e)) is m = go (is_no_memory e) m
     go : (b : Bool) → MatchBool b ((w ≡ v) × ComesToAsk call v) (Called call (reply (Err e)) v w) → Serves site v w
     go true h = serves_same site v w h.0
     go false h = called site call (reply (Err e)) v w is h
+
+-- a message that the hub was called for, or not
+pub serves_answered : (site : ℕ) (up : Up BoardBatch) (v w : View) (answer : Option (Result (Option ℕ) HubFault)) → HasAnswered site up v w answer → Serves site v w
+serves_answered site up v w (Some answer) made = serves_call site (λ r. Taken r) (Take site up) v w answer refl made
+serves_answered site up v w None same = serves_same site v w same
+
+-- what came of an edit
+pub edit_called : (site nth : ℕ) (incoming : Incoming) (v w : View) (answer : Option (Result (Option ℕ) HubFault)) → incoming.awaits ≡ Gate nth → HasAnswered site incoming.up v w answer
+    → HasCalled site incoming v w answer
+edit_called site nth incoming v w (Some answer) gate answered = answered
+edit_called site nth incoming v w None gate answered = (answered, subst HasToWait (sym gate) tt)
+
+-- of a ping that waited in vain
+pub ping_left : (site : ℕ) (incoming : Incoming) (v : View) → incoming.awaits ≡ Pongs → HasCalled site incoming v v None
+ping_left site incoming v pongs = (refl, subst HasToWait (sym pongs) tt)
+
+-- and of any message
+pub handled_so : (site : ℕ) (incoming : Incoming) (v w : View) (answer : Option (Result (Option ℕ) HubFault)) (followed : Result Ring Ending) → HasCalled site incoming v w answer
+    → followed ≡ followed_by incoming answer → IsHandled site incoming v w followed
+handled_so site incoming v w answer followed called is = record { answer = answer; called = called; follows = is }
 
 full : (v w : View) → w ≡ v → IsSpent v → IsFull w.opening (tally w.number w.made)
 full v w e h = subst (λ (x : View). IsFull x.opening (tally x.number x.made)) (sym e) (h.0, h.1.legal, h.1.tallied.0, h.2)

@@ -1,3 +1,4 @@
 pub mod Outputs
+pub mod Gates
 pub mod Greetings
 pub mod Sessions

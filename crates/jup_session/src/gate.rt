@@ -1,15 +1,32 @@
 //! Who may take an edit, and when.
+ghost use Rattle.std.specs.Prelude.{◌≡◌, IsTrue, IsSome};
+ghost use Rattle.jup_hub.specs.Passes.{view_of, IsPassOf};
+ghost use Rattle.jup_session.specs.Gates.{HasAnswered};
 
+use jup_hub::{Hub, HubFault, Pass};
+use jup_star::Up;
+use std::alloc::Global;
+use std::sync::Wait;
 use std::thread::yield_now;
 
 /// How often a gate that is not ready is asked again.
 const MOST_ASKED_AGAIN: u32 = 100_000;
 
 /// Asked before the nth edit of a site is taken, from 1, and told once the hub has answered, also where it refused.
+///
+/// Contracts speak of a gate by two facts, which it may say more of: that it was ready for an edit, and that it was told.
 pub trait Gate {
-    fn ready(&self, site: u32, nth: u32) -> bool;
+    ghost use Rattle.std.specs.Prelude.{ℕ};
 
-    fn answered(&self, site: u32, nth: u32);
+    ghost is_ready: { Self → ℕ → ℕ → Type 0 } = { λ _ _ _. Unit {0} };
+
+    ghost is_told: { Self → ℕ → ℕ → Type 0 } = { λ _ _ _. Unit {0} };
+
+    fn ready(&self, site: u32, nth: u32) -> bool
+        ensures { IsTrue result → is_ready self.now site nth };
+
+    fn answered(&self, site: u32, nth: u32)
+        ensures { is_told self.now site nth };
 }
 
 /// Lets all through.
@@ -25,7 +42,9 @@ impl Gate for Open {
 }
 
 /// Asks a gate for an edit, and where it is not ready again after a yield, up to 100,000 times. Whether it was ready.
-pub fn pass_gate<G: Gate>(gate: &G, site: u32, nth: u32) -> bool {
+pub fn pass_gate<G: Gate>(gate: &G, site: u32, nth: u32) -> bool
+    ensures { IsTrue result → G.is_ready gate.now site nth }
+{
     for _ in 0..MOST_ASKED_AGAIN {
         if gate.ready(site, nth) {
             return true;
@@ -33,4 +52,30 @@ pub fn pass_gate<G: Gate>(gate: &G, site: u32, nth: u32) -> bool {
         yield_now();
     }
     gate.ready(site, nth)
+}
+
+/// Has the hub take the nth edit of a site once the gate is ready for it, and tells the gate once the hub has answered,
+/// also where it refused. `None` where the gate stayed shut: then the hub was asked nothing, and the gate told nothing.
+pub fn take_edit<R: Wait, G: Gate>(
+    rt: &R,
+    alloc: Global,
+    hub: &Hub,
+    pass: &mut Pass,
+    gate: &G,
+    site: u32,
+    nth: u32,
+    up: &Up,
+) -> Option<Result<Option<u32>, HubFault>>
+    requires { IsPassOf hub.now pass.old }
+    ensures pass { IsPassOf hub.now pass.new }
+    ensures ready { IsSome result → G.is_ready gate.now site nth }
+    ensures told { IsSome result → G.is_told gate.now site nth }
+    ensures answered { HasAnswered site up.now (view_of pass.old) (view_of pass.new) result }
+{
+    if !pass_gate(gate, site, nth) {
+        return None;
+    }
+    let answer = hub.take(rt, alloc, pass, site, up);
+    gate.answered(site, nth);
+    Some(answer)
 }

@@ -10,11 +10,11 @@ const LAST_STREAM: i32 = 2;
 /// as long as the result is held. Else the next socket would take that place: what is printed would go to the peer, and
 /// what the peer sends would be read as commands.
 pub fn hold_streams<R: Files<File = File>>(rt: &R) -> [Option<File>; 3] {
-    [held(rt), held(rt), held(rt)]
+    [hold(rt), hold(rt), hold(rt)]
 }
 
 // A file in the lowest place that is free, where that is a standard stream's.
-fn held<R: Files<File = File>>(rt: &R) -> Option<File> {
+fn hold<R: Files<File = File>>(rt: &R) -> Option<File> {
     let file = File::open(rt, "/dev/null").ok()?;
     if file.as_raw_fd() <= LAST_STREAM {
         Some(file)

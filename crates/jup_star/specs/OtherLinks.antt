@@ -2,6 +2,7 @@
 -- said of every far end that one may think of.
 use Rattle.std.specs.Prelude.{◌≡◌, ◌≢◌, ◌≤◌, ℕ, List, ◌++◌, Some}
 use Rattle.std.specs.Option.{IsSomeAnd}
+use Rattle.jup_limits.specs.Limits.{most_unacknowledged}
 use Rattle.jup_link.specs.Links.{Link}
 use Rattle.jup_link.specs.Streams.{operation_count, AllMessages}
 use Rattle.jup_link.specs.InStep.{InStep}
@@ -28,7 +29,7 @@ module _ (O : Operations) where
 
   -- at most 1,024 edits are on their way up, and every item that they insert has a name of the site
   pub record SendsAsSite (site : ℕ) (far : FarEnd) : Type 0 where
-    pub few : operation_count (ups far.up) ≤ 1024
+    pub few : operation_count (ups far.up) ≤ most_unacknowledged
     pub own : AllMessages (InsertsUnder site) (ups far.up)
 
   -- a far end is in step with a link of a star that has this board; what is in the outbox comes after what was fetched

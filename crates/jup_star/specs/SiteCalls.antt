@@ -1,5 +1,6 @@
 -- The calls on a site: memory aside, each has one reply and one next site.
 use Rattle.std.specs.Prelude.{◌≡◌, ℕ, List, Bool, true, false, ◌&&◌, ◌||◌, ◌∷◌, [], length, nat_le, not, Option, Some, None, is_none, is_ok, Result, Ok, Err, MatchBool}
+use Rattle.jup_limits.specs.Limits.{highest_limit, last_site}
 use Rattle.jup_link.specs.Messages.{next_message}
 use Rattle.jup_batch.specs.BatchBoards.{BoardBatch, BoardEdits}
 use Rattle.jup_window.specs.declared.commands.Command.{Command}
@@ -28,8 +29,8 @@ BoardSite = SiteState BoardBatch board.Windows
 -- why a site is not opened
 abbrev pub site_open_fault : ℕ → ℕ → board.Windows → Option OpenFault
 site_open_fault number limit b = first_fault (
-    test (nat_le 1 limit && nat_le limit 16777216) BadLimit
-    ∷ test (nat_le 1 number && nat_le number 65535) BadSite
+    test (nat_le 1 limit && nat_le limit highest_limit) BadLimit
+    ∷ test (nat_le 1 number && nat_le number last_site) BadSite
     ∷ test (not (has_site number b)) BadSite
     ∷ [])
 

@@ -1,7 +1,8 @@
 -- A site, and what each call answers and leaves. It is said of any operations: a site's are those on boards.
 use Rattle.std.specs.Prelude.{◌≡◌, ℕ, ◌+◌, ◌*◌, ◌≤◌, Bool, true, false, not, List, [], ◌∷◌, ◌++◌, length, nat_le, Option, Some, None, Result, Ok, Err, if◌then◌else◌}
+use Rattle.jup_limits.specs.Limits.{highest_limit, most_operations, most_unacknowledged}
 use Rattle.jup_xform.specs.declared.row.Side.TheVariants.{Client}
-use Rattle.jup_link.specs.Links.{Link, opened, generated, accepts_count, after_send, after_count, answered}
+use Rattle.jup_link.specs.Links.{owes, Link, opened, generated, accepts_count, after_send, after_count, answered}
 use Rattle.jup_link.specs.declared.Msg.{Msg}
 use Rattle.jup_window.specs.Operations.{Operations}
 use Rattle.jup_star.specs.declared.messages.Up.{Up}
@@ -43,7 +44,7 @@ module _ {Operation State : Type 0} where
 
 -- the acknowledgement that an end owes, if it does
 abbrev pub owed_up : {Operation : Type 0} → Link Operation → Option (Up Operation)
-owed_up e = if nat_le 64 e.unanswered then Some (UpAck e.received) else None
+owed_up e = if owes e.unanswered then Some (UpAck e.received) else None
 
 -- what is asked of an acknowledgement
 abbrev pub heard_tests : {Operation : Type 0} → Link Operation → ℕ → List (Test SiteFault)
@@ -58,7 +59,7 @@ module _ (O : Operations) where
   -- does not fit the board (1 to 6), 1,024 edits are not acknowledged (7), all edits were made (9)
   abbrev pub within_bounds : SiteOf → Result O.Op ℕ → Result O.Op ℕ
   within_bounds s (Err n) = Err n
-  within_bounds s (Ok op) = if nat_le 1024 (length s.end.outgoing) then Err 7 else if nat_le s.limit s.made then Err 9 else Ok op
+  within_bounds s (Ok op) = if nat_le most_unacknowledged (length s.end.outgoing) then Err 7 else if nat_le s.limit s.made then Err 9 else Ok op
 
   abbrev pub edit_answer : O.Command → SiteOf → Result O.Op ℕ
   edit_answer command s = if s.stopped then Err 25 else within_bounds s (O.operation_of s.board command s.number s.named)
@@ -109,8 +110,8 @@ module _ (O : Operations) where
   -- What holds of every site: it made no more edits than it may, its link carries no more than these, it named no more items
   -- than it made edits, and its board holds no item that it has yet to name
   pub record IsSite (s : SiteOf) : Type 0 where
-    pub limited : s.limit ≤ 16777216
+    pub limited : s.limit ≤ highest_limit
     pub counted : s.made ≤ s.limit
     pub sent : generated s.end ≤ s.made
-    pub insertions : s.named ≤ 32 * s.made
+    pub insertions : s.named ≤ most_operations * s.made
     pub known : (n : O.t.Name) → O.t.holds s.board n → O.site_of n ≡ s.number → O.number_of n ≤ s.named

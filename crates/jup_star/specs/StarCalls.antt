@@ -1,5 +1,6 @@
 -- A call on a star: memory aside, it has one reply and one next star.
 use Rattle.std.specs.Prelude.{◌≡◌, ℕ, ◌+◌, ◌-◌, ◌≤◌, ◌&&◌, nat_le, [], ◌∷◌, Bool, true, false, List, length, take, Option, Some, None, is_none, Result, Ok, Err, MatchBool}
+use Rattle.jup_limits.specs.Limits.{highest_limit, last_site, most_attached}
 use Rattle.jup_batch.specs.BatchBoards.{BoardBatch, BoardEdits}
 use Rattle.jup_batch.specs.BatchBoards as board
 use Rattle.jup_batch.specs.BoardBatches.{board_batches}
@@ -30,10 +31,10 @@ BoardLink = LinkState BoardBatch
 -- what holds of every star: it has no more entries than it may, and no more sites than there may be; its links are as said; and no
 -- sequence has grown by more than an item for each entry
 pub record IsStar (s : BoardStar) : Type 0 where
-  pub limited : s.limit ≤ 16777216
+  pub limited : s.limit ≤ highest_limit
   pub counted : length s.order ≤ s.limit
-  pub given : s.given ≤ 65535
-  pub few : length s.links ≤ 64
+  pub given : s.given ≤ last_site
+  pub few : length s.links ≤ most_attached
   pub bounded : AreBounded s.given (length s.order) s.links
   pub apart : AreApart s.links
   pub short : board.IsSmall (most_batches - length s.order) s.board
@@ -142,4 +143,4 @@ Answers call s t r = MatchBool (is_refused r) ((t ≡ s) × (asks_memory call s 
 
 -- why a star is not opened
 abbrev pub star_open_fault : board.Windows → ℕ → Option OpenFault
-star_open_fault b limit = first_fault (test (nat_le 1 limit && nat_le limit 16777216) BadLimit ∷ test (only_site 0 b) BadSite ∷ [])
+star_open_fault b limit = first_fault (test (nat_le 1 limit && nat_le limit highest_limit) BadLimit ∷ test (only_site 0 b) BadSite ∷ [])

@@ -1,5 +1,6 @@
 -- The star, and what each call answers and leaves. It is said of any operations: the star's are those on boards.
 use Rattle.std.specs.Prelude.{◌≡◌, ℕ, ◌+◌, ◌*◌, ◌≤◌, Bool, false, not, List, [], ◌∷◌, ◌++◌, length, map, filter, find, nat_lt, Option, Some, None, if◌then◌else◌}
+use Rattle.jup_limits.specs.Limits.{last_site, most_attached, most_operations}
 use Rattle.jup_link.specs.Links.{Link, generated, accepts_count}
 use Rattle.jup_link.specs.declared.Msg.{Msg}
 use Rattle.jup_window.specs.Operations.{Operations}
@@ -43,7 +44,7 @@ module _ {Operation State Edit : Type 0} where
 
   -- why a join is refused, and the star after one that is not
   abbrev pub join_fault : StarState Operation State Edit → Option StarFault
-  join_fault s = first_fault (test (nat_lt (length s.links) 64) Full ∷ test (nat_lt s.given 65535) SitesSpent ∷ [])
+  join_fault s = first_fault (test (nat_lt (length s.links) most_attached) Full ∷ test (nat_lt s.given last_site) SitesSpent ∷ [])
 
   abbrev pub joined : StarState Operation State Edit → StarState Operation State Edit
   joined s = record s { given = s.given + 1; links = s.links ++ opened_link (s.given + 1) ∷ [] }
@@ -130,7 +131,7 @@ AreApart (l ∷ ls) = IsNew l.site ls × AreApart ls
 pub record IsBounded {Operation : Type 0} (most count : ℕ) (l : LinkState Operation) : Type 0 where
   pub given : l.site ≤ most
   pub sent : generated l.end ≤ count
-  pub insertions : l.named ≤ 32 * count
+  pub insertions : l.named ≤ most_operations * count
 
 abbrev pub AreBounded : {Operation : Type 0} → ℕ → ℕ → List (LinkState Operation) → Type 0
 AreBounded most count [] = Unit {0}

@@ -1,6 +1,6 @@
 //! What the star and a site do alike at their ends of a link.
-ghost use Rattle.std.specs.Prelude.{◌≡◌, ◌≤◌, length, IfOk, OnErr, nat_le, if◌then◌else◌};
-ghost use Rattle.jup_link.specs.Links.{IsNumber, IsCount, answered};
+ghost use Rattle.std.specs.Prelude.{◌≡◌, ◌≤◌, length, IfOk, OnErr, if◌then◌else◌};
+ghost use Rattle.jup_link.specs.Links.{owes, IsNumber, IsCount, answered};
 ghost use Rattle.jup_batch.specs.BoardBatches.{board_batches};
 ghost use Rattle.jup_star.specs.LinkStates.{operation_at, end_after};
 ghost use Rattle.jup_star.specs.Counts.{count_tests};
@@ -51,7 +51,7 @@ pub(crate) fn copy_of(alloc: Global, msg: &Msg<BoardBatch>) -> Result<Msg<BoardB
 
 /// Acknowledges what an end owes, if it does: how many operations it received.
 pub(crate) fn acknowledge(end: &mut End<BoardBatch>) -> Option<u32>
-    ensures count { result ≡ (if nat_le 64 end.old.link.unanswered then Some end.old.link.received else None) }
+    ensures count { result ≡ (if owes end.old.link.unanswered then Some end.old.link.received else None) }
     ensures end { end.new.link ≡ answered end.old.link }
     ensures spare { end.new.spare ≡ end.old.spare }
 {

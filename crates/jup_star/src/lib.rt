@@ -11,7 +11,6 @@ mod calls;
 mod edits;
 mod ends;
 mod faults;
-mod limits;
 mod link;
 mod links;
 mod messages;

@@ -1,5 +1,6 @@
 //! A site.
 ghost use Rattle.std.specs.Prelude.{◌≡◌, ◌≤◌, ◌<◌, true, false, [], ◌∷◌, Ok, Err, length, IfOk, IfErr, OnOk, OnErr};
+ghost use Rattle.jup_limits.specs.Limits.{most_operations};
 ghost use Rattle.jup_link.specs.Links.{IsNumber, IsCount, opened, after_count};
 ghost use Rattle.jup_batch.specs.BatchBoards.{bare, after, edit_of, IsValid, HasRoom};
 ghost use Rattle.jup_window.specs.BoardOperations.{board_operations, next_name, numbered};
@@ -18,10 +19,10 @@ ghost use Rattle.jup_star.specs.declared.messages.Down.TheVariants.{Op, Ack, Pon
 
 use crate::edits::edits_of;
 use crate::ends::{acknowledge, check_counts, copy_of, receive};
-use crate::limits::{HIGHEST_LIMIT, LAST_SITE};
 use crate::take::fits;
 use crate::{Down, OpenFault, SiteFault, Up};
 use jup_batch::{BoardBatch, BoardEdits, MOST_COMMANDS, all_insertions, name_all, one_bears_site};
+use jup_limits::{HIGHEST_LIMIT, LAST_SITE, MOST_UNACKNOWLEDGED};
 use jup_link::{End, Msg};
 use jup_seq::SeqOp;
 use jup_setting::SetOp;
@@ -37,9 +38,6 @@ const NO_OPERATION: BoardOp = BoardOp {
     wid: 0,
     op: WidgetOp::Toggle(SetOp::Nothing),
 };
-
-/// The most edits of a site that the star has not acknowledged.
-const MOST_UNACKNOWLEDGED: u32 = 1024;
 
 /// An edit that a site made, and the message that tells the star of it.
 #[derive(Drop)]
@@ -186,7 +184,7 @@ impl Site {
     fn name_batch(&self, commands: &[Command], ops: &mut [BoardOp]) -> Result<(), EditFault>
         requires running { self.now.stopped ≡ false }
         requires some { 1 ≤ length commands.now }
-        requires few { length commands.now ≤ 32 }
+        requires few { length commands.now ≤ most_operations }
         requires long { length ops.old ≡ length commands.now }
         ensures refused { IfErr result (λ fault. edit_answer board_batches commands.now self.now ≡ Err (edit_fault_number fault)) }
         ensures memory { IfErr result (λ fault. is_edit_memory fault ≡ false) }
@@ -412,7 +410,7 @@ fn prepare(
     end: &mut End<BoardBatch>,
 ) -> Result<Prepared, NoMemory>
     requires some { 1 ≤ length ops.now }
-    requires few { length ops.now ≤ 32 }
+    requires few { length ops.now ≤ most_operations }
     ensures board { bare board.new ≡ bare board.old }
     ensures end { end.new.link ≡ end.old.link }
     ensures board_room { OnOk result (HasRoom ops.now 0 board.new) }

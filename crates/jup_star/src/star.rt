@@ -14,21 +14,18 @@ ghost use Rattle.jup_star.specs.declared.messages.Up.TheVariants.{Op, Ack, Ping}
 ghost use Rattle.jup_star.specs.declared.calls.Call.TheVariants.{Join, Take, Fetch, Leave};
 ghost use Rattle.jup_star.specs.declared.calls.Reply.TheVariants.{Joined as JoinedReply, Taken, Fetched, Left};
 
-use crate::limits::{HIGHEST_LIMIT, LAST_SITE};
 use crate::link::Link;
 use crate::links::{detach, link_at};
 use crate::order::Order;
 use crate::take::{carry_out, reserve_edit};
 use crate::{Down, Downs, Entry, OpenFault, StarFault, Up};
 use jup_batch::BoardBatch;
+use jup_limits::{HIGHEST_LIMIT, LAST_SITE, MOST_ATTACHED};
 use jup_link::Msg;
 use jup_window::Board;
 use jup_xform::NoMemory;
 use std::alloc::Global;
 use std::marker::Model;
-
-/// The most links that a star has.
-const MOST_LINKS: usize = 64;
 
 /// What a site is told as it joins.
 #[derive(Drop)]
@@ -111,7 +108,7 @@ impl Star {
     pub fn join(&mut self, alloc: Global) -> Result<Joined, StarFault>
         ensures { Answers Join self.old self.new (JoinedReply (bare_joined result)) }
     {
-        if self.links.len() >= MOST_LINKS {
+        if self.links.len() >= MOST_ATTACHED {
             return Err(StarFault::Full);
         }
         if self.given >= LAST_SITE {

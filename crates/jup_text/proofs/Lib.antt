@@ -6,3 +6,4 @@ pub mod LabelQuotes
 pub mod CommandWords
 pub mod OneCommand
 pub mod Printing
+pub mod Drafting

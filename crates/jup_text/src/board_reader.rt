@@ -1,15 +1,17 @@
 //! Boards that are read line by line, as they are printed. The items are named 0.1, 0.2 and so on, through
 //! the whole board in the order of its lines.
+ghost use Rattle.std.specs.Prelude.{◌≡◌, ℕ, List, [], ◌++◌, None, OnOk, OnErr, codes};
+ghost use Rattle.jup_text.specs.Drafts.{IsTaken, TakesWindow, TakesWidget};
+ghost use Rattle.jup_text.specs.WidgetLines.{IsWidgetLine};
 
-use self::numbered::Numbered;
-use super::quoted::{is_end, next_char, next_quoted_label, opened};
-use super::words::{id_of, read_integer, read_switch};
-use jup_setting::{Slider, Toggle};
-use jup_value::Label;
-use jup_window::{Board, BoardFault, Widget};
+use self::widget_lines::{WidgetLine, read_widget};
+use super::words::{id_of, next_word};
+use jup_window::{Board, BoardFault};
 use std::alloc::Global;
+use std::marker::Model;
 
 mod numbered;
+mod widget_lines;
 
 /// Why a line of a board is not taken.
 #[derive(Clone, Copy, Debug, PartialEq, Eq)]
@@ -34,6 +36,8 @@ pub fn is_board_line(line: &str) -> bool {
 }
 
 /// Reads a board line by line, as it is printed.
+///
+/// Contracts see the board so far, its last window, and the number of its last item.
 #[derive(Drop)]
 pub struct BoardReader {
     board: Board,
@@ -43,9 +47,19 @@ pub struct BoardReader {
     last: u32,
 }
 
+impl Model for BoardReader {
+    ghost use Rattle.jup_text.specs.Drafts.{Draft};
+
+    ghost Value = { Draft };
+
+    ghost view = { λ r. (r.board, r.window, r.last) };
+}
+
 impl BoardReader {
     /// No line was read yet. It takes no memory.
-    pub fn new(alloc: Global) -> BoardReader {
+    pub fn new(alloc: Global) -> BoardReader
+        ensures { result ≡ ([], None, 0) }
+    {
         BoardReader {
             board: Board::new(alloc),
             window: None,
@@ -54,114 +68,52 @@ impl BoardReader {
     }
 
     /// The board that the lines describe.
-    pub fn whole(self) -> Board {
+    pub fn whole(self) -> Board
+        ensures { result ≡ self.0 }
+    {
         self.board
     }
 
-    /// Takes one line more.
-    pub fn take(&mut self, alloc: Global, line: &str) -> Result<(), Untaken> {
-        let (word, rest) = line.split_once(' ').ok_or(Untaken::BadLine)?;
-        match word {
-            "window" => self.take_window(alloc, rest),
-            "text" => self.take_text(alloc, rest),
-            "list" => self.take_list(alloc, rest),
-            _ => {
-                let (wid, widget) = read_setting(word, rest).ok_or(Untaken::BadLine)?;
-                self.put(wid, widget)
-            }
+    /// Takes one line more. A line that is refused, for want of memory too, leaves all as it was.
+    pub fn take(&mut self, alloc: Global, line: &str) -> Result<(), Untaken>
+        ensures ok { OnOk result (IsTaken self.old line.now self.new) }
+        ensures err { OnErr result (self.new ≡ self.old) }
+    {
+        let Some((word, rest)) = next_word(line.as_bytes()) else {
+            return Err(Untaken::BadLine);
+        };
+        if word == b"window".as_slice() {
+            return self.take_window(alloc, rest);
         }
+        let read = read_widget(alloc, self.last, word, rest)?;
+        self.put(read)
     }
 
-    fn take_window(&mut self, alloc: Global, id: &str) -> Result<(), Untaken> {
-        let win = id_of(id.as_bytes()).ok_or(Untaken::BadLine)?;
+    // Takes the line of a window, whose id this is.
+    fn take_window(&mut self, alloc: Global, id: &[u8]) -> Result<(), Untaken>
+        ensures ok { OnOk result (TakesWindow self.old (codes "window " ++ id.now) self.new) }
+        ensures err { OnErr result (self.new ≡ self.old) }
+    {
+        let Some(win) = id_of(id) else {
+            return Err(Untaken::BadLine);
+        };
         self.board.add_window(alloc, win)?;
         self.window = Some(win);
         Ok(())
     }
 
-    fn take_text(&mut self, alloc: Global, rest: &str) -> Result<(), Untaken> {
-        let (id, text) = rest.split_once(' ').ok_or(Untaken::BadLine)?;
-        let wid = id_of(id.as_bytes()).ok_or(Untaken::BadLine)?;
-        let text = read_text(alloc, self.last, text)?;
-        self.last = text.last();
-        self.put(wid, Widget::Text(text.into_items()))
-    }
-
-    fn take_list(&mut self, alloc: Global, rest: &str) -> Result<(), Untaken> {
-        let (id, labels) = split_id(rest);
-        let wid = id_of(id.as_bytes()).ok_or(Untaken::BadLine)?;
-        let list = read_labels(alloc, self.last, labels)?;
-        self.last = list.last();
-        self.put(wid, Widget::List(list.into_items()))
-    }
-
-    // Adds a widget to the last window.
-    fn put(&mut self, wid: u16, widget: Widget) -> Result<(), Untaken> {
-        let win = self.window.ok_or(Untaken::BadLine)?;
-        self.board.add_widget(win, wid, widget)?;
-        Ok(())
-    }
-}
-
-// The items of a quoted text, numbered after the last.
-fn read_text(alloc: Global, last: u32, text: &str) -> Result<Numbered<char>, Untaken> {
-    let mut items = Numbered::new(alloc, last);
-    let mut rest = opened(text.as_bytes()).ok_or(Untaken::BadLine)?;
-    while let Some((value, later)) = next_char(rest) {
-        items.push(value)?;
-        rest = later;
-    }
-    if is_end(rest) {
-        Ok(items)
-    } else {
-        Err(Untaken::BadLine)
-    }
-}
-
-// A list's id, and what follows it: a space and a label for each item.
-fn split_id(text: &str) -> (&str, &[u8]) {
-    match text.split_once(' ') {
-        Some((id, _)) => (id, &text.as_bytes()[id.len()..]),
-        None => (text, b"".as_slice()),
-    }
-}
-
-// The items of a list, numbered after the last.
-fn read_labels(alloc: Global, last: u32, labels: &[u8]) -> Result<Numbered<Label>, Untaken> {
-    let mut items = Numbered::new(alloc, last);
-    let mut rest = labels;
-    while let [b' ', label @ ..] = rest {
-        let Some((value, later)) = next_quoted_label(label) else {
+    // Adds the widget of a line to the last window.
+    fn put(&mut self, read: WidgetLine) -> Result<(), Untaken>
+        ensures ok { (line : List ℕ) → IsWidgetLine self.old.2 line read.wid read.widget read.last
+            → OnOk result (TakesWidget self.old line self.new) }
+        ensures err { OnErr result (self.new ≡ self.old) }
+    {
+        let WidgetLine { wid, widget, last } = read;
+        let Some(win) = self.window else {
             return Err(Untaken::BadLine);
         };
-        items.push(value)?;
-        rest = later;
-    }
-    match rest {
-        [] => Ok(items),
-        _ => Err(Untaken::BadLine),
-    }
-}
-
-// A toggle or a slider with its id.
-fn read_setting(word: &str, rest: &str) -> Option<(u16, Widget)> {
-    let mut words = rest.split(' ');
-    let wid = id_of(words.next()?.as_bytes())?;
-    let widget = match word {
-        "toggle" => {
-            let on = read_switch(words.next()?)?;
-            Widget::Toggle(Toggle { on })
-        }
-        "slider" => {
-            let lo = read_integer(words.next()?)?;
-            let hi = read_integer(words.next()?)?;
-            let value = read_integer(words.next()?)?;
-            Widget::Slider(Slider::new(lo, hi, value).ok()?)
-        }
-        _ => return None,
-    };
-    match words.next() {
-        None => Some((wid, widget)),
-        Some(_) => None,
+        self.board.add_widget(win, wid, widget)?;
+        self.last = last;
+        Ok(())
     }
 }

@@ -9,7 +9,7 @@ ghost use Rattle.jup_text.specs.Commands.{command_text, batch_text, value_text, 
 ghost use Rattle.jup_text.specs.Quotes.{quoted};
 
 use super::quoted::{char_of, label_of};
-use super::words::{id_of, next_word, switch_of};
+use super::words::{next_id, next_word, switch_of};
 use jup_number::{read_integer, read_number};
 use jup_value::Label;
 use jup_window::{Command, Setting, Value};
@@ -23,7 +23,7 @@ pub fn read_command(line: &[u8]) -> Option<Command>
     ensures every { (command : Command) → IsCommand command → line.now ≡ command_text command
         → result ≡ Some command }
 {
-    worded(line)
+    command_of(line)
 }
 
 /// Reads the line that begins a batch: how many lines of commands follow, up to 64. It takes no memory.
@@ -38,7 +38,7 @@ pub fn read_batch(line: &[u8]) -> Option<u32>
 }
 
 // The command that the words of a line spell.
-fn worded(line: &[u8]) -> Option<Command>
+fn command_of(line: &[u8]) -> Option<Command>
     ensures { IsReadingOf command_text IsCommand line.now result }
 {
     let (verb, rest) = next_word(line)?;
@@ -71,15 +71,6 @@ fn worded(line: &[u8]) -> Option<Command>
         return Some(Command::Set { win, wid, setting });
     }
     None
-}
-
-// The id before the first space, and what follows that space.
-fn next_id(text: &[u8]) -> Option<(u16, &[u8])>
-    ensures read { IfSome result (λ read. IsId read.0 × (text.now ≡ decimal read.0 ++ 32 ∷ read.1.now)) }
-    ensures none { IfNone result ((id : ℕ) (rest : List ℕ) → IsId id → text.now ≢ decimal id ++ 32 ∷ rest) }
-{
-    let (word, rest) = next_word(text)?;
-    Some((id_of(word)?, rest))
 }
 
 // The place before the first space, and what follows that space.

@@ -9,13 +9,11 @@ ghost use Rattle.jup_number.specs.Spelled.{IsReadingOf};
 ghost use Rattle.jup_value.specs.Labels.{IsLabelText};
 ghost use Rattle.jup_text.specs.Quotes.{hexadecimal, quoted_char, quoted, AreScalars};
 
+use jup_limits::LONGEST_LABEL;
 use jup_value::{Label, Seq};
 use jup_xform::NoMemory;
 use std::alloc::Global;
 use std::fmt;
-
-/// The most bytes that a label has.
-const LONGEST_LABEL: usize = 48;
 
 /// Reads a text.
 pub fn read_quoted(alloc: Global, word: &str) -> Result<Option<Vec<char>>, NoMemory>
@@ -23,7 +21,7 @@ pub fn read_quoted(alloc: Global, word: &str) -> Result<Option<Vec<char>>, NoMem
     ensures short { IfOk result (λ text. IfSome text (λ chars. vec_len chars ≤ length word.now)) }
 {
     let mut chars = Vec::new(alloc);
-    let Some(text) = opened(word.as_bytes()) else {
+    let Some(text) = behind_quote(word.as_bytes()) else {
         return Ok(None);
     };
     let mut rest = text;
@@ -49,12 +47,12 @@ pub fn read_quoted_char(word: &str) -> Option<char>
 pub(crate) fn char_of(word: &[u8]) -> Option<char>
     ensures { IsReadingOf (λ c. quoted (c ∷ [])) IsScalar word.now result }
 {
-    let (value, rest) = next_char(opened(word)?)?;
+    let (value, rest) = next_char(behind_quote(word)?)?;
     if is_end(rest) { Some(value) } else { None }
 }
 
 /// What follows the first quote.
-pub(crate) fn opened(text: &[u8]) -> Option<&[u8]>
+pub(crate) fn behind_quote(text: &[u8]) -> Option<&[u8]>
     ensures { MatchOption result ((rest : List ℕ) → text.now ≢ 34 ∷ rest) (λ rest. text.now ≡ 34 ∷ rest.now) }
 {
     let (first, rest) = text.split_first()?;
@@ -86,7 +84,7 @@ pub(crate) fn next_quoted_label(text: &[u8]) -> Option<(Label, &[u8])>
 {
     let mut bytes = [0; LONGEST_LABEL];
     let mut len = 0;
-    let mut rest = opened(text)?;
+    let mut rest = behind_quote(text)?;
     while let Some((value, later)) = next_char(rest) {
         if len == LONGEST_LABEL {
             return None;
@@ -101,7 +99,7 @@ pub(crate) fn next_quoted_label(text: &[u8]) -> Option<(Label, &[u8])>
     let Ok(label) = Label::read(&bytes[..len]) else {
         return None;
     };
-    Some((label, opened(rest)?))
+    Some((label, behind_quote(rest)?))
 }
 
 /// The first character in its one spelling, and what follows it.

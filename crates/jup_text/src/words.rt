@@ -3,6 +3,7 @@ ghost use Rattle.std.specs.Prelude.{◌≡◌, ◌≢◌, ◌==◌, ◌<◌, ◌
 ghost use Rattle.std.specs.Fmt.{signed_decimal};
 ghost use Rattle.jup_number.specs.Numbers.{IsU32, IsInt};
 ghost use Rattle.jup_number.specs.Spelled.{IsReadingOf};
+ghost use Rattle.jup_text.specs.Commands.{IsId};
 ghost use Rattle.jup_text.specs.Words.{IsWord, switch_text};
 
 /// Reads `on` or `off`.
@@ -64,6 +65,30 @@ pub(crate) fn next_word(text: &[u8]) -> Option<(&[u8], &[u8])>
 {
     let at = space_of(text)?;
     Some((&text[..at], &text[at + 1..]))
+}
+
+/// The id before the first space, and what follows that space.
+pub(crate) fn next_id(text: &[u8]) -> Option<(u16, &[u8])>
+    ensures read { IfSome result (λ read. IsId read.0 × (text.now ≡ decimal read.0 ++ 32 ∷ read.1.now)) }
+    ensures none { IfNone result ((id : ℕ) (rest : List ℕ) → IsId id → text.now ≢ decimal id ++ 32 ∷ rest) }
+{
+    let (word, rest) = next_word(text)?;
+    Some((id_of(word)?, rest))
+}
+
+/// The signed number before the first space, and what follows that space.
+pub(crate) fn next_integer(text: &[u8]) -> Option<(i32, &[u8])>
+    ensures { IfSome result (λ read. text.now ≡ signed_decimal read.0 ++ 32 ∷ read.1.now) }
+{
+    let (word, rest) = next_word(text)?;
+    Some((jup_number::read_integer(word)?, rest))
+}
+
+/// The word before the first space, or all where there is none, and what follows the word.
+pub(crate) fn split_word(text: &[u8]) -> (&[u8], &[u8])
+    ensures { text.now ≡ result.0.now ++ result.1.now }
+{
+    text.split_at(space_of(text).unwrap_or(text.len()))
 }
 
 // Where the first space stands.

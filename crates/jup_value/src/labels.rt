@@ -2,11 +2,9 @@
 ghost use Rattle.std.specs.Prelude.{◌≡◌, ◌↔◌, IsOk, IfOk};
 ghost use Rattle.jup_value.specs.Labels.{IsLabelText};
 
+use jup_limits::LONGEST_LABEL;
 use std::marker::Model;
 use thiserror::Error;
-
-/// The most bytes that a label has.
-const LONGEST: usize = 48;
 
 /// The bytes are not those of a label.
 #[derive(Clone, Copy, Debug, PartialEq, Eq, Error)]
@@ -27,7 +25,7 @@ impl BadLabel {
 pub struct Label {
     len: u8,
     // Past the text they are 0, so that equal labels have equal fields.
-    bytes: [u8; LONGEST],
+    bytes: [u8; LONGEST_LABEL],
 }
 
 impl Model for Label {
@@ -52,10 +50,10 @@ impl Label {
         ensures label { IfOk result (λ label. label ≡ text.now) }
     {
         let is_plain = text.iter().all(|byte| matches!(byte, b' '..=b'~'));
-        if text.is_empty() || text.len() > LONGEST || !is_plain {
+        if text.is_empty() || text.len() > LONGEST_LABEL || !is_plain {
             return Err(BadLabel);
         }
-        let mut bytes = [0; LONGEST];
+        let mut bytes = [0; LONGEST_LABEL];
         bytes[..text.len()].copy_from_slice(text);
         Ok(Label {
             len: text.len() as u8,

@@ -6,13 +6,12 @@ mod iter;
 mod labels;
 mod layout;
 mod marks;
-mod memory;
 mod names;
 mod sequence;
 mod table;
 
 pub use iter::Iter;
+pub use jup_limits::NoMemory;
 pub use labels::{BadLabel, Label};
-pub use memory::NoMemory;
 pub use names::{Item, Name};
 pub use sequence::Seq;

@@ -1,3 +1,4 @@
+-- Operations on boards meet all that a star asks of a kind of operations.
 use Rattle.std.proofs.Common.{◌≡◌, ℕ, suc, ◌+◌, ◌<◌, ◌≤◌, true, false, ◌==◌, Option, Some, None, refl, ap, ◌∙◌, Ok, Err, arith}
 use Rattle.std.specs.Prelude.{Result}
 use Rattle.std.proofs.lemmas.Bool.{and_parts, false_from_ne_true, false≢true, eqb-true}

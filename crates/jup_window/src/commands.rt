@@ -9,13 +9,10 @@ use crate::entries::get;
 use crate::faults::EditFault;
 use crate::widget_operations::WidgetOp;
 use crate::widgets::Widget;
+use jup_limits::LONGEST_SEQUENCE;
 use jup_seq::SeqOp;
 use jup_setting::SetOp;
 use jup_value::{Item, Label, Name};
-
-/// The most items that a text or a list of a layout has. A sequence this long or longer takes no insertion of
-/// a command.
-pub const LONGEST_SEQUENCE: u32 = 65_536;
 
 /// The value of an item that a command inserts.
 #[derive(Clone, Copy, Debug, PartialEq, Eq)]
@@ -73,26 +70,6 @@ fn insert_at<V: Copy>(place: u32, item: Item<V>, count: u32) -> Result<SeqOp<V>,
     Ok(SeqOp::Insert { place, item })
 }
 
-// The deletion of an item that has this name, if there is one.
-fn delete_at<V: Copy>(place: u32, held: Option<Name>) -> Result<SeqOp<V>, EditFault>
-    ensures { result ≡ deletion place held }
-{
-    match held {
-        Some(name) => Ok(SeqOp::Delete { place, name }),
-        None => Err(EditFault::BadPlace),
-    }
-}
-
-// The relabel of an item that has this name, if there is one.
-fn relabel_at<V: Copy>(place: u32, value: V, held: Option<Name>) -> Result<SeqOp<V>, EditFault>
-    ensures { result ≡ relabel place value held }
-{
-    match held {
-        Some(name) => Ok(SeqOp::Relabel { place, name, value }),
-        None => Err(EditFault::BadPlace),
-    }
-}
-
 fn insertion_into(
     widget: &Widget,
     place: u32,
@@ -115,27 +92,31 @@ fn insertion_into(
     }
 }
 
+// The deletion of an item that has this name, if there is one.
 fn deletion_from(widget: &Widget, place: u32, held: Option<Name>) -> Result<WidgetOp, EditFault>
     ensures { result ≡ deletion_on place held widget.now }
 {
-    match widget {
-        Widget::Text(_) => Ok(WidgetOp::Text(delete_at(place, held)?)),
-        Widget::List(_) => Ok(WidgetOp::List(delete_at(place, held)?)),
-        Widget::Toggle(_) | Widget::Slider(_) => Err(EditFault::WrongKind),
+    match (widget, held) {
+        (Widget::Text(_), Some(name)) => Ok(WidgetOp::Text(SeqOp::Delete { place, name })),
+        (Widget::List(_), Some(name)) => Ok(WidgetOp::List(SeqOp::Delete { place, name })),
+        (Widget::Text(_) | Widget::List(_), None) => Err(EditFault::BadPlace),
+        (Widget::Toggle(_) | Widget::Slider(_), _) => Err(EditFault::WrongKind),
     }
 }
 
+// The relabel of an item that has this name, if there is one.
 fn relabel_in(
     widget: &Widget,
     place: u32,
-    label: Label,
+    value: Label,
     held: Option<Name>,
 ) -> Result<WidgetOp, EditFault>
-    ensures { result ≡ relabel_on place label held widget.now }
+    ensures { result ≡ relabel_on place value held widget.now }
 {
-    match widget {
-        Widget::List(_) => Ok(WidgetOp::List(relabel_at(place, label, held)?)),
-        Widget::Text(_) | Widget::Toggle(_) | Widget::Slider(_) => Err(EditFault::WrongKind),
+    match (widget, held) {
+        (Widget::List(_), Some(name)) => Ok(WidgetOp::List(SeqOp::Relabel { place, name, value })),
+        (Widget::List(_), None) => Err(EditFault::BadPlace),
+        (Widget::Text(_) | Widget::Toggle(_) | Widget::Slider(_), _) => Err(EditFault::WrongKind),
     }
 }
 

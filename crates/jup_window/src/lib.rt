@@ -19,7 +19,7 @@ mod widgets;
 
 pub use board_operations::BoardOp;
 pub use boards::{Board, Window};
-pub use commands::{Command, LONGEST_SEQUENCE, Setting, Value};
+pub use commands::{Command, Setting, Value};
 pub use edits::{Edit, Effect};
 pub use faults::{BoardFault, EditFault};
 pub use singles::WidgetTrace;

@@ -11,12 +11,3 @@ pub mod BadLines
 pub mod Streaming
 pub mod Written
 pub mod Unique
-pub mod Drafting
-pub mod HeldNames
-pub mod Counting
-pub mod LinesTaken
-pub mod RoundTrip
-pub mod BoardsBack
-pub mod Counts
-pub mod Stricter
-pub mod LayoutTexts

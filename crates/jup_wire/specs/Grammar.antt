@@ -3,6 +3,7 @@ use Rattle.std.specs.Prelude.{◌≡◌, ◌≢◌, ℕ, ◌^◌, ◌<◌, ◌�
 use Rattle.std.specs.Fmt.{signed_decimal, digits}
 use Rattle.std.specs.Char.{IsScalar}
 use Rattle.std.specs.List.{join_with_byte}
+use Rattle.jup_limits.specs.Limits.{most_operations}
 pub use Rattle.jup_number.specs.Numbers.{IsU32, IsInt}
 use Rattle.jup_value.specs.Labels.{IsLabelText}
 use Rattle.jup_value.specs.declared.names.Name.{Name}
@@ -83,10 +84,10 @@ IsId n = n < 2 ^ 16
 
 -- how many operations a batch may have
 abbrev pub IsCount : ℕ → Type 0
-IsCount n = (1 ≤ n) × (n ≤ 32)
+IsCount n = (1 ≤ n) × (n ≤ most_operations)
 
 abbrev pub is_count : ℕ → Bool
-is_count n = nat_le 1 n && nat_le n 32
+is_count n = nat_le 1 n && nat_le n most_operations
 
 abbrev pub IsName : Name → Type 0
 IsName name = IsU32 name.site × IsU32 name.number

@@ -1,9 +1,5 @@
 pub mod FaultNumbers
-pub mod BoardLines
-pub mod Drafts
 pub mod Grammar
-pub mod Layouts
-pub mod Names
 pub mod Parts
 pub mod Reading
 pub mod Rooms

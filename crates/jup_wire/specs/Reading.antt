@@ -4,6 +4,7 @@ use lib.Utf8.{scalar}
 use Rattle.std.specs.List.{list_all}
 use Rattle.std.specs.Str.{bytes_eq}
 use Rattle.std.specs.Str.Parse.{digits_value}
+use Rattle.jup_limits.specs.Limits.{longest_label}
 use Rattle.jup_value.specs.declared.names.Name.{Name}
 use Rattle.jup_seq.specs.declared.operations.SeqOp.{SeqOp}
 use Rattle.jup_seq.specs.declared.operations.SeqOp.TheVariants as seq
@@ -79,7 +80,7 @@ unfoldable pub switch_of : List ℕ → Option Bool
 switch_of bytes = if bytes_eq bytes (codes "on") then Some true else (if bytes_eq bytes (codes "off") then Some false else None)
 
 abbrev pub is_label : List ℕ → Bool
-is_label bytes = nat_lt 0 (length bytes) && nat_le (length bytes) 48 && list_all (λ b. nat_le 32 b && nat_le b 126) bytes
+is_label bytes = nat_lt 0 (length bytes) && nat_le (length bytes) longest_label && list_all (λ b. nat_le 32 b && nat_le b 126) bytes
 
 unfoldable pub label_of : List ℕ → Option (List ℕ)
 label_of bytes = if is_label bytes then Some bytes else None

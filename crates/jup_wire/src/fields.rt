@@ -5,7 +5,7 @@ ghost use Rattle.std.specs.Str.Parse.{AllDigits, digits_value};
 ghost use Rattle.jup_wire.specs.Reading.{Gives, with_rest, split_of, field_of, number_of, id_of, scalar_of, int_of, name_of, switch_of, label_of, count_of};
 ghost use Rattle.jup_wire.specs.Grammar.{is_count as is_count_of};
 
-use crate::line::MOST_OPERATIONS;
+use jup_limits::MOST_OPERATIONS;
 use jup_number::{read_integer, read_number, with_digit};
 use jup_value::{Label, Name};
 use memchr::memchr;

@@ -3,9 +3,6 @@
 use jup_value::{Label, Name};
 use jup_window::BoardOp;
 
-/// No batch has more operations.
-pub const MOST_OPERATIONS: u32 = 32;
-
 /// A line.
 #[derive(Clone, Copy, Debug, PartialEq, Eq)]
 pub enum Line {

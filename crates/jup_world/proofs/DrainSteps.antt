@@ -17,7 +17,7 @@ use Rattle.jup_world.specs.declared.events.Reply.{Reply}
 use Rattle.jup_world.specs.declared.events.Reply.TheVariants as answer
 use Rattle.jup_world.specs.Events.{Nothing}
 use Rattle.jup_world.specs.declared.world.attached.Attached.{Attached}
-use Rattle.jup_xform.specs.declared.NoMemory.{NoMemory}
+use Rattle.jup_limits.specs.declared.NoMemory.{NoMemory}
 use Rattle.jup_world.specs.declared.world.draining.Halted.{Halted}
 use Rattle.jup_world.specs.declared.world.draining.Way.{Way}
 use Rattle.jup_world.specs.declared.world.draining.Way.TheVariants.{Up as WayUp, Down as WayDown}

@@ -1,7 +1,7 @@
 -- What the program does at an attached site is what the world's definitions say.
 use Rattle.std.proofs.Common.{◌≡◌, refl, sym, ◌∙◌, ap, subst, inl, inr, ℕ, ◌++◌, Bool, true, false, List, [], ◌∷◌, map, get_or, take, drop, Some, is_some, Result, Ok, Err, IfOk, OnOk, OnErr, eqb-true, cond}
 use Rattle.std.proofs.Math.ListN.{set}
-use Rattle.jup_xform.specs.declared.NoMemory.{NoMemory}
+use Rattle.jup_limits.specs.declared.NoMemory.{NoMemory}
 use Rattle.jup_window.specs.declared.faults.EditFault.{EditFault}
 use Rattle.jup_batch.specs.BoardBatches.{board_batches}
 use Rattle.jup_batch.specs.BatchBoards.{BoardBatch, BoardEdits, Commands}

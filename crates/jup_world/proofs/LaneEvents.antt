@@ -1,7 +1,7 @@
 -- What the program does at an attached site, said of the bytes of its link.
 use Rattle.std.proofs.Common.{◌≡◌, ◌⊎◌, refl, sym, ◌∙◌, ap, subst, inl, inr, ℕ, zero, suc, ◌+◌, ◌-◌, min, Bool, true, false, List, [], ◌∷◌, ◌++◌, length, map, get_or, nat_eq, Option, Some, None, option_map, Result, Ok, Err, IfOk, OnOk, OnErr, arith, eq-eqb, eqb-true}
 use Rattle.std.proofs.Math.ListN.{set}
-use Rattle.jup_xform.specs.declared.NoMemory.{NoMemory}
+use Rattle.jup_limits.specs.declared.NoMemory.{NoMemory}
 use Rattle.jup_window.specs.declared.faults.EditFault.{EditFault}
 use Rattle.jup_batch.specs.BoardBatches.{board_batches}
 use Rattle.jup_batch.specs.BatchBoards.{BoardBatch, BoardEdits, Commands}

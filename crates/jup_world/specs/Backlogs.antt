@@ -1,5 +1,6 @@
 -- How many of a site's edits are not known to be received, which is its backlog.
 use Rattle.std.specs.Prelude.{◌≡◌, ℕ, ◌+◌, ◌<◌, ◌≤◌, List, [], ◌∷◌, ◌++◌, length, Option, Some, None}
+use Rattle.jup_limits.specs.Limits.{answer_after, most_unacknowledged}
 use Rattle.jup_link.specs.Links.{generated}
 use Rattle.jup_window.specs.Operations.{Operations}
 use Rattle.jup_star.specs.declared.messages.Down.{Down}
@@ -19,7 +20,7 @@ module _ (O : Operations) where
   -- of a site's edits that the star received, it told of all but its end's fewer than 64 unanswered ones; and each edit that the
   -- site made was sent
   pub record Counts (l : LinkState O.Op) (a : AttachedOf O) : Type 0 where
-    pub short : l.end.unanswered < 64
+    pub short : l.end.unanswered < answer_after
     pub told : told_count a.site.end.acknowledged (a.down ++ l.outbox) + l.end.unanswered ≡ l.end.received
     pub sent : a.site.made ≡ generated a.site.end
 
@@ -38,5 +39,5 @@ module _ (O : Operations) where
   -- at most 63
   pub record BacklogIsShort (w : WorldOf O) : Type 0 where
     pub backlog : (i : ℕ) (a : AttachedOf O) → attached i w.sites ≡ Some a → a.site.made ≡ a.site.end.acknowledged + length a.site.end.outgoing
-    pub bounded : (i : ℕ) (a : AttachedOf O) → attached i w.sites ≡ Some a → length a.site.end.outgoing ≤ 1024
+    pub bounded : (i : ℕ) (a : AttachedOf O) → attached i w.sites ≡ Some a → length a.site.end.outgoing ≤ most_unacknowledged
     pub quiet : IsQuiet O w → (i : ℕ) (a : AttachedOf O) → attached i w.sites ≡ Some a → length a.site.end.outgoing ≤ 63

@@ -1,5 +1,6 @@
 -- Worlds of boards.
 use Rattle.std.specs.Prelude.{◌≡◌, ◌≤◌, ℕ, List}
+use Rattle.jup_limits.specs.Limits.{highest_limit}
 use Rattle.jup_batch.specs.BatchBoards.{BoardBatch, Windows}
 use Rattle.jup_batch.specs.BoardBatches.{board_batches}
 use Rattle.jup_star.specs.LinkStates.{LinkState}
@@ -43,5 +44,5 @@ pub record IsReached (w : BoardWorld) : Type 0 where
   pub limit : ℕ
   pub events : List BoardEvent
   pub opening : IsOpening board
-  pub limited : limit ≤ 16777216
+  pub limited : limit ≤ highest_limit
   pub is : w ≡ run board_batches (opened_world board_batches board limit) events

@@ -1,3 +1,4 @@
+-- Lists of which each element has a property.
 use Rattle.std.specs.Prelude.{◌≡◌, ◌⊎◌, List, [], ◌∷◌}
 
 -- each element has the property

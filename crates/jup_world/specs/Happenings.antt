@@ -1,6 +1,7 @@
 -- What an event does to a star and its sites, whatever else their world keeps.
 use Rattle.std.specs.Prelude.{◌≡◌, ◌⊎◌, ◌<◌, ◌≤◌, ℕ, false, List, [], ◌∷◌, ◌++◌, take, length, Option, Some, None, is_some, Result, Ok, Err}
 use Rattle.std.specs.Option.{option_map}
+use Rattle.jup_limits.specs.Limits.{highest_limit}
 use Rattle.jup_batch.specs.BatchBoards.{BoardBatch, BoardEdits, Commands, Windows}
 use Rattle.jup_window.specs.Sites.{has_site}
 use Rattle.jup_batch.specs.BoardBatches.{board_batches}
@@ -105,7 +106,7 @@ AllQuiet star (a ∷ later) = IsQuietAt a star × AllQuiet star later
 pub record AreNumbered (star : BoardStar) (sites : List BoardAttached) : Type 0 where
   pub ascending : AreAscending 0 star.given sites
   pub positive : 1 ≤ star.limit
-  pub limited : star.limit ≤ 16777216
+  pub limited : star.limit ≤ highest_limit
   pub named : (i : ℕ) → star.given < i → has_site i star.board ≡ false
 
 -- the oldest message on its way down to a site is one that it takes

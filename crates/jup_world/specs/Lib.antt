@@ -15,7 +15,6 @@ pub mod Promises
 pub mod Replies
 pub mod Rounds
 pub mod Runs
-pub mod ScriptEnds
 pub mod SiteNumbers
 pub mod Sound
 pub mod Tallies

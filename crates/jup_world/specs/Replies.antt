@@ -1,5 +1,6 @@
 -- What each event of a world answers.
 use Rattle.std.specs.Prelude.{◌≡◌, ℕ, ◌+◌, ◌<◌, ◌≤◌, List, [], ◌∷◌, ◌++◌, length, Some, None, Result, Ok, Err}
+use Rattle.jup_limits.specs.Limits.{last_site, most_attached}
 use Rattle.jup_window.specs.Operations.{Operations}
 use Rattle.jup_star.specs.declared.messages.Up.{Up}
 use Rattle.jup_star.specs.declared.messages.Up.TheVariants.{Op as UpOp, Ack as UpAck, Ping as UpPing}
@@ -16,9 +17,9 @@ use Rattle.jup_world.specs.WorldStates.{WorldOf, AttachedOf, EventOf, ReplyOf, a
 module _ (O : Operations) where
   -- a join: the number after those given, but for 64 links, and else for 65,535 numbers given
   pub record JoinReplies (s : StarOf O) (r : ReplyOf O) : Type 0 where
-    pub full : 64 ≤ length s.links → r ≡ NoJoin Full
-    pub spent : length s.links < 64 → 65535 ≤ s.given → r ≡ NoJoin SitesSpent
-    pub joined : length s.links < 64 → s.given < 65535 → r ≡ Joined (s.given + 1)
+    pub full : most_attached ≤ length s.links → r ≡ NoJoin Full
+    pub spent : length s.links < most_attached → last_site ≤ s.given → r ≡ NoJoin SitesSpent
+    pub joined : length s.links < most_attached → s.given < last_site → r ≡ Joined (s.given + 1)
 
   -- an edit: that of its operation, or the number of its refusal
   abbrev pub edit_reply : Result O.Op ℕ → ReplyOf O

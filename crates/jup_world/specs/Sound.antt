@@ -1,5 +1,6 @@
 -- What holds of every star, whoever sends to it; and of every world: the two ends of each link are in step, and the operations on their way mean what their sites made.
 use Rattle.std.specs.Prelude.{◌≡◌, ℕ, ◌+◌, ◌≤◌, ◌<◌, ◌⊎◌, false, cond, List, [], ◌∷◌, ◌++◌, length, take, drop, nat_eq, IsTrue, Option, Some, None}
+use Rattle.jup_limits.specs.Limits.{most_unacknowledged}
 use Rattle.jup_xform.specs.Rows.{row_operation}
 use Rattle.jup_xform.specs.declared.row.Side.TheVariants.{Client, Server}
 use Rattle.jup_link.specs.Links.{Message, Operation, Ack, generated}
@@ -104,7 +105,7 @@ module _ (O : Operations) where
     pub link_number : l.site ≡ i
     pub link_named : l.named ≡ named_by i i (past ++ rest)
     pub goes_on : a.site.stopped ≡ false
-    pub backlog : length a.site.end.outgoing ≤ 1024
+    pub backlog : length a.site.end.outgoing ≤ most_unacknowledged
     pub few_heard : l.end.received ≤ length (past ++ rest)
     pub few_sent : generated l.end ≤ length (past ++ rest)
 

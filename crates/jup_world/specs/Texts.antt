@@ -1,3 +1,4 @@
+-- Operations on texts alone, as the two ends of one link use them.
 use Rattle.std.specs.Prelude.{ℕ, ◌<◌}
 use Rattle.jup_xform.specs.declared.Transform.{Ghosts}
 use Rattle.jup_xform.specs.Laws.{IsLawful}

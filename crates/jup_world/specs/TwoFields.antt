@@ -1,3 +1,4 @@
+-- What contracts see of the two ends of one link.
 use Rattle.std.specs.Prelude.{ℕ, List, [], ◌∷◌}
 use Rattle.jup_seq.specs.declared.operations.SeqOp.{SeqOp}
 use Rattle.jup_seq.specs.Operations.{bare, HasRoom}

@@ -1,4 +1,6 @@
+-- Two ends of one link over one text: what each event does, and what it answers.
 use Rattle.std.specs.Prelude.{◌≡◌, ℕ, ◌+◌, ◌-◌, ◌≤◌, nat_lt, nat_le, true, length, slice_get, List, [], ◌∷◌, ◌++◌, Option, Some, None, Result, Ok, Err, if◌then◌else◌}
+use Rattle.jup_limits.specs.Limits.{highest_limit, longest_sequence}
 use Rattle.jup_xform.specs.declared.row.Side.{Side}
 use Rattle.jup_xform.specs.declared.row.Side.TheVariants.{Client as ClientSide, Server as ServerSide}
 use Rattle.jup_value.specs.declared.names.Name.{Name}
@@ -42,13 +44,13 @@ pub record TwoState : Type 0 where
 -- 65,536 items or more, 16,777,216 edits made
 abbrev pub deletion : ℕ → ℕ → Option (Item ℕ) → Result (SeqOp ℕ) EditFault
 deletion made place None = Err BadPlace
-deletion made place (Some item) = if nat_le 16777216 made then Err Spent else Ok (DeleteOp place item.name)
+deletion made place (Some item) = if nat_le highest_limit made then Err Spent else Ok (DeleteOp place item.name)
 
 abbrev pub two_operation : ℕ → TwoEnd → TwoEdit → Result (SeqOp ℕ) EditFault
 two_operation site e (Insert place value) =
     if nat_lt (length e.text.items) place then Err BadPlace
-    else (if nat_le 65536 (length e.text.items) then Err LongText
-    else (if nat_le 16777216 e.made then Err Spent
+    else (if nat_le longest_sequence (length e.text.items) then Err LongText
+    else (if nat_le highest_limit e.made then Err Spent
     else Ok (InsertOp place (record { name = record { site = site; number = e.inserted + 1 }; value = value }))))
 two_operation site e (Delete place) = deletion e.made place (slice_get e.text.items place)
 
@@ -158,7 +160,7 @@ InsertsUnder site op = (n : Name) → InsertsName (edit_of op) n → n.site ≡ 
 
 -- an end of this site, and what it sends
 pub record IsTwoEnd (site : ℕ) (e : TwoEnd) (out : List (Message (SeqOp ℕ))) : Type 0 where
-  pub few : e.made ≤ 16777216
+  pub few : e.made ≤ highest_limit
   pub generated_all : generated e.link ≡ e.made
   pub inserted_some : e.inserted ≤ e.made
   pub names : HoldsWithin site e.inserted e.text

@@ -7,7 +7,7 @@ ghost use Rattle.jup_world.specs.declared.events.Reply.TheVariants.{Nothing as n
 use jup_batch::{BoardEdits, Commands};
 use jup_star::StarFault;
 use jup_window::{Command, Edit, EditFault};
-use jup_xform::{Few, NoMemory};
+use jup_xform::NoMemory;
 use std::alloc::Global;
 
 /// What may happen in a world.
@@ -60,28 +60,28 @@ pub enum Reply<E = BoardEdits, F = EditFault> {
 }
 
 impl Event {
-    /// A copy of the event, which takes memory only for the commands of a batch.
-    pub fn copy(&self, alloc: Global) -> Result<Event, NoMemory>
-        ensures copied { IfOk result (λ copied. lane_event copied ≡ lane_event self.now) }
+    /// A copy of the event, whose commands go into a list that has room for them; one alone needs none. It
+    /// takes no memory.
+    pub fn copy_into(&self, list: Vec<Command>) -> Event
+        requires empty { list.items ≡ [] }
+        requires room { (most_edits self.now ≤ 1) ⊎ (most_edits self.now ≤ vec_capacity list) }
+        ensures { lane_event result ≡ lane_event self.now }
     {
-        Ok(match self {
+        match self {
             Event::Join => Event::Join,
             Event::Leave(number) => Event::Leave(*number),
             Event::Edit(number, command) => Event::Edit(*number, *command),
-            Event::Batch(number, commands) => Event::Batch(
-                *number,
-                Few::from_slice(alloc, commands.as_slice())?,
-            ),
+            Event::Batch(number, commands) => Event::Batch(*number, commands.copy_into(list)),
             Event::Up(number) => Event::Up(*number),
             Event::Down(number) => Event::Down(*number),
             Event::Ping(number, count) => Event::Ping(*number, *count),
             Event::PushUp(number, most) => Event::PushUp(*number, *most),
             Event::PushDown(number, most) => Event::PushDown(*number, *most),
-        })
+        }
     }
 
     /// The most edits that the event may make: one for each command.
-    pub(crate) fn most_edits(&self) -> usize
+    pub fn most_edits(&self) -> usize
         ensures { result ≡ most_edits self.now }
     {
         match self {
@@ -98,8 +98,9 @@ impl Event {
     }
 }
 
-/// An empty list with room for so many edits, made before an edit whose reply is to be copied.
-pub fn room_for(alloc: Global, most: usize) -> Result<Vec<Edit>, NoMemory>
+/// An empty list with room for so many, made before an event whose commands or edits are to be copied; one
+/// alone needs none.
+pub fn room_for<T: Drop>(alloc: Global, most: usize) -> Result<Vec<T>, NoMemory>
     ensures empty { IfOk result (λ list. list.items ≡ []) }
     ensures room { IfOk result (λ list. (most ≤ 1) ⊎ (most ≤ vec_capacity list)) }
 {

@@ -1,6 +1,7 @@
 //! Two ends of a link over one text, edited and delivered by hand: the protocol with nothing round it.
 ghost use Rattle.std.specs.Prelude.{◌≡◌, ℕ, ◌↔◌, ◌+◌, ◌<◌, ◌≤◌, [], ◌++◌, length, map, false, Ok, IsTrue, OnOk, OnErr, IfOk};
 ghost use Rattle.std.specs.VecDeque.{deque_len, deque_capacity};
+ghost use Rattle.jup_limits.specs.Limits.{highest_limit, longest_input};
 ghost use Rattle.jup_value.specs.Items.{has_name};
 ghost use Rattle.jup_seq.specs.Operations.{HasRoom};
 ghost use Rattle.jup_link.specs.Links.{generated, link_after, state_after, owed, answered, AcceptsMessage};
@@ -9,6 +10,7 @@ ghost use Rattle.jup_world.specs.Texts.{texts};
 ghost use Rattle.jup_world.specs.TwoFields.{plain, carried, HasRoomFor, HasRoomForNext};
 ghost use Rattle.jup_world.specs.Twos.{two_operation, edit_reply, edited, sent_by, move_reply, delivered, left_of, sent_back, two_reply, two_after, named_from, opened_end, opened_two, insertions, AreInStep};
 
+use jup_limits::{HIGHEST_LIMIT, LONGEST_SEQUENCE};
 use jup_link::{End, Msg};
 use jup_seq::{SeqOp, TextOp};
 use jup_value::{Item, Name, Seq};
@@ -16,18 +18,13 @@ use jup_window::EditFault;
 use jup_xform::{NoMemory, Side, Transform};
 use std::alloc::Global;
 use std::collections::VecDeque;
+use std::fmt;
 use std::marker::Model;
 
 /// The sites whose names the two ends give to the items that they insert.
 const CLIENT: u32 = 1;
 
 const SERVER: u32 = 2;
-
-/// An end makes at most so many edits.
-const MOST_EDITS: u32 = 16_777_216;
-
-/// A text of so many items takes no local insertion.
-const LONG_TEXT: u32 = 65_536;
 
 /// An edit of a text, at a place counted from 0.
 #[derive(Clone, Copy, Debug, PartialEq, Eq)]
@@ -53,6 +50,20 @@ pub enum TwoReply {
     Refused(EditFault),
     Moved,
     Nothing,
+}
+
+impl fmt::Display for TwoReply {
+    fn fmt<W: fmt::Write>(&self, f: &mut fmt::Formatter<W>) -> fmt::Result {
+        match self {
+            TwoReply::Made => write!(f, "made"),
+            TwoReply::Refused(fault) => {
+                let number = fault.number();
+                write!(f, "refused {number}")
+            }
+            TwoReply::Moved => write!(f, "moved"),
+            TwoReply::Nothing => write!(f, "nothing"),
+        }
+    }
 }
 
 // What travels between the ends.
@@ -82,10 +93,10 @@ impl TextEnd {
                 if place > self.text.len() {
                     return Err(EditFault::BadPlace);
                 }
-                if self.text.len() >= LONG_TEXT {
+                if self.text.len() >= LONGEST_SEQUENCE {
                     return Err(EditFault::LongText);
                 }
-                if self.made >= MOST_EDITS {
+                if self.made >= HIGHEST_LIMIT {
                     return Err(EditFault::Spent);
                 }
                 let name = Name {
@@ -101,7 +112,7 @@ impl TextEnd {
                 let Some(item) = self.text.get(place) else {
                     return Err(EditFault::BadPlace);
                 };
-                if self.made >= MOST_EDITS {
+                if self.made >= HIGHEST_LIMIT {
                     return Err(EditFault::Spent);
                 }
                 Ok(SeqOp::Delete {
@@ -131,7 +142,7 @@ fn make(
     edit: &TwoEdit,
     out: &mut VecDeque<Travelling>,
 ) -> Result<TwoReply, NoMemory>
-    requires few { end.old.made ≤ 16777216 }
+    requires few { end.old.made ≤ highest_limit }
     requires some { end.old.inserted ≤ end.old.made }
     requires counted { generated end.old.link.link < 4294967295 }
     requires fresh { has_name (record { site = site; number = end.old.inserted + 1 }) end.old.text.items ≡ false }
@@ -231,7 +242,7 @@ fn deliver(
 
 // The characters as items of site 0, numbered from 1.
 fn named(alloc: Global, start: &[char]) -> Result<Seq<char>, NoMemory>
-    requires { length start.now ≤ 16777216 }
+    requires { length start.now ≤ longest_input }
     ensures { IfOk result (λ text. text.items ≡ named_from 1 start.now) }
 {
     let mut text = Seq::new(alloc);
@@ -254,7 +265,7 @@ fn named(alloc: Global, start: &[char]) -> Result<Seq<char>, NoMemory>
 }
 
 fn open_end(alloc: Global, side: Side, start: &[char]) -> Result<TextEnd, NoMemory>
-    requires { length start.now ≤ 16777216 }
+    requires { length start.now ≤ longest_input }
     ensures { IfOk result (λ end. plain end ≡ opened_end side start.now) }
 {
     let text = named(alloc, start)?;
@@ -301,7 +312,7 @@ impl Model for Two {
 impl Two {
     /// Two new ends over one text, whose items are named 0.1, 0.2 and so on.
     pub fn open(alloc: Global, start: &[char]) -> Result<Two, NoMemory>
-        requires { length start.now ≤ 16777216 }
+        requires { length start.now ≤ longest_input }
         ensures { IfOk result (λ two. two ≡ opened_two start.now) }
     {
         Ok(Two {

@@ -1,5 +1,5 @@
 //! A star with its sites and the messages on their way between them, and what has happened.
-ghost use Rattle.std.specs.Prelude.{◌≡◌, ◌⊎◌, ◌↔◌, ◌+◌, ◌<◌, ◌≤◌, false, [], ◌∷◌, ◌++◌, length, vec_len, None, Some, is_some, IsTrue, IfOk, IfErr, IfSome, OnOk, OnErr};
+ghost use Rattle.std.specs.Prelude.{◌≡◌, ◌⊎◌, ◌↔◌, ◌+◌, ◌<◌, ◌≤◌, false, [], ◌∷◌, ◌++◌, length, vec_len, None, Some, is_some, map, IsTrue, IfOk, IfErr, IfSome, OnOk, OnErr};
 ghost use Rattle.std.specs.Vec.{vec_capacity};
 ghost use Rattle.std.specs.Option.{option_copied, option_map};
 ghost use Rattle.jup_window.specs.Entries.{EachWidget};
@@ -15,6 +15,7 @@ ghost use Rattle.jup_world.specs.Tallies.{numbers_given};
 ghost use Rattle.jup_world.specs.NumberedReplies.{lane_event, numbered_reply, noted_trace, most_edits, MakesFew};
 ghost use Rattle.jup_world.specs.Promises.{OrderIsKept};
 ghost use Rattle.jup_world.specs.Headline.{AllAgree};
+ghost use Rattle.jup_world.specs.WorldFields.{lane_of};
 ghost use Rattle.jup_world.specs.LaneWorlds.{messages_of, plain_trace, lane_site, opened_lanes, IsStill};
 ghost use Rattle.jup_world.specs.LaneSteps.{lane_outcome, Steps, AnswersTo, IsSparedBy};
 
@@ -23,7 +24,7 @@ use self::happening::happen;
 use crate::{Event, Happened, Reply, room_for};
 use jup_star::{OpenFault, Site, Star, is_short};
 use jup_value::Label;
-use jup_window::{Board, Edit, Effect, Setting, Value};
+use jup_window::{Board, Command, Edit, Effect, Setting, Value};
 use jup_xform::NoMemory;
 use std::alloc::Global;
 use std::marker::{Model, PhantomData};
@@ -74,40 +75,44 @@ impl Model for World {
     }) };
 }
 
-// What an event takes with it into the trace, made while memory may still be refused: a copy of it, and room
-// for the edits that it may make.
+// Room for what an event leaves in the trace, made while memory may still be refused: for its commands, and
+// for the edits of its reply.
 #[derive(Drop)]
-struct Note {
-    event: Event,
+struct Room {
+    commands: Vec<Command>,
     edits: Vec<Edit>,
 }
 
-impl Note {
-    fn of(alloc: Global, event: &Event) -> Result<Note, NoMemory>
-        ensures event { IfOk result (λ note. lane_event note.event ≡ lane_event event.now) }
-        ensures empty { IfOk result (λ note. note.edits.items ≡ []) }
-        ensures room { IfOk result (λ note. (most_edits event.now ≤ 1) ⊎ (most_edits event.now ≤ vec_capacity note.edits)) }
+impl Room {
+    fn of(alloc: Global, event: &Event) -> Result<Room, NoMemory>
+        ensures no_commands { IfOk result (λ room. room.commands.items ≡ []) }
+        ensures no_edits { IfOk result (λ room. room.edits.items ≡ []) }
+        ensures commands { IfOk result (λ room. (most_edits event.now ≤ 1) ⊎ (most_edits event.now ≤ vec_capacity room.commands)) }
+        ensures edits { IfOk result (λ room. (most_edits event.now ≤ 1) ⊎ (most_edits event.now ≤ vec_capacity room.edits)) }
     {
-        Ok(Note {
-            event: event.copy(alloc)?,
-            edits: room_for(alloc, event.most_edits())?,
+        let most = event.most_edits();
+        Ok(Room {
+            commands: room_for(alloc, most)?,
+            edits: room_for(alloc, most)?,
         })
     }
 }
 
 // Puts an event with its reply at the end of a trace that has room for it.
-fn keep(trace: &mut Vec<Happened>, note: Note, reply: &Reply)
+fn keep(trace: &mut Vec<Happened>, room: Room, event: &Event, reply: &Reply)
     requires room { vec_len trace.old < vec_capacity trace.old }
-    requires empty { note.edits.items ≡ [] }
-    requires edits { MakesFew reply.now (vec_capacity note.edits) }
+    requires no_commands { room.commands.items ≡ [] }
+    requires no_edits { room.edits.items ≡ [] }
+    requires commands { (most_edits event.now ≤ 1) ⊎ (most_edits event.now ≤ vec_capacity room.commands) }
+    requires edits { MakesFew reply.now (vec_capacity room.edits) }
     ensures { noted_trace trace.new.items
-        ≡ noted_trace trace.old.items ++ record { event = lane_event note.event; reply = numbered_reply reply.now } ∷ [] }
+        ≡ noted_trace trace.old.items ++ record { event = lane_event event.now; reply = numbered_reply reply.now } ∷ [] }
 {
     // The checker learns of the types within an event from this.
     let _within: PhantomData<(Value, Setting, Label, Effect, Edit)> = PhantomData;
     trace.push_reserved(Happened {
-        event: note.event,
-        reply: reply.copy_into(note.edits),
+        event: event.copy_into(room.commands),
+        reply: reply.copy_into(room.edits),
     });
 }
 
@@ -148,9 +153,9 @@ impl World {
         ensures order { OrderIsKept board_batches (messages_of self.old) (messages_of self.new) }
     {
         self.trace.reserve(1).map_err(|_| NoMemory)?;
-        let note = Note::of(alloc, event)?;
+        let room = Room::of(alloc, event)?;
         let reply = happen(alloc, &mut self.star, &mut self.sites, event)?;
-        keep(&mut self.trace, note, &reply);
+        keep(&mut self.trace, room, event, &reply);
         Ok(reply)
     }
 
@@ -195,8 +200,10 @@ impl World {
         &self.star
     }
 
-    // The attached sites, ascending by number.
-    pub(crate) fn sites(&self) -> &[Attached] {
+    /// The attached sites with both ways of their links, ascending by number.
+    pub fn sites(&self) -> &[Attached]
+        ensures { map lane_of result.now ≡ self.now.sites }
+    {
         &self.sites
     }
 

@@ -1,3 +1,4 @@
+-- The laws of a kind of operations: on states, and on names, order and edits.
 use Rattle.std.specs.Prelude.{◌≡◌, ℕ, ◌+◌, ◌⊎◌, List, [], ◌∷◌, ◌++◌}
 use Rattle.jup_xform.specs.declared.Transform.{Ghosts}
 use Rattle.jup_xform.specs.Grid.{SquareMeets}

@@ -84,6 +84,15 @@ impl<T> Batch<T> {
         }
     }
 
+    /// A batch of one operation. It takes no memory.
+    pub fn one(op: T) -> Batch<T>
+        ensures { result ≡ op ∷ [] }
+    {
+        Batch {
+            ops: Store::One([op]),
+        }
+    }
+
     /// The operations in order. Callers learn here, too, that they are 1 to 32.
     pub fn as_slice(&self) -> &[T]
         ensures ops { result.now ≡ self.now }

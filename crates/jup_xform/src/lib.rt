@@ -15,14 +15,13 @@ mod batch;
 mod comparing;
 mod concurrent;
 mod few;
-mod memory;
 mod row;
 mod store;
 
 pub use batch::{Batch, Edits, Single};
 pub use concurrent::meet;
 pub use few::Few;
-pub use memory::NoMemory;
+pub use jup_limits::NoMemory;
 pub use row::{Side, across, grid};
 
 /// An operation on a state, which can be transformed past an operation that the other end of a link

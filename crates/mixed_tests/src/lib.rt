@@ -9,3 +9,5 @@ mod attacks;
 mod crowds;
 #[cfg(test)]
 mod events;
+#[cfg(test)]
+mod growths;

@@ -1,14 +1,12 @@
 //! Clients over memory.
 
-use crate::fakes::{FailsAfter, FailsAt};
 use crate::texts::lines;
 use jup_session::{ClientEnd, run_client};
 use std::alloc::Global;
-use std::io::Read;
 use std::process::Abort;
 use std::str;
 
-const GREETED: &str = "welcome 1 100\nwindow 1\ntext 1\ntoggle 3 off\nready\n";
+pub(crate) const GREETED: &str = "welcome 1 100\nwindow 1\ntext 1\ntoggle 3 off\nready\n";
 
 // What a client sent, what it printed, and how it ended.
 #[derive(Drop)]
@@ -191,81 +189,5 @@ fn servers_that_answer_wrongly(rt: HostRuntime) {
         let from = greeted_and(&rt, alloc, answer);
         let ran = run(alloc, b"sync\nquit\n", from.as_bytes());
         ended_in_fault(&rt, &ran, number, "site 1\n");
-    }
-}
-
-// How a client of this link ends that is told to sync and to quit.
-fn end_over<I: Read + Drop>(alloc: Global, from: I) -> Result<(), ClientEnd> {
-    let (mut to, mut out) = (Vec::new(alloc), Vec::new(alloc));
-    let commands: &[u8] = b"sync\nquit\n";
-    run_client(alloc, commands, &mut out, from, &mut to)
-}
-
-// How a client ends whose user's input fails.
-fn end_of_typed(alloc: Global, text: &[u8]) -> Result<(), ClientEnd> {
-    let (mut to, mut out) = (Vec::new(alloc), Vec::new(alloc));
-    let typed = FailsAfter { text };
-    run_client(alloc, typed, &mut out, GREETED.as_bytes(), &mut to)
-}
-
-// How a client ends whose link takes so many writes.
-fn end_after(alloc: Global, writes: u32) -> Result<(), ClientEnd> {
-    let mut out = Vec::new(alloc);
-    let text = &mut Vec::new(alloc);
-    let link = FailsAt { writes, text };
-    let commands: &[u8] = b"sync\nquit\n";
-    run_client(alloc, commands, &mut out, GREETED.as_bytes(), link)
-}
-
-// How a client ends that can print nothing.
-fn end_unprinted(alloc: Global) -> Result<(), ClientEnd> {
-    let mut to = Vec::new(alloc);
-    let text = &mut Vec::new(alloc);
-    let mut printed = FailsAt { writes: 0, text };
-    let commands: &[u8] = b"sync\nquit\n";
-    run_client(alloc, commands, &mut printed, GREETED.as_bytes(), &mut to)
-}
-
-#[test]
-fn reads_and_writes_that_fail(rt: HostRuntime) {
-    let alloc = rt.alloc();
-    let text = GREETED.as_bytes();
-    assert_eq!(rt;
-        end_over(alloc, FailsAfter { text }),
-        Err(ClientEnd::ReadFailed)
-    );
-    assert_eq!(rt; end_of_typed(alloc, b"quit"), Err(ClientEnd::ReadFailed));
-    for writes in 0..2 {
-        assert_eq!(rt;
-            end_after(alloc, writes),
-            Err(ClientEnd::WriteFailed),
-            "at {writes}"
-        );
-    }
-    assert_eq!(rt; end_unprinted(alloc), Err(ClientEnd::WriteFailed));
-}
-
-const PRINTED: &str = "site 1\nmade ins 1 1 1.1 \"a\"\nmade ins 1 1 1.2 \"b\"; del 1 1 1.1\n\
-    synced\nwindow 1\ntext 1 \"b\"\nbye\n";
-
-// Run this with each allocation refused in turn: the client says so, or did all that was asked for.
-#[test]
-fn a_client_that_lacks_memory_says_so(rt: HostRuntime) {
-    let alloc = rt.alloc();
-    let (Ok(mut to), Ok(mut out)) = (
-        Vec::with_capacity(alloc, 256),
-        Vec::with_capacity(alloc, 256),
-    ) else {
-        return;
-    };
-    let commands: &[u8] = b"ins 1 1 0 char \"a\"\nbatch 2\nins 1 1 1 char \"b\"\ndel 1 1 0\n\
-        sync\nshow\nquit\n";
-    let from: &[u8] = b"welcome 1 100\nwindow 1\ntext 1\nready\npong 1\n";
-    let end = run_client(alloc, commands, &mut out, from, &mut to);
-    if end.is_ok() {
-        assert_eq!(rt; str::from_utf8(out.as_slice()), Ok(PRINTED));
-    } else {
-        assert_eq!(rt; end, Err(ClientEnd::NoMemory));
-        assert!(rt; PRINTED.as_bytes().starts_with(out.as_slice()));
     }
 }

@@ -8,17 +8,27 @@ mod attacks;
 #[cfg(test)]
 mod batched;
 #[cfg(test)]
+mod bells;
+#[cfg(test)]
+mod causes;
+#[cfg(test)]
 mod clients;
 #[cfg(test)]
 mod commanded;
 #[cfg(test)]
+mod failures;
+#[cfg(test)]
 mod fakes;
+#[cfg(test)]
+mod growths;
 #[cfg(test)]
 mod handed_on;
 #[cfg(test)]
 mod programs;
 #[cfg(test)]
 mod reported;
+#[cfg(test)]
+mod rule_growths;
 #[cfg(test)]
 mod sessions;
 #[cfg(test)]

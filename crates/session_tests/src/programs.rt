@@ -1,8 +1,7 @@
 //! The programs over loopback.
 
 use crate::fakes::Impatient;
-use clap::error::ErrorKind;
-use jup_session::{client_main, daemon_main, daemon_words};
+use jup_session::{client_main, daemon_main};
 use std::alloc::{AllocError, Global};
 use std::io::Read;
 use std::net::{Net, TcpListener, TcpStream};
@@ -15,7 +14,7 @@ use std::{io, str, thread};
 /// How often a client is begun again.
 const TRIES: u32 = 1_000;
 
-const LAYOUT: &str =
+pub(crate) const LAYOUT: &str =
     "window 1\ntext 1\nchar 0.1 122\nlist 2\nitem 0.2 red\ntoggle 3 off\nslider 4 0 10 5\n";
 
 fn words_of(alloc: Global, texts: &[&str]) -> Result<Vec<String>, AllocError> {
@@ -101,13 +100,13 @@ pub(crate) fn printed(rt: &impl Abort, told: &Told, status: u8, out: &str) {
 }
 
 // The program ended so, printed this, and told this on standard error.
-fn failed(rt: &impl Abort, told: &Told, status: u8, out: &str, errors: &str) {
+pub(crate) fn failed(rt: &impl Abort, told: &Told, status: u8, out: &str, errors: &str) {
     assert_eq!(rt; told.status, status);
     assert_eq!(rt; str::from_utf8(told.out.as_slice()), Ok(out));
     assert_eq!(rt; str::from_utf8(told.errors.as_slice()), Ok(errors));
 }
 
-// Runs the client, and again while it answers 1.
+// Runs the client, and again while it answers 1. Its status.
 pub(crate) fn connected<R: Net<Listener = TcpListener, Stream = TcpStream> + Clock>(
     rt: &R,
     alloc: Global,
@@ -154,9 +153,15 @@ fn layouts_that_are_refused(rt: HostRuntime) {
     let alloc = rt.alloc();
     let words = daemon_at(&rt, alloc, "127.0.0.1:47012", "100", "2");
     for (added, errors) in [
-        ("window 1\n", "layout line 8: fault 10\n"),
-        ("item 0.3", "layout line 8: fault 43\n"),
-        ("item 0.3 red\n", "layout line 8: fault 44\n"),
+        ("window 1\n", "layout line 8: fault 10\nthe id is taken\n"),
+        (
+            "item 0.3",
+            "layout line 8: fault 43\nthe bytes end too early\n",
+        ),
+        (
+            "item 0.3 red\n",
+            "layout line 8: fault 44\na line out of its place\n",
+        ),
     ] {
         let layout = format!(in alloc; "{LAYOUT}{added}").expect(&rt, "there is memory");
         let told = serve(&rt, alloc, &words, layout.as_bytes());
@@ -219,12 +224,24 @@ fn help_tells_all_options(rt: HostRuntime) {
     let told = serve(&rt, alloc, &words, "".as_bytes());
     assert_eq!(rt; told.status, 0);
     assert!(rt; told.errors.is_empty());
-    for option in ["--listen <ADDR>", "--limit <N>", "--sessions <N>"] {
+    for option in [
+        "Serves one board",
+        "--listen <ADDR>",
+        "--limit <N>",
+        "--sessions <N>",
+        "\nExample:\n  $ jupd --listen",
+    ] {
         assert!(rt; has(told.out.as_slice(), option), "{option}");
     }
     let told = connect(&rt, alloc, &words, b"");
     assert_eq!(rt; told.status, 0);
-    assert!(rt; has(told.out.as_slice(), "--connect <ADDR>"));
+    for option in [
+        "Edits the board",
+        "--connect <ADDR>",
+        "\nExample:\n  $ jup --connect",
+    ] {
+        assert!(rt; has(told.out.as_slice(), option), "{option}");
+    }
 }
 
 #[test]
@@ -233,7 +250,8 @@ fn an_address_that_is_held(rt: HostRuntime) {
     let held = TcpListener::bind(&rt, "127.0.0.1:47013").expect(&rt, "it is free");
     let words = daemon_at(&rt, alloc, "127.0.0.1:47013", "1", "1");
     let told = serve(&rt, alloc, &words, "".as_bytes());
-    failed(&rt, &told, 1, "", "io fault\n");
+    let errors = "io fault\ncannot listen at 127.0.0.1:47013\n";
+    failed(&rt, &told, 1, "", errors);
     drop(held);
 }
 
@@ -242,7 +260,8 @@ fn an_address_where_nobody_listens(rt: HostRuntime) {
     let alloc = rt.alloc();
     let words = client_of(&rt, alloc, "127.0.0.1:47020");
     let told = connect(&rt, alloc, &words, b"");
-    failed(&rt, &told, 1, "", "io fault\n");
+    let errors = "io fault\ncannot connect to 127.0.0.1:47020\n";
+    failed(&rt, &told, 1, "", errors);
 }
 
 #[test]
@@ -250,31 +269,6 @@ fn an_accept_that_fails(rt: HostRuntime) {
     let alloc = rt.alloc();
     let words = daemon_at(&rt, alloc, "127.0.0.1:47016", "1", "1");
     let told = serve(&Impatient { rt: &rt }, alloc, &words, "".as_bytes());
-    failed(&rt, &told, 1, "listening 127.0.0.1:47016\n", "io fault\n");
-}
-
-// Run this with each allocation refused in turn.
-#[test]
-fn words_that_lack_memory(rt: HostRuntime) {
-    let alloc = rt.alloc();
-    let Ok(good) = daemon_words_of(alloc, "127.0.0.1:47011", "100", "2") else {
-        return;
-    };
-    let Ok(bad) = daemon_words_of(alloc, "127.0.0.1:4711", "0", "2") else {
-        return;
-    };
-    match daemon_words(alloc, &good) {
-        Ok(told) => {
-            assert_eq!(rt; told.listen.as_str(), "127.0.0.1:47011");
-            assert_eq!(rt; (told.limit, told.sessions), (100, 2));
-        }
-        Err(error) => assert_eq!(rt; error.kind(), ErrorKind::OutOfMemory),
-    }
-    match daemon_words(alloc, &bad) {
-        Ok(_) => assert!(rt; false, "a limit of 0"),
-        Err(error) => {
-            let kind = error.kind();
-            assert!(rt; kind == ErrorKind::ValueValidation || kind == ErrorKind::OutOfMemory);
-        }
-    }
+    let errors = "io fault\ncannot accept a session\n";
+    failed(&rt, &told, 1, "listening 127.0.0.1:47016\n", errors);
 }

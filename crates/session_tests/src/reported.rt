@@ -70,7 +70,10 @@ fn a_report_that_can_not_be_printed_is_a_failed_write(rt: HostRuntime) {
         || connected(&rt, alloc, &client, b"quit\n"),
     );
     assert_eq!(rt; (status, other), (1, 0));
-    assert_eq!(rt; str::from_utf8(errors.as_slice()), Ok("io fault\n"));
+    assert_eq!(rt;
+        str::from_utf8(errors.as_slice()),
+        Ok("io fault\ncannot print\n")
+    );
     assert_eq!(rt;
         str::from_utf8(text.as_slice()),
         Ok("listening 127.0.0.1:47022\n")

@@ -5,6 +5,7 @@ ghost use Rattle.jup_hub.specs.Passes.{IsPassOf};
 use crate::fakes::{Counting, FailsAfter, FailsAt, LineByLine, OneByOne, Slow};
 use crate::texts::lines;
 use jup_hub::{Hub, Pass};
+use jup_layout::layout;
 use jup_link::Msg;
 use jup_seq::SeqOp;
 use jup_session::{Bell, Ending, Gate, Open, serve_link};
@@ -13,7 +14,6 @@ use jup_star::{Star, Up, is_short};
 use jup_text::write_board;
 use jup_value::{Item, Name};
 use jup_window::{BoardOp, WidgetOp};
-use jup_wire::layout;
 use jup_xform::{Batch, NoMemory};
 use std::alloc::Global;
 use std::io::Read;
@@ -51,7 +51,7 @@ pub(crate) fn opened(rt: &impl Abort, alloc: Global, text: &[u8], limit: u32) ->
 }
 
 // The star of a hub that no turn holds.
-fn closed(rt: &impl Abort, hub: Hub, pass: Pass) -> Star
+pub(crate) fn closed(rt: &impl Abort, hub: Hub, pass: Pass) -> Star
     requires { IsPassOf hub pass }
 {
     let closed = hub.close(pass).ok().expect(rt, "the turn is free");
@@ -60,18 +60,18 @@ fn closed(rt: &impl Abort, hub: Hub, pass: Pass) -> Star
 
 // What a session left behind.
 #[derive(Drop)]
-struct Left {
-    ending: Ending,
-    written: Vec<u8>,
-    board: Vec<u8>,
-    taken: usize,
-    waiting: Option<usize>,
+pub(crate) struct Left {
+    pub(crate) ending: Ending,
+    pub(crate) written: Vec<u8>,
+    pub(crate) board: Vec<u8>,
+    pub(crate) taken: usize,
+    pub(crate) waiting: Option<usize>,
     /// Whether its pass has missed an event.
-    has_news: bool,
+    pub(crate) has_news: bool,
 }
 
 // Runs a session on an empty text, alone.
-fn ran<R: Threads + Wait + Sync + Abort, I: Read + Drop, G: Gate>(
+pub(crate) fn ran<R: Threads + Wait + Sync + Abort, I: Read + Drop, G: Gate>(
     rt: &R,
     alloc: Global,
     from: I,
@@ -104,7 +104,7 @@ fn ran<R: Threads + Wait + Sync + Abort, I: Read + Drop, G: Gate>(
 }
 
 // It ended so, and wrote this.
-fn ended(rt: &impl Abort, left: &Left, ending: Ending, written: &str) {
+pub(crate) fn ended(rt: &impl Abort, left: &Left, ending: Ending, written: &str) {
     assert_eq!(rt; left.ending, ending);
     assert_eq!(rt; str::from_utf8(left.written.as_slice()), Ok(written));
 }
@@ -430,12 +430,6 @@ fn the_read_behind_the_greeting_fails(rt: HostRuntime) {
     );
 }
 
-#[test]
-fn the_first_read_fails(rt: HostRuntime) {
-    let left = ran(&rt, rt.alloc(), FailsAfter { text: b"" }, &Open);
-    ended(&rt, &left, Ending::Fault(70), "error 70\n");
-}
-
 // The first edit of a site, an insertion into the text.
 fn first_edit(alloc: Global, site: u32) -> Result<Up, NoMemory> {
     let name = Name { site, number: 1 };
@@ -453,7 +447,11 @@ fn first_edit(alloc: Global, site: u32) -> Result<Up, NoMemory> {
 }
 
 // The second session of a hub, whose writer fails at a write. The other site stays.
-fn write_fails<R: Threads + Wait + Sync + Abort>(rt: &R, alloc: Global, writes: u32) -> Ending {
+pub(crate) fn write_fails<R: Threads + Wait + Sync + Abort>(
+    rt: &R,
+    alloc: Global,
+    writes: u32,
+) -> Ending {
     let (hub, mut pass) = opened(rt, alloc, EMPTY_TEXT, 100);
     let first = hub.join_site(rt, alloc, &mut pass).expect(rt, "it joins");
     assert_eq!(rt; first.site, 1);
@@ -470,18 +468,6 @@ fn write_fails<R: Threads + Wait + Sync + Abort>(rt: &R, alloc: Global, writes: 
     assert_eq!(rt; star.waiting(2), None);
     assert_eq!(rt; star.waiting(1), Some(0));
     ending
-}
-
-#[test]
-fn the_write_of_the_board_fails(rt: HostRuntime) {
-    assert_eq!(rt; write_fails(&rt, rt.alloc(), 0), Ending::Fault(71));
-}
-
-#[test]
-fn a_later_write_fails(rt: HostRuntime) {
-    // The write of the pong meets the failure before or after the site says bye.
-    let ending = write_fails(&rt, rt.alloc(), 1);
-    assert!(rt; ending == Ending::Fault(71) || ending == Ending::Bye);
 }
 
 #[test]
@@ -577,51 +563,6 @@ fn a_board_that_takes_many_writes(rt: HostRuntime) {
     served(&rt, alloc, &hub, pass, from, Ending::Bye, written.as_str());
 }
 
-const GREETING: &str = "welcome 1 100\nwindow 1\ntext 1\nready\n";
+pub(crate) const GREETING: &str = "welcome 1 100\nwindow 1\ntext 1\nready\n";
 
-const CUT_ANSWER: &str = "welcome 1 100\nwindow 1\ntext 1\nready\nbye\n";
-
-// Whether a session that lacked memory told so, wherever that came.
-fn tells_of_memory(written: &[u8]) -> bool {
-    match str::from_utf8(written) {
-        Ok(written) => {
-            let told = written.strip_prefix(GREETING).unwrap_or(written);
-            told == "error 8\n" || told == "pong 7\nerror 8\n"
-        }
-        Err(_) => false,
-    }
-}
-
-// Run this with each allocation refused in turn.
-#[test]
-fn a_session_that_lacks_memory_says_so(rt: HostRuntime) {
-    let alloc = rt.alloc();
-    let Some((hub, pass)) = made(alloc, EMPTY_TEXT, 100) else {
-        return;
-    };
-    let Ok(mut to) = Vec::with_capacity(alloc, 4_096) else {
-        return;
-    };
-    let (mut pass, ending) = serve_link(
-        &rt,
-        alloc,
-        TYPED,
-        &mut to,
-        &hub,
-        pass,
-        &Bell::new(),
-        &Open,
-    );
-    if ending == Ending::Bye {
-        // A fetch that is refused once the site has said bye is the last one, and what waited is lost.
-        let written = str::from_utf8(to.as_slice());
-        assert!(rt; written == Ok(TYPED_ANSWER) || written == Ok(CUT_ANSWER));
-    } else {
-        assert_eq!(rt; ending, Ending::Fault(8));
-        assert!(rt; tells_of_memory(to.as_slice()));
-    }
-    assert!(rt; !hub.news(&mut pass));
-    let star = closed(&rt, hub, pass);
-    assert_eq!(rt; star.waiting(1), None);
-    assert!(rt; ending != Ending::Bye || star.order().len() == 1);
-}
+pub(crate) const CUT_ANSWER: &str = "welcome 1 100\nwindow 1\ntext 1\nready\nbye\n";

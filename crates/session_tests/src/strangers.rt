@@ -1,6 +1,6 @@
 //! Links over loopback that are no client's.
 
-use crate::programs::{Told, client_of, connect, daemon_at, printed, serve};
+use crate::programs::{Told, client_of, connect, daemon_at, failed, printed, serve};
 use jup_session::client_main;
 use std::alloc::Global;
 use std::io::{Read, Write};
@@ -125,11 +125,12 @@ fn a_full_order_ends_a_client_with_status_4(rt: HostRuntime) {
         || fills(&rt, alloc, addr, &client),
     );
     let filled = filled.ok().expect(&rt, "the link is served");
-    printed(
+    failed(
         &rt,
         &filled,
         4,
         "site 2\nmade ins 1 1 2.1 \"b\"\nfault 32\n",
+        "the order is full\n",
     );
     printed(
         &rt,

@@ -35,13 +35,13 @@ fn layout(rt: &impl Abort, alloc: Global, text: &str) -> Board
 
 // A star over this layout and the sites 1 and 2, which have joined it.
 #[derive(Drop)]
-struct Pair {
-    star: Star,
-    one: Site,
-    two: Site,
+pub(crate) struct Pair {
+    pub(crate) star: Star,
+    pub(crate) one: Site,
+    pub(crate) two: Site,
 }
 
-fn pair_over(rt: &impl Abort, alloc: Global, text: &str) -> Pair {
+pub(crate) fn pair_over(rt: &impl Abort, alloc: Global, text: &str) -> Pair {
     let board = layout(rt, alloc, text);
     let mut star = Star::open(alloc, board, LIMIT).expect(rt, "a layout and a limit");
     let one = joins(rt, alloc, &mut star);
@@ -56,11 +56,11 @@ fn joins(rt: &impl Abort, alloc: Global, star: &mut Star) -> Site {
 }
 
 // Site 1 with a board of its own.
-fn lone_site(rt: &impl Abort, alloc: Global, text: &str) -> Site {
+pub(crate) fn lone_site(rt: &impl Abort, alloc: Global, text: &str) -> Site {
     Site::open(alloc, 1, LIMIT, layout(rt, alloc, text)).expect(rt, "a site's number")
 }
 
-fn delete(place: u32) -> Command {
+pub(crate) fn delete(place: u32) -> Command {
     Command::Delete {
         win: 1,
         wid: 1,
@@ -68,7 +68,7 @@ fn delete(place: u32) -> Command {
     }
 }
 
-fn set(wid: u16, setting: Setting) -> Command {
+pub(crate) fn set(wid: u16, setting: Setting) -> Command {
     Command::Set {
         win: 1,
         wid,
@@ -82,14 +82,14 @@ fn on_text(op: TextOp) -> BoardOp {
 }
 
 // The insertion of an item of a site, which is the number-th of it.
-fn put(place: u32, site: u32, number: u32, value: char) -> BoardOp {
+pub(crate) fn put(place: u32, site: u32, number: u32, value: char) -> BoardOp {
     let name = Name { site, number };
     let item = Item { name, value };
     on_text(SeqOp::Insert { place, item })
 }
 
 // The deletion of an item of the layout.
-fn cut(place: u32, number: u32) -> BoardOp {
+pub(crate) fn cut(place: u32, number: u32) -> BoardOp {
     let name = Name { site: 0, number };
     on_text(SeqOp::Delete { place, name })
 }
@@ -111,7 +111,7 @@ fn batch_of(rt: &impl Abort, alloc: Global, ops: &[BoardOp]) -> BoardBatch
 }
 
 // An edit that the star sends.
-fn down(rt: &impl Abort, alloc: Global, mine: u32, heard: u32, ops: &[BoardOp]) -> Down
+pub(crate) fn down(rt: &impl Abort, alloc: Global, mine: u32, heard: u32, ops: &[BoardOp]) -> Down
     requires some { 1 ≤ length ops.now }
     requires few { length ops.now ≤ 32 }
 {
@@ -119,7 +119,7 @@ fn down(rt: &impl Abort, alloc: Global, mine: u32, heard: u32, ops: &[BoardOp]) 
     Down::Op(Msg { mine, heard, op })
 }
 
-fn makes(rt: &impl Abort, alloc: Global, site: &mut Site, commands: &[Command]) -> Made {
+pub(crate) fn makes(rt: &impl Abort, alloc: Global, site: &mut Site, commands: &[Command]) -> Made {
     site.edit_batch(alloc, commands).expect(rt, "an edit")
 }
 
@@ -328,54 +328,7 @@ fn batches_on_several_widgets_end_equal(rt: HostRuntime) {
     }
 }
 
-// Run these with each allocation refused in turn: a batch of several commands that lacks memory changes nothing,
-// and made or handed over again it gives its answer. One of one command needs none where the board does not.
-
-#[test]
-fn a_batch_that_lacks_memory_is_not_shown(rt: HostRuntime) {
-    let alloc = rt.alloc();
-    let mut site = lone_site(&rt, alloc, "pqr");
-    let commands = [insert(0, 'a'), delete(1), set(3, Setting::Toggle(true))];
-    let mut refusal = site.edit_batch(alloc, &commands).err();
-    if refusal == Some(EditFault::NoMemory) {
-        assert!(rt; reads(site.board(), "pqr"));
-        assert_eq!(rt; site.backlog(), 0);
-        refusal = site.edit_batch(alloc, &commands).err();
-    }
-    assert_eq!(rt; refusal, None);
-    assert!(rt; reads(site.board(), "aqr"));
-    assert_eq!(rt; site.backlog(), 1);
-}
-
-#[test]
-fn a_batch_that_the_star_lacks_memory_for_is_not_sent(rt: HostRuntime) {
-    let alloc = rt.alloc();
-    let mut pair = pair_over(&rt, alloc, "pqr");
-    let made = makes(&rt, alloc, &mut pair.one, &[insert(0, 'a'), delete(1)]);
-    let mut place = pair.star.take(alloc, 1, &made.up);
-    if place == Err(StarFault::NoMemory) {
-        assert!(rt; reads(pair.star.board(), "pqr"));
-        assert_eq!(rt; pair.star.waiting(2), Some(0));
-        place = pair.star.take(alloc, 1, &made.up);
-    }
-    assert_eq!(rt; place, Ok(Some(0)));
-    assert_eq!(rt; pair.star.waiting(2), Some(1));
-}
-
-#[test]
-fn a_batch_that_a_site_lacks_memory_for_is_not_shown(rt: HostRuntime) {
-    let alloc = rt.alloc();
-    let mut site = lone_site(&rt, alloc, "pqr");
-    let down = down(&rt, alloc, 0, 0, &[put(0, 2, 1, 'a'), cut(1, 1)]);
-    let mut back = site.deliver(alloc, &down);
-    if back == Err(SiteFault::NoMemory) {
-        assert!(rt; reads(site.board(), "pqr"));
-        back = site.deliver(alloc, &down);
-    }
-    assert_eq!(rt; back, Ok(None));
-    assert!(rt; reads(site.board(), "aqr"));
-}
-
+// One deletion asks for no memory, where a batch of several does.
 #[test]
 fn one_deletion_is_shown_without_memory(rt: HostRuntime) {
     let alloc = rt.alloc();

@@ -1,4 +1,4 @@
-//! Each call once where it succeeds, calls of two threads, and growths that are refused.
+//! Each call once where it succeeds, and calls of two threads.
 ghost use Rattle.std.specs.Prelude.{All};
 ghost use Rattle.jup_window.specs.Entries.{EachWidget};
 ghost use Rattle.jup_star.specs.Openings.{IsShort};
@@ -27,7 +27,7 @@ fn blank(rt: &impl Abort, alloc: Global) -> Board
 }
 
 // A star over the blank board, with some sites attached.
-fn star_of(rt: &impl Abort, alloc: Global, sites: u32) -> Star {
+pub(crate) fn star_of(rt: &impl Abort, alloc: Global, sites: u32) -> Star {
     let mut star = Star::open(alloc, blank(rt, alloc), LIMIT).expect(rt, "a layout and a limit");
     for _ in 0..sites {
         assert!(rt; star.join(alloc).is_ok());
@@ -47,7 +47,7 @@ fn insertion(site: u32) -> BoardOp {
 }
 
 // The message that tells of it.
-fn told_of(alloc: Global, site: u32) -> Up {
+pub(crate) fn told_of(alloc: Global, site: u32) -> Up {
     Up::Op(Msg {
         mine: 0,
         heard: 0,
@@ -68,7 +68,7 @@ fn entry_of(alloc: Global, site: u32) -> Entry {
 }
 
 // A hub over a star, with its first pass.
-fn opened(rt: &impl Abort, alloc: Global, star: Star) -> (Hub, Pass)
+pub(crate) fn opened(rt: &impl Abort, alloc: Global, star: Star) -> (Hub, Pass)
     ensures { IsPassOf result.0 result.1 }
 {
     match Hub::open(alloc, star) {
@@ -78,13 +78,13 @@ fn opened(rt: &impl Abort, alloc: Global, star: Star) -> (Hub, Pass)
 }
 
 // A hub over a star with some sites attached, with its first pass.
-fn hub_of(rt: &impl Abort, alloc: Global, sites: u32) -> (Hub, Pass)
+pub(crate) fn hub_of(rt: &impl Abort, alloc: Global, sites: u32) -> (Hub, Pass)
     ensures { IsPassOf result.0 result.1 }
 {
     opened(rt, alloc, star_of(rt, alloc, sites))
 }
 
-fn closed(rt: &impl Abort, hub: Hub, pass: Pass) -> Closed
+pub(crate) fn closed(rt: &impl Abort, hub: Hub, pass: Pass) -> Closed
     requires { IsPassOf hub pass }
 {
     match hub.close(pass) {
@@ -94,7 +94,7 @@ fn closed(rt: &impl Abort, hub: Hub, pass: Pass) -> Closed
 }
 
 // Whether just the first edit of site 1 was fetched.
-fn tells_of_one(alloc: Global, downs: &Downs) -> bool {
+pub(crate) fn tells_of_one(alloc: Global, downs: &Downs) -> bool {
     let edit = Down::Op(Msg {
         mine: 0,
         heard: 0,
@@ -280,37 +280,4 @@ fn each_of_64_passes_takes_once(rt: HostRuntime) {
     let Closed { star, events } = closed(&rt, hub, a);
     assert_eq!(rt; events, 64);
     assert_eq!(rt; star.order().len(), 64);
-}
-
-// Run these with each allocation refused in turn.
-
-#[test]
-fn a_hub_that_lacks_memory_gives_the_star_back(rt: HostRuntime) {
-    let alloc = rt.alloc();
-    let (hub, mut a) = match Hub::open(alloc, star_of(&rt, alloc, 1)) {
-        Ok(opened) => opened,
-        Err(star) => {
-            assert_eq!(rt; star.waiting(1), Some(0));
-            assert!(rt; reads(star.board(), ""));
-            opened(&rt, alloc, star)
-        }
-    };
-    assert_eq!(rt; hub.leave(&rt, &mut a, 1), Ok(()));
-    let Closed { star, events } = closed(&rt, hub, a);
-    assert_eq!(rt; star.waiting(1), None);
-    assert_eq!(rt; events, 1);
-}
-
-#[test]
-fn a_take_that_lacks_memory_is_no_event(rt: HostRuntime) {
-    let alloc = rt.alloc();
-    let (hub, mut a) = hub_of(&rt, alloc, 2);
-    let mut b = hub.split(&mut a);
-    let mut place = hub.take(&rt, alloc, &mut a, 1, &told_of(alloc, 1));
-    if place == Err(HubFault::Star(StarFault::NoMemory)) {
-        assert!(rt; !hub.news(&mut b));
-        place = hub.take(&rt, alloc, &mut a, 1, &told_of(alloc, 1));
-    }
-    assert_eq!(rt; place, Ok(Some(0)));
-    assert_eq!(rt; closed(&rt, hub, a).events, 1);
 }

@@ -6,6 +6,10 @@ ghost use Rattle.std.specs.Prelude.{◌≡◌};
 #[cfg(test)]
 mod batches;
 #[cfg(test)]
+mod growths;
+#[cfg(test)]
+mod hub_growths;
+#[cfg(test)]
 mod hubs;
 #[cfg(test)]
 mod stars;

@@ -1,4 +1,4 @@
-//! Refusals in their order, each call once where it succeeds, and growths that are refused.
+//! Refusals in their order, and each call once where it succeeds.
 ghost use Rattle.jup_window.specs.Entries.{EachWidget};
 ghost use Rattle.jup_star.specs.Openings.{IsShort};
 
@@ -16,7 +16,7 @@ use test_boards::{alone, board_of, reads};
 const LIMIT: u32 = 100_000;
 
 // Window 1 has an empty text 1 and a toggle 3 that is off.
-fn blank(rt: &impl Abort, alloc: Global) -> Board
+pub(crate) fn blank(rt: &impl Abort, alloc: Global) -> Board
     ensures { EachWidget IsShort result }
 {
     let lines = ["window 1", "text 1 \"\"", "toggle 3 off"];
@@ -39,12 +39,12 @@ fn with_item_of(rt: &impl Abort, alloc: Global, site: u32) -> Board
     board
 }
 
-fn opened(rt: &impl Abort, alloc: Global) -> Star {
+pub(crate) fn opened(rt: &impl Abort, alloc: Global) -> Star {
     Star::open(alloc, blank(rt, alloc), LIMIT).expect(rt, "a layout and a limit")
 }
 
 // A star over the blank board, with two sites attached.
-fn star_of_two(rt: &impl Abort, alloc: Global) -> Star {
+pub(crate) fn star_of_two(rt: &impl Abort, alloc: Global) -> Star {
     let mut star = opened(rt, alloc);
     joins(rt, alloc, &mut star);
     joins(rt, alloc, &mut star);
@@ -57,7 +57,7 @@ fn joins(rt: &impl Abort, alloc: Global, star: &mut Star) -> u32 {
 }
 
 // A site with a board of its own, as a star would open it.
-fn lone_site(rt: &impl Abort, alloc: Global, number: u32) -> Site {
+pub(crate) fn lone_site(rt: &impl Abort, alloc: Global, number: u32) -> Site {
     Site::open(alloc, number, LIMIT, blank(rt, alloc)).expect(rt, "a site's number")
 }
 
@@ -92,7 +92,7 @@ fn switch_on() -> Command {
 }
 
 // The message with which site 1 begins.
-fn first_message(alloc: Global, op: BoardOp) -> Up {
+pub(crate) fn first_message(alloc: Global, op: BoardOp) -> Up {
     Up::Op(Msg {
         mine: 0,
         heard: 0,
@@ -444,99 +444,4 @@ fn one_message_is_fetched_without_a_list(rt: HostRuntime) {
     assert_eq!(rt; star.fetch_one(1), Ok(Some(Down::Pong(7))));
     assert_eq!(rt; star.waiting(1), Some(1));
     assert_eq!(rt; star_number(star.fetch_one(9).err()), 33);
-}
-
-// Run these with each allocation refused in turn: a call that lacks memory changes nothing, and made again
-// it gives its answer. What the test itself lacks ends it.
-
-// The number that the next site is given, or why there is none.
-fn next_number(alloc: Global, star: &mut Star) -> Result<u32, StarFault> {
-    match star.join(alloc) {
-        Ok(joined) => Ok(joined.site),
-        Err(fault) => Err(fault),
-    }
-}
-
-#[test]
-fn a_join_that_lacks_memory_gives_no_number(rt: HostRuntime) {
-    let alloc = rt.alloc();
-    let mut star = opened(&rt, alloc);
-    let mut number = next_number(alloc, &mut star);
-    if number == Err(StarFault::NoMemory) {
-        assert_eq!(rt; star.waiting(1), None);
-        number = next_number(alloc, &mut star);
-    }
-    assert_eq!(rt; number, Ok(1));
-}
-
-// Why a site makes no insertion, if so.
-fn insertion_refusal(alloc: Global, site: &mut Site) -> Option<EditFault> {
-    // The checker has to be told of the types within what is dropped here.
-    let _within: PhantomData<(Up, Made)> = PhantomData;
-    site.edit(alloc, &insert(0, 'a')).err()
-}
-
-#[test]
-fn an_edit_that_lacks_memory_is_not_shown(rt: HostRuntime) {
-    let alloc = rt.alloc();
-    let mut site = lone_site(&rt, alloc, 1);
-    if insertion_refusal(alloc, &mut site) == Some(EditFault::NoMemory) {
-        assert!(rt; reads(site.board(), ""));
-        assert_eq!(rt; site.backlog(), 0);
-        assert_eq!(rt; insertion_refusal(alloc, &mut site), None);
-    }
-    assert!(rt; reads(site.board(), "a"));
-}
-
-// The star shows nothing, and sends site 2 nothing.
-fn took_nothing(rt: &impl Abort, star: &Star) {
-    assert!(rt; reads(star.board(), ""));
-    assert_eq!(rt; star.order().len(), 0);
-    assert_eq!(rt; star.waiting(2), Some(0));
-}
-
-#[test]
-fn an_edit_that_the_star_lacks_memory_for_is_not_sent(rt: HostRuntime) {
-    let alloc = rt.alloc();
-    let mut star = star_of_two(&rt, alloc);
-    let up = first_message(alloc, insertion(0, first_of(1)));
-    let mut place = star.take(alloc, 1, &up);
-    if place == Err(StarFault::NoMemory) {
-        took_nothing(&rt, &star);
-        place = star.take(alloc, 1, &up);
-    }
-    assert_eq!(rt; place, Ok(Some(0)));
-    assert_eq!(rt; star.waiting(2), Some(1));
-}
-
-#[test]
-fn a_fetch_that_lacks_memory_loses_nothing(rt: HostRuntime) {
-    let alloc = rt.alloc();
-    let mut star = star_of_two(&rt, alloc);
-    assert_eq!(rt; star.take(alloc, 1, &Up::Ping(7)), Ok(None));
-    let mut downs = star.fetch(alloc, 1, 10);
-    if downs.is_err() {
-        assert_eq!(rt; star.waiting(1), Some(1));
-        downs = star.fetch(alloc, 1, 10);
-    }
-    let downs = downs.expect(&rt, "memory");
-    assert_eq!(rt; downs.as_slice(), [Down::Pong(7)].as_slice());
-}
-
-#[test]
-fn an_edit_that_a_site_lacks_memory_for_is_not_shown(rt: HostRuntime) {
-    let alloc = rt.alloc();
-    let mut site = lone_site(&rt, alloc, 1);
-    let down = Down::Op(Msg {
-        mine: 0,
-        heard: 0,
-        op: alone(alloc, insertion(0, first_of(2))),
-    });
-    let mut back = site.deliver(alloc, &down);
-    if back == Err(SiteFault::NoMemory) {
-        assert!(rt; reads(site.board(), ""));
-        back = site.deliver(alloc, &down);
-    }
-    assert_eq!(rt; back, Ok(None));
-    assert!(rt; reads(site.board(), "a"));
 }

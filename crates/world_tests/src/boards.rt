@@ -1,8 +1,9 @@
 //! Worlds over boards that are given as they are printed, the events that are played in them, and what
 //! they show.
 use jup_batch::BoardEdits;
+use jup_text::write_board;
 use jup_window::{Board, Command, Edit, Effect, Setting, Value};
-use jup_world::{Event, Happened, Reply, World, write_board};
+use jup_world::{Event, Happened, Reply, World};
 use jup_xform::Few;
 use std::alloc::Global;
 use std::process::Abort;

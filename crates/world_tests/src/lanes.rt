@@ -13,7 +13,7 @@ use std::process::Abort;
 use test_boards::alone;
 
 // Site 1 puts an 'a' first into text 1 of window 1, which is spelled "batch 0 0 1" and "do 1 1 text ins 0 1.1 97".
-fn first_edit(alloc: Global) -> Msg<BoardBatch>
+pub(crate) fn first_edit(alloc: Global) -> Msg<BoardBatch>
     ensures { RelabelNoText result.op }
 {
     let op = BoardOp {
@@ -34,7 +34,7 @@ fn first_edit(alloc: Global) -> Msg<BoardBatch>
     }
 }
 
-fn send<M: Message>(rt: &impl Abort, lane: &mut Lane<M>, message: &M)
+pub(crate) fn send<M: Message>(rt: &impl Abort, lane: &mut Lane<M>, message: &M)
     requires { M.may_go message.now }
 {
     lane.reserve().expect(rt, "memory");

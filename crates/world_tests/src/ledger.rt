@@ -19,7 +19,7 @@ struct Part {
     edit: Edit,
 }
 
-// All that happened in a world whose sites were attached before anything else.
+// All that happened in a world.
 #[derive(Drop)]
 pub(crate) struct Ledger {
     // Every operation of every edit, in the order in which they were made.
@@ -29,6 +29,8 @@ pub(crate) struct Ledger {
     order: Vec<Turn>,
     // Which site was handed an edit of another, once for each.
     shown: Vec<u32>,
+    // How many entries the order had when each site joined, site 1 first.
+    joined: Vec<usize>,
     // How many events of the trace were read.
     read: usize,
 }
@@ -51,6 +53,7 @@ impl Ledger {
             made: Vec::new(alloc),
             order: Vec::new(alloc),
             shown: Vec::new(alloc),
+            joined: Vec::new(alloc),
             read: 0,
         }
     }
@@ -58,6 +61,11 @@ impl Ledger {
     // How many edits were made.
     pub(crate) fn made(&self) -> usize {
         self.made.len()
+    }
+
+    // How many sites joined.
+    pub(crate) fn joins(&self) -> u32 {
+        u32::try_from(self.joined.len()).unwrap_or(u32::MAX)
     }
 
     // A site made an edit.
@@ -92,6 +100,10 @@ impl Ledger {
             ),
             (Event::Up(site), Reply::Taken(_)) => self.note_taken(rt, *site),
             (Event::Down(site), Reply::Shown) => self.shown.push(*site).expect(rt, "memory"),
+            (Event::Join, Reply::Joined(_)) => self
+                .joined
+                .push(self.order.len())
+                .expect(rt, "memory"),
             _ => {}
         }
     }
@@ -109,11 +121,22 @@ impl Ledger {
         self.shown.iter().filter(|shown| **shown == site).count()
     }
 
-    // What a site was told of the order: all up to the last edit of another that it was handed.
+    // How many entries the order had when a site joined.
+    fn joined_at(&self, site: u32) -> usize {
+        let joined = self.joined.iter().zip(1..);
+        for (entries, number) in joined {
+            if number == site {
+                return *entries;
+            }
+        }
+        0
+    }
+
+    // What a site was told of the order: all up to its join, and on to the last edit of another that it was handed.
     fn told(&self, site: u32) -> usize {
         let mut left = self.shown_to(site);
-        let mut told = 0;
-        for (turn, next) in self.order.iter().zip(1..) {
+        let mut told = self.joined_at(site);
+        for (turn, next) in self.order.iter().zip(1usize..).skip(told) {
             if left == 0 {
                 return told;
             }

@@ -10,15 +10,21 @@ mod boards;
 #[cfg(test)]
 mod content;
 #[cfg(test)]
+mod growths;
+#[cfg(test)]
 mod lanes;
 #[cfg(test)]
 mod ledger;
 #[cfg(test)]
 mod messages;
 #[cfg(test)]
+mod more_growths;
+#[cfg(test)]
 mod pushes;
 #[cfg(test)]
 mod random_batches;
+#[cfg(test)]
+mod random_joins;
 #[cfg(test)]
 mod scripts;
 #[cfg(test)]

@@ -16,7 +16,7 @@ const SITES: u32 = 3;
 // How many events happen before all is delivered.
 const EVENTS: u32 = 200;
 
-fn opened(rt: &impl Abort, alloc: Global) -> World {
+pub(super) fn opened(rt: &impl Abort, alloc: Global) -> World {
     let lines = [
         "window 1",
         "text 1 \"pqr\"",
@@ -33,7 +33,7 @@ fn opened(rt: &impl Abort, alloc: Global) -> World {
 }
 
 // The board of the star, as number 0, or of a site.
-fn board_at(world: &World, number: u32) -> &Board {
+pub(super) fn board_at(world: &World, number: u32) -> &Board {
     match world.site(number) {
         Some(site) => site.board(),
         None => world.star().board(),
@@ -105,7 +105,12 @@ fn command(rt: &impl Abort, dice: &mut Dice, board: &Board) -> Command {
 }
 
 // One to five commands, each as if it were alone on the board, so that some of them are refused behind the others.
-fn commands(rt: &impl Abort, alloc: Global, dice: &mut Dice, board: &Board) -> Vec<Command> {
+pub(super) fn commands(
+    rt: &impl Abort,
+    alloc: Global,
+    dice: &mut Dice,
+    board: &Board,
+) -> Vec<Command> {
     // The checker learns of the types within a command from this.
     let _within: PhantomData<(Value, Setting, Label)> = PhantomData;
     let mut all = Vec::new(alloc);

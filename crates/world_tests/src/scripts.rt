@@ -1,8 +1,7 @@
+use jup_script::{ScriptEnd, ScriptFault, run_script};
 use jup_setting::Slider;
 use jup_window::EditFault;
-use jup_world::{
-    ScriptEnd, Two, TwoEdit, TwoEvent, TwoReply, pair_slider, pair_toggle, run_script,
-};
+use jup_world::{Two, TwoEdit, TwoEvent, TwoReply, pair_slider, pair_toggle};
 use std::alloc::Global;
 use std::io;
 use std::io::{ErrorKind, Read, Write};
@@ -21,13 +20,22 @@ impl<'a> Read for FailsAfter<'a> {
     }
 }
 
-// Takes nothing.
+// Takes so many bytes, and then fails.
 #[derive(Drop)]
-struct Full;
+struct TakesFirst<'a> {
+    left: usize,
+    text: &'a mut Vec<u8>,
+}
 
-impl Write for Full {
-    fn write(&mut self, _buf: &[u8]) -> io::Result<usize> {
-        Err(io::Error::from(ErrorKind::StorageFull))
+impl<'a> Write for TakesFirst<'a> {
+    fn write(&mut self, buf: &[u8]) -> io::Result<usize> {
+        if self.left == 0 {
+            return Err(io::Error::from(ErrorKind::StorageFull));
+        }
+        let part = buf.get(..self.left).unwrap_or(buf);
+        let taken = self.text.write(part)?;
+        self.left = self.left.saturating_sub(taken);
+        Ok(taken)
     }
 
     fn flush(&mut self) -> io::Result<()> {
@@ -49,10 +57,16 @@ pub(crate) fn prints(rt: &impl Abort, alloc: Global, script: &str, printed: &str
     assert_eq!(rt; replies.as_slice(), printed.as_bytes(), "{script}");
 }
 
-// The script ends at this bad line, and prints what was due before.
-pub(crate) fn is_bad_at(rt: &impl Abort, alloc: Global, script: &str, line: u32, printed: &str) {
-    let (replies, end) = play(alloc, script);
-    assert_eq!(rt; end, Err(ScriptEnd::Bad(line)), "{script}");
+// The script ends at this bad line, for what is wrong there, and prints what was due before.
+pub(crate) fn is_bad_at(
+    rt: &impl Abort,
+    alloc: Global,
+    script: &str,
+    end: ScriptEnd,
+    printed: &str,
+) {
+    let (replies, played) = play(alloc, script);
+    assert_eq!(rt; played, Err(end), "{script}");
     assert_eq!(rt; replies.as_slice(), printed.as_bytes(), "{script}");
 }
 
@@ -97,59 +111,110 @@ fn a_pair_script_prints_both_ends(rt: HostRuntime) {
 }
 
 #[test]
-fn a_bad_line_is_told_by_its_number(rt: HostRuntime) {
-    for (script, line) in [
-        ("", 1),
-        ("\n", 1),
-        ("pair", 1),
-        ("pair\n", 1),
-        ("pair toggle\n", 1),
-        ("pair toggle maybe\n", 1),
-        ("pair toggle on off\n", 1),
-        ("pair  toggle on\n", 1),
-        ("pair toggle on \n", 1),
-        ("pair slider 5 4 5\n", 1),
-        ("pair slider 0 10 11\n", 1),
-        ("pair slider 0 010 5\n", 1),
-        ("pair slider -0 10 5\n", 1),
-        ("pair slider 0 +10 5\n", 1),
-        ("pair slider 0 2147483648 5\n", 1),
-        ("pear toggle on\n", 1),
-        ("pair toggle on\nclient off", 2),
-        ("pair toggle on\nserver off\n", 2),
-        ("pair toggle on\nclient\n", 2),
-        ("pair slider 0 10 5\nclient 11\n", 2),
-        ("pair slider 0 10 5\nclient on\n", 2),
-        ("pair toggle on\nclient off\n", 3),
-        ("pair toggle on\nclient off\nclient on\n", 3),
-        ("pair toggle on\nclient off\nserver on", 3),
-        ("two \nstart \"\"\n", 1),
-        ("two\n", 2),
-        ("two\nstart \"a\n", 2),
-        ("two\nstart \"a\"b\"\n", 2),
-        ("two\nstart \"\\x\"\n", 2),
-        ("two\nstart \"\\u{61}\"\n", 2),
-        ("two\nstart \"\\u{0e9}\"\n", 2),
-        ("two\nstart \"\\u{E9}\"\n", 2),
-        ("two\nstart \"\\u{d800}\"\n", 2),
-        ("two\nstart \"\\u{110000}\"\n", 2),
-        ("two\nstart \"\u{e9}\"\n", 2),
-        ("two\nstart \"\"\nclient ins 0 \"ab\"\n", 3),
-        ("two\nstart \"\"\nclient ins 00 \"a\"\n", 3),
-        ("two\nstart \"\"\nclient ins -1 \"a\"\n", 3),
-        ("two\nstart \"\"\nclient ins 4294967296 \"a\"\n", 3),
-        ("two\nstart \"\"\nclient del\n", 3),
-        ("two\nstart \"\"\nup 1\n", 3),
-        ("two\nstart \"\"\nshow", 3),
+fn a_bad_line_of_a_pair_is_told_by_its_number_and_what_is_wrong(rt: HostRuntime) {
+    for (script, line, fault) in [
+        ("", 1, ScriptFault::Missing),
+        ("\n", 1, ScriptFault::NoMode),
+        ("pair", 1, ScriptFault::Unended),
+        ("pair\n", 1, ScriptFault::NoMode),
+        ("pair toggle\n", 1, ScriptFault::NoPair),
+        ("pair text a\n", 1, ScriptFault::NoPair),
+        ("pair toggle maybe\n", 1, ScriptFault::BadSwitch),
+        ("pair toggle on off\n", 1, ScriptFault::BadSwitch),
+        ("pair  toggle on\n", 1, ScriptFault::NoPair),
+        ("pair toggle on \n", 1, ScriptFault::BadSwitch),
+        ("pair slider 5 4 5\n", 1, ScriptFault::OutOfBounds),
+        ("pair slider 0 10 11\n", 1, ScriptFault::OutOfBounds),
+        ("pair slider 0 10\n", 1, ScriptFault::NoBounds),
+        ("pair slider 0 010 5\n", 1, ScriptFault::BadInteger),
+        ("pair slider -0 10 5\n", 1, ScriptFault::BadInteger),
+        ("pair slider 0 +10 5\n", 1, ScriptFault::BadInteger),
+        ("pair slider 0 2147483648 5\n", 1, ScriptFault::BadInteger),
+        ("pear toggle on\n", 1, ScriptFault::NoMode),
+        ("pair toggle on\nclient off", 2, ScriptFault::Unended),
+        ("pair toggle on\nserver off\n", 2, ScriptFault::NoSetting),
+        ("pair toggle on\nclient\n", 2, ScriptFault::NoSetting),
+        ("pair toggle on\nclient 1\n", 2, ScriptFault::BadSwitch),
+        (
+            "pair slider 0 10 5\nclient 11\n",
+            2,
+            ScriptFault::OutOfBounds,
+        ),
+        (
+            "pair slider 0 10 5\nclient on\n",
+            2,
+            ScriptFault::BadInteger,
+        ),
+        ("pair toggle on\nclient off\n", 3, ScriptFault::Missing),
+        (
+            "pair toggle on\nclient off\nclient on\n",
+            3,
+            ScriptFault::NoSetting,
+        ),
+        (
+            "pair toggle on\nclient off\nserver on",
+            3,
+            ScriptFault::Unended,
+        ),
     ] {
-        is_bad_at(&rt, rt.alloc(), script, line, "");
+        is_bad_at(&rt, rt.alloc(), script, ScriptEnd::Bad(line, fault), "");
+    }
+}
+
+#[test]
+fn a_bad_line_of_two_ends_is_told_by_its_number_and_what_is_wrong(rt: HostRuntime) {
+    for (script, line, fault) in [
+        ("two \nstart \"\"\n", 1, ScriptFault::NoMode),
+        ("two\n", 2, ScriptFault::Missing),
+        ("two\nup\n", 2, ScriptFault::NoStart),
+        ("two\nstart \"a\n", 2, ScriptFault::BadText),
+        ("two\nstart \"a\"b\"\n", 2, ScriptFault::BadText),
+        ("two\nstart \"\\x\"\n", 2, ScriptFault::BadText),
+        ("two\nstart \"\\u{61}\"\n", 2, ScriptFault::BadText),
+        ("two\nstart \"\\u{0e9}\"\n", 2, ScriptFault::BadText),
+        ("two\nstart \"\\u{E9}\"\n", 2, ScriptFault::BadText),
+        ("two\nstart \"\\u{d800}\"\n", 2, ScriptFault::BadText),
+        ("two\nstart \"\\u{110000}\"\n", 2, ScriptFault::BadText),
+        ("two\nstart \"\u{e9}\"\n", 2, ScriptFault::BadText),
+        (
+            "two\nstart \"\"\nclient ins 0 \"ab\"\n",
+            3,
+            ScriptFault::BadChar,
+        ),
+        (
+            "two\nstart \"\"\nclient ins 00 \"a\"\n",
+            3,
+            ScriptFault::BadNumber,
+        ),
+        (
+            "two\nstart \"\"\nclient ins -1 \"a\"\n",
+            3,
+            ScriptFault::BadNumber,
+        ),
+        (
+            "two\nstart \"\"\nclient ins 4294967296 \"a\"\n",
+            3,
+            ScriptFault::BadNumber,
+        ),
+        (
+            "two\nstart \"\"\nclient ins 0\n",
+            3,
+            ScriptFault::NoTextEdit,
+        ),
+        ("two\nstart \"\"\nclient del\n", 3, ScriptFault::NoTextEdit),
+        ("two\nstart \"\"\nserver del x\n", 3, ScriptFault::BadNumber),
+        ("two\nstart \"\"\nup 1\n", 3, ScriptFault::NoEvent),
+        ("two\nstart \"\"\nshow", 3, ScriptFault::Unended),
+    ] {
+        is_bad_at(&rt, rt.alloc(), script, ScriptEnd::Bad(line, fault), "");
     }
 }
 
 #[test]
 fn replies_that_were_due_stand_before_a_bad_line(rt: HostRuntime) {
     let script = "pair toggle on\nclient off\nserver on\nmore\n";
-    is_bad_at(&rt, rt.alloc(), script, 4, "c s' off\ns c' off\n");
+    let end = ScriptEnd::Bad(4, ScriptFault::Surplus);
+    is_bad_at(&rt, rt.alloc(), script, end, "c s' off\ns c' off\n");
 }
 
 #[test]
@@ -158,7 +223,7 @@ fn a_script_that_is_too_long_prints_nothing(rt: HostRuntime) {
     let longest = io::repeat(b'x').take(16_777_216);
     assert_eq!(rt;
         run_script(rt.alloc(), longest, &mut replies),
-        Err(ScriptEnd::Bad(1))
+        Err(ScriptEnd::Bad(1, ScriptFault::Unended))
     );
     let long = io::repeat(b'x').take(16_777_217);
     assert_eq!(rt;
@@ -168,21 +233,62 @@ fn a_script_that_is_too_long_prints_nothing(rt: HostRuntime) {
     assert!(rt; replies.is_empty());
 }
 
+const PAIR: &[u8] = b"pair toggle off\nclient on\nserver off\n";
+
+const PAIR_DUE: &[u8] = b"c s' on\ns c' on\n";
+
 #[test]
-fn a_failed_read_prints_nothing_and_a_failed_write_is_told(rt: HostRuntime) {
-    let script = b"pair toggle off\nclient on\nserver off\n";
+fn a_line_that_is_no_text_is_bad(rt: HostRuntime) {
     let mut replies = Vec::new(rt.alloc());
-    let end = run_script(rt.alloc(), FailsAfter(script), &mut replies);
-    assert_eq!(rt; end, Err(ScriptEnd::ReadFailed));
-    assert!(rt; replies.is_empty());
-    let end = run_script(rt.alloc(), script.as_slice(), &mut Full);
-    assert_eq!(rt; end, Err(ScriptEnd::WriteFailed));
+    let script = b"pair toggle off\nclient \xff\n".as_slice();
+    assert_eq!(rt;
+        run_script(rt.alloc(), script, &mut replies),
+        Err(ScriptEnd::Bad(2, ScriptFault::NotText))
+    );
+}
+
+#[test]
+fn each_read_of_a_script(rt: HostRuntime) {
+    for len in 0..=PAIR.len() {
+        let mut replies = Vec::new(rt.alloc());
+        let script = FailsAfter(PAIR.get(..len).unwrap_or(PAIR));
+        let end = run_script(rt.alloc(), script, &mut replies);
+        assert_eq!(rt; end, Err(ScriptEnd::ReadFailed), "{len} bytes");
+        assert!(rt; replies.is_empty(), "{len} bytes");
+    }
+}
+
+// How a script ends whose writer takes so many bytes, which are then the first of what is due.
+fn written_to(rt: &impl Abort, alloc: Global, left: usize) -> Result<(), ScriptEnd> {
+    let mut text = Vec::new(alloc);
+    let mut writer = TakesFirst {
+        left,
+        text: &mut text,
+    };
+    let end = run_script(alloc, PAIR, &mut writer);
+    assert_eq!(rt; Some(text.as_slice()), PAIR_DUE.get(..left), "{left} bytes");
+    end
+}
+
+#[test]
+fn each_write_of_a_script(rt: HostRuntime) {
+    assert_eq!(rt; PAIR_DUE.len(), 16);
+    for left in 0..16 {
+        let end = written_to(&rt, rt.alloc(), left);
+        assert_eq!(rt; end, Err(ScriptEnd::WriteFailed), "{left} bytes");
+    }
+    assert_eq!(rt; written_to(&rt, rt.alloc(), 16), Ok(()));
 }
 
 #[test]
 fn the_ends_of_scripts_have_texts_numbers_and_statuses(rt: HostRuntime) {
     for (end, text, number, status) in [
-        (ScriptEnd::Bad(7), "line 7: bad script", 40, 2),
+        (
+            ScriptEnd::Bad(7, ScriptFault::NoEvent),
+            "line 7: bad script",
+            40,
+            2,
+        ),
         (ScriptEnd::LongInput, "script too long", 47, 2),
         (ScriptEnd::NoMemory, "no memory", 8, 3),
         (ScriptEnd::ReadFailed, "io fault", 70, 1),
@@ -191,6 +297,86 @@ fn the_ends_of_scripts_have_texts_numbers_and_statuses(rt: HostRuntime) {
         let told = format!(in rt.alloc(); "{end}").expect(&rt, "memory");
         assert_eq!(rt; told.as_str(), text);
         assert_eq!(rt; (end.number(), end.status()), (number, status), "{text}");
+    }
+}
+
+#[test]
+fn what_is_wrong_with_a_line_has_a_text(rt: HostRuntime) {
+    for (fault, text) in [
+        (ScriptFault::NotText, "the line is not UTF-8"),
+        (ScriptFault::Unended, "the line has no line feed"),
+        (ScriptFault::Missing, "the script ends where a line is due"),
+        (ScriptFault::Surplus, "the line is one too many"),
+        (
+            ScriptFault::NoMode,
+            "`pair WIDGET`, `two` or `star LIMIT` is due",
+        ),
+        (
+            ScriptFault::NoPair,
+            "`toggle START` or `slider LO HI START` is due",
+        ),
+        (
+            ScriptFault::NoSetting,
+            "`client VALUE` and then `server VALUE` are due",
+        ),
+        (ScriptFault::NoStart, "`start Q` is due"),
+        (
+            ScriptFault::NoTextEdit,
+            "`ins PLACE Q` or `del PLACE` is due",
+        ),
+        (ScriptFault::NoEvent, "the line is no event"),
+        (
+            ScriptFault::NoCommand,
+            "`ins W I PLACE char Q`, `ins W I PLACE item Q`, `del W I PLACE`, `rel W I PLACE Q` or `set W I VALUE` is due",
+        ),
+        (ScriptFault::NoBatch, "`batch K` is due, K from 0 to 64"),
+        (ScriptFault::BadLimit, "a limit from 1 to 16777216 is due"),
+        (
+            ScriptFault::BadNumber,
+            "a number up to 4294967295 is due, with no sign and no leading zero",
+        ),
+        (
+            ScriptFault::BadInteger,
+            "a number from -2147483648 to 2147483647 is due, with no plus sign, no leading zero and no -0",
+        ),
+        (ScriptFault::BadSwitch, "`on` or `off` is due"),
+        (
+            ScriptFault::BadText,
+            "a text in quotes is due, in its one spelling",
+        ),
+        (
+            ScriptFault::BadChar,
+            "one character in quotes is due, in its one spelling",
+        ),
+        (
+            ScriptFault::BadLabels,
+            "labels of 1 to 48 bytes in quotes are due, a space before each, at most 65536",
+        ),
+        (ScriptFault::NoBounds, "`LO HI VALUE` is due"),
+        (
+            ScriptFault::OutOfBounds,
+            "the value is not within the bounds",
+        ),
+        (
+            ScriptFault::LongText,
+            "a text or a list has more than 65536 items",
+        ),
+        (ScriptFault::BadId, "an id from 1 to 65535 is due"),
+        (ScriptFault::NoWindow, "a window is due above its widgets"),
+        (ScriptFault::DoubleId, "the id is taken"),
+        (ScriptFault::TooMany, "64 are there already"),
+    ] {
+        let told = format!(in rt.alloc(); "{fault}").expect(&rt, "memory");
+        assert_eq!(rt; told.as_str(), text);
+        assert_eq!(rt; ScriptEnd::Bad(1, fault).fault(), Some(fault), "{text}");
+    }
+    for end in [
+        ScriptEnd::LongInput,
+        ScriptEnd::NoMemory,
+        ScriptEnd::ReadFailed,
+        ScriptEnd::WriteFailed,
+    ] {
+        assert_eq!(rt; end.fault(), None, "{end}");
     }
 }
 

@@ -1,6 +1,6 @@
 //! Scripts of a star and its sites.
 use super::scripts::{is_bad_at, play, prints};
-use jup_world::ScriptEnd;
+use jup_script::{ScriptEnd, ScriptFault};
 use std::alloc::Global;
 use std::fmt::Write;
 use std::process::Abort;
@@ -46,90 +46,177 @@ fn a_star_script_takes_ids_in_any_order(rt: HostRuntime) {
 }
 
 #[test]
-fn a_bad_board_is_told_by_its_line(rt: HostRuntime) {
-    for (script, line) in [
-        ("star\n", 1),
-        ("star \n", 1),
-        ("star 0\n", 1),
-        ("star 16777217\n", 1),
-        ("star 010\n", 1),
-        ("star +1\n", 1),
-        ("star 1 \n", 1),
-        ("star 1", 1),
-        ("star 0\nwindow 0\n", 1),
-        ("star 1\nwindow\n", 2),
-        ("star 1\nwindow 0\n", 2),
-        ("star 1\nwindow 65536\n", 2),
-        ("star 1\nwindow 1 \n", 2),
-        ("star 1\nwindow 1", 2),
-        ("star 1\nwindow 1\nwindow 1\n", 3),
-        ("star 1\ntext 1 \"\"\n", 2),
-        ("star 1\nwindow 1\ntext 1\n", 3),
-        ("star 1\nwindow 1\ntext 0 \"\"\n", 3),
-        ("star 1\nwindow 1\ntext 1 \"\" \n", 3),
-        ("star 1\nwindow 1\ntext 1 \"a\n", 3),
-        ("star 1\nwindow 1\ntext 1 \"\\u{61}\"\n", 3),
-        ("star 1\nwindow 1\ntext 1 \"\"\ntoggle 1 on\n", 4),
-        ("star 1\nwindow 1\nlist\n", 3),
-        ("star 1\nwindow 1\nlist 1 \n", 3),
-        ("star 1\nwindow 1\nlist 1 red\n", 3),
-        ("star 1\nwindow 1\nlist 1 \"\"\n", 3),
-        ("star 1\nwindow 1\nlist 1 \"red\" \n", 3),
-        ("star 1\nwindow 1\nlist 1 \"red\"\"blue\"\n", 3),
-        ("star 1\nwindow 1\nlist 1 \"red\"  \"blue\"\n", 3),
-        ("star 1\nwindow 1\nlist 1 \"\\u{e9}\"\n", 3),
+fn a_bad_board_is_told_by_its_line_and_what_is_wrong(rt: HostRuntime) {
+    for (script, line, fault) in [
+        ("star\n", 1, ScriptFault::NoMode),
+        ("star \n", 1, ScriptFault::BadLimit),
+        ("star 0\n", 1, ScriptFault::BadLimit),
+        ("star 16777217\n", 1, ScriptFault::BadLimit),
+        ("star 010\n", 1, ScriptFault::BadLimit),
+        ("star +1\n", 1, ScriptFault::BadLimit),
+        ("star 1 \n", 1, ScriptFault::BadLimit),
+        ("star 1", 1, ScriptFault::Unended),
+        ("star 0\nwindow 0\n", 1, ScriptFault::BadLimit),
+        ("star 1\nwindow\n", 2, ScriptFault::BadId),
+        ("star 1\nwindow 0\n", 2, ScriptFault::BadId),
+        ("star 1\nwindow 65536\n", 2, ScriptFault::BadId),
+        ("star 1\nwindow 1 \n", 2, ScriptFault::BadId),
+        ("star 1\nwindow 1", 2, ScriptFault::Unended),
+        ("star 1\nwindow 1\nwindow 1\n", 3, ScriptFault::DoubleId),
+        ("star 1\ntext 1 \"\"\n", 2, ScriptFault::NoWindow),
+        ("star 1\nwindow 1\ntext 1\n", 3, ScriptFault::BadText),
+        ("star 1\nwindow 1\ntext 0 \"\"\n", 3, ScriptFault::BadId),
+        ("star 1\nwindow 1\ntext 1 \"\" \n", 3, ScriptFault::BadText),
+        ("star 1\nwindow 1\ntext 1 \"a\n", 3, ScriptFault::BadText),
+        (
+            "star 1\nwindow 1\ntext 1 \"\\u{61}\"\n",
+            3,
+            ScriptFault::BadText,
+        ),
+        (
+            "star 1\nwindow 1\ntext 1 \"\"\ntoggle 1 on\n",
+            4,
+            ScriptFault::DoubleId,
+        ),
+        ("star 1\nwindows 1\n", 2, ScriptFault::NoEvent),
+        ("star 1\n\n", 2, ScriptFault::NoEvent),
+    ] {
+        is_bad_at(&rt, rt.alloc(), script, ScriptEnd::Bad(line, fault), "");
+    }
+}
+
+#[test]
+fn a_bad_list_or_setting_of_a_board_is_told_by_its_line_and_what_is_wrong(rt: HostRuntime) {
+    for (script, line, fault) in [
+        ("star 1\nwindow 1\nlist\n", 3, ScriptFault::BadId),
+        ("star 1\nwindow 1\nlist 1 \n", 3, ScriptFault::BadLabels),
+        ("star 1\nwindow 1\nlist 1 red\n", 3, ScriptFault::BadLabels),
+        ("star 1\nwindow 1\nlist 1 \"\"\n", 3, ScriptFault::BadLabels),
+        (
+            "star 1\nwindow 1\nlist 1 \"red\" \n",
+            3,
+            ScriptFault::BadLabels,
+        ),
+        (
+            "star 1\nwindow 1\nlist 1 \"red\"\"blue\"\n",
+            3,
+            ScriptFault::BadLabels,
+        ),
+        (
+            "star 1\nwindow 1\nlist 1 \"red\"  \"blue\"\n",
+            3,
+            ScriptFault::BadLabels,
+        ),
+        (
+            "star 1\nwindow 1\nlist 1 \"\\u{e9}\"\n",
+            3,
+            ScriptFault::BadLabels,
+        ),
         (
             "star 1\nwindow 1\nlist 1 \"0123456789012345678901234567890123456789012345678\"\n",
             3,
+            ScriptFault::BadLabels,
         ),
-        ("star 1\nwindow 1\ntoggle 1 yes\n", 3),
-        ("star 1\nwindow 1\ntoggle 1 on on\n", 3),
-        ("star 1\nwindow 1\nslider 1 5 4 5\n", 3),
-        ("star 1\nwindow 1\nslider 1 0 10 11\n", 3),
-        ("star 1\nwindow 1\nslider 1 0 10\n", 3),
-        ("star 1\nwindow 1\nslider 1 0 10 5 5\n", 3),
-        ("star 1\nwindow 1\nslider 1 0 2147483648 0\n", 3),
-        ("star 1\nwindows 1\n", 2),
-        ("star 1\n\n", 2),
+        (
+            "star 1\nwindow 1\ntoggle 1 yes\n",
+            3,
+            ScriptFault::BadSwitch,
+        ),
+        (
+            "star 1\nwindow 1\ntoggle 1 on on\n",
+            3,
+            ScriptFault::BadSwitch,
+        ),
+        (
+            "star 1\nwindow 1\nslider 1 5 4 5\n",
+            3,
+            ScriptFault::OutOfBounds,
+        ),
+        (
+            "star 1\nwindow 1\nslider 1 0 10 11\n",
+            3,
+            ScriptFault::OutOfBounds,
+        ),
+        (
+            "star 1\nwindow 1\nslider 1 0 10\n",
+            3,
+            ScriptFault::NoBounds,
+        ),
+        (
+            "star 1\nwindow 1\nslider 1 0 10 5 5\n",
+            3,
+            ScriptFault::BadInteger,
+        ),
+        (
+            "star 1\nwindow 1\nslider 1 0 2147483648 0\n",
+            3,
+            ScriptFault::BadInteger,
+        ),
     ] {
-        is_bad_at(&rt, rt.alloc(), script, line, "");
+        is_bad_at(&rt, rt.alloc(), script, ScriptEnd::Bad(line, fault), "");
     }
 }
 
 // The line is bad behind the start.
-fn is_bad_event(rt: &impl Abort, alloc: Global, line: &str) {
+fn is_bad_event(rt: &impl Abort, alloc: Global, line: &str, fault: ScriptFault) {
     let script = format!(in alloc; "{START}{line}").expect(rt, "memory");
-    is_bad_at(rt, alloc, script.as_str(), 6, "joined 1\njoined 2\n");
+    let end = ScriptEnd::Bad(6, fault);
+    is_bad_at(rt, alloc, script.as_str(), end, "joined 1\njoined 2\n");
 }
 
 #[test]
-fn a_bad_event_is_told_by_its_line(rt: HostRuntime) {
-    for line in [
-        "join 1\nshow\n",
-        "leave\nshow\n",
-        "leave 01\nshow\n",
-        "leave 4294967296\nshow\n",
-        "edit 1\nshow\n",
-        "edit 1 sync\nshow\n",
-        "edit ins 1 1 0 char \"a\"\nshow\n",
-        "edit 1 ins 1 1 0 char \"ab\"\nshow\n",
-        "edit 1 del 1 1 -1\nshow\n",
-        "up\nshow\n",
-        "up 1 \nshow\n",
-        "down x\nshow\n",
-        "ping 1\nshow\n",
-        "ping 1 7 8\nshow\n",
-        "pushup 1\nshow\n",
-        "pushup 1 -1\nshow\n",
-        "pushdown 1 4294967296\nshow\n",
-        "drain 1\nshow\n",
-        "shows\nshow\n",
-        "window 2\nshow\n",
-        "toggle 3 on\nshow\n",
-        "\nshow\n",
-        "show",
+fn a_bad_event_is_told_by_its_line_and_what_is_wrong(rt: HostRuntime) {
+    for (line, fault) in [
+        ("join 1\nshow\n", ScriptFault::NoEvent),
+        ("leave\nshow\n", ScriptFault::NoEvent),
+        ("leave 01\nshow\n", ScriptFault::BadNumber),
+        ("leave 4294967296\nshow\n", ScriptFault::BadNumber),
+        ("edit 1\nshow\n", ScriptFault::NoCommand),
+        ("edit 1 sync\nshow\n", ScriptFault::NoCommand),
+        ("edit ins 1 1 0 char \"a\"\nshow\n", ScriptFault::BadNumber),
+        (
+            "edit 1 ins 1 1 0 char \"ab\"\nshow\n",
+            ScriptFault::NoCommand,
+        ),
+        ("edit 1 del 1 1 -1\nshow\n", ScriptFault::NoCommand),
+        ("edit 1 batch\nshow\n", ScriptFault::NoBatch),
+        ("edit 1 batch 65\nshow\n", ScriptFault::NoBatch),
+        ("edit 1 batch 02\nshow\n", ScriptFault::NoBatch),
+        ("up\nshow\n", ScriptFault::NoEvent),
+        ("up 1 \nshow\n", ScriptFault::BadNumber),
+        ("down x\nshow\n", ScriptFault::BadNumber),
+        ("ping 1\nshow\n", ScriptFault::BadNumber),
+        ("ping 1 7 8\nshow\n", ScriptFault::BadNumber),
+        ("pushup 1\nshow\n", ScriptFault::BadNumber),
+        ("pushup 1 -1\nshow\n", ScriptFault::BadNumber),
+        ("pushdown 1 4294967296\nshow\n", ScriptFault::BadNumber),
+        ("drain 1\nshow\n", ScriptFault::NoEvent),
+        ("shows\nshow\n", ScriptFault::NoEvent),
+        ("window 2\nshow\n", ScriptFault::NoEvent),
+        ("toggle 3 on\nshow\n", ScriptFault::NoEvent),
+        ("\nshow\n", ScriptFault::NoEvent),
+        ("show", ScriptFault::Unended),
     ] {
-        is_bad_event(&rt, rt.alloc(), line);
+        is_bad_event(&rt, rt.alloc(), line, fault);
+    }
+}
+
+#[test]
+fn a_bad_line_of_a_batch_is_told_by_its_number_and_what_is_wrong(rt: HostRuntime) {
+    for (lines, bad, fault) in [
+        ("edit 1 batch 1\n", 7, ScriptFault::Missing),
+        ("edit 1 batch 1\nup 1\n", 7, ScriptFault::NoCommand),
+        ("edit 1 batch 1\ndel 1 1 0", 7, ScriptFault::Unended),
+        (
+            "edit 1 batch 2\ndel 1 1 0\nedit 1 del 1 1 0\n",
+            8,
+            ScriptFault::NoCommand,
+        ),
+    ] {
+        let alloc = rt.alloc();
+        let script = format!(in alloc; "{START}{lines}").expect(&rt, "memory");
+        let end = ScriptEnd::Bad(bad, fault);
+        is_bad_at(&rt, alloc, script.as_str(), end, "joined 1\njoined 2\n");
     }
 }
 
@@ -159,7 +246,8 @@ fn a_window_has_at_most_64_widgets_and_a_board_64_windows(rt: HostRuntime) {
         let full = counted(&rt, alloc, start, word, value, 64);
         prints(&rt, alloc, full.as_str(), "");
         let over = counted(&rt, alloc, start, word, value, 65);
-        is_bad_at(&rt, alloc, over.as_str(), bad, "");
+        let end = ScriptEnd::Bad(bad, ScriptFault::TooMany);
+        is_bad_at(&rt, alloc, over.as_str(), end, "");
     }
 }
 
@@ -184,8 +272,12 @@ fn end_of_long(
 
 #[test]
 fn a_text_or_a_list_has_at_most_65536_items(rt: HostRuntime) {
-    for (start, item, end) in [("text 1 \"", "z", "\"\n"), ("list 1", " \"z\"", "\n")] {
-        for (count, played) in [(65_536, Ok(())), (65_537, Err(ScriptEnd::Bad(3)))] {
+    for (start, item, end, fault) in [
+        ("text 1 \"", "z", "\"\n", ScriptFault::LongText),
+        ("list 1", " \"z\"", "\n", ScriptFault::BadLabels),
+    ] {
+        let over = Err(ScriptEnd::Bad(3, fault));
+        for (count, played) in [(65_536, Ok(())), (65_537, over)] {
             assert_eq!(rt;
                 end_of_long(&rt, rt.alloc(), start, item, count, end),
                 played

@@ -1,12 +1,12 @@
 //! What a world tells beside its boards: its order, its trace, what its sites wait for; and its bounds. Whole runs that were
 //! worked out by hand are scripts of `examples/`.
 use super::boards::{
-    LIMIT, all_show, deletes, drain, edits, gives, is_quiet, made, reads, sets, types, world_of,
+    LIMIT, all_show, deletes, drain, edits, gives, is_quiet, made, sets, types, world_of,
 };
 use jup_star::{Entry, OpenFault, StarFault};
 use jup_value::Name;
 use jup_window::{Board, EditFault, Effect, Setting, Widget};
-use jup_world::{Event, Halted, Reply, World};
+use jup_world::{Event, Reply, World};
 use std::alloc::Global;
 use std::process::Abort;
 use test_boards::board_of;
@@ -242,39 +242,6 @@ fn a_world_is_opened_on_a_layout_with_a_limit(rt: HostRuntime) {
     for limit in [1, 16_777_216] {
         let world = world_of(&rt, alloc, limit, "text 1 \"\"", 0);
         assert!(rt; is_quiet(&world) && world.trace().is_empty());
-    }
-}
-
-// Run this with each allocation refused in turn: what was done stands, and the rest goes on from there.
-#[test]
-fn a_run_that_lacks_memory_goes_on(rt: HostRuntime) {
-    let alloc = rt.alloc();
-    let mut world = world_of(&rt, alloc, LIMIT, "text 1 \"\"", 0);
-    let events = [
-        Event::Join,
-        Event::Join,
-        types(1, 0, 'a'),
-        types(1, 1, 'b'),
-        types(2, 0, 'x'),
-        types(2, 1, 'y'),
-        Event::Up(1),
-        Event::Up(2),
-        Event::Up(1),
-        Event::Up(2),
-    ];
-    let events = events.as_slice();
-    if let Err(Halted { done }) = world.run(alloc, events) {
-        assert_eq!(rt; world.trace().len(), done);
-        assert!(rt; done < events.len());
-        assert_eq!(rt; world.run(alloc, &events[done..]), Ok(()));
-    }
-    assert_eq!(rt; world.trace().len(), 10);
-    if world.drain(alloc).is_err() {
-        drain(&rt, alloc, &mut world);
-    }
-    assert!(rt; is_quiet(&world));
-    for number in 0..3 {
-        assert!(rt; reads(&world, number, "xyab"));
     }
 }
 

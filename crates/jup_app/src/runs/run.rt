@@ -1,5 +1,6 @@
 //! Whole runs.
 ghost use Rattle.std.specs.Prelude.{◌≡◌, ◌≤◌, [], ◌∷◌, length, map, IfOk};
+ghost use Rattle.jup_limits.specs.Limits.{highest_limit};
 ghost use Rattle.jup_batch.specs.BatchBoards.{bare};
 ghost use Rattle.jup_window.specs.Entries.{EachWidget};
 ghost use Rattle.jup_star.specs.StarStates.{opened_star};
@@ -16,15 +17,13 @@ use crate::runs::seating::seat_all;
 use crate::runs::stop::Stop;
 use crate::runs::threads::play_all;
 use jup_hub::Hub;
+use jup_limits::MOST_ATTACHED;
 use jup_session::Gate;
 use jup_star::{Star, is_short};
 use jup_window::{Board, Command};
 use std::alloc::Global;
 use std::sync::Wait;
 use std::thread::Threads;
-
-/// The most sites of a run.
-const MOST_SITES: usize = 64;
 
 /// How a run ended: the star, and the sites in the order of their scripts.
 #[derive(Drop)]
@@ -74,7 +73,7 @@ pub fn run_many<R: Threads + Wait + Sync, G: Gate + Sync>(
     ensures agree { IfOk result (λ end. AllAgree (bare board) end.star end.sites.items) }
     ensures refusal { RefusedFirst (many_refusal (length scripts.now) (bare board) limit) result }
 {
-    if scripts.is_empty() || scripts.len() > MOST_SITES {
+    if scripts.is_empty() || scripts.len() > MOST_ATTACHED {
         return Err(RunFault::BadSites);
     }
     let _short = is_short(&board);
@@ -104,7 +103,7 @@ fn run_sites<R: Threads + Wait + Sync, G: Gate + Sync>(
 ) -> Result<RunEnd, Stop>
     requires new { star ≡ opened_star star.board star.limit }
     requires opening { IsOpening star.board }
-    requires limited { star.limit ≤ 16777216 }
+    requires limited { star.limit ≤ highest_limit }
     ensures agree { IfOk result (λ end. AllAgree star.board end.star end.sites.items) }
     ensures run { IfOk result (λ end. IsRun star.board star.limit (map (λ s. s.now) scripts.now) end.star end.sites.items) }
 {

@@ -23,7 +23,7 @@ pub fn client_main<
     let addr = match client_words(alloc, words) {
         Ok(addr) => addr,
         Err(error) if error.kind() == ErrorKind::OutOfMemory => {
-            return told(errors, ClientEnd::NoMemory);
+            return tell(errors, ClientEnd::NoMemory);
         }
         Err(error) if error.use_stderr() => {
             let _ = write!(errors, "{error}");
@@ -32,30 +32,28 @@ pub fn client_main<
         Err(help) => {
             return match write!(out, "{help}") {
                 Ok(()) => 0,
-                Err(_) => told(errors, ClientEnd::WriteFailed),
+                Err(_) => tell(errors, ClientEnd::WriteFailed),
             };
         }
     };
-    match connected(rt, alloc, addr.as_str(), input, out) {
+    match run_over_socket(rt, alloc, addr.as_str(), input, out) {
         Ok(()) => 0,
-        Err(ClientEnd::Fault(number)) => {
-            if writeln!(out, "fault {number}").is_err() || out.flush().is_err() {
-                return told(errors, ClientEnd::WriteFailed);
-            }
-            ClientEnd::Fault(number).status()
+        Err(end @ ClientEnd::Fault(_)) => tell_fault(out, errors, end),
+        Err(ClientEnd::Unconnected) => {
+            let status = tell(errors, ClientEnd::Unconnected);
+            let _ = writeln!(errors, "cannot connect to {addr}");
+            status
         }
-        Err(end) => told(errors, end),
+        Err(end) => tell(errors, end),
     }
 }
 
 // Runs the client over a connection of its own.
-fn connected<R: Net<Listener = TcpListener, Stream = TcpStream> + Clock, C: Read + Drop, O: Write>(
-    rt: &R,
-    alloc: Global,
-    addr: &str,
-    input: C,
-    out: &mut O,
-) -> Result<(), ClientEnd> {
+fn run_over_socket<
+    R: Net<Listener = TcpListener, Stream = TcpStream> + Clock,
+    C: Read + Drop,
+    O: Write,
+>(rt: &R, alloc: Global, addr: &str, input: C, out: &mut O) -> Result<(), ClientEnd> {
     let stream = match TcpStream::connect(rt, addr) {
         Ok(stream) => stream,
         Err(error) => return Err(ClientEnd::unconnected(&error)),
@@ -66,10 +64,28 @@ fn connected<R: Net<Listener = TcpListener, Stream = TcpStream> + Clock, C: Read
     end
 }
 
+// Tells a fault on standard output, and on standard error what it is; answers the exit status.
+fn tell_fault<O: Write, E: Write>(out: &mut O, errors: &mut E, end: ClientEnd) -> u8
+    ensures { result ≤ 4 }
+{
+    if writeln!(out, "{end}").is_err() || out.flush().is_err() {
+        return tell(errors, ClientEnd::WriteFailed);
+    }
+    explain(errors, end);
+    end.status()
+}
+
 // Tells why on standard error, and answers the exit status.
-fn told<E: Write>(errors: &mut E, end: ClientEnd) -> u8
+fn tell<E: Write>(errors: &mut E, end: ClientEnd) -> u8
     ensures { result ≤ 4 }
 {
     let _ = writeln!(errors, "{end}");
+    explain(errors, end);
     end.status()
+}
+
+fn explain<E: Write>(errors: &mut E, end: ClientEnd) {
+    if let Some(cause) = end.cause() {
+        let _ = writeln!(errors, "{cause}");
+    }
 }

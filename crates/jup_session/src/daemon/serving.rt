@@ -1,5 +1,6 @@
 //! The daemon's run.
 ghost use Rattle.std.specs.Prelude.{◌≡◌, ◌≤◌, IfOk, vec_len};
+ghost use Rattle.jup_limits.specs.Limits.{longest_input};
 ghost use Rattle.jup_hub.specs.Passes.{IsPassOf};
 
 use super::telling::tell;
@@ -7,18 +8,16 @@ use crate::sessions::hangup::hang_up;
 use crate::sessions::outgoing::Outgoing;
 use crate::{Bell, Open, serve_link};
 use jup_hub::{Hub, Pass};
-use jup_rules::{DaemonEnd, daemon_words, report_text, star_of_layout};
+use jup_limits::LONGEST_INPUT;
+use jup_rules::{Attempt, DaemonEnd, DaemonWords, daemon_words, report_text, star_of_layout};
 use jup_star::Star;
 use std::alloc::Global;
 use std::io::{Read, Write};
 use std::net::{Net, TcpListener, TcpStream};
 use std::sync::Wait;
-use std::thread;
 use std::thread::Threads;
 use std::time::Clock;
-
-/// The longest layout, in bytes.
-const LONGEST_LAYOUT: u64 = 16_777_216;
+use std::{io, thread};
 
 /// Serves as the words say a board whose layout is the input, and answers the exit status: 0 after the last
 /// session, 1 for a failed read, write, bind or accept, 2 for the words, 3 for memory, 5 for the layout, 6
@@ -31,10 +30,19 @@ pub fn daemon_main<
 >(rt: &R, alloc: Global, words: &[String], input: I, out: &mut O, errors: &mut E) -> u8
     ensures { result ≤ 6 }
 {
-    match serve(rt, alloc, words, input, out) {
-        Ok(()) => 0,
-        Err(end) => tell(&end, out, errors),
+    let told = match daemon_words(alloc, words) {
+        Ok(told) => told,
+        Err(error) => return tell(&DaemonEnd::from(error), out, errors),
+    };
+    let Err(end) = serve(rt, alloc, &told, input, out) else {
+        return 0;
+    };
+    let status = tell(&end, out, errors);
+    if matches!(end, DaemonEnd::Io(Attempt::Listen)) {
+        let listen = &told.listen;
+        let _ = writeln!(errors, "cannot listen at {listen}");
     }
+    status
 }
 
 // Serves all sessions, and prints the order's length and the board.
@@ -42,18 +50,18 @@ fn serve<
     R: Net<Listener = TcpListener, Stream = TcpStream> + Threads + Wait + Clock + Sync,
     I: Read + Drop,
     O: Write,
->(rt: &R, alloc: Global, words: &[String], input: I, out: &mut O) -> Result<(), DaemonEnd> {
-    let told = daemon_words(alloc, words)?;
+>(rt: &R, alloc: Global, told: &DaemonWords, input: I, out: &mut O) -> Result<(), DaemonEnd> {
     let text = read_layout(alloc, input)?;
     let star = star_of_layout(alloc, text.as_slice(), told.limit)?;
     drop(text);
-    let listener = TcpListener::bind(rt, told.listen.as_str())?;
+    let listener = match TcpListener::bind(rt, told.listen.as_str()) {
+        Ok(listener) => listener,
+        Err(error) => return Err(DaemonEnd::failed(Attempt::Listen, &error)),
+    };
     let Ok((hub, pass)) = Hub::open(alloc, star) else {
         return Err(DaemonEnd::NoMemory);
     };
-    let listen = &told.listen;
-    writeln!(out, "listening {listen}")?;
-    out.flush()?;
+    announce(&told.listen, out).map_err(|error| DaemonEnd::failed(Attempt::Print, &error))?;
     let pass = serve_all(rt, alloc, listener, &hub, pass, told.sessions)?;
     match hub.close(pass) {
         Ok(closed) => report(alloc, &closed.star, out),
@@ -63,22 +71,33 @@ fn serve<
 
 // The text of the layout.
 fn read_layout<I: Read + Drop>(alloc: Global, input: I) -> Result<Vec<u8>, DaemonEnd>
-    ensures { IfOk result (λ text. vec_len text ≤ 16777216) }
+    ensures { IfOk result (λ text. vec_len text ≤ longest_input) }
 {
     let mut text = Vec::new(alloc);
-    input.take(LONGEST_LAYOUT + 1).read_to_end(&mut text)?;
-    if text.len() as u64 > LONGEST_LAYOUT {
+    if let Err(error) = input.take(LONGEST_INPUT + 1).read_to_end(&mut text) {
+        return Err(DaemonEnd::failed(Attempt::ReadLayout, &error));
+    }
+    if text.len() as u64 > LONGEST_INPUT {
         return Err(DaemonEnd::LongLayout);
     }
     Ok(text)
 }
 
+// Prints that sessions may come.
+fn announce<O: Write>(listen: &str, out: &mut O) -> io::Result<()> {
+    writeln!(out, "listening {listen}")?;
+    out.flush()
+}
+
 // Prints how many edits were taken, and the board.
 fn report<O: Write>(alloc: Global, star: &Star, out: &mut O) -> Result<(), DaemonEnd> {
     let text = report_text(alloc, star)?;
-    out.write_all(text.as_slice())?;
-    out.flush()?;
-    Ok(())
+    print(text.as_slice(), out).map_err(|error| DaemonEnd::failed(Attempt::Print, &error))
+}
+
+fn print<O: Write>(text: &[u8], out: &mut O) -> io::Result<()> {
+    out.write_all(text)?;
+    out.flush()
 }
 
 // Accepts the sessions, each in a thread of its own. The scope waits for all that run, on each way out. Nobody
@@ -104,7 +123,10 @@ fn serve_all<R: Threads + Wait + Clock + Sync>(
             ensures { IfOk result (λ p. IsPassOf hub.entry.now p) }
         {
             for _ in 0..sessions {
-                let (stream, _) = listener.accept()?;
+                let (stream, _) = match listener.accept() {
+                    Ok(accepted) => accepted,
+                    Err(error) => return Err(DaemonEnd::failed(Attempt::Accept, &error)),
+                };
                 let theirs = hub.split(&mut pass);
                 let child = scope.spawn(
                     move ||

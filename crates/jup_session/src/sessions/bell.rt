@@ -1,15 +1,14 @@
 //! A bell that wakes all who wait for news, or one site.
 
+use jup_limits::MOST_ATTACHED;
 use std::array;
 use std::sync::{Condvar, Mutex, Wait};
 
-/// Places at a bell. Up to 64 sites are attached at a time; those whose numbers follow one another have one each.
-const PLACES: usize = 64;
-
-/// Rings at all places, or where one site waits. Each place counts its rings, wrapping.
+/// Rings at all places, or where one site waits. Each place counts its rings, wrapping. There are as many places as sites are
+/// attached at a time, and sites whose numbers follow one another wait each at its own.
 #[derive(Drop)]
 pub struct Bell {
-    places: [Place; PLACES],
+    places: [Place; MOST_ATTACHED],
 }
 
 /// Where some sites wait.
@@ -64,6 +63,6 @@ impl Bell {
     }
 
     fn place(&self, site: u32) -> &Place {
-        &self.places[site as usize % PLACES]
+        &self.places[site as usize % MOST_ATTACHED]
     }
 }

@@ -9,15 +9,16 @@ use super::output::Output;
 use super::source::Source;
 use super::writing::tell;
 use jup_hub::{Hub, Pass};
-use jup_rules::{Ending, SessionFault};
+use jup_layout::put_board;
+use jup_rules::{Ending, SessionFault, greeted};
 use jup_star::Joined;
-use jup_wire::{Line, LineSink, put_board};
+use jup_wire::{Line, LineSink};
 use std::alloc::Global;
 use std::io::{Read, Write};
 use std::sync::Wait;
 
 /// Greets the site, and answers its number. Where it comes to no session the site was told why.
-pub(crate) fn begun<R: Wait, I: Read + Drop, O: Write + Drop>(
+pub(crate) fn begin<R: Wait, I: Read + Drop, O: Write + Drop>(
     rt: &R,
     alloc: Global,
     source: &mut Source<I>,
@@ -30,7 +31,7 @@ pub(crate) fn begun<R: Wait, I: Read + Drop, O: Write + Drop>(
     ensures joined { IfOk result (λ site. Joins site (view_of pass.old) (view_of pass.new)) }
     ensures over { OnErr result (IsSession (view_of pass.old) (view_of pass.new)) }
 {
-    let joined = match greeted(rt, alloc, source, hub, pass) {
+    let joined = match greet(rt, alloc, source, hub, pass) {
         Ok(joined) => joined,
         Err(ending) => {
             let _ = tell(output, ending);
@@ -48,7 +49,7 @@ pub(crate) fn begun<R: Wait, I: Read + Drop, O: Write + Drop>(
 }
 
 // Reads the first line, and joins.
-fn greeted<R: Wait, I: Read + Drop>(
+fn greet<R: Wait, I: Read + Drop>(
     rt: &R,
     alloc: Global,
     source: &mut Source<I>,
@@ -60,10 +61,8 @@ fn greeted<R: Wait, I: Read + Drop>(
     ensures joined { IfOk result (λ joined. Joins joined.site (view_of pass.old) (view_of pass.new)) }
     ensures over { OnErr result (IsSession (view_of pass.old) (view_of pass.new)) }
 {
-    let is_greeting = matches!(source.next_line(alloc)?, Line::Hello);
-    if !is_greeting {
-        return Err(SessionFault::Misplaced.into());
-    }
+    let first = source.next_line(alloc)?;
+    greeted(&first)?;
     match hub.join_site(rt, alloc, pass) {
         Ok(joined) => Ok(joined),
         Err(fault) => Err(SessionFault::Hub(fault).into()),

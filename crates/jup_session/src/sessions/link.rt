@@ -41,7 +41,7 @@ impl<'a> Link<'a> {
     }
 
     /// Takes in the pass of the other half.
-    pub(crate) fn rejoined(&self, mut pass: Pass, other: Pass) -> Pass
+    pub(crate) fn rejoin(&self, mut pass: Pass, other: Pass) -> Pass
         requires one { IsPassOf self.now.hub.now pass }
         requires two { IsPassOf self.now.hub.now other }
         ensures pass { IsPassOf self.now.hub.now result }
@@ -85,7 +85,7 @@ impl<'a> Link<'a> {
     }
 
     /// Counts pongs that were written, and rings where the other half may wait for that.
-    pub(crate) fn pay<R: Wait>(&self, rt: &R, pongs: u32) {
+    pub(crate) fn pay<R: Wait>(&self, rt: &R, pongs: usize) {
         let may_wait = self.pongs.lock(rt).pay(pongs);
         if may_wait {
             self.ring(rt);

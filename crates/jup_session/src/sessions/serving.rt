@@ -4,7 +4,7 @@ ghost use Rattle.jup_hub.specs.Passes.{view_of, IsPassOf};
 ghost use Rattle.jup_session.specs.Sessions.{HasMadeNone, HasServed, BothServe, IsSession};
 
 use super::Bell;
-use super::greeting::begun;
+use super::greeting::begin;
 use super::link::Link;
 use super::output::Output;
 use super::reading::read_half;
@@ -47,7 +47,7 @@ pub fn serve_link<R: Threads + Wait + Sync, I: Read + Drop, O: Write + Send + Dr
         }
     };
     let mut source = Source::new(reader);
-    let site = match begun(rt, alloc, &mut source, &mut output, hub, &mut pass) {
+    let site = match begin(rt, alloc, &mut source, &mut output, hub, &mut pass) {
         Ok(site) => site,
         Err(ending) => return (pass, ending),
     };
@@ -114,7 +114,7 @@ fn both_halves<R: Threads + Wait + Sync, I: Read + Drop, O: Write + Send + Drop,
                     (refused.value)()
                 }
             };
-            link.rejoined(pass, theirs)
+            link.rejoin(pass, theirs)
         },
     )
 }

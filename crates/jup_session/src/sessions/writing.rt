@@ -1,15 +1,19 @@
 //! The half of a session that fetches and writes.
 ghost use Rattle.std.specs.Prelude.{◌≡◌, ◌↔◌, [], ◌∷◌, IsTrue, OnOk};
+ghost use Rattle.std.specs.List.{flat_map};
 ghost use Rattle.jup_hub.specs.Passes.{view_of, IsPassOf};
 ghost use Rattle.jup_rules.specs.Endings.{last_line};
+ghost use Rattle.jup_rules.specs.Messages.{down_lines};
 ghost use Rattle.jup_session.specs.Outputs.{PutsLines};
 ghost use Rattle.jup_session.specs.Sessions.{Serves, Leaves, HasMadeNone, HasServed};
 
 use super::link::Link;
 use super::output::Output;
-use jup_hub::{HubFault, Pass};
-use jup_rules::{BATCH, Ending, SessionFault, is_last_batch, put_down};
-use jup_star::{Down, Downs, StarFault};
+use jup_hub::Pass;
+use jup_rules::{
+    Ending, MOST_FETCHED, SessionFault, is_last_fetch, pongs_in, put_downs, refused_fetch,
+};
+use jup_star::Down;
 use jup_wire::LineSink;
 use std::io::Write;
 use std::sync::Wait;
@@ -34,7 +38,7 @@ pub(crate) fn write_half<R: Wait, O: Write + Drop>(
     ensures pass { IsPassOf link.now.hub.now result }
     ensures served { HasServed link.now.site (view_of result) }
 {
-    let left = forwarded(rt, &mut output, link, &mut pass);
+    let left = forward_all(rt, &mut output, link, &mut pass);
     let is_gone = is_gone(&left);
     // Noted before the site leaves: the other half notes nothing where it finds the link gone.
     if let Err(fault) = left {
@@ -70,7 +74,7 @@ pub(crate) fn tell<O: Write + Drop>(
 }
 
 // Forwards at each ring, up to a noted ending.
-fn forwarded<R: Wait, O: Write + Drop>(
+fn forward_all<R: Wait, O: Write + Drop>(
     rt: &R,
     output: &mut Output<O>,
     link: &Link<'_>,
@@ -110,14 +114,20 @@ fn forward<R: Wait, O: Write + Drop>(
     ensures gone { result ≡ Ok Outbox.Gone → Leaves link.now.site (view_of pass.old) (view_of pass.new) }
 {
     for _ in rt.forever() {
-        let downs = match link.hub.fetch(rt, link.alloc, pass, link.site, BATCH) {
+        let downs = match link
+            .hub
+            .fetch(rt, link.alloc, pass, link.site, MOST_FETCHED)
+        {
             Ok(downs) => downs,
-            Err(HubFault::Star(StarFault::NoLink)) => return Ok(Outbox::Gone),
-            Err(fault) => return Err(SessionFault::Hub(fault)),
+            Err(fault) => match refused_fetch(fault) {
+                Some(fault) => return Err(fault),
+                None => return Ok(Outbox::Gone),
+            },
         };
-        let is_last = is_last_batch(downs.as_slice().len());
-        let pongs = write_downs(output, downs)?;
-        link.pay(rt, pongs);
+        let messages = downs.as_slice();
+        let is_last = is_last_fetch(messages.len());
+        write_downs(output, messages)?;
+        link.pay(rt, pongs_in(messages));
         if is_last {
             return Ok(Outbox::Empty);
         }
@@ -125,18 +135,13 @@ fn forward<R: Wait, O: Write + Drop>(
     unreachable!()
 }
 
-// Writes messages, in order, and answers how many of them were pongs.
-fn write_downs<O: Write + Drop>(output: &mut Output<O>, downs: Downs) -> Result<u32, SessionFault> {
-    let mut pongs = 0u32;
-    if downs.as_slice().is_empty() {
-        return Ok(pongs);
+// Writes messages, in order.
+fn write_downs<O: Write + Drop>(output: &mut Output<O>, downs: &[Down]) -> Result<(), SessionFault>
+    ensures { OnOk result (PutsLines output.old (flat_map down_lines downs.now) output.new) }
+{
+    if downs.is_empty() {
+        return Ok(());
     }
-    for down in downs.into_messages() {
-        if matches!(down, Down::Pong(_)) {
-            pongs = pongs.saturating_add(1);
-        }
-        put_down(output, &down)?;
-    }
-    output.send()?;
-    Ok(pongs)
+    put_downs(output, downs)?;
+    output.send()
 }

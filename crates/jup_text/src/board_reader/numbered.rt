@@ -1,9 +1,10 @@
 //! Sequences that are filled at their end with the items of a layout.
+ghost use Rattle.std.specs.Prelude.{◌≡◌, ◌+◌, [], ◌∷◌, ◌++◌, OnOk};
 ghost use Rattle.jup_text.specs.Numbering.{IsNumberedTo};
 
 use super::Untaken;
+use jup_limits::LONGEST_SEQUENCE;
 use jup_value::{Item, Name, Seq};
-use jup_window::LONGEST_SEQUENCE;
 use std::alloc::Global;
 
 /// A sequence of items of site 0, whose numbers are at most `last`, so that the next number is new.
@@ -16,7 +17,10 @@ pub(crate) struct Numbered<V> {
 
 impl<V: Copy> Numbered<V> {
     /// No item yet. It takes no memory.
-    pub(crate) fn new(alloc: Global, last: u32) -> Self {
+    pub(crate) fn new(alloc: Global, last: u32) -> Self
+        ensures none { result.items.items ≡ [] }
+        ensures last { result.last ≡ last }
+    {
         Numbered {
             items: Seq::new(alloc),
             last,
@@ -24,17 +28,25 @@ impl<V: Copy> Numbered<V> {
     }
 
     /// The number of the last item.
-    pub(crate) fn last(&self) -> u32 {
+    pub(crate) fn last(&self) -> u32
+        ensures { result ≡ self.now.last }
+    {
         self.last
     }
 
-    pub(crate) fn into_items(self) -> Seq<V> {
+    pub(crate) fn into_items(self) -> Seq<V>
+        ensures { result.items ≡ self.items.items }
+    {
         self.items
     }
 
     /// Puts one item more at the end, under the next number. Refused: a sequence of 65,536 items, no
     /// memory.
-    pub(crate) fn push(&mut self, value: V) -> Result<(), Untaken> {
+    pub(crate) fn push(&mut self, value: V) -> Result<(), Untaken>
+        ensures items { OnOk result (self.new.items.items
+            ≡ self.old.items.items ++ (record { name = record { site = 0; number = self.old.last + 1 }; value = value }) ∷ []) }
+        ensures last { OnOk result (self.new.last ≡ self.old.last + 1) }
+    {
         let place = self.items.len();
         if place >= LONGEST_SEQUENCE || self.last == u32::MAX {
             return Err(Untaken::BadLine);

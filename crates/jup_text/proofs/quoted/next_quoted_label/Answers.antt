@@ -41,9 +41,9 @@ returns-then-value-gt126-clause-none c =
     let next = c.in-Some.ensures.read in
     no_more_label c.args.text.now (take c.loop-value.len c.loop-value.bytes) c.loop-value.rest.now c.in-Some.later.now c.in-Some.value c.loop-value.invariant.read next.0 next.1 (inr c.if-value-gt126.true)
 
-pub returns-in_err-opened-clause-none : goal.returns-in_err-opened-clause-none
-returns-in_err-opened-clause-none c = rw c.from_residual-in_err-opened.ensures
-    (no_label_read c.args.text.now (take c.loop-value.len c.loop-value.bytes) c.loop-value.rest.now c.loop-value.invariant.read c.in_default.ensures.none (λ is. c.in_err-opened.ensures))
+pub returns-in_err-behind_quote-clause-none : goal.returns-in_err-behind_quote-clause-none
+returns-in_err-behind_quote-clause-none c = rw c.from_residual-in_err-behind_quote.ensures
+    (no_label_read c.args.text.now (take c.loop-value.len c.loop-value.bytes) c.loop-value.rest.now c.loop-value.invariant.read c.in_default.ensures.none (λ is. c.in_err-behind_quote.ensures))
 
 pub returns-in_default-read-clause-none : goal.returns-in_default-read-clause-none
 returns-in_default-read-clause-none c =

@@ -12,9 +12,9 @@ returns-clause-served g c =
     elim c.if-not-is_gone.branch [
       | then-not-is_gone w ↦ subst (λ (p : Pass). HasServed site (view_of p)) (sym w.pass-is)
           (served_alone site (view_of c.args.pass) (view_of w.leave.new.pass) c.requires.new
-          (leaves_after site (view_of c.args.pass) (view_of c.forwarded-left.new.pass) (view_of w.leave.new.pass) c.forwarded-left.ensures.serves
-          (leaves_by_leaving site (view_of c.forwarded-left.new.pass) (view_of w.leave.new.pass) w.leave.result w.leave.ensures.made w.leave.ensures.memory)))
+          (leaves_after site (view_of c.args.pass) (view_of c.forward_all-left.new.pass) (view_of w.leave.new.pass) c.forward_all-left.ensures.serves
+          (leaves_by_leaving site (view_of c.forward_all-left.new.pass) (view_of w.leave.new.pass) w.leave.result w.leave.ensures.made w.leave.ensures.memory)))
       | else-not-is_gone w ↦ subst (λ (p : Pass). HasServed site (view_of p)) (sym w.pass-is)
-          (served_alone site (view_of c.args.pass) (view_of c.forwarded-left.new.pass) c.requires.new
-          (c.forwarded-left.ensures.gone (c.is_gone-is_gone.ensures.0 w.if-not-is_gone.false)))
+          (served_alone site (view_of c.args.pass) (view_of c.forward_all-left.new.pass) c.requires.new
+          (c.forward_all-left.ensures.gone (c.is_gone-is_gone.ensures.0 w.if-not-is_gone.false)))
     ]

@@ -4,7 +4,7 @@ use Rattle.jup_world.specs.BoardWorlds.{BoardAttached}
 use Rattle.jup_world.specs.WorldFields.{lane_of}
 use Rattle.jup_world.specs.NumberedReplies.{lane_event, numbered_reply, noted_trace}
 use Rattle.jup_world.specs.Happenings.{AreReady}
-use Rattle.jup_world.specs.LaneWorlds.{LaneEvent, messages_of}
+use Rattle.jup_world.specs.LaneWorlds.{messages_of}
 use Rattle.jup_world.specs.LaneSteps.{Steps}
 use Rattle.jup_world.proofs.CallFacts.{on_err}
 use Rattle.jup_world.proofs.WorldKept.{world_ready}
@@ -37,9 +37,7 @@ made : (c : goal.After-keep) → Steps (the_view c.self.inside) (lane_event c.ar
     (record { opening = (the_view c.self.inside).opening; star = c.happen.new.star; sites = map lane_of c.happen.new.sites.items; trace = noted_trace c.keep.new.trace.items })
 made c =
     played_lanes (the_view c.self.inside) (lane_event c.args.event.now) (numbered_reply c.in_ok-reply.reply) c.happen.new.star c.happen.new.sites.items _ c.in_ok-reply.ensures.plays c.in_ok-reply.ensures.read
-    (c.keep.ensures
-    ∙ ap (λ (e : LaneEvent). noted_trace c.reserve.new.self.items ++ record { event = e; reply = numbered_reply c.in_ok-reply.reply } ∷ []) c.in_ok-note.ensures.event
-    ∙ ap (λ h. h ++ record { event = lane_event c.args.event.now; reply = numbered_reply c.in_ok-reply.reply } ∷ []) (ap noted_trace c.reserve.ensures.items))
+    (c.keep.ensures ∙ ap (λ h. h ++ record { event = lane_event c.args.event.now; reply = numbered_reply c.in_ok-reply.reply } ∷ []) (ap noted_trace c.reserve.ensures.items))
     c.self.invariant.carry
 
 pub invariant_of-self-2 : goal.invariant_of-self-2

@@ -1,0 +1,236 @@
+//! Growths of sequences, operations, batches and boards that are refused, each test for the call of its name. `./growths` refuses one after another of
+//! those between the two marks: a call that lacks memory leaves all as it was, and made again it gives its answer.
+use crate::batches::{insert_next, on_text, text_and_toggle};
+use crate::blocks::{counts, filled};
+use crate::boards::toggle;
+use crate::sequences::{attempt, insert, reads, text};
+use jup_seq::TextOp;
+use jup_value::{NoMemory, Seq};
+use jup_window::{Board, BoardFault, BoardOp, Widget};
+use jup_xform::{Batch, Few, Transform};
+use std::alloc::Global;
+use std::process::Abort;
+use test_marks::{begin, end};
+
+// Room for so many insertions is made in a sequence of so many items, which stay.
+fn makes_room(rt: &impl Abort, alloc: Global, count: u32, more: u32) {
+    let mut seq = filled(alloc, count, true).expect(rt, "memory");
+    let blocks = seq.blocks();
+    begin(alloc);
+    let mut made = seq.reserve_more(more);
+    end(alloc);
+    if made == Err(NoMemory) {
+        assert!(rt; counts(&seq, 0, count) && seq.blocks() == blocks);
+        made = seq.reserve_more(more);
+    }
+    assert_eq!(rt; made, Ok(()));
+    assert!(rt; counts(&seq, 0, count) && seq.blocks() == blocks);
+}
+
+#[test]
+fn seq_reserve_more(rt: HostRuntime) {
+    for count in [0, 1, 128, 300] {
+        makes_room(&rt, rt.alloc(), count, 40);
+    }
+}
+
+// The same, for one insertion.
+fn makes_room_for_one(rt: &impl Abort, alloc: Global, count: u32) {
+    let mut seq = filled(alloc, count, true).expect(rt, "memory");
+    begin(alloc);
+    let mut made = seq.reserve_one();
+    end(alloc);
+    if made == Err(NoMemory) {
+        assert!(rt; counts(&seq, 0, count));
+        made = seq.reserve_one();
+    }
+    assert_eq!(rt; made, Ok(()));
+    assert!(rt; counts(&seq, 0, count));
+}
+
+// The sequence of 300 items is then as long as its blocks and tables have room for.
+#[test]
+fn seq_reserve_one(rt: HostRuntime) {
+    for count in 0..300 {
+        makes_room_for_one(&rt, rt.alloc(), count);
+    }
+}
+
+#[test]
+fn seq_copy(rt: HostRuntime) {
+    let seq = filled(rt.alloc(), 300, true).expect(&rt, "memory");
+    begin(rt.alloc());
+    let mut copied = seq.copy(rt.alloc());
+    end(rt.alloc());
+    if copied.is_err() {
+        assert!(rt; counts(&seq, 0, 300));
+        copied = seq.copy(rt.alloc());
+    }
+    let copied = copied.expect(&rt, "memory");
+    assert!(rt; counts(&copied, 0, 300));
+}
+
+// Two insertions.
+fn typed() -> [TextOp; 2] {
+    [insert(0, 1, 'X'), insert_next(1, 1, 'Y')]
+}
+
+// Room for an operation is made in an empty text, which stays empty, and then the operation gives it these letters.
+fn makes_room_for<T: Transform<State = Seq<char>>>(
+    rt: &impl Abort,
+    alloc: Global,
+    op: &T,
+    letters: &str,
+)
+    requires { T.can_reserve 0 }
+{
+    let mut seq = text(alloc, "");
+    begin(alloc);
+    let mut made = op.reserve(alloc, 0, &mut seq);
+    end(alloc);
+    if made.is_err() {
+        assert!(rt; reads(&seq, ""));
+        made = op.reserve(alloc, 0, &mut seq);
+    }
+    assert!(rt; made.is_ok() && reads(&seq, ""));
+    assert!(rt; attempt(alloc, op, &mut seq) && reads(&seq, letters));
+}
+
+#[test]
+fn operation_reserve(rt: HostRuntime) {
+    makes_room_for(&rt, rt.alloc(), &insert(0, 1, 'X'), "X");
+}
+
+#[test]
+fn batch_reserve(rt: HostRuntime) {
+    let both = Batch::from_slice(rt.alloc(), &typed()).expect(&rt, "memory");
+    makes_room_for(&rt, rt.alloc(), &both, "XY");
+}
+
+#[test]
+fn batch_from_slice(rt: HostRuntime) {
+    let ops = typed();
+    begin(rt.alloc());
+    let mut both = Batch::from_slice(rt.alloc(), &ops);
+    end(rt.alloc());
+    if both.is_err() {
+        both = Batch::from_slice(rt.alloc(), &ops);
+    }
+    let both = both.expect(&rt, "memory");
+    assert_eq!(rt; both.as_slice(), ops.as_slice());
+}
+
+#[test]
+fn batch_copy(rt: HostRuntime) {
+    let both = Batch::from_slice(rt.alloc(), &typed()).expect(&rt, "memory");
+    begin(rt.alloc());
+    let mut copied = both.copy(rt.alloc());
+    end(rt.alloc());
+    if copied.is_err() {
+        copied = both.copy(rt.alloc());
+    }
+    assert!(rt; copied.expect(&rt, "memory") == both);
+}
+
+#[test]
+fn batch_edit(rt: HostRuntime) {
+    let both = Batch::from_slice(rt.alloc(), &typed()).expect(&rt, "memory");
+    begin(rt.alloc());
+    let mut edits = both.edit(rt.alloc());
+    end(rt.alloc());
+    if edits.is_err() {
+        edits = both.edit(rt.alloc());
+    }
+    let edits = edits.expect(&rt, "memory");
+    for (op, edit) in typed().iter().zip(edits.as_slice()) {
+        assert!(rt; op.edit(rt.alloc()) == Ok(*edit));
+    }
+    assert_eq!(rt; edits.as_slice().len(), 2);
+}
+
+#[test]
+fn few_from_slice(rt: HostRuntime) {
+    begin(rt.alloc());
+    let mut few = Few::from_slice(rt.alloc(), &[1u32, 2]);
+    end(rt.alloc());
+    if few.is_err() {
+        few = Few::from_slice(rt.alloc(), &[1u32, 2]);
+    }
+    let few = few.expect(&rt, "memory");
+    assert_eq!(rt; few.as_slice(), [1u32, 2].as_slice());
+}
+
+// A board of a text and a toggle, and no item.
+fn is_blank(rt: &impl Abort, alloc: Global, board: &Board) {
+    assert!(rt; board.same(&text_and_toggle(rt, alloc)));
+}
+
+#[test]
+fn board_reserve(rt: HostRuntime) {
+    let op: BoardOp = on_text(insert(0, 1, 'X'));
+    let mut board = text_and_toggle(&rt, rt.alloc());
+    begin(rt.alloc());
+    let mut made = op.reserve(rt.alloc(), 0, &mut board);
+    end(rt.alloc());
+    if made.is_err() {
+        is_blank(&rt, rt.alloc(), &board);
+        made = op.reserve(rt.alloc(), 0, &mut board);
+    }
+    assert!(rt; made.is_ok());
+    is_blank(&rt, rt.alloc(), &board);
+    assert!(rt; attempt(rt.alloc(), &op, &mut board) && board.has_site(1));
+}
+
+#[test]
+fn board_copy(rt: HostRuntime) {
+    let mut board = text_and_toggle(&rt, rt.alloc());
+    assert!(rt; attempt(rt.alloc(), &on_text(insert(0, 1, 'X')), &mut board));
+    begin(rt.alloc());
+    let mut copied = board.copy(rt.alloc());
+    end(rt.alloc());
+    if copied.is_err() {
+        copied = board.copy(rt.alloc());
+    }
+    assert!(rt; copied.expect(&rt, "memory").same(&board));
+}
+
+#[test]
+fn add_window(rt: HostRuntime) {
+    let mut board = Board::new(rt.alloc());
+    for win in 1..=64 {
+        begin(rt.alloc());
+        let mut added = board.add_window(rt.alloc(), win);
+        end(rt.alloc());
+        if added == Err(BoardFault::NoMemory) {
+            assert_eq!(rt; board.windows().len(), usize::from(win).saturating_sub(1));
+            added = board.add_window(rt.alloc(), win);
+        }
+        assert_eq!(rt; added, Ok(()));
+        assert_eq!(rt; board.windows().len(), usize::from(win));
+    }
+}
+
+// How many widgets window 1 has.
+fn widgets_of(board: &Board) -> usize {
+    match board.windows().first() {
+        Some((_, window)) => window.widgets().len(),
+        None => 0,
+    }
+}
+
+#[test]
+fn add_widget(rt: HostRuntime) {
+    let mut board = Board::new(rt.alloc());
+    board.add_window(rt.alloc(), 1).expect(&rt, "memory");
+    for wid in 1..=64 {
+        begin(rt.alloc());
+        let mut added = board.add_widget(1, wid, toggle());
+        end(rt.alloc());
+        if added == Err(BoardFault::NoMemory) {
+            assert_eq!(rt; widgets_of(&board), usize::from(wid).saturating_sub(1));
+            added = board.add_widget(1, wid, toggle());
+        }
+        assert_eq!(rt; added, Ok(()));
+        assert_eq!(rt; widgets_of(&board), usize::from(wid));
+    }
+}

@@ -1,0 +1,237 @@
+//! Growths of lines, layouts, messages and printed texts that are refused, each test for the call of its name. `./growths` refuses one after another of
+//! those between the two marks: a call that lacks memory leaves all as it was, and made again it gives its answer.
+use crate::gathering::{TOGGLED, TWO, message, pushed};
+use crate::layouts::FOUR_WIDGETS;
+use jup_gather::{Gather, Gathered, lines_of_op};
+use jup_layout::{LayoutFault, board_of, layout, lines_of};
+use jup_text::{BoardReader, Untaken, read_quoted, write_board, write_edit};
+use jup_value::Name;
+use jup_window::{Board, Edit, Effect};
+use jup_wire::{Line, Reader, WireFault, write};
+use jup_xform::{Few, NoMemory};
+use std::alloc::Global;
+use std::process::Abort;
+use test_marks::{begin, end};
+
+// Appends a line's bytes.
+fn append(alloc: Global, line: &Line, written: &mut Vec<u8>) -> Result<(), NoMemory> {
+    write(alloc, line, written)
+}
+
+#[test]
+fn line_write(rt: HostRuntime) {
+    let mut written = Vec::new(rt.alloc());
+    for _ in 0..20 {
+        let before = written.len();
+        begin(rt.alloc());
+        let mut wrote = append(rt.alloc(), &Line::Ready, &mut written);
+        end(rt.alloc());
+        if wrote.is_err() {
+            assert_eq!(rt; written.len(), before);
+            wrote = append(rt.alloc(), &Line::Ready, &mut written);
+        }
+        assert_eq!(rt; wrote, Ok(()));
+    }
+    let wanted = "ready\n".repeat(rt.alloc(), 20).expect(&rt, "memory");
+    assert_eq!(rt; written.as_slice(), wanted.as_bytes());
+}
+
+// The reader was given a line and a half, and is given the other half and a line.
+#[test]
+fn reader_feed(rt: HostRuntime) {
+    let mut reader = Reader::new();
+    let first = reader.feed(rt.alloc(), b"bye\npi").expect(&rt, "memory");
+    assert_eq!(rt; first.lines.as_slice(), [Line::Bye].as_slice());
+    begin(rt.alloc());
+    let mut fed = reader.feed(rt.alloc(), b"ng 1\nready\n");
+    end(rt.alloc());
+    if fed.is_err() {
+        assert_eq!(rt; reader.finish(), Err(WireFault::EarlyEnd));
+        fed = reader.feed(rt.alloc(), b"ng 1\nready\n");
+    }
+    let fed = fed.expect(&rt, "memory");
+    let lines = [Line::Ping(1), Line::Ready];
+    assert_eq!(rt; fed.lines.as_slice(), lines.as_slice());
+    assert_eq!(rt; (fed.fault, reader.finish()), (None, Ok(())));
+}
+
+// The board of a layout, or made again where memory was refused.
+fn laid(rt: &impl Abort, alloc: Global) -> Board {
+    begin(alloc);
+    let made = layout(alloc, FOUR_WIDGETS);
+    end(alloc);
+    match made {
+        Err(LayoutFault { number: 8, .. }) => layout(alloc, FOUR_WIDGETS).expect(rt, "memory"),
+        made => made.expect(rt, "a layout"),
+    }
+}
+
+// The lines of a board, as bytes.
+fn spelled(rt: &impl Abort, alloc: Global, lines: &[Line]) -> Vec<u8> {
+    let mut written = Vec::new(alloc);
+    for line in lines {
+        append(alloc, line, &mut written).expect(rt, "memory");
+    }
+    written
+}
+
+#[test]
+fn layout_text(rt: HostRuntime) {
+    let board = laid(&rt, rt.alloc());
+    let lines = lines_of(rt.alloc(), &board).expect(&rt, "memory");
+    let written = spelled(&rt, rt.alloc(), lines.as_slice());
+    assert_eq!(rt; written.as_slice(), FOUR_WIDGETS);
+}
+
+// A board of four widgets.
+fn four_widgets(rt: &impl Abort, alloc: Global) -> Board {
+    layout(alloc, FOUR_WIDGETS).expect(rt, "a layout")
+}
+
+#[test]
+fn board_lines_of(rt: HostRuntime) {
+    let board = four_widgets(&rt, rt.alloc());
+    begin(rt.alloc());
+    let mut lines = lines_of(rt.alloc(), &board);
+    end(rt.alloc());
+    if lines.is_err() {
+        lines = lines_of(rt.alloc(), &board);
+    }
+    let lines = lines.expect(&rt, "memory");
+    let written = spelled(&rt, rt.alloc(), lines.as_slice());
+    assert_eq!(rt; written.as_slice(), FOUR_WIDGETS);
+}
+
+#[test]
+fn board_of_lines(rt: HostRuntime) {
+    let board = four_widgets(&rt, rt.alloc());
+    let lines = lines_of(rt.alloc(), &board).expect(&rt, "memory");
+    begin(rt.alloc());
+    let mut back = board_of(rt.alloc(), lines.as_slice());
+    end(rt.alloc());
+    if matches!(back, Err(LayoutFault { number: 8, .. })) {
+        back = board_of(rt.alloc(), lines.as_slice());
+    }
+    assert!(rt; back.expect(&rt, "a board's lines").same(&board));
+}
+
+#[test]
+fn gather_push(rt: HostRuntime) {
+    let mut gather = Gather::new();
+    begin(rt.alloc());
+    let mut gathered = gather.push(rt.alloc(), &TWO);
+    end(rt.alloc());
+    if gathered == Err(NoMemory) {
+        assert!(rt; !gather.part());
+        gathered = gather.push(rt.alloc(), &TWO);
+    }
+    assert_eq!(rt; gathered, Ok(Gathered::Held));
+    let next = pushed(&rt, rt.alloc(), &mut gather, &Line::Do(TOGGLED));
+    assert_eq!(rt; next, Gathered::Held);
+    assert!(rt; gather.part());
+}
+
+#[test]
+fn message_lines_of_op(rt: HostRuntime) {
+    let msg = message(&rt, rt.alloc(), 2);
+    begin(rt.alloc());
+    let mut lines = lines_of_op(rt.alloc(), &msg);
+    end(rt.alloc());
+    if lines.is_err() {
+        lines = lines_of_op(rt.alloc(), &msg);
+    }
+    let lines = lines.expect(&rt, "memory");
+    let written = spelled(&rt, rt.alloc(), lines.as_slice());
+    assert_eq!(rt;
+        written.as_slice(),
+        b"batch 5 7 2\ndo 1 1 text ins 0 1.1 97\ndo 1 1 text ins 0 1.2 97\n".as_slice()
+    );
+}
+
+const PRINTED: &str = "window 1\ntext 1 \"z\"\nlist 2 \"red\"\ntoggle 3 off\nslider 4 0 10 5\n";
+
+// Texts are put behind what was there.
+#[test]
+fn text_write_board(rt: HostRuntime) {
+    let board = four_widgets(&rt, rt.alloc());
+    let mut text = Vec::from_slice(rt.alloc(), b">").expect(&rt, "memory");
+    begin(rt.alloc());
+    let mut wrote = write_board(rt.alloc(), &board, &mut text);
+    end(rt.alloc());
+    if wrote.is_err() {
+        assert_eq!(rt; text.as_slice(), b">".as_slice());
+        wrote = write_board(rt.alloc(), &board, &mut text);
+    }
+    assert_eq!(rt; wrote, Ok(()));
+    assert_eq!(rt; text[..1], b">"[..]);
+    assert_eq!(rt; text[1..], PRINTED.as_bytes()[..]);
+}
+
+#[test]
+fn text_write_edit(rt: HostRuntime) {
+    let name = Name { site: 1, number: 7 };
+    let edit = |what: Effect| -> Edit {
+        Edit {
+            win: 1,
+            wid: 1,
+            what,
+        }
+    };
+    let edits = [
+        edit(Effect::PutChar(name, 'a')),
+        edit(Effect::Deleted(name)),
+    ];
+    let edits = Few::from_slice(rt.alloc(), &edits).expect(&rt, "memory");
+    let mut text = Vec::from_slice(rt.alloc(), b">").expect(&rt, "memory");
+    begin(rt.alloc());
+    let mut wrote = write_edit(rt.alloc(), &edits, &mut text);
+    end(rt.alloc());
+    if wrote.is_err() {
+        assert_eq!(rt; text.as_slice(), b">".as_slice());
+        wrote = write_edit(rt.alloc(), &edits, &mut text);
+    }
+    assert_eq!(rt; wrote, Ok(()));
+    let wanted = b">ins 1 1 1.7 \"a\"; del 1 1 1.7";
+    assert_eq!(rt; text.as_slice(), wanted.as_slice());
+}
+
+#[test]
+fn text_read_quoted(rt: HostRuntime) {
+    begin(rt.alloc());
+    let mut chars = read_quoted(rt.alloc(), "\"abcdef\"");
+    end(rt.alloc());
+    if chars.is_err() {
+        chars = read_quoted(rt.alloc(), "\"abcdef\"");
+    }
+    let chars = chars.expect(&rt, "memory").expect(&rt, "a text");
+    assert_eq!(rt; chars.as_slice(), ['a', 'b', 'c', 'd', 'e', 'f'].as_slice());
+}
+
+// Has the reader take a line, at the second time if the first lacked memory.
+fn take_line(rt: &impl Abort, alloc: Global, reader: &mut BoardReader, line: &str) {
+    begin(alloc);
+    let mut taken = reader.take(alloc, line);
+    end(alloc);
+    if taken == Err(Untaken::NoMemory) {
+        taken = reader.take(alloc, line);
+    }
+    assert_eq!(rt; taken, Ok(()), "{line}");
+}
+
+// The items of a line that lacked memory were not numbered, so that those behind them have the numbers that are due.
+#[test]
+fn board_reader_take(rt: HostRuntime) {
+    let mut reader = BoardReader::new(rt.alloc());
+    let lines = [
+        "window 1",
+        "text 1 \"z\"",
+        "list 2 \"red\"",
+        "toggle 3 off",
+        "slider 4 0 10 5",
+    ];
+    for line in lines {
+        take_line(&rt, rt.alloc(), &mut reader, line);
+    }
+    let board = four_widgets(&rt, rt.alloc());
+    assert!(rt; reader.whole().same(&board));
+}

@@ -1,0 +1,248 @@
+-- What a draft's calls give, but for the room of its sequences.
+use Rattle.std.proofs.Common.{◌≡◌, ℕ, zero, suc, false, cond, ◌==◌, nat_lt, List, [], ◌∷◌, length, Option, Some, None, Result, Ok, Err, refl, sym, ap, subst, ◌∙◌, inl, inr}
+use Rattle.std.specs.Prelude.{insert, nat_le, IsTrue}
+use Rattle.std.specs.Option.{option_map, is_none}
+use Rattle.std.proofs.lemmas.Bool.{cases_Bool, eqb-true}
+use Rattle.std.proofs.lemmas.List.Sums.{take_while-cons}
+use Rattle.jup_window.specs.declared.faults.BoardFault.{BoardFault}
+use Rattle.jup_window.specs.declared.faults.BoardFault.TheVariants as fault
+use Rattle.jup_window.specs.declared.widgets.Widget.{Widget}
+use Rattle.jup_window.specs.Additions.{double_fault, entry_fault, fault_in, widget_fault, RefusesBy}
+use Rattle.jup_window.specs.Entries.{at_id, change_at, slot_of, with_entry, map_values}
+use Rattle.jup_window.specs.EntryLaws.{at_id-map, at_id-same, at_id-other}
+use Rattle.jup_window.specs.Boards as board
+use Rattle.jup_window.specs.Widgets as widget
+use Rattle.jup_layout.specs.declared.refusals.Refusal.{Refusal}
+use Rattle.jup_layout.specs.declared.refusals.Refusal.TheVariants.{NoMemory, DoubleId, TooMany, BadId, BadBounds, Misplaced, BadItemName}
+use Rattle.jup_layout.specs.Drafts.{refusal_of, Drafted, put_into, whole, unless, with_window, with_widget_in, bare_last, is_free, Follows}
+
+-- # A board but for its room
+
+slot_of-map : {A B : Type 0} (f : A → B) (k : ℕ) (es : List (ℕ × A)) → slot_of k (map_values f es) ≡ slot_of k es
+slot_of-map f k [] = refl
+slot_of-map f k (e ∷ es) =
+    ap (λ xs. length xs) (take_while-cons (λ x. nat_lt x.0 k) (e.0, f e.1) (map_values f es))
+    ∙ elim (cases_Bool (nat_lt e.0 k)) [
+      | inl below ↦ rw below (ap suc (slot_of-map f k es))
+      | inr over ↦ rw over refl
+    ]
+    ∙ ap (λ xs. length xs) (sym (take_while-cons (λ x. nat_lt x.0 k) e es))
+
+insert-map : {A B : Type 0} (f : A → B) (es : List (ℕ × A)) (i k : ℕ) (a : A) → map_values f (insert es i (k, a)) ≡ insert (map_values f es) i (k, f a)
+insert-map f [] zero k a = refl
+insert-map f [] (suc i) k a = refl
+insert-map f (e ∷ es) zero k a = refl
+insert-map f (e ∷ es) (suc i) k a = ap (λ xs. (e.0, f e.1) ∷ xs) (insert-map f es i k a)
+
+-- an entry more
+pub with_entry-map : {A B : Type 0} (f : A → B) (k : ℕ) (a : A) (es : List (ℕ × A)) → map_values f (with_entry k a es) ≡ with_entry k (f a) (map_values f es)
+with_entry-map f k a es = insert-map f es (slot_of k es) k a ∙ ap (λ i. insert (map_values f es) i (k, f a)) (sym (slot_of-map f k es))
+
+change_at-map : {A B : Type 0} (g : A → B) (f : A → A) (h : B → B) → ((a : A) → g (f a) ≡ h (g a)) → (k : ℕ) (es : List (ℕ × A)) → map_values g (change_at k f es) ≡ change_at k h (map_values g es)
+change_at-map g f h same k [] = refl
+change_at-map g f h same k (e ∷ es) =
+    elim (cases_Bool (e.0 == k)) [
+      | inl here ↦ rw here (ap (λ b. (e.0, b) ∷ map_values g es) (same e.1))
+      | inr there ↦ rw there (ap (λ xs. (e.0, g e.1) ∷ xs) (change_at-map g f h same k es))
+    ]
+
+length-map : {A B : Type 0} (f : A → B) (es : List (ℕ × A)) → length (map_values f es) ≡ length es
+length-map f [] = refl
+length-map f (e ∷ es) = ap suc (length-map f es)
+
+double_fault-map : {A B : Type 0} (f : A → B) (o : Option A) (es : List (ℕ × A)) → double_fault (option_map f o) (map_values f es) ≡ double_fault o es
+double_fault-map f (Some a) es = refl
+double_fault-map f None es = ap (λ n. cond (nat_le 64 n) (Some fault.TooMany) None) (length-map f es)
+
+pub entry_fault-map : {A B : Type 0} (f : A → B) (k : ℕ) (es : List (ℕ × A)) → entry_fault k (map_values f es) ≡ entry_fault k es
+entry_fault-map f k es =
+    ap (λ o. cond (k == 0) (Some fault.BadId) o) (ap (λ o. double_fault o (map_values f es)) (at_id-map f k es) ∙ double_fault-map f (at_id k es) es)
+
+fault_in-map : (wid : ℕ) (o : Option (List (ℕ × Widget))) → fault_in wid (option_map board.bare_widgets o) ≡ fault_in wid o
+fault_in-map wid None = refl
+fault_in-map wid (Some ws) = entry_fault-map widget.bare wid ws
+
+pub widget_fault-bare : (win wid : ℕ) (b : board.Windows) → widget_fault win wid (board.bare b) ≡ widget_fault win wid b
+widget_fault-bare win wid b = ap (λ o. fault_in wid o) (at_id-map board.bare_widgets win b) ∙ fault_in-map wid (at_id win b)
+
+-- a widget more in a window
+pub put-bare : (win wid : ℕ) (w : Widget) (b : board.Windows) → board.bare (change_at win (with_entry wid w) b) ≡ change_at win (with_entry wid (widget.bare w)) (board.bare b)
+put-bare win wid w b = change_at-map board.bare_widgets (with_entry wid w) (with_entry wid (widget.bare w)) (λ ws. with_entry-map widget.bare wid w ws) win b
+
+-- # An entry more, and the others
+
+-- an id that may be put among others is not among them
+pub fresh-id : {A : Type 0} (k : ℕ) (es : List (ℕ × A)) → entry_fault k es ≡ None → at_id k es ≡ None
+fresh-id {A} k es free =
+    elim (cases_Bool (k == 0)) [
+      | inl bad ↦ absurd (let no : Some fault.BadId ≡ None = rw bad at free in cc)
+      | inr other ↦ none (at_id k es) (rw other at free)
+    ]
+  where
+    none : (o : Option A) → double_fault o es ≡ None → o ≡ None
+    none None e = refl
+    none (Some a) e = absurd cc
+
+at_id-insert : {A : Type 0} (h : ℕ) (es : List (ℕ × A)) (i : ℕ) (e : ℕ × A) → (e.0 == h) ≡ false → at_id h (insert es i e) ≡ at_id h es
+at_id-insert h [] zero e other = rw other refl
+at_id-insert h [] (suc i) e other = rw other refl
+at_id-insert h (x ∷ es) zero e other = rw other refl
+at_id-insert h (x ∷ es) (suc i) e other =
+    elim (cases_Bool (x.0 == h)) [
+      | inl here ↦ rw here refl
+      | inr there ↦ rw there (at_id-insert h es i e other)
+    ]
+
+change_at-insert : {A : Type 0} (h : ℕ) (f : A → A) (es : List (ℕ × A)) (i : ℕ) (e : ℕ × A) → (e.0 == h) ≡ false → change_at h f (insert es i e) ≡ insert (change_at h f es) i e
+change_at-insert h f [] zero e other = rw other refl
+change_at-insert h f [] (suc i) e other = rw other refl
+change_at-insert h f (x ∷ es) zero e other =
+    elim (cases_Bool (x.0 == h)) [
+      | inl here ↦ rw (other, here) refl
+      | inr there ↦ rw (other, there) refl
+    ]
+change_at-insert h f (x ∷ es) (suc i) e other =
+    elim (cases_Bool (x.0 == h)) [
+      | inl here ↦ rw here refl
+      | inr there ↦ rw there (ap (λ xs. x ∷ xs) (change_at-insert h f es i e other))
+    ]
+
+slot_of-change : {A : Type 0} (k h : ℕ) (f : A → A) (es : List (ℕ × A)) → slot_of k (change_at h f es) ≡ slot_of k es
+slot_of-change k h f [] = refl
+slot_of-change k h f (e ∷ es) =
+    elim (cases_Bool (e.0 == h)) [
+      | inl here ↦ rw here (same (e.0, f e.1) e es es refl refl)
+      | inr there ↦ rw there (same e e (change_at h f es) es refl (slot_of-change k h f es))
+    ]
+  where
+    same : {A : Type 0} (x y : ℕ × A) (xs ys : List (ℕ × A)) → x.0 ≡ y.0 → slot_of k xs ≡ slot_of k ys → slot_of k (x ∷ xs) ≡ slot_of k (y ∷ ys)
+    same x y xs ys ids rest =
+        ap (λ zs. length zs) (take_while-cons (λ z. nat_lt z.0 k) x xs)
+        ∙ rw ids (elim (cases_Bool (nat_lt y.0 k)) [
+          | inl below ↦ rw below (ap suc rest)
+          | inr over ↦ rw over refl
+        ])
+        ∙ ap (λ zs. length zs) (sym (take_while-cons (λ z. nat_lt z.0 k) y ys))
+
+change_at-with : {A : Type 0} (h k : ℕ) (f : A → A) (a : A) (es : List (ℕ × A)) → (k == h) ≡ false → change_at h f (with_entry k a es) ≡ with_entry k a (change_at h f es)
+change_at-with h k f a es other = change_at-insert h f es (slot_of k es) (k, a) other ∙ ap (λ i. insert (change_at h f es) i (k, a)) (sym (slot_of-change k h f es))
+
+length-change : {A : Type 0} (h : ℕ) (f : A → A) (es : List (ℕ × A)) → length (change_at h f es) ≡ length es
+length-change h f [] = refl
+length-change h f (e ∷ es) =
+    elim (cases_Bool (e.0 == h)) [
+      | inl here ↦ rw here refl
+      | inr there ↦ rw there (ap suc (length-change h f es))
+    ]
+
+-- a changed entry changes no refusal of another
+entry_fault-change : {A : Type 0} (k h : ℕ) (f : A → A) (es : List (ℕ × A)) → entry_fault k (change_at h f es) ≡ entry_fault k es
+entry_fault-change {A = A} k h f es = ap (λ o. cond (k == 0) (Some fault.BadId) o) (elim (cases_Bool (h == k)) [
+  | inl here ↦ ap (λ j. double_fault (at_id j (change_at h f es)) (change_at h f es)) (sym (eqb-true h k here)) ∙ ap (λ o. double_fault o (change_at h f es)) (at_id-same h f es) ∙ mapped (at_id h es) ∙ ap (λ j. double_fault (at_id j es) es) (eqb-true h k here)
+  | inr there ↦ ap (λ o. double_fault o (change_at h f es)) (at_id-other h k f es there) ∙ kept (at_id k es)
+])
+  where
+    kept : (o : Option A) → double_fault o (change_at h f es) ≡ double_fault o es
+    kept (Some a) = refl
+    kept None = ap (λ n. cond (nat_le 64 n) (Some fault.TooMany) None) (length-change h f es)
+
+    mapped : (o : Option A) → double_fault (option_map f o) (change_at h f es) ≡ double_fault o es
+    mapped (Some a) = refl
+    mapped None = kept None
+
+-- # The last widget, and one window more
+
+pub entry_fault-whole : (home : Option ℕ) (last : Option (ℕ × Widget)) (b : board.Windows) (win : ℕ) → entry_fault win (put_into home last b) ≡ entry_fault win b
+entry_fault-whole None last b win = refl
+entry_fault-whole (Some h) None b win = refl
+entry_fault-whole (Some h) (Some e) b win = entry_fault-change win h (with_entry e.0 e.1) b
+
+other-window : (h wid win : ℕ) (b : board.Windows) → entry_fault win b ≡ None → IsTrue (is_none (widget_fault h wid b)) → (win == h) ≡ false
+other-window h wid win b free home =
+    elim (cases_Bool (win == h)) [
+      | inl same ↦ absurd (let no : IsTrue (is_none (fault_in {A = Widget} wid None)) = subst (λ o. IsTrue (is_none (fault_in wid o))) (ap (λ k. at_id k b) (sym (eqb-true win h same)) ∙ fresh-id win b free) home in cc)
+      | inr other ↦ other
+    ]
+
+pub free-more : (home : Option ℕ) (last : Option (ℕ × Widget)) (b : board.Windows) (win : ℕ) → entry_fault win b ≡ None → IsTrue (is_free home last b) → IsTrue (is_free home last (with_entry win [] b))
+free-more None last b win free is = refl
+free-more (Some h) None b win free is = refl
+free-more (Some h) (Some e) b win free is =
+    subst (λ o. IsTrue (is_none (fault_in e.0 o))) (sym (at_id-insert h b (slot_of win b) (win, []) (other-window h e.0 win b free is))) is
+
+pub whole-more : (home : Option ℕ) (last : Option (ℕ × Widget)) (b : board.Windows) (win : ℕ) → entry_fault win b ≡ None → IsTrue (is_free home last b)
+    → put_into home last (with_entry win [] b) ≡ with_entry win [] (put_into home last b)
+whole-more None last b win free is = refl
+whole-more (Some h) None b win free is = refl
+whole-more (Some h) (Some e) b win free is = change_at-with h win (with_entry e.0 e.1) [] b (other-window h e.0 win b free is)
+
+-- # Refusals
+
+pub same_Ok : {A E : Type 0} (a b : A) → (let r : Result A E = Ok a in r ≡ Ok b) → a ≡ b
+same_Ok {A} {E} a b e = ap (value_or a) e
+  where
+    value_or : A → Result A E → A
+    value_or d (Ok x) = x
+    value_or d (Err x) = d
+
+-- a refusal that is due
+pub follows_err : {A B : Type 0} (view : A → B) (refusal : Refusal) (due : Result B Refusal) → due ≡ Err refusal → Follows view (Err refusal) due
+follows_err view NoMemory due e = tt
+follows_err view DoubleId due e = e
+follows_err view TooMany due e = e
+follows_err view BadId due e = e
+follows_err view BadBounds due e = e
+follows_err view Misplaced due e = e
+follows_err view BadItemName due e = e
+
+-- a board's refusal
+pub refused : {A : Type 0} (due : Option BoardFault) (f : BoardFault) (a : A) → RefusesBy due (Err f) → Follows (λ (x : A). x) (Err (refusal_of f)) (unless (option_map refusal_of due) a)
+refused None f a only = subst (λ x. Follows (λ y. y) (Err (refusal_of x)) (Ok a)) (sym only) tt
+refused {A} (Some g) f a e =
+    follows_err (λ (x : A). x) (refusal_of f) (Err (refusal_of g)) (ap (λ (r : Result (Unit {0}) BoardFault). Err (refusal_of (fault_or g r))) (sym e))
+  where
+    fault_or : BoardFault → Result (Unit {0}) BoardFault → BoardFault
+    fault_or d (Ok x) = d
+    fault_or d (Err x) = x
+
+-- no refusal was due
+pub allowed : (due : Option BoardFault) → RefusesBy due (Ok tt) → due ≡ None
+allowed None h = refl
+allowed (Some g) e = absurd cc
+
+-- # Windows and widgets
+
+pub window_refused : (win : ℕ) (d : Drafted) (b : board.Windows) (f : BoardFault) → d.board ≡ board.bare b → RefusesBy (entry_fault win b) (Err f)
+    → Follows (λ (x : Drafted). x) (Err (refusal_of f)) (with_window win d)
+window_refused win d b f same due =
+    refused (entry_fault win d.board) f _ (subst (λ x. RefusesBy x (Err f)) (sym (ap (λ ws. entry_fault win ws) same ∙ entry_fault-map board.bare_widgets win b)) due)
+
+pub window_taken : (win : ℕ) (d : Drafted) (b new : board.Windows) → d.board ≡ board.bare b → RefusesBy (entry_fault win b) (Ok tt) → new ≡ with_entry win [] b
+    → with_window win d ≡ Ok (record { board = board.bare new; window = Some win; home = d.home; last = d.last; naming = d.naming })
+window_taken win d b new same due is =
+    let none : entry_fault win d.board ≡ None = ap (λ ws. entry_fault win ws) same ∙ entry_fault-map board.bare_widgets win b ∙ allowed (entry_fault win b) due in
+    let after : with_entry win [] d.board ≡ board.bare new =
+    ap (λ ws. with_entry win [] ws) same ∙ sym (with_entry-map board.bare_widgets win [] b) ∙ ap board.bare (sym is) in
+    ap (λ f. unless (option_map refusal_of f) (record { board = with_entry win [] d.board; window = Some win; home = d.home; last = d.last; naming = d.naming })) none
+    ∙ ap (λ ws. Ok (record { board = ws; window = Some win; home = d.home; last = d.last; naming = d.naming })) after
+
+pub widget_refused : (win wid : ℕ) (w : Widget) (d : Drafted) (b : board.Windows) (f : BoardFault) → d.window ≡ Some win → whole d ≡ board.bare b → Some f ≡ widget_fault win wid b
+    → Follows (λ (x : Drafted). x) (Err (refusal_of f)) (with_widget_in d.window wid w d)
+widget_refused win wid w d b f here same due =
+    subst (λ o. Follows (λ (x : Drafted). x) (Err (refusal_of f)) (with_widget_in o wid w d)) (sym here)
+    (follows_err (λ (x : Drafted). x) (refusal_of f)
+    (unless (option_map refusal_of (widget_fault win wid (whole d))) (record { board = whole d; window = Some win; home = Some win; last = Some (wid, w); naming = d.naming }))
+    (ap (λ x. unless (option_map refusal_of x) (record { board = whole d; window = Some win; home = Some win; last = Some (wid, w); naming = d.naming })) (ap (λ ws. widget_fault win wid ws) same ∙ widget_fault-bare win wid b ∙ sym due)))
+
+pub widget_taken : (win wid : ℕ) (w : Widget) (d : Drafted) (b : board.Windows) → d.window ≡ Some win → whole d ≡ board.bare b → widget_fault win wid b ≡ None
+    → with_widget_in d.window wid w d ≡ Ok (record { board = board.bare b; window = Some win; home = Some win; last = Some (wid, w); naming = d.naming })
+widget_taken win wid w d b here same none =
+    ap (λ o. with_widget_in o wid w d) here
+    ∙ ap (λ x. unless (option_map refusal_of x) (record { board = whole d; window = Some win; home = Some win; last = Some (wid, w); naming = d.naming })) (ap (λ ws. widget_fault win wid ws) same ∙ widget_fault-bare win wid b ∙ none)
+    ∙ ap (λ ws. Ok (record { board = ws; window = Some win; home = Some win; last = Some (wid, w); naming = d.naming })) same
+
+-- the board that the lines describe, from a draft's parts
+pub whole-bare : (win wid : ℕ) (w : Widget) (home : Option ℕ) (last : Option (ℕ × Widget)) (b : board.Windows) → home ≡ Some win → last ≡ Some (wid, w)
+    → put_into home (bare_last last) (board.bare b) ≡ board.bare (change_at win (with_entry wid w) b)
+whole-bare win wid w home last b here is =
+    ap (λ o. put_into o (bare_last last) (board.bare b)) here ∙ ap (λ o. put_into (Some win) (bare_last o) (board.bare b)) is ∙ sym (put-bare win wid w b)

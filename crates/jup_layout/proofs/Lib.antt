@@ -1,0 +1,9 @@
+pub mod Drafting
+pub mod HeldNames
+pub mod Counting
+pub mod LinesTaken
+pub mod RoundTrip
+pub mod BoardsBack
+pub mod Counts
+pub mod Stricter
+pub mod LayoutTexts

@@ -1,0 +1,8 @@
+use Rattle.jup_layout.proofs.LayoutTexts.{accepts, as_lines}
+use Rattle.jup_layout.proofs.layouts.layout.Goals as goal
+
+pub returns-clause-accepts : goal.returns-clause-accepts
+returns-clause-accepts c = accepts c.args.text.now c.lay_out.result c.lay_out.ensures
+
+pub returns-clause-as_lines : goal.returns-clause-as_lines
+returns-clause-as_lines c = as_lines c.args.text.now c.lay_out.result c.lay_out.ensures

@@ -1,0 +1,5 @@
+pub mod BoardLines
+pub mod Drafts
+pub mod FaultNumbers
+pub mod Layouts
+pub mod Names

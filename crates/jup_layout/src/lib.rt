@@ -1,0 +1,12 @@
+//! Boards as lines: the lines of a board, the board that lines describe, and layouts.
+#![tactic(auto)]
+
+mod board_lines;
+mod drafts;
+mod layouts;
+mod names;
+mod naming;
+mod refusals;
+
+pub use board_lines::{lines_of, put_board};
+pub use layouts::{LayoutFault, board_of, layout};

@@ -1,0 +1,49 @@
+//! Why lines are no board.
+ghost use Rattle.std.specs.Prelude.{◌≡◌};
+ghost use Rattle.jup_layout.specs.FaultNumbers.{refusal_number};
+ghost use Rattle.jup_layout.specs.Drafts.{refusal_of};
+
+use jup_window::BoardFault;
+
+/// Why a line may not come after those before it.
+#[derive(Clone, Copy, PartialEq, Eq)]
+pub(crate) enum Refusal {
+    NoMemory,
+    DoubleId,
+    TooMany,
+    BadId,
+    BadBounds,
+    /// A line of another kind, or behind no line that it may belong to.
+    Misplaced,
+    BadItemName,
+}
+
+impl Refusal {
+    /// The number of this fault in messages and printed texts.
+    pub(crate) fn number(self) -> u32
+        ensures { result ≡ refusal_number self }
+    {
+        match self {
+            Refusal::NoMemory => 8,
+            Refusal::DoubleId => 10,
+            Refusal::TooMany => 11,
+            Refusal::BadId => 12,
+            Refusal::BadBounds => 13,
+            Refusal::Misplaced => 44,
+            Refusal::BadItemName => 45,
+        }
+    }
+
+    /// A board's refusal of a window or a widget, as one of its line.
+    pub(crate) fn of_board(fault: BoardFault) -> Refusal
+        ensures { result ≡ refusal_of fault }
+    {
+        match fault {
+            BoardFault::NoWindow => Refusal::Misplaced,
+            BoardFault::NoMemory => Refusal::NoMemory,
+            BoardFault::DoubleId => Refusal::DoubleId,
+            BoardFault::TooMany => Refusal::TooMany,
+            BoardFault::BadId => Refusal::BadId,
+        }
+    }
+}

@@ -1,0 +1,42 @@
+-- The limits of the protocol, as contracts and definitions name them.
+use Rattle.std.specs.Prelude.{ℕ}
+
+-- sites attached to a star at a time
+abbrev pub most_attached : ℕ
+most_attached = 64
+
+-- the highest number of a site
+abbrev pub last_site : ℕ
+last_site = 65535
+
+-- windows of a board, and widgets of a window
+abbrev pub most_entries : ℕ
+most_entries = 64
+
+-- items of a text or a list
+abbrev pub longest_sequence : ℕ
+longest_sequence = 65536
+
+-- the highest limit of edits that a star can be opened with
+abbrev pub highest_limit : ℕ
+highest_limit = 16777216
+
+-- edits of a site on their way, of which it was not told that they were received
+abbrev pub most_unacknowledged : ℕ
+most_unacknowledged = 1024
+
+-- operations that an end receives before it owes an acknowledgement
+abbrev pub answer_after : ℕ
+answer_after = 64
+
+-- operations of a batch
+abbrev pub most_operations : ℕ
+most_operations = 32
+
+-- bytes of a label
+abbrev pub longest_label : ℕ
+longest_label = 48
+
+-- bytes of a script, and of a layout
+abbrev pub longest_input : ℕ
+longest_input = 16777216

@@ -1,0 +1,25 @@
+//! The refusal that any call may meet.
+ghost use Rattle.std.specs.Prelude.{◌≡◌};
+
+use std::alloc::AllocError;
+use thiserror::Error;
+
+/// A growth was refused for want of memory. What the call would have changed is as it was.
+#[derive(Clone, Copy, Debug, PartialEq, Eq, Error)]
+#[error("no memory")]
+pub struct NoMemory;
+
+impl NoMemory {
+    /// The number of this fault in messages and printed texts.
+    pub fn number(self) -> u32
+        ensures { result ≡ 8 }
+    {
+        8
+    }
+}
+
+impl From<AllocError> for NoMemory {
+    fn from(_error: AllocError) -> NoMemory {
+        NoMemory
+    }
+}

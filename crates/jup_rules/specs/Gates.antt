@@ -1,0 +1,97 @@
+-- What comes next in a session by what its site says: what each message waits for, and what follows once the star has answered.
+use Rattle.std.specs.Prelude.{◌≡◌, ◌⊎◌, ℕ, ◌+◌, min, Bool, true, false, List, [], ◌∷◌, ◌++◌, Option, Some, None, Result, Ok, Err, count_by}
+use Rattle.jup_batch.specs.BatchBoards.{BoardBatch}
+use Rattle.jup_star.specs.declared.messages.Up.{Up}
+use Rattle.jup_star.specs.declared.messages.Up.TheVariants.{Op as UpOp, Ack as UpAck, Ping as UpPing}
+use Rattle.jup_star.specs.declared.faults.StarFault.TheVariants.{NoLink}
+use Rattle.jup_hub.specs.declared.fault.HubFault.{HubFault}
+use Rattle.jup_hub.specs.declared.fault.HubFault.TheVariants.{Star}
+use Rattle.jup_wire.specs.declared.line.Line.{Line}
+use Rattle.jup_rules.specs.declared.said.Said.{Said}
+use Rattle.jup_rules.specs.declared.said.Said.TheVariants.{Up as SaysUp, Bye as SaysBye}
+use Rattle.jup_rules.specs.declared.faults.SessionFault.{SessionFault}
+use Rattle.jup_rules.specs.declared.faults.SessionFault.TheVariants.{Hub, GateShut}
+use Rattle.jup_rules.specs.declared.ending.Ending.{Ending}
+use Rattle.jup_rules.specs.declared.ending.Ending.TheVariants.{Bye, Gone}
+use Rattle.jup_rules.specs.declared.next.Awaits.{Awaits}
+use Rattle.jup_rules.specs.declared.next.Awaits.TheVariants.{Gate, Pongs, Nothing}
+use Rattle.jup_rules.specs.declared.next.Incoming.{Incoming}
+use Rattle.jup_rules.specs.declared.next.Next.{Next}
+use Rattle.jup_rules.specs.declared.next.Next.TheVariants.{Line as NextLine, Take, End}
+use Rattle.jup_rules.specs.declared.ring.Ring.{Ring}
+use Rattle.jup_rules.specs.declared.ring.Ring.TheVariants.{All, Own}
+use Rattle.jup_rules.specs.Endings.{ending_of}
+use Rattle.jup_rules.specs.Messages.{HasSaid, IsRefused}
+use Rattle.jup_rules.specs.Keepers.{Keeper}
+
+-- whether a site says an edit
+abbrev pub says_edit : Said → Bool
+says_edit (SaysUp (UpOp msg)) = true
+says_edit (SaysUp (UpAck count)) = false
+says_edit (SaysUp (UpPing number)) = false
+says_edit SaysBye = false
+
+-- a count of edits, which stops at the largest that there is; no star takes so many
+abbrev pub counted : ℕ → ℕ
+counted edits = min edits 4294967295
+
+-- by these lines the site said all that, and its edits are counted
+abbrev pub HasHeard : List Line → List Said → Keeper → Type 0
+HasHeard lines saids keeper = HasSaid lines saids keeper.0 × (keeper.1 ≡ counted (count_by says_edit saids))
+
+-- what a message waits for, of a site that sent so many edits before: an edit for the gate, which is asked for the next one, and a ping until few enough pongs are owed
+abbrev pub awaits_of : ℕ → Up BoardBatch → Awaits
+awaits_of edits (UpOp msg) = Gate (counted (edits + 1))
+awaits_of edits (UpPing number) = Pongs
+awaits_of edits (UpAck count) = Nothing
+
+-- how many edits the site has sent with this message
+abbrev pub edits_with : ℕ → Up BoardBatch → ℕ
+edits_with edits (UpOp msg) = counted (edits + 1)
+edits_with edits (UpPing number) = edits
+edits_with edits (UpAck count) = edits
+
+-- the message with what it waits for
+abbrev pub incoming_of : ℕ → Up BoardBatch → Incoming
+incoming_of edits up = record { up = up; awaits = awaits_of edits up }
+
+-- what comes next where a site that sent so many edits has said this by a line, or where the line was refused
+abbrev pub next_of : ℕ → Result (Option Said) SessionFault → Next
+next_of edits (Ok None) = NextLine
+next_of edits (Ok (Some (SaysUp up))) = Take (incoming_of edits up)
+next_of edits (Ok (Some SaysBye)) = End Bye
+next_of edits (Err fault) = End (ending_of fault)
+
+-- and how many edits it has sent then
+abbrev pub edits_after : ℕ → Result (Option Said) SessionFault → ℕ
+edits_after edits (Ok None) = edits
+edits_after edits (Ok (Some (SaysUp up))) = edits_with edits up
+edits_after edits (Ok (Some SaysBye)) = edits
+edits_after edits (Err fault) = edits
+
+-- Behind those lines, by which the site had said all that, one line leads to what comes next: another line, where by this one it says nothing yet; the message
+-- that it says, once what that waits for has come; or the end, where it says bye, and where the line is refused
+abbrev pub Leads : List Line → List Said → Keeper → Line → Next → Keeper → Type 0
+Leads lines saids old line NextLine new = HasHeard (lines ++ line ∷ []) saids new
+Leads lines saids old line (Take incoming) new = HasHeard (lines ++ line ∷ []) (saids ++ SaysUp incoming.up ∷ []) new
+    × (incoming ≡ incoming_of (count_by says_edit saids) incoming.up)
+Leads lines saids old line (End ending) new = ((ending ≡ Bye) × HasHeard (lines ++ line ∷ []) (saids ++ SaysBye ∷ []) new)
+    ⊎ ((fault : SessionFault) × (ending ≡ ending_of fault) × IsRefused fault old.0 line new.0)
+
+-- how a session ends whose message waited in vain: the gate stayed shut, or the session had ended before enough pongs were written
+abbrev pub in_vain : Awaits → Ending
+in_vain (Gate nth) = ending_of GateShut
+in_vain Pongs = Gone
+in_vain Nothing = Gone
+
+-- whom a message wakes that the star took
+abbrev pub rung_by : Up BoardBatch → Ring
+rung_by (UpOp msg) = All
+rung_by (UpAck count) = Own
+rung_by (UpPing number) = Own
+
+-- what follows from the star's answer: where the site has no link any more it is gone, and any other refusal ends the session with its number
+abbrev pub outcome : Up BoardBatch → Result (Option ℕ) HubFault → Result Ring Ending
+outcome up (Ok place) = Ok (rung_by up)
+outcome up (Err (Star NoLink)) = Err Gone
+outcome up (Err fault) = Err (ending_of (Hub fault))

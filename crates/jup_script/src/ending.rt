@@ -1,0 +1,58 @@
+//! How a script ends early.
+ghost use Rattle.std.specs.Prelude.{◌≡◌};
+ghost use Rattle.jup_script.specs.ScriptEnds.{script_end_fault, script_end_number, script_end_status};
+
+use crate::ScriptFault;
+use thiserror::Error;
+
+/// Why a script was not played to its end.
+#[derive(Clone, Copy, Debug, PartialEq, Eq, Error)]
+pub enum ScriptEnd {
+    /// The line of this number, from 1, is no line of the script's mode, or is refused there.
+    #[error("line {0}: bad script")]
+    Bad(u32, ScriptFault),
+    #[error("script too long")]
+    LongInput,
+    #[error("no memory")]
+    NoMemory,
+    #[error("io fault")]
+    ReadFailed,
+    #[error("io fault")]
+    WriteFailed,
+}
+
+impl ScriptEnd {
+    /// What is wrong with the line, where one is bad.
+    pub fn fault(self) -> Option<ScriptFault>
+        ensures { result ≡ script_end_fault self }
+    {
+        match self {
+            ScriptEnd::Bad(_, fault) => Some(fault),
+            _ => None,
+        }
+    }
+
+    /// The number of this fault in messages and printed texts.
+    pub fn number(self) -> u32
+        ensures { result ≡ script_end_number self }
+    {
+        match self {
+            ScriptEnd::NoMemory => 8,
+            ScriptEnd::Bad(..) => 40,
+            ScriptEnd::LongInput => 47,
+            ScriptEnd::ReadFailed => 70,
+            ScriptEnd::WriteFailed => 71,
+        }
+    }
+
+    /// The exit status of a program that plays the script.
+    pub fn status(self) -> u8
+        ensures { result ≡ script_end_status self }
+    {
+        match self {
+            ScriptEnd::ReadFailed | ScriptEnd::WriteFailed => 1,
+            ScriptEnd::Bad(..) | ScriptEnd::LongInput => 2,
+            ScriptEnd::NoMemory => 3,
+        }
+    }
+}

@@ -1,0 +1,165 @@
+//! The lines of widgets, as they are printed.
+ghost use Rattle.std.specs.Prelude.{◌≡◌, ◌≢◌, ℕ, List, ◌∷◌, ◌++◌, map, IfOk, IfSome, MatchOption, codes};
+ghost use Rattle.std.specs.List.{flat_map};
+ghost use Rattle.jup_text.specs.Quotes.{quoted};
+ghost use Rattle.jup_text.specs.WidgetLines.{AreNumbered, IsLineOf, IsNumbered, IsWidgetLine};
+
+use super::Untaken;
+use super::numbered::Numbered;
+use crate::quoted::{behind_quote, is_end, next_char, next_quoted_label};
+use crate::words::{id_of, next_id, next_integer, split_word, switch_of};
+use jup_number::read_integer;
+use jup_setting::{Slider, Toggle};
+use jup_value::Label;
+use jup_window::Widget;
+use std::alloc::Global;
+
+/// A widget as its line has it, with its id, and the number of its last item.
+#[derive(Drop)]
+pub(crate) struct WidgetLine {
+    pub(crate) wid: u16,
+    pub(crate) widget: Widget,
+    pub(crate) last: u32,
+}
+
+/// Reads the line of a widget: its first word, and what stands behind that. Its items are numbered after the last.
+pub(crate) fn read_widget(
+    alloc: Global,
+    last: u32,
+    kind: &[u8],
+    rest: &[u8],
+) -> Result<WidgetLine, Untaken>
+    ensures { IfOk result (λ r. IsWidgetLine last (kind.now ++ 32 ∷ rest.now) r.wid r.widget r.last) }
+{
+    if kind == b"text".as_slice() {
+        return read_text(alloc, last, rest);
+    }
+    if kind == b"list".as_slice() {
+        return read_list(alloc, last, rest);
+    }
+    let Some((wid, widget)) = read_setting(kind, rest) else {
+        return Err(Untaken::BadLine);
+    };
+    Ok(WidgetLine { wid, widget, last })
+}
+
+// What follows the word `text`.
+fn read_text(alloc: Global, last: u32, rest: &[u8]) -> Result<WidgetLine, Untaken>
+    ensures { IfOk result (λ r. IsWidgetLine last (codes "text " ++ rest.now) r.wid r.widget r.last) }
+{
+    let Some((wid, text)) = next_id(rest) else {
+        return Err(Untaken::BadLine);
+    };
+    let chars = read_chars(alloc, last, text)?;
+    Ok(WidgetLine {
+        wid,
+        last: chars.last(),
+        widget: Widget::Text(chars.into_items()),
+    })
+}
+
+// What follows the word `list`.
+#[tactic(auto, using(crate::proofs::Drafting::list_line))]
+fn read_list(alloc: Global, last: u32, rest: &[u8]) -> Result<WidgetLine, Untaken>
+    ensures { IfOk result (λ r. IsWidgetLine last (codes "list " ++ rest.now) r.wid r.widget r.last) }
+{
+    let (id, labels) = split_word(rest);
+    let Some(wid) = id_of(id) else {
+        return Err(Untaken::BadLine);
+    };
+    let labels = read_labels(alloc, last, labels)?;
+    Ok(WidgetLine {
+        wid,
+        last: labels.last(),
+        widget: Widget::List(labels.into_items()),
+    })
+}
+
+// The items of a quoted text, numbered after the last.
+fn read_chars(alloc: Global, last: u32, text: &[u8]) -> Result<Numbered<char>, Untaken>
+    ensures text { IfOk result (λ r. text.now ≡ quoted (map (λ item. item.value) r.items.items)) }
+    ensures numbered { IfOk result (λ r. AreNumbered last r.items.items r.last) }
+{
+    let mut items = Numbered::new(alloc, last);
+    let Some(inner) = behind_quote(text) else {
+        return Err(Untaken::BadLine);
+    };
+    let mut rest = inner;
+    while let Some((value, later)) = next_char(rest) {
+        items.push(value)?;
+        rest = later;
+    }
+    if is_end(rest) {
+        Ok(items)
+    } else {
+        Err(Untaken::BadLine)
+    }
+}
+
+// The items of a list, each a label behind a space, numbered after the last.
+fn read_labels(alloc: Global, last: u32, labels: &[u8]) -> Result<Numbered<Label>, Untaken>
+    ensures labels { IfOk result (λ r. labels.now ≡ flat_map (λ item. 32 ∷ quoted item.value) r.items.items) }
+    ensures numbered { IfOk result (λ r. AreNumbered last r.items.items r.last) }
+{
+    let mut items = Numbered::new(alloc, last);
+    let mut rest = labels;
+    while let Some(label) = behind_space(rest) {
+        let Some((value, later)) = next_quoted_label(label) else {
+            return Err(Untaken::BadLine);
+        };
+        items.push(value)?;
+        rest = later;
+    }
+    if rest.is_empty() {
+        Ok(items)
+    } else {
+        Err(Untaken::BadLine)
+    }
+}
+
+// What follows a space.
+fn behind_space(text: &[u8]) -> Option<&[u8]>
+    ensures { MatchOption result ((rest : List ℕ) → text.now ≢ 32 ∷ rest) (λ rest. text.now ≡ 32 ∷ rest.now) }
+{
+    let (first, rest) = text.split_first()?;
+    if *first == b' ' { Some(rest) } else { None }
+}
+
+// A toggle or a slider with its id.
+fn read_setting(kind: &[u8], rest: &[u8]) -> Option<(u16, Widget)>
+    ensures line { IfSome result (λ r. IsLineOf (kind.now ++ 32 ∷ rest.now) r.0 r.1) }
+    ensures no_items { IfSome result (λ r. (last : ℕ) → IsNumbered last r.1 last) }
+{
+    if kind == b"toggle".as_slice() {
+        return read_toggle(rest);
+    }
+    if kind == b"slider".as_slice() {
+        return read_slider(rest);
+    }
+    None
+}
+
+// What follows the word `toggle`.
+fn read_toggle(rest: &[u8]) -> Option<(u16, Widget)>
+    ensures line { IfSome result (λ r. IsLineOf (codes "toggle " ++ rest.now) r.0 r.1) }
+    ensures no_items { IfSome result (λ r. (last : ℕ) → IsNumbered last r.1 last) }
+{
+    let (wid, word) = next_id(rest)?;
+    let on = switch_of(word)?;
+    Some((wid, Widget::Toggle(Toggle { on })))
+}
+
+// What follows the word `slider`.
+fn read_slider(rest: &[u8]) -> Option<(u16, Widget)>
+    ensures line { IfSome result (λ r. IsLineOf (codes "slider " ++ rest.now) r.0 r.1) }
+    ensures no_items { IfSome result (λ r. (last : ℕ) → IsNumbered last r.1 last) }
+{
+    let (wid, rest) = next_id(rest)?;
+    let (lo, rest) = next_integer(rest)?;
+    let (hi, rest) = next_integer(rest)?;
+    let value = read_integer(rest)?;
+    match Slider::new(lo, hi, value) {
+        Ok(slider) => Some((wid, Widget::Slider(slider))),
+        Err(_) => None,
+    }
+}

@@ -1,6 +1,0 @@
-use Rattle.std.proofs.Common.{◌≤◌, length}
-use Rattle.jup_world.proofs.script.star.next_commands.Given as goal
-
--- the lines of the script get no more
-abbrev pub invariant-loop : goal.invariant-loop
-invariant-loop l = length l.script.rest.now ≤ length l.fn.script.rest.now

@@ -1,6 +1,0 @@
-use Rattle.std.proofs.Common.{length}
-use Rattle.jup_world.proofs.script.star.play.Given as goal
-
--- the bytes of the lines that are left
-abbrev pub decreases-loop-world : goal.decreases-loop-world
-decreases-loop-world g l = length l.script.rest.now

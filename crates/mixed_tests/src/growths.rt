@@ -1,0 +1,200 @@
+//! Growths of a star with strangers that are refused, each test for the call, or the kind of event, of its name. `./growths` refuses one after another of
+//! those between the two marks: after an event that lacked memory all is seen as before, and played again it gives its answer.
+use crate::events::{insert, mixed_over, strays};
+use jup_batch::BoardEdits;
+use jup_mixed::{MixEvent, MixHappened, Mixed};
+use jup_seq::SeqOp;
+use jup_star::{OpenFault, Up};
+use jup_text::write_board;
+use jup_value::{Item, Name};
+use jup_window::{Command, Edit, Effect};
+use jup_world::Reply;
+use jup_xform::Few;
+use std::alloc::Global;
+use std::process::Abort;
+use test_boards::{board_of, reads};
+use test_marks::{begin, end};
+
+// What a star with strangers shows: its board and the site's as they are printed, the counts of entries and of events, how many messages wait
+// for links 1 and 2, and whether anything is on its way to the site or from it.
+#[derive(Drop)]
+struct Seen {
+    boards: Vec<u8>,
+    counts: (usize, usize),
+    waiting: [Option<usize>; 2],
+    is_quiet: bool,
+}
+
+fn look_at(rt: &impl Abort, alloc: Global, mixed: &Mixed) -> Seen {
+    let mut boards = Vec::new(alloc);
+    write_board(alloc, mixed.star().board(), &mut boards).expect(rt, "memory");
+    let site = mixed.site().expect(rt, "the site is attached");
+    write_board(alloc, site.board(), &mut boards).expect(rt, "memory");
+    Seen {
+        boards,
+        counts: (mixed.star().order().len(), mixed.trace().len()),
+        waiting: [mixed.star().waiting(1), mixed.star().waiting(2)],
+        is_quiet: mixed.quiet(),
+    }
+}
+
+// All is seen as before; but where a message is moved down, one that waited may be on its way.
+fn is_spared(rt: &impl Abort, event: &MixEvent, was: &Seen, now: &Seen) {
+    assert_eq!(rt; now.boards.as_slice(), was.boards.as_slice());
+    assert_eq!(rt; (now.counts, now.is_quiet), (was.counts, was.is_quiet));
+    assert_eq!(rt; now.waiting[1], was.waiting[1]);
+    let one_less = was.waiting[0].map(|count| count.saturating_sub(1));
+    let fetched = *event == MixEvent::Down && now.waiting[0] == one_less;
+    assert!(rt; fetched || now.waiting[0] == was.waiting[0]);
+}
+
+// The event happens, with this reply. Where it is marked, and lacks memory, all is as before.
+fn happens(
+    rt: &impl Abort,
+    alloc: Global,
+    mixed: &mut Mixed,
+    wanted: &MixHappened,
+    is_marked: bool,
+) {
+    let was = look_at(rt, alloc, mixed);
+    if is_marked {
+        begin(alloc);
+    }
+    let mut reply = mixed.step(alloc, &wanted.event);
+    end(alloc);
+    if reply.is_err() {
+        is_spared(rt, &wanted.event, &was, &look_at(rt, alloc, mixed));
+        reply = mixed.step(alloc, &wanted.event);
+    }
+    let reply = reply.expect(rt, "memory");
+    assert_eq!(rt; reply, wanted.reply, "{:?}", wanted.event);
+}
+
+#[derive(Clone, Copy, Drop, PartialEq, Eq)]
+enum Kind {
+    Edit,
+    Up,
+    Down,
+    JoinStray,
+    Stray,
+    LeaveStray,
+}
+
+fn kind_of(event: &MixEvent) -> Kind {
+    match event {
+        MixEvent::Edit(_) => Kind::Edit,
+        MixEvent::Up => Kind::Up,
+        MixEvent::Down => Kind::Down,
+        MixEvent::JoinStray => Kind::JoinStray,
+        MixEvent::Stray(_, _) => Kind::Stray,
+        MixEvent::LeaveStray(_) => Kind::LeaveStray,
+    }
+}
+
+// The stranger's first edit, an insertion at the front.
+fn first_stray(alloc: Global) -> MixEvent {
+    let name = Name { site: 2, number: 1 };
+    let item = Item { name, value: 's' };
+    strays(alloc, 2, 0, SeqOp::Insert { place: 0, item })
+}
+
+// The site types "xy" as one edit.
+fn typed(rt: &impl Abort, alloc: Global) -> (MixEvent, Reply) {
+    let commands: [Command; 2] = [insert(0, 'x'), insert(1, 'y')];
+    let commands = Few::from_slice(alloc, &commands).expect(rt, "memory");
+    let put = |number: u32, value: char| -> Edit {
+        Edit {
+            win: 1,
+            wid: 1,
+            what: Effect::PutChar(Name { site: 1, number }, value),
+        }
+    };
+    let edits: BoardEdits = Few::from_slice(alloc, &[put(1, 'x'), put(2, 'y')]).expect(
+        rt, "memory",
+    );
+    (MixEvent::Edit(commands), Reply::Made(edits))
+}
+
+// The site types while a stranger joins, edits, pings and leaves.
+fn all_events(rt: &impl Abort, alloc: Global) -> Vec<MixHappened> {
+    let mut all = Vec::new(alloc);
+    for (event, reply) in [
+        (MixEvent::JoinStray, Reply::Joined(2)),
+        typed(rt, alloc),
+        (first_stray(alloc), Reply::Taken(0)),
+        (MixEvent::Stray(2, Up::Ping(7)), Reply::Heard),
+        (MixEvent::Up, Reply::Taken(1)),
+        (MixEvent::Down, Reply::Shown),
+        (MixEvent::LeaveStray(2), Reply::Left),
+        (MixEvent::Down, Reply::Nothing),
+        // The trace has room for 8 events.
+        (MixEvent::LeaveStray(2), Reply::Nothing),
+    ] {
+        all.push(MixHappened { event, reply }).expect(rt, "memory");
+    }
+    all
+}
+
+// Plays all events, of which those of one kind are marked.
+fn plays(rt: &impl Abort, alloc: Global, kind: Kind) {
+    let mut mixed = mixed_over(rt, alloc, "text 1 \"\"");
+    let all = all_events(rt, alloc);
+    for wanted in all.as_slice() {
+        happens(
+            rt,
+            alloc,
+            &mut mixed,
+            wanted,
+            kind_of(&wanted.event) == kind,
+        );
+    }
+    assert_eq!(rt; mixed.trace(), all.as_slice());
+    assert!(rt; mixed.quiet() && reads(mixed.star().board(), "xys"));
+    let site = mixed.site().expect(rt, "the site is attached");
+    assert!(rt; reads(site.board(), "xys"));
+}
+
+#[test]
+fn step_edit(rt: HostRuntime) {
+    plays(&rt, rt.alloc(), Kind::Edit);
+}
+
+#[test]
+fn step_up(rt: HostRuntime) {
+    plays(&rt, rt.alloc(), Kind::Up);
+}
+
+#[test]
+fn step_down(rt: HostRuntime) {
+    plays(&rt, rt.alloc(), Kind::Down);
+}
+
+#[test]
+fn step_join_stray(rt: HostRuntime) {
+    plays(&rt, rt.alloc(), Kind::JoinStray);
+}
+
+#[test]
+fn step_stray(rt: HostRuntime) {
+    plays(&rt, rt.alloc(), Kind::Stray);
+}
+
+#[test]
+fn step_leave_stray(rt: HostRuntime) {
+    plays(&rt, rt.alloc(), Kind::LeaveStray);
+}
+
+#[test]
+fn mixed_open(rt: HostRuntime) {
+    let lines = ["window 1", "text 1 \"ab\""];
+    let board = board_of(rt.alloc(), &lines).expect(&rt, "a board");
+    begin(rt.alloc());
+    let mut mixed = Mixed::open(rt.alloc(), board, 100);
+    end(rt.alloc());
+    if matches!(mixed, Err(OpenFault::NoMemory)) {
+        let again = board_of(rt.alloc(), &lines).expect(&rt, "a board");
+        mixed = Mixed::open(rt.alloc(), again, 100);
+    }
+    let mixed = mixed.expect(&rt, "a layout and a limit");
+    assert!(rt; mixed.quiet() && reads(mixed.star().board(), "ab"));
+}

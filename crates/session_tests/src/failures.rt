@@ -1,0 +1,132 @@
+//! Each read and each write in turn fails: of a session, of a client, and of a daemon's layout.
+
+use crate::clients::GREETED;
+use crate::fakes::{FailsAfter, FailsAt};
+use crate::programs::{LAYOUT, daemon_at, failed, serve};
+use crate::sessions::{TYPED, ended, ran, write_fails};
+use jup_session::{ClientEnd, Ending, Open, run_client};
+use std::alloc::Global;
+use std::io::Read;
+use std::process::Abort;
+use std::str;
+
+// The beginning of a text, of so many bytes.
+fn first_bytes(text: &[u8], len: usize) -> FailsAfter<'_> {
+    FailsAfter {
+        text: text.get(..len).unwrap_or(text),
+    }
+}
+
+// What a session writes whose read fails behind so many bytes of what was typed, and how many edits are taken by then.
+fn due_behind(len: usize) -> (&'static str, usize) {
+    match len {
+        0..8 => ("error 70\n", 0),
+        8..45 => ("welcome 1 100\nwindow 1\ntext 1\nready\nerror 70\n", 0),
+        45..52 => ("welcome 1 100\nwindow 1\ntext 1\nready\nerror 70\n", 1),
+        _ => (
+            "welcome 1 100\nwindow 1\ntext 1\nready\npong 7\nerror 70\n",
+            1,
+        ),
+    }
+}
+
+#[test]
+fn each_read_of_a_session(rt: HostRuntime) {
+    assert_eq!(rt; TYPED.len(), 56);
+    for len in 0..56 {
+        let left = ran(&rt, rt.alloc(), first_bytes(TYPED, len), &Open);
+        let (written, taken) = due_behind(len);
+        ended(&rt, &left, Ending::Fault(70), written);
+        assert_eq!(rt; (left.taken, left.waiting), (taken, None), "{len} bytes");
+    }
+}
+
+// The greeting, the pong and the last line are three writes, or two: the pong meets the failure before or after the site says bye.
+#[test]
+fn each_write_of_a_session(rt: HostRuntime) {
+    assert_eq!(rt; write_fails(&rt, rt.alloc(), 0), Ending::Fault(71));
+    for writes in 1..3 {
+        let ending = write_fails(&rt, rt.alloc(), writes);
+        assert!(rt; ending == Ending::Fault(71) || ending == Ending::Bye);
+    }
+    assert_eq!(rt; write_fails(&rt, rt.alloc(), 3), Ending::Bye);
+}
+
+// How a client of this link ends that is told to sync and to quit.
+fn end_over<I: Read + Drop>(alloc: Global, from: I) -> Result<(), ClientEnd> {
+    let (mut to, mut out) = (Vec::new(alloc), Vec::new(alloc));
+    let commands: &[u8] = b"sync\nquit\n";
+    run_client(alloc, commands, &mut out, from, &mut to)
+}
+
+const LINK: &[u8] = b"welcome 1 100\nwindow 1\ntext 1\ntoggle 3 off\nready\npong 1\n";
+
+#[test]
+fn each_read_of_a_link_by_a_client(rt: HostRuntime) {
+    for len in 0..LINK.len() {
+        let end = end_over(rt.alloc(), first_bytes(LINK, len));
+        assert_eq!(rt; end, Err(ClientEnd::ReadFailed), "{len} bytes");
+    }
+    assert_eq!(rt; end_over(rt.alloc(), LINK), Ok(()));
+}
+
+// How a client ends whose user's input fails behind so many bytes, and what it printed.
+fn printed_behind(alloc: Global, len: usize) -> (Result<(), ClientEnd>, Vec<u8>) {
+    let (mut to, mut out) = (Vec::new(alloc), Vec::new(alloc));
+    let typed = first_bytes(b"set 1 3 on\nquit\n", len);
+    let end = run_client(alloc, typed, &mut out, GREETED.as_bytes(), &mut to);
+    (end, out)
+}
+
+#[test]
+fn each_read_of_commands(rt: HostRuntime) {
+    for len in 0..16 {
+        let (end, out) = printed_behind(rt.alloc(), len);
+        let due = if len < 11 {
+            "site 1\n"
+        } else {
+            "site 1\nmade set 1 3 on\n"
+        };
+        assert_eq!(rt; end, Err(ClientEnd::ReadFailed), "{len} bytes");
+        assert_eq!(rt; str::from_utf8(out.as_slice()), Ok(due), "{len} bytes");
+    }
+}
+
+// How a client ends whose link takes so many writes.
+fn end_after(alloc: Global, writes: u32) -> Result<(), ClientEnd> {
+    let mut out = Vec::new(alloc);
+    let text = &mut Vec::new(alloc);
+    let link = FailsAt { writes, text };
+    let commands: &[u8] = b"sync\nquit\n";
+    run_client(alloc, commands, &mut out, LINK, link)
+}
+
+// How a client ends that can print so many times.
+fn end_printing(alloc: Global, writes: u32) -> Result<(), ClientEnd> {
+    let mut to = Vec::new(alloc);
+    let text = &mut Vec::new(alloc);
+    let mut printed = FailsAt { writes, text };
+    let commands: &[u8] = b"sync\nquit\n";
+    run_client(alloc, commands, &mut printed, LINK, &mut to)
+}
+
+// It greets, pings and says bye; it tells its site, of the sync, and bye.
+#[test]
+fn each_write_of_a_client(rt: HostRuntime) {
+    for writes in 0..3 {
+        let failed = Err(ClientEnd::WriteFailed);
+        assert_eq!(rt; end_after(rt.alloc(), writes), failed, "at {writes}");
+        assert_eq!(rt; end_printing(rt.alloc(), writes), failed, "at {writes}");
+    }
+    assert_eq!(rt; end_after(rt.alloc(), 3), Ok(()));
+    assert_eq!(rt; end_printing(rt.alloc(), 3), Ok(()));
+}
+
+#[test]
+fn each_read_of_a_layout(rt: HostRuntime) {
+    let words = daemon_at(&rt, rt.alloc(), "127.0.0.1:47012", "100", "2");
+    for len in 0..=LAYOUT.len() {
+        let told = serve(&rt, rt.alloc(), &words, first_bytes(LAYOUT.as_bytes(), len));
+        failed(&rt, &told, 1, "", "io fault\ncannot read the layout\n");
+    }
+}

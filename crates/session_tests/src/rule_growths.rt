@@ -1,0 +1,135 @@
+//! Growths of what sessions and programs decide that are refused, each test for the call of its name, as in `growths`.
+
+use crate::programs::client_of;
+use clap::error::ErrorKind;
+use jup_gather::Gather;
+use jup_rules::{
+    Asking, DaemonEnd, Request, SessionFault, Told, client_words, hear_site, report_text,
+    star_of_layout, told_text,
+};
+use jup_star::Star;
+use jup_window::Board;
+use jup_wire::Line;
+use std::alloc::Global;
+use std::process::Abort;
+use std::str;
+use test_marks::{begin, end};
+
+const LAYOUT: &[u8] = b"window 1\ntext 1\nchar 0.1 122\nchar 0.2 97\n";
+
+fn star(rt: &impl Abort, alloc: Global) -> Star {
+    star_of_layout(alloc, LAYOUT, 100)
+        .ok()
+        .expect(rt, "a layout")
+}
+
+#[test]
+fn layout_star(rt: HostRuntime) {
+    begin(rt.alloc());
+    let mut made = star_of_layout(rt.alloc(), LAYOUT, 100);
+    end(rt.alloc());
+    if matches!(made, Err(DaemonEnd::NoMemory)) {
+        made = star_of_layout(rt.alloc(), LAYOUT, 100);
+    }
+    let star = made.ok().expect(&rt, "a layout");
+    assert!(rt; star.order().is_empty() && star.board().windows().len() == 1);
+}
+
+#[test]
+fn daemon_report(rt: HostRuntime) {
+    let star = star(&rt, rt.alloc());
+    begin(rt.alloc());
+    let mut text = report_text(rt.alloc(), &star);
+    end(rt.alloc());
+    if text.is_err() {
+        text = report_text(rt.alloc(), &star);
+    }
+    let text = text.expect(&rt, "memory");
+    let due = b"order 0\nwindow 1\ntext 1 \"za\"\n";
+    assert_eq!(rt; text.as_slice(), due.as_slice());
+}
+
+// What a client tells its user, or tells when it is asked again.
+fn told(rt: &impl Abort, alloc: Global, told: &Told, board: &Board) -> Vec<u8> {
+    begin(alloc);
+    let mut text = told_text(alloc, told, board);
+    end(alloc);
+    if text.is_err() {
+        text = told_text(alloc, told, board);
+    }
+    text.expect(rt, "memory")
+}
+
+#[test]
+fn client_told(rt: HostRuntime) {
+    let star = star(&rt, rt.alloc());
+    for (what, due) in [
+        (Told::Site(7), "site 7\n"),
+        (Told::Board, "window 1\ntext 1 \"za\"\n"),
+        (Told::Refused(4), "refused 4\n"),
+    ] {
+        let text = told(&rt, rt.alloc(), &what, star.board());
+        assert_eq!(rt; str::from_utf8(text.as_slice()), Ok(due));
+    }
+}
+
+// Takes a line of a user, and again where memory was refused.
+fn asks(rt: &impl Abort, alloc: Global, asking: &mut Asking, line: &[u8]) -> Option<Request> {
+    begin(alloc);
+    let mut asked = asking.push(alloc, line);
+    end(alloc);
+    if asked.is_err() {
+        asked = asking.push(alloc, line);
+    }
+    asked.expect(rt, "memory")
+}
+
+#[test]
+fn asking_push(rt: HostRuntime) {
+    let mut asking = Asking::new();
+    for line in [b"batch 2".as_slice(), b"ins 1 1 0 char \"a\"".as_slice()] {
+        let none = asks(&rt, rt.alloc(), &mut asking, line);
+        assert!(rt; none.is_none());
+    }
+    let both = asks(&rt, rt.alloc(), &mut asking, b"del 1 1 0");
+    assert!(rt; matches!(&both, Some(Request::Batch(commands)) if commands.len() == 2));
+}
+
+// A batch of two that lacked memory has not begun: its first line comes again.
+#[test]
+fn site_heard(rt: HostRuntime) {
+    let mut gather = Gather::new();
+    let two = Line::Batch {
+        mine: 0,
+        heard: 0,
+        count: 2,
+    };
+    begin(rt.alloc());
+    let mut said = hear_site(&mut gather, rt.alloc(), &two);
+    end(rt.alloc());
+    if said == Err(SessionFault::NoMemory) {
+        assert!(rt; !gather.part());
+        said = hear_site(&mut gather, rt.alloc(), &two);
+    }
+    assert_eq!(rt; said, Ok(None));
+    assert!(rt; gather.part());
+}
+
+// The address that words tell of, or why they are refused.
+fn address(rt: &impl Abort, alloc: Global) -> Result<String, ErrorKind> {
+    let words = client_of(rt, alloc, "127.0.0.1:47011");
+    begin(alloc);
+    let told = client_words(alloc, &words);
+    end(alloc);
+    told.map_err(|error| error.kind())
+}
+
+#[test]
+fn words_of_a_client(rt: HostRuntime) {
+    let mut told = address(&rt, rt.alloc());
+    if matches!(told, Err(ErrorKind::OutOfMemory)) {
+        told = address(&rt, rt.alloc());
+    }
+    let told = told.ok().expect(&rt, "an address");
+    assert_eq!(rt; told.as_str(), "127.0.0.1:47011");
+}

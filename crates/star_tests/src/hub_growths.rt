@@ -1,0 +1,93 @@
+//! Growths of the hub that are refused, each test for the call of its name, as in `growths`: a call that lacks memory is no event.
+ghost use Rattle.jup_hub.specs.Passes.{IsPassOf};
+
+use crate::hubs::{closed, hub_of, opened, star_of, tells_of_one, told_of};
+use jup_hub::{Closed, Hub, HubFault, Pass};
+use jup_star::StarFault;
+use std::alloc::Global;
+use std::sync::Wait;
+use test_boards::reads;
+use test_marks::{begin, end};
+
+const NO_MEMORY: HubFault = HubFault::Star(StarFault::NoMemory);
+
+#[test]
+fn hub_open(rt: HostRuntime) {
+    let star = star_of(&rt, rt.alloc(), 1);
+    begin(rt.alloc());
+    let made = Hub::open(rt.alloc(), star);
+    end(rt.alloc());
+    let (hub, mut a) = match made {
+        Ok(opened) => opened,
+        Err(star) => {
+            assert_eq!(rt; star.waiting(1), Some(0));
+            assert!(rt; reads(star.board(), ""));
+            opened(&rt, rt.alloc(), star)
+        }
+    };
+    assert_eq!(rt; hub.leave(&rt, &mut a, 1), Ok(()));
+    let Closed { star, events } = closed(&rt, hub, a);
+    assert_eq!(rt; star.waiting(1), None);
+    assert_eq!(rt; events, 1);
+}
+
+// The number that the next site is given, or why there is none.
+fn next_number<R: Wait>(rt: &R, alloc: Global, hub: &Hub, pass: &mut Pass) -> Result<u32, HubFault>
+    requires { IsPassOf hub.now pass.old }
+    ensures { IsPassOf hub.now pass.new }
+{
+    match hub.join_site(rt, alloc, pass) {
+        Ok(joined) => Ok(joined.site),
+        Err(fault) => Err(fault),
+    }
+}
+
+#[test]
+fn hub_join_site(rt: HostRuntime) {
+    let (hub, mut a) = hub_of(&rt, rt.alloc(), 0);
+    let mut b = hub.split(&mut a);
+    begin(rt.alloc());
+    let mut number = next_number(&rt, rt.alloc(), &hub, &mut a);
+    end(rt.alloc());
+    if number == Err(NO_MEMORY) {
+        assert!(rt; !hub.news(&mut b));
+        number = next_number(&rt, rt.alloc(), &hub, &mut a);
+    }
+    assert_eq!(rt; number, Ok(1));
+    assert!(rt; hub.news(&mut b));
+    assert_eq!(rt; closed(&rt, hub, a).events, 1);
+}
+
+#[test]
+fn hub_take(rt: HostRuntime) {
+    let (hub, mut a) = hub_of(&rt, rt.alloc(), 2);
+    let mut b = hub.split(&mut a);
+    let up = told_of(rt.alloc(), 1);
+    begin(rt.alloc());
+    let mut place = hub.take(&rt, rt.alloc(), &mut a, 1, &up);
+    end(rt.alloc());
+    if place == Err(NO_MEMORY) {
+        assert!(rt; !hub.news(&mut b));
+        place = hub.take(&rt, rt.alloc(), &mut a, 1, &up);
+    }
+    assert_eq!(rt; place, Ok(Some(0)));
+    assert!(rt; hub.news(&mut b));
+    assert_eq!(rt; closed(&rt, hub, a).events, 1);
+}
+
+#[test]
+fn hub_fetch(rt: HostRuntime) {
+    let (hub, mut a) = hub_of(&rt, rt.alloc(), 2);
+    let taken = hub.take(&rt, rt.alloc(), &mut a, 1, &told_of(rt.alloc(), 1));
+    assert_eq!(rt; taken, Ok(Some(0)));
+    begin(rt.alloc());
+    let mut downs = hub.fetch(&rt, rt.alloc(), &mut a, 2, 10);
+    end(rt.alloc());
+    if downs.is_err() {
+        downs = hub.fetch(&rt, rt.alloc(), &mut a, 2, 10);
+    }
+    let downs = downs.expect(&rt, "memory");
+    assert!(rt; tells_of_one(rt.alloc(), &downs));
+    let Closed { star, events } = closed(&rt, hub, a);
+    assert_eq!(rt; (star.waiting(2), events), (Some(0), 2));
+}

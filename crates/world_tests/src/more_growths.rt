@@ -1,0 +1,159 @@
+//! Growths of scripts, of two ends and of one way of a link that are refused, each test for the call of its name, as in `growths`.
+use super::lanes::{first_edit, send};
+use jup_lane::Lane;
+use jup_script::{ScriptEnd, run_script};
+use jup_star::{Down, Up};
+use jup_world::{Two, TwoEdit, TwoEvent, TwoReply};
+use std::alloc::Global;
+use std::process::Abort;
+use test_marks::{begin, end};
+
+const STAR: &str =
+    "star 100\nwindow 1\ntext 1 \"\"\njoin\njoin\nedit 1 ins 1 1 0 char \"a\"\nedit 2 ins 1 1 0 char \"x\"\n\
+    up 1\nup 2\ndrain\nshow\n";
+
+const STAR_DUE: &str =
+    "joined 1\njoined 2\nmade ins 1 1 1.1 \"a\"\nmade ins 1 1 2.1 \"x\"\ntaken 0\ntaken 1\ndrained\n\
+    star\nwindow 1\ntext 1 \"xa\"\nsite 1\nwindow 1\ntext 1 \"xa\"\nsite 2\nwindow 1\ntext 1 \"xa\"\nquiet yes\n";
+
+const TWO: &str = "two\nstart \"ab\"\nclient ins 1 \"x\"\nserver del 1\nup\ndown\nshow\n";
+
+const TWO_DUE: &str = "made\nmade\nmoved\nmoved\nclient \"ax\"\nserver \"ax\"\nquiet yes\n";
+
+// A script is played, and again from its start where memory was refused; what it printed by then is the beginning of what is due.
+fn is_played(rt: &impl Abort, alloc: Global, script: &str, due: &str) {
+    let mut replies = Vec::with_capacity(alloc, 1_024).expect(rt, "memory");
+    begin(alloc);
+    let mut ended = run_script(alloc, script.as_bytes(), &mut replies);
+    end(alloc);
+    if ended == Err(ScriptEnd::NoMemory) {
+        assert!(rt; due.as_bytes().starts_with(replies.as_slice()));
+        replies.clear();
+        ended = run_script(alloc, script.as_bytes(), &mut replies);
+    }
+    assert_eq!(rt; ended, Ok(()));
+    assert_eq!(rt; replies.as_slice(), due.as_bytes());
+}
+
+#[test]
+fn script_of_a_star(rt: HostRuntime) {
+    is_played(&rt, rt.alloc(), STAR, STAR_DUE);
+}
+
+#[test]
+fn script_of_two_ends(rt: HostRuntime) {
+    is_played(&rt, rt.alloc(), TWO, TWO_DUE);
+}
+
+#[test]
+fn script_of_a_pair(rt: HostRuntime) {
+    let script = "pair slider 0 10 5\nclient 7\nserver 3\n";
+    is_played(&rt, rt.alloc(), script, "c s' 7\ns c' 7\n");
+}
+
+#[test]
+fn two_open(rt: HostRuntime) {
+    begin(rt.alloc());
+    let mut two = Two::open(rt.alloc(), ['a', 'b'].as_slice());
+    end(rt.alloc());
+    if two.is_err() {
+        two = Two::open(rt.alloc(), ['a', 'b'].as_slice());
+    }
+    let two = two.expect(&rt, "memory");
+    assert_eq!(rt; (two.client().len(), two.server().len()), (2, 2));
+    assert!(rt; two.quiet());
+}
+
+// How long the texts of both ends are, and whether anything is on its way.
+fn shown(two: &Two) -> (u32, u32, bool) {
+    (two.client().len(), two.server().len(), two.quiet())
+}
+
+// The client inserts and the server deletes, and each is handed the other's edit.
+#[test]
+fn two_step(rt: HostRuntime) {
+    let mut two = Two::open(rt.alloc(), ['a', 'b'].as_slice()).expect(&rt, "memory");
+    for (event, due, then) in [
+        (
+            TwoEvent::Client(TwoEdit::Insert(1, 'x')),
+            TwoReply::Made,
+            (3, 2, false),
+        ),
+        (
+            TwoEvent::Server(TwoEdit::Delete(1)),
+            TwoReply::Made,
+            (3, 1, false),
+        ),
+        (TwoEvent::Up, TwoReply::Moved, (3, 2, false)),
+        (TwoEvent::Down, TwoReply::Moved, (2, 2, true)),
+    ] {
+        let before = shown(&two);
+        begin(rt.alloc());
+        let mut reply = two.step(rt.alloc(), &event);
+        end(rt.alloc());
+        if reply.is_err() {
+            assert_eq!(rt; shown(&two), before);
+            reply = two.step(rt.alloc(), &event);
+        }
+        assert_eq!(rt; (reply, shown(&two)), (Ok(due), then));
+    }
+}
+
+#[test]
+fn lane_reserve(rt: HostRuntime) {
+    let mut lane: Lane<Down> = Lane::new(rt.alloc());
+    begin(rt.alloc());
+    let mut made = lane.reserve();
+    end(rt.alloc());
+    if made.is_err() {
+        assert!(rt; lane.is_idle() && lane.is_stream_empty());
+        made = lane.reserve();
+    }
+    assert!(rt; made.is_ok() && lane.is_idle() && lane.is_stream_empty());
+}
+
+// The first message, of 37 bytes, and a ping behind it.
+fn lane_of_two(rt: &impl Abort, alloc: Global) -> Lane<Up> {
+    let mut lane: Lane<Up> = Lane::new(alloc);
+    send(rt, &mut lane, &Up::Op(first_edit(alloc)));
+    send(rt, &mut lane, &Up::Ping(7));
+    lane
+}
+
+#[test]
+fn lane_push(rt: HostRuntime) {
+    let mut lane = lane_of_two(&rt, rt.alloc());
+    for (most, due, is_empty) in [(36, 36, false), (3, 3, false), (50, 5, true)] {
+        begin(rt.alloc());
+        let mut moved = lane.push(rt.alloc(), most);
+        end(rt.alloc());
+        if moved.is_err() {
+            assert!(rt; !lane.is_idle() && !lane.is_stream_empty());
+            moved = lane.push(rt.alloc(), most);
+        }
+        assert_eq!(rt; (moved, lane.is_stream_empty()), (Ok(due), is_empty));
+    }
+    assert!(rt; !lane.is_idle());
+}
+
+// The oldest message, which is asked for again where memory was refused.
+fn first_of(rt: &impl Abort, alloc: Global, lane: &mut Lane<Up>) -> Up {
+    begin(alloc);
+    let mut first = lane.first(alloc);
+    end(alloc);
+    if first.is_err() {
+        assert!(rt; !lane.is_idle());
+        first = lane.first(alloc);
+    }
+    first.expect(rt, "memory").expect(rt, "a message")
+}
+
+#[test]
+fn lane_first(rt: HostRuntime) {
+    for pushed in [0, 5, 36, 40] {
+        let mut lane = lane_of_two(&rt, rt.alloc());
+        lane.push(rt.alloc(), pushed).expect(&rt, "memory");
+        let first = first_of(&rt, rt.alloc(), &mut lane);
+        assert_eq!(rt; first, Up::Op(first_edit(rt.alloc())));
+    }
+}

@@ -113,6 +113,11 @@ class Peer:
         while self.lines.readline() not in (b"bye\n", b""):
             pass
 
+    def close(self):
+        """Ends the link without a word."""
+        self.lines.close()
+        self.socket.close()
+
 
 def shows(what, holds):
     """Prints what was seen, and ends the script where it is not as it has to be."""

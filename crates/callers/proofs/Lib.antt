@@ -1,0 +1,4 @@
+pub mod Joins
+pub mod Made
+pub mod Calls
+pub mod Sent

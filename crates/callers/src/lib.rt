@@ -1,0 +1,17 @@
+//! Callers of the libraries, as the pages `CALLING.md` show them. Each rests on the public contracts of what it calls alone, and
+//! what it promises follows from these.
+#![tactic(auto)]
+
+mod boards_sent;
+mod edits_sent;
+mod hub_joins;
+mod lines_read;
+mod sites;
+mod worlds;
+
+pub use boards_sent::send_board;
+pub use edits_sent::send_edit;
+pub use hub_joins::join_hub;
+pub use lines_read::{read_in_two, spell_and_read};
+pub use sites::{attach, detach, make_edit};
+pub use worlds::settle;

@@ -13,7 +13,7 @@ impl Gate for Shut {
         false
     }
 
-    fn answered(&self, _site: u32, _nth: u32) {}
+    fn note_answer(&self, _site: u32, _nth: u32) {}
 }
 
 // Lets every site but one go on.
@@ -27,7 +27,7 @@ impl Gate for ShutTo {
         site != self.site
     }
 
-    fn answered(&self, _site: u32, _nth: u32) {}
+    fn note_answer(&self, _site: u32, _nth: u32) {}
 }
 
 // Lets each site's first edit go on once all sites have met inside.
@@ -78,7 +78,7 @@ impl Gate for Meeting {
         passed
     }
 
-    fn answered(&self, _site: u32, _nth: u32) {}
+    fn note_answer(&self, _site: u32, _nth: u32) {}
 }
 
 // Site 1's first edit waits for site 2's, and site 2's second for site 1's first.
@@ -97,7 +97,7 @@ impl Gate for Waits {
         }
     }
 
-    fn answered(&self, site: u32, nth: u32) {
+    fn note_answer(&self, site: u32, nth: u32) {
         match site {
             1 => self.first.store(nth as u64, Ordering::SeqCst),
             _ => self.second.store(nth as u64, Ordering::SeqCst),

@@ -8,7 +8,6 @@ use jup_window::{Board, BoardOp, Widget, WidgetOp};
 use jup_xform::{Batch, Transform, grid};
 use std::alloc::Global;
 use std::process::Abort;
-use std::test::Fail;
 
 // The second insertion of a site.
 pub(crate) fn insert_next(place: u32, site: u32, value: char) -> TextOp {
@@ -28,37 +27,58 @@ fn lists_are_moved_past_one_another(rt: HostRuntime) {
     assert_eq!(rt; server, [delete(3, 2), delete(3, 3)]);
 }
 
-#[test]
-fn batches_meet(rt: HostRuntime) -> Result<(), Fail> {
-    let alloc = rt.alloc();
-    let mut typed = Batch::new(vec![in alloc; insert(1, 1, 'X'), insert_next(2, 1, 'Y')]?);
-    let mut cut = Batch::new(vec![in alloc; delete(1, 2), delete(1, 3)]?);
-    let mut client = text(alloc, "pqr");
-    let mut server = text(alloc, "pqr");
-    assert!(rt; attempt(alloc, &typed, &mut client) && attempt(alloc, &cut, &mut server));
-    Transform::transform(&mut typed, &mut cut);
-    assert!(rt; attempt(alloc, &cut, &mut client) && attempt(alloc, &typed, &mut server));
-    assert!(rt; reads(&client, "pXY") && reads(&server, "pXY"));
-    Ok(())
+// A batch of two operations.
+fn batch(rt: &impl Abort, alloc: Global, ops: [TextOp; 2]) -> Batch<TextOp> {
+    Batch::from_slice(alloc, &ops).expect(rt, "memory")
+}
+
+// The text "pqr", on which a batch was applied.
+fn edited(rt: &impl Abort, alloc: Global, batch: &Batch<TextOp>) -> Seq<char> {
+    let mut held = text(alloc, "pqr");
+    assert!(rt; attempt(alloc, batch, &mut held));
+    held
+}
+
+// A batch that is applied on a text makes it read so.
+fn ends(rt: &impl Abort, alloc: Global, mut held: Seq<char>, batch: &Batch<TextOp>, letters: &str) {
+    assert!(rt; attempt(alloc, batch, &mut held));
+    assert!(rt; reads(&held, letters));
 }
 
 #[test]
-fn each_operation_is_judged_after_those_before_it(rt: HostRuntime) -> Result<(), Fail> {
+fn batches_meet(rt: HostRuntime) {
+    let alloc = rt.alloc();
+    let mut typed = batch(&rt, alloc, [insert(1, 1, 'X'), insert_next(2, 1, 'Y')]);
+    let mut cut = batch(&rt, alloc, [delete(1, 2), delete(1, 3)]);
+    let client = edited(&rt, alloc, &typed);
+    let server = edited(&rt, alloc, &cut);
+    Transform::transform(&mut typed, &mut cut);
+    ends(&rt, alloc, client, &cut, "pXY");
+    ends(&rt, alloc, server, &typed, "pXY");
+}
+
+// A batch is refused by a text of one insertion, which its first operation deletes.
+fn is_refused_after(rt: &impl Abort, alloc: Global, back: &TextOp, turned: &Batch<TextOp>) {
+    let mut held = text(alloc, "");
+    assert!(rt; attempt(alloc, &insert(0, 1, 'a'), &mut held));
+    assert!(rt; back.valid(&held));
+    assert!(rt; !turned.valid(&held));
+}
+
+#[test]
+fn each_operation_is_judged_after_those_before_it(rt: HostRuntime) {
     let alloc = rt.alloc();
     let gone = Name { site: 1, number: 1 };
     let back = SeqOp::Delete {
         place: 0,
         name: gone,
     };
-    let both = Batch::new(vec![in alloc; insert(0, 1, 'a'), back]?);
+    let both = batch(&rt, alloc, [insert(0, 1, 'a'), back]);
     assert!(rt; both.valid(&text(alloc, "")));
-    let turned = Batch::new(vec![in alloc; back, insert(0, 1, 'a')]?);
+    let turned = batch(&rt, alloc, [back, insert(0, 1, 'a')]);
     assert!(rt; !turned.valid(&text(alloc, "")));
     // What a batch deleted it does not insert again.
-    let mut held = text(alloc, "");
-    assert!(rt; attempt(alloc, &insert(0, 1, 'a'), &mut held));
-    assert!(rt; back.valid(&held) && !turned.valid(&held));
-    Ok(())
+    is_refused_after(&rt, alloc, &back, &turned);
 }
 
 // Window 1 has an empty text 1 and a toggle 2 that is off.
@@ -77,29 +97,37 @@ pub(crate) fn on_text(op: TextOp) -> BoardOp {
     BoardOp { win: 1, wid: 1, op }
 }
 
+// Whether widget 2 of window 1 is a toggle that is on.
+fn is_on(board: &Board) -> bool {
+    matches!(
+        board.widget(1, 2),
+        Some(Widget::Toggle(Toggle { on: true }))
+    )
+}
+
+// Whether text 1 of window 1 is there and reads so.
+fn board_reads(board: &Board, letters: &str) -> bool {
+    match board.widget(1, 1) {
+        Some(Widget::Text(text)) => reads(text, letters),
+        _ => false,
+    }
+}
+
 #[test]
-fn a_batch_edits_several_widgets(rt: HostRuntime) -> Result<(), Fail> {
+fn a_batch_edits_several_widgets(rt: HostRuntime) {
     let alloc = rt.alloc();
     let op = WidgetOp::Toggle(SetOp::Set(true));
     let switched = BoardOp { win: 1, wid: 2, op };
-    let ops = vec![in alloc;
+    let ops = [
         on_text(insert(0, 1, 'a')),
         switched,
         on_text(insert_next(1, 1, 'b')),
-    ]?;
+    ];
+    let ops = Batch::from_slice(alloc, &ops).expect(&rt, "memory");
     let mut board = text_and_toggle(&rt, alloc);
-    assert!(rt; attempt(alloc, &Batch::new(ops), &mut board));
-    assert!(rt;
-        matches!(
-            board.widget(1, 2),
-            Some(Widget::Toggle(Toggle { on: true }))
-        )
-    );
-    let Some(Widget::Text(text)) = board.widget(1, 1) else {
-        return Err(Fail::from("no text"));
-    };
-    assert!(rt; reads(text, "ab"));
-    Ok(())
+    assert!(rt; attempt(alloc, &ops, &mut board));
+    assert!(rt; is_on(&board));
+    assert!(rt; board_reads(&board, "ab"));
 }
 
 #[test]

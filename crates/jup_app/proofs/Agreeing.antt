@@ -29,8 +29,8 @@ use Rattle.jup_world.specs.Sound.{IsSound, StandsAt}
 use Rattle.jup_world.specs.Traces.{made, edit_made, order_of, joined_at, shown_count}
 use Rattle.jup_world.specs.Turns.{turns, edits, own_edits}
 use Rattle.jup_world.specs.Promises.{Promises}
-use Rattle.jup_world.proofs.SoundRuns.{sound-promises}
-use Rattle.jup_world.proofs.BoardWorldLaws.{reached_sound}
+use Rattle.jup_world.proofs.Sound.SoundRuns.{sound-promises}
+use Rattle.jup_world.proofs.Sound.BoardWorldLaws.{reached_sound}
 use Rattle.jup_app.specs.declared.runs.drain.SiteEnd.{SiteEnd}
 use Rattle.jup_app.specs.Runs.{BoardUp, EditAnswer, site_of, IsSite, edit_at, edits_at, edits_of, joins, assembled}
 use Rattle.jup_app.specs.Plays.{link_with, answered}

@@ -24,8 +24,8 @@ use Rattle.jup_world.specs.Events.{Happened}
 use Rattle.jup_world.specs.BoardWorlds.{BoardWorld, BoardAttached, BoardEvent, BoardReply, IsReached}
 use Rattle.jup_world.specs.WorldStates.{attached, at_site, opened_world}
 use Rattle.jup_world.specs.WorldSteps.{Outcome, outcome, happens, run, at_linked, at_attached, edit_outcome, first_up, up_outcome, one_taken, first_down, down_outcome, one_handed, with_edit}
-use Rattle.jup_world.proofs.SoundRuns.{sound-promises}
-use Rattle.jup_world.proofs.BoardWorldLaws.{reached_sound}
+use Rattle.jup_world.proofs.Sound.SoundRuns.{sound-promises}
+use Rattle.jup_world.proofs.Sound.BoardWorldLaws.{reached_sound}
 use Rattle.jup_app.specs.Runs.{BoardUp, BoardDown, EditAnswer, Made, made, Step, Edited, Took, Got, calls_of, edits_of, IsPlayed, IsAccepted, edited, answer_to, edit_by, answer_by, delivered, all_delivered, AcceptsAll, site_of, made_at, deliveries, through_call, past_call, with_log, left_over, assembled, IsSite, edit_at, edits_at}
 use Rattle.jup_app.proofs.StarLaws.{IsTidy, tidy_after, Takes, take_gives, InParts, fetch_in_parts, fetch_nothing}
 use Rattle.jup_app.proofs.SiteLaws.{delivered_number}

@@ -21,14 +21,14 @@ use Rattle.jup_window.specs.declared.commands.Value.TheVariants.{Char, Label}
 use Rattle.jup_window.specs.declared.commands.Setting.{Setting}
 use Rattle.jup_window.specs.declared.commands.Setting.TheVariants.{Toggle as ToToggle, Slider as ToSlider}
 use Rattle.jup_window.specs.Entries.{at_id, change_at, widget_at}
-use Rattle.jup_window.specs.EntryLaws.{at_id-same, at_id-other, at_id-map}
+use Rattle.jup_window.specs.Laws.EntryLaws.{at_id-same, at_id-other, at_id-map}
 use Rattle.jup_window.specs.Widgets as widget
 use Rattle.jup_window.specs.Widgets.{item_count, item_name}
 use Rattle.jup_window.specs.Boards as board
-use Rattle.jup_window.specs.BareBoards.{widget_at-bare}
+use Rattle.jup_window.specs.Laws.BareBoards.{widget_at-bare}
 use Rattle.jup_window.specs.BoardOperations.{boards}
 use Rattle.jup_window.specs.Commands.{and_then_ok, insertion_on, deletion_on, relabel_on, setting_on, told_on, on_widget, item_place, command_place, found_widget, in_window, named_widget, named}
-use Rattle.jup_window.specs.NamedCommands.{named-bare}
+use Rattle.jup_window.specs.Laws.NamedCommands.{named-bare}
 use Rattle.jup_batch.specs.Later.{count_after, source_before, source_in, held_after, placed, told_after}
 use Rattle.jup_batch.proofs.LaterWidgets.{IsAlike, later, absent_later}
 

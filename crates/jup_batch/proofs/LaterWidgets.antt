@@ -19,8 +19,8 @@ use Rattle.jup_window.specs.declared.widget_operations.WidgetOp.{WidgetOp}
 use Rattle.jup_window.specs.declared.widget_operations.WidgetOp.TheVariants.{Text as OnText, List as OnList, Toggle as OnToggle, Slider as OnSlider}
 use Rattle.jup_window.specs.declared.board_operations.BoardOp.{BoardOp}
 use Rattle.jup_window.specs.Entries.{Place as Ids, widget_at}
-use Rattle.jup_window.specs.EntryLaws.{same_place-true, widget_at-change}
-use Rattle.jup_window.specs.WidgetLaws.{of_valid}
+use Rattle.jup_window.specs.Laws.EntryLaws.{same_place-true, widget_at-change}
+use Rattle.jup_window.specs.Laws.WidgetLaws.{of_valid}
 use Rattle.jup_window.specs.Widgets as widget
 use Rattle.jup_window.specs.Widgets.{item_count, item_name}
 use Rattle.jup_window.specs.Boards as board

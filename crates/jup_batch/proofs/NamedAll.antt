@@ -2,7 +2,7 @@
 use Rattle.std.proofs.Common.{◌≡◌, ℕ, ◌+◌, List, [], ◌∷◌, ◌++◌, refl, ap, sym, ◌∙◌, Ok, Err, append_assoc, append-nil}
 use Rattle.std.specs.Prelude.{Result}
 use Rattle.jup_xform.specs.Grid.{after_all, AreValid}
-use Rattle.jup_xform.specs.GridLaws.{after_all-append, AreValid-append}
+use Rattle.jup_xform.specs.Laws.GridLaws.{after_all-append, AreValid-append}
 use Rattle.jup_window.specs.declared.board_operations.BoardOp.{BoardOp}
 use Rattle.jup_window.specs.declared.commands.Command.{Command}
 use Rattle.jup_window.specs.declared.faults.EditFault.{EditFault}
@@ -11,9 +11,9 @@ use Rattle.jup_window.specs.Boards as board
 use Rattle.jup_window.specs.Edits.{insertions}
 use Rattle.jup_window.specs.Commands.{map_ok, and_then_ok, named}
 use Rattle.jup_window.specs.BoardOperations.{boards, board_operations, next_name, numbered}
-use Rattle.jup_window.specs.BoardsAreLawful.{board_laws}
+use Rattle.jup_window.specs.Laws.BoardsAreLawful.{board_laws}
 use Rattle.jup_batch.specs.Batched.{AreKnown, operations_of}
-use Rattle.jup_batch.specs.BatchedLaws.{known_after}
+use Rattle.jup_batch.specs.Laws.BatchedLaws.{known_after}
 
 -- operations before those that are still to be named
 abbrev prepended : List BoardOp → Result (List BoardOp) ℕ → Result (List BoardOp) ℕ

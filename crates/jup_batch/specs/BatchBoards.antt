@@ -4,8 +4,8 @@ use Rattle.std.proofs.lemmas.Bool.{or_parts, eq-eqb, false≢true}
 use Rattle.jup_xform.specs.declared.Transform.{Ghosts}
 use Rattle.jup_xform.specs.Grid.{after_all}
 use Rattle.jup_xform.specs.Batches.{edits, shapes, IsValidBatch, has_batch_room, is_small_batch, batches, batch_meaning, copies_freely_batch, Inserts as BatchInserts}
-use Rattle.jup_xform.specs.BatchLaws.{length-grid_rows}
-use Rattle.jup_xform.specs.BatchKept.{batch_shape_past, batch_room_past}
+use Rattle.jup_xform.specs.Laws.BatchLaws.{length-grid_rows}
+use Rattle.jup_xform.specs.Laws.BatchKept.{batch_shape_past, batch_room_past}
 use Rattle.jup_window.specs.declared.board_operations.BoardOp.{BoardOp}
 use Rattle.jup_window.specs.declared.commands.Command.{Command}
 use Rattle.jup_window.specs.declared.edits.Edit.{Edit}
@@ -15,8 +15,8 @@ use Rattle.jup_window.specs.Entries.{same_place}
 use Rattle.jup_window.specs.Effects.{inserted_name, is_name}
 use Rattle.jup_window.specs.Edits.{count_of, is_of_site}
 use Rattle.jup_window.specs.Boards as board
-use Rattle.jup_window.specs.BoardNames.{inserts_at_all}
-use Rattle.jup_window.specs.BoardLaws.{room_client as one_room_client, room_server as one_room_server}
+use Rattle.jup_window.specs.Laws.BoardNames.{inserts_at_all}
+use Rattle.jup_window.specs.Laws.BoardLaws.{room_client as one_room_client, room_server as one_room_server}
 use Rattle.jup_window.specs.BoardOperations.{boards, board_operations}
 use Rattle.jup_batch.specs.Batched.{all_insertions, one_bears_site}
 use Rattle.jup_batch.specs.BoardBatches.{board_batches}

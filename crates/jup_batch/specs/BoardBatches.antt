@@ -4,22 +4,22 @@ use Rattle.std.proofs.lemmas.Bool.{and_parts, and_from, not-true, not_from_false
 use Rattle.jup_value.specs.declared.names.Name.{Name}
 use Rattle.jup_value.specs.Items.{name_eq}
 use Rattle.jup_value.proofs.ItemLists.{name_eq_same, name_eq_refl}
-use Rattle.jup_xform.specs.Laws.{KeepsFresh}
+use Rattle.jup_xform.specs.Lawful.{KeepsFresh}
 use Rattle.jup_window.specs.declared.board_operations.BoardOp.{BoardOp}
 use Rattle.jup_window.specs.declared.edits.Edit.{Edit}
 use Rattle.jup_window.specs.declared.edits.Effect.{Effect}
 use Rattle.jup_window.specs.declared.edits.Effect.TheVariants.{PutChar, PutLabel, Deleted, Relabelled, Toggled, Slid, Nothing}
-use Rattle.jup_window.specs.EntryLaws.{same_place-refl}
+use Rattle.jup_window.specs.Laws.EntryLaws.{same_place-refl}
 use Rattle.jup_window.specs.Widgets as widget
-use Rattle.jup_window.specs.WidgetNames.{inserted_name-effect_of, deleted_name-effect_of}
+use Rattle.jup_window.specs.Laws.WidgetNames.{inserted_name-effect_of, deleted_name-effect_of}
 use Rattle.jup_window.specs.Effects as effects
 use Rattle.jup_window.specs.Boards as board
-use Rattle.jup_window.specs.BoardLaws as laws
+use Rattle.jup_window.specs.Laws.BoardLaws as laws
 use Rattle.jup_window.specs.Operations.{Operations, AreLawful}
 use Rattle.jup_window.specs.BoardOperations.{boards, board_operations}
-use Rattle.jup_window.specs.BoardsAreLawful.{board_laws, inserts_own}
+use Rattle.jup_window.specs.Laws.BoardsAreLawful.{board_laws, inserts_own}
 use Rattle.jup_batch.specs.Batched.{batched, AreBatchable}
-use Rattle.jup_batch.specs.BatchedLaws.{batched_laws}
+use Rattle.jup_batch.specs.Laws.BatchedLaws.{batched_laws}
 
 -- whether two names, where both are there, differ
 abbrev pub names_differ : Option Name → Option Name → Bool

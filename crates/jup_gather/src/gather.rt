@@ -65,7 +65,7 @@ impl Gather {
         let step = match mem::replace(&mut self.state, State::Nothing) {
             State::Nothing => begin(alloc, *line)?,
             State::Begun(part) => go_on(part, *line),
-            State::Stopped => Step::misplaced(),
+            State::Stopped => Step::stop(),
         };
         self.state = step.state;
         Ok(step.gathered)

@@ -48,7 +48,7 @@ impl Step {
     }
 
     /// A line has no place.
-    pub(crate) fn misplaced() -> Step
+    pub(crate) fn stop() -> Step
         ensures { result ≡ record { state = State.Stopped; gathered = Gathered.Misplaced } }
     {
         Step {
@@ -64,7 +64,7 @@ fn begin_message(alloc: Global, mine: u32, heard: u32, count: u32) -> Result<Ste
     ensures refused { OnErr result (2 ≤ count) }
 {
     if !(1..=MOST_OPERATIONS).contains(&count) {
-        return Ok(Step::misplaced());
+        return Ok(Step::stop());
     }
     // One operation is not put into a list.
     let room = if count == 1 { 0 } else { count as usize };
@@ -89,7 +89,7 @@ pub(crate) fn begin(alloc: Global, line: Line) -> Result<Step, NoMemory>
 {
     match line {
         Line::Batch { mine, heard, count } => begin_message(alloc, mine, heard, count),
-        Line::Do(_) => Ok(Step::misplaced()),
+        Line::Do(_) => Ok(Step::stop()),
         line => Ok(Step {
             state: State::Nothing,
             gathered: Gathered::Plain(line),
@@ -133,6 +133,6 @@ pub(crate) fn go_on(part: Part, line: Line) -> Step
 {
     match line {
         Line::Do(op) => take(part, op),
-        _ => Step::misplaced(),
+        _ => Step::stop(),
     }
 }

@@ -12,7 +12,7 @@ ghost use Rattle.jup_hub.specs.Passes.{opening_of, view_of, IsPassOf, Made};
 use crate::ask::Ask;
 use crate::asks::{Fetching, Joining, Leaving, Taking};
 use crate::desk::Desk;
-use crate::fault::{HubFault, lacks_memory, told};
+use crate::fault::{HubFault, hub_answer, lacks_memory};
 use crate::hub::{Closed, Hub, Pass};
 use crate::rule::{Learn, Look, Passes};
 use crate::turns::{give_turn, settle, take_turn, try_turn};
@@ -186,6 +186,6 @@ impl Hub {
             pass.length = desk.count + 1;
             settle::<A, Brand>(table, &mut pass.seat, desk, ask, &answer);
         }
-        told(answer)
+        hub_answer(answer)
     }
 }

@@ -47,7 +47,7 @@ pub(crate) fn lacks_memory<T>(answer: &Result<T, StarFault>) -> bool
 }
 
 // The star's answer, as the hub tells it.
-pub(crate) fn told<T>(answer: Result<T, StarFault>) -> Result<T, HubFault>
+pub(crate) fn hub_answer<T>(answer: Result<T, StarFault>) -> Result<T, HubFault>
     ensures { result ≡ told answer }
 {
     answer.map_err(HubFault::Star)

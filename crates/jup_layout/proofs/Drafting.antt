@@ -4,12 +4,13 @@ use Rattle.std.specs.Prelude.{insert, nat_le, IsTrue}
 use Rattle.std.specs.Option.{option_map, is_none}
 use Rattle.std.proofs.lemmas.Bool.{cases_Bool, eqb-true}
 use Rattle.std.proofs.lemmas.List.Sums.{take_while-cons}
+use Rattle.jup_limits.specs.Limits.{most_entries}
 use Rattle.jup_window.specs.declared.faults.BoardFault.{BoardFault}
 use Rattle.jup_window.specs.declared.faults.BoardFault.TheVariants as fault
 use Rattle.jup_window.specs.declared.widgets.Widget.{Widget}
 use Rattle.jup_window.specs.Additions.{double_fault, entry_fault, fault_in, widget_fault, RefusesBy}
 use Rattle.jup_window.specs.Entries.{at_id, change_at, slot_of, with_entry, map_values}
-use Rattle.jup_window.specs.EntryLaws.{at_id-map, at_id-same, at_id-other}
+use Rattle.jup_window.specs.Laws.EntryLaws.{at_id-map, at_id-same, at_id-other}
 use Rattle.jup_window.specs.Boards as board
 use Rattle.jup_window.specs.Widgets as widget
 use Rattle.jup_layout.specs.declared.refusals.Refusal.{Refusal}
@@ -52,7 +53,7 @@ length-map f (e ∷ es) = ap suc (length-map f es)
 
 double_fault-map : {A B : Type 0} (f : A → B) (o : Option A) (es : List (ℕ × A)) → double_fault (option_map f o) (map_values f es) ≡ double_fault o es
 double_fault-map f (Some a) es = refl
-double_fault-map f None es = ap (λ n. cond (nat_le 64 n) (Some fault.TooMany) None) (length-map f es)
+double_fault-map f None es = ap (λ n. cond (nat_le most_entries n) (Some fault.TooMany) None) (length-map f es)
 
 pub entry_fault-map : {A B : Type 0} (f : A → B) (k : ℕ) (es : List (ℕ × A)) → entry_fault k (map_values f es) ≡ entry_fault k es
 entry_fault-map f k es =
@@ -144,7 +145,7 @@ entry_fault-change {A = A} k h f es = ap (λ o. cond (k == 0) (Some fault.BadId)
   where
     kept : (o : Option A) → double_fault o (change_at h f es) ≡ double_fault o es
     kept (Some a) = refl
-    kept None = ap (λ n. cond (nat_le 64 n) (Some fault.TooMany) None) (length-change h f es)
+    kept None = ap (λ n. cond (nat_le most_entries n) (Some fault.TooMany) None) (length-change h f es)
 
     mapped : (o : Option A) → double_fault (option_map f o) (change_at h f es) ≡ double_fault o es
     mapped (Some a) = refl

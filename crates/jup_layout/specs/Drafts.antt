@@ -15,6 +15,8 @@ use Rattle.jup_window.specs.Boards as board
 use Rattle.jup_window.specs.Widgets as widget
 use Rattle.jup_wire.specs.declared.line.Line.{Line}
 use Rattle.jup_wire.specs.declared.line.Line.TheVariants as line
+use Rattle.jup_layout.specs.declared.drafts.Added.{Added}
+use Rattle.jup_layout.specs.declared.drafts.Added.TheVariants.{Char as AddedChar, Label as AddedLabel}
 use Rattle.jup_layout.specs.declared.refusals.Refusal.{Refusal}
 use Rattle.jup_layout.specs.declared.refusals.Refusal.TheVariants.{NoMemory, DoubleId, TooMany, BadId, BadBounds, Misplaced, BadItemName}
 use Rattle.jup_layout.specs.declared.naming.Naming.{Naming}
@@ -114,6 +116,11 @@ with_label_in (Some (wid, Text x)) item d = Err Misplaced
 with_label_in (Some (wid, Labels x)) item d = with_item Labels wid x item d
 with_label_in (Some (wid, Toggle x)) item d = Err Misplaced
 with_label_in (Some (wid, Slider x)) item d = Err Misplaced
+
+-- after an item's line of either kind
+abbrev pub with_added : Option (ℕ × Widget) → Added → Drafted → Result Drafted Refusal
+with_added last (AddedChar item) d = with_char_in last item d
+with_added last (AddedLabel item) d = with_label_in last item d
 
 -- after one line more
 abbrev pub taken : Drafted → Line → Result Drafted Refusal

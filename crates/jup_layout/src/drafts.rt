@@ -1,23 +1,21 @@
 //! The board that lines describe, line by line.
 ghost use Rattle.std.specs.Prelude.{◌≡◌, ◌<◌, List, length, not, Ok, Some, IsNone, None, IfOk, OnOk, OnErr};
-ghost use Rattle.std.specs.Option.{option_copied};
-ghost use Rattle.jup_window.specs.Additions.{entry_fault, widget_fault};
-ghost use Rattle.jup_window.specs.Entries.{at_id, change_at, with_entry};
+ghost use Rattle.jup_window.specs.Additions.{widget_fault};
+ghost use Rattle.jup_window.specs.Entries.{change_at, with_entry};
 ghost use Rattle.jup_window.specs.Boards as boards;
 ghost use Rattle.jup_window.specs.Widgets as widgets;
 ghost use Rattle.jup_wire.specs.declared.line.Line.TheVariants as lines;
 ghost use Rattle.jup_value.specs.declared.names.Item.{Item};
 ghost use Rattle.jup_value.specs.Items.{has_name};
 ghost use Rattle.jup_layout.specs.Names.{AreKept, AddsName};
-ghost use Rattle.jup_layout.specs.Drafts.{blank, whole, with_window, with_widget, with_char_in, with_label_in, taken, items_in_last, Follows, Appended};
+ghost use Rattle.jup_layout.specs.Drafts.{blank, whole, with_window, with_widget, with_added, taken, items_in_last, Follows, Appended};
 
 use crate::names::Names;
 use crate::naming::Naming;
 use crate::refusals::Refusal;
-use jup_limits::MOST_ENTRIES;
 use jup_setting::{Slider, Toggle};
 use jup_value::{Item, Label, Name, Seq};
-use jup_window::{Board, BoardFault, Widget};
+use jup_window::{Board, Widget};
 use jup_wire::Line;
 use jup_xform::NoMemory;
 use std::alloc::Global;
@@ -58,44 +56,6 @@ impl Model for Draft {
       free : IsTrue (is_free d.home d.last d.board);
       kept : AreKeptIn d.naming d.last d.names;
     } };
-}
-
-// What stands under an id.
-fn get<A>(entries: &[(u16, A)], id: u16) -> Option<&A>
-    ensures { option_copied result ≡ at_id id entries.now }
-{
-    for entry in entries {
-        if entry.0 == id {
-            return Some(&entry.1);
-        }
-    }
-    None
-}
-
-// Why a widget may not be put under an id among those of a window.
-fn entry_refusal(widgets: &[(u16, Widget)], wid: u16) -> Option<BoardFault>
-    ensures { result ≡ entry_fault wid widgets.now }
-{
-    if wid == 0 {
-        return Some(BoardFault::BadId);
-    }
-    if get(widgets, wid).is_some() {
-        return Some(BoardFault::DoubleId);
-    }
-    if widgets.len() >= MOST_ENTRIES {
-        return Some(BoardFault::TooMany);
-    }
-    None
-}
-
-// Why a widget may not be put under an id of a window.
-fn widget_refusal(board: &Board, win: u16, wid: u16) -> Option<BoardFault>
-    ensures { result ≡ widget_fault win wid board.now }
-{
-    match get(board.windows(), win) {
-        Some(window) => entry_refusal(window.widgets(), wid),
-        None => Some(BoardFault::NoWindow),
-    }
 }
 
 // The board with a widget more, under an id that is free.
@@ -156,6 +116,13 @@ fn append<V: Copy>(
     let place = items.len();
     items.insert(place, item);
     Ok((items, naming.after(item.name, place)))
+}
+
+/// An item that a line puts behind those of the last widget.
+#[derive(Clone, Copy)]
+pub(crate) enum Added {
+    Char(Item<char>),
+    Label(Item<Label>),
 }
 
 impl Draft {
@@ -226,7 +193,7 @@ impl Draft {
         };
         let naming = self.naming;
         let board = self.whole()?;
-        if let Some(fault) = widget_refusal(&board, win, wid) {
+        if let Some(fault) = board.refusal_of_widget(win, wid) {
             return Err(Refusal::of_board(fault));
         }
         Ok(Draft {
@@ -239,9 +206,9 @@ impl Draft {
         })
     }
 
-    fn with_char(self, item: Item<char>) -> Result<Draft, Refusal>
+    fn with_item(self, added: Added) -> Result<Draft, Refusal>
         requires { items_in_last self.last < 4294967295 }
-        ensures { Follows (λ d. d) result (with_char_in self.last item self) }
+        ensures { Follows (λ d. d) result (with_added self.last added self) }
     {
         let Draft {
             board,
@@ -251,48 +218,25 @@ impl Draft {
             mut names,
             naming,
         } = self;
-        match last {
-            Some((wid, Widget::Text(items))) => {
+        let (last, naming) = match (last, added) {
+            (Some((wid, Widget::Text(items))), Added::Char(item)) => {
                 let (items, naming) = append(items, &mut names, naming, item)?;
-                Ok(Draft {
-                    board,
-                    window,
-                    home,
-                    last: Some((wid, Widget::Text(items))),
-                    names,
-                    naming,
-                })
+                ((wid, Widget::Text(items)), naming)
             }
-            _ => Err(Refusal::Misplaced),
-        }
-    }
-
-    fn with_label(self, item: Item<Label>) -> Result<Draft, Refusal>
-        requires { items_in_last self.last < 4294967295 }
-        ensures { Follows (λ d. d) result (with_label_in self.last item self) }
-    {
-        let Draft {
+            (Some((wid, Widget::List(items))), Added::Label(item)) => {
+                let (items, naming) = append(items, &mut names, naming, item)?;
+                ((wid, Widget::List(items)), naming)
+            }
+            _ => return Err(Refusal::Misplaced),
+        };
+        Ok(Draft {
             board,
             window,
             home,
-            last,
-            mut names,
+            last: Some(last),
+            names,
             naming,
-        } = self;
-        match last {
-            Some((wid, Widget::List(items))) => {
-                let (items, naming) = append(items, &mut names, naming, item)?;
-                Ok(Draft {
-                    board,
-                    window,
-                    home,
-                    last: Some((wid, Widget::List(items))),
-                    names,
-                    naming,
-                })
-            }
-            _ => Err(Refusal::Misplaced),
-        }
+        })
     }
 
     fn with_slider(
@@ -329,14 +273,14 @@ impl Draft {
                 Widget::Toggle(Toggle { on: *on }),
             ),
             Line::Slider { wid, lo, hi, value } => self.with_slider(alloc, *wid, *lo, *hi, *value),
-            Line::Char(name, value) => self.with_char(Item {
+            Line::Char(name, value) => self.with_item(Added::Char(Item {
                 name: *name,
                 value: *value,
-            }),
-            Line::Item(name, label) => self.with_label(Item {
+            })),
+            Line::Item(name, label) => self.with_item(Added::Label(Item {
                 name: *name,
                 value: *label,
-            }),
+            })),
             _ => Err(Refusal::Misplaced),
         }
     }

@@ -1,9 +1,6 @@
-pub mod ComesLaws
 pub mod Ends
 pub mod InStep
-pub mod InStepEvents
-pub mod InStepLaws
-pub mod LinkSteps
+pub mod Laws
 pub mod Links
 pub mod Messages
 pub mod Pairs

@@ -3,7 +3,7 @@ use Rattle.std.specs.Prelude.{is_some, ◌≢◌}
 use Rattle.std.proofs.Common.{◌≡◌, ◌⊎◌, inl, inr, ℕ, ◌+◌, ◌≤◌, Bool, true, false, cond, List, [], ◌∷◌, ◌++◌, drop, take, length, nat_eq, refl, ap, sym, ◌∙◌, subst, Option, Some, None, arith, append-nil, append_assoc, zero-add, eq-eqb, ne_eqb, take-append-drop}
 use Rattle.std.proofs.Math.Seq.{drop-append_seam}
 use Rattle.jup_link.specs.InStep.{InStepAt, InStep}
-use Rattle.jup_link.specs.LinkSteps.{quiet_equal}
+use Rattle.jup_link.specs.Laws.LinkSteps.{quiet_equal}
 use Rattle.jup_window.specs.Operations.{Operations, AreLawful}
 use Rattle.jup_star.specs.declared.messages.Up.{Up}
 use Rattle.jup_star.specs.declared.messages.Up.TheVariants.{Op as UpOp, Ack as UpAck, Ping as UpPing}
@@ -16,8 +16,8 @@ use Rattle.jup_world.specs.Events.{Detached, Nothing}
 use Rattle.jup_world.specs.Turns.{Turn, turns, edits, own_edits, through_others}
 use Rattle.jup_world.specs.WorldStates.{AttachedOf}
 use Rattle.jup_world.specs.Sound.{edits_sent, told_of, Standing, StandsAt}
-use Rattle.jup_world.proofs.Rows.{own_edits-append}
-use Rattle.jup_world.proofs.SoundRuns.{either}
+use Rattle.jup_world.proofs.Pairs.Rows.{own_edits-append}
+use Rattle.jup_world.proofs.Sound.SoundRuns.{either}
 use Rattle.jup_mixed.specs.declared.events.MixEvent.TheVariants.{Stray}
 use Rattle.jup_mixed.specs.MixStates.{MixOf}
 use Rattle.jup_mixed.specs.MixSteps.{MixOutcome, still, home_up, first_home_up, at_home, stray_sends, at_link_of, mix_outcome}
@@ -25,7 +25,7 @@ use Rattle.jup_mixed.specs.MixTraces.{mix_made, mix_shown, mix_told, mix_view}
 use Rattle.jup_mixed.specs.MixSound.{IsSoundMix}
 use Rattle.jup_mixed.specs.MixPromises.{MixPromises, IsRejected, IsAccepted, StrayReplies, OnlyFull}
 use Rattle.jup_world.proofs.StarTakes.{valid, next}
-use Rattle.jup_world.proofs.PlaceKept.{place-accepted, place-ack_fits}
+use Rattle.jup_world.proofs.Pairs.PlaceKept.{place-accepted, place-ack_fits}
 use Rattle.jup_mixed.proofs.MixRuns.{home_stands}
 
 module _ (O : Operations) (L : AreLawful O) (most : ℕ) (m : MixOf O) (h : IsSoundMix O most m) where

@@ -1,15 +1,15 @@
 -- A star with one site and strangers, as it is opened.
 use Rattle.std.proofs.Common.{◌≡◌, ℕ, ◌+◌, ◌≤◌, sym, refl, subst, arith}
 use Rattle.jup_window.specs.Operations.{Operations, AreLawful}
-use Rattle.jup_window.specs.BareBoards.{only_site-held}
+use Rattle.jup_window.specs.Laws.BareBoards.{only_site-held}
 use Rattle.jup_batch.specs.BoardBatches.{board_batches}
 use Rattle.jup_batch.specs.BoardBatches.{batch_laws}
 use Rattle.jup_star.specs.StarStates.{opened_star, most_batches}
 use Rattle.jup_star.proofs.ShortBoards.{board_small}
 use Rattle.jup_world.specs.WorldStates.{opened_world}
-use Rattle.jup_world.proofs.SoundRuns.{sound-opened}
+use Rattle.jup_world.proofs.Sound.SoundRuns.{sound-opened}
 use Rattle.jup_world.proofs.StarKeepsLinks.{star-opened, star-joined}
-use Rattle.jup_world.proofs.SoundJoined.{sound-joined}
+use Rattle.jup_world.proofs.Sound.SoundJoined.{sound-joined}
 use Rattle.jup_mixed.specs.MixStates.{opened_mix}
 use Rattle.jup_mixed.specs.MixSound.{IsSoundMix}
 use Rattle.jup_mixed.specs.MixPromises.{BoardMix, IsMixed}

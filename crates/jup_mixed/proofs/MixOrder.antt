@@ -17,13 +17,13 @@ use Rattle.jup_world.specs.WorldStates.{AttachedOf}
 use Rattle.jup_world.specs.WorldSteps.{with_edit, one_taken, one_handed}
 use Rattle.jup_world.specs.Sound.{named_by, IsKnown, own_counts, told_of, Standing}
 use Rattle.jup_world.proofs.Known.{known_more, own_counts-more}
-use Rattle.jup_world.proofs.TraceLaws.{turns-append}
-use Rattle.jup_world.proofs.Shown.{first_falling}
-use Rattle.jup_world.proofs.PairMakes.{made_keeps_order, made_none_back}
-use Rattle.jup_world.proofs.PairShown.{shown_keeps_order, shown_none_back}
-use Rattle.jup_world.proofs.SiteRuns.{told_more}
-use Rattle.jup_world.proofs.StarRuns.{Follows, follows-same, follows-chain}
-use Rattle.jup_world.proofs.SoundRuns.{either, result_cases}
+use Rattle.jup_world.proofs.Sound.TraceLaws.{turns-append}
+use Rattle.jup_world.proofs.Pairs.Shown.{first_falling}
+use Rattle.jup_world.proofs.Pairs.PairMakes.{made_keeps_order, made_none_back}
+use Rattle.jup_world.proofs.Pairs.PairShown.{shown_keeps_order, shown_none_back}
+use Rattle.jup_world.proofs.Orders.SiteRuns.{told_more}
+use Rattle.jup_world.proofs.Orders.StarRuns.{Follows, follows-same, follows-chain}
+use Rattle.jup_world.proofs.Sound.SoundRuns.{either, result_cases}
 use Rattle.jup_mixed.specs.declared.events.MixEvent.TheVariants.{Edit as HomeEdit, Up as HomeUp, Down as HomeDown, JoinStray, Stray, LeaveStray}
 use Rattle.jup_mixed.specs.MixStates.{MixOf, MixEventOf}
 use Rattle.jup_mixed.specs.MixSteps.{MixOutcome, still, home_edit, home_up, first_home_up, home_down, first_home_down, at_home, stray_joins, stray_sends, stray_leaves, at_link_of, at_stray, mix_outcome, mix_happens, mix_run}
@@ -31,7 +31,7 @@ use Rattle.jup_mixed.specs.MixTraces.{mix_made, mix_shown}
 use Rattle.jup_mixed.specs.MixSound.{IsSoundMix}
 use Rattle.jup_mixed.specs.MixPromises.{MixOrderIsKept}
 use Rattle.jup_world.proofs.StarTakes.{keeps_order, still_known, none_back}
-use Rattle.jup_world.proofs.PlaceKept.{room}
+use Rattle.jup_world.proofs.Pairs.PlaceKept.{room}
 use Rattle.jup_mixed.proofs.MixRuns.{mix_shown-end, home_stands, sound-mix}
 use Rattle.jup_mixed.proofs.MixKept.{home_linked}
 

@@ -40,7 +40,7 @@ use Rattle.jup_mixed.specs.MixSound.{IsSoundMix}
 use Rattle.jup_mixed.specs.MixPromises.{BoardMix, BoardMixEvent, MixReplies, MixOrderIsKept}
 use Rattle.jup_mixed.specs.MixFields.{MixPlays, MixSpares, IsMixSpared, IsReady, IsMix}
 use Rattle.jup_world.proofs.StarKeepsLinks.{at_here, star-fetched}
-use Rattle.jup_world.proofs.PlaceKept.{place-fits, place-fetched}
+use Rattle.jup_world.proofs.Pairs.PlaceKept.{place-fits, place-fetched}
 use Rattle.jup_mixed.proofs.MixRuns.{home_stands, sound-mix}
 use Rattle.jup_mixed.proofs.MixKept.{home_linked}
 use Rattle.jup_mixed.proofs.MixOrder.{mix-order}

@@ -14,8 +14,8 @@ use Rattle.jup_star.specs.Streams.{downs}
 use Rattle.jup_world.specs.Events.{Taken, Detached, Nothing}
 use Rattle.jup_world.specs.WorldStates.{AttachedOf, ReplyOf}
 use Rattle.jup_world.specs.Replies.{JoinReplies, edit_reply, UpReplies, DownReplies}
-use Rattle.jup_world.proofs.ReplyLaws.{join_faults}
-use Rattle.jup_world.proofs.PlaceKept.{place-accepted, place-ack_fits, place-fits}
+use Rattle.jup_world.proofs.Sound.ReplyLaws.{join_faults}
+use Rattle.jup_world.proofs.Pairs.PlaceKept.{place-accepted, place-ack_fits, place-fits}
 use Rattle.jup_mixed.specs.declared.events.MixEvent.TheVariants.{Edit as HomeEdit, Up as HomeUp, Down as HomeDown, JoinStray, Stray, LeaveStray}
 use Rattle.jup_mixed.specs.MixStates.{MixOf, MixEventOf}
 use Rattle.jup_mixed.specs.MixSteps.{MixOutcome, still, home_edit, home_up, first_home_up, home_down, first_home_down, at_home, stray_joins, stray_leaves, at_link_of, mix_outcome}

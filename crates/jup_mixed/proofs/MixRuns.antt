@@ -17,9 +17,9 @@ use Rattle.jup_world.specs.Turns.{turns}
 use Rattle.jup_world.specs.WorldStates.{AttachedOf, ReplyOf}
 use Rattle.jup_world.specs.WorldSteps.{with_edit, one_taken, one_handed}
 use Rattle.jup_world.specs.Sound.{SoundLinkAt, IsSoundStar, Standing, StandsAt}
-use Rattle.jup_world.proofs.TraceLaws.{length-turns}
-use Rattle.jup_world.proofs.Stands.{stand-makes}
-use Rattle.jup_world.proofs.SoundRuns.{either, result_cases}
+use Rattle.jup_world.proofs.Sound.TraceLaws.{length-turns}
+use Rattle.jup_world.proofs.Pairs.Stands.{stand-makes}
+use Rattle.jup_world.proofs.Sound.SoundRuns.{either, result_cases}
 use Rattle.jup_mixed.specs.MixEvents.{MixHappened}
 use Rattle.jup_mixed.specs.declared.events.MixEvent.TheVariants.{Edit as HomeEdit, Up as HomeUp, Down as HomeDown, JoinStray, Stray, LeaveStray}
 use Rattle.jup_mixed.specs.MixStates.{MixOf, MixEventOf, MixHappenedOf}
@@ -28,7 +28,7 @@ use Rattle.jup_mixed.specs.MixTraces.{home_made, mix_made, home_shown, mix_shown
 use Rattle.jup_mixed.specs.MixSound.{IsSoundMix}
 use Rattle.jup_world.proofs.StarTakes.{op, valid, inserts, next, same, changes, link_here, link_there, star-taken}
 use Rattle.jup_world.proofs.StarKeepsLinks.{at_here, at_there, star-acked, star-ponged, star-fetched, star-left, star-joined}
-use Rattle.jup_world.proofs.PlaceKept.{place-taken, place-acked, place-asked, place-sent, place-shown, place-told, place-answered}
+use Rattle.jup_world.proofs.Pairs.PlaceKept.{place-taken, place-acked, place-asked, place-sent, place-shown, place-told, place-answered}
 
 -- what one more event adds to a trace
 module _ {Command Operation Edit Fault : Type 0} where

@@ -135,10 +135,7 @@ impl Mixed {
         // It tells that no two items of a widget have one name, on which all that follows rests.
         let _short = is_short(&board);
         let mut star = Star::open(alloc, board, limit)?;
-        let opening = match star.board().copy(alloc) {
-            Err(NoMemory) => return Err(OpenFault::NoMemory),
-            Ok(opening) => opening,
-        };
+        let opening = star.board().copy(alloc)?;
         let Ok(joined) = star.join(alloc) else {
             return Err(OpenFault::NoMemory);
         };

@@ -1,6 +1,7 @@
 //! What went wrong, for people.
 
-/// What went wrong where a fault has this number, in the words of its own error type. A peer is told the number alone.
+/// What went wrong where a fault has this number, in the words of its own error type; 11, 22 and 43 stand for several faults, and
+/// their words fit each. A peer is told the number alone.
 pub fn cause_of(number: u32) -> &'static str {
     match number {
         8 => "no memory",
@@ -26,6 +27,8 @@ pub fn cause_of(number: u32) -> &'static str {
         44 => "a line out of its place",
         45 => "the item is not named as its place asks",
         46 => "all reads were made",
+        50 => "the limit is not 1 to 16,777,216",
+        51 => "not a number or a board of this site",
         60 => "the gate stayed shut",
         70 => "a read failed",
         71 => "a write failed",

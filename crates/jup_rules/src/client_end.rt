@@ -44,7 +44,7 @@ impl ClientEnd {
     }
 
     /// The end of a client that could not connect: for want of memory, or as it is.
-    pub fn unconnected(error: &io::Error) -> ClientEnd
+    pub fn of_connecting(error: &io::Error) -> ClientEnd
         ensures memory { error_kind error.now ≡ ErrorKind.OutOfMemory → result ≡ ClientEnd.NoMemory }
         ensures other { error_kind error.now ≢ ErrorKind.OutOfMemory → result ≡ ClientEnd.Unconnected }
     {

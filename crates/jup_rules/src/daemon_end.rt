@@ -52,7 +52,7 @@ pub enum DaemonEnd {
 
 impl DaemonEnd {
     /// The end of a daemon that tried this and failed so: for want of memory, or by a failed read or write.
-    pub fn failed(attempt: Attempt, error: &io::Error) -> DaemonEnd
+    pub fn of_failure(attempt: Attempt, error: &io::Error) -> DaemonEnd
         ensures memory { error_kind error.now ≡ ErrorKind.OutOfMemory → result ≡ DaemonEnd.NoMemory }
         ensures other { error_kind error.now ≢ ErrorKind.OutOfMemory → result ≡ DaemonEnd.Io attempt }
     {

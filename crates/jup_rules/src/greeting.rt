@@ -7,7 +7,7 @@ use crate::SessionFault;
 use jup_wire::Line;
 
 /// Whether a session may begin with this line: it is the greeting, and any other is misplaced.
-pub fn greeted(first: &Line) -> Result<(), SessionFault>
+pub fn check_greeting(first: &Line) -> Result<(), SessionFault>
     ensures hello { first.now ≡ Hello → IsOk result }
     ensures other { first.now ≢ Hello → result ≡ Err Misplaced }
 {

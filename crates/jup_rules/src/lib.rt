@@ -34,7 +34,7 @@ pub use ending::{Ending, Stop};
 pub use faults::SessionFault;
 pub use fetches::{MOST_FETCHED, is_last_fetch, refused_fetch};
 pub use gatekeeper::Gatekeeper;
-pub use greeting::greeted;
+pub use greeting::check_greeting;
 pub use messages::{hear_site, put_downs, put_said};
 pub use next::{Awaits, Incoming, Next};
 pub use no_words::without_words;

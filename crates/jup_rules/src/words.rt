@@ -47,7 +47,7 @@ pub fn daemon_words(alloc: Global, words: &[String]) -> Result<DaemonWords, Erro
     ensures limit { IfOk result (λ w. (1 ≤ w.limit) × (w.limit ≤ highest_limit)) }
     ensures sessions { IfOk result (λ w. (1 ≤ w.sessions) × (w.sessions ≤ 1024)) }
 {
-    let listen = required(alloc, "listen")
+    let listen = required_option(alloc, "listen")
         .value_name("ADDR")
         .help("Where to listen, as 127.0.0.1:4711");
     let limit = count(alloc, "limit", HIGHEST_LIMIT).help(
@@ -79,7 +79,7 @@ pub fn daemon_words(alloc: Global, words: &[String]) -> Result<DaemonWords, Erro
 
 /// Reads the words after the client's name, and answers the address to connect to.
 pub fn client_words(alloc: Global, words: &[String]) -> Result<String, Error> {
-    let connect = required(alloc, "connect")
+    let connect = required_option(alloc, "connect")
         .value_name("ADDR")
         .help("Where the server listens, as 127.0.0.1:4711");
     let mut command = Command::new(alloc, "jup")
@@ -95,7 +95,7 @@ pub fn client_words(alloc: Global, words: &[String]) -> Result<String, Error> {
 }
 
 // An option that has to be given, with a value.
-fn required<'a>(alloc: Global, name: &'a str) -> Arg<'a> {
+fn required_option<'a>(alloc: Global, name: &'a str) -> Arg<'a> {
     Arg::new(alloc, name)
         .long(name)
         .required(true)
@@ -103,7 +103,7 @@ fn required<'a>(alloc: Global, name: &'a str) -> Arg<'a> {
 }
 
 fn count<'a>(alloc: Global, name: &'a str, most: u32) -> Arg<'a> {
-    required(alloc, name)
+    required_option(alloc, name)
         .value_name("N")
         .value_parser(value_parser!(u32).range(1..=i64::from(most)))
 }

@@ -13,8 +13,8 @@ use Rattle.jup_seq.specs.declared.operations.SeqOp.{SeqOp}
 use Rattle.jup_seq.specs.declared.operations.SeqOp.TheVariants.{Insert, Delete, Relabel, Nothing}
 use Rattle.jup_seq.specs.declared.singles.SeqTrace.{SeqTrace}
 use Rattle.jup_seq.specs.Operations.{HasDistinctNames, IsValid, after, next_place}
-use Rattle.jup_seq.specs.Effects.{distinct_after}
-use Rattle.jup_seq.specs.Squares.{next_place-small}
+use Rattle.jup_seq.specs.Laws.Effects.{distinct_after}
+use Rattle.jup_seq.specs.Laws.Squares.{next_place-small}
 
 -- where a name stands after an operation, from where it stood
 abbrev pub place_after : {V : Type 0} → Name → Option ℕ → SeqOp V → Option ℕ

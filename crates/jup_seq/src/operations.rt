@@ -3,13 +3,13 @@ ghost use Rattle.std.specs.Prelude.{◌≡◌, ℕ, ◌↔◌, ◌+◌, ◌<◌,
 ghost use Rattle.jup_value.specs.Items.{has_name, name_at};
 ghost use Rattle.jup_value.specs.declared.names.Name.{Name as ItemName};
 ghost use Rattle.jup_seq.specs.declared.operations.SeqOp.TheVariants.{Relabel};
-ghost use Rattle.jup_seq.specs.Operations.{bare, IsSmall, HasDistinctNames, KeepsOrder, IsValid, after, HasRoom, AreApart, client_past, server_past};
+ghost use Rattle.jup_seq.specs.Operations.{bare, IsSmall, HasDistinctNames, KeepsOrder, IsValid, after, HasRoom, AreApart, is_no_relabel, inserted_by, deleted_by, client_past, server_past};
 ghost use Rattle.jup_seq.specs.Edits.{Content, content, meaning, edit_of};
 ghost use Rattle.jup_seq.specs.Names.{Holds, InsertsName, DeletesName, ChangesName, IsFresh};
-ghost use Rattle.jup_seq.specs.Squares as squares;
-ghost use Rattle.jup_seq.specs.EditLists as edit_lists;
+ghost use Rattle.jup_seq.specs.Laws.Squares as squares;
+ghost use Rattle.jup_seq.specs.Laws.EditLists as edit_lists;
 ghost use Rattle.jup_seq.specs.Names as names;
-ghost use Rattle.jup_seq.specs.Effects as effects;
+ghost use Rattle.jup_seq.specs.Laws.Effects as effects;
 
 use jup_value::{Item, Label, Name, Seq};
 use jup_xform::{NoMemory, Transform};
@@ -48,6 +48,35 @@ pub enum SeqEdit<V> {
     /// The item of the name is given the value.
     Relabelled(Name, V),
     Nothing,
+}
+
+impl<V: Copy> SeqOp<V> {
+    /// The name of the item that it puts in.
+    pub fn inserted_name(&self) -> Option<Name>
+        ensures { result ≡ inserted_by self.now }
+    {
+        match self {
+            SeqOp::Insert { item, .. } => Some(item.name),
+            _ => None,
+        }
+    }
+
+    /// The name of the item that it takes out.
+    pub fn deleted_name(&self) -> Option<Name>
+        ensures { result ≡ deleted_by self.now }
+    {
+        match self {
+            SeqOp::Delete { name, .. } => Some(*name),
+            _ => None,
+        }
+    }
+
+    /// Whether it gives no item another value.
+    pub fn is_no_relabel(&self) -> bool
+        ensures { result ≡ is_no_relabel self.now }
+    {
+        !matches!(self, SeqOp::Relabel { .. })
+    }
 }
 
 // Whether an item with this name may be put at a place.

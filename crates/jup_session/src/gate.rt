@@ -1,5 +1,5 @@
 //! Who may take an edit, and when.
-ghost use Rattle.std.specs.Prelude.{◌≡◌, IsTrue, IsSome};
+ghost use Rattle.std.specs.Prelude.{◌≡◌, IsTrue, IsFalse, IsSome, IsNone};
 ghost use Rattle.jup_hub.specs.Passes.{view_of, IsPassOf};
 ghost use Rattle.jup_session.specs.Gates.{HasAnswered};
 
@@ -14,18 +14,22 @@ const MOST_ASKED_AGAIN: u32 = 100_000;
 
 /// Asked before the nth edit of a site is taken, from 1, and told once the hub has answered, also where it refused.
 ///
-/// Contracts speak of a gate by two facts, which it may say more of: that it was ready for an edit, and that it was told.
+/// Contracts speak of a gate by three facts, which it may say more of: that it was ready for an edit, that it was not, and that
+/// it was told.
 pub trait Gate {
     ghost use Rattle.std.specs.Prelude.{ℕ};
 
     ghost is_ready: { Self → ℕ → ℕ → Type 0 } = { λ _ _ _. Unit {0} };
 
+    ghost is_shut: { Self → ℕ → ℕ → Type 0 } = { λ _ _ _. Unit {0} };
+
     ghost is_told: { Self → ℕ → ℕ → Type 0 } = { λ _ _ _. Unit {0} };
 
     fn ready(&self, site: u32, nth: u32) -> bool
-        ensures { IsTrue result → is_ready self.now site nth };
+        ensures ready { IsTrue result → is_ready self.now site nth }
+        ensures shut { IsFalse result → is_shut self.now site nth };
 
-    fn answered(&self, site: u32, nth: u32)
+    fn note_answer(&self, site: u32, nth: u32)
         ensures { is_told self.now site nth };
 }
 
@@ -38,12 +42,13 @@ impl Gate for Open {
         true
     }
 
-    fn answered(&self, _site: u32, _nth: u32) {}
+    fn note_answer(&self, _site: u32, _nth: u32) {}
 }
 
 /// Asks a gate for an edit, and where it is not ready again after a yield, up to 100,000 times. Whether it was ready.
 pub fn pass_gate<G: Gate>(gate: &G, site: u32, nth: u32) -> bool
-    ensures { IsTrue result → G.is_ready gate.now site nth }
+    ensures ready { IsTrue result → G.is_ready gate.now site nth }
+    ensures shut { IsFalse result → G.is_shut gate.now site nth }
 {
     for _ in 0..MOST_ASKED_AGAIN {
         if gate.ready(site, nth) {
@@ -69,6 +74,7 @@ pub fn take_edit<R: Wait, G: Gate>(
     requires { IsPassOf hub.now pass.old }
     ensures pass { IsPassOf hub.now pass.new }
     ensures ready { IsSome result → G.is_ready gate.now site nth }
+    ensures shut { IsNone result → G.is_shut gate.now site nth }
     ensures told { IsSome result → G.is_told gate.now site nth }
     ensures answered { HasAnswered site up.now (view_of pass.old) (view_of pass.new) result }
 {
@@ -76,6 +82,6 @@ pub fn take_edit<R: Wait, G: Gate>(
         return None;
     }
     let answer = hub.take(rt, alloc, pass, site, up);
-    gate.answered(site, nth);
+    gate.note_answer(site, nth);
     Some(answer)
 }

@@ -1,11 +1,11 @@
 -- What taking an edit rests on, over plain lists.
-use Rattle.std.proofs.Common.{◌≡◌, refl, length, sym, ◌∙◌, ap, subst, ℕ, zero, suc, ◌<◌, true, cond, List, [], ◌∷◌, map, get_or, nat_le, Some, arith}
+use Rattle.std.proofs.Common.{◌≡◌, refl, length, sym, ◌∙◌, ap, subst, ℕ, zero, suc, ◌<◌, true, cond, List, [], ◌∷◌, map, get_or, Some, arith}
 use Rattle.std.proofs.Math.ListN.{set}
 use Rattle.jup_batch.specs.BatchBoards.{BoardBatch}
 use Rattle.jup_batch.specs.BatchBoards as board
 use Rattle.jup_batch.specs.BatchBoards.{boards_of as boards}
 use Rattle.jup_batch.specs.BoardBatches.{board_batches}
-use Rattle.jup_link.specs.Links.{Link as EndLink, generated, IsCount, unheard}
+use Rattle.jup_link.specs.Links.{Link as EndLink, generated, IsCount, owes, unheard}
 use Rattle.jup_link.specs.declared.Msg.{Msg}
 use Rattle.jup_star.specs.LinkStates.{is_of, link_sent, link_heard, end_after, operation_at}
 use Rattle.jup_star.specs.StarStates.{link_of, AreApart, AreBounded, links_after}
@@ -83,7 +83,7 @@ pub counted_heard : (i : ℕ) (ls : List BoardLink) (at : ℕ) (l : BoardLink) (
 counted_heard i ls at l m place found count all =
     let P : BoardLink → Type 0 = λ x. generated x.end < 4294967295 in
     let own : generated l.end < 4294967295 = subst P (found_get i ls at l place found) (counted_place i ls at l place all) in
-    let answered = paid_generated (end_after board_batches l.end m) (nat_le 64 (end_after board_batches l.end m).unanswered) in
+    let answered = paid_generated (end_after board_batches l.end m) (owes (end_after board_batches l.end m).unanswered) in
     let less = received_generated l.end m count in
     counted_set ls at (link_heard board_batches m l) (omega arith) all
 

@@ -1,18 +1,18 @@
 -- What a change of one link, or of all, does to the list of links.
-use Rattle.std.proofs.Common.{◌≡◌, refl, sym, ◌∙◌, ap, subst, ℕ, zero, suc, ◌+◌, ◌-◌, ◌<◌, ◌≤◌, Bool, true, false, cond, not, List, [], ◌∷◌, length, map, get_or, nat_eq, nat_le, Some, None, arith}
+use Rattle.std.proofs.Common.{◌≡◌, refl, sym, ◌∙◌, ap, subst, ℕ, zero, suc, ◌+◌, ◌-◌, ◌<◌, ◌≤◌, Bool, true, false, cond, not, List, [], ◌∷◌, length, map, get_or, nat_eq, Some, None, arith}
 use Rattle.std.proofs.Math.ListN.{set}
 use Rattle.std.proofs.lemmas.List.{length-drop, length-append}
 use Rattle.std.proofs.lemmas.Bool.{eqb-true}
 use Rattle.jup_batch.specs.BatchBoards.{BoardBatch}
 use Rattle.jup_batch.specs.BatchBoards.{boards_of as boards}
 use Rattle.jup_batch.specs.BoardBatches.{board_batches}
-use Rattle.jup_link.specs.Links.{Link as EndLink, generated, IsCount, after_ack, unheard}
+use Rattle.jup_link.specs.Links.{Link as EndLink, generated, IsCount, after_ack, owes, unheard}
 use Rattle.jup_link.specs.declared.Msg.{Msg}
 use Rattle.jup_star.specs.LinkStates.{is_of, link_sent, link_heard, end_after}
 use Rattle.jup_star.specs.StarStates.{link_of, without, at_link, IsNew, AreApart, IsBounded, AreBounded}
 use Rattle.jup_star.specs.StarCalls.{BoardLink}
 use Rattle.jup_star.specs.Places.{IsPlace}
-use Rattle.jup_xform.specs.RowLaws.{length-row_entries}
+use Rattle.jup_xform.specs.Laws.RowLaws.{length-row_entries}
 use Rattle.jup_xform.specs.Sides.{past, opposite}
 use Rattle.jup_batch.specs.BatchBoards.{insertions_few}
 
@@ -153,7 +153,7 @@ received_generated e m count =
 pub heard_bounded : (a n : ℕ) (m : Msg BoardBatch) (l : BoardLink) → IsCount l.end m.heard → length m.op ≤ 32 → IsBounded a n l → IsBounded a (n + 1) (link_heard board_batches m l)
 heard_bounded a n m l count few bounded = record {
   given = bounded.given;
-  sent = let sum = paid_generated (end_after board_batches l.end m) (nat_le 64 (end_after board_batches l.end m).unanswered) in let less = received_generated l.end m count in let sent = bounded.sent in omega arith;
+  sent = let sum = paid_generated (end_after board_batches l.end m) (owes (end_after board_batches l.end m).unanswered) in let less = received_generated l.end m count in let sent = bounded.sent in omega arith;
   insertions = let each = insertions_few m.op in let before = bounded.insertions in omega arith;
 }
 

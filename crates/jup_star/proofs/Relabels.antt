@@ -1,7 +1,7 @@
 use Rattle.std.proofs.Common.{◌≡◌, true, [], ◌∷◌}
 use Rattle.jup_xform.specs.Grid.{AreValid}
 use Rattle.jup_window.specs.BoardOperations.{boards}
-use Rattle.jup_window.specs.BoardTests.{valid-relabels_no_text}
+use Rattle.jup_window.specs.Laws.BoardTests.{valid-relabels_no_text}
 use Rattle.jup_batch.specs.BatchBoards.{BoardBatch, Windows, after, accepts}
 use Rattle.jup_batch.specs.BoardBatches.{batch_laws}
 use Rattle.jup_star.specs.TextRelabels.{RelabelNoText}

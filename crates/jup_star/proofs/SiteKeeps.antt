@@ -2,7 +2,7 @@
 use Rattle.std.proofs.Common.{◌≡◌, refl, sym, ℕ, ◌+◌, ◌≤◌, ◌<◌, Bool, true, false, cond, List, [], ◌∷◌, length, nat_le, ap, suc, None, Result, Ok, Err, inl, inr, arith}
 use Rattle.std.specs.Prelude.{◌⊎◌}
 use Rattle.std.proofs.lemmas.List.{length-append}
-use Rattle.jup_link.specs.Links.{Link, IsCount, answered, after_send}
+use Rattle.jup_link.specs.Links.{Link, IsCount, answered, after_send, owes}
 use Rattle.jup_link.specs.declared.Msg.{Msg}
 use Rattle.jup_xform.specs.declared.row.Side.{Side}
 use Rattle.jup_xform.specs.declared.row.Side.TheVariants.{Client, Server}
@@ -91,7 +91,7 @@ known_shown i k b e m known valid other n held own = by_case (board_laws.keeps.h
 pub shown_site : (s : BoardSite) (m : Msg BoardBatch) → board.IsValid (operation_at board_batches s.end m) s.board → bears_site s.number (board.edit_of m.op) ≡ false
     → IsCount s.end m.heard → IsSite board_batches s → IsSite board_batches (received board_batches (Op m) s)
 shown_site s m valid other count site =
-    let paid = paid_generated (end_after board_batches s.end m) (nat_le 64 (end_after board_batches s.end m).unanswered) in
+    let paid = paid_generated (end_after board_batches s.end m) (owes (end_after board_batches s.end m).unanswered) in
     let less = received_generated s.end m count in
     record {
       limited = site.limited;

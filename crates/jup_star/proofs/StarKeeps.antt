@@ -9,7 +9,7 @@ use Rattle.jup_batch.specs.BatchBoards.{boards_of as boards}
 use Rattle.jup_batch.specs.BoardBatches.{board_batches}
 use Rattle.jup_batch.specs.BoardBatches.{batch_laws}
 use Rattle.jup_link.specs.Links.{IsCount}
-use Rattle.jup_link.specs.LinkSteps.{small_next}
+use Rattle.jup_link.specs.Laws.LinkSteps.{small_next}
 use Rattle.jup_link.specs.declared.Msg.{Msg}
 use Rattle.jup_star.specs.LinkStates.{is_of, opened_link, link_sent, link_heard}
 use Rattle.jup_star.specs.StarStates.{IsNew, AreApart, IsBounded, AreBounded, most_batches, entry, links_after, opened_star, taken_edit, left, with_links, joined}

@@ -21,7 +21,7 @@ use Rattle.jup_star.specs.StarCalls.{BoardLink, BoardStar, Answers, IsStar}
 use Rattle.jup_star.specs.Places.{IsPlace, CanHear}
 use Rattle.jup_star.specs.Rooms.{bare_link, AllCount}
 use Rattle.jup_star.proofs.LinkChanges.{below_at, bounded_at, found_some}
-use Rattle.jup_star.proofs.LinkSteps.{found_is}
+use Rattle.jup_star.proofs.Lists.LinkSteps.{found_is}
 use Rattle.jup_star.proofs.Carrying.{found_get, counted_all, length_operation}
 use Rattle.jup_star.proofs.StarKeeps.{left_star, taken_star}
 use Rattle.jup_star.proofs.FaultSteps.{early_number, early_count, early_room, early_not_memory, up_early, up_late}

@@ -8,7 +8,7 @@ ghost use Rattle.jup_batch.specs.Batched.{operations_of};
 ghost use Rattle.jup_batch.specs.BatchBoards.{accepts};
 ghost use Rattle.jup_batch.specs.BoardBatches.{board_batches};
 ghost use Rattle.jup_window.specs.Commands.{shown, map_ok};
-ghost use Rattle.jup_batch.specs.ShownCommands.{all_shown};
+ghost use Rattle.jup_batch.specs.Laws.ShownCommands.{all_shown};
 ghost use Rattle.jup_window.specs.FaultNumbers.{edit_fault_number};
 ghost use Rattle.jup_star.specs.FirstFaults.{fault_of, first_fault};
 ghost use Rattle.jup_star.specs.LinkStates.{operation_at, end_after};
@@ -239,10 +239,7 @@ impl Site {
             }
             Ok(()) => {}
         }
-        let msg = match reserve_shown(alloc, msg, &mut self.board) {
-            Err(NoMemory) => return Err(SiteFault::NoMemory),
-            Ok(msg) => msg,
-        };
+        let msg = reserve_shown(alloc, msg, &mut self.board)?;
         if !show(&mut self.board, &mut self.end, msg) {
             halt(alloc, &mut self.end, &mut self.stopped);
             return Err(SiteFault::BadOp);
@@ -280,10 +277,7 @@ impl Site {
             Err(fault) => return Err(fault),
             Ok(op) => [op],
         };
-        let prepared = match prepare(alloc, &ops, &mut self.board, &mut self.end) {
-            Err(NoMemory) => return Err(EditFault::NoMemory),
-            Ok(prepared) => prepared,
-        };
+        let prepared = prepare(alloc, &ops, &mut self.board, &mut self.end)?;
         prepared.op.apply(&mut self.board);
         self.made += 1;
         self.named += all_insertions(&ops);
@@ -314,10 +308,7 @@ impl Site {
         let mut all = [NO_OPERATION; MOST_COMMANDS];
         let ops = &mut all[..commands.len()];
         self.name_batch(commands, ops)?;
-        let prepared = match prepare(alloc, ops, &mut self.board, &mut self.end) {
-            Err(NoMemory) => return Err(EditFault::NoMemory),
-            Ok(prepared) => prepared,
-        };
+        let prepared = prepare(alloc, ops, &mut self.board, &mut self.end)?;
         prepared.op.apply(&mut self.board);
         self.made += 1;
         self.named += all_insertions(ops);

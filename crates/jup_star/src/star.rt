@@ -23,7 +23,6 @@ use jup_batch::BoardBatch;
 use jup_limits::{HIGHEST_LIMIT, LAST_SITE, MOST_ATTACHED};
 use jup_link::Msg;
 use jup_window::Board;
-use jup_xform::NoMemory;
 use std::alloc::Global;
 use std::marker::Model;
 
@@ -172,16 +171,13 @@ impl Star {
             }
             Ok(()) => {}
         }
-        let prepared = match reserve_edit(
+        let prepared = reserve_edit(
             alloc,
             msg,
             &mut self.board,
             &mut self.links,
             &mut self.order,
-        ) {
-            Err(NoMemory) => return Err(StarFault::NoMemory),
-            Ok(prepared) => prepared,
-        };
+        )?;
         let entry = Entry {
             site,
             edit: prepared.edits,
@@ -224,10 +220,7 @@ impl Star {
         let Some(at) = link_at(&self.links, site) else {
             return Err(StarFault::NoLink);
         };
-        match self.links[at].pong(count) {
-            Err(NoMemory) => return Err(StarFault::NoMemory),
-            Ok(()) => {}
-        }
+        self.links[at].pong(count)?;
         Ok(None)
     }
 
@@ -238,11 +231,7 @@ impl Star {
         let Some(at) = link_at(&self.links, site) else {
             return Err(StarFault::NoLink);
         };
-        let downs = match self.links[at].fetch(alloc, max) {
-            Err(NoMemory) => return Err(StarFault::NoMemory),
-            Ok(downs) => downs,
-        };
-        Ok(downs)
+        Ok(self.links[at].fetch(alloc, max)?)
     }
 
     /// Takes the oldest message out of a site's outbox, if one waits. It takes no memory. Refused: no link.

@@ -77,7 +77,11 @@ fn room_for(count: usize) -> usize
 }
 
 // Items with room for so many.
-fn copied<V: Copy>(alloc: Global, items: &[Item<V>], room: usize) -> Result<Vec<Item<V>>, NoMemory>
+fn copy_items<V: Copy>(
+    alloc: Global,
+    items: &[Item<V>],
+    room: usize,
+) -> Result<Vec<Item<V>>, NoMemory>
     requires { length items.now ≤ room }
     ensures { IfOk result (λ v. v.items ≡ items.now) }
 {
@@ -87,7 +91,7 @@ fn copied<V: Copy>(alloc: Global, items: &[Item<V>], room: usize) -> Result<Vec<
 }
 
 // Items in the room of a whole block.
-fn moved<V: Copy>(items: &[Item<V>], room: Room<V>) -> Vec<Item<V>>
+fn move_items<V: Copy>(items: &[Item<V>], room: Room<V>) -> Vec<Item<V>>
     requires { length items.now ≤ 128 }
     ensures items { result.items ≡ items.now }
     ensures room { 128 ≤ vec_capacity result }
@@ -148,7 +152,7 @@ impl<V: Copy> Block<V> {
     {
         if self.items.len() == self.items.capacity() {
             if let Some(room) = ready.pop() {
-                self.items = moved(&self.items, room);
+                self.items = move_items(&self.items, room);
             }
         }
         let _put = self.items.insert(at as usize, item);
@@ -178,7 +182,7 @@ impl<V: Copy> Block<V> {
         ensures left { self.new ≡ left_half self.old at item }
         ensures right { result ≡ right_half self.old at item }
     {
-        let mut right = moved(&self.items[HALF as usize..], room);
+        let mut right = move_items(&self.items[HALF as usize..], room);
         self.items.truncate(HALF as usize);
         if at <= HALF {
             let _put = self.items.insert(at as usize, item);
@@ -196,7 +200,7 @@ impl<V: Copy> Block<V> {
         if self.items.capacity() < LARGEST as usize || room >= LARGEST as usize {
             return None;
         }
-        let Ok(fitting) = copied(alloc, &self.items, room) else {
+        let Ok(fitting) = copy_items(alloc, &self.items, room) else {
             return None;
         };
         let mut items = mem::replace(&mut self.items, fitting);
@@ -208,7 +212,7 @@ impl<V: Copy> Block<V> {
     pub fn copy(&self, alloc: Global) -> Result<Self, NoMemory>
         ensures { IfOk result (λ b. b ≡ self.now) }
     {
-        let items = copied(alloc, &self.items, room_for(self.items.len()))?;
+        let items = copy_items(alloc, &self.items, room_for(self.items.len()))?;
         Ok(Block { items })
     }
 

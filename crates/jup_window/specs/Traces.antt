@@ -8,7 +8,7 @@ use Rattle.jup_seq.specs.Traces as seq_traces
 use Rattle.jup_setting.specs.declared.operation.SetOp.{SetOp}
 use Rattle.jup_setting.specs.declared.toggle.Toggle.{Toggle as ToggleState}
 use Rattle.jup_setting.specs.Sliders.{SliderState, IsWithin}
-use Rattle.jup_setting.specs.SettingLaws.{still_told}
+use Rattle.jup_setting.specs.Laws.SettingLaws.{still_told}
 use Rattle.jup_setting.specs.Widgets.{slider_at, slider_after, IsValidSlide}
 use Rattle.jup_window.specs.declared.widgets.Widget.{Widget}
 use Rattle.jup_window.specs.declared.widgets.Widget.TheVariants.{Text, List as Labels, Toggle, Slider}
@@ -18,10 +18,10 @@ use Rattle.jup_window.specs.declared.singles.WidgetTrace.{WidgetTrace}
 use Rattle.jup_window.specs.declared.singles.WidgetTrace.TheVariants.{Sequence, Setting, Misfit}
 use Rattle.jup_window.specs.declared.board_operations.BoardOp.{BoardOp}
 use Rattle.jup_window.specs.Entries.{same_place, widget_at}
-use Rattle.jup_window.specs.EntryLaws.{same_place-true, widget_at-change}
-use Rattle.jup_window.specs.WidgetLaws.{of_valid}
+use Rattle.jup_window.specs.Laws.EntryLaws.{same_place-true, widget_at-change}
+use Rattle.jup_window.specs.Laws.WidgetLaws.{of_valid}
 use Rattle.jup_window.specs.Widgets as widget
-use Rattle.jup_window.specs.Widgets.{is_no_relabel}
+use Rattle.jup_seq.specs.Operations.{is_no_relabel}
 use Rattle.jup_window.specs.Boards as board
 
 -- a trace of an operation on a widget

@@ -2,9 +2,9 @@
 ghost use Rattle.std.specs.Prelude.{◌≡◌, ◌<◌, Ok, OnOk, OnErr, refl};
 ghost use Rattle.jup_window.specs.Entries.{same_place};
 ghost use Rattle.jup_window.specs.Boards as board;
-ghost use Rattle.jup_window.specs.BoardLaws as board_laws;
-ghost use Rattle.jup_window.specs.BoardNames as board_names;
-ghost use Rattle.jup_window.specs.BoardEdits as board_edits;
+ghost use Rattle.jup_window.specs.Laws.BoardLaws as board_laws;
+ghost use Rattle.jup_window.specs.Laws.BoardNames as board_names;
+ghost use Rattle.jup_window.specs.Laws.BoardEdits as board_edits;
 
 use crate::boards::Board;
 use crate::edits::Edit;

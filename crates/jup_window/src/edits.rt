@@ -33,7 +33,7 @@ pub struct Edit {
 }
 
 impl Effect {
-    fn inserted(&self) -> Option<Name>
+    fn inserted_name(&self) -> Option<Name>
         ensures { result ≡ inserted_name self.now }
     {
         match *self {
@@ -59,7 +59,7 @@ impl Edit {
     pub fn insertions(&self) -> u32
         ensures { result ≡ insertions self.now }
     {
-        match self.what.inserted() {
+        match self.what.inserted_name() {
             Some(_) => 1,
             None => 0,
         }
@@ -70,7 +70,7 @@ impl Edit {
     pub fn bears_next(&self, site: u32, count: u32) -> bool
         ensures { result ≡ bears_next site count self.now }
     {
-        match self.what.inserted() {
+        match self.what.inserted_name() {
             Some(name) => name.site == site && name.number as u64 == count as u64 + 1,
             None => true,
         }
@@ -80,7 +80,7 @@ impl Edit {
     pub fn bears_site(&self, site: u32) -> bool
         ensures { result ≡ bears_site site self.now }
     {
-        match self.what.inserted() {
+        match self.what.inserted_name() {
             Some(name) => name.site == site,
             None => false,
         }

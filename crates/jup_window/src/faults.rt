@@ -2,6 +2,7 @@
 ghost use Rattle.std.specs.Prelude.{◌≡◌};
 ghost use Rattle.jup_window.specs.FaultNumbers.{board_fault_number, edit_fault_number};
 
+use jup_limits::NoMemory;
 use thiserror::Error;
 
 /// Why a window or a widget is not added.
@@ -80,5 +81,15 @@ impl EditFault {
             EditFault::BadBatch => 15,
             EditFault::Stopped => 25,
         }
+    }
+}
+
+impl From<NoMemory> for EditFault {
+    ghost use Rattle.jup_window.specs.declared.faults.EditFault.TheVariants.{NoMemory as Refused};
+
+    ghost from_gives = { λ _ made. made ≡ Refused };
+
+    fn from(_fault: NoMemory) -> EditFault {
+        EditFault::NoMemory
     }
 }

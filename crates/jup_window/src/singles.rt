@@ -6,7 +6,7 @@ ghost use Rattle.jup_window.specs.Traces as traces;
 
 use crate::board_operations::BoardOp;
 use crate::boards::Board;
-use crate::widget_operations::{WidgetOp, is_no_relabel};
+use crate::widget_operations::WidgetOp;
 use crate::widgets::Widget;
 use jup_seq::SeqTrace;
 use jup_xform::{Single, Transform};
@@ -58,7 +58,7 @@ impl WidgetOp {
         ensures { IsTrue result ↔ traces.AllowsOn trace self.now }
     {
         match (trace, self) {
-            (WidgetTrace::Sequence(trace), WidgetOp::Text(op)) => is_no_relabel(op)
+            (WidgetTrace::Sequence(trace), WidgetOp::Text(op)) => op.is_no_relabel()
                 && op.allowed_by(trace),
             (WidgetTrace::Sequence(trace), WidgetOp::List(op)) => op.allowed_by(trace),
             (WidgetTrace::Setting(taken), _) => taken,

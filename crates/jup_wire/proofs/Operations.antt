@@ -15,7 +15,7 @@ use Rattle.jup_setting.specs.declared.operation.SetOp.{SetOp}
 use Rattle.jup_setting.specs.declared.operation.SetOp.TheVariants as set
 use Rattle.jup_window.specs.declared.widget_operations.WidgetOp.{WidgetOp}
 use Rattle.jup_window.specs.declared.widget_operations.WidgetOp.TheVariants as widget
-use Rattle.jup_window.specs.Widgets.{is_no_relabel}
+use Rattle.jup_seq.specs.Operations.{is_no_relabel}
 use Rattle.jup_wire.specs.Grammar.{name_text, switch_text, seq_fields, set_fields, body_fields, IsU32, IsName, IsInt, IsSeqOp, IsSetOp, IsBody}
 use Rattle.jup_wire.specs.Reading.{◌>>=◌, split_of, pair_of, number_of, scalar_of, int_of, name_of, switch_of, label_of, headed_by, insert_of, delete_of, relabel_of, seq_of, text_of, set_of, body_table, body_of}
 use Rattle.jup_wire.proofs.Readers.{IsReader, IsField, within, pair_reader, behind, headed_takes}

@@ -12,7 +12,7 @@ use Rattle.jup_setting.specs.declared.operation.SetOp.{SetOp}
 use Rattle.jup_setting.specs.declared.operation.SetOp.TheVariants as set
 use Rattle.jup_window.specs.declared.widget_operations.WidgetOp.{WidgetOp}
 use Rattle.jup_window.specs.declared.widget_operations.WidgetOp.TheVariants as widget
-use Rattle.jup_window.specs.Widgets.{is_no_relabel}
+use Rattle.jup_seq.specs.Operations.{is_no_relabel}
 use Rattle.jup_wire.specs.Grammar.{this_version, is_count}
 use Rattle.jup_wire.specs.declared.faults.WireFault.{WireFault}
 use Rattle.jup_wire.specs.declared.faults.WireFault.TheVariants.{BadLine, BadVersion}

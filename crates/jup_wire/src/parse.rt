@@ -63,12 +63,12 @@ fn line(bytes: &[u8]) -> Option<Line>
         return Some(Line::Bye);
     }
     let (word, rest) = split(bytes, b' ')?;
-    headed(word, rest)
+    line_by_word(word, rest)
 }
 
 /// A line of several fields, by the first of them.
 #[tactic(auto, unfolding(crate::specs::Reading::headed_of))]
-fn headed(word: &[u8], rest: &[u8]) -> Option<Line>
+fn line_by_word(word: &[u8], rest: &[u8]) -> Option<Line>
     ensures { result ≡ headed_of word.now rest.now }
 {
     // Most lines are operations.

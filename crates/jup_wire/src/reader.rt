@@ -20,7 +20,7 @@ use std::alloc::Global;
 use std::marker::{Model, PhantomData};
 
 /// The line that a line feed ends, or its fault.
-fn ended(text: &[u8]) -> Result<Line, WireFault>
+fn finish_line(text: &[u8]) -> Result<Line, WireFault>
     requires { All (λ byte. byte ≢ 10) text.now }
     ensures { Ends text.now result }
 {
@@ -31,7 +31,7 @@ fn ended(text: &[u8]) -> Result<Line, WireFault>
 }
 
 /// The same where a part comes before the text. The part stays.
-fn ended_behind(part: &mut Part, text: &[u8]) -> Result<Line, WireFault>
+fn finish_line_behind(part: &mut Part, text: &[u8]) -> Result<Line, WireFault>
     requires part { IsPart (part_bytes part.old) }
     requires text { All (λ byte. byte ≢ 10) text.now }
     ensures ended { Ends (part_bytes part.old ++ text.now) result }
@@ -39,7 +39,7 @@ fn ended_behind(part: &mut Part, text: &[u8]) -> Result<Line, WireFault>
 {
     let held = part.len();
     if held == 0 {
-        return ended(text);
+        return finish_line(text);
     }
     if text.len() > MOST_PART - held {
         return Err(WireFault::LongLine);
@@ -77,7 +77,7 @@ fn read_lines<'a>(lines: &mut Lines, bytes: &'a [u8]) -> Result<Rest<'a>, NoMemo
 {
     let mut left = bytes;
     while let Some((text, behind)) = split_line(left) {
-        match ended(text) {
+        match finish_line(text) {
             Ok(line) => lines.push(line)?,
             Err(fault) => {
                 return Ok(Rest {
@@ -103,7 +103,7 @@ fn read_piece(alloc: Global, part: &mut Part, piece: &[u8]) -> Result<Fed, NoMem
         let fault = hold(part, piece);
         return Ok(Fed { lines, fault });
     };
-    match ended_behind(part, text) {
+    match finish_line_behind(part, text) {
         Ok(line) => lines.push(line)?,
         Err(fault) => {
             return Ok(Fed {

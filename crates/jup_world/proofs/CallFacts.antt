@@ -1,9 +1,9 @@
 -- What the answers of a site and of the star say.
-use Rattle.std.proofs.Common.{◌≡◌, refl, sym, ◌∙◌, ap, ℕ, Bool, true, false, List, [], ◌∷◌, ◌++◌, take, length, Option, Some, None, is_some, not, eqb, option_map, cond, nat_le, Result, Ok, Err, OnErr, subst, IfSome}
+use Rattle.std.proofs.Common.{◌≡◌, refl, sym, ◌∙◌, ap, ℕ, Bool, true, false, List, [], ◌∷◌, ◌++◌, take, length, Option, Some, None, is_some, not, eqb, option_map, cond, Result, Ok, Err, OnErr, subst, IfSome}
 use Rattle.std.specs.Option.{option_eq}
 use Rattle.std.proofs.lemmas.Option.{same_Some}
 use Rattle.jup_batch.specs.BatchBoards.{BoardBatch, Commands}
-use Rattle.jup_link.specs.Links.{Link}
+use Rattle.jup_link.specs.Links.{Link, owes}
 use Rattle.jup_window.specs.declared.faults.EditFault.{EditFault}
 use Rattle.jup_window.specs.FaultNumbers.{edit_fault_number}
 use Rattle.jup_batch.specs.BoardBatches.{board_batches}
@@ -168,7 +168,7 @@ fetch_linked i s t fault linked memory answers = let call = rw memory at answers
 -- # What a site sends back
 
 owed_up-relabels_no_text : (e : Link BoardBatch) (back : Up BoardBatch) → Some back ≡ owed_up e → UpRelabelsNoText back
-owed_up-relabels_no_text e back = cases (nat_le 64 e.unanswered)
+owed_up-relabels_no_text e back = cases (owes e.unanswered)
   where
     cases : (b : Bool) → Some back ≡ cond b (Some (UpAck e.received)) None → UpRelabelsNoText back
     cases true told = subst UpRelabelsNoText (sym (same_Some back (UpAck e.received) told)) tt

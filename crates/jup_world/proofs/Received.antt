@@ -6,7 +6,7 @@ use Rattle.jup_xform.specs.Sides.{past, opposite}
 use Rattle.jup_value.specs.Items.{Items}
 use Rattle.jup_seq.specs.declared.operations.SeqOp.{SeqOp}
 use Rattle.jup_seq.specs.Operations.{HasRoom, client_past, server_past}
-use Rattle.jup_seq.specs.Effects.{room_client, room_server}
+use Rattle.jup_seq.specs.Laws.Effects.{room_client, room_server}
 use Rattle.jup_seq.specs.Names.{inserts_client, inserts_server}
 use Rattle.jup_link.specs.Links.{Link, received_operation, unheard}
 use Rattle.jup_world.specs.Texts.{texts}

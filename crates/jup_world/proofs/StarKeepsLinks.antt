@@ -6,7 +6,7 @@ use Rattle.jup_star.specs.StarStates.{StarOf, opened_star, link_of, at_link, wit
 use Rattle.jup_star.proofs.Lookup.{found-map, found-map_other, found-without, found-without_other, found-end, found-end_other}
 use Rattle.jup_world.specs.Sound.{ChangesKnown, named_in, edits_in, IsMoved, IsSoundLink, SoundLinkAt, IsSoundStar}
 use Rattle.jup_world.proofs.Numbered.{option_map-self}
-use Rattle.jup_world.proofs.Moved.{Each-drop}
+use Rattle.jup_world.proofs.Pairs.Moved.{Each-drop}
 
 module _ (O : Operations) (L : AreLawful O) where
   -- a new star

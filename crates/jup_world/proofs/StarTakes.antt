@@ -1,10 +1,10 @@
 -- The star takes an edit, whoever sent it.
-use Rattle.std.proofs.Common.{◌≡◌, ◌⊎◌, ℕ, ◌+◌, ◌-◌, ◌<◌, ◌≤◌, inl, inr, Bool, true, false, cond, List, [], ◌∷◌, ◌++◌, length, nat_eq, nat_le, refl, ap, sym, ◌∙◌, subst, Option, Some, None, option_map, arith, IsTrue, eq-eqb, ne_eqb, eqb-true, add-zero, length-append, if◌then◌else◌}
+use Rattle.std.proofs.Common.{◌≡◌, ◌⊎◌, ℕ, ◌+◌, ◌-◌, ◌<◌, ◌≤◌, inl, inr, Bool, true, false, cond, List, [], ◌∷◌, ◌++◌, length, nat_eq, refl, ap, sym, ◌∙◌, subst, Option, Some, None, option_map, arith, IsTrue, eq-eqb, ne_eqb, eqb-true, add-zero, length-append, if◌then◌else◌}
 use Rattle.std.proofs.lemmas.Bool.{ltb-true}
 use Rattle.jup_xform.specs.Rows.{row_operation, row_entries}
 use Rattle.jup_xform.specs.Sides.{past, opposite}
-use Rattle.jup_link.specs.Links.{Link, unheard, answered, after_ack}
-use Rattle.jup_link.specs.LinkSteps.{small_next}
+use Rattle.jup_link.specs.Links.{Link, unheard, answered, after_ack, owes}
+use Rattle.jup_link.specs.Laws.LinkSteps.{small_next}
 use Rattle.jup_link.specs.declared.Msg.{Msg}
 use Rattle.jup_window.specs.Operations.{Operations, AreLawful}
 use Rattle.jup_star.specs.declared.messages.Entry.{Entry}
@@ -20,22 +20,22 @@ use Rattle.jup_world.specs.Each.{Each}
 use Rattle.jup_world.specs.Turns.{Own, Other, turn, turns, edits}
 use Rattle.jup_world.specs.Meanings.{SameMeaning}
 use Rattle.jup_world.specs.Sound.{named_by, IsKnown, ChangesKnown, ChangesHeld, HoldsKnown, named_in, edits_in, IsMoved, IsSoundLink, SoundLinkAt, IsSoundStar}
-use Rattle.jup_world.proofs.EditGrid.{meaning_one, same-meaning}
-use Rattle.jup_world.proofs.TraceLaws.{turns-append}
-use Rattle.jup_world.proofs.Rows.{edits-append}
+use Rattle.jup_world.proofs.Pairs.EditGrid.{meaning_one, same-meaning}
+use Rattle.jup_world.proofs.Sound.TraceLaws.{turns-append}
+use Rattle.jup_world.proofs.Pairs.Rows.{edits-append}
 use Rattle.jup_world.proofs.Known.{Each-append, Each-at, Each-map, known_more, changes_more, all_changes_more, named_by-append}
-use Rattle.jup_world.proofs.Moved.{Each-drop, row-same, row-moved, moved-longer, moved-new, row-changes, row-known}
+use Rattle.jup_world.proofs.Pairs.Moved.{Each-drop, row-same, row-moved, moved-longer, moved-new, row-changes, row-known}
 
 -- an end that pays what it owes keeps its queue and its side
 pub answered_queue : {Op : Type 0} → (e : Link Op) → (answered e).outgoing ≡ e.outgoing
-answered_queue {Op = Op} e = cases (nat_le 64 e.unanswered)
+answered_queue {Op = Op} e = cases (owes e.unanswered)
   where
     cases : (b : Bool) → (if b then after_ack {Op = Op} e else e).outgoing ≡ e.outgoing
     cases true = refl
     cases false = refl
 
 pub answered_side : {Op : Type 0} → (e : Link Op) → (answered e).side ≡ e.side
-answered_side {Op = Op} e = cases (nat_le 64 e.unanswered)
+answered_side {Op = Op} e = cases (owes e.unanswered)
   where
     cases : (b : Bool) → (if b then after_ack {Op = Op} e else e).side ≡ e.side
     cases true = refl

@@ -13,12 +13,12 @@ use Rattle.jup_seq.specs.declared.operations.SeqOp.TheVariants.{Insert as Insert
 use Rattle.jup_seq.specs.Operations.{after, IsValid, AreApart}
 use Rattle.jup_seq.specs.Edits.{edit_of}
 use Rattle.jup_seq.specs.Names.{InsertsName, held_before}
-use Rattle.jup_link.specs.Links.{Link, Message, Operation, Ack, AcceptsMessage, generated, after_ack, after_count, after_receive, received_operation, link_after, state_after, message}
+use Rattle.jup_link.specs.Links.{Link, Message, Operation, Ack, AcceptsMessage, generated, after_ack, after_count, after_receive, received_operation, link_after, state_after, message, owes}
 use Rattle.jup_link.specs.Pairs.{AcceptsNext}
 use Rattle.jup_link.specs.Streams.{AllMessages, MessagesApart}
-use Rattle.jup_link.specs.ComesLaws.{MessagesApart-from}
-use Rattle.jup_link.specs.LinkSteps.{generated-after_count, generated-after_receive}
-use Rattle.jup_link.specs.InStepEvents.{InStep-opened, InStep-client_edit, InStep-server_edit, InStep-takes_up, InStep-takes_down, InStep-server_answers, InStep-client_answers}
+use Rattle.jup_link.specs.Laws.ComesLaws.{MessagesApart-from}
+use Rattle.jup_link.specs.Laws.LinkSteps.{generated-after_count, generated-after_receive}
+use Rattle.jup_link.specs.Laws.InStepEvents.{InStep-opened, InStep-client_edit, InStep-server_edit, InStep-takes_up, InStep-takes_down, InStep-server_answers, InStep-client_answers}
 use Rattle.jup_window.specs.declared.faults.EditFault.{EditFault}
 use Rattle.jup_world.specs.declared.two.TwoEdit.{TwoEdit}
 use Rattle.jup_world.specs.declared.two.TwoEdit.TheVariants.{Insert, Delete}
@@ -150,10 +150,10 @@ taken_end site other ne e out (Ack k) ms accepts all end =
     let link = after_count e.link k in
     record {
       few = end.few;
-      generated_all = generated-answered (nat_le 64 link.unanswered) link ∙ generated-after_count texts e.link k accepts ∙ end.generated_all;
+      generated_all = generated-answered (owes link.unanswered) link ∙ generated-after_count texts e.link k accepts ∙ end.generated_all;
       inserted_some = end.inserted_some;
       names = end.names;
-      sent_names = AllMessages-append (InsertsUnder site) out _ end.sent_names (owed_names (InsertsUnder site) (nat_le 64 link.unanswered) link.received);
+      sent_names = AllMessages-append (InsertsUnder site) out _ end.sent_names (owed_names (InsertsUnder site) (owes link.unanswered) link.received);
     }
 taken_end site other ne e out (Operation mine heard o) ms accepts all end =
     let link = after_receive texts e.link heard o in
@@ -161,10 +161,10 @@ taken_end site other ne e out (Operation mine heard o) ms accepts all end =
     let under : InsertsUnder other op = received_names other e.link heard o all.0 in
     record {
       few = end.few;
-      generated_all = generated-answered (nat_le 64 link.unanswered) link ∙ generated-after_receive texts e.link heard o accepts.1 ∙ end.generated_all;
+      generated_all = generated-answered (owes link.unanswered) link ∙ generated-after_receive texts e.link heard o accepts.1 ∙ end.generated_all;
       inserted_some = end.inserted_some;
       names = HoldsWithin-after site e.inserted e.inserted e.text op accepts.2 end.names (omega arith) (λ n i here. absurd (ne (sym (under n i) ∙ here)));
-      sent_names = AllMessages-append (InsertsUnder site) out _ end.sent_names (owed_names (InsertsUnder site) (nat_le 64 link.unanswered) link.received);
+      sent_names = AllMessages-append (InsertsUnder site) out _ end.sent_names (owed_names (InsertsUnder site) (owes link.unanswered) link.received);
     }
 
 -- # Both ends

@@ -30,11 +30,11 @@ use Rattle.jup_world.specs.BoardWorlds.{BoardWorld, BoardLink, BoardAttached, Bo
 use Rattle.jup_world.specs.SiteNumbers.{AreAscending}
 use Rattle.jup_world.specs.Sound.{IsSound}
 use Rattle.jup_world.specs.Happenings.{AreNumbered, AreReady, OldestFits, IsWorld, IsSpared}
-use Rattle.jup_world.proofs.SoundRuns.{sound-promises}
-use Rattle.jup_world.proofs.Withheld.{fall_fits}
+use Rattle.jup_world.proofs.Sound.SoundRuns.{sound-promises}
+use Rattle.jup_world.proofs.Sound.Withheld.{fall_fits}
 use Rattle.jup_world.proofs.SitePlaces.{ascending_without, ascending_at, ascending_end}
-use Rattle.jup_world.proofs.GivenNames.{batch_none, layout_none}
-use Rattle.jup_world.proofs.BoardWorldLaws.{opened_sound, happens_sound, fetched_sound}
+use Rattle.jup_world.proofs.Sound.GivenNames.{batch_none, layout_none}
+use Rattle.jup_world.proofs.Sound.BoardWorldLaws.{opened_sound, happens_sound, fetched_sound}
 
 -- # Numbers
 

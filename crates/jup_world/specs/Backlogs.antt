@@ -17,7 +17,7 @@ told_count n (DownAck k ∷ ds) = told_count k ds
 told_count n (DownPong k ∷ ds) = told_count n ds
 
 module _ (O : Operations) where
-  -- of a site's edits that the star received, it told of all but its end's fewer than 64 unanswered ones; and each edit that the
+  -- of a site's edits that the star received, it told of all but its end's fewer than `answer_after` unanswered ones; and each edit that the
   -- site made was sent
   pub record Counts (l : LinkState O.Op) (a : AttachedOf O) : Type 0 where
     pub short : l.end.unanswered < answer_after
@@ -36,8 +36,8 @@ module _ (O : Operations) where
   AllCount w = (i : ℕ) → CountsAt (link_of i w.star.links) (attached i w.sites)
 
   -- a site's backlog is the edits that it made less those that it was told were received, and where no message is on its way it is
-  -- at most 63
+  -- below `answer_after`
   pub record BacklogIsShort (w : WorldOf O) : Type 0 where
     pub backlog : (i : ℕ) (a : AttachedOf O) → attached i w.sites ≡ Some a → a.site.made ≡ a.site.end.acknowledged + length a.site.end.outgoing
     pub bounded : (i : ℕ) (a : AttachedOf O) → attached i w.sites ≡ Some a → length a.site.end.outgoing ≤ most_unacknowledged
-    pub quiet : IsQuiet O w → (i : ℕ) (a : AttachedOf O) → attached i w.sites ≡ Some a → length a.site.end.outgoing ≤ 63
+    pub quiet : IsQuiet O w → (i : ℕ) (a : AttachedOf O) → attached i w.sites ≡ Some a → length a.site.end.outgoing < answer_after

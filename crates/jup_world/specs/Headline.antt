@@ -1,5 +1,6 @@
 -- What all sites come to, once no message is on its way.
-use Rattle.std.specs.Prelude.{◌≡◌, ◌≤◌, ℕ, length, Some}
+use Rattle.std.specs.Prelude.{◌≡◌, ◌<◌, ℕ, length, Some}
+use Rattle.jup_limits.specs.Limits.{answer_after}
 use Rattle.jup_batch.specs.BatchBoards.{content, meaning}
 use Rattle.jup_world.specs.Turns.{turns, edits, own_edits}
 use Rattle.jup_world.specs.WorldStates.{attached}
@@ -15,5 +16,5 @@ pub record AllAgree (w : BoardWorld) : Type 0 where
   pub content : content w.star.board ≡ meaning (content w.opening) (edits (turns 0 (order_of w.trace)))
   -- that order has every edit of each attached site once, in that site's order
   pub whole : (i : ℕ) (a : BoardAttached) → attached i w.sites ≡ Some a → own_edits (turns i (order_of w.trace)) ≡ made i w.trace
-  -- and no site has more than 63 edits that it was not told are taken
-  pub backlog : (i : ℕ) (a : BoardAttached) → attached i w.sites ≡ Some a → length a.site.end.outgoing ≤ 63
+  -- and no site has as many as `answer_after` edits that it was not told are taken
+  pub backlog : (i : ℕ) (a : BoardAttached) → attached i w.sites ≡ Some a → length a.site.end.outgoing < answer_after

@@ -1,7 +1,7 @@
 -- Operations on texts alone, as the two ends of one link use them.
 use Rattle.std.specs.Prelude.{ℕ, ◌<◌}
 use Rattle.jup_xform.specs.declared.Transform.{Ghosts}
-use Rattle.jup_xform.specs.Laws.{IsLawful}
+use Rattle.jup_xform.specs.Lawful.{IsLawful}
 use Rattle.jup_value.specs.declared.names.Name.{Name}
 use Rattle.jup_value.specs.Items.{Items}
 use Rattle.jup_seq.specs.declared.operations.SeqOp.{SeqOp}
@@ -9,8 +9,8 @@ use Rattle.jup_seq.specs.declared.operations.SeqEdit.{SeqEdit}
 use Rattle.jup_seq.specs.Operations.{bare, IsSmall, HasDistinctNames, KeepsOrder, IsValid, after, HasRoom, AreApart, client_past, server_past}
 use Rattle.jup_seq.specs.Edits.{Content, content, meaning, edit_of}
 use Rattle.jup_seq.specs.Names.{Holds, InsertsName, DeletesName, ChangesName, IsFresh}
-use Rattle.jup_seq.specs.Squares.{square}
-use Rattle.jup_seq.specs.Effects.{distinct_after, small_after, small_below, small_before, apart_swap, apart_client, apart_server}
+use Rattle.jup_seq.specs.Laws.Squares.{square}
+use Rattle.jup_seq.specs.Laws.Effects.{distinct_after, small_after, small_below, small_before, apart_swap, apart_client, apart_server}
 
 -- what `Transform` says of operations on texts
 abbrev pub texts : Ghosts (SeqOp ℕ) (Items ℕ) (SeqEdit ℕ)

@@ -241,7 +241,7 @@ fn deliver(
 }
 
 // The characters as items of site 0, numbered from 1.
-fn named(alloc: Global, start: &[char]) -> Result<Seq<char>, NoMemory>
+fn named_text(alloc: Global, start: &[char]) -> Result<Seq<char>, NoMemory>
     requires { length start.now ≤ longest_input }
     ensures { IfOk result (λ text. text.items ≡ named_from 1 start.now) }
 {
@@ -268,7 +268,7 @@ fn open_end(alloc: Global, side: Side, start: &[char]) -> Result<TextEnd, NoMemo
     requires { length start.now ≤ longest_input }
     ensures { IfOk result (λ end. plain end ≡ opened_end side start.now) }
 {
-    let text = named(alloc, start)?;
+    let text = named_text(alloc, start)?;
     Ok(TextEnd {
         link: End::new(alloc, side),
         text,

@@ -1,49 +1,10 @@
--- The laws of a kind of operations: on states, and on names, order and edits.
-use Rattle.std.specs.Prelude.{◌≡◌, ℕ, ◌+◌, ◌⊎◌, List, [], ◌∷◌, ◌++◌}
-use Rattle.jup_xform.specs.declared.Transform.{Ghosts}
-use Rattle.jup_xform.specs.Grid.{SquareMeets}
-use Rattle.jup_xform.specs.Members.{SomeOf}
-use Rattle.jup_xform.specs.Rows.{row_operation}
+-- What follows from the definitions beside this folder.
 
--- the laws of `Transform` on which a grid stands; they are the same seen from either end
-pub record IsLawful {Op State Edit : Type 0} (t : Ghosts Op State Edit) : Type 0 where
-  pub square : (x : State) (c s : Op) → t.is_distinct x → t.is_small 1 x → t.is_valid c x → t.is_valid s x → t.are_apart c s → SquareMeets t c s x
-  pub distinct_after : (x : State) (c : Op) → t.is_distinct x → t.is_valid c x → t.is_distinct (t.after c x)
-  pub small_after : (n : ℕ) (x : State) (c : Op) → t.is_small (n + 1) x → t.is_valid c x → t.is_small n (t.after c x)
-  pub small_below : (n : ℕ) (x : State) → t.is_small (n + 1) x → t.is_small n x
-  pub small_before : (n : ℕ) (x : State) (c : Op) → t.is_valid c x → t.is_small (n + 1) (t.after c x) → t.is_small n x
-  pub apart_swap : (c s : Op) → t.are_apart c s → t.are_apart s c
-  pub apart_client : (c s o : Op) → t.are_apart c o → t.are_apart (t.client_past c s) o
-  pub apart_server : (s c o : Op) → t.are_apart s o → t.are_apart (t.server_past s c) o
-
--- the laws of `Transform` on names, order and edits: what the operations of a whole run mean
-pub record KeepsMeaning {Op State Edit : Type 0} (t : Ghosts Op State Edit) : Type 0 where
-  pub effect_one : (x : State) (c : Op) → t.is_distinct x → t.is_valid c x → t.content (t.after c x) ≡ t.meaning (t.content x) (t.edit_of c ∷ [])
-  pub order : (x : State) (c : Op) → t.is_distinct x → t.is_valid c x → t.keeps_order x (t.after c x)
-  pub order_self : (x : State) → t.keeps_order x x
-  pub order_chain : (x y z : State) → t.keeps_order x y → t.keeps_order y z → ((n : t.Name) → t.holds x n → t.holds z n → t.holds y n) → t.keeps_order x z
-  pub inserts_client : (c s : Op) (n : t.Name) → t.inserts (t.edit_of (t.client_past c s)) n → t.inserts (t.edit_of c) n
-  pub inserts_server : (s c : Op) (n : t.Name) → t.inserts (t.edit_of (t.server_past s c)) n → t.inserts (t.edit_of s) n
-  pub changes_client : (c s : Op) (n : t.Name) → t.changes (t.edit_of c) n → t.changes (t.edit_of (t.client_past c s)) n ⊎ t.changes (t.edit_of s) n
-  pub changes_server : (s c : Op) (n : t.Name) → t.changes (t.edit_of (t.server_past s c)) n → t.changes (t.edit_of s) n
-  pub apart_names : (c s : Op) (n : t.Name) → t.are_apart c s → t.inserts (t.edit_of c) n → t.inserts (t.edit_of s) n → ⊥
-  pub fresh_names : (c e : Op) (n : t.Name) → t.is_fresh c e → t.inserts (t.edit_of c) n → (t.inserts (t.edit_of e) n ⊎ t.deletes (t.edit_of e) n) → ⊥
-  pub inserts_new : (x : State) (c : Op) (n : t.Name) → t.is_valid c x → t.inserts (t.edit_of c) n → t.holds x n → ⊥
-  pub changes_held : (x : State) (c : Op) (n : t.Name) → t.is_valid c x → t.changes (t.edit_of c) n → t.holds x n ⊎ t.inserts (t.edit_of c) n
-  pub held_before : (x : State) (c : Op) (n : t.Name) → t.is_valid c x → t.holds (t.after c x) n → t.holds x n ⊎ t.inserts (t.edit_of c) n
-  pub held_after : (x : State) (c : Op) (n : t.Name) → t.is_valid c x → t.holds x n → t.holds (t.after c x) n ⊎ t.deletes (t.edit_of c) n
-  pub meaning_none : (k : t.Content) → t.meaning k [] ≡ k
-  pub meaning_more : (k : t.Content) (es fs : List Edit) → ((n : t.Name) → SomeOf (λ f. t.inserts f n) fs → SomeOf (λ e. t.changes e n) es → ⊥)
-      → t.meaning (t.meaning k es) fs ≡ t.meaning k (es ++ fs)
-  pub edit_client : (c s : Op) (past : List Op) (k : t.Content) (before between later : List Edit)
-      → t.meaning k (before ++ t.edit_of s ∷ (between ++ t.edit_of (t.client_past c (row_operation t.server_past s past)) ∷ later))
-      ≡ t.meaning k (before ++ t.edit_of s ∷ (between ++ t.edit_of c ∷ later))
-  pub edit_server : (c s : Op) → t.are_apart c s → (k : t.Content) (before later : List Edit)
-      → t.meaning k (before ++ t.edit_of c ∷ t.edit_of (t.server_past s c) ∷ later) ≡ t.meaning k (before ++ t.edit_of s ∷ t.edit_of c ∷ later)
-
--- the laws of `Transform` by which an operation past another stays fresh, and another stays fresh after it
-pub record KeepsFresh {Op State Edit : Type 0} (t : Ghosts Op State Edit) : Type 0 where
-  pub fresh_client : (c s o : Op) → t.is_fresh c o → t.is_fresh (t.client_past c s) o
-  pub fresh_server : (s c o : Op) → t.is_fresh s o → t.is_fresh (t.server_past s c) o
-  pub fresh_of_client : (c s o : Op) → t.is_fresh o c → t.is_fresh o (t.client_past c s)
-  pub fresh_of_server : (s c o : Op) → t.is_fresh o s → t.is_fresh o (t.server_past s c)
+pub mod BatchEdits
+pub mod BatchKept
+pub mod BatchLaws
+pub mod BatchMeaning
+pub mod BatchesAreLawful
+pub mod BoundLaws
+pub mod GridLaws
+pub mod RowLaws

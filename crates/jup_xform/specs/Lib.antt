@@ -1,15 +1,8 @@
 pub mod Batches
-pub mod BatchEdits
-pub mod BatchKept
-pub mod BatchLaws
-pub mod BatchMeaning
-pub mod BatchesAreLawful
-pub mod BoundLaws
 pub mod Grid
-pub mod GridLaws
+pub mod Lawful
 pub mod Laws
 pub mod Members
-pub mod RowLaws
 pub mod Rows
 pub mod Sides
 pub mod Stores

@@ -2,14 +2,21 @@
 
 use jup_hub::HubFault;
 use jup_rules::{SessionFault, cause_of};
-use jup_star::StarFault;
+use jup_star::{OpenFault, SiteFault, StarFault};
+use jup_window::BoardFault;
 use jup_wire::WireFault;
 use std::alloc::Global;
+use std::fmt::Display;
 use std::process::Abort;
 
-fn is_told(rt: &impl Abort, alloc: Global, fault: SessionFault) {
+// The text of a fault with this number is its cause.
+fn is_cause<R: Abort, F: Display>(rt: &R, alloc: Global, fault: &F, number: u32) {
     let text = format!(in alloc; "{fault}").expect(rt, "memory");
-    assert_eq!(rt; text.as_str(), cause_of(fault.number()));
+    assert_eq!(rt; text.as_str(), cause_of(number));
+}
+
+fn is_told(rt: &impl Abort, alloc: Global, fault: SessionFault) {
+    is_cause(rt, alloc, &fault, fault.number());
 }
 
 #[test]
@@ -41,4 +48,17 @@ fn causes_are_the_texts_of_faults(rt: HostRuntime) {
     ] {
         is_told(&rt, rt.alloc(), fault);
     }
+}
+
+// What a server greets with is refused by the client's board and by its site.
+#[test]
+fn causes_are_the_texts_of_faults_in_a_greeting(rt: HostRuntime) {
+    for fault in [BoardFault::DoubleId, BoardFault::BadId] {
+        is_cause(&rt, rt.alloc(), &fault, fault.number());
+    }
+    for fault in [OpenFault::BadLimit, OpenFault::BadSite] {
+        is_cause(&rt, rt.alloc(), &fault, fault.number());
+    }
+    let stopped = SiteFault::Stopped;
+    is_cause(&rt, rt.alloc(), &stopped, stopped.number());
 }

@@ -1,9 +1,9 @@
 //! The programs over loopback.
 
 use crate::fakes::Impatient;
-use jup_session::{client_main, daemon_main};
+use jup_session::{client_main, daemon_main, without_words};
 use std::alloc::{AllocError, Global};
-use std::io::Read;
+use std::io::{ErrorKind, Read};
 use std::net::{Net, TcpListener, TcpStream};
 use std::process::Abort;
 use std::sync::Wait;
@@ -207,6 +207,20 @@ fn words_that_are_missing(rt: HostRuntime) {
     words_refused(&rt, &serve(&rt, alloc, &words, "".as_bytes()));
     let none = Vec::new(alloc);
     words_refused(&rt, &connect(&rt, alloc, &none, b""));
+}
+
+// The table of statuses in `docs/PROGRAMS.md` has these: 3 for want of memory, and 2 where a word is not UTF-8.
+#[test]
+fn a_program_that_cannot_have_its_words_says_why(rt: HostRuntime) {
+    for (kind, status, text) in [
+        (ErrorKind::OutOfMemory, 3, "no memory\n"),
+        (ErrorKind::InvalidData, 2, "a word is no text\n"),
+    ] {
+        let mut errors = Vec::new(rt.alloc());
+        let answered = without_words(&io::Error::from(kind), &mut errors);
+        assert_eq!(rt; answered, status);
+        assert_eq!(rt; str::from_utf8(errors.as_slice()), Ok(text));
+    }
 }
 
 // Whether a text has a word.

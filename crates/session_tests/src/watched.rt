@@ -38,7 +38,7 @@ impl<'a, R: Wait> Gate for Watching<'a, R> {
         true
     }
 
-    fn answered(&self, _site: u32, _nth: u32) {
+    fn note_answer(&self, _site: u32, _nth: u32) {
         if self.sight.lock(self.rt).looks() {
             self.takes.fetch_add(1, Ordering::SeqCst);
         }

@@ -27,7 +27,7 @@ pub(crate) struct Player {
 }
 
 // A fault that is an answer: all but want of memory.
-fn declined(fault: EditFault) -> Result<EditFault, Stop>
+fn decline(fault: EditFault) -> Result<EditFault, Stop>
     ensures answer { IfOk result (λ f. (f ≡ fault) × (is_edit_memory fault ≡ false)) }
     ensures stop { IfErr result (λ stop. (stop ≡ Stop.NoMemory) × (is_edit_memory fault ≡ true)) }
 {
@@ -79,7 +79,7 @@ impl Player {
             return Err(Stop::GateShut);
         }
         let answer = self.caller.take(rt, alloc, hub, self.number, up);
-        gate.answered(self.number, nth);
+        gate.note_answer(self.number, nth);
         answer?;
         self.taken = nth;
         Ok(())
@@ -116,7 +116,7 @@ impl Player {
                 Ok(())
             }
             Err(fault) => {
-                self.replies.push(Err(declined(fault)?))?;
+                self.replies.push(Err(decline(fault)?))?;
                 Ok(())
             }
         }

@@ -56,7 +56,7 @@ fn run_over_socket<
 >(rt: &R, alloc: Global, addr: &str, input: C, out: &mut O) -> Result<(), ClientEnd> {
     let stream = match TcpStream::connect(rt, addr) {
         Ok(stream) => stream,
-        Err(error) => return Err(ClientEnd::unconnected(&error)),
+        Err(error) => return Err(ClientEnd::of_connecting(&error)),
     };
     let _ = stream.set_nodelay(true);
     let end = run_client(alloc, input, out, &stream, &stream);

@@ -56,12 +56,12 @@ fn serve<
     drop(text);
     let listener = match TcpListener::bind(rt, told.listen.as_str()) {
         Ok(listener) => listener,
-        Err(error) => return Err(DaemonEnd::failed(Attempt::Listen, &error)),
+        Err(error) => return Err(DaemonEnd::of_failure(Attempt::Listen, &error)),
     };
     let Ok((hub, pass)) = Hub::open(alloc, star) else {
         return Err(DaemonEnd::NoMemory);
     };
-    announce(&told.listen, out).map_err(|error| DaemonEnd::failed(Attempt::Print, &error))?;
+    announce(&told.listen, out).map_err(|error| DaemonEnd::of_failure(Attempt::Print, &error))?;
     let pass = serve_all(rt, alloc, listener, &hub, pass, told.sessions)?;
     match hub.close(pass) {
         Ok(closed) => report(alloc, &closed.star, out),
@@ -75,7 +75,7 @@ fn read_layout<I: Read + Drop>(alloc: Global, input: I) -> Result<Vec<u8>, Daemo
 {
     let mut text = Vec::new(alloc);
     if let Err(error) = input.take(LONGEST_INPUT + 1).read_to_end(&mut text) {
-        return Err(DaemonEnd::failed(Attempt::ReadLayout, &error));
+        return Err(DaemonEnd::of_failure(Attempt::ReadLayout, &error));
     }
     if text.len() as u64 > LONGEST_INPUT {
         return Err(DaemonEnd::LongLayout);
@@ -92,7 +92,7 @@ fn announce<O: Write>(listen: &str, out: &mut O) -> io::Result<()> {
 // Prints how many edits were taken, and the board.
 fn report<O: Write>(alloc: Global, star: &Star, out: &mut O) -> Result<(), DaemonEnd> {
     let text = report_text(alloc, star)?;
-    print(text.as_slice(), out).map_err(|error| DaemonEnd::failed(Attempt::Print, &error))
+    print(text.as_slice(), out).map_err(|error| DaemonEnd::of_failure(Attempt::Print, &error))
 }
 
 fn print<O: Write>(text: &[u8], out: &mut O) -> io::Result<()> {
@@ -125,7 +125,7 @@ fn serve_all<R: Threads + Wait + Clock + Sync>(
             for _ in 0..sessions {
                 let (stream, _) = match listener.accept() {
                     Ok(accepted) => accepted,
-                    Err(error) => return Err(DaemonEnd::failed(Attempt::Accept, &error)),
+                    Err(error) => return Err(DaemonEnd::of_failure(Attempt::Accept, &error)),
                 };
                 let theirs = hub.split(&mut pass);
                 let child = scope.spawn(

@@ -10,7 +10,7 @@ use super::source::Source;
 use super::writing::tell;
 use jup_hub::{Hub, Pass};
 use jup_layout::put_board;
-use jup_rules::{Ending, SessionFault, greeted};
+use jup_rules::{Ending, SessionFault, check_greeting};
 use jup_star::Joined;
 use jup_wire::{Line, LineSink};
 use std::alloc::Global;
@@ -62,7 +62,7 @@ fn greet<R: Wait, I: Read + Drop>(
     ensures over { OnErr result (IsSession (view_of pass.old) (view_of pass.new)) }
 {
     let first = source.next_line(alloc)?;
-    greeted(&first)?;
+    check_greeting(&first)?;
     match hub.join_site(rt, alloc, pass) {
         Ok(joined) => Ok(joined),
         Err(fault) => Err(SessionFault::Hub(fault).into()),

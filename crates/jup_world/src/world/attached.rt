@@ -55,7 +55,7 @@ pub struct Attached {
 }
 
 // What a message that the star took answers: the place of an edit in the order.
-fn taken(place: Option<u32>) -> Reply
+fn reply_to_take(place: Option<u32>) -> Reply
     ensures reply { numbered_reply result ≡ place_reply board_batches place }
     ensures few { MakesFew result 0 }
 {
@@ -114,7 +114,7 @@ pub(crate) fn are_quiet(sites: &[Attached], star: &Star) -> bool
 }
 
 // What a push of so many bytes answers.
-fn pushed(count: usize) -> Reply
+fn reply_to_push(count: usize) -> Reply
     requires { count < 2 ^ 32 }
     ensures { numbered_reply result ≡ push_reply count }
 {
@@ -243,7 +243,7 @@ impl Attached {
             Err(fault) => return Err(fault),
         };
         self.up.drop_first(&up);
-        Ok(taken(place))
+        Ok(reply_to_take(place))
     }
 
     /// Moves the oldest message on its way down: fetches it if the down stream is empty, and hands it to
@@ -352,7 +352,7 @@ impl Attached {
         ensures err { OnErr result (lane_of self.new ≡ lane_of self.old) }
     {
         let count = self.up.push(alloc, most)?;
-        Ok(pushed(count))
+        Ok(reply_to_push(count))
     }
 
     /// Moves up to so many bytes of the down stream, which is filled first if it has none, to the site's
@@ -381,7 +381,7 @@ impl Attached {
     {
         self.fill(star)?;
         let count = self.down.push(alloc, most)?;
-        Ok(pushed(count))
+        Ok(reply_to_push(count))
     }
 
     /// Whether no message is on its way from this site or to it.

@@ -7,5 +7,5 @@ use Rattle.jup_gather.proofs.step.go_on.Goals as goal
 pub returns-in_default : goal.returns-in_default
 returns-in_default c =
     let part = c.args.part in
-    subst (λ step. Gathers (Some (part_lines part)) c.args.line step.gathered (held step.state)) (sym c.misplaced.ensures)
+    subst (λ step. Gathers (Some (part_lines part)) c.args.line step.gathered (held step.state)) (sym c.stop.ensures)
     (no_place_begun part.mine part.heard part.count part.ops.items c.args.line (omega arith) c.in_default.not-Do, refl)

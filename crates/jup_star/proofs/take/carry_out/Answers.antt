@@ -7,7 +7,7 @@ use Rattle.jup_star.specs.StarStates.{without, links_after}
 use Rattle.jup_star.specs.StarCalls.{BoardLink}
 use Rattle.jup_star.specs.Rooms.{bare_link, AllCount}
 use Rattle.jup_star.proofs.LinkChanges.{found_some, without_set}
-use Rattle.jup_star.proofs.LinkLists.{lent_back}
+use Rattle.jup_star.proofs.Lists.LinkLists.{lent_back}
 use Rattle.jup_star.proofs.Carrying.{room_operation, shape_operation, found_of, counted_heard, all_after}
 use Rattle.jup_star.proofs.Relabels.{accepted_relabels}
 use Rattle.jup_star.proofs.take.carry_out.Goals as goal

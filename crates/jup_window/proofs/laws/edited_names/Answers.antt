@@ -7,7 +7,7 @@ use Rattle.jup_window.specs.declared.edits.Effect.TheVariants.{PutChar, PutLabel
 use Rattle.jup_window.specs.Entries.{same_place}
 use Rattle.jup_window.specs.Effects as effects
 use Rattle.jup_window.specs.Boards as board
-use Rattle.jup_window.specs.BoardNames.{inserts_at_all, changes_at_all}
+use Rattle.jup_window.specs.Laws.BoardNames.{inserts_at_all, changes_at_all}
 use Rattle.jup_window.proofs.laws.edited_names.Goals as goal
 
 -- an effect that puts nothing under a name does not insert it

@@ -6,9 +6,9 @@ use Rattle.jup_value.proofs.ItemLists.{name_eq_same}
 use Rattle.jup_window.specs.Widgets.{inserted, AreApartNames}
 use Rattle.jup_window.specs.Effects.{is_name}
 use Rattle.jup_window.specs.Boards.{place, edit_of}
-use Rattle.jup_window.specs.WidgetNames.{inserted_name-effect_of, apart_is}
-use Rattle.jup_window.specs.BoardNames.{inserted_there}
-use Rattle.jup_window.specs.BoardsAreLawful.{inserts_own}
+use Rattle.jup_window.specs.Laws.WidgetNames.{inserted_name-effect_of, apart_is}
+use Rattle.jup_window.specs.Laws.BoardNames.{inserted_there}
+use Rattle.jup_window.specs.Laws.BoardsAreLawful.{inserts_own}
 use Rattle.jup_window.proofs.laws.premises.Goals as goal
 
 -- two names that may be there are apart where they are not one name

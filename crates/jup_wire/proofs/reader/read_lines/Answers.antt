@@ -6,8 +6,8 @@ use Rattle.jup_wire.proofs.Splits.{split_parts}
 use Rattle.jup_wire.proofs.Streaming.{open_text, lacks_all, spelled-append, one_line_more, fault_behind}
 use Rattle.jup_wire.proofs.reader.read_lines.Goals as goal
 
-pub ended-requires : goal.ended-requires
-ended-requires c = open_text c.in-Some.text.now (split_parts 10 c.loop-text.left.now c.in-Some.text.now c.in-Some.behind.now c.in-Some.ensures).1
+pub finish_line-requires : goal.finish_line-requires
+finish_line-requires c = open_text c.in-Some.text.now (split_parts 10 c.loop-text.left.now c.in-Some.text.now c.in-Some.behind.now c.in-Some.ensures).1
 
 pub returns-in-Err : goal.returns-in-Err
 returns-in-Err c =

@@ -1,8 +1,8 @@
 use Rattle.jup_lane.specs.Messages.{ups, downs}
 use Rattle.jup_world.specs.LaneWorlds.{messages_of}
-use Rattle.jup_world.proofs.QuietWorlds.{all_agree}
-use Rattle.jup_world.proofs.LaneWorldLaws.{ways_determined, still_quiet, steps_keep}
-use Rattle.jup_world.proofs.LaneOrder.{steps_order}
+use Rattle.jup_world.proofs.Drains.QuietWorlds.{all_agree}
+use Rattle.jup_world.proofs.Lanes.LaneWorldLaws.{ways_determined, still_quiet, steps_keep}
+use Rattle.jup_world.proofs.Lanes.LaneOrder.{steps_order}
 use Rattle.jup_world.proofs.promises.bytes_agree.Goals as goal
 
 pub returns-clause-agree : goal.returns-clause-agree

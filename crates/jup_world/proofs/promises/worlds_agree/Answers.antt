@@ -1,13 +1,13 @@
 use Rattle.jup_batch.specs.BoardBatches.{board_batches}
 use Rattle.jup_batch.specs.BoardBatches.{batch_laws}
 use Rattle.jup_star.specs.StarStates.{most_batches}
-use Rattle.jup_world.proofs.SoundRuns.{sound-promises}
-use Rattle.jup_world.proofs.ReplyLaws.{replies}
-use Rattle.jup_world.proofs.BacklogLaws.{counts-backlog}
-use Rattle.jup_world.proofs.TallyLaws.{tallies}
-use Rattle.jup_world.proofs.StarRuns.{run-follows}
-use Rattle.jup_world.proofs.SiteRuns.{run_follows}
-use Rattle.jup_world.proofs.BoardWorldLaws.{reached_sound}
+use Rattle.jup_world.proofs.Sound.SoundRuns.{sound-promises}
+use Rattle.jup_world.proofs.Sound.ReplyLaws.{replies}
+use Rattle.jup_world.proofs.Sound.BacklogLaws.{counts-backlog}
+use Rattle.jup_world.proofs.Sound.TallyLaws.{tallies}
+use Rattle.jup_world.proofs.Orders.StarRuns.{run-follows}
+use Rattle.jup_world.proofs.Orders.SiteRuns.{run_follows}
+use Rattle.jup_world.proofs.Sound.BoardWorldLaws.{reached_sound}
 use Rattle.jup_world.proofs.promises.worlds_agree.Goals as goal
 
 pub returns-clause-kept : goal.returns-clause-kept

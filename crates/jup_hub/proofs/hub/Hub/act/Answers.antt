@@ -19,7 +19,7 @@ returns-clause-made g c =
     let reply = g.A.Ask.reply answer in
     let turn = c.take_turn-desk.ensures.turn in
     let none_is = c.args.pass.now.is_idle.1 in
-    subst (λ (x : Result g.row.A-Answer.Denot HubFault). Made g.A.Ask.reply call v after x) (sym c.told.ensures) (elim c.if-lacks_memory.branch [
+    subst (λ (x : Result g.row.A-Answer.Denot HubFault). Made g.A.Ask.reply call v after x) (sym c.hub_answer.ensures) (elim c.if-lacks_memory.branch [
       | then-lacks_memory w ↦
           let lacks : lacks_memory answer ≡ true = sym c.lacks_memory.ensures ∙ w.if-lacks_memory.true in
           let asked = (refused call _ _ reply (g.met.A.Ask.tells_memory answer ∙ lacks) c.ask-answer.ensures).1 in

@@ -15,11 +15,11 @@ use Rattle.jup_star.proofs.site.Site.deliver_edit.Goals as goal
 pub invariant_of-self-2 : goal.invariant_of-self-2
 invariant_of-self-2 c =
     let s : BoardSite = the_view c.self.inside in
-    let m = c.in-Ok-reserve_shown.msg in
-    let told = c.in-Ok-reserve_shown.ensures.msg in
+    let m = c.in_ok-msg.msg in
+    let told = c.in_ok-msg.ensures.msg in
     let op = operation_at board_batches s.end m in
     let shows = c.if-not-show.false in
-    let same = c.in-Ok-reserve_shown.ensures.board in
+    let same = c.in_ok-msg.ensures.board in
     let valid = (batch_laws.decides op s.board).0 (ap (accepts op) (sym same) ∙ sym c.show.ensures.fits ∙ shows) in
     let early : None ≡ first_fault (shown_tests board_batches s.number s.end m) = c.in-Ok.ensures ∙ ap (λ x. first_fault (shown_tests board_batches s.number s.end x)) (sym told) in
     subst (IsSite board_batches)

@@ -6,7 +6,7 @@ use Rattle.jup_star.specs.StarStates.{with_links}
 use Rattle.jup_star.specs.Rooms.{bare_link}
 use Rattle.jup_star.specs.contracts.star.Star.{the_view}
 use Rattle.jup_star.proofs.LinkChanges.{found_new}
-use Rattle.jup_star.proofs.LinkSteps.{changed, changed_star, fetched_bounded, place_found}
+use Rattle.jup_star.proofs.Lists.LinkSteps.{changed, changed_star, fetched_bounded, place_found}
 use Rattle.jup_star.proofs.CallSteps.{fetch_no_link, fetch_fetched}
 use Rattle.jup_star.proofs.star.Star.fetch_one.Goals as goal
 

@@ -1,4 +1,5 @@
-use Rattle.std.proofs.Common.{arith, ◌≡◌, ap, ◌∙◌, sym, map, subst, List, length, Some, None, Ok, ◌++◌, ◌∷◌, []}
+use Rattle.jup_star.specs.declared.faults.StarFault.TheVariants.{NoMemory}
+use Rattle.std.proofs.Common.{rules, arith, ◌≡◌, ap, ◌∙◌, sym, map, subst, List, length, Some, None, Ok, ◌++◌, ◌∷◌, [], Err}
 use Rattle.jup_batch.specs.BatchBoards.{BoardEdits}
 use Rattle.jup_batch.specs.BatchBoards as board
 use Rattle.jup_batch.specs.BoardBatches.{board_batches}
@@ -14,7 +15,7 @@ use Rattle.jup_star.specs.StarStates.{early_fault, link_of, without, with_links,
 use Rattle.jup_star.specs.StarCalls.{BoardLink, IsStar}
 use Rattle.jup_star.specs.Rooms.{bare_link, AllCount}
 use Rattle.jup_star.specs.contracts.star.Star.{the_view}
-use Rattle.jup_star.proofs.LinkPlaces.{detached}
+use Rattle.jup_star.proofs.Lists.LinkPlaces.{detached}
 use Rattle.jup_star.proofs.LinkChanges.{found_new, found_some}
 use Rattle.jup_star.proofs.StarKeeps.{left_star}
 use Rattle.jup_star.proofs.CallSteps.{take_no_link}
@@ -40,93 +41,94 @@ returns-in-Err c =
     rw (← c.self.view_is) (edit_detached (the_view c.self.inside) c.args.site c.args.msg.now found.0 c.in-Err.fault _ found.1 early
     (ap (map bare_link) c.detach.ensures ∙ detached c.args.site _))
 
-pub invariant_of-self-in-Err-reserve_edit : goal.invariant_of-self-in-Err-reserve_edit
-invariant_of-self-in-Err-reserve_edit c =
+pub invariant_of-self-in_err-prepared : goal.invariant_of-self-in_err-prepared
+invariant_of-self-in_err-prepared c =
     waits_star (the_view c.self.inside) _ _ _ c.self.invariant c.reserve_edit.ensures.board c.reserve_edit.ensures.links c.reserve_edit.ensures.order
 
-pub returns-in-Err-reserve_edit : goal.returns-in-Err-reserve_edit
-returns-in-Err-reserve_edit c =
+pub returns-in_err-prepared : goal.returns-in_err-prepared
+returns-in_err-prepared c =
     let place = rw c.deref.ensures.value at c.in-Some.ensures.place in
     let found = found_some c.args.site (map bare_link c.self.inside.links.items) c.in-Some.at place in
     let early = checked c.args.site c.in-Some.at c.self.inside.limit c.len-place.result (length c.self.inside.order.entries) c.self.inside.links.items c.index.result.now found.0
     c.args.msg.now None place c.index.ensures c.len-place.ensures found.1 c.in-Ok.ensures in
-    rw (← c.self.view_is) (edit_waits (the_view c.self.inside) c.args.site c.args.msg.now found.0 _ _ _ found.1 early
-    c.in-Err-reserve_edit.ensures.board c.in-Err-reserve_edit.ensures.links c.in-Err-reserve_edit.ensures.order)
+    let is : c.from_residual.result ≡ Err NoMemory = search rules in
+    rw (← c.self.view_is, is) (edit_waits (the_view c.self.inside) c.args.site c.args.msg.now found.0 _ _ _ found.1 early
+    c.in_err-prepared.ensures.board c.in_err-prepared.ensures.links c.in_err-prepared.ensures.order)
 
 pub carry_out-requires-clause-heard : goal.carry_out-requires-clause-heard
 carry_out-requires-clause-heard c = λ l there.
     let place = rw c.deref.ensures.value at c.in-Some.ensures.place in
-    let found : link_of c.args.site (map bare_link c.self.inside.links.items) ≡ Some l = ap (link_of c.args.site) (sym c.in-Ok-reserve_edit.ensures.links) ∙ there in
+    let found : link_of c.args.site (map bare_link c.self.inside.links.items) ≡ Some l = ap (link_of c.args.site) (sym c.in_ok-prepared.ensures.links) ∙ there in
     let early = checked c.args.site c.in-Some.at c.self.inside.limit c.len-place.result (length c.self.inside.order.entries) c.self.inside.links.items c.index.result.now l
     c.args.msg.now None place c.index.ensures c.len-place.ensures found c.in-Ok.ensures in
-    subst (λ m. CanHear m l) (sym c.in-Ok-reserve_edit.ensures.msg) (heard_by (the_view c.self.inside) c.args.site c.in-Some.at c.args.msg.now l c.self.invariant place found early)
+    subst (λ m. CanHear m l) (sym c.in_ok-prepared.ensures.msg) (heard_by (the_view c.self.inside) c.args.site c.in-Some.at c.args.msg.now l c.self.invariant place found early)
 
 pub carry_out-requires-clause-counted : goal.carry_out-requires-clause-counted
-carry_out-requires-clause-counted c = subst AllCount (sym c.in-Ok-reserve_edit.ensures.links) (all_count (the_view c.self.inside) c.self.invariant)
+carry_out-requires-clause-counted c = subst AllCount (sym c.in_ok-prepared.ensures.links) (all_count (the_view c.self.inside) c.self.invariant)
 
 pub invariant_of-self-then-not-carry_out : goal.invariant_of-self-then-not-carry_out
 invariant_of-self-then-not-carry_out c =
     let misfits = c.if-not-carry_out.true in
     misfits_star (the_view c.self.inside) c.args.site _ _ _ c.self.invariant
-    (c.carry_out.ensures.same_board misfits ∙ c.in-Ok-reserve_edit.ensures.board)
-    (ap (map bare_link) c.detach-then-not-carry_out.ensures ∙ detached c.args.site _ ∙ c.carry_out.ensures.others misfits ∙ ap (without c.args.site) c.in-Ok-reserve_edit.ensures.links)
-    (c.carry_out.ensures.same_order misfits ∙ c.in-Ok-reserve_edit.ensures.order)
+    (c.carry_out.ensures.same_board misfits ∙ c.in_ok-prepared.ensures.board)
+    (ap (map bare_link) c.detach-then-not-carry_out.ensures ∙ detached c.args.site _ ∙ c.carry_out.ensures.others misfits ∙ ap (without c.args.site) c.in_ok-prepared.ensures.links)
+    (c.carry_out.ensures.same_order misfits ∙ c.in_ok-prepared.ensures.order)
 
 pub returns-then-not-carry_out : goal.returns-then-not-carry_out
 returns-then-not-carry_out c =
     let misfits = c.if-not-carry_out.true in
     let place = rw c.deref.ensures.value at c.in-Some.ensures.place in
     let found = found_some c.args.site (map bare_link c.self.inside.links.items) c.in-Some.at place in
-    let there = ap (link_of c.args.site) c.in-Ok-reserve_edit.ensures.links ∙ found.1 in
+    let there = ap (link_of c.args.site) c.in_ok-prepared.ensures.links ∙ found.1 in
     let early = checked c.args.site c.in-Some.at c.self.inside.limit c.len-place.result (length c.self.inside.order.entries) c.self.inside.links.items c.index.result.now found.0
     c.args.msg.now None place c.index.ensures c.len-place.ensures found.1 c.in-Ok.ensures in
-    let m = c.in-Ok-reserve_edit.prepared.msg in
-    let told : m ≡ c.args.msg.now = c.in-Ok-reserve_edit.ensures.msg in
+    let m = c.in_ok-prepared.prepared.msg in
+    let told : m ≡ c.args.msg.now = c.in_ok-prepared.ensures.msg in
     let early_m = early ∙ ap (λ x. early_fault board_batches (the_view c.self.inside).limit (length c.self.inside.order.entries) found.0 x) (sym told) in
     let op = operation_at board_batches found.0.end m in
     rw (← c.self.view_is) (edit_misfits (the_view c.self.inside) c.args.site m c.args.msg.now told found.0 _ _ _ found.1 early_m
-    (ap (accepts op) (sym c.in-Ok-reserve_edit.ensures.board) ∙ sym (c.carry_out.ensures.fits found.0 there) ∙ misfits)
-    (c.carry_out.ensures.same_board misfits ∙ c.in-Ok-reserve_edit.ensures.board)
-    (ap (map bare_link) c.detach-then-not-carry_out.ensures ∙ detached c.args.site _ ∙ c.carry_out.ensures.others misfits ∙ ap (without c.args.site) c.in-Ok-reserve_edit.ensures.links)
-    (c.carry_out.ensures.same_order misfits ∙ c.in-Ok-reserve_edit.ensures.order))
+    (ap (accepts op) (sym c.in_ok-prepared.ensures.board) ∙ sym (c.carry_out.ensures.fits found.0 there) ∙ misfits)
+    (c.carry_out.ensures.same_board misfits ∙ c.in_ok-prepared.ensures.board)
+    (ap (map bare_link) c.detach-then-not-carry_out.ensures ∙ detached c.args.site _ ∙ c.carry_out.ensures.others misfits ∙ ap (without c.args.site) c.in_ok-prepared.ensures.links)
+    (c.carry_out.ensures.same_order misfits ∙ c.in_ok-prepared.ensures.order))
 
 pub invariant_of-self-else-not-carry_out : goal.invariant_of-self-else-not-carry_out
 invariant_of-self-else-not-carry_out c =
     let fits = c.if-not-carry_out.false in
     let place = rw c.deref.ensures.value at c.in-Some.ensures.place in
     let found = found_some c.args.site (map bare_link c.self.inside.links.items) c.in-Some.at place in
-    let there = ap (link_of c.args.site) c.in-Ok-reserve_edit.ensures.links ∙ found.1 in
+    let there = ap (link_of c.args.site) c.in_ok-prepared.ensures.links ∙ found.1 in
     let early = checked c.args.site c.in-Some.at c.self.inside.limit c.len-place.result (length c.self.inside.order.entries) c.self.inside.links.items c.index.result.now found.0
     c.args.msg.now None place c.index.ensures c.len-place.ensures found.1 c.in-Ok.ensures in
-    let m = c.in-Ok-reserve_edit.prepared.msg in
-    let told : m ≡ c.args.msg.now = c.in-Ok-reserve_edit.ensures.msg in
+    let m = c.in_ok-prepared.prepared.msg in
+    let told : m ≡ c.args.msg.now = c.in_ok-prepared.ensures.msg in
     let early_m = early ∙ ap (λ x. early_fault board_batches (the_view c.self.inside).limit (length c.self.inside.order.entries) found.0 x) (sym told) in
     let op = operation_at board_batches found.0.end m in
     edit_star (the_view c.self.inside) c.args.site c.in-Some.at m found.0 _ _ _ c.self.invariant place found.1 early_m
-    (ap (accepts op) (sym c.in-Ok-reserve_edit.ensures.board) ∙ sym (c.carry_out.ensures.fits found.0 there) ∙ fits)
-    (c.carry_out.ensures.board fits found.0 there ∙ ap (board.after op) c.in-Ok-reserve_edit.ensures.board)
-    (c.carry_out.ensures.links fits found.0 there ∙ ap (links_after board_batches c.args.site m op) c.in-Ok-reserve_edit.ensures.links)
-    (c.carry_out.ensures.order fits ∙ ap (λ (es : List (Entry BoardEdits)). es ++ record { site = c.args.site; edit = c.in-Ok-reserve_edit.prepared.edits } ∷ []) c.in-Ok-reserve_edit.ensures.order
-    ∙ ap (λ (e : BoardEdits). c.self.inside.order.entries ++ record { site = c.args.site; edit = e } ∷ []) (c.in-Ok-reserve_edit.ensures.edits ∙ ap (λ (x : Msg BoardBatch). board.edit_of x.op) (sym told)))
+    (ap (accepts op) (sym c.in_ok-prepared.ensures.board) ∙ sym (c.carry_out.ensures.fits found.0 there) ∙ fits)
+    (c.carry_out.ensures.board fits found.0 there ∙ ap (board.after op) c.in_ok-prepared.ensures.board)
+    (c.carry_out.ensures.links fits found.0 there ∙ ap (links_after board_batches c.args.site m op) c.in_ok-prepared.ensures.links)
+    (c.carry_out.ensures.order fits ∙ ap (λ (es : List (Entry BoardEdits)). es ++ record { site = c.args.site; edit = c.in_ok-prepared.prepared.edits } ∷ []) c.in_ok-prepared.ensures.order
+    ∙ ap (λ (e : BoardEdits). c.self.inside.order.entries ++ record { site = c.args.site; edit = e } ∷ []) (c.in_ok-prepared.ensures.edits ∙ ap (λ (x : Msg BoardBatch). board.edit_of x.op) (sym told)))
 
 pub returns : goal.returns
 returns c =
     let fits = c.if-not-carry_out.false in
     let place = rw c.deref.ensures.value at c.in-Some.ensures.place in
     let found = found_some c.args.site (map bare_link c.self.inside.links.items) c.in-Some.at place in
-    let there = ap (link_of c.args.site) c.in-Ok-reserve_edit.ensures.links ∙ found.1 in
+    let there = ap (link_of c.args.site) c.in_ok-prepared.ensures.links ∙ found.1 in
     let early = checked c.args.site c.in-Some.at c.self.inside.limit c.len-place.result (length c.self.inside.order.entries) c.self.inside.links.items c.index.result.now found.0
     c.args.msg.now None place c.index.ensures c.len-place.ensures found.1 c.in-Ok.ensures in
-    let m = c.in-Ok-reserve_edit.prepared.msg in
-    let told : m ≡ c.args.msg.now = c.in-Ok-reserve_edit.ensures.msg in
+    let m = c.in_ok-prepared.prepared.msg in
+    let told : m ≡ c.args.msg.now = c.in_ok-prepared.ensures.msg in
     let early_m = early ∙ ap (λ x. early_fault board_batches (the_view c.self.inside).limit (length c.self.inside.order.entries) found.0 x) (sym told) in
     let op = operation_at board_batches found.0.end m in
     let call = edit_taken (the_view c.self.inside) c.args.site m c.args.msg.now told found.0 _ _ _ found.1 early_m
-    (ap (accepts op) (sym c.in-Ok-reserve_edit.ensures.board) ∙ sym (c.carry_out.ensures.fits found.0 there) ∙ fits)
-    (c.carry_out.ensures.board fits found.0 there ∙ ap (board.after op) c.in-Ok-reserve_edit.ensures.board)
-    (c.carry_out.ensures.links fits found.0 there ∙ ap (links_after board_batches c.args.site m op) c.in-Ok-reserve_edit.ensures.links)
-    (c.carry_out.ensures.order fits ∙ ap (λ (es : List (Entry BoardEdits)). es ++ record { site = c.args.site; edit = c.in-Ok-reserve_edit.prepared.edits } ∷ []) c.in-Ok-reserve_edit.ensures.order
-    ∙ ap (λ (e : BoardEdits). c.self.inside.order.entries ++ record { site = c.args.site; edit = e } ∷ []) (c.in-Ok-reserve_edit.ensures.edits ∙ ap (λ (x : Msg BoardBatch). board.edit_of x.op) (sym told))) in
+    (ap (accepts op) (sym c.in_ok-prepared.ensures.board) ∙ sym (c.carry_out.ensures.fits found.0 there) ∙ fits)
+    (c.carry_out.ensures.board fits found.0 there ∙ ap (board.after op) c.in_ok-prepared.ensures.board)
+    (c.carry_out.ensures.links fits found.0 there ∙ ap (links_after board_batches c.args.site m op) c.in_ok-prepared.ensures.links)
+    (c.carry_out.ensures.order fits ∙ ap (λ (es : List (Entry BoardEdits)). es ++ record { site = c.args.site; edit = c.in_ok-prepared.prepared.edits } ∷ []) c.in_ok-prepared.ensures.order
+    ∙ ap (λ (e : BoardEdits). c.self.inside.order.entries ++ record { site = c.args.site; edit = e } ∷ []) (c.in_ok-prepared.ensures.edits ∙ ap (λ (x : Msg BoardBatch). board.edit_of x.op) (sym told))) in
     rw (← c.self.view_is) (ap (λ n. Taken (Ok (Some n))) c.len-place.ensures ∙ call.0, call.1)
 
 pub check-requires : goal.check-requires

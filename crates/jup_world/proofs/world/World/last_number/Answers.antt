@@ -3,8 +3,8 @@ use Rattle.jup_world.specs.BoardWorlds.{BoardAttached}
 use Rattle.jup_world.specs.WorldFields.{lane_of}
 use Rattle.jup_world.specs.SiteNumbers.{AreAscending}
 use Rattle.jup_world.specs.LaneWorlds.{LaneSite, lane_site}
-use Rattle.jup_world.proofs.LaneSites.{bare_map}
-use Rattle.jup_world.proofs.DrainSteps.{within_lanes}
+use Rattle.jup_world.proofs.Lanes.LaneSites.{bare_map}
+use Rattle.jup_world.proofs.Drains.DrainSteps.{within_lanes}
 use Rattle.jup_world.proofs.world.World.last_number.Goals as goal
 
 pub returns-in-Some : goal.returns-in-Some

@@ -4,9 +4,9 @@ use Rattle.jup_world.specs.BoardWorlds.{BoardAttached}
 use Rattle.jup_world.specs.WorldFields.{bare_attached}
 use Rattle.jup_world.specs.Happenings.{AllQuiet}
 use Rattle.jup_world.specs.LaneWorlds.{messages_of}
-use Rattle.jup_world.proofs.QuietWorlds.{quiet_world, all_agree}
-use Rattle.jup_world.proofs.LaneSites.{bare_map}
-use Rattle.jup_world.proofs.LaneWorldLaws.{still_quiet}
+use Rattle.jup_world.proofs.Drains.QuietWorlds.{quiet_world, all_agree}
+use Rattle.jup_world.proofs.Lanes.LaneSites.{bare_map}
+use Rattle.jup_world.proofs.Lanes.LaneWorldLaws.{still_quiet}
 use Rattle.jup_world.proofs.world.World.quiet.Goals as goal
 
 -- the test tells whether no message is on its way

@@ -8,9 +8,9 @@ use Rattle.jup_world.specs.SiteNumbers.{AreAscending}
 use Rattle.jup_world.specs.declared.world.attached.Attached.{Attached}
 use Rattle.jup_world.specs.LaneWorlds.{lane_site, messages_of}
 use Rattle.jup_world.proofs.SitePlaces.{found_at, number_at}
-use Rattle.jup_world.proofs.LaneSites.{bare_map}
-use Rattle.jup_world.proofs.LaneEvents.{lane_found, lane_none}
-use Rattle.jup_world.proofs.QuietWorlds.{promises, backlogs, tallies_of}
+use Rattle.jup_world.proofs.Lanes.LaneSites.{bare_map}
+use Rattle.jup_world.proofs.Lanes.LaneEvents.{lane_found, lane_none}
+use Rattle.jup_world.proofs.Drains.QuietWorlds.{promises, backlogs, tallies_of}
 use Rattle.jup_world.proofs.world.World.site.Goals as goal
 
 pub place_of-requires : goal.place_of-requires

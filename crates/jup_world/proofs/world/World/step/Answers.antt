@@ -8,10 +8,10 @@ use Rattle.jup_world.specs.LaneWorlds.{messages_of}
 use Rattle.jup_world.specs.LaneSteps.{Steps}
 use Rattle.jup_world.proofs.CallFacts.{on_err}
 use Rattle.jup_world.proofs.WorldKept.{world_ready}
-use Rattle.jup_world.proofs.LaneSites.{bare_map}
-use Rattle.jup_world.proofs.LaneWorldLaws.{step_keeps, spared_keeps}
-use Rattle.jup_world.proofs.LaneOrder.{step_order, spared_order}
-use Rattle.jup_world.proofs.LaneRuns.{played_lanes, played_answers, spared_lanes}
+use Rattle.jup_world.proofs.Lanes.LaneSites.{bare_map}
+use Rattle.jup_world.proofs.Lanes.LaneWorldLaws.{step_keeps, spared_keeps}
+use Rattle.jup_world.proofs.Lanes.LaneOrder.{step_order, spared_order}
+use Rattle.jup_world.proofs.Lanes.LaneRuns.{played_lanes, played_answers, spared_lanes}
 use Rattle.jup_world.proofs.world.World.step.Goals as goal
 
 pub happen-requires : goal.happen-requires

@@ -2,7 +2,7 @@ use Rattle.std.proofs.Common.{◌∙◌, ap, map, rules}
 use Rattle.std.proofs.lemmas.Fn.{filter_same}
 use Rattle.jup_world.specs.WorldFields.{lane_of, bare_attached}
 use Rattle.jup_world.proofs.SitePlaces.{dropped}
-use Rattle.jup_world.proofs.LaneSites.{dropped_lanes}
+use Rattle.jup_world.proofs.Lanes.LaneSites.{dropped_lanes}
 use Rattle.jup_world.proofs.world.happening.drop_site.Goals as goal
 
 pub returns-clause-messages : goal.returns-clause-messages

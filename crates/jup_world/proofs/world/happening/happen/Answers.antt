@@ -1,6 +1,6 @@
 use Rattle.jup_world.specs.Events.{Join, Leave, Up as MoveUp, Down as MoveDown, Ping as SendPing}
 use Rattle.jup_world.specs.NumberedReplies.{numbered_reply}
-use Rattle.jup_world.proofs.LaneEvents.{plain_plays, plain_result}
+use Rattle.jup_world.proofs.Lanes.LaneEvents.{plain_plays, plain_result}
 use Rattle.jup_world.proofs.world.happening.happen.Goals as goal
 
 pub returns-in-Join-clause-plays : goal.returns-in-Join-clause-plays

@@ -10,7 +10,7 @@ use Rattle.jup_star.specs.SiteCalls.{BoardSite}
 use Rattle.jup_world.specs.BoardWorlds.{BoardAttached}
 use Rattle.jup_world.proofs.CallFacts.{join_joined, join_refused}
 use Rattle.jup_world.proofs.EventPlays.{plays_joined, plays_no_join, site_opens, site_is, number_is, with_nothing}
-use Rattle.jup_world.proofs.LaneEvents.{none_read_at, end_read}
+use Rattle.jup_world.proofs.Lanes.LaneEvents.{none_read_at, end_read}
 use Rattle.jup_world.proofs.world.happening.join.Goals as goal
 
 pub returns-in-Err-clause-plays : goal.returns-in-Err-clause-plays

@@ -1,8 +1,8 @@
 use Rattle.std.proofs.Common.{refl}
 use Rattle.jup_world.proofs.CallFacts.{leave_left, leave_none}
 use Rattle.jup_world.proofs.EventPlays.{plays_left, plays_no_link}
-use Rattle.jup_world.proofs.LaneSites.{without_read}
-use Rattle.jup_world.proofs.LaneEvents.{none_read_at}
+use Rattle.jup_world.proofs.Lanes.LaneSites.{without_read}
+use Rattle.jup_world.proofs.Lanes.LaneEvents.{none_read_at}
 use Rattle.jup_world.proofs.world.happening.leave.Goals as goal
 
 pub returns-in-Ok-clause-plays : goal.returns-in-Ok-clause-plays

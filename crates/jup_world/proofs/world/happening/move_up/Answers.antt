@@ -2,8 +2,8 @@ use Rattle.std.proofs.Common.{ap, ◌∙◌, eq-eqb, map}
 use Rattle.jup_world.specs.WorldFields.{lane_of}
 use Rattle.jup_world.proofs.CallFacts.{on_err}
 use Rattle.jup_world.proofs.HappeningSteps.{number, up_plays, refused_plays}
-use Rattle.jup_world.proofs.LaneSites.{without_read}
-use Rattle.jup_world.proofs.LaneEvents.{up_reads, absent_read, up_read_at, up_rests, without_set}
+use Rattle.jup_world.proofs.Lanes.LaneSites.{without_read}
+use Rattle.jup_world.proofs.Lanes.LaneEvents.{up_reads, absent_read, up_read_at, up_rests, without_set}
 use Rattle.jup_world.proofs.world.happening.move_up.Goals as goal
 
 pub returns-in_default-clause-read : goal.returns-in_default-clause-read

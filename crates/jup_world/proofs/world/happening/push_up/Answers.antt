@@ -1,4 +1,4 @@
-use Rattle.jup_world.proofs.LaneEvents.{push_up_reads, absent_read, push_up_none, push_up_result, push_up_read_at, same_result}
+use Rattle.jup_world.proofs.Lanes.LaneEvents.{push_up_reads, absent_read, push_up_none, push_up_result, push_up_read_at, same_result}
 use Rattle.jup_world.proofs.world.happening.push_up.Goals as goal
 
 pub returns-in-Some-clause-plays : goal.returns-in-Some-clause-plays

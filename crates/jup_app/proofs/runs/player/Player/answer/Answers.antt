@@ -17,8 +17,8 @@ returns-in_ok-receive-in-Ok-clause-answered g c =
 
 pub returns-in_ok-push-in-Err-clause-answered : goal.returns-in_ok-push-in-Err-clause-answered
 returns-in_ok-push-in-Err-clause-answered g c =
-    declined_answer _ _ _ _ _ _ _ _ _ _ _ _ _ c.in_ok-catch_up.ensures.handled c.in-Err.ensures.answer c.in_ok-declined-in-Err.ensures.answer
-    (c.in_ok-push-in-Err.ensures.items ∙ ap (λ v. v.items ++ Err c.in_ok-declined-in-Err.field-0 ∷ []) c.in_ok-catch_up.ensures.same.1)
+    declined_answer _ _ _ _ _ _ _ _ _ _ _ _ _ c.in_ok-catch_up.ensures.handled c.in-Err.ensures.answer c.in_ok-decline-in-Err.ensures.answer
+    (c.in_ok-push-in-Err.ensures.items ∙ ap (λ v. v.items ++ Err c.in_ok-decline-in-Err.field-0 ∷ []) c.in_ok-catch_up.ensures.same.1)
 
 pub returns-in_ok-receive-in-Ok-clause-caught : goal.returns-in_ok-receive-in-Ok-clause-caught
 returns-in_ok-receive-in-Ok-clause-caught g c =

@@ -8,7 +8,7 @@ use Rattle.jup_lane.specs.Lanes.{Way, messages, sent, Carries}
 use Rattle.jup_lane.specs.Messages.{downs}
 use Rattle.jup_world.specs.WorldFields.{bare_attached}
 use Rattle.jup_world.proofs.CallFacts.{fetch_fetched, fetch_linked, some_wait}
-use Rattle.jup_world.proofs.LaneReads.{fetched_site, fetched_star, fetched_way}
+use Rattle.jup_world.proofs.Lanes.LaneReads.{fetched_site, fetched_star, fetched_way}
 use Rattle.jup_world.proofs.world.attached.Attached.fill.Goals as goal
 
 pub unreachable-requires : goal.unreachable-requires

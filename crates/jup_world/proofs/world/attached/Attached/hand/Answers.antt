@@ -3,7 +3,7 @@ use Rattle.jup_lane.specs.Lanes.{Way, IsFilled, Carries}
 use Rattle.jup_lane.specs.Messages.{ups, downs}
 use Rattle.jup_world.specs.WorldFields.{lane_of}
 use Rattle.jup_world.proofs.CallFacts.{delivered-relabels_no_text}
-use Rattle.jup_world.proofs.LaneReads.{handed-site}
+use Rattle.jup_world.proofs.Lanes.LaneReads.{handed-site}
 use Rattle.jup_world.proofs.world.attached.Attached.hand.Goals as goal
 
 pub send_back-requires-clause-relabels : goal.send_back-requires-clause-relabels

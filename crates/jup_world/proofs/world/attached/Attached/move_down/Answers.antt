@@ -4,7 +4,7 @@ use Rattle.jup_world.specs.Happenings.{FirstFits}
 use Rattle.jup_world.specs.BoardWorlds.{BoardAttached}
 use Rattle.jup_world.specs.WorldFields.{lane_of}
 use Rattle.jup_world.proofs.CallFacts.{some_link}
-use Rattle.jup_world.proofs.LaneReads.{refilled-read, rests_down, then_ok, then_err}
+use Rattle.jup_world.proofs.Lanes.LaneReads.{refilled-read, rests_down, then_ok, then_err}
 use Rattle.jup_world.proofs.world.attached.Attached.move_down.Goals as goal
 
 pub hand-requires : goal.hand-requires

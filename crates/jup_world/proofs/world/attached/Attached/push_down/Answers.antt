@@ -3,7 +3,7 @@ use Rattle.jup_world.specs.WorldFields.{lane_of}
 use Rattle.jup_world.specs.LaneSteps.{push_reply}
 use Rattle.jup_lane.specs.Lanes.{Way}
 use Rattle.jup_world.proofs.CallFacts.{on_err}
-use Rattle.jup_world.proofs.LaneReads.{pushed-site, filled_stream-is, rests_filled}
+use Rattle.jup_world.proofs.Lanes.LaneReads.{pushed-site, filled_stream-is, rests_filled}
 use Rattle.jup_world.proofs.world.attached.Attached.push_down.Goals as goal
 
 pub returns-in_err-count-clause-moved : goal.returns-in_err-count-clause-moved
@@ -14,7 +14,7 @@ returns-in_err-count-clause-moved c =
 
 pub returns-clause-reply : goal.returns-clause-reply
 returns-clause-reply c l found =
-    c.pushed.ensures
+    c.reply_to_push.ensures
     ∙ ap push_reply (c.in_ok-count.ensures.count ∙ ap (λ s. min c.args.most (length s)) (filled_stream-is l (lane_of c.args.self.now) (lane_of c.fill.new.self) (c.in_ok-fill.ensures.filled l found)))
 
 pub returns-clause-read : goal.returns-clause-read

@@ -1,0 +1,5 @@
+-- What follows from the definitions beside this folder.
+
+pub mod EditLists
+pub mod Effects
+pub mod Squares

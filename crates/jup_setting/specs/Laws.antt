@@ -1,0 +1,3 @@
+-- What follows from the definitions beside this folder.
+
+pub mod SettingLaws

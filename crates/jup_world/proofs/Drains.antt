@@ -1,0 +1,7 @@
+-- What a drain comes to, and that it ends.
+
+pub mod DrainLaws
+pub mod DrainSteps
+pub mod Lightening
+pub mod QuietWorlds
+pub mod RoundLaws

@@ -1,0 +1,269 @@
+-- Each event keeps the counts of every link.
+use Rattle.std.proofs.Common.{◌≡◌, ℕ, ◌+◌, ◌≤◌, ◌<◌, Bool, true, false, List, [], ◌∷◌, ◌++◌, drop, length, refl, ap, sym, ◌∙◌, subst, Option, Some, None, option_map, arith, take, length-append, append_assoc, take-append-drop, eq-eqb, leb-true, leb-false}
+use Rattle.std.specs.Prelude.{if◌then◌else◌}
+use Rattle.std.proofs.lemmas.Bool.{and_parts}
+use Rattle.jup_xform.specs.declared.Transform.{Ghosts}
+use Rattle.jup_limits.specs.Limits.{answer_after}
+use Rattle.jup_link.specs.declared.Msg.{Msg}
+use Rattle.jup_link.specs.Links.{Link, IsCount, generated, accepts_count, after_ack, answered, owes}
+use Rattle.jup_link.specs.Messages.{next_message}
+use Rattle.jup_link.specs.InStep.{InStepAt, Comes}
+use Rattle.jup_link.specs.Laws.LinkSteps.{client_generated, generated-after_count, generated-after_receive}
+use Rattle.jup_window.specs.Operations.{Operations, AreLawful}
+use Rattle.jup_star.specs.declared.messages.Up.{Up}
+use Rattle.jup_star.specs.declared.messages.Up.TheVariants.{Op as UpOp, Ack as UpAck, Ping as UpPing}
+use Rattle.jup_star.specs.declared.messages.Down.{Down}
+use Rattle.jup_star.specs.declared.messages.Down.TheVariants.{Op as DownOp, Ack as DownAck, Pong as DownPong}
+use Rattle.jup_star.specs.declared.faults.StarFault.{StarFault}
+use Rattle.jup_star.specs.declared.faults.SiteFault.TheVariants.{BadOp}
+use Rattle.jup_star.specs.FirstFaults.{test}
+use Rattle.jup_star.specs.LinkStates.{LinkState, opened_link, link_acked, link_ponged, link_fetched, link_sent, link_heard, operation_at, end_after}
+use Rattle.jup_star.specs.StarStates.{link_of, at_link, without, join_fault, up_fault}
+use Rattle.jup_star.specs.SiteStates.{running_test, heard_tests, deliver_tests, fits_shown, edit_answer, deliver_fault}
+use Rattle.jup_star.proofs.TestLists.{all_hold}
+use Rattle.jup_star.specs.Streams.{ups, downs}
+use Rattle.jup_star.proofs.Lookup.{found-end, found-end_other}
+use Rattle.jup_world.specs.Events.{Join, Leave, Edit as MakeEdit, Up as MoveUp, Down as MoveDown, Ping as SendPing}
+use Rattle.jup_world.specs.WorldStates.{WorldOf, AttachedOf, EventOf, attached, at_site, without_site}
+use Rattle.jup_world.specs.WorldSteps.{Outcome, new_site, join_outcome, with_edit, edit_outcome, one_taken, up_outcome, first_up, one_handed, down_outcome, first_down, pinged, with_fetched, only_fetched, at_attached, at_linked, happens, run}
+use Rattle.jup_world.specs.Turns.{turns}
+use Rattle.jup_world.specs.Traces.{made, joined_at, shown_count}
+use Rattle.jup_world.specs.Backlogs.{told_count, Counts, CountsAt, AllCount, BacklogIsShort}
+use Rattle.jup_world.specs.Sound.{Standing, IsSound}
+use Rattle.jup_world.proofs.Numbered.{map_kept, by_number, at_one, at_all, at_removal}
+use Rattle.jup_world.proofs.Sound.SoundRuns.{either, result_cases, sound-happens}
+use Rattle.jup_world.proofs.Sound.SoundJoined.{no_site}
+use Rattle.jup_world.proofs.Sound.WorldTakes.{standing_of}
+
+-- counts told one list after another
+told_count-append : {Op : Type 0} → (n : ℕ) (ds es : List (Down Op)) → told_count n (ds ++ es) ≡ told_count (told_count n ds) es
+told_count-append n [] es = refl
+told_count-append n (DownOp m ∷ ds) es = told_count-append m.heard ds es
+told_count-append n (DownAck k ∷ ds) es = told_count-append k ds es
+told_count-append n (DownPong k ∷ ds) es = told_count-append n ds es
+
+-- one more message at the end of an outbox
+told_last : {Op : Type 0} → (n : ℕ) (ds os es : List (Down Op)) → told_count n (ds ++ (os ++ es)) ≡ told_count (told_count n (ds ++ os)) es
+told_last n ds os es = ap (told_count n) (sym (append_assoc ds os es)) ∙ told_count-append n (ds ++ os) es
+
+-- a stream without messages brings no operation
+no_operations : {Op State Edit : Type 0} → (t : Ghosts Op State Edit) (n k : ℕ) (before ahead : List Op) → Comes t n k before [] ahead → ahead ≡ []
+no_operations t n k before [] comes = refl
+no_operations t n k before (o ∷ os) comes = absurd comes
+
+-- a count that a test accepts
+count_of : {Op : Type 0} → (l : Link Op) (n : ℕ) → accepts_count l n ≡ true → IsCount l n
+count_of l n test = let two = and_parts _ _ test in record { low = leb-true _ _ two.0; high = leb-true _ _ two.1 }
+
+module _ (O : Operations) (L : AreLawful O) where
+  -- links and sites under one number
+
+  -- a site that joins
+  opened_counts : (w : WorldOf O) (i : ℕ) → Counts O (opened_link i) (new_site O w i)
+  opened_counts w i = record { short = omega arith; told = refl; sent = refl }
+
+  -- a site that edits
+  edit_counts : (l : LinkState O.Op) (a : AttachedOf O) (op : O.Op) → Counts O l a → Counts O l (with_edit O op a)
+  edit_counts l a op c = record { short = c.short; told = c.told; sent = omega (arith, c.sent, length-append a.site.end.outgoing (op ∷ [])) }
+
+  -- a link to which another site's edit is sent: its message bears the count
+  sent_counts : (l : LinkState O.Op) (a : AttachedOf O) (op : O.Op) → Counts O l a → Counts O (link_sent op l) a
+  sent_counts l a op c = record {
+    short = omega arith;
+    told = omega (arith, told_last a.site.end.acknowledged a.down l.outbox (DownOp (next_message l.end op) ∷ []));
+    sent = c.sent;
+  }
+
+  -- a link that hears its site's edit: it acknowledges where `answer_after` are unanswered
+  heard_counts : (l : LinkState O.Op) (a : AttachedOf O) (m : Msg O.Op) → Counts O l a → Counts O (link_heard O m l) (one_taken O a)
+  heard_counts l a m c = cases (owes (l.end.unanswered + 1)) refl
+    where
+      cases : (b : Bool) → owes (l.end.unanswered + 1) ≡ b
+          → Counts O (record { site = l.site; end = if b then after_ack (end_after O l.end m) else end_after O l.end m; outbox = l.outbox ++ (if b then DownAck (l.end.received + 1) ∷ [] else []); named = l.named + O.insertions (O.t.edit_of m.op) }) (one_taken O a)
+      cases true due = record { short = omega arith; told = omega (arith, told_last a.site.end.acknowledged a.down l.outbox (DownAck (l.end.received + 1) ∷ [])); sent = c.sent }
+      cases false paid = record {
+        short = let few = leb-false answer_after (l.end.unanswered + 1) paid in omega (arith, few);
+        told = omega (arith, told_last a.site.end.acknowledged a.down l.outbox [], c.told);
+        sent = c.sent;
+      }
+
+  -- a ping that is answered
+  ponged_counts : (l : LinkState O.Op) (a : AttachedOf O) (k : ℕ) → Counts O l a → Counts O (link_ponged k l) (one_taken O a)
+  ponged_counts l a k c = record { short = c.short; told = omega (arith, told_last a.site.end.acknowledged a.down l.outbox (DownPong k ∷ []), c.told); sent = c.sent }
+
+  -- an acknowledgement that is taken
+  acked_counts : (l : LinkState O.Op) (a : AttachedOf O) (n : ℕ) → Counts O l a → Counts O (link_acked n l) (one_taken O a)
+  acked_counts l a n c = record { short = c.short; told = c.told; sent = c.sent }
+
+  -- a site that sends a ping
+  pinged_counts : (l : LinkState O.Op) (a : AttachedOf O) (k : ℕ) → Counts O l a → Counts O l (pinged O k a)
+  pinged_counts l a k c = record { short = c.short; told = c.told; sent = c.sent }
+
+  -- an end that answers has acknowledged and generated what it had
+  same_answered : (P : Link O.Op → Type 0) (e : Link O.Op) → P (after_ack e) → P e → P (answered e)
+  same_answered P e paid unpaid = cases (owes e.unanswered)
+    where
+      cases : (b : Bool) → P (if b then after_ack e else e)
+      cases true = paid
+      cases false = unpaid
+
+  -- a site that is handed its oldest message
+  handed_counts : (l : LinkState O.Op) (a : AttachedOf O) (gone : ℕ) (d : Down O.Op) (ds : List (Down O.Op)) → a.down ++ l.outbox ≡ d ∷ (ds ++ drop gone l.outbox) → deliver_fault O d a.site ≡ None
+      → Counts O l a → Counts O (link_fetched gone l) (one_handed O d ds a)
+  handed_counts l a gone (DownOp m) ds e none c = record {
+    short = c.short;
+    told = same_answered (λ x. told_count x.acknowledged (ds ++ drop gone l.outbox) + l.end.unanswered ≡ l.end.received) (end_after O a.site.end m) told told;
+    sent = same_answered (λ x. a.site.made ≡ generated x) (end_after O a.site.end m) sent sent;
+  }
+    where
+      told : told_count m.heard (ds ++ drop gone l.outbox) + l.end.unanswered ≡ l.end.received
+      told = sym (ap (λ x. told_count a.site.end.acknowledged x + l.end.unanswered) e) ∙ c.told
+
+      sent : a.site.made ≡ generated (end_after O a.site.end m)
+      sent = c.sent ∙ sym (generated-after_receive O.t a.site.end m.heard m.op
+          (count_of a.site.end m.heard (all_hold (deliver_tests O a.site m ++ test (fits_shown O a.site m) BadOp ∷ []) none).1.1.0))
+  handed_counts l a gone (DownAck n) ds e none c = record {
+    short = c.short;
+    told = sym (ap (λ x. told_count a.site.end.acknowledged x + l.end.unanswered) e) ∙ c.told;
+    sent = c.sent ∙ sym (generated-after_count O.t a.site.end n (count_of a.site.end n (all_hold (running_test a.site ∷ heard_tests a.site.end n) none).1.0));
+  }
+  handed_counts l a gone (DownPong k) ds e none c = record {
+    short = c.short;
+    told = sym (ap (λ x. told_count a.site.end.acknowledged x + l.end.unanswered) e) ∙ c.told;
+    sent = c.sent;
+  }
+
+  -- all numbers
+
+  module _ (w : WorldOf O) (all : AllCount O w) where
+    -- the link and the site of one number are changed
+    with_one : (i : ℕ) (f : LinkState O.Op → LinkState O.Op) (g : AttachedOf O → AttachedOf O) (l : LinkState O.Op) (a : AttachedOf O)
+        → ((k : LinkState O.Op) → (f k).site ≡ k.site) → ((b : AttachedOf O) → (g b).site.number ≡ b.site.number)
+        → link_of i w.star.links ≡ Some l → attached i w.sites ≡ Some a → Counts O (f l) (g a) → (j : ℕ) → CountsAt O (link_of j (at_link i f w.star.links)) (attached j (at_site i g w.sites))
+    with_one i f g l a kf kg fl fa here = at_one (λ k. k.site) (λ b. b.site.number) (λ j ol oa. CountsAt O ol oa) i f g kf kg w.star.links w.sites l a fl fa here (λ j e. all j)
+
+    -- those of one number are dropped
+    without_one : (i : ℕ) (j : ℕ) → CountsAt O (link_of j (without i w.star.links)) (attached j (without_site i w.sites))
+    without_one i = at_removal (λ k. k.site) (λ b. b.site.number) (λ j ol oa. CountsAt O ol oa) i w.star.links w.sites tt (λ j e. all j)
+
+    -- those of one number count
+    here_of : (i : ℕ) (l : LinkState O.Op) (a : AttachedOf O) → link_of i w.star.links ≡ Some l → attached i w.sites ≡ Some a → Counts O l a
+    here_of i l a fl fa = subst (λ o. CountsAt O (Some l) o) fa (subst (λ o. CountsAt O o (attached i w.sites)) fl (all i))
+
+    -- an edit is sent to each other link
+    sent_on : (op : O.Op) (ol : Option (LinkState O.Op)) (oa : Option (AttachedOf O)) → CountsAt O ol oa → CountsAt O (option_map (link_sent op) ol) oa
+    sent_on op (Some l) (Some a) c = sent_counts l a op c
+    sent_on op (Some l) None c = tt
+    sent_on op None (Some a) c = tt
+    sent_on op None None c = tt
+
+    -- an event at a site
+    at_one_site : (i : ℕ) (f : LinkState O.Op → AttachedOf O → Outcome O)
+        → ((l : LinkState O.Op) (a : AttachedOf O) → link_of i w.star.links ≡ Some l → attached i w.sites ≡ Some a → (j : ℕ) → CountsAt O (link_of j (f l a).star.links) (attached j (f l a).sites))
+        → (j : ℕ) → CountsAt O (link_of j (at_linked O w i f (link_of i w.star.links)).star.links) (attached j (at_linked O w i f (link_of i w.star.links)).sites)
+    at_one_site i f h =
+        either (link_of i w.star.links) (λ o. (j : ℕ) → CountsAt O (link_of j (at_linked O w i f o).star.links) (attached j (at_linked O w i f o).sites)) (λ n. all)
+        (λ l fl. either (attached i w.sites) (λ o. (j : ℕ) → CountsAt O (link_of j (at_attached O w l f o).star.links) (attached j (at_attached O w l f o).sites)) (λ n. all) (λ a fa. h l a fl fa))
+
+    -- a site alone is changed
+    site_only : (i : ℕ) (g : AttachedOf O → AttachedOf O) (l : LinkState O.Op) (a : AttachedOf O) → ((b : AttachedOf O) → (g b).site.number ≡ b.site.number)
+        → link_of i w.star.links ≡ Some l → attached i w.sites ≡ Some a → Counts O l (g a) → (j : ℕ) → CountsAt O (link_of j w.star.links) (attached j (at_site i g w.sites))
+    site_only i g l a kg fl fa here j = subst (λ ls. CountsAt O (link_of j ls) (attached j (at_site i g w.sites))) (map_kept (λ k. k.site) i w.star.links)
+        (with_one i (λ k. k) g l a (λ k. refl) kg fl fa here j)
+
+    -- the star takes a message or drops the site
+    up_counts : (i : ℕ) (l : LinkState O.Op) (a : AttachedOf O) → link_of i w.star.links ≡ Some l → attached i w.sites ≡ Some a → (up : Up O.Op) (f : Option StarFault)
+        → (j : ℕ) → CountsAt O (link_of j (up_outcome O w i l up f).star.links) (attached j (up_outcome O w i l up f).sites)
+    up_counts i l a fl fa up (Some fault) = without_one i
+    up_counts i l a fl fa (UpOp m) None = at_all (λ k. k.site) (λ b. b.site.number) (λ j ol oa. CountsAt O ol oa) i (link_heard O m) (link_sent (operation_at O l.end m)) (one_taken O)
+        (λ k. refl) (λ k. refl) (λ b. refl) w.star.links w.sites l a fl fa (heard_counts l a m (here_of i l a fl fa))
+        (λ j e. sent_on (operation_at O l.end m) (link_of j w.star.links) (attached j w.sites) (all j))
+    up_counts i l a fl fa (UpAck n) None = with_one i (link_acked n) (one_taken O) l a (λ k. refl) (λ b. refl) fl fa (acked_counts l a n (here_of i l a fl fa))
+    up_counts i l a fl fa (UpPing k) None = with_one i (link_ponged k) (one_taken O) l a (λ k. refl) (λ b. refl) fl fa (ponged_counts l a k (here_of i l a fl fa))
+
+    -- or nothing is there
+    first_up_counts : (i : ℕ) (l : LinkState O.Op) (a : AttachedOf O) → link_of i w.star.links ≡ Some l → attached i w.sites ≡ Some a → (us : List (Up O.Op))
+        → (j : ℕ) → CountsAt O (link_of j (first_up O w i l us).star.links) (attached j (first_up O w i l us).sites)
+    first_up_counts i l a fl fa [] = all
+    first_up_counts i l a fl fa (up ∷ us) = up_counts i l a fl fa up (up_fault O w.star l up)
+
+    -- a site keeps its number
+    number_kept : (d : Down O.Op) (ds : List (Down O.Op)) (b : AttachedOf O) → (one_handed O d ds b).site.number ≡ b.site.number
+    number_kept (DownOp m) ds b = refl
+    number_kept (DownAck n) ds b = refl
+    number_kept (DownPong k) ds b = refl
+
+    -- a site is handed a message
+    down_counts : (i : ℕ) (l : LinkState O.Op) (a : AttachedOf O) → link_of i w.star.links ≡ Some l → attached i w.sites ≡ Some a → (gone : ℕ) (d : Down O.Op) (ds : List (Down O.Op))
+        → a.down ++ l.outbox ≡ d ∷ (ds ++ drop gone l.outbox)
+        → (j : ℕ) → CountsAt O (link_of j (down_outcome O w i gone d ds (deliver_fault O d a.site)).star.links) (attached j (down_outcome O w i gone d ds (deliver_fault O d a.site)).sites)
+    down_counts i l a fl fa gone d ds e =
+        either (deliver_fault O d a.site) (λ f. (j : ℕ) → CountsAt O (link_of j (down_outcome O w i gone d ds f).star.links) (attached j (down_outcome O w i gone d ds f).sites))
+        (λ none. with_one i (link_fetched gone) (one_handed O d ds) l a (λ k. refl) (number_kept d ds) fl fa (handed_counts l a gone d ds e none (here_of i l a fl fa)))
+        (λ fault f. all)
+
+    -- or nothing is there
+    first_down_counts : (i : ℕ) (l : LinkState O.Op) (a : AttachedOf O) → link_of i w.star.links ≡ Some l → attached i w.sites ≡ Some a → (ds os : List (Down O.Op)) → a.down ≡ ds → l.outbox ≡ os
+        → (j : ℕ) → CountsAt O (link_of j (first_down O w i a ds os).star.links) (attached j (first_down O w i a ds os).sites)
+    first_down_counts i l a fl fa (d ∷ ds) os e q = down_counts i l a fl fa 0 d ds (ap (λ x. x ++ l.outbox) e)
+    first_down_counts i l a fl fa [] (d ∷ os) e q = down_counts i l a fl fa 1 d [] (ap (λ x. x ++ l.outbox) e ∙ (q ∙ ap (λ x. d ∷ drop 1 x) (sym q)))
+    first_down_counts i l a fl fa [] [] e q = all
+
+  -- a site edits or is refused
+  edit_all : (w : WorldOf O) (all : AllCount O w) (i : ℕ) (command : O.Command) (l : LinkState O.Op) (a : AttachedOf O) → link_of i w.star.links ≡ Some l → attached i w.sites ≡ Some a
+      → (j : ℕ) → CountsAt O (link_of j (edit_outcome O w i (edit_answer O command a.site)).star.links) (attached j (edit_outcome O w i (edit_answer O command a.site)).sites)
+  edit_all w all i command l a fl fa =
+      result_cases (edit_answer O command a.site) (λ r. (j : ℕ) → CountsAt O (link_of j (edit_outcome O w i r).star.links) (attached j (edit_outcome O w i r).sites))
+      (λ op ok. site_only w all i (with_edit O op) l a (λ b. refl) fl fa (edit_counts l a op (here_of w all i l a fl fa)))
+      (λ n e. all)
+
+  -- a site joins or is refused
+  join_all : (most : ℕ) (w : WorldOf O) → IsSound O most w → AllCount O w → (f : Option StarFault) → (j : ℕ) → CountsAt O (link_of j (join_outcome O w f).star.links) (attached j (join_outcome O w f).sites)
+  join_all most w s all (Some fault) = all
+  join_all most w s all None = by_number (λ k. k.site) (λ b. b.site.number) (λ j ol oa. CountsAt O ol oa) (w.star.given + 1)
+      (λ j. CountsAt O (link_of j (w.star.links ++ opened_link (w.star.given + 1) ∷ [])) (attached j (w.sites ++ new_site O w (w.star.given + 1) ∷ [])))
+      (subst (λ o. CountsAt O o (attached (w.star.given + 1) (w.sites ++ new_site O w (w.star.given + 1) ∷ [])))
+      (sym (found-end (λ k. k.site) (w.star.given + 1) w.star.links (opened_link (w.star.given + 1)) (s.star.no_link (w.star.given + 1) (omega arith)) (eq-eqb (w.star.given + 1) (w.star.given + 1) refl)))
+      (subst (λ o. CountsAt O (Some (opened_link (w.star.given + 1))) o)
+      (sym (found-end (λ b. b.site.number) (w.star.given + 1) w.sites (new_site O w (w.star.given + 1)) (no_site O L most w s (w.star.given + 1) refl) (eq-eqb (w.star.given + 1) (w.star.given + 1) refl)))
+      (opened_counts w (w.star.given + 1))))
+      (λ j e. subst (λ o. CountsAt O o (attached j (w.sites ++ new_site O w (w.star.given + 1) ∷ []))) (sym (found-end_other (λ k. k.site) j w.star.links (opened_link (w.star.given + 1)) e))
+      (subst (λ o. CountsAt O (link_of j w.star.links) o) (sym (found-end_other (λ b. b.site.number) j w.sites (new_site O w (w.star.given + 1)) e)) (all j)))
+
+  -- each event keeps the counts
+  pub counts-happens : (most : ℕ) (w : WorldOf O) → IsSound O most w → AllCount O w → (e : EventOf O) → AllCount O (happens O w e)
+  counts-happens most w s all Join = join_all most w s all (join_fault w.star)
+  counts-happens most w s all (Leave i) = at_one_site w all i _ (λ l a fl fa. without_one w all i)
+  counts-happens most w s all (MakeEdit i command) = at_one_site w all i _ (edit_all w all i command)
+  counts-happens most w s all (MoveUp i) = at_one_site w all i _ (λ l a fl fa. first_up_counts w all i l a fl fa a.up)
+  counts-happens most w s all (MoveDown i) = at_one_site w all i _ (λ l a fl fa. first_down_counts w all i l a fl fa a.down l.outbox refl refl)
+  counts-happens most w s all (SendPing i k) = at_one_site w all i _ (λ l a fl fa. site_only w all i (pinged O k) l a (λ b. refl) fl fa (pinged_counts l a k (here_of w all i l a fl fa)))
+
+  -- and so does every run
+  pub counts-run : (es : List (EventOf O)) (most : ℕ) (w : WorldOf O) → IsSound O most w → AllCount O w → AllCount O (run O w es)
+  counts-run [] most w s all = all
+  counts-run (e ∷ es) most w s all = counts-run es most (happens O w e) (sound-happens O L most w e s) (counts-happens most w s all e)
+
+  -- want of memory
+  pub counts-fetched : (w : WorldOf O) (all : AllCount O w) (i n : ℕ) (l : LinkState O.Op) (a : AttachedOf O) → link_of i w.star.links ≡ Some l → attached i w.sites ≡ Some a → AllCount O (only_fetched O w i n l)
+  counts-fetched w all i n l a fl fa = with_one w all i (link_fetched n) (with_fetched O n l) l a (λ k. refl) (λ b. refl) fl fa (record {
+    short = (here_of w all i l a fl fa).short;
+    told = ap (λ x. told_count a.site.end.acknowledged x + l.end.unanswered) (append_assoc a.down (take n l.outbox) (drop n l.outbox) ∙ ap (λ x. a.down ++ x) (take-append-drop n l.outbox)) ∙ (here_of w all i l a fl fa).told;
+    sent = (here_of w all i l a fl fa).sent;
+  })
+
+  -- what the counts say of a backlog
+  pub counts-backlog : (most : ℕ) (w : WorldOf O) → IsSound O most w → AllCount O w → BacklogIsShort O w
+  counts-backlog most w s all = record {
+    backlog = λ i a fa. (let st = standing_of O L most w s i a fa in (here_of w all i st.0 a st.2 fa).sent);
+    bounded = λ i a fa. (standing_of O L most w s i a fa).1.pair.backlog;
+    quiet = λ q i a fa. (let st = standing_of O L most w s i a fa in level i a st.0 st.1 (here_of w all i st.0 a st.2 fa) (q i st.0 a st.2 fa));
+  }
+    where
+      level : (i : ℕ) (a : AttachedOf O) (l : LinkState O.Op) → Standing O most (O.t.content w.opening) (turns i w.star.order) w.star.board (made i w.trace) (joined_at i w.trace) (shown_count i w.trace) i l a
+          → Counts O l a → (a.up ≡ []) × (a.down ≡ []) × (l.outbox ≡ []) → length a.site.end.outgoing < answer_after
+      level i a l st c q =
+          let step = subst (λ r. InStepAt O.t 0 st.pair.from st.pair.site_ahead st.pair.star_ahead a.site.board w.star.board a.site.end l.end r (downs (a.down ++ l.outbox))) (ap ups q.0) st.pair.in_step in
+          let none : st.pair.site_ahead ≡ [] = no_operations O.t l.end.received l.end.acknowledged step.far_queue.before st.pair.site_ahead step.far_queue.comes in
+          let told : a.site.end.acknowledged + l.end.unanswered ≡ l.end.received = sym (ap (λ x. told_count a.site.end.acknowledged x + l.end.unanswered) (ap (λ x. x ++ l.outbox) q.1 ∙ q.2)) ∙ c.told in
+          omega (arith, told, c.short, client_generated O.t st.pair.in_step, ap length none)

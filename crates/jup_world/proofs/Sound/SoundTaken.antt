@@ -1,0 +1,94 @@
+-- A sound world is sound after its star took an edit.
+use Rattle.std.proofs.Common.{◌≡◌, ℕ, ◌+◌, ◌<◌, ◌≤◌, Bool, true, false, cond, List, [], ◌∷◌, ◌++◌, length, nat_eq, refl, ap, sym, ◌∙◌, subst, Option, Some, None, option_map, arith, append-nil, add-zero, ne_eqb}
+use Rattle.jup_link.specs.declared.Msg.{Msg}
+use Rattle.jup_window.specs.Operations.{Operations, AreLawful}
+use Rattle.jup_star.specs.declared.messages.Up.{Up}
+use Rattle.jup_star.specs.declared.messages.Up.TheVariants.{Op as UpOp}
+use Rattle.jup_star.specs.LinkStates.{LinkState, operation_at, link_sent, link_heard}
+use Rattle.jup_star.specs.StarStates.{link_of, up_fault, entry, taken}
+use Rattle.jup_star.proofs.Lookup.{found}
+use Rattle.jup_world.specs.Turns.{Own, Other, turn, turns, own_edits}
+use Rattle.jup_world.specs.WorldStates.{attached, at_site, WorldOf, AttachedOf}
+use Rattle.jup_world.specs.WorldSteps.{one_taken}
+use Rattle.jup_world.specs.Traces.{made, joined_at, shown_count}
+use Rattle.jup_world.specs.Sound.{Standing, StandsAt, IsSound}
+use Rattle.jup_world.specs.Events.{Happened}
+use Rattle.jup_world.specs.Events.{Up as MoveUp}
+use Rattle.jup_world.specs.Events.{Taken}
+use Rattle.jup_world.proofs.Sound.TraceLaws.{made-end, joined-end, shown-end, turns-append}
+use Rattle.jup_world.proofs.Pairs.Rows.{own_edits-append}
+use Rattle.jup_world.proofs.Numbered.{at_all}
+use Rattle.jup_world.proofs.Sound.Silent.{after_event}
+use Rattle.jup_world.proofs.Sound.WorldTakes.{standing, order_told}
+use Rattle.jup_world.proofs.StarTakes.{valid, inserts, next, same, changes, star-taken}
+use Rattle.jup_world.proofs.Pairs.PlaceKept.{place-taken, place-sent}
+
+module _ (O : Operations) (L : AreLawful O) (most : ℕ) (w : WorldOf O) (s : IsSound O most w) (i : ℕ) (l : LinkState O.Op) (a : AttachedOf O) (fl : link_of i w.star.links ≡ Some l) (fa : attached i w.sites ≡ Some a)
+    (m : Msg O.Op) (us : List (Up O.Op)) (rising : a.up ≡ UpOp m ∷ us) (none : up_fault O w.star l (UpOp m) ≡ None) where
+  -- the event in the trace
+  abbrev h : Happened O.Command O.Edit ℕ
+  h = record { event = MoveUp i; reply = Taken (length w.star.order) }
+
+  -- the operation that the star applies
+  abbrev op : O.Op
+  op = operation_at O l.end m
+
+  -- a site beside its link, after the star took the edit
+  abbrev Stands : ℕ → List O.Edit → ℕ → ℕ → Option (LinkState O.Op) → Option (AttachedOf O) → Type 0
+  Stands j mine joined n ol oa = StandsAt O most (O.t.content w.opening) (turns j (w.star.order ++ entry O i m ∷ [])) (O.t.after op w.star.board) mine joined n j ol oa
+
+  -- there is room for what may still come
+  fits : length w.star.order + 1026 ≤ most
+  fits = omega (arith, s.star.few, s.star.limited)
+
+  -- the site at its place of the order
+  st : Standing O most (O.t.content w.opening) (turns i w.star.order) w.star.board (made i w.trace) (joined_at i w.trace) (shown_count i w.trace) i l a
+  st = standing O L most w s i l a fl fa
+
+  -- every other site is sent the operation
+  others_sent : (j : ℕ) → nat_eq i j ≡ false → (ol : Option (LinkState O.Op)) (oa : Option (AttachedOf O))
+      → StandsAt O most (O.t.content w.opening) (turns j w.star.order) w.star.board (made j w.trace) (joined_at j w.trace) (shown_count j w.trace) j ol oa
+      → Stands j (made j w.trace) (joined_at j w.trace) (shown_count j w.trace) (option_map (λ k. link_sent op k) ol) oa
+  others_sent j apart None None g = tt
+  others_sent j apart None (Some b) g = absurd g
+  others_sent j apart (Some k) None g = absurd g
+  others_sent j apart (Some k) (Some b) g =
+      place-sent O L most (O.t.content w.opening) w.star (made j w.trace) j (joined_at j w.trace) (shown_count j w.trace) k b g fits s.star.counted i m op
+      (valid O L most (O.t.content w.opening) w.star s.star i l fl m none)
+      (same O L most (O.t.content w.opening) w.star s.star i l fl m none)
+      (inserts O L most (O.t.content w.opening) w.star s.star i l fl m none)
+      st.pair.positive apart
+      (next O L most (O.t.content w.opening) w.star s.star i l fl m none)
+      (changes O L most (O.t.content w.opening) w.star s.star i l fl m none)
+
+  -- what the trace tells of a site stays
+  renamed : (j : ℕ) (ol : Option (LinkState O.Op)) (oa : Option (AttachedOf O)) → Stands j (made j w.trace) (joined_at j w.trace) (shown_count j w.trace) ol oa
+      → Stands j (made j (w.trace ++ h ∷ [])) (joined_at j (w.trace ++ h ∷ [])) (shown_count j (w.trace ++ h ∷ [])) ol oa
+  renamed j ol oa g =
+      subst (λ es. Stands j es (joined_at j (w.trace ++ h ∷ [])) (shown_count j (w.trace ++ h ∷ [])) ol oa) (sym (made-end j w.trace h ∙ append-nil (made j w.trace)))
+      (subst (λ k. Stands j (made j w.trace) k (shown_count j (w.trace ++ h ∷ [])) ol oa) (sym (joined-end j w.trace h))
+      (subst (λ n. Stands j (made j w.trace) (joined_at j w.trace) n ol oa) (sym (shown-end j w.trace h ∙ add-zero (shown_count j w.trace))) g))
+
+  -- a number that was not given is not the site's
+  apart_from : (j : ℕ) → w.star.given < j → nat_eq i j ≡ false
+  apart_from j above = ne_eqb i j (λ e. let gone : link_of i w.star.links ≡ None = subst (λ k. link_of k w.star.links ≡ None) (sym e) (s.star.no_link j above) in absurd (cc))
+
+  -- so the world is sound
+  pub sound-taken : IsSound O most (after_event O L w (taken O i (UpOp m) l w.star) (at_site i (one_taken O) w.sites) (MoveUp i) (Taken (length w.star.order)))
+  sound-taken = record {
+    order_is = order_told O L most w s i l a fl fa m us rising;
+    star = star-taken O L most (O.t.content w.opening) w.star s.star i l fl m none;
+    stand = λ j. renamed j _ _
+        (at_all (λ k. k.site) (λ b. b.site.number) (λ j ol oa. Stands j (made j w.trace) (joined_at j w.trace) (shown_count j w.trace) ol oa)
+        i (λ k. link_heard O m k) (λ k. link_sent op k) (one_taken O) (λ k. refl) (λ k. refl) (λ b. refl) w.star.links w.sites l a fl fa
+        (place-taken O L most (O.t.content w.opening) w.star (made i w.trace) i (joined_at i w.trace) (shown_count i w.trace) l a st fits m us rising)
+        (λ j e. others_sent j e (found (λ k. k.site) j w.star.links) (found (λ b. b.site.number) j w.sites) (s.stand j)) j);
+    no_edit = λ j g. made-end j w.trace h ∙ append-nil (made j w.trace) ∙ s.no_edit j g;
+    no_shown = λ j g. shown-end j w.trace h ∙ add-zero (shown_count j w.trace) ∙ s.no_shown j g;
+    no_entry = λ j g. (ap own_edits (turns-append j w.star.order (entry O i m ∷ [])) ∙ own_edits-append (turns j w.star.order) (turn j (entry O i m) ∷ [])
+        ∙ ap (λ es. es ++ own_edits (turn j (entry O i m) ∷ [])) (s.no_entry j g) ∙ not_own (nat_eq i j) (apart_from j g));
+  }
+    where
+      not_own : (b : Bool) → b ≡ false → own_edits (cond b (Own (O.t.edit_of m.op)) (Other i (O.t.edit_of m.op)) ∷ []) ≡ []
+      not_own false e = refl
+      not_own true e = absurd (cc)

@@ -206,6 +206,11 @@ module _ {Message : Type 0} (C : Codec Message) (L : IsCodec C) where
           ] in
           (ms, first, to.is ∙ ap (λ k. moved k old) count)
 
+  -- where a search has ended, it is
+  pub filled-there : (old w : Way) (first : Option Message) → Carries C old → IsTowards C old w → IsWhole C w first → (first ≡ None → ⊥) → IsFilled C old w first
+  filled-there old w None is to whole there = absurd (there refl)
+  filled-there old w (Some m) is to whole there = filled-some old w m is to whole
+
   -- there is none
   pub filled-none : (old w v : Way) → Carries C old → IsTowards C old w → IsWhole C w None → length w.stream ≤ next_feed w.stream → v ≡ w → IsFilled C old v None
   filled-none old w v is to part no_feed stays =

@@ -5,7 +5,7 @@ ghost use Rattle.jup_wire.specs.declared.line.Line.{Line};
 ghost use Rattle.jup_wire.specs.Grammar.{line_text, HasSpelling};
 ghost use Rattle.jup_lane.specs.Codecs.{bytes_of, IsFirst};
 ghost use Rattle.jup_lane.specs.Carried.{codec};
-ghost use Rattle.jup_lane.specs.Lanes.{no_bytes, sent, moved, handed_over, IsIdle, messages, next_feed, IsWhole, IsFilled, IsMovedOn};
+ghost use Rattle.jup_lane.specs.Lanes.{no_bytes, sent, moved, handed_over, IsIdle, messages, next_feed, IsWhole, IsFilled, IsTowards, IsMovedOn};
 
 use crate::message::{MOST_MESSAGE, Message};
 use crate::stream::Stream;
@@ -145,6 +145,7 @@ impl<M: Message> Lane<M> {
     {
         // What the bytes are is an invariant of a lane.
         let _lane = &self.tray;
+        self.fill(alloc)?;
         let mut first = self.whole(alloc)?;
         while first.is_none() {
             if !self.advance(alloc)? {
@@ -164,14 +165,32 @@ impl<M: Message> Lane<M> {
         drop_lines(&mut self.tray, message.count());
     }
 
+    // Moves the bytes of the oldest message line by line, while its first line tells that lines of it are missing. So its lines are mostly
+    // gathered once.
+    fn fill(&mut self, alloc: Global) -> Result<(), NoMemory>
+        ensures towards { IsTowards (codec M.Message) self.old.way self.new.way }
+    {
+        // What the bytes are is an invariant of a lane.
+        let _lane = &self.tray;
+        while self.is_short() {
+            if !self.advance(alloc)? {
+                return Ok(());
+            }
+        }
+        Ok(())
+    }
+
+    // Whether the first line of the oldest message tells that lines of it are missing.
+    fn is_short(&self) -> bool
+        ensures { IsTrue result → IsWhole (codec M.Message) self.now.way None }
+    {
+        M::is_short(&self.tray)
+    }
+
     // The oldest message, if the reader has all its bytes.
     fn whole(&self, alloc: Global) -> Result<Option<M>, NoMemory>
         ensures { IfOk result (λ first. IsWhole (codec M.Message) self.now.way first) }
     {
-        // So each line of a message is gone over once.
-        if M::is_short(&self.tray) {
-            return Ok(None);
-        }
         M::first(alloc, &self.tray)
     }
 

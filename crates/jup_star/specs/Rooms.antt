@@ -1,5 +1,5 @@
 -- The room of links.
-use Rattle.std.specs.Prelude.{◌≡◌, false, ℕ, ◌<◌, ◌≤◌, List, [], ◌∷◌}
+use Rattle.std.specs.Prelude.{◌≡◌, ◌⊎◌, false, ℕ, ◌<◌, ◌≤◌, List, [], ◌∷◌, length}
 use Rattle.std.specs.Option.{IsSomeAnd}
 use Rattle.jup_link.specs.Links.{generated}
 use Rattle.jup_batch.specs.BatchBoards.{BoardBatch, Shape, shape}
@@ -10,11 +10,11 @@ use Rattle.jup_star.specs.LinkStates.{LinkState, is_of}
 abbrev pub bare_link : Link → LinkState BoardBatch
 bare_link l = record { site = l.site; end = l.end.link; outbox = l.outbox.messages; named = l.named }
 
--- a link has room for one message and one operation, and copies of this shape
+-- a link has room for one message and one operation, and copies of this shape, where a batch of it is not of one operation, which is copied without memory
 pub record HasRoom (u : Shape) (l : Link) : Type 0 where
   pub queue : 1 ≤ l.end.spare
   pub outbox : 1 ≤ l.outbox.spare
-  pub copies : IsSomeAnd l.copies (λ c. (u ≡ shape c.kept) × (u ≡ shape c.sent))
+  pub copies : (length u ≡ 1) ⊎ IsSomeAnd l.copies (λ c. (u ≡ shape c.kept) × (u ≡ shape c.sent))
 
 abbrev pub AllHaveRoom : Shape → List Link → Type 0
 AllHaveRoom u [] = Unit {0}

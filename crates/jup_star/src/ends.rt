@@ -1,5 +1,5 @@
 //! What the star and a site do alike at their ends of a link.
-ghost use Rattle.std.specs.Prelude.{◌≡◌, ◌≤◌, length, IfOk, OnErr, if◌then◌else◌};
+ghost use Rattle.std.specs.Prelude.{◌≡◌, ◌≤◌, [], ◌∷◌, length, MatchOption, IfOk, OnErr, if◌then◌else◌};
 ghost use Rattle.jup_link.specs.Links.{owes, IsNumber, IsCount, answered};
 ghost use Rattle.jup_batch.specs.BoardBatches.{board_batches};
 ghost use Rattle.jup_star.specs.LinkStates.{operation_at, end_after};
@@ -10,8 +10,8 @@ use jup_batch::BoardBatch;
 use jup_link::{End, LinkFault, Msg};
 use jup_seq::SeqOp;
 use jup_value::Label;
-use jup_window::WidgetOp;
-use jup_xform::{NoMemory, Transform};
+use jup_window::{BoardOp, WidgetOp};
+use jup_xform::{Batch, NoMemory, Transform};
 use std::alloc::Global;
 use std::marker::PhantomData;
 
@@ -35,17 +35,36 @@ pub(crate) fn receive(end: &mut End<BoardBatch>, msg: Msg<BoardBatch>) -> BoardB
     end.receive(msg)
 }
 
+/// The operation of a batch that has no other, which is copied without memory.
+pub(crate) fn lone(op: &BoardBatch) -> Option<&BoardOp>
+    ensures { MatchOption result (2 ≤ length op.now) (λ one. op.now ≡ one.now ∷ []) }
+{
+    match op.as_slice() {
+        [one] => Some(one),
+        _ => None,
+    }
+}
+
+// A copy of a batch.
+fn batch_copy(alloc: Global, op: &BoardBatch) -> Result<BoardBatch, NoMemory>
+    ensures copied { IfOk result (λ copied. copied ≡ op.now) }
+    ensures refused { OnErr result (2 ≤ length op.now) }
+{
+    match lone(op) {
+        Some(one) => Ok(Batch::one(*one)),
+        None => op.copy(alloc),
+    }
+}
+
 /// A copy of a message.
 pub(crate) fn copy_of(alloc: Global, msg: &Msg<BoardBatch>) -> Result<Msg<BoardBatch>, NoMemory>
     ensures copied { IfOk result (λ copied. copied ≡ msg.now) }
     ensures refused { OnErr result (2 ≤ length msg.now.op) }
 {
-    // That a batch has an operation is learned here.
-    let _ops = msg.op.as_slice();
     Ok(Msg {
         mine: msg.mine,
         heard: msg.heard,
-        op: msg.op.copy(alloc)?,
+        op: batch_copy(alloc, &msg.op)?,
     })
 }
 

@@ -4,18 +4,18 @@ ghost use Rattle.jup_link.specs.Links.{IsNumber, IsCount, generated};
 ghost use Rattle.jup_batch.specs.BatchBoards as board;
 ghost use Rattle.jup_batch.specs.BoardBatches.{board_batches};
 ghost use Rattle.jup_star.specs.FirstFaults.{first_fault, fault_of};
-ghost use Rattle.std.specs.Option.{option_to_list};
+ghost use Rattle.std.specs.Option.{option_to_list, IsSomeAnd};
 ghost use Rattle.jup_star.specs.LinkStates.{opened_link, link_acked, link_ponged, link_fetched, link_sent, link_heard, operation_at};
 ghost use Rattle.jup_star.specs.StarStates.{early_fault, edit_tests, ack_tests, log_tests};
 ghost use Rattle.jup_star.specs.Rooms.{bare_link, HasRoom};
 ghost use Rattle.jup_star.specs.TextRelabels.{RelabelNoText, DownRelabelsNoText};
 
-use crate::ends::{acknowledge, check_counts, receive};
+use crate::ends::{acknowledge, check_counts, lone, receive};
 use crate::outbox::Outbox;
 use crate::{Down, Downs, StarFault};
 use jup_batch::{BoardBatch, all_insertions, bear_next, one_is_nothing};
 use jup_link::{End, Msg};
-use jup_xform::{NoMemory, Side, Transform};
+use jup_xform::{Batch, NoMemory, Side, Transform};
 use std::alloc::Global;
 
 /// The star's end of a link: its site, what is to be fetched, and the insertions taken from the site.
@@ -28,8 +28,8 @@ pub(crate) struct Link {
     pub(crate) copies: Option<Copies>,
 }
 
-/// Copies of an operation that is about to be sent: one for the queue, and one for the message. They are
-/// made while memory may still be refused, and written over with the operation as it is then sent.
+/// Copies of a batch that is about to be sent: one for the queue, and one for the message. They are made while memory may
+/// still be refused, and written over with the batch as it is then sent. One of a single operation needs none.
 #[derive(Drop)]
 pub(crate) struct Copies {
     pub(crate) kept: BoardBatch,
@@ -56,6 +56,19 @@ fn copies_of(alloc: Global, op: &BoardBatch) -> Result<Copies, NoMemory>
     })
 }
 
+// The copies by which a batch is sent, written over those that were made.
+fn write_copies(made: &mut Option<Copies>, op: &BoardBatch) -> Copies
+    requires { IsSomeAnd made.old (λ c. (board.shape op.now ≡ board.shape c.kept) × (board.shape op.now ≡ board.shape c.sent)) }
+    ensures { (result.kept ≡ op.now) × (result.sent ≡ op.now) }
+{
+    let Some(mut copies) = made.take() else {
+        unreachable!()
+    };
+    op.write_to(&mut copies.kept);
+    op.write_to(&mut copies.sent);
+    copies
+}
+
 impl Link {
     pub(crate) fn new(alloc: Global, site: u32) -> Link
         ensures { bare_link result ≡ opened_link site }
@@ -69,14 +82,17 @@ impl Link {
         }
     }
 
-    // Makes room for one message and one operation, and copies of the operation.
+    // Makes room for one message and one operation, and the copies that this needs.
+    #[tactic(auto, using(crate::proofs::Copies::length_shape))]
     pub(crate) fn reserve(&mut self, alloc: Global, op: &BoardBatch) -> Result<(), NoMemory>
         ensures room { OnOk result (HasRoom (board.shape op.now) self.new) }
         ensures same { bare_link self.new ≡ bare_link self.old }
     {
         self.outbox.reserve_one()?;
         self.end.reserve_one()?;
-        self.copies = Some(copies_of(alloc, op)?);
+        if lone(op).is_none() {
+            self.copies = Some(copies_of(alloc, op)?);
+        }
         Ok(())
     }
 
@@ -148,17 +164,20 @@ impl Link {
     }
 
     // Sends an operation to the site.
+    #[tactic(auto, using(crate::proofs::Copies::copies_made))]
     pub(crate) fn send(&mut self, op: &BoardBatch)
         requires relabels { RelabelNoText op.now }
         requires room { HasRoom (board.shape op.now) self.old }
         requires counted { generated self.old.end.link < 4294967295 }
         ensures { bare_link self.new ≡ link_sent op.now (bare_link self.old) }
     {
-        let Some(mut copies) = self.copies.take() else {
-            return;
+        let copies = match lone(op) {
+            Some(one) => Copies {
+                kept: Batch::one(*one),
+                sent: Batch::one(*one),
+            },
+            None => write_copies(&mut self.copies, op),
         };
-        op.write_to(&mut copies.kept);
-        op.write_to(&mut copies.sent);
         let msg = self.end.send(copies.sent, copies.kept);
         self.outbox.push(Down::Op(msg));
     }

@@ -75,7 +75,7 @@ impl Player {
         ensures handled { IfOk result (λ _. Handles self.old.number (view_of self.old.caller.pass) (view_of self.new.caller.pass) self.old.caller.calls self.new.caller.calls (link_with self.old.site (up.now ∷ [])) (link_with self.new.site [])) }
     {
         let nth = self.taken.saturating_add(1);
-        if !pass_gate(gate, self.number, nth) {
+        if !pass_gate(gate, self.number, nth, || {}) {
             return Err(Stop::GateShut);
         }
         let answer = self.caller.take(rt, alloc, hub, self.number, up);

@@ -1,11 +1,17 @@
 -- Why a daemon ends, by what was refused, and what it serves.
-use Rattle.std.specs.Prelude.{◌≡◌, ◌≢◌, ◌==◌, ◌⊎◌, ℕ, List, Ok, Err, if◌then◌else◌}
+use Rattle.std.specs.Prelude.{◌≡◌, ◌≢◌, ◌==◌, ◌⊎◌, ℕ, List, Some, Ok, Err, if◌then◌else◌}
 use Rattle.clap.specs.Values.{kind_of}
 use Rattle.clap.specs.declared.error.Error.{Error as WordsError}
 use Rattle.clap.specs.declared.error.kind.ErrorKind.TheVariants as words
-use Rattle.jup_window.specs.Boards.{Windows}
-use Rattle.jup_star.specs.StarCalls.{BoardStar}
+use Rattle.jup_window.specs.Boards.{Windows, bare}
+use Rattle.jup_window.specs.Entries.{EachWidget}
+use Rattle.jup_window.specs.FaultNumbers.{board_fault_number}
+use Rattle.jup_window.specs.declared.faults.BoardFault.TheVariants.{TooMany}
+use Rattle.jup_star.specs.FaultNumbers.{open_fault_number}
+use Rattle.jup_star.specs.Openings.{IsShort}
+use Rattle.jup_star.specs.StarCalls.{BoardStar, star_open_fault}
 use Rattle.jup_star.specs.StarStates.{opened_star}
+use Rattle.jup_star.specs.declared.faults.OpenFault.{OpenFault}
 use Rattle.jup_layout.specs.Layouts.{Describes}
 use Rattle.jup_layout.specs.declared.layouts.LayoutFault.{LayoutFault}
 use Rattle.jup_rules.specs.declared.daemon_end.DaemonEnd.{DaemonEnd}
@@ -25,10 +31,18 @@ pub record IsStarOf (text : List ℕ) (limit : ℕ) (star : BoardStar) : Type 0 
   pub described : Describes text (Ok windows)
   pub is : star ≡ opened_star windows limit
 
--- a fault of a layout; one of no line is of the whole
-pub record IsFaultOf (text : List ℕ) (fault : LayoutFault) : Type 0 where
-  pub described : fault.line ≢ 0 → Describes text (Err fault)
+-- why no star is opened over the board of a layout: a sequence is too long for one, or a star refuses the board or the limit
+pub record IsUnopened (text : List ℕ) (limit number : ℕ) : Type 0 where
+  pub windows : Windows
+  pub described : Describes text (Ok (bare windows))
+  pub why : ((EachWidget IsShort windows → ⊥) × (number ≡ board_fault_number TooMany))
+      ⊎ ((fault : OpenFault) × (star_open_fault (bare windows) limit ≡ Some fault) × (number ≡ open_fault_number fault))
+
+-- a fault of a line is that of the text, and one of no line is of the whole
+pub record IsFaultOf (text : List ℕ) (limit : ℕ) (fault : LayoutFault) : Type 0 where
+  pub of_line : fault.line ≢ 0 → Describes text (Err fault)
+  pub of_whole : fault.line ≡ 0 → IsUnopened text limit fault.number
 
 -- want of memory, or a fault of the layout
-abbrev pub IsRefusalOf : List ℕ → DaemonEnd → Type 0
-IsRefusalOf text end = (end ≡ NoMemory) ⊎ ((fault : LayoutFault) × (end ≡ Layout fault) × IsFaultOf text fault)
+abbrev pub IsRefusalOf : List ℕ → ℕ → DaemonEnd → Type 0
+IsRefusalOf text limit end = (end ≡ NoMemory) ⊎ ((fault : LayoutFault) × (end ≡ Layout fault) × IsFaultOf text limit fault)

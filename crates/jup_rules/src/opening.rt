@@ -13,7 +13,7 @@ use std::alloc::Global;
 pub fn star_of_layout(alloc: Global, text: &[u8], limit: u32) -> Result<Star, DaemonEnd>
     requires { length text.now ≤ longest_input }
     ensures star { IfOk result (λ star. IsStarOf text.now limit star) }
-    ensures refusal { IfErr result (λ end. IsRefusalOf text.now end) }
+    ensures refusal { IfErr result (λ end. IsRefusalOf text.now limit end) }
 {
     let board = layout(alloc, text)?;
     // The words and the layout rule these refusals out: each is told as a fault of the whole layout.

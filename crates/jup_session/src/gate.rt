@@ -45,23 +45,43 @@ impl Gate for Open {
     fn note_answer(&self, _site: u32, _nth: u32) {}
 }
 
-/// Asks a gate for an edit, and where it is not ready again after a yield, up to 100,000 times. Whether it was ready.
-pub fn pass_gate<G: Gate>(gate: &G, site: u32, nth: u32) -> bool
+/// Asks a gate for an edit, and where it is not ready again after a yield, up to 100,000 times. Whether it was ready. What is to
+/// be done before one waits is done before it is asked again.
+pub fn pass_gate<G: Gate, F: FnOnce() + Drop>(
+    gate: &G,
+    site: u32,
+    nth: u32,
+    before_waiting: F,
+) -> bool
+    requires { F.IsAlwaysCallable before_waiting }
     ensures ready { IsTrue result → G.is_ready gate.now site nth }
     ensures shut { IsFalse result → G.is_shut gate.now site nth }
 {
-    for _ in 0..MOST_ASKED_AGAIN {
+    if gate.ready(site, nth) {
+        return true;
+    }
+    before_waiting();
+    ask_again(gate, site, nth)
+}
+
+// Asks a gate that was not ready again, up to 100,000 times.
+fn ask_again<G: Gate>(gate: &G, site: u32, nth: u32) -> bool
+    ensures ready { IsTrue result → G.is_ready gate.now site nth }
+    ensures shut { IsFalse result → G.is_shut gate.now site nth }
+{
+    for _ in 1..MOST_ASKED_AGAIN {
+        yield_now();
         if gate.ready(site, nth) {
             return true;
         }
-        yield_now();
     }
+    yield_now();
     gate.ready(site, nth)
 }
 
 /// Has the hub take the nth edit of a site once the gate is ready for it, and tells the gate once the hub has answered,
 /// also where it refused. `None` where the gate stayed shut: then the hub was asked nothing, and the gate told nothing.
-pub fn take_edit<R: Wait, G: Gate>(
+pub fn take_edit<R: Wait, G: Gate, F: FnOnce() + Drop>(
     rt: &R,
     alloc: Global,
     hub: &Hub,
@@ -70,15 +90,17 @@ pub fn take_edit<R: Wait, G: Gate>(
     site: u32,
     nth: u32,
     up: &Up,
+    before_waiting: F,
 ) -> Option<Result<Option<u32>, HubFault>>
-    requires { IsPassOf hub.now pass.old }
+    requires pass { IsPassOf hub.now pass.old }
+    requires callable { F.IsAlwaysCallable before_waiting }
     ensures pass { IsPassOf hub.now pass.new }
     ensures ready { IsSome result → G.is_ready gate.now site nth }
     ensures shut { IsNone result → G.is_shut gate.now site nth }
     ensures told { IsSome result → G.is_told gate.now site nth }
     ensures answered { HasAnswered site up.now (view_of pass.old) (view_of pass.new) result }
 {
-    if !pass_gate(gate, site, nth) {
+    if !pass_gate(gate, site, nth, before_waiting) {
         return None;
     }
     let answer = hub.take(rt, alloc, pass, site, up);

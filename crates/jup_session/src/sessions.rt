@@ -1,6 +1,7 @@
 //! Sessions: one site over one link, with a thread that reads and a thread that writes.
 
 mod bell;
+mod due;
 mod greeting;
 pub(crate) mod hangup;
 mod link;

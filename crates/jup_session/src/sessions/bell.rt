@@ -2,6 +2,7 @@
 
 use jup_limits::MOST_ATTACHED;
 use std::array;
+use std::sync::atomic::{AtomicU64, Ordering};
 use std::sync::{Condvar, Mutex, Wait};
 
 /// Rings at all places, or where one site waits. Each place counts its rings, wrapping. There are as many places as sites are
@@ -9,13 +10,18 @@ use std::sync::{Condvar, Mutex, Wait};
 #[derive(Drop)]
 pub struct Bell {
     places: [Place; MOST_ATTACHED],
+    /// How often it rang at all places.
+    rings: AtomicU64,
 }
 
 /// Where some sites wait.
 #[derive(Drop)]
 struct Place {
+    /// How often it rang here alone.
     rings: Mutex<u64>,
     rung: Condvar,
+    /// How many wait here, so that a ring at all places passes those where nobody does.
+    waiting: AtomicU64,
 }
 
 impl Place {
@@ -23,13 +29,13 @@ impl Place {
         Place {
             rings: Mutex::new(0),
             rung: Condvar::new(),
+            waiting: AtomicU64::new(0),
         }
     }
 
-    fn ring<R: Wait>(&self, rt: &R) {
-        let mut rings = self.rings.lock(rt);
-        *rings = rings.wrapping_add(1);
-        drop(rings);
+    // Wakes those who wait. Who is about to wait holds the lock until it does.
+    fn wake<R: Wait>(&self, rt: &R) {
+        drop(self.rings.lock(rt));
         self.rung.notify_all();
     }
 }
@@ -38,28 +44,45 @@ impl Bell {
     pub fn new() -> Bell {
         Bell {
             places: array::from_fn(|_| Place::new()),
+            rings: AtomicU64::new(0),
         }
     }
 
     /// Wakes all sites.
     pub fn ring<R: Wait>(&self, rt: &R) {
+        self.rings.fetch_add(1, Ordering::SeqCst);
         for place in &self.places {
-            place.ring(rt);
+            if place.waiting.load(Ordering::SeqCst) > 0 {
+                place.wake(rt);
+            }
         }
     }
 
     /// Wakes one site, and those that share its place.
     pub fn ring_for<R: Wait>(&self, rt: &R, site: u32) {
-        self.place(site).ring(rt);
+        let place = self.place(site);
+        let mut rings = place.rings.lock(rt);
+        *rings = rings.wrapping_add(1);
+        drop(rings);
+        place.rung.notify_all();
     }
 
     /// Waits until the count of rings at a site's place is not the one that was seen, and answers it. No ring is
-    /// missed: the counts are compared under the lock.
+    /// missed: who waits says so before it compares the counts, and a ring is counted before it looks who waits.
     pub fn wait<R: Wait>(&self, rt: &R, site: u32, seen: u64) -> u64 {
         let place = self.place(site);
         let rings = place.rings.lock(rt);
-        let rings = place.rung.wait_while(rt, rings, |rings| *rings == seen);
-        *rings
+        place.waiting.fetch_add(1, Ordering::SeqCst);
+        let rings = place
+            .rung
+            .wait_while(rt, rings, |rings| self.count_with(*rings) == seen);
+        place.waiting.fetch_sub(1, Ordering::SeqCst);
+        self.count_with(*rings)
+    }
+
+    // The count of rings at a place that rang so often alone.
+    fn count_with(&self, rings: u64) -> u64 {
+        rings.wrapping_add(self.rings.load(Ordering::SeqCst))
     }
 
     fn place(&self, site: u32) -> &Place {

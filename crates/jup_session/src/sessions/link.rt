@@ -67,13 +67,16 @@ impl<'a> Link<'a> {
         *self.noted.lock(rt)
     }
 
-    /// Counts a ping that is to be taken, once the site is owed fewer pongs than it may be. False where an ending
-    /// was noted before that.
+    /// Counts a ping that is to be taken, if the site is owed fewer pongs than it may be.
+    pub(crate) fn try_ping<R: Wait>(&self, rt: &R) -> bool {
+        self.pongs.lock(rt).take_ping()
+    }
+
+    /// The same, once the site is owed fewer pongs than it may be. False where an ending was noted before that.
     pub(crate) fn take_ping<R: Wait>(&self, rt: &R) -> bool {
         let mut seen = 0;
         for _ in rt.forever() {
-            let is_taken = self.pongs.lock(rt).take_ping();
-            if is_taken {
+            if self.try_ping(rt) {
                 return true;
             }
             if self.ending(rt).is_some() {

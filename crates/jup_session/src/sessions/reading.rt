@@ -3,6 +3,7 @@ ghost use Rattle.jup_hub.specs.Passes.{view_of, IsPassOf};
 ghost use Rattle.jup_session.specs.Gates.{HasCalled, IsHandled};
 ghost use Rattle.jup_session.specs.Sessions.{Serves};
 
+use super::due::Due;
 use super::link::Link;
 use super::source::Source;
 use crate::{Gate, take_edit};
@@ -23,8 +24,10 @@ pub(crate) fn read_half<R: Wait, I: Read + Drop, G: Gate>(
     ensures pass { IsPassOf link.now.hub.now pass.new }
     ensures serves { Serves link.now.site (view_of pass.old) (view_of pass.new) }
 {
-    let ending = hear_all(rt, source, link, pass, gate);
+    let mut due = Due::new();
+    let ending = hear_all(rt, source, link, pass, gate, &mut due);
     link.note(rt, ending);
+    due.ring(rt, link);
     link.ring(rt);
 }
 
@@ -36,6 +39,7 @@ fn hear_all<R: Wait, I: Read + Drop, G: Gate>(
     link: &Link<'_>,
     pass: &mut Pass,
     gate: &G,
+    due: &mut Due,
 ) -> Ending
     requires { IsPassOf link.now.hub.now pass.old }
     ensures pass { IsPassOf link.now.hub.now pass.new }
@@ -43,6 +47,9 @@ fn hear_all<R: Wait, I: Read + Drop, G: Gate>(
 {
     let mut keeper = Gatekeeper::new();
     for _ in 0..u64::MAX {
+        if !source.has_line() {
+            due.ring(rt, link);
+        }
         let line = match source.next_line(link.alloc) {
             Ok(line) => line,
             Err(stop) => return keeper.end(stop),
@@ -52,9 +59,8 @@ fn hear_all<R: Wait, I: Read + Drop, G: Gate>(
             Next::Take(incoming) => incoming,
             Next::End(ending) => return ending,
         };
-        match handle(rt, link, pass, gate, &incoming) {
-            Ok(Ring::All) => link.bell.ring(rt),
-            Ok(Ring::Own) => link.ring(rt),
+        match handle(rt, link, pass, gate, &incoming, due) {
+            Ok(ring) => due.add(ring),
             Err(ending) => return ending,
         }
     }
@@ -69,13 +75,14 @@ fn handle<R: Wait, G: Gate>(
     pass: &mut Pass,
     gate: &G,
     incoming: &Incoming,
+    due: &mut Due,
 ) -> Result<Ring, Ending>
     requires { IsPassOf link.now.hub.now pass.old }
     ensures pass { IsPassOf link.now.hub.now pass.new }
     ensures serves { Serves link.now.site (view_of pass.old) (view_of pass.new) }
     ensures handled { IsHandled link.now.site incoming.now (view_of pass.old) (view_of pass.new) result }
 {
-    match take(rt, link, pass, gate, incoming) {
+    match take(rt, link, pass, gate, incoming, due) {
         Some(answer) => ring_after(&incoming.up, answer),
         None => Err(incoming.awaits.in_vain()),
     }
@@ -89,6 +96,7 @@ fn take<R: Wait, G: Gate>(
     pass: &mut Pass,
     gate: &G,
     incoming: &Incoming,
+    due: &mut Due,
 ) -> Option<Result<Option<u32>, HubFault>>
     requires { IsPassOf link.now.hub.now pass.old }
     ensures pass { IsPassOf link.now.hub.now pass.new }
@@ -97,10 +105,29 @@ fn take<R: Wait, G: Gate>(
 {
     let up = &incoming.up;
     match incoming.awaits {
-        Awaits::Gate(nth) => take_edit(rt, link.alloc, link.hub, pass, gate, link.site, nth, up),
-        Awaits::Pongs if !link.take_ping(rt) => None,
+        Awaits::Gate(nth) => take_edit(
+            rt,
+            link.alloc,
+            link.hub,
+            pass,
+            gate,
+            link.site,
+            nth,
+            up,
+            || due.ring(rt, link),
+        ),
+        Awaits::Pongs if !take_ping(rt, link, due) => None,
         Awaits::Pongs | Awaits::Nothing => {
             Some(link.hub.take(rt, link.alloc, pass, link.site, up))
         }
     }
+}
+
+// Counts a ping that is to be taken. Where too many pongs are owed those who are due are woken first, the half that writes them among them.
+fn take_ping<R: Wait>(rt: &R, link: &Link<'_>, due: &mut Due) -> bool {
+    if link.try_ping(rt) {
+        return true;
+    }
+    due.ring(rt, link);
+    link.take_ping(rt)
 }

@@ -56,16 +56,22 @@ impl<I: Read + Drop> Source<I> {
         line.ok_or(Stop::Fault(SessionFault::ReadsSpent))
     }
 
+    /// Whether a line is there without a read.
+    pub(crate) fn has_line(&self) -> bool {
+        match &self.fed {
+            Some(fed) => self.given < fed.lines.as_slice().len(),
+            None => false,
+        }
+    }
+
     // Reads until there is a line to give.
     fn fill(&mut self, alloc: Global) -> Result<(), Stop> {
         for _ in 0..u64::MAX {
-            if let Some(fed) = &self.fed {
-                if self.given < fed.lines.as_slice().len() {
-                    return Ok(());
-                }
-                if let Some(fault) = fed.fault {
-                    return Err(Stop::Fault(SessionFault::Wire(fault)));
-                }
+            if self.has_line() {
+                return Ok(());
+            }
+            if let Some(fault) = self.fed.as_ref().and_then(|fed| fed.fault) {
+                return Err(Stop::Fault(SessionFault::Wire(fault)));
             }
             self.read(alloc)?;
         }

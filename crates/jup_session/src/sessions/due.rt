@@ -1,0 +1,34 @@
+//! Whom a session has still to wake.
+
+use super::link::Link;
+use jup_rules::Ring;
+use std::sync::Wait;
+
+/// Whom a session has still to wake. While further lines are at hand it wakes nobody, so that a burst of edits wakes the others once.
+#[derive(Drop)]
+pub(crate) struct Due {
+    ring: Option<Ring>,
+}
+
+impl Due {
+    /// Nobody is to be woken.
+    pub(crate) fn new() -> Due {
+        Due { ring: None }
+    }
+
+    /// One ring more. A ring for all is one for the own half too.
+    pub(crate) fn add(&mut self, ring: Ring) {
+        if self.ring != Some(Ring::All) {
+            self.ring = Some(ring);
+        }
+    }
+
+    /// Wakes those who are to be woken. Called before the reading half waits for anything, since what it waits for may be for them to do.
+    pub(crate) fn ring<R: Wait>(&mut self, rt: &R, link: &Link<'_>) {
+        match self.ring.take() {
+            Some(Ring::All) => link.bell.ring(rt),
+            Some(Ring::Own) => link.ring(rt),
+            None => {}
+        }
+    }
+}

@@ -1,5 +1,6 @@
 //! Growths of whole runs that are refused, each test for the call of its name. `./growths` refuses one after another of those between the two marks: a run
 //! that lacked memory is refused for that, with all its threads ended, and begun anew it runs.
+use crate::expect::expect_eq;
 use crate::runs::{LIMIT, agree, blank, insertions, scripts};
 use jup_app::{Open, RunEnd, RunFault, run_many, run_two};
 use std::alloc::Global;
@@ -9,7 +10,7 @@ use std::thread::Threads;
 use test_marks::{begin, end};
 
 // How many edits a run took that all sites agree on, or the number of its refusal.
-fn taken(rt: &impl Abort, run: Result<RunEnd, RunFault>) -> Result<usize, u32> {
+fn edits_taken(rt: &impl Abort, run: Result<RunEnd, RunFault>) -> Result<usize, u32> {
     match run {
         Ok(end) => {
             assert!(rt; agree(&end));
@@ -25,7 +26,7 @@ fn two_sites<R: Threads + Wait + Sync + Abort>(rt: &R, alloc: Global) -> Result<
     begin(alloc);
     let run = run_two(rt, alloc, board, LIMIT, &both, &both, &Open);
     end(alloc);
-    taken(rt, run)
+    edits_taken(rt, run)
 }
 
 #[test]
@@ -34,7 +35,7 @@ fn run_of_two(rt: HostRuntime) {
     if ran == Err(8) {
         ran = two_sites(&rt, rt.alloc());
     }
-    assert_eq!(rt; ran, Ok(4));
+    expect_eq(&rt, ran, Ok(4));
 }
 
 fn eight_sites<R: Threads + Wait + Sync + Abort>(rt: &R, alloc: Global) -> Result<usize, u32> {
@@ -43,7 +44,7 @@ fn eight_sites<R: Threads + Wait + Sync + Abort>(rt: &R, alloc: Global) -> Resul
     begin(alloc);
     let run = run_many(rt, alloc, board, LIMIT, &all, &Open);
     end(alloc);
-    taken(rt, run)
+    edits_taken(rt, run)
 }
 
 #[test]
@@ -52,5 +53,5 @@ fn run_of_many(rt: HostRuntime) {
     if ran == Err(8) {
         ran = eight_sites(&rt, rt.alloc());
     }
-    assert_eq!(rt; ran, Ok(16));
+    expect_eq(&rt, ran, Ok(16));
 }

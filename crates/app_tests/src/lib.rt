@@ -4,6 +4,8 @@
 ghost use Rattle.std.specs.Prelude.{◌≡◌};
 
 #[cfg(test)]
+mod expect;
+#[cfg(test)]
 mod growths;
 #[cfg(test)]
 mod runs;

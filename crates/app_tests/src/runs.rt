@@ -2,6 +2,7 @@
 ghost use Rattle.jup_window.specs.Entries.{EachWidget};
 ghost use Rattle.jup_star.specs.Openings.{IsShort};
 
+use crate::expect::expect_eq;
 use jup_app::{Open, RunEnd, RunFault, SiteEnd, run_many, run_two};
 use jup_star::Entry;
 use jup_value::Label;
@@ -78,7 +79,7 @@ fn settings(rt: &impl Abort, alloc: Global, count: usize) -> Vec<Command> {
 }
 
 // What a run came to.
-pub(crate) fn ended(rt: &impl Abort, run: Result<RunEnd, RunFault>) -> RunEnd {
+pub(crate) fn end_of(rt: &impl Abort, run: Result<RunEnd, RunFault>) -> RunEnd {
     run.expect(rt, "a run that ends")
 }
 
@@ -119,13 +120,13 @@ fn two_sites_of_200_insertions(rt: HostRuntime) {
     let first = insertions(&rt, alloc, 'a', 200);
     let second = insertions(&rt, alloc, 'b', 200);
     let run = run_two(&rt, alloc, blank(&rt, alloc), LIMIT, &first, &second, &Open);
-    let end = ended(&rt, run);
-    assert_eq!(rt; items(end.star.board()), 400);
-    assert_eq!(rt; end.star.order().len(), 400);
-    assert_eq!(rt; end.sites.len(), 2);
+    let end = end_of(&rt, run);
+    expect_eq(&rt, items(end.star.board()), 400);
+    expect_eq(&rt, end.star.order().len(), 400);
+    expect_eq(&rt, end.sites.len(), 2);
     assert!(rt; agree(&end));
     for site in &end.sites {
-        assert_eq!(rt; site.replies.len(), 200);
+        expect_eq(&rt, site.replies.len(), 200);
         assert!(rt; tells_the_order(site, end.star.order()));
     }
 }
@@ -135,9 +136,9 @@ fn eight_sites_of_50_insertions(rt: HostRuntime) {
     let alloc = rt.alloc();
     let all = scripts(&rt, alloc, 8, 50);
     let run = run_many(&rt, alloc, blank(&rt, alloc), LIMIT, &all, &Open);
-    let end = ended(&rt, run);
-    assert_eq!(rt; items(end.star.board()), 400);
-    assert_eq!(rt; end.sites.len(), 8);
+    let end = end_of(&rt, run);
+    expect_eq(&rt, items(end.star.board()), 400);
+    expect_eq(&rt, end.sites.len(), 8);
     assert!(rt; agree(&end));
 }
 
@@ -145,15 +146,15 @@ fn eight_sites_of_50_insertions(rt: HostRuntime) {
 fn one_to_64_sites_run(rt: HostRuntime) {
     let alloc = rt.alloc();
     let none = run_many(&rt, alloc, blank(&rt, alloc), LIMIT, &[], &Open);
-    assert_eq!(rt; refusal(none), 61);
+    expect_eq(&rt, refusal(none), 61);
     let all = scripts(&rt, alloc, 64, 1);
     let run = run_many(&rt, alloc, blank(&rt, alloc), LIMIT, &all, &Open);
-    let end = ended(&rt, run);
-    assert_eq!(rt; items(end.star.board()), 64);
+    let end = end_of(&rt, run);
+    expect_eq(&rt, items(end.star.board()), 64);
     assert!(rt; agree(&end));
     let more = scripts(&rt, alloc, 65, 1);
     let many = run_many(&rt, alloc, blank(&rt, alloc), 0, &more, &Open);
-    assert_eq!(rt; refusal(many), 61);
+    expect_eq(&rt, refusal(many), 61);
 }
 
 #[test]
@@ -161,12 +162,12 @@ fn a_full_order_refuses_a_run(rt: HostRuntime) {
     let alloc = rt.alloc();
     let two = insertions(&rt, alloc, 'a', 2);
     let full = run_two(&rt, alloc, blank(&rt, alloc), 3, &two, &two, &Open);
-    assert_eq!(rt; refusal(full), 32);
+    expect_eq(&rt, refusal(full), 32);
     let all = scripts(&rt, alloc, 2, 2);
     let full = run_many(&rt, alloc, blank(&rt, alloc), 3, &all, &Open);
-    assert_eq!(rt; refusal(full), 32);
+    expect_eq(&rt, refusal(full), 32);
     let none = run_two(&rt, alloc, blank(&rt, alloc), 0, &two, &two, &Open);
-    assert_eq!(rt; refusal(none), 50);
+    expect_eq(&rt, refusal(none), 50);
 }
 
 #[test]
@@ -174,12 +175,12 @@ fn one_site_of_2_000_settings(rt: HostRuntime) {
     let alloc = rt.alloc();
     let script = settings(&rt, alloc, 2_000);
     let run = run_two(&rt, alloc, blank(&rt, alloc), LIMIT, &script, &[], &Open);
-    let end = ended(&rt, run);
+    let end = end_of(&rt, run);
     assert_eq!(rt; end.sites.len(), 2);
-    assert_eq!(rt; end.sites[0].replies.len(), 2_000);
+    expect_eq(&rt, end.sites[0].replies.len(), 2_000);
     assert!(rt; end.sites[0].replies.iter().all(|reply| reply.is_ok()));
     assert!(rt; end.sites[1].replies.is_empty());
-    assert_eq!(rt; end.star.order().len(), 2_000);
+    expect_eq(&rt, end.star.order().len(), 2_000);
     assert!(rt; agree(&end));
 }
 
@@ -207,12 +208,12 @@ fn a_refused_command_is_answered(rt: HostRuntime) {
     let alloc = rt.alloc();
     let script = deleting_twice(&rt, alloc);
     let run = run_two(&rt, alloc, blank(&rt, alloc), LIMIT, &script, &[], &Open);
-    let end = ended(&rt, run);
+    let end = end_of(&rt, run);
     assert_eq!(rt; end.sites.len(), 2);
     let replies = &end.sites[0].replies;
     assert_eq!(rt; replies.len(), 3);
-    assert_eq!(rt; replies[0], Err(EditFault::BadPlace));
+    expect_eq(&rt, &replies[0], &Err(EditFault::BadPlace));
     assert!(rt; replies[1].is_ok());
     assert!(rt; replies[2].is_ok());
-    assert_eq!(rt; items(end.star.board()), 0);
+    expect_eq(&rt, items(end.star.board()), 0);
 }

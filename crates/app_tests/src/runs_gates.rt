@@ -1,6 +1,7 @@
 //! Runs that gates hold: only sites that run at the same time get past them.
 
-use super::runs::{LIMIT, agree, blank, ended, insertions, refusal, scripts};
+use super::runs::{LIMIT, agree, blank, end_of, insertions, refusal, scripts};
+use crate::expect::expect_eq;
 use jup_app::{Gate, run_many, run_two};
 use std::sync::atomic::{AtomicU64, Ordering};
 use std::thread;
@@ -119,8 +120,8 @@ fn two_meet(rt: HostRuntime) {
         &script,
         &gate,
     );
-    let end = ended(&rt, run);
-    assert_eq!(rt; end.star.order().len(), 40);
+    let end = end_of(&rt, run);
+    expect_eq(&rt, end.star.order().len(), 40);
     assert!(rt; agree(&end));
 }
 
@@ -129,8 +130,8 @@ fn eight_meet(rt: HostRuntime) {
     let alloc = rt.alloc();
     let all = scripts(&rt, alloc, 8, 20);
     let run = run_many(&rt, alloc, blank(&rt, alloc), LIMIT, &all, &Meeting::of(8));
-    let end = ended(&rt, run);
-    assert_eq!(rt; end.star.order().len(), 160);
+    let end = end_of(&rt, run);
+    expect_eq(&rt, end.star.order().len(), 160);
     assert!(rt; agree(&end));
 }
 
@@ -151,11 +152,11 @@ fn crosswise(rt: HostRuntime) {
         &script,
         &gate,
     );
-    let end = ended(&rt, run);
+    let end = end_of(&rt, run);
     let mut places = end.star.order().iter().map(|entry| entry.site);
-    assert_eq!(rt; places.next(), Some(2));
-    assert_eq!(rt; places.next(), Some(1));
-    assert_eq!(rt; end.star.order().len(), 4);
+    expect_eq(&rt, places.next(), Some(2));
+    expect_eq(&rt, places.next(), Some(1));
+    expect_eq(&rt, end.star.order().len(), 4);
     assert!(rt; agree(&end));
 }
 
@@ -172,7 +173,7 @@ fn a_gate_that_stays_shut_ends_a_run(rt: HostRuntime) {
         &script,
         &Shut,
     );
-    assert_eq!(rt; refusal(run), 60);
+    expect_eq(&rt, refusal(run), 60);
 }
 
 #[test]

@@ -1,4 +1,5 @@
 //! Lists of operations past one another, and batches on a text and on a board.
+use crate::expect::expect_eq;
 use crate::sequences::{attempt, delete, insert, reads, text};
 use jup_batch::{all_insertions, bear_next, one_bears_site, one_is_nothing};
 use jup_seq::{SeqOp, TextOp};
@@ -23,8 +24,8 @@ fn lists_are_moved_past_one_another(rt: HostRuntime) {
     let mut client = [insert(1, 1, 'X'), insert_next(2, 1, 'Y')];
     let mut server = [delete(1, 2), delete(1, 3)];
     grid(&mut client, &mut server);
-    assert_eq!(rt; client, [insert(1, 1, 'X'), insert_next(2, 1, 'Y')]);
-    assert_eq!(rt; server, [delete(3, 2), delete(3, 3)]);
+    expect_eq(&rt, client, [insert(1, 1, 'X'), insert_next(2, 1, 'Y')]);
+    expect_eq(&rt, server, [delete(3, 2), delete(3, 3)]);
 }
 
 // A batch of two operations.
@@ -33,7 +34,7 @@ fn batch(rt: &impl Abort, alloc: Global, ops: [TextOp; 2]) -> Batch<TextOp> {
 }
 
 // The text "pqr", on which a batch was applied.
-fn edited(rt: &impl Abort, alloc: Global, batch: &Batch<TextOp>) -> Seq<char> {
+fn text_after(rt: &impl Abort, alloc: Global, batch: &Batch<TextOp>) -> Seq<char> {
     let mut held = text(alloc, "pqr");
     assert!(rt; attempt(alloc, batch, &mut held));
     held
@@ -50,8 +51,8 @@ fn batches_meet(rt: HostRuntime) {
     let alloc = rt.alloc();
     let mut typed = batch(&rt, alloc, [insert(1, 1, 'X'), insert_next(2, 1, 'Y')]);
     let mut cut = batch(&rt, alloc, [delete(1, 2), delete(1, 3)]);
-    let client = edited(&rt, alloc, &typed);
-    let server = edited(&rt, alloc, &cut);
+    let client = text_after(&rt, alloc, &typed);
+    let server = text_after(&rt, alloc, &cut);
     Transform::transform(&mut typed, &mut cut);
     ends(&rt, alloc, client, &cut, "pXY");
     ends(&rt, alloc, server, &typed, "pXY");
@@ -137,7 +138,7 @@ fn what_a_batch_inserts_is_read_off_its_operations(rt: HostRuntime) {
         on_text(delete(1, 1)),
         on_text(insert_next(1, 1, 'b')),
     ];
-    assert_eq!(rt; all_insertions(&ops), 2);
+    expect_eq(&rt, all_insertions(&ops), 2);
     assert!(rt; bear_next(&ops, 1, 0) && !bear_next(&ops, 1, 1) && !bear_next(&ops, 2, 0));
     assert!(rt; one_bears_site(&ops, 1) && !one_bears_site(&ops, 2));
     assert!(rt; !one_is_nothing(&ops) && one_is_nothing(&[ops[1], on_text(SeqOp::Nothing)]));

@@ -1,4 +1,5 @@
 //! Sequences of many items: how many blocks they stand in, which names are found, and other values.
+use crate::expect::expect_eq;
 use jup_value::{Item, Name, NoMemory, Seq};
 use std::alloc::Global;
 
@@ -15,7 +16,7 @@ fn put(seq: &mut Seq<u32>, name: Name, at_end: bool) -> Result<(), NoMemory> {
 }
 
 // The items 0, 1 and so on, each put at the end, or each at the front.
-pub(crate) fn filled(alloc: Global, count: u32, at_end: bool) -> Result<Seq<u32>, NoMemory> {
+pub(crate) fn sequence_of(alloc: Global, count: u32, at_end: bool) -> Result<Seq<u32>, NoMemory> {
     let mut seq = Seq::new(alloc);
     for number in 0..count {
         put(&mut seq, Name { site: 0, number }, at_end)?;
@@ -53,29 +54,29 @@ fn full_blocks_are_split(rt: HostRuntime) {
         (300, true, 4),
         (300, false, 4),
     ] {
-        let seq = filled(rt.alloc(), count, at_end).expect(&rt, "memory");
+        let seq = sequence_of(rt.alloc(), count, at_end).expect(&rt, "memory");
         assert_eq!(rt; seq.blocks(), blocks, "{count} items");
     }
 }
 
 #[test]
 fn emptied_blocks_are_taken_out(rt: HostRuntime) {
-    let mut seq = filled(rt.alloc(), 300, true).expect(&rt, "memory");
+    let mut seq = sequence_of(rt.alloc(), 300, true).expect(&rt, "memory");
     assert!(rt; counts(&seq, 0, 300));
     drop_first(&mut seq, 64);
-    assert_eq!(rt; seq.blocks(), 3);
-    assert_eq!(rt; seq.len(), 236);
+    expect_eq(&rt, seq.blocks(), 3);
+    expect_eq(&rt, seq.len(), 236);
     assert!(rt; counts(&seq, 64, 300));
     drop_first(&mut seq, 236);
-    assert_eq!(rt; seq.blocks(), 0);
+    expect_eq(&rt, seq.blocks(), 0);
 }
 
 #[test]
 fn copy_keeps_the_blocks(rt: HostRuntime) {
-    let mut seq = filled(rt.alloc(), 300, true).expect(&rt, "memory");
+    let mut seq = sequence_of(rt.alloc(), 300, true).expect(&rt, "memory");
     drop_first(&mut seq, 100);
     let copied = seq.copy(rt.alloc()).expect(&rt, "memory");
-    assert_eq!(rt; copied.blocks(), 3);
+    expect_eq(&rt, copied.blocks(), 3);
     assert!(rt; counts(&copied, 100, 300));
 }
 
@@ -97,28 +98,29 @@ fn item(number: u32, value: u32) -> Item<u32> {
 // The first and the last item of each of the blocks 64, 64, 64 and 108 long.
 #[test]
 fn another_value_leaves_names_places_and_blocks(rt: HostRuntime) {
-    let mut seq = filled(rt.alloc(), 300, true).expect(&rt, "memory");
+    let mut seq = sequence_of(rt.alloc(), 300, true).expect(&rt, "memory");
     for at in [0, 63, 64, 127, 128, 191, 192, 299] {
         set_value(&mut seq, at, 1000);
         assert_eq!(rt; seq.get(at), Some(&item(at, 1000)), "place {at}");
-        assert_eq!(rt;
+        expect_eq(
+            &rt,
             seq.place_of(Name {
                 site: 0,
-                number: at
+                number: at,
             }),
-            Some(at)
+            Some(at),
         );
         set_value(&mut seq, at, at);
         assert!(rt; counts(&seq, 0, 300), "place {at}");
     }
-    assert_eq!(rt; seq.blocks(), 4);
+    expect_eq(&rt, seq.blocks(), 4);
 }
 
 // As long as a layout may make a sequence, and longer.
 #[test]
 fn long_sequences_are_copied_whole(rt: HostRuntime) {
     for count in [65_536, 65_537] {
-        let seq = filled(rt.alloc(), count, true).expect(&rt, "memory");
+        let seq = sequence_of(rt.alloc(), count, true).expect(&rt, "memory");
         let copied = seq.copy(rt.alloc()).expect(&rt, "memory");
         assert!(rt; counts(&copied, 0, count), "{count} items");
     }
@@ -145,8 +147,8 @@ fn names_are_found_whether_or_not_a_later_one_was_held(rt: HostRuntime) {
         (1, 4, None),
         (3, 1, None),
     ] {
-        assert_eq!(rt; seq.place_of(Name { site, number }), place);
+        expect_eq(&rt, seq.place_of(Name { site, number }), place);
     }
     drop_first(&mut seq, 1);
-    assert_eq!(rt; seq.place_of(Name { site: 2, number: 5 }), None);
+    expect_eq(&rt, seq.place_of(Name { site: 2, number: 5 }), None);
 }

@@ -1,4 +1,5 @@
 //! Refusals in their order, and each call once where it succeeds.
+use crate::expect::expect_eq;
 use jup_seq::SeqOp;
 use jup_setting::{SetOp, Slider, Toggle};
 use jup_value::{Item, Label, Name, NoMemory, Seq};
@@ -61,13 +62,13 @@ pub(crate) fn named_as(board: &Board, command: &Command, name: Name) -> Result<B
     board.name_it(command, name)
 }
 
-fn named(board: &Board, command: &Command) -> Result<BoardOp, EditFault> {
+fn operation_of(board: &Board, command: &Command) -> Result<BoardOp, EditFault> {
     named_as(board, command, NAME)
 }
 
 // The number of a command's refusal, or 0.
 fn refusal(board: &Board, command: Command) -> u32 {
-    match named(board, &command) {
+    match operation_of(board, &command) {
         Ok(_) => 0,
         Err(fault) => fault.number(),
     }
@@ -96,25 +97,46 @@ pub(crate) fn windows(rt: &impl Abort, alloc: Global, count: u16) -> Board {
 #[test]
 fn windows_are_refused_in_order(rt: HostRuntime) {
     let mut board = windows(&rt, rt.alloc(), 64);
-    assert_eq!(rt; board.add_window(rt.alloc(), 0), Err(BoardFault::BadId));
-    assert_eq!(rt; board.add_window(rt.alloc(), 64), Err(BoardFault::DoubleId));
-    assert_eq!(rt; board.add_window(rt.alloc(), 65), Err(BoardFault::TooMany));
-    assert_eq!(rt; BoardFault::TooMany.number(), 11);
+    expect_eq(&rt, board.add_window(rt.alloc(), 0), Err(BoardFault::BadId));
+    expect_eq(
+        &rt,
+        board.add_window(rt.alloc(), 64),
+        Err(BoardFault::DoubleId),
+    );
+    expect_eq(
+        &rt,
+        board.add_window(rt.alloc(), 65),
+        Err(BoardFault::TooMany),
+    );
+    expect_eq(&rt, BoardFault::TooMany.number(), 11);
 }
 
 #[test]
 fn widgets_are_refused_in_order(rt: HostRuntime) {
     let mut board = windows(&rt, rt.alloc(), 1);
-    assert_eq!(rt; board.add_widget(2, 0, toggle()), Err(BoardFault::NoWindow));
-    assert_eq!(rt; board.add_widget(1, 0, toggle()), Err(BoardFault::BadId));
+    expect_eq(
+        &rt,
+        board.add_widget(2, 0, toggle()),
+        Err(BoardFault::NoWindow),
+    );
+    expect_eq(
+        &rt,
+        board.add_widget(1, 0, toggle()),
+        Err(BoardFault::BadId),
+    );
     for wid in 1..65 {
         board.add_widget(1, wid, toggle()).expect(&rt, "it is new");
     }
-    assert_eq!(rt;
+    expect_eq(
+        &rt,
         board.add_widget(1, 64, toggle()),
-        Err(BoardFault::DoubleId)
+        Err(BoardFault::DoubleId),
     );
-    assert_eq!(rt; board.add_widget(1, 65, toggle()), Err(BoardFault::TooMany));
+    expect_eq(
+        &rt,
+        board.add_widget(1, 65, toggle()),
+        Err(BoardFault::TooMany),
+    );
 }
 
 #[test]
@@ -150,7 +172,7 @@ fn commands_are_refused_in_order(rt: HostRuntime) {
         (insert_letter(1, 1), 4),
         (delete(1, 0), 4),
     ] {
-        assert_eq!(rt; refusal(&board, command), number);
+        expect_eq(&rt, refusal(&board, command), number);
     }
 }
 
@@ -189,7 +211,7 @@ fn insertion_into_a_long_text_is_refused(rt: HostRuntime) {
 
 // Applies a command where it is not refused, and says whether it did.
 fn apply(alloc: Global, board: &mut Board, command: Command) -> bool {
-    match named(board, &command) {
+    match operation_of(board, &command) {
         Ok(op) => attempt(alloc, &op, board),
         Err(_) => false,
     }
@@ -206,7 +228,7 @@ fn makes(edit: &Edit, what: Effect, inserts: bool) -> bool {
 
 // Whether a command makes an operation of this effect.
 fn is_made(alloc: Global, board: &Board, command: &Command, what: Effect, inserts: bool) -> bool {
-    match named(board, command) {
+    match operation_of(board, command) {
         Ok(op) => match op.edit(alloc) {
             Ok(edit) => makes(&edit, what, inserts),
             Err(_) => false,
@@ -281,7 +303,11 @@ fn relabels_are_refused_in_order(rt: HostRuntime) {
         (1, 2, 1, 4),
         (1, 2, 0, 0),
     ] {
-        assert_eq!(rt; refusal(&board, relabel(win, wid, place, label)), number);
+        expect_eq(
+            &rt,
+            refusal(&board, relabel(win, wid, place, label)),
+            number,
+        );
     }
 }
 
@@ -360,29 +386,31 @@ fn text_takes_no_relabel(rt: HostRuntime) {
         wid: 1,
         what: Effect::Nothing,
     };
-    assert_eq!(rt; op.edit(rt.alloc()), Ok(nothing));
+    expect_eq(&rt, op.edit(rt.alloc()), Ok(nothing));
 }
 
 #[test]
 fn command_is_judged_by_what_is_told_of_items(rt: HostRuntime) {
     let board = one_label(&rt, rt.alloc());
     let list = board.named_widget(1, 2).expect(&rt, "it is there");
-    assert_eq!(rt; list.item_count(), 1);
-    assert_eq!(rt; list.name_at(0), Some(Name { site: 0, number: 1 }));
-    assert_eq!(rt; list.name_at(1), None);
+    expect_eq(&rt, list.item_count(), 1);
+    expect_eq(&rt, list.name_at(0), Some(Name { site: 0, number: 1 }));
+    expect_eq(&rt, list.name_at(1), None);
     let command = delete(2, 7);
-    assert_eq!(rt; (command.ids(), command.place()), ((1, 2), 7));
+    expect_eq(&rt, (command.ids(), command.place()), ((1, 2), 7));
     let last = SeqOp::Delete {
         place: 7,
         name: NAME,
     };
-    assert_eq!(rt;
+    expect_eq(
+        &rt,
         command.on_widget(list, NAME, 8, Some(NAME)),
-        Ok(WidgetOp::List(last))
+        Ok(WidgetOp::List(last)),
     );
-    assert_eq!(rt;
+    expect_eq(
+        &rt,
         command.on_widget(list, NAME, 1, None),
-        Err(EditFault::BadPlace)
+        Err(EditFault::BadPlace),
     );
     assert!(rt; matches!(board.named_widget(1, 9), Err(EditFault::NoWidget)));
     assert!(rt; matches!(board.named_widget(9, 2), Err(EditFault::NoWindow)));

@@ -1,8 +1,9 @@
 //! Growths of sequences, operations, batches and boards that are refused, each test for the call of its name. `./growths` refuses one after another of
 //! those between the two marks: a call that lacks memory leaves all as it was, and made again it gives its answer.
 use crate::batches::{insert_next, on_text, text_and_toggle};
-use crate::blocks::{counts, filled};
+use crate::blocks::{counts, sequence_of};
 use crate::boards::toggle;
+use crate::expect::expect_eq;
 use crate::sequences::{attempt, insert, reads, text};
 use jup_seq::TextOp;
 use jup_value::{NoMemory, Seq};
@@ -14,7 +15,7 @@ use test_marks::{begin, end};
 
 // Room for so many insertions is made in a sequence of so many items, which stay.
 fn makes_room(rt: &impl Abort, alloc: Global, count: u32, more: u32) {
-    let mut seq = filled(alloc, count, true).expect(rt, "memory");
+    let mut seq = sequence_of(alloc, count, true).expect(rt, "memory");
     let blocks = seq.blocks();
     begin(alloc);
     let mut made = seq.reserve_more(more);
@@ -23,7 +24,7 @@ fn makes_room(rt: &impl Abort, alloc: Global, count: u32, more: u32) {
         assert!(rt; counts(&seq, 0, count) && seq.blocks() == blocks);
         made = seq.reserve_more(more);
     }
-    assert_eq!(rt; made, Ok(()));
+    expect_eq(rt, made, Ok(()));
     assert!(rt; counts(&seq, 0, count) && seq.blocks() == blocks);
 }
 
@@ -36,7 +37,7 @@ fn seq_reserve_more(rt: HostRuntime) {
 
 // The same, for one insertion.
 fn makes_room_for_one(rt: &impl Abort, alloc: Global, count: u32) {
-    let mut seq = filled(alloc, count, true).expect(rt, "memory");
+    let mut seq = sequence_of(alloc, count, true).expect(rt, "memory");
     begin(alloc);
     let mut made = seq.reserve_one();
     end(alloc);
@@ -44,7 +45,7 @@ fn makes_room_for_one(rt: &impl Abort, alloc: Global, count: u32) {
         assert!(rt; counts(&seq, 0, count));
         made = seq.reserve_one();
     }
-    assert_eq!(rt; made, Ok(()));
+    expect_eq(rt, made, Ok(()));
     assert!(rt; counts(&seq, 0, count));
 }
 
@@ -58,7 +59,7 @@ fn seq_reserve_one(rt: HostRuntime) {
 
 #[test]
 fn seq_copy(rt: HostRuntime) {
-    let seq = filled(rt.alloc(), 300, true).expect(&rt, "memory");
+    let seq = sequence_of(rt.alloc(), 300, true).expect(&rt, "memory");
     begin(rt.alloc());
     let mut copied = seq.copy(rt.alloc());
     end(rt.alloc());
@@ -71,7 +72,7 @@ fn seq_copy(rt: HostRuntime) {
 }
 
 // Two insertions.
-fn typed() -> [TextOp; 2] {
+fn two_insertions() -> [TextOp; 2] {
     [insert(0, 1, 'X'), insert_next(1, 1, 'Y')]
 }
 
@@ -103,13 +104,13 @@ fn operation_reserve(rt: HostRuntime) {
 
 #[test]
 fn batch_reserve(rt: HostRuntime) {
-    let both = Batch::from_slice(rt.alloc(), &typed()).expect(&rt, "memory");
+    let both = Batch::from_slice(rt.alloc(), &two_insertions()).expect(&rt, "memory");
     makes_room_for(&rt, rt.alloc(), &both, "XY");
 }
 
 #[test]
 fn batch_from_slice(rt: HostRuntime) {
-    let ops = typed();
+    let ops = two_insertions();
     begin(rt.alloc());
     let mut both = Batch::from_slice(rt.alloc(), &ops);
     end(rt.alloc());
@@ -117,12 +118,12 @@ fn batch_from_slice(rt: HostRuntime) {
         both = Batch::from_slice(rt.alloc(), &ops);
     }
     let both = both.expect(&rt, "memory");
-    assert_eq!(rt; both.as_slice(), ops.as_slice());
+    expect_eq(&rt, both.as_slice(), ops.as_slice());
 }
 
 #[test]
 fn batch_copy(rt: HostRuntime) {
-    let both = Batch::from_slice(rt.alloc(), &typed()).expect(&rt, "memory");
+    let both = Batch::from_slice(rt.alloc(), &two_insertions()).expect(&rt, "memory");
     begin(rt.alloc());
     let mut copied = both.copy(rt.alloc());
     end(rt.alloc());
@@ -134,7 +135,7 @@ fn batch_copy(rt: HostRuntime) {
 
 #[test]
 fn batch_edit(rt: HostRuntime) {
-    let both = Batch::from_slice(rt.alloc(), &typed()).expect(&rt, "memory");
+    let both = Batch::from_slice(rt.alloc(), &two_insertions()).expect(&rt, "memory");
     begin(rt.alloc());
     let mut edits = both.edit(rt.alloc());
     end(rt.alloc());
@@ -142,10 +143,10 @@ fn batch_edit(rt: HostRuntime) {
         edits = both.edit(rt.alloc());
     }
     let edits = edits.expect(&rt, "memory");
-    for (op, edit) in typed().iter().zip(edits.as_slice()) {
+    for (op, edit) in two_insertions().iter().zip(edits.as_slice()) {
         assert!(rt; op.edit(rt.alloc()) == Ok(*edit));
     }
-    assert_eq!(rt; edits.as_slice().len(), 2);
+    expect_eq(&rt, edits.as_slice().len(), 2);
 }
 
 #[test]
@@ -157,7 +158,7 @@ fn few_from_slice(rt: HostRuntime) {
         few = Few::from_slice(rt.alloc(), &[1u32, 2]);
     }
     let few = few.expect(&rt, "memory");
-    assert_eq!(rt; few.as_slice(), [1u32, 2].as_slice());
+    expect_eq(&rt, few.as_slice(), [1u32, 2].as_slice());
 }
 
 // A board of a text and a toggle, and no item.
@@ -202,11 +203,15 @@ fn add_window(rt: HostRuntime) {
         let mut added = board.add_window(rt.alloc(), win);
         end(rt.alloc());
         if added == Err(BoardFault::NoMemory) {
-            assert_eq!(rt; board.windows().len(), usize::from(win).saturating_sub(1));
+            expect_eq(
+                &rt,
+                board.windows().len(),
+                usize::from(win).saturating_sub(1),
+            );
             added = board.add_window(rt.alloc(), win);
         }
-        assert_eq!(rt; added, Ok(()));
-        assert_eq!(rt; board.windows().len(), usize::from(win));
+        expect_eq(&rt, added, Ok(()));
+        expect_eq(&rt, board.windows().len(), usize::from(win));
     }
 }
 
@@ -227,10 +232,10 @@ fn add_widget(rt: HostRuntime) {
         let mut added = board.add_widget(1, wid, toggle());
         end(rt.alloc());
         if added == Err(BoardFault::NoMemory) {
-            assert_eq!(rt; widgets_of(&board), usize::from(wid).saturating_sub(1));
+            expect_eq(&rt, widgets_of(&board), usize::from(wid).saturating_sub(1));
             added = board.add_widget(1, wid, toggle());
         }
-        assert_eq!(rt; added, Ok(()));
-        assert_eq!(rt; widgets_of(&board), usize::from(wid));
+        expect_eq(&rt, added, Ok(()));
+        expect_eq(&rt, widgets_of(&board), usize::from(wid));
     }
 }

@@ -10,6 +10,8 @@ mod blocks;
 #[cfg(test)]
 mod boards;
 #[cfg(test)]
+mod expect;
+#[cfg(test)]
 mod growths;
 #[cfg(test)]
 mod naming;

@@ -2,6 +2,7 @@
 use crate::boards::{
     delete, insert, insert_letter, long_text, named_as, relabel, set, toggle, windows,
 };
+use crate::expect::expect_eq;
 use crate::sequences::{attempt, reads, text};
 use jup_batch::{MOST_COMMANDS, name_after, name_all};
 use jup_seq::{ListOp, SeqOp, TextOp};
@@ -55,7 +56,10 @@ fn board_of(rt: &impl Abort, alloc: Global, text: Seq<char>) -> Board {
 }
 
 // The operations that commands become where the board holds no name of site 1.
-fn named(board: &Board, commands: &[Command]) -> Result<[BoardOp; MOST_COMMANDS], EditFault> {
+fn operations_of(
+    board: &Board,
+    commands: &[Command],
+) -> Result<[BoardOp; MOST_COMMANDS], EditFault> {
     if board.has_site(1) || commands.len() > MOST_COMMANDS {
         return Err(EditFault::Stopped);
     }
@@ -66,7 +70,7 @@ fn named(board: &Board, commands: &[Command]) -> Result<[BoardOp; MOST_COMMANDS]
 
 // The number of the refusal, or 0.
 fn refusal(board: &Board, commands: &[Command]) -> u32 {
-    match named(board, commands) {
+    match operations_of(board, commands) {
         Ok(_) => 0,
         Err(fault) => fault.number(),
     }
@@ -74,7 +78,7 @@ fn refusal(board: &Board, commands: &[Command]) -> u32 {
 
 // Applies the operations of a batch of commands, and says whether it did.
 fn apply_all(alloc: Global, board: &mut Board, commands: &[Command]) -> bool {
-    let Ok(ops) = named(board, commands) else {
+    let Ok(ops) = operations_of(board, commands) else {
         return false;
     };
     for op in ops.iter().take(commands.len()) {
@@ -128,16 +132,16 @@ fn a_batch_shows_what_its_commands_show_one_by_one(rt: HostRuntime) {
 fn items_are_named_as_the_batch_left_them(rt: HostRuntime) {
     let board = board_of(&rt, rt.alloc(), text(rt.alloc(), "pqr"));
     let commands = [put(1), cut(1), cut(1), cut(1)];
-    let ops = named(&board, &commands).expect(&rt, "the items are there");
+    let ops = operations_of(&board, &commands).expect(&rt, "the items are there");
     let item = Item {
         name: own(1),
         value: 'a',
     };
     let deleted = |name| on_text(SeqOp::Delete { place: 1, name });
-    assert_eq!(rt; ops[0], on_text(SeqOp::Insert { place: 1, item }));
-    assert_eq!(rt; ops[1], deleted(own(1)));
-    assert_eq!(rt; ops[2], deleted(Name { site: 0, number: 2 }));
-    assert_eq!(rt; ops[3], deleted(Name { site: 0, number: 3 }));
+    expect_eq(&rt, ops[0], on_text(SeqOp::Insert { place: 1, item }));
+    expect_eq(&rt, ops[1], deleted(own(1)));
+    expect_eq(&rt, ops[2], deleted(Name { site: 0, number: 2 }));
+    expect_eq(&rt, ops[3], deleted(Name { site: 0, number: 3 }));
 }
 
 #[test]
@@ -146,27 +150,35 @@ fn item_just_inserted_is_relabelled(rt: HostRuntime) {
     let label = Label::read(b"red").expect(&rt, "a label");
     let red = || insert(2, 0, Value::Label(label));
     let commands = [red(), red(), relabel(1, 2, 1, label)];
-    let ops = named(&board, &commands).expect(&rt, "the item is there");
+    let ops = operations_of(&board, &commands).expect(&rt, "the item is there");
     let first = SeqOp::Relabel {
         place: 1,
         name: own(1),
         value: label,
     };
-    assert_eq!(rt; ops[2], on_list(first));
+    expect_eq(&rt, ops[2], on_list(first));
 }
 
 #[test]
 fn only_insertions_take_numbers(rt: HostRuntime) {
     let board = board_of(&rt, rt.alloc(), Seq::new(rt.alloc()));
     let commands = [switch(true), switch(false), put(0)];
-    let ops = named(&board, &commands).expect(&rt, "the widgets are there");
+    let ops = operations_of(&board, &commands).expect(&rt, "the widgets are there");
     let item = Item {
         name: own(1),
         value: 'a',
     };
-    assert_eq!(rt; ops[0], on_widget(3, WidgetOp::Toggle(SetOp::Set(true))));
-    assert_eq!(rt; ops[1], on_widget(3, WidgetOp::Toggle(SetOp::Set(false))));
-    assert_eq!(rt; ops[2], on_text(SeqOp::Insert { place: 0, item }));
+    expect_eq(
+        &rt,
+        ops[0],
+        on_widget(3, WidgetOp::Toggle(SetOp::Set(true))),
+    );
+    expect_eq(
+        &rt,
+        ops[1],
+        on_widget(3, WidgetOp::Toggle(SetOp::Set(false))),
+    );
+    expect_eq(&rt, ops[2], on_text(SeqOp::Insert { place: 0, item }));
 }
 
 #[test]
@@ -181,7 +193,7 @@ fn first_refusal_of_a_batch_is_answered(rt: HostRuntime) {
         (delete(9, 0), cut(0), 2),
         (set(9, 3, Setting::Toggle(true)), cut(0), 1),
     ] {
-        assert_eq!(rt; refusal(&board, &[first, second]), number);
+        expect_eq(&rt, refusal(&board, &[first, second]), number);
     }
 }
 
@@ -190,9 +202,9 @@ fn insertion_into_a_long_text_is_taken_after_a_deletion(rt: HostRuntime) {
     let alloc = rt.alloc();
     let long = long_text(alloc, 65_536).expect(&rt, "there is memory");
     let board = board_of(&rt, alloc, long);
-    assert_eq!(rt; refusal(&board, &[cut(0), put(9)]), 0);
-    assert_eq!(rt; refusal(&board, &[put(9), cut(0)]), 6);
-    assert_eq!(rt; refusal(&board, &[cut(0), put(9), put(9)]), 6);
+    expect_eq(&rt, refusal(&board, &[cut(0), put(9)]), 0);
+    expect_eq(&rt, refusal(&board, &[put(9), cut(0)]), 6);
+    expect_eq(&rt, refusal(&board, &[cut(0), put(9), put(9)]), 6);
 }
 
 #[test]
@@ -202,9 +214,14 @@ fn after_no_operations_a_command_is_named_as_by_itself(rt: HostRuntime) {
         place: 1,
         name: Name { site: 0, number: 2 },
     };
-    assert_eq!(rt; name_after(&board, &cut(1), own(1), &[]), Ok(on_text(gone)));
-    assert_eq!(rt;
+    expect_eq(
+        &rt,
+        name_after(&board, &cut(1), own(1), &[]),
+        Ok(on_text(gone)),
+    );
+    expect_eq(
+        &rt,
         name_after(&board, &cut(2), own(1), &[]),
-        Err(EditFault::BadPlace)
+        Err(EditFault::BadPlace),
     );
 }

@@ -1,4 +1,5 @@
 //! Worked pairs of concurrent operations on a text, and each call once on a list of labels.
+use crate::expect::expect_eq;
 use jup_seq::{ListOp, SeqEdit, SeqOp, Source, TextOp};
 use jup_value::{Item, Label, Name, Seq};
 use jup_xform::{Side, Transform, across};
@@ -70,24 +71,26 @@ pub(crate) fn reads(seq: &Seq<char>, letters: &str) -> bool {
 #[test]
 fn item_is_followed_back_over_an_operation(rt: HostRuntime) {
     let put = insert(1, 1, 'X');
-    assert_eq!(rt; put.source(0), Source::Place(0));
-    assert_eq!(rt;
+    expect_eq(&rt, put.source(0), Source::Place(0));
+    expect_eq(
+        &rt,
         put.source(1),
-        Source::Inserted(Name { site: 1, number: 1 })
+        Source::Inserted(Name { site: 1, number: 1 }),
     );
-    assert_eq!(rt; put.source(2), Source::Place(1));
+    expect_eq(&rt, put.source(2), Source::Place(1));
     let cut = delete(1, 2);
-    assert_eq!(rt; cut.source(0), Source::Place(0));
-    assert_eq!(rt; cut.source(1), Source::Place(2));
+    expect_eq(&rt, cut.source(0), Source::Place(0));
+    expect_eq(&rt, cut.source(1), Source::Place(2));
     let other = relabel(1, 2, 'y');
-    assert_eq!(rt; other.source(1), Source::Place(1));
-    assert_eq!(rt;
+    expect_eq(&rt, other.source(1), Source::Place(1));
+    expect_eq(
+        &rt,
         (
             put.length_after(3),
             cut.length_after(3),
-            other.length_after(3)
+            other.length_after(3),
         ),
-        (4, 2, 3)
+        (4, 2, 3),
     );
 }
 
@@ -112,35 +115,35 @@ fn meet(alloc: Global, start: &str, c: TextOp, s: TextOp, end: &str) -> bool {
 #[test]
 fn of_insertions_at_one_place_the_clients_stands_left(rt: HostRuntime) {
     let (c, s) = (insert(2, 1, 'X'), insert(2, 2, 'Y'));
-    assert_eq!(rt; pair(c, s), (insert(2, 1, 'X'), insert(3, 2, 'Y')));
+    expect_eq(&rt, pair(c, s), (insert(2, 1, 'X'), insert(3, 2, 'Y')));
     assert!(rt; meet(rt.alloc(), "abcd", c, s, "abXYcd"));
 }
 
 #[test]
 fn insertion_moves_down_past_a_deletion_below_it(rt: HostRuntime) {
     let (c, s) = (insert(3, 1, 'X'), delete(1, 2));
-    assert_eq!(rt; pair(c, s), (insert(2, 1, 'X'), delete(1, 2)));
+    expect_eq(&rt, pair(c, s), (insert(2, 1, 'X'), delete(1, 2)));
     assert!(rt; meet(rt.alloc(), "abcd", c, s, "acXd"));
 }
 
 #[test]
 fn deletion_moves_down_past_a_deletion_below_it(rt: HostRuntime) {
     let (c, s) = (delete(3, 4), delete(1, 2));
-    assert_eq!(rt; pair(c, s), (delete(2, 4), delete(1, 2)));
+    expect_eq(&rt, pair(c, s), (delete(2, 4), delete(1, 2)));
     assert!(rt; meet(rt.alloc(), "abcd", c, s, "ac"));
 }
 
 #[test]
 fn deletions_of_one_item_become_no_ops(rt: HostRuntime) {
     let both = delete(1, 2);
-    assert_eq!(rt; pair(both, both), (SeqOp::Nothing, SeqOp::Nothing));
+    expect_eq(&rt, pair(both, both), (SeqOp::Nothing, SeqOp::Nothing));
     assert!(rt; meet(rt.alloc(), "abcd", both, both, "acd"));
 }
 
 #[test]
 fn deletion_moves_up_past_an_insertion_at_its_place(rt: HostRuntime) {
     let (c, s) = (delete(1, 2), insert(1, 2, 'Y'));
-    assert_eq!(rt; pair(c, s), (delete(2, 2), insert(1, 2, 'Y')));
+    expect_eq(&rt, pair(c, s), (delete(2, 2), insert(1, 2, 'Y')));
     assert!(rt; meet(rt.alloc(), "abcd", c, s, "aYcd"));
 }
 
@@ -169,9 +172,9 @@ fn relabel_moves_with_its_item(rt: HostRuntime) {
             "pzr",
         ),
     ] {
-        assert_eq!(rt; pair(own, other), (moved, other));
+        expect_eq(&rt, pair(own, other), (moved, other));
         assert!(rt; meet(rt.alloc(), "pqr", own, other, end));
-        assert_eq!(rt; pair(other, own), (other, moved));
+        expect_eq(&rt, pair(other, own), (other, moved));
         assert!(rt; meet(rt.alloc(), "pqr", other, own, end));
     }
 }
@@ -179,10 +182,10 @@ fn relabel_moves_with_its_item(rt: HostRuntime) {
 #[test]
 fn of_two_relabels_of_one_item_the_clients_stands(rt: HostRuntime) {
     let (c, s) = (relabel(1, 2, 'c'), relabel(1, 2, 's'));
-    assert_eq!(rt; pair(c, s), (c, SeqOp::Nothing));
+    expect_eq(&rt, pair(c, s), (c, SeqOp::Nothing));
     assert!(rt; meet(rt.alloc(), "pqr", c, s, "pcr"));
     let (c, s) = (relabel(0, 1, 'c'), relabel(2, 3, 's'));
-    assert_eq!(rt; pair(c, s), (c, s));
+    expect_eq(&rt, pair(c, s), (c, s));
     assert!(rt; meet(rt.alloc(), "pqr", c, s, "cqs"));
 }
 
@@ -191,9 +194,9 @@ fn insertion_goes_across_a_queue(rt: HostRuntime) {
     let mut op = insert(0, 1, 'a');
     let mut queue = [delete(0, 1), insert(0, 2, 'x')];
     across(&mut op, &mut queue, Side::Server);
-    assert_eq!(rt; op, insert(0, 1, 'a'));
-    assert_eq!(rt; queue[0], delete(1, 1));
-    assert_eq!(rt; queue[1], insert(1, 2, 'x'));
+    expect_eq(&rt, op, insert(0, 1, 'a'));
+    expect_eq(&rt, queue[0], delete(1, 1));
+    expect_eq(&rt, queue[1], insert(1, 2, 'x'));
 }
 
 const FIRST: Name = Name { site: 1, number: 1 };
@@ -251,18 +254,19 @@ fn label_is_given_to_the_item_of_its_name_alone(rt: HostRuntime) {
         name,
         value: green,
     };
-    assert_eq!(rt;
+    expect_eq(
+        &rt,
         relabel.edit(rt.alloc()),
-        Ok(SeqEdit::Relabelled(name, green))
+        Ok(SeqEdit::Relabelled(name, green)),
     );
-    assert_eq!(rt; relabel.copy(rt.alloc()), Ok(relabel));
+    expect_eq(&rt, relabel.copy(rt.alloc()), Ok(relabel));
     assert!(rt; relabel.apart(&put) && put.apart(&relabel) && put.fresh_after(&relabel));
 
     let mut list = Seq::new(rt.alloc());
     assert!(rt; !attempt(rt.alloc(), &relabel, &mut list));
     assert!(rt; attempt(rt.alloc(), &put, &mut list));
     assert!(rt; attempt(rt.alloc(), &relabel, &mut list));
-    assert_eq!(rt; list.get(0), Some(&Item { name, value: green }));
+    expect_eq(&rt, list.get(0), Some(&Item { name, value: green }));
     let other: ListOp = SeqOp::Relabel {
         place: 0,
         name: Name { site: 1, number: 2 },

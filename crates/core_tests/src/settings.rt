@@ -1,4 +1,5 @@
 //! Which values a slider takes, two settings at once, a setting past a queue, and each call once.
+use crate::expect::expect_eq;
 use jup_setting::{BadBounds, SetOp, SettingEdit, Slider, Toggle};
 use jup_xform::{Side, Transform, across, meet};
 
@@ -18,9 +19,9 @@ fn parts(lo: i32, hi: i32, value: i32) -> Result<[i32; 3], BadBounds> {
 
 #[test]
 fn a_slider_holds_the_values_within_its_bounds(rt: HostRuntime) {
-    assert_eq!(rt; parts(0, 10, 5), Ok([0, 10, 5]));
-    assert_eq!(rt; parts(i32::MIN, i32::MIN, i32::MIN), Ok([i32::MIN; 3]));
-    assert_eq!(rt; BadBounds.number(), 13);
+    expect_eq(&rt, parts(0, 10, 5), Ok([0, 10, 5]));
+    expect_eq(&rt, parts(i32::MIN, i32::MIN, i32::MIN), Ok([i32::MIN; 3]));
+    expect_eq(&rt, BadBounds.number(), 13);
 }
 
 #[test]
@@ -56,11 +57,11 @@ fn a_setting_beside_none_stands_at_both_ends(rt: HostRuntime) {
     let mut client = Slider::new(0, 10, 5).expect(&rt, "5 is from 0 to 10");
     let mut server = client;
     meet(&mut client, &mut server, SetOp::Nothing, SetOp::Set(3));
-    assert_eq!(rt; [client.value(), server.value()], [3, 3]);
+    expect_eq(&rt, [client.value(), server.value()], [3, 3]);
 }
 
 // What a setting and a queue become as they pass.
-fn passed(
+fn both_past(
     mut op: SetOp<bool>,
     mut queue: [SetOp<bool>; 3],
     side: Side,
@@ -80,7 +81,7 @@ fn a_setting_passes_a_queue(rt: HostRuntime) {
             [NOTHING, NOTHING, OFF],
         ),
     ] {
-        let (moved, past) = passed(ON, queue, side);
+        let (moved, past) = both_past(ON, queue, side);
         assert!(rt; moved == op && past == after);
     }
 }

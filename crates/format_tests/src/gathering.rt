@@ -1,4 +1,5 @@
 //! Messages as lines written by hand, and lines gathered into messages, however their bytes are cut.
+use crate::expect::expect_eq;
 use crate::lines::name;
 use jup_batch::BoardBatch;
 use jup_gather::{Gather, Gathered, lines_of_op};
@@ -43,7 +44,7 @@ pub(crate) fn message(rt: &impl Abort, alloc: Global, count: u32) -> Msg<BoardBa
 }
 
 // What a gathering gives for a line.
-pub(crate) fn pushed(rt: &impl Abort, alloc: Global, gather: &mut Gather, line: &Line) -> Gathered {
+pub(crate) fn push(rt: &impl Abort, alloc: Global, gather: &mut Gather, line: &Line) -> Gathered {
     gather.push(alloc, line).expect(rt, "memory")
 }
 
@@ -72,9 +73,10 @@ fn bytes_of(rt: &impl Abort, alloc: Global, msg: &Msg<BoardBatch>) -> Vec<u8> {
 #[test]
 fn message_as_bytes(rt: HostRuntime) {
     let msg = message(&rt, rt.alloc(), 2);
-    assert_eq!(rt;
+    expect_eq(
+        &rt,
         bytes_of(&rt, rt.alloc(), &msg).as_slice(),
-        b"batch 5 7 2\ndo 1 1 text ins 0 1.1 97\ndo 1 1 text ins 0 1.2 97\n".as_slice()
+        b"batch 5 7 2\ndo 1 1 text ins 0 1.1 97\ndo 1 1 text ins 0 1.2 97\n".as_slice(),
     );
 }
 
@@ -98,7 +100,7 @@ fn comes_in_pieces(
     for piece in bytes.chunks(size.max(1)) {
         let fed = reader.feed(alloc, piece).expect(rt, "memory");
         for line in fed.lines.as_slice() {
-            let gathered = pushed(rt, alloc, &mut gather, line);
+            let gathered = push(rt, alloc, &mut gather, line);
             assert!(rt; !came);
             if gathered == Gathered::Held {
                 held = held.saturating_add(1);
@@ -109,7 +111,7 @@ fn comes_in_pieces(
             }
         }
     }
-    assert_eq!(rt; held, msg.op.as_slice().len());
+    expect_eq(rt, held, msg.op.as_slice().len());
     assert!(rt; came && !gather.part());
 }
 
@@ -126,9 +128,10 @@ fn message_of_32_operations_comes_over_any_cut(rt: HostRuntime) {
 fn message_of_one_operation_comes_whole(rt: HostRuntime) {
     let msg = message(&rt, rt.alloc(), 1);
     let bytes = bytes_of(&rt, rt.alloc(), &msg);
-    assert_eq!(rt;
+    expect_eq(
+        &rt,
         bytes.as_slice(),
-        b"batch 5 7 1\ndo 1 1 text ins 0 1.1 97\n".as_slice()
+        b"batch 5 7 1\ndo 1 1 text ins 0 1.1 97\n".as_slice(),
     );
     comes_in_pieces(&rt, rt.alloc(), bytes.as_slice(), bytes.len(), &msg);
 }
@@ -138,9 +141,10 @@ fn other_lines_stand_alone(rt: HostRuntime) {
     let alloc = rt.alloc();
     let mut gather = Gather::new();
     for line in [Line::Hello, Line::Ack(64), Line::Ping(7), Line::Bye] {
-        assert_eq!(rt;
-            pushed(&rt, alloc, &mut gather, &line),
-            Gathered::Plain(line)
+        expect_eq(
+            &rt,
+            push(&rt, alloc, &mut gather, &line),
+            Gathered::Plain(line),
         );
         assert!(rt; !gather.part());
     }
@@ -149,7 +153,7 @@ fn other_lines_stand_alone(rt: HostRuntime) {
 // After these lines every line is misplaced, whichever comes.
 fn is_stopped(rt: &impl Abort, alloc: Global, gather: &mut Gather) {
     for line in [Line::Ping(7), TWO, Line::Do(TOGGLED), Line::Bye] {
-        assert_eq!(rt; pushed(rt, alloc, gather, &line), Gathered::Misplaced);
+        expect_eq(rt, push(rt, alloc, gather, &line), Gathered::Misplaced);
         assert!(rt; !gather.part());
     }
 }
@@ -158,15 +162,17 @@ fn is_stopped(rt: &impl Abort, alloc: Global, gather: &mut Gather) {
 fn line_among_operations_is_misplaced_for_ever(rt: HostRuntime) {
     let alloc = rt.alloc();
     let mut gather = Gather::new();
-    assert_eq!(rt; pushed(&rt, alloc, &mut gather, &TWO), Gathered::Held);
-    assert_eq!(rt;
-        pushed(&rt, alloc, &mut gather, &Line::Do(TOGGLED)),
-        Gathered::Held
+    expect_eq(&rt, push(&rt, alloc, &mut gather, &TWO), Gathered::Held);
+    expect_eq(
+        &rt,
+        push(&rt, alloc, &mut gather, &Line::Do(TOGGLED)),
+        Gathered::Held,
     );
     assert!(rt; gather.part());
-    assert_eq!(rt;
-        pushed(&rt, alloc, &mut gather, &Line::Ping(1)),
-        Gathered::Misplaced
+    expect_eq(
+        &rt,
+        push(&rt, alloc, &mut gather, &Line::Ping(1)),
+        Gathered::Misplaced,
     );
     is_stopped(&rt, alloc, &mut gather);
 }
@@ -175,9 +181,10 @@ fn line_among_operations_is_misplaced_for_ever(rt: HostRuntime) {
 fn operation_without_its_batch_line_is_misplaced_for_ever(rt: HostRuntime) {
     let alloc = rt.alloc();
     let mut gather = Gather::new();
-    assert_eq!(rt;
-        pushed(&rt, alloc, &mut gather, &Line::Do(TOGGLED)),
-        Gathered::Misplaced
+    expect_eq(
+        &rt,
+        push(&rt, alloc, &mut gather, &Line::Do(TOGGLED)),
+        Gathered::Misplaced,
     );
     is_stopped(&rt, alloc, &mut gather);
 }
@@ -192,7 +199,11 @@ fn batch_of_no_message_is_misplaced(rt: HostRuntime) {
             heard: 0,
             count,
         };
-        assert_eq!(rt; pushed(&rt, alloc, &mut gather, &line), Gathered::Misplaced);
+        expect_eq(
+            &rt,
+            push(&rt, alloc, &mut gather, &line),
+            Gathered::Misplaced,
+        );
         is_stopped(&rt, alloc, &mut gather);
     }
 }

@@ -1,6 +1,7 @@
 //! Growths of lines, layouts, messages and printed texts that are refused, each test for the call of its name. `./growths` refuses one after another of
 //! those between the two marks: a call that lacks memory leaves all as it was, and made again it gives its answer.
-use crate::gathering::{TOGGLED, TWO, message, pushed};
+use crate::expect::expect_eq;
+use crate::gathering::{TOGGLED, TWO, message, push};
 use crate::layouts::FOUR_WIDGETS;
 use jup_gather::{Gather, Gathered, lines_of_op};
 use jup_layout::{LayoutFault, board_of, layout, lines_of};
@@ -27,13 +28,13 @@ fn line_write(rt: HostRuntime) {
         let mut wrote = append(rt.alloc(), &Line::Ready, &mut written);
         end(rt.alloc());
         if wrote.is_err() {
-            assert_eq!(rt; written.len(), before);
+            expect_eq(&rt, written.len(), before);
             wrote = append(rt.alloc(), &Line::Ready, &mut written);
         }
-        assert_eq!(rt; wrote, Ok(()));
+        expect_eq(&rt, wrote, Ok(()));
     }
     let wanted = "ready\n".repeat(rt.alloc(), 20).expect(&rt, "memory");
-    assert_eq!(rt; written.as_slice(), wanted.as_bytes());
+    expect_eq(&rt, written.as_slice(), wanted.as_bytes());
 }
 
 // The reader was given a line and a half, and is given the other half and a line.
@@ -41,18 +42,18 @@ fn line_write(rt: HostRuntime) {
 fn reader_feed(rt: HostRuntime) {
     let mut reader = Reader::new();
     let first = reader.feed(rt.alloc(), b"bye\npi").expect(&rt, "memory");
-    assert_eq!(rt; first.lines.as_slice(), [Line::Bye].as_slice());
+    expect_eq(&rt, first.lines.as_slice(), [Line::Bye].as_slice());
     begin(rt.alloc());
     let mut fed = reader.feed(rt.alloc(), b"ng 1\nready\n");
     end(rt.alloc());
     if fed.is_err() {
-        assert_eq!(rt; reader.finish(), Err(WireFault::EarlyEnd));
+        expect_eq(&rt, reader.finish(), Err(WireFault::EarlyEnd));
         fed = reader.feed(rt.alloc(), b"ng 1\nready\n");
     }
     let fed = fed.expect(&rt, "memory");
     let lines = [Line::Ping(1), Line::Ready];
-    assert_eq!(rt; fed.lines.as_slice(), lines.as_slice());
-    assert_eq!(rt; (fed.fault, reader.finish()), (None, Ok(())));
+    expect_eq(&rt, fed.lines.as_slice(), lines.as_slice());
+    expect_eq(&rt, (fed.fault, reader.finish()), (None, Ok(())));
 }
 
 // The board of a layout, or made again where memory was refused.
@@ -67,7 +68,7 @@ fn laid(rt: &impl Abort, alloc: Global) -> Board {
 }
 
 // The lines of a board, as bytes.
-fn spelled(rt: &impl Abort, alloc: Global, lines: &[Line]) -> Vec<u8> {
+fn spell(rt: &impl Abort, alloc: Global, lines: &[Line]) -> Vec<u8> {
     let mut written = Vec::new(alloc);
     for line in lines {
         append(alloc, line, &mut written).expect(rt, "memory");
@@ -79,8 +80,8 @@ fn spelled(rt: &impl Abort, alloc: Global, lines: &[Line]) -> Vec<u8> {
 fn layout_text(rt: HostRuntime) {
     let board = laid(&rt, rt.alloc());
     let lines = lines_of(rt.alloc(), &board).expect(&rt, "memory");
-    let written = spelled(&rt, rt.alloc(), lines.as_slice());
-    assert_eq!(rt; written.as_slice(), FOUR_WIDGETS);
+    let written = spell(&rt, rt.alloc(), lines.as_slice());
+    expect_eq(&rt, written.as_slice(), FOUR_WIDGETS);
 }
 
 // A board of four widgets.
@@ -98,8 +99,8 @@ fn board_lines_of(rt: HostRuntime) {
         lines = lines_of(rt.alloc(), &board);
     }
     let lines = lines.expect(&rt, "memory");
-    let written = spelled(&rt, rt.alloc(), lines.as_slice());
-    assert_eq!(rt; written.as_slice(), FOUR_WIDGETS);
+    let written = spell(&rt, rt.alloc(), lines.as_slice());
+    expect_eq(&rt, written.as_slice(), FOUR_WIDGETS);
 }
 
 #[test]
@@ -125,9 +126,9 @@ fn gather_push(rt: HostRuntime) {
         assert!(rt; !gather.part());
         gathered = gather.push(rt.alloc(), &TWO);
     }
-    assert_eq!(rt; gathered, Ok(Gathered::Held));
-    let next = pushed(&rt, rt.alloc(), &mut gather, &Line::Do(TOGGLED));
-    assert_eq!(rt; next, Gathered::Held);
+    expect_eq(&rt, gathered, Ok(Gathered::Held));
+    let next = push(&rt, rt.alloc(), &mut gather, &Line::Do(TOGGLED));
+    expect_eq(&rt, next, Gathered::Held);
     assert!(rt; gather.part());
 }
 
@@ -141,10 +142,11 @@ fn message_lines_of_op(rt: HostRuntime) {
         lines = lines_of_op(rt.alloc(), &msg);
     }
     let lines = lines.expect(&rt, "memory");
-    let written = spelled(&rt, rt.alloc(), lines.as_slice());
-    assert_eq!(rt;
+    let written = spell(&rt, rt.alloc(), lines.as_slice());
+    expect_eq(
+        &rt,
         written.as_slice(),
-        b"batch 5 7 2\ndo 1 1 text ins 0 1.1 97\ndo 1 1 text ins 0 1.2 97\n".as_slice()
+        b"batch 5 7 2\ndo 1 1 text ins 0 1.1 97\ndo 1 1 text ins 0 1.2 97\n".as_slice(),
     );
 }
 
@@ -159,12 +161,12 @@ fn text_write_board(rt: HostRuntime) {
     let mut wrote = write_board(rt.alloc(), &board, &mut text);
     end(rt.alloc());
     if wrote.is_err() {
-        assert_eq!(rt; text.as_slice(), b">".as_slice());
+        expect_eq(&rt, text.as_slice(), b">".as_slice());
         wrote = write_board(rt.alloc(), &board, &mut text);
     }
-    assert_eq!(rt; wrote, Ok(()));
-    assert_eq!(rt; text[..1], b">"[..]);
-    assert_eq!(rt; text[1..], PRINTED.as_bytes()[..]);
+    expect_eq(&rt, wrote, Ok(()));
+    expect_eq(&rt, &text[..1], &b">"[..]);
+    expect_eq(&rt, &text[1..], PRINTED.as_bytes());
 }
 
 #[test]
@@ -187,12 +189,12 @@ fn text_write_edit(rt: HostRuntime) {
     let mut wrote = write_edit(rt.alloc(), &edits, &mut text);
     end(rt.alloc());
     if wrote.is_err() {
-        assert_eq!(rt; text.as_slice(), b">".as_slice());
+        expect_eq(&rt, text.as_slice(), b">".as_slice());
         wrote = write_edit(rt.alloc(), &edits, &mut text);
     }
-    assert_eq!(rt; wrote, Ok(()));
+    expect_eq(&rt, wrote, Ok(()));
     let wanted = b">ins 1 1 1.7 \"a\"; del 1 1 1.7";
-    assert_eq!(rt; text.as_slice(), wanted.as_slice());
+    expect_eq(&rt, text.as_slice(), wanted.as_slice());
 }
 
 #[test]
@@ -204,7 +206,11 @@ fn text_read_quoted(rt: HostRuntime) {
         chars = read_quoted(rt.alloc(), "\"abcdef\"");
     }
     let chars = chars.expect(&rt, "memory").expect(&rt, "a text");
-    assert_eq!(rt; chars.as_slice(), ['a', 'b', 'c', 'd', 'e', 'f'].as_slice());
+    expect_eq(
+        &rt,
+        chars.as_slice(),
+        ['a', 'b', 'c', 'd', 'e', 'f'].as_slice(),
+    );
 }
 
 // Has the reader take a line, at the second time if the first lacked memory.

@@ -1,4 +1,5 @@
 //! Layouts written by hand, their refusals with their lines, and boards taken back from their lines.
+use crate::expect::expect_eq;
 use jup_layout::{LayoutFault, board_of, layout, lines_of};
 use jup_value::Name;
 use jup_window::Board;
@@ -21,7 +22,7 @@ fn fault(line: u32, number: u32) -> LayoutFault {
 
 // The layout is refused so.
 fn check_fault(rt: &impl Abort, made: Result<Board, LayoutFault>, line: u32, number: u32) {
-    assert_eq!(rt; made.err(), Some(fault(line, number)));
+    expect_eq(rt, made.err(), Some(fault(line, number)));
 }
 
 // The bytes of a board's lines, which make that board again.
@@ -40,8 +41,8 @@ fn written(rt: &impl Abort, alloc: Global, board: &Board) -> Vec<u8> {
 fn layout_is_taken_and_written_back(rt: HostRuntime) {
     let alloc = rt.alloc();
     let board = layout(alloc, FOUR_WIDGETS).expect(&rt, "a layout");
-    assert_eq!(rt; written(&rt, alloc, &board).as_slice(), FOUR_WIDGETS);
-    assert_eq!(rt; board.windows().len(), 1);
+    expect_eq(&rt, written(&rt, alloc, &board).as_slice(), FOUR_WIDGETS);
+    expect_eq(&rt, board.windows().len(), 1);
 }
 
 #[test]
@@ -49,9 +50,10 @@ fn ids_come_in_any_order(rt: HostRuntime) {
     let alloc = rt.alloc();
     let board = layout(alloc, b"window 2\nwindow 1\ntoggle 7 on\ntext 3\n");
     let board = board.expect(&rt, "a layout");
-    assert_eq!(rt;
+    expect_eq(
+        &rt,
         written(&rt, alloc, &board).as_slice(),
-        b"window 1\ntext 3\ntoggle 7 on\nwindow 2\n".as_slice()
+        b"window 1\ntext 3\ntoggle 7 on\nwindow 2\n".as_slice(),
     );
 }
 
@@ -91,9 +93,10 @@ fn window_line_does_not_end_a_list(rt: HostRuntime) {
         b"window 2\nlist 1\nitem 0.1 red\nwindow 1\nitem 0.2 blue\ntoggle 3 on\n",
     );
     let board = board.expect(&rt, "a layout");
-    assert_eq!(rt;
+    expect_eq(
+        &rt,
         written(&rt, alloc, &board).as_slice(),
-        b"window 1\ntoggle 3 on\nwindow 2\nlist 1\nitem 0.1 red\nitem 0.2 blue\n".as_slice()
+        b"window 1\ntoggle 3 on\nwindow 2\nlist 1\nitem 0.1 red\nitem 0.2 blue\n".as_slice(),
     );
 }
 

@@ -1,4 +1,5 @@
 //! Each kind of line as bytes written by hand, and the faults, whole and byte by byte.
+use crate::expect::expect_eq;
 use jup_seq::SeqOp;
 use jup_setting::SetOp;
 use jup_value::{Item, Label, Name};
@@ -28,7 +29,7 @@ fn operation(win: u16, wid: u16, op: WidgetOp) -> Line {
 }
 
 // What a reader gives for a piece.
-fn fed(rt: &impl Abort, alloc: Global, reader: &mut Reader, piece: &[u8]) -> Fed {
+fn feed(rt: &impl Abort, alloc: Global, reader: &mut Reader, piece: &[u8]) -> Fed {
     reader.feed(alloc, piece).expect(rt, "memory")
 }
 
@@ -41,10 +42,10 @@ fn is_line(fed: &Fed, line: &Line) -> bool {
 fn is_written(rt: &impl Abort, alloc: Global, line: &Line, text: &[u8]) {
     let mut written = Vec::new(alloc);
     write(alloc, line, &mut written).expect(rt, "memory");
-    assert_eq!(rt; written.as_slice(), text);
+    expect_eq(rt, written.as_slice(), text);
     let mut reserved = Vec::with_capacity(alloc, LONGEST).expect(rt, "memory");
     write_reserved(line, &mut reserved);
-    assert_eq!(rt; reserved.as_slice(), text);
+    expect_eq(rt, reserved.as_slice(), text);
 }
 
 // The line has no spelling: nothing is written for it, with all room that there may be.
@@ -52,8 +53,8 @@ fn is_not_written(rt: &impl Abort, alloc: Global, line: &Line) {
     assert!(rt; !has_spelling(line));
     let mut written = Vec::new(alloc);
     write(alloc, &Line::Bye, &mut written).expect(rt, "memory");
-    assert_eq!(rt; write(alloc, line, &mut written), Ok(()));
-    assert_eq!(rt; written.as_slice(), b"bye\n".as_slice());
+    expect_eq(rt, write(alloc, line, &mut written), Ok(()));
+    expect_eq(rt, written.as_slice(), b"bye\n".as_slice());
     let mut reserved = Vec::with_capacity(alloc, LONGEST).expect(rt, "memory");
     write_reserved(line, &mut reserved);
     assert!(rt; reserved.is_empty());
@@ -62,7 +63,7 @@ fn is_not_written(rt: &impl Abort, alloc: Global, line: &Line) {
 // The bytes before their line feed, which is the last, are the line by themselves.
 fn is_read_by_itself(rt: &impl Abort, line: &Line, text: &[u8]) {
     let (_, before) = text.split_last().expect(rt, "a line feed");
-    assert_eq!(rt; feed_of(text), Some(before.len()));
+    expect_eq(rt, feed_of(text), Some(before.len()));
     assert!(rt; read_line(before).expect(rt, "a line") == *line);
 }
 
@@ -79,13 +80,13 @@ fn fault_of(text: &[u8]) -> Option<WireFault> {
 // These bytes are read as the line, byte by byte.
 fn is_read_in_bytes(rt: &impl Abort, alloc: Global, line: &Line, text: &[u8]) {
     let mut cut = Reader::new();
-    let (feed, before) = text.split_last().expect(rt, "a line feed");
+    let (line_feed, before) = text.split_last().expect(rt, "a line feed");
     for byte in before {
-        let none = fed(rt, alloc, &mut cut, &[*byte]);
+        let none = feed(rt, alloc, &mut cut, &[*byte]);
         assert!(rt; none.lines.as_slice().is_empty());
-        assert_eq!(rt; cut.finish(), Err(WireFault::EarlyEnd));
+        expect_eq(rt, cut.finish(), Err(WireFault::EarlyEnd));
     }
-    let last = fed(rt, alloc, &mut cut, &[*feed]);
+    let last = feed(rt, alloc, &mut cut, &[*line_feed]);
     assert!(rt; is_line(&last, line));
 }
 
@@ -94,9 +95,9 @@ fn check_line(rt: &impl Abort, alloc: Global, line: &Line, text: &[u8]) {
     assert!(rt; has_spelling(line));
     is_written(rt, alloc, line, text);
     let mut whole = Reader::new();
-    let all = fed(rt, alloc, &mut whole, text);
+    let all = feed(rt, alloc, &mut whole, text);
     assert!(rt; is_line(&all, line));
-    assert_eq!(rt; whole.finish(), Ok(()));
+    expect_eq(rt, whole.finish(), Ok(()));
     is_read_in_bytes(rt, alloc, line, text);
     is_read_by_itself(rt, line, text);
 }
@@ -156,7 +157,7 @@ fn batches_as_bytes(rt: HostRuntime) {
     const LARGEST: u32 = 4_294_967_295;
     check_line(&rt, rt.alloc(), &batch(0, 0, 1), b"batch 0 0 1\n");
     let longest = b"batch 4294967295 4294967295 32\n";
-    assert_eq!(rt; longest.len(), 31);
+    expect_eq(&rt, longest.len(), 31);
     check_line(&rt, rt.alloc(), &batch(LARGEST, LARGEST, 32), longest);
     is_not_written(&rt, rt.alloc(), &batch(0, 0, 0));
     is_not_written(&rt, rt.alloc(), &batch(0, 0, 33));
@@ -220,13 +221,15 @@ fn relabels_as_bytes(rt: HostRuntime) {
     });
     let text = b"do 1 2 list rel 4294967295 65535.2 red ink\n";
     check_line(&rt, rt.alloc(), &operation(1, 2, relabel), text);
-    assert_eq!(rt;
+    expect_eq(
+        &rt,
         fault_of(b"do 1 2 list rel 0 0.1"),
-        Some(WireFault::BadLine)
+        Some(WireFault::BadLine),
     );
-    assert_eq!(rt;
+    expect_eq(
+        &rt,
         fault_of(b"do 1 2 list rel 0.1 tea"),
-        Some(WireFault::BadLine)
+        Some(WireFault::BadLine),
     );
 }
 
@@ -239,12 +242,13 @@ fn relabel_of_a_text_is_no_line(rt: HostRuntime) {
     });
     is_not_written(&rt, rt.alloc(), &operation(1, 1, relabel));
     let text = b"do 1 1 text rel 0 0.1 97\n";
-    let refused = fed(&rt, rt.alloc(), &mut Reader::new(), text);
-    assert_eq!(rt; refused.fault, Some(WireFault::BadLine));
+    let refused = feed(&rt, rt.alloc(), &mut Reader::new(), text);
+    expect_eq(&rt, refused.fault, Some(WireFault::BadLine));
     assert!(rt; refused.lines.as_slice().is_empty());
-    assert_eq!(rt;
+    expect_eq(
+        &rt,
         fault_of(b"do 1 1 text rel 0 0.1 97"),
-        Some(WireFault::BadLine)
+        Some(WireFault::BadLine),
     );
 }
 
@@ -289,7 +293,7 @@ fn longest_line_has_106_bytes(rt: HostRuntime) {
     });
     let text =
         b"do 65535 65535 list ins 4294967295 4294967295.4294967295 xxxxxxxxxxxxxxxxxxxxxxxxxxxxxxxxxxxxxxxxxxxxxxxx\n";
-    assert_eq!(rt; text.len(), LONGEST);
+    expect_eq(&rt, text.len(), LONGEST);
     assert!(rt; LONGEST <= MOST);
     check_line(&rt, rt.alloc(), &operation(65_535, 65_535, insert), text);
 }
@@ -321,83 +325,84 @@ fn bytes_outside_the_grammar_are_refused(rt: HostRuntime) {
         b"toggle 1 yes\n".as_slice(),
         b"ready\r\n".as_slice(),
     ] {
-        let refused = fed(&rt, rt.alloc(), &mut Reader::new(), text);
-        assert_eq!(rt; refused.fault, Some(WireFault::BadLine));
+        let refused = feed(&rt, rt.alloc(), &mut Reader::new(), text);
+        expect_eq(&rt, refused.fault, Some(WireFault::BadLine));
         assert!(rt; refused.lines.as_slice().is_empty());
     }
     for text in [b"hello 1\n", b"hello 2\n"] {
-        let other = fed(&rt, rt.alloc(), &mut Reader::new(), text);
-        assert_eq!(rt; other.fault, Some(WireFault::BadVersion));
+        let other = feed(&rt, rt.alloc(), &mut Reader::new(), text);
+        expect_eq(&rt, other.fault, Some(WireFault::BadVersion));
     }
 }
 
 #[test]
 fn long_line_is_told_with_its_256th_byte(rt: HostRuntime) {
     let mut reader = Reader::new();
-    let most = fed(&rt, rt.alloc(), &mut reader, &[b'x'; 255]);
-    assert_eq!(rt; most.fault, None);
-    assert_eq!(rt; reader.finish(), Err(WireFault::EarlyEnd));
-    let last = fed(&rt, rt.alloc(), &mut reader, b"x");
-    assert_eq!(rt; last.fault, Some(WireFault::LongLine));
+    let most = feed(&rt, rt.alloc(), &mut reader, &[b'x'; 255]);
+    expect_eq(&rt, most.fault, None);
+    expect_eq(&rt, reader.finish(), Err(WireFault::EarlyEnd));
+    let last = feed(&rt, rt.alloc(), &mut reader, b"x");
+    expect_eq(&rt, last.fault, Some(WireFault::LongLine));
 
     let mut ended = Reader::new();
-    fed(&rt, rt.alloc(), &mut ended, &[b'x'; 255]);
-    let line = fed(&rt, rt.alloc(), &mut ended, b"\n");
-    assert_eq!(rt; line.fault, Some(WireFault::BadLine));
+    feed(&rt, rt.alloc(), &mut ended, &[b'x'; 255]);
+    let line = feed(&rt, rt.alloc(), &mut ended, b"\n");
+    expect_eq(&rt, line.fault, Some(WireFault::BadLine));
 }
 
 #[test]
 fn lines_before_a_fault_are_given_and_none_after(rt: HostRuntime) {
     let mut reader = Reader::new();
-    let first = fed(&rt, rt.alloc(), &mut reader, b"ping 7\npi");
-    assert_eq!(rt; first.lines.as_slice().len(), 1);
-    assert_eq!(rt; reader.finish(), Err(WireFault::EarlyEnd));
-    let second = fed(&rt, rt.alloc(), &mut reader, b"ng 8\nhello 1\nping 9\n");
-    assert_eq!(rt; second.lines.as_slice().len(), 1);
-    assert_eq!(rt; second.lines.as_slice()[0], Line::Ping(8));
-    assert_eq!(rt; second.fault, Some(WireFault::BadVersion));
-    let third = fed(&rt, rt.alloc(), &mut reader, b"ping 10\n");
+    let first = feed(&rt, rt.alloc(), &mut reader, b"ping 7\npi");
+    expect_eq(&rt, first.lines.as_slice().len(), 1);
+    expect_eq(&rt, reader.finish(), Err(WireFault::EarlyEnd));
+    let second = feed(&rt, rt.alloc(), &mut reader, b"ng 8\nhello 1\nping 9\n");
+    expect_eq(&rt, second.lines.as_slice(), [Line::Ping(8)].as_slice());
+    expect_eq(&rt, second.fault, Some(WireFault::BadVersion));
+    let third = feed(&rt, rt.alloc(), &mut reader, b"ping 10\n");
     assert!(rt; third.lines.as_slice().is_empty());
-    assert_eq!(rt; third.fault, Some(WireFault::BadVersion));
-    assert_eq!(rt; reader.finish(), Err(WireFault::BadVersion));
+    expect_eq(&rt, third.fault, Some(WireFault::BadVersion));
+    expect_eq(&rt, reader.finish(), Err(WireFault::BadVersion));
 }
 
 #[test]
 fn a_piece_ends_a_part_and_begins_another(rt: HostRuntime) {
     let mut reader = Reader::new();
-    let part = fed(&rt, rt.alloc(), &mut reader, b"pi");
+    let part = feed(&rt, rt.alloc(), &mut reader, b"pi");
     assert!(rt; part.lines.as_slice().is_empty());
-    let middle = fed(&rt, rt.alloc(), &mut reader, b"ng 7\nbye\npon");
-    assert_eq!(rt; middle.lines.as_slice().len(), 2);
-    assert_eq!(rt; middle.lines.as_slice()[0], Line::Ping(7));
-    assert_eq!(rt; middle.lines.as_slice()[1], Line::Bye);
-    assert_eq!(rt; reader.finish(), Err(WireFault::EarlyEnd));
-    let last = fed(&rt, rt.alloc(), &mut reader, b"g 8\n");
+    let middle = feed(&rt, rt.alloc(), &mut reader, b"ng 7\nbye\npon");
+    expect_eq(
+        &rt,
+        middle.lines.as_slice(),
+        [Line::Ping(7), Line::Bye].as_slice(),
+    );
+    expect_eq(&rt, reader.finish(), Err(WireFault::EarlyEnd));
+    let last = feed(&rt, rt.alloc(), &mut reader, b"g 8\n");
     assert!(rt; is_line(&last, &Line::Pong(8)));
-    assert_eq!(rt; reader.finish(), Ok(()));
+    expect_eq(&rt, reader.finish(), Ok(()));
 }
 
 #[test]
 fn text_of_256_bytes_is_long_with_its_line_feed_too(rt: HostRuntime) {
     let mut text = [b'x'; 257];
     text[256] = b'\n';
-    let long = fed(&rt, rt.alloc(), &mut Reader::new(), &text);
-    assert_eq!(rt; long.fault, Some(WireFault::LongLine));
-    let short = fed(&rt, rt.alloc(), &mut Reader::new(), &text[1..]);
-    assert_eq!(rt; short.fault, Some(WireFault::BadLine));
+    let long = feed(&rt, rt.alloc(), &mut Reader::new(), &text);
+    expect_eq(&rt, long.fault, Some(WireFault::LongLine));
+    let short = feed(&rt, rt.alloc(), &mut Reader::new(), &text[1..]);
+    expect_eq(&rt, short.fault, Some(WireFault::BadLine));
     let mut held = Reader::new();
-    fed(&rt, rt.alloc(), &mut held, b"x");
-    let both = fed(&rt, rt.alloc(), &mut held, &text[1..]);
-    assert_eq!(rt; both.fault, Some(WireFault::LongLine));
+    feed(&rt, rt.alloc(), &mut held, b"x");
+    let both = feed(&rt, rt.alloc(), &mut held, &text[1..]);
+    expect_eq(&rt, both.fault, Some(WireFault::LongLine));
 }
 
 #[test]
 fn texts_that_are_no_line_by_themselves(rt: HostRuntime) {
-    assert_eq!(rt; fault_of(b"ping 07"), Some(WireFault::BadLine));
-    assert_eq!(rt; fault_of(b"hello 1"), Some(WireFault::BadVersion));
-    assert_eq!(rt; fault_of(b"ping 7\n"), Some(WireFault::BadLine));
-    assert_eq!(rt; feed_of(b"ping 7\nbye\n"), Some(6));
-    assert_eq!(rt; feed_of(b"ping 7"), None);
+    expect_eq(&rt, fault_of(b"ping 07"), Some(WireFault::BadLine));
+    expect_eq(&rt, fault_of(b"hello 1"), Some(WireFault::BadVersion));
+    expect_eq(&rt, fault_of(b"ping 7\n"), Some(WireFault::BadLine));
+    expect_eq(&rt, feed_of(b"ping 7\nbye\n"), Some(6));
+    expect_eq(&rt, feed_of(b"ping 7"), None);
 }
 
 #[test]
@@ -408,6 +413,6 @@ fn faults_have_their_numbers(rt: HostRuntime) {
         (WireFault::BadVersion, 42),
         (WireFault::EarlyEnd, 43),
     ] {
-        assert_eq!(&rt; fault.number(), number);
+        expect_eq(&rt, fault.number(), number);
     }
 }

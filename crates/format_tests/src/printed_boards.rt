@@ -1,5 +1,6 @@
 //! Boards that are read line by line.
 
+use crate::expect::expect_eq;
 use jup_text::{BoardReader, Untaken};
 use jup_value::Name;
 use jup_window::{Board, Widget};
@@ -27,12 +28,13 @@ fn take(reader: &mut BoardReader, alloc: Global, line: &str) -> Result<(), Untak
 fn a_line_that_is_refused_numbers_no_items(rt: HostRuntime) {
     let alloc = rt.alloc();
     let mut reader = BoardReader::new(alloc);
-    assert_eq!(rt;
+    expect_eq(
+        &rt,
         take(&mut reader, alloc, "text 1 \"a\""),
-        Err(Untaken::BadLine)
+        Err(Untaken::BadLine),
     );
     for line in ["window 1", "text 1 \"ab\""] {
-        assert_eq!(rt; take(&mut reader, alloc, line), Ok(()));
+        expect_eq(&rt, take(&mut reader, alloc, line), Ok(()));
     }
     for line in [
         "text 1 \"xyz\"",
@@ -46,18 +48,18 @@ fn a_line_that_is_refused_numbers_no_items(rt: HostRuntime) {
             "{line}"
         );
     }
-    assert_eq!(rt; take(&mut reader, alloc, "text 2 \"c\""), Ok(()));
+    expect_eq(&rt, take(&mut reader, alloc, "text 2 \"c\""), Ok(()));
     let board = reader.whole();
     let name = |number: u32| Some(Name { site: 0, number });
-    assert_eq!(rt; first_name(&board, 1), name(1));
-    assert_eq!(rt; first_name(&board, 2), name(3));
+    expect_eq(&rt, first_name(&board, 1), name(1));
+    expect_eq(&rt, first_name(&board, 2), name(3));
 }
 
 // The first of these lines that is not taken, counted from 0, of a board whose window 1 has text 1.
 fn first_refused(rt: &impl Abort, alloc: Global, lines: &[&str]) -> Option<usize> {
     let mut reader = BoardReader::new(alloc);
     for line in ["window 1", "text 1 \"\""] {
-        assert_eq!(rt; reader.take(alloc, line), Ok(()));
+        expect_eq(rt, reader.take(alloc, line), Ok(()));
     }
     lines
         .iter()
@@ -77,7 +79,7 @@ fn lines_of_a_board_have_one_spelling(rt: HostRuntime) {
         "window 65535",
         "text 1 \"\"",
     ];
-    assert_eq!(rt; first_refused(&rt, alloc, &good), None);
+    expect_eq(&rt, first_refused(&rt, alloc, &good), None);
     for bad in [
         "window",
         "window ",

@@ -1,3 +1,4 @@
+use crate::expect::expect_eq;
 use jup_setting::{Slider, Toggle};
 use jup_text::{read_command, write_board, write_edit};
 use jup_value::{Item, Label, Name, Seq};
@@ -79,7 +80,7 @@ fn a_command_is_read_from_its_one_spelling(rt: HostRuntime) -> Result<(), Fail> 
     ] {
         assert_eq!(rt; read_command(line.as_bytes()), None, "{line}");
     }
-    assert_eq!(rt; read_command(b"set 1 2 \xff"), None);
+    expect_eq(&rt, read_command(b"set 1 2 \xff"), None);
     Ok(())
 }
 
@@ -112,7 +113,7 @@ fn an_edit_is_printed_with_its_name(rt: HostRuntime) -> Result<(), Fail> {
         let edits = Few::from_slice(rt.alloc(), &[edit])?;
         write_edit(rt.alloc(), &edits, &mut text)?;
         let wanted = format!(in rt.alloc(); "made {printed}")?;
-        assert_eq!(rt; text.as_slice(), wanted.as_bytes());
+        expect_eq(&rt, text.as_slice(), wanted.as_bytes());
     }
     Ok(())
 }
@@ -132,7 +133,7 @@ fn edits_are_printed_with_a_semicolon_between_them(rt: HostRuntime) -> Result<()
     let edits = Few::from_slice(rt.alloc(), &[first, second])?;
     let mut text = Vec::new(rt.alloc());
     write_edit(rt.alloc(), &edits, &mut text)?;
-    assert_eq!(rt; text.as_slice(), b"set 1 1 7; set 2 3 off".as_slice());
+    expect_eq(&rt, text.as_slice(), b"set 1 1 7; set 2 3 off".as_slice());
     Ok(())
 }
 
@@ -158,7 +159,7 @@ fn a_board_is_printed_ascending(rt: HostRuntime) -> Result<(), Fail> {
     write_board(alloc, &board, &mut text)?;
     let wanted =
         "window 1\ntext 1 \"\"\nlist 2 \"red\" \"a \\\"b\\\"\"\ntoggle 3 off\nslider 9 0 10 5\nwindow 2\n";
-    assert_eq!(rt; text.as_slice(), wanted.as_bytes());
+    expect_eq(&rt, text.as_slice(), wanted.as_bytes());
     Ok(())
 }
 
@@ -193,8 +194,8 @@ fn a_label_has_48_bytes_at_most(rt: HostRuntime) -> Result<(), Fail> {
     let label = Label::read(text.as_bytes())?;
     let line = format!(in rt.alloc(); "ins 1 65535 7 item \"{text}\"")?;
     let command = insertion(Value::Label(label));
-    assert_eq!(rt; read_command(line.as_bytes()), Some(command));
+    expect_eq(&rt, read_command(line.as_bytes()), Some(command));
     let line = format!(in rt.alloc(); "ins 1 65535 7 item \"{text}8\"")?;
-    assert_eq!(rt; read_command(line.as_bytes()), None);
+    expect_eq(&rt, read_command(line.as_bytes()), None);
     Ok(())
 }

@@ -1,5 +1,6 @@
 //! Runs beside strangers that were worked out by hand.
 use crate::events::{joins, mixed_over, plays, read, strays, types};
+use crate::expect::expect_eq;
 use jup_mixed::{MixEvent, Mixed};
 use jup_seq::SeqOp;
 use jup_star::{OpenFault, StarFault, Up};
@@ -10,7 +11,7 @@ use jup_xform::Few;
 use std::alloc::Global;
 use test_boards::board_of;
 
-fn made(alloc: Global, number: u32, value: char) -> Reply {
+fn reply_of(alloc: Global, number: u32, value: char) -> Reply {
     let put = Edit {
         win: 1,
         wid: 1,
@@ -47,7 +48,7 @@ fn a_stranger_deletes_and_then_says_it_again(rt: HostRuntime) {
         alloc,
         &mut mixed,
         types(alloc, 2, 'c'),
-        made(alloc, 1, 'c'),
+        reply_of(alloc, 1, 'c'),
     );
     joins(&rt, alloc, &mut mixed, 2);
     plays(&rt, alloc, &mut mixed, deletes(alloc), Reply::Taken(0));
@@ -63,12 +64,12 @@ fn a_stranger_deletes_and_then_says_it_again(rt: HostRuntime) {
         alloc,
         &mut mixed,
         types(alloc, 0, 'd'),
-        made(alloc, 2, 'd'),
+        reply_of(alloc, 2, 'd'),
     );
     assert!(rt; !mixed.quiet());
     plays(&rt, alloc, &mut mixed, MixEvent::Up, Reply::Taken(2));
     read(&rt, &mixed, "dbc", "dbc");
-    assert_eq!(rt; mixed.trace().len(), 9);
+    expect_eq(&rt, mixed.trace().len(), 9);
 }
 
 // Each stranger is refused and its link is gone; the next has the next number.
@@ -81,7 +82,7 @@ fn strangers_are_refused_by_name(rt: HostRuntime) {
         alloc,
         &mut mixed,
         types(alloc, 2, 'c'),
-        made(alloc, 1, 'c'),
+        reply_of(alloc, 1, 'c'),
     );
     for (link, mine, op, fault) in [
         (2, 1, inserts(2, 1, 'x'), StarFault::BadCount),
@@ -145,7 +146,7 @@ fn a_stranger_speaks_for_no_other_link(rt: HostRuntime) {
         alloc,
         &mut mixed,
         types(alloc, 2, 'c'),
-        made(alloc, 1, 'c'),
+        reply_of(alloc, 1, 'c'),
     );
     plays(&rt, alloc, &mut mixed, MixEvent::Up, Reply::Taken(0));
     read(&rt, &mixed, "abc", "abc");
@@ -162,7 +163,7 @@ fn a_stranger_fills_the_order(rt: HostRuntime) {
         alloc,
         &mut mixed,
         types(alloc, 2, 'c'),
-        made(alloc, 1, 'c'),
+        reply_of(alloc, 1, 'c'),
     );
     joins(&rt, alloc, &mut mixed, 2);
     plays(&rt, alloc, &mut mixed, deletes(alloc), Reply::Taken(0));

@@ -1,5 +1,6 @@
 //! Ten thousand messages of four strangers, valid, half valid and senseless, beside one site that edits.
 use crate::events::{insert, mixed_over, step};
+use crate::expect::expect_eq;
 use jup_batch::all_insertions;
 use jup_link::Msg;
 use jup_mixed::{MixEvent, Mixed};
@@ -94,7 +95,7 @@ fn on_text(op: SeqOp<char>) -> BoardOp {
 
 impl Stranger {
     // How many edits of others the star sent to it.
-    fn told(&self, star: &Star) -> u32 {
+    fn told_count(&self, star: &Star) -> u32 {
         taken_by(star)
             .saturating_sub(self.joined_at)
             .saturating_sub(self.made)
@@ -102,7 +103,7 @@ impl Stranger {
 
     // What it says to have heard: mostly all that it was told, else less, or one more.
     fn hears(&self, dice: &mut Dice, star: &Star) -> u32 {
-        let told = self.told(star);
+        let told = self.told_count(star);
         if dice.once_in(4) {
             let more = told.saturating_sub(self.heard);
             self.heard.saturating_add(dice.roll(more.saturating_add(2)))
@@ -241,7 +242,7 @@ fn stranger_goes_on(
         *stranger = joins(rt, alloc, mixed);
     } else if dice.once_in(100) {
         let left = step(rt, alloc, mixed, &MixEvent::LeaveStray(stranger.link));
-        assert_eq!(rt; left, Reply::Left);
+        expect_eq(rt, left, Reply::Left);
         *stranger = ABSENT;
     } else {
         tally.sent = tally.sent.saturating_add(1);
@@ -331,7 +332,7 @@ fn a_site_in_a_crowd_of_strangers(rt: HostRuntime) {
     let alloc = rt.alloc();
     let mut mixed = mixed_over(&rt, alloc, "text 1 \"Jupiter\"");
     let tally = crowd(&rt, alloc, &mut mixed);
-    assert_eq!(rt; tally.sent, MESSAGES);
+    expect_eq(&rt, tally.sent, MESSAGES);
     assert!(rt; tally.taken >= MESSAGES / 5, "{tally:?}");
     assert!(rt; tally.refused >= MESSAGES / 20, "{tally:?}");
     drains(&rt, alloc, &mut mixed);

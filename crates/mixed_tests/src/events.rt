@@ -13,16 +13,16 @@ use test_boards::{alone, board_of, reads};
 /// How many edits a star takes here.
 const LIMIT: u32 = 100_000;
 
-fn opened(alloc: Global, widget: &str) -> Option<Mixed> {
+fn open_mixed(alloc: Global, widget: &str) -> Option<Mixed> {
     let board = board_of(alloc, &["window 1", widget])?;
     Mixed::open(alloc, board, LIMIT).ok()
 }
 
 /// A star over a window 1 with this widget. It is opened again where memory was refused once.
 pub(crate) fn mixed_over(rt: &impl Abort, alloc: Global, widget: &str) -> Mixed {
-    match opened(alloc, widget) {
+    match open_mixed(alloc, widget) {
         Some(mixed) => mixed,
-        None => opened(alloc, widget).expect(rt, "a board, a limit and memory"),
+        None => open_mixed(alloc, widget).expect(rt, "a board, a limit and memory"),
     }
 }
 

@@ -1,6 +1,7 @@
 //! Growths of a star with strangers that are refused, each test for the call, or the kind of event, of its name. `./growths` refuses one after another of
 //! those between the two marks: after an event that lacked memory all is seen as before, and played again it gives its answer.
 use crate::events::{insert, mixed_over, strays};
+use crate::expect::expect_eq;
 use jup_batch::BoardEdits;
 use jup_mixed::{MixEvent, MixHappened, Mixed};
 use jup_seq::SeqOp;
@@ -40,9 +41,9 @@ fn look_at(rt: &impl Abort, alloc: Global, mixed: &Mixed) -> Seen {
 
 // All is seen as before; but where a message is moved down, one that waited may be on its way.
 fn is_spared(rt: &impl Abort, event: &MixEvent, was: &Seen, now: &Seen) {
-    assert_eq!(rt; now.boards.as_slice(), was.boards.as_slice());
-    assert_eq!(rt; (now.counts, now.is_quiet), (was.counts, was.is_quiet));
-    assert_eq!(rt; now.waiting[1], was.waiting[1]);
+    expect_eq(rt, now.boards.as_slice(), was.boards.as_slice());
+    expect_eq(rt, (now.counts, now.is_quiet), (was.counts, was.is_quiet));
+    expect_eq(rt, now.waiting[1], was.waiting[1]);
     let one_less = was.waiting[0].map(|count| count.saturating_sub(1));
     let fetched = *event == MixEvent::Down && now.waiting[0] == one_less;
     assert!(rt; fetched || now.waiting[0] == was.waiting[0]);
@@ -99,7 +100,7 @@ fn first_stray(alloc: Global) -> MixEvent {
 }
 
 // The site types "xy" as one edit.
-fn typed(rt: &impl Abort, alloc: Global) -> (MixEvent, Reply) {
+fn type_xy(rt: &impl Abort, alloc: Global) -> (MixEvent, Reply) {
     let commands: [Command; 2] = [insert(0, 'x'), insert(1, 'y')];
     let commands = Few::from_slice(alloc, &commands).expect(rt, "memory");
     let put = |number: u32, value: char| -> Edit {
@@ -120,7 +121,7 @@ fn all_events(rt: &impl Abort, alloc: Global) -> Vec<MixHappened> {
     let mut all = Vec::new(alloc);
     for (event, reply) in [
         (MixEvent::JoinStray, Reply::Joined(2)),
-        typed(rt, alloc),
+        type_xy(rt, alloc),
         (first_stray(alloc), Reply::Taken(0)),
         (MixEvent::Stray(2, Up::Ping(7)), Reply::Heard),
         (MixEvent::Up, Reply::Taken(1)),
@@ -148,7 +149,7 @@ fn plays(rt: &impl Abort, alloc: Global, kind: Kind) {
             kind_of(&wanted.event) == kind,
         );
     }
-    assert_eq!(rt; mixed.trace(), all.as_slice());
+    expect_eq(rt, mixed.trace(), all.as_slice());
     assert!(rt; mixed.quiet() && reads(mixed.star().board(), "xys"));
     let site = mixed.site().expect(rt, "the site is attached");
     assert!(rt; reads(site.board(), "xys"));

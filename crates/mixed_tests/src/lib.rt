@@ -10,4 +10,6 @@ mod crowds;
 #[cfg(test)]
 mod events;
 #[cfg(test)]
+mod expect;
+#[cfg(test)]
 mod growths;

@@ -1,7 +1,8 @@
 //! The attack that docs/PROTOCOL.md shows: what is typed in its three terminals, and what they print.
 
-use crate::programs::{client_of, daemon_at, printed, serve};
-use crate::strangers::{is_told, linked, read_to};
+use crate::expect::expect_eq;
+use crate::programs::{client_of, daemon_at, expect_success, serve};
+use crate::strangers::{is_told, link_to, read_to};
 use jup_session::client_main;
 use std::alloc::Global;
 use std::io::{Read, Write};
@@ -40,7 +41,7 @@ fn attack<R: Net<Listener = TcpListener, Stream = TcpStream> + Clock>(
     rt: &R,
     heard: &mut Vec<u8>,
 ) -> io::Result<()> {
-    let stream = linked(rt, ADDR)?;
+    let stream = link_to(rt, ADDR)?;
     let mut to = &stream;
     to.write_all(b"hello 3\n")?;
     read_to(&stream, b"ready\n", heard)?;
@@ -112,7 +113,7 @@ fn a_stranger_forges_a_name(rt: HostRuntime) {
         || serve(&rt, alloc, &daemon, DESK.as_bytes()),
         || edits_beside(&rt, alloc, &client, &mut shown, &mut heard),
     );
-    assert_eq!(rt; other, 0);
+    expect_eq(&rt, other, 0);
     is_told(&rt, heard.as_slice(), HEARD);
     let lines = format!(in alloc;
         "site 1\nmade ins 1 1 1.1 \"!\"\nsynced\nmade ins 1 1 1.2 \">\"\nsynced\n{SHOWN}bye\n"
@@ -123,5 +124,5 @@ fn a_stranger_forges_a_name(rt: HostRuntime) {
         lines.expect(&rt, "there is memory").as_str(),
     );
     let lines = format!(in alloc; "listening {ADDR}\norder 3\n{SHOWN}");
-    printed(&rt, &told, 0, lines.expect(&rt, "there is memory").as_str());
+    expect_success(&rt, &told, 0, lines.expect(&rt, "there is memory").as_str());
 }

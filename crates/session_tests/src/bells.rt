@@ -1,5 +1,6 @@
 //! A bell by itself.
 
+use crate::expect::expect_eq;
 use jup_session::Bell;
 use std::thread::{join, sleep};
 use std::time::Duration;
@@ -9,12 +10,12 @@ use std::time::Duration;
 fn no_ring_before_the_wait_is_missed(rt: HostRuntime) {
     let bell = Bell::new();
     bell.ring_for(&rt, 1);
-    assert_eq!(rt; bell.wait(&rt, 1, 0), 1);
+    expect_eq(&rt, bell.wait(&rt, 1, 0), 1);
     bell.ring(&rt);
     bell.ring_for(&rt, 2);
-    assert_eq!(rt; bell.wait(&rt, 1, 1), 2);
-    assert_eq!(rt; bell.wait(&rt, 2, 0), 2);
-    assert_eq!(rt; bell.wait(&rt, 3, 0), 1);
+    expect_eq(&rt, bell.wait(&rt, 1, 1), 2);
+    expect_eq(&rt, bell.wait(&rt, 2, 0), 2);
+    expect_eq(&rt, bell.wait(&rt, 3, 0), 1);
 }
 
 #[test]
@@ -28,7 +29,7 @@ fn a_ring_for_a_site_wakes_who_waits_for_it(rt: HostRuntime) {
             bell.ring_for(&rt, 7);
         },
     );
-    assert_eq!(rt; rings, 1);
+    expect_eq(&rt, rings, 1);
 }
 
 #[test]
@@ -42,5 +43,5 @@ fn a_ring_for_all_wakes_each_site(rt: HostRuntime) {
             bell.ring(&rt);
         },
     );
-    assert_eq!(rt; (one, two), (1, 1));
+    expect_eq(&rt, (one, two), (1, 1));
 }

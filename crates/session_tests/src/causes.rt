@@ -1,5 +1,6 @@
 //! What people are told of a fault is what its own type says of it.
 
+use crate::expect::expect_eq;
 use jup_hub::HubFault;
 use jup_rules::{SessionFault, cause_of};
 use jup_star::{OpenFault, SiteFault, StarFault};
@@ -12,7 +13,7 @@ use std::process::Abort;
 // The text of a fault with this number is its cause.
 fn is_cause<R: Abort, F: Display>(rt: &R, alloc: Global, fault: &F, number: u32) {
     let text = format!(in alloc; "{fault}").expect(rt, "memory");
-    assert_eq!(rt; text.as_str(), cause_of(number));
+    expect_eq(rt, text.as_str(), cause_of(number));
 }
 
 fn is_told(rt: &impl Abort, alloc: Global, fault: SessionFault) {

@@ -1,5 +1,6 @@
 //! Clients over memory.
 
+use crate::expect::expect_eq;
 use crate::texts::lines;
 use jup_session::{ClientEnd, run_client};
 use std::alloc::Global;
@@ -25,15 +26,15 @@ pub(crate) fn run(alloc: Global, commands: &[u8], from: &[u8]) -> Ran {
 
 // It ended well, and sent and printed this.
 pub(crate) fn ended_well(rt: &impl Abort, ran: &Ran, sent: &str, printed: &str) {
-    assert_eq!(rt; ran.end, Ok(()));
-    assert_eq!(rt; str::from_utf8(ran.to.as_slice()), Ok(sent));
-    assert_eq!(rt; str::from_utf8(ran.out.as_slice()), Ok(printed));
+    expect_eq(rt, ran.end, Ok(()));
+    expect_eq(rt, str::from_utf8(ran.to.as_slice()), Ok(sent));
+    expect_eq(rt, str::from_utf8(ran.out.as_slice()), Ok(printed));
 }
 
 // It ended in a fault, and printed this.
 fn ended_in_fault(rt: &impl Abort, ran: &Ran, number: u32, printed: &str) {
-    assert_eq!(rt; ran.end, Err(ClientEnd::Fault(number)));
-    assert_eq!(rt; str::from_utf8(ran.out.as_slice()), Ok(printed));
+    expect_eq(rt, ran.end, Err(ClientEnd::Fault(number)));
+    expect_eq(rt, str::from_utf8(ran.out.as_slice()), Ok(printed));
 }
 
 #[test]
@@ -135,8 +136,12 @@ fn the_1025th_edit_without_a_sync_is_refused(rt: HostRuntime) {
     let printed = lines(&rt, alloc, "site 1\n", "made set 1 3 on", 0..1_024, end);
     let from = "welcome 1 2000\nwindow 1\ntoggle 3 off\nready\n";
     let ran = run(alloc, commands.as_bytes(), from.as_bytes());
-    assert_eq!(rt; ran.end, Ok(()));
-    assert_eq!(rt; str::from_utf8(ran.out.as_slice()), Ok(printed.as_str()));
+    expect_eq(&rt, ran.end, Ok(()));
+    expect_eq(
+        &rt,
+        str::from_utf8(ran.out.as_slice()),
+        Ok(printed.as_str()),
+    );
 }
 
 #[test]

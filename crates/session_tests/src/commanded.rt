@@ -1,5 +1,6 @@
 //! What a client makes of its commands, and of what its server answers.
 
+use crate::expect::expect_eq;
 use crate::fakes::{FailsAt, OneByOne};
 use crate::handed_on::Holding;
 use jup_session::{ClientEnd, run_client};
@@ -11,16 +12,16 @@ use std::{io, str};
 const GREETED: &str = "welcome 1 100\nwindow 1\ntext 1\ntoggle 3 off\nready\n";
 
 // What a client prints of these commands, whose server says this.
-fn printed(rt: &impl Abort, alloc: Global, commands: &[u8], from: &[u8], lines: &str) {
+fn client_prints(rt: &impl Abort, alloc: Global, commands: &[u8], from: &[u8], lines: &str) {
     let (mut to, mut out) = (Vec::new(alloc), Vec::new(alloc));
     let end = run_client(alloc, commands, &mut out, from, &mut to);
-    assert_eq!(rt; end, Ok(()));
-    assert_eq!(rt; str::from_utf8(out.as_slice()), Ok(lines));
+    expect_eq(rt, end, Ok(()));
+    expect_eq(rt, str::from_utf8(out.as_slice()), Ok(lines));
 }
 
 #[test]
 fn only_its_own_pong_ends_a_sync(rt: HostRuntime) {
-    printed(
+    client_prints(
         &rt,
         rt.alloc(),
         b"sync\nshow\n",
@@ -32,7 +33,7 @@ fn only_its_own_pong_ends_a_sync(rt: HostRuntime) {
 
 #[test]
 fn all_operations_of_a_message_are_shown_at_once(rt: HostRuntime) {
-    printed(
+    client_prints(
         &rt,
         rt.alloc(),
         b"sync\nshow\n",
@@ -44,7 +45,7 @@ fn all_operations_of_a_message_are_shown_at_once(rt: HostRuntime) {
 
 #[test]
 fn words_with_more_behind_them_are_no_commands(rt: HostRuntime) {
-    printed(
+    client_prints(
         &rt,
         rt.alloc(),
         b"sync\r\nshow\r\nquit\r\nquit \n sync\nset 1 3 on\r\n",
@@ -62,10 +63,11 @@ fn a_read_of_commands_that_is_interrupted_is_made_again(rt: HostRuntime) {
         is_next: false,
     };
     let end = run_client(alloc, commands, &mut out, GREETED.as_bytes(), &mut to);
-    assert_eq!(rt; end, Ok(()));
-    assert_eq!(rt;
+    expect_eq(&rt, end, Ok(()));
+    expect_eq(
+        &rt,
         str::from_utf8(out.as_slice()),
-        Ok("site 1\nmade set 1 3 on\nbye\n")
+        Ok("site 1\nmade set 1 3 on\nbye\n"),
     );
 }
 
@@ -79,8 +81,8 @@ fn an_edit_that_was_not_sent_is_not_told(rt: HostRuntime) {
     };
     let commands: &[u8] = b"set 1 3 on\nquit\n";
     let end = run_client(alloc, commands, &mut out, GREETED.as_bytes(), link);
-    assert_eq!(rt; end, Err(ClientEnd::WriteFailed));
-    assert_eq!(rt; str::from_utf8(out.as_slice()), Ok("site 1\n"));
+    expect_eq(&rt, end, Err(ClientEnd::WriteFailed));
+    expect_eq(&rt, str::from_utf8(out.as_slice()), Ok("site 1\n"));
 }
 
 #[test]
@@ -92,14 +94,16 @@ fn a_client_flushes_what_it_sends_and_prints(rt: HostRuntime) {
     let commands: &[u8] = b"set 1 3 on\nquit\n";
     let end = run_client(alloc, commands, &mut shown, GREETED.as_bytes(), link);
     drop(shown);
-    assert_eq!(rt; end, Ok(()));
-    assert_eq!(rt;
+    expect_eq(&rt, end, Ok(()));
+    expect_eq(
+        &rt,
         str::from_utf8(sent.as_slice()),
-        Ok("hello 3\nbatch 0 0 1\ndo 1 3 toggle set on\nbye\n")
+        Ok("hello 3\nbatch 0 0 1\ndo 1 3 toggle set on\nbye\n"),
     );
-    assert_eq!(rt;
+    expect_eq(
+        &rt,
         str::from_utf8(out.as_slice()),
-        Ok("site 1\nmade set 1 3 on\nbye\n")
+        Ok("site 1\nmade set 1 3 on\nbye\n"),
     );
 }
 
@@ -132,9 +136,10 @@ fn the_end_of_the_commands_is_read_once(rt: HostRuntime) {
         has_ended: false,
     };
     let end = run_client(alloc, commands, &mut out, GREETED.as_bytes(), &mut to);
-    assert_eq!(rt; end, Ok(()));
-    assert_eq!(rt;
+    expect_eq(&rt, end, Ok(()));
+    expect_eq(
+        &rt,
         str::from_utf8(out.as_slice()),
-        Ok("site 1\nmade set 1 3 on\nbye\n")
+        Ok("site 1\nmade set 1 3 on\nbye\n"),
     );
 }

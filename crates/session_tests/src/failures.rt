@@ -1,9 +1,10 @@
 //! Each read and each write in turn fails: of a session, of a client, and of a daemon's layout.
 
 use crate::clients::GREETED;
+use crate::expect::expect_eq;
 use crate::fakes::{FailsAfter, FailsAt};
-use crate::programs::{LAYOUT, daemon_at, failed, serve};
-use crate::sessions::{TYPED, ended, ran, write_fails};
+use crate::programs::{LAYOUT, daemon_at, expect_failure, serve};
+use crate::sessions::{TYPED, expect_end, ran, write_fails};
 use jup_session::{ClientEnd, Ending, Open, run_client};
 use std::alloc::Global;
 use std::io::Read;
@@ -32,11 +33,11 @@ fn due_behind(len: usize) -> (&'static str, usize) {
 
 #[test]
 fn each_read_of_a_session(rt: HostRuntime) {
-    assert_eq!(rt; TYPED.len(), 56);
+    expect_eq(&rt, TYPED.len(), 56);
     for len in 0..56 {
         let left = ran(&rt, rt.alloc(), first_bytes(TYPED, len), &Open);
         let (written, taken) = due_behind(len);
-        ended(&rt, &left, Ending::Fault(70), written);
+        expect_end(&rt, &left, Ending::Fault(70), written);
         assert_eq!(rt; (left.taken, left.waiting), (taken, None), "{len} bytes");
     }
 }
@@ -44,12 +45,12 @@ fn each_read_of_a_session(rt: HostRuntime) {
 // The greeting, the pong and the last line are three writes, or two: the pong meets the failure before or after the site says bye.
 #[test]
 fn each_write_of_a_session(rt: HostRuntime) {
-    assert_eq!(rt; write_fails(&rt, rt.alloc(), 0), Ending::Fault(71));
+    expect_eq(&rt, write_fails(&rt, rt.alloc(), 0), Ending::Fault(71));
     for writes in 1..3 {
         let ending = write_fails(&rt, rt.alloc(), writes);
         assert!(rt; ending == Ending::Fault(71) || ending == Ending::Bye);
     }
-    assert_eq!(rt; write_fails(&rt, rt.alloc(), 3), Ending::Bye);
+    expect_eq(&rt, write_fails(&rt, rt.alloc(), 3), Ending::Bye);
 }
 
 // How a client of this link ends that is told to sync and to quit.
@@ -67,7 +68,7 @@ fn each_read_of_a_link_by_a_client(rt: HostRuntime) {
         let end = end_over(rt.alloc(), first_bytes(LINK, len));
         assert_eq!(rt; end, Err(ClientEnd::ReadFailed), "{len} bytes");
     }
-    assert_eq!(rt; end_over(rt.alloc(), LINK), Ok(()));
+    expect_eq(&rt, end_over(rt.alloc(), LINK), Ok(()));
 }
 
 // How a client ends whose user's input fails behind so many bytes, and what it printed.
@@ -118,8 +119,8 @@ fn each_write_of_a_client(rt: HostRuntime) {
         assert_eq!(rt; end_after(rt.alloc(), writes), failed, "at {writes}");
         assert_eq!(rt; end_printing(rt.alloc(), writes), failed, "at {writes}");
     }
-    assert_eq!(rt; end_after(rt.alloc(), 3), Ok(()));
-    assert_eq!(rt; end_printing(rt.alloc(), 3), Ok(()));
+    expect_eq(&rt, end_after(rt.alloc(), 3), Ok(()));
+    expect_eq(&rt, end_printing(rt.alloc(), 3), Ok(()));
 }
 
 #[test]
@@ -127,6 +128,6 @@ fn each_read_of_a_layout(rt: HostRuntime) {
     let words = daemon_at(&rt, rt.alloc(), "127.0.0.1:47012", "100", "2");
     for len in 0..=LAYOUT.len() {
         let told = serve(&rt, rt.alloc(), &words, first_bytes(LAYOUT.as_bytes(), len));
-        failed(&rt, &told, 1, "", "io fault\ncannot read the layout\n");
+        expect_failure(&rt, &told, 1, "", "io fault\ncannot read the layout\n");
     }
 }

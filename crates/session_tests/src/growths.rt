@@ -2,8 +2,9 @@
 //! those between the two marks: what lacked memory says so, and begun anew it does all that was asked for.
 ghost use Rattle.jup_hub.specs.Passes.{IsPassOf};
 
+use crate::expect::expect_eq;
 use crate::programs::daemon_at;
-use crate::sessions::{CUT_ANSWER, EMPTY_TEXT, GREETING, TYPED, TYPED_ANSWER, closed, opened};
+use crate::sessions::{CUT_ANSWER, EMPTY_TEXT, GREETING, TYPED, TYPED_ANSWER, close, open_hub};
 use clap::error::ErrorKind;
 use jup_hub::{Hub, Pass};
 use jup_session::{Bell, ClientEnd, Ending, Open, daemon_words, run_client, serve_link};
@@ -31,13 +32,13 @@ fn is_due(rt: &impl Abort, ending: Ending, written: &[u8]) {
         let written = str::from_utf8(written);
         assert!(rt; written == Ok(TYPED_ANSWER) || written == Ok(CUT_ANSWER));
     } else {
-        assert_eq!(rt; ending, Ending::Fault(8));
+        expect_eq(rt, ending, Ending::Fault(8));
         assert!(rt; tells_of_memory(written));
     }
 }
 
 // The session of a hub, of which nothing is left when it has ended.
-fn served<R: Threads + Wait + Sync + Abort>(
+fn serve_alone<R: Threads + Wait + Sync + Abort>(
     rt: &R,
     alloc: Global,
     hub: &Hub,
@@ -57,11 +58,11 @@ fn served<R: Threads + Wait + Sync + Abort>(
 
 // How a session on an empty text ends, whose site has then left, and whose pass has seen all.
 fn session<R: Threads + Wait + Sync + Abort>(rt: &R, alloc: Global) -> Ending {
-    let (hub, pass) = opened(rt, alloc, EMPTY_TEXT, 100);
-    let (mut pass, ending) = served(rt, alloc, &hub, pass);
+    let (hub, pass) = open_hub(rt, alloc, EMPTY_TEXT, 100);
+    let (mut pass, ending) = serve_alone(rt, alloc, &hub, pass);
     assert!(rt; !hub.news(&mut pass));
-    let star = closed(rt, hub, pass);
-    assert_eq!(rt; star.waiting(1), None);
+    let star = close(rt, hub, pass);
+    expect_eq(rt, star.waiting(1), None);
     assert!(rt; ending != Ending::Bye || star.order().len() == 1);
     ending
 }
@@ -72,7 +73,7 @@ fn session_served(rt: HostRuntime) {
     if ending == Ending::Fault(8) {
         ending = session(&rt, rt.alloc());
     }
-    assert_eq!(rt; ending, Ending::Bye);
+    expect_eq(&rt, ending, Ending::Bye);
 }
 
 const PRINTED: &str = "site 1\nmade ins 1 1 1.1 \"a\"\nmade ins 1 1 1.2 \"b\"; del 1 1 1.1\n\
@@ -99,18 +100,18 @@ fn client_run(rt: HostRuntime) {
     if ended == Err(ClientEnd::NoMemory) {
         ended = client(&rt, rt.alloc());
     }
-    assert_eq!(rt; ended, Ok(()));
+    expect_eq(&rt, ended, Ok(()));
 }
 
 // The limit and the sessions that words tell of, or why they are refused.
-fn told(rt: &impl Abort, alloc: Global, limit: &str) -> Result<(u32, u32), ErrorKind> {
+fn read_words(rt: &impl Abort, alloc: Global, limit: &str) -> Result<(u32, u32), ErrorKind> {
     let words = daemon_at(rt, alloc, "127.0.0.1:47011", limit, "2");
     begin(alloc);
     let told = daemon_words(alloc, &words);
     end(alloc);
     match told {
         Ok(told) => {
-            assert_eq!(rt; told.listen.as_str(), "127.0.0.1:47011");
+            expect_eq(rt, told.listen.as_str(), "127.0.0.1:47011");
             Ok((told.limit, told.sessions))
         }
         Err(error) => Err(error.kind()),
@@ -123,10 +124,10 @@ fn words_of_a_daemon(rt: HostRuntime) {
         ("100", Ok((100, 2))),
         ("0", Err(ErrorKind::ValueValidation)),
     ] {
-        let mut said = told(&rt, rt.alloc(), limit);
+        let mut said = read_words(&rt, rt.alloc(), limit);
         if said == Err(ErrorKind::OutOfMemory) {
-            said = told(&rt, rt.alloc(), limit);
+            said = read_words(&rt, rt.alloc(), limit);
         }
-        assert_eq!(rt; said, due);
+        expect_eq(&rt, said, due);
     }
 }

@@ -10,11 +10,15 @@ mod batched;
 #[cfg(test)]
 mod bells;
 #[cfg(test)]
+mod bursts;
+#[cfg(test)]
 mod causes;
 #[cfg(test)]
 mod clients;
 #[cfg(test)]
 mod commanded;
+#[cfg(test)]
+mod expect;
 #[cfg(test)]
 mod failures;
 #[cfg(test)]

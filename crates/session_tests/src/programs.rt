@@ -1,5 +1,6 @@
 //! The programs over loopback.
 
+use crate::expect::expect_eq;
 use crate::fakes::Impatient;
 use jup_session::{client_main, daemon_main, without_words};
 use std::alloc::{AllocError, Global};
@@ -93,21 +94,21 @@ pub(crate) fn connect<R: Net<Listener = TcpListener, Stream = TcpStream> + Clock
 }
 
 /// The program ended so, and printed this, and nothing on standard error.
-pub(crate) fn printed(rt: &impl Abort, told: &Told, status: u8, out: &str) {
-    assert_eq!(rt; told.status, status);
-    assert_eq!(rt; str::from_utf8(told.out.as_slice()), Ok(out));
+pub(crate) fn expect_success(rt: &impl Abort, told: &Told, status: u8, out: &str) {
+    expect_eq(rt, told.status, status);
+    expect_eq(rt, str::from_utf8(told.out.as_slice()), Ok(out));
     assert!(rt; told.errors.is_empty());
 }
 
 // The program ended so, printed this, and told this on standard error.
-pub(crate) fn failed(rt: &impl Abort, told: &Told, status: u8, out: &str, errors: &str) {
-    assert_eq!(rt; told.status, status);
-    assert_eq!(rt; str::from_utf8(told.out.as_slice()), Ok(out));
-    assert_eq!(rt; str::from_utf8(told.errors.as_slice()), Ok(errors));
+pub(crate) fn expect_failure(rt: &impl Abort, told: &Told, status: u8, out: &str, errors: &str) {
+    expect_eq(rt, told.status, status);
+    expect_eq(rt, str::from_utf8(told.out.as_slice()), Ok(out));
+    expect_eq(rt, str::from_utf8(told.errors.as_slice()), Ok(errors));
 }
 
 // Runs the client, and again while it answers 1. Its status.
-pub(crate) fn connected<R: Net<Listener = TcpListener, Stream = TcpStream> + Clock>(
+pub(crate) fn run_client<R: Net<Listener = TcpListener, Stream = TcpStream> + Clock>(
     rt: &R,
     alloc: Global,
     words: &[String],
@@ -134,12 +135,12 @@ fn a_daemon_and_two_clients(rt: HostRuntime) {
         || {
             join(
                 &rt,
-                || connected(&rt, alloc, &client, b"ins 1 1 0 char \"a\"\nsync\nquit\n"),
-                || connected(&rt, alloc, &client, b"ins 1 1 0 char \"b\"\nsync\nquit\n"),
+                || run_client(&rt, alloc, &client, b"ins 1 1 0 char \"a\"\nsync\nquit\n"),
+                || run_client(&rt, alloc, &client, b"ins 1 1 0 char \"b\"\nsync\nquit\n"),
             )
         },
     );
-    assert_eq!(rt; (told.status, one, two), (0, 0, 0));
+    expect_eq(&rt, (told.status, one, two), (0, 0, 0));
     assert!(rt; told.errors.is_empty());
     let out = str::from_utf8(told.out.as_slice());
     assert!(rt;
@@ -165,7 +166,7 @@ fn layouts_that_are_refused(rt: HostRuntime) {
     ] {
         let layout = format!(in alloc; "{LAYOUT}{added}").expect(&rt, "there is memory");
         let told = serve(&rt, alloc, &words, layout.as_bytes());
-        failed(&rt, &told, 5, "", errors);
+        expect_failure(&rt, &told, 5, "", errors);
     }
 }
 
@@ -174,12 +175,12 @@ fn a_layout_that_is_too_long(rt: HostRuntime) {
     let alloc = rt.alloc();
     let words = daemon_at(&rt, alloc, "127.0.0.1:47012", "100", "2");
     let told = serve(&rt, alloc, &words, io::repeat(b'a').take(16_777_217));
-    failed(&rt, &told, 5, "", "layout too long\n");
+    expect_failure(&rt, &told, 5, "", "layout too long\n");
 }
 
 // The program refused its words: it said why, and printed nothing.
 fn words_refused(rt: &impl Abort, told: &Told) {
-    assert_eq!(rt; told.status, 2);
+    expect_eq(rt, told.status, 2);
     assert!(rt; told.out.is_empty() && !told.errors.is_empty());
 }
 
@@ -218,8 +219,8 @@ fn a_program_that_cannot_have_its_words_says_why(rt: HostRuntime) {
     ] {
         let mut errors = Vec::new(rt.alloc());
         let answered = without_words(&io::Error::from(kind), &mut errors);
-        assert_eq!(rt; answered, status);
-        assert_eq!(rt; str::from_utf8(errors.as_slice()), Ok(text));
+        expect_eq(&rt, answered, status);
+        expect_eq(&rt, str::from_utf8(errors.as_slice()), Ok(text));
     }
 }
 
@@ -236,7 +237,7 @@ fn help_tells_all_options(rt: HostRuntime) {
     let alloc = rt.alloc();
     let words = words_of(alloc, ["--help"].as_slice()).expect(&rt, "there is memory");
     let told = serve(&rt, alloc, &words, "".as_bytes());
-    assert_eq!(rt; told.status, 0);
+    expect_eq(&rt, told.status, 0);
     assert!(rt; told.errors.is_empty());
     for option in [
         "Serves one board",
@@ -248,7 +249,7 @@ fn help_tells_all_options(rt: HostRuntime) {
         assert!(rt; has(told.out.as_slice(), option), "{option}");
     }
     let told = connect(&rt, alloc, &words, b"");
-    assert_eq!(rt; told.status, 0);
+    expect_eq(&rt, told.status, 0);
     for option in [
         "Edits the board",
         "--connect <ADDR>",
@@ -265,7 +266,7 @@ fn an_address_that_is_held(rt: HostRuntime) {
     let words = daemon_at(&rt, alloc, "127.0.0.1:47013", "1", "1");
     let told = serve(&rt, alloc, &words, "".as_bytes());
     let errors = "io fault\ncannot listen at 127.0.0.1:47013\n";
-    failed(&rt, &told, 1, "", errors);
+    expect_failure(&rt, &told, 1, "", errors);
     drop(held);
 }
 
@@ -275,7 +276,7 @@ fn an_address_where_nobody_listens(rt: HostRuntime) {
     let words = client_of(&rt, alloc, "127.0.0.1:47020");
     let told = connect(&rt, alloc, &words, b"");
     let errors = "io fault\ncannot connect to 127.0.0.1:47020\n";
-    failed(&rt, &told, 1, "", errors);
+    expect_failure(&rt, &told, 1, "", errors);
 }
 
 #[test]
@@ -284,5 +285,5 @@ fn an_accept_that_fails(rt: HostRuntime) {
     let words = daemon_at(&rt, alloc, "127.0.0.1:47016", "1", "1");
     let told = serve(&Impatient { rt: &rt }, alloc, &words, "".as_bytes());
     let errors = "io fault\ncannot accept a session\n";
-    failed(&rt, &told, 1, "listening 127.0.0.1:47016\n", errors);
+    expect_failure(&rt, &told, 1, "listening 127.0.0.1:47016\n", errors);
 }

@@ -1,8 +1,9 @@
 //! What a daemon prints, and which words it takes.
 
+use crate::expect::expect_eq;
 use crate::fakes::Impatient;
 use crate::handed_on::{Holding, OneLine};
-use crate::programs::{client_of, connected, daemon_at, printed, serve};
+use crate::programs::{client_of, daemon_at, expect_success, run_client, serve};
 use crate::texts::lines;
 use jup_session::{daemon_main, daemon_words};
 use std::alloc::Global;
@@ -47,10 +48,10 @@ fn an_order_of_300_edits_is_counted(rt: HostRuntime) {
     let (told, other) = join(
         &rt,
         || serve(&rt, alloc, &daemon, TOGGLE),
-        || connected(&rt, alloc, &client, commands.as_bytes()),
+        || run_client(&rt, alloc, &client, commands.as_bytes()),
     );
-    assert_eq!(rt; other, 0);
-    printed(
+    expect_eq(&rt, other, 0);
+    expect_success(
         &rt,
         &told,
         0,
@@ -67,16 +68,18 @@ fn a_report_that_can_not_be_printed_is_a_failed_write(rt: HostRuntime) {
     let (status, other) = join(
         &rt,
         || serve_cut(&rt, alloc, &daemon, &mut text, &mut errors),
-        || connected(&rt, alloc, &client, b"quit\n"),
+        || run_client(&rt, alloc, &client, b"quit\n"),
     );
-    assert_eq!(rt; (status, other), (1, 0));
-    assert_eq!(rt;
+    expect_eq(&rt, (status, other), (1, 0));
+    expect_eq(
+        &rt,
         str::from_utf8(errors.as_slice()),
-        Ok("io fault\ncannot print\n")
+        Ok("io fault\ncannot print\n"),
     );
-    assert_eq!(rt;
+    expect_eq(
+        &rt,
         str::from_utf8(text.as_slice()),
-        Ok("listening 127.0.0.1:47022\n")
+        Ok("listening 127.0.0.1:47022\n"),
     );
 }
 
@@ -89,12 +92,13 @@ fn a_daemon_flushes_its_report(rt: HostRuntime) {
     let (status, other) = join(
         &rt,
         || serve_held(&rt, alloc, &daemon, &mut text),
-        || connected(&rt, alloc, &client, b"quit\n"),
+        || run_client(&rt, alloc, &client, b"quit\n"),
     );
-    assert_eq!(rt; (status, other), (0, 0));
-    assert_eq!(rt;
+    expect_eq(&rt, (status, other), (0, 0));
+    expect_eq(
+        &rt,
         str::from_utf8(text.as_slice()),
-        Ok("listening 127.0.0.1:47023\norder 0\nwindow 1\ntoggle 3 off\n")
+        Ok("listening 127.0.0.1:47023\norder 0\nwindow 1\ntoggle 3 off\n"),
     );
 }
 
@@ -104,10 +108,11 @@ fn a_daemon_says_that_it_listens_before_it_accepts(rt: HostRuntime) {
     let daemon = daemon_at(&rt, alloc, "127.0.0.1:47024", "1000", "1");
     let mut text = Vec::new(alloc);
     let status = serve_held(&Impatient { rt: &rt }, alloc, &daemon, &mut text);
-    assert_eq!(rt; status, 1);
-    assert_eq!(rt;
+    expect_eq(&rt, status, 1);
+    expect_eq(
+        &rt,
         str::from_utf8(text.as_slice()),
-        Ok("listening 127.0.0.1:47024\n")
+        Ok("listening 127.0.0.1:47024\n"),
     );
 }
 
@@ -118,5 +123,5 @@ fn the_highest_words_are_taken(rt: HostRuntime) {
     let told = daemon_words(alloc, &words)
         .ok()
         .expect(&rt, "they are good");
-    assert_eq!(rt; (told.limit, told.sessions), (16_777_216, 1_024));
+    expect_eq(&rt, (told.limit, told.sessions), (16_777_216, 1_024));
 }

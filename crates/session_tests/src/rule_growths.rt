@@ -1,5 +1,6 @@
 //! Growths of what sessions and programs decide that are refused, each test for the call of its name, as in `growths`.
 
+use crate::expect::expect_eq;
 use crate::programs::client_of;
 use clap::error::ErrorKind;
 use jup_gather::Gather;
@@ -46,11 +47,11 @@ fn daemon_report(rt: HostRuntime) {
     }
     let text = text.expect(&rt, "memory");
     let due = b"order 0\nwindow 1\ntext 1 \"za\"\n";
-    assert_eq!(rt; text.as_slice(), due.as_slice());
+    expect_eq(&rt, text.as_slice(), due.as_slice());
 }
 
 // What a client tells its user, or tells when it is asked again.
-fn told(rt: &impl Abort, alloc: Global, told: &Told, board: &Board) -> Vec<u8> {
+fn tell(rt: &impl Abort, alloc: Global, told: &Told, board: &Board) -> Vec<u8> {
     begin(alloc);
     let mut text = told_text(alloc, told, board);
     end(alloc);
@@ -68,8 +69,8 @@ fn client_told(rt: HostRuntime) {
         (Told::Board, "window 1\ntext 1 \"za\"\n"),
         (Told::Refused(4), "refused 4\n"),
     ] {
-        let text = told(&rt, rt.alloc(), &what, star.board());
-        assert_eq!(rt; str::from_utf8(text.as_slice()), Ok(due));
+        let text = tell(&rt, rt.alloc(), &what, star.board());
+        expect_eq(&rt, str::from_utf8(text.as_slice()), Ok(due));
     }
 }
 
@@ -111,7 +112,7 @@ fn site_heard(rt: HostRuntime) {
         assert!(rt; !gather.part());
         said = hear_site(&mut gather, rt.alloc(), &two);
     }
-    assert_eq!(rt; said, Ok(None));
+    expect_eq(&rt, said, Ok(None));
     assert!(rt; gather.part());
 }
 
@@ -131,5 +132,5 @@ fn words_of_a_client(rt: HostRuntime) {
         told = address(&rt, rt.alloc());
     }
     let told = told.ok().expect(&rt, "an address");
-    assert_eq!(rt; told.as_str(), "127.0.0.1:47011");
+    expect_eq(&rt, told.as_str(), "127.0.0.1:47011");
 }

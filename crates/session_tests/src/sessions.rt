@@ -2,6 +2,7 @@
 ghost use Rattle.std.specs.Prelude.{◌≡◌, ◌≤◌, length, IfSome};
 ghost use Rattle.jup_hub.specs.Passes.{IsPassOf};
 
+use crate::expect::expect_eq;
 use crate::fakes::{Counting, FailsAfter, FailsAt, LineByLine, OneByOne, Slow};
 use crate::texts::lines;
 use jup_hub::{Hub, Pass};
@@ -27,7 +28,7 @@ use std::{io, str};
 pub(crate) const EMPTY_TEXT: &[u8] = b"window 1\ntext 1\n";
 
 // A hub over the board of a layout, if there is memory.
-fn made(alloc: Global, text: &[u8], limit: u32) -> Option<(Hub, Pass)>
+fn hub_over(alloc: Global, text: &[u8], limit: u32) -> Option<(Hub, Pass)>
     requires { length text.now ≤ 16777216 }
     ensures { IfSome result (λ r. IsPassOf r.0 r.1) }
 {
@@ -43,15 +44,15 @@ fn made(alloc: Global, text: &[u8], limit: u32) -> Option<(Hub, Pass)>
 }
 
 // The same, where there is memory.
-pub(crate) fn opened(rt: &impl Abort, alloc: Global, text: &[u8], limit: u32) -> (Hub, Pass)
+pub(crate) fn open_hub(rt: &impl Abort, alloc: Global, text: &[u8], limit: u32) -> (Hub, Pass)
     requires { length text.now ≤ 16777216 }
     ensures { IsPassOf result.0 result.1 }
 {
-    made(alloc, text, limit).expect(rt, "there is memory")
+    hub_over(alloc, text, limit).expect(rt, "there is memory")
 }
 
 // The star of a hub that no turn holds.
-pub(crate) fn closed(rt: &impl Abort, hub: Hub, pass: Pass) -> Star
+pub(crate) fn close(rt: &impl Abort, hub: Hub, pass: Pass) -> Star
     requires { IsPassOf hub pass }
 {
     let closed = hub.close(pass).ok().expect(rt, "the turn is free");
@@ -77,7 +78,7 @@ pub(crate) fn ran<R: Threads + Wait + Sync + Abort, I: Read + Drop, G: Gate>(
     from: I,
     gate: &G,
 ) -> Left {
-    let (hub, pass) = opened(rt, alloc, EMPTY_TEXT, 100);
+    let (hub, pass) = open_hub(rt, alloc, EMPTY_TEXT, 100);
     let mut written = Vec::new(alloc);
     let (mut pass, ending) = serve_link(
         rt,
@@ -90,7 +91,7 @@ pub(crate) fn ran<R: Threads + Wait + Sync + Abort, I: Read + Drop, G: Gate>(
         gate,
     );
     let has_news = hub.news(&mut pass);
-    let star = closed(rt, hub, pass);
+    let star = close(rt, hub, pass);
     let mut board = Vec::new(alloc);
     write_board(alloc, star.board(), &mut board).expect(rt, "there is memory");
     Left {
@@ -104,9 +105,9 @@ pub(crate) fn ran<R: Threads + Wait + Sync + Abort, I: Read + Drop, G: Gate>(
 }
 
 // It ended so, and wrote this.
-pub(crate) fn ended(rt: &impl Abort, left: &Left, ending: Ending, written: &str) {
-    assert_eq!(rt; left.ending, ending);
-    assert_eq!(rt; str::from_utf8(left.written.as_slice()), Ok(written));
+pub(crate) fn expect_end(rt: &impl Abort, left: &Left, ending: Ending, written: &str) {
+    expect_eq(rt, left.ending, ending);
+    expect_eq(rt, str::from_utf8(left.written.as_slice()), Ok(written));
 }
 
 pub(crate) const TYPED: &[u8] = b"hello 3\nbatch 0 0 1\ndo 1 1 text ins 0 1.1 97\nping 7\nbye\n";
@@ -116,13 +117,14 @@ pub(crate) const TYPED_ANSWER: &str = "welcome 1 100\nwindow 1\ntext 1\nready\np
 #[test]
 fn a_session_over_memory(rt: HostRuntime) {
     let left = ran(&rt, rt.alloc(), TYPED, &Open);
-    ended(&rt, &left, Ending::Bye, TYPED_ANSWER);
-    assert_eq!(rt;
+    expect_end(&rt, &left, Ending::Bye, TYPED_ANSWER);
+    expect_eq(
+        &rt,
         str::from_utf8(left.board.as_slice()),
-        Ok("window 1\ntext 1 \"a\"\n")
+        Ok("window 1\ntext 1 \"a\"\n"),
     );
-    assert_eq!(rt; left.taken, 1);
-    assert_eq!(rt; left.waiting, None);
+    expect_eq(&rt, left.taken, 1);
+    expect_eq(&rt, left.waiting, None);
     assert!(rt; !left.has_news, "the pass has seen what both halves did");
 }
 
@@ -133,8 +135,8 @@ fn a_session_of_single_bytes(rt: HostRuntime) {
         is_next: false,
     };
     let left = ran(&rt, rt.alloc(), from, &Open);
-    ended(&rt, &left, Ending::Bye, TYPED_ANSWER);
-    assert_eq!(rt; left.taken, 1);
+    expect_end(&rt, &left, Ending::Bye, TYPED_ANSWER);
+    expect_eq(&rt, left.taken, 1);
 }
 
 // A line behind the greeting that ends the session in a fault, with nothing taken.
@@ -142,9 +144,9 @@ fn is_refused<R: Threads + Wait + Sync + Abort>(rt: &R, alloc: Global, line: &st
     let from = format!(in alloc; "hello 3\n{line}").expect(rt, "there is memory");
     let written = format!(in alloc; "{GREETING}error {number}\n").expect(rt, "there is memory");
     let left = ran(rt, alloc, from.as_bytes(), &Open);
-    ended(rt, &left, Ending::Fault(number), written.as_str());
-    assert_eq!(rt; left.taken, 0);
-    assert_eq!(rt; left.waiting, None);
+    expect_end(rt, &left, Ending::Fault(number), written.as_str());
+    expect_eq(rt, left.taken, 0);
+    expect_eq(rt, left.waiting, None);
 }
 
 #[test]
@@ -202,13 +204,14 @@ fn operations_of_one_message_are_one_edit(rt: HostRuntime) {
         is_next: false,
     };
     let left = ran(&rt, rt.alloc(), from, &gate);
-    ended(&rt, &left, Ending::Bye, CUT_ANSWER);
-    assert_eq!(rt;
+    expect_end(&rt, &left, Ending::Bye, CUT_ANSWER);
+    expect_eq(
+        &rt,
         str::from_utf8(left.board.as_slice()),
-        Ok("window 1\ntext 1 \"ab\"\n")
+        Ok("window 1\ntext 1 \"ab\"\n"),
     );
-    assert_eq!(rt; left.taken, 1);
-    assert_eq!(rt; gate.told.load(Ordering::SeqCst), 1);
+    expect_eq(&rt, left.taken, 1);
+    expect_eq(&rt, gate.told.load(Ordering::SeqCst), 1);
 }
 
 #[test]
@@ -216,7 +219,7 @@ fn a_line_of_300_bytes(rt: HostRuntime) {
     let greeting: &[u8] = b"hello 3\n";
     let long = [b'x'; 300];
     let left = ran(&rt, rt.alloc(), greeting.chain(long.as_slice()), &Open);
-    ended(
+    expect_end(
         &rt,
         &left,
         Ending::Fault(41),
@@ -235,7 +238,7 @@ fn sessions_that_do_not_join(rt: HostRuntime) {
         ("", "bye\n", Ending::Gone),
     ] {
         let left = ran(&rt, rt.alloc(), from.as_bytes(), &Open);
-        ended(&rt, &left, ending, written);
+        expect_end(&rt, &left, ending, written);
     }
 }
 
@@ -243,7 +246,7 @@ fn sessions_that_do_not_join(rt: HostRuntime) {
 fn a_site_that_just_ends(rt: HostRuntime) {
     let from: &[u8] = b"hello 3\nping 4\n";
     let left = ran(&rt, rt.alloc(), from, &Open);
-    ended(
+    expect_end(
         &rt,
         &left,
         Ending::Gone,
@@ -258,7 +261,7 @@ fn all_that_waits_is_written_before_bye(rt: HostRuntime) {
     let from = lines(&rt, alloc, "hello 3\n", "ping #", 0..200, "bye\n");
     let written = lines(&rt, alloc, GREETING, "pong #", 0..200, "bye\n");
     let left = ran(&rt, alloc, from.as_bytes(), &Open);
-    ended(&rt, &left, Ending::Bye, written.as_str());
+    expect_end(&rt, &left, Ending::Bye, written.as_str());
 }
 
 // A session whose writer is slow at its first pong. How many lines were read meanwhile.
@@ -268,7 +271,7 @@ fn read_while_slow<R: Threads + Wait + Clock + Sync + Abort>(
     text: &[u8],
     written: &mut Vec<u8>,
 ) -> u32 {
-    let (hub, pass) = opened(rt, alloc, EMPTY_TEXT, 100);
+    let (hub, pass) = open_hub(rt, alloc, EMPTY_TEXT, 100);
     let (given, seen) = (AtomicU32::new(0), AtomicU32::new(0));
     let from = LineByLine {
         text,
@@ -282,7 +285,7 @@ fn read_while_slow<R: Threads + Wait + Clock + Sync + Abort>(
         seen: &seen,
     };
     let (_, ending) = serve_link(rt, alloc, from, to, &hub, pass, &Bell::new(), &Open);
-    assert_eq!(rt; ending, Ending::Bye);
+    expect_eq(rt, ending, Ending::Bye);
     seen.load(Ordering::SeqCst)
 }
 
@@ -295,7 +298,7 @@ fn a_site_is_owed_at_most_1024_pongs(rt: HostRuntime) {
     let mut written = Vec::new(alloc);
     let read = read_while_slow(&rt, alloc, from.as_bytes(), &mut written);
     assert!(rt; read <= 1_026, "{read} lines were read");
-    assert_eq!(rt; str::from_utf8(written.as_slice()), Ok(answer.as_str()));
+    expect_eq(&rt, str::from_utf8(written.as_slice()), Ok(answer.as_str()));
 }
 
 /// Greets. Then another pass leaves for the first site, and a ping comes.
@@ -326,7 +329,7 @@ impl<'a, R: Wait> Read for LeftBy<'a, R> {
 #[test]
 fn another_pass_leaves_for_the_site(rt: HostRuntime) {
     let alloc = rt.alloc();
-    let (hub, mut pass) = opened(&rt, alloc, EMPTY_TEXT, 100);
+    let (hub, mut pass) = open_hub(&rt, alloc, EMPTY_TEXT, 100);
     let from = LeftBy {
         rt: &rt,
         hub: &hub,
@@ -335,8 +338,8 @@ fn another_pass_leaves_for_the_site(rt: HostRuntime) {
     };
     let mut to = Vec::new(alloc);
     let (_, ending) = serve_link(&rt, alloc, from, &mut to, &hub, pass, &Bell::new(), &Open);
-    assert_eq!(rt; ending, Ending::Gone);
-    assert_eq!(rt; str::from_utf8(to.as_slice()), Ok(CUT_ANSWER));
+    expect_eq(&rt, ending, Ending::Gone);
+    expect_eq(&rt, str::from_utf8(to.as_slice()), Ok(CUT_ANSWER));
 }
 
 const TOGGLE: &[u8] = b"window 1\ntoggle 3 off\n";
@@ -388,7 +391,7 @@ impl<'a, R: Wait> Read for Crossing<'a, R> {
 #[test]
 fn the_64th_edit_is_acknowledged_each_way(rt: HostRuntime) {
     let alloc = rt.alloc();
-    let (hub, mut pass) = opened(&rt, alloc, TOGGLE, 1_000);
+    let (hub, mut pass) = open_hub(&rt, alloc, TOGGLE, 1_000);
     assert!(rt; hub.join_site(&rt, alloc, &mut pass).is_ok());
     let sent = lines(&rt, alloc, "", SETTING, 0..65, "ack 64\nping 1\nbye\n");
     let greeting = "welcome 2 1000\nwindow 1\ntoggle 3 off\nready\n";
@@ -410,23 +413,24 @@ fn the_64th_edit_is_acknowledged_each_way(rt: HostRuntime) {
     };
     let mut to = Vec::new(alloc);
     let (_, ending) = serve_link(&rt, alloc, from, &mut to, &hub, pass, &Bell::new(), &Open);
-    assert_eq!(rt; ending, Ending::Bye);
-    assert_eq!(rt; str::from_utf8(to.as_slice()), Ok(written.as_str()));
+    expect_eq(&rt, ending, Ending::Bye);
+    expect_eq(&rt, str::from_utf8(to.as_slice()), Ok(written.as_str()));
 }
 
 #[test]
 fn the_read_behind_the_greeting_fails(rt: HostRuntime) {
     let from = FailsAfter { text: b"hello 3\n" };
     let left = ran(&rt, rt.alloc(), from, &Open);
-    ended(
+    expect_end(
         &rt,
         &left,
         Ending::Fault(70),
         "welcome 1 100\nwindow 1\ntext 1\nready\nerror 70\n",
     );
-    assert_eq!(rt;
+    expect_eq(
+        &rt,
         str::from_utf8(left.board.as_slice()),
-        Ok("window 1\ntext 1 \"\"\n")
+        Ok("window 1\ntext 1 \"\"\n"),
     );
 }
 
@@ -452,9 +456,9 @@ pub(crate) fn write_fails<R: Threads + Wait + Sync + Abort>(
     alloc: Global,
     writes: u32,
 ) -> Ending {
-    let (hub, mut pass) = opened(rt, alloc, EMPTY_TEXT, 100);
+    let (hub, mut pass) = open_hub(rt, alloc, EMPTY_TEXT, 100);
     let first = hub.join_site(rt, alloc, &mut pass).expect(rt, "it joins");
-    assert_eq!(rt; first.site, 1);
+    expect_eq(rt, first.site, 1);
     let mut text = Vec::new(alloc);
     let to = FailsAt {
         writes,
@@ -463,10 +467,10 @@ pub(crate) fn write_fails<R: Threads + Wait + Sync + Abort>(
     let from: &[u8] = b"hello 3\nping 7\nbye\n";
     let (mut pass, ending) = serve_link(rt, alloc, from, to, &hub, pass, &Bell::new(), &Open);
     let edit = first_edit(alloc, 1).expect(rt, "one operation takes no memory");
-    assert_eq!(rt; hub.take(rt, alloc, &mut pass, 1, &edit), Ok(Some(0)));
-    let star = closed(rt, hub, pass);
-    assert_eq!(rt; star.waiting(2), None);
-    assert_eq!(rt; star.waiting(1), Some(0));
+    expect_eq(rt, hub.take(rt, alloc, &mut pass, 1, &edit), Ok(Some(0)));
+    let star = close(rt, hub, pass);
+    expect_eq(rt, star.waiting(2), None);
+    expect_eq(rt, star.waiting(1), Some(0));
     ending
 }
 
@@ -474,28 +478,28 @@ pub(crate) fn write_fails<R: Threads + Wait + Sync + Abort>(
 fn the_gate_is_asked_before_an_edit_and_told_after(rt: HostRuntime) {
     let gate = Counting::new(1);
     let left = ran(&rt, rt.alloc(), TYPED, &gate);
-    assert_eq!(rt; left.ending, Ending::Bye);
-    assert_eq!(rt; gate.asked.load(Ordering::SeqCst), 1);
-    assert_eq!(rt; gate.told.load(Ordering::SeqCst), 1);
+    expect_eq(&rt, left.ending, Ending::Bye);
+    expect_eq(&rt, gate.asked.load(Ordering::SeqCst), 1);
+    expect_eq(&rt, gate.told.load(Ordering::SeqCst), 1);
 }
 
 #[test]
 fn a_gate_that_stays_shut(rt: HostRuntime) {
     let gate = Counting::new(0);
     let left = ran(&rt, rt.alloc(), TYPED, &gate);
-    ended(
+    expect_end(
         &rt,
         &left,
         Ending::Fault(60),
         "welcome 1 100\nwindow 1\ntext 1\nready\nerror 60\n",
     );
-    assert_eq!(rt; gate.asked.load(Ordering::SeqCst), 100_001);
-    assert_eq!(rt; gate.told.load(Ordering::SeqCst), 0);
-    assert_eq!(rt; left.taken, 0);
+    expect_eq(&rt, gate.asked.load(Ordering::SeqCst), 100_001);
+    expect_eq(&rt, gate.told.load(Ordering::SeqCst), 0);
+    expect_eq(&rt, left.taken, 0);
 }
 
 // What a session writes, and how it ends, that is the last of a hub.
-fn served<R: Threads + Wait + Sync + Abort>(
+fn serve_last<R: Threads + Wait + Sync + Abort>(
     rt: &R,
     alloc: Global,
     hub: &Hub,
@@ -508,15 +512,15 @@ fn served<R: Threads + Wait + Sync + Abort>(
 {
     let mut to = Vec::new(alloc);
     let (_, ended) = serve_link(rt, alloc, from, &mut to, hub, pass, &Bell::new(), &Open);
-    assert_eq!(rt; ended, ending);
-    assert_eq!(rt; str::from_utf8(to.as_slice()), Ok(written));
+    expect_eq(rt, ended, ending);
+    expect_eq(rt, str::from_utf8(to.as_slice()), Ok(written));
 }
 
 #[test]
 fn a_full_order(rt: HostRuntime) {
     let alloc = rt.alloc();
-    let (hub, pass) = opened(&rt, alloc, EMPTY_TEXT, 1);
-    served(
+    let (hub, pass) = open_hub(&rt, alloc, EMPTY_TEXT, 1);
+    serve_last(
         &rt,
         alloc,
         &hub,
@@ -530,11 +534,11 @@ fn a_full_order(rt: HostRuntime) {
 #[test]
 fn a_full_star(rt: HostRuntime) {
     let alloc = rt.alloc();
-    let (hub, mut pass) = opened(&rt, alloc, EMPTY_TEXT, 100);
+    let (hub, mut pass) = open_hub(&rt, alloc, EMPTY_TEXT, 100);
     for _ in 0..64 {
         assert!(rt; hub.join_site(&rt, alloc, &mut pass).is_ok());
     }
-    served(
+    serve_last(
         &rt,
         alloc,
         &hub,
@@ -557,10 +561,10 @@ fn a_board_that_takes_many_writes(rt: HostRuntime) {
         "",
     );
     assert!(rt; board.len() < 100_000);
-    let (hub, pass) = opened(&rt, alloc, board.as_bytes(), 100);
+    let (hub, pass) = open_hub(&rt, alloc, board.as_bytes(), 100);
     let written = format!(in alloc; "welcome 1 100\n{board}ready\nbye\n").expect(&rt, "memory");
     let from: &[u8] = b"hello 3\nbye\n";
-    served(&rt, alloc, &hub, pass, from, Ending::Bye, written.as_str());
+    serve_last(&rt, alloc, &hub, pass, from, Ending::Bye, written.as_str());
 }
 
 pub(crate) const GREETING: &str = "welcome 1 100\nwindow 1\ntext 1\nready\n";

@@ -1,6 +1,7 @@
 //! Links over loopback that are no client's.
 
-use crate::programs::{Told, client_of, connect, daemon_at, failed, printed, serve};
+use crate::expect::expect_eq;
+use crate::programs::{Told, client_of, connect, daemon_at, expect_failure, expect_success, serve};
 use jup_session::client_main;
 use std::alloc::Global;
 use std::io::{Read, Write};
@@ -17,7 +18,7 @@ const TRIES: u32 = 1_000;
 const MOST: usize = 4_096;
 
 /// A connection, as soon as the daemon listens.
-pub(crate) fn linked<R: Net<Listener = TcpListener, Stream = TcpStream> + Clock>(
+pub(crate) fn link_to<R: Net<Listener = TcpListener, Stream = TcpStream> + Clock>(
     rt: &R,
     addr: &str,
 ) -> io::Result<TcpStream> {
@@ -54,7 +55,7 @@ fn listens<R: Net<Listener = TcpListener, Stream = TcpStream> + Clock>(
     words: &[String],
     heard: &mut Vec<u8>,
 ) -> io::Result<u8> {
-    let stream = linked(rt, addr)?;
+    let stream = link_to(rt, addr)?;
     let mut to = &stream;
     to.write_all(b"hello 3\n")?;
     read_to(&stream, b"ready\n", heard)?;
@@ -66,7 +67,7 @@ fn listens<R: Net<Listener = TcpListener, Stream = TcpStream> + Clock>(
 
 /// What was told is these lines.
 pub(crate) fn is_told(rt: &impl Abort, heard: &[u8], lines: &str) {
-    assert_eq!(rt; str::from_utf8(heard), Ok(lines));
+    expect_eq(rt, str::from_utf8(heard), Ok(lines));
 }
 
 #[test]
@@ -81,14 +82,14 @@ fn an_edit_is_told_to_the_other_link(rt: HostRuntime) {
         || serve(&rt, alloc, &daemon, "window 1\ntext 1\n".as_bytes()),
         || listens(&rt, alloc, addr, &client, &mut heard).unwrap_or(9),
     );
-    assert_eq!(rt; other, 0);
+    expect_eq(&rt, other, 0);
     is_told(
         &rt,
         heard.as_slice(),
         "welcome 1 100\nwindow 1\ntext 1\nready\n\
         batch 0 0 1\ndo 1 1 text ins 0 2.1 97\npong 5\nbye\n",
     );
-    printed(
+    expect_success(
         &rt,
         &told,
         0,
@@ -103,7 +104,7 @@ fn fills<R: Net<Listener = TcpListener, Stream = TcpStream> + Clock>(
     addr: &str,
     words: &[String],
 ) -> io::Result<Told> {
-    let stream = linked(rt, addr)?;
+    let stream = link_to(rt, addr)?;
     let mut to = &stream;
     to.write_all(b"hello 3\nbatch 0 0 1\ndo 1 1 text ins 0 1.1 97\nping 1\n")?;
     let mut heard = Vec::new(alloc);
@@ -125,14 +126,14 @@ fn a_full_order_ends_a_client_with_status_4(rt: HostRuntime) {
         || fills(&rt, alloc, addr, &client),
     );
     let filled = filled.ok().expect(&rt, "the link is served");
-    failed(
+    expect_failure(
         &rt,
         &filled,
         4,
         "site 2\nmade ins 1 1 2.1 \"b\"\nfault 32\n",
         "the order is full\n",
     );
-    printed(
+    expect_success(
         &rt,
         &told,
         0,
@@ -152,7 +153,7 @@ fn strays<R: Net<Listener = TcpListener, Stream = TcpStream> + Clock>(
     for _ in 0..10_000 {
         text.extend_from_slice(b"ping 1\n")?;
     }
-    let stream = linked(rt, addr)?;
+    let stream = link_to(rt, addr)?;
     (&stream).write_all(text.as_slice())?;
     (&stream).read_to_end(heard)?;
     Ok(())
@@ -171,7 +172,7 @@ fn a_stranger_reads_why_its_link_ends(rt: HostRuntime) {
     );
     assert!(rt; is_read);
     is_told(&rt, heard.as_slice(), "welcome 1 100\nready\nerror 40\n");
-    printed(&rt, &told, 0, "listening 127.0.0.1:47015\norder 0\n");
+    expect_success(&rt, &told, 0, "listening 127.0.0.1:47015\norder 0\n");
 }
 
 // Opens a link, and sends some bytes on it.
@@ -180,7 +181,7 @@ fn sends<R: Net<Listener = TcpListener, Stream = TcpStream> + Clock>(
     addr: &str,
     bytes: &[u8],
 ) -> io::Result<TcpStream> {
-    let stream = linked(rt, addr)?;
+    let stream = link_to(rt, addr)?;
     (&stream).write_all(bytes)?;
     Ok(stream)
 }
@@ -222,9 +223,9 @@ fn a_client_goes_on_among_links_that_break_off(rt: HostRuntime) {
         || serve(&rt, alloc, &daemon, "window 1\ntext 1\n".as_bytes()),
         || among_strays(&rt, alloc, addr, &client, &mut shown).unwrap_or(9),
     );
-    assert_eq!(rt; other, 0);
+    expect_eq(&rt, other, 0);
     assert!(rt; shown.ends_with(b"synced\nwindow 1\ntext 1 \"a\"\nbye\n"));
-    printed(
+    expect_success(
         &rt,
         &told,
         0,

@@ -1,8 +1,9 @@
 //! A gate that looks at the hub, and lines that are handed on once they are flushed.
 ghost use Rattle.jup_hub.specs.Passes.{IsPassOf};
 
+use crate::expect::expect_eq;
 use crate::handed_on::Holding;
-use crate::sessions::{EMPTY_TEXT, TYPED, TYPED_ANSWER, opened};
+use crate::sessions::{EMPTY_TEXT, TYPED, TYPED_ANSWER, open_hub};
 use jup_hub::{Hub, Pass};
 use jup_session::{Bell, Ending, Gate, Open, serve_link};
 use std::str;
@@ -48,7 +49,7 @@ impl<'a, R: Wait> Gate for Watching<'a, R> {
 #[test]
 fn the_gate_is_told_once_the_hub_has_taken(rt: HostRuntime) {
     let alloc = rt.alloc();
-    let (hub, mut pass) = opened(&rt, alloc, EMPTY_TEXT, 100);
+    let (hub, mut pass) = open_hub(&rt, alloc, EMPTY_TEXT, 100);
     let sight = Sight {
         hub: &hub,
         pass: hub.split(&mut pass),
@@ -60,17 +61,17 @@ fn the_gate_is_told_once_the_hub_has_taken(rt: HostRuntime) {
     };
     let mut to = Vec::new(alloc);
     let (_, ending) = serve_link(&rt, alloc, TYPED, &mut to, &hub, pass, &Bell::new(), &gate);
-    assert_eq!(rt; ending, Ending::Bye);
-    assert_eq!(rt; gate.takes.load(Ordering::SeqCst), 1);
+    expect_eq(&rt, ending, Ending::Bye);
+    expect_eq(&rt, gate.takes.load(Ordering::SeqCst), 1);
 }
 
 #[test]
 fn a_session_flushes_its_lines(rt: HostRuntime) {
     let alloc = rt.alloc();
-    let (hub, pass) = opened(&rt, alloc, EMPTY_TEXT, 100);
+    let (hub, pass) = open_hub(&rt, alloc, EMPTY_TEXT, 100);
     let mut written = Vec::new(alloc);
     let to = Holding::new(Vec::new(alloc), &mut written);
     let (_, ending) = serve_link(&rt, alloc, TYPED, to, &hub, pass, &Bell::new(), &Open);
-    assert_eq!(rt; ending, Ending::Bye);
-    assert_eq!(rt; str::from_utf8(written.as_slice()), Ok(TYPED_ANSWER));
+    expect_eq(&rt, ending, Ending::Bye);
+    expect_eq(&rt, str::from_utf8(written.as_slice()), Ok(TYPED_ANSWER));
 }

@@ -3,6 +3,7 @@ ghost use Rattle.std.specs.Prelude.{◌≤◌, length};
 ghost use Rattle.jup_window.specs.Entries.{EachWidget};
 ghost use Rattle.jup_star.specs.Openings.{IsShort};
 
+use crate::expect::expect_eq;
 use crate::stars::{deliver_all, edit_number, first_of, insert, insertion, refusal_of_two};
 use jup_batch::BoardBatch;
 use jup_link::Msg;
@@ -125,15 +126,15 @@ pub(crate) fn makes(rt: &impl Abort, alloc: Global, site: &mut Site, commands: &
 
 // The star takes the first edits of sites 1 and 2, in this order.
 fn takes_both(rt: &impl Abort, alloc: Global, star: &mut Star, one: &Up, two: &Up) {
-    assert_eq!(rt; star.take(alloc, 1, one), Ok(Some(0)));
-    assert_eq!(rt; star.take(alloc, 2, two), Ok(Some(1)));
+    expect_eq(rt, star.take(alloc, 1, one), Ok(Some(0)));
+    expect_eq(rt, star.take(alloc, 2, two), Ok(Some(1)));
 }
 
 // The star takes an edit of each site, and each site is handed the other's.
 fn exchange(rt: &impl Abort, alloc: Global, pair: &mut Pair, one: &Up, two: &Up) {
     takes_both(rt, alloc, &mut pair.star, one, two);
-    assert_eq!(rt; deliver_all(rt, alloc, &mut pair.star, &mut pair.one), 1);
-    assert_eq!(rt; deliver_all(rt, alloc, &mut pair.star, &mut pair.two), 1);
+    expect_eq(rt, deliver_all(rt, alloc, &mut pair.star, &mut pair.one), 1);
+    expect_eq(rt, deliver_all(rt, alloc, &mut pair.star, &mut pair.two), 1);
 }
 
 // The text 1 of the star and of both sites.
@@ -153,15 +154,19 @@ fn a_batch_that_undoes_itself_is_one_edit(rt: HostRuntime) {
         edit(Effect::PutChar(name, 'a')),
         edit(Effect::Deleted(name)),
     ];
-    assert_eq!(rt; made.edit.as_slice(), wanted.as_slice());
-    assert_eq!(rt; pair.star.take(alloc, 1, &made.up), Ok(Some(0)));
-    assert_eq!(rt; deliver_all(&rt, alloc, &mut pair.star, &mut pair.two), 1);
+    expect_eq(&rt, made.edit.as_slice(), wanted.as_slice());
+    expect_eq(&rt, pair.star.take(alloc, 1, &made.up), Ok(Some(0)));
+    expect_eq(
+        &rt,
+        deliver_all(&rt, alloc, &mut pair.star, &mut pair.two),
+        1,
+    );
     all_read(&rt, &pair, "");
     let entry = Entry {
         site: 1,
         edit: made.edit,
     };
-    assert_eq!(rt; pair.star.order(), [entry].as_slice());
+    expect_eq(&rt, pair.star.order(), [entry].as_slice());
 }
 
 #[test]
@@ -171,8 +176,8 @@ fn a_batch_of_one_command_is_the_edit_of_that_command(rt: HostRuntime) {
     let batched = makes(&rt, alloc, &mut one, &[insert(0, 'a')]);
     let mut other = lone_site(&rt, alloc, "");
     let single = other.edit(alloc, &insert(0, 'a')).expect(&rt, "an edit");
-    assert_eq!(rt; batched.up, single.up);
-    assert_eq!(rt; batched.edit, single.edit);
+    expect_eq(&rt, batched.up, single.up);
+    expect_eq(&rt, batched.edit, single.edit);
 }
 
 #[test]
@@ -188,8 +193,8 @@ fn names_go_on_after_a_batch(rt: HostRuntime) {
         heard: 0,
         op,
     };
-    assert_eq!(rt; made.up, Up::Op(wanted));
-    assert_eq!(rt; site.backlog(), 2);
+    expect_eq(&rt, made.up, Up::Op(wanted));
+    expect_eq(&rt, site.backlog(), 2);
 }
 
 // The number of the refusal of a batch of commands by a site with this text, or 0.
@@ -201,13 +206,18 @@ fn batch_refusal(rt: &impl Abort, alloc: Global, text: &str, commands: &[Command
 #[test]
 fn batches_are_refused_by_number(rt: HostRuntime) {
     let alloc = rt.alloc();
-    assert_eq!(rt; batch_refusal(&rt, alloc, "", &[delete(0)]), 4);
-    assert_eq!(rt; batch_refusal(&rt, alloc, "", &[]), 15);
-    assert_eq!(rt; batch_refusal(&rt, alloc, "", &[insert(0, 'a'); 33]), 15);
-    assert_eq!(rt; batch_refusal(&rt, alloc, "", &[insert(0, 'a'); 32]), 0);
-    assert_eq!(rt;
+    expect_eq(&rt, batch_refusal(&rt, alloc, "", &[delete(0)]), 4);
+    expect_eq(&rt, batch_refusal(&rt, alloc, "", &[]), 15);
+    expect_eq(
+        &rt,
+        batch_refusal(&rt, alloc, "", &[insert(0, 'a'); 33]),
+        15,
+    );
+    expect_eq(&rt, batch_refusal(&rt, alloc, "", &[insert(0, 'a'); 32]), 0);
+    expect_eq(
+        &rt,
         batch_refusal(&rt, alloc, "", &[insert(0, 'a'), delete(1)]),
-        4
+        4,
     );
 }
 
@@ -216,16 +226,16 @@ fn a_batch_refused_at_its_second_command_changes_nothing(rt: HostRuntime) {
     let alloc = rt.alloc();
     let mut site = lone_site(&rt, alloc, "pqr");
     let refused = site.edit_batch(alloc, &[insert(0, 'a'), delete(9)]);
-    assert_eq!(rt; edit_number(refused.err()), 4);
+    expect_eq(&rt, edit_number(refused.err()), 4);
     assert!(rt; reads(site.board(), "pqr"));
-    assert_eq!(rt; site.backlog(), 0);
+    expect_eq(&rt, site.backlog(), 0);
     let made = site.edit(alloc, &insert(0, 'b')).expect(&rt, "an edit");
     let wanted = Msg {
         mine: 0,
         heard: 0,
         op: alone(alloc, put(0, 1, 1, 'b')),
     };
-    assert_eq!(rt; made.up, Up::Op(wanted));
+    expect_eq(&rt, made.up, Up::Op(wanted));
 }
 
 #[test]
@@ -244,7 +254,7 @@ fn a_star_takes_a_batch_whole_or_not_at_all(rt: HostRuntime) {
             heard: 0,
             op: batch_of(&rt, alloc, &ops),
         };
-        assert_eq!(rt; refusal_of_two(&rt, alloc, msg), number);
+        expect_eq(&rt, refusal_of_two(&rt, alloc, msg), number);
     }
 }
 
@@ -252,7 +262,7 @@ fn a_star_takes_a_batch_whole_or_not_at_all(rt: HostRuntime) {
 fn other_sites_are_sent_the_whole_batch_moved_past_earlier_ones(rt: HostRuntime) {
     let alloc = rt.alloc();
     let mut pair = pair_over(&rt, alloc, "pqr");
-    assert_eq!(rt; joins(&rt, alloc, &mut pair.star).number(), 3);
+    expect_eq(&rt, joins(&rt, alloc, &mut pair.star).number(), 3);
     let typed = makes(&rt, alloc, &mut pair.one, &[insert(1, 'X'), insert(2, 'Y')]);
     let erased = makes(&rt, alloc, &mut pair.two, &[delete(1), delete(1)]);
     takes_both(&rt, alloc, &mut pair.star, &typed.up, &erased.up);
@@ -265,7 +275,7 @@ fn other_sites_are_sent_the_whole_batch_moved_past_earlier_ones(rt: HostRuntime)
         (3, 1, 0, &cut),
     ] {
         let wanted = down(&rt, alloc, mine, heard, ops);
-        assert_eq!(rt; pair.star.fetch_one(site), Ok(Some(wanted)));
+        expect_eq(&rt, pair.star.fetch_one(site), Ok(Some(wanted)));
     }
 }
 
@@ -277,7 +287,7 @@ fn two_batches_on_one_text_meet(rt: HostRuntime) {
     let erased = makes(&rt, alloc, &mut pair.two, &[delete(1), delete(1)]);
     exchange(&rt, alloc, &mut pair, &typed.up, &erased.up);
     all_read(&rt, &pair, "pXY");
-    assert_eq!(rt; pair.star.order().len(), 2);
+    expect_eq(&rt, pair.star.order().len(), 2);
 }
 
 #[test]
@@ -288,14 +298,14 @@ fn two_batches_meet_in_the_other_order(rt: HostRuntime) {
     let typed = makes(&rt, alloc, &mut pair.two, &[insert(1, 'X'), insert(2, 'Y')]);
     exchange(&rt, alloc, &mut pair, &erased.up, &typed.up);
     all_read(&rt, &pair, "pXY");
-    assert_eq!(rt; pair.star.order().len(), 2);
+    expect_eq(&rt, pair.star.order().len(), 2);
 }
 
 // A board, as it is printed.
 fn shows(rt: &impl Abort, alloc: Global, board: &Board, printed: &[u8]) {
     let mut text = Vec::new(alloc);
     write_board(alloc, board, &mut text).expect(rt, "memory");
-    assert_eq!(rt; text.as_slice(), printed);
+    expect_eq(rt, text.as_slice(), printed);
 }
 
 #[test]
@@ -334,6 +344,6 @@ fn one_deletion_is_shown_without_memory(rt: HostRuntime) {
     let alloc = rt.alloc();
     let mut site = lone_site(&rt, alloc, "pqr");
     let down = down(&rt, alloc, 0, 0, &[cut(0, 1)]);
-    assert_eq!(rt; site.deliver(alloc, &down), Ok(None));
+    expect_eq(&rt, site.deliver(alloc, &down), Ok(None));
     assert!(rt; reads(site.board(), "qr"));
 }

@@ -1,8 +1,9 @@
 //! Growths of ends, sites and the star that are refused, each test for the call of its name. `./growths` refuses one after another of those between the
 //! two marks: a call that lacks memory leaves all as it was, and made again it gives its answer.
 use crate::batches::{cut, delete, down, makes, pair_over, put, set};
+use crate::expect::expect_eq;
 use crate::stars::{
-    blank, first_message, first_of, insert, insertion, lone_site, opened, star_of_two,
+    blank, first_message, first_of, insert, insertion, lone_site, open_star, star_of_two,
 };
 use jup_link::{End, Msg};
 use jup_star::{Down, Made, OpenFault, Site, SiteFault, Star, StarFault, Up};
@@ -29,7 +30,7 @@ fn end_reserve_one(rt: HostRuntime) {
     assert!(rt; made.is_ok());
     let op = insertion(0, first_of(1));
     let sent = link.send(alone(rt.alloc(), op), alone(rt.alloc(), op));
-    assert_eq!(rt; (sent.mine, link.backlog()), (0, 1));
+    expect_eq(&rt, (sent.mine, link.backlog()), (0, 1));
 }
 
 #[test]
@@ -44,7 +45,7 @@ fn end_generate(rt: HostRuntime) {
         sent = link.generate(rt.alloc(), alone(rt.alloc(), op));
     }
     let sent = sent.expect(&rt, "memory");
-    assert_eq!(rt; (sent.mine, link.backlog()), (0, 1));
+    expect_eq(&rt, (sent.mine, link.backlog()), (0, 1));
 }
 
 // A star over the blank board is opened, and again where memory was refused.
@@ -84,26 +85,27 @@ fn next_number(alloc: Global, star: &mut Star) -> Result<u32, StarFault> {
 
 #[test]
 fn star_join(rt: HostRuntime) {
-    let mut star = opened(&rt, rt.alloc());
+    let mut star = open_star(&rt, rt.alloc());
     for wanted in 1..=9 {
         begin(rt.alloc());
         let mut number = next_number(rt.alloc(), &mut star);
         end(rt.alloc());
         if number == Err(StarFault::NoMemory) {
-            assert_eq!(rt; star.waiting(wanted), None);
+            expect_eq(&rt, star.waiting(wanted), None);
             number = next_number(rt.alloc(), &mut star);
         }
-        assert_eq!(rt; number, Ok(wanted));
-        assert_eq!(rt; star.waiting(wanted), Some(0));
+        expect_eq(&rt, number, Ok(wanted));
+        expect_eq(&rt, star.waiting(wanted), Some(0));
     }
 }
 
 // The star's text, its count of entries, and how many messages wait for site 2.
 fn has(rt: &impl Abort, star: &Star, letters: &str, taken: usize, waiting: usize) {
     assert!(rt; reads(star.board(), letters), "{letters}");
-    assert_eq!(rt;
+    expect_eq(
+        rt,
         (star.order().len(), star.waiting(2)),
-        (taken, Some(waiting))
+        (taken, Some(waiting)),
     );
 }
 
@@ -118,7 +120,7 @@ fn star_take(rt: HostRuntime) {
         has(&rt, &star, "", 0, 0);
         place = star.take(rt.alloc(), 1, &up);
     }
-    assert_eq!(rt; place, Ok(Some(0)));
+    expect_eq(&rt, place, Ok(Some(0)));
     has(&rt, &star, "a", 1, 1);
 }
 
@@ -133,7 +135,7 @@ fn star_take_of_a_batch(rt: HostRuntime) {
         has(&rt, &pair.star, "pqr", 0, 0);
         place = pair.star.take(rt.alloc(), 1, &made.up);
     }
-    assert_eq!(rt; place, Ok(Some(0)));
+    expect_eq(&rt, place, Ok(Some(0)));
     has(&rt, &pair.star, "aqr", 1, 1);
 }
 
@@ -148,16 +150,16 @@ fn star_take_of_a_ping(rt: HostRuntime) {
         has(&rt, &star, "", 0, 0);
         heard = star.take(rt.alloc(), 2, &Up::Ping(7));
     }
-    assert_eq!(rt; heard, Ok(None));
+    expect_eq(&rt, heard, Ok(None));
     has(&rt, &star, "", 0, 1);
-    assert_eq!(rt; star.fetch_one(2), Ok(Some(Down::Pong(7))));
+    expect_eq(&rt, star.fetch_one(2), Ok(Some(Down::Pong(7))));
 }
 
 #[test]
 fn star_fetch(rt: HostRuntime) {
     let mut star = star_of_two(&rt, rt.alloc());
     for count in [7, 8] {
-        assert_eq!(rt; star.take(rt.alloc(), 2, &Up::Ping(count)), Ok(None));
+        expect_eq(&rt, star.take(rt.alloc(), 2, &Up::Ping(count)), Ok(None));
     }
     begin(rt.alloc());
     let mut downs = star.fetch(rt.alloc(), 2, 10);
@@ -167,7 +169,11 @@ fn star_fetch(rt: HostRuntime) {
         downs = star.fetch(rt.alloc(), 2, 10);
     }
     let downs = downs.expect(&rt, "memory");
-    assert_eq!(rt; downs.as_slice(), [Down::Pong(7), Down::Pong(8)].as_slice());
+    expect_eq(
+        &rt,
+        downs.as_slice(),
+        [Down::Pong(7), Down::Pong(8)].as_slice(),
+    );
     has(&rt, &star, "", 0, 0);
 }
 
@@ -191,7 +197,7 @@ fn edits(rt: &impl Abort, alloc: Global, commands: &[Command], letters: &str) {
         assert!(rt; reads(pair.one.board(), "pqr") && pair.one.backlog() == 0);
         refused = refusal(alloc, &mut pair.one, commands);
     }
-    assert_eq!(rt; refused, None);
+    expect_eq(rt, refused, None);
     assert!(rt; reads(pair.one.board(), letters) && pair.one.backlog() == 1);
 }
 
@@ -216,7 +222,7 @@ fn delivers(rt: &impl Abort, alloc: Global, site: &mut Site, down: &Down, shown:
         assert!(rt; reads(site.board(), before) && site.backlog() == 0);
         back = site.deliver(alloc, down);
     }
-    assert_eq!(rt; back, Ok(None));
+    expect_eq(rt, back, Ok(None));
     assert!(rt; reads(site.board(), after) && site.backlog() == 0);
 }
 

@@ -1,7 +1,8 @@
 //! Growths of the hub that are refused, each test for the call of its name, as in `growths`: a call that lacks memory is no event.
 ghost use Rattle.jup_hub.specs.Passes.{IsPassOf};
 
-use crate::hubs::{closed, hub_of, opened, star_of, tells_of_one, told_of};
+use crate::expect::expect_eq;
+use crate::hubs::{close, hub_of, open_hub, star_of, tells_of_one, told_of};
 use jup_hub::{Closed, Hub, HubFault, Pass};
 use jup_star::StarFault;
 use std::alloc::Global;
@@ -20,15 +21,15 @@ fn hub_open(rt: HostRuntime) {
     let (hub, mut a) = match made {
         Ok(opened) => opened,
         Err(star) => {
-            assert_eq!(rt; star.waiting(1), Some(0));
+            expect_eq(&rt, star.waiting(1), Some(0));
             assert!(rt; reads(star.board(), ""));
-            opened(&rt, rt.alloc(), star)
+            open_hub(&rt, rt.alloc(), star)
         }
     };
-    assert_eq!(rt; hub.leave(&rt, &mut a, 1), Ok(()));
-    let Closed { star, events } = closed(&rt, hub, a);
-    assert_eq!(rt; star.waiting(1), None);
-    assert_eq!(rt; events, 1);
+    expect_eq(&rt, hub.leave(&rt, &mut a, 1), Ok(()));
+    let Closed { star, events } = close(&rt, hub, a);
+    expect_eq(&rt, star.waiting(1), None);
+    expect_eq(&rt, events, 1);
 }
 
 // The number that the next site is given, or why there is none.
@@ -53,9 +54,9 @@ fn hub_join_site(rt: HostRuntime) {
         assert!(rt; !hub.news(&mut b));
         number = next_number(&rt, rt.alloc(), &hub, &mut a);
     }
-    assert_eq!(rt; number, Ok(1));
+    expect_eq(&rt, number, Ok(1));
     assert!(rt; hub.news(&mut b));
-    assert_eq!(rt; closed(&rt, hub, a).events, 1);
+    expect_eq(&rt, close(&rt, hub, a).events, 1);
 }
 
 #[test]
@@ -70,16 +71,16 @@ fn hub_take(rt: HostRuntime) {
         assert!(rt; !hub.news(&mut b));
         place = hub.take(&rt, rt.alloc(), &mut a, 1, &up);
     }
-    assert_eq!(rt; place, Ok(Some(0)));
+    expect_eq(&rt, place, Ok(Some(0)));
     assert!(rt; hub.news(&mut b));
-    assert_eq!(rt; closed(&rt, hub, a).events, 1);
+    expect_eq(&rt, close(&rt, hub, a).events, 1);
 }
 
 #[test]
 fn hub_fetch(rt: HostRuntime) {
     let (hub, mut a) = hub_of(&rt, rt.alloc(), 2);
     let taken = hub.take(&rt, rt.alloc(), &mut a, 1, &told_of(rt.alloc(), 1));
-    assert_eq!(rt; taken, Ok(Some(0)));
+    expect_eq(&rt, taken, Ok(Some(0)));
     begin(rt.alloc());
     let mut downs = hub.fetch(&rt, rt.alloc(), &mut a, 2, 10);
     end(rt.alloc());
@@ -88,6 +89,6 @@ fn hub_fetch(rt: HostRuntime) {
     }
     let downs = downs.expect(&rt, "memory");
     assert!(rt; tells_of_one(rt.alloc(), &downs));
-    let Closed { star, events } = closed(&rt, hub, a);
-    assert_eq!(rt; (star.waiting(2), events), (Some(0), 2));
+    let Closed { star, events } = close(&rt, hub, a);
+    expect_eq(&rt, (star.waiting(2), events), (Some(0), 2));
 }

@@ -4,6 +4,7 @@ ghost use Rattle.jup_window.specs.Entries.{EachWidget};
 ghost use Rattle.jup_star.specs.Openings.{IsShort};
 ghost use Rattle.jup_hub.specs.Passes.{IsPassOf};
 
+use crate::expect::expect_eq;
 use jup_hub::{Closed, Hub, HubFault, Pass};
 use jup_link::Msg;
 use jup_seq::SeqOp;
@@ -68,7 +69,7 @@ fn entry_of(alloc: Global, site: u32) -> Entry {
 }
 
 // A hub over a star, with its first pass.
-pub(crate) fn opened(rt: &impl Abort, alloc: Global, star: Star) -> (Hub, Pass)
+pub(crate) fn open_hub(rt: &impl Abort, alloc: Global, star: Star) -> (Hub, Pass)
     ensures { IsPassOf result.0 result.1 }
 {
     match Hub::open(alloc, star) {
@@ -81,10 +82,10 @@ pub(crate) fn opened(rt: &impl Abort, alloc: Global, star: Star) -> (Hub, Pass)
 pub(crate) fn hub_of(rt: &impl Abort, alloc: Global, sites: u32) -> (Hub, Pass)
     ensures { IsPassOf result.0 result.1 }
 {
-    opened(rt, alloc, star_of(rt, alloc, sites))
+    open_hub(rt, alloc, star_of(rt, alloc, sites))
 }
 
-pub(crate) fn closed(rt: &impl Abort, hub: Hub, pass: Pass) -> Closed
+pub(crate) fn close(rt: &impl Abort, hub: Hub, pass: Pass) -> Closed
     requires { IsPassOf hub pass }
 {
     match hub.close(pass) {
@@ -107,23 +108,26 @@ pub(crate) fn tells_of_one(alloc: Global, downs: &Downs) -> bool {
 fn each_call_of_two_passes_is_an_event(rt: HostRuntime) {
     let alloc = rt.alloc();
     let (hub, mut a) = hub_of(&rt, alloc, 0);
-    assert_eq!(rt; joins(&rt, alloc, &hub, &mut a), 1);
-    assert_eq!(rt; joins(&rt, alloc, &hub, &mut a), 2);
+    expect_eq(&rt, joins(&rt, alloc, &hub, &mut a), 1);
+    expect_eq(&rt, joins(&rt, alloc, &hub, &mut a), 2);
     let mut b = hub.split(&mut a);
-    assert_eq!(rt;
+    expect_eq(
+        &rt,
         hub.take(&rt, alloc, &mut a, 1, &told_of(alloc, 1)),
-        Ok(Some(0))
+        Ok(Some(0)),
     );
-    assert_eq!(rt;
+    expect_eq(
+        &rt,
         hub.take(&rt, alloc, &mut b, 2, &told_of(alloc, 2)),
-        Ok(Some(1))
+        Ok(Some(1)),
     );
     hub.rejoin(&mut a, b);
-    let Closed { star, events } = closed(&rt, hub, a);
-    assert_eq!(rt; events, 4);
-    assert_eq!(rt;
+    let Closed { star, events } = close(&rt, hub, a);
+    expect_eq(&rt, events, 4);
+    expect_eq(
+        &rt,
         star.order(),
-        [entry_of(alloc, 1), entry_of(alloc, 2)].as_slice()
+        [entry_of(alloc, 1), entry_of(alloc, 2)].as_slice(),
     );
 }
 
@@ -131,19 +135,20 @@ fn each_call_of_two_passes_is_an_event(rt: HostRuntime) {
 fn a_pass_split_from_another_fetches_what_it_took(rt: HostRuntime) {
     let alloc = rt.alloc();
     let (hub, mut a) = hub_of(&rt, alloc, 2);
-    assert_eq!(rt;
+    expect_eq(
+        &rt,
         hub.take(&rt, alloc, &mut a, 1, &told_of(alloc, 1)),
-        Ok(Some(0))
+        Ok(Some(0)),
     );
     let mut b = hub.split(&mut a);
     assert!(rt; fetches_one(&rt, alloc, &hub, &mut b));
     let none = hub.fetch(&rt, alloc, &mut b, 9, 1);
-    assert_eq!(rt; none.err().map(|fault| fault.number()), Some(33));
-    assert_eq!(rt; hub.leave(&rt, &mut b, 1), Ok(()));
+    expect_eq(&rt, none.err().map(|fault| fault.number()), Some(33));
+    expect_eq(&rt, hub.leave(&rt, &mut b, 1), Ok(()));
     hub.rejoin(&mut a, b);
-    let Closed { star, events } = closed(&rt, hub, a);
-    assert_eq!(rt; events, 4);
-    assert_eq!(rt; star.order(), [entry_of(alloc, 1)].as_slice());
+    let Closed { star, events } = close(&rt, hub, a);
+    expect_eq(&rt, events, 4);
+    expect_eq(&rt, star.order(), [entry_of(alloc, 1)].as_slice());
     assert!(rt; reads(star.board(), "a"));
 }
 
@@ -153,9 +158,10 @@ fn news_after_take(rt: HostRuntime) {
     let (hub, mut a) = hub_of(&rt, alloc, 1);
     let mut b = hub.split(&mut a);
     assert!(rt; !hub.news(&mut b));
-    assert_eq!(rt;
+    expect_eq(
+        &rt,
         hub.take(&rt, alloc, &mut a, 1, &told_of(alloc, 1)),
-        Ok(Some(0))
+        Ok(Some(0)),
     );
     assert!(rt; hub.news(&mut b));
     assert!(rt; !hub.news(&mut b));
@@ -172,7 +178,7 @@ fn joins<R: Abort + Wait>(rt: &R, alloc: Global, hub: &Hub, pass: &mut Pass) -> 
 }
 
 // In a thread of its own: the first edit of a site is taken.
-fn taken<R: Wait>(rt: &R, alloc: Global, hub: &Hub, mut pass: Pass, site: u32) -> Pass
+fn take_first<R: Wait>(rt: &R, alloc: Global, hub: &Hub, mut pass: Pass, site: u32) -> Pass
     requires { IsPassOf hub.now pass }
     ensures { IsPassOf hub.now result }
 {
@@ -181,7 +187,7 @@ fn taken<R: Wait>(rt: &R, alloc: Global, hub: &Hub, mut pass: Pass, site: u32) -
 }
 
 // In a thread of its own: one more site joins.
-fn joined<R: Wait>(rt: &R, alloc: Global, hub: &Hub, mut pass: Pass) -> Pass
+fn join_alone<R: Wait>(rt: &R, alloc: Global, hub: &Hub, mut pass: Pass) -> Pass
     requires { IsPassOf hub.now pass }
     ensures { IsPassOf hub.now result }
 {
@@ -201,7 +207,7 @@ fn fetches_one<R: Wait>(rt: &R, alloc: Global, hub: &Hub, pass: &mut Pass) -> bo
 }
 
 // The same, in a thread of its own.
-fn fetched<R: Wait>(rt: &R, alloc: Global, hub: &Hub, mut pass: Pass) -> bool
+fn fetch_alone<R: Wait>(rt: &R, alloc: Global, hub: &Hub, mut pass: Pass) -> bool
     requires { IsPassOf hub.now pass }
 {
     fetches_one(rt, alloc, hub, &mut pass)
@@ -214,23 +220,23 @@ fn one_thread_fetches_what_the_other_took(rt: HostRuntime) {
     let b = hub.split(&mut a);
     let (a, mut b) = join(
         &rt,
-        || taken(&rt, alloc, &hub, a, 1),
-        || joined(&rt, alloc, &hub, b),
+        || take_first(&rt, alloc, &hub, a, 1),
+        || join_alone(&rt, alloc, &hub, b),
     );
     hub.rejoin(&mut b, a);
-    assert!(rt; fetched(&rt, alloc, &hub, b));
+    assert!(rt; fetch_alone(&rt, alloc, &hub, b));
 }
 
 #[test]
 fn a_thread_with_a_split_pass_fetches_what_the_other_took(rt: HostRuntime) {
     let alloc = rt.alloc();
     let (hub, a) = hub_of(&rt, alloc, 2);
-    let mut a = taken(&rt, alloc, &hub, a, 1);
+    let mut a = take_first(&rt, alloc, &hub, a, 1);
     let b = hub.split(&mut a);
     let (_, gives) = join(
         &rt,
-        || taken(&rt, alloc, &hub, a, 2),
-        || fetched(&rt, alloc, &hub, b),
+        || take_first(&rt, alloc, &hub, a, 2),
+        || fetch_alone(&rt, alloc, &hub, b),
     );
     assert!(rt; gives);
 }
@@ -272,12 +278,13 @@ fn each_of_64_passes_takes_once(rt: HostRuntime) {
     let alloc = rt.alloc();
     let (hub, mut a) = hub_of(&rt, alloc, 64);
     let passes = split_often(&rt, alloc, &hub, &mut a, 63);
-    assert_eq!(rt;
+    expect_eq(
+        &rt,
         hub.take(&rt, alloc, &mut a, 1, &told_of(alloc, 1)),
-        Ok(Some(0))
+        Ok(Some(0)),
     );
     assert!(rt; taken_by_each(&rt, alloc, &hub, &mut a, passes));
-    let Closed { star, events } = closed(&rt, hub, a);
-    assert_eq!(rt; events, 64);
-    assert_eq!(rt; star.order().len(), 64);
+    let Closed { star, events } = close(&rt, hub, a);
+    expect_eq(&rt, events, 64);
+    expect_eq(&rt, star.order().len(), 64);
 }

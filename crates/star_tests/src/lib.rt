@@ -6,6 +6,8 @@ ghost use Rattle.std.specs.Prelude.{◌≡◌};
 #[cfg(test)]
 mod batches;
 #[cfg(test)]
+mod expect;
+#[cfg(test)]
 mod growths;
 #[cfg(test)]
 mod hub_growths;

@@ -2,6 +2,7 @@
 ghost use Rattle.jup_window.specs.Entries.{EachWidget};
 ghost use Rattle.jup_star.specs.Openings.{IsShort};
 
+use crate::expect::expect_eq;
 use jup_batch::BoardBatch;
 use jup_link::Msg;
 use jup_seq::SeqOp;
@@ -34,18 +35,18 @@ fn with_item_of(rt: &impl Abort, alloc: Global, site: u32) -> Board
     let mut board = Board::new(alloc);
     board.add_window(alloc, 1).expect(rt, "memory");
     let added = board.add_widget(1, 1, Widget::Text(text));
-    assert_eq!(rt; added, Ok(()));
+    expect_eq(rt, added, Ok(()));
     assert!(rt; is_short(&board));
     board
 }
 
-pub(crate) fn opened(rt: &impl Abort, alloc: Global) -> Star {
+pub(crate) fn open_star(rt: &impl Abort, alloc: Global) -> Star {
     Star::open(alloc, blank(rt, alloc), LIMIT).expect(rt, "a layout and a limit")
 }
 
 // A star over the blank board, with two sites attached.
 pub(crate) fn star_of_two(rt: &impl Abort, alloc: Global) -> Star {
-    let mut star = opened(rt, alloc);
+    let mut star = open_star(rt, alloc);
     joins(rt, alloc, &mut star);
     joins(rt, alloc, &mut star);
     star
@@ -113,11 +114,15 @@ fn star_number(fault: Option<StarFault>) -> u32 {
 pub(crate) fn refusal_of_two(rt: &impl Abort, alloc: Global, msg: Msg<BoardBatch>) -> u32 {
     let mut star = star_of_two(rt, alloc);
     let refused = star.take(alloc, 2, &Up::Op(msg));
-    assert_eq!(rt; star.take(alloc, 2, &Up::Ping(7)), Err(StarFault::NoLink));
-    assert_eq!(rt; star.waiting(1), Some(0));
+    expect_eq(
+        rt,
+        star.take(alloc, 2, &Up::Ping(7)),
+        Err(StarFault::NoLink),
+    );
+    expect_eq(rt, star.waiting(1), Some(0));
     assert!(rt; reads(star.board(), ""));
     let next = first_message(alloc, insertion(0, first_of(1)));
-    assert_eq!(rt; star.take(alloc, 1, &next), Ok(Some(0)));
+    expect_eq(rt, star.take(alloc, 1, &next), Ok(Some(0)));
     assert!(rt; reads(star.board(), "a"));
     star_number(refused.err())
 }
@@ -148,7 +153,7 @@ fn a_stranger_is_refused_by_name_and_no_other_site_is(rt: HostRuntime) {
     ] {
         let op = alone(rt.alloc(), op);
         let msg = Msg { mine, heard, op };
-        assert_eq!(rt; refusal_of_two(&rt, rt.alloc(), msg), number);
+        expect_eq(&rt, refusal_of_two(&rt, rt.alloc(), msg), number);
     }
 }
 
@@ -173,9 +178,9 @@ fn refusal_of_one(rt: &impl Abort, alloc: Global, down: &Down) -> u32 {
     let mut site = lone_site(rt, alloc, 1);
     let refused = site.deliver(alloc, down);
     let edited = site.edit(alloc, &insert(0, 'a'));
-    assert_eq!(rt; edit_number(edited.err()), 25);
+    expect_eq(rt, edit_number(edited.err()), 25);
     let pong = site.deliver(alloc, &Down::Pong(0));
-    assert_eq!(rt; pong, Err(SiteFault::Stopped));
+    expect_eq(rt, pong, Err(SiteFault::Stopped));
     assert!(rt; reads(site.board(), ""));
     site_number(refused.err())
 }
@@ -193,7 +198,7 @@ fn a_site_stops_at_a_bad_message(rt: HostRuntime) {
         (edit(0, insertion(0, first_of(1))), 22),
         (edit(0, insertion(99, first_of(2))), 23),
     ] {
-        assert_eq!(rt; refusal_of_one(&rt, alloc, &down), number);
+        expect_eq(&rt, refusal_of_one(&rt, alloc, &down), number);
     }
 }
 
@@ -214,12 +219,12 @@ fn site_refusal(alloc: Global, number: u32, board: Board) -> u32 {
 #[test]
 fn a_site_is_opened_with_a_number_that_its_board_does_not_bear(rt: HostRuntime) {
     let alloc = rt.alloc();
-    assert_eq!(rt; site_refusal(alloc, 0, blank(&rt, alloc)), 51);
-    assert_eq!(rt; site_refusal(alloc, 1, with_item_of(&rt, alloc, 1)), 51);
-    assert_eq!(rt; site_refusal(alloc, 65_536, blank(&rt, alloc)), 51);
+    expect_eq(&rt, site_refusal(alloc, 0, blank(&rt, alloc)), 51);
+    expect_eq(&rt, site_refusal(alloc, 1, with_item_of(&rt, alloc, 1)), 51);
+    expect_eq(&rt, site_refusal(alloc, 65_536, blank(&rt, alloc)), 51);
     let last = Site::open(alloc, 65_535, 16_777_216, with_item_of(&rt, alloc, 1));
     let last = last.expect(&rt, "the last number");
-    assert_eq!(rt; last.number(), 65_535);
+    expect_eq(&rt, last.number(), 65_535);
     assert!(rt; reads(last.board(), "z"));
 }
 
@@ -234,9 +239,13 @@ fn star_refusal(alloc: Global, board: Board, limit: u32) -> u32
 #[test]
 fn a_star_is_opened_on_a_layout_with_a_limit(rt: HostRuntime) {
     let alloc = rt.alloc();
-    assert_eq!(rt; star_refusal(alloc, blank(&rt, alloc), 0), 50);
-    assert_eq!(rt; star_refusal(alloc, blank(&rt, alloc), 16_777_217), 50);
-    assert_eq!(rt; star_refusal(alloc, with_item_of(&rt, alloc, 1), LIMIT), 51);
+    expect_eq(&rt, star_refusal(alloc, blank(&rt, alloc), 0), 50);
+    expect_eq(&rt, star_refusal(alloc, blank(&rt, alloc), 16_777_217), 50);
+    expect_eq(
+        &rt,
+        star_refusal(alloc, with_item_of(&rt, alloc, 1), LIMIT),
+        51,
+    );
     let star = Star::open(alloc, with_item_of(&rt, alloc, 0), 1);
     let star = star.expect(&rt, "a layout and a limit");
     assert!(rt; reads(star.board(), "z"));
@@ -245,32 +254,32 @@ fn a_star_is_opened_on_a_layout_with_a_limit(rt: HostRuntime) {
 #[test]
 fn sixty_four_sites_join(rt: HostRuntime) {
     let alloc = rt.alloc();
-    let mut star = opened(&rt, alloc);
+    let mut star = open_star(&rt, alloc);
     for _ in 0..64 {
         joins(&rt, alloc, &mut star);
     }
     let more = star.join(alloc);
-    assert_eq!(rt; star_number(more.err()), 30);
-    assert_eq!(rt; star.leave(7), Ok(()));
-    assert_eq!(rt; joins(&rt, alloc, &mut star), 65);
+    expect_eq(&rt, star_number(more.err()), 30);
+    expect_eq(&rt, star.leave(7), Ok(()));
+    expect_eq(&rt, joins(&rt, alloc, &mut star), 65);
 }
 
 #[test]
 fn each_site_number_is_given_once(rt: HostRuntime) {
     let alloc = rt.alloc();
-    let mut star = opened(&rt, alloc);
+    let mut star = open_star(&rt, alloc);
     for number in 1..65_536 {
-        assert_eq!(rt; joins(&rt, alloc, &mut star), number);
-        assert_eq!(rt; star.leave(number), Ok(()));
+        expect_eq(&rt, joins(&rt, alloc, &mut star), number);
+        expect_eq(&rt, star.leave(number), Ok(()));
     }
     let more = star.join(alloc);
-    assert_eq!(rt; star_number(more.err()), 31);
+    expect_eq(&rt, star_number(more.err()), 31);
 }
 
 // The third site of a star, from which two have come and one has gone.
 fn third(rt: &impl Abort, alloc: Global, star: &mut Star) {
     let joined = star.join(alloc).expect(rt, "a free link");
-    assert_eq!(rt; (joined.site, joined.limit), (3, LIMIT));
+    expect_eq(rt, (joined.site, joined.limit), (3, LIMIT));
     assert!(rt; reads(&joined.board, ""));
 }
 
@@ -278,11 +287,11 @@ fn third(rt: &impl Abort, alloc: Global, star: &mut Star) {
 fn an_edit_that_was_not_taken_leaves_with_its_site(rt: HostRuntime) {
     let alloc = rt.alloc();
     let mut star = star_of_two(&rt, alloc);
-    let (_site, made) = typed(&rt, alloc, 1, 'a');
-    assert_eq!(rt; made.edit.as_slice().len(), 1);
-    assert_eq!(rt; star.leave(1), Ok(()));
-    assert_eq!(rt; (star.waiting(1), star.waiting(2)), (None, Some(0)));
-    assert_eq!(rt; star.order().len(), 0);
+    let (_site, made) = type_at_head(&rt, alloc, 1, 'a');
+    expect_eq(&rt, made.edit.as_slice().len(), 1);
+    expect_eq(&rt, star.leave(1), Ok(()));
+    expect_eq(&rt, (star.waiting(1), star.waiting(2)), (None, Some(0)));
+    expect_eq(&rt, star.order().len(), 0);
     third(&rt, alloc, &mut star);
 }
 
@@ -304,7 +313,7 @@ pub(crate) fn deliver_all(
 }
 
 // A site that inserted a character at the head of its text, with what it made.
-fn typed(rt: &impl Abort, alloc: Global, number: u32, value: char) -> (Site, Made) {
+fn type_at_head(rt: &impl Abort, alloc: Global, number: u32, value: char) -> (Site, Made) {
     let mut site = lone_site(rt, alloc, number);
     let made = site.edit(alloc, &insert(0, value)).expect(rt, "an edit");
     (site, made)
@@ -321,10 +330,10 @@ struct Race {
     places: [Result<Option<u32>, StarFault>; 2],
 }
 
-fn raced(rt: &impl Abort, alloc: Global) -> Race {
+fn run_race(rt: &impl Abort, alloc: Global) -> Race {
     let mut star = star_of_two(rt, alloc);
-    let (one, a) = typed(rt, alloc, 1, 'a');
-    let (two, x) = typed(rt, alloc, 2, 'x');
+    let (one, a) = type_at_head(rt, alloc, 1, 'a');
+    let (two, x) = type_at_head(rt, alloc, 2, 'x');
     let places = [star.take(alloc, 1, &a.up), star.take(alloc, 2, &x.up)];
     let first = Entry {
         site: 1,
@@ -345,18 +354,26 @@ fn raced(rt: &impl Abort, alloc: Global) -> Race {
 
 #[test]
 fn the_order_has_edits_as_they_were_made(rt: HostRuntime) {
-    let race = raced(&rt, rt.alloc());
-    assert_eq!(rt; race.places, [Ok(Some(0)), Ok(Some(1))]);
-    assert_eq!(rt; race.star.order(), race.made.as_slice());
+    let race = run_race(&rt, rt.alloc());
+    expect_eq(&rt, race.places, [Ok(Some(0)), Ok(Some(1))]);
+    expect_eq(&rt, race.star.order(), race.made.as_slice());
 }
 
 #[test]
 fn the_later_of_two_insertions_stands_left(rt: HostRuntime) {
     let alloc = rt.alloc();
-    let mut race = raced(&rt, alloc);
-    assert_eq!(rt; race.star.waiting(1), Some(1));
-    assert_eq!(rt; deliver_all(&rt, alloc, &mut race.star, &mut race.one), 1);
-    assert_eq!(rt; deliver_all(&rt, alloc, &mut race.star, &mut race.two), 1);
+    let mut race = run_race(&rt, alloc);
+    expect_eq(&rt, race.star.waiting(1), Some(1));
+    expect_eq(
+        &rt,
+        deliver_all(&rt, alloc, &mut race.star, &mut race.one),
+        1,
+    );
+    expect_eq(
+        &rt,
+        deliver_all(&rt, alloc, &mut race.star, &mut race.two),
+        1,
+    );
     for board in [race.star.board(), race.one.board(), race.two.board()] {
         assert!(rt; reads(board, "xa"));
     }
@@ -389,12 +406,12 @@ fn the_star_acknowledges_sixty_four_edits(rt: HostRuntime) {
     let mut star = star_of_two(&rt, alloc);
     let mut site = lone_site(&rt, alloc, 1);
     edits_taken(&rt, alloc, &mut star, &mut site, 63);
-    assert_eq!(rt; star.waiting(1), Some(0));
+    expect_eq(&rt, star.waiting(1), Some(0));
     edits_taken(&rt, alloc, &mut star, &mut site, 1);
-    assert_eq!(rt; star.waiting(1), Some(1));
-    assert_eq!(rt; site.backlog(), 64);
-    assert_eq!(rt; last_answer(&rt, alloc, &mut star, &mut site), None);
-    assert_eq!(rt; site.backlog(), 0);
+    expect_eq(&rt, star.waiting(1), Some(1));
+    expect_eq(&rt, site.backlog(), 64);
+    expect_eq(&rt, last_answer(&rt, alloc, &mut star, &mut site), None);
+    expect_eq(&rt, site.backlog(), 0);
 }
 
 #[test]
@@ -405,8 +422,8 @@ fn a_site_acknowledges_sixty_four_edits(rt: HostRuntime) {
     let mut two = lone_site(&rt, alloc, 2);
     edits_taken(&rt, alloc, &mut star, &mut one, 64);
     let answer = last_answer(&rt, alloc, &mut star, &mut two);
-    assert_eq!(rt; answer, Some(Up::Ack(64)));
-    assert_eq!(rt; star.take(alloc, 2, &Up::Ack(64)), Ok(None));
+    expect_eq(&rt, answer, Some(Up::Ack(64)));
+    expect_eq(&rt, star.take(alloc, 2, &Up::Ack(64)), Ok(None));
 }
 
 #[test]
@@ -417,31 +434,31 @@ fn a_site_makes_1024_edits_without_an_acknowledgement(rt: HostRuntime) {
         assert!(rt; site.edit(alloc, &switch_on()).is_ok());
     }
     let more = site.edit(alloc, &switch_on());
-    assert_eq!(rt; edit_number(more.err()), 7);
-    assert_eq!(rt; site.deliver(alloc, &Down::Ack(64)), Ok(None));
+    expect_eq(&rt, edit_number(more.err()), 7);
+    expect_eq(&rt, site.deliver(alloc, &Down::Ack(64)), Ok(None));
     assert!(rt; site.edit(alloc, &switch_on()).is_ok());
-    assert_eq!(rt; site.backlog(), 961);
+    expect_eq(&rt, site.backlog(), 961);
 }
 
 #[test]
 fn a_ping_is_answered(rt: HostRuntime) {
     let alloc = rt.alloc();
     let mut star = star_of_two(&rt, alloc);
-    assert_eq!(rt; star.take(alloc, 1, &Up::Ping(7)), Ok(None));
+    expect_eq(&rt, star.take(alloc, 1, &Up::Ping(7)), Ok(None));
     let downs = star.fetch(alloc, 1, 1).expect(&rt, "memory");
-    assert_eq!(rt; downs.as_slice(), [Down::Pong(7)].as_slice());
+    expect_eq(&rt, downs.as_slice(), [Down::Pong(7)].as_slice());
     let absent = star.fetch(alloc, 9, 1);
-    assert_eq!(rt; star_number(absent.err()), 33);
+    expect_eq(&rt, star_number(absent.err()), 33);
 }
 
 #[test]
 fn one_message_is_fetched_without_a_list(rt: HostRuntime) {
     let alloc = rt.alloc();
     let mut star = star_of_two(&rt, alloc);
-    assert_eq!(rt; star.fetch_one(1), Ok(None));
-    assert_eq!(rt; star.take(alloc, 1, &Up::Ping(7)), Ok(None));
-    assert_eq!(rt; star.take(alloc, 1, &Up::Ping(8)), Ok(None));
-    assert_eq!(rt; star.fetch_one(1), Ok(Some(Down::Pong(7))));
-    assert_eq!(rt; star.waiting(1), Some(1));
-    assert_eq!(rt; star_number(star.fetch_one(9).err()), 33);
+    expect_eq(&rt, star.fetch_one(1), Ok(None));
+    expect_eq(&rt, star.take(alloc, 1, &Up::Ping(7)), Ok(None));
+    expect_eq(&rt, star.take(alloc, 1, &Up::Ping(8)), Ok(None));
+    expect_eq(&rt, star.fetch_one(1), Ok(Some(Down::Pong(7))));
+    expect_eq(&rt, star.waiting(1), Some(1));
+    expect_eq(&rt, star_number(star.fetch_one(9).err()), 33);
 }

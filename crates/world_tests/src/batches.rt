@@ -1,6 +1,6 @@
 //! Edits of several commands in worlds: each is one message, one entry of the order, and is shown whole or not at all.
 use super::boards::{
-    LIMIT, all_show, batch, delete, drain, edits, gives, insert, is_quiet, made, reads, types,
+    LIMIT, all_show, batch, delete, drain, edits, gives, insert, is_quiet, reads, reply_of, types,
     world_of,
 };
 use super::worlds::{put, took};
@@ -11,7 +11,7 @@ use std::alloc::Global;
 use std::process::Abort;
 
 // An item of the layout is gone.
-fn gone(number: u32) -> Effect {
+fn deletion_of(number: u32) -> Effect {
     Effect::Deleted(Name { site: 0, number })
 }
 
@@ -30,19 +30,19 @@ fn makes(
 }
 
 // What site 1 types behind the first letter of "pqr", and what site 2 deletes behind it.
-fn typed() -> [Effect; 2] {
+fn effects() -> [Effect; 2] {
     [put(1, 1, 'X'), put(1, 2, 'Y')]
 }
 
 fn cut() -> [Effect; 2] {
-    [gone(2), gone(3)]
+    [deletion_of(2), deletion_of(3)]
 }
 
 // A world with three sites, of which two have edited before either was told of the other.
 fn apart(rt: &impl Abort, alloc: Global) -> World {
     let mut world = world_of(rt, alloc, LIMIT, "text 1 \"pqr\"", 3);
     let typing = [insert(1, 'X'), insert(2, 'Y')];
-    makes(rt, alloc, &mut world, 1, &typing, &typed());
+    makes(rt, alloc, &mut world, 1, &typing, &effects());
     makes(rt, alloc, &mut world, 2, &[delete(1), delete(1)], &cut());
     world
 }
@@ -66,8 +66,8 @@ fn meet(rt: &impl Abort, alloc: Global, sites: &[u32], order: &[(u32, &[Effect])
 #[test]
 fn batches_of_two_sites_meet_in_either_order(rt: HostRuntime) {
     let alloc = rt.alloc();
-    meet(&rt, alloc, &[1, 2], &[(1, &typed()), (2, &cut())]);
-    meet(&rt, alloc, &[2, 1], &[(2, &cut()), (1, &typed())]);
+    meet(&rt, alloc, &[1, 2], &[(1, &effects()), (2, &cut())]);
+    meet(&rt, alloc, &[2, 1], &[(2, &cut()), (1, &effects())]);
 }
 
 #[test]
@@ -109,7 +109,7 @@ fn a_refused_batch_leaves_the_world(rt: HostRuntime) {
     let many = [insert(0, 'a'); 33];
     refuses(&rt, alloc, &mut world, &many, EditFault::BadBatch);
     // No name of a refused command is spent.
-    let typed = made(&rt, alloc, put(1, 1, 'b'));
+    let typed = reply_of(&rt, alloc, put(1, 1, 'b'));
     gives(&rt, alloc, &mut world, types(1, 0, 'b'), typed);
 }
 

@@ -1,5 +1,6 @@
 //! Worlds over boards that are given as they are printed, the events that are played in them, and what
 //! they show.
+use crate::expect::expect_eq;
 use jup_batch::BoardEdits;
 use jup_text::write_board;
 use jup_window::{Board, Command, Edit, Effect, Setting, Value};
@@ -90,7 +91,7 @@ pub(crate) fn edits(rt: &impl Abort, alloc: Global, effects: &[Effect]) -> Board
 }
 
 // The site made an edit with this effect on widget 1.
-pub(crate) fn made(rt: &impl Abort, alloc: Global, what: Effect) -> Reply {
+pub(crate) fn reply_of(rt: &impl Abort, alloc: Global, what: Effect) -> Reply {
     Reply::Made(edits(rt, alloc, &[what]))
 }
 
@@ -99,7 +100,7 @@ pub(crate) fn gives(rt: &impl Abort, alloc: Global, world: &mut World, event: Ev
     let replied = world.step(alloc, &event).expect(rt, "memory");
     assert_eq!(rt; replied, reply, "{event:?}");
     let happened = Happened { event, reply };
-    assert_eq!(rt; world.trace().last(), Some(&happened));
+    expect_eq(rt, world.trace().last(), Some(&happened));
 }
 
 // Delivers all that is on its way.
@@ -117,7 +118,7 @@ fn shown(world: &World, number: u32) -> Option<&Board> {
 }
 
 // What the star, as number 0, or a site shows, as it is printed.
-fn printed(rt: &impl Abort, alloc: Global, world: &World, number: u32) -> Vec<u8> {
+fn board_text(rt: &impl Abort, alloc: Global, world: &World, number: u32) -> Vec<u8> {
     let board = shown(world, number).expect(rt, "a site of this number");
     let mut text = Vec::new(alloc);
     write_board(alloc, board, &mut text).expect(rt, "memory");
@@ -126,7 +127,7 @@ fn printed(rt: &impl Abort, alloc: Global, world: &World, number: u32) -> Vec<u8
 
 // The star, as number 0, or a site shows window 1 with this widget.
 fn shows(rt: &impl Abort, alloc: Global, world: &World, number: u32, widget: &str) {
-    let text = printed(rt, alloc, world, number);
+    let text = board_text(rt, alloc, world, number);
     let wanted = format!(in alloc; "window 1\n{widget}\n").expect(rt, "memory");
     assert_eq!(rt; text.as_slice(), wanted.as_bytes(), "{number}");
 }

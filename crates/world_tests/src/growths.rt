@@ -1,7 +1,10 @@
 //! Growths of worlds that are refused, each test for the call, or the kind of event, of its name. `./growths` refuses one after another of those between
 //! the two marks: after an event that lacked memory all is seen as before, and played again it gives its answer.
-use super::boards::{LIMIT, batch, drain, edits, insert, is_quiet, made, reads, types, world_of};
+use super::boards::{
+    LIMIT, batch, drain, edits, insert, is_quiet, reads, reply_of, types, world_of,
+};
 use super::worlds::put;
+use crate::expect::expect_eq;
 use jup_star::OpenFault;
 use jup_text::write_board;
 use jup_window::Command;
@@ -56,9 +59,9 @@ fn wait_as_before(rt: &impl Abort, fetched: bool, was: Option<usize>, now: Optio
 }
 
 fn is_spared(rt: &impl Abort, event: &Event, was: &Seen, now: &Seen) {
-    assert_eq!(rt; now.boards.as_slice(), was.boards.as_slice());
-    assert_eq!(rt; (now.counts, now.backlogs), (was.counts, was.backlogs));
-    assert_eq!(rt; now.is_quiet, was.is_quiet);
+    expect_eq(rt, now.boards.as_slice(), was.boards.as_slice());
+    expect_eq(rt, (now.counts, now.backlogs), (was.counts, was.backlogs));
+    expect_eq(rt, now.is_quiet, was.is_quiet);
     let fetched = may_fetch(event, 1);
     wait_as_before(rt, fetched, was.waiting[0], now.waiting[0]);
     let fetched = may_fetch(event, 2);
@@ -115,7 +118,7 @@ fn first_part(rt: &impl Abort, alloc: Global) -> [(Event, Reply); 9] {
     [
         (Event::Join, Reply::Joined(1)),
         (Event::Join, Reply::Joined(2)),
-        (types(1, 0, 'a'), made(rt, alloc, put(1, 1, 'a'))),
+        (types(1, 0, 'a'), reply_of(rt, alloc, put(1, 1, 'a'))),
         (
             batch(rt, alloc, 2, &both),
             Reply::Made(edits(rt, alloc, &effects)),
@@ -168,7 +171,7 @@ fn plays(rt: &impl Abort, alloc: Global, kind: Kind) {
             kind_of(&wanted.event) == kind,
         );
     }
-    assert_eq!(rt; world.trace(), all.as_slice());
+    expect_eq(rt, world.trace(), all.as_slice());
     assert!(rt; is_quiet(&world) && reads(&world, 0, "xya") && reads(&world, 1, "xya"));
 }
 
@@ -278,11 +281,11 @@ fn world_run(rt: HostRuntime) {
     let ran = world.run(rt.alloc(), events);
     end(rt.alloc());
     if let Err(Halted { done }) = ran {
-        assert_eq!(rt; world.trace().len(), done);
+        expect_eq(&rt, world.trace().len(), done);
         assert!(rt; done < events.len());
-        assert_eq!(rt; world.run(rt.alloc(), &events[done..]), Ok(()));
+        expect_eq(&rt, world.run(rt.alloc(), &events[done..]), Ok(()));
     }
-    assert_eq!(rt; world.trace().len(), events.len());
+    expect_eq(&rt, world.trace().len(), events.len());
     drain(&rt, rt.alloc(), &mut world);
     all_agree(&rt, &world);
 }
@@ -291,12 +294,12 @@ fn world_run(rt: HostRuntime) {
 #[test]
 fn world_drain(rt: HostRuntime) {
     let mut world = world_of(&rt, rt.alloc(), LIMIT, "text 1 \"\"", 0);
-    assert_eq!(rt; world.run(rt.alloc(), crossing().as_slice()), Ok(()));
+    expect_eq(&rt, world.run(rt.alloc(), crossing().as_slice()), Ok(()));
     begin(rt.alloc());
     let drained = world.drain(rt.alloc());
     end(rt.alloc());
     if drained.is_err() {
-        assert_eq!(rt; world.star().order().len(), 4);
+        expect_eq(&rt, world.star().order().len(), 4);
         drain(&rt, rt.alloc(), &mut world);
     }
     all_agree(&rt, &world);

@@ -1,6 +1,7 @@
 //! One way of a link, byte by byte.
 ghost use Rattle.jup_star.specs.TextRelabels.{RelabelNoText};
 
+use crate::expect::expect_eq;
 use jup_batch::BoardBatch;
 use jup_lane::{Lane, Message};
 use jup_link::Msg;
@@ -46,7 +47,7 @@ fn push<M: Message>(rt: &impl Abort, alloc: Global, lane: &mut Lane<M>, most: u3
 }
 
 // The oldest message, which is then dropped.
-fn handed<M: Message>(rt: &impl Abort, alloc: Global, lane: &mut Lane<M>) -> Option<M> {
+fn hand_over<M: Message>(rt: &impl Abort, alloc: Global, lane: &mut Lane<M>) -> Option<M> {
     let first = lane.first(alloc).expect(rt, "memory")?;
     lane.drop_first(&first);
     Some(first)
@@ -58,15 +59,15 @@ fn a_message_is_pushed_in_two_parts(rt: HostRuntime) {
     let mut lane: Lane<Up> = Lane::new(alloc);
     assert!(rt; lane.is_idle() && lane.is_stream_empty());
     send(&rt, &mut lane, &Up::Op(first_edit(alloc)));
-    assert_eq!(rt; push(&rt, alloc, &mut lane, 36), 36);
+    expect_eq(&rt, push(&rt, alloc, &mut lane, 36), 36);
     assert!(rt; !lane.is_idle() && !lane.is_stream_empty());
-    assert_eq!(rt; push(&rt, alloc, &mut lane, 5), 1);
-    assert_eq!(rt; push(&rt, alloc, &mut lane, 5), 0);
+    expect_eq(&rt, push(&rt, alloc, &mut lane, 5), 1);
+    expect_eq(&rt, push(&rt, alloc, &mut lane, 5), 0);
     assert!(rt; !lane.is_idle() && lane.is_stream_empty());
     let first = Some(Up::Op(first_edit(alloc)));
-    assert_eq!(rt; handed(&rt, alloc, &mut lane), first);
+    expect_eq(&rt, hand_over(&rt, alloc, &mut lane), first);
     assert!(rt; lane.is_idle());
-    assert_eq!(rt; handed(&rt, alloc, &mut lane), None);
+    expect_eq(&rt, hand_over(&rt, alloc, &mut lane), None);
 }
 
 #[test]
@@ -77,9 +78,9 @@ fn messages_come_in_order_however_they_are_pushed(rt: HostRuntime) {
     send(&rt, &mut lane, &Down::Op(first_edit(alloc)));
     send(&rt, &mut lane, &Down::Pong(7));
     // "ack 64" and its line feed, and the first two letters of the next.
-    assert_eq!(rt; push(&rt, alloc, &mut lane, 9), 9);
+    expect_eq(&rt, push(&rt, alloc, &mut lane, 9), 9);
     for message in [Down::Ack(64), Down::Op(first_edit(alloc)), Down::Pong(7)] {
-        assert_eq!(rt; handed(&rt, alloc, &mut lane), Some(message));
+        expect_eq(&rt, hand_over(&rt, alloc, &mut lane), Some(message));
     }
     assert!(rt; lane.is_idle());
 }

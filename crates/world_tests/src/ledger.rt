@@ -59,7 +59,7 @@ impl Ledger {
     }
 
     // How many edits were made.
-    pub(crate) fn made(&self) -> usize {
+    pub(crate) fn made_count(&self) -> usize {
         self.made.len()
     }
 
@@ -133,7 +133,7 @@ impl Ledger {
     }
 
     // What a site was told of the order: all up to its join, and on to the last edit of another that it was handed.
-    fn told(&self, site: u32) -> usize {
+    fn told_count(&self, site: u32) -> usize {
         let mut left = self.shown_to(site);
         let mut told = self.joined_at(site);
         for (turn, next) in self.order.iter().zip(1usize..).skip(told) {
@@ -152,7 +152,7 @@ impl Ledger {
     fn told_entries(&self, rt: &impl Abort, alloc: Global, number: u32) -> Vec<Turn> {
         let told = match number {
             0 => self.order.len(),
-            site => self.told(site),
+            site => self.told_count(site),
         };
         let mut entries = Vec::new(alloc);
         for turn in self.order.iter().take(told) {

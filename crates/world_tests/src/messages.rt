@@ -1,5 +1,6 @@
 //! A run over a star and two sites, each of whose edits goes through the bytes of its lines.
 use super::boards::LIMIT;
+use crate::expect::expect_eq;
 use jup_batch::BoardBatch;
 use jup_gather::{Gather, Gathered, lines_of_op};
 use jup_link::Msg;
@@ -58,7 +59,7 @@ fn goes_down(rt: &impl Abort, alloc: Global, star: &mut Star, site: &mut Site) {
     let answer = site
         .deliver(alloc, &down)
         .expect(rt, "an edit that is shown");
-    assert_eq!(rt; answer, None);
+    expect_eq(rt, answer, None);
 }
 
 fn open_star(rt: &impl Abort, alloc: Global) -> Star {
@@ -94,7 +95,7 @@ fn sends(
 fn shows(rt: &impl Abort, alloc: Global, board: &Board, printed: &str) {
     let mut text = Vec::new(alloc);
     write_board(alloc, board, &mut text).expect(rt, "memory");
-    assert_eq!(rt; text.as_slice(), printed.as_bytes());
+    expect_eq(rt, text.as_slice(), printed.as_bytes());
 }
 
 // Both sites type before either is handed a message.
@@ -104,8 +105,8 @@ fn messages_pass_through_lines(rt: HostRuntime) {
     let mut star = open_star(&rt, alloc);
     let mut one = open_site(&rt, alloc, &mut star);
     let mut two = open_site(&rt, alloc, &mut star);
-    assert_eq!(rt; sends(&rt, alloc, &mut star, &mut one, 'a'), Some(0));
-    assert_eq!(rt; sends(&rt, alloc, &mut star, &mut two, 'x'), Some(1));
+    expect_eq(&rt, sends(&rt, alloc, &mut star, &mut one, 'a'), Some(0));
+    expect_eq(&rt, sends(&rt, alloc, &mut star, &mut two, 'x'), Some(1));
     goes_down(&rt, alloc, &mut star, &mut one);
     goes_down(&rt, alloc, &mut star, &mut two);
     for board in [star.board(), one.board(), two.board()] {

@@ -1,5 +1,6 @@
 //! Growths of scripts, of two ends and of one way of a link that are refused, each test for the call of its name, as in `growths`.
 use super::lanes::{first_edit, send};
+use crate::expect::expect_eq;
 use jup_lane::Lane;
 use jup_script::{ScriptEnd, run_script};
 use jup_star::{Down, Up};
@@ -31,8 +32,8 @@ fn is_played(rt: &impl Abort, alloc: Global, script: &str, due: &str) {
         replies.clear();
         ended = run_script(alloc, script.as_bytes(), &mut replies);
     }
-    assert_eq!(rt; ended, Ok(()));
-    assert_eq!(rt; replies.as_slice(), due.as_bytes());
+    expect_eq(rt, ended, Ok(()));
+    expect_eq(rt, replies.as_slice(), due.as_bytes());
 }
 
 #[test]
@@ -60,7 +61,7 @@ fn two_open(rt: HostRuntime) {
         two = Two::open(rt.alloc(), ['a', 'b'].as_slice());
     }
     let two = two.expect(&rt, "memory");
-    assert_eq!(rt; (two.client().len(), two.server().len()), (2, 2));
+    expect_eq(&rt, (two.client().len(), two.server().len()), (2, 2));
     assert!(rt; two.quiet());
 }
 
@@ -92,10 +93,10 @@ fn two_step(rt: HostRuntime) {
         let mut reply = two.step(rt.alloc(), &event);
         end(rt.alloc());
         if reply.is_err() {
-            assert_eq!(rt; shown(&two), before);
+            expect_eq(&rt, shown(&two), before);
             reply = two.step(rt.alloc(), &event);
         }
-        assert_eq!(rt; (reply, shown(&two)), (Ok(due), then));
+        expect_eq(&rt, (reply, shown(&two)), (Ok(due), then));
     }
 }
 
@@ -131,7 +132,7 @@ fn lane_push(rt: HostRuntime) {
             assert!(rt; !lane.is_idle() && !lane.is_stream_empty());
             moved = lane.push(rt.alloc(), most);
         }
-        assert_eq!(rt; (moved, lane.is_stream_empty()), (Ok(due), is_empty));
+        expect_eq(&rt, (moved, lane.is_stream_empty()), (Ok(due), is_empty));
     }
     assert!(rt; !lane.is_idle());
 }
@@ -154,6 +155,6 @@ fn lane_first(rt: HostRuntime) {
         let mut lane = lane_of_two(&rt, rt.alloc());
         lane.push(rt.alloc(), pushed).expect(&rt, "memory");
         let first = first_of(&rt, rt.alloc(), &mut lane);
-        assert_eq!(rt; first, Up::Op(first_edit(rt.alloc())));
+        expect_eq(&rt, first, Up::Op(first_edit(rt.alloc())));
     }
 }

@@ -1,5 +1,5 @@
 //! Messages whose bytes are pushed. More such runs are scripts of `examples/`.
-use super::boards::{LIMIT, all_show, gives, is_quiet, made, reads, types, world_of};
+use super::boards::{LIMIT, all_show, gives, is_quiet, reads, reply_of, types, world_of};
 use jup_value::Name;
 use jup_window::Effect;
 use jup_world::{Event, Reply};
@@ -11,7 +11,7 @@ fn a_message_is_taken_once_its_last_byte_was_pushed(rt: HostRuntime) {
     let alloc = rt.alloc();
     let mut world = world_of(&rt, alloc, LIMIT, "text 1 \"\"", 1);
     let first = Name { site: 1, number: 1 };
-    let typed = made(&rt, alloc, Effect::PutChar(first, 'a'));
+    let typed = reply_of(&rt, alloc, Effect::PutChar(first, 'a'));
     gives(&rt, alloc, &mut world, types(1, 0, 'a'), typed);
     for (most, reply) in [
         (36, Reply::Moved(36)),

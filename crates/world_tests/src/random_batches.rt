@@ -3,6 +3,7 @@
 use super::boards::{LIMIT, batch, drain, is_quiet};
 use super::content::Content;
 use super::ledger::Ledger;
+use crate::expect::expect_eq;
 use jup_value::Label;
 use jup_window::{Board, Command, Setting, Value};
 use jup_world::{Event, Reply, World};
@@ -16,7 +17,7 @@ const SITES: u32 = 3;
 // How many events happen before all is delivered.
 const EVENTS: u32 = 200;
 
-pub(super) fn opened(rt: &impl Abort, alloc: Global) -> World {
+pub(super) fn open_world(rt: &impl Abort, alloc: Global) -> World {
     let lines = [
         "window 1",
         "text 1 \"pqr\"",
@@ -168,7 +169,7 @@ fn refusals(world: &World) -> usize {
 #[test]
 fn every_board_holds_what_its_end_was_told(rt: HostRuntime) {
     let alloc = rt.alloc();
-    let mut world = opened(&rt, alloc);
+    let mut world = open_world(&rt, alloc);
     let mut ledger = Ledger::new(alloc);
     let mut dice = Dice::of(1995);
     for _ in 0..EVENTS {
@@ -181,6 +182,6 @@ fn every_board_holds_what_its_end_was_told(rt: HostRuntime) {
     ledger.read(&rt, world.trace());
     all_hold(&rt, alloc, &world, &ledger);
     all_agree(&rt, &world);
-    assert_eq!(rt; ledger.made(), world.star().order().len());
-    assert!(rt; refusals(&world) >= 5 && ledger.made() >= 30);
+    expect_eq(&rt, ledger.made_count(), world.star().order().len());
+    assert!(rt; refusals(&world) >= 5 && ledger.made_count() >= 30);
 }

@@ -3,7 +3,7 @@
 use super::boards::{batch, drain, is_quiet};
 use super::content::Content;
 use super::ledger::Ledger;
-use super::random_batches::{board_at, commands, opened};
+use super::random_batches::{board_at, commands, open_world};
 use jup_world::{Event, World};
 use std::alloc::Global;
 use std::process::Abort;
@@ -15,7 +15,7 @@ const ROUNDS: u32 = 8;
 const EVENTS: u32 = 50;
 
 // The attached sites, ascending.
-fn attached(rt: &impl Abort, alloc: Global, world: &World, given: u32) -> Vec<u32> {
+fn attached_sites(rt: &impl Abort, alloc: Global, world: &World, given: u32) -> Vec<u32> {
     let mut numbers = Vec::new(alloc);
     for number in 1..=given {
         if world.site(number).is_some() {
@@ -64,11 +64,11 @@ fn all_hold(rt: &impl Abort, alloc: Global, world: &World, ledger: &Ledger, numb
 // Plays some events, and checks after each.
 fn plays(rt: &impl Abort, alloc: Global, dice: &mut Dice, world: &mut World, ledger: &mut Ledger) {
     for _ in 0..EVENTS {
-        let numbers = attached(rt, alloc, world, ledger.joins());
+        let numbers = attached_sites(rt, alloc, world, ledger.joins());
         let event = event(rt, alloc, dice, world, &numbers);
         world.step(alloc, &event).expect(rt, "memory");
         ledger.read(rt, world.trace());
-        let numbers = attached(rt, alloc, world, ledger.joins());
+        let numbers = attached_sites(rt, alloc, world, ledger.joins());
         all_hold(rt, alloc, world, ledger, &numbers);
     }
 }
@@ -88,7 +88,7 @@ fn all_agree(rt: &impl Abort, world: &World, numbers: &[u32]) {
 #[test]
 fn sites_come_and_go(rt: HostRuntime) {
     let alloc = rt.alloc();
-    let mut world = opened(&rt, alloc);
+    let mut world = open_world(&rt, alloc);
     let mut ledger = Ledger::new(alloc);
     ledger.read(&rt, world.trace());
     let mut dice = Dice::of(1995);
@@ -96,11 +96,11 @@ fn sites_come_and_go(rt: HostRuntime) {
         plays(&rt, alloc, &mut dice, &mut world, &mut ledger);
         drain(&rt, alloc, &mut world);
         ledger.read(&rt, world.trace());
-        let numbers = attached(&rt, alloc, &world, ledger.joins());
+        let numbers = attached_sites(&rt, alloc, &world, ledger.joins());
         all_hold(&rt, alloc, &world, &ledger, &numbers);
         all_agree(&rt, &world, &numbers);
     }
-    let numbers = attached(&rt, alloc, &world, ledger.joins());
+    let numbers = attached_sites(&rt, alloc, &world, ledger.joins());
     assert!(rt; ledger.joins() >= 10 && numbers.len() >= 2);
-    assert!(rt; ledger.made() >= 40 && world.star().order().len() >= 30);
+    assert!(rt; ledger.made_count() >= 40 && world.star().order().len() >= 30);
 }

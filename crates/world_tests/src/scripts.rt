@@ -1,3 +1,4 @@
+use crate::expect::expect_eq;
 use jup_script::{ScriptEnd, ScriptFault, run_script};
 use jup_setting::Slider;
 use jup_window::EditFault;
@@ -73,7 +74,7 @@ pub(crate) fn is_bad_at(
 #[test]
 fn both_ends_show_the_clients_setting(rt: HostRuntime) {
     for on in [false, true] {
-        assert_eq!(rt; pair_toggle(on, !on, on), (!on, !on));
+        expect_eq(&rt, pair_toggle(on, !on, on), (!on, !on));
     }
     let slider = Slider::new(0, 10, 5).expect(&rt, "5 is from 0 to 10");
     for (client, server, shown) in [
@@ -81,9 +82,9 @@ fn both_ends_show_the_clients_setting(rt: HostRuntime) {
         (11, 3, Err(EditFault::BadValue)),
         (7, -1, Err(EditFault::BadValue)),
     ] {
-        assert_eq!(rt; pair_slider(&slider, client, server), shown);
+        expect_eq(&rt, pair_slider(&slider, client, server), shown);
     }
-    assert_eq!(rt; EditFault::BadValue.number(), 5);
+    expect_eq(&rt, EditFault::BadValue.number(), 5);
 }
 
 #[test]
@@ -221,14 +222,16 @@ fn replies_that_were_due_stand_before_a_bad_line(rt: HostRuntime) {
 fn a_script_that_is_too_long_prints_nothing(rt: HostRuntime) {
     let mut replies = Vec::new(rt.alloc());
     let longest = io::repeat(b'x').take(16_777_216);
-    assert_eq!(rt;
+    expect_eq(
+        &rt,
         run_script(rt.alloc(), longest, &mut replies),
-        Err(ScriptEnd::Bad(1, ScriptFault::Unended))
+        Err(ScriptEnd::Bad(1, ScriptFault::Unended)),
     );
     let long = io::repeat(b'x').take(16_777_217);
-    assert_eq!(rt;
+    expect_eq(
+        &rt,
         run_script(rt.alloc(), long, &mut replies),
-        Err(ScriptEnd::LongInput)
+        Err(ScriptEnd::LongInput),
     );
     assert!(rt; replies.is_empty());
 }
@@ -241,9 +244,10 @@ const PAIR_DUE: &[u8] = b"c s' on\ns c' on\n";
 fn a_line_that_is_no_text_is_bad(rt: HostRuntime) {
     let mut replies = Vec::new(rt.alloc());
     let script = b"pair toggle off\nclient \xff\n".as_slice();
-    assert_eq!(rt;
+    expect_eq(
+        &rt,
         run_script(rt.alloc(), script, &mut replies),
-        Err(ScriptEnd::Bad(2, ScriptFault::NotText))
+        Err(ScriptEnd::Bad(2, ScriptFault::NotText)),
     );
 }
 
@@ -272,12 +276,12 @@ fn written_to(rt: &impl Abort, alloc: Global, left: usize) -> Result<(), ScriptE
 
 #[test]
 fn each_write_of_a_script(rt: HostRuntime) {
-    assert_eq!(rt; PAIR_DUE.len(), 16);
+    expect_eq(&rt, PAIR_DUE.len(), 16);
     for left in 0..16 {
         let end = written_to(&rt, rt.alloc(), left);
         assert_eq!(rt; end, Err(ScriptEnd::WriteFailed), "{left} bytes");
     }
-    assert_eq!(rt; written_to(&rt, rt.alloc(), 16), Ok(()));
+    expect_eq(&rt, written_to(&rt, rt.alloc(), 16), Ok(()));
 }
 
 #[test]
@@ -295,7 +299,7 @@ fn the_ends_of_scripts_have_texts_numbers_and_statuses(rt: HostRuntime) {
         (ScriptEnd::WriteFailed, "io fault", 71, 1),
     ] {
         let told = format!(in rt.alloc(); "{end}").expect(&rt, "memory");
-        assert_eq!(rt; told.as_str(), text);
+        expect_eq(&rt, told.as_str(), text);
         assert_eq!(rt; (end.number(), end.status()), (number, status), "{text}");
     }
 }
@@ -367,7 +371,7 @@ fn what_is_wrong_with_a_line_has_a_text(rt: HostRuntime) {
         (ScriptFault::TooMany, "64 are there already"),
     ] {
         let told = format!(in rt.alloc(); "{fault}").expect(&rt, "memory");
-        assert_eq!(rt; told.as_str(), text);
+        expect_eq(&rt, told.as_str(), text);
         assert_eq!(rt; ScriptEnd::Bad(1, fault).fault(), Some(fault), "{text}");
     }
     for end in [
@@ -397,7 +401,7 @@ fn replies(rt: &impl Abort, alloc: Global, two: &mut Two, event: &TwoEvent, repl
 
 // Both ends have texts of this many items.
 fn both_have(rt: &impl Abort, two: &Two, len: u32) {
-    assert_eq!(rt; (two.client().len(), two.server().len()), (len, len));
+    expect_eq(rt, (two.client().len(), two.server().len()), (len, len));
 }
 
 // Many more edits than are acknowledged at once, none of which has been delivered.

@@ -1,5 +1,6 @@
 //! Scripts of a star and its sites.
 use super::scripts::{is_bad_at, play, prints};
+use crate::expect::expect_eq;
 use jup_script::{ScriptEnd, ScriptFault};
 use std::alloc::Global;
 use std::fmt::Write;
@@ -221,7 +222,7 @@ fn a_bad_line_of_a_batch_is_told_by_its_number_and_what_is_wrong(rt: HostRuntime
 }
 
 // A script with so many lines of a word and an id behind its start.
-fn counted(
+fn script_of(
     rt: &impl Abort,
     alloc: Global,
     start: &str,
@@ -243,9 +244,9 @@ fn a_window_has_at_most_64_widgets_and_a_board_64_windows(rt: HostRuntime) {
         ("star 1\nwindow 1\n", "toggle", " on", 67),
         ("star 1\n", "window", "", 66),
     ] {
-        let full = counted(&rt, alloc, start, word, value, 64);
+        let full = script_of(&rt, alloc, start, word, value, 64);
         prints(&rt, alloc, full.as_str(), "");
-        let over = counted(&rt, alloc, start, word, value, 65);
+        let over = script_of(&rt, alloc, start, word, value, 65);
         let end = ScriptEnd::Bad(bad, ScriptFault::TooMany);
         is_bad_at(&rt, alloc, over.as_str(), end, "");
     }
@@ -278,9 +279,10 @@ fn a_text_or_a_list_has_at_most_65536_items(rt: HostRuntime) {
     ] {
         let over = Err(ScriptEnd::Bad(3, fault));
         for (count, played) in [(65_536, Ok(())), (65_537, over)] {
-            assert_eq!(rt;
+            expect_eq(
+                &rt,
                 end_of_long(&rt, rt.alloc(), start, item, count, end),
-                played
+                played,
             );
         }
     }

@@ -1,8 +1,9 @@
 //! What a world tells beside its boards: its order, its trace, what its sites wait for; and its bounds. Whole runs that were
 //! worked out by hand are scripts of `examples/`.
 use super::boards::{
-    LIMIT, all_show, deletes, drain, edits, gives, is_quiet, made, sets, types, world_of,
+    LIMIT, all_show, deletes, drain, edits, gives, is_quiet, reply_of, sets, types, world_of,
 };
+use crate::expect::expect_eq;
 use jup_star::{Entry, OpenFault, StarFault};
 use jup_value::Name;
 use jup_window::{Board, EditFault, Effect, Setting, Widget};
@@ -23,17 +24,17 @@ const OFF: Setting = Setting::Toggle(false);
 
 // Site 1 sets widget 1 on.
 fn switches_on(rt: &impl Abort, alloc: Global, world: &mut World) {
-    let switched = made(rt, alloc, Effect::Toggled(true));
+    let switched = reply_of(rt, alloc, Effect::Toggled(true));
     gives(rt, alloc, world, sets(1, ON), switched);
 }
 
 // The star has taken an edit of each of these sites, with these effects on widget 1.
 pub(crate) fn took(rt: &impl Abort, alloc: Global, world: &World, all: &[(u32, &[Effect])]) {
     let order = world.star().order();
-    assert_eq!(rt; order.len(), all.len());
+    expect_eq(rt, order.len(), all.len());
     for (entry, (site, effects)) in order.iter().zip(all) {
         let edit = edits(rt, alloc, effects);
-        assert_eq!(rt; *entry, Entry { site: *site, edit });
+        expect_eq(rt, entry, &Entry { site: *site, edit });
     }
 }
 
@@ -44,8 +45,8 @@ fn two_sites_type_at_one_place(rt: HostRuntime) {
     for (event, reply) in [
         (Event::Join, Reply::Joined(1)),
         (Event::Join, Reply::Joined(2)),
-        (types(1, 0, 'a'), made(&rt, alloc, put(1, 1, 'a'))),
-        (types(2, 0, 'x'), made(&rt, alloc, put(2, 1, 'x'))),
+        (types(1, 0, 'a'), reply_of(&rt, alloc, put(1, 1, 'a'))),
+        (types(2, 0, 'x'), reply_of(&rt, alloc, put(2, 1, 'x'))),
         (Event::Up(1), Reply::Taken(0)),
         (Event::Up(2), Reply::Taken(1)),
     ] {
@@ -61,7 +62,7 @@ fn two_sites_type_at_one_place(rt: HostRuntime) {
 // A world over this widget whose two sites did this.
 fn ran(rt: &impl Abort, alloc: Global, widget: &str, events: &[Event]) -> World {
     let mut world = world_of(rt, alloc, LIMIT, widget, 2);
-    assert_eq!(rt; world.run(alloc, events), Ok(()));
+    expect_eq(rt, world.run(alloc, events), Ok(()));
     world
 }
 
@@ -90,9 +91,9 @@ fn a_drain_ends_after_a_round_of_nothing(rt: HostRuntime) {
         (Event::Down(1), Reply::Nothing),
         (Event::Down(2), Reply::Nothing),
     ];
-    assert_eq!(rt; (before, world.trace().len()), (6, 16));
+    expect_eq(&rt, (before, world.trace().len()), (6, 16));
     for (happened, (event, reply)) in world.trace().iter().skip(6).zip(&wanted) {
-        assert_eq!(rt; (&happened.event, &happened.reply), (event, reply));
+        expect_eq(&rt, (&happened.event, &happened.reply), (event, reply));
     }
 }
 
@@ -116,7 +117,7 @@ fn a_message_down_acknowledges_what_the_star_took(rt: HostRuntime) {
         Event::Down(1),
     ];
     let world = ran(&rt, rt.alloc(), "toggle 1 off", &events);
-    assert_eq!(rt; world.site(1).map(|site| site.backlog()), Some(0));
+    expect_eq(&rt, world.site(1).map(|site| site.backlog()), Some(0));
 }
 
 #[test]
@@ -194,7 +195,7 @@ fn a_site_waits_for_an_acknowledgement_after_1024_edits(rt: HostRuntime) {
     }
     gives(&rt, alloc, &mut world, Event::Down(1), Reply::Heard);
     switches_on(&rt, alloc, &mut world);
-    assert_eq!(rt; world.site(1).map(|site| site.backlog()), Some(961));
+    expect_eq(&rt, world.site(1).map(|site| site.backlog()), Some(961));
 }
 
 // Site 1 sets widget 1 on so many times, each of which the star takes and site 2 is handed.
@@ -237,7 +238,7 @@ fn a_world_is_opened_on_a_layout_with_a_limit(rt: HostRuntime) {
     let alloc = rt.alloc();
     for limit in [0, 16_777_217] {
         let world = World::open(alloc, Board::new(alloc), limit);
-        assert_eq!(rt; world.err(), Some(OpenFault::BadLimit));
+        expect_eq(&rt, world.err(), Some(OpenFault::BadLimit));
     }
     for limit in [1, 16_777_216] {
         let world = world_of(&rt, alloc, limit, "text 1 \"\"", 0);
@@ -251,8 +252,8 @@ fn a_trace_tells_of_more_than_65536_events(rt: HostRuntime) {
     let mut world = world_of(&rt, alloc, LIMIT, "text 1 \"\"", 1);
     for _ in 0..65_536 {
         let reply = world.step(alloc, &Event::Up(1)).expect(&rt, "memory");
-        assert_eq!(rt; reply, Reply::Nothing);
+        expect_eq(&rt, reply, Reply::Nothing);
     }
     // The join is the first.
-    assert_eq!(rt; world.trace().len(), 65_537);
+    expect_eq(&rt, world.trace().len(), 65_537);
 }

@@ -38,6 +38,8 @@ pub trait Gate {
 pub struct Open;
 
 impl Gate for Open {
+    ghost is_shut = { λ _ _ _. ⊥ };
+
     fn ready(&self, _site: u32, _nth: u32) -> bool {
         true
     }

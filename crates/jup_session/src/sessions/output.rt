@@ -1,5 +1,5 @@
 //! Lines on their way out by a link.
-ghost use Rattle.std.specs.Prelude.{◌≡◌, ◌≤◌, [], ◌∷◌, vec_len, vec_capacity, OnOk};
+ghost use Rattle.std.specs.Prelude.{◌≡◌, ◌≤◌, [], ◌∷◌, vec_len, vec_capacity, OnOk, IfErr};
 ghost use Rattle.std.specs.Io.KnownBytes.{Keeps, Appends};
 ghost use Rattle.jup_session.specs.Outputs.{all_put, PutsLines};
 
@@ -39,6 +39,7 @@ impl<O: Write + Drop> Output<O> {
 
     /// Writes what is gathered, and has the writer pass it on.
     pub(crate) fn send(&mut self) -> Result<(), SessionFault>
+        ensures fault { IfErr result (λ fault. fault ≡ SessionFault.WriteFailed) }
         ensures same { OnOk result (Keeps (all_put self.old) (all_put self.new)) }
         ensures written { OnOk result (self.new.1 ≡ []) }
     {
@@ -59,7 +60,10 @@ impl<O: Write + Drop> LineSink for Output<O> {
     ghost takes_more = { puts_more };
 
     /// Where the line may not fit, those that are gathered are written first.
-    fn put(&mut self, line: Line) -> Result<(), SessionFault> {
+    fn put(&mut self, line: Line) -> Result<(), SessionFault>
+        ensures taken { OnOk result (PutsLines self.old (line ∷ []) self.new) }
+        ensures fault { IfErr result (λ fault. fault ≡ SessionFault.WriteFailed) }
+    {
         if self.text.len() + MOST > self.text.capacity() {
             write_out(&mut self.to, &mut self.text)?;
         }
@@ -71,6 +75,7 @@ impl<O: Write + Drop> LineSink for Output<O> {
 // Writes gathered bytes.
 fn write_out<O: Write + Drop>(to: &mut O, text: &mut Vec<u8>) -> Result<(), SessionFault>
     ensures written { OnOk result (Appends (O.contents to.old) (O.contents to.new) text.old.items) }
+    ensures fault { IfErr result (λ fault. fault ≡ SessionFault.WriteFailed) }
     ensures empty { OnOk result (text.new.items ≡ []) }
     ensures room { vec_capacity text.old ≤ vec_capacity text.new }
 {

@@ -9,5 +9,7 @@ pub mod Operations
 pub mod WholeLines
 pub mod BadLines
 pub mod Streaming
+pub mod Singles
+pub mod Heads
 pub mod Written
 pub mod Unique

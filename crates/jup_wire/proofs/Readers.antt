@@ -25,6 +25,18 @@ within m le r = record { takes = r.takes; again = r.again; one_line = r.one_line
 abbrev pub IsField : {A : Type 0} → ℕ → (A → List ℕ) → (A → Type 0) → Type 0
 IsField {A} separator text Is = (a : A) → Is a → lacks separator (text a) ≡ true
 
+-- ---- a field and what stands after it
+
+pub field_takes : {A : Type 0} (separator : ℕ) (read : List ℕ → Option A) (text : A → List ℕ) (Is : A → Type 0) (limit : ℕ) → IsReader read text Is limit
+    → (bytes : List ℕ) (x : A × List ℕ) → field_of separator read bytes ≡ Some x → Is x.0 × (bytes ≡ text x.0 ++ separator ∷ x.1)
+unfolding field_of
+field_takes {A} separator read text Is limit reader bytes x e =
+    let p = bind_some (split_of separator bytes) (λ parts. read parts.0 >>= λ value. Some (value, parts.1)) x e in
+    let v = bind_some (read p.0.0) (λ value. Some (value, p.0.1)) x p.2 in
+    let spelled = reader.takes p.0.0 v.0 v.1 in
+    let parts = split_parts separator bytes p.0.0 p.0.1 p.1 in
+    subst (λ (y : A × List ℕ). Is y.0 × (bytes ≡ text y.0 ++ separator ∷ y.1)) (same_Some (v.0, p.0.1) x v.2) (spelled.0, parts.0 ∙ ap (λ (t : List ℕ). t ++ separator ∷ p.0.1) spelled.1)
+
 -- ---- a field and another after it
 
 module _ {A B : Type 0} (separator : ℕ) (first : List ℕ → Option A) (first_text : A → List ℕ) (IsFirst : A → Type 0) (first_limit : ℕ) (one : IsReader first first_text IsFirst first_limit)
@@ -35,13 +47,7 @@ module _ {A B : Type 0} (separator : ℕ) (first : List ℕ → Option A) (first
   pair_takes bytes x e =
       let a = bind_some (field_of separator first bytes) (λ a. second a.1 >>= λ b. Some (a.0, b)) x e in
       let b = bind_some (second a.0.1) (λ b. Some (a.0.0, b)) x a.2 in
-      let p = bind_some (split_of separator bytes) (λ parts. first parts.0 >>= λ value. Some (value, parts.1)) a.0 a.1 in
-      let v = bind_some (first p.0.0) (λ value. Some (value, p.0.1)) a.0 p.2 in
-      let same : (v.0, p.0.1) ≡ a.0 = same_Some (v.0, p.0.1) a.0 v.2 in
-      let spelled = one.takes p.0.0 v.0 v.1 in
-      let parts = split_parts separator bytes p.0.0 p.0.1 p.1 in
-      let front : IsFirst a.0.0 × (bytes ≡ first_text a.0.0 ++ separator ∷ a.0.1) =
-      subst (λ (y : A × List ℕ). IsFirst y.0 × (bytes ≡ first_text y.0 ++ separator ∷ y.1)) same (spelled.0, parts.0 ∙ ap (λ (t : List ℕ). t ++ separator ∷ p.0.1) spelled.1) in
+      let front = field_takes separator first first_text IsFirst first_limit one bytes a.0 a.1 in
       let back = two.takes a.0.1 b.0 b.1 in
       subst (λ (y : A × B). (IsFirst y.0 × IsSecond y.1) × (bytes ≡ first_text y.0 ++ separator ∷ second_text y.1)) (same_Some (a.0.0, b.0) x b.2)
       ((front.0, back.0), front.1 ∙ ap (λ (t : List ℕ). first_text a.0.0 ++ separator ∷ t) back.1)

@@ -1,6 +1,6 @@
 //! The fields of a line, read one after the other.
 
-ghost use Rattle.std.specs.Prelude.{◌≡◌, ◌==◌, length, IfSome, position, ℕ, ◌+◌, ◌<◌, List, take, drop, Option};
+ghost use Rattle.std.specs.Prelude.{◌≡◌, ◌≢◌, ◌==◌, ◌++◌, length, IfSome, MatchOption, position, ℕ, ◌+◌, ◌<◌, List, take, drop, Option};
 ghost use Rattle.std.specs.Str.Parse.{AllDigits, digits_value};
 ghost use Rattle.jup_wire.specs.Reading.{Gives, with_rest, split_of, field_of, number_of, id_of, scalar_of, int_of, name_of, switch_of, label_of, count_of};
 ghost use Rattle.jup_wire.specs.Grammar.{is_count as is_count_of};
@@ -17,6 +17,13 @@ pub(crate) trait FieldValue: Sized {
     /// The value that the bytes spell.
     fn read(bytes: &[u8]) -> Option<Self>
         ensures { result ≡ read_of bytes.now };
+}
+
+/// The bytes behind a heading, if they begin with it.
+pub(crate) fn behind<'a>(bytes: &'a [u8], heading: &[u8]) -> Option<&'a [u8]>
+    ensures { MatchOption result ((rest : List ℕ) → bytes.now ≢ heading.now ++ rest) (λ rest. bytes.now ≡ heading.now ++ rest.now) }
+{
+    bytes.strip_prefix(heading)
 }
 
 /// The parts before and after the first byte that is the separator.

@@ -6,7 +6,7 @@ ghost use Rattle.jup_wire.specs.Grammar.{HasSpelling, line_text, IsBad};
 ghost use Rattle.jup_wire.specs.Reading.{insert_of, delete_of, relabel_of, seq_of, text_of, set_of, body_of, welcome_of, hello_of, toggle_of, slider_of, char_of, item_of, batch_of, do_of, headed_of, line_of, version_of, refusal_of};
 
 use crate::faults::WireFault;
-use crate::fields::{FieldValue, count, field, id_before, number, number_before, split};
+use crate::fields::{FieldValue, behind, count, field, id_before, number, number_before, split};
 use crate::line::Line;
 use jup_seq::{SeqOp, TextOp};
 use jup_setting::SetOp;
@@ -52,8 +52,22 @@ fn version(bytes: &[u8]) -> Option<u32>
     }
 }
 
-#[tactic(auto, unfolding(crate::specs::Reading::line_of))]
 fn line(bytes: &[u8]) -> Option<Line>
+    ensures { result ≡ line_of bytes.now }
+{
+    // Most lines are operations or begin batches.
+    if let Some(rest) = behind(bytes, b"do ".as_slice()) {
+        return operation(rest);
+    }
+    if let Some(rest) = behind(bytes, b"batch ".as_slice()) {
+        return batch(rest);
+    }
+    any_line(bytes)
+}
+
+#[inline(never)]
+#[tactic(auto, unfolding(crate::specs::Reading::line_of))]
+fn any_line(bytes: &[u8]) -> Option<Line>
     ensures { result ≡ line_of bytes.now }
 {
     if bytes == b"ready".as_slice() {
@@ -71,7 +85,6 @@ fn line(bytes: &[u8]) -> Option<Line>
 fn line_by_word(word: &[u8], rest: &[u8]) -> Option<Line>
     ensures { result ≡ headed_of word.now rest.now }
 {
-    // Most lines are operations.
     if word == b"do".as_slice() {
         return operation(rest);
     }
@@ -240,8 +253,22 @@ fn seq_op<V: FieldValue>(bytes: &[u8]) -> Option<SeqOp<V>>
 }
 
 /// An operation on a text, which has no relabels.
-#[tactic(auto, unfolding(crate::specs::Reading::text_of))]
 fn text_op(bytes: &[u8]) -> Option<TextOp>
+    ensures { result ≡ text_of bytes.now }
+{
+    // Most are insertions or deletions.
+    if let Some(rest) = behind(bytes, b"ins ".as_slice()) {
+        return insertion(rest);
+    }
+    if let Some(rest) = behind(bytes, b"del ".as_slice()) {
+        return deletion(rest);
+    }
+    any_text_op(bytes)
+}
+
+#[inline(never)]
+#[tactic(auto, unfolding(crate::specs::Reading::text_of))]
+fn any_text_op(bytes: &[u8]) -> Option<TextOp>
     ensures { result ≡ text_of bytes.now }
 {
     match seq_op(bytes)? {

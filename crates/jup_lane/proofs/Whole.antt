@@ -16,7 +16,7 @@ use Rattle.jup_wire.proofs.Unique.{on_the_way}
 use Rattle.jup_lane.specs.Codecs.{Codec, IsCodec, IsFirst, bytes_of, bytes_of_all, lines_behind, lines_in}
 use Rattle.jup_lane.specs.Lanes.{Way, way_of, moved, handed_over, messages, Carries, next_feed, IsWholeOf, IsWhole, IsFilled, oldest_length, IsTowards, IsMovedOn, IsIdle}
 use Rattle.jup_lane.proofs.LinesIn.{lines_first, text_on}
-use Rattle.jup_lane.proofs.LaneLaws.{lines_spelled, bytes_are, carried-moved, carried-handed, idle, idle_none}
+use Rattle.jup_lane.proofs.LaneLaws.{same_ways, lines_spelled, bytes_are, carried-moved, carried-handed, idle, idle_none}
 use Rattle.jup_lane.proofs.Feeding.{read_is}
 
 -- # Line feeds
@@ -240,9 +240,6 @@ module _ {Message : Type 0} (C : Codec Message) (L : IsCodec C) where
 
 -- # Handing over
 
-both-ways : (r s x y : List ℕ) → r ≡ s → x ≡ y → ◌≡◌ {A = Way} (record { read = r; stream = x }) (record { read = s; stream = y })
-both-ways r s x y e f = ap (λ t. record { read = t; stream = x }) e ∙ ap (λ t. record { read = s; stream = t }) f
-
 at-none : {A : Type 0} (o : Option A) (P : Type 0) (Q : A → Type 0) → o ≡ None → P → MatchOption o P Q
 at-none o P Q none p = subst (λ x. MatchOption x P Q) (sym none) p
 
@@ -282,7 +279,7 @@ module _ {Message : Type 0} (C : Codec Message) (L : IsCodec C) where
           let left : flat_map spelling tray_now ++ p.part ≡ drop n w.read =
           ap (λ t. flat_map spelling t ++ p.part) dropped ∙ sym (drop-append_seam (bytes_of C m) (flat_map spelling (drop k tray) ++ p.part)) ∙ ap (drop n) (sym bytes) in
           let rest : n - length w.read ≡ 0 = omega (arith, high) in
-          let same : way_of tray_now p.part stream ≡ handed_over n w = both-ways _ _ _ _ left (ap (λ j. drop j stream) (sym rest)) in
+          let same : way_of tray_now p.part stream ≡ handed_over n w = same_ways (way_of tray_now p.part stream) (handed_over n w) left (ap (λ j. drop j stream) (sym rest)) in
           let now = carried-handed C L w m ms is first in
           record {
             read = record {

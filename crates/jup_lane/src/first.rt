@@ -1,17 +1,33 @@
-//! The first message of some lines.
+//! The first message of some bytes or lines.
 ghost use Rattle.std.specs.Prelude.{◌≡◌, IfOk, IfSome, IsTrue};
 ghost use Rattle.jup_gather.specs.declared.gathered.Gathered.TheVariants as gathered;
-ghost use Rattle.jup_gather.specs.Pieces.{BeginsNone};
+ghost use Rattle.jup_wire.specs.Singles.{BeginsLines};
+ghost use Rattle.jup_gather.specs.Pieces.{BeginsNone, message_lines};
 ghost use Rattle.jup_lane.specs.Firsts.{IsFirstOf, up_from, down_from};
 
 use jup_batch::BoardBatch;
 use jup_gather::{Gather, Gathered};
 use jup_link::Msg;
 use jup_star::{Down, Up};
-use jup_wire::Line;
+use jup_wire::{Line, read_single};
 use jup_xform::{Batch, NoMemory};
 use std::alloc::Global;
 use std::collections::VecDeque;
+
+/// The message of one operation on a text that begins these bytes, if one does, and how many bytes it has.
+pub(crate) fn single_in(bytes: &[u8]) -> Option<(Msg<BoardBatch>, usize)>
+    ensures { IfSome result (λ x. BeginsLines (message_lines x.0) x.1 bytes.now) }
+{
+    let Some(single) = read_single(bytes) else {
+        return None;
+    };
+    let msg = Msg {
+        mine: single.mine,
+        heard: single.heard,
+        op: Batch::one(single.op),
+    };
+    Some((msg, single.len))
+}
 
 /// Whether lines of the first message are missing, as the first line tells.
 pub(crate) fn is_short(there: &VecDeque<Line>) -> bool

@@ -1,89 +1,39 @@
 //! One way of a link: messages on their way, as bytes.
-ghost use Rattle.std.specs.Prelude.{◌≡◌, ℕ, ◌≤◌, List, [], ◌∷◌, ◌++◌, length, drop, min, Option, Some, None, IfOk, IfSome, OnOk, OnErr, MatchOption, IsTrue, IsFalse, ◌↔◌, ◌+◌, ◌<◌};
-ghost use Rattle.std.specs.Vec.{vec_capacity};
-ghost use Rattle.jup_wire.specs.declared.line.Line.{Line};
-ghost use Rattle.jup_wire.specs.Grammar.{line_text, HasSpelling};
-ghost use Rattle.jup_lane.specs.Codecs.{bytes_of, IsFirst};
+ghost use Rattle.std.specs.Prelude.{◌≡◌, ◌≤◌, [], ◌∷◌, ◌++◌, length, min, Some, IfOk, IfSome, OnOk, OnErr, IsNone, IsTrue, ◌↔◌};
+ghost use Rattle.jup_lane.specs.Codecs.{bytes_of};
 ghost use Rattle.jup_lane.specs.Carried.{codec};
-ghost use Rattle.jup_lane.specs.Lanes.{no_bytes, sent, moved, handed_over, IsIdle, messages, next_feed, IsWhole, IsFilled, IsTowards, IsMovedOn};
+ghost use Rattle.jup_lane.specs.Lanes.{no_bytes, sent, moved, handed_over, IsIdle, messages, IsWhole, IsFilled, IsMovedOn};
 
 use crate::message::{MOST_MESSAGE, Message};
-use crate::stream::Stream;
-use jup_seq::SeqOp;
-use jup_value::Label;
-use jup_window::{BoardOp, WidgetOp};
-use jup_wire::{Line, Reader, feed_of, read_line};
+use crate::track::Track;
 use jup_xform::NoMemory;
 use std::alloc::Global;
-use std::collections::VecDeque;
-use std::marker::{Model, PhantomData};
+use std::marker::Model;
 
-/// One way of a link, as a queue of messages whose store is bytes: those in its stream, the part of a line
-/// that its reader holds, and the lines that were read and not handed over, which are its tray.
+/// One way of a link, as a queue of messages whose store is bytes.
 ///
 /// Contracts see the bytes that the reader was given and those in the stream (`Way` of `specs/Lanes`), and
-/// the messages that all of them are.
+/// the messages that all of them are. A message that is read where it stands in the stream, with no reader, counts as
+/// given to the reader.
 #[derive(Drop)]
 pub struct Lane<M: Message> {
-    tray: VecDeque<Line>,
-    reader: Reader,
-    stream: Stream,
-    within: PhantomData<(M, SeqOp<Label>, WidgetOp, BoardOp)>,
-}
-
-// Drops the oldest lines of a tray.
-fn drop_lines(tray: &mut VecDeque<Line>, count: usize)
-    ensures { tray.new.items ≡ drop count tray.old.items }
-{
-    for _ in 0..count {
-        tray.pop_front();
-    }
-}
-
-// Puts the line that a text spells last into a tray.
-fn push_spelled(tray: &mut VecDeque<Line>, text: &[u8]) -> Result<(), NoMemory>
-    requires { (line : Line) × HasSpelling line × (text.now ≡ line_text line) }
-    ensures ok { OnOk result ((line : Line) × HasSpelling line × (text.now ≡ line_text line) × (tray.new.items ≡ tray.old.items ++ line ∷ [])) }
-    ensures err { OnErr result (tray.new.items ≡ tray.old.items) }
-{
-    // Types that a line holds, named so that the borrow checker knows of them.
-    let _of: PhantomData<(SeqOp<Label>, WidgetOp, BoardOp)> = PhantomData;
-    tray.reserve(1).map_err(|_| NoMemory)?;
-    match read_line(text) {
-        Ok(line) => tray.push_back_reserved(line),
-        Err(_) => unreachable!(),
-    }
-    Ok(())
-}
-
-// Where the next line feed stands.
-fn feed_ahead(stream: &[u8]) -> Option<usize>
-    ensures place { MatchOption result (length stream.now ≤ next_feed stream.now) (λ at. at ≡ next_feed stream.now) }
-    ensures within { IfSome result (λ at. at < length stream.now) }
-{
-    feed_of(stream)
+    track: Track<M>,
+    // How many bytes of the stream count as given to the reader: none, or those of the oldest message.
+    ahead: usize,
 }
 
 impl<M: Message> Model for Lane<M> {
-    ghost use Rattle.std.specs.Prelude.{◌≡◌, ◌++◌, None};
-    ghost use Rattle.std.specs.List.{flat_map};
-    ghost use Rattle.jup_wire.specs.Grammar.{spelling};
-    ghost use Rattle.jup_wire.specs.Streams.{HasRead};
     ghost use Rattle.jup_lane.specs.Carried.{codec};
-    ghost use Rattle.jup_lane.specs.Lanes.{LaneState, Carries, way_of};
+    ghost use Rattle.jup_lane.specs.Lanes.{LaneState, moved, IsAhead};
 
     ghost Value = { LaneState };
 
     ghost view = { λ a. record {
-      way = way_of a.tray.items a.reader.part a.stream.bytes;
-      spare = a.stream.spare;
+      way = moved a.ahead a.track.way;
+      spare = a.track.spare;
     } };
 
-    ghost invariant = { λ a. record {
-      faultless : a.reader.fault ≡ None;
-      read : HasRead (flat_map spelling a.tray.items ++ a.reader.part) a.tray.items a.reader;
-      carries : Carries (codec M.Message) (way_of a.tray.items a.reader.part a.stream.bytes);
-    } };
+    ghost invariant = { λ a. IsAhead (codec M.Message) a.ahead a.track.way };
 }
 
 impl<M: Message> Lane<M> {
@@ -93,10 +43,8 @@ impl<M: Message> Lane<M> {
         ensures messages { messages (codec M.Message) result.way ≡ [] }
     {
         Lane {
-            tray: VecDeque::new(alloc),
-            reader: Reader::new(),
-            stream: Stream::new(alloc),
-            within: PhantomData,
+            track: Track::new(alloc),
+            ahead: 0,
         }
     }
 
@@ -105,7 +53,7 @@ impl<M: Message> Lane<M> {
         ensures way { self.new.way ≡ self.old.way }
         ensures ok { OnOk result (MOST_MESSAGE ≤ self.new.spare) }
     {
-        self.stream.reserve(MOST_MESSAGE)
+        self.track.reserve()
     }
 
     /// Writes a message into the stream. It takes no memory.
@@ -116,23 +64,7 @@ impl<M: Message> Lane<M> {
         ensures way { self.new.way ≡ sent (bytes_of (codec M.Message) message.now) self.old.way }
         ensures messages { messages (codec M.Message) self.new.way ≡ messages (codec M.Message) self.old.way ++ message.now ∷ [] }
     {
-        self.stream.write(message);
-    }
-
-    // The reader takes in so many bytes of the stream.
-    fn take_in(&mut self, alloc: Global, count: usize) -> Result<(), NoMemory>
-        requires { count ≤ length self.old.way.stream }
-        ensures ok { OnOk result (self.new.way ≡ moved count self.old.way) }
-        ensures err { OnErr result (self.new.way ≡ self.old.way) }
-        ensures messages { messages (codec M.Message) self.new.way ≡ messages (codec M.Message) self.old.way }
-    {
-        let mut reader = self.reader.copy();
-        let fed = reader.feed(alloc, &self.stream.as_slice()[..count])?;
-        let mut lines = VecDeque::from_vec(fed.lines.into_items());
-        self.tray.append(&mut lines).map_err(|_| NoMemory)?;
-        self.reader = reader;
-        self.stream.drop_front(count);
-        Ok(())
+        self.track.send(message);
     }
 
     /// The oldest message. Those of its bytes that the reader has not are moved first; where memory is
@@ -143,17 +75,26 @@ impl<M: Message> Lane<M> {
         ensures err { OnErr result (IsMovedOn self.old.way self.new.way) }
         ensures messages { messages (codec M.Message) self.new.way ≡ messages (codec M.Message) self.old.way }
     {
-        // What the bytes are is an invariant of a lane.
-        let _lane = &self.tray;
-        self.fill(alloc)?;
-        let mut first = self.whole(alloc)?;
-        while first.is_none() {
-            if !self.advance(alloc)? {
-                return Ok(None);
-            }
-            first = self.whole(alloc)?;
+        if let Some(message) = self.read_ahead() {
+            return Ok(Some(message));
         }
-        Ok(first)
+        self.track.take_in(alloc, self.ahead)?;
+        self.ahead = 0;
+        self.track.first(alloc)
+    }
+
+    // The oldest message, if it can be read where it stands. Its bytes count as given to the reader then.
+    fn read_ahead(&mut self) -> Option<M>
+        ensures first { IfSome result (λ message. IsFilled (codec M.Message) self.old.way self.new.way (Some message)) }
+        ensures whole { IfSome result (λ message. IsWhole (codec M.Message) self.new.way (Some message)) }
+        ensures none { IsNone result → self.new.way ≡ self.old.way }
+    {
+        if !self.track.has_read_nothing() {
+            return None;
+        }
+        let (message, len) = M::read(self.track.as_slice())?;
+        self.ahead = len;
+        Some(message)
     }
 
     /// Drops the oldest message, whose bytes the reader has.
@@ -162,56 +103,12 @@ impl<M: Message> Lane<M> {
         ensures way { self.new.way ≡ handed_over (length (bytes_of (codec M.Message) message.now)) self.old.way }
         ensures messages { messages (codec M.Message) self.old.way ≡ message.now ∷ messages (codec M.Message) self.new.way }
     {
-        drop_lines(&mut self.tray, message.count());
-    }
-
-    // Moves the bytes of the oldest message line by line, while its first line tells that lines of it are missing. So its lines are mostly
-    // gathered once.
-    fn fill(&mut self, alloc: Global) -> Result<(), NoMemory>
-        ensures towards { IsTowards (codec M.Message) self.old.way self.new.way }
-    {
-        // What the bytes are is an invariant of a lane.
-        let _lane = &self.tray;
-        while self.is_short() {
-            if !self.advance(alloc)? {
-                return Ok(());
-            }
+        if self.ahead == 0 {
+            self.track.drop_first(message);
+        } else {
+            self.track.drop_unread(self.ahead);
+            self.ahead = 0;
         }
-        Ok(())
-    }
-
-    // Whether the first line of the oldest message tells that lines of it are missing.
-    fn is_short(&self) -> bool
-        ensures { IsTrue result → IsWhole (codec M.Message) self.now.way None }
-    {
-        M::is_short(&self.tray)
-    }
-
-    // The oldest message, if the reader has all its bytes.
-    fn whole(&self, alloc: Global) -> Result<Option<M>, NoMemory>
-        ensures { IfOk result (λ first. IsWhole (codec M.Message) self.now.way first) }
-    {
-        M::first(alloc, &self.tray)
-    }
-
-    // Moves the bytes through the next line feed, if the stream has one.
-    fn advance(&mut self, alloc: Global) -> Result<bool, NoMemory>
-        ensures more { IfOk result (λ more. IsTrue more ↔ (next_feed self.old.way.stream < length self.old.way.stream)) }
-        ensures ok { IfOk result (λ more. IsTrue more → self.new.way ≡ moved (next_feed self.old.way.stream + 1) self.old.way) }
-        ensures none { IfOk result (λ more. IsFalse more → self.new.way ≡ self.old.way) }
-        ensures err { OnErr result (self.new.way ≡ self.old.way) }
-    {
-        let Some(at) = feed_ahead(self.stream.as_slice()) else {
-            return Ok(false);
-        };
-        let Ok(()) = self.reader.finish() else {
-            self.take_in(alloc, at + 1)?;
-            return Ok(true);
-        };
-        // The reader holds no part of a line, so this one is read where it stands.
-        push_spelled(&mut self.tray, &self.stream.as_slice()[..at])?;
-        self.stream.drop_front(at + 1);
-        Ok(true)
     }
 
     /// Moves the oldest bytes of the stream into the reader, up to so many, and tells how many.
@@ -221,18 +118,16 @@ impl<M: Message> Lane<M> {
         ensures err { OnErr result (self.new.way ≡ self.old.way) }
         ensures messages { messages (codec M.Message) self.new.way ≡ messages (codec M.Message) self.old.way }
     {
-        let most = most as usize;
-        let there = self.stream.as_slice().len();
-        let count = if most < there { most } else { there };
-        self.take_in(alloc, count)?;
-        Ok(count)
+        self.track.take_in(alloc, self.ahead)?;
+        self.ahead = 0;
+        self.track.push(alloc, most)
     }
 
     /// Whether the stream has no byte. There may still be some that the reader was given.
     pub fn is_stream_empty(&self) -> bool
         ensures { IsTrue result ↔ (self.now.way.stream ≡ []) }
     {
-        self.stream.is_empty()
+        self.track.as_slice().len() == self.ahead
     }
 
     /// Whether no byte is on its way, which is where no message is.
@@ -240,24 +135,6 @@ impl<M: Message> Lane<M> {
         ensures idle { IsTrue result ↔ IsIdle self.now.way }
         ensures messages { IsTrue result ↔ (messages (codec M.Message) self.now.way ≡ []) }
     {
-        // What the bytes are is an invariant of a lane.
-        let _lane = &self.tray;
-        self.has_no_bytes()
-    }
-
-    fn has_no_bytes(&self) -> bool
-        ensures { IsTrue result ↔ IsIdle self.now.way }
-    {
-        self.has_read_nothing() && self.stream.is_empty()
-    }
-
-    // Whether neither a line nor a part of one was read and not handed over.
-    fn has_read_nothing(&self) -> bool
-        ensures { IsTrue result ↔ (self.now.way.read ≡ []) }
-    {
-        match self.reader.finish() {
-            Ok(()) => self.tray.is_empty(),
-            Err(_) => false,
-        }
+        self.track.is_idle()
     }
 }

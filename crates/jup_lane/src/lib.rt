@@ -13,6 +13,7 @@ mod first;
 mod lane;
 mod message;
 mod stream;
+mod track;
 
 pub use lane::Lane;
 pub use message::{MOST_MESSAGE, Message};

@@ -1,15 +1,15 @@
 //! What a link carries: messages, each of some lines.
-ghost use Rattle.std.specs.Prelude.{◌≡◌, ◌+◌, ◌≤◌, ℕ, List, [], ◌∷◌, ◌++◌, length, None, IfOk, IsTrue};
+ghost use Rattle.std.specs.Prelude.{◌≡◌, ◌+◌, ◌≤◌, ℕ, List, [], ◌∷◌, ◌++◌, length, None, IfOk, IfSome, IsTrue};
 ghost use Rattle.std.specs.List.{flat_map, AllByRecursion};
 ghost use Rattle.std.specs.Vec.{vec_capacity};
 ghost use Rattle.jup_wire.specs.declared.line.Line.{Line};
 ghost use Rattle.jup_wire.specs.Grammar.{spelling, HasSpelling};
 ghost use Rattle.jup_wire.specs.Rooms.{HasRoom};
-ghost use Rattle.jup_lane.specs.Codecs.{IsFirst};
+ghost use Rattle.jup_lane.specs.Codecs.{IsFirst, IsOldest};
 ghost use Rattle.jup_lane.specs.Messages.{up_piece, ups_of, down_piece, downs_of};
 
 use crate::edits::write_op;
-use crate::first::{down_of, first_of, is_short, single, up_of};
+use crate::first::{down_of, first_of, is_short, single, single_in, up_of};
 use jup_star::{Down, Up};
 use jup_wire::{LONGEST, Line, write_reserved};
 use jup_xform::NoMemory;
@@ -49,6 +49,12 @@ pub trait Message: Drop {
         ensures spelled { is_spelled self.now }
         ensures items { out.new.items ≡ out.old.items ++ flat_map spelling (lines self.now) }
         ensures capacity { vec_capacity out.old ≤ vec_capacity out.new };
+
+    /// The message that begins some bytes, which are those of messages that have a spelling, and how many bytes it
+    /// has; none where that cannot be told without gathering lines.
+    fn read(bytes: &[u8]) -> Option<(Self, usize)>
+        ensures { IfSome result (λ x. (ms : List Self) → AllByRecursion is_spelled ms
+            → bytes.now ≡ flat_map spelling (flat_map lines ms) → IsOldest lines x.0 x.1 ms) };
 
     /// Whether lines of the first message are missing, as can be told without gathering them.
     fn is_short(there: &VecDeque<Line>) -> bool
@@ -91,6 +97,11 @@ impl Message for Up {
             Up::Ack(count) => write_reserved(&Line::Ack(*count), out),
             Up::Ping(number) => write_reserved(&Line::Ping(*number), out),
         }
+    }
+
+    fn read(bytes: &[u8]) -> Option<(Up, usize)> {
+        let (msg, len) = single_in(bytes)?;
+        Some((Up::Op(msg), len))
     }
 
     fn is_short(there: &VecDeque<Line>) -> bool {
@@ -138,6 +149,11 @@ impl Message for Down {
             Down::Ack(count) => write_reserved(&Line::Ack(*count), out),
             Down::Pong(number) => write_reserved(&Line::Pong(*number), out),
         }
+    }
+
+    fn read(bytes: &[u8]) -> Option<(Down, usize)> {
+        let (msg, len) = single_in(bytes)?;
+        Some((Down::Op(msg), len))
     }
 
     fn is_short(there: &VecDeque<Line>) -> bool {

@@ -16,4 +16,6 @@ mod lines;
 #[cfg(test)]
 mod printed_boards;
 #[cfg(test)]
+mod singles;
+#[cfg(test)]
 mod texts;

@@ -84,3 +84,20 @@ fn messages_come_in_order_however_they_are_pushed(rt: HostRuntime) {
     }
     assert!(rt; lane.is_idle());
 }
+
+#[test]
+fn a_message_that_was_looked_at_stays_first(rt: HostRuntime) {
+    let alloc = rt.alloc();
+    let mut lane: Lane<Up> = Lane::new(alloc);
+    send(&rt, &mut lane, &Up::Op(first_edit(alloc)));
+    let first = Some(Up::Op(first_edit(alloc)));
+    expect_eq(&rt, lane.first(alloc).expect(&rt, "memory"), first);
+    // All its bytes count as moved, so nothing is left to push.
+    assert!(rt; !lane.is_idle() && lane.is_stream_empty());
+    send(&rt, &mut lane, &Up::Ack(3));
+    expect_eq(&rt, push(&rt, alloc, &mut lane, 9), 6);
+    let first = Some(Up::Op(first_edit(alloc)));
+    expect_eq(&rt, hand_over(&rt, alloc, &mut lane), first);
+    expect_eq(&rt, hand_over(&rt, alloc, &mut lane), Some(Up::Ack(3)));
+    assert!(rt; lane.is_idle());
+}

@@ -76,32 +76,17 @@ pub struct Site {
 }
 
 impl Model for Site {
-    ghost use Rattle.jup_batch.specs.BatchBoards.{BoardBatch};
-    ghost use Rattle.jup_batch.specs.BatchBoards.{Windows, bare};
     ghost use Rattle.jup_batch.specs.BoardBatches.{board_batches};
-    ghost use Rattle.jup_star.specs.SiteStates.{SiteState, IsSite};
+    ghost use Rattle.jup_star.specs.SiteStates.{IsSite};
+    ghost use Rattle.jup_star.specs.SiteCalls.{BoardSite};
 
-    ghost Value = { SiteState BoardBatch Windows };
+    ghost Value = { BoardSite };
 
-    ghost view = { λ s. record {
-      number = s.number;
-      limit = s.limit;
-      board = bare s.board;
-      end = s.end.link;
-      made = s.made;
-      named = s.named;
-      stopped = s.stopped;
-    } };
+    ghost use Rattle.jup_star.specs.SiteInside.{bare_site};
 
-    ghost invariant = { λ s. IsSite board_batches (record {
-      number = s.number;
-      limit = s.limit;
-      board = bare s.board;
-      end = s.end.link;
-      made = s.made;
-      named = s.named;
-      stopped = s.stopped;
-    }) };
+    ghost view = { bare_site };
+
+    ghost invariant = { λ s. IsSite board_batches (bare_site s) };
 }
 
 impl Site {

@@ -50,31 +50,15 @@ pub struct Star {
 }
 
 impl Model for Star {
-    ghost use Rattle.std.specs.Prelude.{map};
-    ghost use Rattle.jup_batch.specs.BatchBoards.{BoardBatch};
-    ghost use Rattle.jup_batch.specs.BatchBoards.{BoardEdits};
-    ghost use Rattle.jup_batch.specs.BatchBoards.{Windows, bare};
-    ghost use Rattle.jup_star.specs.StarStates.{StarState};
-    ghost use Rattle.jup_star.specs.StarCalls.{IsStar};
-    ghost use Rattle.jup_star.specs.Rooms.{bare_link};
+    ghost use Rattle.jup_star.specs.StarCalls.{BoardStar, IsStar};
 
-    ghost Value = { StarState BoardBatch Windows BoardEdits };
+    ghost Value = { BoardStar };
 
-    ghost view = { λ s. record {
-      limit = s.limit;
-      board = bare s.board;
-      given = s.given;
-      links = map bare_link s.links.items;
-      order = s.order.entries;
-    } };
+    ghost use Rattle.jup_star.specs.StarInside.{bare_star};
 
-    ghost invariant = { λ s. IsStar (record {
-      limit = s.limit;
-      board = bare s.board;
-      given = s.given;
-      links = map bare_link s.links.items;
-      order = s.order.entries;
-    }) };
+    ghost view = { bare_star };
+
+    ghost invariant = { λ s. IsStar (bare_star s) };
 }
 
 impl Star {

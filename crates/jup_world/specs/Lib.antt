@@ -22,8 +22,10 @@ pub mod Texts
 pub mod Traces
 pub mod Turns
 pub mod TwoFields
+pub mod TwoInside
 pub mod Twos
 pub mod Weights
 pub mod WorldFields
+pub mod WorldInside
 pub mod WorldStates
 pub mod WorldSteps

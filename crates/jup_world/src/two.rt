@@ -288,25 +288,15 @@ pub struct Two {
 }
 
 impl Model for Two {
-    ghost use Rattle.std.specs.Prelude.{map};
-    ghost use Rattle.jup_world.specs.TwoFields.{plain, carried};
     ghost use Rattle.jup_world.specs.Twos.{TwoState, IsTwo};
 
     ghost Value = { TwoState };
 
-    ghost view = { λ t. record {
-      client = plain t.client;
-      server = plain t.server;
-      up = map carried t.up.items;
-      down = map carried t.down.items;
-    } };
+    ghost use Rattle.jup_world.specs.TwoInside.{bare_two};
 
-    ghost invariant = { λ t. IsTwo (record {
-      client = plain t.client;
-      server = plain t.server;
-      up = map carried t.up.items;
-      down = map carried t.down.items;
-    }) };
+    ghost view = { bare_two };
+
+    ghost invariant = { λ t. IsTwo (bare_two t) };
 }
 
 impl Two {

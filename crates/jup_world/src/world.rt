@@ -51,28 +51,16 @@ pub struct World {
 }
 
 impl Model for World {
-    ghost use Rattle.std.specs.Prelude.{map};
-    ghost use Rattle.jup_batch.specs.BatchBoards.{bare};
-    ghost use Rattle.jup_world.specs.WorldFields.{lane_of};
-    ghost use Rattle.jup_world.specs.NumberedReplies.{noted_trace};
     ghost use Rattle.jup_world.specs.LaneWorlds.{LaneWorld};
     ghost use Rattle.jup_world.specs.LaneHappenings.{IsLaneWorld};
 
     ghost Value = { LaneWorld };
 
-    ghost view = { λ w. record {
-      opening = bare w.opening;
-      star = w.star;
-      sites = map lane_of w.sites.items;
-      trace = noted_trace w.trace.items;
-    } };
+    ghost use Rattle.jup_world.specs.WorldInside.{bare_world};
 
-    ghost invariant = { λ w. IsLaneWorld (record {
-      opening = bare w.opening;
-      star = w.star;
-      sites = map lane_of w.sites.items;
-      trace = noted_trace w.trace.items;
-    }) };
+    ghost view = { bare_world };
+
+    ghost invariant = { λ w. IsLaneWorld (bare_world w) };
 }
 
 // Room for what an event leaves in the trace, made while memory may still be refused: for its commands, and

@@ -1,5 +1,6 @@
 pub mod MixEvents
 pub mod MixFields
+pub mod MixInside
 pub mod MixPromises
 pub mod MixSound
 pub mod MixStates

@@ -41,27 +41,16 @@ pub struct Mixed {
 }
 
 impl Model for Mixed {
-    ghost use Rattle.std.specs.Option.{option_map};
-    ghost use Rattle.jup_batch.specs.BatchBoards.{bare};
-    ghost use Rattle.jup_world.specs.WorldFields.{bare_attached};
+    ghost use Rattle.jup_mixed.specs.MixFields.{IsMix};
     ghost use Rattle.jup_mixed.specs.MixPromises.{BoardMix};
-    ghost use Rattle.jup_mixed.specs.MixFields.{numbered_mix, IsMix};
 
     ghost Value = { BoardMix };
 
-    ghost view = { λ m. record {
-      opening = bare m.opening;
-      star = m.star;
-      site = option_map bare_attached m.site;
-      trace = numbered_mix m.trace.items;
-    } };
+    ghost use Rattle.jup_mixed.specs.MixInside.{bare_mix};
 
-    ghost invariant = { λ m. IsMix (record {
-      opening = bare m.opening;
-      star = m.star;
-      site = option_map bare_attached m.site;
-      trace = numbered_mix m.trace.items;
-    }) };
+    ghost view = { bare_mix };
+
+    ghost invariant = { λ m. IsMix (bare_mix m) };
 }
 
 // What stands within an event.

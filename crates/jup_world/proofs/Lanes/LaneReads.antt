@@ -1,5 +1,5 @@
 -- What a site's calls leave of its two ways: how many bytes are read, and that all are still those of messages.
-use Rattle.std.proofs.Common.{◌≡◌, ◌⊎◌, refl, sym, ◌∙◌, ap, subst, inl, inr, ℕ, ◌+◌, ◌-◌, min, List, [], ◌∷◌, ◌++◌, length, take, Option, Some, None, Result, Ok, Err, OnOk, OnErr, arith, append-nil, length-append, length-drop}
+use Rattle.std.proofs.Common.{◌≡◌, ◌⊎◌, refl, sym, ◌∙◌, ap, subst, inl, inr, ℕ, ◌+◌, ◌-◌, min, List, [], ◌∷◌, ◌++◌, length, take, Option, Some, None, arith, append-nil, length-append, length-drop}
 use Rattle.std.proofs.lemmas.List.{length-take}
 use Rattle.jup_batch.specs.BatchBoards.{BoardBatch}
 use Rattle.jup_star.specs.declared.messages.Down.{Down}
@@ -209,13 +209,3 @@ rests_filled l a mid b filled same =
       up = ap (λ (x : LaneSite). x.up) same;
       down = record { count = 0; is = ap (λ (x : LaneSite). x.down) same ∙ sym (moved-none mid.down) };
     })
-
--- # What a call returned
-
-pub then_ok : {T E : Type 0} {P Q : Type 0} (r : Result T E) → (P → Q) → OnOk r P → OnOk r Q
-then_ok (Ok x) step p = step p
-then_ok (Err e) step p = tt
-
-pub then_err : {T E : Type 0} {P Q : Type 0} (r : Result T E) → (P → Q) → OnErr r P → OnErr r Q
-then_err (Ok x) step p = tt
-then_err (Err e) step p = step p

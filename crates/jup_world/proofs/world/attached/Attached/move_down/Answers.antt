@@ -1,10 +1,11 @@
 use Rattle.std.proofs.Common.{sym, ap, subst}
+use Rattle.std.proofs.lemmas.Result.{on_ok_weaker, on_err_weaker}
 use Rattle.jup_star.specs.StarStates.{link_of}
 use Rattle.jup_world.specs.Happenings.{FirstFits}
 use Rattle.jup_world.specs.BoardWorlds.{BoardAttached}
 use Rattle.jup_world.specs.WorldFields.{lane_of}
 use Rattle.jup_world.proofs.CallFacts.{some_link}
-use Rattle.jup_world.proofs.Lanes.LaneReads.{refilled-read, rests_down, then_ok, then_err}
+use Rattle.jup_world.proofs.Lanes.LaneReads.{refilled-read, rests_down}
 use Rattle.jup_world.proofs.world.attached.Attached.move_down.Goals as goal
 
 pub hand-requires : goal.hand-requires
@@ -14,9 +15,9 @@ hand-requires c =
 
 pub returns-clause-read : goal.returns-clause-read
 returns-clause-read c =
-    then_ok c.hand.result (λ read l found. refilled-read l (lane_of c.args.self.now) (lane_of c.refill.new.self) (lane_of c.hand.new.self) (c.in_ok-refill.ensures.filled l found)
+    on_ok_weaker c.hand.result (λ read l found. refilled-read l (lane_of c.args.self.now) (lane_of c.refill.new.self) (lane_of c.hand.new.self) (c.in_ok-refill.ensures.filled l found)
     (ap (λ (a : BoardAttached). a.down) (c.in_ok-refill.ensures.site l found)) read) c.hand.ensures.read
 
 pub returns-clause-moved : goal.returns-clause-moved
 returns-clause-moved c =
-    then_err c.hand.result (λ moved l found. rests_down l (lane_of c.args.self.now) (lane_of c.refill.new.self) (lane_of c.hand.new.self) (c.in_ok-refill.ensures.filled l found) moved) c.hand.ensures.moved
+    on_err_weaker c.hand.result (λ moved l found. rests_down l (lane_of c.args.self.now) (lane_of c.refill.new.self) (lane_of c.hand.new.self) (c.in_ok-refill.ensures.filled l found) moved) c.hand.ensures.moved

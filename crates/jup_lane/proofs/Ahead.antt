@@ -44,21 +44,23 @@ first_is : {Message : Type 0} (lines : Message → List Line) (there : List Line
 first_is lines there m [] len first long = absurd cc
 first_is lines there m (x ∷ ms) len first long = record { later = ms; first = ap (λ t. t ∷ ms) (sym first.0); long = long }
 
+-- a message whose lines begin some bytes is the oldest of those that the bytes are
+oldest : {Message : Type 0} (C : Codec Message) → IsCodec C → (m : Message) (len : ℕ) (bytes : List ℕ) → BeginsLines (C.lines m) len bytes
+    → ((ms : List Message) (more : List Line) → AllByRecursion C.IsSpelled ms → C.lines m ++ more ≡ flat_map C.lines ms → IsFirst C.lines (C.lines m) ms (Some m))
+    → (ms : List Message) → AllByRecursion C.IsSpelled ms → bytes ≡ flat_map spelling (flat_map C.lines ms) → IsOldest C.lines m len ms
+oldest C laws m len bytes begins first ms all e =
+    let later = all_begin (C.lines m) (flat_map C.lines ms) begins.rest begins.spelled (lines_spelled C laws ms all) (sym e ∙ begins.stands) in
+    first_is C.lines (C.lines m) m ms len (first ms later.0 all (sym later.1)) begins.long
+
 pub up_oldest : (m : Msg (List BoardOp)) (len : ℕ) (bytes : List ℕ) → BeginsLines (message_lines m) len bytes → (us : List (Up BoardBatch)) → AllByRecursion ups.IsSpelled us → bytes ≡ flat_map spelling (flat_map ups.lines us)
     → IsOldest ups.lines (UpOp m) len us
-up_oldest m len bytes begins us all e =
-    let there = message_lines m in
-    let later = all_begin there (flat_map ups.lines us) begins.rest begins.spelled (lines_spelled ups ups_laws us all) (sym e ∙ begins.stands) in
-    first_is ups.lines there (UpOp m) us len
-    (up_first there (Some (Whole m)) (Some (UpOp m)) (begins.spelled.0.1.1, ([], sym (append-nil there))) refl us later.0 all (sym later.1)) begins.long
+up_oldest m len bytes begins =
+    oldest ups ups_laws (UpOp m) len bytes begins (up_first (message_lines m) (Some (Whole m)) (Some (UpOp m)) (begins.spelled.0.1.1, ([], sym (append-nil (message_lines m)))) refl)
 
 pub down_oldest : (m : Msg (List BoardOp)) (len : ℕ) (bytes : List ℕ) → BeginsLines (message_lines m) len bytes → (ds : List (Down BoardBatch)) → AllByRecursion downs.IsSpelled ds → bytes ≡ flat_map spelling (flat_map downs.lines ds)
     → IsOldest downs.lines (DownOp m) len ds
-down_oldest m len bytes begins ds all e =
-    let there = message_lines m in
-    let later = all_begin there (flat_map downs.lines ds) begins.rest begins.spelled (lines_spelled downs downs_laws ds all) (sym e ∙ begins.stands) in
-    first_is downs.lines there (DownOp m) ds len
-    (down_first there (Some (Whole m)) (Some (DownOp m)) (begins.spelled.0.1.1, ([], sym (append-nil there))) refl ds later.0 all (sym later.1)) begins.long
+down_oldest m len bytes begins =
+    oldest downs downs_laws (DownOp m) len bytes begins (down_first (message_lines m) (Some (Whole m)) (Some (DownOp m)) (begins.spelled.0.1.1, ([], sym (append-nil (message_lines m)))) refl)
 
 -- # Bytes that count as moved
 

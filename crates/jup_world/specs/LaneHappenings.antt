@@ -12,7 +12,7 @@ use Rattle.jup_world.specs.WorldStates.{at_site}
 use Rattle.jup_world.specs.WorldSteps.{with_fetched}
 use Rattle.jup_world.specs.BoardWorlds.{BoardLink, BoardAttached, BoardReply}
 use Rattle.jup_world.specs.Happenings.{IsWorld}
-use Rattle.jup_world.specs.LaneWorlds.{LaneEvent, Plain, PushDown, Noted, LaneSite, LaneWorld, bare_site, messages_of, lane_site, AllCarry}
+use Rattle.jup_world.specs.LaneWorlds.{LaneEvent, Plain, PushDown, Noted, LaneSite, LaneWorld, messages_at, messages_of, lane_site, AllCarry}
 use Rattle.jup_world.specs.LaneSteps.{lane_outcome, up_read, down_read, filled_way, TouchesUp, TouchesDown}
 
 -- what holds of every world of the program: of its messages, and that its bytes are those of messages
@@ -99,9 +99,9 @@ pub record AreRead (event : LaneEvent) (star : BoardStar) (sites next_sites : Li
 
 -- want of memory left all as it was, but that bytes were moved on the way of the event, and a message may have been fetched
 pub record SitesRest (event : LaneEvent) (star : BoardStar) (sites : List LaneSite) (next_star : BoardStar) (next_sites : List LaneSite) : Type 0 where
-  pub messages : ((next_star ≡ star) × (map bare_site next_sites ≡ map bare_site sites))
+  pub messages : ((next_star ≡ star) × (map messages_at next_sites ≡ map messages_at sites))
       ⊎ ((i : ℕ) × (l : BoardLink) × (a : LaneSite) × TouchesDown event i × (link_of i star.links ≡ Some l) × (lane_site i sites ≡ Some a)
-      × (next_star ≡ fetched i 1 star) × (map bare_site next_sites ≡ at_site i (with_fetched board_batches 1 l) (map bare_site sites)))
+      × (next_star ≡ fetched i 1 star) × (map messages_at next_sites ≡ at_site i (with_fetched board_batches 1 l) (map messages_at sites)))
   pub carry : AllCarry sites → AllCarry next_sites
   pub up : (j : ℕ) (a b : LaneSite) → lane_site j sites ≡ Some a → lane_site j next_sites ≡ Some b → (b.up ≡ a.up) ⊎ (TouchesUp event j × IsMovedOn a.up b.up)
   pub down : (j : ℕ) (l : BoardLink) (a b : LaneSite) → link_of j star.links ≡ Some l → lane_site j sites ≡ Some a → lane_site j next_sites ≡ Some b

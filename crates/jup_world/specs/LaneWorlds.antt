@@ -34,8 +34,8 @@ pub record LaneWorld : Type 0 where
   pub trace : List Noted
 
 -- the messages of a site's link
-abbrev pub bare_site : LaneSite → BoardAttached
-bare_site a = record { site = a.site; up = messages ups a.up; down = messages downs a.down }
+abbrev pub messages_at : LaneSite → BoardAttached
+messages_at a = record { site = a.site; up = messages ups a.up; down = messages downs a.down }
 
 -- what stands in a trace but for the pushes
 abbrev pub plain_happened : LaneEvent → BoardReply → List (Happened Commands BoardEdits ℕ)
@@ -49,7 +49,7 @@ plain_trace (h ∷ hs) = plain_happened h.event h.reply ++ plain_trace hs
 
 -- the world of messages
 abbrev pub messages_of : LaneWorld → BoardWorld
-messages_of w = record { opening = w.opening; star = w.star; sites = map bare_site w.sites; trace = plain_trace w.trace }
+messages_of w = record { opening = w.opening; star = w.star; sites = map messages_at w.sites; trace = plain_trace w.trace }
 
 -- it is the site of a number
 abbrev pub has_number : ℕ → LaneSite → Bool

@@ -1,6 +1,6 @@
 -- A world of the program as its definitions see it.
 use Rattle.jup_world.specs.declared.world.attached.Attached.{Attached}
-use Rattle.jup_world.specs.LaneWorlds.{LaneSite, bare_site}
+use Rattle.jup_world.specs.LaneWorlds.{LaneSite, messages_at}
 use Rattle.jup_world.specs.BoardWorlds.{BoardAttached}
 
 -- a site with the two ways of its link, without the room that they keep
@@ -9,4 +9,4 @@ lane_of a = record { site = a.site; up = a.up.way; down = a.down.way }
 
 -- with the messages that stand on them
 abbrev pub bare_attached : Attached → BoardAttached
-bare_attached a = bare_site (lane_of a)
+bare_attached a = messages_at (lane_of a)

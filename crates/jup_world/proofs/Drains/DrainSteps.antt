@@ -26,7 +26,7 @@ use Rattle.jup_world.specs.WorldFields.{lane_of, bare_attached}
 use Rattle.jup_world.specs.SiteNumbers.{AreAscending}
 use Rattle.jup_world.specs.WorldSteps.{Outcome, outcome, happens, up_outcome, first_up, down_outcome, first_down, at_attached, at_linked, at_number, place_reply}
 use Rattle.jup_world.specs.NumberedReplies.{numbered_reply}
-use Rattle.jup_world.specs.LaneWorlds.{LaneEvent, Plain, LaneSite, LaneWorld, bare_site, messages_of, lane_site, IsStill}
+use Rattle.jup_world.specs.LaneWorlds.{LaneEvent, Plain, LaneSite, LaneWorld, messages_at, messages_of, lane_site, IsStill}
 use Rattle.jup_world.specs.LaneSteps.{Steps, AllSteps, IsSparedBy, IsHalted}
 use Rattle.jup_world.specs.LaneHappenings.{IsLaneWorld}
 use Rattle.jup_world.specs.Promises.{OrderIsKept}
@@ -38,8 +38,8 @@ use Rattle.jup_world.specs.Weights.{weight}
 use Rattle.jup_world.proofs.Drains.DrainLaws.{nothing_quiet, nothing_up, nothing_down}
 use Rattle.jup_world.proofs.Drains.Lightening.{delivery_lightens, same_weight}
 use Rattle.jup_world.proofs.SitePlaces.{found_bounds}
-use Rattle.jup_world.proofs.Lanes.LaneWorldLaws.{bare_found, still_quiet, steps_append, steps_keep}
-use Rattle.jup_world.proofs.Lanes.LaneSites.{bare_map}
+use Rattle.jup_world.proofs.Lanes.LaneWorldLaws.{messages_found, still_quiet, steps_append, steps_keep}
+use Rattle.jup_world.proofs.Lanes.LaneSites.{messages_map}
 use Rattle.jup_world.proofs.Lanes.LaneOrder.{steps_order, spared_order}
 
 -- # One delivery
@@ -227,11 +227,11 @@ next_none w v way n one two settles before next none i low high = cases (nat_eq 
     cases false e = let other = eqb-false i (n + 1) e in before both.0 i low (omega (arith, other))
 
 -- a site with its messages is one with its bytes
-from_bare : (i : ℕ) (sites : List LaneSite) (a : BoardAttached) → attached i (map bare_site sites) ≡ Some a → (b : LaneSite) × (lane_site i sites ≡ Some b)
-from_bare i sites a found = there (lane_site i sites) refl
+from_messages : (i : ℕ) (sites : List LaneSite) (a : BoardAttached) → attached i (map messages_at sites) ≡ Some a → (b : LaneSite) × (lane_site i sites ≡ Some b)
+from_messages i sites a found = there (lane_site i sites) refl
   where
     there : (o : Option LaneSite) → lane_site i sites ≡ o → (b : LaneSite) × (lane_site i sites ≡ Some b)
-    there None e = absurd (let f = bare_found i sites in cc)
+    there None e = absurd (let f = messages_found i sites in cc)
     there (Some b) e = (b, e)
 
 -- where the site is not attached
@@ -240,13 +240,13 @@ map_some f None = refl
 map_some f (Some x) = refl
 
 pub absent_moves : (w : LaneWorld) (way : Way) (i : ℕ) → is_some (lane_site i w.sites) ≡ false → MovesNothing way i (messages_of w)
-absent_moves w way i none a found = let b = from_bare i w.sites a found in let there = ap is_some b.1 in absurd (cc)
+absent_moves w way i none a found = let b = from_messages i w.sites a found in let there = ap is_some b.1 in absurd (cc)
 
 -- at all
 pub none_moves : (w : LaneWorld) (way : Way) (last : ℕ) → ((i : ℕ) (a : LaneSite) → lane_site i w.sites ≡ Some a → (1 ≤ i) × (i ≤ last)) → ((i : ℕ) → 1 ≤ i → i ≤ last → MovesNothing way i (messages_of w))
     → NothingMoves way (messages_of w)
 none_moves w way last within each i a found =
-    let b = from_bare i w.sites a found in
+    let b = from_messages i w.sites a found in
     let low = within i b.0 b.1 in
     each i low.0 low.1 a found
 
@@ -291,8 +291,8 @@ within_last most (x ∷ xs) e up is i a found =
 pub within_lanes : (most : ℕ) (sites : List Attached) (e : Attached) → AreAscending 0 most (map bare_attached sites) → Some e ≡ slice_get sites (length sites - 1)
     → (i : ℕ) (a : LaneSite) → lane_site i (map lane_of sites) ≡ Some a → (1 ≤ i) × (i ≤ e.site.number)
 within_lanes most sites e up is i a found =
-    within_last most sites e up is i (bare_site a)
-    (ap (attached i) (sym (bare_map sites)) ∙ bare_found i (map lane_of sites) ∙ ap (option_map bare_site) found)
+    within_last most sites e up is i (messages_at a)
+    (ap (attached i) (sym (messages_map sites)) ∙ messages_found i (map lane_of sites) ∙ ap (option_map messages_at) found)
 
 -- # The last of some deliveries
 

@@ -24,14 +24,14 @@ use Rattle.jup_world.specs.SiteNumbers.{IsSiteAt}
 use Rattle.jup_world.specs.BoardWorlds.{BoardWorld, BoardLink, BoardAttached, BoardEvent, BoardReply}
 use Rattle.jup_world.specs.WorldFields.{lane_of, bare_attached}
 use Rattle.jup_world.specs.Happenings.{Plays, Spares, AreReady, with_answer, refilled, handed_first, handed, SparesAt}
-use Rattle.jup_world.specs.LaneWorlds.{LaneEvent, Plain, PushUp, PushDown, LaneSite, bare_site, plain_trace, messages_of, lane_site, without_lane}
+use Rattle.jup_world.specs.LaneWorlds.{LaneEvent, Plain, PushUp, PushDown, LaneSite, messages_at, plain_trace, messages_of, lane_site, without_lane}
 use Rattle.jup_world.specs.LaneSteps.{push_reply, there_up, filled_stream, there_down, filled_from, filled_for, filled_way, up_read, down_read, TouchesDown}
 use Rattle.jup_world.specs.LaneHappenings.{IsRead, IsMovedUp, RestsDown, FillsAt, filled_messages, with_filled, star_filled, LanePlays, AreRead, SitesRest}
 use Rattle.jup_world.proofs.HappeningSteps.{linked, number, changed, unchanged, down_spared}
 use Rattle.jup_world.proofs.CallFacts.{some_link}
-use Rattle.jup_world.proofs.Lanes.LaneWorldLaws.{bare_found}
+use Rattle.jup_world.proofs.Lanes.LaneWorldLaws.{messages_found}
 use Rattle.jup_world.proofs.Lanes.LaneReads.{moved-carries}
-use Rattle.jup_world.proofs.Lanes.LaneSites.{bare_map, set_found, end_found, carry_set, carry_end, set_read, same_read, same_lanes}
+use Rattle.jup_world.proofs.Lanes.LaneSites.{messages_map, set_found, end_found, carry_set, carry_end, set_read, same_read, same_lanes}
 
 -- # Events of messages
 
@@ -39,7 +39,7 @@ use Rattle.jup_world.proofs.Lanes.LaneSites.{bare_map, set_found, end_found, car
 pub plain_plays : (e : BoardEvent) (star t : BoardStar) (sites next : List Attached) (reply : BoardReply) → Plays e star (map bare_attached sites) reply t (map bare_attached next)
     → LanePlays (Plain e) star (map lane_of sites) reply t (map bare_attached next)
 plain_plays e star t sites next reply plays opening trace =
-    ap (λ (xs : List BoardAttached). outcome board_batches (record { opening = opening; star = star; sites = xs; trace = plain_trace trace }) e) (bare_map sites) ∙ plays opening (plain_trace trace)
+    ap (λ (xs : List BoardAttached). outcome board_batches (record { opening = opening; star = star; sites = xs; trace = plain_trace trace }) e) (messages_map sites) ∙ plays opening (plain_trace trace)
 
 pub plain_result : (e : BoardEvent) (star t : BoardStar) (sites next : List Attached) (r : Result (Reply BoardEdits EditFault) NoMemory)
     → IfOk r (λ reply. Plays e star (map bare_attached sites) (numbered_reply reply) t (map bare_attached next))
@@ -60,7 +60,7 @@ lane_none i sites none = there (lane_site i (map lane_of sites)) refl
     there : (o : Option LaneSite) → lane_site i (map lane_of sites) ≡ o → lane_site i (map lane_of sites) ≡ None
     there None e = e
     there (Some a) e =
-        let f : attached i (map bare_attached sites) ≡ Some (bare_site a) = ap (attached i) (sym (bare_map sites)) ∙ bare_found i (map lane_of sites) ∙ ap (option_map bare_site) e in
+        let f : attached i (map bare_attached sites) ≡ Some (messages_at a) = ap (attached i) (sym (messages_map sites)) ∙ messages_found i (map lane_of sites) ∙ ap (option_map messages_at) e in
         absurd (cc)
 
 same_number : (i : ℕ) → nat_eq i i ≡ true
@@ -176,7 +176,7 @@ module _ (s : BoardStar) (sites : List Attached) (ready : AreReady s (map bare_a
   pub up_rests : (t : BoardStar) (new : Attached) → t ≡ s → bare_attached new ≡ bare_attached e → IsMovedUp (lane_of e) (lane_of new)
       → SitesRest (Plain (MoveUp i)) s (map lane_of sites) t (map lane_of (set sites at new))
   up_rests t new star same moved = record {
-    messages = inl (star, bare_map (set sites at new) ∙ unchanged s sites ready i at e place value new same ∙ sym (bare_map sites));
+    messages = inl (star, messages_map (set sites at new) ∙ unchanged s sites ready i at e place value new same ∙ sym (messages_map sites));
     carry = carry_set sites at e new
         (λ c. moved-carries ups ups_laws (lane_of e).up (lane_of new).up moved.up (subst (λ (a : Attached). Carries ups (lane_of a).up) (sym value) c))
         (λ c. subst (Carries downs) (sym moved.down) (subst (λ (a : Attached). Carries downs (lane_of a).down) (sym value) c));
@@ -213,12 +213,12 @@ module _ (s : BoardStar) (sites : List Attached) (ready : AreReady s (map bare_a
       number_kept = ap (λ (x : BoardSite). x.number) rests.site ∙ ap (λ (a : Attached). a.site.number) value
 
       fetched_cases : Spares i l s (map bare_attached sites) t (map bare_attached (set sites at new))
-          → ((t ≡ s) × (map bare_site (map lane_of (set sites at new)) ≡ map bare_site (map lane_of sites)))
+          → ((t ≡ s) × (map messages_at (map lane_of (set sites at new)) ≡ map messages_at (map lane_of sites)))
           ⊎ ((k : ℕ) × (m : BoardLink) × (a : LaneSite) × TouchesDown event k × (link_of k s.links ≡ Some m) × (lane_site k (map lane_of sites) ≡ Some a)
-          × (t ≡ fetched k 1 s) × (map bare_site (map lane_of (set sites at new)) ≡ at_site k (with_fetched board_batches 1 m) (map bare_site (map lane_of sites))))
-      fetched_cases (inl same) = inl (same.0, bare_map (set sites at new) ∙ same.1 ∙ sym (bare_map sites))
+          × (t ≡ fetched k 1 s) × (map messages_at (map lane_of (set sites at new)) ≡ at_site k (with_fetched board_batches 1 m) (map messages_at (map lane_of sites))))
+      fetched_cases (inl same) = inl (same.0, messages_map (set sites at new) ∙ same.1 ∙ sym (messages_map sites))
       fetched_cases (inr f) =
-          inr (i, l, lane_of e, touches, link, there, f.0, bare_map (set sites at new) ∙ f.1 ∙ ap (λ (xs : List BoardAttached). at_site i (with_fetched board_batches 1 l) xs) (sym (bare_map sites)))
+          inr (i, l, lane_of e, touches, link, there, f.0, messages_map (set sites at new) ∙ f.1 ∙ ap (λ (xs : List BoardAttached). at_site i (with_fetched board_batches 1 l) xs) (sym (messages_map sites)))
 
       up_cases : (j : ℕ) (a b : LaneSite) → ((i ≡ j) × (a ≡ lane_of (get_or sites at e)) × (b ≡ lane_of new)) ⊎ ((nat_eq i j ≡ false) × (b ≡ a)) → b.up ≡ a.up
       up_cases j a b (inl here) = ap (λ (x : LaneSite). x.up) here.2 ∙ rests.up ∙ ap (λ (x : LaneSite). x.up) (ap lane_of value ∙ sym here.1)
@@ -246,7 +246,7 @@ module _ (s : BoardStar) (sites : List Attached) (ready : AreReady s (map bare_a
   push_up_plays n reply new is same opening trace = λ k. record {
     reply = (ap (λ (o : Option LaneSite). push_reply (min n (length (there_up o)))) there ∙ sym is) k;
     star = s;
-    sites = (bare_map sites ∙ sym (unchanged s sites ready i at e place value new same)) k;
+    sites = (messages_map sites ∙ sym (unchanged s sites ready i at e place value new same)) k;
   }
 
   pub push_down_plays : (n : ℕ) (t : BoardStar) (reply : BoardReply) (new : Attached) (l : BoardLink) → link_of i s.links ≡ Some l
@@ -259,8 +259,8 @@ module _ (s : BoardStar) (sites : List Attached) (ready : AreReady s (map bare_a
       m : BoardWorld
       m = messages_of (record { opening = opening; star = s; sites = map lane_of sites; trace = trace })
 
-      stays : bare_attached new ≡ bare_attached e → map bare_site (map lane_of sites) ≡ map bare_attached (set sites at new)
-      stays same = bare_map sites ∙ sym (unchanged s sites ready i at e place value new same)
+      stays : bare_attached new ≡ bare_attached e → map messages_at (map lane_of sites) ≡ map bare_attached (set sites at new)
+      stays same = messages_map sites ∙ sym (unchanged s sites ready i at e place value new same)
 
       cases : (stream : List ℕ) (os : List (Down BoardBatch)) → bare_attached new ≡ filled_messages stream l os (bare_attached e) → t ≡ star_filled i stream os s
           → reply ≡ push_reply (min n (length (filled_stream stream os)))
@@ -270,7 +270,7 @@ module _ (s : BoardStar) (sites : List Attached) (ready : AreReady s (map bare_a
       cases [] (d ∷ os) fetches f r = λ k. record {
         reply = sym r k;
         star = sym f k;
-        sites = (ap (λ (xs : List BoardAttached). at_site i (with_fetched board_batches 1 l) xs) (bare_map sites) ∙ sym (changed s sites ready i at e place value (with_fetched board_batches 1 l) new fetches)) k;
+        sites = (ap (λ (xs : List BoardAttached). at_site i (with_fetched board_batches 1 l) xs) (messages_map sites) ∙ sym (changed s sites ready i at e place value (with_fetched board_batches 1 l) new fetches)) k;
       }
       cases (b ∷ stream) os same f r = λ k. record { reply = sym r k; star = sym f k; sites = stays same k }
 
@@ -377,7 +377,7 @@ pub push_up_none : (s : BoardStar) (sites : List Attached) (i n : ℕ) → attac
 push_up_none s sites i n none opening trace = λ k. record {
   reply = (ap (λ (o : Option LaneSite). push_reply (min n (length (there_up o)))) (lane_none i sites none) ∙ ap push_reply (min-none n)) k;
   star = s;
-  sites = bare_map sites k;
+  sites = messages_map sites k;
 }
 
 pub push_down_none : (s : BoardStar) (sites : List Attached) (i n : ℕ) → attached i (map bare_attached sites) ≡ None → LanePlays (PushDown i n) s (map lane_of sites) Nothing s (map bare_attached sites)
@@ -389,5 +389,5 @@ push_down_none s sites i n none opening trace =
     m = messages_of (record { opening = opening; star = s; sites = map lane_of sites; trace = trace })
 
     cases : (ol : Option BoardLink) → unchanged_world board_batches (filled_for m i ol None) (push_reply (min n (length (there_down ol None)))) ≡ record { reply = Nothing; star = s; sites = map bare_attached sites }
-    cases None = λ k. record { reply = ap push_reply (min-none n) k; star = s; sites = bare_map sites k }
-    cases (Some l) = λ k. record { reply = ap push_reply (min-none n) k; star = s; sites = bare_map sites k }
+    cases None = λ k. record { reply = ap push_reply (min-none n) k; star = s; sites = messages_map sites k }
+    cases (Some l) = λ k. record { reply = ap push_reply (min-none n) k; star = s; sites = messages_map sites k }

@@ -11,13 +11,13 @@ use Rattle.jup_world.specs.WorldStates.{at_site}
 use Rattle.jup_world.specs.WorldSteps.{Outcome, with_fetched, only_fetched}
 use Rattle.jup_world.specs.BoardWorlds.{BoardWorld, BoardLink, BoardReply}
 use Rattle.jup_world.specs.Happenings.{IsWorld}
-use Rattle.jup_world.specs.LaneWorlds.{LaneEvent, Plain, PushUp, PushDown, Noted, LaneSite, LaneWorld, bare_site, plain_happened, plain_trace, messages_of, lane_site, AllCarry}
+use Rattle.jup_world.specs.LaneWorlds.{LaneEvent, Plain, PushUp, PushDown, Noted, LaneSite, LaneWorld, messages_at, plain_happened, plain_trace, messages_of, lane_site, AllCarry}
 use Rattle.jup_world.specs.LaneSteps.{lane_outcome, Steps, AllSteps, AnswersTo, TouchesDown, Rests, IsSparedBy, IsHalted}
 use Rattle.jup_world.specs.LaneHappenings.{IsLaneWorld, LanePlays, AreRead, SitesRest, LaneSpares}
 use Rattle.jup_world.specs.WorldFields.{lane_of, bare_attached}
 use Rattle.jup_world.specs.declared.world.attached.Attached.{Attached}
 use Rattle.jup_world.proofs.Sound.ReplyLaws.{replies}
-use Rattle.jup_world.proofs.Lanes.LaneSites.{bare_map}
+use Rattle.jup_world.proofs.Lanes.LaneSites.{messages_map}
 use Rattle.jup_world.proofs.Lanes.LaneWorldLaws.{plain-noted, steps_more}
 
 -- a world after an event that was played
@@ -26,7 +26,7 @@ pub played_lanes : (w : LaneWorld) (event : LaneEvent) (reply : BoardReply) (t :
     → Steps w event (record { opening = w.opening; star = t; sites = map lane_of next; trace = trace })
 played_lanes w event reply t next trace plays read more carry = record {
   messages =
-      (λ k. record { opening = w.opening; star = t; sites = bare_map next k; trace = (ap plain_trace more ∙ plain-noted w.trace event reply) k })
+      (λ k. record { opening = w.opening; star = t; sites = messages_map next k; trace = (ap plain_trace more ∙ plain-noted w.trace event reply) k })
       ∙ sym (ap after (plays w.opening w.trace));
   trace = more ∙ ap (λ (r : BoardReply). w.trace ++ record { event = event; reply = r } ∷ []) (sym (ap (λ (o : Outcome board_batches). o.reply) (plays w.opening w.trace)));
   carry = read.carry carry;
@@ -68,9 +68,9 @@ rests w event t next trace rest kept carry = record {
     world : LaneWorld
     world = record { opening = w.opening; star = t; sites = next; trace = trace }
 
-    messages : ((t ≡ w.star) × (map bare_site next ≡ map bare_site w.sites))
+    messages : ((t ≡ w.star) × (map messages_at next ≡ map messages_at w.sites))
         ⊎ ((i : ℕ) × (l : BoardLink) × (a : LaneSite) × TouchesDown event i × (link_of i w.star.links ≡ Some l) × (lane_site i w.sites ≡ Some a)
-        × (t ≡ fetched i 1 w.star) × (map bare_site next ≡ at_site i (with_fetched board_batches 1 l) (map bare_site w.sites)))
+        × (t ≡ fetched i 1 w.star) × (map messages_at next ≡ at_site i (with_fetched board_batches 1 l) (map messages_at w.sites)))
         → (messages_of world ≡ messages_of w)
         ⊎ ((i : ℕ) × (l : BoardLink) × (a : LaneSite) × TouchesDown event i × (link_of i w.star.links ≡ Some l) × (lane_site i w.sites ≡ Some a)
         × (messages_of world ≡ only_fetched board_batches (messages_of w) i 1 l))

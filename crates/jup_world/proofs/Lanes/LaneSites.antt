@@ -9,15 +9,15 @@ use Rattle.jup_lane.specs.Lanes.{Carries}
 use Rattle.jup_world.specs.SiteNumbers.{IsSiteAt}
 use Rattle.jup_world.specs.BoardWorlds.{BoardLink, BoardAttached}
 use Rattle.jup_world.specs.WorldFields.{lane_of, bare_attached}
-use Rattle.jup_world.specs.LaneWorlds.{LaneEvent, LaneSite, bare_site, has_number, lane_site, without_lane, AllCarry}
+use Rattle.jup_world.specs.LaneWorlds.{LaneEvent, LaneSite, messages_at, has_number, lane_site, without_lane, AllCarry}
 use Rattle.jup_world.specs.LaneSteps.{up_read, down_read}
 use Rattle.jup_world.specs.LaneHappenings.{AreRead}
 use Rattle.jup_world.specs.declared.world.attached.Attached.{Attached}
 
 -- the messages of sites are those of their bytes
-pub bare_map : (sites : List Attached) → map bare_site (map lane_of sites) ≡ map bare_attached sites
-bare_map [] = refl
-bare_map (a ∷ sites) = ap (λ (xs : List BoardAttached). bare_attached a ∷ xs) (bare_map sites)
+pub messages_map : (sites : List Attached) → map messages_at (map lane_of sites) ≡ map bare_attached sites
+messages_map [] = refl
+messages_map (a ∷ sites) = ap (λ (xs : List BoardAttached). bare_attached a ∷ xs) (messages_map sites)
 
 -- # The site of a number, before and after
 

@@ -15,7 +15,7 @@ use Rattle.jup_world.specs.WorldStates.{attached, IsQuiet}
 use Rattle.jup_world.specs.WorldSteps.{run, only_fetched}
 use Rattle.jup_world.specs.BoardWorlds.{BoardWorld, BoardLink, BoardEvent, BoardReply}
 use Rattle.jup_world.specs.Happenings.{IsWorld, IsSpared}
-use Rattle.jup_world.specs.LaneWorlds.{LaneEvent, Plain, PushUp, PushDown, Noted, LaneSite, LaneWorld, bare_site, plain_happened, plain_trace, messages_of, lane_site, AllCarry, IsStill}
+use Rattle.jup_world.specs.LaneWorlds.{LaneEvent, Plain, PushUp, PushDown, Noted, LaneSite, LaneWorld, messages_at, plain_happened, plain_trace, messages_of, lane_site, AllCarry, IsStill}
 use Rattle.jup_world.specs.LaneSteps.{filled_from, filled_for, messages_after, Steps, AllSteps, Rests, TouchesDown, IsSparedBy}
 use Rattle.jup_world.specs.LaneHappenings.{IsLaneWorld}
 use Rattle.jup_world.proofs.WorldKept.{world_happens, world_spared}
@@ -33,11 +33,11 @@ ways_determined C w v cw cv same count =
 -- # Sites
 
 -- the site of a number, with its messages
-pub bare_found : (i : ℕ) (sites : List LaneSite) → attached i (map bare_site sites) ≡ option_map bare_site (lane_site i sites)
-bare_found i [] = refl
-bare_found i (a ∷ sites) = step (nat_eq a.site.number i) (bare_found i sites)
+pub messages_found : (i : ℕ) (sites : List LaneSite) → attached i (map messages_at sites) ≡ option_map messages_at (lane_site i sites)
+messages_found i [] = refl
+messages_found i (a ∷ sites) = step (nat_eq a.site.number i) (messages_found i sites)
   where
-    step : (b : Bool) → attached i (map bare_site sites) ≡ option_map bare_site (lane_site i sites) → cond b (Some (bare_site a)) (attached i (map bare_site sites)) ≡ option_map bare_site (cond b (Some a) (lane_site i sites))
+    step : (b : Bool) → attached i (map messages_at sites) ≡ option_map messages_at (lane_site i sites) → cond b (Some (messages_at a)) (attached i (map messages_at sites)) ≡ option_map messages_at (cond b (Some a) (lane_site i sites))
     step true later = refl
     step false later = later
 
@@ -59,18 +59,18 @@ still_quiet w all = (to, from)
     to still i l b fl fb = at (lane_site i w.sites) refl
       where
         at : (o : Option LaneSite) → lane_site i w.sites ≡ o → (b.up ≡ []) × (b.down ≡ []) × (l.outbox ≡ [])
-        at None e = absurd (let f = bare_found i w.sites in cc)
+        at None e = absurd (let f = messages_found i w.sites in cc)
         at (Some a) e =
-            let f = bare_found i w.sites in
-            let same : bare_site a ≡ b = cc in
+            let f = messages_found i w.sites in
+            let same : messages_at a ≡ b = cc in
             let none = still i l a fl e in
             let c = carry_at i w.sites a all e in
             (ap (λ x. x.up) (sym same) ∙ idle_none ups ups_laws a.up c.0 none.0, ap (λ x. x.down) (sym same) ∙ idle_none downs downs_laws a.down c.1 none.1, none.2)
 
     from : IsQuiet board_batches (messages_of w) → IsStill w
     from quiet i l a fl fa =
-        let f : attached i (map bare_site w.sites) ≡ Some (bare_site a) = bare_found i w.sites ∙ ap (option_map bare_site) fa in
-        let none = quiet i l (bare_site a) fl f in
+        let f : attached i (map messages_at w.sites) ≡ Some (messages_at a) = messages_found i w.sites ∙ ap (option_map messages_at) fa in
+        let none = quiet i l (messages_at a) fl f in
         let c = carry_at i w.sites a all fa in
         (idle ups ups_laws a.up c.0 none.0, idle downs downs_laws a.down c.1 none.1, none.2)
 
@@ -93,7 +93,7 @@ filled_spared w i = cases (link_of i w.star.links) refl (lane_site i w.sites) re
     from : (l : BoardLink) → link_of i w.star.links ≡ Some l → (a : LaneSite) → lane_site i w.sites ≡ Some a → (stream : List ℕ) (outbox : List (Down BoardBatch))
         → IsSpared (messages_of w) (filled_from (messages_of w) i l stream outbox)
     from l fl a fa [] [] = inl refl
-    from l fl a fa [] (d ∷ os) = inr (i, l, bare_site a, fl, bare_found i w.sites ∙ ap (option_map bare_site) fa, refl)
+    from l fl a fa [] (d ∷ os) = inr (i, l, messages_at a, fl, messages_found i w.sites ∙ ap (option_map messages_at) fa, refl)
     from l fl a fa (b ∷ stream) os = inl refl
 
     cases : (ol : Option BoardLink) → link_of i w.star.links ≡ ol → (oa : Option LaneSite) → lane_site i w.sites ≡ oa → IsSpared (messages_of w) (filled_for (messages_of w) i ol oa)
@@ -104,7 +104,7 @@ filled_spared w i = cases (link_of i w.star.links) refl (lane_site i w.sites) re
 
 -- the messages after a push: it adds nothing to their trace
 pub after_up : (w : LaneWorld) (i n : ℕ) → messages_after w (PushUp i n) ≡ messages_of w
-after_up w i n = λ j. record { opening = w.opening; star = w.star; sites = map bare_site w.sites; trace = append-nil (plain_trace w.trace) j }
+after_up w i n = λ j. record { opening = w.opening; star = w.star; sites = map messages_at w.sites; trace = append-nil (plain_trace w.trace) j }
 
 pub after_down : (w : LaneWorld) (i n : ℕ) → messages_after w (PushDown i n) ≡ filled_for (messages_of w) i (link_of i w.star.links) (lane_site i w.sites)
 after_down w i n = cases (link_of i w.star.links) (lane_site i w.sites)
@@ -166,7 +166,7 @@ rests_spared w v event rests = spared rests.messages
         ⊎ ((i : ℕ) × (l : BoardLink) × (a : LaneSite) × TouchesDown event i × (link_of i w.star.links ≡ Some l) × (lane_site i w.sites ≡ Some a)
         × (messages_of v ≡ only_fetched board_batches (messages_of w) i 1 l)) → IsSpared (messages_of w) (messages_of v)
     spared (inl same) = inl same
-    spared (inr f) = inr (f.0, f.1, bare_site f.2, f.4, bare_found f.0 w.sites ∙ ap (option_map bare_site) f.5, f.6)
+    spared (inr f) = inr (f.0, f.1, messages_at f.2, f.4, messages_found f.0 w.sites ∙ ap (option_map messages_at) f.5, f.6)
 
 -- of the messages it left what it leaves in a world of messages
 pub spared_messages : (w v : LaneWorld) (event : LaneEvent) → IsSparedBy w event v → IsSpared (messages_of w) (messages_of v)

@@ -5,7 +5,7 @@ use Rattle.jup_world.specs.WorldFields.{bare_attached}
 use Rattle.jup_world.specs.Happenings.{AllQuiet}
 use Rattle.jup_world.specs.LaneWorlds.{messages_of}
 use Rattle.jup_world.proofs.Drains.QuietWorlds.{quiet_world, all_agree}
-use Rattle.jup_world.proofs.Lanes.LaneSites.{bare_map}
+use Rattle.jup_world.proofs.Lanes.LaneSites.{messages_map}
 use Rattle.jup_world.proofs.Lanes.LaneWorldLaws.{still_quiet}
 use Rattle.jup_world.proofs.world.World.quiet.Goals as goal
 
@@ -13,7 +13,7 @@ use Rattle.jup_world.proofs.world.World.quiet.Goals as goal
 test : (c : goal.After-are_quiet) → IsTrue c.are_quiet.result ↔ AllQuiet c.self.inside.star (messages_of (the_view c.self.inside)).sites
 test c =
     let is : IsTrue c.are_quiet.result ↔ AllQuiet c.self.inside.star (map bare_attached c.self.inside.sites.items) = rw c.deref.ensures.value at c.are_quiet.ensures in
-    subst (λ (xs : List BoardAttached). IsTrue c.are_quiet.result ↔ AllQuiet c.self.inside.star xs) (sym (bare_map c.self.inside.sites.items)) is
+    subst (λ (xs : List BoardAttached). IsTrue c.are_quiet.result ↔ AllQuiet c.self.inside.star xs) (sym (messages_map c.self.inside.sites.items)) is
 
 pub returns-clause-quiet : goal.returns-clause-quiet
 returns-clause-quiet c =

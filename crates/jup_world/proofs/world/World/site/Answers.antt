@@ -8,14 +8,14 @@ use Rattle.jup_world.specs.SiteNumbers.{AreAscending}
 use Rattle.jup_world.specs.declared.world.attached.Attached.{Attached}
 use Rattle.jup_world.specs.LaneWorlds.{lane_site, messages_of}
 use Rattle.jup_world.proofs.SitePlaces.{found_at, number_at}
-use Rattle.jup_world.proofs.Lanes.LaneSites.{bare_map}
+use Rattle.jup_world.proofs.Lanes.LaneSites.{messages_map}
 use Rattle.jup_world.proofs.Lanes.LaneEvents.{lane_found, lane_none}
 use Rattle.jup_world.proofs.Drains.QuietWorlds.{promises, backlogs, tallies_of}
 use Rattle.jup_world.proofs.world.World.site.Goals as goal
 
 pub place_of-requires : goal.place_of-requires
 place_of-requires c =
-    let up = subst (λ (xs : List BoardAttached). AreAscending 0 c.self.inside.star.given xs) (bare_map c.self.inside.sites.items) c.self.invariant.world.numbered.ascending in
+    let up = subst (λ (xs : List BoardAttached). AreAscending 0 c.self.inside.star.given xs) (messages_map c.self.inside.sites.items) c.self.invariant.world.numbered.ascending in
     (c.self.inside.star.given, subst (λ (xs : List Attached). AreAscending 0 c.self.inside.star.given (map bare_attached xs)) (sym c.deref.ensures.value) up)
 
 pub returns-clause-site : goal.returns-clause-site
@@ -27,14 +27,14 @@ returns-clause-site c =
 pub returns-clause-content : goal.returns-clause-content
 returns-clause-content c =
     let place = rw c.deref.ensures.value at c.in_ok-at.ensures.place in
-    let found = ap (attached c.args.number) (bare_map c.self.inside.sites.items)
+    let found = ap (attached c.args.number) (messages_map c.self.inside.sites.items)
     ∙ found_at c.args.number c.self.inside.sites.items c.in_ok-at.at c.index.result.now place ∙ ap (λ a. Some (bare_attached a)) (sym c.index.ensures) in
     rw (← c.self.view_is) ((promises (messages_of (the_view c.self.inside)) c.self.invariant.world).site_content c.args.number (bare_attached c.index.result.now) found)
 
 pub returns-clause-attached : goal.returns-clause-attached
 returns-clause-attached c =
     let place = rw c.deref.ensures.value at c.in_ok-at.ensures.place in
-    let found = ap (attached c.args.number) (bare_map c.self.inside.sites.items)
+    let found = ap (attached c.args.number) (messages_map c.self.inside.sites.items)
     ∙ found_at c.args.number c.self.inside.sites.items c.in_ok-at.at c.index.result.now place ∙ ap (λ a. Some (bare_attached a)) (sym c.index.ensures) in
     rw (← c.self.view_is) (sym (ap is_some found) ∙ (promises (messages_of (the_view c.self.inside)) c.self.invariant.world).linked c.args.number)
 
@@ -46,21 +46,21 @@ returns-clause-number c =
 pub returns-clause-running : goal.returns-clause-running
 returns-clause-running c =
     let place = rw c.deref.ensures.value at c.in_ok-at.ensures.place in
-    let found = ap (attached c.args.number) (bare_map c.self.inside.sites.items)
+    let found = ap (attached c.args.number) (messages_map c.self.inside.sites.items)
     ∙ found_at c.args.number c.self.inside.sites.items c.in_ok-at.at c.index.result.now place ∙ ap (λ a. Some (bare_attached a)) (sym c.index.ensures) in
     (promises (messages_of (the_view c.self.inside)) c.self.invariant.world).running c.args.number (bare_attached c.index.result.now) found
 
 pub returns-clause-made : goal.returns-clause-made
 returns-clause-made c =
     let place = rw c.deref.ensures.value at c.in_ok-at.ensures.place in
-    let found = ap (attached c.args.number) (bare_map c.self.inside.sites.items)
+    let found = ap (attached c.args.number) (messages_map c.self.inside.sites.items)
     ∙ found_at c.args.number c.self.inside.sites.items c.in_ok-at.at c.index.result.now place ∙ ap (λ a. Some (bare_attached a)) (sym c.index.ensures) in
     rw (← c.self.view_is) ((tallies_of (messages_of (the_view c.self.inside)) c.self.invariant.world).made c.args.number (bare_attached c.index.result.now) found)
 
 pub returns-clause-backlog : goal.returns-clause-backlog
 returns-clause-backlog c =
     let place = rw c.deref.ensures.value at c.in_ok-at.ensures.place in
-    let found = ap (attached c.args.number) (bare_map c.self.inside.sites.items)
+    let found = ap (attached c.args.number) (messages_map c.self.inside.sites.items)
     ∙ found_at c.args.number c.self.inside.sites.items c.in_ok-at.at c.index.result.now place ∙ ap (λ a. Some (bare_attached a)) (sym c.index.ensures) in
     (backlogs (messages_of (the_view c.self.inside)) c.self.invariant.world).backlog c.args.number (bare_attached c.index.result.now) found
 
@@ -73,6 +73,6 @@ returns-in_err-at-clause-site c =
 pub returns-in_err-at-clause-attached : goal.returns-in_err-at-clause-attached
 returns-in_err-at-clause-attached c =
     let none = rw c.deref.ensures.value at c.in_err-at.ensures.place in
-    let absent = ap (attached c.args.number) (bare_map c.self.inside.sites.items) ∙ none in
+    let absent = ap (attached c.args.number) (messages_map c.self.inside.sites.items) ∙ none in
     let gone : is_some c.from_residual.result ≡ false = search rules in
     rw (← c.self.view_is) (gone ∙ sym (ap is_some absent) ∙ (promises (messages_of (the_view c.self.inside)) c.self.invariant.world).linked c.args.number)

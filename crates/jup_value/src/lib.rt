@@ -2,6 +2,7 @@
 #![tactic(auto)]
 
 mod block;
+mod equality;
 mod iter;
 mod labels;
 mod layout;
@@ -10,6 +11,7 @@ mod names;
 mod sequence;
 mod table;
 
+pub use equality::ItemValue;
 pub use iter::Iter;
 pub use jup_limits::NoMemory;
 pub use labels::{BadLabel, Label};

@@ -1,11 +1,13 @@
 pub mod Additions
 pub mod BoardOperations
 pub mod Boards
+pub mod BoardsLent
 pub mod Commands
 pub mod Contents
 pub mod Edits
 pub mod Effects
 pub mod Entries
+pub mod EntriesLent
 pub mod FaultNumbers
 pub mod Laws
 pub mod Operations

@@ -11,7 +11,6 @@ mod edits;
 mod entries;
 mod faults;
 pub mod laws;
-mod sameness;
 mod singles;
 mod sites;
 mod widget_operations;

@@ -1,6 +1,8 @@
-//! Which labels there are, and that the calls of a sequence succeed where memory is left.
+//! Which labels there are, when sequences are the same, and that the calls of a sequence succeed where memory is left.
 use crate::expect::expect_eq;
 use jup_value::{BadLabel, Item, Label, Name, NoMemory, Seq};
+use std::alloc::Global;
+use std::process::Abort;
 
 #[test]
 fn label_has_1_to_48_bytes(rt: HostRuntime) {
@@ -57,6 +59,51 @@ fn copy_stays_as_it_was(rt: HostRuntime) {
     expect_eq(&rt, seq.remove(0), FIRST);
     expect_eq(&rt, copied.get(0).copied(), Some(FIRST));
     expect_eq(&rt, copied.get(1).copied(), None);
+}
+
+// The sequence of one item.
+fn sequence_of_one<V: Copy>(rt: &impl Abort, alloc: Global, item: Item<V>) -> Seq<V> {
+    let mut seq = Seq::new(alloc);
+    seq.reserve_one().expect(rt, "memory");
+    seq.insert(0, item);
+    seq
+}
+
+// Whether the texts of one item each are the same.
+fn are_same(rt: &impl Abort, alloc: Global, one: Item<char>, other: Item<char>) -> bool {
+    sequence_of_one(rt, alloc, one).same(&sequence_of_one(rt, alloc, other))
+}
+
+// The list of one label.
+fn list_of(rt: &impl Abort, alloc: Global, text: &[u8]) -> Seq<Label> {
+    let value = Label::read(text).expect(rt, "a label");
+    let name = FIRST.name;
+    sequence_of_one(rt, alloc, Item { name, value })
+}
+
+#[test]
+fn texts_are_the_same_by_names_and_characters(rt: HostRuntime) {
+    let renamed = Item {
+        name: SECOND.name,
+        value: FIRST.value,
+    };
+    let relabelled = Item {
+        name: FIRST.name,
+        value: SECOND.value,
+    };
+    expect_eq(&rt, are_same(&rt, rt.alloc(), FIRST, FIRST), true);
+    expect_eq(&rt, are_same(&rt, rt.alloc(), FIRST, renamed), false);
+    expect_eq(&rt, are_same(&rt, rt.alloc(), FIRST, relabelled), false);
+    let text = sequence_of_one(&rt, rt.alloc(), FIRST);
+    expect_eq(&rt, text.same(&Seq::new(rt.alloc())), false);
+    expect_eq(&rt, Seq::new(rt.alloc()).same(&text), false);
+}
+
+#[test]
+fn lists_are_the_same_by_labels(rt: HostRuntime) {
+    let red = list_of(&rt, rt.alloc(), b"red");
+    expect_eq(&rt, red.same(&list_of(&rt, rt.alloc(), b"red")), true);
+    expect_eq(&rt, red.same(&list_of(&rt, rt.alloc(), b"reddish")), false);
 }
 
 #[test]

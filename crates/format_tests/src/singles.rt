@@ -1,16 +1,17 @@
-//! The message of one operation on a text, read from bytes written by hand.
+//! The message of one operation, read from bytes written by hand.
 use crate::expect::expect_eq;
 use crate::lines::name;
-use jup_seq::{SeqOp, TextOp};
+use jup_seq::SeqOp;
+use jup_setting::SetOp;
 use jup_value::Item;
 use jup_window::{BoardOp, WidgetOp};
 use jup_wire::{Single, read_single};
 
-fn single(mine: u32, heard: u32, op: TextOp, len: usize) -> Option<Single> {
+fn single(mine: u32, heard: u32, op: WidgetOp, len: usize) -> Option<Single> {
     let op = BoardOp {
         win: 2,
         wid: 31,
-        op: WidgetOp::Text(op),
+        op,
     };
     Some(Single {
         mine,
@@ -26,7 +27,7 @@ fn an_insertion_is_read_and_what_stands_behind_it_is_left(rt: HostRuntime) {
         name: name(4, 17),
         value: 'é',
     };
-    let op = SeqOp::Insert { place: 10, item };
+    let op = WidgetOp::Text(SeqOp::Insert { place: 10, item });
     let whole = b"batch 5 0 1\ndo 2 31 text ins 10 4.17 233\n".as_slice();
     expect_eq(&rt, read_single(whole), single(5, 0, op, 41));
     let more = b"batch 5 0 1\ndo 2 31 text ins 10 4.17 233\nba".as_slice();
@@ -35,12 +36,28 @@ fn an_insertion_is_read_and_what_stands_behind_it_is_left(rt: HostRuntime) {
 
 #[test]
 fn a_deletion_is_read(rt: HostRuntime) {
-    let op = SeqOp::Delete {
+    let op = WidgetOp::Text(SeqOp::Delete {
         place: 0,
         name: name(0, 99),
-    };
+    });
     let whole = b"batch 0 7 1\ndo 2 31 text del 0 0.99\nbye\n".as_slice();
     expect_eq(&rt, read_single(whole), single(0, 7, op, 36));
+}
+
+#[test]
+fn an_operation_on_another_widget_is_read(rt: HostRuntime) {
+    let toggled = WidgetOp::Toggle(SetOp::Set(true));
+    let whole = b"batch 5 0 1\ndo 2 31 toggle set on\nack 3\n".as_slice();
+    expect_eq(&rt, read_single(whole), single(5, 0, toggled, 34));
+    let deleted = WidgetOp::List(SeqOp::Delete {
+        place: 3,
+        name: name(8, 1),
+    });
+    let whole = b"batch 1 2 1\ndo 2 31 list del 3 8.1\n".as_slice();
+    expect_eq(&rt, read_single(whole), single(1, 2, deleted, 35));
+    let nothing = WidgetOp::Text(SeqOp::Nothing);
+    let whole = b"batch 0 0 1\ndo 2 31 text no\n".as_slice();
+    expect_eq(&rt, read_single(whole), single(0, 0, nothing, 28));
 }
 
 #[test]
@@ -49,11 +66,9 @@ fn any_other_message_is_left_to_be_read_line_by_line(rt: HostRuntime) {
         b"".as_slice(),
         b"ack 3\n".as_slice(),
         b"batch 5 0 2\ndo 1 1 text del 0 0.9\ndo 1 1 text del 0 0.8\n".as_slice(),
-        b"batch 5 0 1\ndo 1 3 toggle set on\n".as_slice(),
-        b"batch 5 0 1\ndo 1 2 list del 0 0.9\n".as_slice(),
-        b"batch 5 0 1\ndo 1 1 text no\n".as_slice(),
         // Its last line feed has not come.
         b"batch 5 0 1\ndo 1 1 text del 0 0.9".as_slice(),
+        b"batch 5 0 1\ndo 1 3 toggle set on".as_slice(),
         b"batch 5 0 1\n".as_slice(),
     ] {
         expect_eq(&rt, read_single(bytes), None);
@@ -65,6 +80,8 @@ fn what_is_spelled_otherwise_is_no_message(rt: HostRuntime) {
     for bytes in [
         b"batch 05 0 1\ndo 1 1 text del 0 0.9\n".as_slice(),
         b"batch 5 0 1\r\ndo 1 1 text del 0 0.9\n".as_slice(),
+        b"batch 5 0 1\nack 3\n".as_slice(),
+        b"batch 5 0 1\ndo 1 1 text rel 0 0.9 97\n".as_slice(),
         b"batch 5 0 1\ndo 1 65536 text del 0 0.9\n".as_slice(),
         b"batch 5 0 1\ndo 1 1 text del 0  0.9\n".as_slice(),
         b"batch 5 0 1\ndo 1 1 text del 0 0.9 \n".as_slice(),

@@ -14,7 +14,7 @@ use jup_xform::{Batch, NoMemory};
 use std::alloc::Global;
 use std::collections::VecDeque;
 
-/// The message of one operation on a text that begins these bytes, if one does, and how many bytes it has.
+/// The message of one operation that begins these bytes, if one does, and how many bytes it has.
 pub(crate) fn single_in(bytes: &[u8]) -> Option<(Msg<BoardBatch>, usize)>
     ensures { IfSome result (λ x. BeginsLines (message_lines x.0) x.1 bytes.now) }
 {

@@ -1,5 +1,5 @@
 -- The lines of a message of one operation, put together of what was read of them.
-use Rattle.std.proofs.Common.{◌≡◌, ℕ, ◌+◌, ◌-◌, List, [], ◌∷◌, ◌++◌, length, Some, refl, sym, ap, ◌∙◌, append_assoc, append-nil, arith}
+use Rattle.std.proofs.Common.{◌≡◌, ℕ, ◌+◌, ◌-◌, List, [], ◌∷◌, ◌++◌, length, Some, refl, sym, ap, ◌∙◌, append_assoc, append-nil, arith, subst}
 use Rattle.std.specs.Prelude.{decimal, codes}
 use Rattle.std.specs.Fmt.{digits}
 use Rattle.std.specs.List.{join_with_byte}
@@ -9,10 +9,11 @@ use Rattle.jup_seq.specs.declared.operations.SeqOp.TheVariants.{Insert, Delete, 
 use Rattle.jup_window.specs.declared.widget_operations.WidgetOp.TheVariants.{Text}
 use Rattle.jup_wire.specs.declared.line.Line.{Line}
 use Rattle.jup_wire.specs.declared.line.Line.TheVariants.{Batch, Do}
-use Rattle.jup_wire.specs.Grammar.{IsId, IsU32, seq_fields, line_text, spelling}
-use Rattle.jup_wire.specs.Reading.{field_of, number_of, id_of}
+use Rattle.jup_wire.specs.Grammar.{IsId, IsU32, seq_fields, line_text, spelling, HasSpelling}
+use Rattle.jup_wire.specs.Reading.{split_of, field_of, number_of, id_of}
 use Rattle.jup_wire.specs.Singles.{BeginsWith, BeginsWithOp, BeginsLines}
 use Rattle.jup_wire.proofs.Readers.{field_takes}
+use Rattle.jup_wire.proofs.Splits.{split_parts}
 use Rattle.jup_wire.proofs.Leaves.{number_reader, id_reader}
 
 -- what a number or an id says that was read before a separator
@@ -57,6 +58,14 @@ operation_there bytes head r1 r2 r3 kind r4 rest win wid op headed kinded e one 
     let fields = two_fields r1 (decimal win) r2 (decimal wid ++ 32 ∷ text) rest 32 10 one.1 (two_fields r2 (decimal wid) r3 text rest 32 10 two.1 last) in
     let line = line_text (Do (record { win = win; wid = wid; op = Text op })) in
     ((one.0, (two.0, is.0)), e ∙ ap (λ t. t ++ r1) headed ∙ ap (λ t. codes "do " ++ t) fields ∙ sym (ended line rest))
+
+-- ---- any line
+
+-- a line that was read from the text before a line feed
+pub line_there : (bytes text rest : List ℕ) (found line : Line) → split_of 10 bytes ≡ Some (text, rest) → HasSpelling found × (text ≡ line_text found) → found ≡ line → BeginsWith line rest bytes
+line_there bytes text rest found line e read same =
+    let is : HasSpelling line × (text ≡ line_text line) = subst (λ l. HasSpelling l × (text ≡ line_text l)) same read in
+    (is.0, (split_parts 10 bytes text rest e).0 ∙ ap (λ t. t ++ 10 ∷ rest) is.1 ∙ sym (ended (line_text line) rest))
 
 -- ---- both lines
 

@@ -1,4 +1,4 @@
--- Lines that stand at the start of some bytes, and those of a message of one operation on a text.
+-- Lines that stand at the start of some bytes, and those of a message of one operation.
 use Rattle.std.specs.Prelude.{◌≡◌, ℕ, List, [], ◌∷◌, ◌++◌, length, decimal}
 use Rattle.std.specs.List.{flat_map, AllByRecursion, join_with_byte}
 use Rattle.jup_seq.specs.declared.operations.SeqOp.{SeqOp}
@@ -12,7 +12,7 @@ use Rattle.jup_wire.specs.Grammar.{seq_fields, spelling, IsBody, HasSpelling}
 abbrev pub BeginsWith : Line → List ℕ → List ℕ → Type 0
 BeginsWith line rest bytes = HasSpelling line × (bytes ≡ spelling line ++ rest)
 
--- the same of an operation on a text, without what stands before it on its line
+-- the same of an operation on a text, without the ids and the kind that stand before it on its line
 abbrev pub BeginsWithOp : SeqOp ℕ → List ℕ → List ℕ → Type 0
 BeginsWithOp op rest bytes = IsBody (widget.Text op) × (bytes ≡ join_with_byte 32 (seq_fields decimal op) ++ 10 ∷ rest)
 

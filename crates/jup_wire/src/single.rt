@@ -1,11 +1,13 @@
-//! Reading the message of one operation on a text, which most messages are, where its lines stand.
+//! Reading the message of one operation, which most messages are, where its lines stand.
 
 ghost use Rattle.std.specs.Prelude.{◌≡◌, ◌∷◌, ◌++◌, IfSome, codes};
 ghost use Rattle.jup_wire.specs.declared.line.Line.TheVariants.{Batch, Do};
 ghost use Rattle.jup_wire.specs.Grammar.{IsName, name_text};
 ghost use Rattle.jup_wire.specs.Singles.{BeginsWith, BeginsWithOp, BeginsLines, single_lines};
 
-use crate::fields::{behind, id_before, number_before};
+use crate::fields::{behind, id_before, number_before, split_line};
+use crate::line::Line;
+use crate::parse::read_line;
 use jup_seq::{SeqOp, TextOp};
 use jup_value::{Item, Name};
 use jup_window::{BoardOp, WidgetOp};
@@ -20,13 +22,13 @@ pub struct Single {
     pub len: usize,
 }
 
-/// The message that the bytes begin with, if it is a batch of one operation on a text, an insertion or a
-/// deletion, and all its bytes are there. Any other message has to be read line by line.
+/// The message that the bytes begin with, if it is a batch of one operation and all its bytes are there. Any other
+/// message has to be read line by line.
 pub fn read_single(bytes: &[u8]) -> Option<Single>
     ensures { IfSome result (λ single. BeginsLines (single_lines single) single.len bytes.now) }
 {
     let (mine, heard, rest) = batch_of_one(bytes)?;
-    let Some((op, rest)) = operation_on_text(rest) else {
+    let Some((op, rest)) = operation_here(rest) else {
         return None;
     };
     Some(Single {
@@ -49,6 +51,29 @@ fn batch_of_one(bytes: &[u8]) -> Option<(u32, u32, &[u8])>
 }
 
 /// The operation of a line, and the bytes behind it.
+fn operation_here(bytes: &[u8]) -> Option<(BoardOp, &[u8])>
+    ensures { IfSome result (λ x. BeginsWith (Do x.0) x.1.now bytes.now) }
+{
+    // Most are insertions into a text or deletions from one.
+    match operation_on_text(bytes) {
+        Some(found) => Some(found),
+        None => any_operation(bytes),
+    }
+}
+
+/// The operation of a line that is cut off and then read, and the bytes behind it.
+#[inline(never)]
+fn any_operation(bytes: &[u8]) -> Option<(BoardOp, &[u8])>
+    ensures { IfSome result (λ x. BeginsWith (Do x.0) x.1.now bytes.now) }
+{
+    let (text, rest) = split_line(bytes)?;
+    match read_line(text) {
+        Ok(Line::Do(op)) => Some((op, rest)),
+        _ => None,
+    }
+}
+
+/// The insertion or deletion of a line, read in one pass, and the bytes behind it.
 fn operation_on_text(bytes: &[u8]) -> Option<(BoardOp, &[u8])>
     ensures { IfSome result (λ x. BeginsWith (Do x.0) x.1.now bytes.now) }
 {
@@ -72,6 +97,7 @@ fn text_op_here(bytes: &[u8]) -> Option<(TextOp, &[u8])>
 }
 
 /// The insertion behind its word, up to its line feed, and the bytes behind that.
+#[inline(never)]
 fn insertion_here(bytes: &[u8]) -> Option<(TextOp, &[u8])>
     ensures { IfSome result (λ x. BeginsWithOp x.0 x.1.now (codes "ins " ++ bytes.now)) }
 {
@@ -84,6 +110,7 @@ fn insertion_here(bytes: &[u8]) -> Option<(TextOp, &[u8])>
 }
 
 /// The deletion behind its word, up to its line feed, and the bytes behind that.
+#[inline(never)]
 fn deletion_here(bytes: &[u8]) -> Option<(TextOp, &[u8])>
     ensures { IfSome result (λ x. BeginsWithOp x.0 x.1.now (codes "del " ++ bytes.now)) }
 {

@@ -3,9 +3,18 @@ use crate::expect::expect_eq;
 use crate::lines::name;
 use jup_seq::SeqOp;
 use jup_setting::SetOp;
-use jup_value::Item;
+use jup_value::{Item, Label};
 use jup_window::{BoardOp, WidgetOp};
 use jup_wire::{Single, read_single};
+use std::marker::PhantomData;
+use std::process::Abort;
+
+// The bytes are read as this message, or as none.
+fn expect_single(rt: &impl Abort, bytes: &[u8], due: Option<Single>) {
+    // Types that an operation holds, named so that the borrow checker knows of them.
+    let _of: PhantomData<(SeqOp<Label>, WidgetOp, BoardOp)> = PhantomData;
+    expect_eq(rt, read_single(bytes), due);
+}
 
 fn single(mine: u32, heard: u32, op: WidgetOp, len: usize) -> Option<Single> {
     let op = BoardOp {
@@ -21,17 +30,21 @@ fn single(mine: u32, heard: u32, op: WidgetOp, len: usize) -> Option<Single> {
     })
 }
 
-#[test]
-fn an_insertion_is_read_and_what_stands_behind_it_is_left(rt: HostRuntime) {
+// What "batch 5 0 1" and "do 2 31 text ins 10 4.17 233" say.
+fn inserted() -> Option<Single> {
     let item = Item {
         name: name(4, 17),
         value: 'é',
     };
-    let op = WidgetOp::Text(SeqOp::Insert { place: 10, item });
+    single(5, 0, WidgetOp::Text(SeqOp::Insert { place: 10, item }), 41)
+}
+
+#[test]
+fn an_insertion_is_read_and_what_stands_behind_it_is_left(rt: HostRuntime) {
     let whole = b"batch 5 0 1\ndo 2 31 text ins 10 4.17 233\n".as_slice();
-    expect_eq(&rt, read_single(whole), single(5, 0, op, 41));
+    expect_single(&rt, whole, inserted());
     let more = b"batch 5 0 1\ndo 2 31 text ins 10 4.17 233\nba".as_slice();
-    expect_eq(&rt, read_single(more), single(5, 0, op, 41));
+    expect_single(&rt, more, inserted());
 }
 
 #[test]
@@ -41,23 +54,23 @@ fn a_deletion_is_read(rt: HostRuntime) {
         name: name(0, 99),
     });
     let whole = b"batch 0 7 1\ndo 2 31 text del 0 0.99\nbye\n".as_slice();
-    expect_eq(&rt, read_single(whole), single(0, 7, op, 36));
+    expect_single(&rt, whole, single(0, 7, op, 36));
 }
 
 #[test]
 fn an_operation_on_another_widget_is_read(rt: HostRuntime) {
     let toggled = WidgetOp::Toggle(SetOp::Set(true));
     let whole = b"batch 5 0 1\ndo 2 31 toggle set on\nack 3\n".as_slice();
-    expect_eq(&rt, read_single(whole), single(5, 0, toggled, 34));
+    expect_single(&rt, whole, single(5, 0, toggled, 34));
     let deleted = WidgetOp::List(SeqOp::Delete {
         place: 3,
         name: name(8, 1),
     });
     let whole = b"batch 1 2 1\ndo 2 31 list del 3 8.1\n".as_slice();
-    expect_eq(&rt, read_single(whole), single(1, 2, deleted, 35));
+    expect_single(&rt, whole, single(1, 2, deleted, 35));
     let nothing = WidgetOp::Text(SeqOp::Nothing);
     let whole = b"batch 0 0 1\ndo 2 31 text no\n".as_slice();
-    expect_eq(&rt, read_single(whole), single(0, 0, nothing, 28));
+    expect_single(&rt, whole, single(0, 0, nothing, 28));
 }
 
 #[test]
@@ -71,7 +84,7 @@ fn any_other_message_is_left_to_be_read_line_by_line(rt: HostRuntime) {
         b"batch 5 0 1\ndo 1 3 toggle set on".as_slice(),
         b"batch 5 0 1\n".as_slice(),
     ] {
-        expect_eq(&rt, read_single(bytes), None);
+        expect_single(&rt, bytes, None);
     }
 }
 
@@ -89,6 +102,6 @@ fn what_is_spelled_otherwise_is_no_message(rt: HostRuntime) {
         b"batch 5 0 1\ndo 1 1 text ins 0 0.9 55296\n".as_slice(),
         b"batch 5 4294967296 1\ndo 1 1 text del 0 0.9\n".as_slice(),
     ] {
-        expect_eq(&rt, read_single(bytes), None);
+        expect_single(&rt, bytes, None);
     }
 }

@@ -1,5 +1,5 @@
 -- The lines of a message of one operation, put together of what was read of them.
-use Rattle.std.proofs.Common.{◌≡◌, ℕ, ◌+◌, ◌-◌, List, [], ◌∷◌, ◌++◌, length, Some, refl, sym, ap, ◌∙◌, append_assoc, append-nil, arith, subst}
+use Rattle.std.proofs.Common.{◌≡◌, ℕ, ◌+◌, ◌-◌, ◌≤◌, List, [], ◌∷◌, ◌++◌, length, Some, refl, sym, ap, ◌∙◌, append_assoc, append-nil, arith, subst}
 use Rattle.std.specs.Prelude.{decimal, codes}
 use Rattle.std.specs.Fmt.{digits}
 use Rattle.std.specs.List.{join_with_byte}
@@ -76,3 +76,10 @@ both_lines first second bytes middle rest len one two long =
     one.1 ∙ ap (λ t. spelling first ++ t) (two.1 ∙ ap (λ t. t ++ rest) (sym (append-nil (spelling second)))) ∙ sym (append_assoc (spelling first) (spelling second ++ []) rest) in
     let all : length bytes ≡ length lines + length rest = ap length stands ∙ length-append lines rest in
     record { spelled = (one.0, (two.0, tt)); rest = rest; stands = stands; long = omega (arith, long, all) }
+
+-- what stands behind both is no longer than all
+pub left_within : (first second : Line) (bytes middle rest : List ℕ) → BeginsWith first middle bytes → BeginsWith second rest middle → length rest ≤ length bytes
+left_within first second bytes middle rest one two =
+    let all = ap length one.1 ∙ length-append (spelling first) middle in
+    let behind = ap length two.1 ∙ length-append (spelling second) rest in
+    omega (arith, all, behind)

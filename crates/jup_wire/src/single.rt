@@ -28,15 +28,34 @@ pub fn read_single(bytes: &[u8]) -> Option<Single>
     ensures { IfSome result (λ single. BeginsLines (single_lines single) single.len bytes.now) }
 {
     let (mine, heard, rest) = batch_of_one(bytes)?;
-    let Some((op, rest)) = operation_here(rest) else {
-        return None;
-    };
-    Some(Single {
-        mine,
-        heard,
-        op,
-        len: bytes.len() - rest.len(),
-    })
+    // Most are insertions into a text or deletions from one.
+    match operation_on_text(rest) {
+        Some((op, behind)) => Some(Single {
+            mine,
+            heard,
+            op,
+            len: bytes.len() - behind.len(),
+        }),
+        None => single_of_any(bytes, mine, heard, rest),
+    }
+}
+
+/// The same of any operation, whose line is cut off and then read.
+#[inline(never)]
+fn single_of_any(bytes: &[u8], mine: u32, heard: u32, rest: &[u8]) -> Option<Single>
+    requires { BeginsWith (Batch mine heard 1) rest.now bytes.now }
+    ensures { IfSome result (λ single. BeginsLines (single_lines single) single.len bytes.now) }
+{
+    let (text, behind) = split_line(rest)?;
+    match read_line(text) {
+        Ok(Line::Do(op)) => Some(Single {
+            mine,
+            heard,
+            op,
+            len: bytes.len() - behind.len(),
+        }),
+        _ => None,
+    }
 }
 
 /// What the line of a batch of one tells, and the bytes behind it.
@@ -48,29 +67,6 @@ fn batch_of_one(bytes: &[u8]) -> Option<(u32, u32, &[u8])>
     let (heard, rest) = number_before(rest, b' ')?;
     let rest = behind(rest, b"1\n".as_slice())?;
     Some((mine, heard, rest))
-}
-
-/// The operation of a line, and the bytes behind it.
-fn operation_here(bytes: &[u8]) -> Option<(BoardOp, &[u8])>
-    ensures { IfSome result (λ x. BeginsWith (Do x.0) x.1.now bytes.now) }
-{
-    // Most are insertions into a text or deletions from one.
-    match operation_on_text(bytes) {
-        Some(found) => Some(found),
-        None => any_operation(bytes),
-    }
-}
-
-/// The operation of a line that is cut off and then read, and the bytes behind it.
-#[inline(never)]
-fn any_operation(bytes: &[u8]) -> Option<(BoardOp, &[u8])>
-    ensures { IfSome result (λ x. BeginsWith (Do x.0) x.1.now bytes.now) }
-{
-    let (text, rest) = split_line(bytes)?;
-    match read_line(text) {
-        Ok(Line::Do(op)) => Some((op, rest)),
-        _ => None,
-    }
 }
 
 /// The insertion or deletion of a line, read in one pass, and the bytes behind it.

@@ -2,6 +2,7 @@
 use Rattle.std.proofs.Common.{◌≡◌, ℕ, zero, suc, ◌+◌, ◌-◌, ◌<◌, ◌≤◌, Bool, true, false, cond, List, [], ◌∷◌, ◌++◌, map, length, get_or, Option, Some, None, is_some, Result, Ok, Err, refl, sym, ap, ◌∙◌, subst, arith, inl, inr, ◌⊎◌}
 use Rattle.std.proofs.Math.Dec.{eqb}
 use Rattle.std.proofs.lemmas.List.{get_or_default}
+use Rattle.jup_limits.specs.Limits.{highest_limit}
 use native.Mathlib.Decide.{dec_le}
 use Rattle.jup_batch.specs.BatchBoards.{BoardBatch, BoardEdits, Commands, Windows, content, meaning}
 use Rattle.jup_window.specs.declared.commands.Command.{Command}
@@ -168,7 +169,7 @@ one_of : {A : Type 0} (xs : List A) → 0 < length xs → A
 one_of [] some = absurd (omega arith)
 one_of (x ∷ xs) some = x
 
-module _ (board : Windows) (limit n : ℕ) (scripts : List (List Command)) (star : BoardStar) (ends : List SiteEnd) (fit : IsOpening board) (low : limit ≤ 16777216) (is : IsRunOf board limit n scripts star ends) where
+module _ (board : Windows) (limit n : ℕ) (scripts : List (List Command)) (star : BoardStar) (ends : List SiteEnd) (fit : IsOpening board) (low : limit ≤ highest_limit) (is : IsRunOf board limit n scripts star ends) where
   reached : IsReached (assembled_world board limit n is.logs is.later)
   reached = reached_more (opened_world board_batches board limit) (joins n ++ assembled n is.logs is.later) (opened_reached board limit fit low)
 

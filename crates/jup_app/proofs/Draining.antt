@@ -10,6 +10,7 @@ use Rattle.jup_star.specs.declared.calls.Call.TheVariants.{Join, Take, Fetch}
 use Rattle.jup_star.specs.declared.calls.Reply.{Reply}
 use Rattle.jup_star.specs.declared.calls.Reply.TheVariants as reply
 use Rattle.jup_star.specs.SiteCalls.{BoardSite}
+use Rattle.jup_rules.specs.Bounds.{most_fetched}
 use Rattle.jup_world.specs.Each.{Each}
 use Rattle.jup_world.specs.BoardWorlds.{BoardAttached}
 use Rattle.jup_hub.specs.declared.view.Entry.{Entry}
@@ -112,10 +113,10 @@ quiet_none ends v = record { empties = []; made = sym (append-nil v.made); are =
 
 pub quiet_more : (ends : List SiteEnd) (k number : ℕ) (v w x : View) → (AreNumbered ends → number ≡ suc k) → EndsQuiet ends k v w → FoundNothing number w x → EndsQuiet ends (k + 1) v x
 quiet_more ends k number v w x is a c = record {
-  empties = a.empties ++ record { by = w.number; call = Fetch number 64; reply = reply.Fetched (Ok []) } ∷ [];
-  made = ap (λ (z : View). z.made) c.view ∙ ap (λ es. es ++ record { by = w.number; call = Fetch number 64; reply = reply.Fetched (Ok []) } ∷ []) a.made ∙ append_assoc v.made a.empties (record { by = w.number; call = Fetch number 64; reply = reply.Fetched (Ok []) } ∷ []);
-  are = λ numbered. makes-append a.empties (record { by = w.number; call = Fetch number 64; reply = reply.Fetched (Ok []) } ∷ []) ∙ ap (λ ms. ms ++ record { call = Fetch number 64; reply = reply.Fetched (Ok []) } ∷ []) (a.are numbered)
-      ∙ ap (λ n. empty_fetches k ++ record { call = Fetch n 64; reply = reply.Fetched (Ok []) } ∷ []) (is numbered) ∙ rw add-one refl;
+  empties = a.empties ++ record { by = w.number; call = Fetch number most_fetched; reply = reply.Fetched (Ok []) } ∷ [];
+  made = ap (λ (z : View). z.made) c.view ∙ ap (λ es. es ++ record { by = w.number; call = Fetch number most_fetched; reply = reply.Fetched (Ok []) } ∷ []) a.made ∙ append_assoc v.made a.empties (record { by = w.number; call = Fetch number most_fetched; reply = reply.Fetched (Ok []) } ∷ []);
+  are = λ numbered. makes-append a.empties (record { by = w.number; call = Fetch number most_fetched; reply = reply.Fetched (Ok []) } ∷ []) ∙ ap (λ ms. ms ++ record { call = Fetch number most_fetched; reply = reply.Fetched (Ok []) } ∷ []) (a.are numbered)
+      ∙ ap (λ n. empty_fetches k ++ record { call = Fetch n most_fetched; reply = reply.Fetched (Ok []) } ∷ []) (is numbered) ∙ rw add-one refl;
 }
 
 pub number_at : (v w : View) (n m : ℕ) (old new : List SiteEnd) (k : ℕ) (d : SiteEnd) → k < length old → Drained v w n m old new → AreNumbered old → (get_or new k d).site.number ≡ suc k

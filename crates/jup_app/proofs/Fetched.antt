@@ -7,13 +7,14 @@ use Rattle.jup_hub.specs.declared.view.Entry.{Entry}
 use Rattle.jup_hub.specs.declared.view.View.{View}
 use Rattle.jup_hub.specs.Histories.{entry}
 use Rattle.jup_hub.specs.Knowledge.{longest, having_seen, Called, Meets}
+use Rattle.jup_rules.specs.Bounds.{most_fetched}
 use Rattle.jup_app.specs.Runs.{BoardDown}
 use Rattle.jup_app.specs.Plays.{Handles, Fetches, CatchesUp}
 use Rattle.jup_world.specs.BoardWorlds.{BoardAttached}
 
-pub fetches_first : (i : ℕ) (v u w : View) (ds : List BoardDown) (calls : List Entry) → Called (Fetch i 64) (Fetched (Ok ds)) v u → w.made ≡ u.made ++ calls → Fetches i v w
+pub fetches_first : (i : ℕ) (v u w : View) (ds : List BoardDown) (calls : List Entry) → Called (Fetch i most_fetched) (Fetched (Ok ds)) v u → w.made ≡ u.made ++ calls → Fetches i v w
 fetches_first i v u w ds calls c more =
-    let e : Entry = entry v.number (Fetch i 64) (Fetched (Ok ds)) in
+    let e : Entry = entry v.number (Fetch i most_fetched) (Fetched (Ok ds)) in
     let one : u.made ≡ v.made ++ e ∷ [] = ap (λ (x : View). x.made) c.view in record {
       reply = Fetched (Ok ds);
       later = calls;
@@ -22,7 +23,7 @@ fetches_first i v u w ds calls c more =
 
 fetches_more : (i : ℕ) (v u w : View) (calls : List Entry) → Fetches i v u → w.made ≡ u.made ++ calls → Fetches i v w
 fetches_more i v u w calls f more =
-    let e : Entry = entry v.number (Fetch i 64) f.reply in record {
+    let e : Entry = entry v.number (Fetch i most_fetched) f.reply in record {
       reply = f.reply;
       later = f.later ++ calls;
       made = more ∙ ap (λ (l : List Entry). l ++ calls) f.made ∙ append_assoc v.made (e ∷ f.later) calls;

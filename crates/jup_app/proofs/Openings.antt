@@ -1,5 +1,6 @@
 -- The board of a star that was opened.
 use Rattle.std.proofs.Common.{◌≡◌, ℕ, ◌&&◌, nat_le, Bool, true, false, Option, Some, None, if◌then◌else◌, refl, sym, ap, ◌∙◌, subst}
+use Rattle.jup_limits.specs.Limits.{highest_limit}
 use Rattle.jup_window.specs.Boards.{Windows, bare, HasDistinctNames}
 use Rattle.jup_window.specs.Entries.{EachWidget}
 use Rattle.jup_window.specs.Sites.{only_site}
@@ -12,7 +13,7 @@ use Rattle.jup_star.proofs.ShortBoards.{short_bare, distinct_bare}
 use Rattle.jup_world.specs.Openings.{IsOpening}
 
 open_fits : (b : Windows) (limit : ℕ) → ◌≡◌ {A = Option OpenFault} None (star_open_fault b limit) → only_site 0 b ≡ true
-open_fits b limit fine = go (nat_le 1 limit && nat_le limit 16777216) (only_site 0 b) refl fine
+open_fits b limit fine = go (nat_le 1 limit && nat_le limit highest_limit) (only_site 0 b) refl fine
   where
     go : (x y : Bool) → only_site 0 b ≡ y → ◌≡◌ {A = Option OpenFault} None (if x then (if y then None else Some BadSite) else Some BadLimit) → only_site 0 b ≡ true
     go true true e f = e

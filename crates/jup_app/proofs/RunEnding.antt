@@ -7,6 +7,7 @@ use Rattle.jup_star.specs.declared.calls.Call.{Call}
 use Rattle.jup_star.specs.declared.calls.Call.TheVariants.{Join, Fetch}
 use Rattle.jup_star.specs.declared.calls.Reply.{Reply}
 use Rattle.jup_star.specs.declared.calls.Reply.TheVariants as reply
+use Rattle.jup_rules.specs.Bounds.{most_fetched}
 use Rattle.jup_window.specs.declared.commands.Command.{Command}
 use Rattle.jup_window.specs.declared.faults.EditFault.{EditFault}
 use Rattle.jup_batch.specs.BatchBoards.{BoardEdits, Commands, Windows}
@@ -32,6 +33,7 @@ use Rattle.jup_app.specs.Runs.{EditAnswer, Made, made, Step, calls_of, edits_of,
 use Rattle.jup_app.specs.Plays.{makes, calls_at, link_with, answered, HasSeen}
 use Rattle.jup_app.specs.Passing.{joined_call, HasJoinedAll, HasMet, IsSame, HasTaken, all_tallies, all_calls, end_of}
 use Rattle.std.specs.Borrow.{Bor}
+use Rattle.jup_limits.specs.Limits.{highest_limit}
 use Rattle.jup_app.specs.Seating.{IsJob, AreJobs, no_site}
 use Rattle.jup_app.specs.Threads.{Ran, AllRan}
 use Rattle.jup_app.specs.Drains.{Drained, IsDrained, AreNumbered, empty_fetches}
@@ -92,14 +94,14 @@ makes_split (e ∷ h) (x ∷ xs) ys is =
     let rest = makes_split h xs ys tail in
     (e ∷ rest.0, rest.1, ap (λ k. e ∷ k) rest.2, ap (λ ms. made e ∷ ms) rest.3 ∙ ap (λ m. m ∷ xs) head, rest.4)
 
-last_quiet : (i : ℕ) (s : BoardStar) (h : List Entry) → IsTidy s → makes h ≡ record { call = Fetch i 64; reply = reply.Fetched (Ok []) } ∷ [] → IsLegal s h → (star_through s h ≡ s) × (IsIdle s i)
+last_quiet : (i : ℕ) (s : BoardStar) (h : List Entry) → IsTidy s → makes h ≡ record { call = Fetch i most_fetched; reply = reply.Fetched (Ok []) } ∷ [] → IsLegal s h → (star_through s h ≡ s) × (IsIdle s i)
 last_quiet i s [] tidy are legal = absurd cc
 last_quiet i s (e ∷ f ∷ h) tidy are legal = absurd cc
 last_quiet i s (e ∷ []) tidy are legal =
-    let head : made e ≡ record { call = Fetch i 64; reply = reply.Fetched (Ok []) } = cc in
-    let call : e.call ≡ Fetch i 64 = ap (λ (m : Made). m.call) head in
-    let told : reply_of (Fetch i 64) s ≡ reply.Fetched (Ok []) = ap (λ k. reply_of k s) (sym call) ∙ sym legal.0 ∙ ap (λ (m : Made). m.reply) head in
-    (ap (λ k. star_after k s) call ∙ fetch_nothing s i 64 tidy told, fetch_empty s i 64 (lit< tt) told)
+    let head : made e ≡ record { call = Fetch i most_fetched; reply = reply.Fetched (Ok []) } = cc in
+    let call : e.call ≡ Fetch i most_fetched = ap (λ (m : Made). m.call) head in
+    let told : reply_of (Fetch i most_fetched) s ≡ reply.Fetched (Ok []) = ap (λ k. reply_of k s) (sym call) ∙ sym legal.0 ∙ ap (λ (m : Made). m.reply) head in
+    (ap (λ k. star_after k s) call ∙ fetch_nothing s i most_fetched tidy told, fetch_empty s i most_fetched (lit< tt) told)
 
 le_cases : (i n : ℕ) → (i ≤ n) ⊎ (n < i)
 le_cases i n = elim (dec_le i n) [ yes low ↦ inl low | no high ↦ inr (omega arith) ]
@@ -109,7 +111,7 @@ quiet_after : (n : ℕ) (s : BoardStar) (h : List Entry) → IsTidy s → makes 
 quiet_after zero s [] tidy are legal = (refl, λ i site. absurd (omega arith))
 quiet_after zero s (e ∷ h) tidy are legal = absurd cc
 quiet_after (suc n) s h tidy are legal =
-    let p = makes_split h (empty_fetches n) (record { call = Fetch (suc n) 64; reply = reply.Fetched (Ok []) } ∷ []) are in
+    let p = makes_split h (empty_fetches n) (record { call = Fetch (suc n) most_fetched; reply = reply.Fetched (Ok []) } ∷ []) are in
     let both = legal_append s p.0 p.1 (subst (λ k. IsLegal s k) p.2 legal) in
     let rest = quiet_after n s p.0 tidy p.3 both.0 in
     let last = last_quiet (suc n) s p.1 tidy p.4 (subst (λ t. IsLegal t p.1) rest.0 both.1) in (
@@ -133,7 +135,7 @@ makes_length : (h : List Entry) → length (makes h) ≡ length h
 makes_length [] = refl
 makes_length (e ∷ h) = ap suc (makes_length h)
 
-module _ (board : Windows) (limit : ℕ) (opened : IsOpening board) (low : limit ≤ 16777216) (hub : Hub) (a b c d e : View) (n1 n2 n3 : ℕ) (js : List BoardSite) (jobs : List Job) (results : List (Result Player Stop)) (before after : List SiteEnd) (scripts : List (List Command)) (h0 h : List Entry)
+module _ (board : Windows) (limit : ℕ) (opened : IsOpening board) (low : limit ≤ highest_limit) (hub : Hub) (a b c d e : View) (n1 n2 n3 : ℕ) (js : List BoardSite) (jobs : List Job) (results : List (Result Player Stop)) (before after : List SiteEnd) (scripts : List (List Command)) (h0 h : List Entry)
     (facts : Facts board limit hub a b c d e n1 n2 n3 js jobs results before after scripts h0 h) where
   many_players : length facts.taken.players ≡ length js
   many_players = sym (ap (λ (rs : List (Result Player Stop)). length rs) facts.taken.all_ok ∙ map_length ok_player facts.taken.players) ∙ facts.many_results ∙ facts.many_jobs
@@ -320,7 +322,7 @@ module _ (board : Windows) (limit : ℕ) (opened : IsOpening board) (low : limit
 
 -- a run, from what each of its calls tells
 pub run_ends : (board : Windows) (limit : ℕ) (hub : Hub) (a b c d e : View) (opening star : BoardStar) (n1 m1 n2 n3 events : ℕ) (js : List BoardSite) (scripts : List (Bor (List Command))) (jobs : List Job) (results : List (Result Player Stop)) (before after shown : List SiteEnd) (h0 h : List Entry)
-    → IsOpening board → limit ≤ 16777216 → a.opening ≡ opening → opening ≡ opened_star board limit → (joined : HasJoinedAll a n1 js) → length js ≡ length scripts → IsSame a b → m1 ≡ n1
+    → IsOpening board → limit ≤ highest_limit → a.opening ≡ opening → opening ≡ opened_star board limit → (joined : HasJoinedAll a n1 js) → length js ≡ length scripts → IsSame a b → m1 ≡ n1
     → ((k : List Entry) → HasMet a k → AreJobs hub k js scripts jobs) → length jobs ≡ length js → AllRan hub jobs results → length results ≡ length jobs
     → HasTaken b c m1 n2 results before → Meets c h0 → d ≡ having_seen h0 c → IsDrained d e n2 n3 before after
     → Meets e h → star ≡ star_through opening h → events ≡ length h → events ≡ n3 → shown ≡ after → IsRun board limit (map (λ s. s.now) scripts) star shown

@@ -1,5 +1,6 @@
 -- What the passes of a run know makes an assembled run of the core.
 use Rattle.std.proofs.Common.{◌≡◌, ◌≢◌, ℕ, zero, suc, ◌+◌, ◌-◌, ◌<◌, ◌≤◌, Bool, true, false, cond, List, [], ◌∷◌, ◌++◌, map, length, get_or, Option, Some, None, Result, Ok, Err, refl, sym, ap, ◌∙◌, subst, arith, inl, inr, ◌⊎◌, add-zero, add-suc, append_assoc, length-append, append-nil}
+use Rattle.jup_limits.specs.Limits.{highest_limit}
 use Rattle.jup_star.specs.StarCalls.{BoardStar, BoardLink, reply_of, star_after}
 use Rattle.jup_star.specs.declared.calls.Call.{Call}
 use Rattle.jup_star.specs.declared.calls.Call.TheVariants.{Join, Take, Fetch, Leave}
@@ -169,10 +170,10 @@ own_calls {opening} {js} {hands} w p q i site =
     ∙ w.own_log i d site
 
 -- a world that was opened is reached
-pub opened_reached : (board : Windows) (limit : ℕ) → IsOpening board → limit ≤ 16777216 → IsReached (opened_world board_batches board limit)
+pub opened_reached : (board : Windows) (limit : ℕ) → IsOpening board → limit ≤ highest_limit → IsReached (opened_world board_batches board limit)
 opened_reached board limit opening low = record { board = board; limit = limit; events = []; opening = opening; limited = low; is = refl }
 
-module _ (board : Windows) (limit : ℕ) (opening : IsOpening board) (low : limit ≤ 16777216) where
+module _ (board : Windows) (limit : ℕ) (opening : IsOpening board) (low : limit ≤ highest_limit) where
   pub tracks : {js : List BoardSite} {hands : List Tally} {firsts drains : List Entry} {logs drained : ℕ → List Step} {mids ends : ℕ → BoardAttached}
       → (w : Whole (opened_star board limit) js hands firsts drains logs drained mids ends) (p : Parts (opened_star board limit) js hands w.known.history drains)
       → HasJoined (opened_world board_batches board limit) js p.joined

@@ -5,6 +5,7 @@ use Rattle.jup_star.specs.declared.calls.Reply.TheVariants.{Fetched}
 use Rattle.jup_world.specs.Each.{Each}
 use Rattle.jup_hub.specs.declared.view.Entry.{Entry}
 use Rattle.jup_hub.specs.declared.view.View.{View}
+use Rattle.jup_rules.specs.Bounds.{most_fetched}
 use Rattle.jup_app.specs.declared.runs.drain.SiteEnd.{SiteEnd}
 use Rattle.jup_app.specs.Runs.{Made, Step, calls_of, edits_of, IsPlayed, site_of, IsSite}
 use Rattle.jup_app.specs.Plays.{makes, calls_at, link_with, HasSeen}
@@ -34,7 +35,7 @@ pub record Drained (v w : View) (before after : ℕ) (old new : List SiteEnd) : 
 -- fetches that gave nothing, of the first n sites in turn
 abbrev pub empty_fetches : ℕ → List Made
 empty_fetches zero = []
-empty_fetches (suc n) = empty_fetches n ++ record { call = Fetch (suc n) 64; reply = Fetched (Ok []) } ∷ []
+empty_fetches (suc n) = empty_fetches n ++ record { call = Fetch (suc n) most_fetched; reply = Fetched (Ok []) } ∷ []
 
 -- the last calls of a pass are such fetches
 pub record EndsQuiet (ends : List SiteEnd) (n : ℕ) (v w : View) : Type 0 where

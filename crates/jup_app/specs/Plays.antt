@@ -10,6 +10,7 @@ use Rattle.jup_star.specs.declared.calls.Reply.TheVariants.{Fetched}
 use Rattle.jup_star.specs.SiteCalls.{BoardSite}
 use Rattle.jup_hub.specs.declared.view.Entry.{Entry}
 use Rattle.jup_hub.specs.declared.view.View.{View}
+use Rattle.jup_rules.specs.Bounds.{most_fetched}
 use Rattle.jup_hub.specs.Histories.{entry, BeginsWith}
 use Rattle.jup_hub.specs.Knowledge.{longest, Called, Meets}
 use Rattle.jup_world.specs.BoardWorlds.{BoardAttached}
@@ -68,7 +69,7 @@ pub record IsDelivering (ds : List BoardDown) (k : ℕ) (start now : BoardAttach
 pub record Fetches (i : ℕ) (v w : View) : Type 0 where
   pub reply : Reply
   pub later : List Entry
-  pub made : w.made ≡ v.made ++ entry v.number (Fetch i 64) reply ∷ later
+  pub made : w.made ≡ v.made ++ entry v.number (Fetch i most_fetched) reply ∷ later
 
 -- The pass met a history. Where that was longer than all that it had seen, its next call was such a fetch
 pub record CatchesUp (i : ℕ) (v w : View) : Type 0 where
@@ -78,7 +79,7 @@ pub record CatchesUp (i : ℕ) (v w : View) : Type 0 where
 
 -- a fetch that gave nothing
 abbrev pub FoundNothing : ℕ → View → View → Type 0
-FoundNothing i v w = Called (Fetch i 64) (Fetched (Ok [])) v w
+FoundNothing i v w = Called (Fetch i most_fetched) (Fetched (Ok [])) v w
 
 -- a pass has edited, taken and fetched for site i, with this count of its calls
 pub record Works (i : ℕ) (v w : View) (before after : ℕ) (s t : BoardSite) (edits : List (Commands × EditAnswer)) : Type 0 where

@@ -10,6 +10,7 @@ ghost use Rattle.jup_lane.specs.Messages.{up_piece, ups_of, down_piece, downs_of
 
 use crate::edits::write_op;
 use crate::first::{down_of, first_of, is_short, single, single_in, up_of};
+use jup_limits::MOST_OPERATIONS;
 use jup_star::{Down, Up};
 use jup_wire::{LONGEST, Line, write_reserved};
 use jup_xform::NoMemory;
@@ -20,7 +21,7 @@ use std::collections::VecDeque;
 const LONGEST_BATCH: usize = 31;
 
 /// No message has a longer spelling: a batch line, and 32 lines more.
-pub const MOST_MESSAGE: usize = LONGEST_BATCH + 32 * LONGEST;
+pub const MOST_MESSAGE: usize = LONGEST_BATCH + MOST_OPERATIONS as usize * LONGEST;
 
 /// What a link carries: a message of one line or of several.
 pub trait Message: Drop {

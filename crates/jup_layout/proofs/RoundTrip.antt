@@ -7,6 +7,7 @@ use Rattle.std.proofs.lemmas.Bool.{ne_eqb, lt-ltb, eq-eqb, lt-leb, or_parts, and
 use Rattle.std.proofs.lemmas.List.{length-append, append-nil}
 use Rattle.std.proofs.lemmas.List.Sums.{take_while-cons}
 use Rattle.std.proofs.lemmas.List.Concat.{flat_map-cons}
+use Rattle.jup_limits.specs.Limits.{most_entries}
 use Rattle.jup_value.specs.declared.names.Name.{Name}
 use Rattle.jup_value.specs.declared.names.Item.{Item}
 use Rattle.jup_value.specs.Items.{Items, name_eq, has_name, AreDistinct}
@@ -58,9 +59,9 @@ insert-last (e ∷ es) a = ap (λ xs. e ∷ xs) (insert-last es a)
 with_entry-last : {A : Type 0} (id high : ℕ) (a : A) (es : List (ℕ × A)) → high < id → AtMost high es → with_entry id a es ≡ es ++ (id, a) ∷ []
 with_entry-last id high a es lt all = ap (λ i. insert es i (id, a)) (slot_of-last id high es lt all) ∙ insert-last es (id, a)
 
-entry_fault-last : {A : Type 0} (id high : ℕ) (es : List (ℕ × A)) → high < id → AtMost high es → length es < 64 → entry_fault id es ≡ None
+entry_fault-last : {A : Type 0} (id high : ℕ) (es : List (ℕ × A)) → high < id → AtMost high es → length es < most_entries → entry_fault id es ≡ None
 entry_fault-last id high es lt all room =
-    rw (ne_eqb id 0 (λ same. absurd (omega (arith, same, lt))), not_held id high es lt all, lt-leb 64 (length es) (omega arith)) refl
+    rw (ne_eqb id 0 (λ same. absurd (omega (arith, same, lt))), not_held id high es lt all, lt-leb most_entries (length es) (omega arith)) refl
 
 change_at-last : {A : Type 0} (id high : ℕ) (f : A → A) (a : A) (es : List (ℕ × A)) → high < id → AtMost high es → change_at id f (es ++ (id, a) ∷ []) ≡ es ++ (id, f a) ∷ []
 change_at-last id high f a [] lt all = rw (eq-eqb id id refl) refl
@@ -141,10 +142,10 @@ abbrev opened : board.Windows → ℕ → ℕ → Widget → Drafted
 opened windows win wid w = record { board = windows; window = Some win; home = Some win; last = Some (wid, w); naming = Distinct }
 
 module _ (front : board.Windows) (win low : ℕ) (above : low < win) (front_below : AtMost low front) where
-  free_in : (ws : List (ℕ × Widget)) (wid high : ℕ) → high < wid → AtMost high ws → length ws < 64 → widget_fault win wid (front ++ (win, ws) ∷ []) ≡ None
+  free_in : (ws : List (ℕ × Widget)) (wid high : ℕ) → high < wid → AtMost high ws → length ws < most_entries → widget_fault win wid (front ++ (win, ws) ∷ []) ≡ None
   free_in ws wid high lt below room = ap (λ o. fault_in wid o) (at_id-last win low ws front above front_below) ∙ entry_fault-last wid high ws lt below room
 
-  opens : (d : Drafted) (ws : List (ℕ × Widget)) (wid high : ℕ) (w : Widget) → Holds d front win ws → high < wid → AtMost high ws → length ws < 64
+  opens : (d : Drafted) (ws : List (ℕ × Widget)) (wid high : ℕ) (w : Widget) → Holds d front win ws → high < wid → AtMost high ws → length ws < most_entries
       → with_widget_in d.window wid w d ≡ Ok (opened (front ++ (win, ws) ∷ []) win wid w)
   opens d ws wid high w holds lt below room =
       let free : widget_fault win wid (whole d) ≡ None =
@@ -154,7 +155,7 @@ module _ (front : board.Windows) (win low : ℕ) (above : low < win) (front_belo
       ∙ ap (λ b. Ok (record { board = b; window = Some win; home = Some win; last = Some (wid, w); naming = d.naming })) holds.all
       ∙ ap (λ n. Ok (record { board = front ++ (win, ws) ∷ []; window = Some win; home = Some win; last = Some (wid, w); naming = n })) holds.naming
 
-  holds_opened : (ws : List (ℕ × Widget)) (wid high : ℕ) (w : Widget) → high < wid → AtMost high ws → length ws < 64 → Holds (opened (front ++ (win, ws) ∷ []) win wid w) front win (ws ++ (wid, w) ∷ [])
+  holds_opened : (ws : List (ℕ × Widget)) (wid high : ℕ) (w : Widget) → high < wid → AtMost high ws → length ws < most_entries → Holds (opened (front ++ (win, ws) ∷ []) win wid w) front win (ws ++ (wid, w) ∷ [])
   holds_opened ws wid high w lt below room = record {
     all = change_at-last win low (with_entry wid w) ws front above front_below ∙ ap (λ xs. front ++ (win, xs) ∷ []) (with_entry-last wid high w ws lt below);
     free = subst (λ o. IsTrue (is_none o)) (sym (free_in ws wid high lt below room)) refl;
@@ -163,7 +164,7 @@ module _ (front : board.Windows) (win low : ℕ) (above : low < win) (front_belo
   }
 
   -- a widget's lines
-  widget_pass : (d : Drafted) (ws : List (ℕ × Widget)) (wid high : ℕ) (w : Widget) → Holds d front win ws → high < wid → AtMost high ws → length ws < 64 → IsWidget (wid, w)
+  widget_pass : (d : Drafted) (ws : List (ℕ × Widget)) (wid high : ℕ) (w : Widget) → Holds d front win ws → high < wid → AtMost high ws → length ws < most_entries → IsWidget (wid, w)
       → Passes d (widget_lines (wid, w)) (opened (front ++ (win, ws) ∷ []) win wid (widget.bare w))
   widget_pass d ws wid high (Text x) holds lt below room is =
       passes_cons d (filled Text (front ++ (win, ws) ∷ []) win wid []) (filled Text (front ++ (win, ws) ∷ []) win wid x.items) (line.Text wid) (item_lines line.Char x.items)
@@ -186,7 +187,7 @@ module _ (front : board.Windows) (win low : ℕ) (above : low < win) (front_belo
       passes_cons d after after (line.Slider wid x.lo x.hi x.value) [] taken_there (passes_none after)
 
   -- the lines of a window's widgets
-  widgets_pass : (vs ws : List (ℕ × Widget)) (d : Drafted) (high : ℕ) → Holds d front win ws → AreOver high vs → AtMost high ws → length ws + length vs ≤ 64 → AllByRecursion IsWidget vs
+  widgets_pass : (vs ws : List (ℕ × Widget)) (d : Drafted) (high : ℕ) → Holds d front win ws → AreOver high vs → AtMost high ws → length ws + length vs ≤ most_entries → AllByRecursion IsWidget vs
       → (after : Drafted) × Passes d (flat_map widget_lines vs) after × Holds after front win (ws ++ board.bare_widgets vs)
   widgets_pass [] ws d high holds over below fits each = (d, passes_none d, subst (λ xs. Holds d front win xs) (sym (append-nil ws)) holds)
   widgets_pass (v ∷ vs) ws d high holds over below fits each =
@@ -203,7 +204,7 @@ module _ (front : board.Windows) (win low : ℕ) (above : low < win) (front_belo
 -- # Windows
 
 -- the lines of windows
-windows_pass : (vs front : board.Windows) (d : Drafted) (high : ℕ) → whole d ≡ front → IsTrue (is_free d.home d.last d.board) → d.naming ≡ Distinct → AreOver high vs → AtMost high front → length front + length vs ≤ 64 → AllByRecursion IsWindow vs
+windows_pass : (vs front : board.Windows) (d : Drafted) (high : ℕ) → whole d ≡ front → IsTrue (is_free d.home d.last d.board) → d.naming ≡ Distinct → AreOver high vs → AtMost high front → length front + length vs ≤ most_entries → AllByRecursion IsWindow vs
     → (after : Drafted) × Passes d (flat_map window_lines vs) after × (whole after ≡ front ++ board.bare vs)
 windows_pass [] front d high all held naming over below fits each = (d, passes_none d, all ∙ sym (append-nil front))
 windows_pass (v ∷ vs) front d high all held naming over below fits each =

@@ -12,6 +12,7 @@ use Rattle.jup_mixed.specs.MixStates.{opened_mix}
 use Rattle.jup_mixed.proofs.MixOpened.{mixed-sound}
 use Rattle.std.proofs.Common.{◌↔◌, IsTrue}
 use Rattle.std.proofs.lemmas.List.{nil_from_length}
+use Rattle.jup_limits.specs.Limits.{highest_limit}
 use Rattle.jup_world.specs.Happenings.{IsQuietAt}
 use Rattle.jup_mixed.specs.MixStates.{IsHomeQuiet}
 use Rattle.jup_mixed.specs.MixFields.{HomeAgrees}
@@ -121,13 +122,13 @@ mix_still m k h (inr more) = subst IsMix (sym more.4) (mix-fetched board_batches
 -- as it is opened
 pub mix_new : (b : board.Windows) (limit : ℕ) → star_open_fault (board.bare b) limit ≡ None → board.HasDistinctNames b → EachWidget IsShort b → IsMix (opened_mix board_batches (board.bare b) limit)
 mix_new b limit none distinct short =
-    let held = open_held (nat_le 1 limit) (nat_le limit 16777216) (only_site 0 (board.bare b)) none in
+    let held = open_held (nat_le 1 limit) (nat_le limit highest_limit) (only_site 0 (board.bare b)) none in
     mixed-sound (opened_mix board_batches (board.bare b) limit) (record {
       board = board.bare b;
       limit = limit;
       events = [];
       opening = record { distinct = distinct_bare b distinct; unsigned = held.2; short = short_bare b short };
-      limited = leb-true limit 16777216 held.1;
+      limited = leb-true limit highest_limit held.1;
       is = refl;
     })
 

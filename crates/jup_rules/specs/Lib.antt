@@ -1,5 +1,6 @@
 pub mod Batches
 pub mod Begun
+pub mod Bounds
 pub mod ClientEnds
 pub mod Clients
 pub mod DaemonEnds

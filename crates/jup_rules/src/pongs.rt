@@ -1,5 +1,6 @@
 //! How many pongs a site is owed.
 ghost use Rattle.std.specs.Prelude.{◌≡◌, ◌+◌, ◌-◌, ◌<◌, ◌≤◌, ◌↔◌, IsTrue, if◌then◌else◌, count_by};
+ghost use Rattle.jup_rules.specs.Bounds.{most_pongs};
 ghost use Rattle.jup_rules.specs.Messages.{is_pong};
 
 use jup_star::Down;
@@ -18,12 +19,13 @@ pub struct Pongs {
 
 impl Model for Pongs {
     ghost use Rattle.std.specs.Prelude.{ℕ, ◌≤◌};
+    ghost use Rattle.jup_rules.specs.Bounds.{most_pongs};
 
     ghost Value = { ℕ };
 
     ghost view = { λ p. p.owed };
 
-    ghost invariant = { λ p. p.owed ≤ 1024 };
+    ghost invariant = { λ p. p.owed ≤ most_pongs };
 }
 
 impl Pongs {
@@ -36,9 +38,9 @@ impl Pongs {
 
     /// Counts a ping that is to be taken. False where 1,024 pongs are owed: then it has to wait.
     pub fn take_ping(&mut self) -> bool
-        ensures taken { IsTrue result ↔ (self.old < 1024) }
+        ensures taken { IsTrue result ↔ (self.old < most_pongs) }
         ensures owed { self.new ≡ (if result then self.old + 1 else self.old) }
-        ensures most { self.new ≤ 1024 }
+        ensures most { self.new ≤ most_pongs }
     {
         let is_taken = self.owed < MOST;
         if is_taken {
@@ -50,7 +52,7 @@ impl Pongs {
     /// Takes off pongs that were written. True where a ping may be taken that had to wait before.
     pub fn pay(&mut self, count: usize) -> bool
         ensures owed { self.new ≡ self.old - count }
-        ensures again { IsTrue result ↔ (1024 ≤ self.old) × (self.new < 1024) }
+        ensures again { IsTrue result ↔ (most_pongs ≤ self.old) × (self.new < most_pongs) }
     {
         let had_to_wait = self.owed == MOST;
         self.owed = (self.owed as usize).saturating_sub(count) as u32;

@@ -1,6 +1,7 @@
 //! The command lines of the daemon and of the client.
 ghost use Rattle.std.specs.Prelude.{◌≤◌, IfOk, IfSome};
 ghost use Rattle.jup_limits.specs.Limits.{highest_limit};
+ghost use Rattle.jup_rules.specs.Bounds.{most_sessions};
 
 use clap::error::ErrorKind;
 use clap::{Arg, ArgAction, Command, Error, value_parser};
@@ -45,7 +46,7 @@ pub struct DaemonWords {
 /// Reads the words after the daemon's name.
 pub fn daemon_words(alloc: Global, words: &[String]) -> Result<DaemonWords, Error>
     ensures limit { IfOk result (λ w. (1 ≤ w.limit) × (w.limit ≤ highest_limit)) }
-    ensures sessions { IfOk result (λ w. (1 ≤ w.sessions) × (w.sessions ≤ 1024)) }
+    ensures sessions { IfOk result (λ w. (1 ≤ w.sessions) × (w.sessions ≤ most_sessions)) }
 {
     let listen = required_option(alloc, "listen")
         .value_name("ADDR")

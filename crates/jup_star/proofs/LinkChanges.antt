@@ -3,6 +3,7 @@ use Rattle.std.proofs.Common.{◌≡◌, refl, sym, ◌∙◌, ap, subst, ℕ, z
 use Rattle.std.proofs.Math.ListN.{set}
 use Rattle.std.proofs.lemmas.List.{length-drop, length-append}
 use Rattle.std.proofs.lemmas.Bool.{eqb-true}
+use Rattle.jup_limits.specs.Limits.{most_operations}
 use Rattle.jup_batch.specs.BatchBoards.{BoardBatch}
 use Rattle.jup_batch.specs.BatchBoards.{boards_of as boards}
 use Rattle.jup_batch.specs.BoardBatches.{board_batches}
@@ -150,7 +151,7 @@ received_generated e m count =
     let low = count.low in let high = count.high in
     omega (arith, length-row_entries (past boards (opposite e.side)) (past boards e.side) m.op (unheard e m.heard), length-drop (m.heard - e.acknowledged) e.outgoing)
 
-pub heard_bounded : (a n : ℕ) (m : Msg BoardBatch) (l : BoardLink) → IsCount l.end m.heard → length m.op ≤ 32 → IsBounded a n l → IsBounded a (n + 1) (link_heard board_batches m l)
+pub heard_bounded : (a n : ℕ) (m : Msg BoardBatch) (l : BoardLink) → IsCount l.end m.heard → length m.op ≤ most_operations → IsBounded a n l → IsBounded a (n + 1) (link_heard board_batches m l)
 heard_bounded a n m l count few bounded = record {
   given = bounded.given;
   sent = let sum = paid_generated (end_after board_batches l.end m) (owes (end_after board_batches l.end m).unanswered) in let less = received_generated l.end m count in let sent = bounded.sent in omega arith;

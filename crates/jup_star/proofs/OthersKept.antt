@@ -2,6 +2,7 @@
 use Rattle.std.proofs.Common.{◌≡◌, ◌≢◌, refl, sym, ◌∙◌, ap, subst, ℕ, ◌≤◌, Bool, true, false, cond, List, [], ◌∷◌, length, map, nat_eq, Option, Some, None, option_map, ne_eqb, MatchBool, arith}
 use Rattle.std.specs.Prelude.{Result}
 use Rattle.std.specs.Option.{IsSomeAnd}
+use Rattle.jup_limits.specs.Limits.{highest_limit}
 use Rattle.jup_link.specs.declared.Msg.{Msg}
 use Rattle.jup_batch.specs.BatchBoards.{BoardBatch}
 use Rattle.jup_batch.specs.BoardBatches.{board_batches}
@@ -67,7 +68,7 @@ module _ (i : ℕ) (s : BoardStar) (star : IsStar s) (other : ℕ) (far : FarEnd
       (λ n put. taken_site board_batches board_laws s own m n none put ∙ site) (taken_valid board_batches board_laws s own m none)
       star.short short_order (bounded_found s.given (length s.order) other s.links l found star.bounded).sent sends in_step)
     where
-      short_order : length s.order ≤ 16777216
+      short_order : length s.order ≤ highest_limit
       short_order = let counted = star.counted in let limited = star.limited in omega arith
 
   taken_stays : (up : Up BoardBatch) (own : BoardLink) → link_of i s.links ≡ Some own → up_fault board_batches s own up ≡ None

@@ -15,6 +15,7 @@ use Rattle.jup_batch.specs.BatchBoards as board
 use Rattle.jup_batch.specs.BatchBoards.{BoardEdits}
 use Rattle.jup_batch.specs.BatchBoards.{insertions, insertions_few, bears_site, foreign}
 use Rattle.std.proofs.lemmas.Bool.{not-true}
+use Rattle.jup_limits.specs.Limits.{most_unacknowledged}
 use Rattle.jup_star.specs.FirstFaults.{first_fault}
 use Rattle.jup_star.proofs.TestLists.{all_hold}
 use Rattle.jup_star.proofs.FaultSteps.{count_is}
@@ -31,7 +32,7 @@ use Rattle.jup_star.proofs.LinkChanges.{paid_generated, received_generated}
 -- what a site makes of a command is what the board makes of it
 bounded_operation : (s : BoardSite) (r : Result BoardBatch ℕ) (op : BoardBatch) → within_bounds board_batches s r ≡ Ok op → r ≡ Ok op
 bounded_operation s (Err n) op is = cc
-bounded_operation s (Ok o) op is = backlog (nat_le 1024 (length s.end.outgoing)) (nat_le s.limit s.made) is where
+bounded_operation s (Ok o) op is = backlog (nat_le most_unacknowledged (length s.end.outgoing)) (nat_le s.limit s.made) is where
   backlog : (a b : Bool) → cond {A = Result BoardBatch ℕ} a (Err 7) (cond {A = Result BoardBatch ℕ} b (Err 9) (Ok o)) ≡ Ok op → ◌≡◌ {A = Result BoardBatch ℕ} (Ok o) (Ok op)
   backlog true b h = cc
   backlog false true h = cc

@@ -2,6 +2,7 @@
 use Rattle.std.proofs.Common.{◌≡◌, refl, subst, ℕ, ◌+◌, ◌-◌, ◌<◌, ◌≤◌, false, cond, List, [], ◌∷◌, ◌++◌, length, map, get_or, nat_eq, arith, ne_eqb}
 use Rattle.std.proofs.Math.ListN.{set}
 use Rattle.std.proofs.lemmas.List.{length-append, length-map, length-set}
+use Rattle.jup_limits.specs.Limits.{highest_limit, last_site, most_attached, most_operations}
 use Rattle.jup_batch.specs.BatchBoards.{BoardBatch}
 use Rattle.jup_batch.specs.BatchBoards as board
 use Rattle.jup_window.specs.Entries.{EachWidget}
@@ -20,7 +21,7 @@ use Rattle.jup_star.proofs.ShortBoards.{short_bare, board_small}
 use Rattle.jup_star.proofs.LinkChanges.{below_at, of_at, bounded_at, bounded_set, bounded_without, apart_without, apart_set, apart_map, length_without, set_place, heard_bounded, send_bounded, cond_site}
 
 -- a star that is opened
-pub new_star : (b : board.Windows) (limit : ℕ) → limit ≤ 16777216 → EachWidget IsShort b → IsStar (opened_star (board.bare b) limit)
+pub new_star : (b : board.Windows) (limit : ℕ) → limit ≤ highest_limit → EachWidget IsShort b → IsStar (opened_star (board.bare b) limit)
 new_star b limit low short = record {
   limited = low;
   counted = omega arith;
@@ -57,14 +58,14 @@ set_star s at d new below same bounded star = record {
 }
 
 pub taken_star : (i at : ℕ) (m : Msg BoardBatch) (op : BoardBatch) (s : BoardStar) (d : BoardLink) → IsPlace i s.links at
-    → length s.order < s.limit → IsCount (get_or s.links at d).end m.heard → length m.op ≤ 32 → board.IsValid op s.board → IsStar s → IsStar (taken_edit board_batches i m op s)
+    → length s.order < s.limit → IsCount (get_or s.links at d).end m.heard → length m.op ≤ most_operations → board.IsValid op s.board → IsStar s → IsStar (taken_edit board_batches i m op s)
 taken_star i at m op s d place room count few valid star =
     let below = below_at i s.links at place in
     let new : BoardLink = link_heard board_batches m (get_or s.links at d) in
     let bounded = heard_bounded s.given (length s.order) m (get_or s.links at d) count few (bounded_at _ _ s.links at d below star.bounded) in
     let send : BoardLink → BoardLink = λ k. cond (is_of i k) k (link_sent op k) in
     let same : map send (set s.links at new) ≡ links_after board_batches i m op s.links = set_place (link_heard board_batches m) (link_sent op) i s.links at d new star.apart place refl (of_at i s.links at d place) in
-    let P : List BoardLink → Type 0 = λ ls. (length ls ≤ 64) × (AreBounded s.given (length s.order + 1) ls) × AreApart ls in
+    let P : List BoardLink → Type 0 = λ ls. (length ls ≤ most_attached) × (AreBounded s.given (length s.order + 1) ls) × AreApart ls in
     let all : P (links_after board_batches i m op s.links) = subst P same (
       (let h = star.few in simp (length-map, length-set) (omega arith)),
       send_bounded i _ _ op s.links at new place (of_at i s.links at d place) bounded star.bounded,
@@ -99,7 +100,7 @@ bounded_end a n [] new one all = (one, tt)
 bounded_end a n (l ∷ ls) new one all =
     (record { given = (let given = all.0.given in omega arith); sent = all.0.sent; insertions = all.0.insertions }, bounded_end a n ls new one all.1)
 
-pub joined_star : (s : BoardStar) → length s.links < 64 → s.given < 65535 → IsStar s → IsStar (joined s)
+pub joined_star : (s : BoardStar) → length s.links < most_attached → s.given < last_site → IsStar s → IsStar (joined s)
 joined_star s few given star = record {
   limited = star.limited;
   counted = star.counted;

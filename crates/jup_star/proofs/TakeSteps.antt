@@ -1,5 +1,6 @@
 -- How a star takes an edit: each way that the call ends.
 use Rattle.std.proofs.Common.{◌≡◌, refl, sym, ◌∙◌, ap, subst, ℕ, true, false, ◌≤◌, List, [], ◌∷◌, ◌++◌, length, map, get_or, Option, Some, None, is_none, Ok, Err, arith}
+use Rattle.jup_limits.specs.Limits.{highest_limit, most_operations}
 use Rattle.jup_link.specs.Links.{IsCount}
 use Rattle.jup_link.specs.declared.Msg.{Msg}
 use Rattle.jup_batch.specs.BatchBoards.{BoardBatch}
@@ -97,7 +98,7 @@ edit_star s i at m l b ls o star place found early fits board links order =
     let P : BoardLink → Type 0 = λ k. IsCount k.end m.heard in
     let count = subst P (sym (found_get i s.links at l place found)) (early_count s.limit (length s.order) l m (sym early)) in
     let valid = (board_laws.decides (operation_at board_batches l.end m) s.board).0 fits in
-    let few : length m.op ≤ 32 = rw length_operation at valid.few in
+    let few : length m.op ≤ most_operations = rw length_operation at valid.few in
     subst IsStar (sym (taken_with s i m (operation_at board_batches l.end m) b ls o board links order))
     (taken_star i at m (operation_at board_batches l.end m) s l place (early_room s.limit (length s.order) l m (sym early)) count few valid star)
 
@@ -115,7 +116,7 @@ pub all_count : (s : BoardStar) → IsStar s → AllCount s.links
 all_count s star = let counted = star.counted in let limited = star.limited in counted_all s.given (length s.order) s.links (omega arith) star.bounded
 
 -- a link of a star has named no more items than can be counted
-pub named_few : (a n i at : ℕ) (ls : List Link) (here : Link) → n ≤ 16777216 → AreBounded a n (map bare_link ls) → IsPlace i (map bare_link ls) at → here ≡ get_or ls at here
+pub named_few : (a n i at : ℕ) (ls : List Link) (here : Link) → n ≤ highest_limit → AreBounded a n (map bare_link ls) → IsPlace i (map bare_link ls) at → here ≡ get_or ls at here
     → here.named ≤ 536870912
 named_few a n i at ls here low all place is =
     let found = found_some i (map bare_link ls) at place in

@@ -8,6 +8,7 @@ use Rattle.std.specs.Str.{bytes_eq}
 use Rattle.std.proofs.lemmas.Bool.{cases_Bool, cond-true, cond-false}
 use Rattle.std.proofs.lemmas.Option.{same_Some}
 use Rattle.std.proofs.lemmas.Slice.Eq.{bytes_eq-Decides}
+use Rattle.jup_limits.specs.Limits.{longest_label}
 use Rattle.jup_value.specs.Labels.{IsLabelText}
 use Rattle.jup_seq.specs.declared.operations.SeqOp.{SeqOp}
 use Rattle.jup_seq.specs.declared.operations.SeqOp.TheVariants as seq
@@ -131,7 +132,7 @@ unfolding text_of
 text_op_reader = tested (seq_of scalar_of) (seq_text decimal) (IsSeqOp IsScalar) 44 (seq_reader scalar_of decimal IsScalar 7 scalar_reader) is_no_relabel
 
 list_op_reader : IsReader (seq_of label_of) (seq_text (λ label. label)) (IsSeqOp IsLabelText) 85
-list_op_reader = seq_reader label_of (λ label. label) IsLabelText 48 label_reader
+list_op_reader = seq_reader label_of (λ label. label) IsLabelText longest_label label_reader
 
 toggle_op_reader : IsReader (set_of switch_of) (set_text switch_text) (IsSetOp (λ on. Unit {0})) 7
 toggle_op_reader = set_reader switch_of switch_text (λ on. Unit {0}) 3 switch_reader

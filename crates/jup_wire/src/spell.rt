@@ -138,10 +138,11 @@ impl Spelled for Name {
 
 impl Spelled for Label {
     ghost use Rattle.std.specs.Prelude.{List, ℕ};
+    ghost use Rattle.jup_limits.specs.Limits.{longest_label};
 
     ghost text = { λ (label : List ℕ). label };
 
-    ghost most = { 48 };
+    ghost most = { longest_label };
 
     fn push_to(&self, out: &mut Vec<u8>) {
         push(out, self.bytes());

@@ -1,6 +1,7 @@
 -- What each event does to a star and its sites, by what the calls of the two told.
 use Rattle.std.proofs.Common.{◌≡◌, refl, sym, ◌∙◌, ap, subst, ℕ, ◌+◌, ◌≤◌, Bool, true, false, ◌&&◌, List, [], ◌∷◌, ◌++◌, nat_le, Option, Some, None, is_some, Result, Ok, Err, IsOk, arith}
 use Rattle.std.proofs.lemmas.Bool.{and_from, le-leb, ltb-true}
+use Rattle.jup_limits.specs.Limits.{highest_limit, last_site}
 use Rattle.jup_batch.specs.BatchBoards.{BoardBatch, BoardEdits, Commands, Windows, bare}
 use Rattle.jup_window.specs.Sites.{has_site}
 use Rattle.jup_batch.specs.BoardBatches.{board_batches}
@@ -66,7 +67,7 @@ plays_no_join s t sites next fault is e f opening trace =
 
 -- what is not refused opens a site
 pub site_opens : (r : Result Site OpenFault) (s : BoardStar) (j : JoinedSite) → fault_of r ≡ site_open_fault j.site j.limit (bare j.board) → bare_joined (Ok j) ≡ Ok (joining s)
-    → join_fault s ≡ None → 1 ≤ s.limit → s.limit ≤ 16777216 → has_site (s.given + 1) s.board ≡ false → IsOk r
+    → join_fault s ≡ None → 1 ≤ s.limit → s.limit ≤ highest_limit → has_site (s.given + 1) s.board ≡ false → IsOk r
 site_opens r s j is told fault low high named = ok r (is ∙ none)
   where
     ok : (x : Result Site OpenFault) → fault_of x ≡ None → IsOk x
@@ -81,14 +82,14 @@ site_opens r s j is told fault low high named = ok r (is ∙ none)
     spent true false e = absurd (cc)
     spent false c e = absurd (cc)
 
-    few : s.given + 1 ≤ 65535
-    few = let below = ltb-true s.given 65535 (spent _ _ fault) in omega arith
+    few : s.given + 1 ≤ last_site
+    few = let below = ltb-true s.given last_site (spent _ _ fault) in omega arith
 
     within : (first last n : ℕ) → first ≤ n → n ≤ last → (nat_le first n && nat_le n last) ≡ true
     within first last n above below = and_from (nat_le first n) (nat_le n last) (le-leb first n above) (le-leb n last below)
 
     opens : site_open_fault (s.given + 1) s.limit s.board ≡ None
-    opens = rw (within 1 16777216 s.limit low high, within 1 65535 (s.given + 1) (omega arith) few, named) refl
+    opens = rw (within 1 highest_limit s.limit low high, within 1 last_site (s.given + 1) (omega arith) few, named) refl
 
     none : site_open_fault j.site j.limit (bare j.board) ≡ None
     none = subst (λ (k : JoinedSite). site_open_fault k.site k.limit k.board ≡ None) join opens

@@ -2,6 +2,7 @@ use Rattle.std.proofs.Common.{◌≡◌, ℕ, ◌+◌, ◌-◌, ◌<◌, ◌≤�
 use Rattle.std.specs.Prelude.{Option, Some, None, Result, Ok, Err, OnOk, OnErr, option_map, if◌then◌else◌}
 use Rattle.std.proofs.lemmas.Bool.{ltb-false, leb-false, false_from_ne_true, false≢true}
 use Rattle.std.proofs.lemmas.List.{length_push}
+use Rattle.jup_limits.specs.Limits.{highest_limit, longest_sequence}
 use Rattle.jup_xform.specs.declared.row.Side.{Side}
 use Rattle.jup_xform.specs.declared.row.Side.TheVariants.{Client as ClientSide, Server as ServerSide}
 use Rattle.jup_value.specs.declared.names.Name.{Name}
@@ -75,7 +76,7 @@ record IsOwn (site : ℕ) (e : TwoEnd) (op : SeqOp ℕ) : Type 0 where
   valid : IsValid op e.text
   under : InsertsUnder site op
   within : (n : Name) → InsertsName (edit_of op) n → n.number ≤ e.inserted + insertions op
-  few : e.made < 16777216
+  few : e.made < highest_limit
   small : insertions op ≤ 1
 
 abbrev IfOwn : ℕ → TwoEnd → Result (SeqOp ℕ) EditFault → Type 0
@@ -89,11 +90,11 @@ unless_refused site e false fault r own = own refl
 deletion_own : (site : ℕ) (e : TwoEnd) (place : ℕ) (found : Option (Item ℕ)) → slice_get e.text.items place ≡ found → IfOwn site e (deletion e.made place found)
 deletion_own site e place None is = tt
 deletion_own site e place (Some item) is =
-    unless_refused site e (nat_le 16777216 e.made) _ _ (λ few. record {
+    unless_refused site e (nat_le highest_limit e.made) _ _ (λ few. record {
       valid = ap (option_map (λ (y : Item ℕ). y.name)) is;
       under = λ n i. absurd i;
       within = λ n i. absurd i;
-      few = leb-false 16777216 e.made few;
+      few = leb-false highest_limit e.made few;
       small = omega arith;
     })
 
@@ -101,16 +102,16 @@ operation_own : (site : ℕ) (e : TwoEnd) (edit : TwoEdit) → HoldsWithin site 
 operation_own site e (Insert place value) names =
     let n : Name = record { site = site; number = e.inserted + 1 } in
     unless_refused site e (nat_lt (length e.text.items) place) _ _ (λ near.
-    unless_refused site e (nat_le 65536 (length e.text.items)) _ _ (λ short.
-    unless_refused site e (nat_le 16777216 e.made) _ _ (λ few. record {
+    unless_refused site e (nat_le longest_sequence (length e.text.items)) _ _ (λ short.
+    unless_refused site e (nat_le highest_limit e.made) _ _ (λ few. record {
       valid = (
         ltb-false (length e.text.items) place near,
         new_name site e.inserted e.text names,
-        (let low : length e.text.items < 65536 = leb-false 65536 (length e.text.items) short in omega (arith, low)),
+        (let low : length e.text.items < longest_sequence = leb-false longest_sequence (length e.text.items) short in omega (arith, low)),
       );
       under = λ m i. ap (λ (k : Name). k.site) (sym (name_eq_same n m i));
       within = λ m i. (let same : m.number ≡ e.inserted + 1 = ap (λ (k : Name). k.number) (sym (name_eq_same n m i)) in omega (arith, same));
-      few = leb-false 16777216 e.made few;
+      few = leb-false highest_limit e.made few;
       small = omega arith;
     })))
 operation_own site e (Delete place) names = deletion_own site e place (slice_get e.text.items place) refl
@@ -170,7 +171,7 @@ taken_end site other ne e out (Operation mine heard o) ms accepts all end =
 -- # Both ends
 
 -- one more edit fits
-room_left : (a b : ℕ) → a < 16777216 → b ≤ 16777216 → 33554432 - (a + b) ≡ (33554432 - (a + 1 + b)) + 1
+room_left : (a b : ℕ) → a < highest_limit → b ≤ highest_limit → 33554432 - (a + b) ≡ (33554432 - (a + 1 + b)) + 1
 room_left a b low le = omega arith
 
 client_edited : (s : TwoState) → IsTwo s → (r : Result (SeqOp ℕ) EditFault) → IfOwn 1 s.client r
@@ -270,7 +271,7 @@ opened_kept_end site some side start = record {
   sent_names = tt;
 }
 
-pub opened_kept : (start : List ℕ) → length start ≤ 16777216 → IsTwo (opened_two start)
+pub opened_kept : (start : List ℕ) → length start ≤ highest_limit → IsTwo (opened_two start)
 opened_kept start short = record {
   in_step =
       InStep-opened texts texts_lawful 33554432 (record { items = named_from 1 start; spare = 0 }) (AreDistinct-named_from 1 start)

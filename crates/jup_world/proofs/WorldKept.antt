@@ -1,6 +1,7 @@
 -- What holds of every world of the program: as it is opened, after each event, and after want of memory.
 use Rattle.std.proofs.Common.{◌≡◌, refl, sym, ◌∙◌, ap, subst, inl, inr, ℕ, ◌≤◌, Bool, true, false, ◌&&◌, List, [], ◌∷◌, ◌++◌, drop, length, nat_le, Option, Some, None, Result, Ok, Err, arith, leb-false, append-nil, drop_of_length-le, le_refl}
 use Rattle.std.proofs.lemmas.Bool.{leb-true}
+use Rattle.jup_limits.specs.Limits.{highest_limit}
 use Rattle.jup_batch.specs.BatchBoards as board
 use Rattle.jup_window.specs.Sites.{has_site, only_site}
 use Rattle.jup_window.specs.Entries.{EachWidget}
@@ -135,13 +136,13 @@ open_held false b c none = absurd (cc)
 
 pub world_opened : (b : board.Windows) (limit : ℕ) → star_open_fault (board.bare b) limit ≡ None → board.HasDistinctNames b → EachWidget IsShort b → IsWorld (opened_world board_batches (board.bare b) limit)
 world_opened b limit none distinct short =
-    let held = open_held (nat_le 1 limit) (nat_le limit 16777216) (only_site 0 (board.bare b)) none in
+    let held = open_held (nat_le 1 limit) (nat_le limit highest_limit) (only_site 0 (board.bare b)) none in
     record {
-      board = opened_sound (board.bare b) limit (record { distinct = distinct_bare b distinct; unsigned = held.2; short = short_bare b short }) (leb-true limit 16777216 held.1);
+      board = opened_sound (board.bare b) limit (record { distinct = distinct_bare b distinct; unsigned = held.2; short = short_bare b short }) (leb-true limit highest_limit held.1);
       numbered = record {
         ascending = omega arith;
         positive = leb-true 1 limit held.0;
-        limited = leb-true limit 16777216 held.1;
+        limited = leb-true limit highest_limit held.1;
         named = λ i above. layout_none i (board.bare b) above held.2;
       };
     }

@@ -2,6 +2,7 @@
 //! the grid of both lists.
 
 ghost use Rattle.std.specs.Prelude.{◌≡◌, ℕ, ◌+◌, ◌-◌, ◌*◌, ◌≤◌, ◌↔◌, IsTrue, List, [], ◌∷◌, length, OnOk, OnErr, IfOk};
+ghost use Rattle.jup_limits.specs.Limits.{most_operations};
 ghost use Rattle.jup_xform.specs.Grid.{after_all, AreValid};
 ghost use Rattle.jup_xform.specs.Batches.{EachTo, EachPair, edits, shapes, Inserts, Deletes, Changes, batch_meaning, IsValidBatch, is_small_batch, has_batch_room, can_reserve_batch, batch_client_past, batch_server_past, copies_freely_batch};
 ghost use Rattle.jup_xform.specs.Stores.{items_of};
@@ -15,6 +16,7 @@ ghost use Rattle.jup_xform.specs.Laws.BatchKept.{batch_effect_two, batch_room_le
 use crate::row::grid;
 use crate::store::Store;
 use crate::{Few, NoMemory, Transform};
+use jup_limits::MOST_OPERATIONS;
 use std::alloc::Global;
 use std::marker::Model;
 
@@ -60,13 +62,14 @@ pub struct Batch<T> {
 
 impl<T> Model for Batch<T> {
     ghost use Rattle.std.specs.Prelude.{◌≤◌, List, length};
+    ghost use Rattle.jup_limits.specs.Limits.{most_operations};
     ghost use Rattle.jup_xform.specs.Stores.{items_of};
 
     ghost Value = { List T };
 
     ghost view = { λ b. items_of b.ops };
 
-    ghost invariant = { λ b. (1 ≤ length (items_of b.ops)) × (length (items_of b.ops) ≤ 32) };
+    ghost invariant = { λ b. (1 ≤ length (items_of b.ops)) × (length (items_of b.ops) ≤ most_operations) };
 }
 
 /// The edits of a batch, in the order of its operations.
@@ -76,7 +79,7 @@ impl<T> Batch<T> {
     /// A batch of these operations, which are 1 to 32.
     pub fn new(ops: Vec<T>) -> Batch<T>
         requires some { 1 ≤ length ops.items }
-        requires few { length ops.items ≤ 32 }
+        requires few { length ops.items ≤ most_operations }
         ensures { result ≡ ops.items }
     {
         Batch {
@@ -97,7 +100,7 @@ impl<T> Batch<T> {
     pub fn as_slice(&self) -> &[T]
         ensures ops { result.now ≡ self.now }
         ensures some { 1 ≤ length result.now }
-        ensures few { length result.now ≤ 32 }
+        ensures few { length result.now ≤ most_operations }
     {
         self.ops.as_slice()
     }
@@ -107,7 +110,7 @@ impl<T: Transform> Batch<T> {
     /// A batch of copies of these operations, which are 1 to 32. One that is copied without memory takes none.
     pub fn from_slice(alloc: Global, ops: &[T]) -> Result<Batch<T>, NoMemory>
         requires some { 1 ≤ length ops.now }
-        requires few { length ops.now ≤ 32 }
+        requires few { length ops.now ≤ most_operations }
         ensures ops { IfOk result (λ batch. batch ≡ ops.now) }
         ensures refused { OnErr result (copies_freely_batch T.Transform ops.now → ⊥) }
     {
@@ -316,7 +319,7 @@ impl<T: Single> Transform for Batch<T> {
     }
 
     fn reserve(&self, alloc: Global, beside: u32, state: &mut T::State) -> Result<(), NoMemory> {
-        let others = beside * 32 + (self.as_slice().len() as u32 - 1);
+        let others = beside * MOST_OPERATIONS + (self.as_slice().len() as u32 - 1);
         for op in self.as_slice() {
             op.reserve(alloc, others, state)?;
         }

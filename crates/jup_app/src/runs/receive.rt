@@ -8,12 +8,10 @@ ghost use Rattle.jup_app.specs.Plays.{link_with, Handles, Fetches, FoundNothing}
 use crate::runs::calls::Caller;
 use crate::runs::stop::Stop;
 use jup_hub::Hub;
+use jup_rules::MOST_FETCHED;
 use jup_star::{Down, Site, Up};
 use std::alloc::Global;
 use std::sync::Wait;
-
-// How many messages a fetch asks for.
-const MOST: u32 = 64;
 
 // Delivers one message. An acknowledgement that is owed is kept.
 fn deliver_one(alloc: Global, site: &mut Site, down: &Down, owed: &mut Vec<Up>) -> Result<(), Stop>
@@ -77,7 +75,7 @@ pub(crate) fn receive<R: Wait>(
     ensures fetched { IfOk result (λ _. Fetches number (view_of caller.old.pass) (view_of caller.new.pass)) }
     ensures nothing { IfOk result (λ some. IsFalse some → FoundNothing number (view_of caller.old.pass) (view_of caller.new.pass)) }
 {
-    let downs = caller.fetch(rt, alloc, hub, number, MOST)?;
+    let downs = caller.fetch(rt, alloc, hub, number, MOST_FETCHED)?;
     if downs.as_slice().is_empty() {
         return Ok(false);
     }

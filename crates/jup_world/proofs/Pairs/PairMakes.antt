@@ -1,6 +1,7 @@
 -- A site makes an edit: it and its link stay in step.
 use Rattle.std.proofs.Common.{◌≡◌, ℕ, ◌+◌, ◌≤◌, ◌<◌, ◌⊎◌, false, List, [], ◌∷◌, ◌++◌, length, nat_eq, ap, sym, ◌∙◌, subst, inl, inr, arith, IsTrue, append_assoc, length-append, le_refl, Ok, leb-false}
 use Rattle.std.proofs.lemmas.Bool.{eqb-false}
+use Rattle.jup_limits.specs.Limits.{most_unacknowledged}
 use Rattle.jup_xform.specs.Grid.{AllApart}
 use Rattle.jup_link.specs.Laws.LinkSteps.{small_le, client_lengths, client_distinct, client_sends, client_generated}
 use Rattle.jup_link.specs.Links.{after_send, message}
@@ -49,7 +50,7 @@ module _ (O : Operations) (L : AreLawful O) where
         let next : IsTrue (O.bears_next i a.site.named (O.t.edit_of op)) = L.command_next a.site.board command i a.site.named op made_at in
         let step = h.in_step in
         let lengths : length h.site_ahead ≤ length a.site.end.outgoing = client_lengths O.t L.lawful step in
-        let short : length a.site.end.outgoing < 1024 = leb-false 1024 (length a.site.end.outgoing) answer.1 in
+        let short : length a.site.end.outgoing < most_unacknowledged = leb-false most_unacknowledged (length a.site.end.outgoing) answer.1 in
         let known_counts : ℕ → ℕ = own_counts O i a.site.named (λ j. named_by O i j past) in
         let more_counts : ℕ → ℕ = own_counts O i (a.site.named + O.insertions (O.t.edit_of op)) (λ j. named_by O i j past) in
         let more : (j : ℕ) → known_counts j ≤ more_counts j = own_counts-more O L i a.site.named (a.site.named + O.insertions (O.t.edit_of op)) (λ j. named_by O i j past) (λ j. named_by O i j past) (omega arith) (λ j. le_refl _) in

@@ -1,5 +1,6 @@
 -- Worlds of boards are sound: as they are opened, after each event, and after want of memory.
 use Rattle.std.proofs.Common.{◌≡◌, refl, ℕ, ◌+◌, ◌≤◌, sym, subst, List, [], ◌∷◌, arith, Some}
+use Rattle.jup_limits.specs.Limits.{highest_limit}
 use Rattle.jup_batch.specs.BatchBoards.{Windows}
 use Rattle.jup_window.specs.Laws.BareBoards.{only_site-held}
 use Rattle.jup_batch.specs.BoardBatches.{board_batches}
@@ -16,7 +17,7 @@ use Rattle.jup_world.proofs.Sound.BacklogLaws.{counts-happens, counts-fetched}
 use Rattle.jup_world.proofs.Sound.TallyLaws.{tallied-happens, tallied-fetched}
 
 -- a world of boards that is opened
-pub opened_sound : (b : Windows) (limit : ℕ) → IsOpening b → limit ≤ 16777216 → IsBoardWorld (opened_world board_batches b limit)
+pub opened_sound : (b : Windows) (limit : ℕ) → IsOpening b → limit ≤ highest_limit → IsBoardWorld (opened_world board_batches b limit)
 opened_sound b limit opening low = record {
   sound = sound-opened board_batches batch_laws most_batches limit b opening.distinct (board_small b opening.short) (omega arith) (omega arith)
       (λ n held. only_site-held 0 b n opening.unsigned held);

@@ -1,6 +1,7 @@
 -- In a sound world each event answers what it should, and nothing is withheld.
 use Rattle.std.proofs.Common.{◌≡◌, ℕ, ◌<◌, ◌≤◌, ◌⊎◌, inl, inr, false, List, [], ◌∷◌, ◌++◌, drop, length, nat_lt, refl, ap, sym, ◌∙◌, subst, Option, Some, None, Result, Ok, Err, arith, lt-ltb}
 use Rattle.std.proofs.lemmas.Bool.{false_from_ne_true, ltb-true}
+use Rattle.jup_limits.specs.Limits.{last_site, most_attached}
 use Rattle.jup_link.specs.declared.Msg.{Msg}
 use Rattle.jup_window.specs.Operations.{Operations, AreLawful}
 use Rattle.jup_star.specs.declared.messages.Up.{Up}
@@ -29,11 +30,11 @@ not_below m n le = false_from_ne_true (nat_lt m n) (λ less. let below : m < n =
 
 module _ (O : Operations) (L : AreLawful O) where
   -- what a join is refused for
-  pub join_faults : (s : StarOf O) → (64 ≤ length s.links → join_fault s ≡ Some Full) × (length s.links < 64 → 65535 ≤ s.given → join_fault s ≡ Some SitesSpent) × (length s.links < 64 → s.given < 65535 → join_fault s ≡ None)
+  pub join_faults : (s : StarOf O) → (most_attached ≤ length s.links → join_fault s ≡ Some Full) × (length s.links < most_attached → last_site ≤ s.given → join_fault s ≡ Some SitesSpent) × (length s.links < most_attached → s.given < last_site → join_fault s ≡ None)
   join_faults s = (
-    (λ full. first_to_fail [] (test (nat_lt (length s.links) 64) Full) (test (nat_lt s.given 65535) SitesSpent ∷ []) tt (not_below _ 64 full)),
-    (λ few spent. first_to_fail (test (nat_lt (length s.links) 64) Full ∷ []) (test (nat_lt s.given 65535) SitesSpent) [] (lt-ltb _ 64 few, tt) (not_below _ 65535 spent)),
-    (λ few left. no_fault (test (nat_lt (length s.links) 64) Full ∷ test (nat_lt s.given 65535) SitesSpent ∷ []) (lt-ltb _ 64 few, (lt-ltb _ 65535 left, tt))),
+    (λ full. first_to_fail [] (test (nat_lt (length s.links) most_attached) Full) (test (nat_lt s.given last_site) SitesSpent ∷ []) tt (not_below _ most_attached full)),
+    (λ few spent. first_to_fail (test (nat_lt (length s.links) most_attached) Full ∷ []) (test (nat_lt s.given last_site) SitesSpent) [] (lt-ltb _ most_attached few, tt) (not_below _ last_site spent)),
+    (λ few left. no_fault (test (nat_lt (length s.links) most_attached) Full ∷ test (nat_lt s.given last_site) SitesSpent ∷ []) (lt-ltb _ most_attached few, (lt-ltb _ last_site left, tt))),
   )
 
   -- a join

@@ -1,6 +1,7 @@
 -- The effect of two concurrent batches, and the room and the shape that a batch keeps past another.
 use Rattle.std.specs.Prelude.{◌≡◌, ℕ, ◌+◌, ◌-◌, ◌*◌, ◌≤◌, List, [], ◌∷◌, length, refl}
 use Rattle.std.proofs.Common.{ap, suc, zero, subst, sym, ◌∙◌, arith, inl, inr}
+use Rattle.jup_limits.specs.Limits.{most_operations}
 use Rattle.jup_xform.specs.declared.Transform.{Ghosts}
 use Rattle.jup_xform.specs.Members.{SomeOf}
 use Rattle.jup_xform.specs.Rows.{row_operation, row_entries, grid_rows}
@@ -52,10 +53,10 @@ module _ {Op State Edit : Type 0} (t : Ghosts Op State Edit) where
       → (n : ℕ) (x : State) (cs ss : List Op) → has_batch_room t cs n x → has_batch_room t (grid_rows past other cs ss) n x
   batch_room_past past other kept n x cs ss r =
       let same : length (grid_rows past other cs ss) ≡ length cs = length-grid_rows t.are_apart past other cs ss in
-      room_from (grid_rows past other cs ss) (length cs) (length (grid_rows past other cs ss)) n x (sym same) (room_rows past other kept (32 * n + (length cs - 1)) x cs ss r)
+      room_from (grid_rows past other cs ss) (length cs) (length (grid_rows past other cs ss)) n x (sym same) (room_rows past other kept (most_operations * n + (length cs - 1)) x cs ss r)
     where
-      room_from : (os : List Op) (m k n : ℕ) (x : State) → m ≡ k → HaveRoom t os (32 * n + (m - 1)) x → HaveRoom t os (32 * n + (k - 1)) x
-      room_from os m k n x e r = subst (λ j. HaveRoom t os (32 * n + (j - 1)) x) e r
+      room_from : (os : List Op) (m k n : ℕ) (x : State) → m ≡ k → HaveRoom t os (most_operations * n + (m - 1)) x → HaveRoom t os (most_operations * n + (k - 1)) x
+      room_from os m k n x e r = subst (λ j. HaveRoom t os (most_operations * n + (j - 1)) x) e r
 
   room_less_by : ((n : ℕ) (x : State) (c : Op) → t.has_room c (n + 1) x → t.has_room c n x) → (m n : ℕ) (x : State) (c : Op) → t.has_room c (m + n) x → t.has_room c n x
   room_less_by less zero n x c r =
@@ -75,7 +76,7 @@ module _ {Op State Edit : Type 0} (t : Ghosts Op State Edit) where
   HaveRoom-down less n k x (o ∷ os) l r = (room_down less n k x o l r.0, HaveRoom-down less n k x os l r.1)
 
   pub batch_room_less : ((n : ℕ) (x : State) (c : Op) → t.has_room c (n + 1) x → t.has_room c n x) → (n : ℕ) (x : State) (os : List Op) → has_batch_room t os (n + 1) x → has_batch_room t os n x
-  batch_room_less less n x os r = HaveRoom-down less (32 * n + (length os - 1)) (32 * (n + 1) + (length os - 1)) x os (omega arith) r
+  batch_room_less less n x os r = HaveRoom-down less (most_operations * n + (length os - 1)) (most_operations * (n + 1) + (length os - 1)) x os (omega arith) r
 
   shape_row : (past : Op → Op → Op) → ((c s : Op) → t.shape (past c s) ≡ t.shape c) → (c : Op) (ss : List Op) → t.shape (row_operation past c ss) ≡ t.shape c
   shape_row past kept c [] = refl

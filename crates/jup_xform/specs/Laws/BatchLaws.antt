@@ -1,5 +1,5 @@
 -- The laws of batches that speak of no edits: pairs of operations, smallness, and the square of two batches.
-use Rattle.std.specs.Prelude.{◌≡◌, ℕ, ◌+◌, ◌-◌, ◌*◌, ◌≤◌, ◌⊎◌, List, [], ◌∷◌, ◌++◌, length, refl}
+use Rattle.std.specs.Prelude.{◌≡◌, ℕ, ◌+◌, ◌-◌, ◌≤◌, ◌⊎◌, List, [], ◌∷◌, ◌++◌, length, refl}
 use Rattle.std.proofs.Common.{ap, suc, sym, ◌∙◌, arith, length-append, append-nil, append_assoc, inl, inr}
 use Rattle.jup_xform.specs.declared.Transform.{Ghosts}
 use Rattle.jup_xform.specs.Members.{SomeOf}
@@ -8,7 +8,7 @@ use Rattle.jup_xform.specs.Laws.RowLaws.{grid_columns-mirror}
 use Rattle.jup_xform.specs.Grid.{after_all, AreValid, AllApart, GridCloses}
 use Rattle.jup_xform.specs.Laws.GridLaws.{AreValid-append, after_all-append, small_less, GridCloses-push, GridCloses-nil, grid_rows-valid, grid_columns-valid, grid-after, small_after_all, small_before_all}
 use Rattle.jup_xform.specs.Lawful.{IsLawful, KeepsFresh}
-use Rattle.jup_xform.specs.Batches.{EachTo, EachPair, EachLater, joined, IsValidBatch, is_small_batch, batch_client_past, batch_server_past}
+use Rattle.jup_xform.specs.Batches.{before_last, EachTo, EachPair, EachLater, joined, IsValidBatch, is_small_batch, batch_client_past, batch_server_past}
 
 -- members of lists
 module _ {A : Type 0} (P : A → Type 0) where
@@ -112,21 +112,21 @@ module _ {Op State Edit : Type 0} (t : Ghosts Op State Edit) (lawful : IsLawful 
   pub GridCloses-batches : (cs ss : List Op) (x : State) → t.is_distinct x → is_small_batch t 1 x → IsValidBatch t cs x → IsValidBatch t ss x
       → EachPair t.are_apart cs ss → GridCloses t cs ss x
   GridCloses-batches cs ss x d small vc vs a =
-      let within : length cs + length {A = Op} [] + length ss ≤ 63 + 1 = omega (arith, vc.few, vs.few) in
-      GridCloses-within 63 cs [] ss x d small within vc.valid tt vs.valid a (GridCloses-nil t cs x)
+      let within : length cs + length {A = Op} [] + length ss ≤ before_last 1 + 1 = omega (arith, vc.few, vs.few) in
+      GridCloses-within (before_last 1) cs [] ss x d small within vc.valid tt vs.valid a (GridCloses-nil t cs x)
 
   pub batch_small_after : (n : ℕ) (x : State) (os : List Op) → is_small_batch t (n + 1) x → IsValidBatch t os x → is_small_batch t n (after_all t os x)
   batch_small_after n x os small v =
-      let fits : 32 * n + 31 + length os ≤ 32 * (n + 1) + 31 = omega (arith, v.few) in
-      small_after_all t lawful (32 * n + 31) os x (small_from (32 * n + 31 + length os) (32 * (n + 1) + 31) x fits small) v.valid
+      let fits : before_last n + length os ≤ before_last (n + 1) = omega (arith, v.few) in
+      small_after_all t lawful (before_last n) os x (small_from (before_last n + length os) (before_last (n + 1)) x fits small) v.valid
 
   pub batch_small_below : (n : ℕ) (x : State) → is_small_batch t (n + 1) x → is_small_batch t n x
-  batch_small_below n x small = small_from (32 * n + 31) (32 * (n + 1) + 31) x (omega arith) small
+  batch_small_below n x small = small_from (before_last n) (before_last (n + 1)) x (omega arith) small
 
   pub batch_small_before : (n : ℕ) (x : State) (os : List Op) → IsValidBatch t os x → is_small_batch t (n + 1) (after_all t os x) → is_small_batch t n x
   batch_small_before n x os v small =
-      let fits : 32 * n + 31 + length os ≤ 32 * (n + 1) + 31 = omega (arith, v.few) in
-      small_before_all t lawful (32 * n + 31) os x v.valid (small_from (32 * n + 31 + length os) (32 * (n + 1) + 31) (after_all t os x) fits small)
+      let fits : before_last n + length os ≤ before_last (n + 1) = omega (arith, v.few) in
+      small_before_all t lawful (before_last n) os x v.valid (small_from (before_last n + length os) (before_last (n + 1)) (after_all t os x) fits small)
 
 -- the square of two batches
 module _ {Op State Edit : Type 0} (t : Ghosts Op State Edit) (lawful : IsLawful t) (kept : KeepsFresh t) where

@@ -2,6 +2,7 @@ use Rattle.std.proofs.Common.{◌≡◌, suc, ◌+◌, ◌-◌, ◌∷◌, [], �
 use Rattle.std.specs.Prelude.{IsTrue, map, nat_le}
 use Rattle.std.proofs.lemmas.Bool.{and_from, le-leb}
 use Rattle.std.proofs.lemmas.List.{map-append, take_all}
+use Rattle.jup_limits.specs.Limits.{most_operations}
 use Rattle.jup_window.specs.Widgets.{relabels_no_text}
 use Rattle.jup_wire.specs.declared.line.Line.TheVariants.{Batch, Do}
 use Rattle.jup_wire.proofs.OneMore.{take_more}
@@ -13,7 +14,7 @@ use Rattle.jup_lane.proofs.edits.write_op.Goals as goal
 pub loop-op-init : goal.loop-op-init
 loop-op-init c =
     let count = length c.as_slice-ops.result.now in
-    let fits = and_from (nat_le 1 count) (nat_le count 32) (le-leb 1 count c.as_slice-ops.ensures.some) (le-leb count 32 c.as_slice-ops.ensures.few) in
+    let fits = and_from (nat_le 1 count) (nat_le count most_operations) (le-leb 1 count c.as_slice-ops.ensures.some) (le-leb count most_operations c.as_slice-ops.ensures.few) in
     begun c.args.out.now c.write_reserved.new.out (Batch c.args.msg.now.mine c.args.msg.now.heard count) (count - 0) c.write_reserved.ensures.line fits c.write_reserved.ensures.items
     c.write_reserved.ensures.capacity c.requires.room (batch_short c.args.msg.now.mine c.args.msg.now.heard count) (omega arith)
 

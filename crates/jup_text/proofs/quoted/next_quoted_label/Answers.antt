@@ -1,6 +1,7 @@
 use Rattle.std.proofs.Common.{◌≡◌, ◌+◌, ◌≤◌, ℕ, List, length, take, inl, inr, refl, sym, ap, ◌∙◌, subst, arith, rules}
 use Rattle.std.proofs.lemmas.Grind.{take-set_at}
 use Rattle.std.proofs.lemmas.List.{length-take-le, length-set}
+use Rattle.jup_limits.specs.Limits.{longest_label}
 use Rattle.jup_text.proofs.Quoting.{HasRead, none_read, more_read}
 use Rattle.jup_text.proofs.LabelQuotes.{no_more_label, no_label_read}
 use Rattle.jup_text.proofs.quoted.next_quoted_label.Goals as goal
@@ -19,7 +20,7 @@ loop-value-preserved c =
     let full = c.if-len-eq-LONGEST_LABEL.false in
     let shorter = next.shorter in
     let before = c.loop-value.invariant.shorter in
-    let room : c.loop-value.len + 1 ≤ 48 = omega (arith, c.loop-value.invariant.room, full) in
+    let room : c.loop-value.len + 1 ≤ longest_label = omega (arith, c.loop-value.invariant.room, full) in
     let held = c.loop-value.invariant.held in
     let taken = take-set_at c.loop-value.bytes c.loop-value.len (c.loop-value.len + 1) c.in-Some.value refl (omega (arith, held, room)) in
     record {
@@ -33,7 +34,7 @@ loop-value-preserved c =
 pub returns-then-len-eq-LONGEST_LABEL-clause-none : goal.returns-then-len-eq-LONGEST_LABEL-clause-none
 returns-then-len-eq-LONGEST_LABEL-clause-none c =
     let next = c.in-Some.ensures.read in
-    let whole : length (take c.loop-value.len c.loop-value.bytes) ≡ 48 = length-take-le c.loop-value.len c.loop-value.bytes (let held = c.loop-value.invariant.held in let room = c.loop-value.invariant.room in omega (arith, held, room)) ∙ c.if-len-eq-LONGEST_LABEL.true in
+    let whole : length (take c.loop-value.len c.loop-value.bytes) ≡ longest_label = length-take-le c.loop-value.len c.loop-value.bytes (let held = c.loop-value.invariant.held in let room = c.loop-value.invariant.room in omega (arith, held, room)) ∙ c.if-len-eq-LONGEST_LABEL.true in
     no_more_label c.args.text.now (take c.loop-value.len c.loop-value.bytes) c.loop-value.rest.now c.in-Some.later.now c.in-Some.value c.loop-value.invariant.read next.0 next.1 (inl whole)
 
 pub returns-then-value-gt126-clause-none : goal.returns-then-value-gt126-clause-none

@@ -1,0 +1,14 @@
+-- What sessions and programs bound by themselves. No message and no state hangs on it.
+use Rattle.std.specs.Prelude.{ℕ}
+
+-- messages that one fetch asks for
+abbrev pub most_fetched : ℕ
+most_fetched = 64
+
+-- pongs that a site may be owed
+abbrev pub most_pongs : ℕ
+most_pongs = 1024
+
+-- sessions that a daemon may be told to serve
+abbrev pub most_sessions : ℕ
+most_sessions = 1024

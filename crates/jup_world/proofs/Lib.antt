@@ -1,5 +1,6 @@
 pub mod Answers
 pub mod CallFacts
+pub mod Copies
 pub mod Drains
 pub mod EventPlays
 pub mod Faults

@@ -27,6 +27,7 @@ use Rattle.jup_star.proofs.ShortBoards.{short_bare, distinct_bare}
 use Rattle.jup_world.specs.Events.{Join, Leave, Edit as MakeEdit, Up as MoveUp, Down as MoveDown, Ping as SendPing}
 use Rattle.jup_world.specs.WorldStates.{attached, opened_world}
 use Rattle.jup_world.specs.WorldSteps.{Outcome, join_outcome, edit_outcome, up_outcome, first_up, down_outcome, first_down, with_edit, one_taken, one_handed, pinged, at_attached, at_linked, at_number, outcome, happens, with_fetched, only_fetched}
+use Rattle.jup_world.specs.Openings.{IsOpening}
 use Rattle.jup_world.specs.BoardWorlds.{BoardWorld, BoardLink, BoardAttached, BoardEvent}
 use Rattle.jup_world.specs.SiteNumbers.{AreAscending}
 use Rattle.jup_world.specs.Sound.{IsSound}
@@ -134,18 +135,23 @@ open_held true true false none = absurd (cc)
 open_held true false c none = absurd (cc)
 open_held false b c none = absurd (cc)
 
+-- a new world over a board that it may be opened with
+pub world_new : (b : board.Windows) (limit : ℕ) → IsOpening b → 1 ≤ limit → limit ≤ highest_limit → IsWorld (opened_world board_batches b limit)
+world_new b limit opening some limited = record {
+  board = opened_sound b limit opening limited;
+  numbered = record {
+    ascending = omega arith;
+    positive = some;
+    limited = limited;
+    named = λ i above. layout_none i b above opening.unsigned;
+  };
+}
+
+-- that is one for which the star refuses neither the limit nor the board
 pub world_opened : (b : board.Windows) (limit : ℕ) → star_open_fault (board.bare b) limit ≡ None → board.HasDistinctNames b → EachWidget IsShort b → IsWorld (opened_world board_batches (board.bare b) limit)
 world_opened b limit none distinct short =
     let held = open_held (nat_le 1 limit) (nat_le limit highest_limit) (only_site 0 (board.bare b)) none in
-    record {
-      board = opened_sound (board.bare b) limit (record { distinct = distinct_bare b distinct; unsigned = held.2; short = short_bare b short }) (leb-true limit highest_limit held.1);
-      numbered = record {
-        ascending = omega arith;
-        positive = leb-true 1 limit held.0;
-        limited = leb-true limit highest_limit held.1;
-        named = λ i above. layout_none i (board.bare b) above held.2;
-      };
-    }
+    world_new (board.bare b) limit (record { distinct = distinct_bare b distinct; unsigned = held.2; short = short_bare b short }) (leb-true 1 limit held.0) (leb-true limit highest_limit held.1)
 
 pub world_happens : (w : BoardWorld) (e : BoardEvent) → IsWorld w → IsWorld (happens board_batches w e)
 world_happens w e is = record { board = happens_sound w e is.board; numbered = numbered_outcome w e is.board.sound is.numbered }

@@ -138,6 +138,11 @@ IsSparedBy w (Plain (MoveDown i)) v = Rests w (Plain (MoveDown i)) v
 IsSparedBy w (PushDown i n) v = Rests w (PushDown i n) v
 IsSparedBy w event v = v ≡ w
 
+-- events in turn, of which each happened, or was refused for want of memory: all that may come of calls of a world
+abbrev pub AllTried : LaneWorld → List LaneEvent → LaneWorld → Type 0
+AllTried w [] v = v ≡ w
+AllTried w (e ∷ es) v = (u : LaneWorld) × (Steps w e u ⊎ IsSparedBy w e u) × AllTried u es v
+
 -- a run that was halted after so many events, at the next
 pub record IsHalted (w : LaneWorld) (events : List LaneEvent) (done : ℕ) (v : LaneWorld) : Type 0 where
   pub between : LaneWorld

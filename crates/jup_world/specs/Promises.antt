@@ -1,5 +1,5 @@
 -- What every world keeps, whatever happens in it.
-use Rattle.std.specs.Prelude.{◌≡◌, ℕ, false, Some, is_some}
+use Rattle.std.specs.Prelude.{◌≡◌, ◌⊎◌, ℕ, false, Some, is_some}
 use Rattle.jup_window.specs.Operations.{Operations}
 use Rattle.jup_star.specs.StarStates.{link_of}
 use Rattle.jup_world.specs.Turns.{turns, edits, own_edits}
@@ -25,3 +25,11 @@ module _ (O : Operations) where
   pub record OrderIsKept (w v : WorldOf O) : Type 0 where
     pub star : O.t.keeps_order w.star.board v.star.board
     pub sites : (i : ℕ) (a b : AttachedOf O) → attached i w.sites ≡ Some a → attached i v.sites ≡ Some b → O.t.keeps_order a.site.board b.site.board
+
+  -- a copy of the board: the star's, or that of a site that is attached
+  abbrev pub IsCopy : WorldOf O → O.State → Type 0
+  IsCopy w x = (x ≡ w.star.board) ⊎ ((i : ℕ) × (a : AttachedOf O) × (attached i w.sites ≡ Some a) × (x ≡ a.site.board))
+
+  -- any copy at one moment, and any at the same or a later one: the items that both show stand in the same order in both
+  abbrev pub OrdersAgree : WorldOf O → WorldOf O → Type 0
+  OrdersAgree w v = (x y : O.State) → IsCopy w x → IsCopy v y → O.t.keeps_order x y

@@ -97,6 +97,7 @@ module _ (O : Operations) where
     pub raw_named : RawNamed (λ j. named_by i j past) i (named_by i i (past ++ rest)) raw a.site.named
     pub rest_named : OrderNamed i past rest
     pub board_known : HoldsKnown (own_counts i a.site.named (λ j. named_by i j past)) a.site.board
+    pub from_known : HoldsKnown (own_counts i (named_by i i (past ++ rest)) (λ j. named_by i j past)) from
     pub view_known : Each (ChangesKnown (own_counts i a.site.named (λ j. named_by i j past))) ((edits past ++ own_edits rest) ++ raw)
     pub falling_foreign : Each (λ e. O.bears_site i e ≡ false) (edits_sent (downs (a.down ++ l.outbox)))
     -- the site and the link

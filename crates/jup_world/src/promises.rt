@@ -1,16 +1,19 @@
 //! What every world keeps, whatever happens in it.
 
-ghost use Rattle.std.specs.Prelude.{◌≡◌, List, length};
+ghost use Rattle.std.specs.Prelude.{◌≡◌, ◌≤◌, ℕ, List, length};
+ghost use Rattle.jup_limits.specs.Limits.{highest_limit};
+ghost use Rattle.jup_batch.specs.BatchBoards.{Windows};
 ghost use Rattle.jup_batch.specs.BoardBatches.{board_batches};
+ghost use Rattle.jup_world.specs.Openings.{IsOpening};
 ghost use Rattle.jup_world.specs.BoardWorlds.{BoardWorld, BoardEvent, IsReached};
 ghost use Rattle.jup_world.specs.WorldSteps.{outcome, run};
-ghost use Rattle.jup_world.specs.Promises.{Promises, OrderIsKept};
+ghost use Rattle.jup_world.specs.Promises.{Promises, OrderIsKept, OrdersAgree};
 ghost use Rattle.jup_world.specs.Replies.{RepliesTo};
 ghost use Rattle.jup_world.specs.Backlogs.{BacklogIsShort};
 ghost use Rattle.jup_world.specs.Tallies.{Tallies};
 ghost use Rattle.jup_world.specs.Headline.{AllAgree};
-ghost use Rattle.jup_world.specs.LaneWorlds.{LaneEvent, LaneWorld, IsStill, messages_of};
-ghost use Rattle.jup_world.specs.LaneSteps.{AllSteps};
+ghost use Rattle.jup_world.specs.LaneWorlds.{LaneEvent, LaneWorld, IsStill, messages_of, opened_lanes};
+ghost use Rattle.jup_world.specs.LaneSteps.{AllSteps, AllTried};
 ghost use Rattle.jup_world.specs.LaneHappenings.{IsLaneWorld};
 ghost use Rattle.jup_lane.specs.Lanes.{Way, Carries, messages};
 ghost use Rattle.jup_lane.specs.Messages.{ups, downs};
@@ -36,6 +39,22 @@ pub fn worlds_agree()
     ensures backlog { (w : BoardWorld) → IsReached w → BacklogIsShort board_batches w }
     ensures order { (w : BoardWorld) → IsReached w → (events : List BoardEvent)
         → OrderIsKept board_batches w (run board_batches w events) }
+{}
+
+/// At every moment, also while messages are on their way, any two copies of the board show in the same order
+/// the items that both show. A copy is the star's board, or that of an attached site; the two may be of one
+/// moment or of two. So it is:
+///
+/// - where links carry messages, after any list of events and over any that follow (`copies`);
+/// - where links carry bytes, over all that calls of a [`World`](crate::World) may do to it, pushes and events
+///   that are refused for want of memory among them (`bytes`).
+///
+/// It does nothing: its contract is the theorem.
+pub fn orders_agree()
+    ensures copies { (w : BoardWorld) → IsReached w → (events : List BoardEvent)
+        → OrdersAgree board_batches w (run board_batches w events) }
+    ensures bytes { (board : Windows) (limit : ℕ) (events later : List LaneEvent) (w v : LaneWorld) → IsOpening board → 1 ≤ limit → limit ≤ highest_limit
+        → AllTried (opened_lanes board limit) events w → AllTried w later v → OrdersAgree board_batches (messages_of w) (messages_of v) }
 {}
 
 /// After any list of events, pushes among them, in a world whose links carry bytes:

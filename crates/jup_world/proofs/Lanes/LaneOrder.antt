@@ -1,5 +1,5 @@
 -- Over any steps, pushes among them, the star and each site keep the order of their items.
-use Rattle.std.proofs.Common.{◌≡◌, ℕ, ◌<◌, Bool, true, false, cond, List, [], ◌∷◌, Some, None, refl, sym, ap, subst, inl, inr, ◌∙◌, arith}
+use Rattle.std.proofs.Common.{◌≡◌, ◌⊎◌, ℕ, ◌<◌, Bool, true, false, cond, List, [], ◌∷◌, Some, None, refl, sym, ap, subst, inl, inr, ◌∙◌, arith}
 use Rattle.jup_batch.specs.BoardBatches.{board_batches}
 use Rattle.jup_batch.specs.BoardBatches.{batch_laws}
 use Rattle.jup_star.specs.StarStates.{most_batches, fetched}
@@ -11,14 +11,14 @@ use Rattle.jup_world.specs.BoardWorlds.{BoardWorld, BoardLink, BoardAttached, Bo
 use Rattle.jup_world.specs.Happenings.{IsWorld, IsSpared}
 use Rattle.jup_world.specs.Promises.{OrderIsKept}
 use Rattle.jup_world.specs.LaneWorlds.{LaneEvent, Plain, PushUp, PushDown, LaneWorld, messages_of}
-use Rattle.jup_world.specs.LaneSteps.{messages_after, Steps, AllSteps, IsSparedBy}
+use Rattle.jup_world.specs.LaneSteps.{messages_after, Steps, AllSteps, AllTried, IsSparedBy}
 use Rattle.jup_world.specs.LaneHappenings.{IsLaneWorld}
 use Rattle.jup_world.proofs.Sound.SoundRuns.{either}
 use Rattle.jup_world.proofs.Orders.StarRuns.{Follows, follows-same, follows-chain, run-follows}
 use Rattle.jup_world.proofs.Orders.SiteSteps.{told_turns}
 use Rattle.jup_world.proofs.Orders.SiteRuns.{SiteFollows, follows_chain, holds_known, given_before, stays_gone, run_follows}
 use Rattle.jup_world.proofs.WorldRuns.{kept_site}
-use Rattle.jup_world.proofs.Lanes.LaneWorldLaws.{after_up, pushed_spared, step_keeps, spared_messages}
+use Rattle.jup_world.proofs.Lanes.LaneWorldLaws.{after_up, pushed_spared, step_keeps, spared_messages, spared_keeps}
 
 -- a world and a later one: what the star keeps, that a site that is gone stays gone, and what each site that is attached at both keeps
 pub record Keeps (w v : BoardWorld) : Type 0 where
@@ -90,6 +90,25 @@ steps_follow [] w v is same = subst (λ (u : LaneWorld). Keeps (messages_of w) (
 steps_follow (e ∷ es) w v is next =
     keeps_chain (messages_of w) (messages_of next.0) (messages_of v) is.world (step_follows w e next.0 is next.1) (steps_follow es next.0 v (step_keeps w e next.0 is next.1) next.2)
 
+-- an event that happened, or was refused for want of memory, leaves a world
+pub try_keeps : (w : LaneWorld) (event : LaneEvent) (v : LaneWorld) → IsLaneWorld w → Steps w event v ⊎ IsSparedBy w event v → IsLaneWorld v
+try_keeps w event v is (inl step) = step_keeps w event v is step
+try_keeps w event v is (inr spared) = spared_keeps w v event is spared
+
+-- and so do events in turn
+pub tried_keeps : (events : List LaneEvent) (w v : LaneWorld) → IsLaneWorld w → AllTried w events v → IsLaneWorld v
+tried_keeps [] w v is same = subst IsLaneWorld (sym same) is
+tried_keeps (e ∷ es) w v is next = tried_keeps es next.0 v (try_keeps w e next.0 is next.1) next.2
+
+tried_follow : (events : List LaneEvent) (w v : LaneWorld) → IsLaneWorld w → AllTried w events v → Keeps (messages_of w) (messages_of v)
+tried_follow [] w v is same = subst (λ (u : LaneWorld). Keeps (messages_of w) (messages_of u)) (sym same) (keeps_run [] (messages_of w) is.world)
+tried_follow (e ∷ es) w v is next =
+    keeps_chain (messages_of w) (messages_of next.0) (messages_of v) is.world (one next.1) (tried_follow es next.0 v (try_keeps w e next.0 is next.1) next.2)
+  where
+    one : Steps w e next.0 ⊎ IsSparedBy w e next.0 → Keeps (messages_of w) (messages_of next.0)
+    one (inl step) = step_follows w e next.0 is step
+    one (inr spared) = keeps_spared (messages_of w) (messages_of next.0) is.world (spared_messages w next.0 e spared)
+
 order_of_keeps : (w v : BoardWorld) → Keeps w v → OrderIsKept board_batches w v
 order_of_keeps w v kept = record { star = kept.star.order; sites = λ i a b fa fb. (kept.sites i a b fa fb).order }
 
@@ -99,6 +118,9 @@ step_order w event v is step = order_of_keeps (messages_of w) (messages_of v) (s
 
 pub steps_order : (events : List LaneEvent) (w v : LaneWorld) → IsLaneWorld w → AllSteps w events v → OrderIsKept board_batches (messages_of w) (messages_of v)
 steps_order events w v is all = order_of_keeps (messages_of w) (messages_of v) (steps_follow events w v is all)
+
+pub tried_order : (events : List LaneEvent) (w v : LaneWorld) → IsLaneWorld w → AllTried w events v → OrderIsKept board_batches (messages_of w) (messages_of v)
+tried_order events w v is all = order_of_keeps (messages_of w) (messages_of v) (tried_follow events w v is all)
 
 pub spared_order : (events : List LaneEvent) (w u v : LaneWorld) (event : LaneEvent) → IsLaneWorld w → AllSteps w events u → IsWorld (messages_of u) → IsSparedBy u event v → OrderIsKept board_batches (messages_of w) (messages_of v)
 spared_order events w u v event is all there spared =

@@ -53,7 +53,7 @@ module _ (O : Operations) (L : AreLawful O) where
       (subst (λ o. StandsAt O most (O.t.content w.opening) (turns j w.star.order) w.star.board (made j w.trace) (joined_at j w.trace) (shown_count j w.trace) j (link_of j w.star.links) o) fa (s.stand j))
 
   -- and its place at its join stays
-  join_kept : (w : WorldOf O) (j now at : ℕ) → (w.star.given < j → ⊥) → (e : EventOf O) → join_seen j now at e (outcome O w e).reply ≡ at
+  pub join_kept : (w : WorldOf O) (j now at : ℕ) → (w.star.given < j → ⊥) → (e : EventOf O) → join_seen j now at e (outcome O w e).reply ≡ at
   join_kept w j now at old Join = cases (join_fault w.star)
     where
       other : (b : Bool) → b ≡ false → cond b now at ≡ at

@@ -59,6 +59,7 @@ module _ (O : Operations) (L : AreLawful O) where
       raw_named = h.raw_named;
       rest_named = h.rest_named;
       board_known = h.board_known;
+      from_known = h.from_known;
       view_known = h.view_known;
       falling_foreign = subst (Each (λ e. O.bears_site i e ≡ false)) (sym down_same) h.falling_foreign;
       positive = h.positive;

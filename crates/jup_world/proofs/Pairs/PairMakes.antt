@@ -87,6 +87,7 @@ module _ (O : Operations) (L : AreLawful O) where
           raw_named = raw_named-end O L (λ j. named_by O i j past) i (named_by O i i (past ++ rest)) h.raw a.site.named (O.t.edit_of op) h.raw_named next (L.command_edit a.site.board command i a.site.named op made_at) changes;
           rest_named = h.rest_named;
           board_known = λ n x. held_known n next more (L.keeps.held_before a.site.board op n accepted x);
+          from_known = h.from_known;
           view_known = subst (Each (ChangesKnown O more_counts)) (append_assoc (edits past ++ own_edits rest) h.raw (O.t.edit_of op ∷ []))
               (Each-append (ChangesKnown O more_counts) all (O.t.edit_of op ∷ []) (all_changes_more O L known_counts more_counts more all h.view_known) (λ n x. held_known n next more (L.keeps.changes_held a.site.board op n accepted x), tt));
           falling_foreign = h.falling_foreign;

@@ -13,7 +13,7 @@ use Rattle.jup_world.specs.Each.{Each}
 use Rattle.jup_world.specs.Turns.{Turn, Own, Other, edits, own_edits, others}
 use Rattle.jup_world.specs.Meanings.{SameMeaning, RowStands}
 use Rattle.jup_world.specs.WorldStates.{AttachedOf}
-use Rattle.jup_world.specs.Sound.{edits_sent, named_by, own_counts, ChangesKnown, ChangesHeld, Inherits, RawNamed, OrderNamed, Paired}
+use Rattle.jup_world.specs.Sound.{edits_sent, named_by, own_counts, ChangesKnown, ChangesHeld, HoldsKnown, Inherits, RawNamed, OrderNamed, Paired}
 use Rattle.jup_star.specs.LinkStates.{LinkState, link_sent}
 use Rattle.jup_world.proofs.Pairs.Rows.{column-more, own_edits-append}
 use Rattle.jup_world.proofs.Known.{Each-append, inherits-end, edits_sent-append, named_by-append}
@@ -89,6 +89,7 @@ module _ (O : Operations) (L : AreLawful O) where
           raw_named = subst (λ k. RawNamed O (λ j. named_by O i j past) i k h.raw a.site.named) (sym not_named) h.raw_named;
           rest_named = order_named-other i past rest j e h.rest_named positive foreign next changes;
           board_known = h.board_known;
+          from_known = subst (λ k. HoldsKnown O (own_counts O i k (λ j. named_by O i j past)) h.from) (sym not_named) h.from_known;
           view_known = subst (λ es. Each (ChangesKnown O (own_counts O i a.site.named (λ j. named_by O i j past))) ((edits past ++ es) ++ h.raw)) (sym own_same) h.view_known;
           falling_foreign = subst (λ s. Each (λ f. O.bears_site i f ≡ false) (edits_sent O s)) (sym stream)
               (subst (λ es. Each (λ f. O.bears_site i f ≡ false) es) (sym (edits_sent-append O L (downs (a.down ++ l.outbox)) (message l.end op ∷ [])))

@@ -188,6 +188,8 @@ module _ (O : Operations) (L : AreLawful O) (most i : ℕ) (first : O.t.Content)
     raw_named = subst (λ ts. RawNamed O (λ j. named_by O i j (told_next O L past rest)) i (named_by O i i ts) h.raw a.site.named) (sym whole)
         (raw_named-more O L (λ j. named_by O i j past) (λ j. named_by O i j (told_next O L past rest)) i next.more (named_by O i i (past ++ rest)) h.raw a.site.named h.raw_named);
     rest_named = next.rest_named;
+    from_known = λ n x. subst (λ ts. IsKnown O (own_counts O i (named_by O i i ts) (λ j. named_by O i j (told_next O L past rest))) n) (sym whole)
+        (from_held n (L.keeps.held_before h.from s n stepping.states.far_valid.0 x));
     board_known = λ n x. held_known n (L.keeps.held_before a.site.board (server_past_all O s h.site_ahead) n accepted (subst (λ o. O.t.holds (O.t.after o a.site.board) n) received_is x));
     view_known = view_next;
     falling_foreign = subst (λ f. Each (λ e. O.bears_site i e ≡ false) (edits_sent O f)) (sym left) (subst (λ f. Each (λ e. O.bears_site i e ≡ false) (edits_sent O f)) comes h.falling_foreign).1;
@@ -204,6 +206,11 @@ module _ (O : Operations) (L : AreLawful O) (most i : ℕ) (first : O.t.Content)
       held_known : (n : O.t.Name) → O.t.holds a.site.board n ⊎ O.t.inserts (O.t.edit_of (server_past_all O s h.site_ahead)) n → IsKnown O new_counts n
       held_known n (inl x) = known_more O L old_counts new_counts n more (h.board_known n x)
       held_known n (inr x) = known_new n x
+
+      from_held : (n : O.t.Name) → O.t.holds h.from n ⊎ O.t.inserts (O.t.edit_of s) n → IsKnown O (own_counts O i (named_by O i i (past ++ rest)) (λ j. named_by O i j (told_next O L past rest))) n
+      from_held n (inl x) = known_more O L (own_counts O i (named_by O i i (past ++ rest)) (λ j. named_by O i j past)) (own_counts O i (named_by O i i (past ++ rest)) (λ j. named_by O i j (told_next O L past rest))) n
+          (own_counts-more O L i (named_by O i i (past ++ rest)) (named_by O i i (past ++ rest)) (λ j. named_by O i j past) (λ j. named_by O i j (told_next O L past rest)) (le_refl _) next.more) (h.from_known n x)
+      from_held n (inr x) = known_other O L i (named_by O i i (past ++ rest)) next.site (λ j. named_by O i j (told_next O L past rest)) n next.foreign (next.of_site n x) (next.within n x)
 
   -- the site keeps the order of its items
   pub shown_keeps_order : O.t.keeps_order a.site.board (O.t.after (received_operation O.t a.site.end m.heard m.op) a.site.board)

@@ -1,5 +1,5 @@
 -- The star takes an edit of a site: it and its link stay in step.
-use Rattle.std.proofs.Common.{◌≡◌, ℕ, ◌+◌, ◌-◌, ◌≤◌, Bool, true, false, cond, List, [], ◌∷◌, ◌++◌, length, nat_eq, refl, ap, sym, ◌∙◌, subst, arith, IsTrue, append_assoc, append-nil, length-append, le_refl, eq-eqb}
+use Rattle.std.proofs.Common.{◌≡◌, ℕ, ◌+◌, ◌-◌, ◌≤◌, ◌⊎◌, inl, inr, Bool, true, false, cond, List, [], ◌∷◌, ◌++◌, length, nat_eq, refl, ap, sym, ◌∙◌, subst, arith, IsTrue, append_assoc, append-nil, length-append, le_refl, eq-eqb}
 use Rattle.jup_xform.specs.Laws.RowLaws.{length-row_entries}
 use Rattle.jup_xform.specs.Grid.{AllApart}
 use Rattle.jup_link.specs.declared.Msg.{Msg}
@@ -13,13 +13,13 @@ use Rattle.jup_world.specs.Each.{Each}
 use Rattle.jup_world.specs.Turns.{Turn, Own, Other, edits, own_edits, others}
 use Rattle.jup_world.specs.Meanings.{SameMeaning, StandsFor, client_past_all, servers_past, RowStands, Shows}
 use Rattle.jup_world.specs.WorldStates.{AttachedOf}
-use Rattle.jup_world.specs.Sound.{edits_sent, named_by, own_counts, ChangesKnown, ChangesHeld, Inherits, RawNamed, OrderNamed, Paired}
+use Rattle.jup_world.specs.Sound.{edits_sent, named_by, IsKnown, own_counts, ChangesKnown, ChangesHeld, Inherits, RawNamed, OrderNamed, Paired}
 use Rattle.jup_star.specs.declared.messages.Up.{Up}
 use Rattle.jup_star.specs.LinkStates.{LinkState}
 use Rattle.jup_world.proofs.Pairs.EditGrid.{stands-now}
 use Rattle.jup_world.proofs.Pairs.Rows.{column-taken, own_edits-append}
 use Rattle.jup_world.proofs.Pairs.PairMakes.{others_apart}
-use Rattle.jup_world.proofs.Known.{held_more, named_by-append, own_counts-below}
+use Rattle.jup_world.proofs.Known.{held_more, named_by-append, own_counts-below, own_counts-more, known_more, known_own}
 use Rattle.jup_world.proofs.Pairs.Shown.{inserts_clients, inherits_servers, others-append}
 
 -- the site and the link after a take, before the star's end pays what it owes
@@ -150,6 +150,8 @@ module _ (O : Operations) (L : AreLawful O) where
       raw_named = subst (λ k. RawNamed O (λ j. named_by O i j past) i k (edits_sent O us) a.site.named) (sym (ap (named_by O i i) whole ∙ named_own i (past ++ rest) (O.t.edit_of m.op))) named.3;
       rest_named = order_named-own i past rest (O.t.edit_of m.op) h.rest_named;
       board_known = h.board_known;
+      from_known = λ n x. subst (λ k. IsKnown O (own_counts O i k (λ j. named_by O i j past)) n) (sym (ap (named_by O i i) whole ∙ named_own i (past ++ rest) (O.t.edit_of m.op)))
+          (from_held n (L.keeps.held_before h.from c n stepping.states.near_valid.0 x));
       view_known = subst (λ es. Each (ChangesKnown O (own_counts O i a.site.named (λ j. named_by O i j past))) es) (sym moved) h.view_known;
       falling_foreign = h.falling_foreign;
       positive = h.positive;
@@ -162,6 +164,12 @@ module _ (O : Operations) (L : AreLawful O) where
       few_sent = omega (arith, h.few_sent, ap length whole, length-append (past ++ rest) (Own (O.t.edit_of m.op) ∷ []), generated-after_receive O.t l.end m.heard m.op taken_fits.1);
     }
       where
+        from_held : (n : O.t.Name) → O.t.holds h.from n ⊎ O.t.inserts (O.t.edit_of c) n → IsKnown O (own_counts O i (named_by O i i (past ++ rest) + O.insertions (O.t.edit_of m.op)) (λ j. named_by O i j past)) n
+        from_held n (inl x) = known_more O L (own_counts O i (named_by O i i (past ++ rest)) (λ j. named_by O i j past)) (own_counts O i (named_by O i i (past ++ rest) + O.insertions (O.t.edit_of m.op)) (λ j. named_by O i j past)) n
+            (own_counts-more O L i (named_by O i i (past ++ rest)) (named_by O i i (past ++ rest) + O.insertions (O.t.edit_of m.op)) (λ j. named_by O i j past) (λ j. named_by O i j past) (omega arith) (λ j. le_refl _)) (h.from_known n x)
+        from_held n (inr x) = known_own O L i (named_by O i i (past ++ rest) + O.insertions (O.t.edit_of m.op)) (λ j. named_by O i j past) n
+            (L.next_site i (named_by O i i (past ++ rest)) (O.t.edit_of m.op) n named.0 (inherits.0 n x)) (L.next_within i (named_by O i i (past ++ rest)) (O.t.edit_of m.op) n named.0 (inherits.0 n x))
+
         all_moved : own_edits (past ++ rest) ++ h.raw ≡ own_edits (past ++ (rest ++ Own (O.t.edit_of m.op) ∷ [])) ++ edits_sent O us
         all_moved = ap (λ es. own_edits (past ++ rest) ++ es) raw_is ∙ sym (ap (λ ts. own_edits ts ++ edits_sent O us) whole ∙ ap (λ es. es ++ edits_sent O us) (own_edits-append (past ++ rest) (Own (O.t.edit_of m.op) ∷ []))
             ∙ append_assoc (own_edits (past ++ rest)) (O.t.edit_of m.op ∷ []) (edits_sent O us))

@@ -8,7 +8,7 @@ use Rattle.jup_world.specs.Turns.{turns, edits, own_edits}
 use Rattle.jup_world.specs.WorldStates.{attached, WorldOf, AttachedOf}
 use Rattle.jup_world.specs.WorldSteps.{new_site}
 use Rattle.jup_world.specs.Traces.{made, order_of, joined_at, shown_count}
-use Rattle.jup_world.specs.Sound.{named_by, own_counts, ChangesKnown, Paired, told_of, Standing, StandsAt, IsSound}
+use Rattle.jup_world.specs.Sound.{named_by, own_counts, ChangesKnown, HoldsKnown, Paired, told_of, Standing, StandsAt, IsSound}
 use Rattle.jup_world.specs.Events.{Happened}
 use Rattle.jup_world.specs.Events.{Join}
 use Rattle.jup_world.specs.Events.{Joined}
@@ -63,6 +63,8 @@ module _ (O : Operations) (L : AreLawful O) where
       raw_named = ap (named_by O i i) (append-nil (turns i w.star.order)) ∙ no_name;
       rest_named = tt;
       board_known = λ n x. known_more O L (λ j. named_by O 0 j (turns 0 w.star.order)) (own_counts O i 0 (λ j. named_by O i j (turns i w.star.order))) n counts (s.star.board_known n x);
+      from_known = subst (λ k. HoldsKnown O (own_counts O i k (λ j. named_by O i j (turns i w.star.order))) w.star.board) (sym (ap (named_by O i i) (append-nil (turns i w.star.order)) ∙ no_name))
+          (λ n x. known_more O L (λ j. named_by O 0 j (turns 0 w.star.order)) (own_counts O i 0 (λ j. named_by O i j (turns i w.star.order))) n counts (s.star.board_known n x));
       view_known = subst (Each (ChangesKnown O (own_counts O i 0 (λ j. named_by O i j (turns i w.star.order))))) (edits-turns 0 i w.star.order ∙ sym (all_nil (edits (turns i w.star.order))))
           (all_changes_more O L (λ j. named_by O 0 j (turns 0 w.star.order)) (own_counts O i 0 (λ j. named_by O i j (turns i w.star.order))) counts (edits (turns 0 w.star.order)) s.star.order_known);
       falling_foreign = tt;

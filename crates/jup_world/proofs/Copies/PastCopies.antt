@@ -1,0 +1,235 @@
+-- A board that a site once showed, and what another site shows: both agree with a star that the world once had, and that knew what both sites know.
+use Rattle.std.proofs.Common.{◌≡◌, ◌⊎◌, ℕ, ◌+◌, ◌≤◌, inl, inr, Bool, true, false, cond, List, [], ◌∷◌, ◌++◌, drop, take, length, nat_eq, nat_le, refl, ap, sym, ◌∙◌, Some, arith, append_assoc, eqb-true, leb-false, le_refl, length-append, take-append-drop, zero, suc}
+use Rattle.std.proofs.lemmas.Bool.{eqb-false, leb-true}
+use Rattle.std.proofs.lemmas.List.{length-take, length-take-le}
+use Rattle.jup_window.specs.Operations.{Operations, AreLawful}
+use Rattle.jup_star.specs.declared.messages.Entry.{Entry}
+use Rattle.jup_star.specs.LinkStates.{LinkState}
+use Rattle.jup_star.specs.StarStates.{StarOf, link_of}
+use Rattle.jup_world.specs.Events.{Event, Reply, Happened}
+use Rattle.jup_world.specs.Events.{Up as MoveUp}
+use Rattle.jup_world.specs.Events.{Taken}
+use Rattle.jup_world.specs.Turns.{turn, turns}
+use Rattle.jup_world.specs.WorldStates.{attached, WorldOf, AttachedOf, EventOf, opened_world}
+use Rattle.jup_world.specs.WorldSteps.{outcome, happens, run, only_fetched}
+use Rattle.jup_world.specs.Traces.{first_of_site, made, entry_taken, order_of, joined_at, shown_count}
+use Rattle.jup_world.specs.Sound.{named_by, named_in, IsKnown, own_counts, told_of, Standing, IsSound}
+use Rattle.jup_world.proofs.Known.{named_by-append, known_more, own_counts-more}
+use Rattle.jup_world.proofs.Sound.TraceLaws.{length-turns}
+use Rattle.jup_world.proofs.Sound.WorldTakes.{standing_of, named-turns}
+use Rattle.jup_world.proofs.Sound.SoundRuns.{sound-happens}
+use Rattle.jup_world.proofs.Pairs.Stands.{told_within}
+use Rattle.jup_world.proofs.Orders.StarRuns.{StarKnows}
+use Rattle.jup_world.proofs.Orders.SiteSteps.{told_turns, SiteKnows}
+use Rattle.jup_world.proofs.Copies.PastBoardRuns.{WasShown, was_here, was_happens, was_fetched, was_order}
+use Rattle.jup_world.proofs.Copies.PastStarEvents.{WasStar, was_now, order_longer, past_order, past_since}
+use Rattle.jup_world.proofs.Copies.PastStarRuns.{was_star_happens, was_star_fetched}
+
+-- an event adds one entry to the order at the most
+one_first : {Edit : Type 0} (i : ℕ) (es : List Edit) → length (first_of_site i es) ≤ 1
+one_first i [] = omega arith
+one_first i (e ∷ es) = omega arith
+
+one_entry : {Command Edit Fault : Type 0} (past : List (Happened Command Edit Fault)) (order : List (Entry Edit)) (event : Event Command) (reply : Reply Edit Fault) → length (entry_taken past order event reply) ≤ 1
+one_entry past order (MoveUp i) (Taken place) = one_first i _
+one_entry past order event reply = omega arith
+
+-- the first entries of an order, as a site sees them
+turns-take : {Edit : Type 0} (i k : ℕ) (rs : List (Entry Edit)) → turns i (take k rs) ≡ take k (turns i rs)
+turns-take i zero rs = refl
+turns-take i (suc k) [] = refl
+turns-take i (suc k) (r ∷ rs) = ap (λ ts. turn i r ∷ ts) (turns-take i k rs)
+
+module _ (O : Operations) (L : AreLawful O) where
+  -- of two beginnings of one order the longer names no fewer
+  named_more : (m : ℕ) (p p' q q' : List (Entry O.Edit)) → p ++ p' ≡ q ++ q' → length p ≤ length q → named_in O p m ≤ named_in O q m
+  named_more m [] p' q q' e h = omega arith
+  named_more m (r ∷ p) p' [] q' e h = absurd (omega arith)
+  named_more m (r ∷ p) p' (t ∷ q) q' e h =
+      let head : r ≡ t = cc in
+      let rest : p ++ p' ≡ q ++ q' = cc in
+      let same : named_by O 0 m (turn 0 r ∷ []) ≡ named_by O 0 m (turn 0 t ∷ []) = ap (λ x. named_by O 0 m (turn 0 x ∷ [])) head in
+      let more = named_more m p p' q q' rest (omega arith) in
+      omega (arith, same, more, named_by-append O L 0 m (turn 0 r ∷ []) (turns 0 p), named_by-append O L 0 m (turn 0 t ∷ []) (turns 0 q))
+
+  -- how many of the first entries of the order a site was told, and what these name
+  abbrev pub told_count : WorldOf O → ℕ → ℕ
+  told_count w j = told_of O (joined_at j w.trace) (shown_count j w.trace) (turns j w.star.order)
+
+  told_named : (w : WorldOf O) (j m : ℕ) → named_by O j m (told_turns O L w j) ≡ named_in O (take (told_count w j) w.star.order) m
+  told_named w j m = ap (named_by O j m) (sym (turns-take j (told_of O (joined_at j w.trace) (shown_count j w.trace) (turns j w.star.order)) w.star.order))
+      ∙ named-turns O L j 0 m (take (told_of O (joined_at j w.trace) (shown_count j w.trace) (turns j w.star.order)) w.star.order)
+
+  module _ (symmetric : (x y : O.State) → O.t.keeps_order x y → O.t.keeps_order y x) where
+    -- # Past stars
+
+    -- for each length that the order has had, a star that the world had then
+    abbrev pub HasPastStars : ℕ → WorldOf O → Type 0
+    HasPastStars most w = (k : ℕ) → k ≤ length w.star.order → (z : StarOf O) × (length z.order ≡ k) × WasStar O L most w z
+
+    pub past_stars_opened : (most limit : ℕ) (board : O.State) → IsSound O most (opened_world O board limit) → HasPastStars most (opened_world O board limit)
+    past_stars_opened most limit board s k h = ((opened_world O board limit).star, omega arith, was_now O L most (opened_world O board limit) s)
+
+    -- each event keeps this, since the order grows by one entry at the most
+    longer_by_one : (most : ℕ) (w : WorldOf O) (s : IsSound O most w) (e : EventOf O) → length (happens O w e).star.order ≤ length w.star.order + 1
+    longer_by_one most w s e =
+        let one = one_entry w.trace (order_of w.trace) e (outcome O w e).reply in
+        omega (arith, ap (λ (os : List (Entry O.Edit)). length os) (order_longer O L most w s e), length-append w.star.order (entry_taken w.trace (order_of w.trace) e (outcome O w e).reply))
+
+    pub past_stars_happens : (most : ℕ) (w : WorldOf O) (s : IsSound O most w) (e : EventOf O) → HasPastStars most w → HasPastStars most (happens O w e)
+    past_stars_happens most w s e past k h = cases (nat_le k (length w.star.order)) refl
+      where
+        cases : (b : Bool) → nat_le k (length w.star.order) ≡ b → (z : StarOf O) × (length z.order ≡ k) × WasStar O L most (happens O w e) z
+        cases true f = let was = past k (leb-true k (length w.star.order) f) in (was.0, was.1, was_star_happens O L symmetric most w s e was.0 was.2)
+        cases false f =
+            let above = leb-false k (length w.star.order) f in
+            let one = longer_by_one most w s e in
+            ((happens O w e).star, omega arith, was_now O L most (happens O w e) (sound-happens O L most w e s))
+
+    pub past_stars_run : (es : List (EventOf O)) (most : ℕ) (w : WorldOf O) → IsSound O most w → HasPastStars most w → HasPastStars most (run O w es)
+    past_stars_run [] most w s past = past
+    past_stars_run (e ∷ es) most w s past = past_stars_run es most (happens O w e) (sound-happens O L most w e s) (past_stars_happens most w s e past)
+
+    -- and so does a fetch
+    pub past_stars_fetched : (most : ℕ) (w : WorldOf O) (s : IsSound O most w) (i n : ℕ) (m : LinkState O.Op) → link_of i w.star.links ≡ Some m → HasPastStars most w → HasPastStars most (only_fetched O w i n m)
+    past_stars_fetched most w s i n m fm past k h = let was = past k h in (was.0, was.1, was_star_fetched O L symmetric most w s i n m fm was.0 was.2)
+
+    -- # A past board of a site
+
+    -- A past board and a past star: both show in one order what both show, and where the star had as many entries as the board's site had been
+    -- told, it held each name of the board that it knew.
+    pub record Beside (x : O.State) (seen : ℕ) (z : StarOf O) : Type 0 where
+      pub order : O.t.keeps_order x z.board
+      pub level : length z.order ≡ seen → (n : O.t.Name) → StarKnows O L z n → O.t.holds x n → O.t.holds z.board n
+
+    -- A board that the site of a number once showed, when it had named so many items and been told these entries, beside a star of each length.
+    pub record WasCopy (most : ℕ) (w : WorldOf O) (i : ℕ) (x : O.State) (named : ℕ) (seen : List (Entry O.Edit)) : Type 0 where
+      pub shown : WasShown O L most w i x
+      pub later : List (Entry O.Edit)
+      pub grows : w.star.order ≡ seen ++ later
+      pub known : (n : O.t.Name) → O.t.holds x n → IsKnown O (own_counts O i named (named_in O seen)) n
+      pub stars : (k : ℕ) → k ≤ length w.star.order → (z : StarOf O) × (length z.order ≡ k) × WasStar O L most w z × Beside x (length seen) z
+
+    -- the site of the moment
+    pub copy_now : (most : ℕ) (w : WorldOf O) (s : IsSound O most w) → HasPastStars most w → (i : ℕ) (a : AttachedOf O) → attached i w.sites ≡ Some a
+        → WasCopy most w i a.site.board a.site.named (take (told_count w i) w.star.order)
+    copy_now most w s past i a fa = record {
+      shown = was_here O L most w s i a fa;
+      later = drop (told_count w i) w.star.order;
+      grows = sym (take-append-drop (told_count w i) w.star.order);
+      known = λ n held. known_more O L (own_counts O i a.site.named (λ m. named_by O i m (told_turns O L w i))) (own_counts O i a.site.named (named_in O (take (told_count w i) w.star.order))) n
+          (own_counts-more O L i a.site.named a.site.named (λ m. named_by O i m (told_turns O L w i)) (named_in O (take (told_count w i) w.star.order)) (le_refl a.site.named) (λ m. omega (arith, told_named w i m)))
+          (st.1.pair.board_known n held);
+      stars = λ k h. (let was = past k h in (
+        was.0,
+        was.1,
+        was.2,
+        record {
+          order = symmetric was.0.board a.site.board (past_order O L symmetric most w s was.0 was.2 i st.0 a st.2 fa);
+          level = λ e n known held. (past_since O L symmetric most w s was.0 was.2 i st.0 a st.2 fa (omega (arith, e, count))).none_back n known held;
+        },
+      ));
+    }
+      where
+        st : (l : LinkState O.Op) × Standing O most (O.t.content w.opening) (turns i w.star.order) w.star.board (made i w.trace) (joined_at i w.trace) (shown_count i w.trace) i l a × (link_of i w.star.links ≡ Some l)
+        st = standing_of O L most w s i a fa
+
+        count : length (take (told_count w i) w.star.order) ≡ told_count w i
+        count = length-take-le (told_count w i) w.star.order (omega (arith, length-turns i w.star.order, told_within O L (joined_at i w.trace) (shown_count i w.trace) (turns i w.star.order) st.1.joined_within st.1.shown_within))
+
+    -- each event keeps it: a star that the event adds has more entries than the site had been told
+    pub copy_happens : (most : ℕ) (w : WorldOf O) (s : IsSound O most w) (i : ℕ) (x : O.State) (named : ℕ) (seen : List (Entry O.Edit)) (e : EventOf O)
+        → WasCopy most w i x named seen → WasCopy most (happens O w e) i x named seen
+    copy_happens most w s i x named seen e was = record {
+      shown = shown_on;
+      later = was.later ++ entry_taken w.trace (order_of w.trace) e (outcome O w e).reply;
+      grows = order_longer O L most w s e ∙ ap (λ os. os ++ entry_taken w.trace (order_of w.trace) e (outcome O w e).reply) was.grows
+          ∙ append_assoc seen was.later (entry_taken w.trace (order_of w.trace) e (outcome O w e).reply);
+      known = was.known;
+      stars = λ k h. cases k h (nat_le k (length w.star.order)) refl;
+    }
+      where
+        shown_on : WasShown O L most (happens O w e) i x
+        shown_on = was_happens O L symmetric most w s i x e was.shown
+
+        cases : (k : ℕ) → k ≤ length (happens O w e).star.order → (b : Bool) → nat_le k (length w.star.order) ≡ b
+            → (z : StarOf O) × (length z.order ≡ k) × WasStar O L most (happens O w e) z × Beside x (length seen) z
+        cases k h true f = let z = was.stars k (leb-true k (length w.star.order) f) in (z.0, z.1, was_star_happens O L symmetric most w s e z.0 z.2, z.3)
+        cases k h false f =
+            let above = leb-false k (length w.star.order) f in
+            let one = longer_by_one most w s e in (
+              (happens O w e).star,
+              omega arith,
+              was_now O L most (happens O w e) (sound-happens O L most w e s),
+              record {
+                order = was_order O L symmetric most (happens O w e) (sound-happens O L most w e s) i x shown_on;
+                level = λ q n known held. absurd (omega (arith, q, ap (λ (os : List (Entry O.Edit)). length os) was.grows, length-append seen was.later));
+              },
+            )
+
+    -- and so does a fetch
+    pub copy_fetched : (most : ℕ) (w : WorldOf O) (s : IsSound O most w) (i : ℕ) (x : O.State) (named : ℕ) (seen : List (Entry O.Edit)) (j n : ℕ) (m : LinkState O.Op) → link_of j w.star.links ≡ Some m
+        → WasCopy most w i x named seen → WasCopy most (only_fetched O w j n m) i x named seen
+    copy_fetched most w s i x named seen j n m fm was = record {
+      shown = was_fetched O L symmetric most w s i x j n m was.shown;
+      later = was.later;
+      grows = was.grows;
+      known = was.known;
+      stars = λ k h. (let z = was.stars k h in (z.0, z.1, was_star_fetched O L symmetric most w s j n m fm z.0 z.2, z.3));
+    }
+
+    pub copy_run : (es : List (EventOf O)) (most : ℕ) (w : WorldOf O) → IsSound O most w → (i : ℕ) (x : O.State) (named : ℕ) (seen : List (Entry O.Edit)) → WasCopy most w i x named seen → WasCopy most (run O w es) i x named seen
+    copy_run [] most w s i x named seen was = was
+    copy_run (e ∷ es) most w s i x named seen was = copy_run es most (happens O w e) (sound-happens O L most w e s) i x named seen (copy_happens most w s i x named seen e was)
+
+  -- # A past board of a site, and another site
+
+  -- a name that both sites know is known to a star that had at least as many entries as each was told
+  knows_both : (w : WorldOf O) (i j : ℕ) → nat_eq i j ≡ false → (named : ℕ) (seen later : List (Entry O.Edit)) → w.star.order ≡ seen ++ later → (b : AttachedOf O) (z : StarOf O) (more : List (Entry O.Edit)) → w.star.order ≡ z.order ++ more
+      → length seen ≤ length z.order → told_count w j ≤ length z.order
+      → (n : O.t.Name) → IsKnown O (own_counts O i named (named_in O seen)) n → SiteKnows O L w j b n → StarKnows O L z n
+  knows_both w i j apart named seen later grows b z more grew low high n (inl q) there = inl q
+  knows_both w i j apart named seen later grows b z more grew low high n (inr m) (inl q) = inl q
+  knows_both w i j apart named seen later grows b z more grew low high n (inr m) (inr k) = inr (cases (nat_eq (O.site_of n) i) refl m (nat_eq (O.site_of n) j) refl k)
+    where
+      cases : (c : Bool) → nat_eq (O.site_of n) i ≡ c → O.number_of n ≤ cond c named (named_in O seen (O.site_of n)) → (d : Bool) → nat_eq (O.site_of n) j ≡ d → O.number_of n ≤ cond d b.site.named (named_by O j (O.site_of n) (told_turns O L w j))
+          → O.number_of n ≤ named_in O z.order (O.site_of n)
+      cases false e x d f y = omega (arith, x, named_more (O.site_of n) seen later z.order more (sym grows ∙ grew) low)
+      cases true e x false f y =
+          omega (
+            arith,
+            y,
+            told_named w j (O.site_of n),
+            named_more (O.site_of n) (take (told_count w j) w.star.order) (drop (told_count w j) w.star.order) z.order more (take-append-drop (told_count w j) w.star.order ∙ grew)
+                (omega (arith, high, length-take (told_count w j) w.star.order)),
+          )
+      cases true e x true f y = absurd (eqb-false i j apart (sym (eqb-true (O.site_of n) i e) ∙ eqb-true (O.site_of n) j f))
+
+  module _ (symmetric : (x y : O.State) → O.t.keeps_order x y → O.t.keeps_order y x) (most : ℕ) (w : WorldOf O) (s : IsSound O most w) (i : ℕ) (x : O.State) (named : ℕ) (seen : List (Entry O.Edit)) (was : WasCopy symmetric most w i x named seen)
+      (j : ℕ) (apart : nat_eq i j ≡ false) (b : AttachedOf O) (fb : attached j w.sites ≡ Some b) where
+    st : (l : LinkState O.Op) × Standing O most (O.t.content w.opening) (turns j w.star.order) w.star.board (made j w.trace) (joined_at j w.trace) (shown_count j w.trace) j l b × (link_of j w.star.links ≡ Some l)
+    st = standing_of O L most w s j b fb
+
+    within : told_count w j ≤ length w.star.order
+    within = omega (arith, length-turns j w.star.order, told_within O L (joined_at j w.trace) (shown_count j w.trace) (turns j w.star.order) st.1.joined_within st.1.shown_within)
+
+    -- So both show in one order what both show: the star that had as many entries as the one that was told more stands between.
+    pub copies_meet : O.t.keeps_order x b.site.board
+    copies_meet = cases (nat_le (length seen) (told_count w j)) refl
+      where
+        through : (k : ℕ) → k ≤ length w.star.order → length seen ≤ k → told_count w j ≤ k → (k ≡ length seen) ⊎ (k ≡ told_count w j) → O.t.keeps_order x b.site.board
+        through k h low high which =
+            let z = was.stars k h in
+            L.keeps.order_chain x z.0.board b.site.board z.3.order (past_order O L symmetric most w s z.0 z.2 j st.0 b st.2 fb)
+            (λ n here there.
+            let known = knows_both w i j apart named seen was.later was.grows b z.0 z.2.more z.2.grows (omega (arith, z.1)) (omega (arith, z.1)) n (was.known n here) (st.1.pair.board_known n there) in
+            elim which [
+              | inl a ↦ z.3.level (z.1 ∙ a) n known here
+              | inr c ↦ (past_since O L symmetric most w s z.0 z.2 j st.0 b st.2 fb (sym (z.1 ∙ c))).none_back n known there
+            ])
+
+        cases : (c : Bool) → nat_le (length seen) (told_count w j) ≡ c → O.t.keeps_order x b.site.board
+        cases true f = through (told_count w j) within (leb-true (length seen) (told_count w j) f) (le_refl _) (inr refl)
+        cases false f =
+            let above = leb-false (length seen) (told_count w j) f in
+            through (length seen) (omega (arith, ap (λ (os : List (Entry O.Edit)). length os) was.grows, length-append seen was.later)) (le_refl _) (omega arith) (inl refl)

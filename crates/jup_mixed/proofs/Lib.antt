@@ -1,6 +1,8 @@
+pub mod MixCopies
 pub mod MixKept
 pub mod MixOpened
 pub mod MixOrder
+pub mod MixPastBoards
 pub mod MixPlaying
 pub mod MixProgram
 pub mod MixReplies

@@ -247,17 +247,17 @@ module _ (O : Operations) (L : AreLawful O) where
       cases None s = refl
       cases (Some b) s = absurd s
 
-  stays_gone : (es : List (MixEventOf O)) (most : ℕ) (m : MixOf O) → IsSoundMix O most m → m.site ≡ None → (mix_run O m es).site ≡ None
+  pub stays_gone : (es : List (MixEventOf O)) (most : ℕ) (m : MixOf O) → IsSoundMix O most m → m.site ≡ None → (mix_run O m es).site ≡ None
   stays_gone [] most m h none = none
   stays_gone (e ∷ es) most m h none = stays_gone es most (mix_happens O m e) (sound-mix O L most m e h) (gone_on most m h e none)
 
   -- over any events
-  star_run : (es : List (MixEventOf O)) (most : ℕ) (m : MixOf O) → IsSoundMix O most m → Follows O L m.star (mix_run O m es).star
+  pub star_run : (es : List (MixEventOf O)) (most : ℕ) (m : MixOf O) → IsSoundMix O most m → Follows O L m.star (mix_run O m es).star
   star_run [] most m h = follows-same O L m.star m.star (omega arith) refl refl
   star_run (e ∷ es) most m h =
       follows-chain O L m.star (mix_happens O m e).star (mix_run O (mix_happens O m e) es).star h.star.board_known (mix-steps most m h e).star (star_run es most (mix_happens O m e) (sound-mix O L most m e h))
 
-  home_run : (es : List (MixEventOf O)) (most : ℕ) (m : MixOf O) → IsSoundMix O most m → (a c : AttachedOf O) → m.site ≡ Some a → (mix_run O m es).site ≡ Some c → HomeFollows m (mix_run O m es) a c
+  pub home_run : (es : List (MixEventOf O)) (most : ℕ) (m : MixOf O) → IsSoundMix O most m → (a c : AttachedOf O) → m.site ≡ Some a → (mix_run O m es).site ≡ Some c → HomeFollows m (mix_run O m es) a c
   home_run [] most m h a c fa fc =
       let same : a ≡ c = cc in
       subst (λ x. HomeFollows m m a x) same (record { order = L.keeps.order_self a.site.board; knows = λ n k. k; none_back = λ n k held. held })

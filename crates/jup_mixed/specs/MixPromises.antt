@@ -104,6 +104,14 @@ module _ (O : Operations) where
     pub star : O.t.keeps_order m.star.board k.star.board
     pub site : (a b : AttachedOf O) → m.site ≡ Some a → k.site ≡ Some b → O.t.keeps_order a.site.board b.site.board
 
+  -- a copy of the board: the star's, or the site's while it is attached
+  abbrev pub IsMixCopy : MixOf O → O.State → Type 0
+  IsMixCopy m x = (x ≡ m.star.board) ⊎ ((a : AttachedOf O) × (m.site ≡ Some a) × (x ≡ a.site.board))
+
+  -- any copy at one moment, and any at the same or a later one: the items that both show stand in the same order in both
+  abbrev pub MixOrdersAgree : MixOf O → MixOf O → Type 0
+  MixOrdersAgree m k = (x y : O.State) → IsMixCopy m x → IsMixCopy k y → O.t.keeps_order x y
+
 -- a star of boards with one site and strangers
 abbrev pub BoardMix : Type 0
 BoardMix = MixOf board_batches

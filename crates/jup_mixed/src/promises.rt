@@ -3,7 +3,7 @@
 ghost use Rattle.std.specs.Prelude.{List};
 ghost use Rattle.jup_batch.specs.BoardBatches.{board_batches};
 ghost use Rattle.jup_mixed.specs.MixSteps.{mix_outcome, mix_run};
-ghost use Rattle.jup_mixed.specs.MixPromises.{MixPromises, MixReplies, OnlyFull, MixOrderIsKept, BoardMix, BoardMixEvent, IsMixed};
+ghost use Rattle.jup_mixed.specs.MixPromises.{MixPromises, MixReplies, OnlyFull, MixOrderIsKept, MixOrdersAgree, BoardMix, BoardMixEvent, IsMixed};
 
 /// After any list of edits of site 1, deliveries to it and from it, and joins, messages and departures of
 /// strangers:
@@ -14,7 +14,9 @@ ghost use Rattle.jup_mixed.specs.MixPromises.{MixPromises, MixReplies, OnlyFull,
 ///   stays as it is, and the message is refused, its link alone being gone, or is an acknowledgement or a ping,
 ///   or is one valid entry of the order under its link's next name;
 /// - the site is detached by a full order alone;
-/// - whatever events come next, the star and the site keep the order of their items.
+/// - whatever events come next, the star and the site keep the order of their items;
+/// - at every moment, also while messages are on their way, the star and the site, at that moment or at two,
+///   show in the same order the items that both show.
 ///
 /// It does nothing: its contract is the theorem.
 pub fn mixed_agree()
@@ -24,4 +26,6 @@ pub fn mixed_agree()
     ensures detached { (m : BoardMix) → IsMixed m → OnlyFull board_batches m }
     ensures order { (m : BoardMix) → IsMixed m → (events : List BoardMixEvent)
         → MixOrderIsKept board_batches m (mix_run board_batches m events) }
+    ensures copies { (m : BoardMix) → IsMixed m → (events : List BoardMixEvent)
+        → MixOrdersAgree board_batches m (mix_run board_batches m events) }
 {}

@@ -10,6 +10,8 @@ mod boards;
 #[cfg(test)]
 mod content;
 #[cfg(test)]
+mod copies;
+#[cfg(test)]
 mod expect;
 #[cfg(test)]
 mod growths;

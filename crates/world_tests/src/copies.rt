@@ -16,11 +16,7 @@ const EVENTS: u32 = 300;
 const EACH: u32 = 10;
 
 fn open_world(rt: &impl Abort, alloc: Global) -> World {
-    let lines = [
-        "window 1",
-        "text 1 \"pqr\"",
-        "list 2 \"red\" \"green\"",
-    ];
+    let lines = ["window 1", "text 1 \"pqr\"", "list 2 \"red\" \"green\""];
     let board = board_of(alloc, &lines).expect(rt, "a board");
     World::open(alloc, board, 10_000).expect(rt, "a layout and a limit")
 }
@@ -102,32 +98,46 @@ fn place(dice: &mut Dice, world: &World, site: u32, wid: u16) -> u32 {
 fn command(rt: &impl Abort, dice: &mut Dice, world: &World, site: u32) -> Command {
     let win = 1;
     let label = Label::read(b"blue").expect(rt, "a label");
-    let (wid, value) = if dice.once_in(2) { (1, Value::Char('a')) } else { (2, Value::Label(label)) };
+    let (wid, value) = if dice.once_in(2) {
+        (1, Value::Char('a'))
+    } else {
+        (2, Value::Label(label))
+    };
     let place = place(dice, world, site, wid);
     match dice.roll(6) {
-        0..3 => Command::Insert { win, wid, place, value },
+        0..3 => Command::Insert {
+            win,
+            wid,
+            place,
+            value,
+        },
         3..5 => Command::Delete { win, wid, place },
-        _ => Command::Relabel { win, wid, place, label },
+        _ => Command::Relabel {
+            win,
+            wid,
+            place,
+            label,
+        },
     }
 }
 
 // A site joins or leaves, edits, or moves one of its messages or some bytes of one.
 fn event(rt: &impl Abort, dice: &mut Dice, world: &World) -> Event {
     let site = someone(dice, world);
-    match dice.roll(24) {
+    match dice.roll(32) {
         0 => Event::Leave(site),
         1 | 2 if world.sites().len() < SITES => Event::Join,
-        3..12 => Event::Edit(site, command(rt, dice, world, site)),
-        12..16 => Event::Up(site),
-        16..20 => Event::Down(site),
-        20 | 21 => Event::PushUp(site, dice.roll(60)),
+        3..14 => Event::Edit(site, command(rt, dice, world, site)),
+        14..20 => Event::Up(site),
+        20..25 => Event::Down(site),
+        25..28 => Event::PushUp(site, dice.roll(60)),
         _ => Event::PushDown(site, dice.roll(60)),
     }
 }
 
 // What a run had of what makes copies differ.
-#[derive(Drop)]
-struct Seen {
+#[derive(Debug, Drop)]
+struct Tally {
     // Moments at which two copies differed.
     apart: usize,
     joins: usize,
@@ -138,7 +148,10 @@ struct Seen {
 }
 
 fn are_same(orders: &[Vec<Name>]) -> bool {
-    orders.iter().all(|names| Some(names) == orders.first())
+    match orders.first() {
+        Some(first) => orders.iter().all(|names| names == first),
+        None => true,
+    }
 }
 
 fn keep(rt: &impl Abort, kept: &mut Vec<Vec<Name>>, orders: Vec<Vec<Name>>) {
@@ -168,22 +181,31 @@ fn plays(rt: &impl Abort, alloc: Global, dice: &mut Dice, world: &mut World) -> 
 }
 
 // How many events had a reply of each kind.
-fn seen(world: &World, apart: usize) -> Seen {
+fn count(world: &World, apart: usize) -> Tally {
     let trace = world.trace();
-    Seen {
+    Tally {
         apart,
-        joins: trace.iter().filter(|it| matches!(it.reply, Reply::Joined(_))).count(),
-        departures: trace.iter().filter(|it| matches!(it.reply, Reply::Left)).count(),
-        pushes: trace.iter().filter(|it| matches!(it.reply, Reply::Moved(_))).count(),
+        joins: trace
+            .iter()
+            .filter(|it| matches!(it.reply, Reply::Joined(_)))
+            .count(),
+        departures: trace
+            .iter()
+            .filter(|it| matches!(it.reply, Reply::Left))
+            .count(),
+        pushes: trace
+            .iter()
+            .filter(|it| matches!(it.reply, Reply::Moved(_)))
+            .count(),
         taken: world.star().order().len(),
     }
 }
 
-fn run(rt: &impl Abort, alloc: Global, seed: u32) -> Seen {
+fn run(rt: &impl Abort, alloc: Global, seed: u32) -> Tally {
     let mut world = open_world(rt, alloc);
     let mut dice = Dice::of(seed);
     let apart = plays(rt, alloc, &mut dice, &mut world);
-    seen(&world, apart)
+    count(&world, apart)
 }
 
 fn name(number: u32) -> Name {
@@ -198,11 +220,15 @@ fn an_order_is_told_from_its_opposite(rt: HostRuntime) {
     assert!(rt; !is_one_order(&[a, b, c], &[c, d, a]));
 }
 
+// Most moments have copies that differ, and no kind of event is missing.
 #[test]
 fn any_two_copies_show_one_order(rt: HostRuntime) {
     for seed in [1995, 2016, 7] {
-        let seen = run(&rt, rt.alloc(), seed);
-        assert!(rt; seen.apart >= 200 && seen.taken >= 40, "{seed}");
-        assert!(rt; seen.joins >= 6 && seen.departures >= 4 && seen.pushes >= 10, "{seed}");
+        let had = run(&rt, rt.alloc(), seed);
+        assert!(rt; had.apart >= 200 && had.taken >= 30, "{seed} {had:?}");
+        assert!(rt;
+            had.joins >= 6 && had.departures >= 3 && had.pushes >= 20,
+            "{seed} {had:?}"
+        );
     }
 }

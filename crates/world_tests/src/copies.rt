@@ -136,7 +136,7 @@ fn event(rt: &impl Abort, dice: &mut Dice, world: &World) -> Event {
 }
 
 // What a run had of what makes copies differ.
-#[derive(Debug, Drop)]
+#[derive(Drop)]
 struct Tally {
     // Moments at which two copies differed.
     apart: usize,
@@ -225,10 +225,10 @@ fn an_order_is_told_from_its_opposite(rt: HostRuntime) {
 fn any_two_copies_show_one_order(rt: HostRuntime) {
     for seed in [1995, 2016, 7] {
         let had = run(&rt, rt.alloc(), seed);
-        assert!(rt; had.apart >= 200 && had.taken >= 30, "{seed} {had:?}");
+        assert!(rt; had.apart >= 200 && had.taken >= 30, "{seed}");
         assert!(rt;
             had.joins >= 6 && had.departures >= 3 && had.pushes >= 20,
-            "{seed} {had:?}"
+            "{seed}"
         );
     }
 }

@@ -147,7 +147,7 @@ world_new b limit opening some limited = record {
   };
 }
 
--- that is one for which the star refuses neither the limit nor the board
+-- and so it is where a star refuses neither the limit nor the board
 pub world_opened : (b : board.Windows) (limit : ℕ) → star_open_fault (board.bare b) limit ≡ None → board.HasDistinctNames b → EachWidget IsShort b → IsWorld (opened_world board_batches (board.bare b) limit)
 world_opened b limit none distinct short =
     let held = open_held (nat_le 1 limit) (nat_le limit highest_limit) (only_site 0 (board.bare b)) none in

@@ -56,10 +56,12 @@ module _ (O : Operations) (L : AreLawful O) (symmetric : (x y : O.State) → O.t
 
   module _ (most : ℕ) (m : MixOf O) (s : IsSoundMix O most m) (z : StarOf O) (was : WasMixStar most m z) (l : LinkState O.Op) (b : AttachedOf O) (fl : link_of 1 m.star.links ≡ Some l) (fb : m.site ≡ Some b)
       (h : IsBeingTold O L most (O.t.content m.opening) z 1 0 (mix_shown m.trace) l b) where
+    -- what the site was told is the beginning of that star's order, and it knows what that names
     bridge : (n : O.t.Name) → IsKnown O (own_counts O 1 b.site.named (λ k. named_by O 1 k (take (told_of O 0 (mix_shown m.trace) (turns 1 z.order)) (turns 1 z.order)))) n → HomeKnows O L m b n
     bridge n k = subst (λ ts. IsKnown O (own_counts O 1 b.site.named (λ k. named_by O 1 k ts)) n)
         (sym (turns_same O L symmetric most (O.t.content m.opening) z was.sound 1 0 (mix_shown m.trace) l b h m.star.order was.more was.grows)) k
 
+    -- so it was handed all where nothing of that is left on its way
     handed_then : h.site.down ≡ [] → IsTold O L z (HomeKnows O L m b) b
     handed_then = all_handed O L symmetric most (O.t.content m.opening) z was.sound 1 0 (mix_shown m.trace) l b h (HomeKnows O L m b) bridge
 
@@ -76,6 +78,7 @@ module _ (O : Operations) (L : AreLawful O) (symmetric : (x y : O.State) → O.t
         let site : c ≡ c' = cc in
         subst (λ x. Then n x c') link (subst (λ x. Then n k x) site t)
 
+    -- more is sent to it, or nothing
     sent_more : (k : LinkState O.Op) (c : AttachedOf O) (more : List (Down O.Op)) → c.site ≡ b.site → c.down ++ k.outbox ≡ (b.down ++ l.outbox) ++ more → Then 0 k c
     sent_more k c more site down = inr (subst (λ n. IsBeingTold O L most (O.t.content m.opening) z 1 0 n k c) (sym (add-zero (mix_shown m.trace)))
         (telling_more O L symmetric most (O.t.content m.opening) z was.sound 1 0 (mix_shown m.trace) l b h k c more site down))

@@ -66,6 +66,7 @@ module _ (O : Operations) (L : AreLawful O) where
     turns_then : told_turns O L w j ≡ take (told_of O (joined_at j w.trace) (shown_count j w.trace) (turns j z.order)) (turns j z.order)
     turns_then = turns_same O L symmetric most (O.t.content w.opening) z was.sound j (joined_at j w.trace) (shown_count j w.trace) l b h w.star.order was.more was.grows
 
+    -- and it knows what that beginning names
     bridge : (n : O.t.Name)
         → IsKnown O (own_counts O j b.site.named (λ k. named_by O j k (take (told_of O (joined_at j w.trace) (shown_count j w.trace) (turns j z.order)) (turns j z.order)))) n → SiteKnows O L w j b n
     bridge n k = subst (λ ts. IsKnown O (own_counts O j b.site.named (λ k. named_by O j k ts)) n) (sym turns_then) k

@@ -13,12 +13,17 @@ Example:
   c s' on
   s c' on";
 
-/// Reads the words after the program's name, of which it takes none but `--help`.
-pub(crate) fn read_words(alloc: Global, words: &[String]) -> Result<(), Error> {
-    let mut command = Command::new(alloc, "jupsim")
+// What is asked of the words.
+fn command<'a>(alloc: Global) -> Command<'a> {
+    Command::new(alloc, "jupsim")
         .no_binary_name(true)
         .about(ABOUT)
-        .after_help(EXAMPLE);
+        .after_help(EXAMPLE)
+}
+
+/// Reads the words after the program's name, of which it takes none but `--help`.
+pub(crate) fn read_words(alloc: Global, words: &[String]) -> Result<(), Error> {
+    let mut command = command(alloc);
     let _none = command.try_get_matches_from_mut(words)?;
     Ok(())
 }

@@ -23,15 +23,39 @@ pub(crate) fn play<W: Write>(
     let Ok(mut two) = Two::open(alloc, start.as_slice()) else {
         return Err(ScriptEnd::NoMemory);
     };
+    play_lines(alloc, &mut two, script, replies)
+}
+
+// Plays the lines of events, up to the last.
+fn play_lines<W: Write>(
+    alloc: Global,
+    two: &mut Two,
+    script: &mut Script<'_>,
+    replies: &mut W,
+) -> Result<(), ScriptEnd>
+    ensures { IfErr result ComesInPlay }
+{
     while let Some(line) = script.next_line()? {
-        if line == "show" {
-            show(&two, replies).map_err(|_| ScriptEnd::WriteFailed)?;
-        } else {
-            let event = script.judge(read_event(line))?;
-            step(alloc, &mut two, &event, replies)?;
-        }
+        play_line(alloc, two, line, script, replies)?;
     }
     Ok(())
+}
+
+// Plays one line, and prints what it answers.
+fn play_line<W: Write>(
+    alloc: Global,
+    two: &mut Two,
+    line: &str,
+    script: &Script<'_>,
+    replies: &mut W,
+) -> Result<(), ScriptEnd>
+    ensures { IfErr result ComesInPlay }
+{
+    if line == "show" {
+        return show(two, replies).map_err(|_| ScriptEnd::WriteFailed);
+    }
+    let event = script.judge(read_event(line))?;
+    step(alloc, two, &event, replies)
 }
 
 // The text that both ends open with.

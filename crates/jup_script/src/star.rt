@@ -40,11 +40,24 @@ pub(crate) fn play<W: Write>(
 {
     let (board, first) = read_board(alloc, script)?;
     let mut world = open(alloc, board, limit)?;
+    play_lines(alloc, &mut world, first, script, replies)
+}
+
+// Plays a line that was read already, if there is one, and those that follow.
+fn play_lines<W: Write>(
+    alloc: Global,
+    world: &mut World,
+    first: Option<&str>,
+    script: &mut Script<'_>,
+    replies: &mut W,
+) -> Result<(), ScriptEnd>
+    ensures { IfErr result ComesInPlay }
+{
     if let Some(line) = first {
-        play_line(alloc, &mut world, line, script, replies)?;
+        play_line(alloc, world, line, script, replies)?;
     }
     while let Some(line) = script.next_line()? {
-        play_line(alloc, &mut world, line, script, replies)?;
+        play_line(alloc, world, line, script, replies)?;
     }
     Ok(())
 }
@@ -189,19 +202,17 @@ fn event_of(line: &str) -> Result<Event, ScriptFault> {
         "edit" => edit_of(rest),
         "up" => Ok(Event::Up(number_of(rest)?)),
         "down" => Ok(Event::Down(number_of(rest)?)),
-        "ping" => {
-            let (site, count) = read_pair(rest)?;
-            Ok(Event::Ping(site, count))
-        }
-        "pushup" => {
-            let (site, most) = read_pair(rest)?;
-            Ok(Event::PushUp(site, most))
-        }
-        "pushdown" => {
-            let (site, most) = read_pair(rest)?;
-            Ok(Event::PushDown(site, most))
-        }
+        "ping" | "pushup" | "pushdown" => Ok(counted_event(word, read_pair(rest)?)),
         _ => Err(ScriptFault::NoEvent),
+    }
+}
+
+// A ping, or a push of either kind: an event with a count.
+fn counted_event(word: &str, (site, count): (u32, u32)) -> Event {
+    match word {
+        "ping" => Event::Ping(site, count),
+        "pushup" => Event::PushUp(site, count),
+        _ => Event::PushDown(site, count),
     }
 }
 

@@ -38,21 +38,39 @@ impl Pair {
         ensures { IfErr result ComesInPlay }
     {
         match self {
-            Pair::Toggle(start) => {
-                let c = setting(read_on(value_of(script, "client")?), &start, script)?;
-                let s = setting(read_on(value_of(script, "server")?), &start, script)?;
-                let (client, server) = pair_toggle(start.on, c, s);
-                write_ends(replies, switch_word(client), switch_word(server))?;
-            }
-            Pair::Slider(start) => {
-                let c = setting(read_signed(value_of(script, "client")?), &start, script)?;
-                let s = setting(read_signed(value_of(script, "server")?), &start, script)?;
-                let (client, server) = pair_slider(&start, c, s).unwrap();
-                write_ends(replies, client, server)?;
-            }
+            Pair::Toggle(start) => play_toggle(&start, script, replies)?,
+            Pair::Slider(start) => play_slider(&start, script, replies)?,
         }
         script.end()
     }
+}
+
+// Plays the settings of a toggle.
+fn play_toggle<W: Write>(
+    start: &Toggle,
+    script: &mut Script<'_>,
+    replies: &mut W,
+) -> Result<(), ScriptEnd>
+    ensures { IfErr result ComesInPlay }
+{
+    let c = setting(read_on(value_of(script, "client")?), start, script)?;
+    let s = setting(read_on(value_of(script, "server")?), start, script)?;
+    let (client, server) = pair_toggle(start.on, c, s);
+    write_ends(replies, switch_word(client), switch_word(server))
+}
+
+// Plays the settings of a slider.
+fn play_slider<W: Write>(
+    start: &Slider,
+    script: &mut Script<'_>,
+    replies: &mut W,
+) -> Result<(), ScriptEnd>
+    ensures { IfErr result ComesInPlay }
+{
+    let c = setting(read_signed(value_of(script, "client")?), start, script)?;
+    let s = setting(read_signed(value_of(script, "server")?), start, script)?;
+    let (client, server) = pair_slider(start, c, s).unwrap();
+    write_ends(replies, client, server)
 }
 
 /// Reads a slider: `LO HI VALUE`.

@@ -4,9 +4,9 @@ ghost use Rattle.jup_limits.specs.Limits.{highest_limit};
 ghost use Rattle.jup_rules.specs.Bounds.{most_sessions};
 
 use clap::error::ErrorKind;
-use clap::{Arg, ArgAction, Command, Error, value_parser};
+use clap::{Arg, ArgAction, ArgMatches, Command, Error, value_parser};
 use jup_limits::HIGHEST_LIMIT;
-use std::alloc::Global;
+use std::alloc::{AllocError, Global};
 
 /// Sessions that a daemon may be told to serve.
 const MOST_SESSIONS: u32 = 1_024;
@@ -19,6 +19,11 @@ const DAEMON_EXAMPLE: &str = "\
 Example:
   $ jupd --listen 127.0.0.1:4711 --limit 1000 --sessions 2 < examples/desk.layout
   listening 127.0.0.1:4711";
+
+/// What `jupd --help` says of its counts.
+const LIMIT_HELP: &str = "How many edits are taken in all, 1 to 16777216";
+
+const SESSIONS_HELP: &str = "How many sessions are served in all, 1 to 1024";
 
 /// What `jup --help` says first, and last.
 const CLIENT_ABOUT: &str = "Edits the board of a server, by commands from standard input";
@@ -48,51 +53,92 @@ pub fn daemon_words(alloc: Global, words: &[String]) -> Result<DaemonWords, Erro
     ensures limit { IfOk result (λ w. (1 ≤ w.limit) × (w.limit ≤ highest_limit)) }
     ensures sessions { IfOk result (λ w. (1 ≤ w.sessions) × (w.sessions ≤ most_sessions)) }
 {
-    let listen = required_option(alloc, "listen")
-        .value_name("ADDR")
-        .help("Where to listen, as 127.0.0.1:4711");
-    let limit = count(alloc, "limit", HIGHEST_LIMIT).help(
-        "How many edits are taken in all, 1 to 16777216",
-    );
-    let sessions = count(alloc, "sessions", MOST_SESSIONS).help(
-        "How many sessions are served in all, 1 to 1024",
-    );
-    let mut command = Command::new(alloc, "jupd")
+    let mut command = daemon_command(alloc)?;
+    read_daemon(alloc, &mut command, words)
+}
+
+// The daemon's command line.
+fn daemon_command<'a>(alloc: Global) -> Result<Command<'a>, AllocError> {
+    Command::new(alloc, "jupd")
         .no_binary_name(true)
         .about(DAEMON_ABOUT)
         .after_help(DAEMON_EXAMPLE)
-        .arg(listen)?
-        .arg(limit)?
-        .arg(sessions)?;
+        .arg(address(alloc, "listen", "Where to listen, as 127.0.0.1:4711"))?
+        .arg(count(alloc, "limit", HIGHEST_LIMIT, LIMIT_HELP))?
+        .arg(count(alloc, "sessions", MOST_SESSIONS, SESSIONS_HELP))
+}
+
+// Reads the words by the daemon's command line.
+fn read_daemon<'a>(
+    alloc: Global,
+    command: &mut Command<'a>,
+    words: &'a [String],
+) -> Result<DaemonWords, Error>
+    ensures limit { IfOk result (λ w. (1 ≤ w.limit) × (w.limit ≤ highest_limit)) }
+    ensures sessions { IfOk result (λ w. (1 ≤ w.sessions) × (w.sessions ≤ most_sessions)) }
+{
     let matches = command.try_get_matches_from_mut(words)?;
+    match told_by(alloc, &matches) {
+        Ok(Some(told)) => Ok(told),
+        Ok(None) => Err(bad_words(command, ErrorKind::ValueValidation, "a count out of range")),
+        Err(error) => Err(error.into()),
+    }
+}
+
+// What the daemon is told; `None` where a count is out of range.
+fn told_by(alloc: Global, matches: &ArgMatches<'_>) -> Result<Option<DaemonWords>, AllocError>
+    ensures limit { IfOk result (λ told. IfSome told (λ w. (1 ≤ w.limit) × (w.limit ≤ highest_limit))) }
+    ensures sessions { IfOk result (λ told. IfSome told (λ w. (1 ≤ w.sessions) × (w.sessions ≤ most_sessions))) }
+{
     let listen = matches.get_str("listen");
     let limit = within(matches.get_one("limit"), HIGHEST_LIMIT);
     let sessions = within(matches.get_one("sessions"), MOST_SESSIONS);
     let (Some(listen), Some(limit), Some(sessions)) = (listen, limit, sessions) else {
-        return Err(command.error(ErrorKind::ValueValidation, "a count out of range")?);
+        return Ok(None);
     };
-    Ok(DaemonWords {
+    Ok(Some(DaemonWords {
         listen: String::from_str(alloc, listen)?,
         limit,
         sessions,
-    })
+    }))
 }
 
 /// Reads the words after the client's name, and answers the address to connect to.
 pub fn client_words(alloc: Global, words: &[String]) -> Result<String, Error> {
-    let connect = required_option(alloc, "connect")
-        .value_name("ADDR")
-        .help("Where the server listens, as 127.0.0.1:4711");
-    let mut command = Command::new(alloc, "jup")
+    let mut command = client_command(alloc)?;
+    read_client(alloc, &mut command, words)
+}
+
+// Reads the words by the client's command line.
+fn read_client<'a>(
+    alloc: Global,
+    command: &mut Command<'a>,
+    words: &'a [String],
+) -> Result<String, Error> {
+    let matches = command.try_get_matches_from_mut(words)?;
+    match matches.get_str("connect") {
+        Some(addr) => Ok(String::from_str(alloc, addr)?),
+        None => Err(bad_words(command, ErrorKind::MissingRequiredArgument, "no address")),
+    }
+}
+
+// The client's command line.
+fn client_command<'a>(alloc: Global) -> Result<Command<'a>, AllocError> {
+    let connect = address(
+        alloc,
+        "connect",
+        "Where the server listens, as 127.0.0.1:4711",
+    );
+    Command::new(alloc, "jup")
         .no_binary_name(true)
         .about(CLIENT_ABOUT)
         .after_help(CLIENT_EXAMPLE)
-        .arg(connect)?;
-    let matches = command.try_get_matches_from_mut(words)?;
-    let Some(addr) = matches.get_str("connect") else {
-        return Err(command.error(ErrorKind::MissingRequiredArgument, "no address")?);
-    };
-    Ok(String::from_str(alloc, addr)?)
+        .arg(connect)
+}
+
+// The option for an address.
+fn address<'a>(alloc: Global, name: &'a str, help: &'a str) -> Arg<'a> {
+    required_option(alloc, name).value_name("ADDR").help(help)
 }
 
 // An option that has to be given, with a value.
@@ -103,10 +149,20 @@ fn required_option<'a>(alloc: Global, name: &'a str) -> Arg<'a> {
         .action(ArgAction::Set)
 }
 
-fn count<'a>(alloc: Global, name: &'a str, most: u32) -> Arg<'a> {
+// The option for a count, from 1 to the most.
+fn count<'a>(alloc: Global, name: &'a str, most: u32, help: &'a str) -> Arg<'a> {
     required_option(alloc, name)
         .value_name("N")
         .value_parser(value_parser!(u32).range(1..=i64::from(most)))
+        .help(help)
+}
+
+// The error for words that were read and that are none.
+fn bad_words(command: &mut Command<'_>, kind: ErrorKind, message: &str) -> Error {
+    match command.error(kind, message) {
+        Ok(error) => error,
+        Err(error) => error.into(),
+    }
 }
 
 // The number, if it is from 1 to the most.

@@ -4,6 +4,7 @@ use super::boards::{
     world_of,
 };
 use super::worlds::{put, took};
+use crate::expect::expect_that;
 use jup_value::Name;
 use jup_window::{Command, EditFault, Effect};
 use jup_world::{Event, Reply, World};
@@ -47,27 +48,27 @@ fn apart(rt: &impl Abort, alloc: Global) -> World {
     world
 }
 
-// The star takes an edit of each of these sites, one after the other.
-fn takes(rt: &impl Abort, alloc: Global, world: &mut World, sites: &[u32]) {
-    for (place, site) in (0..).zip(sites) {
-        gives(rt, alloc, world, Event::Up(*site), Reply::Taken(place));
-    }
+// The star takes an edit of a site, at this place of its order.
+fn takes(rt: &impl Abort, alloc: Global, world: &mut World, site: u32, place: u32) {
+    gives(rt, alloc, world, Event::Up(site), Reply::Taken(place));
 }
 
 // The star takes both edits in this order, and then all show both.
-fn meet(rt: &impl Abort, alloc: Global, sites: &[u32], order: &[(u32, &[Effect])]) {
+fn meet(rt: &impl Abort, alloc: Global, sites: [u32; 2], order: &[(u32, &[Effect])]) {
+    let [first, second] = sites;
     let mut world = apart(rt, alloc);
-    takes(rt, alloc, &mut world, sites);
+    takes(rt, alloc, &mut world, first, 0);
+    takes(rt, alloc, &mut world, second, 1);
     drain(rt, alloc, &mut world);
-    all_show(rt, alloc, &world, 3, "text 1 \"pXY\"");
+    all_show(rt, alloc, &world, 3, "window 1\ntext 1 \"pXY\"\n");
     took(rt, alloc, &world, order);
 }
 
 #[test]
 fn batches_of_two_sites_meet_in_either_order(rt: HostRuntime) {
     let alloc = rt.alloc();
-    meet(&rt, alloc, &[1, 2], &[(1, &effects()), (2, &cut())]);
-    meet(&rt, alloc, &[2, 1], &[(2, &cut()), (1, &effects())]);
+    meet(&rt, alloc, [1, 2], &[(1, &effects()), (2, &cut())]);
+    meet(&rt, alloc, [2, 1], &[(2, &cut()), (1, &effects())]);
 }
 
 #[test]
@@ -78,9 +79,9 @@ fn a_batch_that_undoes_itself_is_one_entry(rt: HostRuntime) {
     let effects = [put(1, 1, 'a'), Effect::Deleted(name)];
     let commands = [insert(0, 'a'), delete(0)];
     makes(&rt, alloc, &mut world, 1, &commands, &effects);
-    takes(&rt, alloc, &mut world, &[1]);
+    takes(&rt, alloc, &mut world, 1, 0);
     drain(&rt, alloc, &mut world);
-    all_show(&rt, alloc, &world, 2, "text 1 \"\"");
+    all_show(&rt, alloc, &world, 2, "window 1\ntext 1 \"\"\n");
     took(&rt, alloc, &world, &[(1, &effects)]);
 }
 
@@ -94,7 +95,7 @@ fn refuses(
 ) {
     let event = batch(rt, alloc, 1, commands);
     gives(rt, alloc, world, event, Reply::Refused(fault));
-    all_show(rt, alloc, world, 1, "text 1 \"\"");
+    all_show(rt, alloc, world, 1, "window 1\ntext 1 \"\"\n");
     gives(rt, alloc, world, Event::Up(1), Reply::Nothing);
 }
 
@@ -132,11 +133,11 @@ fn a_star_shows_nothing_of_a_batch_before_its_last_byte(rt: HostRuntime) {
     for _ in 0..BYTES {
         let push = Event::PushUp(1, 1);
         gives(&rt, alloc, &mut world, push, Reply::Moved(1));
-        assert!(rt; reads(&world, 0, "") && !is_quiet(&world));
+        expect_that(&rt, reads(&world, 0, "") && !is_quiet(&world));
     }
     gives(&rt, alloc, &mut world, Event::PushUp(1, 1), Reply::Nothing);
     gives(&rt, alloc, &mut world, Event::Up(1), Reply::Taken(0));
-    all_show(&rt, alloc, &world, 1, "text 1 \"ab\"");
+    all_show(&rt, alloc, &world, 1, "window 1\ntext 1 \"ab\"\n");
 }
 
 #[test]
@@ -148,7 +149,7 @@ fn a_site_shows_nothing_of_a_batch_before_its_last_byte(rt: HostRuntime) {
     for _ in 0..BYTES {
         let push = Event::PushDown(2, 1);
         gives(&rt, alloc, &mut world, push, Reply::Moved(1));
-        assert!(rt; reads(&world, 2, "") && !is_quiet(&world));
+        expect_that(&rt, reads(&world, 2, "") && !is_quiet(&world));
     }
     gives(
         &rt,
@@ -158,5 +159,5 @@ fn a_site_shows_nothing_of_a_batch_before_its_last_byte(rt: HostRuntime) {
         Reply::Nothing,
     );
     gives(&rt, alloc, &mut world, Event::Down(2), Reply::Shown);
-    all_show(&rt, alloc, &world, 2, "text 1 \"ab\"");
+    all_show(&rt, alloc, &world, 2, "window 1\ntext 1 \"ab\"\n");
 }

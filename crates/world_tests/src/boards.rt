@@ -1,6 +1,6 @@
 //! Worlds over boards that are given as they are printed, the events that are played in them, and what
 //! they show.
-use crate::expect::expect_eq;
+use crate::expect::{expect_eq, expect_that};
 use jup_batch::BoardEdits;
 use jup_text::write_board;
 use jup_window::{Board, Command, Edit, Effect, Setting, Value};
@@ -98,7 +98,7 @@ pub(crate) fn reply_of(rt: &impl Abort, alloc: Global, what: Effect) -> Reply {
 // The event happens, has this reply, and stands in the trace.
 pub(crate) fn gives(rt: &impl Abort, alloc: Global, world: &mut World, event: Event, reply: Reply) {
     let replied = world.step(alloc, &event).expect(rt, "memory");
-    assert_eq!(rt; replied, reply, "{event:?}");
+    expect_eq(rt, (&event, &replied), (&event, &reply));
     let happened = Happened { event, reply };
     expect_eq(rt, world.trace().last(), Some(&happened));
 }
@@ -125,11 +125,10 @@ fn board_text(rt: &impl Abort, alloc: Global, world: &World, number: u32) -> Vec
     text
 }
 
-// The star, as number 0, or a site shows window 1 with this widget.
-fn shows(rt: &impl Abort, alloc: Global, world: &World, number: u32, widget: &str) {
+// The star, as number 0, or a site shows this board.
+fn shows(rt: &impl Abort, alloc: Global, world: &World, number: u32, printed: &str) {
     let text = board_text(rt, alloc, world, number);
-    let wanted = format!(in alloc; "window 1\n{widget}\n").expect(rt, "memory");
-    assert_eq!(rt; text.as_slice(), wanted.as_bytes(), "{number}");
+    expect_eq(rt, (number, text.as_slice()), (number, printed.as_bytes()));
 }
 
 // Whether no message is on its way.
@@ -137,12 +136,12 @@ pub(crate) fn is_quiet(world: &World) -> bool {
     world.quiet()
 }
 
-// The star and the first sites show this, and nothing is on its way.
-pub(crate) fn all_show(rt: &impl Abort, alloc: Global, world: &World, sites: u32, widget: &str) {
+// The star and the first sites show this board, and nothing is on its way.
+pub(crate) fn all_show(rt: &impl Abort, alloc: Global, world: &World, sites: u32, printed: &str) {
     for number in 0..=sites {
-        shows(rt, alloc, world, number, widget);
+        shows(rt, alloc, world, number, printed);
     }
-    assert!(rt; is_quiet(world));
+    expect_that(rt, is_quiet(world));
 }
 
 // Whether the text 1 of the star, as number 0, or of a site reads so. It takes no memory.

@@ -4,7 +4,7 @@ use super::boards::{
     LIMIT, batch, drain, edits, insert, is_quiet, reads, reply_of, types, world_of,
 };
 use super::worlds::put;
-use crate::expect::expect_eq;
+use crate::expect::{expect_eq, expect_that};
 use jup_star::OpenFault;
 use jup_text::write_board;
 use jup_window::Command;
@@ -55,7 +55,7 @@ fn may_fetch(event: &Event, number: u32) -> bool {
 // As many messages wait for a site as before, or one less where one may have been fetched.
 fn wait_as_before(rt: &impl Abort, fetched: bool, was: Option<usize>, now: Option<usize>) {
     let one_less = was.map(|count| count.saturating_sub(1));
-    assert!(rt; now == was || (fetched && now == one_less));
+    expect_that(rt, now == was || (fetched && now == one_less));
 }
 
 fn is_spared(rt: &impl Abort, event: &Event, was: &Seen, now: &Seen) {
@@ -81,7 +81,7 @@ fn happens(rt: &impl Abort, alloc: Global, world: &mut World, wanted: &Happened,
         reply = world.step(alloc, &wanted.event);
     }
     let reply = reply.expect(rt, "memory");
-    assert_eq!(rt; reply, wanted.reply, "{:?}", wanted.event);
+    expect_eq(rt, (&wanted.event, &reply), (&wanted.event, &wanted.reply));
 }
 
 #[derive(Clone, Copy, Drop, PartialEq, Eq)]
@@ -172,7 +172,10 @@ fn plays(rt: &impl Abort, alloc: Global, kind: Kind) {
         );
     }
     expect_eq(rt, world.trace(), all.as_slice());
-    assert!(rt; is_quiet(&world) && reads(&world, 0, "xya") && reads(&world, 1, "xya"));
+    expect_that(
+        rt,
+        is_quiet(&world) && reads(&world, 0, "xya") && reads(&world, 1, "xya"),
+    );
 }
 
 #[test]
@@ -229,7 +232,7 @@ fn event_room_for(rt: HostRuntime) {
         room = room_for(rt.alloc(), 2);
     }
     let room = room.expect(&rt, "memory");
-    assert!(rt; room.is_empty() && room.capacity() >= 2);
+    expect_that(&rt, room.is_empty() && room.capacity() >= 2);
 }
 
 #[test]
@@ -244,7 +247,10 @@ fn world_open(rt: HostRuntime) {
         world = World::open(rt.alloc(), again, LIMIT);
     }
     let world = world.expect(&rt, "a layout and a limit");
-    assert!(rt; is_quiet(&world) && reads(&world, 0, "ab") && world.trace().is_empty());
+    expect_that(
+        &rt,
+        is_quiet(&world) && reads(&world, 0, "ab") && world.trace().is_empty(),
+    );
 }
 
 // Two edits of each site on their way up, from the joins on.
@@ -266,26 +272,28 @@ fn crossing() -> [Event; 10] {
 // The star and both sites show "xyab", with nothing on its way.
 fn all_agree(rt: &impl Abort, world: &World) {
     for number in 0..3 {
-        assert!(rt; reads(world, number, "xyab"), "{number}");
+        expect_eq(rt, (number, reads(world, number, "xyab")), (number, true));
     }
-    assert!(rt; is_quiet(world));
+    expect_that(rt, is_quiet(world));
 }
 
-// What was done stands in the trace, and the rest goes on from there.
+// Events are played. What was done stands in the trace, and the rest goes on from there.
+fn runs(rt: &impl Abort, alloc: Global, world: &mut World, events: &[Event]) {
+    begin(alloc);
+    let ran = world.run(alloc, events);
+    end(alloc);
+    if let Err(Halted { done }) = ran {
+        expect_eq(rt, world.trace().len(), done);
+        assert!(rt; done < events.len());
+        expect_eq(rt, world.run(alloc, &events[done..]), Ok(()));
+    }
+    expect_eq(rt, world.trace().len(), events.len());
+}
+
 #[test]
 fn world_run(rt: HostRuntime) {
     let mut world = world_of(&rt, rt.alloc(), LIMIT, "text 1 \"\"", 0);
-    let events = crossing();
-    let events = events.as_slice();
-    begin(rt.alloc());
-    let ran = world.run(rt.alloc(), events);
-    end(rt.alloc());
-    if let Err(Halted { done }) = ran {
-        expect_eq(&rt, world.trace().len(), done);
-        assert!(rt; done < events.len());
-        expect_eq(&rt, world.run(rt.alloc(), &events[done..]), Ok(()));
-    }
-    expect_eq(&rt, world.trace().len(), events.len());
+    runs(&rt, rt.alloc(), &mut world, &crossing());
     drain(&rt, rt.alloc(), &mut world);
     all_agree(&rt, &world);
 }

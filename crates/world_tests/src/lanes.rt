@@ -1,7 +1,7 @@
 //! One way of a link, byte by byte.
 ghost use Rattle.jup_star.specs.TextRelabels.{RelabelNoText};
 
-use crate::expect::expect_eq;
+use crate::expect::{expect_eq, expect_that};
 use jup_batch::BoardBatch;
 use jup_lane::{Lane, Message};
 use jup_link::Msg;
@@ -57,16 +57,16 @@ fn hand_over<M: Message>(rt: &impl Abort, alloc: Global, lane: &mut Lane<M>) -> 
 fn a_message_is_pushed_in_two_parts(rt: HostRuntime) {
     let alloc = rt.alloc();
     let mut lane: Lane<Up> = Lane::new(alloc);
-    assert!(rt; lane.is_idle() && lane.is_stream_empty());
+    expect_that(&rt, lane.is_idle() && lane.is_stream_empty());
     send(&rt, &mut lane, &Up::Op(first_edit(alloc)));
     expect_eq(&rt, push(&rt, alloc, &mut lane, 36), 36);
-    assert!(rt; !lane.is_idle() && !lane.is_stream_empty());
+    expect_that(&rt, !lane.is_idle() && !lane.is_stream_empty());
     expect_eq(&rt, push(&rt, alloc, &mut lane, 5), 1);
     expect_eq(&rt, push(&rt, alloc, &mut lane, 5), 0);
-    assert!(rt; !lane.is_idle() && lane.is_stream_empty());
+    expect_that(&rt, !lane.is_idle() && lane.is_stream_empty());
     let first = Some(Up::Op(first_edit(alloc)));
     expect_eq(&rt, hand_over(&rt, alloc, &mut lane), first);
-    assert!(rt; lane.is_idle());
+    expect_that(&rt, lane.is_idle());
     expect_eq(&rt, hand_over(&rt, alloc, &mut lane), None);
 }
 
@@ -79,10 +79,11 @@ fn messages_come_in_order_however_they_are_pushed(rt: HostRuntime) {
     send(&rt, &mut lane, &Down::Pong(7));
     // "ack 64" and its line feed, and the first two letters of the next.
     expect_eq(&rt, push(&rt, alloc, &mut lane, 9), 9);
-    for message in [Down::Ack(64), Down::Op(first_edit(alloc)), Down::Pong(7)] {
-        expect_eq(&rt, hand_over(&rt, alloc, &mut lane), Some(message));
-    }
-    assert!(rt; lane.is_idle());
+    expect_eq(&rt, hand_over(&rt, alloc, &mut lane), Some(Down::Ack(64)));
+    let second = Some(Down::Op(first_edit(alloc)));
+    expect_eq(&rt, hand_over(&rt, alloc, &mut lane), second);
+    expect_eq(&rt, hand_over(&rt, alloc, &mut lane), Some(Down::Pong(7)));
+    expect_that(&rt, lane.is_idle());
 }
 
 #[test]
@@ -93,11 +94,11 @@ fn a_message_that_was_looked_at_stays_first(rt: HostRuntime) {
     let first = Some(Up::Op(first_edit(alloc)));
     expect_eq(&rt, lane.first(alloc).expect(&rt, "memory"), first);
     // All its bytes count as moved, so nothing is left to push.
-    assert!(rt; !lane.is_idle() && lane.is_stream_empty());
+    expect_that(&rt, !lane.is_idle() && lane.is_stream_empty());
     send(&rt, &mut lane, &Up::Ack(3));
     expect_eq(&rt, push(&rt, alloc, &mut lane, 9), 6);
     let first = Some(Up::Op(first_edit(alloc)));
     expect_eq(&rt, hand_over(&rt, alloc, &mut lane), first);
     expect_eq(&rt, hand_over(&rt, alloc, &mut lane), Some(Up::Ack(3)));
-    assert!(rt; lane.is_idle());
+    expect_that(&rt, lane.is_idle());
 }

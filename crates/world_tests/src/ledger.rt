@@ -123,13 +123,8 @@ impl Ledger {
 
     // How many entries the order had when a site joined.
     fn joined_at(&self, site: u32) -> usize {
-        let joined = self.joined.iter().zip(1..);
-        for (entries, number) in joined {
-            if number == site {
-                return *entries;
-            }
-        }
-        0
+        let at = site.saturating_sub(1) as usize;
+        self.joined.get(at).copied().unwrap_or(0)
     }
 
     // What a site was told of the order: all up to its join, and on to the last edit of another that it was handed.

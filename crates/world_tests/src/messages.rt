@@ -109,7 +109,7 @@ fn messages_pass_through_lines(rt: HostRuntime) {
     expect_eq(&rt, sends(&rt, alloc, &mut star, &mut two, 'x'), Some(1));
     goes_down(&rt, alloc, &mut star, &mut one);
     goes_down(&rt, alloc, &mut star, &mut two);
-    for board in [star.board(), one.board(), two.board()] {
+    for &board in &[star.board(), one.board(), two.board()] {
         shows(&rt, alloc, board, "window 1\ntext 1 \"xa\"\n");
     }
 }

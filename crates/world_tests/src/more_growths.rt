@@ -1,6 +1,6 @@
 //! Growths of scripts, of two ends and of one way of a link that are refused, each test for the call of its name, as in `growths`.
 use super::lanes::{first_edit, send};
-use crate::expect::expect_eq;
+use crate::expect::{expect_eq, expect_that};
 use jup_lane::Lane;
 use jup_script::{ScriptEnd, run_script};
 use jup_star::{Down, Up};
@@ -28,7 +28,7 @@ fn is_played(rt: &impl Abort, alloc: Global, script: &str, due: &str) {
     let mut ended = run_script(alloc, script.as_bytes(), &mut replies);
     end(alloc);
     if ended == Err(ScriptEnd::NoMemory) {
-        assert!(rt; due.as_bytes().starts_with(replies.as_slice()));
+        expect_that(rt, due.as_bytes().starts_with(replies.as_slice()));
         replies.clear();
         ended = run_script(alloc, script.as_bytes(), &mut replies);
     }
@@ -62,7 +62,7 @@ fn two_open(rt: HostRuntime) {
     }
     let two = two.expect(&rt, "memory");
     expect_eq(&rt, (two.client().len(), two.server().len()), (2, 2));
-    assert!(rt; two.quiet());
+    expect_that(&rt, two.quiet());
 }
 
 // How long the texts of both ends are, and whether anything is on its way.
@@ -74,7 +74,7 @@ fn shown(two: &Two) -> (u32, u32, bool) {
 #[test]
 fn two_step(rt: HostRuntime) {
     let mut two = Two::open(rt.alloc(), ['a', 'b'].as_slice()).expect(&rt, "memory");
-    for (event, due, then) in [
+    for &(event, due, then) in &[
         (
             TwoEvent::Client(TwoEdit::Insert(1, 'x')),
             TwoReply::Made,
@@ -107,10 +107,13 @@ fn lane_reserve(rt: HostRuntime) {
     let mut made = lane.reserve();
     end(rt.alloc());
     if made.is_err() {
-        assert!(rt; lane.is_idle() && lane.is_stream_empty());
+        expect_that(&rt, lane.is_idle() && lane.is_stream_empty());
         made = lane.reserve();
     }
-    assert!(rt; made.is_ok() && lane.is_idle() && lane.is_stream_empty());
+    expect_that(
+        &rt,
+        made.is_ok() && lane.is_idle() && lane.is_stream_empty(),
+    );
 }
 
 // The first message, of 37 bytes, and a ping behind it.
@@ -124,17 +127,17 @@ fn lane_of_two(rt: &impl Abort, alloc: Global) -> Lane<Up> {
 #[test]
 fn lane_push(rt: HostRuntime) {
     let mut lane = lane_of_two(&rt, rt.alloc());
-    for (most, due, is_empty) in [(36, 36, false), (3, 3, false), (50, 5, true)] {
+    for &(most, due, is_empty) in &[(36, 36, false), (3, 3, false), (50, 5, true)] {
         begin(rt.alloc());
         let mut moved = lane.push(rt.alloc(), most);
         end(rt.alloc());
         if moved.is_err() {
-            assert!(rt; !lane.is_idle() && !lane.is_stream_empty());
+            expect_that(&rt, !lane.is_idle() && !lane.is_stream_empty());
             moved = lane.push(rt.alloc(), most);
         }
         expect_eq(&rt, (moved, lane.is_stream_empty()), (Ok(due), is_empty));
     }
-    assert!(rt; !lane.is_idle());
+    expect_that(&rt, !lane.is_idle());
 }
 
 // The oldest message, which is asked for again where memory was refused.
@@ -143,7 +146,7 @@ fn first_of(rt: &impl Abort, alloc: Global, lane: &mut Lane<Up>) -> Up {
     let mut first = lane.first(alloc);
     end(alloc);
     if first.is_err() {
-        assert!(rt; !lane.is_idle());
+        expect_that(rt, !lane.is_idle());
         first = lane.first(alloc);
     }
     first.expect(rt, "memory").expect(rt, "a message")
@@ -151,7 +154,7 @@ fn first_of(rt: &impl Abort, alloc: Global, lane: &mut Lane<Up>) -> Up {
 
 #[test]
 fn lane_first(rt: HostRuntime) {
-    for pushed in [0, 5, 36, 40] {
+    for &pushed in &[0, 5, 36, 40] {
         let mut lane = lane_of_two(&rt, rt.alloc());
         lane.push(rt.alloc(), pushed).expect(&rt, "memory");
         let first = first_of(&rt, rt.alloc(), &mut lane);

@@ -3,7 +3,7 @@
 use super::boards::{LIMIT, batch, drain, is_quiet};
 use super::content::Content;
 use super::ledger::Ledger;
-use crate::expect::expect_eq;
+use crate::expect::{expect_eq, expect_that};
 use jup_value::Label;
 use jup_window::{Board, Command, Setting, Value};
 use jup_world::{Event, Reply, World};
@@ -13,6 +13,9 @@ use std::process::Abort;
 use test_boards::{Dice, board_of};
 
 const SITES: u32 = 3;
+
+// Their numbers.
+const NUMBERS: &[u32] = &[1, 2, 3];
 
 // How many events happen before all is delivered.
 const EVENTS: u32 = 200;
@@ -136,24 +139,34 @@ fn event(rt: &impl Abort, alloc: Global, dice: &mut Dice, world: &World) -> Even
     }
 }
 
-// The star and each site hold what the trace says that they should.
-fn all_hold(rt: &impl Abort, alloc: Global, world: &World, ledger: &Ledger) {
-    for number in 0..=SITES {
-        let held = Content::of(rt, alloc, board_at(world, number));
-        let wanted = ledger.content(rt, alloc, world.opening(), number);
-        assert!(rt; held.same(&wanted), "{number}");
+// The star and each attached site hold what the trace says that they should.
+pub(super) fn all_hold(
+    rt: &impl Abort,
+    alloc: Global,
+    world: &World,
+    ledger: &Ledger,
+    numbers: &[u32],
+) {
+    let opening = world.opening();
+    let star = Content::of(rt, alloc, world.star().board());
+    expect_that(rt, star.same(&ledger.content(rt, alloc, opening, 0)));
+    for number in numbers {
+        let held = Content::of(rt, alloc, board_at(world, *number));
+        let wanted = ledger.content(rt, alloc, opening, *number);
+        expect_eq(rt, (*number, held.same(&wanted)), (*number, true));
     }
 }
 
-// All sites show the star's board, and nothing is on its way.
-fn all_agree(rt: &impl Abort, world: &World) {
-    for number in 1..=SITES {
-        assert!(rt;
-            board_at(world, number).same(world.star().board()),
-            "{number}"
+// All attached sites show the star's board, and nothing is on its way.
+pub(super) fn all_agree(rt: &impl Abort, world: &World, numbers: &[u32]) {
+    expect_that(rt, is_quiet(world));
+    for number in numbers {
+        expect_eq(
+            rt,
+            (*number, board_at(world, *number).same(world.star().board())),
+            (*number, true),
         );
     }
-    assert!(rt; is_quiet(world));
 }
 
 // How many edits were refused.
@@ -176,12 +189,12 @@ fn every_board_holds_what_its_end_was_told(rt: HostRuntime) {
         let event = event(&rt, alloc, &mut dice, &world);
         world.step(alloc, &event).expect(&rt, "memory");
         ledger.read(&rt, world.trace());
-        all_hold(&rt, alloc, &world, &ledger);
+        all_hold(&rt, alloc, &world, &ledger, NUMBERS);
     }
     drain(&rt, alloc, &mut world);
     ledger.read(&rt, world.trace());
-    all_hold(&rt, alloc, &world, &ledger);
-    all_agree(&rt, &world);
+    all_hold(&rt, alloc, &world, &ledger, NUMBERS);
+    all_agree(&rt, &world, NUMBERS);
     expect_eq(&rt, ledger.made_count(), world.star().order().len());
-    assert!(rt; refusals(&world) >= 5 && ledger.made_count() >= 30);
+    expect_that(&rt, refusals(&world) >= 5 && ledger.made_count() >= 30);
 }

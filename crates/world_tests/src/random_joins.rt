@@ -1,9 +1,9 @@
 //! Joins and departures at random, among random edits and deliveries. After each event every board holds what the edits mean that its end was told of, and
 //! whenever all is delivered all attached sites show the star's board.
-use super::boards::{batch, drain, is_quiet};
-use super::content::Content;
+use super::boards::{batch, drain};
 use super::ledger::Ledger;
-use super::random_batches::{board_at, commands, open_world};
+use super::random_batches::{all_agree, all_hold, board_at, commands, open_world};
+use crate::expect::expect_that;
 use jup_world::{Event, World};
 use std::alloc::Global;
 use std::process::Abort;
@@ -49,18 +49,6 @@ fn event(rt: &impl Abort, alloc: Global, dice: &mut Dice, world: &World, numbers
     }
 }
 
-// The star and each attached site hold what the trace says that they should.
-fn all_hold(rt: &impl Abort, alloc: Global, world: &World, ledger: &Ledger, numbers: &[u32]) {
-    let opening = world.opening();
-    let star = Content::of(rt, alloc, world.star().board());
-    assert!(rt; star.same(&ledger.content(rt, alloc, opening, 0)));
-    for number in numbers {
-        let held = Content::of(rt, alloc, board_at(world, *number));
-        let wanted = ledger.content(rt, alloc, opening, *number);
-        assert!(rt; held.same(&wanted), "{number}");
-    }
-}
-
 // Plays some events, and checks after each.
 fn plays(rt: &impl Abort, alloc: Global, dice: &mut Dice, world: &mut World, ledger: &mut Ledger) {
     for _ in 0..EVENTS {
@@ -70,17 +58,6 @@ fn plays(rt: &impl Abort, alloc: Global, dice: &mut Dice, world: &mut World, led
         ledger.read(rt, world.trace());
         let numbers = attached_sites(rt, alloc, world, ledger.joins());
         all_hold(rt, alloc, world, ledger, &numbers);
-    }
-}
-
-// All attached sites show the star's board, and nothing is on its way.
-fn all_agree(rt: &impl Abort, world: &World, numbers: &[u32]) {
-    assert!(rt; is_quiet(world));
-    for number in numbers {
-        assert!(rt;
-            board_at(world, *number).same(world.star().board()),
-            "{number}"
-        );
     }
 }
 
@@ -101,6 +78,9 @@ fn sites_come_and_go(rt: HostRuntime) {
         all_agree(&rt, &world, &numbers);
     }
     let numbers = attached_sites(&rt, alloc, &world, ledger.joins());
-    assert!(rt; ledger.joins() >= 10 && numbers.len() >= 2);
-    assert!(rt; ledger.made_count() >= 40 && world.star().order().len() >= 30);
+    expect_that(&rt, ledger.joins() >= 10 && numbers.len() >= 2);
+    expect_that(
+        &rt,
+        ledger.made_count() >= 40 && world.star().order().len() >= 30,
+    );
 }

@@ -1,4 +1,4 @@
-use crate::expect::expect_eq;
+use crate::expect::{expect_eq, expect_that};
 use jup_script::{ScriptEnd, ScriptFault, run_script};
 use jup_setting::Slider;
 use jup_window::EditFault;
@@ -54,8 +54,12 @@ pub(crate) fn play(alloc: Global, script: &str) -> (Vec<u8>, Result<(), ScriptEn
 // The script is played to its end, and prints this.
 pub(crate) fn prints(rt: &impl Abort, alloc: Global, script: &str, printed: &str) {
     let (replies, end) = play(alloc, script);
-    assert_eq!(rt; end, Ok(()), "{script}");
-    assert_eq!(rt; replies.as_slice(), printed.as_bytes(), "{script}");
+    expect_eq(rt, (script, end), (script, Ok(())));
+    expect_eq(
+        rt,
+        (script, replies.as_slice()),
+        (script, printed.as_bytes()),
+    );
 }
 
 // The script ends at this bad line, for what is wrong there, and prints what was due before.
@@ -67,17 +71,21 @@ pub(crate) fn is_bad_at(
     printed: &str,
 ) {
     let (replies, played) = play(alloc, script);
-    assert_eq!(rt; played, Err(end), "{script}");
-    assert_eq!(rt; replies.as_slice(), printed.as_bytes(), "{script}");
+    expect_eq(rt, (script, played), (script, Err(end)));
+    expect_eq(
+        rt,
+        (script, replies.as_slice()),
+        (script, printed.as_bytes()),
+    );
 }
 
 #[test]
 fn both_ends_show_the_clients_setting(rt: HostRuntime) {
-    for on in [false, true] {
+    for &on in &[false, true] {
         expect_eq(&rt, pair_toggle(on, !on, on), (!on, !on));
     }
     let slider = Slider::new(0, 10, 5).expect(&rt, "5 is from 0 to 10");
-    for (client, server, shown) in [
+    for &(client, server, shown) in &[
         (7, 3, Ok((7, 7))),
         (11, 3, Err(EditFault::BadValue)),
         (7, -1, Err(EditFault::BadValue)),
@@ -89,7 +97,7 @@ fn both_ends_show_the_clients_setting(rt: HostRuntime) {
 
 #[test]
 fn a_pair_script_prints_both_ends(rt: HostRuntime) {
-    for (script, printed) in [
+    for &(script, printed) in &[
         (
             "pair toggle off\nclient on\nserver off\n",
             "c s' on\ns c' on\n",
@@ -113,7 +121,7 @@ fn a_pair_script_prints_both_ends(rt: HostRuntime) {
 
 #[test]
 fn a_bad_line_of_a_pair_is_told_by_its_number_and_what_is_wrong(rt: HostRuntime) {
-    for (script, line, fault) in [
+    for &(script, line, fault) in &[
         ("", 1, ScriptFault::Missing),
         ("\n", 1, ScriptFault::NoMode),
         ("pair", 1, ScriptFault::Unended),
@@ -164,7 +172,7 @@ fn a_bad_line_of_a_pair_is_told_by_its_number_and_what_is_wrong(rt: HostRuntime)
 
 #[test]
 fn a_bad_line_of_two_ends_is_told_by_its_number_and_what_is_wrong(rt: HostRuntime) {
-    for (script, line, fault) in [
+    for &(script, line, fault) in &[
         ("two \nstart \"\"\n", 1, ScriptFault::NoMode),
         ("two\n", 2, ScriptFault::Missing),
         ("two\nup\n", 2, ScriptFault::NoStart),
@@ -233,7 +241,7 @@ fn a_script_that_is_too_long_prints_nothing(rt: HostRuntime) {
         run_script(rt.alloc(), long, &mut replies),
         Err(ScriptEnd::LongInput),
     );
-    assert!(rt; replies.is_empty());
+    expect_that(&rt, replies.is_empty());
 }
 
 const PAIR: &[u8] = b"pair toggle off\nclient on\nserver off\n";
@@ -257,8 +265,8 @@ fn each_read_of_a_script(rt: HostRuntime) {
         let mut replies = Vec::new(rt.alloc());
         let script = FailsAfter(PAIR.get(..len).unwrap_or(PAIR));
         let end = run_script(rt.alloc(), script, &mut replies);
-        assert_eq!(rt; end, Err(ScriptEnd::ReadFailed), "{len} bytes");
-        assert!(rt; replies.is_empty(), "{len} bytes");
+        expect_eq(&rt, (len, end), (len, Err(ScriptEnd::ReadFailed)));
+        expect_eq(&rt, (len, replies.is_empty()), (len, true));
     }
 }
 
@@ -270,7 +278,11 @@ fn written_to(rt: &impl Abort, alloc: Global, left: usize) -> Result<(), ScriptE
         text: &mut text,
     };
     let end = run_script(alloc, PAIR, &mut writer);
-    assert_eq!(rt; Some(text.as_slice()), PAIR_DUE.get(..left), "{left} bytes");
+    expect_eq(
+        rt,
+        (left, Some(text.as_slice())),
+        (left, PAIR_DUE.get(..left)),
+    );
     end
 }
 
@@ -279,14 +291,14 @@ fn each_write_of_a_script(rt: HostRuntime) {
     expect_eq(&rt, PAIR_DUE.len(), 16);
     for left in 0..16 {
         let end = written_to(&rt, rt.alloc(), left);
-        assert_eq!(rt; end, Err(ScriptEnd::WriteFailed), "{left} bytes");
+        expect_eq(&rt, (left, end), (left, Err(ScriptEnd::WriteFailed)));
     }
     expect_eq(&rt, written_to(&rt, rt.alloc(), 16), Ok(()));
 }
 
 #[test]
 fn the_ends_of_scripts_have_texts_numbers_and_statuses(rt: HostRuntime) {
-    for (end, text, number, status) in [
+    for &(end, text, number, status) in &[
         (
             ScriptEnd::Bad(7, ScriptFault::NoEvent),
             "line 7: bad script",
@@ -300,13 +312,17 @@ fn the_ends_of_scripts_have_texts_numbers_and_statuses(rt: HostRuntime) {
     ] {
         let told = format!(in rt.alloc(); "{end}").expect(&rt, "memory");
         expect_eq(&rt, told.as_str(), text);
-        assert_eq!(rt; (end.number(), end.status()), (number, status), "{text}");
+        expect_eq(
+            &rt,
+            (text, (end.number(), end.status())),
+            (text, (number, status)),
+        );
     }
 }
 
 #[test]
 fn what_is_wrong_with_a_line_has_a_text(rt: HostRuntime) {
-    for (fault, text) in [
+    for &(fault, text) in &[
         (ScriptFault::NotText, "the line is not UTF-8"),
         (ScriptFault::Unended, "the line has no line feed"),
         (ScriptFault::Missing, "the script ends where a line is due"),
@@ -372,15 +388,19 @@ fn what_is_wrong_with_a_line_has_a_text(rt: HostRuntime) {
     ] {
         let told = format!(in rt.alloc(); "{fault}").expect(&rt, "memory");
         expect_eq(&rt, told.as_str(), text);
-        assert_eq!(rt; ScriptEnd::Bad(1, fault).fault(), Some(fault), "{text}");
+        expect_eq(
+            &rt,
+            (text, ScriptEnd::Bad(1, fault).fault()),
+            (text, Some(fault)),
+        );
     }
-    for end in [
+    for &end in &[
         ScriptEnd::LongInput,
         ScriptEnd::NoMemory,
         ScriptEnd::ReadFailed,
         ScriptEnd::WriteFailed,
     ] {
-        assert_eq!(rt; end.fault(), None, "{end}");
+        expect_eq(&rt, (end, end.fault()), (end, None));
     }
 }
 
@@ -396,7 +416,7 @@ fn a_two_script_prints_texts_in_their_one_spelling(rt: HostRuntime) {
 // An event of two ends has this reply.
 fn replies(rt: &impl Abort, alloc: Global, two: &mut Two, event: &TwoEvent, reply: TwoReply) {
     let replied = two.step(alloc, event).expect(rt, "memory");
-    assert_eq!(rt; replied, reply, "{event:?}");
+    expect_eq(rt, (event, replied), (event, reply));
 }
 
 // Both ends have texts of this many items.
@@ -410,7 +430,7 @@ fn one_end_edits_on_while_the_other_hears_nothing(rt: HostRuntime) {
     let alloc = rt.alloc();
     let mut two = Two::open(alloc, [].as_slice()).expect(&rt, "memory");
     let insert = TwoEvent::Client(TwoEdit::Insert(0, 'a'));
-    for (event, reply) in [(insert, TwoReply::Made), (TwoEvent::Up, TwoReply::Moved)] {
+    for &(event, reply) in &[(insert, TwoReply::Made), (TwoEvent::Up, TwoReply::Moved)] {
         for _ in 0..1_000 {
             replies(&rt, alloc, &mut two, &event, reply);
         }
@@ -430,7 +450,7 @@ fn edits_at_two_ends_are_refused_by_their_numbers(rt: HostRuntime) {
     let bad_place = TwoReply::Refused(EditFault::BadPlace);
     let insert = TwoEdit::Insert(0, 'a');
     let last_of_65536 = TwoEdit::Delete(65_535);
-    for (event, reply) in [
+    for &(event, reply) in &[
         (TwoEvent::Up, TwoReply::Nothing),
         (TwoEvent::Down, TwoReply::Nothing),
         (TwoEvent::Client(TwoEdit::Insert(65_536, 'a')), bad_place),
@@ -449,6 +469,6 @@ fn edits_at_two_ends_are_refused_by_their_numbers(rt: HostRuntime) {
     ] {
         replies(&rt, rt.alloc(), &mut two, &event, reply);
     }
-    assert!(rt; two.quiet());
+    expect_that(&rt, two.quiet());
     both_have(&rt, &two, 65_536);
 }

@@ -48,7 +48,7 @@ fn a_star_script_takes_ids_in_any_order(rt: HostRuntime) {
 
 #[test]
 fn a_bad_board_is_told_by_its_line_and_what_is_wrong(rt: HostRuntime) {
-    for (script, line, fault) in [
+    for &(script, line, fault) in &[
         ("star\n", 1, ScriptFault::NoMode),
         ("star \n", 1, ScriptFault::BadLimit),
         ("star 0\n", 1, ScriptFault::BadLimit),
@@ -88,7 +88,7 @@ fn a_bad_board_is_told_by_its_line_and_what_is_wrong(rt: HostRuntime) {
 
 #[test]
 fn a_bad_list_or_setting_of_a_board_is_told_by_its_line_and_what_is_wrong(rt: HostRuntime) {
-    for (script, line, fault) in [
+    for &(script, line, fault) in &[
         ("star 1\nwindow 1\nlist\n", 3, ScriptFault::BadId),
         ("star 1\nwindow 1\nlist 1 \n", 3, ScriptFault::BadLabels),
         ("star 1\nwindow 1\nlist 1 red\n", 3, ScriptFault::BadLabels),
@@ -167,7 +167,7 @@ fn is_bad_event(rt: &impl Abort, alloc: Global, line: &str, fault: ScriptFault) 
 
 #[test]
 fn a_bad_event_is_told_by_its_line_and_what_is_wrong(rt: HostRuntime) {
-    for (line, fault) in [
+    for &(line, fault) in &[
         ("join 1\nshow\n", ScriptFault::NoEvent),
         ("leave\nshow\n", ScriptFault::NoEvent),
         ("leave 01\nshow\n", ScriptFault::BadNumber),
@@ -204,7 +204,7 @@ fn a_bad_event_is_told_by_its_line_and_what_is_wrong(rt: HostRuntime) {
 
 #[test]
 fn a_bad_line_of_a_batch_is_told_by_its_number_and_what_is_wrong(rt: HostRuntime) {
-    for (lines, bad, fault) in [
+    for &(lines, bad, fault) in &[
         ("edit 1 batch 1\n", 7, ScriptFault::Missing),
         ("edit 1 batch 1\nup 1\n", 7, ScriptFault::NoCommand),
         ("edit 1 batch 1\ndel 1 1 0", 7, ScriptFault::Unended),
@@ -240,7 +240,7 @@ fn script_of(
 #[test]
 fn a_window_has_at_most_64_widgets_and_a_board_64_windows(rt: HostRuntime) {
     let alloc = rt.alloc();
-    for (start, word, value, bad) in [
+    for &(start, word, value, bad) in &[
         ("star 1\nwindow 1\n", "toggle", " on", 67),
         ("star 1\n", "window", "", 66),
     ] {
@@ -273,12 +273,12 @@ fn end_of_long(
 
 #[test]
 fn a_text_or_a_list_has_at_most_65536_items(rt: HostRuntime) {
-    for (start, item, end, fault) in [
+    for &(start, item, end, fault) in &[
         ("text 1 \"", "z", "\"\n", ScriptFault::LongText),
         ("list 1", " \"z\"", "\n", ScriptFault::BadLabels),
     ] {
         let over = Err(ScriptEnd::Bad(3, fault));
-        for (count, played) in [(65_536, Ok(())), (65_537, over)] {
+        for &(count, played) in &[(65_536, Ok(())), (65_537, over)] {
             expect_eq(
                 &rt,
                 end_of_long(&rt, rt.alloc(), start, item, count, end),

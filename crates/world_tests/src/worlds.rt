@@ -3,7 +3,7 @@
 use super::boards::{
     LIMIT, all_show, deletes, drain, edits, gives, is_quiet, reply_of, sets, types, world_of,
 };
-use crate::expect::expect_eq;
+use crate::expect::{expect_eq, expect_that};
 use jup_star::{Entry, OpenFault, StarFault};
 use jup_value::Name;
 use jup_window::{Board, EditFault, Effect, Setting, Widget};
@@ -42,44 +42,64 @@ pub(crate) fn took(rt: &impl Abort, alloc: Global, world: &World, all: &[(u32, &
 fn two_sites_type_at_one_place(rt: HostRuntime) {
     let alloc = rt.alloc();
     let mut world = world_of(&rt, alloc, LIMIT, "text 1 \"\"", 0);
-    for (event, reply) in [
-        (Event::Join, Reply::Joined(1)),
-        (Event::Join, Reply::Joined(2)),
-        (types(1, 0, 'a'), reply_of(&rt, alloc, put(1, 1, 'a'))),
-        (types(2, 0, 'x'), reply_of(&rt, alloc, put(2, 1, 'x'))),
-        (Event::Up(1), Reply::Taken(0)),
-        (Event::Up(2), Reply::Taken(1)),
-    ] {
-        gives(&rt, alloc, &mut world, event, reply);
-    }
-    assert!(rt; !is_quiet(&world));
+    gives(&rt, alloc, &mut world, Event::Join, Reply::Joined(1));
+    gives(&rt, alloc, &mut world, Event::Join, Reply::Joined(2));
+    let typed = reply_of(&rt, alloc, put(1, 1, 'a'));
+    gives(&rt, alloc, &mut world, types(1, 0, 'a'), typed);
+    let typed = reply_of(&rt, alloc, put(2, 1, 'x'));
+    gives(&rt, alloc, &mut world, types(2, 0, 'x'), typed);
+    gives(&rt, alloc, &mut world, Event::Up(1), Reply::Taken(0));
+    gives(&rt, alloc, &mut world, Event::Up(2), Reply::Taken(1));
+    expect_that(&rt, !is_quiet(&world));
     drain(&rt, alloc, &mut world);
-    all_show(&rt, alloc, &world, 2, "text 1 \"xa\"");
+    all_show(&rt, alloc, &world, 2, "window 1\ntext 1 \"xa\"\n");
     let order: [(u32, &[Effect]); 2] = [(1, &[put(1, 1, 'a')]), (2, &[put(2, 1, 'x')])];
     took(&rt, alloc, &world, &order);
 }
 
-// A world over this widget whose two sites did this.
-fn ran(rt: &impl Abort, alloc: Global, widget: &str, events: &[Event]) -> World {
+// The event happens, whatever its reply.
+fn plays(rt: &impl Abort, alloc: Global, world: &mut World, event: Event) {
+    world.step(alloc, &event).expect(rt, "memory");
+}
+
+// A world over this widget, of whose two sites each did this, and the star took both.
+fn met(rt: &impl Abort, alloc: Global, widget: &str, one: Event, two: Event) -> World {
     let mut world = world_of(rt, alloc, LIMIT, widget, 2);
-    expect_eq(rt, world.run(alloc, events), Ok(()));
+    plays(rt, alloc, &mut world, one);
+    plays(rt, alloc, &mut world, two);
+    plays(rt, alloc, &mut world, Event::Up(1));
+    plays(rt, alloc, &mut world, Event::Up(2));
     world
+}
+
+// The events of the trace from a place on, and their replies.
+fn went_on(rt: &impl Abort, world: &World, from: usize, events: &[(Event, Reply)]) {
+    let rest = world.trace().iter().skip(from);
+    for (happened, (event, reply)) in rest.zip(events) {
+        expect_eq(rt, (&happened.event, &happened.reply), (event, reply));
+    }
+}
+
+// How many edits of site 1 the star has not acknowledged.
+fn backlog(world: &World) -> Option<u32> {
+    world.site(1).map(|site| site.backlog())
 }
 
 // A first round moves a message down to each site, and a second finds nothing.
 #[test]
 fn a_drain_ends_after_a_round_of_nothing(rt: HostRuntime) {
     let alloc = rt.alloc();
-    let events = [
+    let mut world = met(
+        &rt,
+        alloc,
+        "text 1 \"\"",
         types(1, 0, 'a'),
         types(2, 0, 'x'),
-        Event::Up(1),
-        Event::Up(2),
-    ];
-    let mut world = ran(&rt, alloc, "text 1 \"\"", &events);
+    );
     let before = world.trace().len();
     drain(&rt, alloc, &mut world);
-    let wanted = [
+    expect_eq(&rt, (before, world.trace().len()), (6, 16));
+    let wanted = &[
         (Event::Up(1), Reply::Nothing),
         (Event::Up(2), Reply::Nothing),
         (Event::Down(1), Reply::Shown),
@@ -91,42 +111,38 @@ fn a_drain_ends_after_a_round_of_nothing(rt: HostRuntime) {
         (Event::Down(1), Reply::Nothing),
         (Event::Down(2), Reply::Nothing),
     ];
-    expect_eq(&rt, (before, world.trace().len()), (6, 16));
-    for (happened, (event, reply)) in world.trace().iter().skip(6).zip(&wanted) {
-        expect_eq(&rt, (&happened.event, &happened.reply), (event, reply));
-    }
+    went_on(&rt, &world, before, wanted);
 }
 
 #[test]
 fn the_order_has_both_deletions_of_one_item(rt: HostRuntime) {
-    let events = [deletes(1, 0), deletes(2, 0), Event::Up(1), Event::Up(2)];
     let alloc = rt.alloc();
-    let world = ran(&rt, alloc, "text 1 \"z\"", &events);
+    let world = met(&rt, alloc, "text 1 \"z\"", deletes(1, 0), deletes(2, 0));
     took(&rt, alloc, &world, &[(1, &[FIRST]), (2, &[FIRST])]);
 }
 
 // The message that shows site 1 the setting of site 2 tells it besides that the star has its own.
 #[test]
 fn a_message_down_acknowledges_what_the_star_took(rt: HostRuntime) {
-    let events = [
-        sets(1, ON),
-        Event::Up(1),
-        Event::Down(2),
-        sets(2, OFF),
-        Event::Up(2),
-        Event::Down(1),
-    ];
-    let world = ran(&rt, rt.alloc(), "toggle 1 off", &events);
-    expect_eq(&rt, world.site(1).map(|site| site.backlog()), Some(0));
+    let alloc = rt.alloc();
+    let mut world = world_of(&rt, alloc, LIMIT, "toggle 1 off", 2);
+    plays(&rt, alloc, &mut world, sets(1, ON));
+    plays(&rt, alloc, &mut world, Event::Up(1));
+    plays(&rt, alloc, &mut world, Event::Down(2));
+    plays(&rt, alloc, &mut world, sets(2, OFF));
+    plays(&rt, alloc, &mut world, Event::Up(2));
+    plays(&rt, alloc, &mut world, Event::Down(1));
+    expect_eq(&rt, backlog(&world), Some(0));
 }
 
 #[test]
 fn a_world_tells_the_board_that_it_was_opened_with(rt: HostRuntime) {
     let alloc = rt.alloc();
-    let events = [types(1, 1, 'x'), Event::Up(1)];
-    let world = ran(&rt, alloc, "text 1 \"ab\"", &events);
+    let mut world = world_of(&rt, alloc, LIMIT, "text 1 \"ab\"", 2);
+    plays(&rt, alloc, &mut world, types(1, 1, 'x'));
+    plays(&rt, alloc, &mut world, Event::Up(1));
     let opening = board_of(alloc, &["window 1", "text 1 \"ab\""]).expect(&rt, "a board");
-    assert!(rt; world.opening().same(&opening));
+    expect_that(&rt, world.opening().same(&opening));
 }
 
 // A text 1 of so many items.
@@ -168,16 +184,20 @@ fn shown_len(world: &World, number: u32) -> Option<u32> {
 fn edits_that_meet_may_pass_the_bound(rt: HostRuntime) {
     let alloc = rt.alloc();
     let long = long_text(&rt, alloc, 65_535);
-    let events = [
+    let mut world = met(
+        &rt,
+        alloc,
+        long.as_str(),
         types(1, 0, 'a'),
         types(2, 0, 'x'),
-        Event::Up(1),
-        Event::Up(2),
-    ];
-    let mut world = ran(&rt, alloc, long.as_str(), &events);
+    );
     drain(&rt, alloc, &mut world);
     for number in 0..3 {
-        assert_eq!(rt; shown_len(&world, number), Some(65_537), "{number}");
+        expect_eq(
+            &rt,
+            (number, shown_len(&world, number)),
+            (number, Some(65_537)),
+        );
     }
 }
 
@@ -195,7 +215,7 @@ fn a_site_waits_for_an_acknowledgement_after_1024_edits(rt: HostRuntime) {
     }
     gives(&rt, alloc, &mut world, Event::Down(1), Reply::Heard);
     switches_on(&rt, alloc, &mut world);
-    expect_eq(&rt, world.site(1).map(|site| site.backlog()), Some(961));
+    expect_eq(&rt, backlog(&world), Some(961));
 }
 
 // Site 1 sets widget 1 on so many times, each of which the star takes and site 2 is handed.
@@ -220,7 +240,7 @@ fn a_ping_is_answered_and_64_edits_are_acknowledged(rt: HostRuntime) {
     gives(&rt, alloc, &mut world, Event::Up(2), Reply::Heard);
     gives(&rt, alloc, &mut world, Event::Up(2), Reply::Nothing);
     gives(&rt, alloc, &mut world, Event::Down(1), Reply::Heard);
-    all_show(&rt, alloc, &world, 2, "toggle 1 on");
+    all_show(&rt, alloc, &world, 2, "window 1\ntoggle 1 on\n");
 }
 
 #[test]
@@ -236,13 +256,13 @@ fn sixty_four_sites_join_and_no_more(rt: HostRuntime) {
 #[test]
 fn a_world_is_opened_on_a_layout_with_a_limit(rt: HostRuntime) {
     let alloc = rt.alloc();
-    for limit in [0, 16_777_217] {
+    for &limit in &[0, 16_777_217] {
         let world = World::open(alloc, Board::new(alloc), limit);
         expect_eq(&rt, world.err(), Some(OpenFault::BadLimit));
     }
-    for limit in [1, 16_777_216] {
+    for &limit in &[1, 16_777_216] {
         let world = world_of(&rt, alloc, limit, "text 1 \"\"", 0);
-        assert!(rt; is_quiet(&world) && world.trace().is_empty());
+        expect_that(&rt, is_quiet(&world) && world.trace().is_empty());
     }
 }
 

@@ -1,5 +1,5 @@
 //! Lists of operations past one another, and batches on a text and on a board.
-use crate::expect::expect_eq;
+use crate::expect::{expect_eq, expect_that};
 use crate::sequences::{attempt, delete, insert, reads, text};
 use jup_batch::{all_insertions, bear_next, one_bears_site, one_is_nothing};
 use jup_seq::{SeqOp, TextOp};
@@ -36,14 +36,14 @@ fn batch(rt: &impl Abort, alloc: Global, ops: [TextOp; 2]) -> Batch<TextOp> {
 // The text "pqr", on which a batch was applied.
 fn text_after(rt: &impl Abort, alloc: Global, batch: &Batch<TextOp>) -> Seq<char> {
     let mut held = text(alloc, "pqr");
-    assert!(rt; attempt(alloc, batch, &mut held));
+    expect_that(rt, attempt(alloc, batch, &mut held));
     held
 }
 
 // A batch that is applied on a text makes it read so.
 fn ends(rt: &impl Abort, alloc: Global, mut held: Seq<char>, batch: &Batch<TextOp>, letters: &str) {
-    assert!(rt; attempt(alloc, batch, &mut held));
-    assert!(rt; reads(&held, letters));
+    expect_that(rt, attempt(alloc, batch, &mut held));
+    expect_that(rt, reads(&held, letters));
 }
 
 #[test]
@@ -61,9 +61,9 @@ fn batches_meet(rt: HostRuntime) {
 // A batch is refused by a text of one insertion, which its first operation deletes.
 fn is_refused_after(rt: &impl Abort, alloc: Global, back: &TextOp, turned: &Batch<TextOp>) {
     let mut held = text(alloc, "");
-    assert!(rt; attempt(alloc, &insert(0, 1, 'a'), &mut held));
-    assert!(rt; back.valid(&held));
-    assert!(rt; !turned.valid(&held));
+    expect_that(rt, attempt(alloc, &insert(0, 1, 'a'), &mut held));
+    expect_that(rt, back.valid(&held));
+    expect_that(rt, !turned.valid(&held));
 }
 
 #[test]
@@ -75,9 +75,9 @@ fn each_operation_is_judged_after_those_before_it(rt: HostRuntime) {
         name: gone,
     };
     let both = batch(&rt, alloc, [insert(0, 1, 'a'), back]);
-    assert!(rt; both.valid(&text(alloc, "")));
+    expect_that(&rt, both.valid(&text(alloc, "")));
     let turned = batch(&rt, alloc, [back, insert(0, 1, 'a')]);
-    assert!(rt; !turned.valid(&text(alloc, "")));
+    expect_that(&rt, !turned.valid(&text(alloc, "")));
     // What a batch deleted it does not insert again.
     is_refused_after(&rt, alloc, &back, &turned);
 }
@@ -126,9 +126,9 @@ fn a_batch_edits_several_widgets(rt: HostRuntime) {
     ];
     let ops = Batch::from_slice(alloc, &ops).expect(&rt, "memory");
     let mut board = text_and_toggle(&rt, alloc);
-    assert!(rt; attempt(alloc, &ops, &mut board));
-    assert!(rt; is_on(&board));
-    assert!(rt; board_reads(&board, "ab"));
+    expect_that(&rt, attempt(alloc, &ops, &mut board));
+    expect_that(&rt, is_on(&board));
+    expect_that(&rt, board_reads(&board, "ab"));
 }
 
 #[test]
@@ -139,7 +139,13 @@ fn what_a_batch_inserts_is_read_off_its_operations(rt: HostRuntime) {
         on_text(insert_next(1, 1, 'b')),
     ];
     expect_eq(&rt, all_insertions(&ops), 2);
-    assert!(rt; bear_next(&ops, 1, 0) && !bear_next(&ops, 1, 1) && !bear_next(&ops, 2, 0));
-    assert!(rt; one_bears_site(&ops, 1) && !one_bears_site(&ops, 2));
-    assert!(rt; !one_is_nothing(&ops) && one_is_nothing(&[ops[1], on_text(SeqOp::Nothing)]));
+    expect_that(
+        &rt,
+        bear_next(&ops, 1, 0) && !bear_next(&ops, 1, 1) && !bear_next(&ops, 2, 0),
+    );
+    expect_that(&rt, one_bears_site(&ops, 1) && !one_bears_site(&ops, 2));
+    expect_that(
+        &rt,
+        !one_is_nothing(&ops) && one_is_nothing(&[ops[1], on_text(SeqOp::Nothing)]),
+    );
 }

@@ -1,5 +1,5 @@
 //! Sequences of many items: how many blocks they stand in, which names are found, and other values.
-use crate::expect::expect_eq;
+use crate::expect::{expect_eq, expect_that};
 use jup_value::{Item, Name, NoMemory, Seq};
 use std::alloc::Global;
 
@@ -47,7 +47,7 @@ pub(crate) fn counts(seq: &Seq<u32>, from: u32, end: u32) -> bool {
 
 #[test]
 fn full_blocks_are_split(rt: HostRuntime) {
-    for (count, at_end, blocks) in [
+    for &(count, at_end, blocks) in &[
         (0, true, 0),
         (128, true, 1),
         (129, true, 2),
@@ -55,18 +55,18 @@ fn full_blocks_are_split(rt: HostRuntime) {
         (300, false, 4),
     ] {
         let seq = sequence_of(rt.alloc(), count, at_end).expect(&rt, "memory");
-        assert_eq!(rt; seq.blocks(), blocks, "{count} items");
+        expect_eq(&rt, (count, seq.blocks()), (count, blocks));
     }
 }
 
 #[test]
 fn emptied_blocks_are_taken_out(rt: HostRuntime) {
     let mut seq = sequence_of(rt.alloc(), 300, true).expect(&rt, "memory");
-    assert!(rt; counts(&seq, 0, 300));
+    expect_that(&rt, counts(&seq, 0, 300));
     drop_first(&mut seq, 64);
     expect_eq(&rt, seq.blocks(), 3);
     expect_eq(&rt, seq.len(), 236);
-    assert!(rt; counts(&seq, 64, 300));
+    expect_that(&rt, counts(&seq, 64, 300));
     drop_first(&mut seq, 236);
     expect_eq(&rt, seq.blocks(), 0);
 }
@@ -77,7 +77,7 @@ fn copy_keeps_the_blocks(rt: HostRuntime) {
     drop_first(&mut seq, 100);
     let copied = seq.copy(rt.alloc()).expect(&rt, "memory");
     expect_eq(&rt, copied.blocks(), 3);
-    assert!(rt; counts(&copied, 100, 300));
+    expect_that(&rt, counts(&copied, 100, 300));
 }
 
 // Gives the item at a place another value.
@@ -99,9 +99,9 @@ fn item(number: u32, value: u32) -> Item<u32> {
 #[test]
 fn another_value_leaves_names_places_and_blocks(rt: HostRuntime) {
     let mut seq = sequence_of(rt.alloc(), 300, true).expect(&rt, "memory");
-    for at in [0, 63, 64, 127, 128, 191, 192, 299] {
+    for &at in &[0, 63, 64, 127, 128, 191, 192, 299] {
         set_value(&mut seq, at, 1000);
-        assert_eq!(rt; seq.get(at), Some(&item(at, 1000)), "place {at}");
+        expect_eq(&rt, (at, seq.get(at)), (at, Some(&item(at, 1000))));
         expect_eq(
             &rt,
             seq.place_of(Name {
@@ -111,7 +111,7 @@ fn another_value_leaves_names_places_and_blocks(rt: HostRuntime) {
             Some(at),
         );
         set_value(&mut seq, at, at);
-        assert!(rt; counts(&seq, 0, 300), "place {at}");
+        expect_eq(&rt, (at, counts(&seq, 0, 300)), (at, true));
     }
     expect_eq(&rt, seq.blocks(), 4);
 }
@@ -119,17 +119,17 @@ fn another_value_leaves_names_places_and_blocks(rt: HostRuntime) {
 // As long as a layout may make a sequence, and longer.
 #[test]
 fn long_sequences_are_copied_whole(rt: HostRuntime) {
-    for count in [65_536, 65_537] {
+    for &count in &[65_536, 65_537] {
         let seq = sequence_of(rt.alloc(), count, true).expect(&rt, "memory");
         let copied = seq.copy(rt.alloc()).expect(&rt, "memory");
-        assert!(rt; counts(&copied, 0, count), "{count} items");
+        expect_eq(&rt, (count, counts(&copied, 0, count)), (count, true));
     }
 }
 
 // Items of two sites, the last of which has the lowest number of its site.
 fn of_two_sites(alloc: Global) -> Result<Seq<u32>, NoMemory> {
     let mut seq = Seq::new(alloc);
-    for (site, number) in [(2, 5), (1, 3), (2, 4)] {
+    for &(site, number) in &[(2, 5), (1, 3), (2, 4)] {
         put(&mut seq, Name { site, number }, true)?;
     }
     Ok(seq)
@@ -138,7 +138,7 @@ fn of_two_sites(alloc: Global) -> Result<Seq<u32>, NoMemory> {
 #[test]
 fn names_are_found_whether_or_not_a_later_one_was_held(rt: HostRuntime) {
     let mut seq = of_two_sites(rt.alloc()).expect(&rt, "memory");
-    for (site, number, place) in [
+    for &(site, number, place) in &[
         (2, 5, Some(0)),
         (1, 3, Some(1)),
         (2, 4, Some(2)),

@@ -1,5 +1,5 @@
 //! Refusals in their order, and each call once where it succeeds.
-use crate::expect::expect_eq;
+use crate::expect::{expect_eq, expect_that};
 use jup_seq::SeqOp;
 use jup_setting::{SetOp, Slider, Toggle};
 use jup_value::{Item, Label, Name, NoMemory, Seq};
@@ -16,20 +16,21 @@ pub(crate) fn toggle() -> Widget {
     Widget::Toggle(Toggle { on: false })
 }
 
+// Puts a widget into window 1.
+pub(crate) fn add(rt: &impl Abort, board: &mut Board, wid: u16, widget: Widget) {
+    board.add_widget(1, wid, widget).expect(rt, "it is new");
+}
+
 // Window 1 has an empty text 1, an empty list 2, a toggle 3 that is off, and a slider 4 from 0 to
 // 10 at 5.
 fn four_widgets(rt: &impl Abort, alloc: Global) -> Board {
     let slider = Slider::new(0, 10, 5).expect(rt, "5 is from 0 to 10");
     let mut board = Board::new(alloc);
     board.add_window(alloc, 1).expect(rt, "it is new");
-    for (wid, widget) in [
-        (1, Widget::Text(Seq::new(alloc))),
-        (2, Widget::List(Seq::new(alloc))),
-        (3, toggle()),
-        (4, Widget::Slider(slider)),
-    ] {
-        board.add_widget(1, wid, widget).expect(rt, "it is new");
-    }
+    add(rt, &mut board, 1, Widget::Text(Seq::new(alloc)));
+    add(rt, &mut board, 2, Widget::List(Seq::new(alloc)));
+    add(rt, &mut board, 3, toggle());
+    add(rt, &mut board, 4, Widget::Slider(slider));
     board
 }
 
@@ -142,25 +143,25 @@ fn widgets_are_refused_in_order(rt: HostRuntime) {
 #[test]
 fn ids_ascend(rt: HostRuntime) {
     let mut board = Board::new(rt.alloc());
-    for win in [7, 3, 65_535] {
+    for &win in &[7, 3, 65_535] {
         board.add_window(rt.alloc(), win).expect(&rt, "it is new");
         board.add_widget(win, 2, toggle()).expect(&rt, "it is new");
         board.add_widget(win, 1, toggle()).expect(&rt, "it is new");
     }
     let wins = board.windows().iter().map(|entry| entry.0);
     let wins = wins.collect::<Vec<u16>>(rt.alloc()).expect(&rt, "memory");
-    assert!(rt; wins.as_slice() == [3, 7, 65_535].as_slice());
+    expect_that(&rt, wins.as_slice() == [3, 7, 65_535].as_slice());
     for entry in board.windows() {
         let wids = entry.1.widgets().iter().map(|entry| entry.0);
         let wids = wids.collect::<Vec<u16>>(rt.alloc()).expect(&rt, "memory");
-        assert!(rt; wids.as_slice() == [1, 2].as_slice());
+        expect_that(&rt, wids.as_slice() == [1, 2].as_slice());
     }
 }
 
 #[test]
 fn commands_are_refused_in_order(rt: HostRuntime) {
     let board = four_widgets(&rt, rt.alloc());
-    for (command, number) in [
+    for &(command, number) in &[
         (set(1, 4, Setting::Slider(10)), 0),
         (set(1, 4, Setting::Slider(11)), 5),
         (set(1, 4, Setting::Slider(-1)), 5),
@@ -191,21 +192,20 @@ pub(crate) fn long_text(alloc: Global, items: u32) -> Result<Seq<char>, NoMemory
 fn refusal_of_insertion(rt: &impl Abort, alloc: Global, items: u32, place: u32) -> u32 {
     let text = long_text(alloc, items).expect(rt, "there is memory");
     let mut board = windows(rt, alloc, 1);
-    let added = board.add_widget(1, 1, Widget::Text(text));
-    added.expect(rt, "it is new");
+    add(rt, &mut board, 1, Widget::Text(text));
     refusal(&board, insert_letter(1, place))
 }
 
 #[test]
 fn insertion_into_a_long_text_is_refused(rt: HostRuntime) {
-    for (items, place, refused) in [
+    for &(items, place, refused) in &[
         (65_535, 0, 0),
         (65_536, 0, 6),
         (65_535, 65_537, 4),
         (65_536, 65_537, 4),
     ] {
         let number = refusal_of_insertion(&rt, rt.alloc(), items, place);
-        assert_eq!(rt; number, refused, "{items} items");
+        expect_eq(&rt, (items, number), (items, refused));
     }
 }
 
@@ -240,16 +240,19 @@ fn is_made(alloc: Global, board: &Board, command: &Command, what: Effect, insert
 // The command changes four widgets, by an operation of this effect.
 fn has_effect(rt: &impl Abort, alloc: Global, command: Command, what: Effect, inserts: bool) {
     let mut board = four_widgets(rt, alloc);
-    assert!(rt; is_made(alloc, &board, &command, what, inserts));
-    assert!(rt; apply(alloc, &mut board, command));
-    assert!(rt; board.has_site(1) == inserts && board.only_site(2) != inserts);
-    assert!(rt; !board.same(&four_widgets(rt, alloc)));
+    expect_that(rt, is_made(alloc, &board, &command, what, inserts));
+    expect_that(rt, apply(alloc, &mut board, command));
+    expect_that(
+        rt,
+        board.has_site(1) == inserts && board.only_site(2) != inserts,
+    );
+    expect_that(rt, !board.same(&four_widgets(rt, alloc)));
 }
 
 #[test]
 fn each_kind_of_command_is_applied(rt: HostRuntime) {
     let red = Label::read(b"red").expect(&rt, "a label");
-    for (command, what, inserts) in [
+    for &(command, what, inserts) in &[
         (insert_letter(1, 0), Effect::PutChar(NAME, 'a'), true),
         (
             insert(2, 0, Value::Label(red)),
@@ -277,9 +280,8 @@ fn one_label(rt: &impl Abort, alloc: Global) -> Board {
         list.insert(0, Item { name, value });
     }
     let mut board = windows(rt, alloc, 1);
-    for (wid, widget) in [(1, Widget::Text(Seq::new(alloc))), (2, Widget::List(list))] {
-        board.add_widget(1, wid, widget).expect(rt, "it is new");
-    }
+    add(rt, &mut board, 1, Widget::Text(Seq::new(alloc)));
+    add(rt, &mut board, 2, Widget::List(list));
     board
 }
 
@@ -296,7 +298,7 @@ pub(crate) fn relabel(win: u16, wid: u16, place: u32, label: Label) -> Command {
 fn relabels_are_refused_in_order(rt: HostRuntime) {
     let board = one_label(&rt, rt.alloc());
     let label = Label::read(b"z").expect(&rt, "a label");
-    for (win, wid, place, number) in [
+    for &(win, wid, place, number) in &[
         (9, 9, 0, 1),
         (1, 9, 0, 2),
         (1, 1, 0, 3),
@@ -317,12 +319,12 @@ fn item_is_relabelled(rt: HostRuntime) {
     let label = Label::read(b"z").expect(&rt, "a label");
     let command = relabel(1, 2, 0, label);
     let what = Effect::Relabelled(Name { site: 0, number: 1 }, label);
-    assert!(rt; is_made(rt.alloc(), &board, &command, what, false));
-    assert!(rt; apply(rt.alloc(), &mut board, command));
-    assert!(rt; !board.same(&one_label(&rt, rt.alloc())));
+    expect_that(&rt, is_made(rt.alloc(), &board, &command, what, false));
+    expect_that(&rt, apply(rt.alloc(), &mut board, command));
+    expect_that(&rt, !board.same(&one_label(&rt, rt.alloc())));
     let back = Label::read(b"red").expect(&rt, "a label");
-    assert!(rt; apply(rt.alloc(), &mut board, relabel(1, 2, 0, back)));
-    assert!(rt; board.same(&one_label(&rt, rt.alloc())));
+    expect_that(&rt, apply(rt.alloc(), &mut board, relabel(1, 2, 0, back)));
+    expect_that(&rt, board.same(&one_label(&rt, rt.alloc())));
 }
 
 // An operation on the text.
@@ -343,14 +345,17 @@ fn item_is_put_in_and_taken_out(rt: HostRuntime) {
         place: 0,
         name: NAME,
     });
-    assert!(rt; put.apart(&gone) && !put.apart(&put) && !put.fresh_after(&gone));
+    expect_that(
+        &rt,
+        put.apart(&gone) && !put.apart(&put) && !put.fresh_after(&gone),
+    );
     let mut board = four_widgets(&rt, rt.alloc());
-    assert!(rt; attempt(rt.alloc(), &put, &mut board));
-    assert!(rt; !attempt(rt.alloc(), &put, &mut board));
+    expect_that(&rt, attempt(rt.alloc(), &put, &mut board));
+    expect_that(&rt, !attempt(rt.alloc(), &put, &mut board));
     let copied = board.copy(rt.alloc());
-    assert!(rt; copied.map_or(false, |copied| copied.same(&board)));
-    assert!(rt; attempt(rt.alloc(), &gone, &mut board));
-    assert!(rt; board.same(&four_widgets(&rt, rt.alloc())));
+    expect_that(&rt, copied.map_or(false, |copied| copied.same(&board)));
+    expect_that(&rt, attempt(rt.alloc(), &gone, &mut board));
+    expect_that(&rt, board.same(&four_widgets(&rt, rt.alloc())));
 }
 
 #[test]
@@ -373,14 +378,13 @@ fn settings_are_moved_on_one_widget_alone(rt: HostRuntime) {
 fn text_takes_no_relabel(rt: HostRuntime) {
     let mut board = windows(&rt, rt.alloc(), 1);
     let text = long_text(rt.alloc(), 1).expect(&rt, "there is memory");
-    let added = board.add_widget(1, 1, Widget::Text(text));
-    added.expect(&rt, "it is new");
+    add(&rt, &mut board, 1, Widget::Text(text));
     let op = on_text(SeqOp::Relabel {
         place: 0,
         name: Name { site: 0, number: 0 },
         value: 'z',
     });
-    assert!(rt; !op.valid(&board));
+    expect_that(&rt, !op.valid(&board));
     let nothing = Edit {
         win: 1,
         wid: 1,
@@ -412,6 +416,12 @@ fn command_is_judged_by_what_is_told_of_items(rt: HostRuntime) {
         command.on_widget(list, NAME, 1, None),
         Err(EditFault::BadPlace),
     );
-    assert!(rt; matches!(board.named_widget(1, 9), Err(EditFault::NoWidget)));
-    assert!(rt; matches!(board.named_widget(9, 2), Err(EditFault::NoWindow)));
+    expect_that(
+        &rt,
+        matches!(board.named_widget(1, 9), Err(EditFault::NoWidget)),
+    );
+    expect_that(
+        &rt,
+        matches!(board.named_widget(9, 2), Err(EditFault::NoWindow)),
+    );
 }

@@ -3,7 +3,7 @@
 use crate::batches::{insert_next, on_text, text_and_toggle};
 use crate::blocks::{counts, sequence_of};
 use crate::boards::toggle;
-use crate::expect::expect_eq;
+use crate::expect::{expect_eq, expect_that};
 use crate::sequences::{attempt, insert, reads, text};
 use jup_seq::TextOp;
 use jup_value::{NoMemory, Seq};
@@ -21,16 +21,16 @@ fn makes_room(rt: &impl Abort, alloc: Global, count: u32, more: u32) {
     let mut made = seq.reserve_more(more);
     end(alloc);
     if made == Err(NoMemory) {
-        assert!(rt; counts(&seq, 0, count) && seq.blocks() == blocks);
+        expect_that(rt, counts(&seq, 0, count) && seq.blocks() == blocks);
         made = seq.reserve_more(more);
     }
     expect_eq(rt, made, Ok(()));
-    assert!(rt; counts(&seq, 0, count) && seq.blocks() == blocks);
+    expect_that(rt, counts(&seq, 0, count) && seq.blocks() == blocks);
 }
 
 #[test]
 fn seq_reserve_more(rt: HostRuntime) {
-    for count in [0, 1, 128, 300] {
+    for &count in &[0, 1, 128, 300] {
         makes_room(&rt, rt.alloc(), count, 40);
     }
 }
@@ -42,11 +42,11 @@ fn makes_room_for_one(rt: &impl Abort, alloc: Global, count: u32) {
     let mut made = seq.reserve_one();
     end(alloc);
     if made == Err(NoMemory) {
-        assert!(rt; counts(&seq, 0, count));
+        expect_that(rt, counts(&seq, 0, count));
         made = seq.reserve_one();
     }
     expect_eq(rt, made, Ok(()));
-    assert!(rt; counts(&seq, 0, count));
+    expect_that(rt, counts(&seq, 0, count));
 }
 
 // The sequence of 300 items is then as long as its blocks and tables have room for.
@@ -64,11 +64,11 @@ fn seq_copy(rt: HostRuntime) {
     let mut copied = seq.copy(rt.alloc());
     end(rt.alloc());
     if copied.is_err() {
-        assert!(rt; counts(&seq, 0, 300));
+        expect_that(&rt, counts(&seq, 0, 300));
         copied = seq.copy(rt.alloc());
     }
     let copied = copied.expect(&rt, "memory");
-    assert!(rt; counts(&copied, 0, 300));
+    expect_that(&rt, counts(&copied, 0, 300));
 }
 
 // Two insertions.
@@ -90,11 +90,11 @@ fn makes_room_for<T: Transform<State = Seq<char>>>(
     let mut made = op.reserve(alloc, 0, &mut seq);
     end(alloc);
     if made.is_err() {
-        assert!(rt; reads(&seq, ""));
+        expect_that(rt, reads(&seq, ""));
         made = op.reserve(alloc, 0, &mut seq);
     }
-    assert!(rt; made.is_ok() && reads(&seq, ""));
-    assert!(rt; attempt(alloc, op, &mut seq) && reads(&seq, letters));
+    expect_that(rt, made.is_ok() && reads(&seq, ""));
+    expect_that(rt, attempt(alloc, op, &mut seq) && reads(&seq, letters));
 }
 
 #[test]
@@ -130,7 +130,7 @@ fn batch_copy(rt: HostRuntime) {
     if copied.is_err() {
         copied = both.copy(rt.alloc());
     }
-    assert!(rt; copied.expect(&rt, "memory") == both);
+    expect_that(&rt, copied.expect(&rt, "memory") == both);
 }
 
 #[test]
@@ -144,7 +144,7 @@ fn batch_edit(rt: HostRuntime) {
     }
     let edits = edits.expect(&rt, "memory");
     for (op, edit) in two_insertions().iter().zip(edits.as_slice()) {
-        assert!(rt; op.edit(rt.alloc()) == Ok(*edit));
+        expect_that(&rt, op.edit(rt.alloc()) == Ok(*edit));
     }
     expect_eq(&rt, edits.as_slice().len(), 2);
 }
@@ -163,7 +163,7 @@ fn few_from_slice(rt: HostRuntime) {
 
 // A board of a text and a toggle, and no item.
 fn is_blank(rt: &impl Abort, alloc: Global, board: &Board) {
-    assert!(rt; board.same(&text_and_toggle(rt, alloc)));
+    expect_that(rt, board.same(&text_and_toggle(rt, alloc)));
 }
 
 #[test]
@@ -177,22 +177,28 @@ fn board_reserve(rt: HostRuntime) {
         is_blank(&rt, rt.alloc(), &board);
         made = op.reserve(rt.alloc(), 0, &mut board);
     }
-    assert!(rt; made.is_ok());
+    expect_that(&rt, made.is_ok());
     is_blank(&rt, rt.alloc(), &board);
-    assert!(rt; attempt(rt.alloc(), &op, &mut board) && board.has_site(1));
+    expect_that(
+        &rt,
+        attempt(rt.alloc(), &op, &mut board) && board.has_site(1),
+    );
 }
 
 #[test]
 fn board_copy(rt: HostRuntime) {
     let mut board = text_and_toggle(&rt, rt.alloc());
-    assert!(rt; attempt(rt.alloc(), &on_text(insert(0, 1, 'X')), &mut board));
+    expect_that(
+        &rt,
+        attempt(rt.alloc(), &on_text(insert(0, 1, 'X')), &mut board),
+    );
     begin(rt.alloc());
     let mut copied = board.copy(rt.alloc());
     end(rt.alloc());
     if copied.is_err() {
         copied = board.copy(rt.alloc());
     }
-    assert!(rt; copied.expect(&rt, "memory").same(&board));
+    expect_that(&rt, copied.expect(&rt, "memory").same(&board));
 }
 
 #[test]

@@ -1,8 +1,8 @@
 //! Commands of a batch: each becomes what it becomes on the board as it is after those before it.
 use crate::boards::{
-    delete, insert, insert_letter, long_text, named_as, relabel, set, toggle, windows,
+    add, delete, insert, insert_letter, long_text, named_as, relabel, set, toggle, windows,
 };
-use crate::expect::expect_eq;
+use crate::expect::{expect_eq, expect_that};
 use crate::sequences::{attempt, reads, text};
 use jup_batch::{MOST_COMMANDS, name_after, name_all};
 use jup_seq::{ListOp, SeqOp, TextOp};
@@ -45,13 +45,9 @@ fn switch(on: bool) -> Command {
 // Window 1 has this text 1, an empty list 2, and a toggle 3 that is off.
 fn board_of(rt: &impl Abort, alloc: Global, text: Seq<char>) -> Board {
     let mut board = windows(rt, alloc, 1);
-    for (wid, widget) in [
-        (1, Widget::Text(text)),
-        (2, Widget::List(Seq::new(alloc))),
-        (3, toggle()),
-    ] {
-        board.add_widget(1, wid, widget).expect(rt, "it is new");
-    }
+    add(rt, &mut board, 1, Widget::Text(text));
+    add(rt, &mut board, 2, Widget::List(Seq::new(alloc)));
+    add(rt, &mut board, 3, toggle());
     board
 }
 
@@ -114,9 +110,15 @@ fn text_reads(board: &Board, letters: &str) -> bool {
 // From the first text both a batch of the commands and the commands one by one lead to the other.
 fn both_lead(rt: &impl Abort, alloc: Global, start: &str, commands: &[Command], end: &str) {
     let mut batched = board_of(rt, alloc, text(alloc, start));
-    assert!(rt; apply_all(alloc, &mut batched, commands) && text_reads(&batched, end));
+    expect_that(
+        rt,
+        apply_all(alloc, &mut batched, commands) && text_reads(&batched, end),
+    );
     let mut stepped = board_of(rt, alloc, text(alloc, start));
-    assert!(rt; apply_each(alloc, &mut stepped, commands) && text_reads(&stepped, end));
+    expect_that(
+        rt,
+        apply_each(alloc, &mut stepped, commands) && text_reads(&stepped, end),
+    );
 }
 
 #[test]
@@ -184,7 +186,7 @@ fn only_insertions_take_numbers(rt: HostRuntime) {
 #[test]
 fn first_refusal_of_a_batch_is_answered(rt: HostRuntime) {
     let board = board_of(&rt, rt.alloc(), Seq::new(rt.alloc()));
-    for (first, second, number) in [
+    for &(first, second, number) in &[
         (put(0), cut(0), 0),
         (cut(0), put(0), 4),
         (put(0), cut(1), 4),

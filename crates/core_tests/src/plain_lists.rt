@@ -1,4 +1,5 @@
 //! A sequence beside a plain list with the same calls, over a long run of pseudo-random ones.
+use crate::expect::{expect_eq, expect_that};
 use jup_value::{Item, Name, NoMemory, Seq};
 
 // Numbers that look random, and are the same in each run.
@@ -120,13 +121,13 @@ fn long_run_agrees_with_a_plain_list(rt: HostRuntime) {
     for step in 0..6000u32 {
         let grows = step % 2000 < 1200;
         let agree = play(&mut dice, &mut seq, &mut plain, grows).expect(&rt, "memory");
-        assert!(rt; agree, "step {step}");
+        expect_eq(&rt, (step, agree), (step, true));
         if step % 50 == 0 {
-            assert!(rt; is_same(&seq, &plain), "step {step}");
+            expect_eq(&rt, (step, is_same(&seq, &plain)), (step, true));
         }
         if step % 500 == 0 {
             seq = seq.copy(rt.alloc()).expect(&rt, "memory");
         }
     }
-    assert!(rt; is_same(&seq, &plain));
+    expect_that(&rt, is_same(&seq, &plain));
 }

@@ -1,5 +1,5 @@
 //! Worked pairs of concurrent operations on a text, and each call once on a list of labels.
-use crate::expect::expect_eq;
+use crate::expect::{expect_eq, expect_that};
 use jup_seq::{ListOp, SeqEdit, SeqOp, Source, TextOp};
 use jup_value::{Item, Label, Name, Seq};
 use jup_xform::{Side, Transform, across};
@@ -116,40 +116,40 @@ fn meet(alloc: Global, start: &str, c: TextOp, s: TextOp, end: &str) -> bool {
 fn of_insertions_at_one_place_the_clients_stands_left(rt: HostRuntime) {
     let (c, s) = (insert(2, 1, 'X'), insert(2, 2, 'Y'));
     expect_eq(&rt, pair(c, s), (insert(2, 1, 'X'), insert(3, 2, 'Y')));
-    assert!(rt; meet(rt.alloc(), "abcd", c, s, "abXYcd"));
+    expect_that(&rt, meet(rt.alloc(), "abcd", c, s, "abXYcd"));
 }
 
 #[test]
 fn insertion_moves_down_past_a_deletion_below_it(rt: HostRuntime) {
     let (c, s) = (insert(3, 1, 'X'), delete(1, 2));
     expect_eq(&rt, pair(c, s), (insert(2, 1, 'X'), delete(1, 2)));
-    assert!(rt; meet(rt.alloc(), "abcd", c, s, "acXd"));
+    expect_that(&rt, meet(rt.alloc(), "abcd", c, s, "acXd"));
 }
 
 #[test]
 fn deletion_moves_down_past_a_deletion_below_it(rt: HostRuntime) {
     let (c, s) = (delete(3, 4), delete(1, 2));
     expect_eq(&rt, pair(c, s), (delete(2, 4), delete(1, 2)));
-    assert!(rt; meet(rt.alloc(), "abcd", c, s, "ac"));
+    expect_that(&rt, meet(rt.alloc(), "abcd", c, s, "ac"));
 }
 
 #[test]
 fn deletions_of_one_item_become_no_ops(rt: HostRuntime) {
     let both = delete(1, 2);
     expect_eq(&rt, pair(both, both), (SeqOp::Nothing, SeqOp::Nothing));
-    assert!(rt; meet(rt.alloc(), "abcd", both, both, "acd"));
+    expect_that(&rt, meet(rt.alloc(), "abcd", both, both, "acd"));
 }
 
 #[test]
 fn deletion_moves_up_past_an_insertion_at_its_place(rt: HostRuntime) {
     let (c, s) = (delete(1, 2), insert(1, 2, 'Y'));
     expect_eq(&rt, pair(c, s), (delete(2, 2), insert(1, 2, 'Y')));
-    assert!(rt; meet(rt.alloc(), "abcd", c, s, "aYcd"));
+    expect_that(&rt, meet(rt.alloc(), "abcd", c, s, "aYcd"));
 }
 
 #[test]
 fn relabel_moves_with_its_item(rt: HostRuntime) {
-    for (own, other, moved, end) in [
+    for &(own, other, moved, end) in &[
         (
             relabel(1, 2, 'z'),
             insert(1, 2, 'y'),
@@ -173,9 +173,9 @@ fn relabel_moves_with_its_item(rt: HostRuntime) {
         ),
     ] {
         expect_eq(&rt, pair(own, other), (moved, other));
-        assert!(rt; meet(rt.alloc(), "pqr", own, other, end));
+        expect_that(&rt, meet(rt.alloc(), "pqr", own, other, end));
         expect_eq(&rt, pair(other, own), (other, moved));
-        assert!(rt; meet(rt.alloc(), "pqr", other, own, end));
+        expect_that(&rt, meet(rt.alloc(), "pqr", other, own, end));
     }
 }
 
@@ -183,10 +183,10 @@ fn relabel_moves_with_its_item(rt: HostRuntime) {
 fn of_two_relabels_of_one_item_the_clients_stands(rt: HostRuntime) {
     let (c, s) = (relabel(1, 2, 'c'), relabel(1, 2, 's'));
     expect_eq(&rt, pair(c, s), (c, SeqOp::Nothing));
-    assert!(rt; meet(rt.alloc(), "pqr", c, s, "pcr"));
+    expect_that(&rt, meet(rt.alloc(), "pqr", c, s, "pcr"));
     let (c, s) = (relabel(0, 1, 'c'), relabel(2, 3, 's'));
     expect_eq(&rt, pair(c, s), (c, s));
-    assert!(rt; meet(rt.alloc(), "pqr", c, s, "cqs"));
+    expect_that(&rt, meet(rt.alloc(), "pqr", c, s, "cqs"));
 }
 
 #[test]
@@ -224,10 +224,13 @@ fn taken_out() -> ListOp {
 fn operations_on_a_list_are_copied_and_told_apart(rt: HostRuntime) {
     let red = Label::read(b"red").expect(&rt, "a label");
     let (put, gone) = (put_in(red), taken_out());
-    assert!(rt; put.edit(rt.alloc()) == Ok(SeqEdit::Put(FIRST, red)));
-    assert!(rt; gone.edit(rt.alloc()) == Ok(SeqEdit::Deleted(FIRST)));
-    assert!(rt; put.copy(rt.alloc()) == Ok(put));
-    assert!(rt; put.apart(&gone) && !put.apart(&put) && !put.fresh_after(&gone));
+    expect_that(&rt, put.edit(rt.alloc()) == Ok(SeqEdit::Put(FIRST, red)));
+    expect_that(&rt, gone.edit(rt.alloc()) == Ok(SeqEdit::Deleted(FIRST)));
+    expect_that(&rt, put.copy(rt.alloc()) == Ok(put));
+    expect_that(
+        &rt,
+        put.apart(&gone) && !put.apart(&put) && !put.fresh_after(&gone),
+    );
 }
 
 #[test]
@@ -235,11 +238,11 @@ fn label_is_put_into_a_list_and_deleted(rt: HostRuntime) {
     let put = put_in(Label::read(b"red").expect(&rt, "a label"));
     let gone = taken_out();
     let mut list = Seq::new(rt.alloc());
-    assert!(rt; !attempt(rt.alloc(), &gone, &mut list));
-    assert!(rt; attempt(rt.alloc(), &put, &mut list));
-    assert!(rt; !attempt(rt.alloc(), &put, &mut list));
-    assert!(rt; attempt(rt.alloc(), &gone, &mut list));
-    assert!(rt; list.is_empty());
+    expect_that(&rt, !attempt(rt.alloc(), &gone, &mut list));
+    expect_that(&rt, attempt(rt.alloc(), &put, &mut list));
+    expect_that(&rt, !attempt(rt.alloc(), &put, &mut list));
+    expect_that(&rt, attempt(rt.alloc(), &gone, &mut list));
+    expect_that(&rt, list.is_empty());
 }
 
 #[test]
@@ -260,17 +263,20 @@ fn label_is_given_to_the_item_of_its_name_alone(rt: HostRuntime) {
         Ok(SeqEdit::Relabelled(name, green)),
     );
     expect_eq(&rt, relabel.copy(rt.alloc()), Ok(relabel));
-    assert!(rt; relabel.apart(&put) && put.apart(&relabel) && put.fresh_after(&relabel));
+    expect_that(
+        &rt,
+        relabel.apart(&put) && put.apart(&relabel) && put.fresh_after(&relabel),
+    );
 
     let mut list = Seq::new(rt.alloc());
-    assert!(rt; !attempt(rt.alloc(), &relabel, &mut list));
-    assert!(rt; attempt(rt.alloc(), &put, &mut list));
-    assert!(rt; attempt(rt.alloc(), &relabel, &mut list));
+    expect_that(&rt, !attempt(rt.alloc(), &relabel, &mut list));
+    expect_that(&rt, attempt(rt.alloc(), &put, &mut list));
+    expect_that(&rt, attempt(rt.alloc(), &relabel, &mut list));
     expect_eq(&rt, list.get(0), Some(&Item { name, value: green }));
     let other: ListOp = SeqOp::Relabel {
         place: 0,
         name: Name { site: 1, number: 2 },
         value: red,
     };
-    assert!(rt; !attempt(rt.alloc(), &other, &mut list));
+    expect_that(&rt, !attempt(rt.alloc(), &other, &mut list));
 }

@@ -1,5 +1,5 @@
 //! Which values a slider takes, two settings at once, a setting past a queue, and each call once.
-use crate::expect::expect_eq;
+use crate::expect::{expect_eq, expect_that};
 use jup_setting::{BadBounds, SetOp, SettingEdit, Slider, Toggle};
 use jup_xform::{Side, Transform, across, meet};
 
@@ -26,11 +26,11 @@ fn a_slider_holds_the_values_within_its_bounds(rt: HostRuntime) {
 
 #[test]
 fn there_is_no_slider_with_other_values(rt: HostRuntime) {
-    for (lo, hi, value) in [(5, 4, 5), (0, 10, 11), (0, 10, -1)] {
-        assert_eq!(rt;
-            parts(lo, hi, value),
-            Err(BadBounds),
-            "{value} from {lo} to {hi}"
+    for &(lo, hi, value) in &[(5, 4, 5), (0, 10, 11), (0, 10, -1)] {
+        expect_eq(
+            &rt,
+            (value, lo, hi, parts(lo, hi, value)),
+            (value, lo, hi, Err(BadBounds)),
         );
     }
 }
@@ -38,10 +38,14 @@ fn there_is_no_slider_with_other_values(rt: HostRuntime) {
 #[test]
 fn a_setting_is_valid_within_the_bounds(rt: HostRuntime) {
     let slider = Slider::new(0, 10, 5).expect(&rt, "5 is from 0 to 10");
-    for (value, valid) in [(10, true), (11, false), (-1, false)] {
-        assert_eq!(rt; SetOp::Set(value).valid(&slider), valid, "{value}");
+    for &(value, valid) in &[(10, true), (11, false), (-1, false)] {
+        expect_eq(
+            &rt,
+            (value, SetOp::Set(value).valid(&slider)),
+            (value, valid),
+        );
     }
-    assert!(rt; SetOp::<i32>::Nothing.valid(&slider));
+    expect_that(&rt, SetOp::<i32>::Nothing.valid(&slider));
 }
 
 #[test]
@@ -49,7 +53,7 @@ fn the_later_of_two_settings_stands_at_both_ends(rt: HostRuntime) {
     let mut client = Toggle { on: false };
     let mut server = Toggle { on: false };
     meet(&mut client, &mut server, ON, OFF);
-    assert!(rt; client.on && server.on);
+    expect_that(&rt, client.on && server.on);
 }
 
 #[test]
@@ -72,7 +76,7 @@ fn both_past(
 
 #[test]
 fn a_setting_passes_a_queue(rt: HostRuntime) {
-    for (queue, side, op, after) in [
+    for &(queue, side, op, after) in &[
         ([OFF, NOTHING, OFF], Side::Server, ON, [NOTHING; 3]),
         (
             [NOTHING, NOTHING, OFF],
@@ -82,20 +86,20 @@ fn a_setting_passes_a_queue(rt: HostRuntime) {
         ),
     ] {
         let (moved, past) = both_past(ON, queue, side);
-        assert!(rt; moved == op && past == after);
+        expect_that(&rt, moved == op && past == after);
     }
 }
 
 #[test]
 fn copies_and_edits_take_no_memory(rt: HostRuntime) {
-    assert!(rt; ON.copy(rt.alloc()) == Ok(ON));
-    assert!(rt; ON.edit(rt.alloc()) == Ok(SettingEdit::Set(true)));
+    expect_that(&rt, ON.copy(rt.alloc()) == Ok(ON));
+    expect_that(&rt, ON.edit(rt.alloc()) == Ok(SettingEdit::Set(true)));
     let nothing = SetOp::<i32>::Nothing.edit(rt.alloc());
-    assert!(rt; nothing == Ok(SettingEdit::Nothing));
+    expect_that(&rt, nothing == Ok(SettingEdit::Nothing));
     let mut into = OFF;
     ON.write_to(&mut into);
-    assert!(rt; into == ON);
+    expect_that(&rt, into == ON);
     let mut toggle = Toggle { on: false };
-    assert!(rt; ON.reserve(rt.alloc(), 7, &mut toggle).is_ok());
-    assert!(rt; ON.apart(&OFF) && ON.fresh_after(&OFF));
+    expect_that(&rt, ON.reserve(rt.alloc(), 7, &mut toggle).is_ok());
+    expect_that(&rt, ON.apart(&OFF) && ON.fresh_after(&OFF));
 }

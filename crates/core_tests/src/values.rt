@@ -1,5 +1,5 @@
 //! Which labels there are, when sequences are the same, and that the calls of a sequence succeed where memory is left.
-use crate::expect::expect_eq;
+use crate::expect::{expect_eq, expect_that};
 use jup_value::{BadLabel, Item, Label, Name, NoMemory, Seq};
 use std::alloc::Global;
 use std::process::Abort;
@@ -9,20 +9,28 @@ fn label_has_1_to_48_bytes(rt: HostRuntime) {
     let longest = [b'x'; 48];
     let label = Label::read(&longest).expect(&rt, "a label");
     expect_eq(&rt, label.bytes(), longest.as_slice());
-    for text in [b"".as_slice(), [b'x'; 49].as_slice()] {
-        assert_eq!(rt; Label::read(text), Err(BadLabel), "{} bytes", text.len());
+    for &text in &[b"".as_slice(), [b'x'; 49].as_slice()] {
+        expect_eq(
+            &rt,
+            (text.len(), Label::read(text)),
+            (text.len(), Err(BadLabel)),
+        );
     }
     expect_eq(&rt, BadLabel.number(), 14);
 }
 
 #[test]
 fn label_has_bytes_from_space_to_tilde(rt: HostRuntime) {
-    for text in [b" ".as_slice(), b"~".as_slice(), b"red ink".as_slice()] {
+    for &text in &[b" ".as_slice(), b"~".as_slice(), b"red ink".as_slice()] {
         let label = Label::read(text).expect(&rt, "a label");
         expect_eq(&rt, label.bytes(), text);
     }
-    for byte in [0u8, 0x1f, 0x7f, 0xff] {
-        assert!(rt; Label::read(&[b'x', byte]).is_err(), "byte {byte}");
+    for &byte in &[0u8, 0x1f, 0x7f, 0xff] {
+        expect_eq(
+            &rt,
+            (byte, Label::read(&[b'x', byte]).is_err()),
+            (byte, true),
+        );
     }
 }
 
@@ -39,14 +47,14 @@ const SECOND: Item<char> = Item {
 #[test]
 fn sequence_is_filled_and_emptied(rt: HostRuntime) {
     let mut seq = Seq::new(rt.alloc());
-    assert!(rt; seq.is_empty());
+    expect_that(&rt, seq.is_empty());
     seq.reserve_one().expect(&rt, "memory");
     seq.insert(0, FIRST);
     expect_eq(&rt, seq.len(), 1);
     expect_eq(&rt, seq.place_of(FIRST.name), Some(0));
     expect_eq(&rt, seq.place_of(Name { site: 2, number: 1 }), None);
     expect_eq(&rt, seq.remove(0), FIRST);
-    assert!(rt; seq.is_empty());
+    expect_that(&rt, seq.is_empty());
     expect_eq(&rt, NoMemory.number(), 8);
 }
 

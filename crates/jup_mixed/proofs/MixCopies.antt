@@ -19,7 +19,7 @@ use Rattle.jup_world.specs.WorldSteps.{with_edit, one_taken, one_handed, down_re
 use Rattle.jup_world.specs.Sound.{named_by, IsKnown, own_counts, told_of, IsSoundStar}
 use Rattle.jup_world.proofs.StarTakes.{link_here, link_there}
 use Rattle.jup_world.proofs.StarKeepsLinks.{at_here, at_there}
-use Rattle.jup_world.proofs.Sound.SoundRuns.{either, result_cases}
+use Rattle.jup_world.proofs.EventSteps.{either, result_cases}
 use Rattle.jup_world.proofs.Orders.StarRuns.{Follows, follows-same, follows-chain}
 use Rattle.jup_world.proofs.Copies.PastStars.{IsBeingTold, IsTold, told_on, telling_now, telling_order, all_handed, telling_more, telling_makes, brings, telling_handed, turns_same}
 use Rattle.jup_mixed.specs.declared.events.MixEvent.TheVariants.{Edit as HomeEdit, Up as HomeUp, Down as HomeDown, JoinStray, Stray, LeaveStray}
@@ -112,11 +112,11 @@ module _ (O : Operations) (L : AreLawful O) (symmetric : (x y : O.State) → O.t
     hands : (gone : ℕ) (d : Down O.Op) (ds : List (Down O.Op)) → b.down ++ l.outbox ≡ d ∷ (ds ++ drop gone l.outbox) → (o : Option SiteFault) → Leaves HomeDown (home_down O m b gone d ds o)
     hands gone d ds comes (Some fault) = unchanged
     hands gone d ds comes None = subst (λ n. After n (link_of 1 (fetched 1 gone m.star).links) (Some (one_handed O d ds b))) (counts d)
-        (after_these (brings O L symmetric most (O.t.content m.opening) z was.sound 1 0 (mix_shown m.trace) l b h d) _ _ (link_fetched gone l) (one_handed O d ds b)
+        (after_these (brings d) _ _ (link_fetched gone l) (one_handed O d ds b)
         (at_here O L most (O.t.content m.opening) m.star s.star 1 (link_fetched gone) (λ k. refl) ∙ ap (option_map (link_fetched gone)) fl) refl
         (elim (telling_handed O L symmetric most (O.t.content m.opening) z was.sound 1 0 (mix_shown m.trace) l b h gone d ds comes) [ inl none ↦ inl (handed_then none) | inr more ↦ inr more ]))
       where
-        counts : (d : Down O.Op) → brings O L symmetric most (O.t.content m.opening) z was.sound 1 0 (mix_shown m.trace) l b h d ≡ home_shown {Command = O.Command} {Operation = O.Op} {Edit = O.Edit} {Fault = ℕ} HomeDown (down_reply O d)
+        counts : (d : Down O.Op) → brings d ≡ home_shown {Command = O.Command} {Operation = O.Op} {Edit = O.Edit} {Fault = ℕ} HomeDown (down_reply O d)
         counts (DownOp x) = refl
         counts (DownAck n) = refl
         counts (DownPong n) = refl

@@ -17,7 +17,7 @@ use Rattle.jup_world.specs.Turns.{Turn, turns, edits, own_edits, through_others}
 use Rattle.jup_world.specs.WorldStates.{AttachedOf}
 use Rattle.jup_world.specs.Sound.{edits_sent, told_of, Standing, StandsAt}
 use Rattle.jup_world.proofs.Pairs.Rows.{own_edits-append}
-use Rattle.jup_world.proofs.Sound.SoundRuns.{either}
+use Rattle.jup_world.proofs.EventSteps.{either}
 use Rattle.jup_mixed.specs.declared.events.MixEvent.TheVariants.{Stray}
 use Rattle.jup_mixed.specs.MixStates.{MixOf}
 use Rattle.jup_mixed.specs.MixSteps.{MixOutcome, still, home_up, first_home_up, at_home, stray_sends, at_link_of, mix_outcome}

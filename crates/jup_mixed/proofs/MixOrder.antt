@@ -23,7 +23,7 @@ use Rattle.jup_world.proofs.Pairs.PairMakes.{made_keeps_order, made_none_back}
 use Rattle.jup_world.proofs.Pairs.PairShown.{shown_keeps_order, shown_none_back}
 use Rattle.jup_world.proofs.Orders.SiteRuns.{told_more}
 use Rattle.jup_world.proofs.Orders.StarRuns.{Follows, follows-same, follows-chain}
-use Rattle.jup_world.proofs.Sound.SoundRuns.{either, result_cases}
+use Rattle.jup_world.proofs.EventSteps.{either, result_cases}
 use Rattle.jup_mixed.specs.declared.events.MixEvent.TheVariants.{Edit as HomeEdit, Up as HomeUp, Down as HomeDown, JoinStray, Stray, LeaveStray}
 use Rattle.jup_mixed.specs.MixStates.{MixOf, MixEventOf}
 use Rattle.jup_mixed.specs.MixSteps.{MixOutcome, still, home_edit, home_up, first_home_up, home_down, first_home_down, at_home, stray_joins, stray_sends, stray_leaves, at_link_of, at_stray, mix_outcome, mix_happens, mix_run}

@@ -15,7 +15,7 @@ use Rattle.jup_world.specs.WorldStates.{AttachedOf}
 use Rattle.jup_world.specs.WorldSteps.{with_edit, one_taken, one_handed}
 use Rattle.jup_world.proofs.StarTakes.{keeps_order, still_known, none_back, link_here, link_there}
 use Rattle.jup_world.proofs.StarKeepsLinks.{at_here, at_there}
-use Rattle.jup_world.proofs.Sound.SoundRuns.{either, result_cases}
+use Rattle.jup_world.proofs.EventSteps.{either, result_cases}
 use Rattle.jup_world.proofs.Copies.PastBoards.{GoesOn, IsBeingTaken, IsTaken, IsPastBoard, taken_on, taking_order, taking_same, taking_other, taking_own, taking_ack, taking_ping}
 use Rattle.jup_mixed.specs.declared.events.MixEvent.TheVariants.{Edit as HomeEdit, Up as HomeUp, Down as HomeDown, JoinStray, Stray, LeaveStray}
 use Rattle.jup_mixed.specs.MixStates.{MixOf, MixEventOf}

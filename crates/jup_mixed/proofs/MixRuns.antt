@@ -19,7 +19,7 @@ use Rattle.jup_world.specs.WorldSteps.{with_edit, one_taken, one_handed}
 use Rattle.jup_world.specs.Sound.{SoundLinkAt, IsSoundStar, Standing, StandsAt}
 use Rattle.jup_world.proofs.Sound.TraceLaws.{length-turns}
 use Rattle.jup_world.proofs.Pairs.Stands.{stand-makes}
-use Rattle.jup_world.proofs.Sound.SoundRuns.{either, result_cases}
+use Rattle.jup_world.proofs.EventSteps.{either, result_cases}
 use Rattle.jup_mixed.specs.MixEvents.{MixHappened}
 use Rattle.jup_mixed.specs.declared.events.MixEvent.TheVariants.{Edit as HomeEdit, Up as HomeUp, Down as HomeDown, JoinStray, Stray, LeaveStray}
 use Rattle.jup_mixed.specs.MixStates.{MixOf, MixEventOf, MixHappenedOf}

@@ -32,7 +32,7 @@ abbrev answers : BoardReply → BoardStar → List BoardAttached → Outcome boa
 answers reply star sites = record { reply = reply; star = star; sites = sites }
 
 -- a world of this star and these sites
-abbrev world_of : Windows → BoardStar → List BoardAttached → List (Happened Commands BoardEdits ℕ) → BoardWorld
+abbrev world_of : Windows → BoardStar → List BoardAttached → List (Happened Commands BoardBatch BoardEdits ℕ) → BoardWorld
 world_of opening star sites trace = record { opening = opening; star = star; sites = sites; trace = trace }
 
 all_same : (r : BoardReply) (s t : BoardStar) (xs ys : List BoardAttached) → t ≡ s → ys ≡ xs → answers r s xs ≡ answers r t ys

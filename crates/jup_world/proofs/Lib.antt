@@ -3,6 +3,7 @@ pub mod CallFacts
 pub mod Copies
 pub mod Drains
 pub mod EventPlays
+pub mod EventSteps
 pub mod Faults
 pub mod HappeningSteps
 pub mod Known

@@ -1,5 +1,5 @@
 -- What holds of every world of the program: as it is opened, after each event, and after want of memory.
-use Rattle.std.proofs.Common.{◌≡◌, refl, sym, ◌∙◌, ap, subst, inl, inr, ℕ, ◌≤◌, Bool, true, false, ◌&&◌, List, [], ◌∷◌, ◌++◌, drop, length, nat_le, Option, Some, None, Result, Ok, Err, arith, leb-false, append-nil, drop_of_length-le, le_refl}
+use Rattle.std.proofs.Common.{◌≡◌, refl, sym, ◌∙◌, ap, subst, inl, inr, ℕ, ◌≤◌, Bool, true, false, ◌&&◌, List, [], ◌∷◌, ◌++◌, drop, length, nat_le, Some, None, arith, leb-false, append-nil, drop_of_length-le, le_refl}
 use Rattle.std.proofs.lemmas.Bool.{leb-true}
 use Rattle.jup_limits.specs.Limits.{highest_limit}
 use Rattle.jup_batch.specs.BatchBoards as board
@@ -8,30 +8,25 @@ use Rattle.jup_window.specs.Entries.{EachWidget}
 use Rattle.jup_batch.specs.BoardBatches.{board_batches}
 use Rattle.jup_batch.specs.BoardBatches.{batch_laws}
 use Rattle.jup_batch.specs.BatchBoards.{BoardBatch}
-use Rattle.jup_star.specs.declared.messages.Up.{Up}
 use Rattle.jup_star.specs.declared.messages.Up.TheVariants.{Op as UpOp, Ack as UpAck, Ping as UpPing}
 use Rattle.jup_star.specs.declared.messages.Down.{Down}
-use Rattle.jup_star.specs.declared.messages.Down.TheVariants.{Op as DownOp, Ack as DownAck, Pong as DownPong}
-use Rattle.jup_star.specs.declared.faults.StarFault.{StarFault}
-use Rattle.jup_star.specs.declared.faults.SiteFault.{SiteFault}
 use Rattle.jup_star.specs.declared.faults.OpenFault.TheVariants.{BadLimit, BadSite}
 use Rattle.jup_star.specs.FirstFaults.{test, first_fault}
 use Rattle.jup_star.specs.LinkStates.{operation_at}
-use Rattle.jup_star.specs.StarStates.{link_of, join_fault, up_fault, most_batches}
-use Rattle.jup_star.specs.SiteStates.{edit_answer, deliver_fault}
+use Rattle.jup_star.specs.StarStates.{link_of, most_batches}
 use Rattle.jup_star.specs.StarCalls.{BoardStar, star_open_fault}
 use Rattle.jup_star.specs.Openings.{IsShort}
 use Rattle.jup_star.specs.Streams.{downs}
 use Rattle.jup_star.proofs.TakenEdits.{link_site, taken_site}
 use Rattle.jup_star.proofs.ShortBoards.{short_bare, distinct_bare}
-use Rattle.jup_world.specs.Events.{Join, Leave, Edit as MakeEdit, Up as MoveUp, Down as MoveDown, Ping as SendPing}
 use Rattle.jup_world.specs.WorldStates.{attached, opened_world}
-use Rattle.jup_world.specs.WorldSteps.{Outcome, join_outcome, edit_outcome, up_outcome, first_up, down_outcome, first_down, with_edit, one_taken, one_handed, pinged, at_attached, at_linked, at_number, outcome, happens, with_fetched, only_fetched}
+use Rattle.jup_world.specs.WorldSteps.{Outcome, with_edit, one_taken, one_handed, pinged, outcome, happens, with_fetched, only_fetched}
 use Rattle.jup_world.specs.Openings.{IsOpening}
 use Rattle.jup_world.specs.BoardWorlds.{BoardWorld, BoardLink, BoardAttached, BoardEvent}
 use Rattle.jup_world.specs.SiteNumbers.{AreAscending}
 use Rattle.jup_world.specs.Sound.{IsSound}
 use Rattle.jup_world.specs.Happenings.{AreNumbered, AreReady, OldestFits, IsWorld, IsSpared}
+use Rattle.jup_world.proofs.EventSteps.{StepOf, Still, Enters, Goes, Makes, Asks, Takes, Hands, handed_number, step_of}
 use Rattle.jup_world.proofs.Sound.SoundRuns.{sound-promises}
 use Rattle.jup_world.proofs.Sound.Withheld.{fall_fits}
 use Rattle.jup_world.proofs.SitePlaces.{ascending_without, ascending_at, ascending_end}
@@ -53,19 +48,6 @@ sites_numbered s t xs ys is given limit same up = record {
   named = λ i above. ap (has_site i) same ∙ is.named i (omega arith);
 }
 
-join_numbered : (w : BoardWorld) → AreNumbered w.star w.sites → (f : Option StarFault) → KeepsNumbers (join_outcome board_batches w f)
-join_numbered w is (Some fault) = is
-join_numbered w is None = record {
-  ascending = ascending_end 0 w.star.given _ w.sites refl is.ascending;
-  positive = is.positive;
-  limited = is.limited;
-  named = λ i above. is.named i (omega arith);
-}
-
-edit_numbered : (w : BoardWorld) → AreNumbered w.star w.sites → (i : ℕ) (r : Result BoardBatch ℕ) → KeepsNumbers (edit_outcome board_batches w i r)
-edit_numbered w is i (Err n) = is
-edit_numbered w is i (Ok op) = sites_numbered w.star w.star w.sites _ is refl refl refl (ascending_at (with_edit board_batches op) i 0 w.star.given (λ a. refl) w.sites is.ascending)
-
 -- a link that is there has a number that was given
 pub link_given : (w : BoardWorld) → IsSound board_batches most_batches w → (i : ℕ) (l : BoardLink) → link_of i w.star.links ≡ Some l → i ≤ w.star.given
 link_given w s i l found = cases (nat_le i w.star.given) refl
@@ -74,58 +56,32 @@ link_given w s i l found = cases (nat_le i w.star.given) refl
     cases true e = leb-true i w.star.given e
     cases false e = absurd (let none = s.star.no_link i (leb-false i w.star.given e) in cc)
 
-up_numbered : (w : BoardWorld) → IsSound board_batches most_batches w → AreNumbered w.star w.sites → (i : ℕ) (l : BoardLink) → link_of i w.star.links ≡ Some l → l.site ≡ i → (up : Up BoardBatch) (f : Option StarFault) → up_fault board_batches w.star l up ≡ f
-    → KeepsNumbers (up_outcome board_batches w i l up f)
-up_numbered w s is i l found number up (Some fault) e = sites_numbered w.star _ w.sites _ is refl refl refl (ascending_without i 0 w.star.given w.sites is.ascending)
-up_numbered w s is i l found number (UpOp m) None e = record {
-  ascending = ascending_at (one_taken board_batches) i 0 w.star.given (λ a. refl) w.sites is.ascending;
+-- an event, by what it comes to
+step_numbered : (w : BoardWorld) → IsSound board_batches most_batches w → AreNumbered w.star w.sites → (e : BoardEvent) (o : Outcome board_batches) → StepOf board_batches w e o → KeepsNumbers o
+step_numbered w s is e o (Still why) = is
+step_numbered w s is e o (Enters none) = record {
+  ascending = ascending_end 0 w.star.given _ w.sites refl is.ascending;
+  positive = is.positive;
+  limited = is.limited;
+  named = λ i above. is.named i (omega arith);
+}
+step_numbered w s is e o (Goes i l oa fl fa why) = sites_numbered w.star _ w.sites _ is refl refl refl (ascending_without i 0 w.star.given w.sites is.ascending)
+step_numbered w s is e o (Makes i command l a op fl fa ok) = sites_numbered w.star w.star w.sites _ is refl refl refl (ascending_at (with_edit board_batches op) i 0 w.star.given (λ b. refl) w.sites is.ascending)
+step_numbered w s is e o (Asks i k l a fl fa) = sites_numbered w.star _ w.sites _ is refl refl refl (ascending_at (pinged board_batches k) i 0 w.star.given (λ b. refl) w.sites is.ascending)
+step_numbered w s is e o (Takes i l oa (UpOp m) fl fa brought none) = record {
+  ascending = ascending_at (one_taken board_batches) i 0 w.star.given (λ b. refl) w.sites is.ascending;
   positive = is.positive;
   limited = is.limited;
   named = λ j above. batch_none j (operation_at board_batches l.end m) w.star.board
-      (λ n put same. let site = taken_site board_batches batch_laws w.star l m n e put in let given = link_given w s i l found in absurd (omega arith)) (is.named j above);
+      (λ n put same. let site = taken_site board_batches batch_laws w.star l m n none put in let number = link_site i l w.star.links fl in let given = link_given w s i l fl in absurd (omega arith)) (is.named j above);
 }
-up_numbered w s is i l found number (UpAck k) None e = sites_numbered w.star _ w.sites _ is refl refl refl (ascending_at (one_taken board_batches) i 0 w.star.given (λ a. refl) w.sites is.ascending)
-up_numbered w s is i l found number (UpPing k) None e = sites_numbered w.star _ w.sites _ is refl refl refl (ascending_at (one_taken board_batches) i 0 w.star.given (λ a. refl) w.sites is.ascending)
-
-first_up_numbered : (w : BoardWorld) → IsSound board_batches most_batches w → AreNumbered w.star w.sites → (i : ℕ) (l : BoardLink) → link_of i w.star.links ≡ Some l → l.site ≡ i → (us : List (Up BoardBatch)) → KeepsNumbers (first_up board_batches w i l us)
-first_up_numbered w s is i l found number [] = is
-first_up_numbered w s is i l found number (up ∷ us) = up_numbered w s is i l found number up (up_fault board_batches w.star l up) refl
-
-handed_numbered : (w : BoardWorld) → AreNumbered w.star w.sites → (i gone : ℕ) (d : Down BoardBatch) (ds : List (Down BoardBatch)) (f : Option SiteFault) → KeepsNumbers (down_outcome board_batches w i gone d ds f)
-handed_numbered w is i gone d ds (Some fault) = is
-handed_numbered w is i gone d ds None = sites_numbered w.star _ w.sites _ is refl refl refl (ascending_at (one_handed board_batches d ds) i 0 w.star.given (received_number d) w.sites is.ascending)
-  where
-    received_number : (d : Down BoardBatch) (a : BoardAttached) → (one_handed board_batches d ds a).site.number ≡ a.site.number
-    received_number (DownOp m) a = refl
-    received_number (DownAck n) a = refl
-    received_number (DownPong k) a = refl
-
-down_numbered : (w : BoardWorld) → AreNumbered w.star w.sites → (i : ℕ) (a : BoardAttached) (ds os : List (Down BoardBatch)) → KeepsNumbers (first_down board_batches w i a ds os)
-down_numbered w is i a (d ∷ ds) os = handed_numbered w is i 0 d ds (deliver_fault board_batches d a.site)
-down_numbered w is i a [] (d ∷ os) = handed_numbered w is i 1 d [] (deliver_fault board_batches d a.site)
-down_numbered w is i a [] [] = is
-
--- an event at a site
-at_numbered : (w : BoardWorld) → AreNumbered w.star w.sites → (i : ℕ) (f : BoardLink → BoardAttached → Outcome board_batches)
-    → ((l : BoardLink) (a : BoardAttached) → link_of i w.star.links ≡ Some l → KeepsNumbers (f l a)) → KeepsNumbers (at_number board_batches w i f)
-at_numbered w is i f h = linked (link_of i w.star.links) refl
-  where
-    there : (l : BoardLink) → link_of i w.star.links ≡ Some l → (o : Option BoardAttached) → KeepsNumbers (at_attached board_batches w l f o)
-    there l found None = is
-    there l found (Some a) = h l a found
-
-    linked : (o : Option BoardLink) → link_of i w.star.links ≡ o → KeepsNumbers (at_linked board_batches w i f o)
-    linked None found = is
-    linked (Some l) found = there l found (attached i w.sites)
+step_numbered w s is e o (Takes i l oa (UpAck k) fl fa brought none) = sites_numbered w.star _ w.sites _ is refl refl refl (ascending_at (one_taken board_batches) i 0 w.star.given (λ b. refl) w.sites is.ascending)
+step_numbered w s is e o (Takes i l oa (UpPing k) fl fa brought none) = sites_numbered w.star _ w.sites _ is refl refl refl (ascending_at (one_taken board_batches) i 0 w.star.given (λ b. refl) w.sites is.ascending)
+step_numbered w s is e o (Hands i gone l a d ds fl fa falls none) = sites_numbered w.star _ w.sites _ is refl refl refl (ascending_at (one_handed board_batches d ds) i 0 w.star.given (handed_number board_batches d ds) w.sites is.ascending)
 
 -- each event
 pub numbered_outcome : (w : BoardWorld) (e : BoardEvent) → IsSound board_batches most_batches w → AreNumbered w.star w.sites → KeepsNumbers (outcome board_batches w e)
-numbered_outcome w Join s is = join_numbered w is (join_fault w.star)
-numbered_outcome w (Leave i) s is = at_numbered w is i _ (λ l a found. sites_numbered w.star _ w.sites _ is refl refl refl (ascending_without i 0 w.star.given w.sites is.ascending))
-numbered_outcome w (MakeEdit i command) s is = at_numbered w is i _ (λ l a found. edit_numbered w is i (edit_answer board_batches command a.site))
-numbered_outcome w (MoveUp i) s is = at_numbered w is i _ (λ l a found. first_up_numbered w s is i l found (link_site i l w.star.links found) a.up)
-numbered_outcome w (MoveDown i) s is = at_numbered w is i _ (λ l a found. down_numbered w is i a a.down l.outbox)
-numbered_outcome w (SendPing i k) s is = at_numbered w is i _ (λ l a found. sites_numbered w.star _ w.sites _ is refl refl refl (ascending_at (pinged board_batches k) i 0 w.star.given (λ a. refl) w.sites is.ascending))
+numbered_outcome w e s is = step_numbered w s is e (outcome board_batches w e) (step_of board_batches w e)
 
 -- # Worlds
 

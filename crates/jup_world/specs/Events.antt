@@ -3,13 +3,13 @@ use Rattle.std.specs.Prelude.{ℕ}
 use Rattle.jup_star.specs.declared.faults.StarFault.{StarFault}
 
 -- a site joins, leaves, edits; the star takes the oldest message from it; it is handed the oldest to it; it sends a ping
-pub data Event (Command : Type 0) : Type 0 where
-  Join : Event Command
-  Leave : ℕ → Event Command
-  Edit : ℕ → Command → Event Command
-  Up : ℕ → Event Command
-  Down : ℕ → Event Command
-  Ping : ℕ → ℕ → Event Command
+pub data Event (Command Operation : Type 0) : Type 0 where
+  Join : Event Command Operation
+  Leave : ℕ → Event Command Operation
+  Edit : ℕ → Command → Event Command Operation
+  Up : ℕ → Event Command Operation
+  Down : ℕ → Event Command Operation
+  Ping : ℕ → ℕ → Event Command Operation
 
 -- what an event answers; that bytes were moved is told where links carry bytes alone
 pub data Reply (Edit Fault : Type 0) : Type 0 where
@@ -27,6 +27,6 @@ pub data Reply (Edit Fault : Type 0) : Type 0 where
   Nothing : Reply Edit Fault
 
 -- an event with its reply
-pub record Happened (Command Edit Fault : Type 0) : Type 0 where
-  pub event : Event Command
+pub record Happened (Command Operation Edit Fault : Type 0) : Type 0 where
+  pub event : Event Command Operation
   pub reply : Reply Edit Fault

@@ -24,7 +24,7 @@ use Rattle.jup_world.specs.SiteNumbers.{AreAscending}
 -- an event at this star and these sites answers this, and leaves those
 abbrev pub Plays : BoardEvent → BoardStar → List BoardAttached → BoardReply → BoardStar → List BoardAttached → Type 0
 Plays event star sites reply next_star next_sites =
-    (opening : Windows) (trace : List (Happened Commands BoardEdits ℕ))
+    (opening : Windows) (trace : List (Happened Commands BoardBatch BoardEdits ℕ))
     → outcome board_batches (record { opening = opening; star = star; sites = sites; trace = trace }) event
     ≡ record { reply = reply; star = next_star; sites = next_sites }
 

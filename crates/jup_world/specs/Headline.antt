@@ -4,7 +4,8 @@ use Rattle.jup_limits.specs.Limits.{answer_after}
 use Rattle.jup_batch.specs.BatchBoards.{content, meaning}
 use Rattle.jup_world.specs.Turns.{turns, edits, own_edits}
 use Rattle.jup_world.specs.WorldStates.{attached}
-use Rattle.jup_world.specs.Traces.{order_of, made}
+use Rattle.jup_world.specs.Traces.{made}
+use Rattle.jup_world.specs.BoardTraces.{order_of}
 use Rattle.jup_world.specs.BoardWorlds.{BoardWorld, BoardAttached}
 
 -- After whatever has happened, where no message is on its way:

@@ -38,12 +38,12 @@ abbrev pub messages_at : LaneSite → BoardAttached
 messages_at a = record { site = a.site; up = messages ups a.up; down = messages downs a.down }
 
 -- what stands in a trace but for the pushes
-abbrev pub plain_happened : LaneEvent → BoardReply → List (Happened Commands BoardEdits ℕ)
+abbrev pub plain_happened : LaneEvent → BoardReply → List (Happened Commands BoardBatch BoardEdits ℕ)
 plain_happened (Plain event) reply = record { event = event; reply = reply } ∷ []
 plain_happened (PushUp i n) reply = []
 plain_happened (PushDown i n) reply = []
 
-abbrev pub plain_trace : List Noted → List (Happened Commands BoardEdits ℕ)
+abbrev pub plain_trace : List Noted → List (Happened Commands BoardBatch BoardEdits ℕ)
 plain_trace [] = []
 plain_trace (h ∷ hs) = plain_happened h.event h.reply ++ plain_trace hs
 

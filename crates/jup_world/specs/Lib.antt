@@ -1,4 +1,5 @@
 pub mod Backlogs
+pub mod BoardTraces
 pub mod BoardWorlds
 pub mod Drains
 pub mod Each

@@ -10,13 +10,13 @@ module _ (O : Operations) where
   -- at every moment
   pub record Promises (w : WorldOf O) : Type 0 where
     -- the star's order is the one that the trace tells
-    pub order : w.star.order ≡ order_of w.trace
+    pub order : w.star.order ≡ order_of O w.trace
     -- the star's content is what that order means, and a site's what it was told and made means
-    pub star_content : O.t.content w.star.board ≡ O.t.meaning (O.t.content w.opening) (edits (turns 0 (order_of w.trace)))
-    pub site_content : (i : ℕ) (a : AttachedOf O) → attached i w.sites ≡ Some a → O.t.content a.site.board ≡ O.t.meaning (O.t.content w.opening) (view i w.trace)
+    pub star_content : O.t.content w.star.board ≡ O.t.meaning (O.t.content w.opening) (edits (turns 0 (order_of O w.trace)))
+    pub site_content : (i : ℕ) (a : AttachedOf O) → attached i w.sites ≡ Some a → O.t.content a.site.board ≡ O.t.meaning (O.t.content w.opening) (view O i w.trace)
     -- where no message is on its way, all boards are equal, and the order has every edit of each attached site once, in its order
     pub equal : IsQuiet O w → (i : ℕ) (a : AttachedOf O) → attached i w.sites ≡ Some a → a.site.board ≡ w.star.board
-    pub whole : IsQuiet O w → (i : ℕ) (a : AttachedOf O) → attached i w.sites ≡ Some a → own_edits (turns i (order_of w.trace)) ≡ made i w.trace
+    pub whole : IsQuiet O w → (i : ℕ) (a : AttachedOf O) → attached i w.sites ≡ Some a → own_edits (turns i (order_of O w.trace)) ≡ made i w.trace
     -- the attached sites are those that have links, and none has stopped
     pub linked : (i : ℕ) → is_some (attached i w.sites) ≡ is_some (link_of i w.star.links)
     pub running : (i : ℕ) (a : AttachedOf O) → attached i w.sites ≡ Some a → a.site.stopped ≡ false

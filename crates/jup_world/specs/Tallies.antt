@@ -13,13 +13,13 @@ gives (Joined i) = 1
 gives reply = 0
 
 -- over a trace
-abbrev pub numbers_given : {Command Edit Fault : Type 0} → List (Happened Command Edit Fault) → ℕ
+abbrev pub numbers_given : {Command Operation Edit Fault : Type 0} → List (Happened Command Operation Edit Fault) → ℕ
 numbers_given [] = 0
 numbers_given (h ∷ hs) = gives h.reply + numbers_given hs
 
 module _ (O : Operations) where
   -- a site counts as many edits as the trace says that it made
-  abbrev pub CountsItsEdits : List (Happened O.Command O.Edit ℕ) → AttachedOf O → Type 0
+  abbrev pub CountsItsEdits : List (Happened O.Command O.Op O.Edit ℕ) → AttachedOf O → Type 0
   CountsItsEdits trace a = a.site.made ≡ length (made a.site.number trace)
 
   -- the star has given the numbers that the trace tells, and each of its sites made the edits

@@ -22,7 +22,7 @@ pub record WorldState (Operation State Edit Command : Type 0) : Type 0 where
   pub opening : State
   pub star : StarState Operation State Edit
   pub sites : List (AttachedState Operation State)
-  pub trace : List (Happened Command Edit ℕ)
+  pub trace : List (Happened Command Operation Edit ℕ)
 
 module _ {Operation State : Type 0} where
   -- it is the site of a number
@@ -52,11 +52,15 @@ module _ (O : Operations) where
 
   -- what may happen in it
   abbrev pub EventOf : Type 0
-  EventOf = Event O.Command
+  EventOf = Event O.Command O.Op
 
   -- and what that answers
   abbrev pub ReplyOf : Type 0
   ReplyOf = Reply O.Edit ℕ
+
+  -- an event with its reply
+  abbrev pub HappenedOf : Type 0
+  HappenedOf = Happened O.Command O.Op O.Edit ℕ
 
   -- a new world
   abbrev pub opened_world : O.State → ℕ → WorldOf

@@ -13,6 +13,7 @@ mod two;
 mod world;
 
 pub use events::{Event, Happened, Reply, room_for};
+pub use jup_text::{read_command, write_board, write_edit};
 pub use pair::{pair_slider, pair_toggle};
 pub use promises::{bytes_agree, orders_agree, worlds_agree};
 pub use two::{Two, TwoEdit, TwoEvent, TwoReply};

@@ -23,14 +23,14 @@ use Rattle.jup_world.proofs.Copies.PastCopies.{HasPastStars, WasCopy, past_stars
 
 -- What each event keeps, and a fetch without more, is kept by events in turn of which each happened or was refused.
 lane_keeps : (P : BoardWorld → Type 0) → ((w : BoardWorld) → IsWorld w → (e : BoardEvent) → P w → P (happens board_batches w e))
-    → ((w : BoardWorld) → IsWorld w → (i : ℕ) (l : BoardLink) → link_of i w.star.links ≡ Some l → P w → P (only_fetched board_batches w i 1 l))
+    → ((w : BoardWorld) → IsWorld w → (i : ℕ) (l : BoardLink) (a : BoardAttached) → link_of i w.star.links ≡ Some l → attached i w.sites ≡ Some a → P w → P (only_fetched board_batches w i 1 l))
     → (events : List LaneEvent) (w v : LaneWorld) → IsLaneWorld w → AllTried w events v → P (messages_of w) → P (messages_of v)
 lane_keeps P event fetch [] w v is same p = subst (λ (u : LaneWorld). P (messages_of u)) (sym same) p
 lane_keeps P event fetch (e ∷ es) w v is next p = lane_keeps P event fetch es next.0 v (try_keeps w e next.0 is next.1) next.2 (one next.1)
   where
     spared : (u : BoardWorld) → IsSpared (messages_of w) u → P u
     spared u (inl same) = subst P (sym same) p
-    spared u (inr more) = subst P (sym more.5) (fetch (messages_of w) is.world more.0 more.1 more.3 p)
+    spared u (inr more) = subst P (sym more.5) (fetch (messages_of w) is.world more.0 more.1 more.2 more.3 more.4 p)
 
     after : (e : LaneEvent) → P (messages_after w e)
     after (Plain e) = event (messages_of w) is.world e p
@@ -50,7 +50,7 @@ module _ (symmetric : (x y : Windows) → board_batches.t.keeps_order x y → bo
   was_star : WasStar board_batches batch_laws most_batches (messages_of v) u.star
   was_star = lane_keeps (λ w. WasStar board_batches batch_laws most_batches w u.star)
       (λ w is e was. was_star_happens board_batches batch_laws symmetric most_batches w is.board.sound e u.star was)
-      (λ w is i l fl was. was_star_fetched board_batches batch_laws symmetric most_batches w is.board.sound i 1 l fl u.star was)
+      (λ w is i l a fl fa was. was_star_fetched board_batches batch_laws symmetric most_batches w i 1 l a fl fa u.star was)
       events u v is steps (was_now board_batches batch_laws most_batches (messages_of u) is.world.board.sound)
 
   -- what a site had been told by the first moment
@@ -61,7 +61,7 @@ module _ (symmetric : (x y : Windows) → board_batches.t.keeps_order x y → bo
   was_copy : (i : ℕ) (a : BoardAttached) → attached i (messages_of u).sites ≡ Some a → WasCopy board_batches batch_laws symmetric most_batches (messages_of v) i a.site.board a.site.named (seen i)
   was_copy i a fa = lane_keeps (λ w. WasCopy board_batches batch_laws symmetric most_batches w i a.site.board a.site.named (seen i))
       (λ w is e was. copy_happens board_batches batch_laws symmetric most_batches w is.board.sound i a.site.board a.site.named (seen i) e was)
-      (λ w is j l fl was. copy_fetched board_batches batch_laws symmetric most_batches w is.board.sound i a.site.board a.site.named (seen i) j 1 l fl was)
+      (λ w is j l b fl fb was. copy_fetched board_batches batch_laws symmetric most_batches w is.board.sound i a.site.board a.site.named (seen i) j 1 l b fl fb was)
       events u v is steps (copy_now board_batches batch_laws symmetric most_batches (messages_of u) is.world.board.sound past i a fa)
 
   -- any two copies
@@ -89,5 +89,5 @@ pub lane_past_stars : (symmetric : (x y : Windows) → board_batches.t.keeps_ord
     → HasPastStars board_batches batch_laws symmetric most_batches (messages_of u) → HasPastStars board_batches batch_laws symmetric most_batches (messages_of v)
 lane_past_stars symmetric events u v is steps past = lane_keeps (HasPastStars board_batches batch_laws symmetric most_batches)
     (λ w is e past. past_stars_happens board_batches batch_laws symmetric most_batches w is.board.sound e past)
-    (λ w is i l fl past. past_stars_fetched board_batches batch_laws symmetric most_batches w is.board.sound i 1 l fl past)
+    (λ w is i l a fl fa past. past_stars_fetched board_batches batch_laws symmetric most_batches w i 1 l a fl fa past)
     events u v is steps past

@@ -6,11 +6,10 @@ use Rattle.jup_window.specs.Operations.{Operations, AreLawful}
 use Rattle.jup_star.specs.declared.messages.Entry.{Entry}
 use Rattle.jup_star.specs.LinkStates.{LinkState}
 use Rattle.jup_star.specs.StarStates.{StarOf, link_of}
-use Rattle.jup_world.specs.Events.{Event, Reply, Happened}
 use Rattle.jup_world.specs.Events.{Up as MoveUp}
 use Rattle.jup_world.specs.Events.{Taken}
 use Rattle.jup_world.specs.Turns.{turn, turns}
-use Rattle.jup_world.specs.WorldStates.{attached, WorldOf, AttachedOf, EventOf, opened_world}
+use Rattle.jup_world.specs.WorldStates.{attached, WorldOf, AttachedOf, EventOf, ReplyOf, HappenedOf, opened_world}
 use Rattle.jup_world.specs.WorldSteps.{outcome, happens, run, only_fetched}
 use Rattle.jup_world.specs.Traces.{first_of_site, made, entry_taken, order_of, joined_at, shown_count}
 use Rattle.jup_world.specs.Sound.{named_by, named_in, IsKnown, own_counts, told_of, Standing, IsSound}
@@ -21,8 +20,9 @@ use Rattle.jup_world.proofs.Sound.SoundRuns.{sound-happens}
 use Rattle.jup_world.proofs.Pairs.Stands.{told_within}
 use Rattle.jup_world.proofs.Orders.StarRuns.{StarKnows}
 use Rattle.jup_world.proofs.Orders.SiteSteps.{told_turns, SiteKnows}
+use Rattle.jup_world.proofs.Orders.SiteRuns.{order_grows}
 use Rattle.jup_world.proofs.Copies.PastBoardRuns.{WasShown, was_here, was_happens, was_fetched, was_order}
-use Rattle.jup_world.proofs.Copies.PastStarEvents.{WasStar, was_now, order_longer, past_order, past_since}
+use Rattle.jup_world.proofs.Copies.PastStarEvents.{WasStar, was_now, past_order, past_since}
 use Rattle.jup_world.proofs.Copies.PastStarRuns.{was_star_happens, was_star_fetched}
 
 -- an event adds one entry to the order at the most
@@ -30,9 +30,9 @@ one_first : {Edit : Type 0} (i : ℕ) (es : List Edit) → length (first_of_site
 one_first i [] = omega arith
 one_first i (e ∷ es) = omega arith
 
-one_entry : {Command Edit Fault : Type 0} (past : List (Happened Command Edit Fault)) (order : List (Entry Edit)) (event : Event Command) (reply : Reply Edit Fault) → length (entry_taken past order event reply) ≤ 1
-one_entry past order (MoveUp i) (Taken place) = one_first i _
-one_entry past order event reply = omega arith
+one_entry : (O : Operations) (past : List (HappenedOf O)) (order : List (Entry O.Edit)) (event : EventOf O) (reply : ReplyOf O) → length (entry_taken O past order event reply) ≤ 1
+one_entry O past order (MoveUp i) (Taken place) = one_first i _
+one_entry O past order event reply = omega arith
 
 -- the first entries of an order, as a site sees them
 turns-take : {Edit : Type 0} (i k : ℕ) (rs : List (Entry Edit)) → turns i (take k rs) ≡ take k (turns i rs)
@@ -54,11 +54,11 @@ module _ (O : Operations) (L : AreLawful O) where
 
   -- how many of the first entries of the order a site was told, and what these name
   abbrev pub told_count : WorldOf O → ℕ → ℕ
-  told_count w j = told_of O (joined_at j w.trace) (shown_count j w.trace) (turns j w.star.order)
+  told_count w j = told_of O (joined_at O j w.trace) (shown_count j w.trace) (turns j w.star.order)
 
   told_named : (w : WorldOf O) (j m : ℕ) → named_by O j m (told_turns O L w j) ≡ named_in O (take (told_count w j) w.star.order) m
-  told_named w j m = ap (named_by O j m) (sym (turns-take j (told_of O (joined_at j w.trace) (shown_count j w.trace) (turns j w.star.order)) w.star.order))
-      ∙ named-turns O L j 0 m (take (told_of O (joined_at j w.trace) (shown_count j w.trace) (turns j w.star.order)) w.star.order)
+  told_named w j m = ap (named_by O j m) (sym (turns-take j (told_of O (joined_at O j w.trace) (shown_count j w.trace) (turns j w.star.order)) w.star.order))
+      ∙ named-turns O L j 0 m (take (told_of O (joined_at O j w.trace) (shown_count j w.trace) (turns j w.star.order)) w.star.order)
 
   module _ (symmetric : (x y : O.State) → O.t.keeps_order x y → O.t.keeps_order y x) where
     -- # Past stars
@@ -73,8 +73,8 @@ module _ (O : Operations) (L : AreLawful O) where
     -- each event keeps this, since the order grows by one entry at the most
     longer_by_one : (most : ℕ) (w : WorldOf O) (s : IsSound O most w) (e : EventOf O) → length (happens O w e).star.order ≤ length w.star.order + 1
     longer_by_one most w s e =
-        let one = one_entry w.trace (order_of w.trace) e (outcome O w e).reply in
-        omega (arith, ap (λ (os : List (Entry O.Edit)). length os) (order_longer O L most w s e), length-append w.star.order (entry_taken w.trace (order_of w.trace) e (outcome O w e).reply))
+        let one = one_entry O w.trace (order_of O w.trace) e (outcome O w e).reply in
+        omega (arith, ap (λ (os : List (Entry O.Edit)). length os) (order_grows O L most w s e), length-append w.star.order (entry_taken O w.trace (order_of O w.trace) e (outcome O w e).reply))
 
     pub past_stars_happens : (most : ℕ) (w : WorldOf O) (s : IsSound O most w) (e : EventOf O) → HasPastStars most w → HasPastStars most (happens O w e)
     past_stars_happens most w s e past k h = cases (nat_le k (length w.star.order)) refl
@@ -91,8 +91,9 @@ module _ (O : Operations) (L : AreLawful O) where
     past_stars_run (e ∷ es) most w s past = past_stars_run es most (happens O w e) (sound-happens O L most w e s) (past_stars_happens most w s e past)
 
     -- and so does a fetch
-    pub past_stars_fetched : (most : ℕ) (w : WorldOf O) (s : IsSound O most w) (i n : ℕ) (m : LinkState O.Op) → link_of i w.star.links ≡ Some m → HasPastStars most w → HasPastStars most (only_fetched O w i n m)
-    past_stars_fetched most w s i n m fm past k h = let was = past k h in (was.0, was.1, was_star_fetched O L symmetric most w s i n m fm was.0 was.2)
+    pub past_stars_fetched : (most : ℕ) (w : WorldOf O) (i n : ℕ) (l : LinkState O.Op) (a : AttachedOf O) → link_of i w.star.links ≡ Some l → attached i w.sites ≡ Some a
+        → HasPastStars most w → HasPastStars most (only_fetched O w i n l)
+    past_stars_fetched most w i n l a fl fa past k h = let was = past k h in (was.0, was.1, was_star_fetched O L symmetric most w i n l a fl fa was.0 was.2)
 
     -- # A past board of a site
 
@@ -131,20 +132,20 @@ module _ (O : Operations) (L : AreLawful O) where
       ));
     }
       where
-        st : (l : LinkState O.Op) × Standing O most (O.t.content w.opening) (turns i w.star.order) w.star.board (made i w.trace) (joined_at i w.trace) (shown_count i w.trace) i l a × (link_of i w.star.links ≡ Some l)
+        st : (l : LinkState O.Op) × Standing O most (O.t.content w.opening) (turns i w.star.order) w.star.board (made i w.trace) (joined_at O i w.trace) (shown_count i w.trace) i l a × (link_of i w.star.links ≡ Some l)
         st = standing_of O L most w s i a fa
 
         count : length (take (told_count w i) w.star.order) ≡ told_count w i
-        count = length-take-le (told_count w i) w.star.order (omega (arith, length-turns i w.star.order, told_within O L (joined_at i w.trace) (shown_count i w.trace) (turns i w.star.order) st.1.joined_within st.1.shown_within))
+        count = length-take-le (told_count w i) w.star.order (omega (arith, length-turns i w.star.order, told_within O L (joined_at O i w.trace) (shown_count i w.trace) (turns i w.star.order) st.1.joined_within st.1.shown_within))
 
     -- each event keeps it: a star that the event adds has more entries than the site had been told
     pub copy_happens : (most : ℕ) (w : WorldOf O) (s : IsSound O most w) (i : ℕ) (x : O.State) (named : ℕ) (seen : List (Entry O.Edit)) (e : EventOf O)
         → WasCopy most w i x named seen → WasCopy most (happens O w e) i x named seen
     copy_happens most w s i x named seen e was = record {
       shown = shown_on;
-      later = was.later ++ entry_taken w.trace (order_of w.trace) e (outcome O w e).reply;
-      grows = order_longer O L most w s e ∙ ap (λ os. os ++ entry_taken w.trace (order_of w.trace) e (outcome O w e).reply) was.grows
-          ∙ append_assoc seen was.later (entry_taken w.trace (order_of w.trace) e (outcome O w e).reply);
+      later = was.later ++ entry_taken O w.trace (order_of O w.trace) e (outcome O w e).reply;
+      grows = order_grows O L most w s e ∙ ap (λ os. os ++ entry_taken O w.trace (order_of O w.trace) e (outcome O w e).reply) was.grows
+          ∙ append_assoc seen was.later (entry_taken O w.trace (order_of O w.trace) e (outcome O w e).reply);
       known = was.known;
       stars = λ k h. cases k h (nat_le k (length w.star.order)) refl;
     }
@@ -168,14 +169,14 @@ module _ (O : Operations) (L : AreLawful O) where
             )
 
     -- and so does a fetch
-    pub copy_fetched : (most : ℕ) (w : WorldOf O) (s : IsSound O most w) (i : ℕ) (x : O.State) (named : ℕ) (seen : List (Entry O.Edit)) (j n : ℕ) (m : LinkState O.Op) → link_of j w.star.links ≡ Some m
-        → WasCopy most w i x named seen → WasCopy most (only_fetched O w j n m) i x named seen
-    copy_fetched most w s i x named seen j n m fm was = record {
-      shown = was_fetched O L symmetric most w s i x j n m was.shown;
+    pub copy_fetched : (most : ℕ) (w : WorldOf O) (s : IsSound O most w) (i : ℕ) (x : O.State) (named : ℕ) (seen : List (Entry O.Edit)) (j n : ℕ) (l : LinkState O.Op) (a : AttachedOf O) → link_of j w.star.links ≡ Some l → attached j w.sites ≡ Some a
+        → WasCopy most w i x named seen → WasCopy most (only_fetched O w j n l) i x named seen
+    copy_fetched most w s i x named seen j n l a fl fa was = record {
+      shown = was_fetched O L symmetric most w s i x j n l a fl fa was.shown;
       later = was.later;
       grows = was.grows;
       known = was.known;
-      stars = λ k h. (let z = was.stars k h in (z.0, z.1, was_star_fetched O L symmetric most w s j n m fm z.0 z.2, z.3));
+      stars = λ k h. (let z = was.stars k h in (z.0, z.1, was_star_fetched O L symmetric most w j n l a fl fa z.0 z.2, z.3));
     }
 
     pub copy_run : (es : List (EventOf O)) (most : ℕ) (w : WorldOf O) → IsSound O most w → (i : ℕ) (x : O.State) (named : ℕ) (seen : List (Entry O.Edit)) → WasCopy most w i x named seen → WasCopy most (run O w es) i x named seen
@@ -207,11 +208,11 @@ module _ (O : Operations) (L : AreLawful O) where
 
   module _ (symmetric : (x y : O.State) → O.t.keeps_order x y → O.t.keeps_order y x) (most : ℕ) (w : WorldOf O) (s : IsSound O most w) (i : ℕ) (x : O.State) (named : ℕ) (seen : List (Entry O.Edit)) (was : WasCopy symmetric most w i x named seen)
       (j : ℕ) (apart : nat_eq i j ≡ false) (b : AttachedOf O) (fb : attached j w.sites ≡ Some b) where
-    st : (l : LinkState O.Op) × Standing O most (O.t.content w.opening) (turns j w.star.order) w.star.board (made j w.trace) (joined_at j w.trace) (shown_count j w.trace) j l b × (link_of j w.star.links ≡ Some l)
+    st : (l : LinkState O.Op) × Standing O most (O.t.content w.opening) (turns j w.star.order) w.star.board (made j w.trace) (joined_at O j w.trace) (shown_count j w.trace) j l b × (link_of j w.star.links ≡ Some l)
     st = standing_of O L most w s j b fb
 
     within : told_count w j ≤ length w.star.order
-    within = omega (arith, length-turns j w.star.order, told_within O L (joined_at j w.trace) (shown_count j w.trace) (turns j w.star.order) st.1.joined_within st.1.shown_within)
+    within = omega (arith, length-turns j w.star.order, told_within O L (joined_at O j w.trace) (shown_count j w.trace) (turns j w.star.order) st.1.joined_within st.1.shown_within)
 
     -- So both show in one order what both show: the star that had as many entries as the one that was told more stands between.
     pub copies_meet : O.t.keeps_order x b.site.board

@@ -25,6 +25,12 @@ use Rattle.jup_world.proofs.Pairs.Stands.{told_end, told_within, stand-pair, sta
 use Rattle.jup_world.proofs.Orders.StarRuns.{StarKnows}
 use Rattle.jup_world.proofs.Copies.OneLink.{Since, pair_order, told_all, knows_all}
 
+-- how many edits of other sites a message brings
+abbrev pub brings : {Operation : Type 0} → Down Operation → ℕ
+brings (DownOp m) = 1
+brings (DownAck n) = 0
+brings (DownPong k) = 0
+
 module _ (O : Operations) (L : AreLawful O) where
   -- A site has still to be handed some of what a past star had sent to it, and these messages come first of all on their way to it. The past star, put in
   -- the place of the present one, stands beside the site like any star that takes nothing more.
@@ -194,12 +200,6 @@ module _ (O : Operations) (L : AreLawful O) where
         later = h.later;
         down = more;
       }
-
-    -- how many edits of other sites a message brings
-    abbrev pub brings : Down O.Op → ℕ
-    brings (DownOp m) = 1
-    brings (DownAck n) = 0
-    brings (DownPong k) = 0
 
     pub telling_handed : (gone : ℕ) (d : Down O.Op) (ds : List (Down O.Op)) → b.down ++ l.outbox ≡ d ∷ (ds ++ drop gone l.outbox)
         → (h.site.down ≡ []) ⊎ IsBeingTold most first s i joined (shown + brings d) (link_fetched gone l) (one_handed O d ds b)

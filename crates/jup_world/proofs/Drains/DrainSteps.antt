@@ -12,7 +12,6 @@ use Rattle.jup_star.specs.declared.faults.StarFault.{StarFault}
 use Rattle.jup_star.specs.declared.faults.SiteFault.{SiteFault}
 use Rattle.jup_star.specs.StarStates.{link_of, up_fault, place_taken, most_batches}
 use Rattle.jup_star.specs.SiteStates.{deliver_fault}
-use Rattle.jup_world.specs.Events.{Join, Leave, Edit as MakeEdit, Up as MoveUp, Down as MoveDown, Ping as SendPing}
 use Rattle.jup_world.specs.declared.events.Reply.{Reply}
 use Rattle.jup_world.specs.declared.events.Reply.TheVariants as answer
 use Rattle.jup_world.specs.Events.{Nothing}
@@ -24,7 +23,7 @@ use Rattle.jup_world.specs.declared.world.draining.Way.TheVariants.{Up as WayUp,
 use Rattle.jup_world.specs.WorldStates.{attached, IsQuiet}
 use Rattle.jup_world.specs.WorldFields.{lane_of, bare_attached}
 use Rattle.jup_world.specs.SiteNumbers.{AreAscending}
-use Rattle.jup_world.specs.WorldSteps.{Outcome, outcome, happens, up_outcome, first_up, down_outcome, first_down, at_attached, at_linked, at_number, place_reply}
+use Rattle.jup_world.specs.WorldSteps.{Outcome, outcome, up_outcome, first_up, down_outcome, first_down, at_attached, at_linked, at_number, place_reply}
 use Rattle.jup_world.specs.NumberedReplies.{numbered_reply}
 use Rattle.jup_world.specs.LaneWorlds.{LaneEvent, Plain, LaneSite, LaneWorld, messages_at, messages_of, lane_site, IsStill}
 use Rattle.jup_world.specs.LaneSteps.{Steps, AllSteps, IsSparedBy, IsHalted}
@@ -35,7 +34,7 @@ use Rattle.jup_world.specs.Happenings.{IsWorld}
 use Rattle.jup_world.specs.Runs.{IsDelivery, AreDeliveries, IsDelivered, IsDeliveredInPart}
 use Rattle.jup_world.specs.Drains.{way_event, Settles, MovesNothing, NothingMoves}
 use Rattle.jup_world.specs.Weights.{weight}
-use Rattle.jup_world.proofs.Drains.DrainLaws.{nothing_quiet, nothing_up, nothing_down}
+use Rattle.jup_world.proofs.Drains.DrainLaws.{nothing_quiet, nothing_leaves}
 use Rattle.jup_world.proofs.Drains.Lightening.{delivery_lightens, same_weight}
 use Rattle.jup_world.proofs.SitePlaces.{found_bounds}
 use Rattle.jup_world.proofs.Lanes.LaneWorldLaws.{messages_found, still_quiet, steps_append, steps_keep}
@@ -59,16 +58,6 @@ nothing_numbered answer.Asked e = absurd (cc)
 nothing_numbered (answer.Moved count) e = absurd (cc)
 nothing_numbered answer.Nothing e = refl
 
--- a delivery that moves nothing leaves the star and the sites
-nothing_leaves : (w : BoardWorld) (event : BoardEvent) → IsDelivery event → (outcome board_batches w event).reply ≡ Nothing
-    → ((happens board_batches w event).star ≡ w.star) × ((happens board_batches w event).sites ≡ w.sites)
-nothing_leaves w (MoveUp i) delivers none = nothing_up board_batches batch_laws w i none
-nothing_leaves w (MoveDown i) delivers none = nothing_down board_batches batch_laws w i none
-nothing_leaves w Join delivers none = absurd delivers
-nothing_leaves w (Leave i) delivers none = absurd delivers
-nothing_leaves w (MakeEdit i command) delivers none = absurd delivers
-nothing_leaves w (SendPing i k) delivers none = absurd delivers
-
 one_delivered : (w v : LaneWorld) (event : BoardEvent) → IsDelivery event → Steps w (Plain event) v → IsDelivered w v
 one_delivered w v event delivers step = record { events = event ∷ []; deliveries = (delivers, tt); steps = (v, step, refl) }
 
@@ -78,8 +67,8 @@ settles_one w v event reply nothing is delivers step answer test = record {
   delivered = one_delivered w v event delivers step;
   lighter = λ some. subst (λ u. weight u < weight (messages_of w)) (sym step.messages)
       (delivery_lightens (messages_of w) event is.board.sound delivers (λ none. moved nothing some (test.1 (nothing_numbered reply (answer ∙ none)))));
-  same_star = λ none. ap (λ u. u.star) step.messages ∙ (nothing_leaves (messages_of w) event delivers (still none)).0;
-  same_sites = λ none. ap (λ u. u.sites) step.messages ∙ (nothing_leaves (messages_of w) event delivers (still none)).1;
+  same_star = λ none. ap (λ u. u.star) step.messages ∙ (nothing_leaves board_batches batch_laws (messages_of w) event (still none)).0;
+  same_sites = λ none. ap (λ u. u.sites) step.messages ∙ (nothing_leaves board_batches batch_laws (messages_of w) event (still none)).1;
 }
   where
     moved : (b : Bool) → IsTrue (not b) → IsTrue b → ⊥

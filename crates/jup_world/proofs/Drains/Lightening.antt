@@ -10,19 +10,17 @@ use Rattle.jup_star.specs.declared.messages.Up.{Up}
 use Rattle.jup_star.specs.declared.messages.Up.TheVariants.{Op as UpOp, Ack as UpAck, Ping as UpPing}
 use Rattle.jup_star.specs.declared.messages.Down.{Down}
 use Rattle.jup_star.specs.declared.messages.Down.TheVariants.{Op as DownOp, Ack as DownAck, Pong as DownPong}
-use Rattle.jup_star.specs.declared.faults.StarFault.{StarFault}
-use Rattle.jup_star.specs.declared.faults.SiteFault.{SiteFault}
 use Rattle.jup_star.specs.LinkStates.{owed_down, link_acked, link_ponged, link_fetched, link_sent, link_heard, operation_at, end_after}
-use Rattle.jup_star.specs.StarStates.{link_of, without, at_link, links_after, up_fault, most_batches}
-use Rattle.jup_star.specs.SiteStates.{deliver_fault, sent_back}
-use Rattle.jup_world.specs.Events.{Join, Leave, Edit as MakeEdit, Up as MoveUp, Down as MoveDown, Ping as SendPing}
+use Rattle.jup_star.specs.StarStates.{link_of, without, at_link, links_after, most_batches}
+use Rattle.jup_star.specs.SiteStates.{sent_back}
 use Rattle.jup_world.specs.Events.{Nothing}
 use Rattle.jup_world.specs.WorldStates.{attached, at_site, without_site}
-use Rattle.jup_world.specs.WorldSteps.{Outcome, up_outcome, first_up, down_outcome, first_down, one_taken, one_handed, at_attached, at_linked, at_number, outcome, happens}
+use Rattle.jup_world.specs.WorldSteps.{Outcome, one_taken, one_handed, outcome, happens}
 use Rattle.jup_world.specs.BoardWorlds.{BoardWorld, BoardLink, BoardAttached, BoardEvent}
 use Rattle.jup_world.specs.Runs.{IsDelivery}
 use Rattle.jup_world.specs.Weights.{up_weight, down_weight, link_weight, sum_to, weight_of, weight}
 use Rattle.jup_world.specs.Sound.{IsSound}
+use Rattle.jup_world.proofs.EventSteps.{Rises, Finds, NotJoined, NotMade, Leaves, IsDropped, StepOf, Still, Enters, Goes, Makes, Asks, Takes, Hands, handed_number, step_of}
 use Rattle.jup_world.proofs.Numbered.{at_one, at_all, at_removal}
 use Rattle.jup_world.proofs.WorldKept.{link_given}
 
@@ -118,7 +116,7 @@ module _ (w : BoardWorld) (sound : IsSound board_batches most_batches w) (i : �
       → sum_to (suc w.star.given) (λ j. link_weight w.star.given (link_of j (at_link i f w.star.links)) (attached j (at_site i g w.sites))) + 1 ≤ weight_of w.star w.sites
   one_falls f g kf kg less =
       sum_falls (suc w.star.given) i 1 before _ among
-      (at_one (λ k. k.site) (λ b. b.site.number) (Falls 1) i f g kf kg w.star.links w.sites l a fl fa
+      (at_one (λ k. k.site) (λ b. b.site.number) (Falls 1) i f g kf kg w.star.links w.sites l (Some a) fl fa
       (at_here (λ b. up_weight w.star.given (g a).up + (down_weight (g a).down + down_weight (f l).outbox) + cond b 1 0 ≤ before i) (omega (arith, here_before))) others_stay)
 
   -- this link is dropped
@@ -142,17 +140,11 @@ module _ (w : BoardWorld) (sound : IsSound board_batches most_batches w) (i : �
       (let little = owed_little (end_after board_batches l.end m) (owes (end_after board_batches l.end m).unanswered) in omega (arith, down-append l.outbox (owed_down (end_after board_batches l.end m)))) in
       let less : up_weight w.star.given (drop 1 a.up) + (2 * w.star.given + 10) ≡ up_weight w.star.given a.up = subst (λ ups. up_weight w.star.given (drop 1 ups) + (2 * w.star.given + 10) ≡ up_weight w.star.given ups) (sym first) (omega arith) in
       let all = sum_outweighs (suc w.star.given) i (2 * w.star.given + 10) before _ among
-      (at_all (λ k. k.site) (λ b. b.site.number) (Outweighs (2 * w.star.given + 10)) i (link_heard board_batches m) (link_sent (operation_at board_batches l.end m)) (one_taken board_batches) (λ k. refl) (λ k. refl) (λ b. refl) w.star.links w.sites l a fl fa
+      (at_all (λ k. k.site) (λ b. b.site.number) (Outweighs (2 * w.star.given + 10)) i (link_heard board_batches m) (link_sent (operation_at board_batches l.end m)) (one_taken board_batches) (λ k. refl) (λ k. refl) (λ b. refl) w.star.links w.sites l (Some a) fl fa
       (at_here (λ b. up_weight w.star.given (drop 1 a.up) + (down_weight a.down + down_weight (link_heard board_batches m l).outbox) + cond b (2 * w.star.given + 10) 0 ≤ before i + 2) (omega (arith, here_before, less, paid)))
       (λ j e. at_other j (λ b. link_weight w.star.given (option_map (link_sent (operation_at board_batches l.end m)) (link_of j w.star.links)) (attached j w.sites) + cond b (2 * w.star.given + 10) 0 ≤ before j + 2) e
       (let more = sent_more (operation_at board_batches l.end m) (link_of j w.star.links) (attached j w.sites) in omega arith))) in
       omega arith
-
-  -- # Events
-
-  -- an outcome leaves less on its way
-  abbrev Lightens : Outcome board_batches → Type 0
-  Lightens o = weight_of o.star o.sites < weight_of w.star w.sites
 
   up_some : (up : Up BoardBatch) (us : List (Up BoardBatch)) → 1 ≤ up_weight w.star.given (up ∷ us)
   up_some (UpOp m) us = omega arith
@@ -168,18 +160,6 @@ module _ (w : BoardWorld) (sound : IsSound board_batches most_batches w) (i : �
       split (UpAck n) = omega arith
       split (UpPing k) = omega arith
 
-  up_falls : (up : Up BoardBatch) (us : List (Up BoardBatch)) (f : Option StarFault) → a.up ≡ up ∷ us → Lightens (up_outcome board_batches w i l up f)
-  up_falls up us (Some fault) first = let less = dropped_falls (subst (λ ups. 1 ≤ up_weight w.star.given ups) (sym first) (up_some up us)) in omega arith
-  up_falls (UpOp m) us None first = let less = edit_falls m us first in omega arith
-  up_falls (UpAck n) us None first =
-      let less = one_falls (link_acked n) (one_taken board_batches) (λ k. refl) (λ b. refl) (omega (arith, up_lighter (UpAck n) us first)) in omega arith
-  up_falls (UpPing k) us None first =
-      let less = one_falls (link_ponged k) (one_taken board_batches) (λ x. refl) (λ b. refl) (omega (arith, up_lighter (UpPing k) us first, down-append l.outbox (DownPong k ∷ []))) in omega arith
-
-  first_up_falls : (us : List (Up BoardBatch)) → a.up ≡ us → ((first_up board_batches w i l us).reply ≡ Nothing → ⊥) → Lightens (first_up board_batches w i l us)
-  first_up_falls [] e some = absurd (some refl)
-  first_up_falls (up ∷ us) e some = up_falls up us (up_fault board_batches w.star l up) e
-
   -- what a site sends back is lighter than what it was handed
   back_light : (d : Down BoardBatch) → up_weight w.star.given (option_to_list (sent_back board_batches d a.site)) + 1 ≤ down_weight (d ∷ [])
   back_light (DownOp m) = let little = owed_up_little w.star.given (end_after board_batches a.site.end m) (owes (end_after board_batches a.site.end m).unanswered) in omega arith
@@ -191,54 +171,34 @@ module _ (w : BoardWorld) (sound : IsSound board_batches most_batches w) (i : �
   one_down (DownAck n) ds = omega arith
   one_down (DownPong k) ds = omega arith
 
-  received_number : (d : Down BoardBatch) (ds : List (Down BoardBatch)) (b : BoardAttached) → (one_handed board_batches d ds b).site.number ≡ b.site.number
-  received_number (DownOp m) ds b = refl
-  received_number (DownAck n) ds b = refl
-  received_number (DownPong k) ds b = refl
-
-  handed_falls : (gone : ℕ) (d : Down BoardBatch) (ds : List (Down BoardBatch)) (f : Option SiteFault) → down_weight ds + down_weight (drop gone l.outbox) + down_weight (d ∷ []) ≡ down_weight a.down + down_weight l.outbox
-      → ((down_outcome board_batches w i gone d ds f).reply ≡ Nothing → ⊥) → Lightens (down_outcome board_batches w i gone d ds f)
-  handed_falls gone d ds (Some fault) e some = absurd (some refl)
-  handed_falls gone d ds None e some =
-      let light = back_light d in
-      let less = one_falls (link_fetched gone) (one_handed board_batches d ds) (λ k. refl) (received_number d ds)
-      (omega (arith, e, up-append w.star.given a.up (option_to_list (sent_back board_batches d a.site)))) in omega arith
-
-  first_down_falls : (ds os : List (Down BoardBatch)) → a.down ≡ ds → l.outbox ≡ os → ((first_down board_batches w i a ds os).reply ≡ Nothing → ⊥) → Lightens (first_down board_batches w i a ds os)
-  first_down_falls (d ∷ ds) os p q some =
-      handed_falls 0 d ds (deliver_fault board_batches d a.site) (let here = ap down_weight p in omega (arith, here, one_down d ds)) some
-  first_down_falls [] (d ∷ os) p q some =
-      handed_falls 1 d [] (deliver_fault board_batches d a.site)
-      (let here = ap down_weight p in let there = ap down_weight q in let rest = ap (λ (xs : List (Down BoardBatch)). down_weight (drop 1 xs)) q in omega (arith, here, there, rest, one_down d os)) some
-  first_down_falls [] [] p q some = absurd (some refl)
-
 -- # Deliveries
 
--- an event at a site that answers something
-at_falls : (w : BoardWorld) (i : ℕ) (f : BoardLink → BoardAttached → Outcome board_batches)
-    → ((l : BoardLink) (a : BoardAttached) → link_of i w.star.links ≡ Some l → attached i w.sites ≡ Some a → ((f l a).reply ≡ Nothing → ⊥) → weight_of (f l a).star (f l a).sites < weight_of w.star w.sites)
-    → ((at_number board_batches w i f).reply ≡ Nothing → ⊥) → weight_of (at_number board_batches w i f).star (at_number board_batches w i f).sites < weight_of w.star w.sites
-at_falls w i f each some = linked (link_of i w.star.links) refl some
-  where
-    there : (l : BoardLink) → link_of i w.star.links ≡ Some l → (o : Option BoardAttached) → attached i w.sites ≡ o → ((at_attached board_batches w l f o).reply ≡ Nothing → ⊥)
-        → weight_of (at_attached board_batches w l f o).star (at_attached board_batches w l f o).sites < weight_of w.star w.sites
-    there l fl None fa answers = absurd (answers refl)
-    there l fl (Some a) fa answers = each l a fl fa answers
-
-    linked : (o : Option BoardLink) → link_of i w.star.links ≡ o → ((at_linked board_batches w i f o).reply ≡ Nothing → ⊥)
-        → weight_of (at_linked board_batches w i f o).star (at_linked board_batches w i f o).sites < weight_of w.star w.sites
-    linked None fl answers = absurd (answers refl)
-    linked (Some l) fl answers = there l fl (attached i w.sites) refl answers
+-- a delivery that answers something, by what it comes to
+step_lightens : (w : BoardWorld) (s : IsSound board_batches most_batches w) (e : BoardEvent) (o : Outcome board_batches) → StepOf board_batches w e o → IsDelivery e → (o.reply ≡ Nothing → ⊥) → weight_of o.star o.sites < weight_of w.star w.sites
+step_lightens w s e o (Still (Finds event)) delivers some = absurd (some refl)
+step_lightens w s e o (Still (NotJoined fault)) delivers some = absurd delivers
+step_lightens w s e o (Still (NotMade i command number)) delivers some = absurd delivers
+step_lightens w s e o (Enters none) delivers some = absurd delivers
+step_lightens w s e o (Goes i l oa fl fa (Leaves a)) delivers some = absurd delivers
+step_lightens w s e o (Goes i l oa fl fa (IsDropped up fault (Rises a us rising) f)) delivers some =
+    let less = dropped_falls w s i l a fl fa (subst (λ ups. 1 ≤ up_weight w.star.given ups) (sym rising) (up_some w s i l a fl fa up us)) in omega arith
+step_lightens w s e o (Makes i command l a op fl fa ok) delivers some = absurd delivers
+step_lightens w s e o (Asks i k l a fl fa) delivers some = absurd delivers
+step_lightens w s e o (Takes i l oa (UpOp m) fl fa (Rises a us rising) none) delivers some = let less = edit_falls w s i l a fl fa m us rising in omega arith
+step_lightens w s e o (Takes i l oa (UpAck n) fl fa (Rises a us rising) none) delivers some =
+    let less = one_falls w s i l a fl fa (link_acked n) (one_taken board_batches) (λ k. refl) (λ b. refl) (omega (arith, up_lighter w s i l a fl fa (UpAck n) us rising)) in omega arith
+step_lightens w s e o (Takes i l oa (UpPing k) fl fa (Rises a us rising) none) delivers some =
+    let less = one_falls w s i l a fl fa (link_ponged k) (one_taken board_batches) (λ x. refl) (λ b. refl) (omega (arith, up_lighter w s i l a fl fa (UpPing k) us rising, down-append l.outbox (DownPong k ∷ []))) in omega arith
+step_lightens w s e o (Hands i gone l a d ds fl fa falls none) delivers some =
+    let light = back_light w s i l a fl fa d in
+    let all : down_weight (a.down ++ l.outbox) ≡ down_weight (d ∷ (ds ++ drop gone l.outbox)) = ap down_weight falls in
+    let less = one_falls w s i l a fl fa (link_fetched gone) (one_handed board_batches d ds) (λ k. refl) (handed_number board_batches d ds)
+    (omega (arith, all, down-append a.down l.outbox, one_down w s i l a fl fa d (ds ++ drop gone l.outbox), down-append ds (drop gone l.outbox), up-append w.star.given a.up (option_to_list (sent_back board_batches d a.site)))) in omega arith
 
 -- a delivery that answers something leaves less on its way
 pub delivery_lightens : (w : BoardWorld) (event : BoardEvent) → IsSound board_batches most_batches w → IsDelivery event → ((outcome board_batches w event).reply ≡ Nothing → ⊥) → weight (happens board_batches w event) < weight w
 unfolding weight
-delivery_lightens w (MoveUp i) s delivers some = at_falls w i _ (λ l a fl fa answers. first_up_falls w s i l a fl fa a.up refl answers) some
-delivery_lightens w (MoveDown i) s delivers some = at_falls w i _ (λ l a fl fa answers. first_down_falls w s i l a fl fa a.down l.outbox refl refl answers) some
-delivery_lightens w Join s delivers some = absurd delivers
-delivery_lightens w (Leave i) s delivers some = absurd delivers
-delivery_lightens w (MakeEdit i command) s delivers some = absurd delivers
-delivery_lightens w (SendPing i k) s delivers some = absurd delivers
+delivery_lightens w e s delivers some = step_lightens w s e (outcome board_batches w e) (step_of board_batches w e) delivers some
 
 -- what is on its way is that of the star and the sites
 pub same_weight : (w v : BoardWorld) → v.star ≡ w.star → v.sites ≡ w.sites → weight v ≡ weight w

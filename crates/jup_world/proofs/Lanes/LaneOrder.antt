@@ -13,7 +13,7 @@ use Rattle.jup_world.specs.Promises.{OrderIsKept}
 use Rattle.jup_world.specs.LaneWorlds.{LaneEvent, Plain, PushUp, PushDown, LaneWorld, messages_of}
 use Rattle.jup_world.specs.LaneSteps.{messages_after, Steps, AllSteps, AllTried, IsSparedBy}
 use Rattle.jup_world.specs.LaneHappenings.{IsLaneWorld}
-use Rattle.jup_world.proofs.Sound.SoundRuns.{either}
+use Rattle.jup_world.proofs.EventSteps.{either}
 use Rattle.jup_world.proofs.Orders.StarRuns.{Follows, follows-same, follows-chain, run-follows}
 use Rattle.jup_world.proofs.Orders.SiteSteps.{told_turns}
 use Rattle.jup_world.proofs.Orders.SiteRuns.{SiteFollows, follows_chain, holds_known, given_before, stays_gone, run_follows}

@@ -5,7 +5,6 @@ use Rattle.jup_window.specs.Operations.{Operations, AreLawful}
 use Rattle.jup_star.specs.declared.faults.StarFault.{StarFault}
 use Rattle.jup_star.specs.StarStates.{link_of, join_fault}
 use Rattle.jup_world.specs.Events.{Join, Leave, Edit as MakeEdit, Up as MoveUp, Down as MoveDown, Ping as SendPing}
-use Rattle.jup_world.specs.Events.{Happened}
 use Rattle.jup_world.specs.Turns.{Turn, Own, Other, turns, others, through_others}
 use Rattle.jup_world.specs.WorldStates.{attached, WorldOf, AttachedOf, EventOf}
 use Rattle.jup_world.specs.WorldSteps.{join_outcome, outcome, happens, run}
@@ -15,7 +14,8 @@ use Rattle.jup_world.proofs.Known.{known_more, own_counts-more}
 use Rattle.jup_world.proofs.Sound.TraceLaws.{order-end, joined-end, shown-end, turns-append}
 use Rattle.jup_world.proofs.Sound.WorldTakes.{standing_of}
 use Rattle.jup_world.proofs.Pairs.Stands.{told_end, told_within}
-use Rattle.jup_world.proofs.Sound.SoundRuns.{either, sound-happens}
+use Rattle.jup_world.proofs.EventSteps.{either}
+use Rattle.jup_world.proofs.Sound.SoundRuns.{sound-happens}
 use Rattle.jup_world.proofs.Orders.StarRuns.{event-follows}
 use Rattle.jup_world.proofs.Orders.SiteSteps.{told_turns, SiteKnows, SiteKeeps, StepsTo, sites_step}
 
@@ -49,18 +49,18 @@ module _ (O : Operations) (L : AreLawful O) where
   -- a site's number was given
   pub given_before : (most : ℕ) (w : WorldOf O) → IsSound O most w → (j : ℕ) (a : AttachedOf O) → attached j w.sites ≡ Some a → w.star.given < j → ⊥
   given_before most w s j a fa above =
-      subst (λ o. StandsAt O most (O.t.content w.opening) (turns j w.star.order) w.star.board (made j w.trace) (joined_at j w.trace) (shown_count j w.trace) j o (Some a)) (s.star.no_link j above)
-      (subst (λ o. StandsAt O most (O.t.content w.opening) (turns j w.star.order) w.star.board (made j w.trace) (joined_at j w.trace) (shown_count j w.trace) j (link_of j w.star.links) o) fa (s.stand j))
+      subst (λ o. StandsAt O most (O.t.content w.opening) (turns j w.star.order) w.star.board (made j w.trace) (joined_at O j w.trace) (shown_count j w.trace) j o (Some a)) (s.star.no_link j above)
+      (subst (λ o. StandsAt O most (O.t.content w.opening) (turns j w.star.order) w.star.board (made j w.trace) (joined_at O j w.trace) (shown_count j w.trace) j (link_of j w.star.links) o) fa (s.stand j))
 
   -- and its place at its join stays
-  pub join_kept : (w : WorldOf O) (j now at : ℕ) → (w.star.given < j → ⊥) → (e : EventOf O) → join_seen j now at e (outcome O w e).reply ≡ at
+  join_kept : (w : WorldOf O) (j now at : ℕ) → (w.star.given < j → ⊥) → (e : EventOf O) → join_seen j now at e (outcome O w e).reply ≡ at
   join_kept w j now at old Join = cases (join_fault w.star)
     where
       other : (b : Bool) → b ≡ false → cond b now at ≡ at
       other false e = refl
       other true e = absurd cc
 
-      cases : (f : Option StarFault) → join_seen {Command = O.Command} j now at Join (join_outcome O w f).reply ≡ at
+      cases : (f : Option StarFault) → join_seen {Command = O.Command} {Operation = O.Op} j now at Join (join_outcome O w f).reply ≡ at
       cases None = other (nat_eq (w.star.given + 1) j) (ne_eqb (w.star.given + 1) j (λ e. old (omega arith)))
       cases (Some fault) = refl
   join_kept w j now at old (Leave i) = refl
@@ -69,20 +69,16 @@ module _ (O : Operations) (L : AreLawful O) where
   join_kept w j now at old (MoveDown i) = refl
   join_kept w j now at old (SendPing i k) = refl
 
+  -- the star's order grows at its end
+  pub order_grows : (most : ℕ) (w : WorldOf O) (s : IsSound O most w) (e : EventOf O) → (happens O w e).star.order ≡ w.star.order ++ entry_taken O w.trace (order_of O w.trace) e (outcome O w e).reply
+  order_grows most w s e =
+      sym (sound-happens O L most w e s).order_is ∙ order-end O w.trace (record { event = e; reply = (outcome O w e).reply })
+      ∙ ap (λ os. os ++ entry_taken O w.trace (order_of O w.trace) e (outcome O w e).reply) s.order_is
+
   module _ (most : ℕ) (w : WorldOf O) (s : IsSound O most w) (e : EventOf O) (j : ℕ) (a : AttachedOf O) (fa : attached j w.sites ≡ Some a) where
-    -- the event as it stands in the trace
-    h : Happened O.Command O.Edit ℕ
-    h = record { event = e; reply = (outcome O w e).reply }
-
-    -- the order grows at its end
-    order_grows : (happens O w e).star.order ≡ w.star.order ++ entry_taken w.trace (order_of w.trace) e (outcome O w e).reply
-    order_grows =
-        sym (sound-happens O L most w e s).order_is ∙ order-end w.trace (record { event = e; reply = (outcome O w e).reply })
-        ∙ ap (λ os. os ++ entry_taken w.trace (order_of w.trace) e (outcome O w e).reply) s.order_is
-
     -- the site's place at its join stays
-    joined_same : joined_at j (happens O w e).trace ≡ joined_at j w.trace
-    joined_same = joined-end j w.trace (record { event = e; reply = (outcome O w e).reply }) ∙ join_kept w j (length (order_of w.trace)) (joined_at j w.trace) (given_before most w s j a fa) e
+    pub joined_same : joined_at O j (happens O w e).trace ≡ joined_at O j w.trace
+    joined_same = joined-end O j w.trace (record { event = e; reply = (outcome O w e).reply }) ∙ join_kept w j (length (order_of O w.trace)) (joined_at O j w.trace) (given_before most w s j a fa) e
 
     -- it was handed no fewer
     shown_more : shown_count j w.trace ≤ shown_count j (happens O w e).trace
@@ -93,10 +89,10 @@ module _ (O : Operations) (L : AreLawful O) where
     told_named k =
         let st = (standing_of O L most w s j a fa).1 in
         subst (λ at. named_by O j k (told_turns O L w j) ≤ named_by O j k (take (told_of O at (shown_count j (happens O w e).trace) (turns j (happens O w e).star.order)) (turns j (happens O w e).star.order))) (sym joined_same)
-        (subst (λ ts. named_by O j k (told_turns O L w j) ≤ named_by O j k (take (told_of O (joined_at j w.trace) (shown_count j (happens O w e).trace) ts) ts))
-        (sym (ap (turns j) order_grows ∙ turns-append j w.star.order (entry_taken w.trace (order_of w.trace) e (outcome O w e).reply)))
-        (told_more j k (joined_at j w.trace) (shown_count j w.trace) (shown_count j (happens O w e).trace) (turns j w.star.order)
-        (turns j (entry_taken w.trace (order_of w.trace) e (outcome O w e).reply)) st.joined_within st.shown_within shown_more))
+        (subst (λ ts. named_by O j k (told_turns O L w j) ≤ named_by O j k (take (told_of O (joined_at O j w.trace) (shown_count j (happens O w e).trace) ts) ts))
+        (sym (ap (turns j) (order_grows most w s e) ∙ turns-append j w.star.order (entry_taken O w.trace (order_of O w.trace) e (outcome O w e).reply)))
+        (told_more j k (joined_at O j w.trace) (shown_count j w.trace) (shown_count j (happens O w e).trace) (turns j w.star.order)
+        (turns j (entry_taken O w.trace (order_of O w.trace) e (outcome O w e).reply)) st.joined_within st.shown_within shown_more))
 
     -- what a site knew it knows after an event
     knows_on : (b : AttachedOf O) → a.site.named ≤ b.site.named → (n : O.t.Name) → SiteKnows O L w j a n → SiteKnows O L (happens O w e) j b n

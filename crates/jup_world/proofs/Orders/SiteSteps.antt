@@ -1,19 +1,16 @@
 -- From before an event to after it each attached site keeps the order of its items, and no name that it knew comes back.
 use Rattle.std.proofs.Common.{◌≡◌, ℕ, ◌+◌, ◌<◌, ◌≤◌, Bool, true, false, List, [], ◌∷◌, ◌++◌, drop, take, length, nat_eq, refl, ap, sym, ◌∙◌, subst, Option, Some, None, option_map, Ok, arith, eqb-true, eq-eqb, take-append-drop}
 use Rattle.jup_window.specs.Operations.{Operations, AreLawful}
-use Rattle.jup_star.specs.declared.messages.Up.{Up}
 use Rattle.jup_star.specs.declared.messages.Down.{Down}
 use Rattle.jup_star.specs.declared.messages.Down.TheVariants.{Op as DownOp, Ack as DownAck, Pong as DownPong}
-use Rattle.jup_star.specs.declared.faults.StarFault.{StarFault}
 use Rattle.jup_star.specs.LinkStates.{LinkState}
-use Rattle.jup_star.specs.StarStates.{link_of, join_fault, up_fault}
-use Rattle.jup_star.specs.SiteStates.{edit_answer, deliver_fault}
+use Rattle.jup_star.specs.StarStates.{link_of}
+use Rattle.jup_star.specs.SiteStates.{edit_answer}
 use Rattle.jup_star.specs.Streams.{downs}
 use Rattle.jup_star.proofs.Lookup.{found-map, found-map_other, found-without, found-without_other, found-end, found-end_other}
-use Rattle.jup_world.specs.Events.{Join, Leave, Edit as MakeEdit, Up as MoveUp, Down as MoveDown, Ping as SendPing}
 use Rattle.jup_world.specs.Turns.{Turn, turns}
 use Rattle.jup_world.specs.WorldStates.{attached, at_site, without_site, WorldOf, AttachedOf, EventOf}
-use Rattle.jup_world.specs.WorldSteps.{Outcome, new_site, join_outcome, with_edit, edit_outcome, one_taken, up_outcome, first_up, one_handed, down_outcome, first_down, pinged, at_attached, at_linked, outcome}
+use Rattle.jup_world.specs.WorldSteps.{Outcome, new_site, with_edit, one_taken, one_handed, pinged, outcome}
 use Rattle.jup_world.specs.Traces.{made, joined_at, shown_count}
 use Rattle.jup_world.specs.Sound.{IsKnown, named_by, own_counts, told_of, IsSound}
 use Rattle.jup_world.proofs.Numbered.{option_map-self}
@@ -22,12 +19,12 @@ use Rattle.jup_world.proofs.Pairs.PairShown.{shown_keeps_order, shown_none_back}
 use Rattle.jup_world.proofs.Sound.WorldTakes.{standing, order_fits}
 use Rattle.jup_world.proofs.Sound.SoundShown.{st, t, fits, first}
 use Rattle.jup_world.proofs.Sound.SoundJoined.{no_site}
-use Rattle.jup_world.proofs.Sound.SoundRuns.{either, result_cases}
+use Rattle.jup_world.proofs.EventSteps.{StepOf, Still, Enters, Goes, Makes, Asks, Takes, Hands, handed_number, step_of}
 
 module _ (O : Operations) (L : AreLawful O) where
   -- the entries that a site was told
   abbrev pub told_turns : WorldOf O → ℕ → List (Turn O.Edit)
-  told_turns w j = take (told_of O (joined_at j w.trace) (shown_count j w.trace) (turns j w.star.order)) (turns j w.star.order)
+  told_turns w j = take (told_of O (joined_at O j w.trace) (shown_count j w.trace) (turns j w.star.order)) (turns j w.star.order)
 
   -- a name that a site knows: of the layout, of its own insertions, or of an entry that it was told
   abbrev pub SiteKnows : WorldOf O → ℕ → AttachedOf O → O.t.Name → Type 0
@@ -108,42 +105,16 @@ module _ (O : Operations) (L : AreLawful O) where
       none = no_site O L most w s (w.star.given + 1) refl
 
   module _ (most : ℕ) (w : WorldOf O) (s : IsSound O most w) where
-    -- an event at a site
-    at_one_site : (i : ℕ) (f : LinkState O.Op → AttachedOf O → Outcome O)
-        → ((l : LinkState O.Op) (a : AttachedOf O) → link_of i w.star.links ≡ Some l → attached i w.sites ≡ Some a → SitesStep w (f l a).sites) → SitesStep w (at_linked O w i f (link_of i w.star.links)).sites
-    at_one_site i f h =
-        either (link_of i w.star.links) (λ o. SitesStep w (at_linked O w i f o).sites) (λ n. same_sites w)
-        (λ l fl. either (attached i w.sites) (λ o. SitesStep w (at_attached O w l f o).sites) (λ n. same_sites w) (λ a fa. h l a fl fa))
-
-    -- a join
-    join_steps : (o : Option StarFault) → SitesStep w (join_outcome O w o).sites
-    join_steps None = one_added most w s
-    join_steps (Some fault) = same_sites w
-
-    -- an edit
-    edit_steps : (i : ℕ) (command : O.Command) (l : LinkState O.Op) (a : AttachedOf O) → link_of i w.star.links ≡ Some l → attached i w.sites ≡ Some a → SitesStep w (edit_outcome O w i (edit_answer O command a.site)).sites
-    edit_steps i command l a fl fa = result_cases (edit_answer O command a.site) (λ r. SitesStep w (edit_outcome O w i r).sites)
-        (λ op ok. one_site w i (with_edit O op) (λ b. refl) (λ b fb. (let is : a ≡ b = cc in subst (λ x. SiteKeeps w i x (with_edit O op x)) is (edited op ok))))
-        (λ n e. same_sites w)
+    -- a site that makes an edit
+    edited : (i : ℕ) (command : O.Command) (l : LinkState O.Op) (a : AttachedOf O) → link_of i w.star.links ≡ Some l → attached i w.sites ≡ Some a → (op : O.Op) → edit_answer O command a.site ≡ Ok op → SiteKeeps w i a (with_edit O op a)
+    edited i command l a fl fa op ok = record {
+      order = made_keeps_order O L most i (O.t.content w.opening) _ _ w.star.board (made i w.trace) l a (standing O L most w s i l a fl fa).pair command op ok few s.star.counted;
+      named = omega arith;
+      none_back = made_none_back O L most i (O.t.content w.opening) _ _ w.star.board (made i w.trace) l a (standing O L most w s i l a fl fa).pair command op ok few s.star.counted;
+    }
       where
-        few : length (take (told_of O (joined_at i w.trace) (shown_count i w.trace) (turns i w.star.order)) (turns i w.star.order) ++ drop (told_of O (joined_at i w.trace) (shown_count i w.trace) (turns i w.star.order)) (turns i w.star.order)) + 1026 ≤ most
-        few = subst (λ us. length us + 1026 ≤ most) (sym (take-append-drop (told_of O (joined_at i w.trace) (shown_count i w.trace) (turns i w.star.order)) (turns i w.star.order))) (order_fits O L most w s i l a fl fa)
-
-        edited : (op : O.Op) → edit_answer O command a.site ≡ Ok op → SiteKeeps w i a (with_edit O op a)
-        edited op ok = record {
-          order = made_keeps_order O L most i (O.t.content w.opening) _ _ w.star.board (made i w.trace) l a (standing O L most w s i l a fl fa).pair command op ok few s.star.counted;
-          named = omega arith;
-          none_back = made_none_back O L most i (O.t.content w.opening) _ _ w.star.board (made i w.trace) l a (standing O L most w s i l a fl fa).pair command op ok few s.star.counted;
-        }
-
-    -- a delivery up
-    up_steps : (i : ℕ) (l : LinkState O.Op) (us : List (Up O.Op)) → SitesStep w (first_up O w i l us).sites
-    up_steps i l [] = same_sites w
-    up_steps i l (up ∷ us) = cases (up_fault O w.star l up)
-      where
-        cases : (f : Option StarFault) → SitesStep w (up_outcome O w i l up f).sites
-        cases None = one_site w i (one_taken O) (λ b. refl) (λ b fb. still w i b (one_taken O b) refl refl)
-        cases (Some fault) = one_removed w i
+        few : length (take (told_of O (joined_at O i w.trace) (shown_count i w.trace) (turns i w.star.order)) (turns i w.star.order) ++ drop (told_of O (joined_at O i w.trace) (shown_count i w.trace) (turns i w.star.order)) (turns i w.star.order)) + 1026 ≤ most
+        few = subst (λ us. length us + 1026 ≤ most) (sym (take-append-drop (told_of O (joined_at O i w.trace) (shown_count i w.trace) (turns i w.star.order)) (turns i w.star.order))) (order_fits O L most w s i l a fl fa)
 
     -- a site that is handed a message
     handed : (i : ℕ) (l : LinkState O.Op) (a : AttachedOf O) → link_of i w.star.links ≡ Some l → attached i w.sites ≡ Some a → (gone : ℕ) (d : Down O.Op) (ds : List (Down O.Op))
@@ -160,30 +131,19 @@ module _ (O : Operations) (L : AreLawful O) where
     handed i l a fl fa gone (DownAck n) ds e = still w i a (one_handed O (DownAck n) ds a) refl refl
     handed i l a fl fa gone (DownPong k) ds e = still w i a (one_handed O (DownPong k) ds a) refl refl
 
-    -- keeps its number
-    number_kept : (d : Down O.Op) (ds : List (Down O.Op)) (b : AttachedOf O) → (one_handed O d ds b).site.number ≡ b.site.number
-    number_kept (DownOp m) ds b = refl
-    number_kept (DownAck n) ds b = refl
-    number_kept (DownPong k) ds b = refl
+    -- a site that is changed where it stands
+    one_known : (i : ℕ) (g : AttachedOf O → AttachedOf O) → ((b : AttachedOf O) → (g b).site.number ≡ b.site.number) → (a : AttachedOf O) → attached i w.sites ≡ Some a → SiteKeeps w i a (g a) → SitesStep w (at_site i g w.sites)
+    one_known i g kg a fa keeps = one_site w i g kg (λ b fb. (let is : a ≡ b = cc in subst (λ x. SiteKeeps w i x (g x)) is keeps))
 
-    -- the oldest message on its way down
-    one_down : (i : ℕ) (l : LinkState O.Op) (a : AttachedOf O) → link_of i w.star.links ≡ Some l → attached i w.sites ≡ Some a → (gone : ℕ) (d : Down O.Op) (ds : List (Down O.Op))
-        → downs (a.down ++ l.outbox) ≡ downs (d ∷ (ds ++ drop gone l.outbox)) → SitesStep w (down_outcome O w i gone d ds (deliver_fault O d a.site)).sites
-    one_down i l a fl fa gone d ds e = either (deliver_fault O d a.site) (λ f. SitesStep w (down_outcome O w i gone d ds f).sites)
-        (λ none. one_site w i (one_handed O d ds) (number_kept d ds) (λ b fb. (let is : a ≡ b = cc in subst (λ x. SiteKeeps w i x (one_handed O d ds x)) is (handed i l a fl fa gone d ds e))))
-        (λ fault f. same_sites w)
+    -- under each number, from before an event to after it, by what it comes to
+    keeps_step : (e : EventOf O) (o : Outcome O) → StepOf O w e o → SitesStep w o.sites
+    keeps_step e o (Still why) = same_sites w
+    keeps_step e o (Enters none) = one_added most w s
+    keeps_step e o (Goes i l oa fl fa why) = one_removed w i
+    keeps_step e o (Makes i command l a op fl fa ok) = one_known i (with_edit O op) (λ b. refl) a fa (edited i command l a fl fa op ok)
+    keeps_step e o (Asks i k l a fl fa) = one_known i (pinged O k) (λ b. refl) a fa (still w i a (pinged O k a) refl refl)
+    keeps_step e o (Takes i l oa up fl fa brought none) = one_site w i (one_taken O) (λ b. refl) (λ a there. still w i a (one_taken O a) refl refl)
+    keeps_step e o (Hands i gone l a d ds fl fa falls none) = one_known i (one_handed O d ds) (handed_number O d ds) a fa (handed i l a fl fa gone d ds (ap downs falls))
 
-    -- a delivery down
-    down_steps : (i : ℕ) (l : LinkState O.Op) (a : AttachedOf O) → link_of i w.star.links ≡ Some l → attached i w.sites ≡ Some a → (ds os : List (Down O.Op)) → a.down ≡ ds → l.outbox ≡ os → SitesStep w (first_down O w i a ds os).sites
-    down_steps i l a fl fa (d ∷ ds) os e q = one_down i l a fl fa 0 d ds (ap (λ x. downs (x ++ l.outbox)) e)
-    down_steps i l a fl fa [] (d ∷ os) e q = one_down i l a fl fa 1 d [] (ap (λ x. downs (x ++ l.outbox)) e ∙ ap downs (q ∙ ap (λ x. d ∷ drop 1 x) (sym q)))
-    down_steps i l a fl fa [] [] e q = same_sites w
-
-    -- under each number, from before an event to after it
     pub sites_step : (e : EventOf O) → SitesStep w (outcome O w e).sites
-    sites_step Join = join_steps (join_fault w.star)
-    sites_step (Leave i) = at_one_site i _ (λ l a fl fa. one_removed w i)
-    sites_step (MakeEdit i command) = at_one_site i _ (edit_steps i command)
-    sites_step (MoveUp i) = at_one_site i _ (λ l a fl fa. up_steps i l a.up)
-    sites_step (MoveDown i) = at_one_site i _ (λ l a fl fa. down_steps i l a fl fa a.down l.outbox refl refl)
-    sites_step (SendPing i k) = at_one_site i _ (λ l a fl fa. one_site w i (pinged O k) (λ b. refl) (λ b fb. still w i b (pinged O k b) refl refl))
+    sites_step e = keeps_step e (outcome O w e) (step_of O w e)

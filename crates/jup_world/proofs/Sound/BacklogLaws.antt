@@ -10,28 +10,26 @@ use Rattle.jup_link.specs.Messages.{next_message}
 use Rattle.jup_link.specs.InStep.{InStepAt, Comes}
 use Rattle.jup_link.specs.Laws.LinkSteps.{client_generated, generated-after_count, generated-after_receive}
 use Rattle.jup_window.specs.Operations.{Operations, AreLawful}
-use Rattle.jup_star.specs.declared.messages.Up.{Up}
 use Rattle.jup_star.specs.declared.messages.Up.TheVariants.{Op as UpOp, Ack as UpAck, Ping as UpPing}
 use Rattle.jup_star.specs.declared.messages.Down.{Down}
 use Rattle.jup_star.specs.declared.messages.Down.TheVariants.{Op as DownOp, Ack as DownAck, Pong as DownPong}
-use Rattle.jup_star.specs.declared.faults.StarFault.{StarFault}
 use Rattle.jup_star.specs.declared.faults.SiteFault.TheVariants.{BadOp}
 use Rattle.jup_star.specs.FirstFaults.{test}
 use Rattle.jup_star.specs.LinkStates.{LinkState, opened_link, link_acked, link_ponged, link_fetched, link_sent, link_heard, operation_at, end_after}
-use Rattle.jup_star.specs.StarStates.{link_of, at_link, without, join_fault, up_fault}
-use Rattle.jup_star.specs.SiteStates.{running_test, heard_tests, deliver_tests, fits_shown, edit_answer, deliver_fault}
+use Rattle.jup_star.specs.StarStates.{link_of, at_link, without, joined}
+use Rattle.jup_star.specs.SiteStates.{running_test, heard_tests, deliver_tests, fits_shown, deliver_fault}
 use Rattle.jup_star.proofs.TestLists.{all_hold}
 use Rattle.jup_star.specs.Streams.{ups, downs}
 use Rattle.jup_star.proofs.Lookup.{found-end, found-end_other}
-use Rattle.jup_world.specs.Events.{Join, Leave, Edit as MakeEdit, Up as MoveUp, Down as MoveDown, Ping as SendPing}
 use Rattle.jup_world.specs.WorldStates.{WorldOf, AttachedOf, EventOf, attached, at_site, without_site}
-use Rattle.jup_world.specs.WorldSteps.{Outcome, new_site, join_outcome, with_edit, edit_outcome, one_taken, up_outcome, first_up, one_handed, down_outcome, first_down, pinged, with_fetched, only_fetched, at_attached, at_linked, happens, run}
+use Rattle.jup_world.specs.WorldSteps.{Outcome, new_site, with_edit, one_taken, one_handed, pinged, with_fetched, only_fetched, outcome, happens, run}
 use Rattle.jup_world.specs.Turns.{turns}
 use Rattle.jup_world.specs.Traces.{made, joined_at, shown_count}
 use Rattle.jup_world.specs.Backlogs.{told_count, Counts, CountsAt, AllCount, BacklogIsShort}
 use Rattle.jup_world.specs.Sound.{Standing, IsSound}
 use Rattle.jup_world.proofs.Numbered.{map_kept, by_number, at_one, at_all, at_removal}
-use Rattle.jup_world.proofs.Sound.SoundRuns.{either, result_cases, sound-happens}
+use Rattle.jup_world.proofs.EventSteps.{StepOf, Still, Enters, Goes, Makes, Asks, Takes, Hands, handed_number, step_of}
+use Rattle.jup_world.proofs.Sound.SoundRuns.{sound-happens}
 use Rattle.jup_world.proofs.Sound.SoundJoined.{no_site}
 use Rattle.jup_world.proofs.Sound.WorldTakes.{standing_of}
 
@@ -140,7 +138,7 @@ module _ (O : Operations) (L : AreLawful O) where
     with_one : (i : ℕ) (f : LinkState O.Op → LinkState O.Op) (g : AttachedOf O → AttachedOf O) (l : LinkState O.Op) (a : AttachedOf O)
         → ((k : LinkState O.Op) → (f k).site ≡ k.site) → ((b : AttachedOf O) → (g b).site.number ≡ b.site.number)
         → link_of i w.star.links ≡ Some l → attached i w.sites ≡ Some a → Counts O (f l) (g a) → (j : ℕ) → CountsAt O (link_of j (at_link i f w.star.links)) (attached j (at_site i g w.sites))
-    with_one i f g l a kf kg fl fa here = at_one (λ k. k.site) (λ b. b.site.number) (λ j ol oa. CountsAt O ol oa) i f g kf kg w.star.links w.sites l a fl fa here (λ j e. all j)
+    with_one i f g l a kf kg fl fa here = at_one (λ k. k.site) (λ b. b.site.number) (λ j ol oa. CountsAt O ol oa) i f g kf kg w.star.links w.sites l (Some a) fl fa here (λ j e. all j)
 
     -- those of one number are dropped
     without_one : (i : ℕ) (j : ℕ) → CountsAt O (link_of j (without i w.star.links)) (attached j (without_site i w.sites))
@@ -157,70 +155,21 @@ module _ (O : Operations) (L : AreLawful O) where
     sent_on op None (Some a) c = tt
     sent_on op None None c = tt
 
-    -- an event at a site
-    at_one_site : (i : ℕ) (f : LinkState O.Op → AttachedOf O → Outcome O)
-        → ((l : LinkState O.Op) (a : AttachedOf O) → link_of i w.star.links ≡ Some l → attached i w.sites ≡ Some a → (j : ℕ) → CountsAt O (link_of j (f l a).star.links) (attached j (f l a).sites))
-        → (j : ℕ) → CountsAt O (link_of j (at_linked O w i f (link_of i w.star.links)).star.links) (attached j (at_linked O w i f (link_of i w.star.links)).sites)
-    at_one_site i f h =
-        either (link_of i w.star.links) (λ o. (j : ℕ) → CountsAt O (link_of j (at_linked O w i f o).star.links) (attached j (at_linked O w i f o).sites)) (λ n. all)
-        (λ l fl. either (attached i w.sites) (λ o. (j : ℕ) → CountsAt O (link_of j (at_attached O w l f o).star.links) (attached j (at_attached O w l f o).sites)) (λ n. all) (λ a fa. h l a fl fa))
-
     -- a site alone is changed
     site_only : (i : ℕ) (g : AttachedOf O → AttachedOf O) (l : LinkState O.Op) (a : AttachedOf O) → ((b : AttachedOf O) → (g b).site.number ≡ b.site.number)
         → link_of i w.star.links ≡ Some l → attached i w.sites ≡ Some a → Counts O l (g a) → (j : ℕ) → CountsAt O (link_of j w.star.links) (attached j (at_site i g w.sites))
     site_only i g l a kg fl fa here j = subst (λ ls. CountsAt O (link_of j ls) (attached j (at_site i g w.sites))) (map_kept (λ k. k.site) i w.star.links)
         (with_one i (λ k. k) g l a (λ k. refl) kg fl fa here j)
 
-    -- the star takes a message or drops the site
-    up_counts : (i : ℕ) (l : LinkState O.Op) (a : AttachedOf O) → link_of i w.star.links ≡ Some l → attached i w.sites ≡ Some a → (up : Up O.Op) (f : Option StarFault)
-        → (j : ℕ) → CountsAt O (link_of j (up_outcome O w i l up f).star.links) (attached j (up_outcome O w i l up f).sites)
-    up_counts i l a fl fa up (Some fault) = without_one i
-    up_counts i l a fl fa (UpOp m) None = at_all (λ k. k.site) (λ b. b.site.number) (λ j ol oa. CountsAt O ol oa) i (link_heard O m) (link_sent (operation_at O l.end m)) (one_taken O)
-        (λ k. refl) (λ k. refl) (λ b. refl) w.star.links w.sites l a fl fa (heard_counts l a m (here_of i l a fl fa))
-        (λ j e. sent_on (operation_at O l.end m) (link_of j w.star.links) (attached j w.sites) (all j))
-    up_counts i l a fl fa (UpAck n) None = with_one i (link_acked n) (one_taken O) l a (λ k. refl) (λ b. refl) fl fa (acked_counts l a n (here_of i l a fl fa))
-    up_counts i l a fl fa (UpPing k) None = with_one i (link_ponged k) (one_taken O) l a (λ k. refl) (λ b. refl) fl fa (ponged_counts l a k (here_of i l a fl fa))
+  -- a link of which the star took a message, and its site if it has one
+  taken_counts : (w : WorldOf O) → AllCount O w → (i : ℕ) (l : LinkState O.Op) (oa : Option (AttachedOf O)) → link_of i w.star.links ≡ Some l → attached i w.sites ≡ oa
+      → (k : LinkState O.Op) → ((a : AttachedOf O) → Counts O l a → Counts O k (one_taken O a)) → CountsAt O (Some k) (option_map (one_taken O) oa)
+  taken_counts w all i l None fl fa k counts = tt
+  taken_counts w all i l (Some a) fl fa k counts = counts a (here_of w all i l a fl fa)
 
-    -- or nothing is there
-    first_up_counts : (i : ℕ) (l : LinkState O.Op) (a : AttachedOf O) → link_of i w.star.links ≡ Some l → attached i w.sites ≡ Some a → (us : List (Up O.Op))
-        → (j : ℕ) → CountsAt O (link_of j (first_up O w i l us).star.links) (attached j (first_up O w i l us).sites)
-    first_up_counts i l a fl fa [] = all
-    first_up_counts i l a fl fa (up ∷ us) = up_counts i l a fl fa up (up_fault O w.star l up)
-
-    -- a site keeps its number
-    number_kept : (d : Down O.Op) (ds : List (Down O.Op)) (b : AttachedOf O) → (one_handed O d ds b).site.number ≡ b.site.number
-    number_kept (DownOp m) ds b = refl
-    number_kept (DownAck n) ds b = refl
-    number_kept (DownPong k) ds b = refl
-
-    -- a site is handed a message
-    down_counts : (i : ℕ) (l : LinkState O.Op) (a : AttachedOf O) → link_of i w.star.links ≡ Some l → attached i w.sites ≡ Some a → (gone : ℕ) (d : Down O.Op) (ds : List (Down O.Op))
-        → a.down ++ l.outbox ≡ d ∷ (ds ++ drop gone l.outbox)
-        → (j : ℕ) → CountsAt O (link_of j (down_outcome O w i gone d ds (deliver_fault O d a.site)).star.links) (attached j (down_outcome O w i gone d ds (deliver_fault O d a.site)).sites)
-    down_counts i l a fl fa gone d ds e =
-        either (deliver_fault O d a.site) (λ f. (j : ℕ) → CountsAt O (link_of j (down_outcome O w i gone d ds f).star.links) (attached j (down_outcome O w i gone d ds f).sites))
-        (λ none. with_one i (link_fetched gone) (one_handed O d ds) l a (λ k. refl) (number_kept d ds) fl fa (handed_counts l a gone d ds e none (here_of i l a fl fa)))
-        (λ fault f. all)
-
-    -- or nothing is there
-    first_down_counts : (i : ℕ) (l : LinkState O.Op) (a : AttachedOf O) → link_of i w.star.links ≡ Some l → attached i w.sites ≡ Some a → (ds os : List (Down O.Op)) → a.down ≡ ds → l.outbox ≡ os
-        → (j : ℕ) → CountsAt O (link_of j (first_down O w i a ds os).star.links) (attached j (first_down O w i a ds os).sites)
-    first_down_counts i l a fl fa (d ∷ ds) os e q = down_counts i l a fl fa 0 d ds (ap (λ x. x ++ l.outbox) e)
-    first_down_counts i l a fl fa [] (d ∷ os) e q = down_counts i l a fl fa 1 d [] (ap (λ x. x ++ l.outbox) e ∙ (q ∙ ap (λ x. d ∷ drop 1 x) (sym q)))
-    first_down_counts i l a fl fa [] [] e q = all
-
-  -- a site edits or is refused
-  edit_all : (w : WorldOf O) (all : AllCount O w) (i : ℕ) (command : O.Command) (l : LinkState O.Op) (a : AttachedOf O) → link_of i w.star.links ≡ Some l → attached i w.sites ≡ Some a
-      → (j : ℕ) → CountsAt O (link_of j (edit_outcome O w i (edit_answer O command a.site)).star.links) (attached j (edit_outcome O w i (edit_answer O command a.site)).sites)
-  edit_all w all i command l a fl fa =
-      result_cases (edit_answer O command a.site) (λ r. (j : ℕ) → CountsAt O (link_of j (edit_outcome O w i r).star.links) (attached j (edit_outcome O w i r).sites))
-      (λ op ok. site_only w all i (with_edit O op) l a (λ b. refl) fl fa (edit_counts l a op (here_of w all i l a fl fa)))
-      (λ n e. all)
-
-  -- a site joins or is refused
-  join_all : (most : ℕ) (w : WorldOf O) → IsSound O most w → AllCount O w → (f : Option StarFault) → (j : ℕ) → CountsAt O (link_of j (join_outcome O w f).star.links) (attached j (join_outcome O w f).sites)
-  join_all most w s all (Some fault) = all
-  join_all most w s all None = by_number (λ k. k.site) (λ b. b.site.number) (λ j ol oa. CountsAt O ol oa) (w.star.given + 1)
+  -- a site joins
+  enter_counts : (most : ℕ) (w : WorldOf O) → IsSound O most w → AllCount O w → (j : ℕ) → CountsAt O (link_of j (joined w.star).links) (attached j (w.sites ++ new_site O w (w.star.given + 1) ∷ []))
+  enter_counts most w s all = by_number (λ k. k.site) (λ b. b.site.number) (λ j ol oa. CountsAt O ol oa) (w.star.given + 1)
       (λ j. CountsAt O (link_of j (w.star.links ++ opened_link (w.star.given + 1) ∷ [])) (attached j (w.sites ++ new_site O w (w.star.given + 1) ∷ [])))
       (subst (λ o. CountsAt O o (attached (w.star.given + 1) (w.sites ++ new_site O w (w.star.given + 1) ∷ [])))
       (sym (found-end (λ k. k.site) (w.star.given + 1) w.star.links (opened_link (w.star.given + 1)) (s.star.no_link (w.star.given + 1) (omega arith)) (eq-eqb (w.star.given + 1) (w.star.given + 1) refl)))
@@ -230,14 +179,28 @@ module _ (O : Operations) (L : AreLawful O) where
       (λ j e. subst (λ o. CountsAt O o (attached j (w.sites ++ new_site O w (w.star.given + 1) ∷ []))) (sym (found-end_other (λ k. k.site) j w.star.links (opened_link (w.star.given + 1)) e))
       (subst (λ o. CountsAt O (link_of j w.star.links) o) (sym (found-end_other (λ b. b.site.number) j w.sites (new_site O w (w.star.given + 1)) e)) (all j)))
 
+  -- an event, by what it comes to
+  counts-step : (most : ℕ) (w : WorldOf O) → IsSound O most w → AllCount O w → (e : EventOf O) (o : Outcome O) → StepOf O w e o → (j : ℕ) → CountsAt O (link_of j o.star.links) (attached j o.sites)
+  counts-step most w s all e o (Still why) = all
+  counts-step most w s all e o (Enters none) = enter_counts most w s all
+  counts-step most w s all e o (Goes i l oa fl fa why) = without_one w all i
+  counts-step most w s all e o (Makes i command l a op fl fa ok) = site_only w all i (with_edit O op) l a (λ b. refl) fl fa (edit_counts l a op (here_of w all i l a fl fa))
+  counts-step most w s all e o (Asks i k l a fl fa) = site_only w all i (pinged O k) l a (λ b. refl) fl fa (pinged_counts l a k (here_of w all i l a fl fa))
+  counts-step most w s all e o (Takes i l oa (UpOp m) fl fa brought none) =
+      at_all (λ k. k.site) (λ b. b.site.number) (λ j ol oa. CountsAt O ol oa) i (link_heard O m) (link_sent (operation_at O l.end m)) (one_taken O)
+      (λ k. refl) (λ k. refl) (λ b. refl) w.star.links w.sites l oa fl fa (taken_counts w all i l oa fl fa (link_heard O m l) (λ a c. heard_counts l a m c))
+      (λ j e. sent_on w all (operation_at O l.end m) (link_of j w.star.links) (attached j w.sites) (all j))
+  counts-step most w s all e o (Takes i l oa (UpAck n) fl fa brought none) =
+      at_one (λ k. k.site) (λ b. b.site.number) (λ j ol oa. CountsAt O ol oa) i (link_acked n) (one_taken O) (λ k. refl) (λ b. refl) w.star.links w.sites l oa fl fa
+      (taken_counts w all i l oa fl fa (link_acked n l) (λ a c. acked_counts l a n c)) (λ j e. all j)
+  counts-step most w s all e o (Takes i l oa (UpPing k) fl fa brought none) =
+      at_one (λ k. k.site) (λ b. b.site.number) (λ j ol oa. CountsAt O ol oa) i (link_ponged k) (one_taken O) (λ k. refl) (λ b. refl) w.star.links w.sites l oa fl fa
+      (taken_counts w all i l oa fl fa (link_ponged k l) (λ a c. ponged_counts l a k c)) (λ j e. all j)
+  counts-step most w s all e o (Hands i gone l a d ds fl fa falls none) = with_one w all i (link_fetched gone) (one_handed O d ds) l a (λ k. refl) (handed_number O d ds) fl fa (handed_counts l a gone d ds falls none (here_of w all i l a fl fa))
+
   -- each event keeps the counts
   pub counts-happens : (most : ℕ) (w : WorldOf O) → IsSound O most w → AllCount O w → (e : EventOf O) → AllCount O (happens O w e)
-  counts-happens most w s all Join = join_all most w s all (join_fault w.star)
-  counts-happens most w s all (Leave i) = at_one_site w all i _ (λ l a fl fa. without_one w all i)
-  counts-happens most w s all (MakeEdit i command) = at_one_site w all i _ (edit_all w all i command)
-  counts-happens most w s all (MoveUp i) = at_one_site w all i _ (λ l a fl fa. first_up_counts w all i l a fl fa a.up)
-  counts-happens most w s all (MoveDown i) = at_one_site w all i _ (λ l a fl fa. first_down_counts w all i l a fl fa a.down l.outbox refl refl)
-  counts-happens most w s all (SendPing i k) = at_one_site w all i _ (λ l a fl fa. site_only w all i (pinged O k) l a (λ b. refl) fl fa (pinged_counts l a k (here_of w all i l a fl fa)))
+  counts-happens most w s all e = counts-step most w s all e (outcome O w e) (step_of O w e)
 
   -- and so does every run
   pub counts-run : (es : List (EventOf O)) (most : ℕ) (w : WorldOf O) → IsSound O most w → AllCount O w → AllCount O (run O w es)
@@ -260,7 +223,7 @@ module _ (O : Operations) (L : AreLawful O) where
     quiet = λ q i a fa. (let st = standing_of O L most w s i a fa in level i a st.0 st.1 (here_of w all i st.0 a st.2 fa) (q i st.0 a st.2 fa));
   }
     where
-      level : (i : ℕ) (a : AttachedOf O) (l : LinkState O.Op) → Standing O most (O.t.content w.opening) (turns i w.star.order) w.star.board (made i w.trace) (joined_at i w.trace) (shown_count i w.trace) i l a
+      level : (i : ℕ) (a : AttachedOf O) (l : LinkState O.Op) → Standing O most (O.t.content w.opening) (turns i w.star.order) w.star.board (made i w.trace) (joined_at O i w.trace) (shown_count i w.trace) i l a
           → Counts O l a → (a.up ≡ []) × (a.down ≡ []) × (l.outbox ≡ []) → length a.site.end.outgoing < answer_after
       level i a l st c q =
           let step = subst (λ r. InStepAt O.t 0 st.pair.from st.pair.site_ahead st.pair.star_ahead a.site.board w.star.board a.site.end l.end r (downs (a.down ++ l.outbox))) (ap ups q.0) st.pair.in_step in

@@ -21,9 +21,9 @@ module _ (O : Operations) (L : AreLawful O) where
     order_is = s.order_is;
     star = star-fetched O L most (O.t.content w.opening) w.star s.star i n;
     stand = at_one (λ k. k.site) (λ b. b.site.number)
-        (λ j ol oa. StandsAt O most (O.t.content w.opening) (turns j w.star.order) w.star.board (made j w.trace) (joined_at j w.trace) (shown_count j w.trace) j ol oa)
-        i (link_fetched n) (with_fetched O n l) (λ k. refl) (λ b. refl) w.star.links w.sites l a fl fa
-        (place-fetched O L most (O.t.content w.opening) w.star (made i w.trace) i (joined_at i w.trace) (shown_count i w.trace) l a (standing O L most w s i l a fl fa) (omega (arith, s.star.few, s.star.limited)) n)
+        (λ j ol oa. StandsAt O most (O.t.content w.opening) (turns j w.star.order) w.star.board (made j w.trace) (joined_at O j w.trace) (shown_count j w.trace) j ol oa)
+        i (link_fetched n) (with_fetched O n l) (λ k. refl) (λ b. refl) w.star.links w.sites l (Some a) fl fa
+        (place-fetched O L most (O.t.content w.opening) w.star (made i w.trace) i (joined_at O i w.trace) (shown_count i w.trace) l a (standing O L most w s i l a fl fa) (omega (arith, s.star.few, s.star.limited)) n)
         (λ j e. s.stand j);
     no_edit = s.no_edit;
     no_shown = s.no_shown;

@@ -96,7 +96,7 @@ module _ (O : Operations) (L : AreLawful O) where
     no_site = alone (link_of i w.star.links) (attached i w.sites) (s.star.no_link i new) (s.stand i)
       where
         alone : (ol : Option (LinkState O.Op)) (oa : Option (AttachedOf O)) → ol ≡ None
-            → StandsAt O most (O.t.content w.opening) (turns i w.star.order) w.star.board (made i w.trace) (joined_at i w.trace) (shown_count i w.trace) i ol oa → oa ≡ None
+            → StandsAt O most (O.t.content w.opening) (turns i w.star.order) w.star.board (made i w.trace) (joined_at O i w.trace) (shown_count i w.trace) i ol oa → oa ≡ None
         alone None None e h = refl
         alone None (Some a) e h = absurd h
         alone (Some l) oa e h = absurd (cc)
@@ -104,16 +104,16 @@ module _ (O : Operations) (L : AreLawful O) where
     -- so the world is sound
     pub sound-joined : IsSound O most (after_event O L w (joined w.star) (w.sites ++ new_site O w i ∷ []) Join (Joined i))
     sound-joined =
-        let h : Happened O.Command O.Edit ℕ = record { event = Join; reply = Joined i } in
+        let h : Happened O.Command O.Op O.Edit ℕ = record { event = Join; reply = Joined i } in
         let mades : (j : ℕ) → made j (w.trace ++ h ∷ []) ≡ made j w.trace = λ j. made-end j w.trace h ∙ append-nil (made j w.trace) in
-        let joins : (j : ℕ) → joined_at j (w.trace ++ h ∷ []) ≡ cond (nat_eq i j) (length w.star.order) (joined_at j w.trace) = λ j. joined-end j w.trace h ∙ ap (λ os. cond (nat_eq i j) (length os) (joined_at j w.trace)) s.order_is in
+        let joins : (j : ℕ) → joined_at O j (w.trace ++ h ∷ []) ≡ cond (nat_eq i j) (length w.star.order) (joined_at O j w.trace) = λ j. joined-end O j w.trace h ∙ ap (λ os. cond (nat_eq i j) (length os) (joined_at O j w.trace)) s.order_is in
         let showns : (j : ℕ) → shown_count j (w.trace ++ h ∷ []) ≡ shown_count j w.trace = λ j. shown-end j w.trace h ∙ add-zero (shown_count j w.trace) in
         record {
-          order_is = order-end w.trace h ∙ append-nil (order_of w.trace) ∙ s.order_is;
+          order_is = order-end O w.trace h ∙ append-nil (order_of O w.trace) ∙ s.order_is;
           star = star-joined O L most (O.t.content w.opening) w.star s.star;
-          stand = λ j. subst (λ es. StandsAt O most (O.t.content w.opening) (turns j w.star.order) w.star.board es (joined_at j (w.trace ++ h ∷ [])) (shown_count j (w.trace ++ h ∷ [])) j (link_of j (joined w.star).links) (attached j (w.sites ++ new_site O w i ∷ []))) (sym (mades j))
+          stand = λ j. subst (λ es. StandsAt O most (O.t.content w.opening) (turns j w.star.order) w.star.board es (joined_at O j (w.trace ++ h ∷ [])) (shown_count j (w.trace ++ h ∷ [])) j (link_of j (joined w.star).links) (attached j (w.sites ++ new_site O w i ∷ []))) (sym (mades j))
               (subst (λ k. StandsAt O most (O.t.content w.opening) (turns j w.star.order) w.star.board (made j w.trace) k (shown_count j (w.trace ++ h ∷ [])) j (link_of j (joined w.star).links) (attached j (w.sites ++ new_site O w i ∷ []))) (sym (joins j))
-              (subst (λ k. StandsAt O most (O.t.content w.opening) (turns j w.star.order) w.star.board (made j w.trace) (cond (nat_eq i j) (length w.star.order) (joined_at j w.trace)) k j (link_of j (joined w.star).links) (attached j (w.sites ++ new_site O w i ∷ []))) (sym (showns j))
+              (subst (λ k. StandsAt O most (O.t.content w.opening) (turns j w.star.order) w.star.board (made j w.trace) (cond (nat_eq i j) (length w.star.order) (joined_at O j w.trace)) k j (link_of j (joined w.star).links) (attached j (w.sites ++ new_site O w i ∷ []))) (sym (showns j))
               (stands (nat_eq i j) j refl)));
           no_edit = λ j g. mades j ∙ s.no_edit j (omega arith);
           no_shown = λ j g. showns j ∙ s.no_shown j (omega arith);
@@ -123,14 +123,14 @@ module _ (O : Operations) (L : AreLawful O) where
         same_link : opened_link {Operation = O.Op} (w.star.given + 1) ≡ opened_link {Operation = O.Op} i
         same_link = ap (λ k. opened_link {Operation = O.Op} k) (sym next)
 
-        stands : (b : Bool) (j : ℕ) → nat_eq i j ≡ b → StandsAt O most (O.t.content w.opening) (turns j w.star.order) w.star.board (made j w.trace) (cond b (length w.star.order) (joined_at j w.trace)) (shown_count j w.trace) j
+        stands : (b : Bool) (j : ℕ) → nat_eq i j ≡ b → StandsAt O most (O.t.content w.opening) (turns j w.star.order) w.star.board (made j w.trace) (cond b (length w.star.order) (joined_at O j w.trace)) (shown_count j w.trace) j
             (link_of j (joined w.star).links) (attached j (w.sites ++ new_site O w i ∷ []))
         stands true j e = subst (λ k. StandsAt O most (O.t.content w.opening) (turns k w.star.order) w.star.board (made k w.trace) (length w.star.order) (shown_count k w.trace) k (link_of k (joined w.star).links) (attached k (w.sites ++ new_site O w i ∷ []))) (eqb-true i j e)
             (subst (λ o. StandsAt O most (O.t.content w.opening) (turns i w.star.order) w.star.board (made i w.trace) (length w.star.order) (shown_count i w.trace) i o (attached i (w.sites ++ new_site O w i ∷ [])))
             (sym (found-end (λ l. l.site) i w.star.links (opened_link (w.star.given + 1)) (s.star.no_link i new) (eq-eqb (w.star.given + 1) i (sym next)) ∙ ap Some same_link))
             (subst (λ o. StandsAt O most (O.t.content w.opening) (turns i w.star.order) w.star.board (made i w.trace) (length w.star.order) (shown_count i w.trace) i (Some (opened_link i)) o)
             (sym (found-end (λ a. a.site.number) i w.sites (new_site O w i) no_site (eq-eqb i i refl))) new_stands))
-        stands false j e = subst (λ o. StandsAt O most (O.t.content w.opening) (turns j w.star.order) w.star.board (made j w.trace) (joined_at j w.trace) (shown_count j w.trace) j o (attached j (w.sites ++ new_site O w i ∷ [])))
+        stands false j e = subst (λ o. StandsAt O most (O.t.content w.opening) (turns j w.star.order) w.star.board (made j w.trace) (joined_at O j w.trace) (shown_count j w.trace) j o (attached j (w.sites ++ new_site O w i ∷ [])))
             (sym (found-end_other (λ l. l.site) j w.star.links (opened_link (w.star.given + 1)) (subst (λ k. nat_eq k j ≡ false) next e)))
-            (subst (λ o. StandsAt O most (O.t.content w.opening) (turns j w.star.order) w.star.board (made j w.trace) (joined_at j w.trace) (shown_count j w.trace) j (link_of j w.star.links) o)
+            (subst (λ o. StandsAt O most (O.t.content w.opening) (turns j w.star.order) w.star.board (made j w.trace) (joined_at O j w.trace) (shown_count j w.trace) j (link_of j w.star.links) o)
             (sym (found-end_other (λ a. a.site.number) j w.sites (new_site O w i) e)) (s.stand j))

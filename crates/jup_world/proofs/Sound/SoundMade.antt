@@ -1,5 +1,5 @@
 -- A sound world is sound after an edit.
-use Rattle.std.proofs.Common.{◌≡◌, ℕ, ◌+◌, ◌<◌, Bool, true, false, cond, List, [], ◌∷◌, ◌++◌, map, length, nat_eq, refl, ap, sym, ◌∙◌, subst, Some, None, append-nil, add-zero, eq-eqb, ne_eqb, Ok}
+use Rattle.std.proofs.Common.{◌≡◌, ℕ, ◌+◌, ◌<◌, Bool, true, false, cond, List, [], ◌∷◌, ◌++◌, length, nat_eq, refl, ap, sym, ◌∙◌, subst, Some, None, append-nil, add-zero, eq-eqb, ne_eqb, Ok}
 use Rattle.jup_window.specs.Operations.{Operations, AreLawful}
 use Rattle.jup_star.proofs.Lookup.{found}
 use Rattle.jup_world.specs.Turns.{turns}
@@ -14,7 +14,7 @@ use Rattle.jup_star.specs.LinkStates.{LinkState}
 use Rattle.jup_star.specs.StarStates.{link_of, with_links}
 use Rattle.jup_star.specs.SiteStates.{edit_answer}
 use Rattle.jup_world.proofs.Sound.TraceLaws.{made-end, order-end, joined-end, shown-end}
-use Rattle.jup_world.proofs.Numbered.{at_one}
+use Rattle.jup_world.proofs.Numbered.{map_kept, at_one}
 use Rattle.jup_world.proofs.Pairs.Stands.{stand-makes}
 use Rattle.jup_world.proofs.Sound.Silent.{after_event}
 use Rattle.jup_world.proofs.Sound.WorldTakes.{standing, order_fits}
@@ -22,20 +22,20 @@ use Rattle.jup_world.proofs.Sound.WorldTakes.{standing, order_fits}
 module _ (O : Operations) (L : AreLawful O) where
   -- an event that leaves the star's board and order, and adds to what a site made or was shown
   pub sound-told : (most : ℕ) (w : WorldOf O) (event : EventOf O) (reply : ReplyOf O) (links : List (LinkState O.Op)) (sites : List (AttachedOf O))
-      → IsSound O most w → entry_taken w.trace (order_of w.trace) event reply ≡ []
+      → IsSound O most w → entry_taken O w.trace (order_of O w.trace) event reply ≡ []
       → ((i : ℕ) → StandsAt O most (O.t.content w.opening) (turns i w.star.order) w.star.board (made i w.trace ++ edit_made i event reply)
-      (join_seen i (length (order_of w.trace)) (joined_at i w.trace) event reply) (shown_count i w.trace + was_shown i event reply) i (found (λ l. l.site) i links) (attached i sites))
+      (join_seen i (length (order_of O w.trace)) (joined_at O i w.trace) event reply) (shown_count i w.trace + was_shown i event reply) i (found (λ l. l.site) i links) (attached i sites))
       → ((i : ℕ) → w.star.given < i → (edit_made i event reply ≡ []) × (was_shown i event reply ≡ 0))
       → IsSoundStar O most (O.t.content w.opening) (with_links w.star links)
       → IsSound O most (after_event O L w (with_links w.star links) sites event reply)
   sound-told most w event reply links sites s e stands none star =
-      let h : Happened O.Command O.Edit ℕ = record { event = event; reply = reply } in
+      let h : Happened O.Command O.Op O.Edit ℕ = record { event = event; reply = reply } in
       record {
-        order_is = order-end w.trace h ∙ ap (λ es. order_of w.trace ++ es) e ∙ append-nil (order_of w.trace) ∙ s.order_is;
+        order_is = order-end O w.trace h ∙ ap (λ es. order_of O w.trace ++ es) e ∙ append-nil (order_of O w.trace) ∙ s.order_is;
         star = star;
-        stand = λ i. subst (λ es. StandsAt O most (O.t.content w.opening) (turns i w.star.order) w.star.board es (joined_at i (w.trace ++ h ∷ [])) (shown_count i (w.trace ++ h ∷ [])) i (found (λ l. l.site) i links) (attached i sites)) (sym (made-end i w.trace h))
-            (subst (λ k. StandsAt O most (O.t.content w.opening) (turns i w.star.order) w.star.board (made i w.trace ++ edit_made i event reply) k (shown_count i (w.trace ++ h ∷ [])) i (found (λ l. l.site) i links) (attached i sites)) (sym (joined-end i w.trace h))
-            (subst (λ k. StandsAt O most (O.t.content w.opening) (turns i w.star.order) w.star.board (made i w.trace ++ edit_made i event reply) (join_seen i (length (order_of w.trace)) (joined_at i w.trace) event reply) k i (found (λ l. l.site) i links) (attached i sites))
+        stand = λ i. subst (λ es. StandsAt O most (O.t.content w.opening) (turns i w.star.order) w.star.board es (joined_at O i (w.trace ++ h ∷ [])) (shown_count i (w.trace ++ h ∷ [])) i (found (λ l. l.site) i links) (attached i sites)) (sym (made-end i w.trace h))
+            (subst (λ k. StandsAt O most (O.t.content w.opening) (turns i w.star.order) w.star.board (made i w.trace ++ edit_made i event reply) k (shown_count i (w.trace ++ h ∷ [])) i (found (λ l. l.site) i links) (attached i sites)) (sym (joined-end O i w.trace h))
+            (subst (λ k. StandsAt O most (O.t.content w.opening) (turns i w.star.order) w.star.board (made i w.trace ++ edit_made i event reply) (join_seen i (length (order_of O w.trace)) (joined_at O i w.trace) event reply) k i (found (λ l. l.site) i links) (attached i sites))
             (sym (shown-end i w.trace h)) (stands i)));
         no_edit = λ i g. made-end i w.trace h ∙ ap (λ es. made i w.trace ++ es) (none i g).0 ∙ append-nil (made i w.trace) ∙ s.no_edit i g;
         no_shown = λ i g. shown-end i w.trace h ∙ ap (λ k. shown_count i w.trace + k) (none i g).1 ∙ add-zero (shown_count i w.trace) ∙ s.no_shown i g;
@@ -48,7 +48,7 @@ module _ (O : Operations) (L : AreLawful O) where
       → IsSound O most (after_event O L w w.star (at_site i (λ b. with_edit O op b) w.sites) (MakeEdit i command) (Made (O.t.edit_of op)))
   sound-made most w s i l a fl fa command op ok =
       sound-told most w (MakeEdit i command) (Made (O.t.edit_of op)) w.star.links (at_site i (λ b. with_edit O op b) w.sites) s refl
-      (λ j. subst (λ k. StandsAt O most (O.t.content w.opening) (turns j w.star.order) w.star.board (made j w.trace ++ edit_made {Fault = ℕ} j (MakeEdit i command) (Made (O.t.edit_of op))) (joined_at j w.trace) k j (found (λ l. l.site) j w.star.links) (attached j (at_site i (λ b. with_edit O op b) w.sites))) (sym (add-zero (shown_count j w.trace)))
+      (λ j. subst (λ k. StandsAt O most (O.t.content w.opening) (turns j w.star.order) w.star.board (made j w.trace ++ edit_made {Operation = O.Op} {Fault = ℕ} j (MakeEdit i command) (Made (O.t.edit_of op))) (joined_at O j w.trace) k j (found (λ l. l.site) j w.star.links) (attached j (at_site i (λ b. with_edit O op b) w.sites))) (sym (add-zero (shown_count j w.trace)))
       (stands j))
       (λ j g. (none (nat_eq i j) (apart j g), refl))
       s.star
@@ -64,25 +64,14 @@ module _ (O : Operations) (L : AreLawful O) where
       some true e = refl
       some false e = absurd (cc)
 
-      keep : (xs : List (LinkState O.Op)) → map (λ z. cond (nat_eq z.site i) z z) xs ≡ xs
-      keep [] = refl
-      keep (x ∷ xs) = both_same (both (nat_eq x.site i)) (keep xs)
-        where
-          both : (b : Bool) → cond b x x ≡ x
-          both true = refl
-          both false = refl
-
-          both_same : {x y : LinkState O.Op} {xs ys : List (LinkState O.Op)} → x ≡ y → xs ≡ ys → x ∷ xs ≡ y ∷ ys
-          both_same p q = cc
-
-      stands : (j : ℕ) → StandsAt O most (O.t.content w.opening) (turns j w.star.order) w.star.board (made j w.trace ++ cond (nat_eq i j) (O.t.edit_of op ∷ []) []) (joined_at j w.trace) (shown_count j w.trace) j
+      stands : (j : ℕ) → StandsAt O most (O.t.content w.opening) (turns j w.star.order) w.star.board (made j w.trace ++ cond (nat_eq i j) (O.t.edit_of op ∷ []) []) (joined_at O j w.trace) (shown_count j w.trace) j
           (found (λ l. l.site) j w.star.links) (attached j (at_site i (λ b. with_edit O op b) w.sites))
-      stands j = subst (λ ls. StandsAt O most (O.t.content w.opening) (turns j w.star.order) w.star.board (made j w.trace ++ cond (nat_eq i j) (O.t.edit_of op ∷ []) []) (joined_at j w.trace) (shown_count j w.trace) j
-          (found (λ l. l.site) j ls) (attached j (at_site i (λ b. with_edit O op b) w.sites))) (keep w.star.links)
+      stands j = subst (λ ls. StandsAt O most (O.t.content w.opening) (turns j w.star.order) w.star.board (made j w.trace ++ cond (nat_eq i j) (O.t.edit_of op ∷ []) []) (joined_at O j w.trace) (shown_count j w.trace) j
+          (found (λ l. l.site) j ls) (attached j (at_site i (λ b. with_edit O op b) w.sites))) (map_kept (λ k. k.site) i w.star.links)
           (at_one (λ k. k.site) (λ b. b.site.number)
-          (λ j ol oa. StandsAt O most (O.t.content w.opening) (turns j w.star.order) w.star.board (made j w.trace ++ cond (nat_eq i j) (O.t.edit_of op ∷ []) []) (joined_at j w.trace) (shown_count j w.trace) j ol oa)
-          i (λ k. k) (λ b. with_edit O op b) (λ k. refl) (λ b. refl) w.star.links w.sites l a fl fa
-          (subst (λ es. Standing O most (O.t.content w.opening) (turns i w.star.order) w.star.board (made i w.trace ++ es) (joined_at i w.trace) (shown_count i w.trace) i l (with_edit O op a)) (some (nat_eq i i) (eq-eqb i i refl))
-          (stand-makes O L most (O.t.content w.opening) (turns i w.star.order) w.star.board (made i w.trace) (joined_at i w.trace) (shown_count i w.trace) i l a (standing O L most w s i l a fl fa) command op ok (order_fits O L most w s i l a fl fa) s.star.counted))
-          (λ k e. subst (λ es. StandsAt O most (O.t.content w.opening) (turns k w.star.order) w.star.board es (joined_at k w.trace) (shown_count k w.trace) k (found (λ l. l.site) k w.star.links) (attached k w.sites))
+          (λ j ol oa. StandsAt O most (O.t.content w.opening) (turns j w.star.order) w.star.board (made j w.trace ++ cond (nat_eq i j) (O.t.edit_of op ∷ []) []) (joined_at O j w.trace) (shown_count j w.trace) j ol oa)
+          i (λ k. k) (λ b. with_edit O op b) (λ k. refl) (λ b. refl) w.star.links w.sites l (Some a) fl fa
+          (subst (λ es. Standing O most (O.t.content w.opening) (turns i w.star.order) w.star.board (made i w.trace ++ es) (joined_at O i w.trace) (shown_count i w.trace) i l (with_edit O op a)) (some (nat_eq i i) (eq-eqb i i refl))
+          (stand-makes O L most (O.t.content w.opening) (turns i w.star.order) w.star.board (made i w.trace) (joined_at O i w.trace) (shown_count i w.trace) i l a (standing O L most w s i l a fl fa) command op ok (order_fits O L most w s i l a fl fa) s.star.counted))
+          (λ k e. subst (λ es. StandsAt O most (O.t.content w.opening) (turns k w.star.order) w.star.board es (joined_at O k w.trace) (shown_count k w.trace) k (found (λ l. l.site) k w.star.links) (attached k w.sites))
           (sym (ap (λ es. made k w.trace ++ es) (none (nat_eq i k) e) ∙ append-nil (made k w.trace))) (s.stand k)) j)

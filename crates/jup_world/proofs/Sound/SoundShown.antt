@@ -28,12 +28,12 @@ use Rattle.jup_world.proofs.Sound.WorldTakes.{standing, order_fits}
 module _ (O : Operations) (L : AreLawful O) (most : ℕ) (w : WorldOf O) (s : IsSound O most w) (i : ℕ) (l : LinkState O.Op) (a : AttachedOf O) (fl : link_of i w.star.links ≡ Some l) (fa : attached i w.sites ≡ Some a)
     (m : Msg O.Op) (gone : ℕ) (falling : List (Down O.Op)) (comes : downs (a.down ++ l.outbox) ≡ sent m ∷ downs (falling ++ drop gone l.outbox)) where
   -- the site at its place of the order
-  pub st : Standing O most (O.t.content w.opening) (turns i w.star.order) w.star.board (made i w.trace) (joined_at i w.trace) (shown_count i w.trace) i l a
+  pub st : Standing O most (O.t.content w.opening) (turns i w.star.order) w.star.board (made i w.trace) (joined_at O i w.trace) (shown_count i w.trace) i l a
   st = standing O L most w s i l a fl fa
 
   -- how many entries it was told
   abbrev pub t : ℕ
-  t = told_of O (joined_at i w.trace) (shown_count i w.trace) (turns i w.star.order)
+  t = told_of O (joined_at O i w.trace) (shown_count i w.trace) (turns i w.star.order)
 
   -- there is room for what may still come
   pub fits : length (take t (turns i w.star.order) ++ drop t (turns i w.star.order)) + 1026 ≤ most
@@ -49,13 +49,13 @@ module _ (O : Operations) (L : AreLawful O) (most : ℕ) (w : WorldOf O) (s : Is
 
   -- a site that stands is handed nothing that it refuses
   pub shown_fits : deliver_fault O (DownOp m) a.site ≡ None
-  shown_fits = place-fits O L most (O.t.content w.opening) w.star (made i w.trace) i (joined_at i w.trace) (shown_count i w.trace) l a st order_room (DownOp m) gone falling comes
+  shown_fits = place-fits O L most (O.t.content w.opening) w.star (made i w.trace) i (joined_at O i w.trace) (shown_count i w.trace) l a st order_room (DownOp m) gone falling comes
 
   -- so the world is sound
   pub sound-shown : IsSound O most (after_event O L w (fetched i gone w.star) (at_site i (λ b. one_handed O (DownOp m) falling b) w.sites) (MoveDown i) Shown)
   sound-shown =
       sound-told O L most w (MoveDown i) Shown (at_link i (link_fetched gone) w.star.links) (at_site i (λ b. one_handed O (DownOp m) falling b) w.sites) s refl
-      (λ j. subst (λ es. StandsAt O most (O.t.content w.opening) (turns j w.star.order) w.star.board es (joined_at j w.trace) (shown_count j w.trace + cond (nat_eq i j) 1 0) j
+      (λ j. subst (λ es. StandsAt O most (O.t.content w.opening) (turns j w.star.order) w.star.board es (joined_at O j w.trace) (shown_count j w.trace + cond (nat_eq i j) 1 0) j
       (found (λ l. l.site) j (at_link i (link_fetched gone) w.star.links)) (attached j (at_site i (λ b. one_handed O (DownOp m) falling b) w.sites))) (sym (append-nil (made j w.trace))) (stands j))
       (λ j g. (refl, none (nat_eq i j) (apart j g)))
       (star-fetched O L most (O.t.content w.opening) w.star s.star i gone)
@@ -71,12 +71,12 @@ module _ (O : Operations) (L : AreLawful O) (most : ℕ) (w : WorldOf O) (s : Is
       one true e = refl
       one false e = absurd (cc)
 
-      stands : (j : ℕ) → StandsAt O most (O.t.content w.opening) (turns j w.star.order) w.star.board (made j w.trace) (joined_at j w.trace) (shown_count j w.trace + cond (nat_eq i j) 1 0) j
+      stands : (j : ℕ) → StandsAt O most (O.t.content w.opening) (turns j w.star.order) w.star.board (made j w.trace) (joined_at O j w.trace) (shown_count j w.trace + cond (nat_eq i j) 1 0) j
           (found (λ l. l.site) j (at_link i (link_fetched gone) w.star.links)) (attached j (at_site i (λ b. one_handed O (DownOp m) falling b) w.sites))
       stands = at_one (λ k. k.site) (λ b. b.site.number)
-          (λ j ol oa. StandsAt O most (O.t.content w.opening) (turns j w.star.order) w.star.board (made j w.trace) (joined_at j w.trace) (shown_count j w.trace + cond (nat_eq i j) 1 0) j ol oa)
-          i (link_fetched gone) (λ b. one_handed O (DownOp m) falling b) (λ k. refl) (λ b. refl) w.star.links w.sites l a fl fa
-          (subst (λ k. Standing O most (O.t.content w.opening) (turns i w.star.order) w.star.board (made i w.trace) (joined_at i w.trace) (shown_count i w.trace + k) i (link_fetched gone l) (one_handed O (DownOp m) falling a)) (one (nat_eq i i) (eq-eqb i i refl))
-          (place-shown O L most (O.t.content w.opening) w.star (made i w.trace) i (joined_at i w.trace) (shown_count i w.trace) l a st order_room m gone falling comes))
-          (λ j e. subst (λ k. StandsAt O most (O.t.content w.opening) (turns j w.star.order) w.star.board (made j w.trace) (joined_at j w.trace) k j (found (λ l. l.site) j w.star.links) (attached j w.sites))
+          (λ j ol oa. StandsAt O most (O.t.content w.opening) (turns j w.star.order) w.star.board (made j w.trace) (joined_at O j w.trace) (shown_count j w.trace + cond (nat_eq i j) 1 0) j ol oa)
+          i (link_fetched gone) (λ b. one_handed O (DownOp m) falling b) (λ k. refl) (λ b. refl) w.star.links w.sites l (Some a) fl fa
+          (subst (λ k. Standing O most (O.t.content w.opening) (turns i w.star.order) w.star.board (made i w.trace) (joined_at O i w.trace) (shown_count i w.trace + k) i (link_fetched gone l) (one_handed O (DownOp m) falling a)) (one (nat_eq i i) (eq-eqb i i refl))
+          (place-shown O L most (O.t.content w.opening) w.star (made i w.trace) i (joined_at O i w.trace) (shown_count i w.trace) l a st order_room m gone falling comes))
+          (λ j e. subst (λ k. StandsAt O most (O.t.content w.opening) (turns j w.star.order) w.star.board (made j w.trace) (joined_at O j w.trace) k j (found (λ l. l.site) j w.star.links) (attached j w.sites))
           (sym (ap (λ k. shown_count j w.trace + k) (none (nat_eq i j) e) ∙ add-zero (shown_count j w.trace))) (s.stand j))

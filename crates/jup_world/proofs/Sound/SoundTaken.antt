@@ -26,7 +26,7 @@ use Rattle.jup_world.proofs.Pairs.PlaceKept.{place-taken, place-sent}
 module _ (O : Operations) (L : AreLawful O) (most : ℕ) (w : WorldOf O) (s : IsSound O most w) (i : ℕ) (l : LinkState O.Op) (a : AttachedOf O) (fl : link_of i w.star.links ≡ Some l) (fa : attached i w.sites ≡ Some a)
     (m : Msg O.Op) (us : List (Up O.Op)) (rising : a.up ≡ UpOp m ∷ us) (none : up_fault O w.star l (UpOp m) ≡ None) where
   -- the event in the trace
-  abbrev h : Happened O.Command O.Edit ℕ
+  abbrev h : Happened O.Command O.Op O.Edit ℕ
   h = record { event = MoveUp i; reply = Taken (length w.star.order) }
 
   -- the operation that the star applies
@@ -42,18 +42,18 @@ module _ (O : Operations) (L : AreLawful O) (most : ℕ) (w : WorldOf O) (s : Is
   fits = omega (arith, s.star.few, s.star.limited)
 
   -- the site at its place of the order
-  st : Standing O most (O.t.content w.opening) (turns i w.star.order) w.star.board (made i w.trace) (joined_at i w.trace) (shown_count i w.trace) i l a
+  st : Standing O most (O.t.content w.opening) (turns i w.star.order) w.star.board (made i w.trace) (joined_at O i w.trace) (shown_count i w.trace) i l a
   st = standing O L most w s i l a fl fa
 
   -- every other site is sent the operation
   others_sent : (j : ℕ) → nat_eq i j ≡ false → (ol : Option (LinkState O.Op)) (oa : Option (AttachedOf O))
-      → StandsAt O most (O.t.content w.opening) (turns j w.star.order) w.star.board (made j w.trace) (joined_at j w.trace) (shown_count j w.trace) j ol oa
-      → Stands j (made j w.trace) (joined_at j w.trace) (shown_count j w.trace) (option_map (λ k. link_sent op k) ol) oa
+      → StandsAt O most (O.t.content w.opening) (turns j w.star.order) w.star.board (made j w.trace) (joined_at O j w.trace) (shown_count j w.trace) j ol oa
+      → Stands j (made j w.trace) (joined_at O j w.trace) (shown_count j w.trace) (option_map (λ k. link_sent op k) ol) oa
   others_sent j apart None None g = tt
   others_sent j apart None (Some b) g = absurd g
   others_sent j apart (Some k) None g = absurd g
   others_sent j apart (Some k) (Some b) g =
-      place-sent O L most (O.t.content w.opening) w.star (made j w.trace) j (joined_at j w.trace) (shown_count j w.trace) k b g fits s.star.counted i m op
+      place-sent O L most (O.t.content w.opening) w.star (made j w.trace) j (joined_at O j w.trace) (shown_count j w.trace) k b g fits s.star.counted i m op
       (valid O L most (O.t.content w.opening) w.star s.star i l fl m none)
       (same O L most (O.t.content w.opening) w.star s.star i l fl m none)
       (inserts O L most (O.t.content w.opening) w.star s.star i l fl m none)
@@ -62,12 +62,12 @@ module _ (O : Operations) (L : AreLawful O) (most : ℕ) (w : WorldOf O) (s : Is
       (changes O L most (O.t.content w.opening) w.star s.star i l fl m none)
 
   -- what the trace tells of a site stays
-  renamed : (j : ℕ) (ol : Option (LinkState O.Op)) (oa : Option (AttachedOf O)) → Stands j (made j w.trace) (joined_at j w.trace) (shown_count j w.trace) ol oa
-      → Stands j (made j (w.trace ++ h ∷ [])) (joined_at j (w.trace ++ h ∷ [])) (shown_count j (w.trace ++ h ∷ [])) ol oa
+  renamed : (j : ℕ) (ol : Option (LinkState O.Op)) (oa : Option (AttachedOf O)) → Stands j (made j w.trace) (joined_at O j w.trace) (shown_count j w.trace) ol oa
+      → Stands j (made j (w.trace ++ h ∷ [])) (joined_at O j (w.trace ++ h ∷ [])) (shown_count j (w.trace ++ h ∷ [])) ol oa
   renamed j ol oa g =
-      subst (λ es. Stands j es (joined_at j (w.trace ++ h ∷ [])) (shown_count j (w.trace ++ h ∷ [])) ol oa) (sym (made-end j w.trace h ∙ append-nil (made j w.trace)))
-      (subst (λ k. Stands j (made j w.trace) k (shown_count j (w.trace ++ h ∷ [])) ol oa) (sym (joined-end j w.trace h))
-      (subst (λ n. Stands j (made j w.trace) (joined_at j w.trace) n ol oa) (sym (shown-end j w.trace h ∙ add-zero (shown_count j w.trace))) g))
+      subst (λ es. Stands j es (joined_at O j (w.trace ++ h ∷ [])) (shown_count j (w.trace ++ h ∷ [])) ol oa) (sym (made-end j w.trace h ∙ append-nil (made j w.trace)))
+      (subst (λ k. Stands j (made j w.trace) k (shown_count j (w.trace ++ h ∷ [])) ol oa) (sym (joined-end O j w.trace h))
+      (subst (λ n. Stands j (made j w.trace) (joined_at O j w.trace) n ol oa) (sym (shown-end j w.trace h ∙ add-zero (shown_count j w.trace))) g))
 
   -- a number that was not given is not the site's
   apart_from : (j : ℕ) → w.star.given < j → nat_eq i j ≡ false
@@ -79,9 +79,9 @@ module _ (O : Operations) (L : AreLawful O) (most : ℕ) (w : WorldOf O) (s : Is
     order_is = order_told O L most w s i l a fl fa m us rising;
     star = star-taken O L most (O.t.content w.opening) w.star s.star i l fl m none;
     stand = λ j. renamed j _ _
-        (at_all (λ k. k.site) (λ b. b.site.number) (λ j ol oa. Stands j (made j w.trace) (joined_at j w.trace) (shown_count j w.trace) ol oa)
-        i (λ k. link_heard O m k) (λ k. link_sent op k) (one_taken O) (λ k. refl) (λ k. refl) (λ b. refl) w.star.links w.sites l a fl fa
-        (place-taken O L most (O.t.content w.opening) w.star (made i w.trace) i (joined_at i w.trace) (shown_count i w.trace) l a st fits m us rising)
+        (at_all (λ k. k.site) (λ b. b.site.number) (λ j ol oa. Stands j (made j w.trace) (joined_at O j w.trace) (shown_count j w.trace) ol oa)
+        i (λ k. link_heard O m k) (λ k. link_sent op k) (one_taken O) (λ k. refl) (λ k. refl) (λ b. refl) w.star.links w.sites l (Some a) fl fa
+        (place-taken O L most (O.t.content w.opening) w.star (made i w.trace) i (joined_at O i w.trace) (shown_count i w.trace) l a st fits m us rising)
         (λ j e. others_sent j e (found (λ k. k.site) j w.star.links) (found (λ b. b.site.number) j w.sites) (s.stand j)) j);
     no_edit = λ j g. made-end j w.trace h ∙ append-nil (made j w.trace) ∙ s.no_edit j g;
     no_shown = λ j g. shown-end j w.trace h ∙ add-zero (shown_count j w.trace) ∙ s.no_shown j g;

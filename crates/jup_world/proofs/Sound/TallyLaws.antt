@@ -1,23 +1,18 @@
 -- Each event keeps the tallies of the trace.
-use Rattle.std.proofs.Common.{◌≡◌, refl, sym, ◌∙◌, ap, ℕ, ◌+◌, Bool, true, false, cond, not, List, [], ◌∷◌, ◌++◌, length, map, filter, nat_eq, Option, Some, None, Result, Ok, Err, arith, append-nil, length-append, eqb-true, eq-eqb}
+use Rattle.std.proofs.Common.{◌≡◌, refl, sym, ◌∙◌, ap, ℕ, ◌+◌, Bool, true, false, cond, not, List, [], ◌∷◌, ◌++◌, length, map, filter, nat_eq, Option, Some, arith, append-nil, length-append, eqb-true, eq-eqb}
 use Rattle.std.specs.Prelude.{if◌then◌else◌}
 use Rattle.jup_window.specs.Operations.{Operations}
-use Rattle.jup_star.specs.declared.messages.Up.{Up}
 use Rattle.jup_star.specs.declared.messages.Up.TheVariants.{Op as UpOp, Ack as UpAck, Ping as UpPing}
-use Rattle.jup_star.specs.declared.messages.Down.{Down}
 use Rattle.jup_star.specs.declared.messages.Down.TheVariants.{Op as DownOp, Ack as DownAck, Pong as DownPong}
-use Rattle.jup_star.specs.declared.faults.StarFault.{StarFault}
-use Rattle.jup_star.specs.declared.faults.SiteFault.{SiteFault}
 use Rattle.jup_star.specs.LinkStates.{LinkState}
-use Rattle.jup_star.specs.StarStates.{link_of, join_fault, up_fault, fetched}
-use Rattle.jup_star.specs.SiteStates.{edit_answer, deliver_fault}
-use Rattle.jup_world.specs.Events.{Join, Leave, Edit as MakeEdit, Up as MoveUp, Down as MoveDown, Ping as SendPing}
-use Rattle.jup_world.specs.Events.{Joined, Made, Nothing, Happened}
+use Rattle.jup_world.specs.Events.{Join, Edit as MakeEdit, Down as MoveDown, Ping as SendPing}
+use Rattle.jup_world.specs.Events.{Joined, Made, Happened}
 use Rattle.jup_world.specs.Each.{Each}
 use Rattle.jup_world.specs.WorldStates.{WorldOf, AttachedOf, EventOf, ReplyOf, attached, is_number, at_site, without_site}
-use Rattle.jup_world.specs.WorldSteps.{Outcome, unchanged, new_site, join_outcome, edit_outcome, up_outcome, first_up, down_outcome, first_down, down_reply, with_edit, one_taken, one_handed, pinged, at_attached, at_linked, at_number, outcome, happens, with_fetched, only_fetched}
+use Rattle.jup_world.specs.WorldSteps.{Outcome, unchanged, new_site, with_edit, one_taken, one_handed, pinged, outcome, happens, with_fetched, only_fetched}
 use Rattle.jup_world.specs.Traces.{edit_made, made}
 use Rattle.jup_world.specs.Tallies.{gives, numbers_given, CountsItsEdits, IsTallied, Tallies}
+use Rattle.jup_world.proofs.EventSteps.{WhyStill, Finds, NotJoined, NotMade, WhyGone, Leaves, IsDropped, StepOf, Still, Enters, Goes, Makes, Asks, Takes, Hands, still_silent, gone_silent, brought_made, step_of}
 use Rattle.jup_world.proofs.Sound.TraceLaws.{made-end}
 
 -- # Each of a list
@@ -42,13 +37,13 @@ each-more P Q y h [] each last = (last, tt)
 each-more P Q y h (x ∷ xs) each last = (h x each.0, each-more P Q y h xs each.1 last)
 
 -- one event more gives its numbers
-pub given-end : {Command Edit Fault : Type 0} (hs : List (Happened Command Edit Fault)) (h : Happened Command Edit Fault) → numbers_given (hs ++ h ∷ []) ≡ numbers_given hs + gives h.reply
+pub given-end : {Command Operation Edit Fault : Type 0} (hs : List (Happened Command Operation Edit Fault)) (h : Happened Command Operation Edit Fault) → numbers_given (hs ++ h ∷ []) ≡ numbers_given hs + gives h.reply
 given-end [] h = omega arith
 given-end (g ∷ hs) h = omega (arith, given-end hs h)
 
 module _ (O : Operations) where
   -- the trace with an event more
-  abbrev noted : WorldOf O → EventOf O → ReplyOf O → List (Happened O.Command O.Edit ℕ)
+  abbrev noted : WorldOf O → EventOf O → ReplyOf O → List (Happened O.Command O.Op O.Edit ℕ)
   noted w e r = w.trace ++ record { event = e; reply = r } ∷ []
 
   -- what an outcome leaves
@@ -68,7 +63,7 @@ module _ (O : Operations) where
       → CountsItsEdits O (noted w (MakeEdit i command) (Made (O.t.edit_of op))) (with_edit O op a)
   edited_site w i command op a is counts =
       let same : nat_eq i a.site.number ≡ true = eq-eqb i a.site.number (sym (eqb-true a.site.number i is)) in
-      let one : edit_made {Fault = ℕ} a.site.number (MakeEdit i command) (Made (O.t.edit_of op)) ≡ O.t.edit_of op ∷ [] = ap (λ b. cond b (O.t.edit_of op ∷ []) []) same in
+      let one : edit_made {Operation = O.Op} {Fault = ℕ} a.site.number (MakeEdit i command) (Made (O.t.edit_of op)) ≡ O.t.edit_of op ∷ [] = ap (λ b. cond b (O.t.edit_of op ∷ []) []) same in
       let more : made a.site.number (noted w (MakeEdit i command) (Made (O.t.edit_of op))) ≡ made a.site.number w.trace ++ O.t.edit_of op ∷ [] =
       made-end a.site.number w.trace (record { event = MakeEdit i command; reply = Made (O.t.edit_of op) }) ∙ ap (λ es. made a.site.number w.trace ++ es) one in
       ap (λ n. n + 1) counts ∙ sym (ap (λ es. length es) more ∙ length-append (made a.site.number w.trace) (O.t.edit_of op ∷ []))
@@ -106,92 +101,46 @@ module _ (O : Operations) where
       → Each (CountsItsEdits O (noted w e r)) (without_site i w.sites)
   one_dropped w e r i none = each-some (CountsItsEdits O w.trace) (CountsItsEdits O (noted w e r)) (λ a. not (is_number i a)) (λ a. quiet_site w e r a a (none a.site.number) refl refl) w.sites
 
-  -- an event at a site
-  at_site_tally : (w : WorldOf O) (e : EventOf O) (i : ℕ) (f : LinkState O.Op → AttachedOf O → Outcome O) → ((j : ℕ) → edit_made {Edit = O.Edit} {Fault = ℕ} j e Nothing ≡ []) → Each (CountsItsEdits O w.trace) w.sites
-      → ((l : LinkState O.Op) (a : AttachedOf O) → IsTallyOf w e (f l a)) → IsTallyOf w e (at_number O w i f)
-  at_site_tally w e i f none all h = linked (link_of i w.star.links)
-    where
-      there : (l : LinkState O.Op) (o : Option (AttachedOf O)) → IsTallyOf w e (at_attached O w l f o)
-      there l None = same_tally w e Nothing none refl all
-      there l (Some a) = h l a
+  -- what changes nothing, or lets a link go, gives no number
+  still_gives : (w : WorldOf O) {e : EventOf O} {r : ReplyOf O} → WhyStill O w e r → gives r ≡ 0
+  still_gives w (Finds e) = refl
+  still_gives w (NotJoined fault) = refl
+  still_gives w (NotMade i command number) = refl
 
-      linked : (o : Option (LinkState O.Op)) → IsTallyOf w e (at_linked O w i f o)
-      linked None = same_tally w e Nothing none refl all
-      linked (Some l) = there l (attached i w.sites)
+  gone_gives : (w : WorldOf O) {i : ℕ} {l : LinkState O.Op} {oa : Option (AttachedOf O)} {e : EventOf O} {r : ReplyOf O} → WhyGone O w i l oa e r → gives r ≡ 0
+  gone_gives w (Leaves a) = refl
+  gone_gives w (IsDropped up fault brought f) = refl
 
-  -- a join
-  join_tally : (w : WorldOf O) → Each (CountsItsEdits O w.trace) w.sites → made (w.star.given + 1) w.trace ≡ [] → (f : Option StarFault) → IsTallyOf w Join (join_outcome O w f)
-  join_tally w all none (Some fault) = same_tally w Join _ (λ j. refl) refl all
-  join_tally w all none None = (
+  -- an event, by what it comes to
+  step_tally : (w : WorldOf O) → Each (CountsItsEdits O w.trace) w.sites → made (w.star.given + 1) w.trace ≡ [] → (e : EventOf O) (o : Outcome O) → StepOf O w e o → IsTallyOf w e o
+  step_tally w all new e o (Still why) = same_tally w e _ (still_silent O w why).no_edit (still_gives w why) all
+  step_tally w all new e o (Enters none) = (
     refl,
     each-more (CountsItsEdits O w.trace) (CountsItsEdits O (noted w Join (Joined (w.star.given + 1)))) (new_site O w (w.star.given + 1))
         (λ a. quiet_site w Join (Joined (w.star.given + 1)) a a refl refl refl) w.sites all
-        (quiet_site w Join (Joined (w.star.given + 1)) (new_site O w (w.star.given + 1)) (new_site O w (w.star.given + 1)) refl refl refl (sym (ap (λ es. length es) none))),
+        (quiet_site w Join (Joined (w.star.given + 1)) (new_site O w (w.star.given + 1)) (new_site O w (w.star.given + 1)) refl refl refl (sym (ap (λ es. length es) new))),
   )
-
-  -- an edit
-  edit_tally : (w : WorldOf O) → Each (CountsItsEdits O w.trace) w.sites → (i : ℕ) (command : O.Command) (r : Result O.Op ℕ) → IsTallyOf w (MakeEdit i command) (edit_outcome O w i r)
-  edit_tally w all i command (Err n) = same_tally w (MakeEdit i command) _ (λ j. refl) refl all
-  edit_tally w all i command (Ok op) = (
+  step_tally w all new e o (Goes i l oa fl fa why) = (omega (arith, gone_gives w why), one_dropped w e _ i (gone_silent O w why).no_edit all)
+  step_tally w all new e o (Makes i command l a op fl fa ok) = (
     omega arith,
     each-mapped (CountsItsEdits O w.trace) (CountsItsEdits O (noted w (MakeEdit i command) (Made (O.t.edit_of op))))
-        (λ a. if is_number i a then with_edit O op a else a) (λ a. chosen a (is_number i a) refl) w.sites all,
+        (λ b. if is_number i b then with_edit O op b else b) (λ b. chosen b (is_number i b) refl) w.sites all,
   )
     where
-      chosen : (a : AttachedOf O) (b : Bool) → is_number i a ≡ b → CountsItsEdits O w.trace a → CountsItsEdits O (noted w (MakeEdit i command) (Made (O.t.edit_of op))) (if b then with_edit O op a else a)
-      chosen a true is = edited_site w i command op a is
-      chosen a false is = other_site w i command op a is
-
-  -- a message up
-  up_tally : (w : WorldOf O) → Each (CountsItsEdits O w.trace) w.sites → (i : ℕ) (l : LinkState O.Op) (up : Up O.Op) (f : Option StarFault) → IsTallyOf w (MoveUp i) (up_outcome O w i l up f)
-  up_tally w all i l up (Some fault) = (omega arith, one_dropped w (MoveUp i) _ i (λ j. refl) all)
-  up_tally w all i l (UpOp m) None = (omega arith, one_changed w (MoveUp i) _ i (one_taken O) (λ j. refl) (λ a. refl) (λ a. refl) all)
-  up_tally w all i l (UpAck n) None = (omega arith, one_changed w (MoveUp i) _ i (one_taken O) (λ j. refl) (λ a. refl) (λ a. refl) all)
-  up_tally w all i l (UpPing k) None = (omega arith, one_changed w (MoveUp i) _ i (one_taken O) (λ j. refl) (λ a. refl) (λ a. refl) all)
-
-  -- if there is one
-  first_up_tally : (w : WorldOf O) → Each (CountsItsEdits O w.trace) w.sites → (i : ℕ) (l : LinkState O.Op) (us : List (Up O.Op)) → IsTallyOf w (MoveUp i) (first_up O w i l us)
-  first_up_tally w all i l [] = same_tally w (MoveUp i) Nothing (λ j. refl) refl all
-  first_up_tally w all i l (up ∷ us) = up_tally w all i l up (up_fault O w.star l up)
-
-  -- a message down
-  down_tally : (w : WorldOf O) → Each (CountsItsEdits O w.trace) w.sites → (i gone : ℕ) (d : Down O.Op) (ds : List (Down O.Op)) (f : Option SiteFault) → IsTallyOf w (MoveDown i) (down_outcome O w i gone d ds f)
-  down_tally w all i gone d ds (Some fault) = same_tally w (MoveDown i) Nothing (λ j. refl) refl all
-  down_tally w all i gone d ds None = (replies d, one_changed w (MoveDown i) _ i (one_handed O d ds) (λ j. refl) (number d) (same d) all)
-    where
-      replies : (d : Down O.Op) → (fetched i gone w.star).given ≡ w.star.given + gives (down_reply O d)
-      replies (DownOp m) = omega arith
-      replies (DownAck n) = omega arith
-      replies (DownPong k) = omega arith
-
-      number : (d : Down O.Op) (a : AttachedOf O) → (one_handed O d ds a).site.number ≡ a.site.number
-      number (DownOp m) a = refl
-      number (DownAck n) a = refl
-      number (DownPong k) a = refl
-
-      same : (d : Down O.Op) (a : AttachedOf O) → (one_handed O d ds a).site.made ≡ a.site.made
-      same (DownOp m) a = refl
-      same (DownAck n) a = refl
-      same (DownPong k) a = refl
-
-  -- the oldest
-  first_down_tally : (w : WorldOf O) → Each (CountsItsEdits O w.trace) w.sites → (i : ℕ) (a : AttachedOf O) (ds os : List (Down O.Op)) → IsTallyOf w (MoveDown i) (first_down O w i a ds os)
-  first_down_tally w all i a (d ∷ ds) os = down_tally w all i 0 d ds (deliver_fault O d a.site)
-  first_down_tally w all i a [] (d ∷ os) = down_tally w all i 1 d [] (deliver_fault O d a.site)
-  first_down_tally w all i a [] [] = same_tally w (MoveDown i) Nothing (λ j. refl) refl all
-
-  -- each event
-  event_tally : (w : WorldOf O) → Each (CountsItsEdits O w.trace) w.sites → made (w.star.given + 1) w.trace ≡ [] → (e : EventOf O) → IsTallyOf w e (outcome O w e)
-  event_tally w all none Join = join_tally w all none (join_fault w.star)
-  event_tally w all none (Leave i) = at_site_tally w (Leave i) i _ (λ j. refl) all (λ l a. (omega arith, one_dropped w (Leave i) _ i (λ j. refl) all))
-  event_tally w all none (MakeEdit i command) = at_site_tally w (MakeEdit i command) i _ (λ j. refl) all (λ l a. edit_tally w all i command (edit_answer O command a.site))
-  event_tally w all none (MoveUp i) = at_site_tally w (MoveUp i) i _ (λ j. refl) all (λ l a. first_up_tally w all i l a.up)
-  event_tally w all none (MoveDown i) = at_site_tally w (MoveDown i) i _ (λ j. refl) all (λ l a. first_down_tally w all i a a.down l.outbox)
-  event_tally w all none (SendPing i k) = at_site_tally w (SendPing i k) i _ (λ j. refl) all (λ l a. (omega arith, one_changed w (SendPing i k) _ i (pinged O k) (λ j. refl) (λ b. refl) (λ b. refl) all))
+      chosen : (b : AttachedOf O) (is : Bool) → is_number i b ≡ is → CountsItsEdits O w.trace b → CountsItsEdits O (noted w (MakeEdit i command) (Made (O.t.edit_of op))) (if is then with_edit O op b else b)
+      chosen b true is = edited_site w i command op b is
+      chosen b false is = other_site w i command op b is
+  step_tally w all new e o (Asks i k l a fl fa) = (omega arith, one_changed w (SendPing i k) _ i (pinged O k) (λ j. refl) (λ b. refl) (λ b. refl) all)
+  step_tally w all new e o (Takes i l oa (UpOp m) fl fa brought none) = (omega arith, one_changed w e _ i (one_taken O) (brought_made O w brought _) (λ b. refl) (λ b. refl) all)
+  step_tally w all new e o (Takes i l oa (UpAck n) fl fa brought none) = (omega arith, one_changed w e _ i (one_taken O) (brought_made O w brought _) (λ b. refl) (λ b. refl) all)
+  step_tally w all new e o (Takes i l oa (UpPing k) fl fa brought none) = (omega arith, one_changed w e _ i (one_taken O) (brought_made O w brought _) (λ b. refl) (λ b. refl) all)
+  step_tally w all new e o (Hands i gone l a (DownOp m) ds fl fa falls none) = (omega arith, one_changed w (MoveDown i) _ i (one_handed O (DownOp m) ds) (λ j. refl) (λ b. refl) (λ b. refl) all)
+  step_tally w all new e o (Hands i gone l a (DownAck n) ds fl fa falls none) = (omega arith, one_changed w (MoveDown i) _ i (one_handed O (DownAck n) ds) (λ j. refl) (λ b. refl) (λ b. refl) all)
+  step_tally w all new e o (Hands i gone l a (DownPong k) ds fl fa falls none) = (omega arith, one_changed w (MoveDown i) _ i (one_handed O (DownPong k) ds) (λ j. refl) (λ b. refl) (λ b. refl) all)
 
   pub tallied-happens : (w : WorldOf O) → IsTallied O w → made (w.star.given + 1) w.trace ≡ [] → (e : EventOf O) → IsTallied O (happens O w e)
   tallied-happens w is none e =
-      let tally = event_tally w is.made none e in
+      let tally = step_tally w is.made none e (outcome O w e) (step_of O w e) in
       record {
         given = tally.0 ∙ ap (λ n. n + gives (outcome O w e).reply) is.given ∙ sym (given-end w.trace (record { event = e; reply = (outcome O w e).reply }));
         made = tally.1;

@@ -2,33 +2,36 @@
 use Rattle.std.proofs.Common.{◌≡◌, ℕ, zero, suc, ◌+◌, ◌≤◌, Bool, true, false, cond, List, [], ◌∷◌, ◌++◌, length, drop, nat_eq, refl, ap, sym, ◌∙◌, arith, append_assoc, append-nil}
 use Rattle.jup_world.specs.Turns.{Turn, Own, Other, turn, turns, edits, through_others, others}
 use Rattle.jup_world.specs.Traces.{over_trace, edit_made, made, entry_taken, order_of, join_seen, joined_at, was_shown, shown_count}
+use Rattle.jup_window.specs.Operations.{Operations}
 use Rattle.jup_world.specs.Events.{Happened}
+use Rattle.jup_world.specs.WorldStates.{HappenedOf}
 use Rattle.jup_star.specs.declared.messages.Entry.{Entry}
 
-module _ {Command Edit Fault : Type 0} where
+module _ {Command Operation Edit Fault : Type 0} where
   -- one more event
-  pub over-end : {A : Type 0} (next : List (Happened Command Edit Fault) → A → Happened Command Edit Fault → A) → (a : A) (past hs : List (Happened Command Edit Fault)) (h : Happened Command Edit Fault)
+  pub over-end : {A : Type 0} (next : List (Happened Command Operation Edit Fault) → A → Happened Command Operation Edit Fault → A) → (a : A) (past hs : List (Happened Command Operation Edit Fault)) (h : Happened Command Operation Edit Fault)
       → over_trace next a past (hs ++ h ∷ []) ≡ next (past ++ hs) (over_trace next a past hs) h
   over-end next a past [] h = ap (λ p. next p a h) (sym (append-nil past))
   over-end next a past (g ∷ hs) h = over-end next (next past a g) (past ++ g ∷ []) hs h ∙ ap (λ p. next p (over_trace next (next past a g) (past ++ g ∷ []) hs) h) (append_assoc past (g ∷ []) hs)
 
   -- adds the edit that was made
-  pub made-end : (i : ℕ) (hs : List (Happened Command Edit Fault)) (h : Happened Command Edit Fault) → made i (hs ++ h ∷ []) ≡ made i hs ++ edit_made i h.event h.reply
+  pub made-end : (i : ℕ) (hs : List (Happened Command Operation Edit Fault)) (h : Happened Command Operation Edit Fault) → made i (hs ++ h ∷ []) ≡ made i hs ++ edit_made i h.event h.reply
   made-end i [] h = append-nil (edit_made i h.event h.reply)
   made-end i (g ∷ hs) h = ap (λ es. edit_made i g.event g.reply ++ es) (made-end i hs h) ∙ sym (append_assoc (edit_made i g.event g.reply) (made i hs) (edit_made i h.event h.reply))
 
-  -- the entry that was taken
-  pub order-end : (hs : List (Happened Command Edit Fault)) (h : Happened Command Edit Fault) → order_of (hs ++ h ∷ []) ≡ order_of hs ++ entry_taken hs (order_of hs) h.event h.reply
-  order-end hs h = over-end (λ past order g. order ++ entry_taken past order g.event g.reply) [] [] hs h
-
-  -- the place of a join
-  pub joined-end : (i : ℕ) (hs : List (Happened Command Edit Fault)) (h : Happened Command Edit Fault) → joined_at i (hs ++ h ∷ []) ≡ join_seen i (length (order_of hs)) (joined_at i hs) h.event h.reply
-  joined-end i hs h = over-end (λ past at g. join_seen i (length (order_of past)) at g.event g.reply) 0 [] hs h
-
   -- and the edit that was handed
-  pub shown-end : (i : ℕ) (hs : List (Happened Command Edit Fault)) (h : Happened Command Edit Fault) → shown_count i (hs ++ h ∷ []) ≡ shown_count i hs + was_shown i h.event h.reply
+  pub shown-end : (i : ℕ) (hs : List (Happened Command Operation Edit Fault)) (h : Happened Command Operation Edit Fault) → shown_count i (hs ++ h ∷ []) ≡ shown_count i hs + was_shown i h.event h.reply
   shown-end i [] h = omega arith
   shown-end i (g ∷ hs) h = omega (arith, shown-end i hs h)
+
+module _ (O : Operations) where
+  -- the entry that was taken
+  pub order-end : (hs : List (HappenedOf O)) (h : HappenedOf O) → order_of O (hs ++ h ∷ []) ≡ order_of O hs ++ entry_taken O hs (order_of O hs) h.event h.reply
+  order-end hs h = over-end (λ past order g. order ++ entry_taken O past order g.event g.reply) [] [] hs h
+
+  -- the place of a join
+  pub joined-end : (i : ℕ) (hs : List (HappenedOf O)) (h : HappenedOf O) → joined_at O i (hs ++ h ∷ []) ≡ join_seen i (length (order_of O hs)) (joined_at O i hs) h.event h.reply
+  joined-end i hs h = over-end (λ past at g. join_seen i (length (order_of O past)) at g.event g.reply) 0 [] hs h
 
 -- two lists of entries
 pub turns-append : {Edit : Type 0} → (i : ℕ) (rs qs : List (Entry Edit)) → turns i (rs ++ qs) ≡ turns i rs ++ turns i qs

@@ -25,7 +25,7 @@ module _ (O : Operations) (L : AreLawful O) where
     pub ack_fits : (n : ℕ) (us : List (Up O.Op)) → a.up ≡ UpAck n ∷ us → up_fault O w.star l (UpAck n) ≡ None
     ack_fits n us e = acked (standing O L most w s i l a fl fa)
       where
-        acked : Standing O most (O.t.content w.opening) (turns i w.star.order) w.star.board (made i w.trace) (joined_at i w.trace) (shown_count i w.trace) i l a → up_fault O w.star l (UpAck n) ≡ None
+        acked : Standing O most (O.t.content w.opening) (turns i w.star.order) w.star.board (made i w.trace) (joined_at O i w.trace) (shown_count i w.trace) i l a → up_fault O w.star l (UpAck n) ≡ None
         acked st =
             let step = subst (λ r. InStepAt O.t 0 st.pair.from st.pair.site_ahead st.pair.star_ahead a.site.board w.star.board a.site.end l.end r (downs (a.down ++ l.outbox))) (ap ups e) st.pair.in_step in
             take_ack O L w.star l n (server_counts O.t L.lawful step).0
@@ -35,7 +35,7 @@ module _ (O : Operations) (L : AreLawful O) where
     fall_fits (DownOp m) gone falling e = shown_fits O L most w s i l a fl fa m gone falling e
     fall_fits (DownAck n) gone falling e = acked (standing O L most w s i l a fl fa)
       where
-        acked : Standing O most (O.t.content w.opening) (turns i w.star.order) w.star.board (made i w.trace) (joined_at i w.trace) (shown_count i w.trace) i l a → deliver_fault O (DownAck n) a.site ≡ None
+        acked : Standing O most (O.t.content w.opening) (turns i w.star.order) w.star.board (made i w.trace) (joined_at O i w.trace) (shown_count i w.trace) i l a → deliver_fault O (DownAck n) a.site ≡ None
         acked st =
             let step = subst (λ r. InStepAt O.t 0 st.pair.from st.pair.site_ahead st.pair.star_ahead a.site.board w.star.board a.site.end l.end (ups a.up) r) e st.pair.in_step in
             deliver_ack O L a.site n st.pair.goes_on (client_counts O.t L.lawful step).0

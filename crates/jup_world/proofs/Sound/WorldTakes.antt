@@ -36,9 +36,9 @@ module _ (O : Operations) (L : AreLawful O) where
   -- an operation's link and site are found
   module _ (most : ℕ) (w : WorldOf O) (s : IsSound O most w) (i : ℕ) (l : LinkState O.Op) (a : AttachedOf O) (fl : link_of i w.star.links ≡ Some l) (fa : attached i w.sites ≡ Some a) where
     -- the site at its place of the order
-    pub standing : Standing O most (O.t.content w.opening) (turns i w.star.order) w.star.board (made i w.trace) (joined_at i w.trace) (shown_count i w.trace) i l a
-    standing = subst (λ o. StandsAt O most (O.t.content w.opening) (turns i w.star.order) w.star.board (made i w.trace) (joined_at i w.trace) (shown_count i w.trace) i (Some l) o) fa
-        (subst (λ o. StandsAt O most (O.t.content w.opening) (turns i w.star.order) w.star.board (made i w.trace) (joined_at i w.trace) (shown_count i w.trace) i o (attached i w.sites)) fl (s.stand i))
+    pub standing : Standing O most (O.t.content w.opening) (turns i w.star.order) w.star.board (made i w.trace) (joined_at O i w.trace) (shown_count i w.trace) i l a
+    standing = subst (λ o. StandsAt O most (O.t.content w.opening) (turns i w.star.order) w.star.board (made i w.trace) (joined_at O i w.trace) (shown_count i w.trace) i (Some l) o) fa
+        (subst (λ o. StandsAt O most (O.t.content w.opening) (turns i w.star.order) w.star.board (made i w.trace) (joined_at O i w.trace) (shown_count i w.trace) i o (attached i w.sites)) fl (s.stand i))
 
     -- there is room for what may still come
     pub order_fits : length (turns i w.star.order) + 1026 ≤ most
@@ -46,30 +46,30 @@ module _ (O : Operations) (L : AreLawful O) where
 
   -- an attached site has a link
   pub standing_of : (most : ℕ) (w : WorldOf O) → IsSound O most w → (i : ℕ) (a : AttachedOf O) → attached i w.sites ≡ Some a
-      → (l : LinkState O.Op) × Standing O most (O.t.content w.opening) (turns i w.star.order) w.star.board (made i w.trace) (joined_at i w.trace) (shown_count i w.trace) i l a × (link_of i w.star.links ≡ Some l)
-  standing_of most w s i a fa = linked (link_of i w.star.links) refl (subst (λ o. StandsAt O most (O.t.content w.opening) (turns i w.star.order) w.star.board (made i w.trace) (joined_at i w.trace) (shown_count i w.trace) i (link_of i w.star.links) o) fa (s.stand i))
+      → (l : LinkState O.Op) × Standing O most (O.t.content w.opening) (turns i w.star.order) w.star.board (made i w.trace) (joined_at O i w.trace) (shown_count i w.trace) i l a × (link_of i w.star.links ≡ Some l)
+  standing_of most w s i a fa = linked (link_of i w.star.links) refl (subst (λ o. StandsAt O most (O.t.content w.opening) (turns i w.star.order) w.star.board (made i w.trace) (joined_at O i w.trace) (shown_count i w.trace) i (link_of i w.star.links) o) fa (s.stand i))
     where
-      linked : (o : Option (LinkState O.Op)) → link_of i w.star.links ≡ o → StandsAt O most (O.t.content w.opening) (turns i w.star.order) w.star.board (made i w.trace) (joined_at i w.trace) (shown_count i w.trace) i o (Some a)
-          → (l : LinkState O.Op) × Standing O most (O.t.content w.opening) (turns i w.star.order) w.star.board (made i w.trace) (joined_at i w.trace) (shown_count i w.trace) i l a × (link_of i w.star.links ≡ Some l)
+      linked : (o : Option (LinkState O.Op)) → link_of i w.star.links ≡ o → StandsAt O most (O.t.content w.opening) (turns i w.star.order) w.star.board (made i w.trace) (joined_at O i w.trace) (shown_count i w.trace) i o (Some a)
+          → (l : LinkState O.Op) × Standing O most (O.t.content w.opening) (turns i w.star.order) w.star.board (made i w.trace) (joined_at O i w.trace) (shown_count i w.trace) i l a × (link_of i w.star.links ≡ Some l)
       linked None e h = absurd h
       linked (Some l) e h = (l, h, e)
 
   -- the order that the trace gives once the star took an edit of a site
   module _ (most : ℕ) (w : WorldOf O) (s : IsSound O most w) (i : ℕ) (l : LinkState O.Op) (a : AttachedOf O) (fl : link_of i w.star.links ≡ Some l) (fa : attached i w.sites ≡ Some a)
       (m : Msg O.Op) (us : List (Up O.Op)) (rising : a.up ≡ UpOp m ∷ us) where
-    pub order_told : order_of (w.trace ++ record { event = MoveUp i; reply = Taken (length w.star.order) } ∷ []) ≡ w.star.order ++ entry O i m ∷ []
+    pub order_told : order_of O (w.trace ++ record { event = MoveUp i; reply = Taken (length w.star.order) } ∷ []) ≡ w.star.order ++ entry O i m ∷ []
     order_told =
-        order-end w.trace (record { event = MoveUp i; reply = Taken (length w.star.order) })
+        order-end O w.trace (record { event = MoveUp i; reply = Taken (length w.star.order) })
         ∙ ap (λ es. es ++ first_of_site i (drop (length (own_edits (turns i es))) (made i w.trace))) s.order_is
         ∙ ap (λ es. w.star.order ++ first_of_site i es) next_is
       where
-        st : Standing O most (O.t.content w.opening) (turns i w.star.order) w.star.board (made i w.trace) (joined_at i w.trace) (shown_count i w.trace) i l a
+        st : Standing O most (O.t.content w.opening) (turns i w.star.order) w.star.board (made i w.trace) (joined_at O i w.trace) (shown_count i w.trace) i l a
         st = standing most w s i l a fl fa
 
         mine_is : made i w.trace ≡ own_edits (turns i w.star.order) ++ (O.t.edit_of m.op ∷ edits_sent O (ups us))
         mine_is =
             st.pair.all_made
-            ∙ ap (λ ts. own_edits ts ++ st.pair.raw) (take-append-drop (told_of O (joined_at i w.trace) (shown_count i w.trace) (turns i w.star.order)) (turns i w.star.order))
+            ∙ ap (λ ts. own_edits ts ++ st.pair.raw) (take-append-drop (told_of O (joined_at O i w.trace) (shown_count i w.trace) (turns i w.star.order)) (turns i w.star.order))
             ∙ ap (λ es. own_edits (turns i w.star.order) ++ es) (sym st.pair.raw_sent ∙ ap (λ r. edits_sent O (ups r)) rising)
 
         next_is : drop (length (own_edits (turns i w.star.order))) (made i w.trace) ≡ O.t.edit_of m.op ∷ edits_sent O (ups us)

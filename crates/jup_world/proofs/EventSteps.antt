@@ -1,0 +1,150 @@
+-- What an event comes to: nothing, or one of few steps of a link and of the site under its number. The case analysis stands here once.
+use Rattle.std.proofs.Common.{◌≡◌, ℕ, ◌++◌, List, [], ◌∷◌, drop, refl, ap, sym, ◌∙◌, Option, Some, None, Result, Ok, Err}
+use Rattle.jup_window.specs.Operations.{Operations}
+use Rattle.jup_star.specs.declared.messages.Entry.{Entry}
+use Rattle.jup_star.specs.declared.messages.Up.{Up}
+use Rattle.jup_star.specs.declared.messages.Down.{Down}
+use Rattle.jup_star.specs.declared.messages.Down.TheVariants.{Op as DownOp, Ack as DownAck, Pong as DownPong}
+use Rattle.jup_star.specs.declared.faults.StarFault.{StarFault}
+use Rattle.jup_star.specs.LinkStates.{LinkState}
+use Rattle.jup_star.specs.StarStates.{link_of, join_fault, up_fault, left}
+use Rattle.jup_star.specs.SiteStates.{edit_answer, deliver_fault}
+use Rattle.jup_world.specs.Events.{Happened}
+use Rattle.jup_world.specs.Events.{Join, Leave, Edit as MakeEdit, Up as MoveUp, Down as MoveDown, Ping as SendPing}
+use Rattle.jup_world.specs.Events.{NoJoin, Left, Refused, Heard, Detached, Asked, Nothing}
+use Rattle.jup_world.specs.WorldStates.{WorldOf, AttachedOf, EventOf, ReplyOf, attached, without_site}
+use Rattle.jup_world.specs.WorldSteps.{Outcome, unchanged, join_outcome, edit_outcome, up_outcome, first_up, down_outcome, first_down, one_handed, ping_outcome, at_attached, at_linked, at_number, outcome}
+use Rattle.jup_world.specs.Traces.{edit_made, entry_taken, join_seen, was_shown}
+
+-- the two cases of what may be absent, each with its equation
+pub either : {A : Type 0} → (o : Option A) (P : Option A → Type 0) → (o ≡ None → P None) → ((x : A) → o ≡ Some x → P (Some x)) → P o
+either None P f g = f refl
+either (Some x) P f g = g x refl
+
+-- the two cases of an answer, each with its equation
+pub result_cases : {A B : Type 0} → (r : Result A B) (P : Result A B → Type 0) → ((x : A) → r ≡ Ok x → P (Ok x)) → ((e : B) → r ≡ Err e → P (Err e)) → P r
+result_cases (Ok x) P f g = f x refl
+result_cases (Err e) P f g = g e refl
+
+module _ (O : Operations) where
+  -- a site that is handed a message keeps its number
+  pub handed_number : (d : Down O.Op) (ds : List (Down O.Op)) (a : AttachedOf O) → (one_handed O d ds a).site.number ≡ a.site.number
+  handed_number (DownOp m) ds a = refl
+  handed_number (DownAck n) ds a = refl
+  handed_number (DownPong k) ds a = refl
+
+  -- an event of which the definitions over the trace see nothing
+  pub record IsSilent (event : EventOf O) (reply : ReplyOf O) : Type 0 where
+    pub no_edit : (i : ℕ) → edit_made i event reply ≡ []
+    pub no_join : (i n at : ℕ) → join_seen i n at event reply ≡ at
+    pub no_shown : (i : ℕ) → was_shown i event reply ≡ 0
+    pub no_entry : (past : List (Happened O.Command O.Op O.Edit ℕ)) (order : List (Entry O.Edit)) → entry_taken O past order event reply ≡ []
+
+  -- as is each that finds nothing
+  pub nothing_silent : (e : EventOf O) → IsSilent e Nothing
+  nothing_silent Join = record { no_edit = λ j. refl; no_join = λ j n k. refl; no_shown = λ j. refl; no_entry = λ p o. refl }
+  nothing_silent e = record { no_edit = λ j. refl; no_join = λ j n k. refl; no_shown = λ j. refl; no_entry = λ p o. refl }
+
+  -- each that brings no edit
+  pub heard_silent : (e : EventOf O) → IsSilent e Heard
+  heard_silent Join = record { no_edit = λ j. refl; no_join = λ j n k. refl; no_shown = λ j. refl; no_entry = λ p o. refl }
+  heard_silent e = record { no_edit = λ j. refl; no_join = λ j n k. refl; no_shown = λ j. refl; no_entry = λ p o. refl }
+
+  -- and a ping
+  pub asked_silent : (i k : ℕ) → IsSilent (SendPing i k) Asked
+  asked_silent i k = record { no_edit = λ j. refl; no_join = λ j n k. refl; no_shown = λ j. refl; no_entry = λ p o. refl }
+
+  module _ (w : WorldOf O) where
+    -- what brought a message to the star: it was the oldest of a site
+    pub data Brings (i : ℕ) (up : Up O.Op) : Option (AttachedOf O) → EventOf O → Type 0 where
+      Rises : (a : AttachedOf O) (us : List (Up O.Op)) → a.up ≡ up ∷ us → Brings i up (Some a) (MoveUp i)
+
+    -- why nothing changes: nothing is there, or what was asked is refused
+    pub data WhyStill : EventOf O → ReplyOf O → Type 0 where
+      Finds : (e : EventOf O) → WhyStill e Nothing
+      NotJoined : (fault : StarFault) → WhyStill Join (NoJoin fault)
+      NotMade : (i : ℕ) (command : O.Command) (number : ℕ) → WhyStill (MakeEdit i command) (Refused number)
+
+    -- why a link goes, with its site if it has one: that leaves, or a message is refused
+    pub data WhyGone (i : ℕ) (l : LinkState O.Op) : Option (AttachedOf O) → EventOf O → ReplyOf O → Type 0 where
+      Leaves : (a : AttachedOf O) → WhyGone i l (Some a) (Leave i) Left
+      IsDropped : {oa : Option (AttachedOf O)} {e : EventOf O} (up : Up O.Op) (fault : StarFault) → Brings i up oa e → up_fault O w.star l up ≡ Some fault → WhyGone i l oa e (Detached fault)
+
+    -- an event, what it answers and what it leaves
+    pub data StepOf : EventOf O → Outcome O → Type 0 where
+      -- nothing changes
+      Still : {e : EventOf O} {r : ReplyOf O} → WhyStill e r → StepOf e (unchanged O w r)
+      -- a site joins
+      Enters : join_fault w.star ≡ None → StepOf Join (join_outcome O w None)
+      -- a link goes with its site
+      Goes : {e : EventOf O} {r : ReplyOf O} (i : ℕ) (l : LinkState O.Op) (oa : Option (AttachedOf O)) → link_of i w.star.links ≡ Some l → attached i w.sites ≡ oa
+          → WhyGone i l oa e r → StepOf e (record { reply = r; star = left i w.star; sites = without_site i w.sites })
+      -- a site edits
+      Makes : (i : ℕ) (command : O.Command) (l : LinkState O.Op) (a : AttachedOf O) (op : O.Op) → link_of i w.star.links ≡ Some l → attached i w.sites ≡ Some a
+          → edit_answer O command a.site ≡ Ok op → StepOf (MakeEdit i command) (edit_outcome O w i (Ok op))
+      -- or sends a ping
+      Asks : (i k : ℕ) (l : LinkState O.Op) (a : AttachedOf O) → link_of i w.star.links ≡ Some l → attached i w.sites ≡ Some a → StepOf (SendPing i k) (ping_outcome O w i k)
+      -- the star takes a message
+      Takes : {e : EventOf O} (i : ℕ) (l : LinkState O.Op) (oa : Option (AttachedOf O)) (up : Up O.Op) → link_of i w.star.links ≡ Some l → attached i w.sites ≡ oa
+          → Brings i up oa e → up_fault O w.star l up ≡ None → StepOf e (up_outcome O w i l up None)
+      -- a site is handed the oldest message to it
+      Hands : (i gone : ℕ) (l : LinkState O.Op) (a : AttachedOf O) (d : Down O.Op) (ds : List (Down O.Op)) → link_of i w.star.links ≡ Some l → attached i w.sites ≡ Some a
+          → a.down ++ l.outbox ≡ d ∷ (ds ++ drop gone l.outbox) → deliver_fault O d a.site ≡ None → StepOf (MoveDown i) (down_outcome O w i gone d ds None)
+
+    -- what changes nothing, or lets a link go, tells nothing
+    pub still_silent : {e : EventOf O} {r : ReplyOf O} → WhyStill e r → IsSilent e r
+    still_silent (Finds e) = nothing_silent e
+    still_silent (NotJoined fault) = record { no_edit = λ j. refl; no_join = λ j n k. refl; no_shown = λ j. refl; no_entry = λ p o. refl }
+    still_silent (NotMade i command number) = record { no_edit = λ j. refl; no_join = λ j n k. refl; no_shown = λ j. refl; no_entry = λ p o. refl }
+
+    pub gone_silent : {i : ℕ} {l : LinkState O.Op} {oa : Option (AttachedOf O)} {e : EventOf O} {r : ReplyOf O} → WhyGone i l oa e r → IsSilent e r
+    gone_silent (Leaves a) = record { no_edit = λ j. refl; no_join = λ j n k. refl; no_shown = λ j. refl; no_entry = λ p o. refl }
+    gone_silent (IsDropped up fault (Rises a us rising) f) = record { no_edit = λ j. refl; no_join = λ j n k. refl; no_shown = λ j. refl; no_entry = λ p o. refl }
+
+    -- a message that was brought is no edit, no join and no delivery
+    pub brought_made : {i : ℕ} {up : Up O.Op} {oa : Option (AttachedOf O)} {e : EventOf O} → Brings i up oa e → (r : ReplyOf O) (j : ℕ) → edit_made j e r ≡ []
+    brought_made (Rises a us rising) r j = refl
+
+    pub brought_join : {i : ℕ} {up : Up O.Op} {oa : Option (AttachedOf O)} {e : EventOf O} → Brings i up oa e → (r : ReplyOf O) (j n at : ℕ) → join_seen j n at e r ≡ at
+    brought_join (Rises a us rising) r j n at = refl
+
+    pub brought_shown : {i : ℕ} {up : Up O.Op} {oa : Option (AttachedOf O)} {e : EventOf O} → Brings i up oa e → (r : ReplyOf O) (j : ℕ) → was_shown j e r ≡ 0
+    brought_shown (Rises a us rising) r j = refl
+
+    -- an event at a site
+    at_place : (e : EventOf O) (i : ℕ) (f : LinkState O.Op → AttachedOf O → Outcome O)
+        → ((l : LinkState O.Op) (a : AttachedOf O) → link_of i w.star.links ≡ Some l → attached i w.sites ≡ Some a → StepOf e (f l a)) → StepOf e (at_number O w i f)
+    at_place e i f here =
+        either (link_of i w.star.links) (λ o. StepOf e (at_linked O w i f o)) (λ none. Still (Finds e))
+        (λ l fl. either (attached i w.sites) (λ o. StepOf e (at_attached O w l f o)) (λ none. Still (Finds e)) (λ a fa. here l a fl fa))
+
+    -- the star takes the oldest message of a site
+    up_step : (i : ℕ) (l : LinkState O.Op) (a : AttachedOf O) → link_of i w.star.links ≡ Some l → attached i w.sites ≡ Some a → (us : List (Up O.Op)) → a.up ≡ us → StepOf (MoveUp i) (first_up O w i l us)
+    up_step i l a fl fa [] rising = Still (Finds (MoveUp i))
+    up_step i l a fl fa (up ∷ us) rising = either (up_fault O w.star l up) (λ f. StepOf (MoveUp i) (up_outcome O w i l up f))
+        (λ none. Takes i l (Some a) up fl fa (Rises a us rising) none)
+        (λ fault f. Goes i l (Some a) fl fa (IsDropped up fault (Rises a us rising) f))
+
+    -- a site is handed a message
+    handed_step : (i gone : ℕ) (l : LinkState O.Op) (a : AttachedOf O) → link_of i w.star.links ≡ Some l → attached i w.sites ≡ Some a → (d : Down O.Op) (ds : List (Down O.Op))
+        → a.down ++ l.outbox ≡ d ∷ (ds ++ drop gone l.outbox) → StepOf (MoveDown i) (down_outcome O w i gone d ds (deliver_fault O d a.site))
+    handed_step i gone l a fl fa d ds falls = either (deliver_fault O d a.site) (λ f. StepOf (MoveDown i) (down_outcome O w i gone d ds f))
+        (λ none. Hands i gone l a d ds fl fa falls none)
+        (λ fault f. Still (Finds (MoveDown i)))
+
+    -- the oldest to it
+    down_step : (i : ℕ) (l : LinkState O.Op) (a : AttachedOf O) → link_of i w.star.links ≡ Some l → attached i w.sites ≡ Some a → (ds os : List (Down O.Op)) → a.down ≡ ds → l.outbox ≡ os → StepOf (MoveDown i) (first_down O w i a ds os)
+    down_step i l a fl fa (d ∷ ds) os p q = handed_step i 0 l a fl fa d ds (ap (λ x. x ++ l.outbox) p)
+    down_step i l a fl fa [] (d ∷ os) p q = handed_step i 1 l a fl fa d [] (ap (λ x. x ++ l.outbox) p ∙ (q ∙ ap (λ x. d ∷ drop 1 x) (sym q)))
+    down_step i l a fl fa [] [] p q = Still (Finds (MoveDown i))
+
+    -- each event
+    pub step_of : (e : EventOf O) → StepOf e (outcome O w e)
+    step_of Join = either (join_fault w.star) (λ f. StepOf Join (join_outcome O w f)) Enters (λ fault f. Still (NotJoined fault))
+    step_of (Leave i) = at_place (Leave i) i _ (λ l a fl fa. Goes i l (Some a) fl fa (Leaves a))
+    step_of (MakeEdit i command) = at_place (MakeEdit i command) i _ (λ l a fl fa. result_cases (edit_answer O command a.site) (λ r. StepOf (MakeEdit i command) (edit_outcome O w i r))
+        (λ op ok. Makes i command l a op fl fa ok)
+        (λ number e. Still (NotMade i command number)))
+    step_of (MoveUp i) = at_place (MoveUp i) i _ (λ l a fl fa. up_step i l a fl fa a.up refl)
+    step_of (MoveDown i) = at_place (MoveDown i) i _ (λ l a fl fa. down_step i l a fl fa a.down l.outbox refl refl)
+    step_of (SendPing i k) = at_place (SendPing i k) i _ (λ l a fl fa. Asks i k l a fl fa)

@@ -192,7 +192,8 @@ pub fn operation_edits()
 {}
 
 /// What the laws ask before they promise anything: of a board that each text and each list has distinct
-/// names and is small, of two operations that they insert no name in common, in whatever widgets.
+/// names and is small, of two operations that they insert no name in common, in whatever widgets, of a later
+/// operation of a batch that it inserts no name that an earlier one inserts or deletes.
 pub fn premises()
     ensures distinct { (board : Windows)
         → ⟦<BoardOp as Transform>⟧.is_distinct board
@@ -203,6 +204,10 @@ pub fn premises()
     ensures apart { (c s : BoardOp) → ⟦<BoardOp as Transform>⟧.are_apart c s
         ↔ ((m n : Placed) → ⟦<BoardOp as Transform>⟧.inserts (⟦<BoardOp as Transform>⟧.edit_of c) m
         → ⟦<BoardOp as Transform>⟧.inserts (⟦<BoardOp as Transform>⟧.edit_of s) n → m.name ≢ n.name) }
+    ensures fresh { (later earlier : BoardOp) → ⟦<BoardOp as Transform>⟧.is_fresh later earlier
+        ↔ ((m n : Placed) → ⟦<BoardOp as Transform>⟧.inserts (⟦<BoardOp as Transform>⟧.edit_of later) m
+        → ⟦<BoardOp as Transform>⟧.inserts (⟦<BoardOp as Transform>⟧.edit_of earlier) n
+        ⊎ ⟦<BoardOp as Transform>⟧.deletes (⟦<BoardOp as Transform>⟧.edit_of earlier) n → m.name ≢ n.name) }
 {}
 
 /// The names that an edit inserts, those that it deletes, and those that it changes, which are those that

@@ -15,6 +15,7 @@ mod batch;
 mod comparing;
 mod concurrent;
 mod few;
+pub mod laws;
 mod row;
 mod store;
 
@@ -141,8 +142,10 @@ pub trait Transform: Drop {
         requires { shape self.now ≡ shape into.old }
         ensures { into.new ≡ self.now };
 
+    /// The edit that the operation makes. Memory is refused only where a copy takes some too.
     fn edit(&self, alloc: Global) -> Result<Self::Edit, NoMemory>
-        ensures { IfOk result (λ edit. edit ≡ edit_of self.now) };
+        ensures edit { IfOk result (λ edit. edit ≡ edit_of self.now) }
+        ensures refused { OnErr result (copies_freely self.now → ⊥) };
 
     /// Both ways round are valid and give one state: the 1995 paper's requirement on a transform.
     ghost square: { (x : Self.State) (c s : Self) → is_distinct x → is_small 1 x → is_valid c x → is_valid s x → are_apart c s

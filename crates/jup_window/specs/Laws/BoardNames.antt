@@ -34,7 +34,7 @@ inserted_there o n h =
     ∙ inserts_at_all (same_place (place o) n.at) n.name (effects.effect_of o.op) h
 
 -- what it deletes is the name that the operation deletes
-deleted_there : (o : BoardOp) (n : Placed) → Deletes (edit_of o) n → effects.is_name n.name (widget.deleted o.op) ≡ true
+pub deleted_there : (o : BoardOp) (n : Placed) → Deletes (edit_of o) n → effects.is_name n.name (widget.deleted o.op) ≡ true
 deleted_there o n h =
     sym (ap (λ m. effects.is_name n.name m) (widget_names.deleted_name-effect_of o.op))
     ∙ deletes_at_all (same_place (place o) n.at) n.name (effects.effect_of o.op) h

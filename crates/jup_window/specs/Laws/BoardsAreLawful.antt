@@ -71,6 +71,10 @@ boards_keep = record {
 pub inserts_own : (e : Edit) (m : Name) → effects.inserted_name e.what ≡ Some m → board.Inserts e (record { at = board.edit_place e; name = m })
 inserts_own e m is = rw (same_place-refl (board.edit_place e), is) (name_eq_refl m)
 
+-- an edit deletes its name in its widget
+pub deletes_own : (e : Edit) (m : Name) → effects.deleted_name e.what ≡ Some m → board.Deletes e (record { at = board.edit_place e; name = m })
+deletes_own e m is = rw (same_place-refl (board.edit_place e), is) (name_eq_refl m)
+
 -- and no other
 inserted_is : (o : Option Name) (n : Name) → effects.is_name n o ≡ true → o ≡ Some n
 inserted_is None n h = absurd (false≢true h)

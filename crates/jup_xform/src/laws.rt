@@ -1,0 +1,78 @@
+//! What a batch is, by what its operations are: what it is applied to and leaves, where it may be applied, how two are
+//! moved past one another, and what a list of edits means. The laws of `Transform` speak of an implementation's own
+//! words for these; these functions do nothing but say which they are, for operations of any type.
+ghost use Rattle.std.specs.Prelude.{◌≡◌, ℕ, ◌+◌, ◌*◌, ◌<◌, ◌≤◌, ◌⊎◌, ◌↔◌, List, [], ◌∷◌, length, Contains};
+ghost use Rattle.jup_limits.specs.Limits.{most_operations};
+ghost use Rattle.jup_xform.specs.Batches.{joined};
+ghost use Rattle.jup_xform.specs.Members.{SomeOf};
+ghost use Rattle.jup_xform.specs.Rows.{grid_rows};
+
+use crate::{Batch, Single, Transform};
+
+/// A batch is of what its operations are applied to, and holds nothing besides: content, order and names are theirs.
+pub fn batch_content<T: Single>()
+    ensures content { (x : T.State) → ⟦<Batch<T> as Transform>⟧.content x ≡ T.content x }
+    ensures order { (x y : T.State) → ⟦<Batch<T> as Transform>⟧.keeps_order x y ↔ T.keeps_order x y }
+    ensures holds { (x : T.State) (n : T.Name) → ⟦<Batch<T> as Transform>⟧.holds x n ↔ T.holds x n }
+{}
+
+/// Where a batch may be applied: one operation where that may be; more where the first may be, and the others after
+/// it, none of which inserts a name that the first inserts or deletes. There are 1 to 32 operations.
+pub fn batch_validity<T: Single>()
+    ensures none { (x : T.State) → ¬ ⟦<Batch<T> as Transform>⟧.is_valid [] x }
+    ensures one { (op : T) (x : T.State) → ⟦<Batch<T> as Transform>⟧.is_valid (op ∷ []) x ↔ T.is_valid op x }
+    ensures more { (op : T) (later : List T) (x : T.State) → 1 ≤ length later
+        → ⟦<Batch<T> as Transform>⟧.is_valid (op ∷ later) x
+        ↔ (T.is_valid op x × ⟦<Batch<T> as Transform>⟧.is_valid later (T.after op x)
+        × ((one : T) → Contains later one → T.is_fresh one op) × (length later < most_operations)) }
+{}
+
+/// A batch leaves what its operations leave, applied in order.
+pub fn batch_outcome<T: Single>()
+    ensures none { (x : T.State) → ⟦<Batch<T> as Transform>⟧.after [] x ≡ x }
+    ensures more { (op : T) (later : List T) (x : T.State)
+        → ⟦<Batch<T> as Transform>⟧.after (op ∷ later) x ≡ ⟦<Batch<T> as Transform>⟧.after later (T.after op x) }
+{}
+
+/// The edits of a batch are those of its operations, in order. Each name that one of them inserts, deletes or changes
+/// is one that the batch inserts, deletes or changes.
+pub fn batch_edits<T: Single>()
+    ensures none { ⟦<Batch<T> as Transform>⟧.edit_of [] ≡ [] }
+    ensures more { (op : T) (later : List T)
+        → ⟦<Batch<T> as Transform>⟧.edit_of (op ∷ later) ≡ T.edit_of op ∷ ⟦<Batch<T> as Transform>⟧.edit_of later }
+    ensures inserts { (edits : List T.Edit) (n : T.Name)
+        → ⟦<Batch<T> as Transform>⟧.inserts edits n ↔ SomeOf (λ edit. T.inserts edit n) edits }
+    ensures deletes { (edits : List T.Edit) (n : T.Name)
+        → ⟦<Batch<T> as Transform>⟧.deletes edits n ↔ SomeOf (λ edit. T.deletes edit n) edits }
+    ensures changes { (edits : List T.Edit) (n : T.Name)
+        → ⟦<Batch<T> as Transform>⟧.changes edits n ↔ SomeOf (λ edit. T.changes edit n) edits }
+{}
+
+/// A list of batches' edits means what the joined list means to their operations.
+pub fn batch_meaning<T: Single>()
+    ensures { (before : T.Content) (edits : List (List T.Edit))
+        → ⟦<Batch<T> as Transform>⟧.meaning before edits ≡ T.meaning before (joined edits) }
+{}
+
+/// Two concurrent batches past one another are the grid of both lists: each operation in order past the whole of the
+/// other list as it then stands.
+pub fn batch_transform<T: Single>()
+    ensures client { (cs ss : List T)
+        → ⟦<Batch<T> as Transform>⟧.client_past cs ss ≡ grid_rows T.client_past T.server_past cs ss }
+    ensures server { (ss cs : List T)
+        → ⟦<Batch<T> as Transform>⟧.server_past ss cs ≡ grid_rows T.server_past T.client_past ss cs }
+{}
+
+/// What the laws ask before they promise anything: of a state what an operation asks of it, with so many items fewer
+/// as this and the other batches may insert; of two batches that each operation of one is apart from each of the
+/// other, or fresh after it.
+pub fn premises<T: Single>()
+    ensures whole { (x : T.State) → ⟦<Batch<T> as Transform>⟧.bare x ≡ T.bare x }
+    ensures distinct { (x : T.State) → ⟦<Batch<T> as Transform>⟧.is_distinct x ↔ T.is_distinct x }
+    ensures small { (more : ℕ) (x : T.State)
+        → ⟦<Batch<T> as Transform>⟧.is_small more x ↔ T.is_small (32 * more + 31) x }
+    ensures apart { (cs ss : List T) → ⟦<Batch<T> as Transform>⟧.are_apart cs ss
+        ↔ ((c s : T) → Contains cs c → Contains ss s → T.are_apart c s) }
+    ensures fresh { (later earlier : List T) → ⟦<Batch<T> as Transform>⟧.is_fresh later earlier
+        ↔ ((one other : T) → Contains later one → Contains earlier other → T.is_fresh one other) }
+{}

@@ -6,3 +6,8 @@ use std::process::Abort;
 pub(crate) fn expect_eq<T: PartialEq + Debug + Drop>(rt: &impl Abort, value: T, due: T) {
     assert_eq!(rt; value, due);
 }
+
+/// This holds. It is to `assert!` what `expect_eq` is to `assert_eq!`.
+pub(crate) fn expect_that(rt: &impl Abort, holds: bool) {
+    assert!(rt; holds);
+}

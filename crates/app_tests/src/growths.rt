@@ -1,6 +1,6 @@
 //! Growths of whole runs that are refused, each test for the call of its name. `./growths` refuses one after another of those between the two marks: a run
 //! that lacked memory is refused for that, with all its threads ended, and begun anew it runs.
-use crate::expect::expect_eq;
+use crate::expect::{expect_eq, expect_that};
 use crate::runs::{LIMIT, agree, blank, insertions, scripts};
 use jup_app::{Open, RunEnd, RunFault, run_many, run_two};
 use std::alloc::Global;
@@ -13,7 +13,7 @@ use test_marks::{begin, end};
 fn edits_taken(rt: &impl Abort, run: Result<RunEnd, RunFault>) -> Result<usize, u32> {
     match run {
         Ok(end) => {
-            assert!(rt; agree(&end));
+            expect_that(rt, agree(&end));
             Ok(end.star.order().len())
         }
         Err(fault) => Err(fault.number()),

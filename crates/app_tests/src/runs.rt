@@ -2,17 +2,23 @@
 ghost use Rattle.jup_window.specs.Entries.{EachWidget};
 ghost use Rattle.jup_star.specs.Openings.{IsShort};
 
-use crate::expect::expect_eq;
-use jup_app::{Open, RunEnd, RunFault, SiteEnd, run_many, run_two};
+use crate::expect::{expect_eq, expect_that};
+use jup_app::{Gate, Open, RunEnd, RunFault, SiteEnd, run_many, run_two};
+use jup_batch::BoardEdits;
 use jup_star::Entry;
 use jup_value::Label;
 use jup_window::{Board, Command, EditFault, Setting, Value, Widget};
 use std::alloc::Global;
 use std::marker::PhantomData;
 use std::process::Abort;
+use std::sync::Wait;
+use std::thread::Threads;
 use test_boards::board_of;
 
 pub(crate) const LIMIT: u32 = 100_000;
+
+// What a command was answered.
+type Replied = Result<BoardEdits, EditFault>;
 
 // Window 1 has an empty text 1 and a toggle 2.
 pub(crate) fn blank(rt: &impl Abort, alloc: Global) -> Board
@@ -78,8 +84,26 @@ fn settings(rt: &impl Abort, alloc: Global, count: usize) -> Vec<Command> {
     script
 }
 
-// What a run came to.
-pub(crate) fn end_of(rt: &impl Abort, run: Result<RunEnd, RunFault>) -> RunEnd {
+// What a run of two sites on the blank board came to.
+pub(crate) fn ran_two<R: Threads + Wait + Sync + Abort, G: Gate + Sync>(
+    rt: &R,
+    alloc: Global,
+    first: &[Command],
+    second: &[Command],
+    gate: &G,
+) -> RunEnd {
+    let run = run_two(rt, alloc, blank(rt, alloc), LIMIT, first, second, gate);
+    run.expect(rt, "a run that ends")
+}
+
+// What a run of many sites on the blank board came to.
+pub(crate) fn ran_many<R: Threads + Wait + Sync + Abort, G: Gate + Sync>(
+    rt: &R,
+    alloc: Global,
+    scripts: &[Vec<Command>],
+    gate: &G,
+) -> RunEnd {
+    let run = run_many(rt, alloc, blank(rt, alloc), LIMIT, scripts, gate);
     run.expect(rt, "a run that ends")
 }
 
@@ -106,6 +130,22 @@ fn tells_the_order(end: &SiteEnd, order: &[Entry]) -> bool {
     own.map(|entry| Some(&entry.edit)).eq(told)
 }
 
+// Each site has so many replies, which are its edits in the order.
+fn each_tells_the_order(rt: &impl Abort, end: &RunEnd, replies: usize) {
+    for site in &end.sites {
+        expect_eq(rt, site.replies.len(), replies);
+        expect_that(rt, tells_the_order(site, end.star.order()));
+    }
+}
+
+// The replies to two sites.
+fn replies_of_two<'a>(rt: &impl Abort, end: &'a RunEnd) -> (&'a [Replied], &'a [Replied]) {
+    match end.sites.as_slice() {
+        [one, two] => (one.replies.as_slice(), two.replies.as_slice()),
+        _ => panic!(rt; "not two sites"),
+    }
+}
+
 // The number of the refusal, or 0.
 pub(crate) fn refusal(run: Result<RunEnd, RunFault>) -> u32 {
     match run {
@@ -119,27 +159,22 @@ fn two_sites_of_200_insertions(rt: HostRuntime) {
     let alloc = rt.alloc();
     let first = insertions(&rt, alloc, 'a', 200);
     let second = insertions(&rt, alloc, 'b', 200);
-    let run = run_two(&rt, alloc, blank(&rt, alloc), LIMIT, &first, &second, &Open);
-    let end = end_of(&rt, run);
+    let end = ran_two(&rt, alloc, &first, &second, &Open);
     expect_eq(&rt, items(end.star.board()), 400);
     expect_eq(&rt, end.star.order().len(), 400);
     expect_eq(&rt, end.sites.len(), 2);
-    assert!(rt; agree(&end));
-    for site in &end.sites {
-        expect_eq(&rt, site.replies.len(), 200);
-        assert!(rt; tells_the_order(site, end.star.order()));
-    }
+    expect_that(&rt, agree(&end));
+    each_tells_the_order(&rt, &end, 200);
 }
 
 #[test]
 fn eight_sites_of_50_insertions(rt: HostRuntime) {
     let alloc = rt.alloc();
     let all = scripts(&rt, alloc, 8, 50);
-    let run = run_many(&rt, alloc, blank(&rt, alloc), LIMIT, &all, &Open);
-    let end = end_of(&rt, run);
+    let end = ran_many(&rt, alloc, &all, &Open);
     expect_eq(&rt, items(end.star.board()), 400);
     expect_eq(&rt, end.sites.len(), 8);
-    assert!(rt; agree(&end));
+    expect_that(&rt, agree(&end));
 }
 
 #[test]
@@ -148,10 +183,9 @@ fn one_to_64_sites_run(rt: HostRuntime) {
     let none = run_many(&rt, alloc, blank(&rt, alloc), LIMIT, &[], &Open);
     expect_eq(&rt, refusal(none), 61);
     let all = scripts(&rt, alloc, 64, 1);
-    let run = run_many(&rt, alloc, blank(&rt, alloc), LIMIT, &all, &Open);
-    let end = end_of(&rt, run);
+    let end = ran_many(&rt, alloc, &all, &Open);
     expect_eq(&rt, items(end.star.board()), 64);
-    assert!(rt; agree(&end));
+    expect_that(&rt, agree(&end));
     let more = scripts(&rt, alloc, 65, 1);
     let many = run_many(&rt, alloc, blank(&rt, alloc), 0, &more, &Open);
     expect_eq(&rt, refusal(many), 61);
@@ -174,14 +208,12 @@ fn a_full_order_refuses_a_run(rt: HostRuntime) {
 fn one_site_of_2_000_settings(rt: HostRuntime) {
     let alloc = rt.alloc();
     let script = settings(&rt, alloc, 2_000);
-    let run = run_two(&rt, alloc, blank(&rt, alloc), LIMIT, &script, &[], &Open);
-    let end = end_of(&rt, run);
-    assert_eq!(rt; end.sites.len(), 2);
-    expect_eq(&rt, end.sites[0].replies.len(), 2_000);
-    assert!(rt; end.sites[0].replies.iter().all(|reply| reply.is_ok()));
-    assert!(rt; end.sites[1].replies.is_empty());
+    let end = ran_two(&rt, alloc, &script, &[], &Open);
+    let (one, two) = replies_of_two(&rt, &end);
+    expect_eq(&rt, (one.len(), two.len()), (2_000, 0));
+    expect_that(&rt, one.iter().all(|reply| reply.is_ok()));
     expect_eq(&rt, end.star.order().len(), 2_000);
-    assert!(rt; agree(&end));
+    expect_that(&rt, agree(&end));
 }
 
 // A deletion at the head of the text.
@@ -203,17 +235,17 @@ fn deleting_twice(rt: &impl Abort, alloc: Global) -> Vec<Command> {
     script
 }
 
+// Whether of three commands the first was refused for its place, and the others were made.
+fn is_first_refused(replies: &[Replied]) -> bool {
+    matches!(replies, [Err(EditFault::BadPlace), Ok(_), Ok(_)])
+}
+
 #[test]
 fn a_refused_command_is_answered(rt: HostRuntime) {
     let alloc = rt.alloc();
     let script = deleting_twice(&rt, alloc);
-    let run = run_two(&rt, alloc, blank(&rt, alloc), LIMIT, &script, &[], &Open);
-    let end = end_of(&rt, run);
-    assert_eq!(rt; end.sites.len(), 2);
-    let replies = &end.sites[0].replies;
-    assert_eq!(rt; replies.len(), 3);
-    expect_eq(&rt, &replies[0], &Err(EditFault::BadPlace));
-    assert!(rt; replies[1].is_ok());
-    assert!(rt; replies[2].is_ok());
+    let end = ran_two(&rt, alloc, &script, &[], &Open);
+    let (one, _) = replies_of_two(&rt, &end);
+    expect_that(&rt, is_first_refused(one));
     expect_eq(&rt, items(end.star.board()), 0);
 }

@@ -1,8 +1,8 @@
 //! Runs that gates hold: only sites that run at the same time get past them.
 
-use super::runs::{LIMIT, agree, blank, end_of, insertions, refusal, scripts};
-use crate::expect::expect_eq;
-use jup_app::{Gate, run_many, run_two};
+use super::runs::{LIMIT, agree, blank, insertions, ran_many, ran_two, refusal, scripts};
+use crate::expect::{expect_eq, expect_that};
+use jup_app::{Gate, RunEnd, run_many, run_two};
 use std::sync::atomic::{AtomicU64, Ordering};
 use std::thread;
 
@@ -14,7 +14,7 @@ impl Gate for Shut {
         false
     }
 
-    fn note_answer(&self, _site: u32, _nth: u32) {}
+    fn answered(&self, _site: u32, _nth: u32) {}
 }
 
 // Lets every site but one go on.
@@ -28,7 +28,7 @@ impl Gate for ShutTo {
         site != self.site
     }
 
-    fn note_answer(&self, _site: u32, _nth: u32) {}
+    fn answered(&self, _site: u32, _nth: u32) {}
 }
 
 // Lets each site's first edit go on once all sites have met inside.
@@ -79,7 +79,7 @@ impl Gate for Meeting {
         passed
     }
 
-    fn note_answer(&self, _site: u32, _nth: u32) {}
+    fn answered(&self, _site: u32, _nth: u32) {}
 }
 
 // Site 1's first edit waits for site 2's, and site 2's second for site 1's first.
@@ -98,7 +98,7 @@ impl Gate for Waits {
         }
     }
 
-    fn note_answer(&self, site: u32, nth: u32) {
+    fn answered(&self, site: u32, nth: u32) {
         match site {
             1 => self.first.store(nth as u64, Ordering::SeqCst),
             _ => self.second.store(nth as u64, Ordering::SeqCst),
@@ -111,28 +111,24 @@ fn two_meet(rt: HostRuntime) {
     let alloc = rt.alloc();
     let script = insertions(&rt, alloc, 'a', 20);
     let gate = Meeting::of(2);
-    let run = run_two(
-        &rt,
-        alloc,
-        blank(&rt, alloc),
-        LIMIT,
-        &script,
-        &script,
-        &gate,
-    );
-    let end = end_of(&rt, run);
+    let end = ran_two(&rt, alloc, &script, &script, &gate);
     expect_eq(&rt, end.star.order().len(), 40);
-    assert!(rt; agree(&end));
+    expect_that(&rt, agree(&end));
 }
 
 #[test]
 fn eight_meet(rt: HostRuntime) {
     let alloc = rt.alloc();
     let all = scripts(&rt, alloc, 8, 20);
-    let run = run_many(&rt, alloc, blank(&rt, alloc), LIMIT, &all, &Meeting::of(8));
-    let end = end_of(&rt, run);
+    let end = ran_many(&rt, alloc, &all, &Meeting::of(8));
     expect_eq(&rt, end.star.order().len(), 160);
-    assert!(rt; agree(&end));
+    expect_that(&rt, agree(&end));
+}
+
+// The sites of the first two edits.
+fn first_sites(end: &RunEnd) -> (Option<u32>, Option<u32>) {
+    let mut sites = end.star.order().iter().map(|entry| entry.site);
+    (sites.next(), sites.next())
 }
 
 #[test]
@@ -143,21 +139,10 @@ fn crosswise(rt: HostRuntime) {
         first: AtomicU64::new(0),
         second: AtomicU64::new(0),
     };
-    let run = run_two(
-        &rt,
-        alloc,
-        blank(&rt, alloc),
-        LIMIT,
-        &script,
-        &script,
-        &gate,
-    );
-    let end = end_of(&rt, run);
-    let mut places = end.star.order().iter().map(|entry| entry.site);
-    expect_eq(&rt, places.next(), Some(2));
-    expect_eq(&rt, places.next(), Some(1));
+    let end = ran_two(&rt, alloc, &script, &script, &gate);
     expect_eq(&rt, end.star.order().len(), 4);
-    assert!(rt; agree(&end));
+    expect_eq(&rt, first_sites(&end), (Some(2), Some(1)));
+    expect_that(&rt, agree(&end));
 }
 
 #[test]
@@ -181,9 +166,9 @@ fn the_lowest_site_that_is_refused_tells_why(rt: HostRuntime) {
     let alloc = rt.alloc();
     let all = scripts(&rt, alloc, 3, 2);
     // One site is held for good, and the order has no room for all edits of the other two.
-    for (site, number) in [(1, 60), (3, 32)] {
+    for &(site, number) in &[(1, 60), (3, 32)] {
         let gate = ShutTo { site };
         let run = run_many(&rt, alloc, blank(&rt, alloc), 3, &all, &gate);
-        assert_eq!(rt; refusal(run), number, "site {site} is held");
+        expect_eq(&rt, (site, refusal(run)), (site, number));
     }
 }

@@ -1,5 +1,5 @@
 //! Messages as lines written by hand, and lines gathered into messages, however their bytes are cut.
-use crate::expect::expect_eq;
+use crate::expect::{expect_eq, expect_that};
 use crate::lines::name;
 use jup_batch::BoardBatch;
 use jup_gather::{Gather, Gathered, lines_of_op};
@@ -101,18 +101,18 @@ fn comes_in_pieces(
         let fed = reader.feed(alloc, piece).expect(rt, "memory");
         for line in fed.lines.as_slice() {
             let gathered = push(rt, alloc, &mut gather, line);
-            assert!(rt; !came);
+            expect_that(rt, !came);
             if gathered == Gathered::Held {
                 held = held.saturating_add(1);
-                assert!(rt; gather.part());
+                expect_that(rt, gather.part());
             } else {
                 came = is_message(&gathered, msg);
-                assert!(rt; came);
+                expect_that(rt, came);
             }
         }
     }
     expect_eq(rt, held, msg.op.as_slice().len());
-    assert!(rt; came && !gather.part());
+    expect_that(rt, came && !gather.part());
 }
 
 #[test]
@@ -140,21 +140,21 @@ fn message_of_one_operation_comes_whole(rt: HostRuntime) {
 fn other_lines_stand_alone(rt: HostRuntime) {
     let alloc = rt.alloc();
     let mut gather = Gather::new();
-    for line in [Line::Hello, Line::Ack(64), Line::Ping(7), Line::Bye] {
+    for &line in &[Line::Hello, Line::Ack(64), Line::Ping(7), Line::Bye] {
         expect_eq(
             &rt,
             push(&rt, alloc, &mut gather, &line),
             Gathered::Plain(line),
         );
-        assert!(rt; !gather.part());
+        expect_that(&rt, !gather.part());
     }
 }
 
 // After these lines every line is misplaced, whichever comes.
 fn is_stopped(rt: &impl Abort, alloc: Global, gather: &mut Gather) {
-    for line in [Line::Ping(7), TWO, Line::Do(TOGGLED), Line::Bye] {
+    for &line in &[Line::Ping(7), TWO, Line::Do(TOGGLED), Line::Bye] {
         expect_eq(rt, push(rt, alloc, gather, &line), Gathered::Misplaced);
-        assert!(rt; !gather.part());
+        expect_that(rt, !gather.part());
     }
 }
 
@@ -168,7 +168,7 @@ fn line_among_operations_is_misplaced_for_ever(rt: HostRuntime) {
         push(&rt, alloc, &mut gather, &Line::Do(TOGGLED)),
         Gathered::Held,
     );
-    assert!(rt; gather.part());
+    expect_that(&rt, gather.part());
     expect_eq(
         &rt,
         push(&rt, alloc, &mut gather, &Line::Ping(1)),
@@ -192,7 +192,7 @@ fn operation_without_its_batch_line_is_misplaced_for_ever(rt: HostRuntime) {
 #[test]
 fn batch_of_no_message_is_misplaced(rt: HostRuntime) {
     let alloc = rt.alloc();
-    for count in [0, 33] {
+    for &count in &[0, 33] {
         let mut gather = Gather::new();
         let line = Line::Batch {
             mine: 0,

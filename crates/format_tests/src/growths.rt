@@ -1,6 +1,6 @@
 //! Growths of lines, layouts, messages and printed texts that are refused, each test for the call of its name. `./growths` refuses one after another of
 //! those between the two marks: a call that lacks memory leaves all as it was, and made again it gives its answer.
-use crate::expect::expect_eq;
+use crate::expect::{expect_eq, expect_that};
 use crate::gathering::{TOGGLED, TWO, message, push};
 use crate::layouts::FOUR_WIDGETS;
 use jup_gather::{Gather, Gathered, lines_of_op};
@@ -113,7 +113,7 @@ fn board_of_lines(rt: HostRuntime) {
     if matches!(back, Err(LayoutFault { number: 8, .. })) {
         back = board_of(rt.alloc(), lines.as_slice());
     }
-    assert!(rt; back.expect(&rt, "a board's lines").same(&board));
+    expect_that(&rt, back.expect(&rt, "a board's lines").same(&board));
 }
 
 #[test]
@@ -123,13 +123,13 @@ fn gather_push(rt: HostRuntime) {
     let mut gathered = gather.push(rt.alloc(), &TWO);
     end(rt.alloc());
     if gathered == Err(NoMemory) {
-        assert!(rt; !gather.part());
+        expect_that(&rt, !gather.part());
         gathered = gather.push(rt.alloc(), &TWO);
     }
     expect_eq(&rt, gathered, Ok(Gathered::Held));
     let next = push(&rt, rt.alloc(), &mut gather, &Line::Do(TOGGLED));
     expect_eq(&rt, next, Gathered::Held);
-    assert!(rt; gather.part());
+    expect_that(&rt, gather.part());
 }
 
 #[test]
@@ -221,7 +221,7 @@ fn take_line(rt: &impl Abort, alloc: Global, reader: &mut BoardReader, line: &st
     if taken == Err(Untaken::NoMemory) {
         taken = reader.take(alloc, line);
     }
-    assert_eq!(rt; taken, Ok(()), "{line}");
+    expect_eq(rt, (line, taken), (line, Ok(())));
 }
 
 // The items of a line that lacked memory were not numbered, so that those behind them have the numbers that are due.
@@ -239,5 +239,5 @@ fn board_reader_take(rt: HostRuntime) {
         take_line(&rt, rt.alloc(), &mut reader, line);
     }
     let board = four_widgets(&rt, rt.alloc());
-    assert!(rt; reader.whole().same(&board));
+    expect_that(&rt, reader.whole().same(&board));
 }

@@ -1,5 +1,5 @@
 //! Layouts written by hand, their refusals with their lines, and boards taken back from their lines.
-use crate::expect::expect_eq;
+use crate::expect::{expect_eq, expect_that};
 use jup_layout::{LayoutFault, board_of, layout, lines_of};
 use jup_value::Name;
 use jup_window::Board;
@@ -29,7 +29,7 @@ fn check_fault(rt: &impl Abort, made: Result<Board, LayoutFault>, line: u32, num
 fn written(rt: &impl Abort, alloc: Global, board: &Board) -> Vec<u8> {
     let lines = lines_of(alloc, board).expect(rt, "memory");
     let back = board_of(alloc, lines.as_slice()).expect(rt, "a board's lines");
-    assert!(rt; back.same(board));
+    expect_that(rt, back.same(board));
     let mut written = Vec::new(alloc);
     for line in lines.as_slice() {
         write(alloc, line, &mut written).expect(rt, "memory");
@@ -60,7 +60,7 @@ fn ids_come_in_any_order(rt: HostRuntime) {
 #[test]
 fn empty_layout_has_no_windows(rt: HostRuntime) {
     let board = layout(rt.alloc(), b"").expect(&rt, "a layout");
-    assert!(&rt; board.windows().is_empty());
+    expect_that(&rt, board.windows().is_empty());
 }
 
 #[test]
@@ -150,7 +150,7 @@ fn board_of_lines_takes_any_names_but_none_twice(rt: HostRuntime) {
     let named = |site| Line::Char(Name { site, number: 1 }, 'a');
     let apart = [Line::Window(1), Line::Text(1), named(2), named(1)];
     let board = board_of(alloc, &apart).expect(&rt, "a board's lines");
-    assert!(&rt; board.has_site(2));
+    expect_that(&rt, board.has_site(2));
     let twice = [Line::Window(1), Line::Text(1), named(2), named(2)];
     check_fault(&rt, board_of(alloc, &twice), 4, 45);
 }
@@ -173,7 +173,7 @@ fn text_of_a_layout_has_at_most_65536_items(rt: HostRuntime) {
     let longest = long_layout(&rt, alloc, 65_536);
     assert!(&rt; longest.len() < 16_000_000);
     let board = layout(alloc, &longest);
-    assert!(&rt; board.is_ok());
+    expect_that(&rt, board.is_ok());
     let longer = long_layout(&rt, alloc, 65_537);
     assert!(&rt; longer.len() < 16_000_000);
     check_fault(&rt, layout(alloc, &longer), 65_539, 11);

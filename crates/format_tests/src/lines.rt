@@ -1,5 +1,5 @@
 //! Each kind of line as bytes written by hand, and the faults, whole and byte by byte.
-use crate::expect::expect_eq;
+use crate::expect::{expect_eq, expect_that};
 use jup_seq::SeqOp;
 use jup_setting::SetOp;
 use jup_value::{Item, Label, Name};
@@ -50,21 +50,21 @@ fn is_written(rt: &impl Abort, alloc: Global, line: &Line, text: &[u8]) {
 
 // The line has no spelling: nothing is written for it, with all room that there may be.
 fn is_not_written(rt: &impl Abort, alloc: Global, line: &Line) {
-    assert!(rt; !has_spelling(line));
+    expect_that(rt, !has_spelling(line));
     let mut written = Vec::new(alloc);
     write(alloc, &Line::Bye, &mut written).expect(rt, "memory");
     expect_eq(rt, write(alloc, line, &mut written), Ok(()));
     expect_eq(rt, written.as_slice(), b"bye\n".as_slice());
     let mut reserved = Vec::with_capacity(alloc, LONGEST).expect(rt, "memory");
     write_reserved(line, &mut reserved);
-    assert!(rt; reserved.is_empty());
+    expect_that(rt, reserved.is_empty());
 }
 
 // The bytes before their line feed, which is the last, are the line by themselves.
 fn is_read_by_itself(rt: &impl Abort, line: &Line, text: &[u8]) {
     let (_, before) = text.split_last().expect(rt, "a line feed");
     expect_eq(rt, feed_of(text), Some(before.len()));
-    assert!(rt; read_line(before).expect(rt, "a line") == *line);
+    expect_that(rt, read_line(before).expect(rt, "a line") == *line);
 }
 
 // What is wrong with bytes that are no line.
@@ -83,20 +83,20 @@ fn is_read_in_bytes(rt: &impl Abort, alloc: Global, line: &Line, text: &[u8]) {
     let (line_feed, before) = text.split_last().expect(rt, "a line feed");
     for byte in before {
         let none = feed(rt, alloc, &mut cut, &[*byte]);
-        assert!(rt; none.lines.as_slice().is_empty());
+        expect_that(rt, none.lines.as_slice().is_empty());
         expect_eq(rt, cut.finish(), Err(WireFault::EarlyEnd));
     }
     let last = feed(rt, alloc, &mut cut, &[*line_feed]);
-    assert!(rt; is_line(&last, line));
+    expect_that(rt, is_line(&last, line));
 }
 
 // The line is written so, and these bytes are read as it, whole and byte by byte.
 fn check_line(rt: &impl Abort, alloc: Global, line: &Line, text: &[u8]) {
-    assert!(rt; has_spelling(line));
+    expect_that(rt, has_spelling(line));
     is_written(rt, alloc, line, text);
     let mut whole = Reader::new();
     let all = feed(rt, alloc, &mut whole, text);
-    assert!(rt; is_line(&all, line));
+    expect_that(rt, is_line(&all, line));
     expect_eq(rt, whole.finish(), Ok(()));
     is_read_in_bytes(rt, alloc, line, text);
     is_read_by_itself(rt, line, text);
@@ -244,7 +244,7 @@ fn relabel_of_a_text_is_no_line(rt: HostRuntime) {
     let text = b"do 1 1 text rel 0 0.1 97\n";
     let refused = feed(&rt, rt.alloc(), &mut Reader::new(), text);
     expect_eq(&rt, refused.fault, Some(WireFault::BadLine));
-    assert!(rt; refused.lines.as_slice().is_empty());
+    expect_that(&rt, refused.lines.as_slice().is_empty());
     expect_eq(
         &rt,
         fault_of(b"do 1 1 text rel 0 0.1 97"),
@@ -254,7 +254,7 @@ fn relabel_of_a_text_is_no_line(rt: HostRuntime) {
 
 #[test]
 fn settings_as_bytes(rt: HostRuntime) {
-    for (setting, text) in [
+    for &(setting, text) in &[
         (
             WidgetOp::Toggle(SetOp::Set(true)),
             b"do 1 3 toggle set on\n".as_slice(),
@@ -294,13 +294,13 @@ fn longest_line_has_106_bytes(rt: HostRuntime) {
     let text =
         b"do 65535 65535 list ins 4294967295 4294967295.4294967295 xxxxxxxxxxxxxxxxxxxxxxxxxxxxxxxxxxxxxxxxxxxxxxxx\n";
     expect_eq(&rt, text.len(), LONGEST);
-    assert!(rt; LONGEST <= MOST);
+    expect_that(&rt, LONGEST <= MOST);
     check_line(&rt, rt.alloc(), &operation(65_535, 65_535, insert), text);
 }
 
 #[test]
 fn bytes_outside_the_grammar_are_refused(rt: HostRuntime) {
-    for text in [
+    for &text in &[
         b"batch 00 0 1\n".as_slice(),
         b"batch 0 0 0\n".as_slice(),
         b"batch 0 0 33\n".as_slice(),
@@ -327,9 +327,9 @@ fn bytes_outside_the_grammar_are_refused(rt: HostRuntime) {
     ] {
         let refused = feed(&rt, rt.alloc(), &mut Reader::new(), text);
         expect_eq(&rt, refused.fault, Some(WireFault::BadLine));
-        assert!(rt; refused.lines.as_slice().is_empty());
+        expect_that(&rt, refused.lines.as_slice().is_empty());
     }
-    for text in [b"hello 1\n", b"hello 2\n"] {
+    for &text in &[b"hello 1\n", b"hello 2\n"] {
         let other = feed(&rt, rt.alloc(), &mut Reader::new(), text);
         expect_eq(&rt, other.fault, Some(WireFault::BadVersion));
     }
@@ -360,7 +360,7 @@ fn lines_before_a_fault_are_given_and_none_after(rt: HostRuntime) {
     expect_eq(&rt, second.lines.as_slice(), [Line::Ping(8)].as_slice());
     expect_eq(&rt, second.fault, Some(WireFault::BadVersion));
     let third = feed(&rt, rt.alloc(), &mut reader, b"ping 10\n");
-    assert!(rt; third.lines.as_slice().is_empty());
+    expect_that(&rt, third.lines.as_slice().is_empty());
     expect_eq(&rt, third.fault, Some(WireFault::BadVersion));
     expect_eq(&rt, reader.finish(), Err(WireFault::BadVersion));
 }
@@ -369,7 +369,7 @@ fn lines_before_a_fault_are_given_and_none_after(rt: HostRuntime) {
 fn a_piece_ends_a_part_and_begins_another(rt: HostRuntime) {
     let mut reader = Reader::new();
     let part = feed(&rt, rt.alloc(), &mut reader, b"pi");
-    assert!(rt; part.lines.as_slice().is_empty());
+    expect_that(&rt, part.lines.as_slice().is_empty());
     let middle = feed(&rt, rt.alloc(), &mut reader, b"ng 7\nbye\npon");
     expect_eq(
         &rt,
@@ -378,7 +378,7 @@ fn a_piece_ends_a_part_and_begins_another(rt: HostRuntime) {
     );
     expect_eq(&rt, reader.finish(), Err(WireFault::EarlyEnd));
     let last = feed(&rt, rt.alloc(), &mut reader, b"g 8\n");
-    assert!(rt; is_line(&last, &Line::Pong(8)));
+    expect_that(&rt, is_line(&last, &Line::Pong(8)));
     expect_eq(&rt, reader.finish(), Ok(()));
 }
 
@@ -407,7 +407,7 @@ fn texts_that_are_no_line_by_themselves(rt: HostRuntime) {
 
 #[test]
 fn faults_have_their_numbers(rt: HostRuntime) {
-    for (fault, number) in [
+    for &(fault, number) in &[
         (WireFault::BadLine, 40),
         (WireFault::LongLine, 41),
         (WireFault::BadVersion, 42),

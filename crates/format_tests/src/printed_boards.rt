@@ -33,19 +33,19 @@ fn a_line_that_is_refused_numbers_no_items(rt: HostRuntime) {
         take(&mut reader, alloc, "text 1 \"a\""),
         Err(Untaken::BadLine),
     );
-    for line in ["window 1", "text 1 \"ab\""] {
+    for &line in &["window 1", "text 1 \"ab\""] {
         expect_eq(&rt, take(&mut reader, alloc, line), Ok(()));
     }
-    for line in [
+    for &line in &[
         "text 1 \"xyz\"",
         "text 2 \"xy",
         "list 1 \"x\" \"y\"",
         "list 2 \"x\"\"y\"",
     ] {
-        assert_eq!(rt;
-            take(&mut reader, alloc, line),
-            Err(Untaken::BadLine),
-            "{line}"
+        expect_eq(
+            &rt,
+            (line, take(&mut reader, alloc, line)),
+            (line, Err(Untaken::BadLine)),
         );
     }
     expect_eq(&rt, take(&mut reader, alloc, "text 2 \"c\""), Ok(()));
@@ -58,7 +58,7 @@ fn a_line_that_is_refused_numbers_no_items(rt: HostRuntime) {
 // The first of these lines that is not taken, counted from 0, of a board whose window 1 has text 1.
 fn first_refused(rt: &impl Abort, alloc: Global, lines: &[&str]) -> Option<usize> {
     let mut reader = BoardReader::new(alloc);
-    for line in ["window 1", "text 1 \"\""] {
+    for &line in &["window 1", "text 1 \"\""] {
         expect_eq(rt, reader.take(alloc, line), Ok(()));
     }
     lines
@@ -80,7 +80,7 @@ fn lines_of_a_board_have_one_spelling(rt: HostRuntime) {
         "text 1 \"\"",
     ];
     expect_eq(&rt, first_refused(&rt, alloc, &good), None);
-    for bad in [
+    for &bad in &[
         "window",
         "window ",
         "window 0",
@@ -108,6 +108,10 @@ fn lines_of_a_board_have_one_spelling(rt: HostRuntime) {
         "button 8",
         "",
     ] {
-        assert_eq!(rt; first_refused(&rt, alloc, &[bad]), Some(0), "{bad}");
+        expect_eq(
+            &rt,
+            (bad, first_refused(&rt, alloc, &[bad])),
+            (bad, Some(0)),
+        );
     }
 }

@@ -75,7 +75,7 @@ fn an_operation_on_another_widget_is_read(rt: HostRuntime) {
 
 #[test]
 fn any_other_message_is_left_to_be_read_line_by_line(rt: HostRuntime) {
-    for bytes in [
+    for &bytes in &[
         b"".as_slice(),
         b"ack 3\n".as_slice(),
         b"batch 5 0 2\ndo 1 1 text del 0 0.9\ndo 1 1 text del 0 0.8\n".as_slice(),
@@ -90,7 +90,7 @@ fn any_other_message_is_left_to_be_read_line_by_line(rt: HostRuntime) {
 
 #[test]
 fn what_is_spelled_otherwise_is_no_message(rt: HostRuntime) {
-    for bytes in [
+    for &bytes in &[
         b"batch 05 0 1\ndo 1 1 text del 0 0.9\n".as_slice(),
         b"batch 5 0 1\r\ndo 1 1 text del 0 0.9\n".as_slice(),
         b"batch 5 0 1\nack 3\n".as_slice(),

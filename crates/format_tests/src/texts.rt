@@ -4,7 +4,12 @@ use jup_text::{read_command, write_board, write_edit};
 use jup_value::{Item, Label, Name, Seq};
 use jup_window::{Board, Command, Edit, Effect, Setting, Value, Widget};
 use jup_xform::Few;
-use std::test::Fail;
+use std::alloc::Global;
+use std::process::Abort;
+
+fn label(rt: &impl Abort, text: &[u8]) -> Label {
+    Label::read(text).expect(rt, "a label")
+}
 
 fn insertion(value: Value) -> Command {
     Command::Insert {
@@ -15,15 +20,23 @@ fn insertion(value: Value) -> Command {
     }
 }
 
-#[test]
-fn a_command_is_read_from_its_one_spelling(rt: HostRuntime) -> Result<(), Fail> {
-    let label = Label::read(b"a \"b\" \\")?;
-    let setting = |setting: Setting| Command::Set {
+fn set(setting: Setting) -> Command {
+    Command::Set {
         win: 1,
         wid: 2,
         setting,
-    };
-    for (line, command) in [
+    }
+}
+
+// The line is read as this command, or as none.
+fn is_read(rt: &impl Abort, line: &str, due: Option<Command>) {
+    expect_eq(rt, (line, read_command(line.as_bytes())), (line, due));
+}
+
+#[test]
+fn a_command_is_read_from_its_one_spelling(rt: HostRuntime) {
+    let label = label(&rt, b"a \"b\" \\");
+    for &(line, command) in &[
         ("ins 1 65535 7 char \"a\"", insertion(Value::Char('a'))),
         (
             "ins 1 65535 7 char \"\\u{e9}\"",
@@ -50,13 +63,13 @@ fn a_command_is_read_from_its_one_spelling(rt: HostRuntime) -> Result<(), Fail> 
                 label,
             },
         ),
-        ("set 1 2 on", setting(Setting::Toggle(true))),
-        ("set 1 2 off", setting(Setting::Toggle(false))),
-        ("set 1 2 -5", setting(Setting::Slider(-5))),
+        ("set 1 2 on", set(Setting::Toggle(true))),
+        ("set 1 2 off", set(Setting::Toggle(false))),
+        ("set 1 2 -5", set(Setting::Slider(-5))),
     ] {
-        assert_eq!(rt; read_command(line.as_bytes()), Some(command), "{line}");
+        is_read(&rt, line, Some(command));
     }
-    for line in [
+    for &line in &[
         "",
         "ins",
         "ins 1 2 0",
@@ -78,48 +91,51 @@ fn a_command_is_read_from_its_one_spelling(rt: HostRuntime) -> Result<(), Fail> 
         "set 1 2 +5",
         "sync",
     ] {
-        assert_eq!(rt; read_command(line.as_bytes()), None, "{line}");
+        is_read(&rt, line, None);
     }
     expect_eq(&rt, read_command(b"set 1 2 \xff"), None);
-    Ok(())
+}
+
+// The edits are printed so, behind what was there.
+fn are_printed(rt: &impl Abort, alloc: Global, edits: &[Edit], printed: &[u8]) {
+    let edits = Few::from_slice(alloc, edits).expect(rt, "memory");
+    let mut text = Vec::from_slice(alloc, b"made ").expect(rt, "memory");
+    write_edit(alloc, &edits, &mut text).expect(rt, "memory");
+    let behind = text.as_slice().strip_prefix(b"made ".as_slice());
+    expect_eq(rt, behind, Some(printed));
 }
 
 #[test]
-fn an_edit_is_printed_with_its_name(rt: HostRuntime) -> Result<(), Fail> {
+fn an_edit_is_printed_with_its_name(rt: HostRuntime) {
     let name = Name {
         site: 1,
         number: 12,
     };
-    for (what, printed) in [
+    for &(what, printed) in &[
         (Effect::PutChar(name, '"'), "ins 3 4 1.12 \"\\\"\""),
         (
-            Effect::PutLabel(name, Label::read(b"red")?),
+            Effect::PutLabel(name, label(&rt, b"red")),
             "ins 3 4 1.12 \"red\"",
         ),
         (Effect::Deleted(name), "del 3 4 1.12"),
         (
-            Effect::Relabelled(name, Label::read(b"\"tea\"")?),
+            Effect::Relabelled(name, label(&rt, b"\"tea\"")),
             "rel 3 4 1.12 \"\\\"tea\\\"\"",
         ),
         (Effect::Toggled(true), "set 3 4 on"),
         (Effect::Slid(-5), "set 3 4 -5"),
     ] {
-        let mut text = Vec::from_slice(rt.alloc(), b"made ")?;
         let edit = Edit {
             win: 3,
             wid: 4,
             what,
         };
-        let edits = Few::from_slice(rt.alloc(), &[edit])?;
-        write_edit(rt.alloc(), &edits, &mut text)?;
-        let wanted = format!(in rt.alloc(); "made {printed}")?;
-        expect_eq(&rt, text.as_slice(), wanted.as_bytes());
+        are_printed(&rt, rt.alloc(), &[edit], printed.as_bytes());
     }
-    Ok(())
 }
 
 #[test]
-fn edits_are_printed_with_a_semicolon_between_them(rt: HostRuntime) -> Result<(), Fail> {
+fn edits_are_printed_with_a_semicolon_between_them(rt: HostRuntime) {
     let first = Edit {
         win: 1,
         wid: 1,
@@ -130,72 +146,76 @@ fn edits_are_printed_with_a_semicolon_between_them(rt: HostRuntime) -> Result<()
         wid: 3,
         what: Effect::Toggled(false),
     };
-    let edits = Few::from_slice(rt.alloc(), &[first, second])?;
-    let mut text = Vec::new(rt.alloc());
-    write_edit(rt.alloc(), &edits, &mut text)?;
-    expect_eq(&rt, text.as_slice(), b"set 1 1 7; set 2 3 off".as_slice());
-    Ok(())
+    let printed = b"set 1 1 7; set 2 3 off";
+    are_printed(&rt, rt.alloc(), &[first, second], printed);
 }
 
-#[test]
-fn a_board_is_printed_ascending(rt: HostRuntime) -> Result<(), Fail> {
-    let alloc = rt.alloc();
+// A list of two labels.
+fn two_labels(rt: &impl Abort, alloc: Global) -> Seq<Label> {
     let mut list = Seq::new(alloc);
-    for (number, text) in [(1, "red"), (2, "a \"b\"")] {
-        list.reserve_one()?;
+    for &(number, text) in &[(1, "red"), (2, "a \"b\"")] {
+        list.reserve_one().expect(rt, "memory");
         let name = Name { site: 0, number };
-        let value = Label::read(text.as_bytes())?;
+        let value = label(rt, text.as_bytes());
         assert!(rt; list.len() < 9 && list.place_of(name).is_none());
         list.insert(list.len(), Item { name, value });
     }
+    list
+}
+
+// Puts a widget into window 1.
+fn add(rt: &impl Abort, board: &mut Board, wid: u16, widget: Widget) {
+    board.add_widget(1, wid, widget).expect(rt, "it is new");
+}
+
+#[test]
+fn a_board_is_printed_ascending(rt: HostRuntime) {
+    let alloc = rt.alloc();
     let mut board = Board::new(alloc);
-    board.add_window(alloc, 2)?;
-    board.add_window(alloc, 1)?;
-    board.add_widget(1, 9, Widget::Slider(Slider::new(0, 10, 5)?))?;
-    board.add_widget(1, 3, Widget::Toggle(Toggle { on: false }))?;
-    board.add_widget(1, 2, Widget::List(list))?;
-    board.add_widget(1, 1, Widget::Text(Seq::new(alloc)))?;
+    board.add_window(alloc, 2).expect(&rt, "it is new");
+    board.add_window(alloc, 1).expect(&rt, "it is new");
+    let slider = Slider::new(0, 10, 5).expect(&rt, "5 is from 0 to 10");
+    add(&rt, &mut board, 9, Widget::Slider(slider));
+    add(&rt, &mut board, 3, Widget::Toggle(Toggle { on: false }));
+    add(&rt, &mut board, 2, Widget::List(two_labels(&rt, alloc)));
+    add(&rt, &mut board, 1, Widget::Text(Seq::new(alloc)));
     let mut text = Vec::new(alloc);
-    write_board(alloc, &board, &mut text)?;
+    write_board(alloc, &board, &mut text).expect(&rt, "memory");
     let wanted =
         "window 1\ntext 1 \"\"\nlist 2 \"red\" \"a \\\"b\\\"\"\ntoggle 3 off\nslider 9 0 10 5\nwindow 2\n";
     expect_eq(&rt, text.as_slice(), wanted.as_bytes());
-    Ok(())
 }
 
 #[test]
 fn a_carriage_return_is_no_part_of_a_command(rt: HostRuntime) {
-    for line in [
+    for &line in &[
         "set 1 2 on\r",
         "set 1 2 5\r",
         "del 1 2 0\r",
         "ins 1 2 0 char \"a\"\r",
         "ins 1 2 0 item \"a\"\r",
     ] {
-        assert_eq!(rt; read_command(line.as_bytes()), None, "{line}");
+        is_read(&rt, line, None);
     }
 }
 
 #[test]
 fn the_last_characters_are_read(rt: HostRuntime) {
-    for (line, value) in [
+    for &(line, value) in &[
         ("ins 1 65535 7 char \"\\u{ffff}\"", '\u{ffff}'),
         ("ins 1 65535 7 char \"\\u{100000}\"", '\u{100000}'),
         ("ins 1 65535 7 char \"\\u{10ffff}\"", '\u{10ffff}'),
     ] {
-        let command = insertion(Value::Char(value));
-        assert_eq!(rt; read_command(line.as_bytes()), Some(command), "{line}");
+        is_read(&rt, line, Some(insertion(Value::Char(value))));
     }
 }
 
 #[test]
-fn a_label_has_48_bytes_at_most(rt: HostRuntime) -> Result<(), Fail> {
+fn a_label_has_48_bytes_at_most(rt: HostRuntime) {
     let text = "012345678901234567890123456789012345678901234567";
-    let label = Label::read(text.as_bytes())?;
-    let line = format!(in rt.alloc(); "ins 1 65535 7 item \"{text}\"")?;
-    let command = insertion(Value::Label(label));
-    expect_eq(&rt, read_command(line.as_bytes()), Some(command));
-    let line = format!(in rt.alloc(); "ins 1 65535 7 item \"{text}8\"")?;
-    expect_eq(&rt, read_command(line.as_bytes()), None);
-    Ok(())
+    let label = label(&rt, text.as_bytes());
+    let line = format!(in rt.alloc(); "ins 1 65535 7 item \"{text}\"").expect(&rt, "memory");
+    is_read(&rt, line.as_str(), Some(insertion(Value::Label(label))));
+    let line = format!(in rt.alloc(); "ins 1 65535 7 item \"{text}8\"").expect(&rt, "memory");
+    is_read(&rt, line.as_str(), None);
 }

@@ -27,7 +27,8 @@ use Rattle.jup_world.specs.BoardWorlds.{BoardWorld, BoardAttached, BoardEvent, B
 use Rattle.jup_world.specs.WorldStates.{attached, opened_world, IsQuiet}
 use Rattle.jup_world.specs.WorldSteps.{run, happens}
 use Rattle.jup_world.specs.Sound.{IsSound, StandsAt}
-use Rattle.jup_world.specs.Traces.{made, edit_made, order_of, joined_at, shown_count}
+use Rattle.jup_world.specs.Traces.{made, edit_made, joined_at, shown_count}
+use Rattle.jup_world.specs.BoardTraces.{order_of}
 use Rattle.jup_world.specs.Turns.{turns, edits, own_edits}
 use Rattle.jup_world.specs.Promises.{Promises}
 use Rattle.jup_world.proofs.Sound.SoundRuns.{sound-promises}
@@ -79,7 +80,7 @@ made_there i (event.Up j) r = refl
 made_there i (event.Down j) r = refl
 made_there i (event.Ping j k) r = refl
 
-made_is : (i : ℕ) (hs : List (Happened Commands BoardEdits ℕ)) → made i hs ≡ made_of (edits_at i hs)
+made_is : (i : ℕ) (hs : List (Happened Commands BoardBatch BoardEdits ℕ)) → made i hs ≡ made_of (edits_at i hs)
 made_is i [] = refl
 made_is i (h ∷ hs) = ap (λ es. es ++ made i hs) (made_there i h.event h.reply) ∙ ap (λ es. made_of (edit_at i h.event h.reply) ++ es) (made_is i hs) ∙ sym (made_of-append (edit_at i h.event h.reply) (edits_at i hs))
 
@@ -193,8 +194,8 @@ module _ (board : Windows) (limit n : ℕ) (scripts : List (List Command)) (star
   is_one : (i : ℕ) (l : BoardLink) (a : BoardAttached) → link_of i (assembled_world board limit n is.logs is.later).star.links ≡ Some l → attached i (assembled_world board limit n is.logs is.later).sites ≡ Some a → IsSite n i
   is_one i l a fl fa =
       let w : BoardWorld = assembled_world board limit n is.logs is.later in
-      let stands = subst (λ q. StandsAt board_batches most_batches (board_batches.t.content w.opening) (turns i w.star.order) w.star.board (made i w.trace) (joined_at i w.trace) (shown_count i w.trace) i (Some l) q) fa
-      (subst (λ o. StandsAt board_batches most_batches (board_batches.t.content w.opening) (turns i w.star.order) w.star.board (made i w.trace) (joined_at i w.trace) (shown_count i w.trace) i o (attached i w.sites)) fl (sound.stand i)) in
+      let stands = subst (λ q. StandsAt board_batches most_batches (board_batches.t.content w.opening) (turns i w.star.order) w.star.board (made i w.trace) (joined_at board_batches i w.trace) (shown_count i w.trace) i (Some l) q) fa
+      (subst (λ o. StandsAt board_batches most_batches (board_batches.t.content w.opening) (turns i w.star.order) w.star.board (made i w.trace) (joined_at board_batches i w.trace) (shown_count i w.trace) i o (attached i w.sites)) fl (sound.stand i)) in
       let given : w.star.given ≡ star.given = ap (λ (t : BoardStar). t.given) is.star_is in
       let below : n < i → ⊥ = λ above. (let none : Some l ≡ None = sym fl ∙ sound.star.no_link i (omega (arith, given, numbers.1, above)) in absurd cc) in
       (stands.pair.positive, elim (dec_le i n) [ yes within ↦ within | no above ↦ absurd (below (omega arith)) ])

@@ -84,7 +84,7 @@ leads_append {w} {es} {fs} {i} {s} {t} {l} {m} {rs} {qs} a b =
       silent = λ j ne. ap (λ (x : BoardWorld). edits_at j x.trace) same ∙ b.silent j ne ∙ a.silent j ne;
     }
 
-pub edits_at_last : (i : ℕ) (hs : List (Happened Commands BoardEdits ℕ)) (h : Happened Commands BoardEdits ℕ) → edits_at i (hs ++ h ∷ []) ≡ edits_at i hs ++ edit_at i h.event h.reply
+pub edits_at_last : (i : ℕ) (hs : List (Happened Commands BoardBatch BoardEdits ℕ)) (h : Happened Commands BoardBatch BoardEdits ℕ) → edits_at i (hs ++ h ∷ []) ≡ edits_at i hs ++ edit_at i h.event h.reply
 edits_at_last i [] h = append-nil (edit_at i h.event h.reply)
 edits_at_last i (k ∷ hs) h = ap (λ es. edit_at i k.event k.reply ++ es) (edits_at_last i hs h) ∙ sym (append_assoc (edit_at i k.event k.reply) (edits_at i hs) (edit_at i h.event h.reply))
 

@@ -171,6 +171,6 @@ edit_at i (event.Edit j c) (WasRefused n) = cond (eqb j i) ((c, Err n) ∷ []) [
 edit_at i _ _ = []
 
 -- and in a whole trace
-abbrev pub edits_at : ℕ → List (Happened Commands BoardEdits ℕ) → List (Commands × EditAnswer)
+abbrev pub edits_at : ℕ → List (Happened Commands BoardBatch BoardEdits ℕ) → List (Commands × EditAnswer)
 edits_at i [] = []
 edits_at i (h ∷ hs) = edit_at i h.event h.reply ++ edits_at i hs

@@ -1,60 +1,81 @@
 //! What is wrong with a line of a script.
 
-use thiserror::Error;
+use std::error::Error;
+use std::fmt;
 
 /// Why a line of a script is bad. All have the number 40.
-#[derive(Clone, Copy, Debug, PartialEq, Eq, Error)]
+#[derive(Clone, Copy, Debug, PartialEq, Eq)]
 pub enum ScriptFault {
-    #[error("the line is not UTF-8")]
     NotText,
-    #[error("the line has no line feed")]
     Unended,
-    #[error("the script ends where a line is due")]
     Missing,
-    #[error("the line is one too many")]
     Surplus,
-    #[error("`pair WIDGET`, `two` or `star LIMIT` is due")]
     NoMode,
-    #[error("`toggle START` or `slider LO HI START` is due")]
     NoPair,
-    #[error("`client VALUE` and then `server VALUE` are due")]
     NoSetting,
-    #[error("`start Q` is due")]
     NoStart,
-    #[error("`ins PLACE Q` or `del PLACE` is due")]
     NoTextEdit,
-    #[error("the line is no event")]
     NoEvent,
-    #[error("`ins W I PLACE char Q`, `ins W I PLACE item Q`, `del W I PLACE`, `rel W I PLACE Q` or `set W I VALUE` is due")]
     NoCommand,
-    #[error("`batch K` is due, K from 0 to 64")]
     NoBatch,
-    #[error("a limit from 1 to 16777216 is due")]
     BadLimit,
-    #[error("a number up to 4294967295 is due, with no sign and no leading zero")]
     BadNumber,
-    #[error("a number from -2147483648 to 2147483647 is due, with no plus sign, no leading zero and no -0")]
     BadInteger,
-    #[error("`on` or `off` is due")]
     BadSwitch,
-    #[error("a text in quotes is due, in its one spelling")]
     BadText,
-    #[error("one character in quotes is due, in its one spelling")]
     BadChar,
-    #[error("labels of 1 to 48 bytes in quotes are due, a space before each, at most 65536")]
     BadLabels,
-    #[error("`LO HI VALUE` is due")]
     NoBounds,
-    #[error("the value is not within the bounds")]
     OutOfBounds,
-    #[error("a text or a list has more than 65536 items")]
     LongText,
-    #[error("an id from 1 to 65535 is due")]
     BadId,
-    #[error("a window is due above its widgets")]
     NoWindow,
-    #[error("the id is taken")]
     DoubleId,
-    #[error("64 are there already")]
     TooMany,
 }
+
+impl ScriptFault {
+    // What is told of it, for people.
+    fn text(self) -> &'static str {
+        match self {
+            ScriptFault::NotText => "the line is not UTF-8",
+            ScriptFault::Unended => "the line has no line feed",
+            ScriptFault::Missing => "the script ends where a line is due",
+            ScriptFault::Surplus => "the line is one too many",
+            ScriptFault::NoMode => "`pair WIDGET`, `two` or `star LIMIT` is due",
+            ScriptFault::NoPair => "`toggle START` or `slider LO HI START` is due",
+            ScriptFault::NoSetting => "`client VALUE` and then `server VALUE` are due",
+            ScriptFault::NoStart => "`start Q` is due",
+            ScriptFault::NoTextEdit => "`ins PLACE Q` or `del PLACE` is due",
+            ScriptFault::NoEvent => "the line is no event",
+            ScriptFault::NoCommand =>
+                "`ins W I PLACE char Q`, `ins W I PLACE item Q`, `del W I PLACE`, `rel W I PLACE Q` or `set W I VALUE` is due",
+            ScriptFault::NoBatch => "`batch K` is due, K from 0 to 64",
+            ScriptFault::BadLimit => "a limit from 1 to 16777216 is due",
+            ScriptFault::BadNumber =>
+                "a number up to 4294967295 is due, with no sign and no leading zero",
+            ScriptFault::BadInteger =>
+                "a number from -2147483648 to 2147483647 is due, with no plus sign, no leading zero and no -0",
+            ScriptFault::BadSwitch => "`on` or `off` is due",
+            ScriptFault::BadText => "a text in quotes is due, in its one spelling",
+            ScriptFault::BadChar => "one character in quotes is due, in its one spelling",
+            ScriptFault::BadLabels =>
+                "labels of 1 to 48 bytes in quotes are due, a space before each, at most 65536",
+            ScriptFault::NoBounds => "`LO HI VALUE` is due",
+            ScriptFault::OutOfBounds => "the value is not within the bounds",
+            ScriptFault::LongText => "a text or a list has more than 65536 items",
+            ScriptFault::BadId => "an id from 1 to 65535 is due",
+            ScriptFault::NoWindow => "a window is due above its widgets",
+            ScriptFault::DoubleId => "the id is taken",
+            ScriptFault::TooMany => "64 are there already",
+        }
+    }
+}
+
+impl fmt::Display for ScriptFault {
+    fn fmt<W: fmt::Write>(&self, f: &mut fmt::Formatter<W>) -> fmt::Result {
+        f.write_str(self.text())
+    }
+}
+
+impl Error for ScriptFault {}

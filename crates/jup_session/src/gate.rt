@@ -29,7 +29,7 @@ pub trait Gate {
         ensures ready { IsTrue result → is_ready self.now site nth }
         ensures shut { IsFalse result → is_shut self.now site nth };
 
-    fn note_answer(&self, site: u32, nth: u32)
+    fn answered(&self, site: u32, nth: u32)
         ensures { is_told self.now site nth };
 }
 
@@ -44,7 +44,7 @@ impl Gate for Open {
         true
     }
 
-    fn note_answer(&self, _site: u32, _nth: u32) {}
+    fn answered(&self, _site: u32, _nth: u32) {}
 }
 
 /// Asks a gate for an edit, and where it is not ready again after a yield, up to 100,000 times. Whether it was ready. What is to
@@ -106,6 +106,6 @@ pub fn take_edit<R: Wait, G: Gate, F: FnOnce() + Drop>(
         return None;
     }
     let answer = hub.take(rt, alloc, pass, site, up);
-    gate.note_answer(site, nth);
+    gate.answered(site, nth);
     Some(answer)
 }

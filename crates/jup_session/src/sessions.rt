@@ -3,9 +3,9 @@
 mod bell;
 mod due;
 mod greeting;
-pub(crate) mod hangup;
+mod hangup;
 mod link;
-pub(crate) mod outgoing;
+mod outgoing;
 pub(crate) mod output;
 mod reading;
 mod serving;
@@ -13,4 +13,6 @@ pub(crate) mod source;
 mod writing;
 
 pub use bell::Bell;
+pub use hangup::hang_up;
+pub use outgoing::Outgoing;
 pub use serving::serve_link;

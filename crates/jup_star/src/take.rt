@@ -48,6 +48,14 @@ pub(crate) fn reserve_edit(
     msg.op.reserve(alloc, 0, board)?;
     order.reserve_one()?;
     reserve_all(alloc, links, &msg.op)?;
+    prepare(alloc, msg)
+}
+
+// Makes the copies that an edit will need.
+fn prepare(alloc: Global, msg: &Msg<BoardBatch>) -> Result<Prepared, NoMemory>
+    ensures msg { IfOk result (λ prepared. prepared.msg ≡ msg.now) }
+    ensures edits { IfOk result (λ prepared. prepared.edits ≡ edit_of msg.now.op) }
+{
     Ok(Prepared {
         msg: copy_of(alloc, msg)?,
         edits: edits_of(alloc, &msg.op)?,

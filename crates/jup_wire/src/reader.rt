@@ -1,6 +1,6 @@
 //! Lines from bytes that come in pieces.
 
-ghost use Rattle.std.specs.Prelude.{◌≡◌, ◌≢◌, ℕ, List, [], ◌∷◌, ◌++◌, All, IfOk, OnOk, OnErr, IsSome};
+ghost use Rattle.std.specs.Prelude.{◌≡◌, ◌≢◌, ℕ, List, [], ◌∷◌, ◌++◌, All, IfOk, IsOk, OnOk, OnErr, IsSome};
 ghost use Rattle.std.specs.List.{flat_map, AllByRecursion};
 ghost use Rattle.jup_wire.specs.Grammar.{spelling, HasSpelling};
 ghost use Rattle.jup_wire.specs.Parts.{part_bytes};
@@ -232,6 +232,7 @@ impl Reader {
         ensures fault { IfOk result (λ fed. fed.fault ≡ self.new.fault) }
         ensures stopped { IsSome self.old.fault
             → IfOk result (λ fed. (fed.lines ≡ []) × (self.new ≡ self.old)) }
+        ensures answered { IsSome self.old.fault → IsOk result }
         ensures err { OnErr result (self.new ≡ self.old) }
     {
         if self.fault.is_some() {

@@ -1,6 +1,6 @@
 //! Runs beside strangers that were worked out by hand.
 use crate::events::{joins, mixed_over, plays, read, strays, types};
-use crate::expect::expect_eq;
+use crate::expect::{expect_eq, expect_that};
 use jup_mixed::{MixEvent, Mixed};
 use jup_seq::SeqOp;
 use jup_star::{OpenFault, StarFault, Up};
@@ -9,6 +9,7 @@ use jup_window::{Edit, Effect};
 use jup_world::Reply;
 use jup_xform::Few;
 use std::alloc::Global;
+use std::process::Abort;
 use test_boards::board_of;
 
 fn reply_of(alloc: Global, number: u32, value: char) -> Reply {
@@ -18,6 +19,19 @@ fn reply_of(alloc: Global, number: u32, value: char) -> Reply {
         what: Effect::PutChar(Name { site: 1, number }, value),
     };
     Reply::Made(Few::from_slice(alloc, &[put]).unwrap())
+}
+
+// The site types into text 1, and its edit is the insertion of its item of this number.
+fn site_types(
+    rt: &impl Abort,
+    alloc: Global,
+    mixed: &mut Mixed,
+    place: u32,
+    value: char,
+    number: u32,
+) {
+    let typed = types(alloc, place, value);
+    plays(rt, alloc, mixed, typed, reply_of(alloc, number, value));
 }
 
 fn inserts(site: u32, number: u32, value: char) -> SeqOp<char> {
@@ -43,33 +57,38 @@ fn asks(link: u32) -> MixEvent {
 fn a_stranger_deletes_and_then_says_it_again(rt: HostRuntime) {
     let alloc = rt.alloc();
     let mut mixed = mixed_over(&rt, alloc, "text 1 \"ab\"");
-    plays(
-        &rt,
-        alloc,
-        &mut mixed,
-        types(alloc, 2, 'c'),
-        reply_of(alloc, 1, 'c'),
-    );
+    site_types(&rt, alloc, &mut mixed, 2, 'c', 1);
     joins(&rt, alloc, &mut mixed, 2);
     plays(&rt, alloc, &mut mixed, deletes(alloc), Reply::Taken(0));
     plays(&rt, alloc, &mut mixed, MixEvent::Up, Reply::Taken(1));
     plays(&rt, alloc, &mut mixed, MixEvent::Down, Reply::Shown);
     read(&rt, &mixed, "bc", "bc");
-    assert!(rt; mixed.quiet());
+    expect_that(&rt, mixed.quiet());
     let again = Reply::Detached(StarFault::BadCount);
     plays(&rt, alloc, &mut mixed, deletes(alloc), again);
     plays(&rt, alloc, &mut mixed, deletes(alloc), Reply::Nothing);
-    plays(
-        &rt,
-        alloc,
-        &mut mixed,
-        types(alloc, 0, 'd'),
-        reply_of(alloc, 2, 'd'),
-    );
-    assert!(rt; !mixed.quiet());
+    site_types(&rt, alloc, &mut mixed, 0, 'd', 2);
+    expect_that(&rt, !mixed.quiet());
     plays(&rt, alloc, &mut mixed, MixEvent::Up, Reply::Taken(2));
     read(&rt, &mixed, "dbc", "dbc");
     expect_eq(&rt, mixed.trace().len(), 9);
+}
+
+// A stranger joins, sends an edit and is refused for it, and then has no link.
+fn is_refused(
+    rt: &impl Abort,
+    alloc: Global,
+    mixed: &mut Mixed,
+    link: u32,
+    mine: u32,
+    op: SeqOp<char>,
+    fault: StarFault,
+) {
+    joins(rt, alloc, mixed, link);
+    let edit = strays(alloc, link, mine, op);
+    plays(rt, alloc, mixed, edit, Reply::Detached(fault));
+    let again = strays(alloc, link, mine, op);
+    plays(rt, alloc, mixed, again, Reply::Nothing);
 }
 
 // Each stranger is refused and its link is gone; the next has the next number.
@@ -77,35 +96,14 @@ fn a_stranger_deletes_and_then_says_it_again(rt: HostRuntime) {
 fn strangers_are_refused_by_name(rt: HostRuntime) {
     let alloc = rt.alloc();
     let mut mixed = mixed_over(&rt, alloc, "text 1 \"ab\"");
-    plays(
-        &rt,
-        alloc,
-        &mut mixed,
-        types(alloc, 2, 'c'),
-        reply_of(alloc, 1, 'c'),
-    );
-    for (link, mine, op, fault) in [
+    site_types(&rt, alloc, &mut mixed, 2, 'c', 1);
+    for &(link, mine, op, fault) in &[
         (2, 1, inserts(2, 1, 'x'), StarFault::BadCount),
         (3, 0, inserts(1, 1, 'x'), StarFault::BadName),
         (4, 0, inserts(4, 2, 'x'), StarFault::BadName),
         (5, 0, SeqOp::Nothing, StarFault::NotAnEdit),
     ] {
-        joins(&rt, alloc, &mut mixed, link);
-        let refused = Reply::Detached(fault);
-        plays(
-            &rt,
-            alloc,
-            &mut mixed,
-            strays(alloc, link, mine, op),
-            refused,
-        );
-        plays(
-            &rt,
-            alloc,
-            &mut mixed,
-            strays(alloc, link, mine, op),
-            Reply::Nothing,
-        );
+        is_refused(&rt, alloc, &mut mixed, link, mine, op, fault);
     }
     joins(&rt, alloc, &mut mixed, 6);
     let heard = MixEvent::Stray(6, Up::Ack(1));
@@ -141,13 +139,7 @@ fn a_stranger_speaks_for_no_other_link(rt: HostRuntime) {
         Reply::Nothing,
     );
     plays(&rt, alloc, &mut mixed, asks(2), Reply::Nothing);
-    plays(
-        &rt,
-        alloc,
-        &mut mixed,
-        types(alloc, 2, 'c'),
-        reply_of(alloc, 1, 'c'),
-    );
+    site_types(&rt, alloc, &mut mixed, 2, 'c', 1);
     plays(&rt, alloc, &mut mixed, MixEvent::Up, Reply::Taken(0));
     read(&rt, &mixed, "abc", "abc");
 }
@@ -158,30 +150,29 @@ fn a_stranger_fills_the_order(rt: HostRuntime) {
     let alloc = rt.alloc();
     let board = board_of(alloc, &["window 1", "text 1 \"ab\""]).expect(&rt, "a board");
     let mut mixed = Mixed::open(alloc, board, 1).expect(&rt, "a limit of one");
-    plays(
-        &rt,
-        alloc,
-        &mut mixed,
-        types(alloc, 2, 'c'),
-        reply_of(alloc, 1, 'c'),
-    );
+    site_types(&rt, alloc, &mut mixed, 2, 'c', 1);
     joins(&rt, alloc, &mut mixed, 2);
     plays(&rt, alloc, &mut mixed, deletes(alloc), Reply::Taken(0));
     let full = Reply::Detached(StarFault::LogFull);
     plays(&rt, alloc, &mut mixed, MixEvent::Up, full);
-    assert!(rt; mixed.site().is_none());
-    assert!(rt; mixed.quiet());
+    expect_that(&rt, mixed.site().is_none());
+    expect_that(&rt, mixed.quiet());
     plays(&rt, alloc, &mut mixed, MixEvent::Up, Reply::Nothing);
+}
+
+// A star is not opened with this limit.
+fn is_not_opened(rt: &impl Abort, alloc: Global, limit: u32, fault: OpenFault) {
+    let board = board_of(alloc, &["window 1", "text 1 \"ab\""]).expect(rt, "a board");
+    let opened = Mixed::open(alloc, board, limit);
+    expect_eq(rt, (limit, opened.err()), (limit, Some(fault)));
 }
 
 #[test]
 fn what_no_star_opens_with(rt: HostRuntime) {
     let alloc = rt.alloc();
-    for (limit, fault) in [(0, OpenFault::BadLimit), (16_777_217, OpenFault::BadLimit)] {
-        let board = board_of(alloc, &["window 1", "text 1 \"ab\""]).expect(&rt, "a board");
-        assert!(rt; Mixed::open(alloc, board, limit).err() == Some(fault));
-    }
+    is_not_opened(&rt, alloc, 0, OpenFault::BadLimit);
+    is_not_opened(&rt, alloc, 16_777_217, OpenFault::BadLimit);
     let opening = board_of(alloc, &["window 1", "text 1 \"ab\""]).expect(&rt, "a board");
     let mixed = mixed_over(&rt, alloc, "text 1 \"ab\"");
-    assert!(rt; mixed.opening().same(&opening));
+    expect_that(&rt, mixed.opening().same(&opening));
 }

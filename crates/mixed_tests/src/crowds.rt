@@ -1,6 +1,6 @@
 //! Ten thousand messages of four strangers, valid, half valid and senseless, beside one site that edits.
 use crate::events::{insert, mixed_over, step};
-use crate::expect::expect_eq;
+use crate::expect::{expect_eq, expect_that};
 use jup_batch::all_insertions;
 use jup_link::Msg;
 use jup_mixed::{MixEvent, Mixed};
@@ -289,7 +289,7 @@ fn site_goes_on(rt: &impl Abort, alloc: Global, dice: &mut Dice, mixed: &mut Mix
         _ => MixEvent::Down,
     };
     let reply = step(rt, alloc, mixed, &event);
-    assert!(rt; !matches!(reply, Reply::Detached(_)));
+    expect_that(rt, !matches!(reply, Reply::Detached(_)));
 }
 
 // All messages of the strangers, and what became of them.
@@ -333,10 +333,10 @@ fn a_site_in_a_crowd_of_strangers(rt: HostRuntime) {
     let mut mixed = mixed_over(&rt, alloc, "text 1 \"Jupiter\"");
     let tally = crowd(&rt, alloc, &mut mixed);
     expect_eq(&rt, tally.sent, MESSAGES);
-    assert!(rt; tally.taken >= MESSAGES / 5, "{tally:?}");
-    assert!(rt; tally.refused >= MESSAGES / 20, "{tally:?}");
+    expect_eq(&rt, (tally, tally.taken >= MESSAGES / 5), (tally, true));
+    expect_eq(&rt, (tally, tally.refused >= MESSAGES / 20), (tally, true));
     drains(&rt, alloc, &mut mixed);
-    assert!(rt; mixed.quiet());
+    expect_that(&rt, mixed.quiet());
     let site = mixed.site().expect(&rt, "the site is attached");
-    assert!(rt; site.board().same(mixed.star().board()));
+    expect_that(&rt, site.board().same(mixed.star().board()));
 }

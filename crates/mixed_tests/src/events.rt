@@ -1,4 +1,5 @@
 //! What is played at a star with one site and strangers, and what both ends show.
+use crate::expect::{expect_eq, expect_that};
 use jup_link::Msg;
 use jup_mixed::{MixEvent, Mixed};
 use jup_seq::SeqOp;
@@ -42,7 +43,8 @@ pub(crate) fn plays(
     event: MixEvent,
     wanted: Reply,
 ) {
-    assert_eq!(rt; step(rt, alloc, mixed, &event), wanted, "{event:?}");
+    let reply = step(rt, alloc, mixed, &event);
+    expect_eq(rt, (&event, &reply), (&event, &wanted));
 }
 
 /// An insertion into text 1.
@@ -88,7 +90,7 @@ pub(crate) fn joins(rt: &impl Abort, alloc: Global, mixed: &mut Mixed, link: u32
 
 /// The star's text 1 reads so, and the site's so.
 pub(crate) fn read(rt: &impl Abort, mixed: &Mixed, star: &str, site: &str) {
-    assert!(rt; reads(mixed.star().board(), star), "{star}");
+    expect_eq(rt, (star, reads(mixed.star().board(), star)), (star, true));
     let home = mixed.site().expect(rt, "the site is attached");
-    assert!(rt; reads(home.board(), site), "{site}");
+    expect_eq(rt, (site, reads(home.board(), site)), (site, true));
 }

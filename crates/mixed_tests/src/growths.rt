@@ -1,7 +1,7 @@
 //! Growths of a star with strangers that are refused, each test for the call, or the kind of event, of its name. `./growths` refuses one after another of
 //! those between the two marks: after an event that lacked memory all is seen as before, and played again it gives its answer.
 use crate::events::{insert, mixed_over, strays};
-use crate::expect::expect_eq;
+use crate::expect::{expect_eq, expect_that};
 use jup_batch::BoardEdits;
 use jup_mixed::{MixEvent, MixHappened, Mixed};
 use jup_seq::SeqOp;
@@ -46,7 +46,7 @@ fn is_spared(rt: &impl Abort, event: &MixEvent, was: &Seen, now: &Seen) {
     expect_eq(rt, now.waiting[1], was.waiting[1]);
     let one_less = was.waiting[0].map(|count| count.saturating_sub(1));
     let fetched = *event == MixEvent::Down && now.waiting[0] == one_less;
-    assert!(rt; fetched || now.waiting[0] == was.waiting[0]);
+    expect_that(rt, fetched || now.waiting[0] == was.waiting[0]);
 }
 
 // The event happens, with this reply. Where it is marked, and lacks memory, all is as before.
@@ -68,7 +68,7 @@ fn happens(
         reply = mixed.step(alloc, &wanted.event);
     }
     let reply = reply.expect(rt, "memory");
-    assert_eq!(rt; reply, wanted.reply, "{:?}", wanted.event);
+    expect_eq(rt, (&wanted.event, &reply), (&wanted.event, &wanted.reply));
 }
 
 #[derive(Clone, Copy, Drop, PartialEq, Eq)]
@@ -116,23 +116,25 @@ fn type_xy(rt: &impl Abort, alloc: Global) -> (MixEvent, Reply) {
     (MixEvent::Edit(commands), Reply::Made(edits))
 }
 
+// Puts an event with its reply behind the others.
+fn add(rt: &impl Abort, all: &mut Vec<MixHappened>, event: MixEvent, reply: Reply) {
+    all.push(MixHappened { event, reply }).expect(rt, "memory");
+}
+
 // The site types while a stranger joins, edits, pings and leaves.
 fn all_events(rt: &impl Abort, alloc: Global) -> Vec<MixHappened> {
     let mut all = Vec::new(alloc);
-    for (event, reply) in [
-        (MixEvent::JoinStray, Reply::Joined(2)),
-        type_xy(rt, alloc),
-        (first_stray(alloc), Reply::Taken(0)),
-        (MixEvent::Stray(2, Up::Ping(7)), Reply::Heard),
-        (MixEvent::Up, Reply::Taken(1)),
-        (MixEvent::Down, Reply::Shown),
-        (MixEvent::LeaveStray(2), Reply::Left),
-        (MixEvent::Down, Reply::Nothing),
-        // The trace has room for 8 events.
-        (MixEvent::LeaveStray(2), Reply::Nothing),
-    ] {
-        all.push(MixHappened { event, reply }).expect(rt, "memory");
-    }
+    add(rt, &mut all, MixEvent::JoinStray, Reply::Joined(2));
+    let (typed, made) = type_xy(rt, alloc);
+    add(rt, &mut all, typed, made);
+    add(rt, &mut all, first_stray(alloc), Reply::Taken(0));
+    add(rt, &mut all, MixEvent::Stray(2, Up::Ping(7)), Reply::Heard);
+    add(rt, &mut all, MixEvent::Up, Reply::Taken(1));
+    add(rt, &mut all, MixEvent::Down, Reply::Shown);
+    add(rt, &mut all, MixEvent::LeaveStray(2), Reply::Left);
+    add(rt, &mut all, MixEvent::Down, Reply::Nothing);
+    // The trace has room for 8 events.
+    add(rt, &mut all, MixEvent::LeaveStray(2), Reply::Nothing);
     all
 }
 
@@ -150,9 +152,9 @@ fn plays(rt: &impl Abort, alloc: Global, kind: Kind) {
         );
     }
     expect_eq(rt, mixed.trace(), all.as_slice());
-    assert!(rt; mixed.quiet() && reads(mixed.star().board(), "xys"));
+    expect_that(rt, mixed.quiet() && reads(mixed.star().board(), "xys"));
     let site = mixed.site().expect(rt, "the site is attached");
-    assert!(rt; reads(site.board(), "xys"));
+    expect_that(rt, reads(site.board(), "xys"));
 }
 
 #[test]
@@ -197,5 +199,5 @@ fn mixed_open(rt: HostRuntime) {
         mixed = Mixed::open(rt.alloc(), again, 100);
     }
     let mixed = mixed.expect(&rt, "a layout and a limit");
-    assert!(rt; mixed.quiet() && reads(mixed.star().board(), "ab"));
+    expect_that(&rt, mixed.quiet() && reads(mixed.star().board(), "ab"));
 }

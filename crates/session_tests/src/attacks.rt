@@ -1,12 +1,13 @@
 //! The attack that docs/PROTOCOL.md shows: what is typed in its three terminals, and what they print.
 
-use crate::expect::expect_eq;
+use crate::expect::{expect_eq, expect_text};
 use crate::programs::{client_of, daemon_at, expect_success, serve};
-use crate::strangers::{is_told, link_to, read_to};
+use crate::strangers::{link_to, read_to, read_to_end, send};
 use jup_session::client_main;
 use std::alloc::Global;
-use std::io::{Read, Write};
+use std::io::Read;
 use std::net::{Net, TcpListener, TcpStream};
+use std::process::Abort;
 use std::thread::join;
 use std::time::{Clock, Duration};
 use std::{io, thread};
@@ -37,19 +38,17 @@ const HEARD: &str = "welcome 2 1000\n\
     ready\npong 1\nerror 22\n";
 
 // A stranger greets, sends its lines, and reads to the end of its link.
-fn attack<R: Net<Listener = TcpListener, Stream = TcpStream> + Clock>(
+fn attack<R: Net<Listener = TcpListener, Stream = TcpStream> + Clock + Abort>(
     rt: &R,
     heard: &mut Vec<u8>,
-) -> io::Result<()> {
-    let stream = link_to(rt, ADDR)?;
-    let mut to = &stream;
-    to.write_all(b"hello 3\n")?;
-    read_to(&stream, b"ready\n", heard)?;
-    to.write_all(DELETION.as_bytes())?;
-    read_to(&stream, b"pong 1\n", heard)?;
-    to.write_all(FORGERY.as_bytes())?;
-    (&stream).read_to_end(heard)?;
-    Ok(())
+) {
+    let link = link_to(rt, ADDR);
+    send(rt, &link, b"hello 3\n");
+    read_to(rt, &link, b"ready\n", heard);
+    send(rt, &link, DELETION.as_bytes());
+    read_to(rt, &link, b"pong 1\n", heard);
+    send(rt, &link, FORGERY.as_bytes());
+    read_to_end(rt, &link, heard);
 }
 
 /// The commands of a client. A stranger comes and goes between `BEFORE` and `AFTER`.
@@ -62,21 +61,22 @@ struct Disturbed<'a, R> {
     heard: &'a mut Vec<u8>,
 }
 
-impl<'a, R: Net<Listener = TcpListener, Stream = TcpStream> + Clock> Read for Disturbed<'a, R> {
+impl<'a, R: Net<Listener = TcpListener, Stream = TcpStream> + Clock + Abort> Read
+    for Disturbed<'a, R> {
     fn read(&mut self, buf: &mut [u8]) -> io::Result<usize> {
         if !self.before.is_empty() {
             return self.before.read(buf);
         }
         if !self.is_over {
             self.is_over = true;
-            attack(self.rt, self.heard)?;
+            attack(self.rt, self.heard);
         }
         self.after.read(buf)
     }
 }
 
 // Runs the client, and again while it finds no daemon.
-fn edits_beside<R: Net<Listener = TcpListener, Stream = TcpStream> + Clock>(
+fn edits_beside<R: Net<Listener = TcpListener, Stream = TcpStream> + Clock + Abort>(
     rt: &R,
     alloc: Global,
     words: &[String],
@@ -114,11 +114,11 @@ fn a_stranger_forges_a_name(rt: HostRuntime) {
         || edits_beside(&rt, alloc, &client, &mut shown, &mut heard),
     );
     expect_eq(&rt, other, 0);
-    is_told(&rt, heard.as_slice(), HEARD);
+    expect_text(&rt, heard.as_slice(), HEARD);
     let lines = format!(in alloc;
         "site 1\nmade ins 1 1 1.1 \"!\"\nsynced\nmade ins 1 1 1.2 \">\"\nsynced\n{SHOWN}bye\n"
     );
-    is_told(
+    expect_text(
         &rt,
         shown.as_slice(),
         lines.expect(&rt, "there is memory").as_str(),

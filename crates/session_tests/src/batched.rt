@@ -33,7 +33,7 @@ fn are_refused(rt: &impl Abort, alloc: Global, commands: &str, printed: &str) {
 
 #[test]
 fn batches_that_are_refused(rt: HostRuntime) {
-    for (commands, printed) in [
+    for &(commands, printed) in &[
         ("batch 0\n", "refused 15\n"),
         ("batch 1\ndel 1 1 0\n", "refused 4\n"),
         (
@@ -67,7 +67,7 @@ fn batches_that_are_refused(rt: HostRuntime) {
 #[test]
 fn batches_of_too_many_commands(rt: HostRuntime) {
     let alloc = rt.alloc();
-    for (first, count) in [("batch 33\n", 33), ("batch 64\n", 64)] {
+    for &(first, count) in &[("batch 33\n", 33), ("batch 64\n", 64)] {
         let commands = lines(&rt, alloc, first, "set 1 3 on", 0..count, "");
         are_refused(&rt, alloc, commands.as_str(), "refused 15\n");
     }

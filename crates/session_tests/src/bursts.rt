@@ -32,7 +32,7 @@ fn rings_of<R: Threads + Wait + Sync + Abort, I: Read + Drop>(
     let bell = Bell::new();
     let mut to = Vec::new(alloc);
     let (_, ending) = serve_link(rt, alloc, from, &mut to, &hub, pass, &bell, &Open);
-    assert!(rt; ending == Ending::Bye);
+    expect_eq(rt, ending, Ending::Bye);
     rings(rt, &bell)
 }
 
@@ -62,7 +62,7 @@ impl<'a, R: Wait> Gate for Waking<'a, R> {
         nth == 1 || rings(self.rt, self.bell) > 0
     }
 
-    fn note_answer(&self, _site: u32, _nth: u32) {}
+    fn answered(&self, _site: u32, _nth: u32) {}
 }
 
 #[test]
@@ -76,5 +76,5 @@ fn the_others_are_woken_before_a_gate_is_waited_for(rt: HostRuntime) {
     };
     let mut to = Vec::new(alloc);
     let (_, ending) = serve_link(&rt, alloc, BURST, &mut to, &hub, pass, &bell, &gate);
-    assert!(rt; ending == Ending::Bye);
+    expect_eq(&rt, ending, Ending::Bye);
 }

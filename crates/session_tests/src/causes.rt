@@ -22,7 +22,7 @@ fn is_told(rt: &impl Abort, alloc: Global, fault: SessionFault) {
 
 #[test]
 fn causes_are_the_texts_of_faults(rt: HostRuntime) {
-    for fault in [
+    for &fault in &[
         StarFault::NoMemory,
         StarFault::BadCount,
         StarFault::BadAck,
@@ -36,7 +36,7 @@ fn causes_are_the_texts_of_faults(rt: HostRuntime) {
     ] {
         is_told(&rt, rt.alloc(), SessionFault::Hub(HubFault::Star(fault)));
     }
-    for fault in [
+    for &fault in &[
         SessionFault::Hub(HubFault::Spent),
         SessionFault::Wire(WireFault::BadLine),
         SessionFault::Wire(WireFault::LongLine),
@@ -54,10 +54,10 @@ fn causes_are_the_texts_of_faults(rt: HostRuntime) {
 // What a server greets with is refused by the client's board and by its site.
 #[test]
 fn causes_are_the_texts_of_faults_in_a_greeting(rt: HostRuntime) {
-    for fault in [BoardFault::DoubleId, BoardFault::BadId] {
+    for &fault in &[BoardFault::DoubleId, BoardFault::BadId] {
         is_cause(&rt, rt.alloc(), &fault, fault.number());
     }
-    for fault in [OpenFault::BadLimit, OpenFault::BadSite] {
+    for &fault in &[OpenFault::BadLimit, OpenFault::BadSite] {
         is_cause(&rt, rt.alloc(), &fault, fault.number());
     }
     let stopped = SiteFault::Stopped;

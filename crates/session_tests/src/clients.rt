@@ -1,11 +1,10 @@
 //! Clients over memory.
 
-use crate::expect::expect_eq;
+use crate::expect::{expect_eq, expect_text};
 use crate::texts::lines;
 use jup_session::{ClientEnd, run_client};
 use std::alloc::Global;
 use std::process::Abort;
-use std::str;
 
 pub(crate) const GREETED: &str = "welcome 1 100\nwindow 1\ntext 1\ntoggle 3 off\nready\n";
 
@@ -27,14 +26,14 @@ pub(crate) fn run(alloc: Global, commands: &[u8], from: &[u8]) -> Ran {
 // It ended well, and sent and printed this.
 pub(crate) fn ended_well(rt: &impl Abort, ran: &Ran, sent: &str, printed: &str) {
     expect_eq(rt, ran.end, Ok(()));
-    expect_eq(rt, str::from_utf8(ran.to.as_slice()), Ok(sent));
-    expect_eq(rt, str::from_utf8(ran.out.as_slice()), Ok(printed));
+    expect_text(rt, ran.to.as_slice(), sent);
+    expect_text(rt, ran.out.as_slice(), printed);
 }
 
 // It ended in a fault, and printed this.
 fn ended_in_fault(rt: &impl Abort, ran: &Ran, number: u32, printed: &str) {
     expect_eq(rt, ran.end, Err(ClientEnd::Fault(number)));
-    expect_eq(rt, str::from_utf8(ran.out.as_slice()), Ok(printed));
+    expect_text(rt, ran.out.as_slice(), printed);
 }
 
 #[test]
@@ -137,16 +136,12 @@ fn the_1025th_edit_without_a_sync_is_refused(rt: HostRuntime) {
     let from = "welcome 1 2000\nwindow 1\ntoggle 3 off\nready\n";
     let ran = run(alloc, commands.as_bytes(), from.as_bytes());
     expect_eq(&rt, ran.end, Ok(()));
-    expect_eq(
-        &rt,
-        str::from_utf8(ran.out.as_slice()),
-        Ok(printed.as_str()),
-    );
+    expect_text(&rt, ran.out.as_slice(), printed.as_str());
 }
 
 #[test]
 fn servers_that_greet_wrongly(rt: HostRuntime) {
-    for (from, number) in [
+    for &(from, number) in &[
         ("error 30\n", 30),
         ("ready\n", 44),
         ("welcom\n", 40),
@@ -165,10 +160,10 @@ fn servers_that_greet_wrongly(rt: HostRuntime) {
     ] {
         let ran = run(rt.alloc(), b"quit\n", from.as_bytes());
         ended_in_fault(&rt, &ran, number, "");
-        assert_eq!(rt;
-            str::from_utf8(ran.to.as_slice()),
-            Ok("hello 3\n"),
-            "{from}"
+        expect_eq(
+            &rt,
+            (from, ran.to.as_slice()),
+            (from, b"hello 3\n".as_slice()),
         );
     }
 }
@@ -176,7 +171,7 @@ fn servers_that_greet_wrongly(rt: HostRuntime) {
 #[test]
 fn servers_that_answer_wrongly(rt: HostRuntime) {
     let alloc = rt.alloc();
-    for (answer, number) in [
+    for &(answer, number) in &[
         ("", 43),
         ("pong 0", 43),
         ("bye\n", 44),

@@ -1,22 +1,30 @@
 //! What a client makes of its commands, and of what its server answers.
 
-use crate::expect::expect_eq;
+use crate::expect::{expect_eq, expect_text};
 use crate::fakes::{FailsAt, OneByOne};
 use crate::handed_on::Holding;
 use jup_session::{ClientEnd, run_client};
 use std::alloc::Global;
+use std::io;
 use std::io::{ErrorKind, Read};
 use std::process::Abort;
-use std::{io, str};
 
 const GREETED: &str = "welcome 1 100\nwindow 1\ntext 1\ntoggle 3 off\nready\n";
 
+const SET_AND_QUIT: &[u8] = b"set 1 3 on\nquit\n";
+
 // What a client prints of these commands, whose server says this.
-fn client_prints(rt: &impl Abort, alloc: Global, commands: &[u8], from: &[u8], lines: &str) {
+fn client_prints<I: Read + Drop>(
+    rt: &impl Abort,
+    alloc: Global,
+    commands: I,
+    from: &[u8],
+    lines: &str,
+) {
     let (mut to, mut out) = (Vec::new(alloc), Vec::new(alloc));
     let end = run_client(alloc, commands, &mut out, from, &mut to);
     expect_eq(rt, end, Ok(()));
-    expect_eq(rt, str::from_utf8(out.as_slice()), Ok(lines));
+    expect_text(rt, out.as_slice(), lines);
 }
 
 #[test]
@@ -24,7 +32,7 @@ fn only_its_own_pong_ends_a_sync(rt: HostRuntime) {
     client_prints(
         &rt,
         rt.alloc(),
-        b"sync\nshow\n",
+        b"sync\nshow\n".as_slice(),
         b"welcome 1 100\nwindow 1\ntoggle 3 off\nready\n\
         pong 0\npong 2\nbatch 0 0 1\ndo 1 3 toggle set on\npong 1\n",
         "site 1\nsynced\nwindow 1\ntoggle 3 on\nbye\n",
@@ -36,7 +44,7 @@ fn all_operations_of_a_message_are_shown_at_once(rt: HostRuntime) {
     client_prints(
         &rt,
         rt.alloc(),
-        b"sync\nshow\n",
+        b"sync\nshow\n".as_slice(),
         b"welcome 1 100\nwindow 1\ntext 1\ntoggle 3 off\nready\n\
         batch 0 0 2\ndo 1 1 text ins 0 2.1 120\ndo 1 3 toggle set on\npong 1\n",
         "site 1\nsynced\nwindow 1\ntext 1 \"x\"\ntoggle 3 on\nbye\n",
@@ -48,7 +56,7 @@ fn words_with_more_behind_them_are_no_commands(rt: HostRuntime) {
     client_prints(
         &rt,
         rt.alloc(),
-        b"sync\r\nshow\r\nquit\r\nquit \n sync\nset 1 3 on\r\n",
+        b"sync\r\nshow\r\nquit\r\nquit \n sync\nset 1 3 on\r\n".as_slice(),
         GREETED.as_bytes(),
         "site 1\nbad command\nbad command\nbad command\nbad command\nbad command\nbad command\nbye\n",
     );
@@ -56,55 +64,49 @@ fn words_with_more_behind_them_are_no_commands(rt: HostRuntime) {
 
 #[test]
 fn a_read_of_commands_that_is_interrupted_is_made_again(rt: HostRuntime) {
-    let alloc = rt.alloc();
-    let (mut to, mut out) = (Vec::new(alloc), Vec::new(alloc));
     let commands = OneByOne {
         text: b"set 1 3 on\nquit\n",
         is_next: false,
     };
-    let end = run_client(alloc, commands, &mut out, GREETED.as_bytes(), &mut to);
-    expect_eq(&rt, end, Ok(()));
-    expect_eq(
-        &rt,
-        str::from_utf8(out.as_slice()),
-        Ok("site 1\nmade set 1 3 on\nbye\n"),
-    );
+    let lines = "site 1\nmade set 1 3 on\nbye\n";
+    client_prints(&rt, rt.alloc(), commands, GREETED.as_bytes(), lines);
+}
+
+// How a client ends that sets the toggle and quits, and whose link takes one write.
+fn end_after_greeting(alloc: Global, out: &mut Vec<u8>) -> Result<(), ClientEnd> {
+    let link = FailsAt {
+        writes: 1,
+        text: &mut Vec::new(alloc),
+    };
+    run_client(alloc, SET_AND_QUIT, out, GREETED.as_bytes(), link)
 }
 
 #[test]
 fn an_edit_that_was_not_sent_is_not_told(rt: HostRuntime) {
-    let alloc = rt.alloc();
-    let (mut text, mut out) = (Vec::new(alloc), Vec::new(alloc));
-    let link = FailsAt {
-        writes: 1,
-        text: &mut text,
-    };
-    let commands: &[u8] = b"set 1 3 on\nquit\n";
-    let end = run_client(alloc, commands, &mut out, GREETED.as_bytes(), link);
+    let mut out = Vec::new(rt.alloc());
+    let end = end_after_greeting(rt.alloc(), &mut out);
     expect_eq(&rt, end, Err(ClientEnd::WriteFailed));
-    expect_eq(&rt, str::from_utf8(out.as_slice()), Ok("site 1\n"));
+    expect_text(&rt, out.as_slice(), "site 1\n");
+}
+
+// How a client ends that sets the toggle and quits, and loses what it does not flush.
+fn end_flushed(alloc: Global, sent: &mut Vec<u8>, out: &mut Vec<u8>) -> Result<(), ClientEnd> {
+    let link = Holding::new(Vec::new(alloc), sent);
+    let mut shown = Holding::new(Vec::new(alloc), out);
+    run_client(alloc, SET_AND_QUIT, &mut shown, GREETED.as_bytes(), link)
 }
 
 #[test]
 fn a_client_flushes_what_it_sends_and_prints(rt: HostRuntime) {
     let alloc = rt.alloc();
     let (mut sent, mut out) = (Vec::new(alloc), Vec::new(alloc));
-    let link = Holding::new(Vec::new(alloc), &mut sent);
-    let mut shown = Holding::new(Vec::new(alloc), &mut out);
-    let commands: &[u8] = b"set 1 3 on\nquit\n";
-    let end = run_client(alloc, commands, &mut shown, GREETED.as_bytes(), link);
-    drop(shown);
-    expect_eq(&rt, end, Ok(()));
-    expect_eq(
+    expect_eq(&rt, end_flushed(alloc, &mut sent, &mut out), Ok(()));
+    expect_text(
         &rt,
-        str::from_utf8(sent.as_slice()),
-        Ok("hello 3\nbatch 0 0 1\ndo 1 3 toggle set on\nbye\n"),
+        sent.as_slice(),
+        "hello 3\nbatch 0 0 1\ndo 1 3 toggle set on\nbye\n",
     );
-    expect_eq(
-        &rt,
-        str::from_utf8(out.as_slice()),
-        Ok("site 1\nmade set 1 3 on\nbye\n"),
-    );
+    expect_text(&rt, out.as_slice(), "site 1\nmade set 1 3 on\nbye\n");
 }
 
 /// Gives its text and its end, as a terminal does, and then fails.
@@ -129,17 +131,10 @@ impl<'a> Read for EndsOnce<'a> {
 
 #[test]
 fn the_end_of_the_commands_is_read_once(rt: HostRuntime) {
-    let alloc = rt.alloc();
-    let (mut to, mut out) = (Vec::new(alloc), Vec::new(alloc));
     let commands = EndsOnce {
         text: b"set 1 3 on",
         has_ended: false,
     };
-    let end = run_client(alloc, commands, &mut out, GREETED.as_bytes(), &mut to);
-    expect_eq(&rt, end, Ok(()));
-    expect_eq(
-        &rt,
-        str::from_utf8(out.as_slice()),
-        Ok("site 1\nmade set 1 3 on\nbye\n"),
-    );
+    let lines = "site 1\nmade set 1 3 on\nbye\n";
+    client_prints(&rt, rt.alloc(), commands, GREETED.as_bytes(), lines);
 }

@@ -1,7 +1,7 @@
 //! Each read and each write in turn fails: of a session, of a client, and of a daemon's layout.
 
 use crate::clients::GREETED;
-use crate::expect::expect_eq;
+use crate::expect::{expect_eq, expect_that};
 use crate::fakes::{FailsAfter, FailsAt};
 use crate::programs::{LAYOUT, daemon_at, expect_failure, serve};
 use crate::sessions::{TYPED, expect_end, ran, write_fails};
@@ -9,7 +9,6 @@ use jup_session::{ClientEnd, Ending, Open, run_client};
 use std::alloc::Global;
 use std::io::Read;
 use std::process::Abort;
-use std::str;
 
 // The beginning of a text, of so many bytes.
 fn first_bytes(text: &[u8], len: usize) -> FailsAfter<'_> {
@@ -38,7 +37,7 @@ fn each_read_of_a_session(rt: HostRuntime) {
         let left = ran(&rt, rt.alloc(), first_bytes(TYPED, len), &Open);
         let (written, taken) = due_behind(len);
         expect_end(&rt, &left, Ending::Fault(70), written);
-        assert_eq!(rt; (left.taken, left.waiting), (taken, None), "{len} bytes");
+        expect_eq(&rt, (len, left.taken, left.waiting), (len, taken, None));
     }
 }
 
@@ -48,7 +47,7 @@ fn each_write_of_a_session(rt: HostRuntime) {
     expect_eq(&rt, write_fails(&rt, rt.alloc(), 0), Ending::Fault(71));
     for writes in 1..3 {
         let ending = write_fails(&rt, rt.alloc(), writes);
-        assert!(rt; ending == Ending::Fault(71) || ending == Ending::Bye);
+        expect_that(&rt, ending == Ending::Fault(71) || ending == Ending::Bye);
     }
     expect_eq(&rt, write_fails(&rt, rt.alloc(), 3), Ending::Bye);
 }
@@ -66,7 +65,7 @@ const LINK: &[u8] = b"welcome 1 100\nwindow 1\ntext 1\ntoggle 3 off\nready\npong
 fn each_read_of_a_link_by_a_client(rt: HostRuntime) {
     for len in 0..LINK.len() {
         let end = end_over(rt.alloc(), first_bytes(LINK, len));
-        assert_eq!(rt; end, Err(ClientEnd::ReadFailed), "{len} bytes");
+        expect_eq(&rt, (len, end), (len, Err(ClientEnd::ReadFailed)));
     }
     expect_eq(&rt, end_over(rt.alloc(), LINK), Ok(()));
 }
@@ -88,8 +87,8 @@ fn each_read_of_commands(rt: HostRuntime) {
         } else {
             "site 1\nmade set 1 3 on\n"
         };
-        assert_eq!(rt; end, Err(ClientEnd::ReadFailed), "{len} bytes");
-        assert_eq!(rt; str::from_utf8(out.as_slice()), Ok(due), "{len} bytes");
+        expect_eq(&rt, (len, end), (len, Err(ClientEnd::ReadFailed)));
+        expect_eq(&rt, (len, out.as_slice()), (len, due.as_bytes()));
     }
 }
 
@@ -116,8 +115,16 @@ fn end_printing(alloc: Global, writes: u32) -> Result<(), ClientEnd> {
 fn each_write_of_a_client(rt: HostRuntime) {
     for writes in 0..3 {
         let failed = Err(ClientEnd::WriteFailed);
-        assert_eq!(rt; end_after(rt.alloc(), writes), failed, "at {writes}");
-        assert_eq!(rt; end_printing(rt.alloc(), writes), failed, "at {writes}");
+        expect_eq(
+            &rt,
+            (writes, end_after(rt.alloc(), writes)),
+            (writes, failed),
+        );
+        expect_eq(
+            &rt,
+            (writes, end_printing(rt.alloc(), writes)),
+            (writes, failed),
+        );
     }
     expect_eq(&rt, end_after(rt.alloc(), 3), Ok(()));
     expect_eq(&rt, end_printing(rt.alloc(), 3), Ok(()));

@@ -146,7 +146,7 @@ impl Gate for Counting {
         nth <= self.most
     }
 
-    fn note_answer(&self, _site: u32, nth: u32) {
+    fn answered(&self, _site: u32, nth: u32) {
         self.told.store(nth, Ordering::SeqCst);
     }
 }

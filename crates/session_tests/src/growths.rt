@@ -2,7 +2,7 @@
 //! those between the two marks: what lacked memory says so, and begun anew it does all that was asked for.
 ghost use Rattle.jup_hub.specs.Passes.{IsPassOf};
 
-use crate::expect::expect_eq;
+use crate::expect::{expect_eq, expect_that};
 use crate::programs::daemon_at;
 use crate::sessions::{CUT_ANSWER, EMPTY_TEXT, GREETING, TYPED, TYPED_ANSWER, close, open_hub};
 use clap::error::ErrorKind;
@@ -30,10 +30,10 @@ fn tells_of_memory(written: &[u8]) -> bool {
 fn is_due(rt: &impl Abort, ending: Ending, written: &[u8]) {
     if ending == Ending::Bye {
         let written = str::from_utf8(written);
-        assert!(rt; written == Ok(TYPED_ANSWER) || written == Ok(CUT_ANSWER));
+        expect_that(rt, written == Ok(TYPED_ANSWER) || written == Ok(CUT_ANSWER));
     } else {
         expect_eq(rt, ending, Ending::Fault(8));
-        assert!(rt; tells_of_memory(written));
+        expect_that(rt, tells_of_memory(written));
     }
 }
 
@@ -60,10 +60,10 @@ fn serve_alone<R: Threads + Wait + Sync + Abort>(
 fn session<R: Threads + Wait + Sync + Abort>(rt: &R, alloc: Global) -> Ending {
     let (hub, pass) = open_hub(rt, alloc, EMPTY_TEXT, 100);
     let (mut pass, ending) = serve_alone(rt, alloc, &hub, pass);
-    assert!(rt; !hub.news(&mut pass));
+    expect_that(rt, !hub.news(&mut pass));
     let star = close(rt, hub, pass);
     expect_eq(rt, star.waiting(1), None);
-    assert!(rt; ending != Ending::Bye || star.order().len() == 1);
+    expect_that(rt, ending != Ending::Bye || star.order().len() == 1);
     ending
 }
 
@@ -89,8 +89,8 @@ fn client(rt: &impl Abort, alloc: Global) -> Result<(), ClientEnd> {
     begin(alloc);
     let ended = run_client(alloc, commands, &mut out, from, &mut to);
     end(alloc);
-    assert!(rt; PRINTED.as_bytes().starts_with(out.as_slice()));
-    assert!(rt; ended.is_err() || out.len() == PRINTED.len());
+    expect_that(rt, PRINTED.as_bytes().starts_with(out.as_slice()));
+    expect_that(rt, ended.is_err() || out.len() == PRINTED.len());
     ended
 }
 
@@ -120,7 +120,7 @@ fn read_words(rt: &impl Abort, alloc: Global, limit: &str) -> Result<(u32, u32),
 
 #[test]
 fn words_of_a_daemon(rt: HostRuntime) {
-    for (limit, due) in [
+    for &(limit, due) in &[
         ("100", Ok((100, 2))),
         ("0", Err(ErrorKind::ValueValidation)),
     ] {

@@ -1,9 +1,9 @@
 //! The programs over loopback.
 
-use crate::expect::expect_eq;
+use crate::expect::{expect_eq, expect_text, expect_that};
 use crate::fakes::Impatient;
 use jup_session::{client_main, daemon_main, without_words};
-use std::alloc::{AllocError, Global};
+use std::alloc::Global;
 use std::io::{ErrorKind, Read};
 use std::net::{Net, TcpListener, TcpStream};
 use std::process::Abort;
@@ -18,25 +18,13 @@ const TRIES: u32 = 1_000;
 pub(crate) const LAYOUT: &str =
     "window 1\ntext 1\nchar 0.1 122\nlist 2\nitem 0.2 red\ntoggle 3 off\nslider 4 0 10 5\n";
 
-fn words_of(alloc: Global, texts: &[&str]) -> Result<Vec<String>, AllocError> {
+fn words_of(rt: &impl Abort, alloc: Global, texts: &[&str]) -> Vec<String> {
     let mut words = Vec::new(alloc);
     for text in texts {
-        words
-            .push(String::from_str(alloc, text)?)
-            .map_err(AllocError::from)?;
+        let word = String::from_str(alloc, text).expect(rt, "there is memory");
+        words.push(word).expect(rt, "there is memory");
     }
-    Ok(words)
-}
-
-// The words of a daemon, if there is memory.
-fn daemon_words_of(
-    alloc: Global,
-    addr: &str,
-    limit: &str,
-    sessions: &str,
-) -> Result<Vec<String>, AllocError> {
-    let words = ["--listen", addr, "--limit", limit, "--sessions", sessions];
-    words_of(alloc, words.as_slice())
+    words
 }
 
 // The words of a daemon.
@@ -47,12 +35,13 @@ pub(crate) fn daemon_at(
     limit: &str,
     sessions: &str,
 ) -> Vec<String> {
-    daemon_words_of(alloc, addr, limit, sessions).expect(rt, "there is memory")
+    let words = ["--listen", addr, "--limit", limit, "--sessions", sessions];
+    words_of(rt, alloc, &words)
 }
 
 // The words of a client.
 pub(crate) fn client_of(rt: &impl Abort, alloc: Global, addr: &str) -> Vec<String> {
-    words_of(alloc, ["--connect", addr].as_slice()).expect(rt, "there is memory")
+    words_of(rt, alloc, &["--connect", addr])
 }
 
 /// What a program printed, and its exit status.
@@ -96,15 +85,15 @@ pub(crate) fn connect<R: Net<Listener = TcpListener, Stream = TcpStream> + Clock
 /// The program ended so, and printed this, and nothing on standard error.
 pub(crate) fn expect_success(rt: &impl Abort, told: &Told, status: u8, out: &str) {
     expect_eq(rt, told.status, status);
-    expect_eq(rt, str::from_utf8(told.out.as_slice()), Ok(out));
-    assert!(rt; told.errors.is_empty());
+    expect_text(rt, told.out.as_slice(), out);
+    expect_that(rt, told.errors.is_empty());
 }
 
 // The program ended so, printed this, and told this on standard error.
 pub(crate) fn expect_failure(rt: &impl Abort, told: &Told, status: u8, out: &str, errors: &str) {
     expect_eq(rt, told.status, status);
-    expect_eq(rt, str::from_utf8(told.out.as_slice()), Ok(out));
-    expect_eq(rt, str::from_utf8(told.errors.as_slice()), Ok(errors));
+    expect_text(rt, told.out.as_slice(), out);
+    expect_text(rt, told.errors.as_slice(), errors);
 }
 
 // Runs the client, and again while it answers 1. Its status.
@@ -124,6 +113,13 @@ pub(crate) fn run_client<R: Net<Listener = TcpListener, Stream = TcpStream> + Cl
     1
 }
 
+// Whether it printed an order of two edits that stand in either order.
+fn is_either_order(told: &Told) -> bool {
+    let out = told.out.as_slice();
+    out == b"listening 127.0.0.1:47011\norder 2\nwindow 1\ntext 1 \"ab\"\n".as_slice()
+        || out == b"listening 127.0.0.1:47011\norder 2\nwindow 1\ntext 1 \"ba\"\n".as_slice()
+}
+
 #[test]
 fn a_daemon_and_two_clients(rt: HostRuntime) {
     let alloc = rt.alloc();
@@ -141,19 +137,14 @@ fn a_daemon_and_two_clients(rt: HostRuntime) {
         },
     );
     expect_eq(&rt, (told.status, one, two), (0, 0, 0));
-    assert!(rt; told.errors.is_empty());
-    let out = str::from_utf8(told.out.as_slice());
-    assert!(rt;
-        out == Ok("listening 127.0.0.1:47011\norder 2\nwindow 1\ntext 1 \"ab\"\n")
-            || out == Ok("listening 127.0.0.1:47011\norder 2\nwindow 1\ntext 1 \"ba\"\n")
-    );
+    expect_that(&rt, told.errors.is_empty() && is_either_order(&told));
 }
 
 #[test]
 fn layouts_that_are_refused(rt: HostRuntime) {
     let alloc = rt.alloc();
     let words = daemon_at(&rt, alloc, "127.0.0.1:47012", "100", "2");
-    for (added, errors) in [
+    for &(added, errors) in &[
         ("window 1\n", "layout line 8: fault 10\nthe id is taken\n"),
         (
             "item 0.3",
@@ -181,13 +172,13 @@ fn a_layout_that_is_too_long(rt: HostRuntime) {
 // The program refused its words: it said why, and printed nothing.
 fn words_refused(rt: &impl Abort, told: &Told) {
     expect_eq(rt, told.status, 2);
-    assert!(rt; told.out.is_empty() && !told.errors.is_empty());
+    expect_that(rt, told.out.is_empty() && !told.errors.is_empty());
 }
 
 #[test]
 fn words_that_are_refused(rt: HostRuntime) {
     let alloc = rt.alloc();
-    for (limit, sessions) in [
+    for &(limit, sessions) in &[
         ("0", "2"),
         ("16777217", "2"),
         ("1", "0"),
@@ -203,8 +194,7 @@ fn words_that_are_refused(rt: HostRuntime) {
 #[test]
 fn words_that_are_missing(rt: HostRuntime) {
     let alloc = rt.alloc();
-    let words = words_of(alloc, ["--limit", "1", "--sessions", "2"].as_slice());
-    let words = words.expect(&rt, "there is memory");
+    let words = words_of(&rt, alloc, &["--limit", "1", "--sessions", "2"]);
     words_refused(&rt, &serve(&rt, alloc, &words, "".as_bytes()));
     let none = Vec::new(alloc);
     words_refused(&rt, &connect(&rt, alloc, &none, b""));
@@ -213,14 +203,14 @@ fn words_that_are_missing(rt: HostRuntime) {
 // The table of statuses in `docs/PROGRAMS.md` has these: 3 for want of memory, and 2 where a word is not UTF-8.
 #[test]
 fn a_program_that_cannot_have_its_words_says_why(rt: HostRuntime) {
-    for (kind, status, text) in [
+    for &(kind, status, text) in &[
         (ErrorKind::OutOfMemory, 3, "no memory\n"),
         (ErrorKind::InvalidData, 2, "a word is no text\n"),
     ] {
         let mut errors = Vec::new(rt.alloc());
         let answered = without_words(&io::Error::from(kind), &mut errors);
         expect_eq(&rt, answered, status);
-        expect_eq(&rt, str::from_utf8(errors.as_slice()), Ok(text));
+        expect_text(&rt, errors.as_slice(), text);
     }
 }
 
@@ -232,31 +222,44 @@ fn has(text: &[u8], word: &str) -> bool {
     }
 }
 
+// The program ended well, and printed each of these.
+fn helps(rt: &impl Abort, told: &Told, options: &[&str]) {
+    expect_eq(rt, told.status, 0);
+    for option in options {
+        expect_eq(
+            rt,
+            (option, has(told.out.as_slice(), option)),
+            (option, true),
+        );
+    }
+}
+
 #[test]
 fn help_tells_all_options(rt: HostRuntime) {
     let alloc = rt.alloc();
-    let words = words_of(alloc, ["--help"].as_slice()).expect(&rt, "there is memory");
+    let words = words_of(&rt, alloc, &["--help"]);
     let told = serve(&rt, alloc, &words, "".as_bytes());
-    expect_eq(&rt, told.status, 0);
-    assert!(rt; told.errors.is_empty());
-    for option in [
-        "Serves one board",
-        "--listen <ADDR>",
-        "--limit <N>",
-        "--sessions <N>",
-        "\nExample:\n  $ jupd --listen",
-    ] {
-        assert!(rt; has(told.out.as_slice(), option), "{option}");
-    }
-    let told = connect(&rt, alloc, &words, b"");
-    expect_eq(&rt, told.status, 0);
-    for option in [
-        "Edits the board",
-        "--connect <ADDR>",
-        "\nExample:\n  $ jup --connect",
-    ] {
-        assert!(rt; has(told.out.as_slice(), option), "{option}");
-    }
+    expect_that(&rt, told.errors.is_empty());
+    helps(
+        &rt,
+        &told,
+        &[
+            "Serves one board",
+            "--listen <ADDR>",
+            "--limit <N>",
+            "--sessions <N>",
+            "\nExample:\n  $ jupd --listen",
+        ],
+    );
+    helps(
+        &rt,
+        &connect(&rt, alloc, &words, b""),
+        &[
+            "Edits the board",
+            "--connect <ADDR>",
+            "\nExample:\n  $ jup --connect",
+        ],
+    );
 }
 
 #[test]

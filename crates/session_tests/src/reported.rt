@@ -1,6 +1,6 @@
 //! What a daemon prints, and which words it takes.
 
-use crate::expect::expect_eq;
+use crate::expect::{expect_eq, expect_text};
 use crate::fakes::Impatient;
 use crate::handed_on::{Holding, OneLine};
 use crate::programs::{client_of, daemon_at, expect_success, run_client, serve};
@@ -8,7 +8,6 @@ use crate::texts::lines;
 use jup_session::{daemon_main, daemon_words};
 use std::alloc::Global;
 use std::net::{Net, TcpListener, TcpStream};
-use std::str;
 use std::sync::Wait;
 use std::thread::{Threads, join};
 use std::time::Clock;
@@ -71,16 +70,8 @@ fn a_report_that_can_not_be_printed_is_a_failed_write(rt: HostRuntime) {
         || run_client(&rt, alloc, &client, b"quit\n"),
     );
     expect_eq(&rt, (status, other), (1, 0));
-    expect_eq(
-        &rt,
-        str::from_utf8(errors.as_slice()),
-        Ok("io fault\ncannot print\n"),
-    );
-    expect_eq(
-        &rt,
-        str::from_utf8(text.as_slice()),
-        Ok("listening 127.0.0.1:47022\n"),
-    );
+    expect_text(&rt, errors.as_slice(), "io fault\ncannot print\n");
+    expect_text(&rt, text.as_slice(), "listening 127.0.0.1:47022\n");
 }
 
 #[test]
@@ -95,10 +86,10 @@ fn a_daemon_flushes_its_report(rt: HostRuntime) {
         || run_client(&rt, alloc, &client, b"quit\n"),
     );
     expect_eq(&rt, (status, other), (0, 0));
-    expect_eq(
+    expect_text(
         &rt,
-        str::from_utf8(text.as_slice()),
-        Ok("listening 127.0.0.1:47023\norder 0\nwindow 1\ntoggle 3 off\n"),
+        text.as_slice(),
+        "listening 127.0.0.1:47023\norder 0\nwindow 1\ntoggle 3 off\n",
     );
 }
 
@@ -109,11 +100,7 @@ fn a_daemon_says_that_it_listens_before_it_accepts(rt: HostRuntime) {
     let mut text = Vec::new(alloc);
     let status = serve_held(&Impatient { rt: &rt }, alloc, &daemon, &mut text);
     expect_eq(&rt, status, 1);
-    expect_eq(
-        &rt,
-        str::from_utf8(text.as_slice()),
-        Ok("listening 127.0.0.1:47024\n"),
-    );
+    expect_text(&rt, text.as_slice(), "listening 127.0.0.1:47024\n");
 }
 
 #[test]

@@ -1,6 +1,6 @@
 //! Growths of what sessions and programs decide that are refused, each test for the call of its name, as in `growths`.
 
-use crate::expect::expect_eq;
+use crate::expect::{expect_eq, expect_text, expect_that};
 use crate::programs::client_of;
 use clap::error::ErrorKind;
 use jup_gather::Gather;
@@ -13,7 +13,6 @@ use jup_window::Board;
 use jup_wire::Line;
 use std::alloc::Global;
 use std::process::Abort;
-use std::str;
 use test_marks::{begin, end};
 
 const LAYOUT: &[u8] = b"window 1\ntext 1\nchar 0.1 122\nchar 0.2 97\n";
@@ -33,7 +32,10 @@ fn layout_star(rt: HostRuntime) {
         made = star_of_layout(rt.alloc(), LAYOUT, 100);
     }
     let star = made.ok().expect(&rt, "a layout");
-    assert!(rt; star.order().is_empty() && star.board().windows().len() == 1);
+    expect_that(
+        &rt,
+        star.order().is_empty() && star.board().windows().len() == 1,
+    );
 }
 
 #[test]
@@ -64,13 +66,13 @@ fn tell(rt: &impl Abort, alloc: Global, told: &Told, board: &Board) -> Vec<u8> {
 #[test]
 fn client_told(rt: HostRuntime) {
     let star = star(&rt, rt.alloc());
-    for (what, due) in [
+    for (what, due) in &[
         (Told::Site(7), "site 7\n"),
         (Told::Board, "window 1\ntext 1 \"za\"\n"),
         (Told::Refused(4), "refused 4\n"),
     ] {
-        let text = tell(&rt, rt.alloc(), &what, star.board());
-        expect_eq(&rt, str::from_utf8(text.as_slice()), Ok(due));
+        let text = tell(&rt, rt.alloc(), what, star.board());
+        expect_text(&rt, text.as_slice(), due);
     }
 }
 
@@ -88,12 +90,15 @@ fn asks(rt: &impl Abort, alloc: Global, asking: &mut Asking, line: &[u8]) -> Opt
 #[test]
 fn asking_push(rt: HostRuntime) {
     let mut asking = Asking::new();
-    for line in [b"batch 2".as_slice(), b"ins 1 1 0 char \"a\"".as_slice()] {
+    for &line in &[b"batch 2".as_slice(), b"ins 1 1 0 char \"a\"".as_slice()] {
         let none = asks(&rt, rt.alloc(), &mut asking, line);
-        assert!(rt; none.is_none());
+        expect_that(&rt, none.is_none());
     }
     let both = asks(&rt, rt.alloc(), &mut asking, b"del 1 1 0");
-    assert!(rt; matches!(&both, Some(Request::Batch(commands)) if commands.len() == 2));
+    expect_that(
+        &rt,
+        matches!(&both, Some(Request::Batch(commands)) if commands.len() == 2),
+    );
 }
 
 // A batch of two that lacked memory has not begun: its first line comes again.
@@ -109,11 +114,11 @@ fn site_heard(rt: HostRuntime) {
     let mut said = hear_site(&mut gather, rt.alloc(), &two);
     end(rt.alloc());
     if said == Err(SessionFault::NoMemory) {
-        assert!(rt; !gather.part());
+        expect_that(&rt, !gather.part());
         said = hear_site(&mut gather, rt.alloc(), &two);
     }
     expect_eq(&rt, said, Ok(None));
-    assert!(rt; gather.part());
+    expect_that(&rt, gather.part());
 }
 
 // The address that words tell of, or why they are refused.

@@ -1,8 +1,8 @@
 //! Sessions over memory.
-ghost use Rattle.std.specs.Prelude.{◌≡◌, ◌≤◌, length, IfSome};
+ghost use Rattle.std.specs.Prelude.{◌≡◌, ◌≤◌, length};
 ghost use Rattle.jup_hub.specs.Passes.{IsPassOf};
 
-use crate::expect::expect_eq;
+use crate::expect::{expect_eq, expect_text, expect_that};
 use crate::fakes::{Counting, FailsAfter, FailsAt, LineByLine, OneByOne, Slow};
 use crate::texts::lines;
 use jup_hub::{Hub, Pass};
@@ -17,38 +17,34 @@ use jup_value::{Item, Name};
 use jup_window::{BoardOp, WidgetOp};
 use jup_xform::{Batch, NoMemory};
 use std::alloc::Global;
+use std::io;
 use std::io::Read;
 use std::process::Abort;
 use std::sync::Wait;
 use std::sync::atomic::{AtomicU32, Ordering};
 use std::thread::Threads;
 use std::time::Clock;
-use std::{io, str};
 
 pub(crate) const EMPTY_TEXT: &[u8] = b"window 1\ntext 1\n";
 
-// A hub over the board of a layout, if there is memory.
-fn hub_over(alloc: Global, text: &[u8], limit: u32) -> Option<(Hub, Pass)>
+// A star over the board of a layout.
+fn star_over(rt: &impl Abort, alloc: Global, text: &[u8], limit: u32) -> Star
     requires { length text.now ≤ 16777216 }
-    ensures { IfSome result (λ r. IsPassOf r.0 r.1) }
 {
-    let board = layout(alloc, text).ok()?;
-    if !is_short(&board) {
-        return None;
-    }
-    let star = Star::open(alloc, board, limit).ok()?;
-    match Hub::open(alloc, star) {
-        Ok(opened) => Some(opened),
-        Err(_) => None,
-    }
+    let board = layout(alloc, text).expect(rt, "a layout");
+    assert!(rt; is_short(&board));
+    Star::open(alloc, board, limit).expect(rt, "a layout and a limit")
 }
 
-// The same, where there is memory.
+// A hub over the board of a layout.
 pub(crate) fn open_hub(rt: &impl Abort, alloc: Global, text: &[u8], limit: u32) -> (Hub, Pass)
     requires { length text.now ≤ 16777216 }
     ensures { IsPassOf result.0 result.1 }
 {
-    hub_over(alloc, text, limit).expect(rt, "there is memory")
+    match Hub::open(alloc, star_over(rt, alloc, text, limit)) {
+        Ok(opened) => opened,
+        Err(_) => panic!(rt; "there is no memory"),
+    }
 }
 
 // The star of a hub that no turn holds.
@@ -107,7 +103,7 @@ pub(crate) fn ran<R: Threads + Wait + Sync + Abort, I: Read + Drop, G: Gate>(
 // It ended so, and wrote this.
 pub(crate) fn expect_end(rt: &impl Abort, left: &Left, ending: Ending, written: &str) {
     expect_eq(rt, left.ending, ending);
-    expect_eq(rt, str::from_utf8(left.written.as_slice()), Ok(written));
+    expect_text(rt, left.written.as_slice(), written);
 }
 
 pub(crate) const TYPED: &[u8] = b"hello 3\nbatch 0 0 1\ndo 1 1 text ins 0 1.1 97\nping 7\nbye\n";
@@ -118,14 +114,11 @@ pub(crate) const TYPED_ANSWER: &str = "welcome 1 100\nwindow 1\ntext 1\nready\np
 fn a_session_over_memory(rt: HostRuntime) {
     let left = ran(&rt, rt.alloc(), TYPED, &Open);
     expect_end(&rt, &left, Ending::Bye, TYPED_ANSWER);
-    expect_eq(
-        &rt,
-        str::from_utf8(left.board.as_slice()),
-        Ok("window 1\ntext 1 \"a\"\n"),
-    );
+    expect_text(&rt, left.board.as_slice(), "window 1\ntext 1 \"a\"\n");
     expect_eq(&rt, left.taken, 1);
     expect_eq(&rt, left.waiting, None);
-    assert!(rt; !left.has_news, "the pass has seen what both halves did");
+    // The pass has seen what both halves did.
+    expect_that(&rt, !left.has_news);
 }
 
 #[test]
@@ -151,7 +144,7 @@ fn is_refused<R: Threads + Wait + Sync + Abort>(rt: &R, alloc: Global, line: &st
 
 #[test]
 fn faults_behind_the_greeting(rt: HostRuntime) {
-    for (line, number) in [
+    for &(line, number) in &[
         ("batch 1 0 1\ndo 1 1 text ins 0 1.1 97\n", 20),
         ("batch 0 5 1\ndo 1 1 text ins 0 1.1 97\n", 21),
         ("ack 1\n", 21),
@@ -174,7 +167,7 @@ fn faults_behind_the_greeting(rt: HostRuntime) {
 // Of a message that is not whole nothing is taken, though each of its operations would fit by itself.
 #[test]
 fn messages_that_are_not_whole(rt: HostRuntime) {
-    for (line, number) in [
+    for &(line, number) in &[
         ("do 1 1 text ins 0 1.1 88\n", 44),
         ("batch 0 0 2\ndo 1 1 text ins 0 1.1 88\nping 1\n", 44),
         ("batch 0 0 2\ndo 1 1 text ins 0 1.1 88\nbye\n", 44),
@@ -205,11 +198,7 @@ fn operations_of_one_message_are_one_edit(rt: HostRuntime) {
     };
     let left = ran(&rt, rt.alloc(), from, &gate);
     expect_end(&rt, &left, Ending::Bye, CUT_ANSWER);
-    expect_eq(
-        &rt,
-        str::from_utf8(left.board.as_slice()),
-        Ok("window 1\ntext 1 \"ab\"\n"),
-    );
+    expect_text(&rt, left.board.as_slice(), "window 1\ntext 1 \"ab\"\n");
     expect_eq(&rt, left.taken, 1);
     expect_eq(&rt, gate.told.load(Ordering::SeqCst), 1);
 }
@@ -229,7 +218,7 @@ fn a_line_of_300_bytes(rt: HostRuntime) {
 
 #[test]
 fn sessions_that_do_not_join(rt: HostRuntime) {
-    for (from, written, ending) in [
+    for &(from, written, ending) in &[
         ("hello 2\n", "error 42\n", Ending::Fault(42)),
         ("ping 1\n", "error 44\n", Ending::Fault(44)),
         ("batch 0 0 1\n", "error 44\n", Ending::Fault(44)),
@@ -297,8 +286,8 @@ fn a_site_is_owed_at_most_1024_pongs(rt: HostRuntime) {
     let answer = lines(&rt, alloc, GREETING, "pong #", 0..3_000, "bye\n");
     let mut written = Vec::new(alloc);
     let read = read_while_slow(&rt, alloc, from.as_bytes(), &mut written);
-    assert!(rt; read <= 1_026, "{read} lines were read");
-    expect_eq(&rt, str::from_utf8(written.as_slice()), Ok(answer.as_str()));
+    expect_eq(&rt, (read, read <= 1_026), (read, true));
+    expect_text(&rt, written.as_slice(), answer.as_str());
 }
 
 /// Greets. Then another pass leaves for the first site, and a ping comes.
@@ -336,10 +325,7 @@ fn another_pass_leaves_for_the_site(rt: HostRuntime) {
         pass: hub.split(&mut pass),
         reads: 0,
     };
-    let mut to = Vec::new(alloc);
-    let (_, ending) = serve_link(&rt, alloc, from, &mut to, &hub, pass, &Bell::new(), &Open);
-    expect_eq(&rt, ending, Ending::Gone);
-    expect_eq(&rt, str::from_utf8(to.as_slice()), Ok(CUT_ANSWER));
+    serve_last(&rt, alloc, &hub, pass, from, Ending::Gone, CUT_ANSWER);
 }
 
 const TOGGLE: &[u8] = b"window 1\ntoggle 3 off\n";
@@ -392,17 +378,11 @@ impl<'a, R: Wait> Read for Crossing<'a, R> {
 fn the_64th_edit_is_acknowledged_each_way(rt: HostRuntime) {
     let alloc = rt.alloc();
     let (hub, mut pass) = open_hub(&rt, alloc, TOGGLE, 1_000);
-    assert!(rt; hub.join_site(&rt, alloc, &mut pass).is_ok());
+    expect_that(&rt, hub.join_site(&rt, alloc, &mut pass).is_ok());
     let sent = lines(&rt, alloc, "", SETTING, 0..65, "ack 64\nping 1\nbye\n");
     let greeting = "welcome 2 1000\nwindow 1\ntoggle 3 off\nready\n";
-    let written = lines(
-        &rt,
-        alloc,
-        greeting,
-        SETTING,
-        0..65,
-        "ack 64\npong 1\nbye\n",
-    );
+    let end = "ack 64\npong 1\nbye\n";
+    let written = lines(&rt, alloc, greeting, SETTING, 0..65, end);
     let from = Crossing {
         rt: &rt,
         alloc,
@@ -411,10 +391,7 @@ fn the_64th_edit_is_acknowledged_each_way(rt: HostRuntime) {
         lines: sent.as_bytes(),
         reads: 0,
     };
-    let mut to = Vec::new(alloc);
-    let (_, ending) = serve_link(&rt, alloc, from, &mut to, &hub, pass, &Bell::new(), &Open);
-    expect_eq(&rt, ending, Ending::Bye);
-    expect_eq(&rt, str::from_utf8(to.as_slice()), Ok(written.as_str()));
+    serve_last(&rt, alloc, &hub, pass, from, Ending::Bye, written.as_str());
 }
 
 #[test]
@@ -427,11 +404,7 @@ fn the_read_behind_the_greeting_fails(rt: HostRuntime) {
         Ending::Fault(70),
         "welcome 1 100\nwindow 1\ntext 1\nready\nerror 70\n",
     );
-    expect_eq(
-        &rt,
-        str::from_utf8(left.board.as_slice()),
-        Ok("window 1\ntext 1 \"\"\n"),
-    );
+    expect_text(&rt, left.board.as_slice(), "window 1\ntext 1 \"\"\n");
 }
 
 // The first edit of a site, an insertion into the text.
@@ -499,12 +472,12 @@ fn a_gate_that_stays_shut(rt: HostRuntime) {
 }
 
 // What a session writes, and how it ends, that is the last of a hub.
-fn serve_last<R: Threads + Wait + Sync + Abort>(
+fn serve_last<R: Threads + Wait + Sync + Abort, I: Read + Drop>(
     rt: &R,
     alloc: Global,
     hub: &Hub,
     pass: Pass,
-    from: &[u8],
+    from: I,
     ending: Ending,
     written: &str,
 )
@@ -513,7 +486,7 @@ fn serve_last<R: Threads + Wait + Sync + Abort>(
     let mut to = Vec::new(alloc);
     let (_, ended) = serve_link(rt, alloc, from, &mut to, hub, pass, &Bell::new(), &Open);
     expect_eq(rt, ended, ending);
-    expect_eq(rt, str::from_utf8(to.as_slice()), Ok(written));
+    expect_text(rt, to.as_slice(), written);
 }
 
 #[test]
@@ -525,7 +498,7 @@ fn a_full_order(rt: HostRuntime) {
         alloc,
         &hub,
         pass,
-        b"hello 3\nbatch 0 0 1\ndo 1 1 text ins 0 1.1 97\nbatch 1 0 1\ndo 1 1 text ins 0 1.2 97\nbye\n",
+        b"hello 3\nbatch 0 0 1\ndo 1 1 text ins 0 1.1 97\nbatch 1 0 1\ndo 1 1 text ins 0 1.2 97\nbye\n".as_slice(),
         Ending::Fault(32),
         "welcome 1 1\nwindow 1\ntext 1\nready\nerror 32\n",
     );
@@ -536,14 +509,14 @@ fn a_full_star(rt: HostRuntime) {
     let alloc = rt.alloc();
     let (hub, mut pass) = open_hub(&rt, alloc, EMPTY_TEXT, 100);
     for _ in 0..64 {
-        assert!(rt; hub.join_site(&rt, alloc, &mut pass).is_ok());
+        expect_that(&rt, hub.join_site(&rt, alloc, &mut pass).is_ok());
     }
     serve_last(
         &rt,
         alloc,
         &hub,
         pass,
-        b"hello 3\nbye\n",
+        b"hello 3\nbye\n".as_slice(),
         Ending::Fault(30),
         "error 30\n",
     );

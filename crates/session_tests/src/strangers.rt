@@ -1,15 +1,16 @@
 //! Links over loopback that are no client's.
 
-use crate::expect::expect_eq;
+use crate::expect::{expect_eq, expect_text, expect_that};
 use crate::programs::{Told, client_of, connect, daemon_at, expect_failure, expect_success, serve};
+use crate::texts::lines;
 use jup_session::client_main;
 use std::alloc::Global;
 use std::io::{Read, Write};
 use std::net::{Net, TcpListener, TcpStream};
 use std::process::Abort;
+use std::thread;
 use std::thread::join;
 use std::time::{Clock, Duration};
-use std::{io, str, thread};
 
 /// How often a connection is tried.
 const TRIES: u32 = 1_000;
@@ -18,56 +19,61 @@ const TRIES: u32 = 1_000;
 const MOST: usize = 4_096;
 
 /// A connection, as soon as the daemon listens.
-pub(crate) fn link_to<R: Net<Listener = TcpListener, Stream = TcpStream> + Clock>(
+pub(crate) fn link_to<R: Net<Listener = TcpListener, Stream = TcpStream> + Clock + Abort>(
     rt: &R,
     addr: &str,
-) -> io::Result<TcpStream> {
+) -> TcpStream {
     for _ in 0..TRIES {
         if let Ok(stream) = TcpStream::connect(rt, addr) {
-            return Ok(stream);
+            return stream;
         }
         thread::sleep(rt, Duration::from_millis(2));
     }
-    TcpStream::connect(rt, addr)
+    TcpStream::connect(rt, addr).expect(rt, "a daemon listens")
+}
+
+/// Sends some bytes on a link.
+pub(crate) fn send(rt: &impl Abort, link: &TcpStream, bytes: &[u8]) {
+    let mut to = link;
+    to.write_all(bytes).expect(rt, "the link is open");
 }
 
 /// Reads from a link up to a text that ends with `end`.
-pub(crate) fn read_to(stream: &TcpStream, end: &[u8], text: &mut Vec<u8>) -> io::Result<()> {
-    let mut from = stream;
+pub(crate) fn read_to(rt: &impl Abort, link: &TcpStream, end: &[u8], text: &mut Vec<u8>) {
+    let mut from = link;
     for _ in 0..MOST {
         if text.ends_with(end) {
-            return Ok(());
+            return;
         }
         let mut byte = [0u8; 1];
-        if from.read(&mut byte)? == 0 {
-            return Ok(());
+        if from.read(&mut byte).expect(rt, "the link is open") == 0 {
+            return;
         }
-        text.push(byte[0])?;
+        text.push(byte[0]).expect(rt, "memory");
     }
-    Ok(())
+}
+
+/// Reads from a link up to its end.
+pub(crate) fn read_to_end(rt: &impl Abort, link: &TcpStream, text: &mut Vec<u8>) {
+    let mut from = link;
+    from.read_to_end(text).expect(rt, "the link is open");
 }
 
 // A link that reads what it is told of a client's edit. The client's exit status.
-fn listens<R: Net<Listener = TcpListener, Stream = TcpStream> + Clock>(
+fn listens<R: Net<Listener = TcpListener, Stream = TcpStream> + Clock + Abort>(
     rt: &R,
     alloc: Global,
     addr: &str,
     words: &[String],
     heard: &mut Vec<u8>,
-) -> io::Result<u8> {
-    let stream = link_to(rt, addr)?;
-    let mut to = &stream;
-    to.write_all(b"hello 3\n")?;
-    read_to(&stream, b"ready\n", heard)?;
+) -> u8 {
+    let link = link_to(rt, addr);
+    send(rt, &link, b"hello 3\n");
+    read_to(rt, &link, b"ready\n", heard);
     let told = connect(rt, alloc, words, b"ins 1 1 0 char \"a\"\nsync\n");
-    to.write_all(b"ping 5\nbye\n")?;
-    read_to(&stream, b"bye\n", heard)?;
-    Ok(told.status)
-}
-
-/// What was told is these lines.
-pub(crate) fn is_told(rt: &impl Abort, heard: &[u8], lines: &str) {
-    expect_eq(rt, str::from_utf8(heard), Ok(lines));
+    send(rt, &link, b"ping 5\nbye\n");
+    read_to(rt, &link, b"bye\n", heard);
+    told.status
 }
 
 #[test]
@@ -80,10 +86,10 @@ fn an_edit_is_told_to_the_other_link(rt: HostRuntime) {
     let (told, other) = join(
         &rt,
         || serve(&rt, alloc, &daemon, "window 1\ntext 1\n".as_bytes()),
-        || listens(&rt, alloc, addr, &client, &mut heard).unwrap_or(9),
+        || listens(&rt, alloc, addr, &client, &mut heard),
     );
     expect_eq(&rt, other, 0);
-    is_told(
+    expect_text(
         &rt,
         heard.as_slice(),
         "welcome 1 100\nwindow 1\ntext 1\nready\n\
@@ -98,20 +104,22 @@ fn an_edit_is_told_to_the_other_link(rt: HostRuntime) {
 }
 
 // A link whose edit fills the order, and a client that makes one more.
-fn fills<R: Net<Listener = TcpListener, Stream = TcpStream> + Clock>(
+fn fills<R: Net<Listener = TcpListener, Stream = TcpStream> + Clock + Abort>(
     rt: &R,
     alloc: Global,
     addr: &str,
     words: &[String],
-) -> io::Result<Told> {
-    let stream = link_to(rt, addr)?;
-    let mut to = &stream;
-    to.write_all(b"hello 3\nbatch 0 0 1\ndo 1 1 text ins 0 1.1 97\nping 1\n")?;
-    let mut heard = Vec::new(alloc);
-    read_to(&stream, b"pong 1\n", &mut heard)?;
+) -> Told {
+    let link = link_to(rt, addr);
+    send(
+        rt,
+        &link,
+        b"hello 3\nbatch 0 0 1\ndo 1 1 text ins 0 1.1 97\nping 1\n",
+    );
+    read_to(rt, &link, b"pong 1\n", &mut Vec::new(alloc));
     let told = connect(rt, alloc, words, b"ins 1 1 0 char \"b\"\nsync\nshow\n");
-    to.write_all(b"bye\n")?;
-    Ok(told)
+    send(rt, &link, b"bye\n");
+    told
 }
 
 #[test]
@@ -125,7 +133,6 @@ fn a_full_order_ends_a_client_with_status_4(rt: HostRuntime) {
         || serve(&rt, alloc, &daemon, "window 1\ntext 1\n".as_bytes()),
         || fills(&rt, alloc, addr, &client),
     );
-    let filled = filled.ok().expect(&rt, "the link is served");
     expect_failure(
         &rt,
         &filled,
@@ -142,21 +149,16 @@ fn a_full_order_ends_a_client_with_status_4(rt: HostRuntime) {
 }
 
 // A link that sends a bad line and much behind it, and then reads all that it is told, up to the end.
-fn strays<R: Net<Listener = TcpListener, Stream = TcpStream> + Clock>(
+fn strays<R: Net<Listener = TcpListener, Stream = TcpStream> + Clock + Abort>(
     rt: &R,
     alloc: Global,
     addr: &str,
     heard: &mut Vec<u8>,
-) -> io::Result<()> {
-    let mut text = Vec::new(alloc);
-    text.extend_from_slice(b"hello 3\nwhat\n")?;
-    for _ in 0..10_000 {
-        text.extend_from_slice(b"ping 1\n")?;
-    }
-    let stream = link_to(rt, addr)?;
-    (&stream).write_all(text.as_slice())?;
-    (&stream).read_to_end(heard)?;
-    Ok(())
+) {
+    let text = lines(rt, alloc, "hello 3\nwhat\n", "ping 1", 0..10_000, "");
+    let link = link_to(rt, addr);
+    send(rt, &link, text.as_bytes());
+    read_to_end(rt, &link, heard);
 }
 
 #[test]
@@ -165,50 +167,48 @@ fn a_stranger_reads_why_its_link_ends(rt: HostRuntime) {
     let addr = "127.0.0.1:47015";
     let daemon = daemon_at(&rt, alloc, addr, "100", "1");
     let mut heard = Vec::new(alloc);
-    let (told, is_read) = join(
+    let (told, ()) = join(
         &rt,
         || serve(&rt, alloc, &daemon, "".as_bytes()),
-        || strays(&rt, alloc, addr, &mut heard).is_ok(),
+        || strays(&rt, alloc, addr, &mut heard),
     );
-    assert!(rt; is_read);
-    is_told(&rt, heard.as_slice(), "welcome 1 100\nready\nerror 40\n");
+    expect_text(&rt, heard.as_slice(), "welcome 1 100\nready\nerror 40\n");
     expect_success(&rt, &told, 0, "listening 127.0.0.1:47015\norder 0\n");
 }
 
 // Opens a link, and sends some bytes on it.
-fn sends<R: Net<Listener = TcpListener, Stream = TcpStream> + Clock>(
+fn sends<R: Net<Listener = TcpListener, Stream = TcpStream> + Clock + Abort>(
     rt: &R,
     addr: &str,
     bytes: &[u8],
-) -> io::Result<TcpStream> {
-    let stream = link_to(rt, addr)?;
-    (&stream).write_all(bytes)?;
-    Ok(stream)
+) -> TcpStream {
+    let link = link_to(rt, addr);
+    send(rt, &link, bytes);
+    link
 }
 
 // A client beside links that send garbage, never end a line, say no more after the greeting, stop within a
 // line, or hang up while they are owed an answer. None of these reads anything, and the first three stay open
 // until the client has ended.
-fn among_strays<R: Net<Listener = TcpListener, Stream = TcpStream> + Clock>(
+fn among_strays<R: Net<Listener = TcpListener, Stream = TcpStream> + Clock + Abort>(
     rt: &R,
     alloc: Global,
     addr: &str,
     words: &[String],
     out: &mut Vec<u8>,
-) -> io::Result<u8> {
-    let endless = [b'x'; 300];
-    let garbage = sends(rt, addr, b"hello 3\n\xff\xfe\n")?;
-    let unended = sends(rt, addr, endless.as_slice())?;
-    let silent = sends(rt, addr, b"hello 3\n")?;
-    drop(sends(rt, addr, b"hello 3\nbatch 0 0 1\ndo 1 1 te")?);
-    drop(sends(rt, addr, b"hello 3\nping 1\n")?);
+) -> u8 {
+    let garbage = sends(rt, addr, b"hello 3\n\xff\xfe\n");
+    let unended = sends(rt, addr, &[b'x'; 300]);
+    let silent = sends(rt, addr, b"hello 3\n");
+    drop(sends(rt, addr, b"hello 3\nbatch 0 0 1\ndo 1 1 te"));
+    drop(sends(rt, addr, b"hello 3\nping 1\n"));
     let mut errors = Vec::new(alloc);
     let commands: &[u8] = b"ins 1 1 0 char \"a\"\nsync\nshow\n";
     let status = client_main(rt, alloc, words, commands, out, &mut errors);
     drop(garbage);
     drop(unended);
     drop(silent);
-    Ok(status)
+    status
 }
 
 #[test]
@@ -221,10 +221,13 @@ fn a_client_goes_on_among_links_that_break_off(rt: HostRuntime) {
     let (told, other) = join(
         &rt,
         || serve(&rt, alloc, &daemon, "window 1\ntext 1\n".as_bytes()),
-        || among_strays(&rt, alloc, addr, &client, &mut shown).unwrap_or(9),
+        || among_strays(&rt, alloc, addr, &client, &mut shown),
     );
     expect_eq(&rt, other, 0);
-    assert!(rt; shown.ends_with(b"synced\nwindow 1\ntext 1 \"a\"\nbye\n"));
+    expect_that(
+        &rt,
+        shown.ends_with(b"synced\nwindow 1\ntext 1 \"a\"\nbye\n"),
+    );
     expect_success(
         &rt,
         &told,

@@ -1,12 +1,11 @@
 //! A gate that looks at the hub, and lines that are handed on once they are flushed.
 ghost use Rattle.jup_hub.specs.Passes.{IsPassOf};
 
-use crate::expect::expect_eq;
+use crate::expect::{expect_eq, expect_text};
 use crate::handed_on::Holding;
 use crate::sessions::{EMPTY_TEXT, TYPED, TYPED_ANSWER, open_hub};
 use jup_hub::{Hub, Pass};
 use jup_session::{Bell, Ending, Gate, Open, serve_link};
-use std::str;
 use std::sync::atomic::{AtomicU32, Ordering};
 use std::sync::{Mutex, Wait};
 
@@ -39,7 +38,7 @@ impl<'a, R: Wait> Gate for Watching<'a, R> {
         true
     }
 
-    fn note_answer(&self, _site: u32, _nth: u32) {
+    fn answered(&self, _site: u32, _nth: u32) {
         if self.sight.lock(self.rt).looks() {
             self.takes.fetch_add(1, Ordering::SeqCst);
         }
@@ -73,5 +72,5 @@ fn a_session_flushes_its_lines(rt: HostRuntime) {
     let to = Holding::new(Vec::new(alloc), &mut written);
     let (_, ending) = serve_link(&rt, alloc, TYPED, to, &hub, pass, &Bell::new(), &Open);
     expect_eq(&rt, ending, Ending::Bye);
-    expect_eq(&rt, str::from_utf8(written.as_slice()), Ok(TYPED_ANSWER));
+    expect_text(&rt, written.as_slice(), TYPED_ANSWER);
 }

@@ -3,8 +3,8 @@ ghost use Rattle.std.specs.Prelude.{◌≤◌, length};
 ghost use Rattle.jup_window.specs.Entries.{EachWidget};
 ghost use Rattle.jup_star.specs.Openings.{IsShort};
 
-use crate::expect::expect_eq;
-use crate::stars::{deliver_all, edit_number, first_of, insert, insertion, refusal_of_two};
+use crate::expect::{expect_eq, expect_that};
+use crate::stars::{edit_number, first_of, hears_one, insert, insertion, refusal_of_two, takes};
 use jup_batch::BoardBatch;
 use jup_link::Msg;
 use jup_seq::{SeqOp, TextOp};
@@ -111,6 +111,15 @@ fn batch_of(rt: &impl Abort, alloc: Global, ops: &[BoardOp]) -> BoardBatch
     Batch::from_slice(alloc, ops).expect(rt, "memory")
 }
 
+// The first edit of a site that has heard of no other.
+fn first_edit(op: BoardBatch) -> Msg<BoardBatch> {
+    Msg {
+        mine: 0,
+        heard: 0,
+        op,
+    }
+}
+
 // An edit that the star sends.
 pub(crate) fn down(rt: &impl Abort, alloc: Global, mine: u32, heard: u32, ops: &[BoardOp]) -> Down
     requires some { 1 ≤ length ops.now }
@@ -133,15 +142,15 @@ fn takes_both(rt: &impl Abort, alloc: Global, star: &mut Star, one: &Up, two: &U
 // The star takes an edit of each site, and each site is handed the other's.
 fn exchange(rt: &impl Abort, alloc: Global, pair: &mut Pair, one: &Up, two: &Up) {
     takes_both(rt, alloc, &mut pair.star, one, two);
-    expect_eq(rt, deliver_all(rt, alloc, &mut pair.star, &mut pair.one), 1);
-    expect_eq(rt, deliver_all(rt, alloc, &mut pair.star, &mut pair.two), 1);
+    hears_one(rt, alloc, &mut pair.star, &mut pair.one);
+    hears_one(rt, alloc, &mut pair.star, &mut pair.two);
 }
 
 // The text 1 of the star and of both sites.
 fn all_read(rt: &impl Abort, pair: &Pair, letters: &str) {
-    for board in [pair.star.board(), pair.one.board(), pair.two.board()] {
-        assert!(rt; reads(board, letters));
-    }
+    expect_that(rt, reads(pair.star.board(), letters));
+    expect_that(rt, reads(pair.one.board(), letters));
+    expect_that(rt, reads(pair.two.board(), letters));
 }
 
 #[test]
@@ -155,17 +164,9 @@ fn a_batch_that_undoes_itself_is_one_edit(rt: HostRuntime) {
         edit(Effect::Deleted(name)),
     ];
     expect_eq(&rt, made.edit.as_slice(), wanted.as_slice());
-    expect_eq(&rt, pair.star.take(alloc, 1, &made.up), Ok(Some(0)));
-    expect_eq(
-        &rt,
-        deliver_all(&rt, alloc, &mut pair.star, &mut pair.two),
-        1,
-    );
+    let entry = takes(&rt, alloc, &mut pair.star, 1, made, 0);
+    hears_one(&rt, alloc, &mut pair.star, &mut pair.two);
     all_read(&rt, &pair, "");
-    let entry = Entry {
-        site: 1,
-        edit: made.edit,
-    };
     expect_eq(&rt, pair.star.order(), [entry].as_slice());
 }
 
@@ -227,21 +228,17 @@ fn a_batch_refused_at_its_second_command_changes_nothing(rt: HostRuntime) {
     let mut site = lone_site(&rt, alloc, "pqr");
     let refused = site.edit_batch(alloc, &[insert(0, 'a'), delete(9)]);
     expect_eq(&rt, edit_number(refused.err()), 4);
-    assert!(rt; reads(site.board(), "pqr"));
+    expect_that(&rt, reads(site.board(), "pqr"));
     expect_eq(&rt, site.backlog(), 0);
     let made = site.edit(alloc, &insert(0, 'b')).expect(&rt, "an edit");
-    let wanted = Msg {
-        mine: 0,
-        heard: 0,
-        op: alone(alloc, put(0, 1, 1, 'b')),
-    };
+    let wanted = first_edit(alone(alloc, put(0, 1, 1, 'b')));
     expect_eq(&rt, made.up, Up::Op(wanted));
 }
 
 #[test]
 fn a_star_takes_a_batch_whole_or_not_at_all(rt: HostRuntime) {
     let alloc = rt.alloc();
-    for (second, number) in [
+    for &(second, number) in &[
         (on_text(SeqOp::Nothing), 24),
         (put(1, 2, 3, 'b'), 22),
         (put(1, 1, 2, 'b'), 22),
@@ -249,13 +246,26 @@ fn a_star_takes_a_batch_whole_or_not_at_all(rt: HostRuntime) {
         (cut(0, 1), 23),
     ] {
         let ops = [insertion(0, first_of(2)), second];
-        let msg = Msg {
-            mine: 0,
-            heard: 0,
-            op: batch_of(&rt, alloc, &ops),
-        };
+        let msg = first_edit(batch_of(&rt, alloc, &ops));
         expect_eq(&rt, refusal_of_two(&rt, alloc, msg), number);
     }
+}
+
+// The next message for a site is an edit with these counts and operations.
+fn is_sent(
+    rt: &impl Abort,
+    alloc: Global,
+    star: &mut Star,
+    site: u32,
+    counts: (u32, u32),
+    ops: &[BoardOp],
+)
+    requires some { 1 ≤ length ops.now }
+    requires few { length ops.now ≤ 32 }
+{
+    let (mine, heard) = counts;
+    let wanted = down(rt, alloc, mine, heard, ops);
+    expect_eq(rt, star.fetch_one(site), Ok(Some(wanted)));
 }
 
 #[test]
@@ -268,15 +278,10 @@ fn other_sites_are_sent_the_whole_batch_moved_past_earlier_ones(rt: HostRuntime)
     takes_both(&rt, alloc, &mut pair.star, &typed.up, &erased.up);
     let put = [put(1, 1, 1, 'X'), put(2, 1, 2, 'Y')];
     let cut = [cut(3, 2), cut(3, 3)];
-    for (site, mine, heard, ops) in [
-        (1, 0, 1, &cut),
-        (2, 0, 0, &put),
-        (3, 0, 0, &put),
-        (3, 1, 0, &cut),
-    ] {
-        let wanted = down(&rt, alloc, mine, heard, ops);
-        expect_eq(&rt, pair.star.fetch_one(site), Ok(Some(wanted)));
-    }
+    is_sent(&rt, alloc, &mut pair.star, 1, (0, 1), &cut);
+    is_sent(&rt, alloc, &mut pair.star, 2, (0, 0), &put);
+    is_sent(&rt, alloc, &mut pair.star, 3, (0, 0), &put);
+    is_sent(&rt, alloc, &mut pair.star, 3, (1, 0), &cut);
 }
 
 #[test]
@@ -308,34 +313,51 @@ fn shows(rt: &impl Abort, alloc: Global, board: &Board, printed: &[u8]) {
     expect_eq(rt, text.as_slice(), printed);
 }
 
+fn label(rt: &impl Abort, text: &[u8]) -> Label {
+    Label::read(text).expect(rt, "a label")
+}
+
+// The first item of the list is given this label.
+fn relabel_first(label: Label) -> Command {
+    Command::Relabel {
+        win: 1,
+        wid: 2,
+        place: 0,
+        label,
+    }
+}
+
+// An item with this label is put before the list.
+fn list_first(label: Label) -> Command {
+    Command::Insert {
+        win: 1,
+        wid: 2,
+        place: 0,
+        value: Value::Label(label),
+    }
+}
+
+// The slider is set.
+fn slide(value: i32) -> Command {
+    set(4, Setting::Slider(value))
+}
+
 #[test]
 fn batches_on_several_widgets_end_equal(rt: HostRuntime) {
     let alloc = rt.alloc();
     let mut pair = pair_over(&rt, alloc, "pqr");
-    let [n, red] = [&b"n"[..], &b"red"[..]].map(|text| Label::read(text).expect(&rt, "a label"));
-    let relabel = Command::Relabel {
-        win: 1,
-        wid: 2,
-        place: 0,
-        label: n,
-    };
     let on = set(3, Setting::Toggle(true));
-    let slide = |value: i32| -> Command { set(4, Setting::Slider(value)) };
+    let relabel = relabel_first(label(&rt, b"n"));
     let first = [insert(0, 'a'), on, relabel, slide(5)];
     let one = makes(&rt, alloc, &mut pair.one, &first);
-    let listed = Command::Insert {
-        win: 1,
-        wid: 2,
-        place: 0,
-        value: Value::Label(red),
-    };
+    let listed = list_first(label(&rt, b"red"));
     let second = [delete(0), listed, slide(7), insert(2, 'b')];
     let two = makes(&rt, alloc, &mut pair.two, &second);
     exchange(&rt, alloc, &mut pair, &one.up, &two.up);
     let printed = b"window 1\ntext 1 \"aqrb\"\nlist 2 \"red\" \"n\"\ntoggle 3 on\nslider 4 0 9 7\n";
-    for board in [pair.star.board(), pair.one.board(), pair.two.board()] {
-        shows(&rt, alloc, board, printed);
-    }
+    shows(&rt, alloc, pair.star.board(), printed);
+    shows(&rt, alloc, pair.one.board(), printed);
+    shows(&rt, alloc, pair.two.board(), printed);
 }
 
 // One deletion asks for no memory, where a batch of several does.
@@ -345,5 +367,5 @@ fn one_deletion_is_shown_without_memory(rt: HostRuntime) {
     let mut site = lone_site(&rt, alloc, "pqr");
     let down = down(&rt, alloc, 0, 0, &[cut(0, 1)]);
     expect_eq(&rt, site.deliver(alloc, &down), Ok(None));
-    assert!(rt; reads(site.board(), "qr"));
+    expect_that(&rt, reads(site.board(), "qr"));
 }

@@ -1,7 +1,7 @@
 //! Growths of ends, sites and the star that are refused, each test for the call of its name. `./growths` refuses one after another of those between the
 //! two marks: a call that lacks memory leaves all as it was, and made again it gives its answer.
 use crate::batches::{cut, delete, down, makes, pair_over, put, set};
-use crate::expect::expect_eq;
+use crate::expect::{expect_eq, expect_that};
 use crate::stars::{
     blank, first_message, first_of, insert, insertion, lone_site, open_star, star_of_two,
 };
@@ -24,9 +24,10 @@ fn end_reserve_one(rt: HostRuntime) {
     let mut made = link.reserve_one();
     end(rt.alloc());
     if made.is_err() {
-        assert!(rt; link.backlog() == 0 && !link.owes());
+        expect_that(&rt, link.backlog() == 0 && !link.owes());
         made = link.reserve_one();
     }
+    // What is sent below needs the room.
     assert!(rt; made.is_ok());
     let op = insertion(0, first_of(1));
     let sent = link.send(alone(rt.alloc(), op), alone(rt.alloc(), op));
@@ -41,7 +42,7 @@ fn end_generate(rt: HostRuntime) {
     let mut sent = link.generate(rt.alloc(), alone(rt.alloc(), op));
     end(rt.alloc());
     if sent.is_err() {
-        assert!(rt; link.backlog() == 0 && !link.owes());
+        expect_that(&rt, link.backlog() == 0 && !link.owes());
         sent = link.generate(rt.alloc(), alone(rt.alloc(), op));
     }
     let sent = sent.expect(&rt, "memory");
@@ -59,7 +60,7 @@ fn star_open(rt: HostRuntime) {
         star = Star::open(rt.alloc(), blank(&rt, rt.alloc()), LIMIT);
     }
     let star = star.expect(&rt, "a layout and a limit");
-    assert!(rt; reads(star.board(), "") && star.order().is_empty());
+    expect_that(&rt, reads(star.board(), "") && star.order().is_empty());
 }
 
 #[test]
@@ -72,7 +73,7 @@ fn site_open(rt: HostRuntime) {
         site = Site::open(rt.alloc(), 1, LIMIT, blank(&rt, rt.alloc()));
     }
     let site = site.expect(&rt, "a site's number");
-    assert!(rt; reads(site.board(), "") && site.backlog() == 0);
+    expect_that(&rt, reads(site.board(), "") && site.backlog() == 0);
 }
 
 // The number that the next site is given, or why there is none.
@@ -101,7 +102,7 @@ fn star_join(rt: HostRuntime) {
 
 // The star's text, its count of entries, and how many messages wait for site 2.
 fn has(rt: &impl Abort, star: &Star, letters: &str, taken: usize, waiting: usize) {
-    assert!(rt; reads(star.board(), letters), "{letters}");
+    expect_eq(rt, (letters, reads(star.board(), letters)), (letters, true));
     expect_eq(
         rt,
         (star.order().len(), star.waiting(2)),
@@ -158,7 +159,7 @@ fn star_take_of_a_ping(rt: HostRuntime) {
 #[test]
 fn star_fetch(rt: HostRuntime) {
     let mut star = star_of_two(&rt, rt.alloc());
-    for count in [7, 8] {
+    for &count in &[7, 8] {
         expect_eq(&rt, star.take(rt.alloc(), 2, &Up::Ping(count)), Ok(None));
     }
     begin(rt.alloc());
@@ -194,11 +195,17 @@ fn edits(rt: &impl Abort, alloc: Global, commands: &[Command], letters: &str) {
     let mut refused = refusal(alloc, &mut pair.one, commands);
     end(alloc);
     if refused == Some(EditFault::NoMemory) {
-        assert!(rt; reads(pair.one.board(), "pqr") && pair.one.backlog() == 0);
+        expect_that(
+            rt,
+            reads(pair.one.board(), "pqr") && pair.one.backlog() == 0,
+        );
         refused = refusal(alloc, &mut pair.one, commands);
     }
     expect_eq(rt, refused, None);
-    assert!(rt; reads(pair.one.board(), letters) && pair.one.backlog() == 1);
+    expect_that(
+        rt,
+        reads(pair.one.board(), letters) && pair.one.backlog() == 1,
+    );
 }
 
 #[test]
@@ -219,11 +226,11 @@ fn delivers(rt: &impl Abort, alloc: Global, site: &mut Site, down: &Down, shown:
     let mut back = site.deliver(alloc, down);
     end(alloc);
     if back == Err(SiteFault::NoMemory) {
-        assert!(rt; reads(site.board(), before) && site.backlog() == 0);
+        expect_that(rt, reads(site.board(), before) && site.backlog() == 0);
         back = site.deliver(alloc, down);
     }
     expect_eq(rt, back, Ok(None));
-    assert!(rt; reads(site.board(), after) && site.backlog() == 0);
+    expect_that(rt, reads(site.board(), after) && site.backlog() == 0);
 }
 
 #[test]

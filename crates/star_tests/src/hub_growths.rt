@@ -1,8 +1,8 @@
 //! Growths of the hub that are refused, each test for the call of its name, as in `growths`: a call that lacks memory is no event.
 ghost use Rattle.jup_hub.specs.Passes.{IsPassOf};
 
-use crate::expect::expect_eq;
-use crate::hubs::{close, hub_of, open_hub, star_of, tells_of_one, told_of};
+use crate::expect::{expect_eq, expect_that};
+use crate::hubs::{close, hub_of, open_hub, star_of, takes, tells_of_one, told_of};
 use jup_hub::{Closed, Hub, HubFault, Pass};
 use jup_star::StarFault;
 use std::alloc::Global;
@@ -22,7 +22,7 @@ fn hub_open(rt: HostRuntime) {
         Ok(opened) => opened,
         Err(star) => {
             expect_eq(&rt, star.waiting(1), Some(0));
-            assert!(rt; reads(star.board(), ""));
+            expect_that(&rt, reads(star.board(), ""));
             open_hub(&rt, rt.alloc(), star)
         }
     };
@@ -51,11 +51,11 @@ fn hub_join_site(rt: HostRuntime) {
     let mut number = next_number(&rt, rt.alloc(), &hub, &mut a);
     end(rt.alloc());
     if number == Err(NO_MEMORY) {
-        assert!(rt; !hub.news(&mut b));
+        expect_that(&rt, !hub.news(&mut b));
         number = next_number(&rt, rt.alloc(), &hub, &mut a);
     }
     expect_eq(&rt, number, Ok(1));
-    assert!(rt; hub.news(&mut b));
+    expect_that(&rt, hub.news(&mut b));
     expect_eq(&rt, close(&rt, hub, a).events, 1);
 }
 
@@ -68,19 +68,18 @@ fn hub_take(rt: HostRuntime) {
     let mut place = hub.take(&rt, rt.alloc(), &mut a, 1, &up);
     end(rt.alloc());
     if place == Err(NO_MEMORY) {
-        assert!(rt; !hub.news(&mut b));
+        expect_that(&rt, !hub.news(&mut b));
         place = hub.take(&rt, rt.alloc(), &mut a, 1, &up);
     }
     expect_eq(&rt, place, Ok(Some(0)));
-    assert!(rt; hub.news(&mut b));
+    expect_that(&rt, hub.news(&mut b));
     expect_eq(&rt, close(&rt, hub, a).events, 1);
 }
 
 #[test]
 fn hub_fetch(rt: HostRuntime) {
     let (hub, mut a) = hub_of(&rt, rt.alloc(), 2);
-    let taken = hub.take(&rt, rt.alloc(), &mut a, 1, &told_of(rt.alloc(), 1));
-    expect_eq(&rt, taken, Ok(Some(0)));
+    takes(&rt, rt.alloc(), &hub, &mut a, 1, 0);
     begin(rt.alloc());
     let mut downs = hub.fetch(&rt, rt.alloc(), &mut a, 2, 10);
     end(rt.alloc());
@@ -88,7 +87,7 @@ fn hub_fetch(rt: HostRuntime) {
         downs = hub.fetch(&rt, rt.alloc(), &mut a, 2, 10);
     }
     let downs = downs.expect(&rt, "memory");
-    assert!(rt; tells_of_one(rt.alloc(), &downs));
+    expect_that(&rt, tells_of_one(rt.alloc(), &downs));
     let Closed { star, events } = close(&rt, hub, a);
     expect_eq(&rt, (star.waiting(2), events), (Some(0), 2));
 }

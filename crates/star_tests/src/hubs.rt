@@ -4,7 +4,7 @@ ghost use Rattle.jup_window.specs.Entries.{EachWidget};
 ghost use Rattle.jup_star.specs.Openings.{IsShort};
 ghost use Rattle.jup_hub.specs.Passes.{IsPassOf};
 
-use crate::expect::expect_eq;
+use crate::expect::{expect_eq, expect_that};
 use jup_hub::{Closed, Hub, HubFault, Pass};
 use jup_link::Msg;
 use jup_seq::SeqOp;
@@ -31,7 +31,7 @@ fn blank(rt: &impl Abort, alloc: Global) -> Board
 pub(crate) fn star_of(rt: &impl Abort, alloc: Global, sites: u32) -> Star {
     let mut star = Star::open(alloc, blank(rt, alloc), LIMIT).expect(rt, "a layout and a limit");
     for _ in 0..sites {
-        assert!(rt; star.join(alloc).is_ok());
+        expect_that(rt, star.join(alloc).is_ok());
     }
     star
 }
@@ -104,6 +104,35 @@ pub(crate) fn tells_of_one(alloc: Global, downs: &Downs) -> bool {
     downs.as_slice() == [edit].as_slice()
 }
 
+// The hub takes the first edit of a site, at a place of its order.
+pub(crate) fn takes<R: Abort + Wait>(
+    rt: &R,
+    alloc: Global,
+    hub: &Hub,
+    pass: &mut Pass,
+    site: u32,
+    place: u32,
+)
+    requires { IsPassOf hub.now pass.old }
+    ensures { IsPassOf hub.now pass.new }
+{
+    let taken = hub.take(rt, alloc, pass, site, &told_of(alloc, site));
+    expect_eq(rt, taken, Ok(Some(place)));
+}
+
+// The star of a hub that is closed after so many events, whose order has the first edits of these sites.
+fn ends(rt: &impl Abort, alloc: Global, hub: Hub, pass: Pass, events: u64, sites: &[u32]) -> Star
+    requires { IsPassOf hub pass }
+{
+    let closed = close(rt, hub, pass);
+    expect_eq(rt, closed.events, events);
+    expect_eq(rt, closed.star.order().len(), sites.len());
+    for (entry, site) in closed.star.order().iter().zip(sites) {
+        expect_eq(rt, entry, &entry_of(alloc, *site));
+    }
+    closed.star
+}
+
 #[test]
 fn each_call_of_two_passes_is_an_event(rt: HostRuntime) {
     let alloc = rt.alloc();
@@ -111,45 +140,25 @@ fn each_call_of_two_passes_is_an_event(rt: HostRuntime) {
     expect_eq(&rt, joins(&rt, alloc, &hub, &mut a), 1);
     expect_eq(&rt, joins(&rt, alloc, &hub, &mut a), 2);
     let mut b = hub.split(&mut a);
-    expect_eq(
-        &rt,
-        hub.take(&rt, alloc, &mut a, 1, &told_of(alloc, 1)),
-        Ok(Some(0)),
-    );
-    expect_eq(
-        &rt,
-        hub.take(&rt, alloc, &mut b, 2, &told_of(alloc, 2)),
-        Ok(Some(1)),
-    );
+    takes(&rt, alloc, &hub, &mut a, 1, 0);
+    takes(&rt, alloc, &hub, &mut b, 2, 1);
     hub.rejoin(&mut a, b);
-    let Closed { star, events } = close(&rt, hub, a);
-    expect_eq(&rt, events, 4);
-    expect_eq(
-        &rt,
-        star.order(),
-        [entry_of(alloc, 1), entry_of(alloc, 2)].as_slice(),
-    );
+    ends(&rt, alloc, hub, a, 4, &[1, 2]);
 }
 
 #[test]
 fn a_pass_split_from_another_fetches_what_it_took(rt: HostRuntime) {
     let alloc = rt.alloc();
     let (hub, mut a) = hub_of(&rt, alloc, 2);
-    expect_eq(
-        &rt,
-        hub.take(&rt, alloc, &mut a, 1, &told_of(alloc, 1)),
-        Ok(Some(0)),
-    );
+    takes(&rt, alloc, &hub, &mut a, 1, 0);
     let mut b = hub.split(&mut a);
-    assert!(rt; fetches_one(&rt, alloc, &hub, &mut b));
+    expect_that(&rt, fetches_one(&rt, alloc, &hub, &mut b));
     let none = hub.fetch(&rt, alloc, &mut b, 9, 1);
     expect_eq(&rt, none.err().map(|fault| fault.number()), Some(33));
     expect_eq(&rt, hub.leave(&rt, &mut b, 1), Ok(()));
     hub.rejoin(&mut a, b);
-    let Closed { star, events } = close(&rt, hub, a);
-    expect_eq(&rt, events, 4);
-    expect_eq(&rt, star.order(), [entry_of(alloc, 1)].as_slice());
-    assert!(rt; reads(star.board(), "a"));
+    let star = ends(&rt, alloc, hub, a, 4, &[1]);
+    expect_that(&rt, reads(star.board(), "a"));
 }
 
 #[test]
@@ -157,15 +166,11 @@ fn news_after_take(rt: HostRuntime) {
     let alloc = rt.alloc();
     let (hub, mut a) = hub_of(&rt, alloc, 1);
     let mut b = hub.split(&mut a);
-    assert!(rt; !hub.news(&mut b));
-    expect_eq(
-        &rt,
-        hub.take(&rt, alloc, &mut a, 1, &told_of(alloc, 1)),
-        Ok(Some(0)),
-    );
-    assert!(rt; hub.news(&mut b));
-    assert!(rt; !hub.news(&mut b));
-    assert!(rt; !hub.news(&mut a));
+    expect_that(&rt, !hub.news(&mut b));
+    takes(&rt, alloc, &hub, &mut a, 1, 0);
+    expect_that(&rt, hub.news(&mut b));
+    expect_that(&rt, !hub.news(&mut b));
+    expect_that(&rt, !hub.news(&mut a));
 }
 
 // The number that the next site is given.
@@ -224,7 +229,7 @@ fn one_thread_fetches_what_the_other_took(rt: HostRuntime) {
         || join_alone(&rt, alloc, &hub, b),
     );
     hub.rejoin(&mut b, a);
-    assert!(rt; fetch_alone(&rt, alloc, &hub, b));
+    expect_that(&rt, fetch_alone(&rt, alloc, &hub, b));
 }
 
 #[test]
@@ -238,7 +243,7 @@ fn a_thread_with_a_split_pass_fetches_what_the_other_took(rt: HostRuntime) {
         || take_first(&rt, alloc, &hub, a, 2),
         || fetch_alone(&rt, alloc, &hub, b),
     );
-    assert!(rt; gives);
+    expect_that(&rt, gives);
 }
 
 // Some passes, each split from this one.
@@ -278,12 +283,8 @@ fn each_of_64_passes_takes_once(rt: HostRuntime) {
     let alloc = rt.alloc();
     let (hub, mut a) = hub_of(&rt, alloc, 64);
     let passes = split_often(&rt, alloc, &hub, &mut a, 63);
-    expect_eq(
-        &rt,
-        hub.take(&rt, alloc, &mut a, 1, &told_of(alloc, 1)),
-        Ok(Some(0)),
-    );
-    assert!(rt; taken_by_each(&rt, alloc, &hub, &mut a, passes));
+    takes(&rt, alloc, &hub, &mut a, 1, 0);
+    expect_that(&rt, taken_by_each(&rt, alloc, &hub, &mut a, passes));
     let Closed { star, events } = close(&rt, hub, a);
     expect_eq(&rt, events, 64);
     expect_eq(&rt, star.order().len(), 64);

@@ -2,7 +2,7 @@
 ghost use Rattle.jup_window.specs.Entries.{EachWidget};
 ghost use Rattle.jup_star.specs.Openings.{IsShort};
 
-use crate::expect::expect_eq;
+use crate::expect::{expect_eq, expect_that};
 use jup_batch::BoardBatch;
 use jup_link::Msg;
 use jup_seq::SeqOp;
@@ -34,8 +34,9 @@ fn with_item_of(rt: &impl Abort, alloc: Global, site: u32) -> Board
     text.insert(0, Item { name, value: 'z' });
     let mut board = Board::new(alloc);
     board.add_window(alloc, 1).expect(rt, "memory");
-    let added = board.add_widget(1, 1, Widget::Text(text));
-    expect_eq(rt, added, Ok(()));
+    board
+        .add_widget(1, 1, Widget::Text(text))
+        .expect(rt, "it is new");
     assert!(rt; is_short(&board));
     board
 }
@@ -120,10 +121,10 @@ pub(crate) fn refusal_of_two(rt: &impl Abort, alloc: Global, msg: Msg<BoardBatch
         Err(StarFault::NoLink),
     );
     expect_eq(rt, star.waiting(1), Some(0));
-    assert!(rt; reads(star.board(), ""));
+    expect_that(rt, reads(star.board(), ""));
     let next = first_message(alloc, insertion(0, first_of(1)));
     expect_eq(rt, star.take(alloc, 1, &next), Ok(Some(0)));
-    assert!(rt; reads(star.board(), "a"));
+    expect_that(rt, reads(star.board(), "a"));
     star_number(refused.err())
 }
 
@@ -143,7 +144,7 @@ fn a_stranger_is_refused_by_name_and_no_other_site_is(rt: HostRuntime) {
             value: 'a',
         }),
     };
-    for (mine, heard, op, number) in [
+    for &(mine, heard, op, number) in &[
         (1, 0, insertion(0, first_of(2)), 20),
         (0, 5, insertion(0, first_of(2)), 21),
         (0, 0, insertion(0, first_of(1)), 22),
@@ -181,24 +182,27 @@ fn refusal_of_one(rt: &impl Abort, alloc: Global, down: &Down) -> u32 {
     expect_eq(rt, edit_number(edited.err()), 25);
     let pong = site.deliver(alloc, &Down::Pong(0));
     expect_eq(rt, pong, Err(SiteFault::Stopped));
-    assert!(rt; reads(site.board(), ""));
+    expect_that(rt, reads(site.board(), ""));
     site_number(refused.err())
 }
 
 #[test]
 fn a_site_stops_at_a_bad_message(rt: HostRuntime) {
     let alloc = rt.alloc();
-    let edit = |mine: u32, op: BoardOp| -> Down {
-        let op = alone(alloc, op);
-        Down::Op(Msg { mine, heard: 0, op })
-    };
-    for (down, number) in [
-        (edit(1, insertion(0, first_of(2))), 20),
-        (Down::Ack(1), 21),
-        (edit(0, insertion(0, first_of(1))), 22),
-        (edit(0, insertion(99, first_of(2))), 23),
+    let ack = Down::Ack(1);
+    expect_eq(&rt, refusal_of_one(&rt, alloc, &ack), 21);
+    for &(mine, op, number) in &[
+        (1, insertion(0, first_of(2)), 20),
+        (0, insertion(0, first_of(1)), 22),
+        (0, insertion(99, first_of(2)), 23),
     ] {
-        expect_eq(&rt, refusal_of_one(&rt, alloc, &down), number);
+        let op = alone(alloc, op);
+        let edit = Down::Op(Msg { mine, heard: 0, op });
+        expect_eq(
+            &rt,
+            (mine, refusal_of_one(&rt, alloc, &edit)),
+            (mine, number),
+        );
     }
 }
 
@@ -225,7 +229,7 @@ fn a_site_is_opened_with_a_number_that_its_board_does_not_bear(rt: HostRuntime) 
     let last = Site::open(alloc, 65_535, 16_777_216, with_item_of(&rt, alloc, 1));
     let last = last.expect(&rt, "the last number");
     expect_eq(&rt, last.number(), 65_535);
-    assert!(rt; reads(last.board(), "z"));
+    expect_that(&rt, reads(last.board(), "z"));
 }
 
 // The number of the fault with which a star is not opened, or 0.
@@ -248,7 +252,7 @@ fn a_star_is_opened_on_a_layout_with_a_limit(rt: HostRuntime) {
     );
     let star = Star::open(alloc, with_item_of(&rt, alloc, 0), 1);
     let star = star.expect(&rt, "a layout and a limit");
-    assert!(rt; reads(star.board(), "z"));
+    expect_that(&rt, reads(star.board(), "z"));
 }
 
 #[test]
@@ -280,7 +284,7 @@ fn each_site_number_is_given_once(rt: HostRuntime) {
 fn third(rt: &impl Abort, alloc: Global, star: &mut Star) {
     let joined = star.join(alloc).expect(rt, "a free link");
     expect_eq(rt, (joined.site, joined.limit), (3, LIMIT));
-    assert!(rt; reads(&joined.board, ""));
+    expect_that(rt, reads(&joined.board, ""));
 }
 
 #[test]
@@ -296,12 +300,7 @@ fn an_edit_that_was_not_taken_leaves_with_its_site(rt: HostRuntime) {
 }
 
 // Hands a site all that waits for it, and answers how many messages that were.
-pub(crate) fn deliver_all(
-    rt: &impl Abort,
-    alloc: Global,
-    star: &mut Star,
-    site: &mut Site,
-) -> usize {
+fn deliver_all(rt: &impl Abort, alloc: Global, star: &mut Star, site: &mut Site) -> usize {
     let downs = star
         .fetch(alloc, site.number(), u32::MAX)
         .expect(rt, "memory");
@@ -310,6 +309,11 @@ pub(crate) fn deliver_all(
             .expect(rt, "a message that is shown");
     }
     downs.as_slice().len()
+}
+
+// One message waits for a site, which is handed it.
+pub(crate) fn hears_one(rt: &impl Abort, alloc: Global, star: &mut Star, site: &mut Site) {
+    expect_eq(rt, deliver_all(rt, alloc, star, site), 1);
 }
 
 // A site that inserted a character at the head of its text, with what it made.
@@ -327,35 +331,39 @@ struct Race {
     one: Site,
     two: Site,
     made: [Entry; 2],
-    places: [Result<Option<u32>, StarFault>; 2],
+}
+
+// The star takes what a site made, at a place of its order. How it stands there.
+pub(crate) fn takes(
+    rt: &impl Abort,
+    alloc: Global,
+    star: &mut Star,
+    site: u32,
+    made: Made,
+    place: u32,
+) -> Entry {
+    let Made { edit, up } = made;
+    expect_eq(rt, star.take(alloc, site, &up), Ok(Some(place)));
+    Entry { site, edit }
 }
 
 fn run_race(rt: &impl Abort, alloc: Global) -> Race {
     let mut star = star_of_two(rt, alloc);
     let (one, a) = type_at_head(rt, alloc, 1, 'a');
     let (two, x) = type_at_head(rt, alloc, 2, 'x');
-    let places = [star.take(alloc, 1, &a.up), star.take(alloc, 2, &x.up)];
-    let first = Entry {
-        site: 1,
-        edit: a.edit,
-    };
-    let second = Entry {
-        site: 2,
-        edit: x.edit,
-    };
+    let first = takes(rt, alloc, &mut star, 1, a, 0);
+    let second = takes(rt, alloc, &mut star, 2, x, 1);
     Race {
         star,
         one,
         two,
         made: [first, second],
-        places,
     }
 }
 
 #[test]
 fn the_order_has_edits_as_they_were_made(rt: HostRuntime) {
     let race = run_race(&rt, rt.alloc());
-    expect_eq(&rt, race.places, [Ok(Some(0)), Ok(Some(1))]);
     expect_eq(&rt, race.star.order(), race.made.as_slice());
 }
 
@@ -364,19 +372,11 @@ fn the_later_of_two_insertions_stands_left(rt: HostRuntime) {
     let alloc = rt.alloc();
     let mut race = run_race(&rt, alloc);
     expect_eq(&rt, race.star.waiting(1), Some(1));
-    expect_eq(
-        &rt,
-        deliver_all(&rt, alloc, &mut race.star, &mut race.one),
-        1,
-    );
-    expect_eq(
-        &rt,
-        deliver_all(&rt, alloc, &mut race.star, &mut race.two),
-        1,
-    );
-    for board in [race.star.board(), race.one.board(), race.two.board()] {
-        assert!(rt; reads(board, "xa"));
-    }
+    hears_one(&rt, alloc, &mut race.star, &mut race.one);
+    hears_one(&rt, alloc, &mut race.star, &mut race.two);
+    expect_that(&rt, reads(race.star.board(), "xa"));
+    expect_that(&rt, reads(race.one.board(), "xa"));
+    expect_that(&rt, reads(race.two.board(), "xa"));
 }
 
 // The star takes an edit of a site, so many times.
@@ -384,7 +384,7 @@ fn edits_taken(rt: &impl Abort, alloc: Global, star: &mut Star, site: &mut Site,
     for _ in 0..count {
         let made = site.edit(alloc, &switch_on()).expect(rt, "an edit");
         let taken = star.take(alloc, site.number(), &made.up);
-        assert!(rt; taken.is_ok());
+        expect_that(rt, taken.is_ok());
     }
 }
 
@@ -431,12 +431,12 @@ fn a_site_makes_1024_edits_without_an_acknowledgement(rt: HostRuntime) {
     let alloc = rt.alloc();
     let mut site = lone_site(&rt, alloc, 1);
     for _ in 0..1024 {
-        assert!(rt; site.edit(alloc, &switch_on()).is_ok());
+        expect_that(&rt, site.edit(alloc, &switch_on()).is_ok());
     }
     let more = site.edit(alloc, &switch_on());
     expect_eq(&rt, edit_number(more.err()), 7);
     expect_eq(&rt, site.deliver(alloc, &Down::Ack(64)), Ok(None));
-    assert!(rt; site.edit(alloc, &switch_on()).is_ok());
+    expect_that(&rt, site.edit(alloc, &switch_on()).is_ok());
     expect_eq(&rt, site.backlog(), 961);
 }
 

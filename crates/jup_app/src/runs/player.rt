@@ -79,7 +79,7 @@ impl Player {
             return Err(Stop::GateShut);
         }
         let answer = self.caller.take(rt, alloc, hub, self.number, up);
-        gate.note_answer(self.number, nth);
+        gate.answered(self.number, nth);
         answer?;
         self.taken = nth;
         Ok(())

@@ -2,7 +2,7 @@
 ghost use Rattle.std.specs.Prelude.{◌≤◌};
 
 use super::run_client;
-use crate::sessions::hangup::hang_up;
+use crate::hang_up;
 use clap::error::ErrorKind;
 use jup_rules::{ClientEnd, client_words};
 use std::alloc::Global;

@@ -24,21 +24,53 @@ struct Client<F: Read + Drop, T: Write + Drop> {
 }
 
 impl<F: Read + Drop, T: Write + Drop> Client<F, T> {
-    // Greets the server, and opens the site that it is told of.
+    // The client of a link, whose server it has greeted.
     fn open(alloc: Global, from: F, to: T) -> Result<Client<F, T>, ClientEnd> {
         let Ok(mut output) = Output::new(alloc, to) else {
             return Err(ClientEnd::NoMemory);
         };
         let mut source = Source::new(from);
-        output.put(Line::Hello)?;
-        output.send()?;
-        let (site, limit) = greeting_in(source.next_line(alloc)?)?;
-        let board = read_board(alloc, &mut source)?;
+        let state = greet(alloc, &mut source, &mut output)?;
         Ok(Client {
             source,
             output,
-            state: ClientState::open(alloc, site, limit, board.as_slice())?,
+            state,
         })
+    }
+
+    // Tells the user of the site, and then does what the commands ask for, until `quit` or their end.
+    fn run<C: Read + Drop, O: Write>(
+        &mut self,
+        alloc: Global,
+        requests: &mut Requests<C>,
+        out: &mut O,
+    ) -> Result<(), ClientEnd> {
+        self.tell_site(alloc, out)?;
+        for _ in 0..u64::MAX {
+            if self.answer_next(alloc, requests, out)? {
+                return Ok(());
+            }
+        }
+        Err(SessionFault::ReadsSpent.into())
+    }
+
+    // Tells the user the number of the site, and the board.
+    fn tell_site<O: Write>(&self, alloc: Global, out: &mut O) -> Result<(), ClientEnd> {
+        let site = &self.state.site;
+        let text = told_text(alloc, &Told::Site(site.number()), site.board())?;
+        print(out, text.as_slice())
+    }
+
+    // Does what the next command asks for. Whether it was the last one.
+    fn answer_next<C: Read + Drop, O: Write>(
+        &mut self,
+        alloc: Global,
+        requests: &mut Requests<C>,
+        out: &mut O,
+    ) -> Result<bool, ClientEnd> {
+        let request = requests.next_request(alloc, &mut self.source.reads)?;
+        self.answer(alloc, &request, out)?;
+        Ok(matches!(request, Request::Quit))
     }
 
     // Says this to the server, if anything.
@@ -89,18 +121,21 @@ pub fn run_client<C: Read + Drop, O: Write, F: Read + Drop, T: Write + Drop>(
     to: T,
 ) -> Result<(), ClientEnd> {
     let mut client = Client::open(alloc, from, to)?;
-    let site = &client.state.site;
-    let text = told_text(alloc, &Told::Site(site.number()), site.board())?;
-    print(out, text.as_slice())?;
     let mut requests = Requests::new(alloc, commands);
-    for _ in 0..u64::MAX {
-        let request = requests.next_request(alloc, &mut client.source.reads)?;
-        client.answer(alloc, &request, out)?;
-        if matches!(request, Request::Quit) {
-            return Ok(());
-        }
-    }
-    Err(SessionFault::ReadsSpent.into())
+    client.run(alloc, &mut requests, out)
+}
+
+// Greets the server, and opens the site that it is told of.
+fn greet<F: Read + Drop, T: Write + Drop>(
+    alloc: Global,
+    source: &mut Source<F>,
+    output: &mut Output<T>,
+) -> Result<ClientState, ClientEnd> {
+    output.put(Line::Hello)?;
+    output.send()?;
+    let (site, limit) = greeting_in(source.next_line(alloc)?)?;
+    let board = read_board(alloc, source)?;
+    ClientState::open(alloc, site, limit, board.as_slice())
 }
 
 // Reads the lines of the board, up to `ready`.

@@ -4,9 +4,7 @@ ghost use Rattle.jup_limits.specs.Limits.{longest_input};
 ghost use Rattle.jup_hub.specs.Passes.{IsPassOf};
 
 use super::telling::tell;
-use crate::sessions::hangup::hang_up;
-use crate::sessions::outgoing::Outgoing;
-use crate::{Bell, Open, serve_link};
+use crate::{Bell, Open, Outgoing, hang_up, serve_link};
 use jup_hub::{Hub, Pass};
 use jup_limits::LONGEST_INPUT;
 use jup_rules::{Attempt, DaemonEnd, DaemonWords, daemon_words, report_text, star_of_layout};
@@ -34,7 +32,7 @@ pub fn daemon_main<
         Ok(told) => told,
         Err(error) => return tell(&DaemonEnd::from(error), out, errors),
     };
-    let Err(end) = serve(rt, alloc, &told, input, out) else {
+    let Err(end) = serve(rt, alloc, &told, input, out, errors) else {
         return 0;
     };
     let status = tell(&end, out, errors);
@@ -50,14 +48,49 @@ fn serve<
     R: Net<Listener = TcpListener, Stream = TcpStream> + Threads + Wait + Clock + Sync,
     I: Read + Drop,
     O: Write,
->(rt: &R, alloc: Global, told: &DaemonWords, input: I, out: &mut O) -> Result<(), DaemonEnd> {
-    let text = read_layout(alloc, input)?;
-    let star = star_of_layout(alloc, text.as_slice(), told.limit)?;
-    drop(text);
+    E: Write,
+>(
+    rt: &R,
+    alloc: Global,
+    told: &DaemonWords,
+    input: I,
+    out: &mut O,
+    errors: &mut E,
+) -> Result<(), DaemonEnd> {
+    let star = read_star(alloc, told.limit, input)?;
     let listener = match TcpListener::bind(rt, told.listen.as_str()) {
         Ok(listener) => listener,
         Err(error) => return Err(DaemonEnd::of_failure(Attempt::Listen, &error)),
     };
+    tell_port(&told.listen, &listener, errors);
+    serve_star(rt, alloc, told, star, listener, out)
+}
+
+// Prints the address on standard error, where the system was left to choose the port.
+fn tell_port<E: Write>(listen: &str, listener: &TcpListener, errors: &mut E) {
+    if !listen.ends_with(":0") {
+        return;
+    }
+    if let Ok(addr) = listener.local_addr() {
+        let _ = writeln!(errors, "bound {addr}");
+    }
+}
+
+// The star whose board has this layout.
+fn read_star<I: Read + Drop>(alloc: Global, limit: u32, input: I) -> Result<Star, DaemonEnd> {
+    let text = read_layout(alloc, input)?;
+    star_of_layout(alloc, text.as_slice(), limit)
+}
+
+// Serves all sessions of a star.
+fn serve_star<R: Threads + Wait + Clock + Sync, O: Write>(
+    rt: &R,
+    alloc: Global,
+    told: &DaemonWords,
+    star: Star,
+    listener: TcpListener,
+    out: &mut O,
+) -> Result<(), DaemonEnd> {
     let Ok((hub, pass)) = Hub::open(alloc, star) else {
         return Err(DaemonEnd::NoMemory);
     };
@@ -155,7 +188,7 @@ fn session<R: Threads + Wait + Clock + Sync>(
     requires { IsPassOf hub.now pass }
 {
     let _ = stream.set_nodelay(true);
-    let to = Outgoing::new(stream);
+    let to = Outgoing::new(stream, Outgoing::PATIENCE);
     let _ = serve_link(rt, alloc, stream, to, hub, pass, bell, &Open);
     hang_up(rt, stream);
 }

@@ -6,22 +6,26 @@ use std::io::{ErrorKind, Write};
 use std::net::{Shutdown, TcpStream};
 use std::time::Duration;
 
-/// Seconds that a peer may take no byte of what is written to it.
-const PATIENCE: u64 = 600;
-
-/// Writes to a socket. Once a write has failed and the writer is dropped, the socket's other side ends too: the half of the
-/// session that reads is then woken, and finds the ending noted.
-pub(crate) struct Outgoing<'a> {
+/// Writes to a socket, and fails once the peer has taken no byte for some seconds. If a write has failed, the drop of the
+/// writer ends the socket's other side too: the half of the session that reads is then woken, and finds the ending noted.
+pub struct Outgoing<'a> {
     stream: &'a TcpStream,
+    patience: u32,
     has_failed: bool,
 }
 
 impl<'a> Outgoing<'a> {
-    /// The writing side of a socket. From now on a write fails where the peer takes no byte for ten minutes.
-    pub(crate) fn new(stream: &'a TcpStream) -> Outgoing<'a> {
-        let _ = stream.set_write_timeout(Some(Duration::from_secs(PATIENCE)));
+    /// Seconds that a peer of the daemon may take no byte: ten minutes.
+    pub const PATIENCE: u32 = 600;
+
+    /// The writing side of a socket. A write of it fails once the peer has taken no byte for so many seconds.
+    pub fn new(stream: &'a TcpStream, patience: u32) -> Outgoing<'a> {
+        // The kernel wakes a writer that waits once a third of the socket's room is free. A write that asks anew each
+        // second is given all room that there is, so a peer that reads slowly is seen to read.
+        let _ = stream.set_write_timeout(Some(Duration::from_secs(1)));
         Outgoing {
             stream,
+            patience,
             has_failed: false,
         }
     }
@@ -30,14 +34,18 @@ impl<'a> Outgoing<'a> {
 impl<'a> Write for Outgoing<'a> {
     fn write(&mut self, buf: &[u8]) -> io::Result<usize> {
         let mut to = self.stream;
-        let error = match to.write(buf) {
-            Ok(len) if len == buf.len() => return Ok(len),
-            // A part is taken only where the rest waited for as long as it may.
-            Ok(_) => io::Error::from(ErrorKind::TimedOut),
-            Err(error) => error,
-        };
-        self.has_failed = !is_interrupted(&error);
-        Err(error)
+        for _ in 0..self.patience {
+            match to.write(buf) {
+                Ok(len) => return Ok(len),
+                Err(error) if has_waited(&error) => {}
+                Err(error) => {
+                    self.has_failed = !is_interrupted(&error);
+                    return Err(error);
+                }
+            }
+        }
+        self.has_failed = true;
+        Err(io::Error::from(ErrorKind::TimedOut))
     }
 
     fn flush(&mut self) -> io::Result<()> {
@@ -45,9 +53,18 @@ impl<'a> Write for Outgoing<'a> {
     }
 }
 
+// Whether a write has waited for as long as the socket lets it, and nothing was taken.
+fn has_waited(error: &io::Error) -> bool {
+    matches!(error.kind(), ErrorKind::WouldBlock | ErrorKind::TimedOut)
+}
+
 impl<'a> Drop for Outgoing<'a> {
     fn drop(self) {
-        let Outgoing { stream, has_failed } = self;
+        let Outgoing {
+            stream,
+            patience: _,
+            has_failed,
+        } = self;
         if has_failed {
             let _ = stream.shutdown(Shutdown::Both);
         }

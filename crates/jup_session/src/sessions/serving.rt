@@ -47,10 +47,28 @@ pub fn serve_link<R: Threads + Wait + Sync, I: Read + Drop, O: Write + Send + Dr
         }
     };
     let mut source = Source::new(reader);
-    let site = match begin(rt, alloc, &mut source, &mut output, hub, &mut pass) {
-        Ok(site) => site,
-        Err(ending) => return (pass, ending),
-    };
+    match begin(rt, alloc, &mut source, &mut output, hub, &mut pass) {
+        Ok(site) => serve_site(rt, alloc, source, output, hub, pass, site, bell, gate),
+        Err(ending) => (pass, ending),
+    }
+}
+
+// The session of a site that has joined, behind the greeting.
+fn serve_site<R: Threads + Wait + Sync, I: Read + Drop, O: Write + Send + Drop, G: Gate>(
+    rt: &R,
+    alloc: Global,
+    source: Source<I>,
+    output: Output<O>,
+    hub: &Hub,
+    pass: Pass,
+    site: u32,
+    bell: &Bell,
+    gate: &G,
+) -> (Pass, Ending)
+    requires { IsPassOf hub.now pass }
+    ensures pass { IsPassOf hub.now result.0 }
+    ensures served { BothServe site (view_of pass) (view_of result.0) }
+{
     let noted = Mutex::new(None);
     let pongs = Mutex::new(Pongs::new());
     let link = Link {

@@ -13,7 +13,7 @@ use jup_hub::Pass;
 use jup_rules::{
     Ending, MOST_FETCHED, SessionFault, is_last_fetch, pongs_in, put_downs, refused_fetch,
 };
-use jup_star::Down;
+use jup_star::{Down, Downs};
 use jup_wire::LineSink;
 use std::io::Write;
 use std::sync::Wait;
@@ -114,25 +114,46 @@ fn forward<R: Wait, O: Write + Drop>(
     ensures gone { result ≡ Ok Outbox.Gone → Leaves link.now.site (view_of pass.old) (view_of pass.new) }
 {
     for _ in rt.forever() {
-        let downs = match link
-            .hub
-            .fetch(rt, link.alloc, pass, link.site, MOST_FETCHED)
-        {
-            Ok(downs) => downs,
-            Err(fault) => match refused_fetch(fault) {
-                Some(fault) => return Err(fault),
-                None => return Ok(Outbox::Gone),
-            },
+        let downs = match fetch(rt, link, pass)? {
+            Some(downs) => downs,
+            None => return Ok(Outbox::Gone),
         };
-        let messages = downs.as_slice();
-        let is_last = is_last_fetch(messages.len());
-        write_downs(output, messages)?;
-        link.pay(rt, pongs_in(messages));
-        if is_last {
+        if hand_on(rt, output, link, downs.as_slice())? {
             return Ok(Outbox::Empty);
         }
     }
     unreachable!()
+}
+
+// Fetches what the hub has for the site, up to as much as is asked for. `None` where the site has no link any more.
+fn fetch<R: Wait>(rt: &R, link: &Link<'_>, pass: &mut Pass) -> Result<Option<Downs>, SessionFault>
+    requires { IsPassOf link.now.hub.now pass.old }
+    ensures pass { IsPassOf link.now.hub.now pass.new }
+    ensures serves { Serves link.now.site (view_of pass.old) (view_of pass.new) }
+    ensures gone { result ≡ Ok None → Leaves link.now.site (view_of pass.old) (view_of pass.new) }
+{
+    match link
+        .hub
+        .fetch(rt, link.alloc, pass, link.site, MOST_FETCHED)
+    {
+        Ok(downs) => Ok(Some(downs)),
+        Err(fault) => match refused_fetch(fault) {
+            Some(fault) => Err(fault),
+            None => Ok(None),
+        },
+    }
+}
+
+// Writes what was fetched, and counts the pongs in it as paid. Whether the hub has no more.
+fn hand_on<R: Wait, O: Write + Drop>(
+    rt: &R,
+    output: &mut Output<O>,
+    link: &Link<'_>,
+    downs: &[Down],
+) -> Result<bool, SessionFault> {
+    write_downs(output, downs)?;
+    link.pay(rt, pongs_in(downs));
+    Ok(is_last_fetch(downs.len()))
 }
 
 // Writes messages, in order.

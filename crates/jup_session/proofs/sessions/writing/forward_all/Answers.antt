@@ -9,3 +9,11 @@ returns-then-is_over-clause-gone g c = λ gone.
     leaves_after site (view_of c.args.pass.now) (view_of c.news-has_news.new.pass) (view_of c.forward.new.pass)
     (serves_both site (view_of c.args.pass.now) (view_of c.loop.pass) (view_of c.news-has_news.new.pass) c.loop.invariant.serves (serves_news site (view_of c.loop.pass) (view_of c.news-has_news.new.pass) met.0 met.2))
     (c.forward.ensures.gone gone)
+
+pub returns-then-is_over-clause-serves : goal.returns-then-is_over-clause-serves
+returns-then-is_over-clause-serves g c =
+    let site = c.args.link.now.site in
+    let met = c.news-has_news.ensures.met in
+    serves_both site (view_of c.args.pass.now) (view_of c.news-has_news.new.pass) (view_of c.forward.new.pass)
+    (serves_both site (view_of c.args.pass.now) (view_of c.loop.pass) (view_of c.news-has_news.new.pass) c.loop.invariant.serves (serves_news site (view_of c.loop.pass) (view_of c.news-has_news.new.pass) met.0 met.2))
+    c.forward.ensures.serves

@@ -1,0 +1,3 @@
+mod Headings
+mod Laid
+mod Readings

@@ -1,0 +1,14 @@
+-- The exit statuses of the program.
+use Rattle.std.specs.Prelude.{ℕ}
+use Rattle.jup_board.specs.declared.ending.BoardEnd.{BoardEnd}
+use Rattle.jup_board.specs.declared.ending.BoardEnd.TheVariants.{Words, Line, Layout, LongBoard, LongInput, LongLayout, Io, NoMemory}
+
+abbrev pub board_end_status : BoardEnd → ℕ
+board_end_status (Words error) = 2
+board_end_status (Line line fault) = 5
+board_end_status (Layout fault) = 5
+board_end_status LongBoard = 5
+board_end_status LongInput = 5
+board_end_status (LongLayout bytes) = 5
+board_end_status (Io attempt) = 1
+board_end_status NoMemory = 3

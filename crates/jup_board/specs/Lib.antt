@@ -1,0 +1,6 @@
+pub mod Bounds
+pub mod Ends
+pub mod Layouts
+pub mod Numbered
+pub mod Printed
+pub mod Puts

@@ -1,0 +1,111 @@
+//! Why the program ends early.
+ghost use Rattle.std.specs.Prelude.{◌≡◌, ◌≤◌};
+ghost use Rattle.jup_board.specs.Ends.{board_end_status};
+
+use crate::LineFault;
+use clap::error::ErrorKind as WordsKind;
+use jup_layout::LayoutFault;
+use jup_rules::cause_of;
+use std::io;
+use std::io::{ErrorKind, Write};
+use thiserror::Error;
+
+/// What was tried when a read or a write failed.
+#[derive(Clone, Copy, Debug, PartialEq, Eq)]
+pub enum Attempt {
+    ReadInput,
+    Print,
+}
+
+/// Why a board is not made a layout, or a layout not printed.
+#[derive(Debug, Drop, Error)]
+pub enum BoardEnd {
+    #[error("{0}")]
+    Words(clap::Error),
+    /// The line of this number, from 1, is no line of a printed board, or is refused there.
+    #[error("line {0}: bad board")]
+    Line(u32, LineFault),
+    #[error("layout {0}")]
+    Layout(LayoutFault),
+    /// A text is too long to be read as a board.
+    #[error("board too long")]
+    LongBoard,
+    /// A text is too long to be read as a layout.
+    #[error("layout too long")]
+    LongInput,
+    /// The layout of a board has so many bytes, more than a layout may have.
+    #[error("layout too long")]
+    LongLayout(u64),
+    #[error("io fault")]
+    Io(Attempt),
+    #[error("no memory")]
+    NoMemory,
+}
+
+impl BoardEnd {
+    /// The end where this was tried and failed so: out of memory, or by a failed read or write.
+    pub fn of_failure(attempt: Attempt, error: &io::Error) -> BoardEnd {
+        if error.kind() == ErrorKind::OutOfMemory {
+            BoardEnd::NoMemory
+        } else {
+            BoardEnd::Io(attempt)
+        }
+    }
+
+    /// The exit status of a program that ends so.
+    pub fn status(&self) -> u8
+        ensures status { result ≡ board_end_status self.now }
+        ensures most { result ≤ 5 }
+    {
+        match self {
+            BoardEnd::Io(_) => 1,
+            BoardEnd::Words(_) => 2,
+            BoardEnd::NoMemory => 3,
+            BoardEnd::Line(..)
+            | BoardEnd::Layout(_)
+            | BoardEnd::LongBoard
+            | BoardEnd::LongInput
+            | BoardEnd::LongLayout(_) => 5,
+        }
+    }
+
+    /// Writes what went wrong, for people, in a line of its own, if the text of this end leaves that open.
+    pub fn explain<E: Write>(&self, errors: &mut E) -> io::Result<()> {
+        match self {
+            BoardEnd::Line(_, fault) => writeln!(errors, "{fault}"),
+            BoardEnd::Layout(fault) => {
+                let cause = cause_of(fault.number);
+                writeln!(errors, "{cause}")
+            }
+            BoardEnd::LongLayout(bytes) => {
+                writeln!(errors, "it has {bytes} bytes, and 16777216 are the most")
+            }
+            BoardEnd::Io(Attempt::ReadInput) => writeln!(errors, "cannot read the input"),
+            BoardEnd::Io(Attempt::Print) => writeln!(errors, "cannot print"),
+            BoardEnd::Words(_) | BoardEnd::LongBoard | BoardEnd::LongInput | BoardEnd::NoMemory => {
+                Ok(())
+            }
+        }
+    }
+}
+
+impl From<LayoutFault> for BoardEnd {
+    fn from(fault: LayoutFault) -> BoardEnd {
+        // A layout that memory was refused for has no line.
+        if fault.line == 0 {
+            BoardEnd::NoMemory
+        } else {
+            BoardEnd::Layout(fault)
+        }
+    }
+}
+
+impl From<clap::Error> for BoardEnd {
+    fn from(error: clap::Error) -> BoardEnd {
+        if error.kind() == WordsKind::OutOfMemory {
+            BoardEnd::NoMemory
+        } else {
+            BoardEnd::Words(error)
+        }
+    }
+}

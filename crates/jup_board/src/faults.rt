@@ -1,0 +1,162 @@
+//! What is wrong with a line of a printed board.
+ghost use Rattle.std.specs.Prelude.{◌≤◌, length};
+
+use jup_setting::{Slider, Toggle};
+use jup_text::{read_integer, read_number, read_quoted};
+use jup_window::{Board, BoardFault, Widget};
+use jup_xform::NoMemory;
+use std::alloc::Global;
+use thiserror::Error;
+
+/// Why a line of a printed board is bad.
+#[derive(Clone, Copy, Debug, PartialEq, Eq, Error)]
+pub enum LineFault {
+    #[error("the line is not UTF-8")]
+    NotText,
+    #[error("the line has no line feed")]
+    Unended,
+    #[error("`window W`, `text I Q`, `list I Q ..`, `toggle I VALUE` or `slider I LO HI VALUE` is due")]
+    NoBoardLine,
+    #[error("an id from 1 to 65535 is due")]
+    BadId,
+    #[error("a window is due above its widgets")]
+    NoWindow,
+    #[error("the id is taken")]
+    DoubleId,
+    #[error("64 are there already")]
+    TooMany,
+    #[error("a text in quotes is due, in its one spelling")]
+    BadText,
+    #[error("labels of 1 to 48 bytes in quotes are due, a space before each")]
+    BadLabels,
+    #[error("text {0} has {1} characters, and a layout takes 65536")]
+    LongText(u16, u64),
+    #[error("list {0} has {1} items, and a layout takes 65536")]
+    LongList(u16, u64),
+    #[error("`on` or `off` is due")]
+    BadSwitch,
+    #[error("`LO HI VALUE` is due, numbers from -2147483648 to 2147483647 with no plus sign, no leading zero and no -0")]
+    BadBounds,
+    #[error("the value is not within the bounds")]
+    OutOfBounds,
+}
+
+/// What is wrong with a line that was not taken after the lines of this board, the last of whose windows has this id. The board
+/// itself is asked whether it refuses the id, which it says before it asks for memory.
+pub(crate) fn line_fault(
+    alloc: Global,
+    mut board: Board,
+    window: Option<u16>,
+    line: &str,
+) -> Result<LineFault, NoMemory> {
+    let (word, rest) = line.split_once(' ').unwrap_or((line, ""));
+    if !matches!(word, "window" | "text" | "list" | "toggle" | "slider") {
+        return Ok(LineFault::NoBoardLine);
+    }
+    let (id, value) = rest.split_once(' ').unwrap_or((rest, ""));
+    let Some(id) = id_of(id) else {
+        return Ok(LineFault::BadId);
+    };
+    let added = match (word, window) {
+        ("window", _) => board.add_window(alloc, id),
+        (_, None) => return Ok(LineFault::NoWindow),
+        (_, Some(win)) => board.add_widget(win, id, Widget::Toggle(Toggle { on: false })),
+    };
+    match added {
+        Err(BoardFault::BadId) => Ok(LineFault::BadId),
+        Err(BoardFault::DoubleId) => Ok(LineFault::DoubleId),
+        Err(BoardFault::TooMany) => Ok(LineFault::TooMany),
+        _ => value_fault(alloc, word, id, value),
+    }
+}
+
+/// The id of the window that a line of a board begins.
+pub(crate) fn window_of(line: &str) -> Option<u16> {
+    id_of(line.strip_prefix("window ")?)
+}
+
+fn id_of(word: &str) -> Option<u16> {
+    match read_number(word)? {
+        id @ 0..=0xFFFF => Some(id as u16),
+        _ => None,
+    }
+}
+
+// What is wrong after an id that the board takes.
+fn value_fault(alloc: Global, word: &str, id: u16, value: &str) -> Result<LineFault, NoMemory> {
+    let fault = match word {
+        "text" => match read_quoted(alloc, value)? {
+            Some(chars) => LineFault::LongText(id, chars.len() as u64),
+            None => LineFault::BadText,
+        },
+        "list" => list_fault(id, value),
+        "toggle" => LineFault::BadSwitch,
+        "slider" => slider_fault(value),
+        _ => LineFault::BadId,
+    };
+    Ok(fault)
+}
+
+// Of a list's line it is asked how many quoted texts there are: it is too long, or else one of its labels is bad.
+fn list_fault(id: u16, value: &str) -> LineFault {
+    let count = quoted_texts(value.as_bytes());
+    if count > u64::from(jup_limits::LONGEST_SEQUENCE) {
+        LineFault::LongList(id, count)
+    } else {
+        LineFault::BadLabels
+    }
+}
+
+// How many quoted texts begin in a line.
+fn quoted_texts(value: &[u8]) -> u64 {
+    let mut count = 0u64;
+    let mut place = Place::Outside;
+    for byte in value {
+        let next = place.after(*byte);
+        if place == Place::Outside && next == Place::Inside {
+            count = count.saturating_add(1);
+        }
+        place = next;
+    }
+    count
+}
+
+// Where a byte of a line is, as quotes go.
+#[derive(Clone, Copy, PartialEq, Eq)]
+enum Place {
+    Outside,
+    Inside,
+    Escaped,
+}
+
+impl Place {
+    // Where the byte after this one is.
+    fn after(self, byte: u8) -> Place {
+        match (self, byte) {
+            (Place::Outside, b'"') | (Place::Escaped, _) => Place::Inside,
+            (Place::Inside, b'"') => Place::Outside,
+            (Place::Inside, b'\\') => Place::Escaped,
+            (place, _) => place,
+        }
+    }
+}
+
+fn slider_fault(value: &str) -> LineFault {
+    let mut words = value.split(' ');
+    let bounds = (
+        integer_of(words.next()),
+        integer_of(words.next()),
+        integer_of(words.next()),
+        words.next(),
+    );
+    match bounds {
+        (Some(lo), Some(hi), Some(value), None) if Slider::new(lo, hi, value).is_err() => {
+            LineFault::OutOfBounds
+        }
+        _ => LineFault::BadBounds,
+    }
+}
+
+fn integer_of(word: Option<&str>) -> Option<i32> {
+    read_integer(word?)
+}

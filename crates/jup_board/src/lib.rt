@@ -1,0 +1,25 @@
+//! Boards as they are printed and as layouts, each made of the other, and the insides of the program that does it.
+#![tactic(auto)]
+
+mod converting;
+mod cut;
+mod ending;
+mod faults;
+mod heading;
+mod layout_text;
+mod lines;
+mod program;
+mod reading;
+mod words;
+
+pub use converting::{layout_of_printed, printed_of_layout};
+pub use ending::{Attempt, BoardEnd};
+pub use faults::LineFault;
+pub use layout_text::write_layout;
+pub use program::board_main;
+pub use reading::read_printed;
+pub use words::{Direction, board_words};
+
+/// How many bytes a printed board has that is read: twice those of a layout, since no line of a layout is printed by more than
+/// twice its bytes.
+pub const LONGEST_BOARD: u64 = 33_554_432;

@@ -1,0 +1,53 @@
+//! The lines of a printed board.
+ghost use Rattle.std.specs.Prelude.{◌+◌, ◌≤◌, length};
+ghost use Rattle.jup_board.specs.Bounds.{longest_board};
+
+use crate::cut::cut_at;
+use crate::{BoardEnd, LineFault};
+use std::str;
+
+/// What is left of a printed board, and the number of the line that was read last.
+#[derive(Drop)]
+pub(crate) struct BoardLines<'a> {
+    rest: &'a [u8],
+    line: u32,
+    ghost in_limit: { line + length rest.now ≤ longest_board + 2 },
+}
+
+impl<'a> BoardLines<'a> {
+    ghost use Rattle.std.specs.Prelude.{◌≡◌, ◌<◌, ◌∷◌, ◌++◌, [], IsSome, MatchOption, IfOk};
+
+    /// The lines of a text, of which so many came before.
+    pub(crate) fn new(rest: &'a [u8], line: u32) -> BoardLines<'a>
+        requires bytes { length rest.now ≤ longest_board }
+        requires lines { line ≤ 2 }
+        ensures { result.rest.now ≡ rest.now }
+    {
+        BoardLines { rest, line }
+    }
+
+    /// The next line without its line feed; `None` at the end. A line that is no text, or a last line without a line feed, is bad.
+    pub(crate) fn next_line(&mut self) -> Result<Option<&'a str>, BoardEnd>
+        ensures read { IfOk result (λ line. MatchOption line ((self.old.rest.now ≡ []) × (self.new.rest.now ≡ []))
+            (λ text. self.old.rest.now ≡ (text.now ++ 10 ∷ []) ++ self.new.rest.now)) }
+        ensures shorter { IfOk result (λ line. IsSome line → length self.new.rest.now < length self.old.rest.now) }
+    {
+        if self.rest.is_empty() {
+            return Ok(None);
+        }
+        let Some((line, rest)) = cut_at(self.rest, b'\n') else {
+            return Err(BoardEnd::Line(self.line + 1, LineFault::Unended));
+        };
+        self.rest = rest;
+        self.line += 1;
+        match str::from_utf8(line) {
+            Ok(text) => Ok(Some(text)),
+            Err(_) => Err(self.bad(LineFault::NotText)),
+        }
+    }
+
+    /// The line that was read last is bad.
+    pub(crate) fn bad(&self, fault: LineFault) -> BoardEnd {
+        BoardEnd::Line(self.line, fault)
+    }
+}

@@ -1,0 +1,49 @@
+//! A board from the text that it is printed as.
+ghost use Rattle.std.specs.Prelude.{◌≤◌, length, IfOk};
+ghost use Rattle.jup_board.specs.Bounds.{longest_board};
+ghost use Rattle.jup_board.specs.Printed.{IsPrintOf, IsReadTo};
+
+use crate::BoardEnd;
+use crate::faults::{line_fault, window_of};
+use crate::heading::behind_heading;
+use crate::lines::BoardLines;
+use jup_text::{BoardReader, Untaken};
+use jup_window::Board;
+use jup_xform::NoMemory;
+use std::alloc::Global;
+
+/// The board that a text prints, windows and widgets in any order of ids. The lines `listening ADDR` and `order K`, which a server
+/// prints, may come before it. The items are named 0.1, 0.2 and so on in the order of the lines.
+pub fn read_printed(alloc: Global, text: &[u8]) -> Result<Board, BoardEnd>
+    requires { length text.now ≤ longest_board }
+    ensures { IfOk result (λ made. IsPrintOf made text.now) }
+{
+    let (rest, passed) = behind_heading(text);
+    let mut lines = BoardLines::new(rest, passed);
+    let mut reader = BoardReader::new(alloc);
+    let mut window = None;
+    while let Some(line) = lines.next_line()? {
+        match reader.take(alloc, line) {
+            Ok(()) => window = window_of(line).or(window),
+            Err(Untaken::NoMemory) => return Err(BoardEnd::NoMemory),
+            Err(Untaken::BadLine) => {
+                return Err(refusal(alloc, reader.whole(), window, line, &lines));
+            }
+        }
+    }
+    Ok(reader.whole())
+}
+
+// Why the line that was read last is not taken after those before it.
+fn refusal(
+    alloc: Global,
+    board: Board,
+    window: Option<u16>,
+    line: &str,
+    lines: &BoardLines<'_>,
+) -> BoardEnd {
+    match line_fault(alloc, board, window, line) {
+        Ok(fault) => lines.bad(fault),
+        Err(NoMemory) => BoardEnd::NoMemory,
+    }
+}

@@ -1,6 +1,6 @@
-"""What the scripts that let clients meet strangers share: honest clients, each a running `jup`, and strangers, who say what they like.
+"""What the scripts share in which clients meet strangers. A client is a running `jup` that keeps to the protocol. A stranger sends what it likes.
 
-Such a script takes the paths of a built `jupd` and of a built `jup`; with none it has `./run` build them.
+Such a script takes the paths of a built `jupd` and of a built `jup`. Without them `./run` builds both.
 """
 import os
 import random
@@ -34,7 +34,7 @@ def jup():
 
 
 class Honest:
-    """A client that keeps to the protocol: a `jup`, told by lines what to do."""
+    """A client that keeps to the protocol: a `jup` that gets its commands as lines."""
 
     def __init__(self, daemon):
         words = [jup(), "--connect", f"127.0.0.1:{daemon.port}"]
@@ -43,13 +43,13 @@ class Honest:
         self.edits = 0
 
     def say(self, command):
-        """Says one command, and answers its first line."""
+        """Sends one command, and returns the first line of the answer."""
         self.process.stdin.write(command + "\n")
         self.process.stdin.flush()
         return self.process.stdout.readline()
 
     def edit(self, command):
-        """Makes an edit where that is not refused."""
+        """Makes an edit, unless it is refused."""
         self.edits += self.say(command).startswith("made ")
 
     def sync(self):
@@ -66,12 +66,12 @@ class Honest:
             lines.append(line)
 
     def quit(self):
-        """Says that it quits, and tells whether it ended well."""
+        """Quits, and returns whether the client ended well."""
         return self.say("quit") == "bye\n" and self.process.wait(timeout=30) == 0
 
 
 def edit_on(clients, rounds, is_over):
-    """The clients edit in turn at random, for so many rounds at least and until it is over, each syncing now and then. The longest sync, in seconds."""
+    """The clients edit in turn at random, for at least so many rounds and until it is over. Each syncs now and then. Returns the longest sync, in seconds."""
     dice, longest, done = random.Random(1995), 0.0, 0
     while done < rounds or not is_over():
         for client in clients:
@@ -85,7 +85,7 @@ def edit_on(clients, rounds, is_over):
 
 
 def agree(clients):
-    """Lets all hear of all, and tells whether they then show one board, and which."""
+    """Syncs all clients. Returns whether they then show one board, and that board."""
     for _ in range(2):
         for client in clients:
             client.sync()
@@ -100,7 +100,7 @@ def in_threads(count, work):
     def one(k):
         try:
             work(k)
-        except BaseException as fault:  # it is told below
+        except BaseException as fault:  # raised again below
             faults.append(fault)
 
     threads = [threading.Thread(target=one, args=(k,)) for k in range(count)]

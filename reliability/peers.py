@@ -1,6 +1,6 @@
 """What the scripts of this folder share: a `jupd` on a free port of loopback, and peers that speak the lines of a link.
 
-Each script takes the path of a built `jupd`; with none it has `./run` build one.
+Each script takes the path of a built `jupd`. Without it `./run` builds one.
 """
 import os
 import resource
@@ -48,12 +48,12 @@ class Daemon:
         self.process.wait()
 
     def resident(self, kind="VmRSS"):
-        """Its resident memory, in kB: all of it, or as RssAnon what is not the program's code."""
+        """Its resident memory, in kB: all of it, or with RssAnon the part that is not the program's code."""
         with open(f"/proc/{self.process.pid}/status") as status:
             return next(int(line.split()[1]) for line in status if line.startswith(kind))
 
     def ends_within(self, seconds):
-        """Whether it ends by itself, with status 0, in so many seconds. What it prints is read meanwhile, into `printed`."""
+        """Whether it ends by itself, with status 0, in so many seconds. Meanwhile `printed` gets what it prints."""
         try:
             self.printed = self.process.communicate(timeout=seconds)[0]
             return self.process.returncode == 0
@@ -103,7 +103,7 @@ class Peer:
                 raise AssertionError(f"site {self.site} read {line}")
 
     def hear(self, count):
-        """Reads the operations of an edit behind its first line."""
+        """Reads the operations of an edit after its first line."""
         for _ in range(count):
             assert self.lines.readline().startswith(b"do ")
         self.heard += 1
@@ -114,13 +114,13 @@ class Peer:
             pass
 
     def close(self):
-        """Ends the link without a word."""
+        """Ends the link and sends nothing."""
         self.lines.close()
         self.socket.close()
 
 
 def shows(what, holds):
-    """Prints what was seen, and ends the script where it is not as it has to be."""
+    """Prints what was seen, and ends the script if that is not as specified."""
     print(("yes: " if holds else "NO:  ") + what, flush=True)
     if not holds:
         sys.exit(1)

@@ -1,8 +1,8 @@
-// Refuses a program one growth: loaded by LD_PRELOAD, it answers the nth call for memory with none, where n is REFUSE_NTH.
+// Refuses a program one growth. LD_PRELOAD loads this library, and the nth allocation of the program then fails. n is REFUSE_NTH.
 //
-// Counted are the calls of the program's own code, so those that the C library makes for itself are not. With REFUSE_MARKED set only those between two
-// marks count. A mark is a call for a number of bytes that nothing else asks for; the crate `test_marks` makes them.
-// Once a growth was refused the file REFUSE_TOLD is there, which is how the caller knows that there was one to refuse.
+// The calls of the program's own code count, and those that the C library makes for itself do not. If REFUSE_MARKED is set, only those between two
+// marks count. A mark is a call for a number of bytes that nothing else asks for. The crate `test_marks` makes the marks.
+// Once a growth is refused, the library makes the file REFUSE_TOLD, so the caller knows that there was one to refuse.
 #define _GNU_SOURCE
 #include <dlfcn.h>
 #include <errno.h>

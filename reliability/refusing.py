@@ -1,4 +1,4 @@
-"""Runs of a program in which one growth is refused: what `../growths` and `want_of_memory` share."""
+"""Runs of a program in which one growth is refused, for `../growths` and `want_of_memory`."""
 import os
 import subprocess
 import tempfile
@@ -7,7 +7,7 @@ HERE = os.path.dirname(os.path.abspath(__file__))
 
 
 class Refusing:
-    """The library of refuse.c, built into a folder that is gone at the end of the `with`."""
+    """The library of refuse.c, built into a folder that the end of the `with` removes."""
 
     def __enter__(self):
         self.room = tempfile.TemporaryDirectory()
@@ -19,14 +19,14 @@ class Refusing:
         self.room.cleanup()
 
     def environment(self, nth, told, is_marked=False):
-        """What a program has to be started with whose nth growth is refused. The file `told` is there once it was."""
+        """The environment of a program whose nth growth is refused. The file `told` exists once it was refused."""
         with_it = {**os.environ, "LD_PRELOAD": self.library, "REFUSE_NTH": str(nth), "REFUSE_TOLD": told}
         if is_marked:
             with_it["REFUSE_MARKED"] = "1"
         return with_it
 
     def run(self, words, nth, is_marked=False, **how):
-        """Runs a program whose nth growth is refused. How it ended, and whether there was such a growth."""
+        """Runs a program whose nth growth is refused. Returns how it ended, and whether there was such a growth."""
         with tempfile.TemporaryDirectory(dir=self.room.name) as own:
             told = f"{own}/told"
             ran = subprocess.run(words, env=self.environment(nth, told, is_marked), capture_output=True, check=False, timeout=60, **how)

@@ -6,23 +6,23 @@ from rows import Names, rows_in
 SITE = 7
 
 
-def greet(client, board):
+def greet(client, board, limit=material.LIMIT):
     """Takes the client in as a site, with a board and a limit."""
     client.link.lines.are_next("hello 3")
-    client.link.send_lines(f"welcome {SITE} {material.LIMIT}", *board.lines, "ready")
+    client.link.send_lines(f"welcome {SITE} {limit}", *board.lines, "ready")
     client.printed.are_next(f"site {SITE}")
 
 
 def acts_of(client, board):
     """What the words of a transcript's step do."""
     return {
-        "joins": lambda *_: greet(client, board),
+        "joins": lambda _, limit: greet(client, board, *filter(None, [limit])),
         "types": lambda _, line: client.types(f"{line}\n"),
         "types bytes": lambda _, text: client.types(material.text_of(text)),
         "closes": lambda *_: client.process.stdin.close(),
         "prints": lambda _, line: client.printed.are_next(line),
-        "sends": lambda _, lines: client.link.lines.are_next(*lines.split(" / ")),
-        "is told": lambda _, lines: client.link.send_lines(*lines.split(" / ")),
+        "sends": lambda _, lines: client.link.lines.are_next(*material.lines_in(lines)),
+        "is told": lambda _, lines: client.link.send_lines(*material.lines_in(lines)),
         "is told bytes": lambda _, text: client.link.send(material.text_of(text)),
         "is left": lambda *_: client.link.end(),
         "ends": lambda _, status: client.ends(int(status)),
@@ -77,11 +77,24 @@ def judge_line(words, row):
             client.ends(4)
 
 
+def judge_greeting(words, row):
+    """What the client is told once it has greeted, and what it prints for that."""
+    with Client(words) as client:
+        client.link.lines.are_next("hello 3")
+        client.link.send_lines(*row.text.split(" / "))
+        client.link.end()
+        client.printed.are_next("site 7" if row.fault is None else f"fault {row.fault}")
+        if row.fault is not None:
+            client.ends(4)
+
+
 def parts(words):
-    """Each part with its name."""
+    """Each part with its name, and the rule that it shows."""
     for it in material.transcripts("clients"):
-        yield it.name, lambda it=it: play(words, it)
+        yield it.name, it.rule, lambda it=it: play(words, it)
     for window, name in material.TRANSFORM_WINDOWS.items():
-        yield f"transforms of {name}", lambda window=window: judge_transforms(words, window)
+        yield f"transforms of {name}", material.TRANSFORM_RULES[window], lambda window=window: judge_transforms(words, window)
     for row in material.lines_for("client"):
-        yield f"lines: {row.reader} {row.text!r}", lambda row=row: judge_line(words, row)
+        yield row.name, row.rule(), lambda row=row: judge_line(words, row)
+    for row in material.lines_for("greeting"):
+        yield row.name, row.rule(), lambda row=row: judge_greeting(words, row)

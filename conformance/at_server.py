@@ -1,8 +1,9 @@
 """The parts that a server is judged by."""
 import re
+import time
 
 import material
-from links import END, Differs, Link
+from links import END, Differs, Link, is_as
 from rows import Names, rows_in
 
 BOARD_WORDS = (*material.BOARD_WORDS, "char", "item")
@@ -11,18 +12,19 @@ BOARD_WORDS = (*material.BOARD_WORDS, "char", "item")
 class Site:
     """A site of a transcript: its link, and how far it has been greeted."""
 
-    def __init__(self, address, window):
-        self.link, self.window, self.is_in_board, self.is_in_window = Link.to(address), window, False, False
+    def __init__(self, address, windows, is_narrow=False):
+        self.link, self.is_in_board, self.is_in_window = Link.to(address, is_narrow), False, False
+        self.windows = [f"window {it}" for it in windows]
 
-    def next(self):
-        """The next line that it is told. Of a board only what stands in the transcript's window counts."""
-        line = self.link.lines.next()
-        while self.is_in_board and line.split(" ")[0] in BOARD_WORDS:
+    def next(self, due="a line"):
+        """The next line that it is told. Of a board only what stands in the transcript's windows counts."""
+        line = self.link.lines.next(due)
+        while self.is_in_board and line.split(" ", 1)[0] in BOARD_WORDS:
             if line.startswith("window "):
-                self.is_in_window = line == f"window {self.window}"
+                self.is_in_window = line in self.windows
             if self.is_in_window:
                 return line
-            line = self.link.lines.next()
+            line = self.link.lines.next(due)
         self.is_in_board = line.startswith("welcome ")
         return line
 
@@ -30,8 +32,8 @@ class Site:
 class Sites:
     """The sites of a transcript, and the number that the server gave to each, by the number that it has in the transcript. All links end at the end of the `with`."""
 
-    def __init__(self, address, limit, window, before):
-        self.address, self.limit, self.window = address, limit, window
+    def __init__(self, address, limit, windows, before):
+        self.address, self.limit, self.windows = address, limit, windows
         self.sites, self.numbers = {}, {0: (0, before)}
 
     def __enter__(self):
@@ -46,25 +48,28 @@ class Sites:
                 if not raised[0]:
                     raise
 
-    def site(self, who):
+    def site(self, who, is_narrow=False):
         if who not in self.sites:
-            self.sites[who] = Site(self.address, self.window)
+            self.sites[who] = Site(self.address, self.windows, is_narrow)
         return self.sites[who]
+
+    def link(self, who):
+        return self.site(who).link
 
     def renamed(self, line):
         return material.renamed(line, self.numbers)
 
     def sends(self, who, lines):
-        self.site(who).link.send_lines(*(self.renamed(it) for it in lines.split(" / ")))
+        self.site(who).link.send_lines(*(self.renamed(it) for it in material.lines_in(lines)))
 
     def sends_bytes(self, who, text):
         self.site(who).link.send(self.renamed(material.text_of(text)))
 
     def is_told(self, who, lines):
-        for line in lines.split(" / "):
-            found = self.site(who).next()
+        for line in material.lines_in(lines):
+            found = self.site(who).next(repr(line))
             wanted = self.welcome(line, found) if line.startswith("welcome ") else self.renamed(line)
-            if found != wanted:
+            if not is_as(wanted, found):
                 raise Differs(f"{wanted!r} was due, and there came {found!r}")
 
     def welcome(self, line, found):
@@ -79,35 +84,50 @@ class Sites:
         self.sends(who, "hello 3")
         self.is_told(who, f"welcome {len(self.numbers)}")
         lines = []
-        while (line := self.site(who).next()) != "ready":
+        while (line := self.site(who).next("'ready'")) != "ready":
             if line.split(" ")[0] not in BOARD_WORDS:
                 raise Differs(f"'ready' was due, and there came {line!r}")
             lines.append(line)
         return lines
 
     def is_left(self, who):
-        self.site(who).link.lines.are_next(END)
+        self.link(who).lines.are_next(END)
+
+    def is_taken_no_more(self, who):
+        poured = self.link(who).poured
+        poured.comes_to_a_stop()
+        if not poured.was_refused:
+            raise Differs(f"the end of the link was due, and {poured.sent} bytes were taken")
 
     def acts(self):
         """What the words of a transcript's step do."""
         return {
             "joins": lambda who, _: self.joins(who),
+            "has little room": lambda who, _: self.site(who, is_narrow=True),
             "sends bytes": self.sends_bytes,
             "sends": self.sends,
             "is told": self.is_told,
-            "ends": lambda who, _: self.site(who).link.end(),
+            "ends": lambda who, _: self.link(who).end(),
             "is left": lambda who, _: self.is_left(who),
+            "stops reading": lambda who, _: self.link(who).stop_reading(),
+            "reads on": lambda who, _: self.link(who).read_on(),
+            "pours bytes": lambda who, text: self.link(who).pour(material.text_of(text)),
+            "pours": lambda who, lines: self.link(who).pour("".join(f"{self.renamed(it)}\n" for it in material.lines_in(lines))),
+            "comes to a stop": lambda who, _: self.link(who).poured.comes_to_a_stop(),
+            "is taken no more": lambda who, _: self.is_taken_no_more(who),
+            "drips for": lambda who, seconds: self.link(who).drip(int(seconds)),
+            "waits": lambda _, seconds: time.sleep(int(seconds)),
         }
 
 
 def play(address, transcript, before):
-    with Sites(address, transcript.limit, transcript.board.window, before) as sites:
+    with Sites(address, transcript.limit, transcript.board.windows, before) as sites:
         transcript.play(sites.acts())
 
 
 def judge_transforms(address, window, before):
     """In each row B's operation is taken, then A's, which has not heard of it; at the end C joins, and sees what all rows leave."""
-    with Sites(address, material.LIMIT, window, before) as sites:
+    with Sites(address, material.LIMIT, [window], before) as sites:
         sites.joins("A")
         sites.joins("B")
         rows = [it for it in rows_in(window) if "no" not in (it.row.client, it.row.server)]
@@ -142,7 +162,7 @@ def are_shown(rows, lines):
 
 def judge_line(address, row, before):
     """A ping behind the line shows at once whether it was taken: a fault is told before."""
-    with Sites(address, material.LIMIT, material.LINES_WINDOW, before) as sites:
+    with Sites(address, material.LIMIT, [material.LINES_WINDOW], before) as sites:
         if row.reader == "server":
             sites.joins("A")
         sites.sends("A", row.text)
@@ -174,15 +194,15 @@ def limit_of(address):
 
 
 def parts(address):
-    """Each part with its name."""
+    """Each part with its name, and the rule that it shows."""
     limit = limit_of(address)
     _, before = material.layout(limit)
     for it in material.transcripts("servers"):
         if it.limit == limit:
-            yield it.name, lambda it=it: play(address, it, before[it.board.window])
+            yield it.name, it.rule, lambda it=it: play(address, it, before[it.board.windows[0]])
     if limit != material.LIMIT:
         return
     for window, name in material.TRANSFORM_WINDOWS.items():
-        yield f"transforms of {name}", lambda window=window: judge_transforms(address, window, before[window])
+        yield f"transforms of {name}", material.TRANSFORM_RULES[window], lambda window=window: judge_transforms(address, window, before[window])
     for row in material.lines_for("first") + material.lines_for("server"):
-        yield f"lines: {row.reader} {row.text!r}", lambda row=row: judge_line(address, row, before[material.LINES_WINDOW])
+        yield row.name, row.rule(), lambda row=row: judge_line(address, row, before[material.LINES_WINDOW])

@@ -1,10 +1,26 @@
 """The two ends of a conversation that the kit drives: a link to a server, and a client with its server's end of a link."""
+import contextlib
 import queue
+import random
 import socket
 import subprocess
 import threading
+import time
 
 END = "(the end)"
+# An address at which the system chooses the port.
+ANY_PORT = "127.0.0.1:0"
+# Ports below those that links are given by the system, so that none of them has it when a server listens there.
+PORTS = range(15_000, 32_000)
+
+
+def free_address():
+    """An address that nobody listens at."""
+    while True:
+        address = "127.0.0.1", random.choice(PORTS)
+        with socket.socket() as probe, contextlib.suppress(OSError):
+            probe.bind(address)
+            return "%s:%d" % address
 
 
 class Differs(Exception):
@@ -18,49 +34,111 @@ class Lines:
     patience = 5.0
 
     def __init__(self, file):
-        self.waiting, self.is_over = queue.Queue(), False
+        self.waiting, self.is_over, self.is_read = queue.Queue(), False, threading.Event()
+        self.is_read.set()
         threading.Thread(target=self.read, args=(file,), daemon=True).start()
 
     def read(self, file):
         try:
-            for line in file:
+            while self.is_read.wait() and (line := file.readline()):
                 self.waiting.put(line.decode("latin-1").removesuffix("\n"))
         except (OSError, ValueError):
             pass  # what fails has ended
         self.waiting.put(END)
 
-    def next(self):
-        """The next line, and after the last one the end, for ever."""
+    def next(self, due="a line"):
+        """The next line, and after the last one the end, for ever. `due` says what should come."""
         try:
             line = END if self.is_over else self.waiting.get(timeout=self.patience)
         except queue.Empty:
-            raise Differs(f"nothing came in {self.patience} seconds") from None
+            raise Differs(f"{due} was due, and nothing came in {self.patience:g} seconds") from None
         self.is_over = line == END
         return line
 
     def are_next(self, *wanted):
-        """These lines come, in this order."""
+        """These lines come, in this order; `*` is any number."""
         for line in wanted:
-            found = self.next()
-            if found != line:
+            found = self.next(repr(line))
+            if not is_as(line, found):
                 raise Differs(f"{line!r} was due, and there came {found!r}")
 
 
-class Link:
-    """A socket whose other end is judged."""
+def address_bound(listening, told):
+    """Where a server listens that printed `listening`. One that was given port 0 tells on standard error, whose lines are `told`, which port it has."""
+    address = listening.removeprefix("listening ").strip()
+    return told.next("'bound', reported by the server,").removeprefix("bound ") if address == ANY_PORT else address
+
+
+def is_as(wanted, found):
+    """Whether a line is the one that is wanted, in which `*` is any number."""
+    if "*" not in wanted.split(" "):
+        return found == wanted
+    words = zip(wanted.split(" "), found.split(" "))
+    return wanted.count(" ") == found.count(" ") and all(it.isdigit() if due == "*" else it == due for due, it in words)
+
+
+class Pour:
+    """Bytes that are sent beside all else, as fast as they are taken."""
+
+    PIECE = 4096
+    # For how many seconds none is taken before that counts as a stop.
+    quiet = 1.0
 
     def __init__(self, connection):
-        self.socket, self.has_ended = connection, False
+        self.connection, self.left, self.sent, self.was_refused = connection, [], 0, False
+        self.bell = threading.Condition()
+        threading.Thread(target=self.run, daemon=True).start()
+
+    def put(self, text):
+        with self.bell:
+            self.left.append(text.encode("utf-8"))
+            self.bell.notify_all()
+
+    def run(self):
+        try:
+            while True:
+                with self.bell:
+                    while not self.left:
+                        self.bell.wait()
+                    data, self.left = memoryview(b"".join(self.left)), []
+                while data:
+                    taken = self.connection.send(data[: self.PIECE])
+                    data, self.sent = data[taken:], self.sent + taken
+        except OSError:
+            self.was_refused = True
+
+    def comes_to_a_stop(self):
+        """Waits until nothing was taken for some time."""
+        sent = -1
+        while not self.was_refused and sent < self.sent:
+            sent = self.sent
+            time.sleep(self.quiet)
+
+
+class Link:
+    """A socket whose other end is judged. A narrow one takes few bytes before they are read."""
+
+    def __init__(self, connection):
+        self.socket, self.has_ended, self.poured = connection, False, None
         self.socket.setsockopt(socket.IPPROTO_TCP, socket.TCP_NODELAY, 1)
         self.lines = Lines(connection.makefile("rb"))
 
     @classmethod
-    def to(cls, address):
+    def to(cls, address, is_narrow=False):
         host, _, port = address.rpartition(":")
         try:
-            return cls(socket.create_connection((host, int(port)), Lines.patience))
-        except OSError as fault:
-            raise Differs(f"nobody can connect: {fault}") from None
+            family, kind, _, _, place = socket.getaddrinfo(host, int(port), type=socket.SOCK_STREAM)[0]
+            connection = socket.socket(family, kind)
+            if is_narrow:
+                connection.setsockopt(socket.SOL_SOCKET, socket.SO_RCVBUF, 4096)
+                connection.setsockopt(socket.SOL_SOCKET, socket.SO_SNDBUF, 4096)
+                connection.setsockopt(socket.IPPROTO_TCP, socket.TCP_MAXSEG, 536)
+            connection.settimeout(Lines.patience)
+            connection.connect(place)
+            connection.settimeout(None)
+            return cls(connection)
+        except (OSError, ValueError) as fault:
+            raise Differs(f"nobody can connect to {address!r}: {fault}") from None
 
     def send(self, text):
         try:
@@ -70,6 +148,28 @@ class Link:
 
     def send_lines(self, *lines):
         self.send("".join(f"{it}\n" for it in lines))
+
+    def pour(self, text):
+        self.poured = self.poured or Pour(self.socket)
+        self.poured.put(text)
+
+    def stop_reading(self):
+        self.lines.is_read.clear()
+
+    def read_on(self):
+        self.socket.setsockopt(socket.SOL_SOCKET, socket.SO_RCVBUF, 2**20)
+        self.lines.is_read.set()
+
+    def drip(self, seconds):
+        """Sends a byte now and then, until the other end takes none; that has to be within so many seconds."""
+        until = time.monotonic() + seconds
+        try:
+            while time.monotonic() < until:
+                self.socket.sendall(b"x")
+                time.sleep(0.25)
+        except OSError:
+            return  # the other end has gone
+        raise Differs(f"the end of the link was due within {seconds} seconds, and it was read on")
 
     def end(self):
         """Says that no more is sent."""
@@ -93,12 +193,15 @@ class Link:
 class Client:
     """A client's command line with its standard streams, and the server's end of its link. It is stopped at the end of the `with`."""
 
-    def __init__(self, words):
+    def __init__(self, words, start=subprocess.Popen):
         with socket.create_server(("127.0.0.1", 0)) as listener:
             listener.settimeout(Lines.patience)
             address = "127.0.0.1:%d" % listener.getsockname()[1]
             words = [it.replace("{}", address) for it in words]
-            self.process = subprocess.Popen(words, stdin=subprocess.PIPE, stdout=subprocess.PIPE, stderr=subprocess.DEVNULL)
+            try:
+                self.process = start(words, stdin=subprocess.PIPE, stdout=subprocess.PIPE, stderr=subprocess.DEVNULL)
+            except OSError as fault:
+                raise Differs(f"the client cannot be started: {fault}") from None
             try:
                 self.link = Link(listener.accept()[0])
             except TimeoutError:

@@ -1,5 +1,7 @@
 """What this folder's files say: transcripts with the boards that they open with, the table of transforms, and the table of lines."""
+import functools
 import glob
+import itertools
 import json
 import os
 import re
@@ -7,11 +9,19 @@ import re
 from links import Differs
 
 HERE = os.path.dirname(os.path.abspath(__file__))
-LIMIT = 1000
+# The limits of the servers that are judged: of the one that plays most, of one whose order gets full, and of one with a long text.
+LIMIT, FULL_LIMIT, LONG_LIMIT = 10_000, 2, 100_000
+LIMITS = (LIMIT, FULL_LIMIT, LONG_LIMIT)
 # The windows that the tables are played in.
 LINES_WINDOW, LISTS_WINDOW, TEXTS_WINDOW, SETTINGS_WINDOW = 61, 62, 63, 64
 TRANSFORM_WINDOWS = {LISTS_WINDOW: "lists", TEXTS_WINDOW: "texts", SETTINGS_WINDOW: "settings"}
 WORDS = {LISTS_WINDOW: "list", TEXTS_WINDOW: "text"}
+# The rules that the tables show, each with its page.
+SEQUENCES_RULE, SETTINGS_RULE = (f'docs/PROTOCOL.md, "{it}"' for it in ("Texts and lists", "Settings"))
+TRANSFORM_RULES = {LISTS_WINDOW: SEQUENCES_RULE, TEXTS_WINDOW: SEQUENCES_RULE, SETTINGS_WINDOW: SETTINGS_RULE}
+LINES_RULE, SESSIONS_RULE = (f'docs/WIRE.md, "{it}"' for it in ("Lines of a link, and of a layout", "Sessions"))
+CLIENT_RULE = 'docs/PROGRAMS.md, "What `jup` takes in, and when"'
+BOARDS_RULE, REFUSALS_RULE = 'docs/WIRE.md, "Layouts"', 'docs/PROTOCOL.md, "What is refused, and what it leaves"'
 BOARD_WORDS = ("window", "text", "list", "toggle", "slider")
 
 
@@ -22,19 +32,43 @@ def rows_of(name):
     return [it for it in rows if it]
 
 
+def rule_in(name):
+    """What a file of this folder says, in a comment, is the rule that it shows."""
+    with open(f"{HERE}/{name}", encoding="utf-8") as file:
+        found = [it.removeprefix("# Rule: ").strip() for it in file if it.startswith("# Rule: ")]
+    assert len(found) == 1, f"{name} names {len(found)} rules"
+    return found[0]
+
+
 def spread(row):
-    """The lines that braces stand for: `A sends op {0..2} 0` is three."""
-    found = re.search(r"\{(\d+)\.\.(\d+)\}", row)
-    if not found:
+    """The lines that braces stand for: `A sends op {0..2} 0` is three. Several braces of one row count together."""
+    ranges = [range(int(first), int(last) + 1) for first, last in re.findall(r"\{(\d+)\.\.(\d+)\}", row)]
+    if not ranges:
         return [row]
-    numbers = range(int(found[1]), int(found[2]) + 1)
-    return [f"{row[: found.start()]}{it}{row[found.end() :]}" for it in numbers]
+    assert len({len(it) for it in ranges}) == 1, f"the ranges of {row!r} are of different lengths"
+    texts = re.split(r"\{\d+\.\.\d+\}", row)
+    return [texts[0] + "".join(f"{number}{text}" for number, text in zip(numbers, texts[1:])) for numbers in zip(*ranges)]
 
 
 def text_of(text):
     """What stands behind `bytes`: a JSON string, and how many times."""
     found = re.fullmatch(r'(".*")(?: (\d+) times)?', text)
     return json.loads(found[1]) * int(found[2] or 1)
+
+
+def lines_in(text):
+    """The lines of a step: ` / ` stands between several, and one may come so many times."""
+    lines = []
+    for line in text.split(" / "):
+        found = re.fullmatch(r"(.*) (\d+) times", line)
+        lines += [found[1]] * int(found[2]) if found else [line]
+    return lines
+
+
+def repeated(row):
+    """A row of a board, whose text may be of one letter so many times."""
+    found = re.fullmatch(r'(text \d+ )"(.)" (\d+) times', row)
+    return f'{found[1]}"{found[2] * int(found[3])}"' if found else row
 
 
 def lines_of(printed):
@@ -57,27 +91,34 @@ class Board:
     """A board as it is printed, its lines, and how many items it has."""
 
     def __init__(self, printed):
-        self.lines = lines_of(printed)
-        self.window = int(printed[0].split()[1]) if printed else 0
-        self.items = sum(it.startswith(("char ", "item ")) for it in self.lines)
+        self.printed = printed
+        self.windows = [int(it.split()[1]) for it in printed if it.startswith("window ")]
+
+    @functools.cached_property
+    def lines(self):
+        return lines_of(list(map(repeated, self.printed)))
+
+    @functools.cached_property
+    def items(self):
+        return sum(it.startswith(("char ", "item ")) for it in self.lines)
 
 
 class Transcript:
-    """A board, the limit of its server, and the steps in order."""
+    """A board, the limit of its server, and the rows of steps in order."""
 
     def __init__(self, path):
         self.name = os.path.relpath(path, HERE)
+        self.rule = rule_in(self.name)
         rows = rows_of(self.name)
         self.limit = int(rows.pop(0).split()[1]) if rows[0].startswith("limit ") else LIMIT
         count = next(at for at, row in enumerate(rows) if row.split()[0] not in BOARD_WORDS)
-        self.board = Board(rows[:count])
-        self.steps = [step for row in rows[count:] for step in spread(row)]
+        self.board, self.rows = Board(rows[:count]), rows[count:]
 
     def play(self, acts):
         """Does each step by the act whose words it has."""
-        verbs = "|".join(sorted(acts, key=len, reverse=True))
-        for step in self.steps:
-            who, verb, rest = re.fullmatch(rf"(\w+) ({verbs})(?: (.*))?", step).groups("")
+        form = re.compile(rf"(\w+) ({'|'.join(sorted(acts, key=len, reverse=True))})(?: (.*))?")
+        for step in itertools.chain.from_iterable(map(spread, self.rows)):
+            who, verb, rest = form.fullmatch(step).groups("")
             try:
                 acts[verb](who, rest)
             except Differs as differs:
@@ -128,6 +169,17 @@ class LineRow:
     def __init__(self, row):
         self.reader, fault, text = row.split(" ", 2)
         self.fault, self.text = None if fault == "taken" else int(fault), json.loads(text)
+        self.name = f"lines: {self.reader} {self.text!r}"
+
+    def rule(self):
+        """The rule that it shows, with its page."""
+        if self.reader != "server" and "error " in self.text or self.reader == "greeting" and self.fault in (43, 50, 51):
+            return CLIENT_RULE
+        if self.fault is None or 40 <= self.fault <= 43:
+            return LINES_RULE
+        if self.fault == 44 and self.reader != "greeting":
+            return SESSIONS_RULE
+        return BOARDS_RULE if self.reader == "greeting" else REFUSALS_RULE
 
 
 def lines_for(reader):
@@ -151,14 +203,15 @@ def table_board(window):
 
 
 def layout(limit):
-    """The layout that a server of this limit opens with, as text, and for each window the number of items before it."""
+    """The layout that a server of this limit opens with, as text, and for each window the number of items before those of its transcript."""
     boards = [it.board for it in transcripts("servers") if it.limit == limit]
     if limit == LIMIT:
         boards += [Board(table_board(it)) for it in (LINES_WINDOW, *TRANSFORM_WINDOWS)]
     lines, before, items = [], {}, 0
     for board in boards:
-        assert board.window not in before, f"two transcripts have window {board.window}"
-        before[board.window] = items
+        for window in board.windows:
+            assert window not in before, f"two transcripts have window {window}"
+            before[window] = items
         lines += [renamed(it, {0: (0, items)}) for it in board.lines]
         items += board.items
     return "".join(f"{it}\n" for it in lines), before

@@ -1,8 +1,7 @@
-"""Boards, operations and one end of a link, as the fakes have them: as little as a server and a client need."""
-import copy
+"""Operations and boards, as the fakes have them: as little as a server and a client need."""
 import re
 
-NUM, INT, ID, NAME = r"(0|[1-9]\d*)", r"(0|-?[1-9]\d*)", r"(0|[1-9]\d*)", r"(0|[1-9]\d*)\.(0|[1-9]\d*)"
+NUM, INT, NAME = r"(0|[1-9]\d*)", r"(0|-?[1-9]\d*)", r"(0|[1-9]\d*)\.(0|[1-9]\d*)"
 LABEL = r"([ -~]{1,48})"
 BODIES = {
     ("text", "ins"): rf"{NUM} {NAME} {NUM}",
@@ -13,6 +12,8 @@ BODIES = {
     ("toggle", "set"): r"(on|off)",
     ("slider", "set"): INT,
 }
+# How many windows, and widgets of a window, there may be, and the length from which on no command inserts.
+MOST_IDS, LONGEST = 64, 65_536
 
 
 class Fault(Exception):
@@ -47,9 +48,21 @@ def number(text, below=2**32):
     return int(text)
 
 
+def signed(text):
+    if not -(2**31) <= int(text) < 2**31:
+        raise Fault(40)
+    return int(text)
+
+
+def scalar(text):
+    if int(text) >= 0x110000 or 0xD800 <= int(text) < 0xE000:
+        raise Fault(40)
+    return int(text)
+
+
 def read_op(words):
     """The operation that `W I BODY` is."""
-    found = re.fullmatch(rf"{ID} {ID} (text|list|toggle|slider) (\w+)(?: (.*))?", words)
+    found = re.fullmatch(rf"{NUM} {NUM} (text|list|toggle|slider) (\w+)(?: (.*))?", words)
     if not found:
         raise Fault(40)
     win, wid, kind, verb, rest = number(found[1], 2**16), number(found[2], 2**16), found[3], found[4], found[5]
@@ -65,157 +78,143 @@ def read_op(words):
     return Op(win, wid, kind, verb, place, name, scalar(value) if value and kind == "text" else value)
 
 
-def signed(text):
-    if not -(2**31) <= int(text) < 2**31:
-        raise Fault(40)
-    return int(text)
+class Widget:
+    """A text or a list, with its items as names and values; or a toggle or a slider, with its value."""
 
+    def __init__(self, kind, value=None, low=0, high=0):
+        self.kind, self.value, self.low, self.high, self.items, self.names = kind, value, low, high, [], set()
 
-def scalar(text):
-    if int(text) >= 0x110000 or 0xD800 <= int(text) < 0xE000:
-        raise Fault(40)
-    return int(text)
+    def copy(self):
+        made = Widget(self.kind, self.value, self.low, self.high)
+        made.items, made.names = list(self.items), set(self.names)
+        return made
 
+    def put(self, place, name, value):
+        self.items.insert(place, (name, value))
+        self.names.add(name)
 
-def transform(c, s, is_tie_wrong=False):
-    """A client's operation and a server's, past one another."""
-    if (c.win, c.wid) != (s.win, s.wid) or "no" in (c.verb, s.verb):
-        return c, s
-    if c.verb == "set" or (c.verb == s.verb == "rel" and c.name == s.name):
-        return c, s.nothing()
-    if c.verb == s.verb == "ins" and c.place == s.place:
-        return (c.at(c.place + 1), s) if is_tie_wrong else (c, s.at(s.place + 1))
-    return past(c, s), past(s, c)
-
-
-def past(op, other):
-    """An operation on a sequence past another at another place, or of another kind."""
-    if other.verb == "rel":
-        return op
-    if other.verb == "del":
-        if op.verb != "ins" and op.name == other.name:
-            return op.nothing()
-        return op.at(op.place - (other.place < op.place))
-    if op.verb == "ins":
-        return op.at(op.place + (other.place < op.place))
-    return op.at(op.place + (other.place <= op.place))
-
-
-def grid(client, server, is_tie_wrong=False):
-    """Two lists of operations, past one another: each of the client's in order past the whole of the server's as it then stands."""
-    server = list(server)
-    for at, op in enumerate(client):
-        for below, other in enumerate(server):
-            op, server[below] = transform(op, other, is_tie_wrong)
-        client = [*client[:at], op, *client[at + 1 :]]
-    return client, server
+    def line(self, wid):
+        """What stands behind `W I` where it is a setting."""
+        bounds = f"{self.low} {self.high} " if self.kind == "slider" else ""
+        return f"{self.kind} {wid}" if self.value is None else f"{self.kind} {wid} {bounds}{self.value}"
 
 
 class Board:
-    """Widgets by their ids, with the window lines in order. A sequence is a list of names with values."""
+    """Widgets by their ids."""
 
     def __init__(self):
-        self.windows = {}
+        self.windows, self.window, self.last = {}, None, None
 
     def read_line(self, line):
+        """Adds what a line of a board says, or refuses it."""
         word, *rest = line.split(" ", 2)
         if word == "window":
-            self.win = number(rest[0])
-            if self.win in self.windows:
-                raise Fault(10)
-            self.windows[self.win] = {}
+            self.window = self.windows[self.free_id(rest[0], self.windows)] = {}
         elif word in ("char", "item"):
-            site, _, count = rest[0].partition(".")
-            self.last.append(((int(site), int(count)), int(rest[1]) if word == "char" else rest[1]))
+            self.read_item(word, *rest)
         else:
-            self.last = [rest[1]] if len(rest) > 1 else []
-            self.windows[self.win][int(rest[0])] = [word, self.last]
+            self.read_widget(word, *rest)
+
+    def read_widget(self, kind, wid, value=None):
+        if self.window is None:
+            raise Fault(44)
+        widget = Widget(kind, value)
+        if kind == "slider":
+            widget.low, widget.high, widget.value = map(signed, value.split(" "))
+            if not widget.low <= widget.value <= widget.high:
+                raise Fault(13)
+        self.last = self.window[self.free_id(wid, self.window)] = widget
+
+    def read_item(self, word, name, value):
+        if not self.last or self.last.kind != {"char": "text", "item": "list"}[word]:
+            raise Fault(44)
+        site, _, count = name.partition(".")
+        name = number(site), number(count)
+        if self.holds(self.last, name):
+            raise Fault(45)
+        self.last.put(len(self.last.items), name, scalar(value) if word == "char" else value)
+
+    def free_id(self, text, taken):
+        """An id that may be given, beside those that are taken."""
+        given = number(text, 2**16)
+        if given == 0:
+            raise Fault(12)
+        if given in taken:
+            raise Fault(10)
+        if self.is_full(taken):
+            raise Fault(11)
+        return given
+
+    def is_full(self, taken):
+        return len(taken) >= MOST_IDS
+
+    def holds(self, widget, name):
+        """Whether a sequence has an item of this name."""
+        return name in widget.names
+
+    def in_order(self, ids):
+        return sorted(ids)
 
     def lines(self):
-        for win in sorted(self.windows):
+        for win in self.in_order(self.windows):
             yield f"window {win}"
-            for wid, (kind, held) in sorted(self.windows[win].items()):
-                if kind in ("toggle", "slider"):
-                    yield f"{kind} {wid} {held[0]}"
-                    continue
-                yield f"{kind} {wid}"
-                for (site, count), value in held:
-                    yield f"{'char' if kind == 'text' else 'item'} {site}.{count} {value}"
+            for wid in self.in_order(self.windows[win]):
+                widget = self.windows[win][wid]
+                yield widget.line(wid)
+                word = "char" if widget.kind == "text" else "item"
+                yield from (f"{word} {site}.{count} {value}" for (site, count), value in widget.items)
 
     def apply_all(self, ops):
-        """Does all of the operations, or refuses them and stays as it was."""
-        before = copy.deepcopy(self.windows)
+        """Does an edit's operations in order, or none of them."""
+        before = self.kept(ops)
         try:
+            self.no_name_twice(ops)
             for op in ops:
                 self.apply(op)
         except Fault:
-            self.windows = before
+            self.put_back(before)
             raise
 
-    def held(self, op):
-        kind, held = self.windows.get(op.win, {}).get(op.wid, (None, None))
-        if kind != op.kind:
-            raise Fault(23)
-        return held
+    def no_name_twice(self, ops):
+        """No operation of an edit inserts a name that one before it inserted or deleted."""
+        seen = set()
+        for op in ops:
+            if op.verb == "ins" and op.name in seen:
+                raise Fault(23)
+            if op.verb in ("ins", "del"):
+                seen.add(op.name)
+
+    def kept(self, ops):
+        """Copies of the widgets that these operations are of."""
+        ids = {(it.win, it.wid) for it in ops if it.wid in self.windows.get(it.win, {})}
+        return {(win, wid): self.windows[win][wid].copy() for win, wid in ids}
+
+    def put_back(self, before):
+        for (win, wid), widget in before.items():
+            self.windows[win][wid] = widget
 
     def apply(self, op):
         """Does the operation, or refuses it where it does not fit."""
-        held = self.held(op)
+        widget = self.windows.get(op.win, {}).get(op.wid)
+        if not widget or widget.kind != op.kind:
+            raise Fault(23)
         if op.verb == "set":
-            self.set(op, held)
+            if op.kind == "slider" and not widget.low <= op.value <= widget.high:
+                raise Fault(23)
+            widget.value = op.value
         elif op.verb == "ins":
-            if op.place > len(held) or any(name == op.name for name, _ in held):
+            if op.place > len(widget.items) or self.holds(widget, op.name):
                 raise Fault(23)
-            held.insert(op.place, (op.name, op.value))
+            widget.put(op.place, op.name, op.value)
         elif op.verb != "no":
-            if op.place >= len(held) or held[op.place][0] != op.name:
-                raise Fault(23)
-            held[op.place : op.place + 1] = [(op.name, op.value)] if op.verb == "rel" else []
+            self.change_item(widget, op)
 
-    def set(self, op, held):
-        if op.kind == "slider":
-            low, high, _ = held[0].split(" ")
-            if not int(low) <= op.value <= int(high):
-                raise Fault(23)
-            held[0] = f"{low} {high} {op.value}"
+    def change_item(self, widget, op):
+        """Deletes or relabels an item."""
+        if op.place >= len(widget.items) or widget.items[op.place][0] != op.name:
+            raise Fault(23)
+        if op.verb == "rel":
+            widget.items[op.place] = (op.name, op.value)
         else:
-            held[0] = op.value
-
-
-class End:
-    """One end of a link: its counts, and its edits, lists of operations, that the other end is not known to have received."""
-
-    def __init__(self, is_client, is_tie_wrong=False):
-        self.is_client, self.is_tie_wrong = is_client, is_tie_wrong
-        self.sent, self.heard, self.acknowledged, self.owed, self.queue = 0, 0, 0, 0, []
-
-    def message(self, ops):
-        self.queue.append(ops)
-        self.sent, self.owed = self.sent + 1, 0
-        return "\n".join([f"batch {self.sent - 1} {self.heard} {len(ops)}", *(f"do {it}" for it in ops)])
-
-    def take_ack(self, count):
-        if not self.acknowledged <= count <= self.sent:
-            raise Fault(21)
-        del self.queue[: count - self.acknowledged]
-        self.acknowledged = count
-
-    def receive(self, mine, heard, ops):
-        """What is to be applied, moved past what the other end had not received."""
-        if mine != self.heard:
-            raise Fault(20)
-        self.take_ack(heard)
-        for at, own in enumerate(self.queue):
-            if self.is_client:
-                self.queue[at], ops = grid(own, ops, self.is_tie_wrong)
-            else:
-                ops, self.queue[at] = grid(ops, own, self.is_tie_wrong)
-        self.heard, self.owed = self.heard + 1, self.owed + 1
-        return ops
-
-    def owes(self):
-        """The acknowledgement that is due, or None."""
-        if self.owed < 64:
-            return None
-        self.owed = 0
-        return f"ack {self.heard}"
+            del widget.items[op.place]
+            widget.names.discard(op.name)

@@ -1,5 +1,6 @@
 """Lines of a link, read strictly, and commands as a client's user types them."""
 import re
+import select
 
 from boards import NUM, Fault, number, read_op
 
@@ -21,37 +22,52 @@ WORDS = {
     "bye": "",
     "error": NUM,
 }
+LONGEST_LINE = 256
 
 
-def bytes_to_lines(connection):
-    """The lines that come, as texts; 41 where 256 bytes have no line feed, 43 where the bytes end within a line."""
-    held = b""
-    while data := connection.recv(4096):
-        held += data
-        while (at := held.find(b"\n")) >= 0 and at < 256:
-            line, held = held[:at], held[at + 1 :]
-            yield line.decode("latin-1")
-        if len(held) >= 256:
+class Lines:
+    """The lines that come on a connection, as texts; 41 where 256 bytes have no line feed, 43 where the bytes end within a line."""
+
+    def __init__(self, connection):
+        self.connection, self.held, self.at = connection, b"", 0
+
+    def next(self):
+        """The next line, or None at the end."""
+        while (end := self.held.find(b"\n", self.at)) < 0 and len(self.held) - self.at < LONGEST_LINE:
+            data = self.connection.recv(65536)
+            if not data:
+                if self.at < len(self.held):
+                    raise Fault(43)
+                return None
+            self.held, self.at = self.held[self.at :] + data, 0
+        if end < 0 or end - self.at >= LONGEST_LINE:
             raise Fault(41)
-    if held:
-        raise Fault(43)
+        line, self.at = self.held[self.at : end], end + 1
+        return line.decode("latin-1")
+
+    def is_there(self):
+        """Whether a line, or a part of one, has come."""
+        return self.at < len(self.held) or bool(select.select([self.connection], [], [], 0)[0])
 
 
-def read_line(line, is_lax=False):
-    """A line's first word, and the numbers or the text behind it."""
-    if is_lax:
-        line = re.sub(r"(?<![\w.])0+(?=\d)", "", line)
-    word, space, rest = line.partition(" ")
-    if word == "do":
-        return word, [read_op(rest)]
-    if word not in WORDS or bool(space) != bool(WORDS[word]) or not re.fullmatch(WORDS[word], rest):
-        raise Fault(40)
-    numbers = [number(it) for it in rest.split(" ")] if re.fullmatch(r"\d+( \d+)*", rest) else [rest]
-    if word == "hello" and numbers != [3]:
-        raise Fault(42)
-    if word == "batch" and not 1 <= numbers[2] <= 32:
-        raise Fault(40)
-    return word, numbers
+class Grammar:
+    """Lines of a link: a line's first word, and the numbers or the text behind it."""
+
+    def read(self, line):
+        word, space, rest = line.partition(" ")
+        if word == "do":
+            return word, [self.read_op(rest)]
+        if word not in WORDS or bool(space) != bool(WORDS[word]) or not re.fullmatch(WORDS[word], rest):
+            raise Fault(40)
+        numbers = [number(it) for it in rest.split(" ")] if re.fullmatch(r"\d+( \d+)*", rest) else [rest]
+        if word == "hello" and numbers != [3]:
+            raise Fault(42)
+        if word == "batch" and not 1 <= numbers[2] <= 32:
+            raise Fault(40)
+        return word, numbers
+
+    def read_op(self, rest):
+        return read_op(rest)
 
 
 class Gathering:
@@ -74,12 +90,17 @@ class Gathering:
 
 
 QUOTED = r'"((?:[ !#-\[\]-~]|\\"|\\\\|\\u\{(?:0|[1-9a-f][0-9a-f]*)\})*)"'
+SHAPES = {"ins": rf"{NUM} (char|item) {QUOTED}", "del": NUM, "rel": rf"{NUM} {QUOTED}", "set": r"(on|off|0|-?[1-9]\d*)"}
 
 
 def unquoted(text):
     """What stands between quotes, or None where it is spelled otherwise than a text has to be."""
-    found = re.sub(r'\\u\{(\w+)\}|\\(["\\])', lambda it: it[2] or chr(int(it[1], 16)), text)
+    found = re.sub(r'\\u\{(\w+)\}|\\(["\\])', lambda it: it[2] or char_of(int(it[1], 16)), text)
     return found if quoted(found) == f'"{text}"' else None
+
+
+def char_of(value):
+    return chr(value) if value < 0x110000 and not 0xD800 <= value < 0xE000 else ""
 
 
 def quoted(text):
@@ -91,18 +112,32 @@ def quoted(text):
     return '"' + "".join(map(spelled, text)) + '"'
 
 
-def read_command(line):
-    """A command's word, its numbers and its value, or None."""
-    found = re.fullmatch(rf"(ins|del|rel|set) {NUM} {NUM} (.*)", line)
-    if not found:
-        return None
-    word, win, wid, rest = found[1], int(found[2]), int(found[3]), found[4]
-    shapes = {"ins": rf"{NUM} (char|item) {QUOTED}", "del": NUM, "rel": rf"{NUM} {QUOTED}", "set": r"(on|off|0|-?[1-9]\d*)"}
-    parts = re.fullmatch(shapes[word], rest)
-    if not parts:
-        return None
-    if word in ("ins", "rel"):
+class Commands:
+    """The commands of a user, a line each."""
+
+    longest_label = 48
+
+    def batch_count(self, line):
+        """How many commands a line begins a batch of, or None where it begins none."""
+        found = re.fullmatch(r"batch (\d|[1-5]\d|6[0-4])", line)
+        return int(found[1]) if found else None
+
+    def read(self, line):
+        """A command's word, its ids, its place or setting, the kind of its value, and its value; or None."""
+        found = re.fullmatch(rf"(ins|del|rel|set) {NUM} {NUM} (.*)", line)
+        parts = found and re.fullmatch(SHAPES[found[1]], found[4])
+        if not parts or max(int(found[2]), int(found[3])) > 65_535:
+            return None
+        word, win, wid = found[1], int(found[2]), int(found[3])
+        if word == "set":
+            is_in_range = parts[1] in ("on", "off") or -(2**31) <= int(parts[1]) < 2**31
+            return (word, win, wid, parts[1], None, None) if is_in_range else None
+        if int(parts[1]) >= 2**32:
+            return None
+        if word == "del":
+            return word, win, wid, int(parts[1]), None, None
         value, kind = unquoted(parts[parts.lastindex]), parts[2] if word == "ins" else "item"
-        is_good = value is not None and (len(value) == 1 if kind == "char" else re.fullmatch(r"[ -~]{1,48}", value))
-        return (word, win, wid, int(parts[1]), kind, value) if is_good else None
-    return word, win, wid, parts[1] if word == "set" else int(parts[1]), None, None
+        return (word, win, wid, int(parts[1]), kind, value) if value is not None and self.is_value(kind, value) else None
+
+    def is_value(self, kind, value):
+        return len(value) == 1 if kind == "char" else bool(re.fullmatch(rf"[ -~]{{1,{self.longest_label}}}", value))

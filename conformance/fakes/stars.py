@@ -1,0 +1,241 @@
+"""A server in plain Python: a star of sites, and a session for each link."""
+import socket
+import threading
+import time
+
+from boards import Board, Fault
+from ends import End, Transforms
+from reading import Gathering, Grammar, Lines
+
+# How many sites are attached at most, and how many pongs may be owed to one.
+MOST_SITES, MOST_PONGS = 64, 1024
+# How long a session is read on after its last line, and how long it may be silent then, in seconds; and how many bytes of it are read.
+READS_ON, SILENT, READ_ON = 10, 1, 4 * 2**20
+
+
+class Seat:
+    """An attached site: its end of the link, and what waits to be written to it."""
+
+    def __init__(self, site, end):
+        self.site, self.end, self.insertions = site, end, 0
+        self.waiting, self.pongs, self.is_over, self.bell = [], 0, False, threading.Condition()
+
+    def put(self, text, pongs=0):
+        """Puts lines behind what waits already, among them so many pongs."""
+        with self.bell:
+            self.waiting.append(text)
+            self.pongs += pongs
+            self.bell.notify_all()
+
+    def is_owed_too_much(self):
+        return self.pongs >= MOST_PONGS
+
+    def waits_for_pongs(self):
+        """Waits while as many pongs are owed as may be."""
+        with self.bell:
+            while self.is_owed_too_much() and not self.is_over:
+                self.bell.wait()
+
+    def ends(self):
+        with self.bell:
+            self.is_over = True
+            self.bell.notify_all()
+
+    def loses(self):
+        """What waits is lost, since the site was detached."""
+        with self.bell:
+            self.waiting.clear()
+
+    def next(self):
+        """All that waits, as one text, and how many pongs are owed then; the empty text once all is over."""
+        with self.bell:
+            while not self.waiting and not self.is_over:
+                self.bell.wait()
+            text, self.waiting = "".join(f"{it}\n" for it in self.waiting), []
+            return text, self.pongs
+
+    def has_written(self, pongs):
+        with self.bell:
+            self.pongs -= pongs
+            self.bell.notify_all()
+
+
+class Star:
+    """The board, and the sites that edit it."""
+
+    transforms, board, seat, end = Transforms, Board, Seat, End
+
+    def __init__(self, layout, limit):
+        self.board, self.limit = self.board(), limit
+        self.seats, self.joined, self.taken, self.lock = {}, 0, 0, threading.Lock()
+        for line in layout:
+            self.board.read_line(line)
+
+    def join(self):
+        """A new seat; what waits there first is the greeting."""
+        with self.lock:
+            if len(self.seats) >= MOST_SITES:
+                raise Fault(30)
+            self.joined += 1
+            seat = self.seats[self.joined] = self.seat(self.joined, self.end(False, self.transforms()))
+            seat.put("\n".join([f"welcome {seat.site} {self.limit}", *self.board.lines(), "ready"]))
+            return seat
+
+    def leave(self, seat):
+        with self.lock:
+            self.seats.pop(seat.site, None)
+
+    def take(self, seat, mine, heard, ops):
+        """Moves an edit past what its site had not received, does it, and tells the others."""
+        with self.lock:
+            try:
+                moved = seat.end.receive(mine, heard, ops)
+                self.check(seat, ops)
+                self.do(seat, ops, moved)
+            except Fault:
+                seat.loses()
+                raise
+            self.tell(seat, moved)
+            self.pay(seat)
+
+    def check(self, seat, ops):
+        """Refuses an edit for what it says, before it is moved."""
+        if any(it.verb == "no" for it in ops):
+            raise Fault(24)
+        names = [it.name for it in ops if it.verb == "ins"]
+        if names != [(seat.site, seat.insertions + 1 + at) for at in range(len(names))]:
+            raise Fault(22)
+        if self.taken >= self.limit:
+            raise Fault(32)
+
+    def do(self, seat, ops, moved):
+        self.board.apply_all(moved)
+        self.taken += 1
+        seat.insertions += sum(it.verb == "ins" for it in ops)
+
+    def tell(self, seat, moved):
+        for other in self.others(seat):
+            other.put(other.end.message(moved))
+
+    def others(self, seat):
+        """Those who are told of an edit of this site."""
+        return [it for it in self.seats.values() if it is not seat]
+
+    def pay(self, seat):
+        owed = seat.end.owes()
+        if owed:
+            seat.put(owed)
+
+    def ping(self, seat, count):
+        with self.lock:
+            seat.put(f"pong {count}", pongs=1)
+
+    def take_ack(self, seat, count):
+        with self.lock:
+            try:
+                seat.end.take_ack(count)
+            except Fault:
+                seat.loses()
+                raise
+
+
+class Session:
+    """One link: this thread reads, and one more writes."""
+
+    grammar = Grammar
+
+    def __init__(self, star, connection):
+        self.star, self.connection, self.seat, self.writer = star, connection, None, None
+        self.lines, self.gathering, self.grammar = Lines(connection), Gathering(), self.grammar()
+
+    def serve(self):
+        ending = "bye"
+        try:
+            while (line := self.lines.next()) is not None and self.goes_on(line):
+                pass
+        except Fault as fault:
+            ending = f"error {fault.number}"
+        except OSError:
+            pass  # the peer has gone
+        self.end(ending)
+
+    def goes_on(self, line):
+        """Whether the session goes on behind this line."""
+        message = self.gathering.take(*self.grammar.read(line))
+        return not message or self.hears(*message)
+
+    def hears(self, word, rest):
+        """Whether the session goes on behind this message."""
+        if not self.seat:
+            if word != "hello":
+                raise Fault(44)
+            self.join()
+        elif word == "batch":
+            self.star.take(self.seat, *rest)
+        elif word == "ack":
+            self.star.take_ack(self.seat, rest[0])
+        elif word == "ping":
+            self.seat.waits_for_pongs()
+            self.star.ping(self.seat, rest[0])
+        elif word != "bye":
+            raise Fault(44)
+        return word != "bye"
+
+    def join(self):
+        self.seat = self.star.join()
+        self.seat.link = self
+        self.writer = threading.Thread(target=self.write, daemon=True)
+        self.writer.start()
+
+    def write(self):
+        """Writes what waits for the site, until all is over."""
+        try:
+            while True:
+                text, pongs = self.seat.next()
+                if not text:
+                    return
+                self.send(text)
+                self.seat.has_written(pongs)
+        except OSError:
+            self.seat.ends()  # the peer has gone, and the reading thread will know
+
+    def send(self, text):
+        self.connection.sendall(text.encode("latin-1"))
+
+    def end(self, ending):
+        """Writes what is left and the last line, and reads on so that it arrives."""
+        if self.seat:
+            self.star.leave(self.seat)
+            self.seat.ends()
+            self.writer.join()
+        try:
+            self.send(f"{ending}\n")
+            self.connection.shutdown(socket.SHUT_WR)
+            self.read_on()
+        except OSError:
+            pass  # the peer has gone
+        self.connection.close()
+
+    def read_on(self):
+        begun, count = time.monotonic(), 0
+        self.connection.settimeout(SILENT)
+        while self.may_read_on(time.monotonic() - begun, count) and (data := self.connection.recv(65536)):
+            count += len(data)
+
+    def may_read_on(self, seconds, count):
+        return seconds < READS_ON and count < READ_ON
+
+
+def serve(listener, star, session, most=2**32):
+    """Takes so many links, or until the listener is closed. It ends once these have ended."""
+    threads = []
+    while len(threads) < most:
+        try:
+            connection = listener.accept()[0]
+        except OSError:
+            break
+        connection.setsockopt(socket.IPPROTO_TCP, socket.TCP_NODELAY, 1)
+        threads.append(threading.Thread(target=session(star, connection).serve, daemon=True))
+        threads[-1].start()
+    for thread in threads:
+        thread.join()

@@ -1,0 +1,225 @@
+"""Clients that are wrong on purpose, each in one way: a part of the right one with one thing turned."""
+from boards import Board, Fault
+from ends import End, Transforms
+from reading import Commands, Grammar
+from sites import Client
+from wrong_servers import CountsOperations, GridOfOnes, NeverAcknowledges, QueueKept, TextOrder, TieTurned, ZerosRead
+
+
+class TieBySite(Transforms):
+    """Of two insertions at one place that of the higher site stands left."""
+
+    def is_client_left(self, c, s):
+        return c.name[0] > s.name[0]
+
+
+class QueueMovedOnce(End):
+    """What is queued is moved past the first edit that comes, and past none behind it."""
+
+    has_moved = False
+
+    def past_queue(self, ops):
+        kept = list(self.queue)
+        ops = super().past_queue(ops)
+        if self.has_moved:
+            self.queue = kept
+        self.has_moved = bool(kept)
+        return ops
+
+
+class PastTwenty(End):
+    """An edit is moved past the first 20 of the queue alone."""
+
+    def turns(self):
+        return range(min(20, len(self.queue)))
+
+
+class ManyIds(Board):
+    """There may be more than 64 windows, and widgets of a window."""
+
+    def is_full(self, taken):
+        return False
+
+
+class TakenNames(Board):
+    """An item is put in under a name that its sequence has."""
+
+    def holds(self, widget, name):
+        return False
+
+
+class NamesOfEachWidget(Board):
+    """A batch may insert a name in two widgets."""
+
+    def no_name_twice(self, ops):
+        for wid in {(it.win, it.wid) for it in ops}:
+            super().no_name_twice([it for it in ops if (it.win, it.wid) == wid])
+
+
+class LongLabels(Commands):
+    """A label has up to 49 bytes."""
+
+    longest_label = 49
+
+
+class Echoes(Client):
+    """It shows an insertion of its own twice."""
+
+    def one(self, *command):
+        op = super().one(*command)
+        if op.verb == "ins":
+            items = self.board.windows[op.win][op.wid].items
+            items.insert(op.place, items[op.place])
+        return op
+
+
+class TellsLate(Client):
+    """A fault is told where the user quits."""
+
+    noted = None
+
+    def takes_line(self):
+        try:
+            return super().takes_line()
+        except Fault as fault:
+            if fault.number == 43:
+                raise
+            self.noted = self.noted or fault
+            return False
+
+    def leave(self):
+        if self.noted:
+            raise self.noted
+        super().leave()
+
+
+class NamesUsedUp(Client):
+    """The insertions of an edit that was refused use numbers."""
+
+    def forget(self, insertions):
+        pass
+
+
+class NoBacklog(Client):
+    """As many edits as one likes are not acknowledged."""
+
+    most_unacknowledged = 2**32
+
+
+class BacklogOfOneMore(Client):
+    """1,025 edits may not be acknowledged."""
+
+    most_unacknowledged = 1025
+
+
+class NeverSpent(Client):
+    """It makes more edits than the limit."""
+
+    def is_spent(self):
+        return False
+
+
+class NeverFull(Client):
+    """It inserts into a sequence of whatever length."""
+
+    def is_full(self, widget):
+        return False
+
+
+class AnySite(Client):
+    """It takes whatever number, and a board that has items of it."""
+
+    def check_greeting(self):
+        pass
+
+
+class ShowsEarly(Client):
+    """It takes in what has come before it does a command."""
+
+    def does(self, line):
+        while self.lines.is_there():
+            self.takes_line()
+        return super().does(line)
+
+
+class AcknowledgesLate(Client):
+    """It acknowledges at the end of a sync alone."""
+
+    def pay(self):
+        pass
+
+    def has_synced(self):
+        super().pay()
+
+
+class IgnoresUnknown(Client):
+    """It says nothing of a line that is no command."""
+
+    def does_edit(self, commands, line):
+        answer = super().does_edit(commands, line)
+        return None if answer == "bad command" else answer
+
+
+class CountsBeforeReading(Client):
+    """It refuses a batch for its length before it has looked at its lines."""
+
+    def does_edit(self, commands, line):
+        try:
+            self.refuse_length(commands)
+        except Fault as fault:
+            return f"refused {fault.number}"
+        return super().does_edit(commands, line)
+
+
+class SpentFirst(Client):
+    """It refuses what is one too many before it has looked at the commands."""
+
+    def refuse_length(self, commands):
+        super().refuse_length(commands)
+        self.refuse_more()
+
+
+class DelaysBye(Client):
+    """It ends with what the server tells it once it has said `bye`."""
+
+    def leave(self):
+        self.send("bye")
+        self.tell("bye")
+        while self.next()[1] != "bye":
+            pass
+
+
+def of(**parts):
+    return type("WrongClient", (Client,), parts)
+
+
+WAYS = {
+    "tie": of(transforms=TieTurned),
+    "tie-by-site": of(transforms=TieBySite),
+    "grid": of(transforms=GridOfOnes),
+    "no-ack": of(end=NeverAcknowledges),
+    "queue-once": of(end=QueueMovedOnce),
+    "queue-kept": of(end=QueueKept),
+    "heard-operations": of(end=CountsOperations),
+    "twenty": of(end=PastTwenty),
+    "text-order": of(board=TextOrder),
+    "many-ids": of(board=ManyIds),
+    "taken-names": of(board=TakenNames),
+    "names-of-each-widget": of(board=NamesOfEachWidget),
+    "zeros": of(grammar=ZerosRead),
+    "labels": of(commands=LongLabels),
+    "echo": Echoes,
+    "late": TellsLate,
+    "names-used-up": NamesUsedUp,
+    "no-backlog": NoBacklog,
+    "backlog": BacklogOfOneMore,
+    "never-spent": NeverSpent,
+    "never-full": NeverFull,
+    "any-site": AnySite,
+    "shows-early": ShowsEarly,
+    "late-ack": AcknowledgesLate,
+    "unknown": IgnoresUnknown,
+    "length-first": CountsBeforeReading,
+    "spent-first": SpentFirst,
+    "error-after-bye": DelaysBye,
+}

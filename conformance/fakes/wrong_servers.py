@@ -1,0 +1,286 @@
+"""Servers that are wrong on purpose, each in one way: a part of the right one with one thing turned."""
+import contextlib
+import re
+import time
+
+from boards import LONGEST, Board, Fault
+from ends import End, Transforms
+from reading import Grammar
+from stars import Seat, Session, Star
+
+
+class TieTurned(Transforms):
+    """Of two insertions at one place the earlier stands left."""
+
+    def is_client_left(self, c, s):
+        return False
+
+
+class WindowIgnored(Transforms):
+    """Two widgets are one where their ids are, in whatever windows."""
+
+    def are_one_widget(self, one, other):
+        return (one.wid, one.kind) == (other.wid, other.kind)
+
+
+class NumbersAlone(Transforms):
+    """Two items are one where their numbers are, of whatever sites."""
+
+    def are_one_item(self, one, other):
+        return one.name[1] == other.name[1]
+
+
+class SitesAlone(Transforms):
+    """Two items are one where their sites are, under whatever numbers."""
+
+    def are_one_item(self, one, other):
+        return one.name[0] == other.name[0]
+
+
+class GridOfOnes(Transforms):
+    """Each operation of a batch is moved past the other's as that was first, and not as it then stands."""
+
+    def grid(self, client, server):
+        moved = [self.row(it, server) for it in client]
+        return moved, [self.column(client, it) for it in server]
+
+    def row(self, op, server):
+        for other in server:
+            op = self.pair(op, other)[0]
+        return op
+
+    def column(self, client, op):
+        for other in client:
+            op = self.pair(other, op)[1]
+        return op
+
+
+class NeverAcknowledges(End):
+    """It owes no acknowledgement."""
+
+    def owes(self):
+        return None
+
+
+class PastAHundred(End):
+    """An edit is moved past the first 100 of the queue alone."""
+
+    def turns(self):
+        return range(min(100, len(self.queue)))
+
+
+class NewestFirst(End):
+    """An edit is moved past the newest of the queue first."""
+
+    def turns(self):
+        return reversed(range(len(self.queue)))
+
+
+class QueueKept(End):
+    """What is queued stays as it was first."""
+
+    def past_one(self, at, ops):
+        kept = self.queue[at]
+        ops = super().past_one(at, ops)
+        self.queue[at] = kept
+        return ops
+
+
+class CountsOperations(End):
+    """It tells how many operations it has received, and not how many edits."""
+
+    operations = 0
+
+    def count(self, ops):
+        super().count(ops)
+        self.operations += len(ops)
+
+    def heard_count(self):
+        return self.operations
+
+
+class YieldsWithin(End):
+    """It gives way between its steps."""
+
+    def message(self, ops):
+        number, heard = self.sent, self.heard_count()
+        self.queue.append(ops)
+        time.sleep(0.001)
+        self.sent, self.owed = number + 1, 0
+        return "\n".join([f"batch {number} {heard} {len(ops)}", *(f"do {it}" for it in ops)])
+
+
+class HalfApplied(Board):
+    """What is refused within an edit leaves what stood before it."""
+
+    def put_back(self, before):
+        pass
+
+
+class NumbersHeld(Board):
+    """A sequence has a name where it has its number, of whatever site."""
+
+    def holds(self, widget, name):
+        return any(count == name[1] for _, count in widget.names)
+
+
+class TextOrder(Board):
+    """Ids are in the order of texts: 10 before 2."""
+
+    def in_order(self, ids):
+        return sorted(ids, key=str)
+
+
+class LongRefused(Board):
+    """A text or a list that has 65,536 items takes no more."""
+
+    def apply(self, op):
+        widget = self.windows.get(op.win, {}).get(op.wid)
+        if op.verb == "ins" and widget and len(widget.items) >= LONGEST:
+            raise Fault(6)
+        super().apply(op)
+
+
+class NoBoundOfPongs(Seat):
+    """As many pongs as one likes are owed."""
+
+    def is_owed_too_much(self):
+        return False
+
+
+class WritesWhileLocked(Seat):
+    """Its lines are written where they are put, and the star waits for that."""
+
+    def put(self, text, pongs=0):
+        if hasattr(self, "link"):
+            with contextlib.suppress(OSError):
+                self.link.send(f"{text}\n")
+        else:
+            super().put(text, pongs)
+
+
+class Echoes(Star):
+    """It tells a site its own edits."""
+
+    def others(self, seat):
+        return list(self.seats.values())
+
+
+class NoLock(Star):
+    """Its calls run at once, and give way between their steps."""
+
+    end = YieldsWithin
+
+    def __init__(self, layout, limit):
+        super().__init__(layout, limit)
+        self.lock = contextlib.nullcontext()
+
+    def do(self, seat, ops, moved):
+        time.sleep(0.001)
+        super().do(seat, ops, moved)
+
+
+class ZerosRead(Grammar):
+    """007 is read as 7."""
+
+    def read(self, line):
+        return super().read(re.sub(r"(?<![\w.])0+(?=\d)", "", line))
+
+
+class PlacesCut(Grammar):
+    """Places are cut to 16 bits."""
+
+    def read_op(self, rest):
+        op = super().read_op(rest)
+        op.place &= 0xFFFF
+        return op
+
+
+class TellsLate(Session):
+    """A fault is told where the site ends."""
+
+    noted = None
+
+    def goes_on(self, line):
+        try:
+            return super().goes_on(line)
+        except Fault as fault:
+            self.noted = self.noted or fault
+            return True
+
+    def end(self, ending):
+        super().end(f"error {self.noted.number}" if self.noted else ending)
+
+
+class ReadsForEver(Session):
+    """It reads a link on until that has been silent for a second, or has sent 4 MiB."""
+
+    def may_read_on(self, seconds, count):
+        return super().may_read_on(0, count)
+
+
+class ReadsAll(Session):
+    """It reads a link on for as long as something comes."""
+
+    def may_read_on(self, seconds, count):
+        return super().may_read_on(0, 0)
+
+
+class LosesWhoIsSlow(Session):
+    """A write that takes two seconds fails."""
+
+    def send(self, text):
+        self.connection.settimeout(2)
+        try:
+            super().send(text)
+        finally:
+            self.connection.settimeout(None)
+
+
+class EndsWithBye(Session):
+    """It says `bye` to a site that has said it, whatever was refused before."""
+
+    def goes_on(self, line):
+        try:
+            return super().goes_on(line)
+        except Fault:
+            if self.lines.is_there():
+                return self.lines.next() not in ("bye", None)
+            raise
+
+
+def of_star(**parts):
+    return type("WrongStar", (Star,), parts), Session
+
+
+def of_grammar(grammar):
+    return Star, type("WrongSession", (Session,), {"grammar": grammar})
+
+
+WAYS = {
+    "tie": of_star(transforms=TieTurned),
+    "window": of_star(transforms=WindowIgnored),
+    "numbers": of_star(transforms=NumbersAlone),
+    "sites": of_star(transforms=SitesAlone),
+    "grid": of_star(transforms=GridOfOnes),
+    "no-ack": of_star(end=NeverAcknowledges),
+    "hundred": of_star(end=PastAHundred),
+    "reverse": of_star(end=NewestFirst),
+    "queue-kept": of_star(end=QueueKept),
+    "heard-operations": of_star(end=CountsOperations),
+    "half": of_star(board=HalfApplied),
+    "numbers-held": of_star(board=NumbersHeld),
+    "text-order": of_star(board=TextOrder),
+    "long": of_star(board=LongRefused),
+    "pongs": of_star(seat=NoBoundOfPongs),
+    "locked-write": of_star(seat=WritesWhileLocked),
+    "echo": (Echoes, Session),
+    "no-lock": (NoLock, Session),
+    "zeros": of_grammar(ZerosRead),
+    "places": of_grammar(PlacesCut),
+    "late": (Star, TellsLate),
+    "reads-on": (Star, ReadsForEver),
+    "reads-all": (Star, ReadsAll),
+    "slow-lost": (Star, LosesWhoIsSlow),
+    "bye-first": (Star, EndsWithBye),
+}

@@ -1,0 +1,264 @@
+"""The mode that plays: clients edit one board at random, and the kit decides by a seed which line passes when."""
+import contextlib
+import random
+import re
+import shlex
+import socket
+import subprocess
+import time
+import typing
+
+import material
+from links import Differs, Lines, address_bound, free_address
+from relay import OwnClient, OwnServer, Relay
+
+LIMIT = 1_000_000
+# The board that a server opens with that the kit starts: each kind of widget, under the same ids in two windows.
+LAYOUT = material.Board(
+    [
+        "window 1",
+        'text 1 "abc"',
+        'list 2 "p" "q" "r"',
+        "toggle 3 off",
+        "slider 4 0 9 5",
+        "window 2",
+        'text 1 "xyz"',
+        'list 2 "s"',
+        "toggle 3 on",
+        "slider 4 -5 5 0",
+        'text 5 ""',
+    ]
+).lines
+QUOTED = re.compile(r'"((?:[^"\\]|\\.)*)"')
+LETTER = re.compile(r"\\u\{\w+\}|\\.|[^\\]")
+# How often each kind of step comes.
+KINDS = {"edit": 8, "up": 5, "sync": 3, "down": 5}
+# How long a sequence may get before more is deleted than inserted, and how many commands a batch has at most.
+LONG, MOST_COMMANDS = 7, 4
+# How many of the commands are of the widgets that a run is about, and how many of its steps up a slow client takes.
+MOSTLY, SLOW = 0.7, 0.3
+# How many places are within their sequence.
+FITS = 0.93
+
+
+class Widget:
+    """A widget that a client shows: its ids, its kind, how many items it has, and its bounds."""
+
+    def __init__(self, win, row):
+        self.win, self.kind, self.wid, self.rest = win, *(row.split(" ", 2) + [""])[:3]
+        texts = QUOTED.findall(self.rest) if self.kind in ("text", "list") else []
+        self.length = len(LETTER.findall(texts[0])) if self.kind == "text" else len(texts)
+
+    def command(self, pick):
+        """A command, most often one that fits; the widget is then as it will be behind it."""
+        ids = f"{self.win} {self.wid}"
+        if self.kind == "toggle":
+            return f"set {ids} {pick.choice(('on', 'off'))}"
+        if self.kind == "slider":
+            low, high, _ = map(int, self.rest.split(" "))
+            return f"set {ids} {pick.randint(low, high)}"
+        place = pick.randint(0, self.length) if pick.random() < FITS else self.length + 1
+        letter = pick.choice("abcdefghijklmnopqrstuvwxyz")
+        if self.length == 0 or pick.random() < (0.3 if self.length > LONG else 0.55):
+            self.length += 1
+            return f'ins {ids} {place} {"char" if self.kind == "text" else "item"} "{letter}"'
+        place = min(place, self.length - 1) if place <= self.length else place
+        if self.kind == "list" and pick.random() < 0.5:
+            return f'rel {ids} {place} "{letter}"'
+        self.length -= 1
+        return f"del {ids} {place}"
+
+
+def widgets_in(board):
+    win = None
+    for row in board:
+        if row.startswith("window "):
+            win = row.split(" ")[1]
+        else:
+            yield Widget(win, row)
+
+
+def commands_for(board, step):
+    """One edit of a board: a command, or the commands of a batch. Most are of the widgets that the run is about."""
+    pick = random.Random(step.choice)
+    widgets = list(widgets_in(board))
+    wid = widgets[int(step.about * len(widgets))].wid
+    about = [it for it in widgets if it.wid == wid]
+    count = 1 if pick.random() < 0.5 else pick.randint(2, MOST_COMMANDS)
+    return [pick.choice(about if pick.random() < MOSTLY else widgets).command(pick) for _ in range(count)]
+
+
+class Step(typing.NamedTuple):
+    """A step of a run: its kind, the number of its client, and from what the kit chooses the widgets and what it types."""
+
+    kind: str
+    who: int
+    about: float
+    choice: float
+
+
+def steps_for(seed, clients):
+    """The steps of a run. One of its clients is slow: what it sends waits longer."""
+    pick = random.Random(seed)
+    about, slow = pick.random(), pick.randrange(clients)
+    kinds = pick.choices(list(KINDS), KINDS.values(), k=pick.randint(40, 100) * clients)
+    steps = [Step(kind, pick.randrange(clients), about, pick.random()) for kind in kinds]
+    return [it for it in steps if it.kind != "up" or it.who != slow or it.choice < SLOW]
+
+
+class Stage:
+    """What a run is played by: the command lines of the clients, and the server."""
+
+    def __init__(self, clients, own, command, server):
+        self.clients, self.command, self.server = clients, command, server
+        self.own = clients if not command else own
+
+    def starts(self):
+        """For each client, the last of them for who joins late, its words and what starts it."""
+        given = [(self.command, subprocess.Popen)] * (self.clients - self.own)
+        owns = [(["{}"], OwnClient)] * self.own
+        return [*given, *owns, (owns or given)[0]]
+
+    @contextlib.contextmanager
+    def address(self):
+        """Where the server listens, and the lines that it prints, or None where it was not started by a command."""
+        if self.server and " " not in self.server:
+            yield self.server, None
+        elif self.server:
+            with self.started() as process:
+                printed, told = Lines(process.stdout), Lines(process.stderr)
+                listening = printed.next("'listening', printed by the server,")
+                if not listening.startswith("listening "):
+                    raise Differs(f"'listening' was due, and the server printed {listening!r}")
+                yield address_bound(listening, told), printed
+        else:
+            with socket.create_server(("127.0.0.1", 0), backlog=64) as listener:
+                OwnServer(listener, LAYOUT, LIMIT)
+                yield "127.0.0.1:%d" % listener.getsockname()[1], None
+                listener.shutdown(socket.SHUT_RDWR)
+
+    @contextlib.contextmanager
+    def started(self):
+        """The process of the server, which has read its layout. It is stopped at the end of the `with`."""
+        values = {"{}": free_address(), "{limit}": str(LIMIT), "{sessions}": str(self.clients + 1)}
+        words = [values.get(it, it) for it in shlex.split(self.server)]
+        try:
+            process = subprocess.Popen(words, stdin=subprocess.PIPE, stdout=subprocess.PIPE, stderr=subprocess.PIPE)
+        except OSError as fault:
+            raise Differs(f"the server cannot be started: {fault}") from None
+        with process:
+            try:
+                with contextlib.suppress(OSError):  # one that has ended says so by what it prints
+                    process.stdin.write("".join(f"{it}\n" for it in LAYOUT).encode())
+                    process.stdin.close()
+                yield process
+            finally:
+                process.kill()
+
+
+class Run:
+    """One run: its clients, and what happened so far."""
+
+    def __init__(self, stage, steps):
+        self.stage, self.steps, self.log, self.relays = stage, steps, [], []
+
+    def differs(self):
+        """Plays the run, and answers what differs from what is due, or None."""
+        try:
+            with self.stage.address() as (address, printed):
+                try:
+                    self.play(address, printed)
+                finally:
+                    for relay in self.relays:
+                        relay.stop()
+        except Differs as differs:
+            return str(differs)
+        return None
+
+    def play(self, address, printed):
+        *starts, late = self.stage.starts()
+        for number, start in enumerate(starts):
+            self.joins(f"client {number + 1}", start, address)
+        for step in self.steps:
+            self.does(step, self.relays[step.who])
+        self.log.append("all that waits is passed, and every client syncs")
+        for relay in self.relays * 2:
+            relay.settle()
+        self.joins("the late joiner", late, address)
+        boards = [(it.name, it.show()) for it in self.relays]
+        for relay in self.relays:
+            relay.quit()
+        if printed:
+            printed.next("'order', printed by the server,")
+            boards.append(("the server", [printed.next("a line of the server's board") for _ in boards[0][1]]))
+        are_equal(boards)
+
+    def joins(self, name, start, address):
+        self.relays.append(Relay(name, *start, address, self.log))
+        self.relays[-1].greet()
+
+    def does(self, step, relay):
+        if step.kind != "edit":
+            getattr(relay, step.kind)()
+        elif not relay.is_syncing:
+            relay.edit(commands_for(relay.show(), step))
+
+
+def are_equal(boards):
+    """All boards are as the first."""
+    first, wanted = boards[0]
+    for name, board in boards[1:]:
+        for due, found in zip(wanted, board):
+            if due != found:
+                raise Differs(f"{first} shows {due!r}, and {name} {found!r}")
+
+
+def shortest(stage, steps, until):
+    """The shortest run that is found until then, of those that leave steps out and fail: its log, and what differs."""
+    run = Run(stage, steps)
+    found = run.log, run.differs(), steps
+    size = max(1, len(steps) // 2)
+    while size and time.monotonic() < until:
+        found, was_shorter = shorter(stage, found, size, until)
+        size = min(size, len(found[2])) if was_shorter and size > 1 else size // 2
+    return found[:2]
+
+
+def shorter(stage, found, size, until):
+    """Leaves out so many steps at a time, from the end on, where the run still fails."""
+    at, was_shorter = len(found[2]), False
+    while at > 0 and time.monotonic() < until:
+        at = max(0, at - size)
+        left = found[2][:at] + found[2][at + size :]
+        run = Run(stage, left)
+        differs = run.differs()
+        if differs:
+            found, was_shorter = (run.log, differs, left), True
+    return found, was_shorter
+
+
+def play(stage, seed, seconds):
+    """Plays runs of one seed after another, for so long. The first that fails is told, in the shortest form that is found in as long again."""
+    begun = time.monotonic()
+    count = 0
+    while not count or time.monotonic() - begun < seconds:
+        steps = steps_for(seed + count, stage.clients)
+        run = Run(stage, steps)
+        differs = run.differs()
+        if differs:
+            tell_failure(stage, seed + count, steps, (run.log, differs), seconds)
+            print(f"{count} passed, 1 failed")
+            return 1
+        count += 1
+    print(f"play: {stage.clients} clients, seeds {seed} to {seed + count - 1}: all boards were equal at the end of each run")
+    print(f"{count} passed, 0 failed")
+    return 0
+
+
+def tell_failure(stage, seed, steps, first, seconds):
+    log, differs = shortest(stage, steps, time.monotonic() + seconds)
+    if not differs:
+        print(f"play: seed {seed}: the run failed, and did not when it was played again: {first[1]}")
+        log, differs = first
+    print(f"play: seed {seed}: {differs}. The shortest run that was found:")
+    print("\n".join(f"  {it}" for it in log))

@@ -1,0 +1,218 @@
+"""What stands between a client and a server while the kit plays: what each of the two sent waits here until it is passed on."""
+import collections
+import contextlib
+import os
+import socket
+import sys
+import threading
+
+import material
+from links import END, Client, Differs, Link
+
+sys.path.append(f"{material.HERE}/fakes")
+import sites  # noqa: E402
+import stars  # noqa: E402
+
+# The kit's own pings begin behind this number. A client's own are counted from 1.
+OWN_PINGS = 4_000_000_000
+# How many edits an end receives before it owes an acknowledgement.
+OWES = 64
+
+
+class Messages:
+    """The messages that lines come to: an edit has several."""
+
+    def __init__(self):
+        self.lines, self.missing = [], 0
+
+    def push(self, line):
+        """The message that this line ends, as its lines; None within one."""
+        self.missing = int(line.split(" ")[3]) if line.startswith("batch ") else max(0, self.missing - 1)
+        self.lines.append(line)
+        if self.missing:
+            return None
+        message, self.lines = self.lines, []
+        return message
+
+
+class Relay:
+    """A client, the server's end of its link and the client's end of the server's, and the messages that wait between them."""
+
+    def __init__(self, name, words, start, address, log):
+        self.name, self.log, self.server = name, log, Link.to(address)
+        self.client = Client(words, start)
+        self.ups, self.downs, self.from_server = collections.deque(), collections.deque(), Messages()
+        # The number of the client's last ping, whether its pong has still to come, and of the kit's own last one.
+        self.pings, self.is_syncing, self.own_pings = 0, False, 0
+        # Whether all is passed that waits, at the end: what that takes of pings is not told.
+        self.is_settling = False
+        # How many edits were passed down since the client took any, and how many it took since it sent one or acknowledged.
+        self.passed, self.taken = 0, 0
+
+    def says(self, text):
+        if not self.is_settling or not text.startswith(("types sync", "sends ping", "is told pong")):
+            self.log.append(f"{self.name} {text}")
+
+    def greet(self):
+        """Passes the greeting and the board at once."""
+        self.client.link.lines.are_next("hello 3")
+        self.server.send_lines("hello 3")
+        lines = []
+        while not lines or lines[-1] != "ready":
+            lines.append(self.of_server("'ready'"))
+        self.client.link.send_lines(*lines)
+        self.height = sum(it.split(" ", 1)[0] in material.BOARD_WORDS for it in lines)
+        self.prints(f"site {lines[0].split(' ')[1]}")
+        self.says(f"joins as site {lines[0].split(' ')[1]}")
+
+    def of_server(self, due):
+        """The next line of the server, which has no cause to end."""
+        line = self.server.lines.next(due)
+        if line == END or line == "bye" or line.startswith("error "):
+            raise Differs(f"{due} was due to {self.name}, and the server told it {line!r}")
+        return line
+
+    def prints(self, due):
+        found = self.client.printed.next(f"{due!r}, printed by {self.name},")
+        if found != due:
+            raise Differs(f"{due!r} was due, and {self.name} printed {found!r}")
+
+    def collect(self):
+        """Asks the server by a ping whether all has come that it has for this client."""
+        self.own_pings += 1
+        pong = f"pong {OWN_PINGS + self.own_pings}"
+        self.server.send_lines(f"ping {OWN_PINGS + self.own_pings}")
+        while (line := self.of_server(repr(pong))) != pong:
+            message = self.from_server.push(line)
+            if message:
+                self.downs.append(message)
+
+    def show(self):
+        """What the client shows, as it is printed."""
+        self.client.types("show\n")
+        return [self.client.printed.next(f"a line of the board of {self.name}") for _ in range(self.height)]
+
+    def edit(self, commands):
+        """Types the commands as one edit. What the client makes of them waits to be passed."""
+        lines = commands if len(commands) == 1 else [f"batch {len(commands)}", *commands]
+        self.client.types("".join(f"{it}\n" for it in lines))
+        answer = self.client.printed.next(f"'made' or 'refused', printed by {self.name},")
+        self.says(f"types {' / '.join(lines)}: {answer}")
+        if answer.startswith("made "):
+            self.ups.append(self.of_client("batch "))
+            self.taken = 0
+        elif not answer.startswith("refused "):
+            raise Differs(f"'made' or 'refused' was due, and {self.name} printed {answer!r}")
+
+    def of_client(self, word):
+        """The next message of the client, which begins so."""
+        messages, message = Messages(), None
+        while not message:
+            message = messages.push(self.client.link.lines.next(f"{word!r} of {self.name}"))
+        if not message[0].startswith(word):
+            raise Differs(f"{word!r} was due, and {self.name} sent {message[0]!r}")
+        return message
+
+    def sync(self):
+        """Types a `sync`, which is over once its pong has been passed."""
+        if not self.is_syncing:
+            self.client.types("sync\n")
+            self.is_syncing, self.pings = True, self.pings + 1
+            self.ups.append(self.of_client(f"ping {self.pings}"))
+            self.says("types sync")
+
+    def up(self):
+        """Passes the oldest message to the server, and waits until that has taken it."""
+        if self.ups:
+            message = self.ups.popleft()
+            self.server.send_lines(*message)
+            self.says(f"sends {' / '.join(message)}")
+            self.collect()
+
+    def down(self):
+        """Passes the oldest message to the client."""
+        self.collect()
+        if self.downs:
+            message = self.downs.popleft()
+            self.tells(message)
+            self.says(f"is told {' / '.join(message)}")
+            self.passed += message[0].startswith("batch ")
+            if message == [f"pong {self.pings}"]:
+                self.has_synced()
+
+    def tells(self, message):
+        try:
+            self.client.link.send_lines(*message)
+        except Differs:
+            raise Differs(f"{self.name} has ended: it printed {self.client.printed.next()!r}") from None
+
+    def has_synced(self):
+        """The client has taken all that was passed, and has acknowledged where it owed that."""
+        self.prints("synced")
+        self.is_syncing, owed = False, (self.taken + self.passed) // OWES
+        self.taken, self.passed = (self.taken + self.passed) % OWES, 0
+        self.ups.extend(self.of_client("ack ") for _ in range(owed))
+
+    def settle(self):
+        """Passes all that waits, and has the client take it."""
+        self.is_settling = True
+        self.pass_all()
+        self.sync()
+        self.pass_all()
+
+    def pass_all(self):
+        self.collect()
+        while self.ups or self.downs:
+            self.up()
+            self.down()
+
+    def quit(self):
+        """Ends the session of the client, which ends well."""
+        self.client.types("quit\n")
+        self.server.send_lines(*self.of_client("bye"))
+        self.server.lines.are_next("bye")
+        self.client.link.send_lines("bye")
+        self.prints("bye")
+        self.server.close()
+        self.client.ends(0)
+
+    def stop(self):
+        self.client.__exit__()
+        self.server.socket.close()
+
+
+class OwnClient:
+    """The kit's own client in a thread, with the streams that a process would have."""
+
+    def __init__(self, words, **_):
+        typed, self.stdin = (open(fd, mode) for fd, mode in zip(os.pipe(), ("r", "wb")))
+        self.stdout, self.tells = (open(fd, mode) for fd, mode in zip(os.pipe(), ("rb", "w")))
+        self.connection, self.status = sites.connected(words[-1]), None
+        self.thread = threading.Thread(target=self.run, args=(typed,), daemon=True)
+        self.thread.start()
+
+    def run(self, typed):
+        lines = (it.removesuffix("\n") for it in iter(typed.readline, ""))
+        with self.connection, typed, self.tells:
+            self.status = sites.Client(self.connection, lines, self.tell).run()
+
+    def tell(self, text):
+        self.tells.write(f"{text}\n")
+        self.tells.flush()
+
+    def kill(self):
+        with contextlib.suppress(OSError):
+            self.stdin.close()
+            self.connection.shutdown(socket.SHUT_RDWR)
+
+    def wait(self, timeout=None):
+        self.thread.join(timeout)
+        return self.status
+
+
+class OwnServer:
+    """The kit's own server in threads of this process."""
+
+    def __init__(self, listener, layout, limit):
+        self.star = stars.Star(layout, limit)
+        threading.Thread(target=stars.serve, args=(listener, self.star, stars.Session), daemon=True).start()

@@ -2,7 +2,7 @@
 ghost use Rattle.std.specs.Prelude.{◌≡◌, ◌⊎◌, ◌≤◌, length, Err, IfOk, IfErr};
 ghost use Rattle.jup_limits.specs.Limits.{longest_input};
 ghost use Rattle.jup_layout.specs.Layouts.{Describes, no_memory};
-ghost use Rattle.jup_board.specs.Bounds.{longest_board};
+ghost use Rattle.jup_limits.specs.Limits.{longest_board};
 ghost use Rattle.jup_board.specs.Layouts.{IsLayoutOfPrinted, IsPrintOfLayout};
 
 use crate::{BoardEnd, read_printed, write_layout};

@@ -19,7 +19,3 @@ pub use layout_text::write_layout;
 pub use program::board_main;
 pub use reading::read_printed;
 pub use words::{Direction, board_words};
-
-/// How many bytes a printed board has that is read: twice those of a layout, since no line of a layout is printed by more than
-/// twice its bytes.
-pub const LONGEST_BOARD: u64 = 33_554_432;

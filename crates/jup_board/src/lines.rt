@@ -1,6 +1,6 @@
 //! The lines of a printed board.
 ghost use Rattle.std.specs.Prelude.{◌+◌, ◌≤◌, length};
-ghost use Rattle.jup_board.specs.Bounds.{longest_board};
+ghost use Rattle.jup_limits.specs.Limits.{longest_board};
 
 use crate::cut::cut_at;
 use crate::{BoardEnd, LineFault};

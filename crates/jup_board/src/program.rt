@@ -1,12 +1,11 @@
 //! The inside of the program.
 ghost use Rattle.std.specs.Prelude.{◌≤◌, IfOk, vec_len};
-ghost use Rattle.jup_limits.specs.Limits.{longest_input};
-ghost use Rattle.jup_board.specs.Bounds.{longest_board};
+ghost use Rattle.jup_limits.specs.Limits.{longest_board, longest_input};
 
 use crate::{
-    Attempt, BoardEnd, Direction, LONGEST_BOARD, board_words, layout_of_printed, printed_of_layout,
+    Attempt, BoardEnd, Direction, board_words, layout_of_printed, printed_of_layout,
 };
-use jup_limits::LONGEST_INPUT;
+use jup_limits::{LONGEST_BOARD, LONGEST_INPUT};
 use std::alloc::Global;
 use std::io;
 use std::io::{Read, Write};

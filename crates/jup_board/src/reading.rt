@@ -1,6 +1,6 @@
 //! A board from the text that it is printed as.
 ghost use Rattle.std.specs.Prelude.{◌≤◌, length, IfOk};
-ghost use Rattle.jup_board.specs.Bounds.{longest_board};
+ghost use Rattle.jup_limits.specs.Limits.{longest_board};
 ghost use Rattle.jup_board.specs.Printed.{IsPrintOf, IsReadTo};
 
 use crate::BoardEnd;

@@ -40,3 +40,23 @@ longest_label = 48
 -- bytes of a script, and of a layout
 abbrev pub longest_input : ℕ
 longest_input = 16777216
+
+-- bytes of a printed board: twice as many as of a layout, since no line of a layout is printed by more than twice its bytes
+abbrev pub longest_board : ℕ
+longest_board = 33554432
+
+-- a sequence with fewer items is small: its length, and those after some more insertions, fit in 32 bits
+abbrev pub small_length : ℕ
+small_length = 2147483648
+
+-- operations of the server's order: as many batches as the highest limit, each of as many operations as it may have
+abbrev pub most_ordered : ℕ
+most_ordered = 536870912
+
+-- edits of the two sites of a script `two`, each of which makes at most as many as the highest limit
+abbrev pub most_of_two : ℕ
+most_of_two = 33554432
+
+-- operations beyond the server's order that one site may have to do with: its unacknowledged ones, the one that it makes, and one that it meets
+abbrev pub most_beyond : ℕ
+most_beyond = 1026

@@ -1,6 +1,7 @@
 //! The limits of the protocol, each in one place, and the refusal that any call may meet.
 //!
-//! Each constant is what the definition of the same name in `specs/` says. What bounds no message and no state, as the
+//! Each constant is what the definition of the same name in `specs/` says. Three definitions have no constant, since only
+//! proofs name them. What bounds no message and no state, as the
 //! sizes of rooms and how long a program waits, stands in the crate that chose it.
 #![tactic(auto)]
 
@@ -16,6 +17,8 @@ ghost use Rattle.jup_limits.specs.Limits.{
   most_operations,
   longest_label,
   longest_input,
+  longest_board,
+  small_length,
 };
 
 mod memory;
@@ -52,6 +55,12 @@ pub const LONGEST_LABEL: usize = 48;
 /// How many bytes a script has, and a layout.
 pub const LONGEST_INPUT: u64 = 16_777_216;
 
+/// How many bytes a printed board has that is read.
+pub const LONGEST_BOARD: u64 = 33_554_432;
+
+/// A sequence takes an insertion while it has fewer items than this.
+pub const SMALL_LENGTH: u32 = 2_147_483_648;
+
 /// The constants are the numbers that the definitions name.
 pub fn limits_are_stated()
     ensures attached { MOST_ATTACHED ≡ most_attached }
@@ -64,4 +73,6 @@ pub fn limits_are_stated()
     ensures operations { MOST_OPERATIONS ≡ most_operations }
     ensures label { LONGEST_LABEL ≡ longest_label }
     ensures input { LONGEST_INPUT ≡ longest_input }
+    ensures board { LONGEST_BOARD ≡ longest_board }
+    ensures small { SMALL_LENGTH ≡ small_length }
 {}

@@ -2,6 +2,7 @@
 use Rattle.std.specs.Prelude.{is_some, ◌≢◌}
 use Rattle.std.proofs.Common.{◌≡◌, ◌⊎◌, inl, inr, ℕ, ◌+◌, ◌≤◌, Bool, true, false, cond, List, [], ◌∷◌, ◌++◌, drop, take, length, nat_eq, refl, ap, sym, ◌∙◌, subst, Option, Some, None, arith, append-nil, append_assoc, zero-add, eq-eqb, ne_eqb, take-append-drop}
 use Rattle.std.proofs.Math.Seq.{drop-append_seam}
+use Rattle.jup_limits.specs.Limits.{most_beyond}
 use Rattle.jup_link.specs.InStep.{InStepAt, InStep}
 use Rattle.jup_link.specs.Laws.LinkSteps.{quiet_equal}
 use Rattle.jup_window.specs.Operations.{Operations, AreLawful}
@@ -156,7 +157,7 @@ module _ (O : Operations) (L : AreLawful O) (most : ℕ) (m : MixOf O) (h : IsSo
       either (link_of 1 m.star.links) (λ o. Full (at_home O m (λ l a. first_home_up O m l a a.up) o m.site)) (λ gone fault is. absurd (cc))
       (λ l fl. either m.site (λ o. Full (at_home O m (λ l a. first_home_up O m l a a.up) (Some l) o)) (λ gone fault is. absurd (cc)) (λ a fa. first l a fl fa a.up refl))
     where
-      fits : length m.star.order + 1026 ≤ most
+      fits : length m.star.order + most_beyond ≤ most
       fits = omega (arith, h.star.few, h.star.limited)
 
       one : (l : LinkState O.Op) (a : AttachedOf O) → link_of 1 m.star.links ≡ Some l → m.site ≡ Some a → (up : Up O.Op) (us : List (Up O.Op)) → a.up ≡ up ∷ us → Full (home_up O m l a up (up_fault O m.star l up))

@@ -1,5 +1,6 @@
 -- A star with one site and strangers, as it is opened.
 use Rattle.std.proofs.Common.{◌≡◌, ℕ, ◌+◌, ◌≤◌, sym, refl, subst, arith}
+use Rattle.jup_limits.specs.Limits.{most_beyond}
 use Rattle.jup_window.specs.Operations.{Operations, AreLawful}
 use Rattle.jup_window.specs.Laws.BareBoards.{only_site-held}
 use Rattle.jup_batch.specs.BoardBatches.{board_batches}
@@ -17,7 +18,7 @@ use Rattle.jup_mixed.proofs.MixRuns.{sound-mix_run}
 
 module _ (O : Operations) (L : AreLawful O) where
   -- a new star that site 1 joined, which stands as a world's first site
-  pub mix-opened : (most limit : ℕ) (board : O.State) → O.t.is_distinct board → O.t.is_small most board → limit + 1026 ≤ most → most ≤ 4294967295
+  pub mix-opened : (most limit : ℕ) (board : O.State) → O.t.is_distinct board → O.t.is_small most board → limit + most_beyond ≤ most → most ≤ 4294967295
       → ((n : O.t.Name) → O.t.holds board n → O.site_of n ≡ 0) → IsSoundMix O most (opened_mix O board limit)
   mix-opened most limit board distinct small room counted layout = record {
     star = star-joined O L most (O.t.content board) (opened_star board limit) (star-opened O L most limit board distinct small room counted layout);

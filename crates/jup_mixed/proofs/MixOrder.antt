@@ -1,5 +1,6 @@
 -- Over any events the star keeps the order of its items, and so does site 1 while it is attached.
 use Rattle.std.proofs.Common.{◌≡◌, ℕ, ◌+◌, ◌≤◌, Bool, true, false, cond, List, [], ◌∷◌, ◌++◌, drop, take, length, nat_eq, refl, ap, sym, ◌∙◌, subst, Option, Some, None, Ok, arith, append-nil}
+use Rattle.jup_limits.specs.Limits.{most_beyond}
 use Rattle.jup_link.specs.declared.Msg.{Msg}
 use Rattle.jup_window.specs.Operations.{Operations, AreLawful}
 use Rattle.jup_star.specs.declared.messages.Entry.{Entry}
@@ -109,7 +110,7 @@ module _ (O : Operations) (L : AreLawful O) where
     }
 
     -- there is room for what may still come
-    fits : length m.star.order + 1026 ≤ most
+    fits : length m.star.order + most_beyond ≤ most
     fits = omega (arith, h.star.few, h.star.limited)
 
     -- an event of the site

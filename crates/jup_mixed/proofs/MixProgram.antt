@@ -12,7 +12,7 @@ use Rattle.jup_mixed.specs.MixStates.{opened_mix}
 use Rattle.jup_mixed.proofs.MixOpened.{mixed-sound}
 use Rattle.std.proofs.Common.{◌↔◌, IsTrue}
 use Rattle.std.proofs.lemmas.List.{nil_from_length}
-use Rattle.jup_limits.specs.Limits.{highest_limit}
+use Rattle.jup_limits.specs.Limits.{highest_limit, most_beyond}
 use Rattle.jup_world.specs.Happenings.{IsQuietAt}
 use Rattle.jup_mixed.specs.MixStates.{IsHomeQuiet}
 use Rattle.jup_mixed.specs.MixFields.{HomeAgrees}
@@ -53,7 +53,7 @@ module _ (O : Operations) (L : AreLawful O) (most : ℕ) (m : MixOf O) (h : IsSo
   st : Standing O most (O.t.content m.opening) (turns 1 m.star.order) m.star.board (mix_made m.trace) 0 (mix_shown m.trace) 1 l a
   st = home_stands O L most m h l a fl fa
 
-  fits : length m.star.order + 1026 ≤ most
+  fits : length m.star.order + most_beyond ≤ most
   fits = omega (arith, h.star.few, h.star.limited)
 
   -- messages were fetched, and no more

@@ -1,5 +1,6 @@
 -- Each event answers what it should, and nothing is withheld.
 use Rattle.std.proofs.Common.{◌≡◌, ℕ, ◌+◌, ◌<◌, ◌≤◌, ◌⊎◌, inl, inr, Bool, true, false, cond, List, [], ◌∷◌, ◌++◌, drop, length, nat_eq, refl, ap, sym, ◌∙◌, subst, Option, Some, None, Result, Ok, Err, arith, eq-eqb, ne_eqb}
+use Rattle.jup_limits.specs.Limits.{most_beyond}
 use Rattle.jup_link.specs.declared.Msg.{Msg}
 use Rattle.jup_window.specs.Operations.{Operations, AreLawful}
 use Rattle.jup_star.specs.declared.messages.Up.{Up}
@@ -69,7 +70,7 @@ module _ (O : Operations) (L : AreLawful O) where
 
   module _ (most : ℕ) (m : MixOf O) (h : IsSoundMix O most m) (l : LinkState O.Op) (a : AttachedOf O) (fl : link_of 1 m.star.links ≡ Some l) (fa : m.site ≡ Some a) where
     -- there is room for what may still come
-    fits : length m.star.order + 1026 ≤ most
+    fits : length m.star.order + most_beyond ≤ most
     fits = omega (arith, h.star.few, h.star.limited)
 
     -- a message of the site that is taken

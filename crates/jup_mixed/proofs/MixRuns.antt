@@ -1,5 +1,6 @@
 -- A star with one site and strangers is sound as it is opened, and after any events.
 use Rattle.std.proofs.Common.{◌≡◌, ℕ, ◌+◌, ◌≤◌, Bool, true, false, cond, List, [], ◌∷◌, ◌++◌, drop, length, nat_eq, refl, ap, sym, ◌∙◌, subst, Option, Some, None, option_map, Ok, arith, append-nil, append_assoc, add-zero, ne_eqb}
+use Rattle.jup_limits.specs.Limits.{most_beyond}
 use Rattle.jup_link.specs.declared.Msg.{Msg}
 use Rattle.jup_window.specs.Operations.{Operations, AreLawful}
 use Rattle.jup_star.specs.declared.messages.Up.{Up}
@@ -71,7 +72,7 @@ module _ (O : Operations) (L : AreLawful O) where
     mix-still e r no_edit no_shown = mix-silent e (still O m r) no_edit no_shown h.star h.given h.home
 
     -- there is room for what may still come
-    fits : length m.star.order + 1026 ≤ most
+    fits : length m.star.order + most_beyond ≤ most
     fits = omega (arith, h.star.few, h.star.limited)
 
     -- the site at its place

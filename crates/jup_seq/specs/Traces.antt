@@ -5,6 +5,7 @@ use Rattle.std.specs.List.{position_from}
 use Rattle.std.proofs.lemmas.Bool.{cases_lt, cases_order, lt-ltb, le-ltb, le-leb, lt-leb, false≢true, ne_eqb, or_from}
 use Rattle.std.proofs.lemmas.Option.{same_Some}
 use Rattle.std.proofs.lemmas.List.Edits.{length-insert, length-remove}
+use Rattle.jup_limits.specs.Limits.{small_length}
 use Rattle.jup_value.specs.declared.names.Name.{Name}
 use Rattle.jup_value.specs.declared.names.Item.{Item}
 use Rattle.jup_value.specs.Items.{Items, name_eq, has_name, name_at, place_of}
@@ -44,7 +45,7 @@ trace_past Nothing r e = r
 
 -- whether it allows its operation
 abbrev pub Allows : {V : Type 0} → SeqOp V → SeqTrace → Type 0
-Allows (Insert p y) r = (p ≤ r.len) × (r.place ≡ None) × (r.len < 2147483648)
+Allows (Insert p y) r = (p ≤ r.len) × (r.place ≡ None) × (r.len < small_length)
 Allows (Delete p n) r = r.place ≡ Some p
 Allows (Relabel p n v) r = r.place ≡ Some p
 Allows Nothing r = Unit {0}

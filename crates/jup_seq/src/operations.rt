@@ -11,12 +11,10 @@ ghost use Rattle.jup_seq.specs.Laws.EditLists as edit_lists;
 ghost use Rattle.jup_seq.specs.Names as names;
 ghost use Rattle.jup_seq.specs.Laws.Effects as effects;
 
+use jup_limits::SMALL_LENGTH;
 use jup_value::{Item, Label, Name, Seq};
 use jup_xform::{NoMemory, Transform};
 use std::alloc::Global;
-
-/// A sequence of so many items takes no further insertion.
-pub(crate) const LARGEST: u32 = 2_147_483_648;
 
 /// An operation on a sequence. Places are counted from 0.
 #[derive(Clone, Copy, Debug, PartialEq, Eq)]
@@ -85,7 +83,7 @@ fn takes<V: Copy>(state: &Seq<V>, place: u32, name: Name) -> bool
         ↔ ((place ≤ length state.now.items) × (has_name name state.now.items ≡ false)
         × IsSmall 0 state.now) }
 {
-    place <= state.len() && state.place_of(name).is_none() && state.len() < LARGEST
+    place <= state.len() && state.place_of(name).is_none() && state.len() < SMALL_LENGTH
 }
 
 // Whether the item at a place has this name.

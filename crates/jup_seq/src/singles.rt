@@ -3,7 +3,8 @@ ghost use Rattle.std.specs.Prelude.{◌≡◌};
 ghost use Rattle.jup_seq.specs.Operations.{bare};
 ghost use Rattle.jup_seq.specs.Traces as traces;
 
-use crate::operations::{LARGEST, SeqOp};
+use crate::operations::SeqOp;
+use jup_limits::SMALL_LENGTH;
 use jup_value::{Name, Seq};
 use jup_xform::Single;
 
@@ -74,7 +75,7 @@ impl<V: Copy> Single for SeqOp<V> {
     fn allowed_by(&self, trace: SeqTrace) -> bool {
         match *self {
             SeqOp::Insert { place, .. } => {
-                place <= trace.len && trace.place.is_none() && trace.len < LARGEST
+                place <= trace.len && trace.place.is_none() && trace.len < SMALL_LENGTH
             }
             SeqOp::Delete { place, .. } | SeqOp::Relabel { place, .. } => {
                 trace.place == Some(place)

@@ -1,6 +1,6 @@
 -- How a star takes an edit: each way that the call ends.
 use Rattle.std.proofs.Common.{◌≡◌, refl, sym, ◌∙◌, ap, subst, ℕ, true, false, ◌≤◌, List, [], ◌∷◌, ◌++◌, length, map, get_or, Option, Some, None, is_none, Ok, Err, arith}
-use Rattle.jup_limits.specs.Limits.{highest_limit, most_operations}
+use Rattle.jup_limits.specs.Limits.{highest_limit, most_operations, most_ordered}
 use Rattle.jup_link.specs.Links.{IsCount}
 use Rattle.jup_link.specs.declared.Msg.{Msg}
 use Rattle.jup_batch.specs.BatchBoards.{BoardBatch}
@@ -117,12 +117,12 @@ all_count s star = let counted = star.counted in let limited = star.limited in c
 
 -- a link of a star has named no more items than can be counted
 pub named_few : (a n i at : ℕ) (ls : List Link) (here : Link) → n ≤ highest_limit → AreBounded a n (map bare_link ls) → IsPlace i (map bare_link ls) at → here ≡ get_or ls at here
-    → here.named ≤ 536870912
+    → here.named ≤ most_ordered
 named_few a n i at ls here low all place is =
     let found = found_some i (map bare_link ls) at place in
     let P : BoardLink → Type 0 = λ k. IsBounded a n k in
     let bounded : P found.0 = subst P (found_get i (map bare_link ls) at found.0 place found.1) (bounded_at a n (map bare_link ls) at found.0 (below_at i (map bare_link ls) at place) all) in
     let same : bare_link here ≡ found.0 = ap bare_link is ∙ found_is i ls at here found.0 place found.1 in
-    let Q : BoardLink → Type 0 = λ k. k.named ≤ 536870912 in
+    let Q : BoardLink → Type 0 = λ k. k.named ≤ most_ordered in
     let few : Q found.0 = (let named = bounded.insertions in omega (arith, named, low)) in
     subst Q (sym same) few

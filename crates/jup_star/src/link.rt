@@ -5,6 +5,7 @@ ghost use Rattle.jup_batch.specs.BatchBoards as board;
 ghost use Rattle.jup_batch.specs.BoardBatches.{board_batches};
 ghost use Rattle.jup_star.specs.FirstFaults.{first_fault, fault_of};
 ghost use Rattle.std.specs.Option.{option_to_list, IsSomeAnd};
+ghost use Rattle.jup_limits.specs.Limits.{most_ordered};
 ghost use Rattle.jup_star.specs.LinkStates.{opened_link, link_acked, link_ponged, link_fetched, link_sent, link_heard, operation_at};
 ghost use Rattle.jup_star.specs.StarStates.{early_fault, edit_tests, ack_tests, log_tests};
 ghost use Rattle.jup_star.specs.Rooms.{bare_link, HasRoom};
@@ -103,7 +104,7 @@ impl Link {
         count: usize,
         msg: &Msg<BoardBatch>,
     ) -> Result<(), StarFault>
-        requires named { self.now.named ≤ 536870912 }
+        requires named { self.now.named ≤ most_ordered }
         ensures { fault_of result ≡ early_fault board_batches limit count (bare_link self.now) msg.now }
     {
         check_counts(&self.end, msg)?;
@@ -113,7 +114,7 @@ impl Link {
 
     // The first fault of what an edit means.
     fn check_edit(&self, op: &BoardBatch) -> Result<(), StarFault>
-        requires { self.now.named ≤ 536870912 }
+        requires { self.now.named ≤ most_ordered }
         ensures { fault_of result ≡ first_fault (edit_tests board_batches (bare_link self.now) (board.edit_of op.now)) }
     {
         if one_is_nothing(op.as_slice()) {
@@ -141,7 +142,7 @@ impl Link {
         requires number { IsNumber self.old.end.link msg.mine }
         requires count { IsCount self.old.end.link msg.heard }
         requires room { 1 ≤ self.old.outbox.spare }
-        requires named { self.old.named ≤ 536870912 }
+        requires named { self.old.named ≤ most_ordered }
         ensures op { result ≡ operation_at board_batches self.old.end.link msg }
         ensures link { bare_link self.new ≡ link_heard board_batches msg (bare_link self.old) }
     {

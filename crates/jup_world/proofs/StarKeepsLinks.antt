@@ -1,5 +1,6 @@
 -- A star is sound as it is opened, and after a link changed, left or joined.
 use Rattle.std.proofs.Common.{◌≡◌, ℕ, ◌+◌, ◌<◌, ◌≤◌, inl, Bool, true, false, List, nat_eq, refl, ap, sym, ◌∙◌, subst, Option, Some, None, option_map, arith, eq-eqb, eqb-true, ne_eqb}
+use Rattle.jup_limits.specs.Limits.{most_beyond}
 use Rattle.jup_window.specs.Operations.{Operations, AreLawful}
 use Rattle.jup_star.specs.LinkStates.{LinkState, opened_link, link_acked, link_ponged, link_fetched}
 use Rattle.jup_star.specs.StarStates.{StarOf, opened_star, link_of, at_link, with_links, left, joined, fetched}
@@ -10,7 +11,7 @@ use Rattle.jup_world.proofs.Pairs.Moved.{Each-drop}
 
 module _ (O : Operations) (L : AreLawful O) where
   -- a new star
-  pub star-opened : (most limit : ℕ) (board : O.State) → O.t.is_distinct board → O.t.is_small most board → limit + 1026 ≤ most → most ≤ 4294967295
+  pub star-opened : (most limit : ℕ) (board : O.State) → O.t.is_distinct board → O.t.is_small most board → limit + most_beyond ≤ most → most ≤ 4294967295
       → ((n : O.t.Name) → O.t.holds board n → O.site_of n ≡ 0) → IsSoundStar O most (O.t.content board) (opened_star board limit)
   star-opened most limit board distinct small room counted layout = record {
     content_is = sym (L.keeps.meaning_none (O.t.content board));

@@ -2,7 +2,7 @@ use Rattle.std.proofs.Common.{◌≡◌, ℕ, ◌+◌, ◌-◌, ◌<◌, ◌≤�
 use Rattle.std.specs.Prelude.{Option, Some, None, Result, Ok, Err, OnOk, OnErr, option_map, if◌then◌else◌}
 use Rattle.std.proofs.lemmas.Bool.{ltb-false, leb-false, false_from_ne_true, false≢true}
 use Rattle.std.proofs.lemmas.List.{length_push}
-use Rattle.jup_limits.specs.Limits.{highest_limit, longest_sequence}
+use Rattle.jup_limits.specs.Limits.{highest_limit, longest_sequence, most_of_two}
 use Rattle.jup_xform.specs.declared.row.Side.{Side}
 use Rattle.jup_xform.specs.declared.row.Side.TheVariants.{Client as ClientSide, Server as ServerSide}
 use Rattle.jup_value.specs.declared.names.Name.{Name}
@@ -171,14 +171,14 @@ taken_end site other ne e out (Operation mine heard o) ms accepts all end =
 -- # Both ends
 
 -- one more edit fits
-room_left : (a b : ℕ) → a < highest_limit → b ≤ highest_limit → 33554432 - (a + b) ≡ (33554432 - (a + 1 + b)) + 1
+room_left : (a b : ℕ) → a < highest_limit → b ≤ highest_limit → most_of_two - (a + b) ≡ (most_of_two - (a + 1 + b)) + 1
 room_left a b low le = omega arith
 
 client_edited : (s : TwoState) → IsTwo s → (r : Result (SeqOp ℕ) EditFault) → IfOwn 1 s.client r
     → IsTwo (record s { client = edited s.client r; up = s.up ++ sent_by s.client r })
 client_edited s two (Err fault) own = subst (λ (up : List (Message (SeqOp ℕ))). IsTwo (record s { up = up })) (sym (append-nil s.up)) two
 client_edited s two (Ok op) own =
-    let n = 33554432 - (s.client.made + 1 + s.server.made) in
+    let n = most_of_two - (s.client.made + 1 + s.server.made) in
     let few : generated s.client.link < 4294967295 = omega (arith, two.client_end.generated_all, own.few) in
     record {
       in_step =
@@ -193,9 +193,9 @@ server_edited : (s : TwoState) → IsTwo s → (r : Result (SeqOp ℕ) EditFault
     → IsTwo (record s { server = edited s.server r; down = s.down ++ sent_by s.server r })
 server_edited s two (Err fault) own = subst (λ (down : List (Message (SeqOp ℕ))). IsTwo (record s { down = down })) (sym (append-nil s.down)) two
 server_edited s two (Ok op) own =
-    let n = 33554432 - (s.client.made + (s.server.made + 1)) in
+    let n = most_of_two - (s.client.made + (s.server.made + 1)) in
     let few : generated s.server.link < 4294967295 = omega (arith, two.server_end.generated_all, own.few) in
-    let left : 33554432 - (s.client.made + s.server.made) ≡ n + 1 = omega (arith, own.few, two.client_end.few) in
+    let left : most_of_two - (s.client.made + s.server.made) ≡ n + 1 = omega (arith, own.few, two.client_end.few) in
     record {
       in_step =
           InStep-server_edit texts texts_lawful n s.client.text s.server.text s.client.link s.server.link s.up s.down op
@@ -211,7 +211,7 @@ moved_up : (client server : TwoEnd) (up down : List (Message (SeqOp ℕ)))
 moved_up client server [] down two =
     subst (λ (ms : List (Message (SeqOp ℕ))). IsTwo (record { client = client; server = server; up = []; down = ms })) (sym (append-nil down)) two
 moved_up client server (m ∷ up) down two =
-    let n = 33554432 - (client.made + server.made) in
+    let n = most_of_two - (client.made + server.made) in
     let taken = InStep-takes_up texts texts_lawful n client.text server.text client.link server.link m up down two.in_step in
     record {
       in_step =
@@ -232,7 +232,7 @@ moved_down : (client server : TwoEnd) (up down : List (Message (SeqOp ℕ)))
 moved_down client server up [] two =
     subst (λ (ms : List (Message (SeqOp ℕ))). IsTwo (record { client = client; server = server; up = ms; down = [] })) (sym (append-nil up)) two
 moved_down client server up (m ∷ down) two =
-    let n = 33554432 - (client.made + server.made) in
+    let n = most_of_two - (client.made + server.made) in
     let taken = InStep-takes_down texts texts_lawful n client.text server.text client.link server.link m up down two.in_step in
     record {
       in_step =
@@ -274,7 +274,7 @@ opened_kept_end site some side start = record {
 pub opened_kept : (start : List ℕ) → length start ≤ highest_limit → IsTwo (opened_two start)
 opened_kept start short = record {
   in_step =
-      InStep-opened texts texts_lawful 33554432 (record { items = named_from 1 start; spare = 0 }) (AreDistinct-named_from 1 start)
+      InStep-opened texts texts_lawful most_of_two (record { items = named_from 1 start; spare = 0 }) (AreDistinct-named_from 1 start)
       (let count : length (named_from 1 start) ≡ length start = length-named_from 1 start in omega (arith, count, short));
   client_end = opened_kept_end 1 (omega arith) ClientSide start;
   server_end = opened_kept_end 2 (omega arith) ServerSide start;
@@ -285,13 +285,13 @@ up_accepts : (client server : TwoEnd) (up down : List (Message (SeqOp ℕ)))
     → IsTwo (record { client = client; server = server; up = up; down = down }) → AcceptsNext texts server.link server.text up
 up_accepts client server [] down two = tt
 up_accepts client server (m ∷ up) down two =
-    (InStep-takes_up texts texts_lawful (33554432 - (client.made + server.made)) client.text server.text client.link server.link m up down two.in_step).0
+    (InStep-takes_up texts texts_lawful (most_of_two - (client.made + server.made)) client.text server.text client.link server.link m up down two.in_step).0
 
 down_accepts : (client server : TwoEnd) (up down : List (Message (SeqOp ℕ)))
     → IsTwo (record { client = client; server = server; up = up; down = down }) → AcceptsNext texts client.link client.text down
 down_accepts client server up [] two = tt
 down_accepts client server up (m ∷ down) two =
-    (InStep-takes_down texts texts_lawful (33554432 - (client.made + server.made)) client.text server.text client.link server.link m up down two.in_step).0
+    (InStep-takes_down texts texts_lawful (most_of_two - (client.made + server.made)) client.text server.text client.link server.link m up down two.in_step).0
 
 pub next_up_accepted : (s : TwoState) → IsTwo s → AcceptsNext texts s.server.link s.server.text s.up
 next_up_accepted s two = up_accepts s.client s.server s.up s.down two

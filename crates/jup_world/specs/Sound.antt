@@ -1,6 +1,6 @@
 -- What holds of every star, whoever sends to it; and of every world: the two ends of each link are in step, and the operations on their way mean what their sites made.
 use Rattle.std.specs.Prelude.{◌≡◌, ℕ, ◌+◌, ◌≤◌, ◌<◌, ◌⊎◌, false, cond, List, [], ◌∷◌, ◌++◌, length, take, drop, nat_eq, IsTrue, Option, Some, None}
-use Rattle.jup_limits.specs.Limits.{most_unacknowledged}
+use Rattle.jup_limits.specs.Limits.{most_unacknowledged, most_beyond}
 use Rattle.jup_xform.specs.Rows.{row_operation}
 use Rattle.jup_xform.specs.declared.row.Side.TheVariants.{Client, Server}
 use Rattle.jup_link.specs.Links.{Message, Operation, Ack, generated}
@@ -168,7 +168,7 @@ module _ (O : Operations) where
     pub small : O.t.is_small room s.board
     pub enough : room + length s.order ≡ most
     pub few : length s.order ≤ s.limit
-    pub limited : s.limit + 1026 ≤ most
+    pub limited : s.limit + most_beyond ≤ most
     pub counted : most ≤ 4294967295
     pub board_known : HoldsKnown (named_in s.order) s.board
     pub order_known : Each (ChangesKnown (named_in s.order)) (edits_in s.order)

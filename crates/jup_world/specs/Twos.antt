@@ -1,6 +1,6 @@
 -- Two ends of one link over one text: what each event does, and what it answers.
 use Rattle.std.specs.Prelude.{◌≡◌, ℕ, ◌+◌, ◌-◌, ◌≤◌, nat_lt, nat_le, true, length, slice_get, List, [], ◌∷◌, ◌++◌, Option, Some, None, Result, Ok, Err, if◌then◌else◌}
-use Rattle.jup_limits.specs.Limits.{highest_limit, longest_sequence}
+use Rattle.jup_limits.specs.Limits.{highest_limit, longest_sequence, most_of_two}
 use Rattle.jup_xform.specs.declared.row.Side.{Side}
 use Rattle.jup_xform.specs.declared.row.Side.TheVariants.{Client as ClientSide, Server as ServerSide}
 use Rattle.jup_value.specs.declared.names.Name.{Name}
@@ -148,7 +148,7 @@ opened_two start = record { client = opened_end ClientSide start; server = opene
 -- both ends are in step, and stay so whatever edits they may still make
 abbrev pub AreInStep : TwoState → Type 0
 AreInStep s =
-    InStep texts (33554432 - (s.client.made + s.server.made)) s.client.text s.server.text s.client.link s.server.link s.up s.down
+    InStep texts (most_of_two - (s.client.made + s.server.made)) s.client.text s.server.text s.client.link s.server.link s.up s.down
 
 -- each name of a site that stands in a text is one of its first insertions
 abbrev pub HoldsWithin : ℕ → ℕ → Items ℕ → Type 0

@@ -4,6 +4,7 @@ use Rattle.std.specs.Prelude.{nat_le, nat_lt, ◌≤ℤ◌, ◌↔◌}
 use Rattle.std.specs.Option.{IsSomeAnd}
 use Rattle.std.proofs.lemmas.Bool.{and_parts, and_from, leb-true, le-leb, ltb-true, lt-ltb, not-true, not_from_false, false≢true, or_parts, or_from}
 use Rattle.std.proofs.lemmas.Int.{ints}
+use Rattle.jup_limits.specs.Limits.{small_length}
 use Rattle.jup_value.specs.declared.names.Name.{Name}
 use Rattle.jup_value.specs.Items.{Items, has_name, name_at}
 use Rattle.jup_value.proofs.ItemLists.{name_eq_same, name_eq_refl}
@@ -39,9 +40,9 @@ is_name-same n (Some m) h = ap (λ k. Some k) (name_eq_same m n h)
 -- what a sequence accepts is valid
 seq-valid : {V : Type 0} (o : SeqOp V) (x : Items V) → seq_accepts o x ≡ true → seq.IsValid o x
 seq-valid (Insert p y) x h =
-    let parts = and_parts (nat_le p (length x.items)) (not (has_name y.name x.items) && nat_lt (length x.items) 2147483648) h in
-    let rest = and_parts (not (has_name y.name x.items)) (nat_lt (length x.items) 2147483648) parts.1 in
-    let small = ltb-true (length x.items) 2147483648 rest.1 in
+    let parts = and_parts (nat_le p (length x.items)) (not (has_name y.name x.items) && nat_lt (length x.items) small_length) h in
+    let rest = and_parts (not (has_name y.name x.items)) (nat_lt (length x.items) small_length) parts.1 in
+    let small = ltb-true (length x.items) small_length rest.1 in
     (leb-true p (length x.items) parts.0, not-true (has_name y.name x.items) rest.0, omega (arith, small))
 seq-valid (Delete p n) x h = is_name-same n (name_at p x.items) h
 seq-valid (Relabel p n v) x h = is_name-same n (name_at p x.items) h
@@ -51,9 +52,9 @@ seq-valid NoSeqOp x h = tt
 seq-accepts : {V : Type 0} (o : SeqOp V) (x : Items V) → seq.IsValid o x → seq_accepts o x ≡ true
 seq-accepts (Insert p y) x h =
     let small = h.2 in
-    let less : length x.items < 2147483648 = omega (arith, small) in
-    and_from (nat_le p (length x.items)) (not (has_name y.name x.items) && nat_lt (length x.items) 2147483648) (le-leb p (length x.items) h.0)
-    (and_from (not (has_name y.name x.items)) (nat_lt (length x.items) 2147483648) (not_from_false (has_name y.name x.items) h.1) (lt-ltb (length x.items) 2147483648 less))
+    let less : length x.items < small_length = omega (arith, small) in
+    and_from (nat_le p (length x.items)) (not (has_name y.name x.items) && nat_lt (length x.items) small_length) (le-leb p (length x.items) h.0)
+    (and_from (not (has_name y.name x.items)) (nat_lt (length x.items) small_length) (not_from_false (has_name y.name x.items) h.1) (lt-ltb (length x.items) small_length less))
 seq-accepts (Delete p n) x h = ap (λ o. is_name n o) h ∙ name_eq_refl n
 seq-accepts (Relabel p n v) x h = ap (λ o. is_name n o) h ∙ name_eq_refl n
 seq-accepts NoSeqOp x h = refl

@@ -1,5 +1,6 @@
 -- A board that a site once showed, beside the star as it goes on.
 use Rattle.std.proofs.Common.{◌≡◌, ◌⊎◌, ℕ, ◌+◌, ◌≤◌, inl, inr, false, List, [], ◌∷◌, ◌++◌, drop, length, nat_eq, refl, ap, sym, ◌∙◌, subst, Option, Some, None, option_map, arith}
+use Rattle.jup_limits.specs.Limits.{most_beyond}
 use Rattle.jup_link.specs.declared.Msg.{Msg}
 use Rattle.jup_link.specs.Links.{after_send, after_count, answered}
 use Rattle.jup_link.specs.InStep.{Comes}
@@ -57,7 +58,7 @@ module _ (O : Operations) (L : AreLawful O) where
   module _ (symmetric : (x y : O.State) → O.t.keeps_order x y → O.t.keeps_order y x) (most : ℕ) (first : O.t.Content) (s : StarOf O) (sound : IsSoundStar O most first s) (i : ℕ) (x : O.State)
       (ol : Option (LinkState O.Op)) (oa : Option (AttachedOf O)) (h : IsBeingTaken most first s i x ol oa) where
     -- there is room for what may still come
-    fits : length s.order + 1026 ≤ most
+    fits : length s.order + most_beyond ≤ most
     fits = omega (arith, sound.few, sound.limited)
 
     -- the star knows what its board holds, counted as the site counts

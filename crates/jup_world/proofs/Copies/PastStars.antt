@@ -1,6 +1,7 @@
 -- A star as it once was, beside a site as it goes on.
 use Rattle.std.proofs.Common.{◌≡◌, ◌⊎◌, ℕ, ◌+◌, ◌≤◌, inl, inr, List, [], ◌∷◌, ◌++◌, drop, take, length, refl, ap, sym, ◌∙◌, subst, Ok, arith, append_assoc, append-nil, add-zero, drop_of_length-le}
 use Rattle.std.proofs.lemmas.List.{take-append-le}
+use Rattle.jup_limits.specs.Limits.{most_beyond}
 use Rattle.jup_xform.specs.Grid.{mirror}
 use Rattle.jup_link.specs.InStep.{Comes}
 use Rattle.jup_link.specs.Laws.ComesLaws.{Comes-nil}
@@ -79,7 +80,7 @@ module _ (O : Operations) (L : AreLawful O) where
   module _ (symmetric : (x y : O.State) → O.t.keeps_order x y → O.t.keeps_order y x) (most : ℕ) (first : O.t.Content) (s : StarOf O) (sound : IsSoundStar O most first s) (i joined shown : ℕ)
       (l : LinkState O.Op) (b : AttachedOf O) (h : IsBeingTold most first s i joined shown l b) where
     -- there is room for what may still come
-    fits : length s.order + 1026 ≤ most
+    fits : length s.order + most_beyond ≤ most
     fits = omega (arith, sound.few, sound.limited)
 
     -- the star knew what its board held, counted as the site counts

@@ -1,5 +1,6 @@
 -- From before an event to after it each attached site keeps the order of its items, and no name that it knew comes back.
 use Rattle.std.proofs.Common.{◌≡◌, ℕ, ◌+◌, ◌<◌, ◌≤◌, Bool, true, false, List, [], ◌∷◌, ◌++◌, drop, take, length, nat_eq, refl, ap, sym, ◌∙◌, subst, Option, Some, None, option_map, Ok, arith, eqb-true, eq-eqb, take-append-drop}
+use Rattle.jup_limits.specs.Limits.{most_beyond}
 use Rattle.jup_window.specs.Operations.{Operations, AreLawful}
 use Rattle.jup_star.specs.declared.messages.Down.{Down}
 use Rattle.jup_star.specs.declared.messages.Down.TheVariants.{Op as DownOp, Ack as DownAck, Pong as DownPong}
@@ -113,8 +114,8 @@ module _ (O : Operations) (L : AreLawful O) where
       none_back = made_none_back O L most i (O.t.content w.opening) _ _ w.star.board (made i w.trace) l a (standing O L most w s i l a fl fa).pair command op ok few s.star.counted;
     }
       where
-        few : length (take (told_of O (joined_at O i w.trace) (shown_count i w.trace) (turns i w.star.order)) (turns i w.star.order) ++ drop (told_of O (joined_at O i w.trace) (shown_count i w.trace) (turns i w.star.order)) (turns i w.star.order)) + 1026 ≤ most
-        few = subst (λ us. length us + 1026 ≤ most) (sym (take-append-drop (told_of O (joined_at O i w.trace) (shown_count i w.trace) (turns i w.star.order)) (turns i w.star.order))) (order_fits O L most w s i l a fl fa)
+        few : length (take (told_of O (joined_at O i w.trace) (shown_count i w.trace) (turns i w.star.order)) (turns i w.star.order) ++ drop (told_of O (joined_at O i w.trace) (shown_count i w.trace) (turns i w.star.order)) (turns i w.star.order)) + most_beyond ≤ most
+        few = subst (λ us. length us + most_beyond ≤ most) (sym (take-append-drop (told_of O (joined_at O i w.trace) (shown_count i w.trace) (turns i w.star.order)) (turns i w.star.order))) (order_fits O L most w s i l a fl fa)
 
     -- a site that is handed a message
     handed : (i : ℕ) (l : LinkState O.Op) (a : AttachedOf O) → link_of i w.star.links ≡ Some l → attached i w.sites ≡ Some a → (gone : ℕ) (d : Down O.Op) (ds : List (Down O.Op))

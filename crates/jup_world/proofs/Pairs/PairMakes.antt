@@ -1,7 +1,7 @@
 -- A site makes an edit: it and its link stay in step.
 use Rattle.std.proofs.Common.{◌≡◌, ℕ, ◌+◌, ◌≤◌, ◌<◌, ◌⊎◌, false, List, [], ◌∷◌, ◌++◌, length, nat_eq, ap, sym, ◌∙◌, subst, inl, inr, arith, IsTrue, append_assoc, length-append, le_refl, Ok, leb-false}
 use Rattle.std.proofs.lemmas.Bool.{eqb-false}
-use Rattle.jup_limits.specs.Limits.{most_unacknowledged}
+use Rattle.jup_limits.specs.Limits.{most_unacknowledged, most_beyond}
 use Rattle.jup_xform.specs.Grid.{AllApart}
 use Rattle.jup_link.specs.Laws.LinkSteps.{small_le, client_lengths, client_distinct, client_sends, client_generated}
 use Rattle.jup_link.specs.Links.{after_send, message}
@@ -41,7 +41,7 @@ module _ (O : Operations) (L : AreLawful O) where
 
   module _ (most i : ℕ) (first : O.t.Content) (past rest : List (Turn O.Edit)) (held : O.State) (mine : List O.Edit) (l : LinkState O.Op) (a : AttachedOf O)
       (h : Paired O most i first past rest held mine l a) (command : O.Command) (op : O.Op) (ok : edit_answer O command a.site ≡ Ok op)
-      (few : length (past ++ rest) + 1026 ≤ most) (counted : most ≤ 4294967295) where
+      (few : length (past ++ rest) + most_beyond ≤ most) (counted : most ≤ 4294967295) where
     -- the pair once the site made an edit
     pub pair-makes : Paired O most i first past rest held (mine ++ O.t.edit_of op ∷ []) l (with_edit O op a)
     pair-makes =

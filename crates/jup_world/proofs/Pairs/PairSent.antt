@@ -1,6 +1,7 @@
 -- The star takes an edit of another site: a site and its link stay in step.
 use Rattle.std.proofs.Common.{◌≡◌, ℕ, ◌+◌, ◌≤◌, Bool, true, false, cond, List, [], ◌∷◌, ◌++◌, length, nat_eq, ap, sym, ◌∙◌, subst, arith, IsTrue, append_assoc, append-nil, length-append}
 use Rattle.std.proofs.lemmas.Bool.{eqb-false}
+use Rattle.jup_limits.specs.Limits.{most_beyond}
 use Rattle.jup_link.specs.Laws.LinkSteps.{small_le, client_lengths, server_sends}
 use Rattle.jup_link.specs.Links.{after_send, message}
 use Rattle.jup_link.specs.Messages.{next_message}
@@ -33,7 +34,7 @@ module _ (O : Operations) (L : AreLawful O) where
       (h.0, order_named-other i (past ++ Other k g ∷ []) ts j e h.1 p f (subst (λ ts. IsTrue (O.bears_next j (named_by O i j ts) e)) whole b) (subst (λ ts. ChangesHeld O (λ k. named_by O i k ts) e) whole d))
 
   module _ (most i : ℕ) (first : O.t.Content) (past rest : List (Turn O.Edit)) (held : O.State) (mine : List O.Edit) (l : LinkState O.Op) (a : AttachedOf O)
-      (h : Paired O most i first past rest held mine l a) (few : length (past ++ rest) + 1026 ≤ most) (counted : most ≤ 4294967295)
+      (h : Paired O most i first past rest held mine l a) (few : length (past ++ rest) + most_beyond ≤ most) (counted : most ≤ 4294967295)
       (op : O.Op) (j : ℕ) (e : O.Edit) (accepted : O.t.is_valid op held)
       (same : SameMeaning O ((edits past ++ edits rest) ++ O.t.edit_of op ∷ []) ((edits past ++ edits rest) ++ e ∷ []))
       (inserts : (n : O.t.Name) → O.t.inserts (O.t.edit_of op) n → O.t.inserts e n)

@@ -1,6 +1,7 @@
 -- A site is handed an edit: it and its link stay in step.
 use Rattle.std.proofs.Common.{◌≡◌, ℕ, ◌+◌, ◌-◌, ◌≤◌, ◌⊎◌, false, List, [], ◌∷◌, ◌++◌, length, take, drop, ap, sym, ◌∙◌, subst, inl, inr, arith, append_assoc, le_refl, take-append-drop}
 use Rattle.std.proofs.lemmas.Bool.{eqb-false}
+use Rattle.jup_limits.specs.Limits.{most_beyond}
 use Rattle.jup_xform.specs.Grid.{AllApart}
 use Rattle.jup_link.specs.Laws.LinkSteps.{small_le, small_next, client_lengths, client_distinct, client_small, client_receives, length-after_receive}
 use Rattle.jup_link.specs.declared.Msg.{Msg}
@@ -35,7 +36,7 @@ abbrev pub link_left : {Op : Type 0} → LinkState Op → List (Down Op) → Lin
 link_left l outbox = record { site = l.site; end = l.end; outbox = outbox; named = l.named }
 
 module _ (O : Operations) (L : AreLawful O) (most i : ℕ) (first : O.t.Content) (past rest : List (Turn O.Edit)) (held : O.State) (mine : List O.Edit) (l : LinkState O.Op) (a : AttachedOf O)
-    (h : Paired O most i first past rest held mine l a) (few : length (past ++ rest) + 1026 ≤ most)
+    (h : Paired O most i first past rest held mine l a) (few : length (past ++ rest) + most_beyond ≤ most)
     (m : Msg O.Op) (ds : List (Message O.Op)) (comes : downs (a.down ++ l.outbox) ≡ sent m ∷ ds)
     (falling outbox : List (Down O.Op)) (left : downs (falling ++ outbox) ≡ ds) (s : O.Op) (ss : List O.Op) (down : h.star_ahead ≡ s ∷ ss) where
   -- the two ends are in step over the message

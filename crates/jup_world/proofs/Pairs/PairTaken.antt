@@ -1,5 +1,6 @@
 -- The star takes an edit of a site: it and its link stay in step.
 use Rattle.std.proofs.Common.{◌≡◌, ℕ, ◌+◌, ◌-◌, ◌≤◌, ◌⊎◌, inl, inr, Bool, true, false, cond, List, [], ◌∷◌, ◌++◌, length, nat_eq, refl, ap, sym, ◌∙◌, subst, arith, IsTrue, append_assoc, append-nil, length-append, le_refl, eq-eqb}
+use Rattle.jup_limits.specs.Limits.{most_beyond}
 use Rattle.jup_xform.specs.Laws.RowLaws.{length-row_entries}
 use Rattle.jup_xform.specs.Grid.{AllApart}
 use Rattle.jup_link.specs.declared.Msg.{Msg}
@@ -46,7 +47,7 @@ module _ (O : Operations) (L : AreLawful O) where
       cases false f = absurd (cc)
 
   module _ (most i : ℕ) (first : O.t.Content) (past rest : List (Turn O.Edit)) (held : O.State) (mine : List O.Edit) (l : LinkState O.Op) (a : AttachedOf O)
-      (h : Paired O most i first past rest held mine l a) (few : length (past ++ rest) + 1026 ≤ most)
+      (h : Paired O most i first past rest held mine l a) (few : length (past ++ rest) + most_beyond ≤ most)
       (m : Msg O.Op) (us : List (Message O.Op)) (comes : ups a.up ≡ sent m ∷ us) (rising : List (Up O.Op)) (left : ups rising ≡ us)
       (c : O.Op) (cs : List O.Op) (up : h.site_ahead ≡ c ∷ cs) where
     -- the two ends are in step over the message

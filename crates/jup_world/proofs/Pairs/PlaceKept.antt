@@ -1,5 +1,6 @@
 -- A site keeps its place of the order, as it and others edit.
 use Rattle.std.proofs.Common.{◌≡◌, ◌⊎◌, ℕ, ◌+◌, ◌<◌, ◌≤◌, Bool, true, false, cond, List, [], ◌∷◌, ◌++◌, drop, take, length, nat_eq, refl, ap, sym, ◌∙◌, subst, Some, None, arith, IsTrue, eq-eqb, append_assoc, append-nil, take-append-drop}
+use Rattle.jup_limits.specs.Limits.{most_beyond}
 use Rattle.jup_link.specs.declared.Msg.{Msg}
 use Rattle.jup_link.specs.Links.{received_operation, after_count}
 use Rattle.jup_link.specs.Messages.{sent}
@@ -38,7 +39,7 @@ same_way : {Operation : Type 0} → (n : ℕ) (ds os : List (Down Operation)) �
 same_way n ds os = ap downs (append_assoc ds (take n os) (drop n os) ∙ ap (λ xs. ds ++ xs) (take-append-drop n os))
 
 module _ (O : Operations) (L : AreLawful O) (most : ℕ) (first : O.t.Content) (s : StarOf O) (mine : List O.Edit) (i joined n : ℕ) (l : LinkState O.Op) (a : AttachedOf O)
-    (st : Standing O most first (turns i s.order) s.board mine joined n i l a) (fits : length s.order + 1026 ≤ most) where
+    (st : Standing O most first (turns i s.order) s.board mine joined n i l a) (fits : length s.order + most_beyond ≤ most) where
   -- how many entries it was told, and those, and the others
   abbrev pub t : ℕ
   t = told_of O joined n (turns i s.order)
@@ -53,7 +54,7 @@ module _ (O : Operations) (L : AreLawful O) (most : ℕ) (first : O.t.Content) (
   whole = take-append-drop t (turns i s.order)
 
   -- there is room for what may still come
-  pub room : length (past ++ rest) + 1026 ≤ most
+  pub room : length (past ++ rest) + most_beyond ≤ most
   room = omega (arith, ap length whole, length-turns i s.order, fits)
 
   -- the star takes its edit

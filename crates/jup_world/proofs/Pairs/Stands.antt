@@ -1,6 +1,7 @@
 -- A site at its place of the order, as the order grows and as it is handed edits.
 use Rattle.std.proofs.Common.{◌≡◌, ℕ, zero, suc, ◌+◌, ◌≤◌, List, [], ◌∷◌, ◌++◌, length, take, drop, ap, sym, ◌∙◌, subst, arith, length-append, length-drop, add-one, Ok, take-append-drop, take-add, drop-drop}
 use Rattle.std.proofs.lemmas.List.{drop-append-le, take-append-le}
+use Rattle.jup_limits.specs.Limits.{most_beyond}
 use Rattle.jup_window.specs.Operations.{Operations, AreLawful}
 use Rattle.jup_world.specs.Turns.{Turn, Own, Other, through_others, others}
 use Rattle.jup_world.specs.WorldStates.{AttachedOf}
@@ -44,10 +45,10 @@ module _ (O : Operations) (L : AreLawful O) where
     stand-pair held' mine' l' a' p = record { pair = p; joined_within = h.joined_within; shown_within = h.shown_within }
 
     -- it makes an edit
-    pub stand-makes : (command : O.Command) (op : O.Op) → edit_answer O command a.site ≡ Ok op → length ts + 1026 ≤ most → most ≤ 4294967295
+    pub stand-makes : (command : O.Command) (op : O.Op) → edit_answer O command a.site ≡ Ok op → length ts + most_beyond ≤ most → most ≤ 4294967295
         → Standing O most first ts held (mine ++ O.t.edit_of op ∷ []) joined n i l (with_edit O op a)
     stand-makes command op ok few counted = stand-pair held (mine ++ O.t.edit_of op ∷ []) l (with_edit O op a)
-        (pair-makes O L most i first (take (told_of O joined n ts) ts) (drop (told_of O joined n ts) ts) held mine l a h.pair command op ok (subst (λ us. length us + 1026 ≤ most) (sym halves) few) counted)
+        (pair-makes O L most i first (take (told_of O joined n ts) ts) (drop (told_of O joined n ts) ts) held mine l a h.pair command op ok (subst (λ us. length us + most_beyond ≤ most) (sym halves) few) counted)
 
     -- the order grows by one entry, whose turn it may be
     pub stand-longer : (x : Turn O.Edit) (held' : O.State) (l' : LinkState O.Op) (a' : AttachedOf O)

@@ -2,6 +2,7 @@
 use Rattle.std.specs.Prelude.{is_some}
 use Rattle.std.proofs.Common.{◌≡◌, ℕ, ◌+◌, ◌<◌, ◌≤◌, ◌⊎◌, List, [], ◌∷◌, ◌++◌, drop, take, length, refl, ap, sym, ◌∙◌, subst, Option, Some, None, arith, append-nil, append_assoc, take-append-drop}
 use Rattle.std.proofs.Math.Seq.{drop-append_seam}
+use Rattle.jup_limits.specs.Limits.{most_beyond}
 use Rattle.jup_link.specs.declared.Msg.{Msg}
 use Rattle.jup_link.specs.InStep.{InStepAt}
 use Rattle.jup_link.specs.Laws.LinkSteps.{quiet_equal}
@@ -46,7 +47,7 @@ module _ (O : Operations) (L : AreLawful O) where
 
   module _ (most : ℕ) (w : WorldOf O) (s : IsSound O most w) where
     -- there is room for what may still come
-    fits : length w.star.order + 1026 ≤ most
+    fits : length w.star.order + most_beyond ≤ most
     fits = omega (arith, s.star.few, s.star.limited)
 
     -- an event, by what it comes to
@@ -90,7 +91,7 @@ module _ (O : Operations) (L : AreLawful O) where
   sound-run (e ∷ es) most w s = sound-run es most (happens O w e) (sound-happens most w e s)
 
   -- as it is opened
-  pub sound-opened : (most limit : ℕ) (board : O.State) → O.t.is_distinct board → O.t.is_small most board → limit + 1026 ≤ most → most ≤ 4294967295
+  pub sound-opened : (most limit : ℕ) (board : O.State) → O.t.is_distinct board → O.t.is_small most board → limit + most_beyond ≤ most → most ≤ 4294967295
       → ((n : O.t.Name) → O.t.holds board n → O.site_of n ≡ 0) → IsSound O most (opened_world O board limit)
   sound-opened most limit board distinct small room counted layout = record {
     order_is = refl;

@@ -1,5 +1,6 @@
 -- A sound world is sound after a site was handed an edit.
 use Rattle.std.proofs.Common.{◌≡◌, ℕ, ◌+◌, ◌<◌, ◌≤◌, Bool, true, false, cond, List, ◌∷◌, ◌++◌, drop, take, length, nat_eq, refl, ap, sym, ◌∙◌, subst, Some, None, arith, append-nil, add-zero, eq-eqb, ne_eqb, take-append-drop}
+use Rattle.jup_limits.specs.Limits.{most_beyond}
 use Rattle.jup_link.specs.declared.Msg.{Msg}
 use Rattle.jup_link.specs.Messages.{sent}
 use Rattle.jup_window.specs.Operations.{Operations, AreLawful}
@@ -36,11 +37,11 @@ module _ (O : Operations) (L : AreLawful O) (most : ℕ) (w : WorldOf O) (s : Is
   t = told_of O (joined_at O i w.trace) (shown_count i w.trace) (turns i w.star.order)
 
   -- there is room for what may still come
-  pub fits : length (take t (turns i w.star.order) ++ drop t (turns i w.star.order)) + 1026 ≤ most
-  fits = subst (λ us. length us + 1026 ≤ most) (sym (take-append-drop t (turns i w.star.order))) (order_fits O L most w s i l a fl fa)
+  pub fits : length (take t (turns i w.star.order) ++ drop t (turns i w.star.order)) + most_beyond ≤ most
+  fits = subst (λ us. length us + most_beyond ≤ most) (sym (take-append-drop t (turns i w.star.order))) (order_fits O L most w s i l a fl fa)
 
   -- in the star's order too
-  order_room : length w.star.order + 1026 ≤ most
+  order_room : length w.star.order + most_beyond ≤ most
   order_room = omega (arith, s.star.few, s.star.limited)
 
   -- the operation that the message brings

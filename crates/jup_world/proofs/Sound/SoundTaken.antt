@@ -1,5 +1,6 @@
 -- A sound world is sound after its star took an edit.
 use Rattle.std.proofs.Common.{◌≡◌, ℕ, ◌+◌, ◌<◌, ◌≤◌, Bool, true, false, cond, List, [], ◌∷◌, ◌++◌, length, nat_eq, refl, ap, sym, ◌∙◌, subst, Option, Some, None, option_map, arith, append-nil, add-zero, ne_eqb}
+use Rattle.jup_limits.specs.Limits.{most_beyond}
 use Rattle.jup_link.specs.declared.Msg.{Msg}
 use Rattle.jup_window.specs.Operations.{Operations, AreLawful}
 use Rattle.jup_star.specs.declared.messages.Up.{Up}
@@ -38,7 +39,7 @@ module _ (O : Operations) (L : AreLawful O) (most : ℕ) (w : WorldOf O) (s : Is
   Stands j mine joined n ol oa = StandsAt O most (O.t.content w.opening) (turns j (w.star.order ++ entry O i m ∷ [])) (O.t.after op w.star.board) mine joined n j ol oa
 
   -- there is room for what may still come
-  fits : length w.star.order + 1026 ≤ most
+  fits : length w.star.order + most_beyond ≤ most
   fits = omega (arith, s.star.few, s.star.limited)
 
   -- the site at its place of the order

@@ -1,6 +1,7 @@
 -- Where a site of a world stands, and the order that the trace tells once the star took its edit.
 use Rattle.std.proofs.Common.{◌≡◌, ℕ, ◌+◌, ◌≤◌, Bool, true, false, cond, List, [], ◌∷◌, ◌++◌, drop, length, nat_eq, refl, ap, sym, ◌∙◌, subst, Option, Some, None, arith, eqb-true, take-append-drop}
 use Rattle.std.proofs.Math.Seq.{drop-append_seam}
+use Rattle.jup_limits.specs.Limits.{most_beyond}
 use Rattle.jup_link.specs.declared.Msg.{Msg}
 use Rattle.jup_window.specs.Operations.{Operations, AreLawful}
 use Rattle.jup_star.specs.Streams.{ups}
@@ -41,7 +42,7 @@ module _ (O : Operations) (L : AreLawful O) where
         (subst (λ o. StandsAt O most (O.t.content w.opening) (turns i w.star.order) w.star.board (made i w.trace) (joined_at O i w.trace) (shown_count i w.trace) i o (attached i w.sites)) fl (s.stand i))
 
     -- there is room for what may still come
-    pub order_fits : length (turns i w.star.order) + 1026 ≤ most
+    pub order_fits : length (turns i w.star.order) + most_beyond ≤ most
     order_fits = omega (arith, length-turns i w.star.order, s.star.few, s.star.limited)
 
   -- an attached site has a link

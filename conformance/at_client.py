@@ -1,4 +1,4 @@
-"""The parts that a client is judged by. The kit is its server, and its user."""
+"""The parts by which the kit judges a client. The kit is the client's server, and its user."""
 import material
 from links import Client, Differs
 from rows import Names, rows_in
@@ -7,14 +7,14 @@ SITE = 7
 
 
 def greet(client, board, limit=material.LIMIT):
-    """Takes the client in as a site, with a board and a limit."""
+    """Lets the client join as a site, with a board and a limit."""
     client.link.lines.are_next("hello 3")
     client.link.send_lines(f"welcome {SITE} {limit}", *board.lines, "ready")
     client.printed.are_next(f"site {SITE}")
 
 
 def acts_of(client, board):
-    """What the words of a transcript's step do."""
+    """What each step of a transcript does, by its words."""
     return {
         "joins": lambda _, limit: greet(client, board, *filter(None, [limit])),
         "types": lambda _, line: client.types(f"{line}\n"),
@@ -35,7 +35,7 @@ def play(words, transcript):
 
 
 def judge_transforms(words, window):
-    """In each row the user makes the client's operation, and the server sends its own, which has not heard of that."""
+    """In each row the user makes the client's operation. The server sends its own, before it has received the client's."""
     with Client(words) as client:
         board = material.table_board(window)
         greet(client, material.Board(board))
@@ -49,12 +49,12 @@ def judge_transforms(words, window):
 
 
 def judge_row(client, row, count, names, height):
-    """`height` is how many lines the client's board is printed in."""
+    """Plays one row. `height` is how many lines the client prints for its board."""
     own, _, other = row.spelled(*names)
     client.types(f"{row.command()}\n")
     client.link.lines.are_next(*f"batch {count} {count} 1 / do {own}".split(" / "))
     if not client.printed.next().startswith("made "):
-        raise Differs("'made' was due")
+        raise Differs("expected 'made'")
     client.link.send_lines(*f"batch {count} {count} 1 / do {other}".split(" / "))
     client.types("sync\nshow\n")
     client.link.lines.are_next(f"ping {count + 1}")
@@ -62,7 +62,7 @@ def judge_row(client, row, count, names, height):
     client.printed.are_next("synced")
     shown = [client.printed.next() for _ in range(height)]
     if row.shown() not in shown:
-        raise Differs(f"{row.shown()!r} was due, and it showed {[it for it in shown if it.split()[1] == str(row.row.number)]}")
+        raise Differs(f"expected {row.shown()!r}, but got {[it for it in shown if it.split()[1] == str(row.row.number)]}")
 
 
 def judge_line(words, row):
@@ -78,7 +78,7 @@ def judge_line(words, row):
 
 
 def judge_greeting(words, row):
-    """What the client is told once it has greeted, and what it prints for that."""
+    """Sends what a client reads after it has greeted, and tests what the client prints."""
     with Client(words) as client:
         client.link.lines.are_next("hello 3")
         client.link.send_lines(*row.text.split(" / "))

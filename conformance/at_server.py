@@ -1,4 +1,4 @@
-"""The parts that a server is judged by."""
+"""The parts by which the kit judges a server."""
 import re
 import time
 
@@ -10,14 +10,14 @@ BOARD_WORDS = (*material.BOARD_WORDS, "char", "item")
 
 
 class Site:
-    """A site of a transcript: its link, and how far it has been greeted."""
+    """A site of a transcript: its link, and whether the lines of the board are still coming."""
 
     def __init__(self, address, windows, is_narrow=False):
         self.link, self.is_in_board, self.is_in_window = Link.to(address, is_narrow), False, False
         self.windows = [f"window {it}" for it in windows]
 
     def next(self, due="a line"):
-        """The next line that it is told. Of a board only what stands in the transcript's windows counts."""
+        """The next line that the site receives. Of a board it returns only the lines of the transcript's windows."""
         line = self.link.lines.next(due)
         while self.is_in_board and line.split(" ", 1)[0] in BOARD_WORDS:
             if line.startswith("window "):
@@ -30,7 +30,7 @@ class Site:
 
 
 class Sites:
-    """The sites of a transcript, and the number that the server gave to each, by the number that it has in the transcript. All links end at the end of the `with`."""
+    """The sites of a transcript, and the number that the server gave to each, by its number in the transcript. The end of the `with` ends all links."""
 
     def __init__(self, address, limit, windows, before):
         self.address, self.limit, self.windows = address, limit, windows
@@ -40,7 +40,7 @@ class Sites:
         return self
 
     def __exit__(self, *raised):
-        """No site is left attached when others join. What is amiss in that is told where nothing was before."""
+        """Detaches all sites before others join. It raises a failure of that only if there was no failure before."""
         for site in self.sites.values():
             try:
                 site.link.close()
@@ -70,23 +70,23 @@ class Sites:
             found = self.site(who).next(repr(line))
             wanted = self.welcome(line, found) if line.startswith("welcome ") else self.renamed(line)
             if not is_as(wanted, found):
-                raise Differs(f"{wanted!r} was due, and there came {found!r}")
+                raise Differs(f"expected {wanted!r}, but got {found!r}")
 
     def welcome(self, line, found):
-        """The welcome that is due: its number is the one that the server gives."""
+        """The expected welcome. It has the number that the server gives."""
         given = re.fullmatch(r"welcome ([1-9]\d*) \d+", found)
         if given:
             self.numbers[int(line.split()[1])] = (int(given[1]), 0)
         return f"welcome {given[1] if given else 'SITE'} {self.limit}"
 
     def joins(self, who):
-        """Greets, and gives the lines of the board in the transcript's window."""
+        """Greets, and returns the lines of the board in the transcript's windows."""
         self.sends(who, "hello 3")
         self.is_told(who, f"welcome {len(self.numbers)}")
         lines = []
         while (line := self.site(who).next("'ready'")) != "ready":
             if line.split(" ")[0] not in BOARD_WORDS:
-                raise Differs(f"'ready' was due, and there came {line!r}")
+                raise Differs(f"expected 'ready', but got {line!r}")
             lines.append(line)
         return lines
 
@@ -97,10 +97,10 @@ class Sites:
         poured = self.link(who).poured
         poured.comes_to_a_stop()
         if not poured.was_refused:
-            raise Differs(f"the end of the link was due, and {poured.sent} bytes were taken")
+            raise Differs(f"expected the end of the link, but {poured.sent} bytes were taken")
 
     def acts(self):
-        """What the words of a transcript's step do."""
+        """What each step of a transcript does, by its words."""
         return {
             "joins": lambda who, _: self.joins(who),
             "has little room": lambda who, _: self.site(who, is_narrow=True),
@@ -126,7 +126,7 @@ def play(address, transcript, before):
 
 
 def judge_transforms(address, window, before):
-    """In each row B's operation is taken, then A's, which has not heard of it; at the end C joins, and sees what all rows leave."""
+    """In each row the server takes B's operation, and then A's, which A sends before it has received B's. At the end C joins, and reads what all rows leave."""
     with Sites(address, material.LIMIT, [window], before) as sites:
         sites.joins("A")
         sites.joins("B")
@@ -151,17 +151,17 @@ def judge_row(sites, count, client, client_after, server):
 
 
 def are_shown(rows, lines):
-    """The board's lines show, but for the names of items, what the rows leave."""
+    """Tests that the board's lines show what the rows leave. The names of items are not compared."""
     bare = [re.sub(r"^(char|item) \d+\.\d+ ", r"\1 ", it) for it in lines]
     for row in rows:
         wanted = [re.sub(r"^(char|item) \S+ ", r"\1 ", it) for it in material.lines_of([row.shown()])]
         at = bare.index(wanted[0]) if wanted[0] in bare else len(bare)
         if bare[at : at + len(wanted)] != wanted:
-            raise Differs(f"in the row `{row.row.text}`: {wanted} was due at the end")
+            raise Differs(f"in the row `{row.row.text}`: expected {wanted} at the end")
 
 
 def judge_line(address, row, before):
-    """A ping behind the line shows at once whether it was taken: a fault is told before."""
+    """Sends a ping after the line. The server reports a fault of the line before it answers the ping."""
     with Sites(address, material.LIMIT, [material.LINES_WINDOW], before) as sites:
         if row.reader == "server":
             sites.joins("A")
@@ -185,7 +185,7 @@ def hears_pong(sites, row):
 
 
 def limit_of(address):
-    """The limit that the server tells to who joins."""
+    """The limit that the server sends to a site that joins."""
     link = Link.to(address)
     link.send_lines("hello 3")
     welcome = re.fullmatch(r"welcome [1-9]\d* (\d+)", link.lines.next())

@@ -1,4 +1,4 @@
-"""The two ends of a conversation that the kit drives: a link to a server, and a client with its server's end of a link."""
+"""What the kit drives: a link to a server, or a client together with the server's end of its link."""
 import contextlib
 import queue
 import random
@@ -10,12 +10,12 @@ import time
 END = "(the end)"
 # An address at which the system chooses the port.
 ANY_PORT = "127.0.0.1:0"
-# Ports below those that links are given by the system, so that none of them has it when a server listens there.
+# These ports are below those that the system gives to links, so no link has one when a server listens there.
 PORTS = range(15_000, 32_000)
 
 
 def free_address():
-    """An address that nobody listens at."""
+    """An address at which no program listens."""
     while True:
         address = "127.0.0.1", random.choice(PORTS)
         with socket.socket() as probe, contextlib.suppress(OSError):
@@ -24,11 +24,11 @@ def free_address():
 
 
 class Differs(Exception):
-    """What was judged did something else than it has to."""
+    """A program did something other than expected."""
 
 
 class Lines:
-    """The lines that come from a file, without their line feeds, and then its end."""
+    """The lines that come from a file, without their line feeds, and after them END."""
 
     # How many seconds an answer may take.
     patience = 5.0
@@ -43,34 +43,34 @@ class Lines:
             while self.is_read.wait() and (line := file.readline()):
                 self.waiting.put(line.decode("latin-1").removesuffix("\n"))
         except (OSError, ValueError):
-            pass  # what fails has ended
+            pass  # a file that fails has ended
         self.waiting.put(END)
 
     def next(self, due="a line"):
-        """The next line, and after the last one the end, for ever. `due` says what should come."""
+        """The next line. After the last one every call returns END. `due` describes what is expected."""
         try:
             line = END if self.is_over else self.waiting.get(timeout=self.patience)
         except queue.Empty:
-            raise Differs(f"{due} was due, and nothing came in {self.patience:g} seconds") from None
+            raise Differs(f"expected {due}, but nothing came in {self.patience:g} seconds") from None
         self.is_over = line == END
         return line
 
     def are_next(self, *wanted):
-        """These lines come, in this order; `*` is any number."""
+        """Tests that these lines come next, in this order. `*` is any number."""
         for line in wanted:
             found = self.next(repr(line))
             if not is_as(line, found):
-                raise Differs(f"{line!r} was due, and there came {found!r}")
+                raise Differs(f"expected {line!r}, but got {found!r}")
 
 
 def address_bound(listening, told):
-    """Where a server listens that printed `listening`. One that was given port 0 tells on standard error, whose lines are `told`, which port it has."""
+    """Where a server listens, by its line `listening`. If it was given port 0, it reports its address on standard error, whose lines are `told`."""
     address = listening.removeprefix("listening ").strip()
     return told.next("'bound', reported by the server,").removeprefix("bound ") if address == ANY_PORT else address
 
 
 def is_as(wanted, found):
-    """Whether a line is the one that is wanted, in which `*` is any number."""
+    """Whether a line is the wanted one, in which `*` is any number."""
     if "*" not in wanted.split(" "):
         return found == wanted
     words = zip(wanted.split(" "), found.split(" "))
@@ -78,10 +78,10 @@ def is_as(wanted, found):
 
 
 class Pour:
-    """Bytes that are sent beside all else, as fast as they are taken."""
+    """Bytes that a thread of its own sends, as fast as the other end takes them."""
 
     PIECE = 4096
-    # For how many seconds none is taken before that counts as a stop.
+    # How many seconds the other end takes none before that counts as a stop.
     quiet = 1.0
 
     def __init__(self, connection):
@@ -108,7 +108,7 @@ class Pour:
             self.was_refused = True
 
     def comes_to_a_stop(self):
-        """Waits until nothing was taken for some time."""
+        """Waits until the other end has taken nothing for `quiet` seconds."""
         sent = -1
         while not self.was_refused and sent < self.sent:
             sent = self.sent
@@ -116,7 +116,7 @@ class Pour:
 
 
 class Link:
-    """A socket whose other end is judged. A narrow one takes few bytes before they are read."""
+    """A socket whose other end the kit judges. A narrow one has small buffers, so few bytes fit in before the kit reads them."""
 
     def __init__(self, connection):
         self.socket, self.has_ended, self.poured = connection, False, None
@@ -138,7 +138,7 @@ class Link:
             connection.settimeout(None)
             return cls(connection)
         except (OSError, ValueError) as fault:
-            raise Differs(f"nobody can connect to {address!r}: {fault}") from None
+            raise Differs(f"cannot connect to {address!r}: {fault}") from None
 
     def send(self, text):
         try:
@@ -161,7 +161,7 @@ class Link:
         self.lines.is_read.set()
 
     def drip(self, seconds):
-        """Sends a byte now and then, until the other end takes none; that has to be within so many seconds."""
+        """Sends a byte now and then, until the other end takes none. This has to happen within so many seconds."""
         until = time.monotonic() + seconds
         try:
             while time.monotonic() < until:
@@ -169,10 +169,10 @@ class Link:
                 time.sleep(0.25)
         except OSError:
             return  # the other end has gone
-        raise Differs(f"the end of the link was due within {seconds} seconds, and it was read on")
+        raise Differs(f"expected the end of the link within {seconds} seconds, but it still took bytes")
 
     def end(self):
-        """Says that no more is sent."""
+        """Ends this direction of the link."""
         if not self.has_ended:
             self.has_ended = True
             try:
@@ -181,7 +181,7 @@ class Link:
                 pass  # the other end has gone
 
     def close(self):
-        """Ends, and reads what is left: a server has dropped a site once its link has ended too."""
+        """Ends the link, and reads what is left. Once the server has ended it too, it has dropped the site."""
         self.end()
         try:
             while self.lines.next() != END:
@@ -191,7 +191,7 @@ class Link:
 
 
 class Client:
-    """A client's command line with its standard streams, and the server's end of its link. It is stopped at the end of the `with`."""
+    """A client's process with its standard streams, and the server's end of its link. The end of the `with` stops it."""
 
     def __init__(self, words, start=subprocess.Popen):
         with socket.create_server(("127.0.0.1", 0)) as listener:
@@ -225,7 +225,7 @@ class Client:
             raise Differs(f"the client took no more commands: {fault}") from None
 
     def ends(self, wanted):
-        """Nothing more is printed, and the exit status is that."""
+        """Tests that the client prints nothing more, and that its exit status is the wanted one."""
         self.link.end()
         self.printed.are_next(END)
         try:
@@ -233,4 +233,4 @@ class Client:
         except subprocess.TimeoutExpired:
             raise Differs("the client did not end") from None
         if status != wanted:
-            raise Differs(f"status {wanted} was due, and it ended with {status}")
+            raise Differs(f"expected status {wanted}, but got {status}")

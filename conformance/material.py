@@ -1,4 +1,4 @@
-"""What this folder's files say: transcripts with the boards that they open with, the table of transforms, and the table of lines."""
+"""Reads this folder's files: transcripts with the boards that they open with, the table of transforms, and the table of lines."""
 import functools
 import glob
 import itertools
@@ -9,20 +9,22 @@ import re
 from links import Differs
 
 HERE = os.path.dirname(os.path.abspath(__file__))
-# The limits of the servers that are judged: of the one that plays most, of one whose order gets full, and of one with a long text.
+# The limits of the servers that the kit judges: one that plays most parts, one whose order gets full, and one with a long text.
 LIMIT, FULL_LIMIT, LONG_LIMIT = 10_000, 2, 100_000
 LIMITS = (LIMIT, FULL_LIMIT, LONG_LIMIT)
-# The windows that the tables are played in.
+# The windows in which the kit plays the tables.
 LINES_WINDOW, LISTS_WINDOW, TEXTS_WINDOW, SETTINGS_WINDOW = 61, 62, 63, 64
 TRANSFORM_WINDOWS = {LISTS_WINDOW: "lists", TEXTS_WINDOW: "texts", SETTINGS_WINDOW: "settings"}
 WORDS = {LISTS_WINDOW: "list", TEXTS_WINDOW: "text"}
-# The rules that the tables show, each with its page.
+# The rules that the tables show, each with its page and its section.
 SEQUENCES_RULE, SETTINGS_RULE = (f'docs/PROTOCOL.md, "{it}"' for it in ("Texts and lists", "Settings"))
 TRANSFORM_RULES = {LISTS_WINDOW: SEQUENCES_RULE, TEXTS_WINDOW: SEQUENCES_RULE, SETTINGS_WINDOW: SETTINGS_RULE}
 LINES_RULE, SESSIONS_RULE = (f'docs/WIRE.md, "{it}"' for it in ("Lines of a link, and of a layout", "Sessions"))
-CLIENT_RULE = 'docs/PROGRAMS.md, "What `jup` takes in, and when"'
+CLIENT_RULE = 'docs/PROGRAMS.md, "`jup`"'
 BOARDS_RULE, REFUSALS_RULE = 'docs/WIRE.md, "Layouts"', 'docs/PROTOCOL.md, "What is refused, and what it leaves"'
 BOARD_WORDS = ("window", "text", "list", "toggle", "slider")
+# Who reads the lines of the table of lines.
+READERS = ("first", "server", "client", "greeting")
 
 
 def rows_of(name):
@@ -33,15 +35,15 @@ def rows_of(name):
 
 
 def rule_in(name):
-    """What a file of this folder says, in a comment, is the rule that it shows."""
+    """The rule that a file of this folder shows, by its comment."""
     with open(f"{HERE}/{name}", encoding="utf-8") as file:
         found = [it.removeprefix("# Rule: ").strip() for it in file if it.startswith("# Rule: ")]
-    assert len(found) == 1, f"{name} names {len(found)} rules"
+    assert len(found) == 1, f"{name} has {len(found)} rules"
     return found[0]
 
 
 def spread(row):
-    """The lines that braces stand for: `A sends op {0..2} 0` is three. Several braces of one row count together."""
+    """The steps that a row with braces spells. `A sends ack {0..2}` is three steps. Several braces of one row count together."""
     ranges = [range(int(first), int(last) + 1) for first, last in re.findall(r"\{(\d+)\.\.(\d+)\}", row)]
     if not ranges:
         return [row]
@@ -51,13 +53,13 @@ def spread(row):
 
 
 def text_of(text):
-    """What stands behind `bytes`: a JSON string, and how many times."""
+    """The text of a step with `bytes`: a JSON string, and how many times it is repeated."""
     found = re.fullmatch(r'(".*")(?: (\d+) times)?', text)
     return json.loads(found[1]) * int(found[2] or 1)
 
 
 def lines_in(text):
-    """The lines of a step: ` / ` stands between several, and one may come so many times."""
+    """The lines of a step. ` / ` separates several, and `N times` after a line repeats it."""
     lines = []
     for line in text.split(" / "):
         found = re.fullmatch(r"(.*) (\d+) times", line)
@@ -66,13 +68,13 @@ def lines_in(text):
 
 
 def repeated(row):
-    """A row of a board, whose text may be of one letter so many times."""
+    """A row of a printed board, in which a text may be `"a" 65536 times`."""
     found = re.fullmatch(r'(text \d+ )"(.)" (\d+) times', row)
     return f'{found[1]}"{found[2] * int(found[3])}"' if found else row
 
 
 def lines_of(printed):
-    """The lines of a link that a printed board is; its k-th item is named 0.k."""
+    """A printed board as lines of a link. Its k-th item has the name 0.k."""
     lines, items = [], 0
     for row in printed:
         word, wid, *rest = row.split(" ", 2)
@@ -88,7 +90,7 @@ def lines_of(printed):
 
 
 class Board:
-    """A board as it is printed, its lines, and how many items it has."""
+    """A board as it is printed, as lines of a link, and how many items it has."""
 
     def __init__(self, printed):
         self.printed = printed
@@ -104,7 +106,7 @@ class Board:
 
 
 class Transcript:
-    """A board, the limit of its server, and the rows of steps in order."""
+    """A transcript: its board, the limit of its server, and its rows of steps in order."""
 
     def __init__(self, path):
         self.name = os.path.relpath(path, HERE)
@@ -115,7 +117,7 @@ class Transcript:
         self.board, self.rows = Board(rows[:count]), rows[count:]
 
     def play(self, acts):
-        """Does each step by the act whose words it has."""
+        """Does each step by the function of `acts` that has its words."""
         form = re.compile(rf"(\w+) ({'|'.join(sorted(acts, key=len, reverse=True))})(?: (.*))?")
         for step in itertools.chain.from_iterable(map(spread, self.rows)):
             who, verb, rest = form.fullmatch(step).groups("")
@@ -130,7 +132,7 @@ def transcripts(folder):
 
 
 class Transform:
-    """A row of the table: two concurrent operations, what each becomes, and what is then shown."""
+    """A row of the table: two concurrent operations, what each becomes, and what is shown at the end."""
 
     def __init__(self, number, row):
         cells = [it.strip() for it in row.split("|")]
@@ -138,18 +140,18 @@ class Transform:
         self.number, self.text = number, row
 
     def closes(self):
-        """Whether both ways round the two operations, and what they become, make of the start what is shown."""
+        """Whether both ways round lead from the start to what is shown."""
         one = done(done(self.start, self.client, "x"), self.server_after, "y")
         other = done(done(self.start, self.server, "y"), self.client_after, "x")
         return one == other == " ".join([*self.start.split(" ")[:-1], self.shown])
 
     def is_in(self, window):
-        """Whether it is played in this window of the tables."""
+        """Whether the kit plays this row in this window."""
         return window in {"sequence": (LISTS_WINDOW, TEXTS_WINDOW), "list": (LISTS_WINDOW,)}.get(self.kind, (SETTINGS_WINDOW,))
 
 
 def done(state, operation, letter):
-    """What an operation makes of letters, or of a setting behind its bounds."""
+    """What an operation makes of a sequence of letters, or of a setting with its bounds before it."""
     verb, _, rest = operation.partition(" ")
     if verb == "no":
         return state
@@ -164,7 +166,7 @@ def transforms():
 
 
 class LineRow:
-    """A line that a reader is given: which reader, the line, and the number of the fault that it tells, or None where it takes the line."""
+    """A line, its reader, and the number of the fault that the reader reports, or None if it takes the line."""
 
     def __init__(self, row):
         self.reader, fault, text = row.split(" ", 2)
@@ -172,7 +174,7 @@ class LineRow:
         self.name = f"lines: {self.reader} {self.text!r}"
 
     def rule(self):
-        """The rule that it shows, with its page."""
+        """The rule that the line shows, with its page."""
         if self.reader != "server" and "error " in self.text or self.reader == "greeting" and self.fault in (43, 50, 51):
             return CLIENT_RULE
         if self.fault is None or 40 <= self.fault <= 43:
@@ -186,8 +188,14 @@ def lines_for(reader):
     return [it for it in map(LineRow, rows_of("lines")) if it.reader == reader]
 
 
+def rules():
+    """Every rule that a transcript or a table shows."""
+    shown = {it.rule for folder in ("servers", "clients") for it in transcripts(folder)}
+    return shown | {it.rule() for reader in READERS for it in lines_for(reader)} | set(TRANSFORM_RULES.values())
+
+
 def widget(word, number, start, value):
-    """A widget of the table of transforms that holds a value, as it is printed. A list's labels are single letters."""
+    """A widget of the table of transforms with a value, as it is printed. A list's labels are single letters."""
     if word == "slider":
         value = f"{start.rpartition(' ')[0]} {value}"
     letters = {"text": [f'"{value}"'], "list": [f'"{it}"' for it in value]}
@@ -195,7 +203,7 @@ def widget(word, number, start, value):
 
 
 def table_board(window):
-    """The board of a table: one of each widget for the lines, and for each row of the transforms a widget of its number."""
+    """The board of a table. That of the lines has one widget of each kind. That of the transforms has a widget for each row, with the row's number."""
     if window == LINES_WINDOW:
         return [f"window {window}", 'text 1 "Hi"', 'list 2 "red"', "toggle 3 off", "slider 4 -5 10 0"]
     rows = [it for it in transforms() if it.is_in(window)]
@@ -218,7 +226,7 @@ def layout(limit):
 
 
 def renamed(line, numbers):
-    """A line with its names under the numbers that sites have in fact, and counted from another item on."""
+    """A line whose names have the numbers that the sites really have, and count from another item on."""
 
     def name(found):
         site, item = int(found[1]), int(found[2])

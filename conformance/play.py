@@ -1,4 +1,4 @@
-"""The mode that plays: clients edit one board at random, and the kit decides by a seed which line passes when."""
+"""The mode that plays. Clients edit one board at random, and the kit decides by a seed when each message passes."""
 import contextlib
 import random
 import re
@@ -13,7 +13,7 @@ from links import Differs, Lines, address_bound, free_address
 from relay import OwnClient, OwnServer, Relay
 
 LIMIT = 1_000_000
-# The board that a server opens with that the kit starts: each kind of widget, under the same ids in two windows.
+# The board of a server that the kit starts. It has each kind of widget, with the same ids in two windows.
 LAYOUT = material.Board(
     [
         "window 1",
@@ -33,11 +33,11 @@ QUOTED = re.compile(r'"((?:[^"\\]|\\.)*)"')
 LETTER = re.compile(r"\\u\{\w+\}|\\.|[^\\]")
 # How often each kind of step comes.
 KINDS = {"edit": 8, "up": 5, "sync": 3, "down": 5}
-# How long a sequence may get before more is deleted than inserted, and how many commands a batch has at most.
+# How long a sequence may get before clients delete more than they insert, and how many commands a batch has at most.
 LONG, MOST_COMMANDS = 7, 4
-# How many of the commands are of the widgets that a run is about, and how many of its steps up a slow client takes.
+# The share of commands for the widgets that a run is about, and the share of its `up` steps that a slow client keeps.
 MOSTLY, SLOW = 0.7, 0.3
-# How many places are within their sequence.
+# The share of places that are within their sequence.
 FITS = 0.93
 
 
@@ -50,7 +50,7 @@ class Widget:
         self.length = len(LETTER.findall(texts[0])) if self.kind == "text" else len(texts)
 
     def command(self, pick):
-        """A command, most often one that fits; the widget is then as it will be behind it."""
+        """A command, most often one that fits. It sets the length that the widget has after the command."""
         ids = f"{self.win} {self.wid}"
         if self.kind == "toggle":
             return f"set {ids} {pick.choice(('on', 'off'))}"
@@ -79,7 +79,7 @@ def widgets_in(board):
 
 
 def commands_for(board, step):
-    """One edit of a board: a command, or the commands of a batch. Most are of the widgets that the run is about."""
+    """One edit of a board: a command, or the commands of a batch. Most are for the widgets that the run is about."""
     pick = random.Random(step.choice)
     widgets = list(widgets_in(board))
     wid = widgets[int(step.about * len(widgets))].wid
@@ -89,7 +89,7 @@ def commands_for(board, step):
 
 
 class Step(typing.NamedTuple):
-    """A step of a run: its kind, the number of its client, and from what the kit chooses the widgets and what it types."""
+    """A step of a run: its kind, the number of its client, and the two random numbers that choose the widgets and the commands."""
 
     kind: str
     who: int
@@ -98,7 +98,7 @@ class Step(typing.NamedTuple):
 
 
 def steps_for(seed, clients):
-    """The steps of a run. One of its clients is slow: what it sends waits longer."""
+    """The steps of a run. One of its clients is slow, so what it sends waits longer."""
     pick = random.Random(seed)
     about, slow = pick.random(), pick.randrange(clients)
     kinds = pick.choices(list(KINDS), KINDS.values(), k=pick.randint(40, 100) * clients)
@@ -107,29 +107,29 @@ def steps_for(seed, clients):
 
 
 class Stage:
-    """What a run is played by: the command lines of the clients, and the server."""
+    """Who plays a run: the clients and the server."""
 
     def __init__(self, clients, own, command, server):
         self.clients, self.command, self.server = clients, command, server
         self.own = clients if not command else own
 
     def starts(self):
-        """For each client, the last of them for who joins late, its words and what starts it."""
+        """The arguments of each client, and the function that starts it. The last one is for the client that joins late."""
         given = [(self.command, subprocess.Popen)] * (self.clients - self.own)
         owns = [(["{}"], OwnClient)] * self.own
         return [*given, *owns, (owns or given)[0]]
 
     @contextlib.contextmanager
     def address(self):
-        """Where the server listens, and the lines that it prints, or None where it was not started by a command."""
+        """Where the server listens, and the lines that it prints, or None if the kit did not start it by a command."""
         if self.server and " " not in self.server:
             yield self.server, None
         elif self.server:
             with self.started() as process:
                 printed, told = Lines(process.stdout), Lines(process.stderr)
-                listening = printed.next("'listening', printed by the server,")
+                listening = printed.next("'listening' from the server")
                 if not listening.startswith("listening "):
-                    raise Differs(f"'listening' was due, and the server printed {listening!r}")
+                    raise Differs(f"expected 'listening', but the server printed {listening!r}")
                 yield address_bound(listening, told), printed
         else:
             with socket.create_server(("127.0.0.1", 0), backlog=64) as listener:
@@ -139,7 +139,7 @@ class Stage:
 
     @contextlib.contextmanager
     def started(self):
-        """The process of the server, which has read its layout. It is stopped at the end of the `with`."""
+        """The process of the server, which has got its layout. The end of the `with` stops it."""
         values = {"{}": free_address(), "{limit}": str(LIMIT), "{sessions}": str(self.clients + 1)}
         words = [values.get(it, it) for it in shlex.split(self.server)]
         try:
@@ -148,7 +148,7 @@ class Stage:
             raise Differs(f"the server cannot be started: {fault}") from None
         with process:
             try:
-                with contextlib.suppress(OSError):  # one that has ended says so by what it prints
+                with contextlib.suppress(OSError):  # if the server has ended, the test of `listening` reports it
                     process.stdin.write("".join(f"{it}\n" for it in LAYOUT).encode())
                     process.stdin.close()
                 yield process
@@ -163,7 +163,7 @@ class Run:
         self.stage, self.steps, self.log, self.relays = stage, steps, [], []
 
     def differs(self):
-        """Plays the run, and answers what differs from what is due, or None."""
+        """Plays the run. Returns what differs from what is expected, or None."""
         try:
             with self.stage.address() as (address, printed):
                 try:
@@ -181,7 +181,7 @@ class Run:
             self.joins(f"client {number + 1}", start, address)
         for step in self.steps:
             self.does(step, self.relays[step.who])
-        self.log.append("all that waits is passed, and every client syncs")
+        self.log.append("the kit passes everything that waits, and every client syncs")
         for relay in self.relays * 2:
             relay.settle()
         self.joins("the late joiner", late, address)
@@ -189,7 +189,7 @@ class Run:
         for relay in self.relays:
             relay.quit()
         if printed:
-            printed.next("'order', printed by the server,")
+            printed.next("'order' from the server")
             boards.append(("the server", [printed.next("a line of the server's board") for _ in boards[0][1]]))
         are_equal(boards)
 
@@ -205,16 +205,16 @@ class Run:
 
 
 def are_equal(boards):
-    """All boards are as the first."""
+    """Tests that all boards are equal to the first."""
     first, wanted = boards[0]
     for name, board in boards[1:]:
         for due, found in zip(wanted, board):
             if due != found:
-                raise Differs(f"{first} shows {due!r}, and {name} {found!r}")
+                raise Differs(f"{first} shows {due!r}, but {name} shows {found!r}")
 
 
 def shortest(stage, steps, until):
-    """The shortest run that is found until then, of those that leave steps out and fail: its log, and what differs."""
+    """Leaves steps out of a run that fails, until that time. Returns the log of the shortest run that still fails, and what differs."""
     run = Run(stage, steps)
     found = run.log, run.differs(), steps
     size = max(1, len(steps) // 2)
@@ -225,7 +225,7 @@ def shortest(stage, steps, until):
 
 
 def shorter(stage, found, size, until):
-    """Leaves out so many steps at a time, from the end on, where the run still fails."""
+    """Leaves out `size` steps at a time, from the end on, as long as the run still fails."""
     at, was_shorter = len(found[2]), False
     while at > 0 and time.monotonic() < until:
         at = max(0, at - size)
@@ -238,7 +238,7 @@ def shorter(stage, found, size, until):
 
 
 def play(stage, seed, seconds):
-    """Plays runs of one seed after another, for so long. The first that fails is told, in the shortest form that is found in as long again."""
+    """Plays runs of one seed after another, for so many seconds. Prints the first that fails, in the shortest form that it finds in as many seconds again."""
     begun = time.monotonic()
     count = 0
     while not count or time.monotonic() - begun < seconds:
@@ -258,7 +258,7 @@ def play(stage, seed, seconds):
 def tell_failure(stage, seed, steps, first, seconds):
     log, differs = shortest(stage, steps, time.monotonic() + seconds)
     if not differs:
-        print(f"play: seed {seed}: the run failed, and did not when it was played again: {first[1]}")
+        print(f"play: seed {seed}: the run failed once, but not when it was repeated: {first[1]}")
         log, differs = first
     print(f"play: seed {seed}: {differs}. The shortest run that was found:")
     print("\n".join(f"  {it}" for it in log))

@@ -1,4 +1,4 @@
-"""What stands between a client and a server while the kit plays: what each of the two sent waits here until it is passed on."""
+"""What is between a client and a server while the kit plays. What each of the two sent waits here until the kit passes it on."""
 import collections
 import contextlib
 import os
@@ -13,20 +13,20 @@ sys.path.append(f"{material.HERE}/fakes")
 import sites  # noqa: E402
 import stars  # noqa: E402
 
-# The kit's own pings begin behind this number. A client's own are counted from 1.
+# The kit's own pings begin after this number. A client counts its pings from 1.
 OWN_PINGS = 4_000_000_000
 # How many edits an end receives before it owes an acknowledgement.
 OWES = 64
 
 
 class Messages:
-    """The messages that lines come to: an edit has several."""
+    """Gathers lines into messages. An edit has several lines."""
 
     def __init__(self):
         self.lines, self.missing = [], 0
 
     def push(self, line):
-        """The message that this line ends, as its lines; None within one."""
+        """The lines of the message that this line ends, or None within a message."""
         self.missing = int(line.split(" ")[3]) if line.startswith("batch ") else max(0, self.missing - 1)
         self.lines.append(line)
         if self.missing:
@@ -36,17 +36,17 @@ class Messages:
 
 
 class Relay:
-    """A client, the server's end of its link and the client's end of the server's, and the messages that wait between them."""
+    """A client, a link to it and a link to the server, and the messages that wait between the two links."""
 
     def __init__(self, name, words, start, address, log):
         self.name, self.log, self.server = name, log, Link.to(address)
         self.client = Client(words, start)
         self.ups, self.downs, self.from_server = collections.deque(), collections.deque(), Messages()
-        # The number of the client's last ping, whether its pong has still to come, and of the kit's own last one.
+        # The number of the client's last ping, whether its pong is still to come, and the number of the kit's own last ping.
         self.pings, self.is_syncing, self.own_pings = 0, False, 0
-        # Whether all is passed that waits, at the end: what that takes of pings is not told.
+        # Whether this is the end, at which the kit passes everything that waits. The log then leaves out pings and syncs.
         self.is_settling = False
-        # How many edits were passed down since the client took any, and how many it took since it sent one or acknowledged.
+        # How many edits were passed to the client since its last sync, and how many it took since it sent an edit or an acknowledgement.
         self.passed, self.taken = 0, 0
 
     def says(self, text):
@@ -54,7 +54,7 @@ class Relay:
             self.log.append(f"{self.name} {text}")
 
     def greet(self):
-        """Passes the greeting and the board at once."""
+        """Passes the greeting and the board without delay."""
         self.client.link.lines.are_next("hello 3")
         self.server.send_lines("hello 3")
         lines = []
@@ -66,19 +66,19 @@ class Relay:
         self.says(f"joins as site {lines[0].split(' ')[1]}")
 
     def of_server(self, due):
-        """The next line of the server, which has no cause to end."""
+        """The next line of the server. The end, `bye` and an error are failures."""
         line = self.server.lines.next(due)
         if line == END or line == "bye" or line.startswith("error "):
-            raise Differs(f"{due} was due to {self.name}, and the server told it {line!r}")
+            raise Differs(f"expected {due} for {self.name}, but the server sent {line!r}")
         return line
 
     def prints(self, due):
-        found = self.client.printed.next(f"{due!r}, printed by {self.name},")
+        found = self.client.printed.next(f"{due!r} from {self.name}")
         if found != due:
-            raise Differs(f"{due!r} was due, and {self.name} printed {found!r}")
+            raise Differs(f"expected {due!r}, but {self.name} printed {found!r}")
 
     def collect(self):
-        """Asks the server by a ping whether all has come that it has for this client."""
+        """Collects everything that the server has for this client. The pong of a ping shows that all of it has come."""
         self.own_pings += 1
         pong = f"pong {OWN_PINGS + self.own_pings}"
         self.server.send_lines(f"ping {OWN_PINGS + self.own_pings}")
@@ -93,28 +93,28 @@ class Relay:
         return [self.client.printed.next(f"a line of the board of {self.name}") for _ in range(self.height)]
 
     def edit(self, commands):
-        """Types the commands as one edit. What the client makes of them waits to be passed."""
+        """Types the commands as one edit. What the client sends for them waits here."""
         lines = commands if len(commands) == 1 else [f"batch {len(commands)}", *commands]
         self.client.types("".join(f"{it}\n" for it in lines))
-        answer = self.client.printed.next(f"'made' or 'refused', printed by {self.name},")
+        answer = self.client.printed.next(f"'made' or 'refused' from {self.name}")
         self.says(f"types {' / '.join(lines)}: {answer}")
         if answer.startswith("made "):
             self.ups.append(self.of_client("batch "))
             self.taken = 0
         elif not answer.startswith("refused "):
-            raise Differs(f"'made' or 'refused' was due, and {self.name} printed {answer!r}")
+            raise Differs(f"expected 'made' or 'refused', but {self.name} printed {answer!r}")
 
     def of_client(self, word):
-        """The next message of the client, which begins so."""
+        """The next message of the client, which has to begin with this word."""
         messages, message = Messages(), None
         while not message:
-            message = messages.push(self.client.link.lines.next(f"{word!r} of {self.name}"))
+            message = messages.push(self.client.link.lines.next(f"{word!r} from {self.name}"))
         if not message[0].startswith(word):
-            raise Differs(f"{word!r} was due, and {self.name} sent {message[0]!r}")
+            raise Differs(f"expected {word!r}, but {self.name} sent {message[0]!r}")
         return message
 
     def sync(self):
-        """Types a `sync`, which is over once its pong has been passed."""
+        """Types `sync`. It is over once the kit has passed its pong."""
         if not self.is_syncing:
             self.client.types("sync\n")
             self.is_syncing, self.pings = True, self.pings + 1
@@ -122,7 +122,7 @@ class Relay:
             self.says("types sync")
 
     def up(self):
-        """Passes the oldest message to the server, and waits until that has taken it."""
+        """Passes the oldest message to the server, and waits until the server has taken it."""
         if self.ups:
             message = self.ups.popleft()
             self.server.send_lines(*message)
@@ -144,17 +144,17 @@ class Relay:
         try:
             self.client.link.send_lines(*message)
         except Differs:
-            raise Differs(f"{self.name} has ended: it printed {self.client.printed.next()!r}") from None
+            raise Differs(f"{self.name} has ended, and printed {self.client.printed.next()!r}") from None
 
     def has_synced(self):
-        """The client has taken all that was passed, and has acknowledged where it owed that."""
+        """Notes that the client has taken everything that was passed, and takes the acknowledgements that it owed."""
         self.prints("synced")
         self.is_syncing, owed = False, (self.taken + self.passed) // OWES
         self.taken, self.passed = (self.taken + self.passed) % OWES, 0
         self.ups.extend(self.of_client("ack ") for _ in range(owed))
 
     def settle(self):
-        """Passes all that waits, and has the client take it."""
+        """Passes everything that waits, and has the client take it by a sync."""
         self.is_settling = True
         self.pass_all()
         self.sync()
@@ -167,7 +167,7 @@ class Relay:
             self.down()
 
     def quit(self):
-        """Ends the session of the client, which ends well."""
+        """Ends the session of the client, which has to exit with status 0."""
         self.client.types("quit\n")
         self.server.send_lines(*self.of_client("bye"))
         self.server.lines.are_next("bye")

@@ -1,16 +1,16 @@
-"""The rows of the table of transforms as operations of a link: each is played in a widget of its own, which has the row's number."""
+"""The rows of the table of transforms as operations of a link. Each row has a widget of its own, with the row's number as its id."""
 import material
 
 
 class Row:
-    """A row in one of its windows, where so many items stand before its own."""
+    """A row in one of its windows, with how many items of the window come before its own."""
 
     def __init__(self, row, window, before):
         self.row, self.window, self.before = row, window, before
         self.word = material.WORDS.get(window, row.kind)
 
     def spelled(self, client, server):
-        """The client's operation, what it becomes, and the server's. The two give a new item the names `client` and `server`."""
+        """The client's operation, what it becomes, and the server's. A new item has the name `client` or `server`."""
         row = self.row
         return (
             self.operation(row.client, row.client, client, "x"),
@@ -19,7 +19,7 @@ class Row:
         )
 
     def operation(self, operation, first, new, letter):
-        """An operation as a link bears it. The item that it deletes or relabels is the one where it stood at `first`."""
+        """An operation as a link carries it. `first` is how the operation was before it was moved, so its place tells the item that it deletes or relabels."""
         verb, _, place = operation.partition(" ")
         widget = f"{self.window} {self.row.number} {self.word}"
         if verb in ("no", "set"):
@@ -47,7 +47,7 @@ class Names:
         self.site, self.count = site, 0
 
     def next_for(self, operation):
-        """The name of what the operation inserts, if it does."""
+        """The name of the item that the operation inserts, if it inserts one."""
         self.count += operation.startswith("ins")
         return f"{self.site}.{self.count}"
 

@@ -1,4 +1,4 @@
-"""Operations and boards, as the fakes have them: as little as a server and a client need."""
+"""Operations and boards of the fakes, with as little as a server and a client need."""
 import re
 
 NUM, INT, NAME = r"(0|[1-9]\d*)", r"(0|-?[1-9]\d*)", r"(0|[1-9]\d*)\.(0|[1-9]\d*)"
@@ -12,12 +12,12 @@ BODIES = {
     ("toggle", "set"): r"(on|off)",
     ("slider", "set"): INT,
 }
-# How many windows, and widgets of a window, there may be, and the length from which on no command inserts.
+# How many windows a board may have, and how many widgets a window. From LONGEST items on no command inserts.
 MOST_IDS, LONGEST = 64, 65_536
 
 
 class Fault(Exception):
-    """A fault by its number."""
+    """A fault, by its number."""
 
     def __init__(self, number):
         super().__init__(number)
@@ -25,7 +25,7 @@ class Fault(Exception):
 
 
 class Op:
-    """An operation on one widget: `verb` is ins, del, rel, set or no. A text's value is a character's number."""
+    """An operation on one widget. `verb` is ins, del, rel, set or no. The value in a text is a code point."""
 
     def __init__(self, win, wid, kind, verb, place=0, name=None, value=None):
         self.win, self.wid, self.kind, self.verb, self.place, self.name, self.value = win, wid, kind, verb, place, name, value
@@ -61,7 +61,7 @@ def scalar(text):
 
 
 def read_op(words):
-    """The operation that `W I BODY` is."""
+    """The operation that `W I BODY` spells."""
     found = re.fullmatch(rf"{NUM} {NUM} (text|list|toggle|slider) (\w+)(?: (.*))?", words)
     if not found:
         raise Fault(40)
@@ -79,7 +79,7 @@ def read_op(words):
 
 
 class Widget:
-    """A text or a list, with its items as names and values; or a toggle or a slider, with its value."""
+    """A text or a list with its items, each a name and a value, or a toggle or a slider with its value."""
 
     def __init__(self, kind, value=None, low=0, high=0):
         self.kind, self.value, self.low, self.high, self.items, self.names = kind, value, low, high, [], set()
@@ -94,19 +94,19 @@ class Widget:
         self.names.add(name)
 
     def line(self, wid):
-        """What stands behind `W I` where it is a setting."""
+        """The line of the widget in a layout, without its items."""
         bounds = f"{self.low} {self.high} " if self.kind == "slider" else ""
         return f"{self.kind} {wid}" if self.value is None else f"{self.kind} {wid} {bounds}{self.value}"
 
 
 class Board:
-    """Widgets by their ids."""
+    """A board: windows by their ids, and in each its widgets by their ids."""
 
     def __init__(self):
         self.windows, self.window, self.last = {}, None, None
 
     def read_line(self, line):
-        """Adds what a line of a board says, or refuses it."""
+        """Adds the window, widget or item of a line of a board, or refuses it."""
         word, *rest = line.split(" ", 2)
         if word == "window":
             self.window = self.windows[self.free_id(rest[0], self.windows)] = {}
@@ -135,7 +135,7 @@ class Board:
         self.last.put(len(self.last.items), name, scalar(value) if word == "char" else value)
 
     def free_id(self, text, taken):
-        """An id that may be given, beside those that are taken."""
+        """The id that a text spells, if it may be added to those that are taken."""
         given = number(text, 2**16)
         if given == 0:
             raise Fault(12)
@@ -165,7 +165,7 @@ class Board:
                 yield from (f"{word} {site}.{count} {value}" for (site, count), value in widget.items)
 
     def apply_all(self, ops):
-        """Does an edit's operations in order, or none of them."""
+        """Applies an edit's operations in order, or none of them."""
         before = self.kept(ops)
         try:
             self.no_name_twice(ops)
@@ -176,7 +176,7 @@ class Board:
             raise
 
     def no_name_twice(self, ops):
-        """No operation of an edit inserts a name that one before it inserted or deleted."""
+        """Refuses an edit in which an operation inserts a name that an earlier one inserted or deleted."""
         seen = set()
         for op in ops:
             if op.verb == "ins" and op.name in seen:
@@ -185,7 +185,7 @@ class Board:
                 seen.add(op.name)
 
     def kept(self, ops):
-        """Copies of the widgets that these operations are of."""
+        """Copies of the widgets that these operations change."""
         ids = {(it.win, it.wid) for it in ops if it.wid in self.windows.get(it.win, {})}
         return {(win, wid): self.windows[win][wid].copy() for win, wid in ids}
 
@@ -194,7 +194,7 @@ class Board:
             self.windows[win][wid] = widget
 
     def apply(self, op):
-        """Does the operation, or refuses it where it does not fit."""
+        """Applies the operation, or refuses it if it does not fit."""
         widget = self.windows.get(op.win, {}).get(op.wid)
         if not widget or widget.kind != op.kind:
             raise Fault(23)

@@ -1,12 +1,12 @@
-"""One end of a link: how operations are moved past one another, and what an end counts and keeps."""
+"""One end of a link: how it moves operations past one another, and what it counts and keeps."""
 from boards import Fault
 
 
 class Transforms:
-    """How two concurrent operations are moved past one another: the tables of docs/PROTOCOL.md."""
+    """Moves two concurrent operations past one another, by the tables of docs/PROTOCOL.md."""
 
     def pair(self, c, s):
-        """A client's operation and a server's, past one another."""
+        """A client's operation and a server's, moved past one another."""
         if not self.are_one_widget(c, s) or "no" in (c.verb, s.verb):
             return c, s
         if c.verb == "set":
@@ -24,11 +24,11 @@ class Transforms:
         return one.name == other.name
 
     def is_client_left(self, c, s):
-        """Whether the client's stands left where both insert at one place."""
+        """Whether the client's item is to the left if both insert at one place."""
         return True
 
     def past(self, op, other):
-        """An operation on a sequence past another at another place, or of another kind."""
+        """An operation on a sequence, moved past one at another place or of another kind."""
         if other.verb == "rel":
             return op
         if other.verb == "del":
@@ -40,7 +40,7 @@ class Transforms:
         return op.at(op.place + (other.place <= op.place))
 
     def grid(self, client, server):
-        """Two lists of operations, past one another: each of the client's in order past the whole of the server's as it then stands."""
+        """Two lists of operations, moved past one another. Each of the client's, in order, passes the whole of the server's list as it then is."""
         moved, server = [], list(server)
         for op in client:
             for at, other in enumerate(server):
@@ -50,7 +50,7 @@ class Transforms:
 
 
 class End:
-    """One end of a link: its counts, and its edits, lists of operations, that the other end is not known to have received."""
+    """One end of a link: its counts, and the queue of its edits that it does not know the other end to have received. An edit is a list of operations."""
 
     def __init__(self, is_client, transforms):
         self.is_client, self.transforms = is_client, transforms
@@ -69,7 +69,7 @@ class End:
         self.acknowledged = count
 
     def receive(self, mine, heard, ops):
-        """What is to be applied, moved past what the other end had not received."""
+        """The operations to apply: those received, moved past what the other end had not received."""
         if mine != self.heard:
             raise Fault(20)
         self.take_ack(heard)
@@ -78,17 +78,17 @@ class End:
         return ops
 
     def past_queue(self, ops):
-        """An edit past each of the queue, the oldest first, and each of these past it."""
+        """An edit, moved past each of the queue, the oldest first. Each of the queue is moved past it."""
         for at in self.turns():
             ops = self.past_one(at, ops)
         return ops
 
     def turns(self):
-        """The places in the queue, in the order in which an edit is moved past them."""
+        """The places in the queue, in the order in which an edit passes them."""
         return range(len(self.queue))
 
     def past_one(self, at, ops):
-        """An edit past one of the queue, and that past it."""
+        """An edit, moved past one of the queue. That one is moved past it."""
         if self.is_client:
             self.queue[at], ops = self.transforms.grid(self.queue[at], ops)
         else:
@@ -99,12 +99,12 @@ class End:
         self.heard, self.owed = self.heard + 1, self.owed + 1
 
     def owes(self):
-        """The acknowledgement that is due, or None."""
+        """The acknowledgement that this end owes, or None."""
         if self.owed < 64:
             return None
         self.owed = 0
         return f"ack {self.heard_count()}"
 
     def heard_count(self):
-        """How many edits it tells that it has received."""
+        """How many edits it says that it has received."""
         return self.heard

@@ -1,4 +1,4 @@
-"""Lines of a link, read strictly, and commands as a client's user types them."""
+"""Reads lines of a link strictly, and commands as a client's user types them."""
 import re
 import select
 
@@ -26,7 +26,7 @@ LONGEST_LINE = 256
 
 
 class Lines:
-    """The lines that come on a connection, as texts; 41 where 256 bytes have no line feed, 43 where the bytes end within a line."""
+    """The lines that come on a connection, as texts. It reports 41 if 256 bytes have no line feed, and 43 if the bytes end within a line."""
 
     def __init__(self, connection):
         self.connection, self.held, self.at = connection, b"", 0
@@ -51,7 +51,7 @@ class Lines:
 
 
 class Grammar:
-    """Lines of a link: a line's first word, and the numbers or the text behind it."""
+    """Reads a line of a link: its first word, and the numbers or the text after it."""
 
     def read(self, line):
         word, space, rest = line.partition(" ")
@@ -71,13 +71,13 @@ class Grammar:
 
 
 class Gathering:
-    """The lines of a batch, until all are there."""
+    """Gathers the lines of a batch."""
 
     def __init__(self):
         self.counts, self.left, self.ops = [], 0, []
 
     def take(self, word, rest):
-        """The message that a line ends: its first word, and what it says; or None within a batch."""
+        """The message that a line ends, as its first word and its fields, or None within a batch."""
         if self.left != 0 if word != "do" else self.left == 0:
             raise Fault(44)
         if word == "batch":
@@ -94,7 +94,7 @@ SHAPES = {"ins": rf"{NUM} (char|item) {QUOTED}", "del": NUM, "rel": rf"{NUM} {QU
 
 
 def unquoted(text):
-    """What stands between quotes, or None where it is spelled otherwise than a text has to be."""
+    """What the text between two quotes spells, or None if that is not its one spelling."""
     found = re.sub(r'\\u\{(\w+)\}|\\(["\\])', lambda it: it[2] or char_of(int(it[1], 16)), text)
     return found if quoted(found) == f'"{text}"' else None
 
@@ -113,17 +113,17 @@ def quoted(text):
 
 
 class Commands:
-    """The commands of a user, a line each."""
+    """Reads the commands of a user, one from each line."""
 
     longest_label = 48
 
     def batch_count(self, line):
-        """How many commands a line begins a batch of, or None where it begins none."""
+        """How many commands the batch has that a line begins, or None if it begins none."""
         found = re.fullmatch(r"batch (\d|[1-5]\d|6[0-4])", line)
         return int(found[1]) if found else None
 
     def read(self, line):
-        """A command's word, its ids, its place or setting, the kind of its value, and its value; or None."""
+        """A command's word, its ids, its place or setting, the kind of its value, and its value. None if the line is no command."""
         found = re.fullmatch(rf"(ins|del|rel|set) {NUM} {NUM} (.*)", line)
         parts = found and re.fullmatch(SHAPES[found[1]], found[4])
         if not parts or max(int(found[2]), int(found[3])) > 65_535:

@@ -1,4 +1,4 @@
-"""A client in plain Python: it does what its user types, as `jup` does."""
+"""A client in plain Python, which does what its user types, as `jup` does."""
 import socket
 
 from boards import LONGEST, Board, Fault, Op
@@ -11,7 +11,7 @@ LAST_SITE, HIGHEST_LIMIT = 65_535, 16_777_216
 
 
 class Client:
-    """A user's site over one link. Its commands come from an iterator of lines, and `tell` takes what it prints."""
+    """A user's site over one link. `typed` is an iterator of its command lines, and `tell` takes what it prints."""
 
     transforms, board, end, grammar, commands = Transforms, Board, End, Grammar, Commands
     most_commands, most_unacknowledged = 32, 1024
@@ -23,7 +23,7 @@ class Client:
         self.site, self.limit, self.pings, self.insertions = 0, 0, 0, 0
 
     def run(self):
-        """Greets, and does what is typed. The exit status."""
+        """Greets, and does what its user types. Returns the exit status."""
         try:
             self.greet()
             for line in self.typed:
@@ -44,7 +44,7 @@ class Client:
         self.connection.sendall(f"{line}\n".encode("latin-1"))
 
     def next(self):
-        """The next line as it stands, and as it is read."""
+        """The next line, its first word and its fields."""
         line = self.lines.next()
         if line is None:
             raise Fault(43)
@@ -81,10 +81,10 @@ class Client:
         self.tell("bye")
         self.connection.shutdown(socket.SHUT_WR)
         while self.connection.recv(65536):
-            pass  # what the server still says changes nothing
+            pass  # what the server still sends changes nothing
 
     def does(self, line):
-        """What a command answers; None where it is not answered."""
+        """The answer to a command, or None if it has none."""
         if line == "sync":
             self.sync()
             return "synced"
@@ -103,7 +103,7 @@ class Client:
             return f"refused {fault.number}"
 
     def sync(self):
-        """Asks for all that the server has for this site, and takes each line up to the answer."""
+        """Asks the server for all that it has for this site, and takes each line up to the pong."""
         self.pings += 1
         self.send(f"ping {self.pings}")
         while not self.takes_line():
@@ -111,10 +111,10 @@ class Client:
         self.has_synced()
 
     def has_synced(self):
-        """What is done once a sync is over."""
+        """Does what follows a sync, which is nothing in a right client."""
 
     def takes_line(self):
-        """Takes a line of the server. Whether it answers the last ping."""
+        """Takes a line of the server. Returns whether it answers the last ping."""
         _, word, rest = self.next()
         message = self.gathering.take(word, rest)
         if message:
@@ -156,7 +156,7 @@ class Client:
             raise Fault(15)
 
     def refuse_more(self):
-        """Refuses an edit since too many are not acknowledged, or were made."""
+        """Refuses an edit if too many are not acknowledged, or if the client has made as many as the limit."""
         if len(self.end.queue) >= self.most_unacknowledged:
             raise Fault(7)
         if self.is_spent():
@@ -166,7 +166,7 @@ class Client:
         return self.end.sent >= self.limit
 
     def forget(self, insertions):
-        """The insertions of an edit that was refused use no number."""
+        """Sets the count of insertions back, since those of a refused edit use no number."""
         self.insertions = insertions
 
     def one(self, word, win, wid, place, kind, value):
@@ -204,7 +204,7 @@ class Client:
 
 
 def printed(board):
-    """The lines of a board as it is printed."""
+    """The lines of a board in its printed form."""
     for win in board.in_order(board.windows):
         yield f"window {win}"
         for wid in board.in_order(board.windows[win]):
@@ -215,7 +215,7 @@ def printed(board):
 
 
 def made(op):
-    """An operation as it is told to who made it."""
+    """An operation as a client prints it after `made`."""
     name = [f"{op.name[0]}.{op.name[1]}"] if op.name else []
     value = [] if op.value is None else [op.value if op.verb == "set" else quoted(chr(op.value) if op.kind == "text" else op.value)]
     return " ".join(map(str, [op.verb, op.win, op.wid, *name, *value]))

@@ -7,21 +7,21 @@ from boards import Board, Fault
 from ends import End, Transforms
 from reading import Gathering, Grammar, Lines
 
-# How many sites are attached at most, and how many pongs may be owed to one.
+# How many sites may be attached, and how many pongs the server may owe to one.
 MOST_SITES, MOST_PONGS = 64, 1024
-# How long a session is read on after its last line, and how long it may be silent then, in seconds; and how many bytes of it are read.
-READS_ON, SILENT, READ_ON = 10, 1, 4 * 2**20
+# After its last line a session reads on until the peer is silent for so many seconds, for at most so many seconds and bytes in total.
+MOST_SILENT, MOST_SECONDS, MOST_BYTES = 1, 10, 4 * 2**20
 
 
 class Seat:
-    """An attached site: its end of the link, and what waits to be written to it."""
+    """An attached site: the server's end of its link, and what waits to be written to it."""
 
     def __init__(self, site, end):
         self.site, self.end, self.insertions = site, end, 0
         self.waiting, self.pongs, self.is_over, self.bell = [], 0, False, threading.Condition()
 
     def put(self, text, pongs=0):
-        """Puts lines behind what waits already, among them so many pongs."""
+        """Adds lines to what waits. `pongs` is how many of them are pongs."""
         with self.bell:
             self.waiting.append(text)
             self.pongs += pongs
@@ -31,7 +31,7 @@ class Seat:
         return self.pongs >= MOST_PONGS
 
     def waits_for_pongs(self):
-        """Waits while as many pongs are owed as may be."""
+        """Waits while the server owes as many pongs as it may."""
         with self.bell:
             while self.is_owed_too_much() and not self.is_over:
                 self.bell.wait()
@@ -42,12 +42,12 @@ class Seat:
             self.bell.notify_all()
 
     def loses(self):
-        """What waits is lost, since the site was detached."""
+        """Drops what waits, since the site is detached."""
         with self.bell:
             self.waiting.clear()
 
     def next(self):
-        """All that waits, as one text, and how many pongs are owed then; the empty text once all is over."""
+        """All that waits, as one text, and how many pongs are owed. The text is empty once the session is over."""
         with self.bell:
             while not self.waiting and not self.is_over:
                 self.bell.wait()
@@ -72,7 +72,7 @@ class Star:
             self.board.read_line(line)
 
     def join(self):
-        """A new seat; what waits there first is the greeting."""
+        """A new seat, at which the greeting waits."""
         with self.lock:
             if len(self.seats) >= MOST_SITES:
                 raise Fault(30)
@@ -86,7 +86,7 @@ class Star:
             self.seats.pop(seat.site, None)
 
     def take(self, seat, mine, heard, ops):
-        """Moves an edit past what its site had not received, does it, and tells the others."""
+        """Moves an edit past what its site had not received, applies it, and sends it to the others."""
         with self.lock:
             try:
                 moved = seat.end.receive(mine, heard, ops)
@@ -99,7 +99,7 @@ class Star:
             self.pay(seat)
 
     def check(self, seat, ops):
-        """Refuses an edit for what it says, before it is moved."""
+        """Refuses an edit for its operations as the site sent them."""
         if any(it.verb == "no" for it in ops):
             raise Fault(24)
         names = [it.name for it in ops if it.verb == "ins"]
@@ -118,7 +118,7 @@ class Star:
             other.put(other.end.message(moved))
 
     def others(self, seat):
-        """Those who are told of an edit of this site."""
+        """The sites that receive an edit of this site."""
         return [it for it in self.seats.values() if it is not seat]
 
     def pay(self, seat):
@@ -140,7 +140,7 @@ class Star:
 
 
 class Session:
-    """One link: this thread reads, and one more writes."""
+    """One link. This thread reads, and another one writes."""
 
     grammar = Grammar
 
@@ -160,12 +160,12 @@ class Session:
         self.end(ending)
 
     def goes_on(self, line):
-        """Whether the session goes on behind this line."""
+        """Takes a line. Returns whether the session goes on."""
         message = self.gathering.take(*self.grammar.read(line))
         return not message or self.hears(*message)
 
     def hears(self, word, rest):
-        """Whether the session goes on behind this message."""
+        """Takes a message. Returns whether the session goes on."""
         if not self.seat:
             if word != "hello":
                 raise Fault(44)
@@ -188,7 +188,7 @@ class Session:
         self.writer.start()
 
     def write(self):
-        """Writes what waits for the site, until all is over."""
+        """Writes what waits for the site, until the session is over."""
         try:
             while True:
                 text, pongs = self.seat.next()
@@ -197,13 +197,13 @@ class Session:
                 self.send(text)
                 self.seat.has_written(pongs)
         except OSError:
-            self.seat.ends()  # the peer has gone, and the reading thread will know
+            self.seat.ends()  # the peer has gone, which the reading thread finds out too
 
     def send(self, text):
         self.connection.sendall(text.encode("latin-1"))
 
     def end(self, ending):
-        """Writes what is left and the last line, and reads on so that it arrives."""
+        """Writes what is left and the last line, and reads on so that this line arrives."""
         if self.seat:
             self.star.leave(self.seat)
             self.seat.ends()
@@ -218,16 +218,16 @@ class Session:
 
     def read_on(self):
         begun, count = time.monotonic(), 0
-        self.connection.settimeout(SILENT)
+        self.connection.settimeout(MOST_SILENT)
         while self.may_read_on(time.monotonic() - begun, count) and (data := self.connection.recv(65536)):
             count += len(data)
 
     def may_read_on(self, seconds, count):
-        return seconds < READS_ON and count < READ_ON
+        return seconds < MOST_SECONDS and count < MOST_BYTES
 
 
 def serve(listener, star, session, most=2**32):
-    """Takes so many links, or until the listener is closed. It ends once these have ended."""
+    """Serves `most` links, or until the listener is closed. Returns once these have ended."""
     threads = []
     while len(threads) < most:
         try:

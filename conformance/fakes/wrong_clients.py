@@ -1,4 +1,4 @@
-"""Clients that are wrong on purpose, each in one way: a part of the right one with one thing turned."""
+"""Clients that are wrong on purpose. Each replaces one part of the right client by one that is wrong in one way."""
 from boards import Board, Fault
 from ends import End, Transforms
 from reading import Commands, Grammar
@@ -7,14 +7,14 @@ from wrong_servers import CountsOperations, GridOfOnes, NeverAcknowledges, Queue
 
 
 class TieBySite(Transforms):
-    """Of two insertions at one place that of the higher site stands left."""
+    """Of two insertions at one place that of the higher site is to the left."""
 
     def is_client_left(self, c, s):
         return c.name[0] > s.name[0]
 
 
 class QueueMovedOnce(End):
-    """What is queued is moved past the first edit that comes, and past none behind it."""
+    """It moves the queue past the first edit that comes, and past no later one."""
 
     has_moved = False
 
@@ -28,28 +28,28 @@ class QueueMovedOnce(End):
 
 
 class PastTwenty(End):
-    """An edit is moved past the first 20 of the queue alone."""
+    """It moves an edit past the first 20 of the queue only."""
 
     def turns(self):
         return range(min(20, len(self.queue)))
 
 
 class ManyIds(Board):
-    """There may be more than 64 windows, and widgets of a window."""
+    """A board may have more than 64 windows, and a window more than 64 widgets."""
 
     def is_full(self, taken):
         return False
 
 
 class TakenNames(Board):
-    """An item is put in under a name that its sequence has."""
+    """It inserts an item under a name that its sequence has."""
 
     def holds(self, widget, name):
         return False
 
 
 class NamesOfEachWidget(Board):
-    """A batch may insert a name in two widgets."""
+    """A batch may insert one name in two widgets."""
 
     def no_name_twice(self, ops):
         for wid in {(it.win, it.wid) for it in ops}:
@@ -74,7 +74,7 @@ class Echoes(Client):
 
 
 class TellsLate(Client):
-    """A fault is told where the user quits."""
+    """It reports a fault only after the user quits."""
 
     noted = None
 
@@ -94,20 +94,20 @@ class TellsLate(Client):
 
 
 class NamesUsedUp(Client):
-    """The insertions of an edit that was refused use numbers."""
+    """The insertions of a refused edit use numbers."""
 
     def forget(self, insertions):
         pass
 
 
 class NoBacklog(Client):
-    """As many edits as one likes are not acknowledged."""
+    """It keeps any number of edits unacknowledged."""
 
     most_unacknowledged = 2**32
 
 
 class BacklogOfOneMore(Client):
-    """1,025 edits may not be acknowledged."""
+    """It keeps 1,025 edits unacknowledged."""
 
     most_unacknowledged = 1025
 
@@ -120,21 +120,21 @@ class NeverSpent(Client):
 
 
 class NeverFull(Client):
-    """It inserts into a sequence of whatever length."""
+    """It inserts into a sequence of any length."""
 
     def is_full(self, widget):
         return False
 
 
 class AnySite(Client):
-    """It takes whatever number, and a board that has items of it."""
+    """It takes any number as its own, even if the board has items of that site."""
 
     def check_greeting(self):
         pass
 
 
 class ShowsEarly(Client):
-    """It takes in what has come before it does a command."""
+    """Before each command it takes in what has come."""
 
     def does(self, line):
         while self.lines.is_there():
@@ -143,7 +143,7 @@ class ShowsEarly(Client):
 
 
 class AcknowledgesLate(Client):
-    """It acknowledges at the end of a sync alone."""
+    """It acknowledges only at the end of a sync."""
 
     def pay(self):
         pass
@@ -153,7 +153,7 @@ class AcknowledgesLate(Client):
 
 
 class IgnoresUnknown(Client):
-    """It says nothing of a line that is no command."""
+    """It does not answer a line that is no command."""
 
     def does_edit(self, commands, line):
         answer = super().does_edit(commands, line)
@@ -161,7 +161,7 @@ class IgnoresUnknown(Client):
 
 
 class CountsBeforeReading(Client):
-    """It refuses a batch for its length before it has looked at its lines."""
+    """It tests the length of a batch before the lines."""
 
     def does_edit(self, commands, line):
         try:
@@ -172,7 +172,7 @@ class CountsBeforeReading(Client):
 
 
 class SpentFirst(Client):
-    """It refuses what is one too many before it has looked at the commands."""
+    """It tests how many edits it has made before it tests the commands."""
 
     def refuse_length(self, commands):
         super().refuse_length(commands)
@@ -180,7 +180,7 @@ class SpentFirst(Client):
 
 
 class DelaysBye(Client):
-    """It ends with what the server tells it once it has said `bye`."""
+    """After its own `bye` it ends with the error that the server sends."""
 
     def leave(self):
         self.send("bye")

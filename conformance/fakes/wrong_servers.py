@@ -1,4 +1,4 @@
-"""Servers that are wrong on purpose, each in one way: a part of the right one with one thing turned."""
+"""Servers that are wrong on purpose. Each replaces one part of the right server by one that is wrong in one way."""
 import contextlib
 import re
 import time
@@ -10,35 +10,35 @@ from stars import Seat, Session, Star
 
 
 class TieTurned(Transforms):
-    """Of two insertions at one place the earlier stands left."""
+    """Of two insertions at one place the earlier one is to the left."""
 
     def is_client_left(self, c, s):
         return False
 
 
 class WindowIgnored(Transforms):
-    """Two widgets are one where their ids are, in whatever windows."""
+    """It takes two widgets for one if their ids are equal, whatever their windows."""
 
     def are_one_widget(self, one, other):
         return (one.wid, one.kind) == (other.wid, other.kind)
 
 
 class NumbersAlone(Transforms):
-    """Two items are one where their numbers are, of whatever sites."""
+    """It takes two items for one if their numbers are equal, whatever their sites."""
 
     def are_one_item(self, one, other):
         return one.name[1] == other.name[1]
 
 
 class SitesAlone(Transforms):
-    """Two items are one where their sites are, under whatever numbers."""
+    """It takes two items for one if their sites are equal, whatever their numbers."""
 
     def are_one_item(self, one, other):
         return one.name[0] == other.name[0]
 
 
 class GridOfOnes(Transforms):
-    """Each operation of a batch is moved past the other's as that was first, and not as it then stands."""
+    """It moves each operation of a batch past the other batch as that was first, and not as it then is."""
 
     def grid(self, client, server):
         moved = [self.row(it, server) for it in client]
@@ -63,21 +63,21 @@ class NeverAcknowledges(End):
 
 
 class PastAHundred(End):
-    """An edit is moved past the first 100 of the queue alone."""
+    """It moves an edit past the first 100 of the queue only."""
 
     def turns(self):
         return range(min(100, len(self.queue)))
 
 
 class NewestFirst(End):
-    """An edit is moved past the newest of the queue first."""
+    """It moves an edit past the newest of the queue first."""
 
     def turns(self):
         return reversed(range(len(self.queue)))
 
 
 class QueueKept(End):
-    """What is queued stays as it was first."""
+    """The edits of its queue stay as they were first."""
 
     def past_one(self, at, ops):
         kept = self.queue[at]
@@ -87,7 +87,7 @@ class QueueKept(End):
 
 
 class CountsOperations(End):
-    """It tells how many operations it has received, and not how many edits."""
+    """It sends how many operations it has received, and not how many edits."""
 
     operations = 0
 
@@ -100,7 +100,7 @@ class CountsOperations(End):
 
 
 class YieldsWithin(End):
-    """It gives way between its steps."""
+    """It lets other threads run between its steps."""
 
     def message(self, ops):
         number, heard = self.sent, self.heard_count()
@@ -111,28 +111,28 @@ class YieldsWithin(End):
 
 
 class HalfApplied(Board):
-    """What is refused within an edit leaves what stood before it."""
+    """If an operation of an edit is refused, those before it stay applied."""
 
     def put_back(self, before):
         pass
 
 
 class NumbersHeld(Board):
-    """A sequence has a name where it has its number, of whatever site."""
+    """It takes a name for one that a sequence has if the sequence has the number, of any site."""
 
     def holds(self, widget, name):
         return any(count == name[1] for _, count in widget.names)
 
 
 class TextOrder(Board):
-    """Ids are in the order of texts: 10 before 2."""
+    """It sorts ids as texts, so 10 is before 2."""
 
     def in_order(self, ids):
         return sorted(ids, key=str)
 
 
 class LongRefused(Board):
-    """A text or a list that has 65,536 items takes no more."""
+    """A text or a list of 65,536 items takes no more."""
 
     def apply(self, op):
         widget = self.windows.get(op.win, {}).get(op.wid)
@@ -142,14 +142,14 @@ class LongRefused(Board):
 
 
 class NoBoundOfPongs(Seat):
-    """As many pongs as one likes are owed."""
+    """It owes any number of pongs."""
 
     def is_owed_too_much(self):
         return False
 
 
 class WritesWhileLocked(Seat):
-    """Its lines are written where they are put, and the star waits for that."""
+    """It writes lines as they are added, and the star waits for that."""
 
     def put(self, text, pongs=0):
         if hasattr(self, "link"):
@@ -160,14 +160,14 @@ class WritesWhileLocked(Seat):
 
 
 class Echoes(Star):
-    """It tells a site its own edits."""
+    """It sends a site its own edits."""
 
     def others(self, seat):
         return list(self.seats.values())
 
 
 class NoLock(Star):
-    """Its calls run at once, and give way between their steps."""
+    """Its calls run at the same time, and let other threads run between their steps."""
 
     end = YieldsWithin
 
@@ -181,14 +181,14 @@ class NoLock(Star):
 
 
 class ZerosRead(Grammar):
-    """007 is read as 7."""
+    """It reads 007 as 7."""
 
     def read(self, line):
         return super().read(re.sub(r"(?<![\w.])0+(?=\d)", "", line))
 
 
 class PlacesCut(Grammar):
-    """Places are cut to 16 bits."""
+    """It cuts places to 16 bits."""
 
     def read_op(self, rest):
         op = super().read_op(rest)
@@ -197,7 +197,7 @@ class PlacesCut(Grammar):
 
 
 class TellsLate(Session):
-    """A fault is told where the site ends."""
+    """It reports a fault only after the site ends."""
 
     noted = None
 
@@ -213,14 +213,14 @@ class TellsLate(Session):
 
 
 class ReadsForEver(Session):
-    """It reads a link on until that has been silent for a second, or has sent 4 MiB."""
+    """It reads on until the peer has been silent for a second or has sent 4 MiB, however long that takes."""
 
     def may_read_on(self, seconds, count):
         return super().may_read_on(0, count)
 
 
 class ReadsAll(Session):
-    """It reads a link on for as long as something comes."""
+    """It reads on as long as something comes."""
 
     def may_read_on(self, seconds, count):
         return super().may_read_on(0, 0)
@@ -238,7 +238,7 @@ class LosesWhoIsSlow(Session):
 
 
 class EndsWithBye(Session):
-    """It says `bye` to a site that has said it, whatever was refused before."""
+    """It sends `bye` to a site that has sent it, even if it refused something before."""
 
     def goes_on(self, line):
         try:

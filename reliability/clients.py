@@ -1,4 +1,4 @@
-"""What the scripts share in which clients meet strangers. A client is a running `jup` that keeps to the protocol. A stranger sends what it likes.
+"""Shared code of the scripts in which clients meet strangers. A client is a running `jup` that keeps to the protocol. A stranger sends what it likes.
 
 Such a script takes the paths of a built `jupd` and of a built `jup`. Without them `./run` builds both.
 """
@@ -49,14 +49,14 @@ class Honest:
         return self.process.stdout.readline()
 
     def edit(self, command):
-        """Makes an edit, unless it is refused."""
+        """Makes an edit, and counts it unless the client refuses it."""
         self.edits += self.say(command).startswith("made ")
 
     def sync(self):
         assert self.say("sync") == "synced\n", f"site {self.site} was not synced"
 
     def board(self):
-        """What it shows, as it prints it."""
+        """The board as the client prints it."""
         lines = [self.say("show")]
         self.process.stdin.write("what\n")
         while True:
@@ -66,12 +66,12 @@ class Honest:
             lines.append(line)
 
     def quit(self):
-        """Quits, and returns whether the client ended well."""
+        """Quits. Returns whether the client exited with status 0."""
         return self.say("quit") == "bye\n" and self.process.wait(timeout=30) == 0
 
 
 def edit_on(clients, rounds, is_over):
-    """The clients edit in turn at random, for at least so many rounds and until it is over. Each syncs now and then. Returns the longest sync, in seconds."""
+    """Has the clients edit at random and sync in turn, for at least `rounds` rounds and until `is_over`. Returns how long the longest sync took, in seconds."""
     dice, longest, done = random.Random(1995), 0.0, 0
     while done < rounds or not is_over():
         for client in clients:
@@ -94,7 +94,7 @@ def agree(clients):
 
 
 def in_threads(count, work):
-    """Runs `work(k)` in so many threads, and raises what one of them raised."""
+    """Runs `work(k)` in `count` threads, and raises what one of them raised."""
     faults = []
 
     def one(k):
@@ -113,7 +113,7 @@ def in_threads(count, work):
 
 
 class Stranger(Peer):
-    """A peer that reads all that comes, and counts the edits of others and what ended it."""
+    """A peer that reads everything that comes, and keeps the last line."""
 
     def __init__(self, daemon):
         super().__init__(daemon)
@@ -128,6 +128,6 @@ class Stranger(Peer):
             pass
 
     def reset(self):
-        """Ends the link by a reset, with whatever is on its way."""
+        """Resets the link, whatever is on its way."""
         self.socket.setsockopt(socket.SOL_SOCKET, socket.SO_LINGER, struct.pack("ii", 1, 0))
         self.close()

@@ -1,4 +1,4 @@
-"""What the scripts of this folder share: a `jupd` on a free port of loopback, and peers that speak the lines of a link.
+"""Shared code of the scripts of this folder: a `jupd` on a free port of loopback, and peers that send and read lines of a link.
 
 Each script takes the path of a built `jupd`. Without it `./run` builds one.
 """
@@ -28,7 +28,7 @@ def free_port():
 
 
 class Daemon:
-    """A `jupd` that serves a layout. It is stopped at the end of the `with`."""
+    """A `jupd` that serves a layout. The end of the `with` stops it."""
 
     def __init__(self, layout, sessions, limit=1_000_000, most_memory=None):
         self.port = free_port()
@@ -53,7 +53,7 @@ class Daemon:
             return next(int(line.split()[1]) for line in status if line.startswith(kind))
 
     def ends_within(self, seconds):
-        """Whether it ends by itself, with status 0, in so many seconds. Meanwhile `printed` gets what it prints."""
+        """Whether it exits by itself, with status 0, within so many seconds. `printed` is then what it printed."""
         try:
             self.printed = self.process.communicate(timeout=seconds)[0]
             return self.process.returncode == 0

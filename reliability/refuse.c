@@ -1,8 +1,8 @@
-// Refuses a program one growth. LD_PRELOAD loads this library, and the nth allocation of the program then fails. n is REFUSE_NTH.
+// Makes one allocation of a program fail. LD_PRELOAD loads this library, and the nth allocation of the program then fails. n is REFUSE_NTH.
 //
 // The calls of the program's own code count, and those that the C library makes for itself do not. If REFUSE_MARKED is set, only those between two
 // marks count. A mark is a call for a number of bytes that nothing else asks for. The crate `test_marks` makes the marks.
-// Once a growth is refused, the library makes the file REFUSE_TOLD, so the caller knows that there was one to refuse.
+// When the allocation fails, the library makes the file REFUSE_TOLD, so the caller knows that there was an nth allocation.
 #define _GNU_SOURCE
 #include <dlfcn.h>
 #include <errno.h>
@@ -15,7 +15,7 @@
 #define BEGIN 7340033
 #define END 7340035
 
-// glibc's own allocation, under the names by which it can be reached from within a replacement of it.
+// glibc's own allocation functions, under the names by which their replacements can call them.
 extern void *__libc_malloc(size_t size);
 extern void *__libc_realloc(void *old, size_t size);
 extern void *__libc_calloc(size_t count, size_t size);
@@ -52,7 +52,7 @@ static void tell(void) {
   if (path) close(open(path, O_WRONLY | O_CREAT, 0600));
 }
 
-// Whether this call is the one that is refused.
+// Whether this call is the one that fails.
 static int refuses(size_t size, void *caller) {
   uintptr_t at = (uintptr_t)caller;
   if (at < code_from || at >= code_to) return 0;

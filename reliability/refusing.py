@@ -1,4 +1,4 @@
-"""Runs of a program in which one growth is refused, for `../growths` and `want_of_memory`."""
+"""Runs a program of which one allocation fails, for `../growths` and `out_of_memory`."""
 import os
 import subprocess
 import tempfile
@@ -19,14 +19,14 @@ class Refusing:
         self.room.cleanup()
 
     def environment(self, nth, told, is_marked=False):
-        """The environment of a program whose nth growth is refused. The file `told` exists once it was refused."""
+        """The environment of a program whose nth allocation fails. The library makes the file `told` when it fails."""
         with_it = {**os.environ, "LD_PRELOAD": self.library, "REFUSE_NTH": str(nth), "REFUSE_TOLD": told}
         if is_marked:
             with_it["REFUSE_MARKED"] = "1"
         return with_it
 
     def run(self, words, nth, is_marked=False, **how):
-        """Runs a program whose nth growth is refused. Returns how it ended, and whether there was such a growth."""
+        """Runs a program whose nth allocation fails. Returns how it ended, and whether there was such an allocation."""
         with tempfile.TemporaryDirectory(dir=self.room.name) as own:
             told = f"{own}/told"
             ran = subprocess.run(words, env=self.environment(nth, told, is_marked), capture_output=True, check=False, timeout=60, **how)

@@ -66,7 +66,7 @@ class Lines:
 def address_bound(listening, told):
     """Where a server listens, by its line `listening`. If it was given port 0, it reports its address on standard error, whose lines are `told`."""
     address = listening.removeprefix("listening ").strip()
-    return told.next("'bound', reported by the server,").removeprefix("bound ") if address == ANY_PORT else address
+    return told.next("'bound' from the server").removeprefix("bound ") if address == ANY_PORT else address
 
 
 def is_as(wanted, found):

@@ -23,7 +23,7 @@ LINES_RULE, SESSIONS_RULE = (f'docs/WIRE.md, "{it}"' for it in ("Lines of a link
 CLIENT_RULE = 'docs/PROGRAMS.md, "`jup`"'
 BOARDS_RULE, REFUSALS_RULE = 'docs/WIRE.md, "Layouts"', 'docs/PROTOCOL.md, "What is refused, and what it leaves"'
 BOARD_WORDS = ("window", "text", "list", "toggle", "slider")
-# Who reads the lines of the table of lines.
+# The readers in the table of lines.
 READERS = ("first", "server", "client", "greeting")
 
 

@@ -9,7 +9,7 @@ from reading import Gathering, Grammar, Lines
 
 # How many sites may be attached, and how many pongs the server may owe to one.
 MOST_SITES, MOST_PONGS = 64, 1024
-# After its last line a session reads on until the peer is silent for so many seconds, for at most so many seconds and bytes in total.
+# After its last line a session reads on until the peer is silent for MOST_SILENT seconds, for at most MOST_SECONDS and MOST_BYTES in total.
 MOST_SILENT, MOST_SECONDS, MOST_BYTES = 1, 10, 4 * 2**20
 
 

@@ -151,7 +151,7 @@ def judge_row(sites, count, client, client_after, server):
 
 
 def are_shown(rows, lines):
-    """Tests that the board's lines show what the rows leave. The names of items are not compared."""
+    """Tests that the board's lines show what the rows leave. It does not compare the names of items."""
     bare = [re.sub(r"^(char|item) \d+\.\d+ ", r"\1 ", it) for it in lines]
     for row in rows:
         wanted = [re.sub(r"^(char|item) \S+ ", r"\1 ", it) for it in material.lines_of([row.shown()])]

@@ -2,9 +2,7 @@
 ghost use Rattle.std.specs.Prelude.{◌≤◌, IfOk, vec_len};
 ghost use Rattle.jup_limits.specs.Limits.{longest_board, longest_input};
 
-use crate::{
-    Attempt, BoardEnd, Direction, board_words, layout_of_printed, printed_of_layout,
-};
+use crate::{Attempt, BoardEnd, Direction, board_words, layout_of_printed, printed_of_layout};
 use jup_limits::{LONGEST_BOARD, LONGEST_INPUT};
 use std::alloc::Global;
 use std::io;

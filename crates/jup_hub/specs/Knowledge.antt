@@ -1,5 +1,6 @@
 -- What a pass knows, and what a call adds to it.
 use Rattle.std.specs.Prelude.{◌≡◌, ℕ, ◌+◌, max, true, false, List, [], ◌∷◌, ◌++◌, length, Option, None}
+use Rattle.jup_batch.specs.BatchBoards.{Windows}
 use Rattle.jup_star.specs.StarCalls.{BoardStar, asks_memory}
 use Rattle.jup_star.specs.StarStates.{opened_star}
 use Rattle.jup_star.specs.declared.calls.Call.{Call}
@@ -65,6 +66,10 @@ pub record Meets (v : View) (log : List Entry) : Type 0 where
   pub begins : BeginsWithAll log v.seen
   pub tallied : AllTallied log (tallies v)
   pub apart : AllApart (tallies v)
+
+-- the board is that of the star after a legal history, which begins with all that the pass has seen
+abbrev pub MeetsBoard : Windows → View → Type 0
+MeetsBoard board v = (log : List Entry) × Meets v log × (board ≡ (star_through v.opening log).board)
 
 -- A call, with its reply. The pass w has then seen one legal history, which begins with all that the pass v had seen and ends with this call
 pub record Called (call : Call) (reply : Reply) (v w : View) : Type 0 where

@@ -2,10 +2,11 @@
 ghost use Rattle.std.specs.Prelude.{◌≡◌, ◌<◌, ◌↔◌, true, false, List, length, IfOk, IfErr, IsTrue};
 ghost use Rattle.jup_star.specs.declared.calls.Call.TheVariants.{Join, Take, Fetch, Leave};
 ghost use Rattle.jup_star.specs.declared.calls.Reply.TheVariants.{Joined as JoinedReply, Taken, Fetched, Left};
+ghost use Rattle.jup_batch.specs.BatchBoards.{bare};
 ghost use Rattle.jup_star.specs.StarCalls.{bare_joined};
 ghost use Rattle.jup_hub.specs.declared.view.Entry.{Entry};
 ghost use Rattle.jup_hub.specs.Histories.{star_through, AllApart};
-ghost use Rattle.jup_hub.specs.Knowledge.{newcomer, after_split, split_from, joined_with, having_seen, longest, tallies, Meets};
+ghost use Rattle.jup_hub.specs.Knowledge.{newcomer, after_split, split_from, joined_with, having_seen, longest, tallies, Meets, MeetsBoard};
 ghost use Rattle.jup_hub.specs.Faults.{is_out_of_memory};
 ghost use Rattle.jup_hub.specs.Passes.{opening_of, view_of, IsPassOf, Made};
 
@@ -17,7 +18,8 @@ use crate::hub::{Closed, Hub, Pass};
 use crate::rule::{Learn, Look, Passes};
 use crate::turns::{give_turn, settle, take_turn, try_turn};
 use atomic_table::{Refused, Table};
-use jup_star::{Downs, Joined, Star, Up};
+use jup_star::{Downs, Joined, Star, StarFault, Up};
+use jup_window::Board;
 use std::alloc::{AllocFailed, Global};
 use std::marker::Brand;
 use std::snapshot::Snapshot;
@@ -132,6 +134,22 @@ impl Hub {
         ensures memory { is_out_of_memory result ≡ false }
     {
         self.act(rt, pass, &Leaving { site })
+    }
+
+    /// A copy of the star's board, as it is after all calls so far. It waits for the turn, and is no event. For want of memory it is
+    /// refused, and by nothing else.
+    pub fn board<R: Wait>(&self, rt: &R, alloc: Global, pass: &mut Pass) -> Result<Board, HubFault>
+        requires { IsPassOf self.now pass.old }
+        ensures pass { IsPassOf self.now pass.new }
+        ensures same { view_of pass.new ≡ view_of pass.old }
+        ensures board { IfOk result (λ b. MeetsBoard (bare b) (view_of pass.old)) }
+        ensures err { IfErr result (λ fault. fault ≡ HubFault.Star StarFault.NoMemory) }
+    {
+        let table = &self.table.shared;
+        let desk = take_turn(rt, table, &mut pass.seat);
+        let copied = desk.star.board().copy(alloc);
+        give_turn(table, &mut pass.seat, desk);
+        copied.map_err(|_| HubFault::Star(StarFault::NoMemory))
     }
 
     /// Whether there were events after all that the pass had seen. It has then seen them. This never waits.

@@ -2,7 +2,7 @@
 ghost use Rattle.jup_hub.specs.Passes.{IsPassOf};
 
 use crate::expect::{expect_eq, expect_that};
-use crate::hubs::{close, hub_of, open_hub, star_of, takes, tells_of_one, told_of};
+use crate::hubs::{close, hub_of, open_hub, shows, star_of, takes, tells_of_one, told_of};
 use jup_hub::{Closed, Hub, HubFault, Pass};
 use jup_star::StarFault;
 use std::alloc::Global;
@@ -90,4 +90,20 @@ fn hub_fetch(rt: HostRuntime) {
     expect_that(&rt, tells_of_one(rt.alloc(), &downs));
     let Closed { star, events } = close(&rt, hub, a);
     expect_eq(&rt, (star.waiting(2), events), (Some(0), 2));
+}
+
+#[test]
+fn hub_board(rt: HostRuntime) {
+    let (hub, mut a) = hub_of(&rt, rt.alloc(), 1);
+    takes(&rt, rt.alloc(), &hub, &mut a, 1, 0);
+    let mut b = hub.split(&mut a);
+    begin(rt.alloc());
+    let mut has_text = shows(&rt, rt.alloc(), &hub, &mut a, "a");
+    end(rt.alloc());
+    if has_text == Err(NO_MEMORY) {
+        has_text = shows(&rt, rt.alloc(), &hub, &mut a, "a");
+    }
+    expect_eq(&rt, has_text, Ok(true));
+    expect_that(&rt, !hub.news(&mut b));
+    expect_eq(&rt, close(&rt, hub, a).events, 1);
 }

@@ -161,6 +161,38 @@ fn a_pass_split_from_another_fetches_what_it_took(rt: HostRuntime) {
     expect_that(&rt, reads(star.board(), "a"));
 }
 
+// Whether the hub's board shows this text, by a call of a pass.
+pub(crate) fn shows<R: Wait>(
+    rt: &R,
+    alloc: Global,
+    hub: &Hub,
+    pass: &mut Pass,
+    text: &str,
+) -> Result<bool, HubFault>
+    requires { IsPassOf hub.now pass.old }
+    ensures { IsPassOf hub.now pass.new }
+{
+    match hub.board(rt, alloc, pass) {
+        Ok(board) => Ok(reads(&board, text)),
+        Err(fault) => Err(fault),
+    }
+}
+
+#[test]
+fn the_board_of_a_hub_is_the_star_s_and_no_event(rt: HostRuntime) {
+    let alloc = rt.alloc();
+    let (hub, mut a) = hub_of(&rt, alloc, 2);
+    let mut b = hub.split(&mut a);
+    expect_eq(&rt, shows(&rt, alloc, &hub, &mut b, ""), Ok(true));
+    takes(&rt, alloc, &hub, &mut a, 1, 0);
+    expect_eq(&rt, shows(&rt, alloc, &hub, &mut b, "a"), Ok(true));
+    expect_that(&rt, hub.news(&mut b));
+    expect_eq(&rt, shows(&rt, alloc, &hub, &mut a, "a"), Ok(true));
+    expect_that(&rt, !hub.news(&mut b));
+    let star = ends(&rt, alloc, hub, a, 1, &[1]);
+    expect_eq(&rt, star.waiting(2), Some(1));
+}
+
 #[test]
 fn news_after_take(rt: HostRuntime) {
     let alloc = rt.alloc();

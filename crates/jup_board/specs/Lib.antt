@@ -1,4 +1,3 @@
-pub mod Bounds
 pub mod Ends
 pub mod Layouts
 pub mod Numbered

@@ -2,3 +2,4 @@ mod Asked
 mod BareTexts
 mod SiteLines
 mod Hearing
+mod Taking

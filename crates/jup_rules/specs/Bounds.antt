@@ -1,5 +1,5 @@
 -- What sessions and programs bound by themselves. No message and no state hangs on it.
-use Rattle.std.specs.Prelude.{ℕ}
+use Rattle.std.specs.Prelude.{ℕ, ◌*◌}
 
 -- messages that one fetch asks for
 abbrev pub most_fetched : ℕ
@@ -12,3 +12,7 @@ most_pongs = 1024
 -- sessions that a daemon may be told to serve
 abbrev pub most_sessions : ℕ
 most_sessions = 1024
+
+-- bytes of a server that a client has not taken: 32 MiB
+abbrev pub most_unread : ℕ
+most_unread = 32 * 1048576

@@ -6,6 +6,7 @@ pub mod Clients
 pub mod DaemonEnds
 pub mod Endings
 pub mod Gates
+pub mod Inboxes
 pub mod Keepers
 pub mod Messages
 pub mod Numbers

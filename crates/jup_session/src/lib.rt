@@ -12,6 +12,7 @@ mod streams;
 pub use client::{client_main, run_client};
 pub use daemon::daemon_main;
 pub use gate::{Gate, Open, pass_gate, take_edit};
+pub use jup_intake::hang_up;
 pub use jup_rules::{ClientEnd, DaemonWords, Ending, client_words, daemon_words, without_words};
-pub use sessions::{Bell, Outgoing, hang_up, serve_link};
+pub use sessions::{Bell, Outgoing, serve_link};
 pub use streams::hold_streams;

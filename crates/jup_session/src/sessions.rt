@@ -3,7 +3,6 @@
 mod bell;
 mod due;
 mod greeting;
-mod hangup;
 mod link;
 mod outgoing;
 pub(crate) mod output;
@@ -13,6 +12,5 @@ pub(crate) mod source;
 mod writing;
 
 pub use bell::Bell;
-pub use hangup::hang_up;
 pub use outgoing::Outgoing;
 pub use serving::serve_link;

@@ -8,7 +8,8 @@ use std::alloc::Global;
 use std::io::Read;
 use std::net::{Net, TcpListener, TcpStream};
 use std::process::Abort;
-use std::thread::join;
+use std::sync::Wait;
+use std::thread::{Threads, join};
 use std::time::{Clock, Duration};
 use std::{io, thread};
 
@@ -76,13 +77,9 @@ impl<'a, R: Net<Listener = TcpListener, Stream = TcpStream> + Clock + Abort> Rea
 }
 
 // Runs the client, and again while it finds no daemon.
-fn edits_beside<R: Net<Listener = TcpListener, Stream = TcpStream> + Clock + Abort>(
-    rt: &R,
-    alloc: Global,
-    words: &[String],
-    shown: &mut Vec<u8>,
-    heard: &mut Vec<u8>,
-) -> u8 {
+fn edits_beside<
+    R: Net<Listener = TcpListener, Stream = TcpStream> + Threads + Wait + Clock + Sync + Abort,
+>(rt: &R, alloc: Global, words: &[String], shown: &mut Vec<u8>, heard: &mut Vec<u8>) -> u8 {
     for _ in 0..TRIES {
         let input = Disturbed {
             rt,

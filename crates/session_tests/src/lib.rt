@@ -36,6 +36,8 @@ mod rule_growths;
 #[cfg(test)]
 mod sessions;
 #[cfg(test)]
+mod sockets;
+#[cfg(test)]
 mod strangers;
 #[cfg(test)]
 mod texts;

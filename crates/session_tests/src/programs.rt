@@ -67,12 +67,9 @@ pub(crate) fn serve<
 }
 
 /// Runs the client.
-pub(crate) fn connect<R: Net<Listener = TcpListener, Stream = TcpStream> + Clock>(
-    rt: &R,
-    alloc: Global,
-    words: &[String],
-    commands: &[u8],
-) -> Told {
+pub(crate) fn connect<
+    R: Net<Listener = TcpListener, Stream = TcpStream> + Threads + Wait + Clock + Sync,
+>(rt: &R, alloc: Global, words: &[String], commands: &[u8]) -> Told {
     let (mut out, mut errors) = (Vec::new(alloc), Vec::new(alloc));
     let status = client_main(rt, alloc, words, commands, &mut out, &mut errors);
     Told {
@@ -97,12 +94,9 @@ pub(crate) fn expect_failure(rt: &impl Abort, told: &Told, status: u8, out: &str
 }
 
 // Runs the client, and again while it answers 1. Its status.
-pub(crate) fn run_client<R: Net<Listener = TcpListener, Stream = TcpStream> + Clock>(
-    rt: &R,
-    alloc: Global,
-    words: &[String],
-    commands: &[u8],
-) -> u8 {
+pub(crate) fn run_client<
+    R: Net<Listener = TcpListener, Stream = TcpStream> + Threads + Wait + Clock + Sync,
+>(rt: &R, alloc: Global, words: &[String], commands: &[u8]) -> u8 {
     for _ in 0..TRIES {
         let status = connect(rt, alloc, words, commands).status;
         if status != 1 {

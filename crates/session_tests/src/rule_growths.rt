@@ -5,8 +5,8 @@ use crate::programs::client_of;
 use clap::error::ErrorKind;
 use jup_gather::Gather;
 use jup_rules::{
-    Asking, DaemonEnd, Request, SessionFault, Told, client_words, hear_site, report_text,
-    star_of_layout, told_text,
+    Asking, DaemonEnd, Given, Inbox, LinkEnd, Request, SessionFault, Told, client_words, hear_site,
+    report_text, star_of_layout, told_text,
 };
 use jup_star::Star;
 use jup_window::Board;
@@ -138,4 +138,51 @@ fn words_of_a_client(rt: HostRuntime) {
     }
     let told = told.ok().expect(&rt, "an address");
     expect_eq(&rt, told.as_str(), "127.0.0.1:47011");
+}
+
+// An inbox with a piece in it, whose room is full.
+fn full_room(rt: &impl Abort, alloc: Global) -> Inbox {
+    let mut inbox = Inbox::new(alloc).expect(rt, "memory");
+    expect_that(rt, inbox.put(&[b'a'; Inbox::PIECE]));
+    inbox
+}
+
+// What is taken of an inbox at once.
+fn taken(inbox: &mut Inbox) -> (Option<Given>, u8) {
+    let mut room = [0u8; 64];
+    let given = inbox.take(&mut room);
+    (given, room[63])
+}
+
+#[test]
+fn inbox_new(rt: HostRuntime) {
+    begin(rt.alloc());
+    let mut made = Inbox::new(rt.alloc());
+    end(rt.alloc());
+    if made.is_err() {
+        made = Inbox::new(rt.alloc());
+    }
+    let inbox = made.expect(&rt, "memory");
+    expect_that(&rt, inbox.has_nothing());
+}
+
+// What is refused changes nothing, and what had room is given before it.
+#[test]
+fn inbox_put(rt: HostRuntime) {
+    let mut inbox = full_room(&rt, rt.alloc());
+    let before = inbox.room();
+    begin(rt.alloc());
+    let mut is_put = inbox.put(b"b");
+    end(rt.alloc());
+    if !is_put {
+        expect_eq(&rt, inbox.room(), before);
+        is_put = inbox.put(b"b");
+    }
+    expect_that(&rt, is_put);
+    inbox.end(LinkEnd::Failed);
+    for _ in 0..Inbox::PIECE / 64 {
+        expect_eq(&rt, taken(&mut inbox), (Some(Given::Bytes(64)), b'a'));
+    }
+    expect_eq(&rt, taken(&mut inbox), (Some(Given::Bytes(1)), 0));
+    expect_eq(&rt, taken(&mut inbox).0, Some(Given::End(LinkEnd::Failed)));
 }

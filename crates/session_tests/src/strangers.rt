@@ -8,8 +8,9 @@ use std::alloc::Global;
 use std::io::{Read, Write};
 use std::net::{Net, TcpListener, TcpStream};
 use std::process::Abort;
+use std::sync::Wait;
 use std::thread;
-use std::thread::join;
+use std::thread::{Threads, join};
 use std::time::{Clock, Duration};
 
 /// How often a connection is tried.
@@ -60,13 +61,9 @@ pub(crate) fn read_to_end(rt: &impl Abort, link: &TcpStream, text: &mut Vec<u8>)
 }
 
 // A link that reads what it is told of a client's edit. The client's exit status.
-fn listens<R: Net<Listener = TcpListener, Stream = TcpStream> + Clock + Abort>(
-    rt: &R,
-    alloc: Global,
-    addr: &str,
-    words: &[String],
-    heard: &mut Vec<u8>,
-) -> u8 {
+fn listens<
+    R: Net<Listener = TcpListener, Stream = TcpStream> + Threads + Wait + Clock + Sync + Abort,
+>(rt: &R, alloc: Global, addr: &str, words: &[String], heard: &mut Vec<u8>) -> u8 {
     let link = link_to(rt, addr);
     send(rt, &link, b"hello 3\n");
     read_to(rt, &link, b"ready\n", heard);
@@ -104,12 +101,9 @@ fn an_edit_is_told_to_the_other_link(rt: HostRuntime) {
 }
 
 // A link whose edit fills the order, and a client that makes one more.
-fn fills<R: Net<Listener = TcpListener, Stream = TcpStream> + Clock + Abort>(
-    rt: &R,
-    alloc: Global,
-    addr: &str,
-    words: &[String],
-) -> Told {
+fn fills<
+    R: Net<Listener = TcpListener, Stream = TcpStream> + Threads + Wait + Clock + Sync + Abort,
+>(rt: &R, alloc: Global, addr: &str, words: &[String]) -> Told {
     let link = link_to(rt, addr);
     send(
         rt,
@@ -190,13 +184,9 @@ fn sends<R: Net<Listener = TcpListener, Stream = TcpStream> + Clock + Abort>(
 // A client beside links that send garbage, never end a line, say no more after the greeting, stop within a
 // line, or hang up while they are owed an answer. None of these reads anything, and the first three stay open
 // until the client has ended.
-fn among_strays<R: Net<Listener = TcpListener, Stream = TcpStream> + Clock + Abort>(
-    rt: &R,
-    alloc: Global,
-    addr: &str,
-    words: &[String],
-    out: &mut Vec<u8>,
-) -> u8 {
+fn among_strays<
+    R: Net<Listener = TcpListener, Stream = TcpStream> + Threads + Wait + Clock + Sync + Abort,
+>(rt: &R, alloc: Global, addr: &str, words: &[String], out: &mut Vec<u8>) -> u8 {
     let garbage = sends(rt, addr, b"hello 3\n\xff\xfe\n");
     let unended = sends(rt, addr, &[b'x'; 300]);
     let silent = sends(rt, addr, b"hello 3\n");

@@ -1,7 +1,8 @@
 //! The commands of a user, a line each.
 ghost use Rattle.std.specs.Prelude.{◌≤◌};
 
-use crate::sessions::source::{MOST_READS, is_interrupted};
+use crate::sessions::source::MOST_READS;
+use jup_intake::is_interrupted;
 use jup_rules::{Asking, ClientEnd, Request, SessionFault};
 use jup_xform::NoMemory;
 use std::alloc::Global;

@@ -4,16 +4,25 @@ ghost use Rattle.std.specs.Prelude.{◌≤◌};
 use super::run_client;
 use crate::hang_up;
 use clap::error::ErrorKind;
-use jup_rules::{ClientEnd, client_words};
+use jup_intake::{Drained, Intake, drain};
+use jup_rules::{ClientEnd, Inbox, client_words};
 use std::alloc::Global;
 use std::io::{Read, Write};
 use std::net::{Net, TcpListener, TcpStream};
-use std::time::Clock;
+use std::sync::Wait;
+use std::thread;
+use std::thread::Threads;
+use std::time::{Clock, Duration};
+
+/// Milliseconds that a read of the link waits before its thread looks whether the client has ended.
+const LOOK: u64 = 100;
 
 /// Connects as the words say, does what the input asks for, and answers the exit status: 0 after `quit` or
 /// the end of the input, 1 for a failed read, write or connect, 2 for the words, 3 for memory, 4 for a fault.
+///
+/// The link is read while the user thinks, by a thread of its own: a client that did not read would lose its link.
 pub fn client_main<
-    R: Net<Listener = TcpListener, Stream = TcpStream> + Clock,
+    R: Net<Listener = TcpListener, Stream = TcpStream> + Threads + Wait + Clock + Sync,
     C: Read + Drop,
     O: Write,
     E: Write,
@@ -50,7 +59,7 @@ pub fn client_main<
 
 // Runs the client over a connection of its own.
 fn run_over_socket<
-    R: Net<Listener = TcpListener, Stream = TcpStream> + Clock,
+    R: Net<Listener = TcpListener, Stream = TcpStream> + Threads + Wait + Clock + Sync,
     C: Read + Drop,
     O: Write,
 >(rt: &R, alloc: Global, addr: &str, input: C, out: &mut O) -> Result<(), ClientEnd> {
@@ -59,9 +68,33 @@ fn run_over_socket<
         Err(error) => return Err(ClientEnd::of_connecting(&error)),
     };
     let _ = stream.set_nodelay(true);
-    let end = run_client(alloc, input, out, &stream, &stream);
+    let end = run_beside_drain(rt, alloc, &stream, input, out);
     hang_up(rt, &stream);
     end
+}
+
+// Runs the client beside a thread that reads the link, which has ended when this returns.
+fn run_beside_drain<R: Threads + Wait + Sync, C: Read + Drop, O: Write>(
+    rt: &R,
+    alloc: Global,
+    stream: &TcpStream,
+    input: C,
+    out: &mut O,
+) -> Result<(), ClientEnd> {
+    let intake = Intake::new(Inbox::new(alloc)?);
+    let intake = &intake;
+    let look = Duration::from_millis(LOOK);
+    if stream.set_read_timeout(Some(look)).is_err() {
+        return Err(ClientEnd::ReadFailed);
+    }
+    thread::scope(thread::scope_env(), rt, |scope| {
+        if scope.spawn(move || drain(rt, stream, intake)).is_err() {
+            return Err(ClientEnd::NoMemory);
+        }
+        let end = run_client(alloc, input, out, Drained::new(rt, intake), stream);
+        intake.leave(rt);
+        end
+    })
 }
 
 // Tells a fault on standard output, and on standard error what it is; answers the exit status.

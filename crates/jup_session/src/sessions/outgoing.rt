@@ -1,6 +1,6 @@
 //! The writing side of a link's socket.
 
-use super::source::is_interrupted;
+use jup_intake::{has_waited, is_interrupted};
 use std::io;
 use std::io::{ErrorKind, Write};
 use std::net::{Shutdown, TcpStream};
@@ -51,11 +51,6 @@ impl<'a> Write for Outgoing<'a> {
     fn flush(&mut self) -> io::Result<()> {
         Ok(())
     }
-}
-
-// Whether a write has waited for as long as the socket lets it, and nothing was taken.
-fn has_waited(error: &io::Error) -> bool {
-    matches!(error.kind(), ErrorKind::WouldBlock | ErrorKind::TimedOut)
 }
 
 impl<'a> Drop for Outgoing<'a> {

@@ -1,6 +1,7 @@
 //! The lines of a link, read piece by piece.
 ghost use Rattle.std.specs.Prelude.{◌≤◌};
 
+use jup_intake::is_interrupted;
 use jup_rules::{SessionFault, Stop};
 use jup_seq::SeqOp;
 use jup_value::Label;
@@ -8,8 +9,7 @@ use jup_window::{BoardOp, WidgetOp};
 use jup_wire::{Fed, Line, Reader};
 use jup_xform::NoMemory;
 use std::alloc::Global;
-use std::io;
-use std::io::{ErrorKind, Read};
+use std::io::Read;
 use std::marker::PhantomData;
 
 /// Bytes that one read asks for. They lie on the reading thread's stack, of which an idle session keeps what it ever touched.
@@ -106,9 +106,4 @@ impl<I: Read + Drop> Source<I> {
             Err(fault) => Stop::Fault(SessionFault::Wire(fault)),
         }
     }
-}
-
-/// Whether a read is to be tried again.
-pub(crate) fn is_interrupted(error: &io::Error) -> bool {
-    error.kind() == ErrorKind::Interrupted
 }

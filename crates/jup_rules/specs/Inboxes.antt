@@ -1,0 +1,21 @@
+-- What a link has brought, and its reader has not taken.
+use Rattle.std.specs.Prelude.{◌≡◌, ◌≤◌, ℕ, List, [], ◌++◌, length, take, Option, Some, None}
+use Rattle.jup_rules.specs.declared.inbox.LinkEnd.{LinkEnd}
+use Rattle.jup_rules.specs.declared.inbox.Given.{Given}
+use Rattle.jup_rules.specs.declared.inbox.Given.TheVariants.{Bytes, End}
+
+-- the bytes that wait, and how the link ended, if it has
+abbrev pub Arrived : Type 0
+Arrived = List ℕ × Option LinkEnd
+
+-- What a reader is given: first the bytes that wait, in the order in which they came, at least one of them; once there are none how the
+-- link ended; and nothing only before it has
+abbrev pub AreGiven : Arrived → Arrived → List ℕ → Option Given → Type 0
+AreGiven before behind buf (Some (Bytes len)) = (1 ≤ len) × (len ≤ length buf) × (before.0 ≡ take len buf ++ behind.0) × (behind.1 ≡ before.1)
+AreGiven before behind buf (Some (End end)) = (before ≡ ([], Some end)) × (behind ≡ before)
+AreGiven before behind buf None = (before ≡ ([], None)) × (behind ≡ before)
+
+-- how many bytes these are
+abbrev pub count_in : Given → ℕ
+count_in (Bytes len) = len
+count_in (End end) = 0

@@ -1,0 +1,96 @@
+//! A client that reads while its user thinks.
+
+use crate::expect::expect_eq;
+use crate::programs::client_of;
+use crate::strangers::{read_to_end, send};
+use jup_session::client_main;
+use std::alloc::Global;
+use std::io::{Read, Write};
+use std::net::{Net, TcpListener, TcpStream};
+use std::process::Abort;
+use std::sync::Wait;
+use std::sync::atomic::{AtomicU64, Ordering};
+use std::thread::{Threads, join};
+use std::time::{Clock, Duration};
+use std::{io, thread};
+
+/// Pieces that are written: 16 MiB in all, which no socket here holds.
+const PIECES: u64 = 256;
+
+const PIECE: [u8; 65_536] = [b'x'; 65_536];
+
+// A server that greets a client, writes 16 MiB, and reads to the end.
+fn floods<R: Net<Listener = TcpListener, Stream = TcpStream> + Abort>(
+    rt: &R,
+    alloc: Global,
+    listener: &TcpListener,
+    written: &AtomicU64,
+) {
+    let (link, _) = listener.accept().expect(rt, "a client");
+    send(rt, &link, b"welcome 1 100\nwindow 1\ntext 1\nready\n");
+    let mut to = &link;
+    for _ in 0..PIECES {
+        if to.write_all(&PIECE).is_err() {
+            return;
+        }
+        written.fetch_add(1, Ordering::SeqCst);
+    }
+    read_to_end(rt, &link, &mut Vec::new(alloc));
+}
+
+/// The commands of a user who thinks until a server has written all, or for ten seconds.
+#[derive(Drop)]
+struct Thinking<'a, R> {
+    rt: &'a R,
+    written: &'a AtomicU64,
+    seen: &'a AtomicU64,
+    commands: &'a [u8],
+}
+
+impl<'a, R: Clock> Read for Thinking<'a, R> {
+    fn read(&mut self, buf: &mut [u8]) -> io::Result<usize> {
+        for _ in 0..1_000 {
+            let written = self.written.load(Ordering::SeqCst);
+            self.seen.store(written, Ordering::SeqCst);
+            if written == PIECES {
+                break;
+            }
+            thread::sleep(self.rt, Duration::from_millis(10));
+        }
+        self.commands.read(buf)
+    }
+}
+
+// Runs a client whose user thinks. Its status, and how many pieces the server had written before the user quit.
+fn thinks<R: Net<Listener = TcpListener, Stream = TcpStream> + Threads + Wait + Clock + Sync>(
+    rt: &R,
+    alloc: Global,
+    words: &[String],
+    written: &AtomicU64,
+) -> (u8, u64) {
+    let seen = AtomicU64::new(0);
+    let input = Thinking {
+        rt,
+        written,
+        seen: &seen,
+        commands: b"quit\n",
+    };
+    let (mut out, mut errors) = (Vec::new(alloc), Vec::new(alloc));
+    let status = client_main(rt, alloc, words, input, &mut out, &mut errors);
+    (status, seen.load(Ordering::SeqCst))
+}
+
+#[test]
+fn a_client_reads_while_its_user_thinks(rt: HostRuntime) {
+    let alloc = rt.alloc();
+    let addr = "127.0.0.1:47033";
+    let words = client_of(&rt, alloc, addr);
+    let listener = TcpListener::bind(&rt, addr).expect(&rt, "an address");
+    let written = AtomicU64::new(0);
+    let (told, ()) = join(
+        &rt,
+        || thinks(&rt, alloc, &words, &written),
+        || floods(&rt, alloc, &listener, &written),
+    );
+    expect_eq(&rt, told, (0, PIECES));
+}

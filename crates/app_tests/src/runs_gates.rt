@@ -106,6 +106,22 @@ impl Gate for Waits {
     }
 }
 
+// Counts how often it was told.
+#[derive(Drop)]
+struct Told {
+    times: AtomicU64,
+}
+
+impl Gate for Told {
+    fn ready(&self, _site: u32, _nth: u32) -> bool {
+        true
+    }
+
+    fn answered(&self, _site: u32, _nth: u32) {
+        self.times.fetch_add(1, Ordering::SeqCst);
+    }
+}
+
 #[test]
 fn two_meet(rt: HostRuntime) {
     let alloc = rt.alloc();
@@ -171,4 +187,17 @@ fn the_lowest_site_that_is_refused_tells_why(rt: HostRuntime) {
         let run = run_many(&rt, alloc, blank(&rt, alloc), 3, &all, &gate);
         expect_eq(&rt, (site, refusal(run)), (site, number));
     }
+}
+
+// The order has room for one of the two sites' edits, and the gate is told of both takes.
+#[test]
+fn the_gate_of_a_run_is_told_of_a_refused_take(rt: HostRuntime) {
+    let alloc = rt.alloc();
+    let script = insertions(&rt, alloc, 'a', 1);
+    let gate = Told {
+        times: AtomicU64::new(0),
+    };
+    let run = run_two(&rt, alloc, blank(&rt, alloc), 1, &script, &script, &gate);
+    expect_eq(&rt, refusal(run), 32);
+    expect_eq(&rt, gate.times.load(Ordering::SeqCst), 2);
 }

@@ -12,3 +12,4 @@ pub mod Messages
 pub mod Numbers
 pub mod Requests
 pub mod Texts
+pub mod Typed

@@ -1,1 +1,2 @@
 pub mod SessionCalls
+mod Layouts

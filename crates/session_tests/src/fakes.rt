@@ -122,6 +122,35 @@ impl<'a, R: Clock> Write for Slow<'a, R> {
     }
 }
 
+/// Takes its first write. The second fails, once so many lines were given.
+#[derive(Drop)]
+pub(crate) struct FailsBehind<'a, R> {
+    pub(crate) rt: &'a R,
+    pub(crate) is_first: bool,
+    pub(crate) given: &'a AtomicU32,
+    pub(crate) lines: u32,
+}
+
+impl<'a, R: Clock> Write for FailsBehind<'a, R> {
+    fn write(&mut self, buf: &[u8]) -> io::Result<usize> {
+        if self.is_first {
+            self.is_first = false;
+            return Ok(buf.len());
+        }
+        for _ in 0..10_000 {
+            if self.given.load(Ordering::SeqCst) >= self.lines {
+                break;
+            }
+            sleep(self.rt, Duration::from_millis(1));
+        }
+        Err(io::Error::from(ErrorKind::BrokenPipe))
+    }
+
+    fn flush(&mut self) -> io::Result<()> {
+        Ok(())
+    }
+}
+
 /// Lets up to a number of edits through, and counts how often it was asked and told.
 #[derive(Drop)]
 pub(crate) struct Counting {

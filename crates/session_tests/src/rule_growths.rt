@@ -5,8 +5,8 @@ use crate::programs::client_of;
 use clap::error::ErrorKind;
 use jup_gather::Gather;
 use jup_rules::{
-    Asking, DaemonEnd, Given, Inbox, LinkEnd, Request, SessionFault, Told, client_words, hear_site,
-    report_text, star_of_layout, told_text,
+    Asking, DaemonEnd, Given, Inbox, LinkEnd, Request, SessionFault, Told, TypedLine, client_words,
+    hear_site, report_text, star_of_layout, told_text,
 };
 use jup_star::Star;
 use jup_window::Board;
@@ -185,4 +185,19 @@ fn inbox_put(rt: HostRuntime) {
     }
     expect_eq(&rt, taken(&mut inbox), (Some(Given::Bytes(1)), 0));
     expect_eq(&rt, taken(&mut inbox).0, Some(Given::End(LinkEnd::Failed)));
+}
+
+// A line of a user that has one byte more where memory was refused for it before.
+#[test]
+fn typed_push(rt: HostRuntime) {
+    let mut line = TypedLine::new(rt.alloc());
+    begin(rt.alloc());
+    let mut pushed = line.push(b'a');
+    end(rt.alloc());
+    if pushed.is_err() {
+        expect_that(&rt, line.is_empty());
+        pushed = line.push(b'a');
+    }
+    expect_that(&rt, pushed.is_ok());
+    expect_eq(&rt, line.text(), b"a".as_slice());
 }

@@ -3,7 +3,7 @@ ghost use Rattle.std.specs.Prelude.{◌≡◌, ◌≤◌, length};
 ghost use Rattle.jup_hub.specs.Passes.{IsPassOf};
 
 use crate::expect::{expect_eq, expect_text, expect_that};
-use crate::fakes::{Counting, FailsAfter, FailsAt, LineByLine, OneByOne, Slow};
+use crate::fakes::{Counting, FailsAfter, FailsAt, FailsBehind, LineByLine, OneByOne, Slow};
 use crate::texts::lines;
 use jup_hub::{Hub, Pass};
 use jup_layout::layout;
@@ -288,6 +288,27 @@ fn a_site_is_owed_at_most_1024_pongs(rt: HostRuntime) {
     let read = read_while_slow(&rt, alloc, from.as_bytes(), &mut written);
     expect_eq(&rt, (read, read <= 1_026), (read, true));
     expect_text(&rt, written.as_slice(), answer.as_str());
+}
+
+// The half that reads waits with a ping beyond the 1,024 whose pongs are owed, and the half that writes fails: nobody waits any more.
+#[test]
+fn a_ping_that_waits_ends_with_its_session(rt: HostRuntime) {
+    let alloc = rt.alloc();
+    let (hub, pass) = open_hub(&rt, alloc, EMPTY_TEXT, 100);
+    let text = lines(&rt, alloc, "hello 3\n", "ping #", 0..2_000, "bye\n");
+    let given = AtomicU32::new(0);
+    let from = LineByLine {
+        text: text.as_bytes(),
+        given: &given,
+    };
+    let to = FailsBehind {
+        rt: &rt,
+        is_first: true,
+        given: &given,
+        lines: 1_026,
+    };
+    let (_, ending) = serve_link(&rt, alloc, from, to, &hub, pass, &Bell::new(), &Open);
+    expect_eq(&rt, ending, Ending::Fault(71));
 }
 
 /// Greets. Then another pass leaves for the first site, and a ping comes.

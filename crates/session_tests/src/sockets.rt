@@ -1,11 +1,11 @@
-//! A client that reads while its user thinks.
+//! A socket whose peer takes nothing, a listener after the last session, and a client that reads while its user thinks.
 
-use crate::expect::expect_eq;
-use crate::programs::client_of;
-use crate::strangers::{read_to_end, send};
-use jup_session::client_main;
+use crate::expect::{expect_eq, expect_that};
+use crate::programs::{client_of, daemon_at, expect_success, serve};
+use crate::strangers::{link_to, read_to, read_to_end, send};
+use jup_session::{Outgoing, client_main};
 use std::alloc::Global;
-use std::io::{Read, Write};
+use std::io::{ErrorKind, Read, Write};
 use std::net::{Net, TcpListener, TcpStream};
 use std::process::Abort;
 use std::sync::Wait;
@@ -18,6 +18,83 @@ use std::{io, thread};
 const PIECES: u64 = 256;
 
 const PIECE: [u8; 65_536] = [b'x'; 65_536];
+
+// The two ends of a connection.
+fn both_ends<R: Net<Listener = TcpListener, Stream = TcpStream> + Abort>(
+    rt: &R,
+    addr: &str,
+) -> (TcpStream, TcpStream) {
+    let listener = TcpListener::bind(rt, addr).expect(rt, "an address");
+    let near = TcpStream::connect(rt, addr).expect(rt, "a listener");
+    let (far, _) = listener.accept().expect(rt, "a connection");
+    (near, far)
+}
+
+// Writes until a write fails, and answers how.
+fn fill(to: &mut Outgoing<'_>) -> Option<ErrorKind> {
+    for _ in 0..PIECES {
+        if let Err(error) = to.write_all(&PIECE) {
+            return Some(error.kind());
+        }
+    }
+    None
+}
+
+// The reading side of its socket ends with it, so that nobody waits there for a peer that is lost.
+#[test]
+fn a_write_fails_whose_peer_takes_nothing(rt: HostRuntime) {
+    let (near, far) = both_ends(&rt, "127.0.0.1:47031");
+    let mut to = Outgoing::new(&near, 1);
+    expect_eq(&rt, fill(&mut to), Some(ErrorKind::TimedOut));
+    let limit = near.set_read_timeout(Some(Duration::from_secs(10)));
+    expect_that(&rt, limit.is_ok());
+    drop(to);
+    let mut from = &near;
+    expect_eq(&rt, from.read(&mut [0u8; 1]).ok(), Some(0));
+    drop(far);
+}
+
+// Whether a connection is refused within a second.
+fn is_refused<R: Net<Listener = TcpListener, Stream = TcpStream> + Clock>(
+    rt: &R,
+    addr: &str,
+) -> bool {
+    for _ in 0..100 {
+        if TcpStream::connect(rt, addr).is_err() {
+            return true;
+        }
+        thread::sleep(rt, Duration::from_millis(10));
+    }
+    false
+}
+
+// The last session, and whether who comes beside it is refused.
+fn last_session<R: Net<Listener = TcpListener, Stream = TcpStream> + Clock + Abort>(
+    rt: &R,
+    alloc: Global,
+    addr: &str,
+) -> bool {
+    let link = link_to(rt, addr);
+    send(rt, &link, b"hello 3\n");
+    read_to(rt, &link, b"ready\n", &mut Vec::new(alloc));
+    let is_last = is_refused(rt, addr);
+    send(rt, &link, b"bye\n");
+    is_last
+}
+
+#[test]
+fn who_comes_after_the_last_session_is_refused(rt: HostRuntime) {
+    let alloc = rt.alloc();
+    let addr = "127.0.0.1:47032";
+    let daemon = daemon_at(&rt, alloc, addr, "100", "1");
+    let (told, is_last) = join(
+        &rt,
+        || serve(&rt, alloc, &daemon, "".as_bytes()),
+        || last_session(&rt, alloc, addr),
+    );
+    expect_that(&rt, is_last);
+    expect_success(&rt, &told, 0, "listening 127.0.0.1:47032\norder 0\n");
+}
 
 // A server that greets a client, writes 16 MiB, and reads to the end.
 fn floods<R: Net<Listener = TcpListener, Stream = TcpStream> + Abort>(

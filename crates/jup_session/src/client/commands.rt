@@ -1,15 +1,11 @@
 //! The commands of a user, a line each.
 ghost use Rattle.std.specs.Prelude.{◌≤◌};
 
-use crate::sessions::source::MOST_READS;
 use jup_intake::is_interrupted;
-use jup_rules::{Asking, ClientEnd, Request, SessionFault};
+use jup_rules::{Asking, ClientEnd, Request, SessionFault, TypedLine, count_read};
 use jup_xform::NoMemory;
 use std::alloc::Global;
 use std::io::Read;
-
-/// The longest line, without its line feed.
-const LONGEST: usize = 4_096;
 
 /// Bytes that one read asks for.
 const PIECE: usize = 4_096;
@@ -21,9 +17,7 @@ pub(crate) struct Requests<C: Read + Drop> {
     // The bytes of the last read, and how many of them were looked at.
     piece: Vec<u8>,
     given: usize,
-    // The line so far, and whether it has more bytes than a line may have.
-    line: Vec<u8>,
-    is_long: bool,
+    line: TypedLine,
     // Whether the input has ended: then it is not read again, which a terminal would wait for.
     is_over: bool,
     // The lines of a batch that has begun.
@@ -36,8 +30,7 @@ impl<C: Read + Drop> Requests<C> {
             from,
             piece: Vec::new(alloc),
             given: 0,
-            line: Vec::new(alloc),
-            is_long: false,
+            line: TypedLine::new(alloc),
             is_over: false,
             asking: Asking::new(),
         }
@@ -63,13 +56,12 @@ impl<C: Read + Drop> Requests<C> {
     // Reads the next line. False at the end of the input.
     fn next_line(&mut self, reads: &mut u32) -> Result<bool, ClientEnd> {
         self.line.clear();
-        self.is_long = false;
         for _ in 0..u64::MAX {
             if self.fill_line()? {
                 return Ok(true);
             }
             if self.is_over {
-                return Ok(self.is_long || !self.line.is_empty());
+                return Ok(!self.line.is_empty());
             }
             self.read(reads)?;
         }
@@ -86,21 +78,14 @@ impl<C: Read + Drop> Requests<C> {
             if byte == b'\n' {
                 return Ok(true);
             }
-            if self.line.len() >= LONGEST {
-                self.is_long = true;
-            } else if self.line.push(byte).is_err() {
-                return Err(ClientEnd::NoMemory);
-            }
+            self.line.push(byte)?;
         }
         Ok(false)
     }
 
     // One read.
     fn read(&mut self, reads: &mut u32) -> Result<(), ClientEnd> {
-        if *reads == MOST_READS {
-            return Err(SessionFault::ReadsSpent.into());
-        }
-        *reads += 1;
+        *reads = count_read(*reads)?;
         let mut piece = [0u8; PIECE];
         let len = match self.from.read(&mut piece) {
             Ok(len) => {
@@ -118,12 +103,8 @@ impl<C: Read + Drop> Requests<C> {
         }
     }
 
-    // What the lines up to this one ask for, if none is missing. A line that is too long is read as an empty one,
-    // which is no command either.
+    // What the lines up to this one ask for, if none is missing.
     fn request(&mut self, alloc: Global) -> Result<Option<Request>, NoMemory> {
-        if self.is_long {
-            self.line.clear();
-        }
-        self.asking.push(alloc, self.line.as_slice())
+        self.asking.push(alloc, self.line.text())
     }
 }

@@ -1,5 +1,5 @@
 //! The daemon's run.
-ghost use Rattle.std.specs.Prelude.{◌≡◌, ◌≤◌, IfOk, vec_len};
+ghost use Rattle.std.specs.Prelude.{◌≡◌, ◌≤◌, ◌<◌, Err, IfOk, IfSome, length, vec_len};
 ghost use Rattle.jup_limits.specs.Limits.{longest_input};
 ghost use Rattle.jup_hub.specs.Passes.{IsPassOf};
 
@@ -104,7 +104,9 @@ fn serve_star<R: Threads + Wait + Clock + Sync, O: Write>(
 
 // The text of the layout.
 fn read_layout<I: Read + Drop>(alloc: Global, input: I) -> Result<Vec<u8>, DaemonEnd>
-    ensures { IfOk result (λ text. vec_len text ≤ longest_input) }
+    ensures most { IfOk result (λ text. vec_len text ≤ longest_input) }
+    ensures whole { IfOk result (λ text. IfSome (I.remaining input) (λ bytes. text.items ≡ bytes)) }
+    ensures long { result ≡ Err DaemonEnd.LongLayout → IfSome (I.remaining input) (λ bytes. longest_input < length bytes) }
 {
     let mut text = Vec::new(alloc);
     if let Err(error) = input.take(LONGEST_INPUT + 1).read_to_end(&mut text) {

@@ -33,7 +33,8 @@ impl Place {
         }
     }
 
-    // Wakes those who wait. Who is about to wait holds the lock until it does.
+    // Wakes those who wait. Who is about to wait has compared the counts, and holds the lock until it does: the lock is taken, and
+    // given up at once, so that the ring comes behind that. Without it a ring between the two is lost, which no test can be sure to meet.
     fn wake<R: Wait>(&self, rt: &R) {
         drop(self.rings.lock(rt));
         self.rung.notify_all();

@@ -1,4 +1,6 @@
 //! Whom a session has still to wake.
+ghost use Rattle.std.specs.Prelude.{◌≡◌, ◌≢◌, ◌⊎◌, ◌↔◌, None, Some};
+ghost use Rattle.jup_rules.specs.declared.ring.Ring.TheVariants.{All};
 
 use super::link::Link;
 use jup_rules::Ring;
@@ -12,19 +14,26 @@ pub(crate) struct Due {
 
 impl Due {
     /// Nobody is to be woken.
-    pub(crate) fn new() -> Due {
+    pub(crate) fn new() -> Due
+        ensures { result.ring ≡ None }
+    {
         Due { ring: None }
     }
 
     /// One ring more. A ring for all is one for the own half too.
-    pub(crate) fn add(&mut self, ring: Ring) {
+    pub(crate) fn add(&mut self, ring: Ring)
+        ensures due { self.new.ring ≢ None }
+        ensures all { (self.new.ring ≡ Some All) ↔ ((self.old.ring ≡ Some All) ⊎ (ring ≡ All)) }
+    {
         if self.ring != Some(Ring::All) {
             self.ring = Some(ring);
         }
     }
 
     /// Wakes those who are to be woken. Called before the reading half waits for anything, since what it waits for may be for them to do.
-    pub(crate) fn ring<R: Wait>(&mut self, rt: &R, link: &Link<'_>) {
+    pub(crate) fn ring<R: Wait>(&mut self, rt: &R, link: &Link<'_>)
+        ensures { self.new.ring ≡ None }
+    {
         match self.ring.take() {
             Some(Ring::All) => link.bell.ring(rt),
             Some(Ring::Own) => link.ring(rt),

@@ -72,7 +72,8 @@ impl<'a> Link<'a> {
         self.pongs.lock(rt).take_ping()
     }
 
-    /// The same, once the site is owed fewer pongs than it may be. False where an ending was noted before that.
+    /// The same, once the site is owed fewer pongs than it may be. False where an ending was noted before that. No clause can say so, since what
+    /// stands under a lock has no name: `session_tests` has a ping that waits, and has to end with its session.
     pub(crate) fn take_ping<R: Wait>(&self, rt: &R) -> bool {
         let mut seen = 0;
         for _ in rt.forever() {

@@ -2,7 +2,7 @@
 ghost use Rattle.std.specs.Prelude.{◌≤◌};
 
 use jup_intake::is_interrupted;
-use jup_rules::{SessionFault, Stop};
+use jup_rules::{SessionFault, Stop, count_read};
 use jup_seq::SeqOp;
 use jup_value::Label;
 use jup_window::{BoardOp, WidgetOp};
@@ -14,9 +14,6 @@ use std::marker::PhantomData;
 
 /// Bytes that one read asks for. They lie on the reading thread's stack, of which an idle session keeps what it ever touched.
 const PIECE: usize = 1_024;
-
-/// Reads that a session or a client may make.
-pub(crate) const MOST_READS: u32 = u32::MAX;
 
 /// What comes by a link, as lines.
 #[derive(Drop)]
@@ -80,10 +77,7 @@ impl<I: Read + Drop> Source<I> {
 
     // One read, whose lines are next. One that was interrupted gives none.
     fn read(&mut self, alloc: Global) -> Result<(), Stop> {
-        if self.reads == MOST_READS {
-            return Err(Stop::Fault(SessionFault::ReadsSpent));
-        }
-        self.reads += 1;
+        self.reads = count_read(self.reads).map_err(Stop::Fault)?;
         let mut piece = [0u8; PIECE];
         let len = match self.from.read(&mut piece) {
             Ok(0) => return Err(self.end()),

@@ -1,0 +1,12 @@
+-- How much of a layout is read.
+use Rattle.std.proofs.Common.{◌≡◌, ◌+◌, ◌≤◌, ℕ, List, [], ◌++◌, length, take, Option, Some, None, IfSome, arith, ap, ◌∙◌}
+use Rattle.std.proofs.lemmas.List.{take_all, length-take}
+use Rattle.std.specs.Option.{option_map}
+
+-- one byte more than a layout may have is asked for: where fewer came they are all
+pub read_whole : (most limit : ℕ) (remaining : Option (List ℕ)) (before text : List ℕ) → limit ≡ most + 1 → before ≡ [] → IfSome (option_map (take limit) remaining) (λ bytes. text ≡ before ++ bytes)
+    → length text ≤ most → IfSome remaining (λ bytes. text ≡ bytes)
+read_whole most limit None before text asked none read short = tt
+read_whole most limit (Some bytes) before text asked none read short =
+    let is : text ≡ take limit bytes = read ∙ ap (λ (l : List ℕ). l ++ take limit bytes) none in
+    is ∙ take_all limit bytes (omega (arith, ap length is, length-take limit bytes, asked))

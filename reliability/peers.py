@@ -28,16 +28,16 @@ def free_port():
 
 
 class Daemon:
-    """A `jupd` that serves a layout. The end of the `with` stops it."""
+    """A `jupd` that serves a layout, in the script's environment or in another. The end of the `with` stops it."""
 
-    def __init__(self, layout, sessions, limit=1_000_000, most_memory=None):
+    def __init__(self, layout, sessions, limit=1_000_000, most_memory=None, environment=None):
         self.port = free_port()
         words = ["--listen", f"127.0.0.1:{self.port}", "--limit", str(limit), "--sessions", str(sessions)]
         bound = lambda: most_memory and resource.setrlimit(resource.RLIMIT_AS, (most_memory, most_memory))
         with tempfile.TemporaryFile() as text:
             text.write(layout)
             text.seek(0)
-            self.process = subprocess.Popen([program(), *words], stdin=text, stdout=subprocess.PIPE, preexec_fn=bound)
+            self.process = subprocess.Popen([program(), *words], stdin=text, stdout=subprocess.PIPE, preexec_fn=bound, env=environment)
         assert self.process.stdout.readline().startswith(b"listening ")
 
     def __enter__(self):
@@ -88,6 +88,12 @@ class Peer:
         """Inserts a character at the front of text 1 of window 1."""
         self.edits += 1
         self.send(b"batch %d %d 1\ndo 1 1 text ins 0 %d.%d 97\n" % (self.edits - 1, self.heard, self.site, self.edits))
+
+    def relabel(self, times=32):
+        """Gives item 0.1 of list 2 of window 1 other labels, so many in one edit. The board does not grow."""
+        self.edits += 1
+        batch = b"batch %d %d %d\n" % (self.edits - 1, self.heard, times)
+        self.send(batch + b"".join(b"do 1 2 list rel 0 0.1 %s\n" % (b"%02d" % it * 24) for it in range(times)))
 
     def sync(self):
         """Pings, and reads to the pong."""

@@ -3,6 +3,7 @@
 mod bell;
 mod due;
 mod greeting;
+mod leaving;
 mod link;
 mod outgoing;
 pub(crate) mod output;

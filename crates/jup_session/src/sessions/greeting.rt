@@ -5,6 +5,7 @@ ghost use Rattle.jup_session.specs.Outputs.{PutsLines};
 ghost use Rattle.jup_session.specs.Greetings.{welcome_lines};
 ghost use Rattle.jup_session.specs.Sessions.{Joins, IsSession};
 
+use super::leaving::leave;
 use super::output::Output;
 use super::source::Source;
 use super::writing::tell;
@@ -39,7 +40,7 @@ pub(crate) fn begin<R: Wait, I: Read + Drop, O: Write + Drop>(
         }
     };
     if let Err(fault) = welcome(output, &joined) {
-        let _ = hub.leave(rt, pass, joined.site);
+        leave(rt, alloc, hub, pass, joined.site);
         if fault != SessionFault::WriteFailed {
             let _ = tell(output, fault.into());
         }

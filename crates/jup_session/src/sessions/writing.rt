@@ -7,6 +7,7 @@ ghost use Rattle.jup_rules.specs.Messages.{down_lines};
 ghost use Rattle.jup_session.specs.Outputs.{PutsLines};
 ghost use Rattle.jup_session.specs.Sessions.{Serves, Leaves, HasMadeNone, HasServed};
 
+use super::leaving::leave;
 use super::link::Link;
 use super::output::Output;
 use jup_hub::Pass;
@@ -45,7 +46,7 @@ pub(crate) fn write_half<R: Wait, O: Write + Drop>(
         link.note(rt, fault.into());
     }
     if !is_gone {
-        let _ = link.hub.leave(rt, &mut pass, link.site);
+        leave(rt, link.alloc, link.hub, &mut pass, link.site);
     }
     if left != Err(SessionFault::WriteFailed) {
         let ending = link.ending(rt).unwrap_or(Ending::Gone);

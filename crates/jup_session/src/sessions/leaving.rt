@@ -1,0 +1,65 @@
+//! How a site leaves for which much may wait.
+ghost use Rattle.jup_hub.specs.Passes.{view_of, IsPassOf};
+ghost use Rattle.jup_session.specs.Sessions.{Serves, Leaves};
+
+use jup_hub::{Hub, Pass};
+use jup_rules::{MOST_FETCHED, is_last_fetch};
+use jup_star::{Down, Up};
+use std::alloc::Global;
+use std::sync::Wait;
+
+/// Has a site leave. What it held is given back before that, some of it in each turn, so that others get theirs between.
+pub(crate) fn leave<R: Wait>(rt: &R, alloc: Global, hub: &Hub, pass: &mut Pass, site: u32)
+    requires { IsPassOf hub.now pass.old }
+    ensures pass { IsPassOf hub.now pass.new }
+    ensures leaves { Leaves site (view_of pass.old) (view_of pass.new) }
+{
+    give_back(rt, alloc, hub, pass, site);
+    let _ = hub.leave(rt, pass, site);
+}
+
+// Gives back what waits for a site. Where memory is refused, the star drops the rest as the site leaves.
+fn give_back<R: Wait>(rt: &R, alloc: Global, hub: &Hub, pass: &mut Pass, site: u32)
+    requires { IsPassOf hub.now pass.old }
+    ensures pass { IsPassOf hub.now pass.new }
+    ensures serves { Serves site (view_of pass.old) (view_of pass.new) }
+{
+    for _ in rt.forever() {
+        if !give_some(rt, alloc, hub, pass, site) {
+            return;
+        }
+    }
+    unreachable!()
+}
+
+// Fetches messages, and drops them outside the turn. Whether more may wait.
+fn give_some<R: Wait>(rt: &R, alloc: Global, hub: &Hub, pass: &mut Pass, site: u32) -> bool
+    requires { IsPassOf hub.now pass.old }
+    ensures pass { IsPassOf hub.now pass.new }
+    ensures serves { Serves site (view_of pass.old) (view_of pass.new) }
+{
+    let Ok(downs) = hub.fetch(rt, alloc, pass, site, MOST_FETCHED) else {
+        return false;
+    };
+    acknowledge(rt, alloc, hub, pass, site, downs.as_slice());
+    !is_last_fetch(downs.as_slice().len())
+}
+
+// Acknowledges messages in the place of the site, which will never be told of them: the star keeps each edit until then.
+fn acknowledge<R: Wait>(
+    rt: &R,
+    alloc: Global,
+    hub: &Hub,
+    pass: &mut Pass,
+    site: u32,
+    downs: &[Down],
+)
+    requires { IsPassOf hub.now pass.old }
+    ensures pass { IsPassOf hub.now pass.new }
+    ensures serves { Serves site (view_of pass.old) (view_of pass.new) }
+{
+    if let Some(Down::Op(last)) = downs.last() {
+        let heard = last.mine.saturating_add(1);
+        let _ = hub.take(rt, alloc, pass, site, &Up::Ack(heard));
+    }
+}

@@ -1,0 +1,15 @@
+pub mod CalledStars
+pub mod HonestBacklogs
+pub mod HonestCauses
+pub mod HonestItems
+pub mod HonestJoins
+pub mod HonestKept
+pub mod HonestOpens
+pub mod HonestOrder
+pub mod HonestRemains
+pub mod HonestRuns
+pub mod HonestSteps
+pub mod HonestWalks
+pub mod LinkCounts
+pub mod LongerRuns
+pub mod Witness

@@ -1,0 +1,111 @@
+-- The two ways of a link as the bytes that its ends wrote and read.
+use Rattle.std.specs.Prelude.{◌≡◌, ℕ, Bool, true, false, List, [], ◌∷◌, ◌++◌, map, Option}
+use Rattle.std.specs.List.{flat_map, AllByRecursion}
+use Rattle.jup_batch.specs.BatchBoards.{BoardBatch}
+use Rattle.jup_star.specs.declared.messages.Up.{Up}
+use Rattle.jup_star.specs.declared.messages.Down.{Down}
+use Rattle.jup_star.specs.declared.star.Joined.{Joined}
+use Rattle.jup_wire.specs.declared.line.Line.{Line}
+use Rattle.jup_wire.specs.declared.line.Line.TheVariants.{Hello, Welcome, Ready, Bye, Error}
+use Rattle.jup_wire.specs.Grammar.{spelling, HasSpelling}
+use Rattle.jup_wire.specs.Streams.{Progress, HasRead}
+use Rattle.jup_gather.specs.Pieces.{piece_lines, HasGathered}
+use Rattle.jup_layout.specs.BoardLines.{board_lines}
+use Rattle.jup_rules.specs.declared.said.Said.{Said}
+use Rattle.jup_rules.specs.declared.said.Said.TheVariants.{Up as SaysUp, Bye as SaysBye}
+use Rattle.jup_rules.specs.Messages.{said_piece, down_piece, down_lines, HasSaid}
+use Rattle.jup_honest.specs.Connections.{Step, Connection, after}
+
+-- # Up
+
+-- a client that says bye says nothing behind it
+abbrev pub farewell : Bool → List Said
+farewell true = SaysBye ∷ []
+farewell false = []
+
+-- what a client says: its messages, and then perhaps a bye
+abbrev pub all_said : List (Up BoardBatch) → Bool → List Said
+all_said ups bye = map (λ up. SaysUp up) ups ++ farewell bye
+
+-- the lines of that
+abbrev pub said_lines : List Said → List Line
+said_lines saids = flat_map (λ said. piece_lines (said_piece said)) saids
+
+-- The bytes that the client wrote are those of `hello`, of its messages and perhaps of a bye. The session read the first of them:
+-- these are whole lines, some of which may wait, and then a part of one. By the others the client said all that, and the first of
+-- these messages were brought to the star
+pub record UpSocket (c : Connection) : Type 0 where
+  pub bye : Bool
+  pub spelled : AllByRecursion HasSpelling (Hello ∷ said_lines (all_said c.sent bye))
+  pub read : List ℕ
+  pub left : List ℕ
+  pub bytes : read ++ left ≡ flat_map spelling (Hello ∷ said_lines (all_said c.sent bye))
+  pub lines : List Line
+  pub waiting : List Line
+  pub progress : Progress
+  pub reads : HasRead read (Hello ∷ (lines ++ waiting)) progress
+  pub saids : List Said
+  pub held : Option (List Line)
+  pub said : HasSaid lines saids held
+  pub later : List Said
+  pub takes : saids ≡ map (λ up. SaysUp up) c.taken ++ later
+
+-- # Down
+
+-- a line that ends a session
+abbrev pub IsLast : Line → Type 0
+IsLast Bye = Unit {0}
+IsLast (Error number) = Unit {0}
+IsLast line = ⊥
+
+-- a line that does not end a board
+abbrev pub IsWithinBoard : Line → Type 0
+IsWithinBoard Ready = ⊥
+IsWithinBoard line = Unit {0}
+
+-- what a server says as a site has joined: its number and its limit, a board, and that this is all
+abbrev pub greeting : ℕ → ℕ → List Line → List Line
+greeting site limit body = Welcome site limit ∷ (body ++ Ready ∷ [])
+
+-- the lines of messages down
+abbrev pub messages_down : List (Down BoardBatch) → List Line
+messages_down downs = flat_map down_lines downs
+
+-- what a session writes: the greeting of the answer to the join, what its fetches brought, and a last line once it ends
+abbrev pub written_down : Joined → List (Down BoardBatch) → List Line → List Line
+written_down answer fetched last = greeting answer.site answer.limit (board_lines answer.board) ++ (messages_down fetched ++ last)
+
+-- The bytes that the session wrote, or is to write, are those of that. The client read the first of them: these are a greeting, then whole lines, some of
+-- which may wait, and then a part of one. By the others the server said all that, and the first of these messages were handed to the site
+pub record DownSocket (answer : Joined) (c : Connection) : Type 0 where
+  pub last : List Line
+  pub ends : AllByRecursion IsLast last
+  pub spelled : AllByRecursion HasSpelling (written_down answer c.fetched last)
+  pub read : List ℕ
+  pub left : List ℕ
+  pub bytes : read ++ left ≡ flat_map spelling (written_down answer c.fetched last)
+  pub site : ℕ
+  pub limit : ℕ
+  pub body : List Line
+  pub is_body : AllByRecursion IsWithinBoard body
+  pub lines : List Line
+  pub waiting : List Line
+  pub progress : Progress
+  pub reads : HasRead read (greeting site limit body ++ (lines ++ waiting)) progress
+  pub downs : List (Down BoardBatch)
+  pub held : Option (List Line)
+  pub said : HasGathered lines (map down_piece downs) held
+  pub later : List (Down BoardBatch)
+  pub handed : downs ≡ c.handed ++ later
+
+-- # Both
+
+-- a link at one moment
+pub record AtSocket (answer : Joined) (c : Connection) : Type 0 where
+  pub up : UpSocket c
+  pub down : DownSocket answer c
+
+-- and at each
+abbrev pub AtSocketThrough : Joined → List Step → Connection → Type 0
+AtSocketThrough answer [] c = AtSocket answer c
+AtSocketThrough answer (step ∷ steps) c = AtSocket answer c × AtSocketThrough answer steps (after step c)

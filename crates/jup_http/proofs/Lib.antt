@@ -1,0 +1,4 @@
+pub mod StreamLemmas
+pub mod ReaderLemmas
+pub mod ArrivalLemmas
+pub mod RequestLemmas

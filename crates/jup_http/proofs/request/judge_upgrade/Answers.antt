@@ -1,0 +1,5 @@
+use Rattle.jup_http.proofs.RequestLemmas.{no_upgrade}
+use Rattle.jup_http.proofs.request.judge_upgrade.Goals as goal
+
+pub returns-in-Err : goal.returns-in-Err
+returns-in-Err c = rw c.upgrade_refusal.ensures (no_upgrade _ _ c.in-Err.ensures)

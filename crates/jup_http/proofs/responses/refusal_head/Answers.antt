@@ -1,0 +1,20 @@
+use Rattle.std.proofs.Common.{refl}
+use Rattle.jup_http.proofs.responses.refusal_head.Goals as goal
+
+pub returns-in-BadHead : goal.returns-in-BadHead
+returns-in-BadHead c = rw c.in-BadHead.is refl
+
+pub returns-in-NoUpgrade : goal.returns-in-NoUpgrade
+returns-in-NoUpgrade c = rw c.in-NoUpgrade.is refl
+
+pub returns-in-Foreign : goal.returns-in-Foreign
+returns-in-Foreign c = rw c.in-Foreign.is refl
+
+pub returns-in-NoPage : goal.returns-in-NoPage
+returns-in-NoPage c = rw c.in-NoPage.is refl
+
+pub returns-in-BadMethod : goal.returns-in-BadMethod
+returns-in-BadMethod c = rw c.in-BadMethod.is refl
+
+pub returns-in-OtherVersion : goal.returns-in-OtherVersion
+returns-in-OtherVersion c = rw c.in-OtherVersion.is refl

@@ -1,0 +1,119 @@
+-- The frames of a client, RFC 6455, sections 5.2 to 5.6 and 7.4.
+use Rattle.std.specs.Prelude.{◌≡◌, ◌≤◌, ℕ, ◌+◌, Bool, true, false, cond, not, ◌||◌, ◌==◌, nat_lt, List, length, take, drop, Option, None, Some, Result, Ok, Err}
+use Rattle.std.specs.Int.{w16, from_be_bytes}
+use Rattle.websocket.specs.CloseCode.{close_code_of, is_allowed}
+use Rattle.websocket.specs.Text.{is_utf8}
+use Rattle.websocket.specs.declared.protocol.frame.coding.OpCode.{OpCode}
+use Rattle.websocket.specs.declared.protocol.frame.coding.OpCode.TheVariants as Op
+use Rattle.websocket.specs.declared.protocol.frame.coding.Data.{Data}
+use Rattle.websocket.specs.declared.protocol.frame.coding.Data.TheVariants as DataCode
+use Rattle.websocket.specs.declared.protocol.frame.coding.Control.{Control}
+use Rattle.websocket.specs.declared.protocol.frame.header.FrameHeader.{FrameHeader}
+use Rattle.jup_http.specs.Limits.{longest_message, longest_control}
+use Rattle.jup_http.specs.Texts.{after_byte}
+use Rattle.jup_http.specs.declared.texts.CharPart.{CharPart}
+use Rattle.jup_http.specs.declared.texts.CharPart.TheVariants.{Whole, LacksOne, LacksTwo, LacksThree, AfterE0, AfterED, AfterF0, AfterF4}
+use Rattle.jup_http.specs.declared.held.Held.{Held}
+use Rattle.jup_http.specs.declared.breach.Breach.{Breach}
+use Rattle.jup_http.specs.declared.breach.Breach.TheVariants.{Header, ReservedBit, Unmasked, FragmentedControl, LongControl, NothingToContinue, MessageOpen, LongMessage, BadText, BadClose}
+use Rattle.jup_http.specs.declared.frame.Kind.{Kind}
+use Rattle.jup_http.specs.declared.frame.Kind.TheVariants as Kinds
+use Rattle.jup_http.specs.declared.frame.Message.{Message}
+use Rattle.jup_http.specs.declared.frame.Frame.{Frame}
+use Rattle.jup_http.specs.declared.frame.Frame.TheVariants as Frames
+
+-- the bytes that are held of a frame
+abbrev pub held_bytes : Held → List ℕ
+held_bytes held = take held.len held.bytes
+
+-- the status code of a close that tells of a breach (section 7.4.1)
+abbrev pub breach_number : Breach → ℕ
+breach_number Header = 1002
+breach_number ReservedBit = 1002
+breach_number Unmasked = 1002
+breach_number FragmentedControl = 1002
+breach_number LongControl = 1002
+breach_number NothingToContinue = 1002
+breach_number MessageOpen = 1002
+breach_number LongMessage = 1009
+breach_number BadText = 1007
+breach_number BadClose = 1002
+
+-- ---- which frame may come
+
+-- the message that a frame of data belongs to: a continuation to the pending one, and any other frame begins one
+abbrev pub begun : Option Message → Data → Result Message Breach
+begun (Some m) DataCode.Continue = Ok m
+begun (Some m) DataCode.Text = Err MessageOpen
+begun (Some m) DataCode.Binary = Err MessageOpen
+begun None DataCode.Continue = Err NothingToContinue
+begun None DataCode.Text = Ok (record { kind = Kinds.Text Whole; len = 0 })
+begun None DataCode.Binary = Ok (record { kind = Kinds.Binary; len = 0 })
+
+-- with so many bytes more
+abbrev pub lengthened : Message → ℕ → Result Message Breach
+lengthened m more = cond (nat_lt longest_message (m.len + more)) (Err LongMessage) (Ok (record { kind = m.kind; len = m.len + more }))
+
+abbrev pub extended : Result Message Breach → ℕ → Result Message Breach
+extended (Err e) more = Err e
+extended (Ok m) more = lengthened m more
+
+-- a control frame is whole and short
+abbrev pub control_of : Control → Bool → List ℕ → ℕ → Result Frame Breach
+control_of code is_final key len =
+    cond (not is_final) (Err FragmentedControl)
+    (cond (nat_lt longest_control len) (Err LongControl)
+    (Ok (Frames.Control (record { code = code; key = key; len = len }))))
+
+abbrev pub data_of : Result Message Breach → Bool → List ℕ → ℕ → Result Frame Breach
+data_of (Err e) is_final key len = Err e
+data_of (Ok m) is_final key len = Ok (Frames.Data (record { is_final = is_final; key = key; at = 0; len = len; message = m }))
+
+abbrev pub masked_of : Option Message → OpCode → Bool → ℕ → Option (List ℕ) → Result Frame Breach
+masked_of pending opcode is_final len None = Err Unmasked
+masked_of pending (Op.Control code) is_final len (Some key) = control_of code is_final key len
+masked_of pending (Op.Data kind) is_final len (Some key) = data_of (extended (begun pending kind) len) is_final key len
+
+-- the frame behind a header, where this message is pending; or the rule that the header breaks
+abbrev pub frame_of : Option Message → FrameHeader → ℕ → Result Frame Breach
+frame_of pending h len = cond (h.rsv1 || h.rsv2 || h.rsv3) (Err ReservedBit) (masked_of pending h.opcode h.is_final len h.mask)
+
+-- ---- what its payload comes to
+
+abbrev pub text_of : Option CharPart → Option Kind
+text_of None = None
+text_of (Some part) = Some (Kinds.Text part)
+
+-- a text goes on with a byte if it may still become UTF-8
+abbrev pub kind_after : Kind → ℕ → Option Kind
+kind_after Kinds.Binary byte = Some Kinds.Binary
+kind_after (Kinds.Text part) byte = text_of (after_byte part byte)
+
+abbrev pub is_whole : Kind → Bool
+is_whole Kinds.Binary = true
+is_whole (Kinds.Text Whole) = true
+is_whole (Kinds.Text LacksOne) = false
+is_whole (Kinds.Text LacksTwo) = false
+is_whole (Kinds.Text LacksThree) = false
+is_whole (Kinds.Text AfterE0) = false
+is_whole (Kinds.Text AfterED) = false
+is_whole (Kinds.Text AfterF0) = false
+is_whole (Kinds.Text AfterF4) = false
+
+-- the message that is pending behind a frame of it: none behind its last one, where a text has to be whole
+abbrev pub message_after : Bool → Message → Result (Option Message) Breach
+message_after is_final m = cond (not is_final) (Ok (Some m)) (cond (is_whole m.kind) (Ok None) (Err BadText))
+
+-- the status code of a close, which has none or one that may be sent; its reason is UTF-8 (section 5.5.1)
+abbrev pub closed_of : List ℕ → Result (Option ℕ) Breach
+closed_of payload =
+    cond (length payload == 0) (Ok None)
+    (cond (length payload == 1) (Err BadClose)
+    (cond (not (is_allowed (close_code_of (from_be_bytes w16 payload)))) (Err BadClose)
+    (cond (not (is_utf8 (drop 2 payload))) (Err BadText)
+    (Ok (Some (from_be_bytes w16 payload))))))
+
+-- a frame before its payload
+abbrev pub IsNew : Frame → Type 0
+IsNew (Frames.Data f) = f.at ≡ 0
+IsNew (Frames.Control f) = f.len ≤ longest_control

@@ -1,0 +1,10 @@
+pub mod Limits
+pub mod Requests
+pub mod Texts
+pub mod Frames
+pub mod Streams
+pub mod Events
+pub mod Sending
+pub mod Readers
+pub mod Responses
+pub mod Arrivals

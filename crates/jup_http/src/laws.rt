@@ -1,0 +1,22 @@
+//! What holds of every stream.
+ghost use Rattle.std.specs.Prelude.{◌≡◌, ℕ, List, [], ◌∷◌, ◌++◌, Option, Err};
+ghost use Rattle.std.specs.List.{flat_map};
+ghost use Rattle.websocket.specs.FrameHeader.{IsHeader, IsBytes, encode_header};
+ghost use Rattle.websocket.specs.declared.protocol.frame.header.FrameHeader.{FrameHeader};
+ghost use Rattle.jup_http.specs.declared.breach.Breach.{Breach};
+ghost use Rattle.jup_http.specs.declared.frame.Message.{Message};
+ghost use Rattle.jup_http.specs.Frames.{frame_of};
+ghost use Rattle.jup_http.specs.Streams.{Told, broken, between, tells};
+ghost use Rattle.jup_http.specs.Arrivals.{Sent, wire, AreTaken};
+
+/// Frames that may come, one behind the other, bring the payloads of their messages, and what their control frames tell, in order.
+pub fn frames_arrive()
+    ensures { (pending next : Option Message) (fs : List Sent) (told : List Told) (rest : List ℕ) → AreTaken pending fs told next
+        → tells (between pending) (flat_map wire fs ++ rest) ≡ told ++ tells (between next) rest }
+{}
+
+/// A header that breaks a rule is told of at its last byte, and nothing after it.
+pub fn bad_headers_are_refused()
+    ensures { (pending : Option Message) (h : FrameHeader) (len : ℕ) (breach : Breach) (rest : List ℕ) → IsHeader h len → IsBytes (encode_header h len)
+        → frame_of pending h len ≡ Err breach → tells (between pending) (encode_header h len ++ rest) ≡ broken breach ∷ [] }
+{}

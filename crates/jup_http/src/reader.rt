@@ -1,0 +1,173 @@
+//! A WebSocket as a reader of a link's bytes.
+ghost use Rattle.std.specs.Prelude.{◌≡◌, ◌≤◌, ◌+◌, ◌++◌, ℕ, List, length, take, map, slice_range};
+ghost use Rattle.jup_http.specs.Streams.{brought, tells};
+ghost use Rattle.jup_http.specs.Events.{standing, told_by_option};
+
+use crate::{Ending, Event, FrameStream, Held, Unframed, put_pong};
+use std::alloc::{AllocError, Global};
+use std::io;
+use std::io::{ErrorKind, Read, Write};
+
+/// Bytes that one read asks for.
+const PIECE: usize = 1_024;
+
+/// Room for a pong, whose header has 2 bytes.
+const ROOM: usize = 128;
+
+/// Reads the payloads of the messages of data that come by `from`, one behind the other and as they come, and answers pings by `to`.
+///
+/// It takes no memory but what it has from the first, so whatever comes it keeps what it promises of the bytes that are left.
+#[derive(Drop)]
+pub struct MessageReader<I: Drop, O: Drop> {
+    from: I,
+    to: O,
+    stream: FrameStream,
+    /// Bytes that were read; those from `start` to `end` are not taken.
+    piece: [u8; PIECE],
+    start: usize,
+    end: usize,
+    /// The payload of a ping that is not answered.
+    ping: Option<Held>,
+    ending: Option<Ending>,
+    pong: Vec<u8>,
+    ghost in_order: { start ≤ end },
+    ghost in_piece: { end ≤ 1024 },
+}
+
+// Unframes the bytes of a piece between two places.
+fn unframe_part(
+    stream: &mut FrameStream,
+    piece: &[u8],
+    start: usize,
+    end: usize,
+    buf: &mut [u8],
+) -> Unframed
+    requires order { start ≤ end }
+    requires inside { end ≤ length piece.now }
+    ensures taken { start + result.taken ≤ end }
+    ensures given { result.given ≤ length buf.new }
+    ensures told { (more : List ℕ) → tells (standing stream.old) (slice_range piece.now start end ++ more)
+        ≡ map brought (take result.given buf.new) ++ told_by_option result.event ++ tells (standing stream.new) (slice_range piece.now (start + result.taken) end ++ more) }
+{
+    stream.unframe(&piece[start..end], buf)
+}
+
+impl<I: Read + Drop, O: Write + Drop> MessageReader<I, O> {
+    ghost use Rattle.std.specs.Prelude.{[], Ok, IfOk, false, option_map};
+    ghost use Rattle.std.specs.Io.KnownBytes.{Keeps, Appends, Consumes, IsAtEnd};
+    ghost use Rattle.jup_http.specs.Readers.{payloads_left, untaken};
+    ghost use Rattle.jup_http.specs.Streams.{start, brings};
+
+    /// A reader of what comes by `from`. Contracts of reads speak of the payloads that are left.
+    pub fn new(alloc: Global, from: I, to: O) -> Result<MessageReader<I, O>, AllocError>
+        ensures { IfOk result (λ reader. payloads_left I.remaining reader ≡ option_map (brings start) (I.remaining from)) }
+    {
+        let pong = Vec::with_capacity(alloc, ROOM)?;
+        Ok(MessageReader {
+            from,
+            to,
+            stream: FrameStream::new(),
+            piece: [0; PIECE],
+            start: 0,
+            end: 0,
+            ping: None,
+            ending: None,
+            pong,
+        })
+    }
+
+    /// How the frames ended, once they have.
+    pub fn ending(&self) -> Option<Ending> {
+        self.ending
+    }
+
+    // Puts the data of bytes that were read into `buf`, up to an event, which it notes.
+    fn give(&mut self, buf: &mut [u8]) -> usize
+        ensures within { result ≤ length buf.new }
+        ensures gives { Consumes (payloads_left I.remaining self.old) (payloads_left I.remaining self.new) (take result buf.new) }
+    {
+        let unframed = unframe_part(&mut self.stream, &self.piece, self.start, self.end, buf);
+        self.start += unframed.taken;
+        match unframed.event {
+            Some(Event::Ping(payload)) => self.ping = Some(payload),
+            Some(Event::Closed(code)) => self.ending = Some(Ending::Closed(code)),
+            Some(Event::Broken(breach)) => self.ending = Some(Ending::Broken(breach)),
+            None => {}
+        }
+        unframed.given
+    }
+
+    // Reads once, where all bytes are taken, and answers how many bytes came.
+    fn fill(&mut self) -> io::Result<usize>
+        requires { untaken self.old ≡ [] }
+        ensures keeps { Keeps (payloads_left I.remaining self.old) (payloads_left I.remaining self.new) }
+        ensures end { result ≡ Ok 0 → IsAtEnd (payloads_left I.remaining self.new) }
+    {
+        self.start = 0;
+        self.end = 0;
+        let len = self.from.read(&mut self.piece)?;
+        self.end = len;
+        Ok(len)
+    }
+
+    // Reads once, if all bytes are taken and no ping waits. False at the end of the bytes.
+    fn renew(&mut self) -> io::Result<bool>
+        ensures keeps { Keeps (payloads_left I.remaining self.old) (payloads_left I.remaining self.new) }
+        ensures end { result ≡ Ok false → IsAtEnd (payloads_left I.remaining self.new) }
+    {
+        if self.start < self.end || self.ping.is_some() {
+            return Ok(true);
+        }
+        let len = self.fill()?;
+        Ok(len > 0)
+    }
+
+    // Answers a ping.
+    fn answer(&mut self) -> io::Result<()>
+        ensures { Keeps (payloads_left I.remaining self.old) (payloads_left I.remaining self.new) }
+    {
+        let Some(payload) = self.ping.take() else {
+            return Ok(());
+        };
+        self.pong.clear();
+        put_pong(payload.bytes(), &mut self.pong)?;
+        self.to.write_all(&self.pong)
+    }
+
+    // What a read answers where no byte tells anything.
+    fn end(&self) -> io::Result<usize>
+        ensures { IfOk result (λ n. n ≡ 0) }
+    {
+        match self.ending {
+            Some(Ending::Broken(_)) => Err(io::Error::from(ErrorKind::InvalidData)),
+            Some(Ending::Closed(_)) | None => Ok(0),
+        }
+    }
+}
+
+impl<I: Read + Drop, O: Write + Drop> Read for MessageReader<I, O> {
+    ghost use Rattle.jup_http.specs.Readers.{payloads_left};
+
+    ghost remaining = { payloads_left I.remaining };
+
+    /// The next payloads. An error is `InvalidData` if the client broke a rule, and otherwise that of a read or of a pong's write.
+    fn read(&mut self, buf: &mut [u8]) -> io::Result<usize> {
+        if buf.is_empty() {
+            return Ok(0);
+        }
+        for _ in 0..u64::MAX {
+            self.answer()?;
+            let given = self.give(buf);
+            if given > 0 {
+                return Ok(given);
+            }
+            if self.stream.is_over() {
+                return self.end();
+            }
+            if !self.renew()? {
+                return Ok(0);
+            }
+        }
+        Err(io::Error::from(ErrorKind::TimedOut))
+    }
+}

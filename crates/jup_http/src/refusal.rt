@@ -1,0 +1,37 @@
+//! Why a request is refused.
+ghost use Rattle.std.specs.Prelude.{◌≡◌};
+ghost use Rattle.jup_http.specs.Requests.{status_of};
+
+use thiserror::Error;
+
+/// Why a request is refused.
+#[derive(Clone, Copy, Debug, PartialEq, Eq, Error)]
+pub enum Refusal {
+    #[error("no head of a request, or one that is too long")]
+    BadHead,
+    #[error("a page of another origin asks, or the request names another host")]
+    Foreign,
+    #[error("no page is there")]
+    NoPage,
+    #[error("another method than GET")]
+    BadMethod,
+    #[error("a link is asked for by no upgrade to a WebSocket")]
+    NoUpgrade,
+    #[error("another version of WebSockets")]
+    OtherVersion,
+}
+
+impl Refusal {
+    /// The status code of the answer.
+    pub fn status(self) -> u16
+        ensures { result ≡ status_of self }
+    {
+        match self {
+            Refusal::BadHead | Refusal::NoUpgrade => 400,
+            Refusal::Foreign => 403,
+            Refusal::NoPage => 404,
+            Refusal::BadMethod => 405,
+            Refusal::OtherVersion => 426,
+        }
+    }
+}

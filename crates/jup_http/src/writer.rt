@@ -1,0 +1,63 @@
+//! A WebSocket as a writer of a link's bytes.
+ghost use Rattle.std.specs.Prelude.{◌≡◌, ◌<◌, take, IfOk};
+ghost use Rattle.std.specs.Io.{WritesAtMost};
+ghost use Rattle.std.specs.Io.KnownBytes.{Appends};
+ghost use Rattle.jup_http.specs.Sending.{text_frame};
+
+use crate::put_text;
+use std::alloc::{AllocError, Global};
+use std::io;
+use std::io::Write;
+use std::marker::Model;
+
+/// Bytes that one message takes.
+pub const LONGEST_SENT: usize = 2_048;
+
+/// Room for a frame, whose header has at most 4 bytes.
+const ROOM: usize = 2_064;
+
+/// Writes what is written to it as text messages: one for each write, of the first 2,048 bytes. Contracts see the writer that takes the frames.
+#[derive(Drop)]
+pub struct MessageWriter<O: Write + Drop> {
+    to: O,
+    frame: Vec<u8>,
+}
+
+impl<O: Write + Drop> Model for MessageWriter<O> {
+    ghost Value = { O };
+
+    ghost coded = { O.code };
+
+    ghost view = { λ a. a.to };
+}
+
+impl<O: Write + Drop> MessageWriter<O> {
+    /// A writer whose frames go to this one.
+    pub fn new(alloc: Global, to: O) -> Result<MessageWriter<O>, AllocError>
+        ensures { IfOk result (λ writer. writer ≡ to) }
+    {
+        let frame = Vec::with_capacity(alloc, ROOM)?;
+        Ok(MessageWriter { to, frame })
+    }
+}
+
+impl<O: Write + Drop> Write for MessageWriter<O> {
+    /// What is taken goes out as one frame.
+    fn write(&mut self, buf: &[u8]) -> io::Result<usize>
+        ensures bound { WritesAtMost result buf.now }
+        ensures framed { IfOk result (λ n. 0 < n → Appends (O.contents self.old) (O.contents self.new) (text_frame (take n buf.now))) }
+    {
+        if buf.is_empty() {
+            return Ok(0);
+        }
+        let len = buf.len().min(LONGEST_SENT);
+        self.frame.clear();
+        put_text(&buf[..len], &mut self.frame)?;
+        self.to.write_all(&self.frame)?;
+        Ok(len)
+    }
+
+    fn flush(&mut self) -> io::Result<()> {
+        self.to.flush()
+    }
+}

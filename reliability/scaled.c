@@ -1,5 +1,5 @@
 // Scales the time that a program lets a write to a socket wait. LD_PRELOAD loads this library, and each limit of time that the program sets for writes is
-// divided by SCALE. A write of jupd asks anew each second, 600 times: where SCALE is 100, six seconds are its ten minutes.
+// divided by SCALE. A write of jupd asks again each second, 600 times: where SCALE is 100, six seconds are its ten minutes.
 #define _GNU_SOURCE
 #include <dlfcn.h>
 #include <stdlib.h>

@@ -4,6 +4,7 @@
 
 mod boards_sent;
 mod edits_sent;
+mod hub_ends;
 mod hub_joins;
 mod lines_read;
 mod sites;
@@ -11,6 +12,7 @@ mod worlds;
 
 pub use boards_sent::send_board;
 pub use edits_sent::send_edit;
+pub use hub_ends::close_hub;
 pub use hub_joins::join_hub;
 pub use lines_read::{read_in_two, spell_and_read};
 pub use sites::{attach, detach, make_edit};

@@ -1,6 +1,7 @@
 pub mod Batches
 pub mod Begun
 pub mod Bounds
+pub mod Causes
 pub mod ClientEnds
 pub mod Clients
 pub mod DaemonEnds

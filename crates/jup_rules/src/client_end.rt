@@ -1,6 +1,7 @@
 //! Why a client ends early.
-ghost use Rattle.std.specs.Prelude.{◌≡◌, ◌≢◌, ◌≤◌};
+ghost use Rattle.std.specs.Prelude.{◌≡◌, ◌≢◌, ◌≤◌, ◌↔◌, true, IsSome};
 ghost use Rattle.std.specs.IoError.{error_kind};
+ghost use Rattle.jup_rules.specs.Causes.{client_end_is_explained};
 ghost use Rattle.jup_rules.specs.Numbers.{client_end_number, client_end_status};
 
 use crate::{SessionFault, Stop, cause_of};
@@ -57,7 +58,9 @@ impl ClientEnd {
 
     /// What stands behind this end, for people; `None` where its own text says so, and where no link could be had, since what was
     /// called is known to the caller.
-    pub fn cause(self) -> Option<&'static str> {
+    pub fn cause(self) -> Option<&'static str>
+        ensures { IsSome result ↔ (client_end_is_explained self ≡ true) }
+    {
         match self {
             ClientEnd::NoMemory | ClientEnd::Unconnected => None,
             ClientEnd::Fault(_) | ClientEnd::ReadFailed | ClientEnd::WriteFailed => {

@@ -1,6 +1,7 @@
 //! Why the daemon ends early.
-ghost use Rattle.std.specs.Prelude.{◌≡◌, ◌≢◌, ◌≤◌};
+ghost use Rattle.std.specs.Prelude.{◌≡◌, ◌≢◌, ◌≤◌, ◌↔◌, true, IsSome};
 ghost use Rattle.std.specs.IoError.{error_kind};
+ghost use Rattle.jup_rules.specs.Causes.{attempt_is_explained, daemon_end_is_explained};
 ghost use Rattle.jup_rules.specs.Numbers.{daemon_end_status};
 
 use crate::cause_of;
@@ -23,7 +24,9 @@ pub enum Attempt {
 
 impl Attempt {
     // What is told where it failed. Whoever was to listen knows where.
-    fn cause(self) -> Option<&'static str> {
+    fn cause(self) -> Option<&'static str>
+        ensures { IsSome result ↔ (attempt_is_explained self ≡ true) }
+    {
         match self {
             Attempt::ReadLayout => Some("cannot read the layout"),
             Attempt::Listen => None,
@@ -64,7 +67,9 @@ impl DaemonEnd {
     }
 
     /// What stands behind this end, for people; `None` where its own text says so, and for an address, which the caller has.
-    pub fn cause(&self) -> Option<&'static str> {
+    pub fn cause(&self) -> Option<&'static str>
+        ensures { IsSome result ↔ (daemon_end_is_explained self.now ≡ true) }
+    {
         match self {
             DaemonEnd::Layout(fault) => Some(cause_of(fault.number)),
             DaemonEnd::Io(attempt) => attempt.cause(),

@@ -1,0 +1,32 @@
+-- Which ends have a second line, which explains them to people.
+use Rattle.std.specs.Prelude.{Bool, true, false}
+use Rattle.jup_rules.specs.declared.client_end.ClientEnd.{ClientEnd}
+use Rattle.jup_rules.specs.declared.client_end.ClientEnd.TheVariants.{Fault as ClientFault, NoMemory as ClientNoMemory, Unconnected, ReadFailed, WriteFailed}
+use Rattle.jup_rules.specs.declared.daemon_end.Attempt.{Attempt}
+use Rattle.jup_rules.specs.declared.daemon_end.Attempt.TheVariants.{ReadLayout, Listen, Accept, Print}
+use Rattle.jup_rules.specs.declared.daemon_end.DaemonEnd.{DaemonEnd}
+use Rattle.jup_rules.specs.declared.daemon_end.DaemonEnd.TheVariants.{Words, Layout, LongLayout, Io, NoMemory as DaemonNoMemory, Held}
+
+-- a fault, and a failed read or write. Want of memory says so itself, and the caller tells where no link could be had
+abbrev pub client_end_is_explained : ClientEnd → Bool
+client_end_is_explained (ClientFault number) = true
+client_end_is_explained ClientNoMemory = false
+client_end_is_explained Unconnected = false
+client_end_is_explained ReadFailed = true
+client_end_is_explained WriteFailed = true
+
+-- the caller tells where it was to listen
+abbrev pub attempt_is_explained : Attempt → Bool
+attempt_is_explained ReadLayout = true
+attempt_is_explained Listen = false
+attempt_is_explained Accept = true
+attempt_is_explained Print = true
+
+-- a fault of the layout, and what was tried
+abbrev pub daemon_end_is_explained : DaemonEnd → Bool
+daemon_end_is_explained (Words error) = false
+daemon_end_is_explained (Layout fault) = true
+daemon_end_is_explained LongLayout = false
+daemon_end_is_explained (Io attempt) = attempt_is_explained attempt
+daemon_end_is_explained DaemonNoMemory = false
+daemon_end_is_explained Held = false

@@ -3,6 +3,7 @@
 #![tactic(auto)]
 
 mod boards_sent;
+mod browsers;
 mod edits_sent;
 mod hub_ends;
 mod hub_joins;
@@ -11,6 +12,7 @@ mod sites;
 mod worlds;
 
 pub use boards_sent::send_board;
+pub use browsers::{answer_refused, link_bytes};
 pub use edits_sent::send_edit;
 pub use hub_ends::close_hub;
 pub use hub_joins::join_hub;

@@ -5,9 +5,20 @@ ghost use Rattle.websocket.specs.FrameHeader.{IsHeader, IsBytes, encode_header};
 ghost use Rattle.websocket.specs.declared.protocol.frame.header.FrameHeader.{FrameHeader};
 ghost use Rattle.jup_http.specs.declared.breach.Breach.{Breach};
 ghost use Rattle.jup_http.specs.declared.frame.Message.{Message};
+ghost use Rattle.jup_http.specs.Limits.{longest_head, most_fields, longest_message, longest_sent};
 ghost use Rattle.jup_http.specs.Frames.{frame_of};
 ghost use Rattle.jup_http.specs.Streams.{Told, broken, between, tells};
 ghost use Rattle.jup_http.specs.Arrivals.{Sent, wire, AreTaken};
+
+use crate::{LONGEST_HEAD, LONGEST_MESSAGE, LONGEST_SENT, MOST_FIELDS};
+
+/// The constants are the numbers that the definitions name.
+pub fn limits_are_stated()
+    ensures head { LONGEST_HEAD ≡ longest_head }
+    ensures fields { MOST_FIELDS ≡ most_fields }
+    ensures message { LONGEST_MESSAGE ≡ longest_message }
+    ensures sent { LONGEST_SENT ≡ longest_sent }
+{}
 
 /// Frames that may come, one behind the other, bring the payloads of their messages, and what their control frames tell, in order.
 pub fn frames_arrive()

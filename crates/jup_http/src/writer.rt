@@ -1,7 +1,8 @@
 //! A WebSocket as a writer of a link's bytes.
-ghost use Rattle.std.specs.Prelude.{◌≡◌, ◌<◌, take, IfOk};
+ghost use Rattle.std.specs.Prelude.{◌≡◌, ◌<◌, min, length, take, IfOk};
 ghost use Rattle.std.specs.Io.{WritesAtMost};
 ghost use Rattle.std.specs.Io.KnownBytes.{Appends};
+ghost use Rattle.jup_http.specs.Limits.{longest_sent};
 ghost use Rattle.jup_http.specs.Sending.{text_frame};
 
 use crate::put_text;
@@ -45,6 +46,7 @@ impl<O: Write + Drop> Write for MessageWriter<O> {
     /// What is taken goes out as one frame.
     fn write(&mut self, buf: &[u8]) -> io::Result<usize>
         ensures bound { WritesAtMost result buf.now }
+        ensures taken { IfOk result (λ n. n ≡ min longest_sent (length buf.now)) }
         ensures framed { IfOk result (λ n. 0 < n → Appends (O.contents self.old) (O.contents self.new) (text_frame (take n buf.now))) }
     {
         if buf.is_empty() {

@@ -1,0 +1,26 @@
+//! What comes from a browser.
+ghost use Rattle.std.specs.Prelude.{◌≡◌, IfOk, IfSome};
+ghost use Rattle.jup_http.specs.Streams.{start, brings};
+
+use jup_http::{MessageReader, Request, read_request, refusal_head};
+use std::alloc::Global;
+use std::io;
+use std::io::Read;
+
+/// What the first bytes of a connection are answered at once, if anything: a request that is refused.
+pub fn answer_refused(bytes: &[u8], origins: &[&[u8]]) -> Option<&'static str> {
+    match read_request(bytes, origins) {
+        Some(Request::Refused(refusal)) => Some(refusal_head(refusal)),
+        _ => None,
+    }
+}
+
+/// All bytes that a browser sends to a link: the payloads of its messages, however its frames are cut into reads.
+pub fn link_bytes<I: Read + Drop>(alloc: Global, from: I) -> io::Result<Vec<u8>>
+    ensures { IfOk result (λ bytes. IfSome (I.remaining from) (λ frames. bytes.items ≡ brings start frames)) }
+{
+    let mut reader = MessageReader::new(alloc, from, io::sink())?;
+    let mut bytes = Vec::new(alloc);
+    reader.read_to_end(&mut bytes)?;
+    Ok(bytes)
+}

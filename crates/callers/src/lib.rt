@@ -9,6 +9,7 @@ mod hub_ends;
 mod hub_joins;
 mod lines_read;
 mod sites;
+mod strangers;
 mod worlds;
 
 pub use boards_sent::send_board;
@@ -18,4 +19,5 @@ pub use hub_ends::close_hub;
 pub use hub_joins::join_hub;
 pub use lines_read::{read_in_two, spell_and_read};
 pub use sites::{attach, detach, make_edit};
+pub use strangers::meet_a_stranger;
 pub use worlds::settle;

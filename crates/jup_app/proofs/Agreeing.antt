@@ -23,12 +23,13 @@ use Rattle.jup_world.specs.Each.{Each}
 use Rattle.jup_world.specs.Events as event
 use Rattle.jup_world.specs.Events.{Happened}
 use Rattle.jup_world.specs.Openings.{IsOpening}
-use Rattle.jup_world.specs.BoardWorlds.{BoardWorld, BoardAttached, BoardEvent, BoardReply, IsReached}
+use Rattle.jup_world.specs.BoardWorlds.{BoardWorld, BoardAttached, BoardEvent, BoardReply, IsReached, IsBoardWorld}
 use Rattle.jup_world.specs.WorldStates.{attached, opened_world, IsQuiet}
 use Rattle.jup_world.specs.WorldSteps.{run, happens}
 use Rattle.jup_world.specs.Sound.{IsSound, StandsAt}
 use Rattle.jup_world.specs.Traces.{made, edit_made, joined_at, shown_count}
 use Rattle.jup_world.specs.BoardTraces.{order_of}
+use Rattle.jup_world.proofs.Sound.StrayLinks.{are_linked}
 use Rattle.jup_world.specs.Turns.{turns, edits, own_edits}
 use Rattle.jup_world.specs.Promises.{Promises}
 use Rattle.jup_world.proofs.Sound.SoundRuns.{sound-promises}
@@ -79,6 +80,9 @@ made_there i (event.Edit j c) event.Nothing = refl
 made_there i (event.Up j) r = refl
 made_there i (event.Down j) r = refl
 made_there i (event.Ping j k) r = refl
+made_there i event.JoinStray r = refl
+made_there i (event.Stray j u) r = refl
+made_there i (event.LeaveStray j) r = refl
 
 made_is : (i : ℕ) (hs : List (Happened Commands BoardBatch BoardEdits ℕ)) → made i hs ≡ made_of (edits_at i hs)
 made_is i [] = refl
@@ -174,11 +178,14 @@ module _ (board : Windows) (limit n : ℕ) (scripts : List (List Command)) (star
   reached : IsReached (assembled_world board limit n is.logs is.later)
   reached = reached_more (opened_world board_batches board limit) (joins n ++ assembled n is.logs is.later) (opened_reached board limit fit low)
 
+  kept : IsBoardWorld (assembled_world board limit n is.logs is.later)
+  kept = reached_sound (assembled_world board limit n is.logs is.later) reached
+
   sound : IsSound board_batches most_batches (assembled_world board limit n is.logs is.later)
-  sound = (reached_sound (assembled_world board limit n is.logs is.later) reached).sound
+  sound = kept.sound
 
   promised : Promises board_batches (assembled_world board limit n is.logs is.later)
-  promised = sound-promises board_batches batch_laws most_batches (assembled_world board limit n is.logs is.later) sound
+  promised = sound-promises board_batches batch_laws most_batches (assembled_world board limit n is.logs is.later) sound (are_linked board_batches batch_laws (assembled_world board limit n is.logs is.later) kept.strays)
 
   numbers : (OrderWithin n star) × (star.given ≤ n)
   numbers =

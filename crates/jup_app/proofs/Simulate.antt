@@ -1,5 +1,5 @@
 -- The assembled run of the core follows the history.
-use Rattle.std.proofs.Common.{◌≡◌, ℕ, zero, suc, ◌+◌, ◌<◌, ◌≤◌, Bool, true, false, cond, List, [], ◌∷◌, ◌++◌, length, drop, Option, Some, None, is_some, option_map, Result, Ok, Err, refl, sym, ap, ◌∙◌, subst, arith, append-nil, append_assoc, inl, inr, ◌⊎◌}
+use Rattle.std.proofs.Common.{◌≡◌, ℕ, zero, suc, ◌+◌, ◌<◌, ◌≤◌, Bool, true, false, cond, List, [], ◌∷◌, ◌++◌, length, drop, Option, Some, None, option_map, Result, Ok, Err, refl, sym, ap, ◌∙◌, subst, arith, append-nil, append_assoc, inl, inr, ◌⊎◌}
 use Rattle.std.proofs.Math.Dec.{eqb}
 use Rattle.std.proofs.lemmas.Bool.{eq-eqb, eqb-true, eqb-false}
 use Rattle.std.proofs.lemmas.Bool.Decides.{eqb_tells}
@@ -24,7 +24,7 @@ use Rattle.jup_world.specs.Events.{Happened}
 use Rattle.jup_world.specs.BoardWorlds.{BoardWorld, BoardAttached, BoardEvent, BoardReply, IsReached}
 use Rattle.jup_world.specs.WorldStates.{attached, at_site, opened_world}
 use Rattle.jup_world.specs.WorldSteps.{Outcome, outcome, happens, run, at_linked, at_attached, edit_outcome, first_up, up_outcome, one_taken, first_down, down_outcome, one_handed, with_edit}
-use Rattle.jup_world.proofs.Sound.SoundRuns.{sound-promises}
+use Rattle.jup_world.proofs.Sound.WorldTakes.{standing_of}
 use Rattle.jup_world.proofs.Sound.BoardWorldLaws.{reached_sound}
 use Rattle.jup_app.specs.Runs.{BoardUp, BoardDown, EditAnswer, Made, made, Step, Edited, Took, Got, calls_of, edits_of, IsPlayed, IsAccepted, edited, answer_to, edit_by, answer_by, delivered, all_delivered, AcceptsAll, site_of, made_at, deliveries, through_call, past_call, with_log, left_over, assembled, IsSite, edit_at, edits_at}
 use Rattle.jup_app.proofs.StarLaws.{IsTidy, tidy_after, Takes, take_gives, InParts, fetch_in_parts, fetch_nothing}
@@ -53,14 +53,7 @@ reached_more w es r = record {
 
 -- an attached site has a link
 linked : (w : BoardWorld) (i : ℕ) (l : BoardAttached) → IsReached w → attached i w.sites ≡ Some l → (k : BoardLink) × (link_of i w.star.links ≡ Some k)
-linked w i l r is = go (link_of i w.star.links) refl
-  where
-    both : is_some (attached i w.sites) ≡ is_some (link_of i w.star.links)
-    both = (sound-promises board_batches batch_laws most_batches w (reached_sound w r).sound).linked i
-
-    go : (o : Option BoardLink) → link_of i w.star.links ≡ o → (k : BoardLink) × (link_of i w.star.links ≡ Some k)
-    go None e = (let none : true ≡ false = ap (λ (o : Option BoardAttached). is_some o) (sym is) ∙ both ∙ ap (λ (o : Option BoardLink). is_some o) e in absurd cc)
-    go (Some k) e = (k, e)
+linked w i l r is = let st = standing_of board_batches batch_laws most_batches w (reached_sound w r).sound i l is in (st.0, st.2)
 
 -- a list of events brings the world to this star, with this site at one number and all others as they were; and what was
 -- answered to each site's commands

@@ -1,9 +1,6 @@
-pub mod MixCopies
-pub mod MixKept
-pub mod MixOpened
-pub mod MixOrder
-pub mod MixPastBoards
+pub mod MixHolds
 pub mod MixPlaying
 pub mod MixProgram
-pub mod MixReplies
-pub mod MixRuns
+pub mod MixReached
+pub mod MixStrays
+pub mod MixViews

@@ -181,13 +181,13 @@ module _ (s : BoardStar) (a : Attached) (ready : IsReady s (Some (bare_attached 
 
   pub down_spared : (t : BoardStar) (r : Result (Reply BoardEdits EditFault) NoMemory) (new : Attached)
       → OnErr r ((k : BoardLink) → link_of a.site.number s.links ≡ Some k → SparesAt k (bare_attached a) s (bare_attached new) t)
-      → OnErr r (MixSpares s (Some (bare_attached a)) t (Some (bare_attached new)))
+      → OnErr r (MixSpares HomeDown s (Some (bare_attached a)) t (Some (bare_attached new)))
   down_spared t (Ok reply) new spared = tt
   down_spared t (Err fault) new spared = choose (spared _ at_number)
     where
       too : (ds os : List (Down BoardBatch)) → (messages downs a.down.way) ≡ ds → (ready (bare_attached a) refl).1.0.outbox ≡ os
           → bare_attached new ≡ refilled (ready (bare_attached a) refl).1.0 (bare_attached a) → t ≡ refilled_star (ready (bare_attached a) refl).1.0 (bare_attached a) s
-          → MixSpares s (Some (bare_attached a)) t (Some (bare_attached new))
+          → MixSpares HomeDown s (Some (bare_attached a)) t (Some (bare_attached new))
       too [] [] p q site star = inl (
         star ∙ (λ j. fetched_for a.site.number (p j) (q j) s),
         ap Some (site ∙ (λ j. record { site = a.site; up = messages ups a.up.way; down = ((λ i. refilled_from (p i) (q i)) ∙ sym p) j })),
@@ -205,7 +205,7 @@ module _ (s : BoardStar) (a : Attached) (ready : IsReady s (Some (bare_attached 
         ap Some (site ∙ (λ j. record { site = a.site; up = messages ups a.up.way; down = (ap (λ (xs : List (Down BoardBatch)). refilled_from xs (ready (bare_attached a) refl).1.0.outbox) p ∙ sym p) j })),
       )
 
-      choose : SparesAt (ready (bare_attached a) refl).1.0 (bare_attached a) s (bare_attached new) t → MixSpares s (Some (bare_attached a)) t (Some (bare_attached new))
+      choose : SparesAt (ready (bare_attached a) refl).1.0 (bare_attached a) s (bare_attached new) t → MixSpares HomeDown s (Some (bare_attached a)) t (Some (bare_attached new))
       choose (inl same) = inl (same.1, ap Some same.0)
       choose (inr more) = too (messages downs a.down.way) (ready (bare_attached a) refl).1.0.outbox refl refl more.0 more.1
 
@@ -240,5 +240,5 @@ module _ (s : BoardStar) (site : Option Attached) (a : Attached) (is : site ≡ 
 
   pub down_spared_at : (t : BoardStar) (r : Result (Reply BoardEdits EditFault) NoMemory) (new : Attached)
       → OnErr r ((k : BoardLink) → link_of a.site.number s.links ≡ Some k → SparesAt k (bare_attached a) s (bare_attached new) t)
-      → OnErr r (MixSpares s (option_map bare_attached site) t (Some (bare_attached new)))
-  down_spared_at t r new spared = subst (λ (o : Option Attached). OnErr r (MixSpares s (option_map bare_attached o) t (Some (bare_attached new)))) (sym is) (down_spared s a ready_there t r new spared)
+      → OnErr r (MixSpares HomeDown s (option_map bare_attached site) t (Some (bare_attached new)))
+  down_spared_at t r new spared = subst (λ (o : Option Attached). OnErr r (MixSpares HomeDown s (option_map bare_attached o) t (Some (bare_attached new)))) (sym is) (down_spared s a ready_there t r new spared)

@@ -1,5 +1,5 @@
 -- What holds of every one of the program: after each event, and after want of memory.
-use Rattle.std.proofs.Common.{◌≡◌, Bool, true, nat_le, inl, inr, refl, sym, ◌∙◌, ap, subst, ℕ, ◌+◌, ◌≤◌, List, [], ◌∷◌, ◌++◌, drop, length, Option, Some, None, option_map, arith, append-nil, drop_of_length-le, le_refl}
+use Rattle.std.proofs.Common.{◌≡◌, Bool, true, nat_le, inl, inr, refl, sym, ◌∙◌, ap, subst, ℕ, ◌+◌, List, [], ◌∷◌, ◌++◌, drop, length, Option, Some, None, option_map, append-nil, drop_of_length-le, le_refl}
 use Rattle.std.proofs.lemmas.Bool.{leb-true}
 use Rattle.jup_batch.specs.BatchBoards as board
 use Rattle.jup_window.specs.Entries.{EachWidget}
@@ -9,77 +9,82 @@ use Rattle.jup_star.specs.Openings.{IsShort}
 use Rattle.jup_star.specs.StarCalls.{star_open_fault}
 use Rattle.jup_star.proofs.ShortBoards.{short_bare, distinct_bare}
 use Rattle.jup_mixed.specs.MixStates.{opened_mix}
-use Rattle.jup_mixed.proofs.MixOpened.{mixed-sound}
 use Rattle.std.proofs.Common.{◌↔◌, IsTrue}
 use Rattle.std.proofs.lemmas.List.{nil_from_length}
-use Rattle.jup_limits.specs.Limits.{highest_limit, most_beyond}
+use Rattle.jup_limits.specs.Limits.{highest_limit}
 use Rattle.jup_world.specs.Happenings.{IsQuietAt}
 use Rattle.jup_mixed.specs.MixStates.{IsHomeQuiet}
 use Rattle.jup_mixed.specs.MixFields.{HomeAgrees}
-use Rattle.jup_mixed.proofs.MixKept.{mix-promises}
 use Rattle.jup_batch.specs.BatchBoards.{BoardBatch, BoardEdits, Commands}
 use Rattle.jup_window.specs.Operations.{Operations, AreLawful}
 use Rattle.jup_batch.specs.BoardBatches.{board_batches}
 use Rattle.jup_batch.specs.BoardBatches.{batch_laws}
 use Rattle.jup_star.specs.declared.messages.Down.{Down}
-use Rattle.jup_star.specs.LinkStates.{LinkState, link_fetched}
+use Rattle.jup_star.specs.LinkStates.{LinkState}
 use Rattle.jup_star.specs.StarStates.{link_of, fetched, most_batches}
 use Rattle.jup_star.specs.SiteStates.{deliver_fault}
 use Rattle.jup_star.specs.StarCalls.{BoardStar}
 use Rattle.jup_star.specs.Streams.{downs}
-use Rattle.jup_world.specs.Turns.{turns}
 use Rattle.jup_world.specs.WorldStates.{AttachedOf}
 use Rattle.jup_world.specs.WorldSteps.{with_fetched}
-use Rattle.jup_world.specs.Sound.{Standing, StandsAt}
 use Rattle.jup_world.specs.BoardWorlds.{BoardAttached, BoardLink, BoardReply}
 use Rattle.jup_world.proofs.WorldKept.{open_held}
+use Rattle.jup_world.specs.WorldStates.{WorldOf, attached}
+use Rattle.jup_world.specs.WorldSteps.{only_fetched}
+use Rattle.jup_world.specs.Sound.{IsSound}
+use Rattle.jup_world.specs.Backlogs.{AllCount}
+use Rattle.jup_world.specs.Tallies.{IsTallied}
+use Rattle.jup_world.specs.Strangers.{KnowsStrays}
+use Rattle.jup_world.proofs.Sound.BacklogLaws.{counts-fetched}
+use Rattle.jup_world.proofs.Sound.TallyLaws.{tallied-fetched}
+use Rattle.jup_world.proofs.Sound.SoundFetched.{sound-fetched}
+use Rattle.jup_world.proofs.Sound.StrayLinks.{strays-fetched}
+use Rattle.jup_world.proofs.Sound.Withheld.{fall_fits}
+use Rattle.jup_mixed.specs.MixWorlds.{world_of, IsHomeWorld}
+use Rattle.jup_mixed.proofs.MixViews.{found_home, changed, one_numbered, home-happens}
+use Rattle.jup_mixed.proofs.MixHolds.{home_link, home-promises, home-order}
+use Rattle.jup_mixed.proofs.MixStrays.{all-replies}
+use Rattle.jup_mixed.proofs.MixReached.{home-reached}
+use Rattle.jup_mixed.specs.declared.events.MixEvent.TheVariants.{Down as HomeDown}
 use Rattle.jup_mixed.specs.MixEvents.{MixHappened}
 use Rattle.jup_mixed.specs.MixStates.{MixOf}
 use Rattle.jup_mixed.specs.MixSteps.{MixOutcome, mix_outcome, with_mix, mix_happens}
-use Rattle.jup_mixed.specs.MixTraces.{mix_made, mix_shown}
-use Rattle.jup_mixed.specs.MixSound.{IsSoundMix}
 use Rattle.jup_mixed.specs.MixPromises.{BoardMix, BoardMixEvent, MixReplies, MixOrderIsKept}
 use Rattle.jup_mixed.specs.MixFields.{MixPlays, MixSpares, IsMixSpared, IsReady, IsMix}
-use Rattle.jup_world.proofs.StarKeepsLinks.{at_here, star-fetched}
-use Rattle.jup_world.proofs.Pairs.PlaceKept.{place-fits, place-fetched}
-use Rattle.jup_mixed.proofs.MixRuns.{home_stands, sound-mix}
-use Rattle.jup_mixed.proofs.MixKept.{home_linked}
-use Rattle.jup_mixed.proofs.MixOrder.{mix-order}
-use Rattle.jup_mixed.proofs.MixReplies.{mix-replies}
 
-module _ (O : Operations) (L : AreLawful O) (most : ℕ) (m : MixOf O) (h : IsSoundMix O most m) (l : LinkState O.Op) (a : AttachedOf O)
+module _ (O : Operations) (L : AreLawful O) (most : ℕ) (m : MixOf O) (h : IsHomeWorld O most m) (l : LinkState O.Op) (a : AttachedOf O)
     (fl : link_of 1 m.star.links ≡ Some l) (fa : m.site ≡ Some a) where
-  -- the site at its place
-  st : Standing O most (O.t.content m.opening) (turns 1 m.star.order) m.star.board (mix_made m.trace) 0 (mix_shown m.trace) 1 l a
-  st = home_stands O L most m h l a fl fa
-
-  fits : length m.star.order + most_beyond ≤ most
-  fits = omega (arith, h.star.few, h.star.limited)
+  there : attached 1 (world_of O m).sites ≡ Some a
+  there = found_home O m.site h.number ∙ fa
 
   -- messages were fetched, and no more
-  pub mix-fetched : (n : ℕ) → IsSoundMix O most (record { opening = m.opening; star = fetched 1 n m.star; site = Some (with_fetched O n l a); trace = m.trace })
+  pub mix-fetched : (n : ℕ) → IsHomeWorld O most (record { opening = m.opening; star = fetched 1 n m.star; site = Some (with_fetched O n l a); trace = m.trace })
   mix-fetched n = record {
-    star = star-fetched O L most (O.t.content m.opening) m.star h.star 1 n;
+    sound = subst (IsSound O most) fetched_is (sound-fetched O L most (world_of O m) h.sound 1 n l a fl there);
+    counts = subst (AllCount O) fetched_is (counts-fetched O L (world_of O m) h.counts 1 n l a fl there);
+    tallied = subst (IsTallied O) fetched_is (tallied-fetched O (world_of O m) h.tallied 1 n l);
+    strays = subst (KnowsStrays O) fetched_is (strays-fetched O L most (world_of O m) h.sound h.strays 1 n l);
     given = h.given;
-    home = subst (λ o. StandsAt O most (O.t.content m.opening) (turns 1 m.star.order) m.star.board (mix_made m.trace) 0 (mix_shown m.trace) 1 o (Some (with_fetched O n l a)))
-        (sym (at_here O L most (O.t.content m.opening) m.star h.star 1 (link_fetched n) (λ k. refl) ∙ ap (option_map (link_fetched n)) fl))
-        (place-fetched O L most (O.t.content m.opening) m.star (mix_made m.trace) 1 0 (mix_shown m.trace) l a st fits n);
+    number = one_numbered O most m h (with_fetched O n l a) (h.number a fa);
+    home = h.home;
   }
+    where
+      fetched_is : only_fetched O (world_of O m) 1 n l ≡ world_of O (record { opening = m.opening; star = fetched 1 n m.star; site = Some (with_fetched O n l a); trace = m.trace })
+      fetched_is =
+          let with_sites : List (AttachedOf O) → WorldOf O = λ sites. record { opening = m.opening; star = fetched 1 n m.star; sites = sites; trace = (world_of O m).trace } in
+          ap with_sites (changed O most m h (with_fetched O n l) a fa)
 
   -- the oldest message on its way down is one that it takes
   pub oldest_fits : (d : Down O.Op) (ds : List (Down O.Op)) → a.down ++ l.outbox ≡ d ∷ ds → deliver_fault O d a.site ≡ None
   oldest_fits d ds e =
       let all : ds ++ drop (length l.outbox) l.outbox ≡ ds = ap (λ (xs : List (Down O.Op)). ds ++ xs) (drop_of_length-le l.outbox (le_refl _)) ∙ append-nil ds in
-      place-fits O L most (O.t.content m.opening) m.star (mix_made m.trace) 1 0 (mix_shown m.trace) l a st fits d (length l.outbox) ds (ap downs (e ∙ ap (λ (xs : List (Down O.Op)). d ∷ xs) (sym all)))
-
-  pub site_number : a.site.number ≡ 1
-  site_number = st.pair.site_number
+      fall_fits O L most (world_of O m) h.sound 1 l a fl there d (length l.outbox) ds (ap downs (e ∙ ap (λ (xs : List (Down O.Op)). d ∷ xs) (sym all)))
 
 -- an event finds the site ready
 pub mix_ready : (m : BoardMix) → IsMix m → IsReady m.star m.site
 mix_ready m h a fa =
-    let there = home_linked board_batches batch_laws most_batches m h a fa in (
-      site_number board_batches batch_laws most_batches m h there.0 a there.1 fa,
+    let there = home_link board_batches batch_laws most_batches m h a fa in (
+      h.number a fa,
       (there.0, there.1, oldest_fits board_batches batch_laws most_batches m h there.0 a there.1 fa),
     )
 
@@ -100,30 +105,33 @@ mix_reply m event reply t next plays = sym (ap (λ (o : MixOutcome board_batches
 
 -- it is sound
 pub mix_next : (m : BoardMix) (event : BoardMixEvent) → IsMix m → IsMix (mix_happens board_batches m event)
-mix_next m event h = sound-mix board_batches batch_laws most_batches m event h
+mix_next m event h = home-happens board_batches batch_laws most_batches m h event
 
 -- and keeps the order of items
 pub mix_keeps : (m : BoardMix) (event : BoardMixEvent) → IsMix m → MixOrderIsKept board_batches m (mix_happens board_batches m event)
-mix_keeps m event h = mix-order board_batches batch_laws (event ∷ []) most_batches m h
+mix_keeps m event h = home-order board_batches batch_laws (event ∷ []) most_batches m h
 
 -- and is answered as it should be
 pub mix_answered : (m : BoardMix) (event : BoardMixEvent) → IsMix m → MixReplies board_batches m event (mix_outcome board_batches m event)
-mix_answered m event h = mix-replies board_batches batch_laws most_batches m h event
+mix_answered m event h = all-replies board_batches batch_laws most_batches m h event
 
 -- after want of memory
-pub mix_spared : (m : BoardMix) (t : BoardStar) (next : Option BoardAttached) (trace : MixTrace) → MixSpares m.star m.site t next → trace ≡ m.trace → IsMixSpared m (record { opening = m.opening; star = t; site = next; trace = trace })
-mix_spared m t next trace (inl same) e = inl (λ j. record { opening = m.opening; star = same.0 j; site = same.1 j; trace = e j })
-mix_spared m t next trace (inr more) e = inr (more.0, more.1, more.2, more.3, (λ j. record { opening = m.opening; star = more.4 j; site = more.5 j; trace = e j }))
+pub mix_spared : (m : BoardMix) (event : BoardMixEvent) (t : BoardStar) (next : Option BoardAttached) (trace : MixTrace) → MixSpares event m.star m.site t next → trace ≡ m.trace
+    → IsMixSpared m event (record { opening = m.opening; star = t; site = next; trace = trace })
+mix_spared m HomeDown t next trace (inl same) e = inl (λ j. record { opening = m.opening; star = same.0 j; site = same.1 j; trace = e j })
+mix_spared m HomeDown t next trace (inr more) e = inr (more.0, more.1, more.2, more.3, (λ j. record { opening = m.opening; star = more.4 j; site = more.5 j; trace = e j }))
+mix_spared m event t next trace same e = λ j. record { opening = m.opening; star = same.0 j; site = same.1 j; trace = e j }
 
-pub mix_still : (m k : BoardMix) → IsMix m → IsMixSpared m k → IsMix k
-mix_still m k h (inl same) = subst IsMix (sym same) h
-mix_still m k h (inr more) = subst IsMix (sym more.4) (mix-fetched board_batches batch_laws most_batches m h more.0 more.1 more.2 more.3 1)
+pub mix_still : (m k : BoardMix) (event : BoardMixEvent) → IsMix m → IsMixSpared m event k → IsMix k
+mix_still m k HomeDown h (inl same) = subst IsMix (sym same) h
+mix_still m k HomeDown h (inr more) = subst IsMix (sym more.4) (mix-fetched board_batches batch_laws most_batches m h more.0 more.1 more.2 more.3 1)
+mix_still m k event h same = subst IsMix (sym same) h
 
 -- as it is opened
 pub mix_new : (b : board.Windows) (limit : ℕ) → star_open_fault (board.bare b) limit ≡ None → board.HasDistinctNames b → EachWidget IsShort b → IsMix (opened_mix board_batches (board.bare b) limit)
 mix_new b limit none distinct short =
     let held = open_held (nat_le 1 limit) (nat_le limit highest_limit) (only_site 0 (board.bare b)) none in
-    mixed-sound (opened_mix board_batches (board.bare b) limit) (record {
+    home-reached (opened_mix board_batches (board.bare b) limit) (record {
       board = board.bare b;
       limit = limit;
       events = [];
@@ -136,14 +144,14 @@ mix_new b limit none distinct short =
 home_quiet : (m : BoardMix) → IsMix m → (a : BoardAttached) → m.site ≡ Some a → IsQuietAt a m.star ↔ IsHomeQuiet board_batches m
 home_quiet m h a fa = (to, from)
   where
-    there : (l : BoardLink) × (link_of 1 m.star.links ≡ Some l) × Standing board_batches most_batches (board_batches.t.content m.opening) (turns 1 m.star.order) m.star.board (mix_made m.trace) 0 (mix_shown m.trace) 1 l a
-    there = home_linked board_batches batch_laws most_batches m h a fa
+    there : (l : BoardLink) × (link_of 1 m.star.links ≡ Some l)
+    there = home_link board_batches batch_laws most_batches m h a fa
 
     lengths : Option BoardLink → Option ℕ
     lengths o = option_map (λ (l : BoardLink). length l.outbox) o
 
     number : a.site.number ≡ 1
-    number = there.2.pair.site_number
+    number = h.number a fa
 
     to : IsQuietAt a m.star → IsHomeQuiet board_batches m
     to q l b fl fb =
@@ -167,5 +175,5 @@ none_quiet m gone = ((λ yes l a fl fa. absurd (cc)), (λ yes. refl))
 -- then it is level with the star
 pub quiet_agrees : (m : BoardMix) → IsMix m → IsHomeQuiet board_batches m → HomeAgrees m
 quiet_agrees m h q a fa =
-    let kept = mix-promises board_batches batch_laws most_batches m h in
+    let kept = home-promises board_batches batch_laws most_batches m h in
     (kept.equal q a fa, kept.whole q a fa)

@@ -2,7 +2,7 @@ pub mod MixEvents
 pub mod MixFields
 pub mod MixInside
 pub mod MixPromises
-pub mod MixSound
 pub mod MixStates
 pub mod MixSteps
 pub mod MixTraces
+pub mod MixWorlds

@@ -16,7 +16,7 @@ use Rattle.jup_mixed.specs.MixEvents.{MixHappened}
 use Rattle.jup_mixed.specs.MixSteps.{mix_outcome}
 use Rattle.jup_world.specs.Turns.{turns, own_edits}
 use Rattle.jup_mixed.specs.MixTraces.{mix_made}
-use Rattle.jup_mixed.specs.MixSound.{IsSoundMix}
+use Rattle.jup_mixed.specs.MixWorlds.{IsHomeWorld}
 use Rattle.jup_mixed.specs.MixPromises.{BoardMix, BoardMixEvent}
 
 -- a trace of the program, with each refusal of an edit as its number
@@ -39,19 +39,21 @@ MixPlays event star site reply next_star next_site =
     → mix_outcome board_batches (record { opening = opening; star = star; site = site; trace = trace }) event
     ≡ record { reply = reply; star = next_star; site = next_site }
 
--- want of memory left all as it was, but that the oldest message of the site's outbox may stand in its down stream
-abbrev pub MixSpares : BoardStar → Option BoardAttached → BoardStar → Option BoardAttached → Type 0
-MixSpares star site next_star next_site =
+-- want of memory left all as it was; but at a delivery to the site the oldest message of its outbox may stand in its down stream
+abbrev pub MixSpares : BoardMixEvent → BoardStar → Option BoardAttached → BoardStar → Option BoardAttached → Type 0
+MixSpares HomeDown star site next_star next_site =
     ((next_star ≡ star) × (next_site ≡ site))
     ⊎ ((l : BoardLink) × (a : BoardAttached) × (link_of 1 star.links ≡ Some l) × (site ≡ Some a)
     × (next_star ≡ fetched 1 1 star) × (next_site ≡ Some (with_fetched board_batches 1 l a)))
+MixSpares event star site next_star next_site = (next_star ≡ star) × (next_site ≡ site)
 
 -- so of a whole
-abbrev pub IsMixSpared : BoardMix → BoardMix → Type 0
-IsMixSpared m k =
+abbrev pub IsMixSpared : BoardMix → BoardMixEvent → BoardMix → Type 0
+IsMixSpared m HomeDown k =
     (k ≡ m)
     ⊎ ((l : BoardLink) × (a : BoardAttached) × (link_of 1 m.star.links ≡ Some l) × (m.site ≡ Some a)
     × (k ≡ record m { star = fetched 1 1 m.star; site = Some (with_fetched board_batches 1 l a) }))
+IsMixSpared m event k = k ≡ m
 
 -- what an event asks of the site: it has the number 1, a link, and takes the oldest message on its way down
 abbrev pub IsReady : BoardStar → Option BoardAttached → Type 0
@@ -62,7 +64,7 @@ IsReady star site =
 
 -- what holds of every one of the program
 abbrev pub IsMix : BoardMix → Type 0
-IsMix m = IsSoundMix board_batches most_batches m
+IsMix m = IsHomeWorld board_batches most_batches m
 
 -- the site's board is the star's, and the order has each of its edits once, in its order
 abbrev pub HomeAgrees : BoardMix → Type 0

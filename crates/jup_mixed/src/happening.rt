@@ -17,7 +17,7 @@ use std::alloc::Global;
 /// The number of the site.
 const HOME: u32 = 1;
 
-/// Plays one event. Where memory is refused, a message may have been fetched into the empty down stream.
+/// Plays one event. Where memory is refused, `Down` may have fetched a message into the empty down stream.
 pub(crate) fn happen(
     alloc: Global,
     star: &mut Star,
@@ -28,7 +28,7 @@ pub(crate) fn happen(
     ensures plays { IfOk result (λ reply. MixPlays event.now star.old (option_map bare_attached site.old)
         (numbered_reply reply) star.new (option_map bare_attached site.new)) }
     ensures few { IfOk result (λ reply. MakesFew reply (most_edits event.now)) }
-    ensures spared { OnErr result (MixSpares star.old (option_map bare_attached site.old)
+    ensures spared { OnErr result (MixSpares event.now star.old (option_map bare_attached site.old)
         star.new (option_map bare_attached site.new)) }
 {
     match event {
@@ -87,7 +87,8 @@ fn move_down(alloc: Global, star: &mut Star, site: &mut Option<Attached>) -> Res
     ensures few { IfOk result (λ reply. MakesFew reply 0) }
     ensures plays { IfOk result (λ reply. MixPlays event.Down star.old (option_map bare_attached site.old)
         (numbered_reply reply) star.new (option_map bare_attached site.new)) }
-    ensures spared { OnErr result (MixSpares star.old (option_map bare_attached site.old) star.new (option_map bare_attached site.new)) }
+    ensures spared { OnErr result (MixSpares event.Down star.old (option_map bare_attached site.old)
+        star.new (option_map bare_attached site.new)) }
 {
     match site {
         Some(home) => home.move_down(alloc, star),

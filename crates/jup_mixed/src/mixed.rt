@@ -1,17 +1,18 @@
 //! A star with one site of this product, and links of strangers, which send any messages.
-ghost use Rattle.std.specs.Prelude.{◌≡◌, ◌⊎◌, ◌↔◌, ◌∷◌, ◌++◌, ◌<◌, ◌≤◌, [], vec_len, None, Some, IsTrue, IfOk, IfErr, IfSome, OnOk, OnErr};
+ghost use Rattle.std.specs.Prelude.{◌≡◌, ◌⊎◌, ◌↔◌, ◌+◌, ◌∷◌, ◌++◌, ◌<◌, ◌≤◌, false, [], length, vec_len, None, Some, is_some, IsTrue, IfOk, IfErr, IfSome, OnOk, OnErr};
 ghost use Rattle.std.specs.Vec.{vec_capacity};
 ghost use Rattle.std.specs.Option.{option_map, option_copied};
 ghost use Rattle.jup_window.specs.Entries.{EachWidget};
 ghost use Rattle.jup_batch.specs.BatchBoards.{bare, content, meaning};
 ghost use Rattle.jup_batch.specs.BoardBatches.{board_batches};
+ghost use Rattle.jup_star.specs.StarStates.{link_of};
 ghost use Rattle.jup_star.specs.StarCalls.{star_open_fault};
 ghost use Rattle.jup_star.specs.declared.faults.OpenFault.TheVariants as open_fault;
 ghost use Rattle.jup_star.specs.Openings.{IsShort};
 ghost use Rattle.jup_world.specs.NumberedReplies.{numbered_reply, MakesFew};
 ghost use Rattle.jup_mixed.specs.MixStates.{opened_mix, IsHomeQuiet};
 ghost use Rattle.jup_mixed.specs.MixSteps.{mix_outcome, mix_happens};
-ghost use Rattle.jup_mixed.specs.MixTraces.{mix_view};
+ghost use Rattle.jup_mixed.specs.MixTraces.{mix_made, mix_view};
 ghost use Rattle.jup_world.specs.Sound.{edits_in};
 ghost use Rattle.jup_mixed.specs.MixPromises.{MixReplies, MixOrderIsKept};
 ghost use Rattle.jup_mixed.specs.MixFields.{numbered_mix, most_edits, IsMixSpared, HomeAgrees};
@@ -137,13 +138,13 @@ impl Mixed {
         })
     }
 
-    /// Plays one event, which then stands in the trace with its reply. Where memory is refused nothing has
-    /// changed, but that one message may stand in the site's down stream that stood in its outbox.
+    /// Plays one event, which then stands in the trace with its reply. Where memory is refused all is as it
+    /// was; but `Down` may have fetched the oldest message of the site's outbox into its down stream.
     pub fn step(&mut self, alloc: Global, event: &MixEvent) -> Result<Reply, NoMemory>
         ensures reply { IfOk result (λ reply. numbered_reply reply ≡ (mix_outcome board_batches self.old event.now).reply) }
         ensures withheld { OnOk result (MixReplies board_batches self.old event.now (mix_outcome board_batches self.old event.now)) }
         ensures ok { OnOk result (self.new ≡ mix_happens board_batches self.old event.now) }
-        ensures err { OnErr result (IsMixSpared self.old self.new) }
+        ensures err { OnErr result (IsMixSpared self.old event.now self.new) }
         ensures order { OnOk result (MixOrderIsKept board_batches self.old self.new) }
     {
         // The checker learns of the types within an event from this.
@@ -177,10 +178,17 @@ impl Mixed {
         &self.trace
     }
 
-    /// Site 1, while it is attached. At every moment its content is what the entries that it was told, and
-    /// its own edits that are not among them, mean.
+    /// Site 1, which is attached exactly where it has a link at the star, and then has not stopped. At every
+    /// moment its content is what the entries that it was told, and its own edits that are not among them,
+    /// mean; it made the edits that the trace says; and its backlog is those less the ones that it was told
+    /// are taken.
     pub fn site(&self) -> Option<&Site>
         ensures site { option_copied result ≡ option_map (λ a. a.site) self.now.site }
+        ensures attached { is_some result ≡ is_some (link_of 1 self.now.star.links) }
+        ensures number { IfSome result (λ site. site.now.number ≡ 1) }
+        ensures running { IfSome result (λ site. site.now.stopped ≡ false) }
+        ensures made { IfSome result (λ site. site.now.made ≡ length (mix_made self.now.trace)) }
+        ensures backlog { IfSome result (λ site. site.now.made ≡ site.now.end.acknowledged + length site.now.end.outgoing) }
         ensures content { IfSome result (λ site. content site.now.board ≡ meaning (content self.now.opening) (mix_view self.now.star.order self.now.trace)) }
     {
         match &self.site {

@@ -1,5 +1,5 @@
 -- What an event comes to: nothing, or one of few steps of a link and of the site under its number. The case analysis stands here once.
-use Rattle.std.proofs.Common.{◌≡◌, ℕ, ◌++◌, List, [], ◌∷◌, drop, refl, ap, sym, ◌∙◌, Option, Some, None, Result, Ok, Err}
+use Rattle.std.proofs.Common.{◌≡◌, ℕ, ◌++◌, List, [], ◌∷◌, drop, refl, ap, sym, ◌∙◌, subst, Option, Some, None, Result, Ok, Err}
 use Rattle.jup_window.specs.Operations.{Operations}
 use Rattle.jup_star.specs.declared.messages.Entry.{Entry}
 use Rattle.jup_star.specs.declared.messages.Up.{Up}
@@ -7,14 +7,14 @@ use Rattle.jup_star.specs.declared.messages.Down.{Down}
 use Rattle.jup_star.specs.declared.messages.Down.TheVariants.{Op as DownOp, Ack as DownAck, Pong as DownPong}
 use Rattle.jup_star.specs.declared.faults.StarFault.{StarFault}
 use Rattle.jup_star.specs.LinkStates.{LinkState}
-use Rattle.jup_star.specs.StarStates.{link_of, join_fault, up_fault, left}
+use Rattle.jup_star.specs.StarStates.{link_of, join_fault, up_fault, left, taken, place_taken}
 use Rattle.jup_star.specs.SiteStates.{edit_answer, deliver_fault}
-use Rattle.jup_world.specs.Events.{Happened}
-use Rattle.jup_world.specs.Events.{Join, Leave, Edit as MakeEdit, Up as MoveUp, Down as MoveDown, Ping as SendPing}
+use Rattle.jup_world.specs.Events.{Join, Leave, Edit as MakeEdit, Up as MoveUp, Down as MoveDown, Ping as SendPing, JoinStray, Stray, LeaveStray}
 use Rattle.jup_world.specs.Events.{NoJoin, Left, Refused, Heard, Detached, Asked, Nothing}
-use Rattle.jup_world.specs.WorldStates.{WorldOf, AttachedOf, EventOf, ReplyOf, attached, without_site}
-use Rattle.jup_world.specs.WorldSteps.{Outcome, unchanged, join_outcome, edit_outcome, up_outcome, first_up, down_outcome, first_down, one_handed, ping_outcome, at_attached, at_linked, at_number, outcome}
+use Rattle.jup_world.specs.WorldStates.{WorldOf, AttachedOf, EventOf, ReplyOf, HappenedOf, attached, without_site}
+use Rattle.jup_world.specs.WorldSteps.{Outcome, unchanged, join_outcome, edit_outcome, place_reply, one_taken, up_outcome, first_up, down_outcome, first_down, one_handed, ping_outcome, stray_joins, stray_sends, at_stray, at_attached, at_linked, at_number, outcome}
 use Rattle.jup_world.specs.Traces.{edit_made, entry_taken, join_seen, was_shown}
+use Rattle.jup_world.proofs.Numbered.{map_absent, filter_absent}
 
 -- the two cases of what may be absent, each with its equation
 pub either : {A : Type 0} → (o : Option A) (P : Option A → Type 0) → (o ≡ None → P None) → ((x : A) → o ≡ Some x → P (Some x)) → P o
@@ -38,7 +38,7 @@ module _ (O : Operations) where
     pub no_edit : (i : ℕ) → edit_made i event reply ≡ []
     pub no_join : (i n at : ℕ) → join_seen i n at event reply ≡ at
     pub no_shown : (i : ℕ) → was_shown i event reply ≡ 0
-    pub no_entry : (past : List (Happened O.Command O.Op O.Edit ℕ)) (order : List (Entry O.Edit)) → entry_taken O past order event reply ≡ []
+    pub no_entry : (past : List (HappenedOf O)) (order : List (Entry O.Edit)) → entry_taken O past order event reply ≡ []
 
   -- as is each that finds nothing
   pub nothing_silent : (e : EventOf O) → IsSilent e Nothing
@@ -55,27 +55,32 @@ module _ (O : Operations) where
   asked_silent i k = record { no_edit = λ j. refl; no_join = λ j n k. refl; no_shown = λ j. refl; no_entry = λ p o. refl }
 
   module _ (w : WorldOf O) where
-    -- what brought a message to the star: it was the oldest of a site
+    -- what brought a message to the star: it was the oldest of a site, or a stranger sent it
     pub data Brings (i : ℕ) (up : Up O.Op) : Option (AttachedOf O) → EventOf O → Type 0 where
       Rises : (a : AttachedOf O) (us : List (Up O.Op)) → a.up ≡ up ∷ us → Brings i up (Some a) (MoveUp i)
+      Strays : Brings i up None (Stray i up)
 
     -- why nothing changes: nothing is there, or what was asked is refused
     pub data WhyStill : EventOf O → ReplyOf O → Type 0 where
       Finds : (e : EventOf O) → WhyStill e Nothing
       NotJoined : (fault : StarFault) → WhyStill Join (NoJoin fault)
+      NoStray : (fault : StarFault) → WhyStill JoinStray (NoJoin fault)
       NotMade : (i : ℕ) (command : O.Command) (number : ℕ) → WhyStill (MakeEdit i command) (Refused number)
 
     -- why a link goes, with its site if it has one: that leaves, or a message is refused
     pub data WhyGone (i : ℕ) (l : LinkState O.Op) : Option (AttachedOf O) → EventOf O → ReplyOf O → Type 0 where
       Leaves : (a : AttachedOf O) → WhyGone i l (Some a) (Leave i) Left
+      StrayLeaves : WhyGone i l None (LeaveStray i) Left
       IsDropped : {oa : Option (AttachedOf O)} {e : EventOf O} (up : Up O.Op) (fault : StarFault) → Brings i up oa e → up_fault O w.star l up ≡ Some fault → WhyGone i l oa e (Detached fault)
 
-    -- an event, what it answers and what it leaves
+    -- an event, what it answers and what it leaves. A link is one of a stranger where no site has its number
     pub data StepOf : EventOf O → Outcome O → Type 0 where
       -- nothing changes
       Still : {e : EventOf O} {r : ReplyOf O} → WhyStill e r → StepOf e (unchanged O w r)
       -- a site joins
       Enters : join_fault w.star ≡ None → StepOf Join (join_outcome O w None)
+      -- or a stranger
+      EntersStray : join_fault w.star ≡ None → StepOf JoinStray (stray_joins O w None)
       -- a link goes with its site
       Goes : {e : EventOf O} {r : ReplyOf O} (i : ℕ) (l : LinkState O.Op) (oa : Option (AttachedOf O)) → link_of i w.star.links ≡ Some l → attached i w.sites ≡ oa
           → WhyGone i l oa e r → StepOf e (record { reply = r; star = left i w.star; sites = without_site i w.sites })
@@ -91,25 +96,30 @@ module _ (O : Operations) where
       Hands : (i gone : ℕ) (l : LinkState O.Op) (a : AttachedOf O) (d : Down O.Op) (ds : List (Down O.Op)) → link_of i w.star.links ≡ Some l → attached i w.sites ≡ Some a
           → a.down ++ l.outbox ≡ d ∷ (ds ++ drop gone l.outbox) → deliver_fault O d a.site ≡ None → StepOf (MoveDown i) (down_outcome O w i gone d ds None)
 
-    -- what changes nothing, or lets a link go, tells nothing
+    -- what changes nothing, or lets a link go, tells nothing; nor does a message but by its entry
     pub still_silent : {e : EventOf O} {r : ReplyOf O} → WhyStill e r → IsSilent e r
     still_silent (Finds e) = nothing_silent e
     still_silent (NotJoined fault) = record { no_edit = λ j. refl; no_join = λ j n k. refl; no_shown = λ j. refl; no_entry = λ p o. refl }
+    still_silent (NoStray fault) = record { no_edit = λ j. refl; no_join = λ j n k. refl; no_shown = λ j. refl; no_entry = λ p o. refl }
     still_silent (NotMade i command number) = record { no_edit = λ j. refl; no_join = λ j n k. refl; no_shown = λ j. refl; no_entry = λ p o. refl }
 
     pub gone_silent : {i : ℕ} {l : LinkState O.Op} {oa : Option (AttachedOf O)} {e : EventOf O} {r : ReplyOf O} → WhyGone i l oa e r → IsSilent e r
     gone_silent (Leaves a) = record { no_edit = λ j. refl; no_join = λ j n k. refl; no_shown = λ j. refl; no_entry = λ p o. refl }
+    gone_silent StrayLeaves = record { no_edit = λ j. refl; no_join = λ j n k. refl; no_shown = λ j. refl; no_entry = λ p o. refl }
     gone_silent (IsDropped up fault (Rises a us rising) f) = record { no_edit = λ j. refl; no_join = λ j n k. refl; no_shown = λ j. refl; no_entry = λ p o. refl }
+    gone_silent (IsDropped up fault Strays f) = record { no_edit = λ j. refl; no_join = λ j n k. refl; no_shown = λ j. refl; no_entry = λ p o. refl }
 
-    -- a message that was brought is no edit, no join and no delivery
     pub brought_made : {i : ℕ} {up : Up O.Op} {oa : Option (AttachedOf O)} {e : EventOf O} → Brings i up oa e → (r : ReplyOf O) (j : ℕ) → edit_made j e r ≡ []
     brought_made (Rises a us rising) r j = refl
+    brought_made Strays r j = refl
 
     pub brought_join : {i : ℕ} {up : Up O.Op} {oa : Option (AttachedOf O)} {e : EventOf O} → Brings i up oa e → (r : ReplyOf O) (j n at : ℕ) → join_seen j n at e r ≡ at
     brought_join (Rises a us rising) r j n at = refl
+    brought_join Strays r j n at = refl
 
     pub brought_shown : {i : ℕ} {up : Up O.Op} {oa : Option (AttachedOf O)} {e : EventOf O} → Brings i up oa e → (r : ReplyOf O) (j : ℕ) → was_shown j e r ≡ 0
     brought_shown (Rises a us rising) r j = refl
+    brought_shown Strays r j = refl
 
     -- an event at a site
     at_place : (e : EventOf O) (i : ℕ) (f : LinkState O.Op → AttachedOf O → Outcome O)
@@ -118,12 +128,28 @@ module _ (O : Operations) where
         either (link_of i w.star.links) (λ o. StepOf e (at_linked O w i f o)) (λ none. Still (Finds e))
         (λ l fl. either (attached i w.sites) (λ o. StepOf e (at_attached O w l f o)) (λ none. Still (Finds e)) (λ a fa. here l a fl fa))
 
+    -- or of a stranger
+    at_alone : (e : EventOf O) (i : ℕ) (f : LinkState O.Op → Outcome O) → ((l : LinkState O.Op) → link_of i w.star.links ≡ Some l → attached i w.sites ≡ None → StepOf e (f l))
+        → StepOf e (at_stray O w f (attached i w.sites) (link_of i w.star.links))
+    at_alone e i f here =
+        either (attached i w.sites) (λ oa. StepOf e (at_stray O w f oa (link_of i w.star.links)))
+        (λ alone. either (link_of i w.star.links) (λ ol. StepOf e (at_stray O w f None ol)) (λ none. Still (Finds e)) (λ l fl. here l fl alone))
+        (λ a fa. Still (Finds e))
+
     -- the star takes the oldest message of a site
     up_step : (i : ℕ) (l : LinkState O.Op) (a : AttachedOf O) → link_of i w.star.links ≡ Some l → attached i w.sites ≡ Some a → (us : List (Up O.Op)) → a.up ≡ us → StepOf (MoveUp i) (first_up O w i l us)
     up_step i l a fl fa [] rising = Still (Finds (MoveUp i))
     up_step i l a fl fa (up ∷ us) rising = either (up_fault O w.star l up) (λ f. StepOf (MoveUp i) (up_outcome O w i l up f))
         (λ none. Takes i l (Some a) up fl fa (Rises a us rising) none)
         (λ fault f. Goes i l (Some a) fl fa (IsDropped up fault (Rises a us rising) f))
+
+    -- or that of a stranger, whose number no site has
+    stray_step : (i : ℕ) (l : LinkState O.Op) → link_of i w.star.links ≡ Some l → attached i w.sites ≡ None → (up : Up O.Op) → StepOf (Stray i up) (stray_sends O w i l up (up_fault O w.star l up))
+    stray_step i l fl alone up = either (up_fault O w.star l up) (λ f. StepOf (Stray i up) (stray_sends O w i l up f))
+        (λ none. subst (λ sites. StepOf (Stray i up) (record { reply = place_reply O (place_taken O w.star up); star = taken O i up l w.star; sites = sites })) (map_absent (λ a. a.site.number) i (one_taken O) w.sites alone)
+        (Takes i l None up fl alone Strays none))
+        (λ fault f. subst (λ sites. StepOf (Stray i up) (record { reply = Detached fault; star = left i w.star; sites = sites })) (filter_absent (λ a. a.site.number) i w.sites alone)
+        (Goes i l None fl alone (IsDropped up fault Strays f)))
 
     -- a site is handed a message
     handed_step : (i gone : ℕ) (l : LinkState O.Op) (a : AttachedOf O) → link_of i w.star.links ≡ Some l → attached i w.sites ≡ Some a → (d : Down O.Op) (ds : List (Down O.Op))
@@ -148,3 +174,7 @@ module _ (O : Operations) where
     step_of (MoveUp i) = at_place (MoveUp i) i _ (λ l a fl fa. up_step i l a fl fa a.up refl)
     step_of (MoveDown i) = at_place (MoveDown i) i _ (λ l a fl fa. down_step i l a fl fa a.down l.outbox refl refl)
     step_of (SendPing i k) = at_place (SendPing i k) i _ (λ l a fl fa. Asks i k l a fl fa)
+    step_of JoinStray = either (join_fault w.star) (λ f. StepOf JoinStray (stray_joins O w f)) EntersStray (λ fault f. Still (NoStray fault))
+    step_of (Stray i up) = at_alone (Stray i up) i _ (λ l fl alone. stray_step i l fl alone up)
+    step_of (LeaveStray i) = at_alone (LeaveStray i) i _ (λ l fl alone.
+        subst (λ sites. StepOf (LeaveStray i) (record { reply = Left; star = left i w.star; sites = sites })) (filter_absent (λ a. a.site.number) i w.sites alone) (Goes i l None fl alone StrayLeaves))

@@ -12,6 +12,7 @@ pub mod NamedTexts
 pub mod Numbered
 pub mod Orders
 pub mod Pairs
+pub mod PlayedTraces
 pub mod Received
 pub mod SitePlaces
 pub mod Sound

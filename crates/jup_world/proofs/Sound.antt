@@ -11,6 +11,8 @@ pub mod SoundMade
 pub mod SoundRuns
 pub mod SoundShown
 pub mod SoundTaken
+pub mod StrangerLaws
+pub mod StrayLinks
 pub mod TallyLaws
 pub mod TraceLaws
 pub mod Withheld

@@ -1,5 +1,5 @@
 -- What holds of every world of the program: as it is opened, after each event, and after want of memory.
-use Rattle.std.proofs.Common.{◌≡◌, refl, sym, ◌∙◌, ap, subst, inl, inr, ℕ, ◌≤◌, Bool, true, false, ◌&&◌, List, [], ◌∷◌, ◌++◌, drop, length, nat_le, Some, None, arith, leb-false, append-nil, drop_of_length-le, le_refl}
+use Rattle.std.proofs.Common.{◌≡◌, refl, sym, ◌∙◌, ap, subst, inl, inr, ℕ, ◌+◌, ◌≤◌, Bool, true, false, ◌&&◌, List, [], ◌∷◌, ◌++◌, drop, length, nat_le, Some, None, arith, leb-false, append-nil, drop_of_length-le, le_refl}
 use Rattle.std.proofs.lemmas.Bool.{leb-true}
 use Rattle.jup_limits.specs.Limits.{highest_limit}
 use Rattle.jup_batch.specs.BatchBoards as board
@@ -26,8 +26,9 @@ use Rattle.jup_world.specs.BoardWorlds.{BoardWorld, BoardLink, BoardAttached, Bo
 use Rattle.jup_world.specs.SiteNumbers.{AreAscending}
 use Rattle.jup_world.specs.Sound.{IsSound}
 use Rattle.jup_world.specs.Happenings.{AreNumbered, AreReady, OldestFits, IsWorld, IsSpared}
-use Rattle.jup_world.proofs.EventSteps.{StepOf, Still, Enters, Goes, Makes, Asks, Takes, Hands, handed_number, step_of}
-use Rattle.jup_world.proofs.Sound.SoundRuns.{sound-promises}
+use Rattle.jup_world.proofs.EventSteps.{StepOf, Still, Enters, EntersStray, Goes, Makes, Asks, Takes, Hands, handed_number, step_of}
+use Rattle.jup_world.specs.Traces.{is_stray}
+use Rattle.jup_world.proofs.Sound.StrayLinks.{plain_linked}
 use Rattle.jup_world.proofs.Sound.Withheld.{fall_fits}
 use Rattle.jup_world.proofs.SitePlaces.{ascending_without, ascending_at, ascending_end}
 use Rattle.jup_world.proofs.Sound.GivenNames.{batch_none, layout_none}
@@ -56,11 +57,22 @@ link_given w s i l found = cases (nat_le i w.star.given) refl
     cases true e = leb-true i w.star.given e
     cases false e = absurd (let none = s.star.no_link i (leb-false i w.star.given e) in cc)
 
+-- numbers may be given beyond those of the sites
+ascending_above : (least most more : ℕ) (xs : List BoardAttached) → most ≤ more → AreAscending least most xs → AreAscending least more xs
+ascending_above least most more [] h up = omega arith
+ascending_above least most more (a ∷ xs) h up = (up.0, ascending_above a.site.number most more xs h up.1)
+
 -- an event, by what it comes to
 step_numbered : (w : BoardWorld) → IsSound board_batches most_batches w → AreNumbered w.star w.sites → (e : BoardEvent) (o : Outcome board_batches) → StepOf board_batches w e o → KeepsNumbers o
 step_numbered w s is e o (Still why) = is
 step_numbered w s is e o (Enters none) = record {
   ascending = ascending_end 0 w.star.given _ w.sites refl is.ascending;
+  positive = is.positive;
+  limited = is.limited;
+  named = λ i above. is.named i (omega arith);
+}
+step_numbered w s is e o (EntersStray none) = record {
+  ascending = ascending_above 0 w.star.given (w.star.given + 1) w.sites (omega arith) is.ascending;
   positive = is.positive;
   limited = is.limited;
   named = λ i above. is.named i (omega arith);
@@ -129,9 +141,9 @@ oldest_fits w s i l a down rest fl fa e =
     let all : rest ++ drop (length l.outbox) l.outbox ≡ rest = ap (λ (ds : List (Down BoardBatch)). rest ++ ds) (drop_of_length-le l.outbox (le_refl _)) ∙ append-nil rest in
     fall_fits board_batches batch_laws most_batches w s i l a fl fa down (length l.outbox) rest (ap downs (e ∙ ap (λ (ds : List (Down BoardBatch)). down ∷ ds) (sym all)))
 
-pub world_ready : (w : BoardWorld) → IsWorld w → AreReady w.star w.sites
-world_ready w is = record {
+pub world_ready : (w : BoardWorld) → IsWorld w → ((i : ℕ) → is_stray i w.trace ≡ false) → AreReady w.star w.sites
+world_ready w is plain = record {
   numbered = is.numbered;
-  linked = (sound-promises board_batches batch_laws most_batches w is.board.sound).linked;
+  linked = plain_linked board_batches batch_laws w is.board.strays plain;
   fits = oldest_fits w is.board.sound;
 }

@@ -11,6 +11,7 @@ use Rattle.jup_world.specs.WorldSteps.{run}
 use Rattle.jup_world.specs.Sound.{IsSound}
 use Rattle.jup_world.specs.Backlogs.{AllCount}
 use Rattle.jup_world.specs.Tallies.{IsTallied}
+use Rattle.jup_world.specs.Strangers.{KnowsStrays}
 
 -- such a world
 abbrev pub BoardWorld : Type 0
@@ -37,6 +38,7 @@ pub record IsBoardWorld (w : BoardWorld) : Type 0 where
   pub sound : IsSound board_batches most_batches w
   pub counts : AllCount board_batches w
   pub tallied : IsTallied board_batches w
+  pub strays : KnowsStrays board_batches w
 
 -- a world that some events made of one that was opened
 pub record IsReached (w : BoardWorld) : Type 0 where

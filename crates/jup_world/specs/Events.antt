@@ -1,8 +1,10 @@
 -- What may happen in a world whose links carry messages, and what is answered. The program has two events more, which move bytes.
 use Rattle.std.specs.Prelude.{ℕ}
 use Rattle.jup_star.specs.declared.faults.StarFault.{StarFault}
+use Rattle.jup_star.specs.declared.messages.Up.{Up as Message}
 
--- a site joins, leaves, edits; the star takes the oldest message from it; it is handed the oldest to it; it sends a ping
+-- a site joins, leaves, edits; the star takes the oldest message from it; it is handed the oldest to it; it sends a ping. And a stranger
+-- joins; the star is handed this message by a link that has no site; a stranger leaves
 pub data Event (Command Operation : Type 0) : Type 0 where
   Join : Event Command Operation
   Leave : ℕ → Event Command Operation
@@ -10,6 +12,9 @@ pub data Event (Command Operation : Type 0) : Type 0 where
   Up : ℕ → Event Command Operation
   Down : ℕ → Event Command Operation
   Ping : ℕ → ℕ → Event Command Operation
+  JoinStray : Event Command Operation
+  Stray : ℕ → Message Operation → Event Command Operation
+  LeaveStray : ℕ → Event Command Operation
 
 -- what an event answers; that bytes were moved is told where links carry bytes alone
 pub data Reply (Edit Fault : Type 0) : Type 0 where

@@ -18,6 +18,7 @@ pub mod Rounds
 pub mod Runs
 pub mod SiteNumbers
 pub mod Sound
+pub mod Strangers
 pub mod Tallies
 pub mod Texts
 pub mod Traces

@@ -1,12 +1,16 @@
 -- What every world keeps, whatever happens in it.
-use Rattle.std.specs.Prelude.{◌≡◌, ◌⊎◌, ℕ, false, Some, is_some}
+use Rattle.std.specs.Prelude.{◌≡◌, ◌⊎◌, ℕ, false, ◌&&◌, not, Some, is_some}
 use Rattle.jup_window.specs.Operations.{Operations}
 use Rattle.jup_star.specs.StarStates.{link_of}
 use Rattle.jup_world.specs.Turns.{turns, edits, own_edits}
 use Rattle.jup_world.specs.WorldStates.{WorldOf, AttachedOf, attached, IsQuiet}
-use Rattle.jup_world.specs.Traces.{order_of, made, view}
+use Rattle.jup_world.specs.Traces.{order_of, made, view, is_stray}
 
 module _ (O : Operations) where
+  -- the attached sites are those that have links and are no strangers
+  abbrev pub AreLinked : WorldOf O → Type 0
+  AreLinked w = (i : ℕ) → is_some (attached i w.sites) ≡ (is_some (link_of i w.star.links) && not (is_stray i w.trace))
+
   -- at every moment
   pub record Promises (w : WorldOf O) : Type 0 where
     -- the star's order is the one that the trace tells
@@ -17,8 +21,8 @@ module _ (O : Operations) where
     -- where no message is on its way, all boards are equal, and the order has every edit of each attached site once, in its order
     pub equal : IsQuiet O w → (i : ℕ) (a : AttachedOf O) → attached i w.sites ≡ Some a → a.site.board ≡ w.star.board
     pub whole : IsQuiet O w → (i : ℕ) (a : AttachedOf O) → attached i w.sites ≡ Some a → own_edits (turns i (order_of O w.trace)) ≡ made i w.trace
-    -- the attached sites are those that have links, and none has stopped
-    pub linked : (i : ℕ) → is_some (attached i w.sites) ≡ is_some (link_of i w.star.links)
+    -- the attached sites are those that have links and are no strangers, and none has stopped
+    pub linked : AreLinked w
     pub running : (i : ℕ) (a : AttachedOf O) → attached i w.sites ≡ Some a → a.site.stopped ≡ false
 
   -- from one moment to a later one: the star keeps the order of its items, and so does each site that is attached at both

@@ -1,18 +1,22 @@
 -- What each event of a world answers.
-use Rattle.std.specs.Prelude.{◌≡◌, ℕ, ◌+◌, ◌<◌, ◌≤◌, List, [], ◌∷◌, ◌++◌, length, Some, None, Result, Ok, Err}
+use Rattle.std.specs.Prelude.{◌≡◌, ◌⊎◌, ℕ, ◌+◌, ◌<◌, ◌≤◌, IsTrue, List, [], ◌∷◌, ◌++◌, length, Some, None, Result, Ok, Err}
 use Rattle.jup_limits.specs.Limits.{last_site, most_attached}
 use Rattle.jup_window.specs.Operations.{Operations}
 use Rattle.jup_star.specs.declared.messages.Up.{Up}
 use Rattle.jup_star.specs.declared.messages.Up.TheVariants.{Op as UpOp, Ack as UpAck, Ping as UpPing}
 use Rattle.jup_star.specs.declared.messages.Down.{Down}
 use Rattle.jup_star.specs.declared.messages.Down.TheVariants.{Op as DownOp, Ack as DownAck, Pong as DownPong}
+use Rattle.jup_star.specs.declared.faults.StarFault.{StarFault}
 use Rattle.jup_star.specs.declared.faults.StarFault.TheVariants.{Full, SitesSpent, LogFull}
-use Rattle.jup_star.specs.LinkStates.{LinkState}
-use Rattle.jup_star.specs.StarStates.{StarOf, link_of}
+use Rattle.jup_link.specs.declared.Msg.{Msg}
+use Rattle.jup_star.specs.LinkStates.{LinkState, operation_at}
+use Rattle.jup_star.specs.StarStates.{StarOf, link_of, left, up_fault, entry}
 use Rattle.jup_star.specs.SiteStates.{edit_answer}
-use Rattle.jup_world.specs.Events.{Join, Leave, Edit as MakeEdit, Up as MoveUp, Down as MoveDown, Ping as SendPing}
+use Rattle.jup_world.specs.Events.{Join, Leave, Edit as MakeEdit, Up as MoveUp, Down as MoveDown, Ping as SendPing, JoinStray, Stray, LeaveStray}
 use Rattle.jup_world.specs.Events.{Joined, NoJoin, Left, Made, Refused, Taken, Heard, Detached, Shown, Asked, Nothing}
 use Rattle.jup_world.specs.WorldStates.{WorldOf, AttachedOf, EventOf, ReplyOf, attached}
+use Rattle.jup_world.specs.WorldSteps.{Outcome, unchanged}
+use Rattle.jup_world.specs.Sound.{named_in}
 
 module _ (O : Operations) where
   -- a join: the number after those given, but for 64 links, and else for 65,535 numbers given
@@ -45,6 +49,47 @@ module _ (O : Operations) where
     pub absent : attached i w.sites ≡ None → r ≡ Nothing
     pub present : (l : LinkState O.Op) (a : AttachedOf O) → link_of i w.star.links ≡ Some l → attached i w.sites ≡ Some a → P l a
 
+  -- A stranger's edit that the star took is one entry of the order, valid there, and bears its link's next names
+  pub record IsEntry (w : WorldOf O) (i : ℕ) (l : LinkState O.Op) (m : Msg O.Op) (o : Outcome O) : Type 0 where
+    pub reply : o.reply ≡ Taken (length w.star.order)
+    pub order : o.star.order ≡ w.star.order ++ entry O i m ∷ []
+    pub board : o.star.board ≡ O.t.after (operation_at O l.end m) w.star.board
+    pub valid : O.t.is_valid (operation_at O l.end m) w.star.board
+    pub next : IsTrue (O.bears_next i (named_in O w.star.order i) (O.t.edit_of m.op))
+
+  -- a message that is refused, by the first fault that holds, detaches its link, and changes nothing else
+  pub record IsRejected (w : WorldOf O) (i : ℕ) (l : LinkState O.Op) (up : Up O.Op) (o : Outcome O) : Type 0 where
+    pub fault : StarFault
+    pub cause : up_fault O w.star l up ≡ Some fault
+    pub reply : o.reply ≡ Detached fault
+    pub star : o.star ≡ left i w.star
+
+  -- an acknowledgement or a ping leaves board and order
+  pub record IsHeard (w : WorldOf O) (o : Outcome O) : Type 0 where
+    pub reply : o.reply ≡ Heard
+    pub order : o.star.order ≡ w.star.order
+    pub board : o.star.board ≡ w.star.board
+
+  -- what becomes of a message that is not refused
+  abbrev pub IsAccepted : WorldOf O → ℕ → LinkState O.Op → Up O.Op → Outcome O → Type 0
+  IsAccepted w i l (UpOp m) o = IsEntry w i l m o
+  IsAccepted w i l (UpAck n) o = IsHeard w o
+  IsAccepted w i l (UpPing k) o = IsHeard w o
+
+  -- an event of a stranger: nothing where there is no such link, or a site has it. All sites keep their boards and streams
+  pub record StrayReplies (w : WorldOf O) (i : ℕ) (o : Outcome O) (P : LinkState O.Op → Type 0) : Type 0 where
+    pub sites : o.sites ≡ w.sites
+    pub absent : link_of i w.star.links ≡ None → o ≡ unchanged O w Nothing
+    pub own : (a : AttachedOf O) → attached i w.sites ≡ Some a → o ≡ unchanged O w Nothing
+    pub present : (l : LinkState O.Op) → link_of i w.star.links ≡ Some l → attached i w.sites ≡ None → P l
+
+  -- each event of a stranger
+  abbrev pub StrayRepliesTo : WorldOf O → EventOf O → Outcome O → Type 0
+  StrayRepliesTo w JoinStray o = JoinReplies w.star o.reply × (o.sites ≡ w.sites)
+  StrayRepliesTo w (Stray i up) o = StrayReplies w i o (λ l. IsRejected w i l up o ⊎ IsAccepted w i l up o)
+  StrayRepliesTo w (LeaveStray i) o = StrayReplies w i o (λ l. o ≡ record { reply = Left; star = left i w.star; sites = w.sites })
+  StrayRepliesTo w e o = Unit {0}
+
   -- each event
   abbrev pub RepliesTo : WorldOf O → EventOf O → ReplyOf O → Type 0
   RepliesTo w Join r = JoinReplies w.star r
@@ -53,3 +98,4 @@ module _ (O : Operations) where
   RepliesTo w (MoveUp i) r = SiteReplies w i r (λ l a. UpReplies w.star a.up r)
   RepliesTo w (MoveDown i) r = SiteReplies w i r (λ l a. DownReplies (a.down ++ l.outbox) r)
   RepliesTo w (SendPing i k) r = SiteReplies w i r (λ l a. r ≡ Asked)
+  RepliesTo w e r = Unit {0}

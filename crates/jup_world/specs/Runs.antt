@@ -1,6 +1,6 @@
 -- Runs of a world, and want of memory in one.
 use Rattle.std.specs.Prelude.{List, [], ◌∷◌, map}
-use Rattle.jup_world.specs.Events.{Join, Leave, Edit as MakeEdit, Up as MoveUp, Down as MoveDown, Ping as SendPing}
+use Rattle.jup_world.specs.Events.{Join, Leave, Edit as MakeEdit, Up as MoveUp, Down as MoveDown, Ping as SendPing, JoinStray, Stray, LeaveStray}
 use Rattle.jup_world.specs.BoardWorlds.{BoardEvent}
 use Rattle.jup_world.specs.LaneWorlds.{Plain, LaneWorld}
 use Rattle.jup_world.specs.LaneSteps.{AllSteps, IsSparedBy}
@@ -13,6 +13,9 @@ IsDelivery Join = ⊥
 IsDelivery (Leave i) = ⊥
 IsDelivery (MakeEdit i command) = ⊥
 IsDelivery (SendPing i k) = ⊥
+IsDelivery JoinStray = ⊥
+IsDelivery (Stray i up) = ⊥
+IsDelivery (LeaveStray i) = ⊥
 
 -- each event of a list is one
 abbrev pub AreDeliveries : List BoardEvent → Type 0

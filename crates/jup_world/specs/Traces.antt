@@ -1,9 +1,12 @@
 -- What is read off a trace alone: the star's order, what each site made and was told, and what it should show.
-use Rattle.std.specs.Prelude.{ℕ, ◌+◌, cond, List, [], ◌∷◌, ◌++◌, length, take, drop, nat_eq}
+use Rattle.std.specs.Prelude.{ℕ, ◌+◌, Bool, false, ◌||◌, cond, List, [], ◌∷◌, ◌++◌, length, take, drop, nat_eq}
 use Rattle.jup_window.specs.Operations.{Operations}
 use Rattle.jup_star.specs.declared.messages.Entry.{Entry}
+use Rattle.jup_star.specs.declared.messages.Up.{Up}
+use Rattle.jup_star.specs.declared.messages.Up.TheVariants.{Op as UpOp, Ack as UpAck, Ping as UpPing}
+use Rattle.jup_star.specs.StarStates.{entry}
 use Rattle.jup_world.specs.Events.{Event}
-use Rattle.jup_world.specs.Events.{Join, Edit as MakeEdit, Up as MoveUp, Down as MoveDown}
+use Rattle.jup_world.specs.Events.{Join, Edit as MakeEdit, Up as MoveUp, Down as MoveDown, JoinStray, Stray}
 use Rattle.jup_world.specs.Events.{Reply}
 use Rattle.jup_world.specs.Events.{Joined, Made, Taken, Shown}
 use Rattle.jup_world.specs.Events.{Happened}
@@ -46,10 +49,27 @@ module _ {Command Operation Edit Fault : Type 0} where
   shown_count i [] = 0
   shown_count i (h ∷ hs) = was_shown i h.event h.reply + shown_count i hs
 
+  -- a stranger was given this number at an event
+  abbrev pub stray_seen : ℕ → Event Command Operation → Reply Edit Fault → Bool
+  stray_seen i JoinStray (Joined j) = nat_eq j i
+  stray_seen i event reply = false
+
+  -- over a trace
+  abbrev pub is_stray : ℕ → List (Happened Command Operation Edit Fault) → Bool
+  is_stray i [] = false
+  is_stray i (h ∷ hs) = stray_seen i h.event h.reply || is_stray i hs
+
 module _ (O : Operations) where
-  -- the entry that an event adds to an order: the site's first edit that is not in it
+  -- the entry of a stranger's message, which says itself what it means
+  abbrev pub stray_entry : ℕ → Up O.Op → List (Entry O.Edit)
+  stray_entry i (UpOp m) = entry O i m ∷ []
+  stray_entry i (UpAck n) = []
+  stray_entry i (UpPing k) = []
+
+  -- the entry that an event adds to an order: the site's first edit that is not in it, or that of a stranger's message
   abbrev pub entry_taken : List (HappenedOf O) → List (Entry O.Edit) → EventOf O → ReplyOf O → List (Entry O.Edit)
   entry_taken past order (MoveUp i) (Taken place) = first_of_site i (drop (length (own_edits (turns i order))) (made i past))
+  entry_taken past order (Stray i up) (Taken place) = stray_entry i up
   entry_taken past order event reply = []
 
   -- the star's order

@@ -11,7 +11,7 @@ use Rattle.jup_star.specs.declared.faults.SiteFault.{SiteFault}
 use Rattle.jup_star.specs.LinkStates.{LinkState}
 use Rattle.jup_star.specs.StarStates.{StarOf, link_of, join_fault, joined, left, fetched, up_fault, taken, place_taken}
 use Rattle.jup_star.specs.SiteStates.{opened_site, edit_answer, edited, deliver_fault, received, sent_back}
-use Rattle.jup_world.specs.Events.{Join, Leave, Edit as MakeEdit, Up as MoveUp, Down as MoveDown, Ping as SendPing}
+use Rattle.jup_world.specs.Events.{Join, Leave, Edit as MakeEdit, Up as MoveUp, Down as MoveDown, Ping as SendPing, JoinStray, Stray, LeaveStray}
 use Rattle.jup_world.specs.Events.{Joined, NoJoin, Left, Made, Refused, Taken, Heard, Detached, Shown, Asked, Nothing}
 use Rattle.jup_world.specs.WorldStates.{WorldOf, AttachedOf, EventOf, ReplyOf, attached, at_site, without_site}
 
@@ -98,6 +98,26 @@ module _ (O : Operations) where
   abbrev pub ping_outcome : WorldOf O → ℕ → ℕ → Outcome
   ping_outcome w i k = record { reply = Asked; star = w.star; sites = at_site i (pinged k) w.sites }
 
+  -- a stranger joins, or is refused: it has a link and no site
+  abbrev pub stray_joins : WorldOf O → Option StarFault → Outcome
+  stray_joins w (Some fault) = unchanged w (NoJoin fault)
+  stray_joins w None = record { reply = Joined (w.star.given + 1); star = joined w.star; sites = w.sites }
+
+  -- the star takes a stranger's message, or detaches its link
+  abbrev pub stray_sends : WorldOf O → ℕ → LinkState O.Op → Up O.Op → Option StarFault → Outcome
+  stray_sends w i l up (Some fault) = record { reply = Detached fault; star = left i w.star; sites = w.sites }
+  stray_sends w i l up None = record { reply = place_reply (place_taken O w.star up); star = taken O i up l w.star; sites = w.sites }
+
+  -- a stranger leaves
+  abbrev pub stray_leaves : WorldOf O → ℕ → Outcome
+  stray_leaves w i = record { reply = Left; star = left i w.star; sites = w.sites }
+
+  -- an event of a stranger, which does nothing where there is no such link, or a site has it
+  abbrev pub at_stray : WorldOf O → (LinkState O.Op → Outcome) → Option (AttachedOf O) → Option (LinkState O.Op) → Outcome
+  at_stray w f (Some a) ol = unchanged w Nothing
+  at_stray w f None None = unchanged w Nothing
+  at_stray w f None (Some l) = f l
+
   -- an event at a site, which does nothing where the site is not attached
   abbrev pub at_attached : WorldOf O → LinkState O.Op → (LinkState O.Op → AttachedOf O → Outcome) → Option (AttachedOf O) → Outcome
   at_attached w l f None = unchanged w Nothing
@@ -120,6 +140,9 @@ module _ (O : Operations) where
   outcome w (MoveUp i) = at_number w i (λ l a. first_up w i l a.up)
   outcome w (MoveDown i) = at_number w i (λ l a. first_down w i a a.down l.outbox)
   outcome w (SendPing i k) = at_number w i (λ l a. ping_outcome w i k)
+  outcome w JoinStray = stray_joins w (join_fault w.star)
+  outcome w (Stray i up) = at_stray w (λ l. stray_sends w i l up (up_fault O w.star l up)) (attached i w.sites) (link_of i w.star.links)
+  outcome w (LeaveStray i) = at_stray w (λ l. stray_leaves w i) (attached i w.sites) (link_of i w.star.links)
 
   -- a world after an event, which stands in the trace with its reply
   abbrev pub with_outcome : WorldOf O → EventOf O → Outcome → WorldOf O

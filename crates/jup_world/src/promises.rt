@@ -8,7 +8,8 @@ ghost use Rattle.jup_world.specs.Openings.{IsOpening};
 ghost use Rattle.jup_world.specs.BoardWorlds.{BoardWorld, BoardEvent, IsReached};
 ghost use Rattle.jup_world.specs.WorldSteps.{outcome, run};
 ghost use Rattle.jup_world.specs.Promises.{Promises, OrderIsKept, OrdersAgree};
-ghost use Rattle.jup_world.specs.Replies.{RepliesTo};
+ghost use Rattle.jup_world.specs.Replies.{RepliesTo, StrayRepliesTo};
+ghost use Rattle.jup_world.specs.Strangers.{SitesHold, OnlyFull, ArePlain, AllLinked};
 ghost use Rattle.jup_world.specs.Backlogs.{BacklogIsShort};
 ghost use Rattle.jup_world.specs.Tallies.{Tallies};
 ghost use Rattle.jup_world.specs.Headline.{AllAgree};
@@ -18,7 +19,8 @@ ghost use Rattle.jup_world.specs.LaneHappenings.{IsLaneWorld};
 ghost use Rattle.jup_lane.specs.Lanes.{Way, Carries, messages};
 ghost use Rattle.jup_lane.specs.Messages.{ups, downs};
 
-/// After any list of joins, departures, edits, pings and deliveries:
+/// After any list of joins, departures, edits, pings and deliveries, and of joins, messages and departures of
+/// strangers, of whom nothing is known:
 ///
 /// - the star and each attached site show what the star's order and the site's own edits mean, and whenever
 ///   no message is on its way they hold equal boards;
@@ -28,7 +30,13 @@ ghost use Rattle.jup_lane.specs.Messages.{ups, downs};
 /// - a site's backlog is the edits that it made less those that it was told were received: at most 1,024,
 ///   and 63 whenever no message is on its way;
 /// - whatever events come next, the star and each site that is attached before and after keep the order of
-///   their items.
+///   their items;
+/// - each attached site holds what it should beside its link alone: whenever no message is on its way between
+///   the two, its board is the star's, whatever is on its way elsewhere;
+/// - a full order alone detaches a site;
+/// - a stranger's event leaves all sites as they are, and its message is refused, its link alone being gone,
+///   or is an acknowledgement or a ping, or is one valid entry of the order under its link's next name;
+/// - where no event was one of a stranger, the attached sites are those that have links.
 ///
 /// It does nothing: its contract is the theorem.
 pub fn worlds_agree()
@@ -39,6 +47,11 @@ pub fn worlds_agree()
     ensures backlog { (w : BoardWorld) → IsReached w → BacklogIsShort board_batches w }
     ensures order { (w : BoardWorld) → IsReached w → (events : List BoardEvent)
         → OrderIsKept board_batches w (run board_batches w events) }
+    ensures plain { (w : BoardWorld) → (reached : IsReached w) → ArePlain board_batches reached.events → AllLinked board_batches w }
+    ensures sites { (w : BoardWorld) → IsReached w → SitesHold board_batches w }
+    ensures detached { (w : BoardWorld) → IsReached w → OnlyFull board_batches w }
+    ensures strangers { (w : BoardWorld) → IsReached w → (event : BoardEvent)
+        → StrayRepliesTo board_batches w event (outcome board_batches w event) }
 {}
 
 /// At every moment, also while messages are on their way, any two copies of the board show in the same order

@@ -11,12 +11,12 @@ use Rattle.jup_world.specs.WorldStates.{attached, at_site, WorldOf, AttachedOf, 
 use Rattle.jup_world.specs.WorldSteps.{Outcome, new_site, with_edit, one_taken, one_handed, pinged, outcome, with_fetched, only_fetched, happens}
 use Rattle.jup_world.specs.Traces.{made, joined_at, shown_count}
 use Rattle.jup_world.specs.Sound.{IsSound}
-use Rattle.jup_world.proofs.EventSteps.{Rises, StepOf, Still, Enters, Goes, Makes, Asks, Takes, Hands, handed_number, step_of}
+use Rattle.jup_world.proofs.EventSteps.{Rises, Strays, StepOf, Still, Enters, EntersStray, Goes, Makes, Asks, Takes, Hands, handed_number, step_of}
 use Rattle.jup_world.proofs.Numbered.{map_kept, at_one, at_all, at_removal}
 use Rattle.jup_world.proofs.Sound.WorldTakes.{standing_of}
 use Rattle.jup_world.proofs.Orders.SiteRuns.{given_before}
 use Rattle.jup_world.proofs.Orders.StarRuns.{Follows, event-follows}
-use Rattle.jup_world.proofs.Copies.PastBoards.{GoesOn, IsBeingTaken, IsTaken, IsPastBoard, taken_on, taking_order, taking_same, taking_other, taking_own, taking_ack, taking_ping}
+use Rattle.jup_world.proofs.Copies.PastBoards.{GoesOn, IsBeingTaken, IsTaken, IsPastBoard, taken_on, taking_order, taking_same, taking_other, goes_here, taking_own, taking_ack, taking_ping}
 
 module _ (O : Operations) (L : AreLawful O) where
   -- # Each event
@@ -53,17 +53,14 @@ module _ (O : Operations) (L : AreLawful O) where
         → PastBoardAt most (O.t.content w.opening) i x (with_links w.star (at_link j f w.star.links)) (at_site j g w.sites)
     sends_more j f g kf kg l a fl fa ends more grown =
         at_one (λ k. k.site) (λ b. b.site.number) (Here (with_links w.star (at_link j f w.star.links))) j f g kf kg w.star.links w.sites l (Some a) fl fa
-        (λ is. same_star (with_links w.star (at_link j f w.star.links)) _ _ refl refl (grows (h.goes l a (link_is j l fl is) (site_is j a fa is))))
+        (λ is. same_star (with_links w.star (at_link j f w.star.links)) _ _ refl refl
+        (grows (goes_here O L symmetric most (O.t.content w.opening) w.star s.star i x _ _ h l a (link_is j l fl is) (site_is j a fa is))))
         (λ n apart. stays (with_links w.star (at_link j f w.star.links)) refl refl n) i refl
       where
         grows : (h.link.end ≡ l.end) × (later : List (Up O.Op)) × (a.up ≡ h.site.up ++ later) → GoesOn O L h.link h.site (Some (f l)) (Some (g a))
-        grows was k b e q =
+        grows was k e =
             let link : f l ≡ k = cc in
-            let site : g a ≡ b = cc in (
-              was.0 ∙ ends ∙ ap (λ (z : LinkState O.Op). z.end) link,
-              was.1 ++ more,
-              sym (ap (λ (z : AttachedOf O). z.up) site) ∙ grown ∙ ap (λ r. r ++ more) was.2 ∙ append_assoc h.site.up was.1 more,
-            )
+            (g a, refl, was.0 ∙ ends ∙ ap (λ (z : LinkState O.Op). z.end) link, was.1 ++ more, grown ∙ ap (λ r. r ++ more) was.2 ∙ append_assoc h.site.up was.1 more)
 
     -- the link stays
     site_sends : (j : ℕ) (g : AttachedOf O → AttachedOf O) → ((b : AttachedOf O) → (g b).site.number ≡ b.site.number) → (l : LinkState O.Op) (a : AttachedOf O) → link_of j w.star.links ≡ Some l → attached j w.sites ≡ Some a
@@ -71,21 +68,31 @@ module _ (O : Operations) (L : AreLawful O) where
     site_sends j g kg l a fl fa more grown = subst (λ ls. PastBoardAt most (O.t.content w.opening) i x (with_links w.star ls) (at_site j g w.sites)) (map_kept (λ k. k.site) j w.star.links)
         (sends_more j (λ k. k) g (λ k. refl) kg l a fl fa refl more grown)
 
-    -- a site joins
+    -- a stranger joins, or a site
+    apart_new : nat_eq (w.star.given + 1) i ≡ false
+    apart_new = ne_eqb (w.star.given + 1) i (λ e. old (omega arith))
+
+    enters_stray : PastBoardAt most (O.t.content w.opening) i x (joined w.star) w.sites
+    enters_stray = same_star (joined w.star) _ _ refl refl
+        (subst (λ o. GoesOn O L h.link h.site o (attached i w.sites)) (sym (found-end_other (λ k. k.site) i w.star.links (opened_link (w.star.given + 1)) apart_new)) h.goes)
+
     enters : PastBoardAt most (O.t.content w.opening) i x (joined w.star) (w.sites ++ new_site O w (w.star.given + 1) ∷ [])
-    enters = same_star (joined w.star) _ _ refl refl
-        (subst (λ o. GoesOn O L h.link h.site o (attached i (w.sites ++ new_site O w (w.star.given + 1) ∷ []))) (sym (found-end_other (λ k. k.site) i w.star.links (opened_link (w.star.given + 1)) apart))
-        (subst (λ o. GoesOn O L h.link h.site (link_of i w.star.links) o) (sym (found-end_other (λ b. b.site.number) i w.sites (new_site O w (w.star.given + 1)) apart)) h.goes))
-      where
-        apart : nat_eq (w.star.given + 1) i ≡ false
-        apart = ne_eqb (w.star.given + 1) i (λ e. old (omega arith))
+    enters = subst (IsPastBoard O L most (O.t.content w.opening) (joined w.star) i x (link_of i (joined w.star).links))
+        (sym (found-end_other (λ b. b.site.number) i w.sites (new_site O w (w.star.given + 1)) apart_new)) enters_stray
+
+    -- a link without a site is another's
+    not_alone : (j : ℕ) (l : LinkState O.Op) → link_of j w.star.links ≡ Some l → attached j w.sites ≡ None → j ≡ i → ⊥
+    not_alone j l fl fa is =
+        let there = (h.goes l (link_is j l fl is)).1 in
+        let none : attached i w.sites ≡ None = subst (λ k. attached k w.sites ≡ None) is fa in
+        absurd (cc)
 
     -- the star takes a message that is no edit
-    takes_count : (j : ℕ) (f : LinkState O.Op → LinkState O.Op) → ((k : LinkState O.Op) → (f k).site ≡ k.site) → (l : LinkState O.Op) (a : AttachedOf O) → link_of j w.star.links ≡ Some l → attached j w.sites ≡ Some a
-        → (j ≡ i → IsTaken O L w.star x ⊎ IsBeingTaken O L most (O.t.content w.opening) w.star i x (Some (f l)) (Some (one_taken O a)))
+    takes_count : (j : ℕ) (f : LinkState O.Op → LinkState O.Op) → ((k : LinkState O.Op) → (f k).site ≡ k.site) → (l : LinkState O.Op) (oa : Option (AttachedOf O)) → link_of j w.star.links ≡ Some l → attached j w.sites ≡ oa
+        → (j ≡ i → IsTaken O L w.star x ⊎ IsBeingTaken O L most (O.t.content w.opening) w.star i x (Some (f l)) (option_map (one_taken O) oa))
         → PastBoardAt most (O.t.content w.opening) i x (with_links w.star (at_link j f w.star.links)) (at_site j (one_taken O) w.sites)
-    takes_count j f kf l a fl fa own =
-        at_one (λ k. k.site) (λ b. b.site.number) (Here (with_links w.star (at_link j f w.star.links))) j f (one_taken O) kf (λ b. refl) w.star.links w.sites l (Some a) fl fa
+    takes_count j f kf l oa fl fa own =
+        at_one (λ k. k.site) (λ b. b.site.number) (Here (with_links w.star (at_link j f w.star.links))) j f (one_taken O) kf (λ b. refl) w.star.links w.sites l oa fl fa
         (λ is. elim (own is) [
           | inl t ↦ inr (record { order = t.order; known = t.known })
           | inr n ↦ inl (taking_same O L symmetric most (O.t.content w.opening) w.star s.star i x _ _ n (with_links w.star (at_link j f w.star.links)) _ _ refl refl n.goes)
@@ -93,13 +100,14 @@ module _ (O : Operations) (L : AreLawful O) where
         (λ n apart. stays (with_links w.star (at_link j f w.star.links)) refl refl n) i refl
 
     -- or an edit
-    takes_edit : (j : ℕ) (l : LinkState O.Op) (a : AttachedOf O) → link_of j w.star.links ≡ Some l → attached j w.sites ≡ Some a → (m : Msg O.Op) (us : List (Up O.Op)) → a.up ≡ UpOp m ∷ us → up_fault O w.star l (UpOp m) ≡ None
+    takes_edit : (j : ℕ) (l : LinkState O.Op) (oa : Option (AttachedOf O)) → link_of j w.star.links ≡ Some l → attached j w.sites ≡ oa → (m : Msg O.Op) → up_fault O w.star l (UpOp m) ≡ None
+        → (j ≡ i → IsTaken O L w.star x ⊎ IsBeingTaken O L most (O.t.content w.opening) (taken O i (UpOp m) l w.star) i x (Some (link_heard O m l)) (option_map (one_taken O) oa))
         → Follows O L w.star (taken O j (UpOp m) l w.star) → PastBoardAt most (O.t.content w.opening) i x (taken O j (UpOp m) l w.star) (at_site j (one_taken O) w.sites)
-    takes_edit j l a fl fa m us rising none follows =
-        at_all (λ k. k.site) (λ b. b.site.number) (Here (taken O j (UpOp m) l w.star)) j (link_heard O m) (link_sent (operation_at O l.end m)) (one_taken O) (λ k. refl) (λ k. refl) (λ b. refl) w.star.links w.sites l (Some a) fl fa
-        (λ is. elim (taking_own O L symmetric most (O.t.content w.opening) w.star s.star i x _ _ h l a (link_is j l fl is) (site_is j a fa is) m us rising) [
+    takes_edit j l oa fl fa m none own follows =
+        at_all (λ k. k.site) (λ b. b.site.number) (Here (taken O j (UpOp m) l w.star)) j (link_heard O m) (link_sent (operation_at O l.end m)) (one_taken O) (λ k. refl) (λ k. refl) (λ b. refl) w.star.links w.sites l oa fl fa
+        (λ is. elim (own is) [
           | inl t ↦ inr (taken_on O L w.star (taken O j (UpOp m) l w.star) x follows t)
-          | inr n ↦ inl (subst (λ k. IsBeingTaken O L most (O.t.content w.opening) (taken O k (UpOp m) l w.star) i x (Some (link_heard O m l)) (Some (one_taken O a))) (sym is) n)
+          | inr n ↦ inl (subst (λ k. IsBeingTaken O L most (O.t.content w.opening) (taken O k (UpOp m) l w.star) i x (Some (link_heard O m l)) (option_map (one_taken O) oa)) (sym is) n)
         ])
         (λ n apart is.
         inl (subst (λ k. IsBeingTaken O L most (O.t.content w.opening) (taken O j (UpOp m) l w.star) i x (option_map (link_sent (operation_at O l.end m)) (link_of k w.star.links)) (attached k w.sites)) (sym is)
@@ -109,17 +117,22 @@ module _ (O : Operations) (L : AreLawful O) where
     taking_step : (e : EventOf O) (o : Outcome O) → Follows O L w.star o.star → StepOf O w e o → PastBoardAt most (O.t.content w.opening) i x o.star o.sites
     taking_step e o follows (Still why) = inl h
     taking_step e o follows (Enters none) = enters
+    taking_step e o follows (EntersStray none) = enters_stray
     taking_step e o follows (Goes j l oa fl fa why) =
         at_removal (λ k. k.site) (λ b. b.site.number) (Here (left j w.star)) j w.star.links w.sites
-        (λ is. same_star (left j w.star) None None refl refl (λ k b p q. absurd (cc)))
+        (λ is. same_star (left j w.star) None None refl refl (λ k p. absurd (cc)))
         (λ n apart. stays (left j w.star) refl refl n) i refl
     taking_step e o follows (Makes j command l a op fl fa ok) = site_sends j (with_edit O op) (λ b. refl) l a fl fa _ refl
     taking_step e o follows (Asks j k l a fl fa) = site_sends j (pinged O k) (λ b. refl) l a fl fa _ refl
-    taking_step e o follows (Takes j l oa (UpOp m) fl fa (Rises a us rising) none) = takes_edit j l a fl fa m us rising none follows
-    taking_step e o follows (Takes j l oa (UpAck n) fl fa (Rises a us rising) none) = takes_count j (link_acked n) (λ k. refl) l a fl fa
+    taking_step e o follows (Takes j l oa (UpOp m) fl fa (Rises a us rising) none) = takes_edit j l (Some a) fl fa m none
+        (λ is. taking_own O L symmetric most (O.t.content w.opening) w.star s.star i x _ _ h l a (link_is j l fl is) (site_is j a fa is) m us rising) follows
+    taking_step e o follows (Takes j l oa (UpAck n) fl fa (Rises a us rising) none) = takes_count j (link_acked n) (λ k. refl) l (Some a) fl fa
         (λ is. taking_ack O L symmetric most (O.t.content w.opening) w.star s.star i x _ _ h l a (link_is j l fl is) (site_is j a fa is) n us rising)
-    taking_step e o follows (Takes j l oa (UpPing k) fl fa (Rises a us rising) none) = takes_count j (link_ponged k) (λ z. refl) l a fl fa
+    taking_step e o follows (Takes j l oa (UpPing k) fl fa (Rises a us rising) none) = takes_count j (link_ponged k) (λ z. refl) l (Some a) fl fa
         (λ is. taking_ping O L symmetric most (O.t.content w.opening) w.star s.star i x _ _ h l a (link_is j l fl is) (site_is j a fa is) k us rising)
+    taking_step e o follows (Takes j l oa (UpOp m) fl fa Strays none) = takes_edit j l None fl fa m none (λ is. absurd (not_alone j l fl fa is)) follows
+    taking_step e o follows (Takes j l oa (UpAck n) fl fa Strays none) = takes_count j (link_acked n) (λ k. refl) l None fl fa (λ is. absurd (not_alone j l fl fa is))
+    taking_step e o follows (Takes j l oa (UpPing k) fl fa Strays none) = takes_count j (link_ponged k) (λ z. refl) l None fl fa (λ is. absurd (not_alone j l fl fa is))
     taking_step e o follows (Hands j gone l a d ds fl fa falls none) = sends_more j (link_fetched gone) (one_handed O d ds) (λ k. refl) (handed_number O d ds) l a fl fa refl _ refl
 
     -- messages are fetched, and nothing else happens
@@ -148,7 +161,7 @@ module _ (O : Operations) (L : AreLawful O) where
           site = a;
           stands = st.1;
           board = refl;
-          goes = λ l b fl fb. (let link : st.0 ≡ l = (let there = st.2 in cc) in let site : a ≡ b = cc in (ap (λ (k : LinkState O.Op). k.end) link, [], sym (ap (λ (c : AttachedOf O). c.up) site) ∙ sym (append-nil a.up)));
+          goes = λ l fl. (let link : st.0 ≡ l = (let there = st.2 in cc) in (a, fa, ap (λ (k : LinkState O.Op). k.end) link, [], sym (append-nil a.up)));
         });
       }
 

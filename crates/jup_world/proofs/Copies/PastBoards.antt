@@ -23,9 +23,9 @@ use Rattle.jup_world.proofs.Orders.StarRuns.{StarKnows, Follows}
 use Rattle.jup_world.proofs.Copies.OneLink.{star_counts, pair_order, sent_all}
 
 module _ (O : Operations) (L : AreLawful O) where
-  -- as long as the number has a link and a site: the link's end is this one's, and the messages on their way up begin with those that this site had sent
+  -- as long as the number has a link, it has a site: the link's end is this one's, and the messages on their way up begin with those that this site had sent
   abbrev pub GoesOn : LinkState O.Op → AttachedOf O → Option (LinkState O.Op) → Option (AttachedOf O) → Type 0
-  GoesOn link site ol oa = (l : LinkState O.Op) (b : AttachedOf O) → ol ≡ Some l → oa ≡ Some b → (link.end ≡ l.end) × (later : List (Up O.Op)) × (b.up ≡ site.up ++ later)
+  GoesOn link site ol oa = (l : LinkState O.Op) → ol ≡ Some l → (b : AttachedOf O) × (oa ≡ Some b) × (link.end ≡ l.end) × (later : List (Up O.Op)) × (b.up ≡ site.up ++ later)
 
   -- The star has still to take some of what the site of a number had sent when it showed this board. The site as it was, put in the place of the
   -- present one, stands beside the star like any site that is handed nothing and makes nothing more.
@@ -123,19 +123,26 @@ module _ (O : Operations) (L : AreLawful O) where
         positive = (subst (λ o. SoundLinkAt O s.order j o) fl (sound.links j)).positive
 
         sent : (o : Option (LinkState O.Op)) → GoesOn h.link h.site o oa → GoesOn (link_sent (operation_at O l.end m) h.link) h.site (option_map (λ k. link_sent (operation_at O l.end m) k) o) oa
-        sent None g k b e f = absurd (cc)
-        sent (Some z) g k b e f =
-            let was = g z b refl f in
+        sent None g k e = absurd (cc)
+        sent (Some z) g k e =
+            let was = g z refl in
             let now : link_sent (operation_at O l.end m) z ≡ k = cc in
-            (ap (λ e. after_send e (operation_at O l.end m)) was.0 ∙ ap (λ (y : LinkState O.Op). y.end) now, was.1, was.2)
+            (was.0, was.1, ap (λ e. after_send e (operation_at O l.end m)) was.2 ∙ ap (λ (y : LinkState O.Op). y.end) now, was.3, was.4)
 
     -- The star takes the oldest message of the number itself. If any is left of what the past site had sent, it is the oldest of these.
     module _ (l : LinkState O.Op) (b : AttachedOf O) (fl : ol ≡ Some l) (fb : oa ≡ Some b) where
+      pub goes_here : (h.link.end ≡ l.end) × (later : List (Up O.Op)) × (b.up ≡ h.site.up ++ later)
+      goes_here =
+          let was = h.goes l fl in
+          let there : oa ≡ Some was.0 = was.1 in
+          let same : was.0 ≡ b = cc in
+          (was.2, was.3, ap (λ (c : AttachedOf O). c.up) (sym same) ∙ was.4)
+
       same_end : h.link.end ≡ l.end
-      same_end = (h.goes l b fl fb).0
+      same_end = goes_here.0
 
       heads : (u : Up O.Op) (us : List (Up O.Op)) → b.up ≡ u ∷ us → (h.site.up ≡ []) ⊎ ((vs : List (Up O.Op)) × (later : List (Up O.Op)) × (h.site.up ≡ u ∷ vs) × (us ≡ vs ++ later))
-      heads u us e = cases h.site.up refl (h.goes l b fl fb).1 (sym (h.goes l b fl fb).2 ∙ e)
+      heads u us e = cases h.site.up refl goes_here.1 (sym goes_here.2 ∙ e)
         where
           cases : (r : List (Up O.Op)) → h.site.up ≡ r → (later : List (Up O.Op)) → h.site.up ++ later ≡ u ∷ us → (h.site.up ≡ []) ⊎ ((vs : List (Up O.Op)) × (later : List (Up O.Op)) × (h.site.up ≡ u ∷ vs) × (us ≡ vs ++ later))
           cases [] q later f = inl q
@@ -148,10 +155,9 @@ module _ (O : Operations) (L : AreLawful O) where
       -- once it is taken, the others are the oldest
       on : (k z : LinkState O.Op) → k.end ≡ z.end → (u : Up O.Op) (us vs later : List (Up O.Op)) → b.up ≡ u ∷ us → h.site.up ≡ u ∷ vs → us ≡ vs ++ later
           → GoesOn k (one_taken O h.site) (Some z) (Some (one_taken O b))
-      on k z ends u us vs later e q f y c g p =
+      on k z ends u us vs later e q f y g =
           let link : z ≡ y = cc in
-          let site : one_taken O b ≡ c = cc in
-          (ends ∙ ap (λ (y : LinkState O.Op). y.end) link, later, sym (ap (λ (c : AttachedOf O). c.up) site) ∙ ap (drop 1) e ∙ f ∙ ap (λ r. r ++ later) (sym (ap (drop 1) q)))
+          (one_taken O b, refl, ends ∙ ap (λ (y : LinkState O.Op). y.end) link, later, ap (drop 1) e ∙ f ∙ ap (λ r. r ++ later) (sym (ap (drop 1) q)))
 
       -- an edit
       pub taking_own : (m : Msg O.Op) (us : List (Up O.Op)) → b.up ≡ UpOp m ∷ us → IsTaken s x ⊎ IsBeingTaken most first (taken O i (UpOp m) l s) i x (Some (link_heard O m l)) (Some (one_taken O b))

@@ -4,14 +4,16 @@ use Rattle.std.proofs.lemmas.Bool.{eqb-false, leb-true}
 use Rattle.std.proofs.lemmas.List.{length-take, length-take-le}
 use Rattle.jup_window.specs.Operations.{Operations, AreLawful}
 use Rattle.jup_star.specs.declared.messages.Entry.{Entry}
+use Rattle.jup_star.specs.declared.messages.Up.{Up}
+use Rattle.jup_star.specs.declared.messages.Up.TheVariants.{Op as UpOp, Ack as UpAck, Ping as UpPing}
 use Rattle.jup_star.specs.LinkStates.{LinkState}
 use Rattle.jup_star.specs.StarStates.{StarOf, link_of}
-use Rattle.jup_world.specs.Events.{Up as MoveUp}
+use Rattle.jup_world.specs.Events.{Up as MoveUp, Stray}
 use Rattle.jup_world.specs.Events.{Taken}
 use Rattle.jup_world.specs.Turns.{turn, turns}
 use Rattle.jup_world.specs.WorldStates.{attached, WorldOf, AttachedOf, EventOf, ReplyOf, HappenedOf, opened_world}
 use Rattle.jup_world.specs.WorldSteps.{outcome, happens, run, only_fetched}
-use Rattle.jup_world.specs.Traces.{first_of_site, made, entry_taken, order_of, joined_at, shown_count}
+use Rattle.jup_world.specs.Traces.{first_of_site, made, stray_entry, entry_taken, order_of, joined_at, shown_count}
 use Rattle.jup_world.specs.Sound.{named_by, named_in, IsKnown, own_counts, told_of, Standing, IsSound}
 use Rattle.jup_world.proofs.Known.{named_by-append, known_more, own_counts-more}
 use Rattle.jup_world.proofs.Sound.TraceLaws.{length-turns}
@@ -30,8 +32,14 @@ one_first : {Edit : Type 0} (i : ℕ) (es : List Edit) → length (first_of_site
 one_first i [] = omega arith
 one_first i (e ∷ es) = omega arith
 
+one_message : (O : Operations) (i : ℕ) (up : Up O.Op) → length (stray_entry O i up) ≤ 1
+one_message O i (UpOp m) = omega arith
+one_message O i (UpAck n) = omega arith
+one_message O i (UpPing k) = omega arith
+
 one_entry : (O : Operations) (past : List (HappenedOf O)) (order : List (Entry O.Edit)) (event : EventOf O) (reply : ReplyOf O) → length (entry_taken O past order event reply) ≤ 1
 one_entry O past order (MoveUp i) (Taken place) = one_first i _
+one_entry O past order (Stray i up) (Taken place) = one_message O i up
 one_entry O past order event reply = omega arith
 
 -- the first entries of an order, as a site sees them

@@ -1,8 +1,9 @@
 -- A star as it once was, and each event at a site that has still to be handed some of what that star had sent.
-use Rattle.std.proofs.Common.{◌≡◌, ◌⊎◌, ℕ, ◌+◌, inl, inr, false, cond, List, [], ◌∷◌, ◌++◌, drop, take, length, nat_eq, refl, sym, ◌∙◌, subst, Option, Some, None, option_map, arith, append_assoc, append-nil, add-zero, eq-eqb, ne_eqb}
+use Rattle.std.proofs.Common.{◌≡◌, ◌⊎◌, ℕ, ◌+◌, inl, inr, false, cond, List, [], ◌∷◌, ◌++◌, drop, take, length, nat_eq, refl, ap, sym, ◌∙◌, subst, Option, Some, None, option_map, arith, append_assoc, append-nil, add-zero, eq-eqb, ne_eqb}
 use Rattle.jup_link.specs.declared.Msg.{Msg}
 use Rattle.jup_window.specs.Operations.{Operations, AreLawful}
 use Rattle.jup_star.specs.declared.messages.Entry.{Entry}
+use Rattle.jup_star.specs.declared.messages.Up.{Up}
 use Rattle.jup_star.specs.declared.messages.Up.TheVariants.{Op as UpOp, Ack as UpAck, Ping as UpPing}
 use Rattle.jup_star.specs.declared.messages.Down.{Down}
 use Rattle.jup_star.specs.declared.messages.Down.TheVariants.{Op as DownOp, Ack as DownAck, Pong as DownPong}
@@ -14,7 +15,7 @@ use Rattle.jup_world.specs.WorldStates.{attached, at_site, without_site, WorldOf
 use Rattle.jup_world.specs.WorldSteps.{Outcome, new_site, with_edit, one_taken, one_handed, pinged, outcome}
 use Rattle.jup_world.specs.Traces.{made, joined_at, was_shown, shown_count}
 use Rattle.jup_world.specs.Sound.{named_by, IsKnown, own_counts, told_of, IsSoundStar, IsSound}
-use Rattle.jup_world.proofs.EventSteps.{Rises, StepOf, Still, Enters, Goes, Makes, Asks, Takes, Hands, still_silent, gone_silent, step_of}
+use Rattle.jup_world.proofs.EventSteps.{Brings, StepOf, Still, Enters, EntersStray, Goes, Makes, Asks, Takes, Hands, still_silent, gone_silent, brought_shown, step_of}
 use Rattle.jup_world.proofs.Numbered.{map_kept, at_one, at_all, at_removal}
 use Rattle.jup_world.proofs.Sound.WorldTakes.{standing}
 use Rattle.jup_world.proofs.Orders.StarRuns.{StarKnows, Follows, follows-same}
@@ -119,6 +120,12 @@ module _ (O : Operations) (L : AreLawful O) where
     stays : (j : ℕ) → After 0 j (link_of j w.star.links) (attached j w.sites)
     stays j b k c fb e q = sends j k c e q k c [] refl (sym (append-nil (c.down ++ k.outbox))) b k c fb refl refl
 
+    -- a link of which the star took a message, with its site if it has one
+    taken_from : (i : ℕ) (l : LinkState O.Op) (oa : Option (AttachedOf O)) → link_of i w.star.links ≡ Some l → attached i w.sites ≡ oa → (k : LinkState O.Op) (more : List (Down O.Op)) → k.outbox ≡ l.outbox ++ more
+        → After 0 i (Some k) (option_map (one_taken O) oa)
+    taken_from i l None fl fa k more sent b k' c fb e q = absurd (cc)
+    taken_from i l (Some a) fl fa k more sent b k' c fb e q = sends i l a fl fa k (one_taken O a) more refl (ap (λ r. a.down ++ r) sent ∙ sym (append_assoc a.down l.outbox more)) b k' c fb e q
+
     -- an edit of another site
     sends_edit : (j : ℕ) (op : O.Op) (ol : Option (LinkState O.Op)) → link_of j w.star.links ≡ ol → After 0 j (option_map (link_sent op) ol) (attached j w.sites)
     sends_edit j op None fl b k c fb e q = absurd (cc)
@@ -126,23 +133,26 @@ module _ (O : Operations) (L : AreLawful O) where
 
     -- one link and its site change
     one_changes : (i : ℕ) (f : LinkState O.Op → LinkState O.Op) (g : AttachedOf O → AttachedOf O) → ((k : LinkState O.Op) → (f k).site ≡ k.site) → ((b : AttachedOf O) → (g b).site.number ≡ b.site.number)
-        → (l : LinkState O.Op) (a : AttachedOf O) → link_of i w.star.links ≡ Some l → attached i w.sites ≡ Some a → After 0 i (Some (f l)) (Some (g a))
+        → (l : LinkState O.Op) (oa : Option (AttachedOf O)) → link_of i w.star.links ≡ Some l → attached i w.sites ≡ oa → After 0 i (Some (f l)) (option_map g oa)
         → (j : ℕ) → After 0 j (link_of j (at_link i f w.star.links)) (attached j (at_site i g w.sites))
-    one_changes i f g kf kg l a fl fa here = at_one (λ k. k.site) (λ b. b.site.number) (After 0) i f g kf kg w.star.links w.sites l (Some a) fl fa here (λ j apart. stays j)
+    one_changes i f g kf kg l oa fl fa here = at_one (λ k. k.site) (λ b. b.site.number) (After 0) i f g kf kg w.star.links w.sites l oa fl fa here (λ j apart. stays j)
 
     -- a site alone
     site_changes : (i : ℕ) (g : AttachedOf O → AttachedOf O) → ((b : AttachedOf O) → (g b).site.number ≡ b.site.number)
         → (l : LinkState O.Op) (a : AttachedOf O) → link_of i w.star.links ≡ Some l → attached i w.sites ≡ Some a → After 0 i (Some l) (Some (g a))
         → (j : ℕ) → After 0 j (link_of j w.star.links) (attached j (at_site i g w.sites))
     site_changes i g kg l a fl fa here j = subst (λ ls. After 0 j (link_of j ls) (attached j (at_site i g w.sites))) (map_kept (λ k. k.site) i w.star.links)
-        (one_changes i (λ k. k) g (λ k. refl) kg l a fl fa here j)
+        (one_changes i (λ k. k) g (λ k. refl) kg l (Some a) fl fa here j)
 
-    -- a site joins: whoever was there has another number
+    -- a stranger joins, or a site: whoever was there has another number
+    apart_new : (j : ℕ) (b : AttachedOf O) → attached j w.sites ≡ Some b → nat_eq (w.star.given + 1) j ≡ false
+    apart_new j b fb = ne_eqb (w.star.given + 1) j (λ is. given_before O L most w s j b fb (omega arith))
+
+    enters_stray : (j : ℕ) → After 0 j (link_of j (joined w.star).links) (attached j w.sites)
+    enters_stray j b k c fb e q = stays j b k c fb (sym (found-end_other (λ x. x.site) j w.star.links (opened_link (w.star.given + 1)) (apart_new j b fb)) ∙ e) q
+
     enters : (j : ℕ) → After 0 j (link_of j (joined w.star).links) (attached j (w.sites ++ new_site O w (w.star.given + 1) ∷ []))
-    enters j b k c fb e q =
-        let apart : nat_eq (w.star.given + 1) j ≡ false = ne_eqb (w.star.given + 1) j (λ is. given_before O L most w s j b fb (omega arith)) in
-        stays j b k c fb (sym (found-end_other (λ x. x.site) j w.star.links (opened_link (w.star.given + 1)) apart) ∙ e)
-        (sym (found-end_other (λ x. x.site.number) j w.sites (new_site O w (w.star.given + 1)) apart) ∙ q)
+    enters j b k c fb e q = enters_stray j b k c fb e (sym (found-end_other (λ x. x.site.number) j w.sites (new_site O w (w.star.given + 1)) (apart_new j b fb)) ∙ q)
 
     -- a site is handed a message
     handed : (i gone : ℕ) (l : LinkState O.Op) (a : AttachedOf O) → link_of i w.star.links ≡ Some l → attached i w.sites ≡ Some a → (d : Down O.Op) (ds : List (Down O.Op)) → a.down ++ l.outbox ≡ d ∷ (ds ++ drop gone l.outbox)
@@ -165,27 +175,32 @@ module _ (O : Operations) (L : AreLawful O) where
     abbrev pub Leaves : EventOf O → Outcome O → Type 0
     Leaves e o = (j : ℕ) → After (was_shown {Command = O.Command} {Fault = ℕ} j e o.reply) j (link_of j o.star.links) (attached j o.sites)
 
+    -- a message that was brought is shown to nobody yet
+    brought_leaves : {i : ℕ} {up : Up O.Op} {oa : Option (AttachedOf O)} {e : EventOf O} → Brings O w i up oa e → (o : Outcome O) → ((j : ℕ) → After 0 j (link_of j o.star.links) (attached j o.sites)) → Leaves e o
+    brought_leaves brought o all j = subst (λ n. After n j (link_of j o.star.links) (attached j o.sites)) (sym (brought_shown O w brought o.reply j)) (all j)
+
     -- by what it comes to
     telling_step : (e : EventOf O) (o : Outcome O) → StepOf O w e o → Leaves e o
     telling_step e o (Still why) = λ j. subst (λ n. After n j (link_of j w.star.links) (attached j w.sites)) (sym ((still_silent O w why).no_shown j)) (stays j)
     telling_step e o (Enters none) = enters
+    telling_step e o (EntersStray none) = enters_stray
     telling_step e o (Goes i l oa fl fa why) = λ j. subst (λ n. After n j (link_of j (without i w.star.links)) (attached j (without_site i w.sites))) (sym ((gone_silent O w why).no_shown j))
         (at_removal (λ k. k.site) (λ b. b.site.number) (After 0) i w.star.links w.sites (λ b k c fb e q. absurd (cc)) (λ n apart. stays n) j)
     telling_step e o (Makes i command l a op fl fa ok) = site_changes i (with_edit O op) (λ b. refl) l a fl fa (changes 0 i l a fl fa l (with_edit O op a) (λ h.
         inr (subst (λ n. IsBeingTold O L most (O.t.content w.opening) z i (joined_at O i w.trace) n l (with_edit O op a)) (sym (add-zero (shown_count i w.trace)))
         (telling_makes O L symmetric most (O.t.content w.opening) z was.sound i (joined_at O i w.trace) (shown_count i w.trace) l a h command op ok))))
     telling_step e o (Asks i k l a fl fa) = site_changes i (pinged O k) (λ b. refl) l a fl fa (sends i l a fl fa l (pinged O k a) [] refl (sym (append-nil (a.down ++ l.outbox))))
-    telling_step e o (Takes i l oa (UpOp m) fl fa (Rises a us rising) none) =
-        at_all (λ k. k.site) (λ b. b.site.number) (After 0) i (link_heard O m) (link_sent (operation_at O l.end m)) (one_taken O) (λ k. refl) (λ k. refl) (λ b. refl) w.star.links w.sites l (Some a) fl fa
-        (sends i l a fl fa (link_heard O m l) (one_taken O a) _ refl (sym (append_assoc a.down l.outbox _)))
-        (λ j apart. sends_edit j (operation_at O l.end m) (link_of j w.star.links) refl)
-    telling_step e o (Takes i l oa (UpAck n) fl fa (Rises a us rising) none) =
-        one_changes i (link_acked n) (one_taken O) (λ k. refl) (λ b. refl) l a fl fa (sends i l a fl fa (link_acked n l) (one_taken O a) [] refl (sym (append-nil (a.down ++ l.outbox))))
-    telling_step e o (Takes i l oa (UpPing n) fl fa (Rises a us rising) none) =
-        one_changes i (link_ponged n) (one_taken O) (λ k. refl) (λ b. refl) l a fl fa (sends i l a fl fa (link_ponged n l) (one_taken O a) _ refl (sym (append_assoc a.down l.outbox _)))
+    telling_step e o (Takes i l oa (UpOp m) fl fa brought none) = brought_leaves brought o
+        (at_all (λ k. k.site) (λ b. b.site.number) (After 0) i (link_heard O m) (link_sent (operation_at O l.end m)) (one_taken O) (λ k. refl) (λ k. refl) (λ b. refl) w.star.links w.sites l oa fl fa
+        (taken_from i l oa fl fa (link_heard O m l) _ refl)
+        (λ j apart. sends_edit j (operation_at O l.end m) (link_of j w.star.links) refl))
+    telling_step e o (Takes i l oa (UpAck n) fl fa brought none) = brought_leaves brought o
+        (one_changes i (link_acked n) (one_taken O) (λ k. refl) (λ b. refl) l oa fl fa (taken_from i l oa fl fa (link_acked n l) [] (sym (append-nil l.outbox))))
+    telling_step e o (Takes i l oa (UpPing n) fl fa brought none) = brought_leaves brought o
+        (one_changes i (link_ponged n) (one_taken O) (λ k. refl) (λ b. refl) l oa fl fa (taken_from i l oa fl fa (link_ponged n l) _ refl))
     telling_step e o (Hands i gone l a (DownOp m) ds fl fa falls none) = handed_edit i gone l a fl fa m ds falls
-    telling_step e o (Hands i gone l a (DownAck n) ds fl fa falls none) = one_changes i (link_fetched gone) (one_handed O (DownAck n) ds) (λ k. refl) (λ b. refl) l a fl fa (handed i gone l a fl fa (DownAck n) ds falls)
-    telling_step e o (Hands i gone l a (DownPong n) ds fl fa falls none) = one_changes i (link_fetched gone) (one_handed O (DownPong n) ds) (λ k. refl) (λ b. refl) l a fl fa (handed i gone l a fl fa (DownPong n) ds falls)
+    telling_step e o (Hands i gone l a (DownAck n) ds fl fa falls none) = one_changes i (link_fetched gone) (one_handed O (DownAck n) ds) (λ k. refl) (λ b. refl) l (Some a) fl fa (handed i gone l a fl fa (DownAck n) ds falls)
+    telling_step e o (Hands i gone l a (DownPong n) ds fl fa falls none) = one_changes i (link_fetched gone) (one_handed O (DownPong n) ds) (λ k. refl) (λ b. refl) l (Some a) fl fa (handed i gone l a fl fa (DownPong n) ds falls)
 
     -- each event
     pub telling_event : (e : EventOf O) → Leaves e (outcome O w e)

@@ -1,5 +1,5 @@
 -- Over any run a star that the world once had stays a past star: of what it had sent each site has still to be handed some, or was handed all.
-use Rattle.std.proofs.Common.{◌≡◌, ◌⊎◌, ℕ, ◌+◌, ◌<◌, ◌≤◌, inl, inr, Bool, true, false, cond, List, [], ◌∷◌, ◌++◌, drop, take, length, nat_eq, refl, ap, sym, ◌∙◌, subst, Some, None, arith, append_assoc, append-nil, add-zero, eqb-true, take_all, le_refl, take-append-drop}
+use Rattle.std.proofs.Common.{◌≡◌, ◌⊎◌, ℕ, ◌+◌, ◌<◌, ◌≤◌, inl, inr, Bool, true, false, cond, List, [], ◌∷◌, ◌++◌, drop, take, length, nat_eq, refl, ap, sym, ◌∙◌, subst, Option, Some, None, option_map, arith, append_assoc, append-nil, add-zero, eqb-true, take_all, le_refl, take-append-drop}
 use Rattle.jup_window.specs.Operations.{Operations, AreLawful}
 use Rattle.jup_star.specs.declared.messages.Entry.{Entry}
 use Rattle.jup_star.specs.LinkStates.{LinkState, link_fetched}
@@ -12,7 +12,7 @@ use Rattle.jup_world.specs.WorldStates.{attached, at_site, without_site, WorldOf
 use Rattle.jup_world.specs.WorldSteps.{Outcome, new_site, join_outcome, with_edit, one_taken, one_handed, pinged, outcome, with_outcome, with_fetched, only_fetched, happens}
 use Rattle.jup_world.specs.Traces.{order_of, entry_taken, joined_at, shown_count}
 use Rattle.jup_world.specs.Sound.{named_by, IsKnown, own_counts, told_of, IsSound}
-use Rattle.jup_world.proofs.EventSteps.{either, Rises, StepOf, Still, Enters, Goes, Makes, Asks, Takes, Hands, handed_number, step_of}
+use Rattle.jup_world.proofs.EventSteps.{either, StepOf, Still, Enters, EntersStray, Goes, Makes, Asks, Takes, Hands, handed_number, step_of}
 use Rattle.jup_world.proofs.Known.{known_more, own_counts-above}
 use Rattle.jup_world.proofs.Numbered.{at_one, at_removal}
 use Rattle.jup_world.proofs.Sound.TraceLaws.{joined-end, shown-end, length-turns}
@@ -36,11 +36,11 @@ module _ (O : Operations) (L : AreLawful O) where
     nobody e o gone there = absurd (cc)
 
     -- a change at another number brings nobody, and a departure does not
-    site_none : (i : ℕ) (g : AttachedOf O → AttachedOf O) → ((x : AttachedOf O) → (g x).site.number ≡ x.site.number) → (l : LinkState O.Op) (a : AttachedOf O) → link_of i w.star.links ≡ Some l → attached i w.sites ≡ Some a
+    site_none : (i : ℕ) (g : AttachedOf O → AttachedOf O) → ((x : AttachedOf O) → (g x).site.number ≡ x.site.number) → (l : LinkState O.Op) (oa : Option (AttachedOf O)) → link_of i w.star.links ≡ Some l → attached i w.sites ≡ oa
         → attached j (at_site i g w.sites) ≡ None
-    site_none i g kg l a fl fa =
-        at_one (λ x. x.site) (λ x. x.site.number) (λ n ol oa. n ≡ j → oa ≡ None) i (λ x. x) g (λ x. refl) kg w.star.links w.sites l (Some a) fl fa
-        (λ is. absurd (let there : attached j w.sites ≡ Some a = subst (λ n. attached n w.sites ≡ Some a) is fa in cc))
+    site_none i g kg l oa fl fa =
+        at_one (λ x. x.site) (λ x. x.site.number) (λ n ol oa. n ≡ j → oa ≡ None) i (λ x. x) g (λ x. refl) kg w.star.links w.sites l oa fl fa
+        (λ is. ap (option_map g) (sym (subst (λ n. attached n w.sites ≡ oa) is fa) ∙ none))
         (λ n apart is. subst (λ m. attached m w.sites ≡ None) (sym is) none) j refl
 
     drop_none : (i : ℕ) → attached j (without_site i w.sites) ≡ None
@@ -104,11 +104,12 @@ module _ (O : Operations) (L : AreLawful O) where
     new_step : (e : EventOf O) (o : Outcome O) → StepOf O w e o → New e o
     new_step e o (Still why) = nobody e o none
     new_step e o (Enters joins) = new_joins
+    new_step e o (EntersStray joins) = nobody e o none
     new_step e o (Goes i l oa fl fa why) = nobody e o (drop_none i)
-    new_step e o (Makes i command l a op fl fa ok) = nobody e o (site_none i (with_edit O op) (λ x. refl) l a fl fa)
-    new_step e o (Asks i k l a fl fa) = nobody e o (site_none i (pinged O k) (λ x. refl) l a fl fa)
-    new_step e o (Takes i l oa up fl fa (Rises a us rising) f) = nobody e o (site_none i (one_taken O) (λ x. refl) l a fl fa)
-    new_step e o (Hands i gone l a d ds fl fa falls f) = nobody e o (site_none i (one_handed O d ds) (handed_number O d ds) l a fl fa)
+    new_step e o (Makes i command l a op fl fa ok) = nobody e o (site_none i (with_edit O op) (λ x. refl) l (Some a) fl fa)
+    new_step e o (Asks i k l a fl fa) = nobody e o (site_none i (pinged O k) (λ x. refl) l (Some a) fl fa)
+    new_step e o (Takes i l oa up fl fa brought f) = nobody e o (site_none i (one_taken O) (λ x. refl) l oa fl fa)
+    new_step e o (Hands i gone l a d ds fl fa falls f) = nobody e o (site_none i (one_handed O d ds) (handed_number O d ds) l (Some a) fl fa)
 
     -- each event
     pub new_event : (e : EventOf O) → New e (outcome O w e)

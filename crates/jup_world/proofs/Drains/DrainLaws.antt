@@ -12,7 +12,7 @@ use Rattle.jup_world.specs.WorldStates.{WorldOf, AttachedOf, EventOf, attached, 
 use Rattle.jup_world.specs.WorldSteps.{Outcome, outcome}
 use Rattle.jup_world.specs.Sound.{IsSound}
 use Rattle.jup_world.specs.Replies.{UpReplies, DownReplies, RepliesTo}
-use Rattle.jup_world.proofs.EventSteps.{Leaves, IsDropped, StepOf, Still, Enters, Goes, Makes, Asks, Takes, Hands, step_of}
+use Rattle.jup_world.proofs.EventSteps.{Leaves, StrayLeaves, IsDropped, StepOf, Still, Enters, EntersStray, Goes, Makes, Asks, Takes, Hands, step_of}
 use Rattle.jup_world.proofs.Sound.ReplyLaws.{replies}
 
 -- two lists of which nothing is left
@@ -58,7 +58,9 @@ module _ (O : Operations) (L : AreLawful O) where
   step_leaves : (w : WorldOf O) (e : EventOf O) (o : Outcome O) → StepOf O w e o → LeavesAll w o
   step_leaves w e o (Still why) r = (refl, refl)
   step_leaves w e o (Enters none) r = absurd cc
+  step_leaves w e o (EntersStray none) r = absurd cc
   step_leaves w e o (Goes i l oa fl fa (Leaves a)) r = absurd cc
+  step_leaves w e o (Goes i l oa fl fa StrayLeaves) r = absurd cc
   step_leaves w e o (Goes i l oa fl fa (IsDropped up fault brought f)) r = absurd cc
   step_leaves w e o (Makes i command l a op fl fa ok) r = absurd cc
   step_leaves w e o (Asks i k l a fl fa) r = absurd cc

@@ -20,7 +20,7 @@ use Rattle.jup_world.specs.BoardWorlds.{BoardWorld, BoardLink, BoardAttached, Bo
 use Rattle.jup_world.specs.Runs.{IsDelivery}
 use Rattle.jup_world.specs.Weights.{up_weight, down_weight, link_weight, sum_to, weight_of, weight}
 use Rattle.jup_world.specs.Sound.{IsSound}
-use Rattle.jup_world.proofs.EventSteps.{Rises, Finds, NotJoined, NotMade, Leaves, IsDropped, StepOf, Still, Enters, Goes, Makes, Asks, Takes, Hands, handed_number, step_of}
+use Rattle.jup_world.proofs.EventSteps.{Rises, Strays, Finds, NotJoined, NoStray, NotMade, Leaves, StrayLeaves, IsDropped, StepOf, Still, Enters, EntersStray, Goes, Makes, Asks, Takes, Hands, handed_number, step_of}
 use Rattle.jup_world.proofs.Numbered.{at_one, at_all, at_removal}
 use Rattle.jup_world.proofs.WorldKept.{link_given}
 
@@ -177,13 +177,18 @@ module _ (w : BoardWorld) (sound : IsSound board_batches most_batches w) (i : �
 step_lightens : (w : BoardWorld) (s : IsSound board_batches most_batches w) (e : BoardEvent) (o : Outcome board_batches) → StepOf board_batches w e o → IsDelivery e → (o.reply ≡ Nothing → ⊥) → weight_of o.star o.sites < weight_of w.star w.sites
 step_lightens w s e o (Still (Finds event)) delivers some = absurd (some refl)
 step_lightens w s e o (Still (NotJoined fault)) delivers some = absurd delivers
+step_lightens w s e o (Still (NoStray fault)) delivers some = absurd delivers
 step_lightens w s e o (Still (NotMade i command number)) delivers some = absurd delivers
 step_lightens w s e o (Enters none) delivers some = absurd delivers
+step_lightens w s e o (EntersStray none) delivers some = absurd delivers
 step_lightens w s e o (Goes i l oa fl fa (Leaves a)) delivers some = absurd delivers
+step_lightens w s e o (Goes i l oa fl fa StrayLeaves) delivers some = absurd delivers
+step_lightens w s e o (Goes i l oa fl fa (IsDropped up fault Strays f)) delivers some = absurd delivers
 step_lightens w s e o (Goes i l oa fl fa (IsDropped up fault (Rises a us rising) f)) delivers some =
     let less = dropped_falls w s i l a fl fa (subst (λ ups. 1 ≤ up_weight w.star.given ups) (sym rising) (up_some w s i l a fl fa up us)) in omega arith
 step_lightens w s e o (Makes i command l a op fl fa ok) delivers some = absurd delivers
 step_lightens w s e o (Asks i k l a fl fa) delivers some = absurd delivers
+step_lightens w s e o (Takes i l oa up fl fa Strays none) delivers some = absurd delivers
 step_lightens w s e o (Takes i l oa (UpOp m) fl fa (Rises a us rising) none) delivers some = let less = edit_falls w s i l a fl fa m us rising in omega arith
 step_lightens w s e o (Takes i l oa (UpAck n) fl fa (Rises a us rising) none) delivers some =
     let less = one_falls w s i l a fl fa (link_acked n) (one_taken board_batches) (λ k. refl) (λ b. refl) (omega (arith, up_lighter w s i l a fl fa (UpAck n) us rising)) in omega arith

@@ -1,5 +1,5 @@
 -- Worlds in which no message is on its way.
-use Rattle.std.proofs.Common.{◌≡◌, refl, sym, ◌∙◌, ap, subst, ℕ, zero, suc, ◌+◌, ◌<◌, Bool, true, false, cond, List, [], ◌∷◌, length, map, get_or, drop, Some, is_some, option_map, arith, ◌↔◌, eqb-true, eq-eqb, ne_eqb}
+use Rattle.std.proofs.Common.{◌≡◌, refl, sym, ◌∙◌, ap, subst, ℕ, zero, suc, ◌+◌, ◌<◌, Bool, true, false, cond, List, [], ◌∷◌, length, map, get_or, drop, Some, option_map, arith, ◌↔◌, eqb-true, eq-eqb, ne_eqb}
 use Rattle.std.proofs.lemmas.List.{nil_from_length}
 use Rattle.jup_batch.specs.BoardBatches.{board_batches}
 use Rattle.jup_batch.specs.BoardBatches.{batch_laws}
@@ -15,10 +15,11 @@ use Rattle.jup_world.specs.Tallies.{Tallies}
 use Rattle.jup_world.specs.Headline.{AllAgree}
 use Rattle.jup_world.specs.BoardWorlds.{BoardWorld, BoardLink, BoardAttached}
 use Rattle.jup_world.specs.Happenings.{IsQuietAt, AllQuiet, IsWorld}
+use Rattle.jup_world.proofs.Sound.StrayLinks.{are_linked}
+use Rattle.jup_world.proofs.Sound.WorldTakes.{standing_of}
 use Rattle.jup_world.proofs.Sound.SoundRuns.{sound-promises}
 use Rattle.jup_world.proofs.Sound.BacklogLaws.{counts-backlog}
 use Rattle.jup_world.proofs.Sound.TallyLaws.{tallies}
-use Rattle.jup_world.proofs.CallFacts.{some_link}
 
 -- # One site more
 
@@ -73,21 +74,18 @@ quiet_world w is = (to, from)
         let one = found_quiet w.star i a w.sites fa all in
         (one.0.0, one.0.1, none_waits i w.star l fl (ap (λ n. option_map (λ k. length k.outbox) (link_of n w.star.links)) (sym one.1) ∙ one.0.2))
 
-    linked : (i : ℕ) → is_some (attached i w.sites) ≡ is_some (link_of i w.star.links)
-    linked = (sound-promises board_batches batch_laws most_batches w is.board.sound).linked
-
     from : IsQuiet board_batches w → AllQuiet w.star w.sites
     from quiet = all_found 0 w.star.given w.sites (λ a. IsQuietAt a w.star) is.numbered.ascending
         (λ i a low found number.
-        let l = some_link (link_of i w.star.links) (sym (linked i) ∙ ap is_some found) in
-        let one = quiet i l.0 a l.1 found in
-        (one.0, one.1, ap (λ n. option_map (λ k. length k.outbox) (link_of n w.star.links)) number ∙ ap (option_map (λ k. length k.outbox)) l.1 ∙ ap (λ os. Some (length os)) one.2))
+        let st = standing_of board_batches batch_laws most_batches w is.board.sound i a found in
+        let one = quiet i st.0 a st.2 found in
+        (one.0, one.1, ap (λ n. option_map (λ k. length k.outbox) (link_of n w.star.links)) number ∙ ap (option_map (λ k. length k.outbox)) st.2 ∙ ap (λ os. Some (length os)) one.2))
         w.star (λ a holds. holds)
 
 -- # What a world promises
 
 pub promises : (w : BoardWorld) → IsWorld w → Promises board_batches w
-promises w is = sound-promises board_batches batch_laws most_batches w is.board.sound
+promises w is = sound-promises board_batches batch_laws most_batches w is.board.sound (are_linked board_batches batch_laws w is.board.strays)
 
 pub backlogs : (w : BoardWorld) → IsWorld w → BacklogIsShort board_batches w
 backlogs w is = counts-backlog board_batches batch_laws most_batches w is.board.sound is.board.counts

@@ -6,7 +6,7 @@ use Rattle.jup_batch.specs.BoardBatches.{board_batches}
 use Rattle.jup_batch.specs.BoardBatches.{batch_laws}
 use Rattle.jup_star.specs.StarStates.{link_of, most_batches, fetched}
 use Rattle.jup_star.specs.StarCalls.{BoardStar}
-use Rattle.jup_world.specs.Events.{Join, Leave, Edit as MakeEdit, Up as MoveUp, Down as MoveDown, Ping as SendPing}
+use Rattle.jup_world.specs.Events.{Join, Leave, Edit as MakeEdit, Up as MoveUp, Down as MoveDown, Ping as SendPing, JoinStray, Stray, LeaveStray}
 use Rattle.jup_world.specs.WorldStates.{at_site}
 use Rattle.jup_world.specs.WorldSteps.{Outcome, with_fetched, only_fetched}
 use Rattle.jup_world.specs.BoardWorlds.{BoardWorld, BoardLink, BoardReply}
@@ -89,6 +89,9 @@ spared_lanes w (Plain (MakeEdit i command)) t next trace same kept carry = stays
 spared_lanes w (Plain (MoveUp i)) t next trace rest kept carry = rests w (Plain (MoveUp i)) t next trace rest kept carry
 spared_lanes w (Plain (MoveDown i)) t next trace rest kept carry = rests w (Plain (MoveDown i)) t next trace rest kept carry
 spared_lanes w (Plain (SendPing i k)) t next trace same kept carry = stays w t next trace same kept
+spared_lanes w (Plain JoinStray) t next trace same kept carry = stays w t next trace same kept
+spared_lanes w (Plain (Stray i up)) t next trace same kept carry = stays w t next trace same kept
+spared_lanes w (Plain (LeaveStray i)) t next trace same kept carry = stays w t next trace same kept
 spared_lanes w (PushUp i n) t next trace same kept carry = stays w t next trace same kept
 spared_lanes w (PushDown i n) t next trace rest kept carry = rests w (PushDown i n) t next trace rest kept carry
 

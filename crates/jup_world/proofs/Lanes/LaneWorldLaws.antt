@@ -10,7 +10,7 @@ use Rattle.jup_lane.specs.Codecs.{Codec, bytes_of_all}
 use Rattle.jup_lane.specs.Messages.{ups, downs}
 use Rattle.jup_lane.specs.Lanes.{Way, messages, Carries}
 use Rattle.jup_lane.proofs.LaneLaws.{idle, idle_none}
-use Rattle.jup_world.specs.Events.{Join, Leave, Edit as MakeEdit, Up as MoveUp, Down as MoveDown, Ping as SendPing}
+use Rattle.jup_world.specs.Events.{Join, Leave, Edit as MakeEdit, Up as MoveUp, Down as MoveDown, Ping as SendPing, JoinStray, Stray, LeaveStray}
 use Rattle.jup_world.specs.WorldStates.{attached, IsQuiet}
 use Rattle.jup_world.specs.WorldSteps.{run, only_fetched}
 use Rattle.jup_world.specs.BoardWorlds.{BoardWorld, BoardLink, BoardEvent, BoardReply}
@@ -176,6 +176,9 @@ spared_messages w v (Plain (MakeEdit i command)) same = inl (ap messages_of same
 spared_messages w v (Plain (MoveUp i)) rests = rests_spared w v (Plain (MoveUp i)) rests
 spared_messages w v (Plain (MoveDown i)) rests = rests_spared w v (Plain (MoveDown i)) rests
 spared_messages w v (Plain (SendPing i k)) same = inl (ap messages_of same)
+spared_messages w v (Plain JoinStray) same = inl (ap messages_of same)
+spared_messages w v (Plain (Stray i up)) same = inl (ap messages_of same)
+spared_messages w v (Plain (LeaveStray i)) same = inl (ap messages_of same)
 spared_messages w v (PushUp i n) same = inl (ap messages_of same)
 spared_messages w v (PushDown i n) rests = rests_spared w v (PushDown i n) rests
 
@@ -186,6 +189,9 @@ spared_carry w v (Plain (MakeEdit i command)) all same = subst (λ (u : LaneWorl
 spared_carry w v (Plain (MoveUp i)) all rests = rests.carry
 spared_carry w v (Plain (MoveDown i)) all rests = rests.carry
 spared_carry w v (Plain (SendPing i k)) all same = subst (λ (u : LaneWorld). AllCarry u.sites) (sym same) all
+spared_carry w v (Plain JoinStray) all same = subst (λ (u : LaneWorld). AllCarry u.sites) (sym same) all
+spared_carry w v (Plain (Stray i up)) all same = subst (λ (u : LaneWorld). AllCarry u.sites) (sym same) all
+spared_carry w v (Plain (LeaveStray i)) all same = subst (λ (u : LaneWorld). AllCarry u.sites) (sym same) all
 spared_carry w v (PushUp i n) all same = subst (λ (u : LaneWorld). AllCarry u.sites) (sym same) all
 spared_carry w v (PushDown i n) all rests = rests.carry
 

@@ -4,7 +4,7 @@ use Rattle.std.proofs.lemmas.List.{take-append-le}
 use Rattle.jup_window.specs.Operations.{Operations, AreLawful}
 use Rattle.jup_star.specs.declared.faults.StarFault.{StarFault}
 use Rattle.jup_star.specs.StarStates.{link_of, join_fault}
-use Rattle.jup_world.specs.Events.{Join, Leave, Edit as MakeEdit, Up as MoveUp, Down as MoveDown, Ping as SendPing}
+use Rattle.jup_world.specs.Events.{Join, Leave, Edit as MakeEdit, Up as MoveUp, Down as MoveDown, Ping as SendPing, JoinStray, Stray, LeaveStray}
 use Rattle.jup_world.specs.Turns.{Turn, Own, Other, turns, others, through_others}
 use Rattle.jup_world.specs.WorldStates.{attached, WorldOf, AttachedOf, EventOf}
 use Rattle.jup_world.specs.WorldSteps.{join_outcome, outcome, happens, run}
@@ -68,6 +68,9 @@ module _ (O : Operations) (L : AreLawful O) where
   join_kept w j now at old (MoveUp i) = refl
   join_kept w j now at old (MoveDown i) = refl
   join_kept w j now at old (SendPing i k) = refl
+  join_kept w j now at old JoinStray = refl
+  join_kept w j now at old (Stray i up) = refl
+  join_kept w j now at old (LeaveStray i) = refl
 
   -- the star's order grows at its end
   pub order_grows : (most : ℕ) (w : WorldOf O) (s : IsSound O most w) (e : EventOf O) → (happens O w e).star.order ≡ w.star.order ++ entry_taken O w.trace (order_of O w.trace) e (outcome O w e).reply

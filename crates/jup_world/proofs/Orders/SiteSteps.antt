@@ -20,7 +20,7 @@ use Rattle.jup_world.proofs.Pairs.PairShown.{shown_keeps_order, shown_none_back}
 use Rattle.jup_world.proofs.Sound.WorldTakes.{standing, order_fits}
 use Rattle.jup_world.proofs.Sound.SoundShown.{st, t, fits, first}
 use Rattle.jup_world.proofs.Sound.SoundJoined.{no_site}
-use Rattle.jup_world.proofs.EventSteps.{StepOf, Still, Enters, Goes, Makes, Asks, Takes, Hands, handed_number, step_of}
+use Rattle.jup_world.proofs.EventSteps.{StepOf, Still, Enters, EntersStray, Goes, Makes, Asks, Takes, Hands, handed_number, step_of}
 
 module _ (O : Operations) (L : AreLawful O) where
   -- the entries that a site was told
@@ -140,6 +140,7 @@ module _ (O : Operations) (L : AreLawful O) where
     keeps_step : (e : EventOf O) (o : Outcome O) → StepOf O w e o → SitesStep w o.sites
     keeps_step e o (Still why) = same_sites w
     keeps_step e o (Enters none) = one_added most w s
+    keeps_step e o (EntersStray none) = same_sites w
     keeps_step e o (Goes i l oa fl fa why) = one_removed w i
     keeps_step e o (Makes i command l a op fl fa ok) = one_known i (with_edit O op) (λ b. refl) a fa (edited i command l a fl fa op ok)
     keeps_step e o (Asks i k l a fl fa) = one_known i (pinged O k) (λ b. refl) a fa (still w i a (pinged O k a) refl refl)

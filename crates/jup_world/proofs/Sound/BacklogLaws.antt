@@ -28,7 +28,7 @@ use Rattle.jup_world.specs.Traces.{made, joined_at, shown_count}
 use Rattle.jup_world.specs.Backlogs.{told_count, Counts, CountsAt, AllCount, BacklogIsShort}
 use Rattle.jup_world.specs.Sound.{Standing, IsSound}
 use Rattle.jup_world.proofs.Numbered.{map_kept, by_number, at_one, at_all, at_removal}
-use Rattle.jup_world.proofs.EventSteps.{StepOf, Still, Enters, Goes, Makes, Asks, Takes, Hands, handed_number, step_of}
+use Rattle.jup_world.proofs.EventSteps.{StepOf, Still, Enters, EntersStray, Goes, Makes, Asks, Takes, Hands, handed_number, step_of}
 use Rattle.jup_world.proofs.Sound.SoundRuns.{sound-happens}
 use Rattle.jup_world.proofs.Sound.SoundJoined.{no_site}
 use Rattle.jup_world.proofs.Sound.WorldTakes.{standing_of}
@@ -161,6 +161,11 @@ module _ (O : Operations) (L : AreLawful O) where
     site_only i g l a kg fl fa here j = subst (λ ls. CountsAt O (link_of j ls) (attached j (at_site i g w.sites))) (map_kept (λ k. k.site) i w.star.links)
         (with_one i (λ k. k) g l a (λ k. refl) kg fl fa here j)
 
+  -- nothing is counted of a link without a site
+  no_counts : (ol : Option (LinkState O.Op)) → CountsAt O ol None
+  no_counts None = tt
+  no_counts (Some l) = tt
+
   -- a link of which the star took a message, and its site if it has one
   taken_counts : (w : WorldOf O) → AllCount O w → (i : ℕ) (l : LinkState O.Op) (oa : Option (AttachedOf O)) → link_of i w.star.links ≡ Some l → attached i w.sites ≡ oa
       → (k : LinkState O.Op) → ((a : AttachedOf O) → Counts O l a → Counts O k (one_taken O a)) → CountsAt O (Some k) (option_map (one_taken O) oa)
@@ -183,6 +188,10 @@ module _ (O : Operations) (L : AreLawful O) where
   counts-step : (most : ℕ) (w : WorldOf O) → IsSound O most w → AllCount O w → (e : EventOf O) (o : Outcome O) → StepOf O w e o → (j : ℕ) → CountsAt O (link_of j o.star.links) (attached j o.sites)
   counts-step most w s all e o (Still why) = all
   counts-step most w s all e o (Enters none) = enter_counts most w s all
+  counts-step most w s all e o (EntersStray none) = by_number (λ k. k.site) (λ b. b.site.number) (λ j ol oa. CountsAt O ol oa) (w.star.given + 1)
+      (λ j. CountsAt O (link_of j (w.star.links ++ opened_link (w.star.given + 1) ∷ [])) (attached j w.sites))
+      (subst (λ o. CountsAt O (link_of (w.star.given + 1) (w.star.links ++ opened_link (w.star.given + 1) ∷ [])) o) (sym (no_site O L most w s (w.star.given + 1) refl)) (no_counts (link_of (w.star.given + 1) (w.star.links ++ opened_link (w.star.given + 1) ∷ []))))
+      (λ j e. subst (λ o. CountsAt O o (attached j w.sites)) (sym (found-end_other (λ k. k.site) j w.star.links (opened_link (w.star.given + 1)) e)) (all j))
   counts-step most w s all e o (Goes i l oa fl fa why) = without_one w all i
   counts-step most w s all e o (Makes i command l a op fl fa ok) = site_only w all i (with_edit O op) l a (λ b. refl) fl fa (edit_counts l a op (here_of w all i l a fl fa))
   counts-step most w s all e o (Asks i k l a fl fa) = site_only w all i (pinged O k) l a (λ b. refl) fl fa (pinged_counts l a k (here_of w all i l a fl fa))

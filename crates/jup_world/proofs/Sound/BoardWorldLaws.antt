@@ -14,6 +14,7 @@ use Rattle.jup_world.specs.BoardWorlds.{BoardWorld, BoardLink, BoardAttached, Bo
 use Rattle.jup_world.proofs.Sound.SoundRuns.{sound-opened, sound-happens}
 use Rattle.jup_world.proofs.Sound.SoundFetched.{sound-fetched}
 use Rattle.jup_world.proofs.Sound.BacklogLaws.{counts-happens, counts-fetched}
+use Rattle.jup_world.proofs.Sound.StrayLinks.{strays-happens, strays-fetched}
 use Rattle.jup_world.proofs.Sound.TallyLaws.{tallied-happens, tallied-fetched}
 
 -- a world of boards that is opened
@@ -23,6 +24,7 @@ opened_sound b limit opening low = record {
       (λ n held. only_site-held 0 b n opening.unsigned held);
   counts = λ i. tt;
   tallied = record { given = refl; made = tt };
+  strays = record { links = λ i. tt; new = λ i above. refl };
 }
 
 -- events keep it so
@@ -31,6 +33,7 @@ happens_sound w event is = record {
   sound = sound-happens board_batches batch_laws most_batches w event is.sound;
   counts = counts-happens board_batches batch_laws most_batches w is.sound is.counts event;
   tallied = tallied-happens board_batches w is.tallied (is.sound.no_edit (w.star.given + 1) (omega arith)) event;
+  strays = strays-happens board_batches batch_laws most_batches w is.sound is.strays event;
 }
 
 -- any events
@@ -45,6 +48,7 @@ fetched_sound w i n l a fl fa is = record {
   sound = sound-fetched board_batches batch_laws most_batches w is.sound i n l a fl fa;
   counts = counts-fetched board_batches batch_laws w is.counts i n l a fl fa;
   tallied = tallied-fetched board_batches w is.tallied i n l;
+  strays = strays-fetched board_batches batch_laws most_batches w is.sound is.strays i n l;
 }
 
 -- a world that is reached is sound

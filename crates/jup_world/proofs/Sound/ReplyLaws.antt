@@ -113,3 +113,4 @@ module _ (O : Operations) (L : AreLawful O) where
   replies most w s (MoveUp i) = replies_at w i _ (λ r l a. UpReplies O w.star a.up r) (λ l a fl fa. up_replies most w s i l a fl fa a.up refl)
   replies most w s (MoveDown i) = replies_at w i _ (λ r l a. DownReplies O (a.down ++ l.outbox) r) (λ l a fl fa. down_replies most w s i l a fl fa a.down l.outbox refl refl)
   replies most w s (SendPing i k) = replies_at w i _ (λ r l a. r ≡ Asked) (λ l a fl fa. refl)
+  replies most w s e = tt

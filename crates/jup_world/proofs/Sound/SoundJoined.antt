@@ -10,13 +10,14 @@ use Rattle.jup_world.specs.WorldSteps.{new_site}
 use Rattle.jup_world.specs.Traces.{made, order_of, joined_at, shown_count}
 use Rattle.jup_world.specs.Sound.{named_by, own_counts, ChangesKnown, HoldsKnown, Paired, told_of, Standing, StandsAt, IsSound}
 use Rattle.jup_world.specs.Events.{Happened}
-use Rattle.jup_world.specs.Events.{Join}
+use Rattle.jup_world.specs.Events.{Join, JoinStray}
 use Rattle.jup_world.specs.Events.{Joined}
 use Rattle.jup_star.specs.LinkStates.{LinkState, opened_link}
 use Rattle.jup_star.specs.StarStates.{link_of, joined}
 use Rattle.jup_world.proofs.Sound.TraceLaws.{made-end, order-end, joined-end, shown-end, edits-turns, length-turns}
 use Rattle.jup_world.proofs.Known.{known_more, all_changes_more, own_counts-above}
-use Rattle.jup_world.proofs.Sound.Silent.{after_event}
+use Rattle.jup_world.proofs.Numbered.{by_number}
+use Rattle.jup_world.proofs.Sound.Silent.{after_event, sound-silent}
 use Rattle.jup_world.proofs.Sound.WorldTakes.{named-turns}
 use Rattle.jup_world.proofs.StarKeepsLinks.{star-joined}
 
@@ -100,6 +101,20 @@ module _ (O : Operations) (L : AreLawful O) where
         alone None None e h = refl
         alone None (Some a) e h = absurd h
         alone (Some l) oa e h = absurd (cc)
+
+    -- a stranger's link has no site
+    pub sound-entered : IsSound O most (after_event O L w (joined w.star) w.sites JoinStray (Joined i))
+    sound-entered =
+        sound-silent O L most w JoinStray (Joined i) (w.star.given + 1) (w.star.links ++ opened_link (w.star.given + 1) ∷ []) w.sites s
+        (record { no_edit = λ j. refl; no_join = λ j n k. refl; no_shown = λ j. refl; no_entry = λ p o. refl }) (omega arith)
+        (by_number (λ l. l.site) (λ a. a.site.number) Stands i (λ j. Stands j (link_of j (w.star.links ++ opened_link (w.star.given + 1) ∷ [])) (attached j w.sites))
+        (subst (λ o. Stands i o (attached i w.sites)) (sym (found-end (λ l. l.site) i w.star.links (opened_link (w.star.given + 1)) (s.star.no_link i new) (eq-eqb (w.star.given + 1) i (sym next))))
+        (subst (λ o. Stands i (Some (opened_link (w.star.given + 1))) o) (sym no_site) tt))
+        (λ j e. subst (λ o. Stands j o (attached j w.sites)) (sym (found-end_other (λ l. l.site) j w.star.links (opened_link (w.star.given + 1)) (subst (λ k. nat_eq k j ≡ false) next e))) (s.stand j)))
+        (star-joined O L most (O.t.content w.opening) w.star s.star)
+      where
+        Stands : ℕ → Option (LinkState O.Op) → Option (AttachedOf O) → Type 0
+        Stands j ol oa = StandsAt O most (O.t.content w.opening) (turns j w.star.order) w.star.board (made j w.trace) (joined_at O j w.trace) (shown_count j w.trace) j ol oa
 
     -- so the world is sound
     pub sound-joined : IsSound O most (after_event O L w (joined w.star) (w.sites ++ new_site O w i ∷ []) Join (Joined i))

@@ -5,14 +5,14 @@ use Rattle.jup_window.specs.Operations.{Operations}
 use Rattle.jup_star.specs.declared.messages.Up.TheVariants.{Op as UpOp, Ack as UpAck, Ping as UpPing}
 use Rattle.jup_star.specs.declared.messages.Down.TheVariants.{Op as DownOp, Ack as DownAck, Pong as DownPong}
 use Rattle.jup_star.specs.LinkStates.{LinkState}
-use Rattle.jup_world.specs.Events.{Join, Edit as MakeEdit, Down as MoveDown, Ping as SendPing}
+use Rattle.jup_world.specs.Events.{Join, Edit as MakeEdit, Down as MoveDown, Ping as SendPing, JoinStray}
 use Rattle.jup_world.specs.Events.{Joined, Made, Happened}
 use Rattle.jup_world.specs.Each.{Each}
 use Rattle.jup_world.specs.WorldStates.{WorldOf, AttachedOf, EventOf, ReplyOf, attached, is_number, at_site, without_site}
 use Rattle.jup_world.specs.WorldSteps.{Outcome, unchanged, new_site, with_edit, one_taken, one_handed, pinged, outcome, happens, with_fetched, only_fetched}
 use Rattle.jup_world.specs.Traces.{edit_made, made}
 use Rattle.jup_world.specs.Tallies.{gives, numbers_given, CountsItsEdits, IsTallied, Tallies}
-use Rattle.jup_world.proofs.EventSteps.{WhyStill, Finds, NotJoined, NotMade, WhyGone, Leaves, IsDropped, StepOf, Still, Enters, Goes, Makes, Asks, Takes, Hands, still_silent, gone_silent, brought_made, step_of}
+use Rattle.jup_world.proofs.EventSteps.{WhyStill, Finds, NotJoined, NoStray, NotMade, WhyGone, Leaves, StrayLeaves, IsDropped, StepOf, Still, Enters, EntersStray, Goes, Makes, Asks, Takes, Hands, still_silent, gone_silent, brought_made, step_of}
 use Rattle.jup_world.proofs.Sound.TraceLaws.{made-end}
 
 -- # Each of a list
@@ -21,6 +21,11 @@ use Rattle.jup_world.proofs.Sound.TraceLaws.{made-end}
 each-mapped : {A : Type 0} (P Q : A → Type 0) (f : A → A) → ((a : A) → P a → Q (f a)) → (xs : List A) → Each P xs → Each Q (map f xs)
 each-mapped P Q f h [] each = tt
 each-mapped P Q f h (x ∷ xs) each = (h x each.0, each-mapped P Q f h xs each.1)
+
+-- as it is
+each-implied : {A : Type 0} (P Q : A → Type 0) → ((a : A) → P a → Q a) → (xs : List A) → Each P xs → Each Q xs
+each-implied P Q h [] each = tt
+each-implied P Q h (x ∷ xs) each = (h x each.0, each-implied P Q h xs each.1)
 
 -- some of them
 each-some : {A : Type 0} (P Q : A → Type 0) (keep : A → Bool) → ((a : A) → P a → Q a) → (xs : List A) → Each P xs → Each Q (filter keep xs)
@@ -80,11 +85,7 @@ module _ (O : Operations) where
 
   -- nothing changes
   same_tally : (w : WorldOf O) (e : EventOf O) (r : ReplyOf O) → ((j : ℕ) → edit_made j e r ≡ []) → gives r ≡ 0 → Each (CountsItsEdits O w.trace) w.sites → IsTallyOf w e (unchanged O w r)
-  same_tally w e r none zero all = (omega (arith, zero), each-implied w.sites all)
-    where
-      each-implied : (xs : List (AttachedOf O)) → Each (CountsItsEdits O w.trace) xs → Each (CountsItsEdits O (noted w e r)) xs
-      each-implied [] each = tt
-      each-implied (a ∷ xs) each = (quiet_site w e r a a (none a.site.number) refl refl each.0, each-implied xs each.1)
+  same_tally w e r none zero all = (omega (arith, zero), each-implied (CountsItsEdits O w.trace) (CountsItsEdits O (noted w e r)) (λ a. quiet_site w e r a a (none a.site.number) refl refl) w.sites all)
 
   -- one site changed, and made no edit
   one_changed : (w : WorldOf O) (e : EventOf O) (r : ReplyOf O) (i : ℕ) (f : AttachedOf O → AttachedOf O) → ((j : ℕ) → edit_made j e r ≡ [])
@@ -105,10 +106,12 @@ module _ (O : Operations) where
   still_gives : (w : WorldOf O) {e : EventOf O} {r : ReplyOf O} → WhyStill O w e r → gives r ≡ 0
   still_gives w (Finds e) = refl
   still_gives w (NotJoined fault) = refl
+  still_gives w (NoStray fault) = refl
   still_gives w (NotMade i command number) = refl
 
   gone_gives : (w : WorldOf O) {i : ℕ} {l : LinkState O.Op} {oa : Option (AttachedOf O)} {e : EventOf O} {r : ReplyOf O} → WhyGone O w i l oa e r → gives r ≡ 0
   gone_gives w (Leaves a) = refl
+  gone_gives w StrayLeaves = refl
   gone_gives w (IsDropped up fault brought f) = refl
 
   -- an event, by what it comes to
@@ -120,6 +123,7 @@ module _ (O : Operations) where
         (λ a. quiet_site w Join (Joined (w.star.given + 1)) a a refl refl refl) w.sites all
         (quiet_site w Join (Joined (w.star.given + 1)) (new_site O w (w.star.given + 1)) (new_site O w (w.star.given + 1)) refl refl refl (sym (ap (λ es. length es) new))),
   )
+  step_tally w all new e o (EntersStray none) = (refl, each-implied (CountsItsEdits O w.trace) (CountsItsEdits O (noted w JoinStray (Joined (w.star.given + 1)))) (λ a. quiet_site w JoinStray (Joined (w.star.given + 1)) a a refl refl refl) w.sites all)
   step_tally w all new e o (Goes i l oa fl fa why) = (omega (arith, gone_gives w why), one_dropped w e _ i (gone_silent O w why).no_edit all)
   step_tally w all new e o (Makes i command l a op fl fa ok) = (
     omega arith,

@@ -1,11 +1,19 @@
 -- What one more event adds to what is read off a trace.
-use Rattle.std.proofs.Common.{◌≡◌, ℕ, zero, suc, ◌+◌, ◌≤◌, Bool, true, false, cond, List, [], ◌∷◌, ◌++◌, length, drop, nat_eq, refl, ap, sym, ◌∙◌, arith, append_assoc, append-nil}
+use Rattle.std.proofs.Common.{◌≡◌, ℕ, zero, suc, ◌+◌, ◌≤◌, Bool, true, false, ◌||◌, cond, List, [], ◌∷◌, ◌++◌, length, drop, nat_eq, refl, ap, sym, ◌∙◌, arith, append_assoc, append-nil}
 use Rattle.jup_world.specs.Turns.{Turn, Own, Other, turn, turns, edits, through_others, others}
-use Rattle.jup_world.specs.Traces.{over_trace, edit_made, made, entry_taken, order_of, join_seen, joined_at, was_shown, shown_count}
+use Rattle.jup_world.specs.Traces.{over_trace, edit_made, made, entry_taken, order_of, join_seen, joined_at, was_shown, shown_count, stray_seen, is_stray}
 use Rattle.jup_window.specs.Operations.{Operations}
 use Rattle.jup_world.specs.Events.{Happened}
 use Rattle.jup_world.specs.WorldStates.{HappenedOf}
 use Rattle.jup_star.specs.declared.messages.Entry.{Entry}
+
+or-false : (b : Bool) → (b || false) ≡ b
+or-false true = refl
+or-false false = refl
+
+or-among : (a b c : Bool) → (a || (b || c)) ≡ ((a || b) || c)
+or-among true b c = refl
+or-among false b c = refl
 
 module _ {Command Operation Edit Fault : Type 0} where
   -- one more event
@@ -23,6 +31,11 @@ module _ {Command Operation Edit Fault : Type 0} where
   pub shown-end : (i : ℕ) (hs : List (Happened Command Operation Edit Fault)) (h : Happened Command Operation Edit Fault) → shown_count i (hs ++ h ∷ []) ≡ shown_count i hs + was_shown i h.event h.reply
   shown-end i [] h = omega arith
   shown-end i (g ∷ hs) h = omega (arith, shown-end i hs h)
+
+  -- and a stranger's number
+  pub stray-end : (i : ℕ) (hs : List (Happened Command Operation Edit Fault)) (h : Happened Command Operation Edit Fault) → is_stray i (hs ++ h ∷ []) ≡ (is_stray i hs || stray_seen i h.event h.reply)
+  stray-end i [] h = or-false (stray_seen i h.event h.reply)
+  stray-end i (g ∷ hs) h = ap (λ b. stray_seen i g.event g.reply || b) (stray-end i hs h) ∙ or-among (stray_seen i g.event g.reply) (is_stray i hs) (stray_seen i h.event h.reply)
 
 module _ (O : Operations) where
   -- the entry that was taken

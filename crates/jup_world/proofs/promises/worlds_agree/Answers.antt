@@ -1,3 +1,7 @@
+use Rattle.std.proofs.Common.{◌≡◌, ℕ, false, refl, sym, subst}
+use Rattle.jup_world.specs.BoardWorlds.{BoardWorld}
+use Rattle.jup_world.specs.WorldStates.{opened_world}
+use Rattle.jup_world.specs.Traces.{is_stray}
 use Rattle.jup_batch.specs.BoardBatches.{board_batches}
 use Rattle.jup_batch.specs.BoardBatches.{batch_laws}
 use Rattle.jup_star.specs.StarStates.{most_batches}
@@ -5,13 +9,15 @@ use Rattle.jup_world.proofs.Sound.SoundRuns.{sound-promises}
 use Rattle.jup_world.proofs.Sound.ReplyLaws.{replies}
 use Rattle.jup_world.proofs.Sound.BacklogLaws.{counts-backlog}
 use Rattle.jup_world.proofs.Sound.TallyLaws.{tallies}
+use Rattle.jup_world.proofs.Sound.StrayLinks.{are_linked, plain_run, plain_linked}
+use Rattle.jup_world.proofs.Sound.StrangerLaws.{sites-hold, only-full, stray-replies}
 use Rattle.jup_world.proofs.Orders.StarRuns.{run-follows}
 use Rattle.jup_world.proofs.Orders.SiteRuns.{run_follows}
 use Rattle.jup_world.proofs.Sound.BoardWorldLaws.{reached_sound}
 use Rattle.jup_world.proofs.promises.worlds_agree.Goals as goal
 
 pub returns-clause-kept : goal.returns-clause-kept
-returns-clause-kept c w reached = sound-promises board_batches batch_laws most_batches w (reached_sound w reached).sound
+returns-clause-kept c w reached = let is = reached_sound w reached in sound-promises board_batches batch_laws most_batches w is.sound (are_linked board_batches batch_laws w is.strays)
 
 pub returns-clause-replies : goal.returns-clause-replies
 returns-clause-replies c w reached event = replies board_batches batch_laws most_batches w (reached_sound w reached).sound event
@@ -31,3 +37,17 @@ returns-clause-order c w reached events =
       star = (run-follows board_batches batch_laws events most_batches w sound).order;
       sites = λ i a b before after. (run_follows board_batches batch_laws events most_batches w sound i a b before after).order;
     }
+
+pub returns-clause-sites : goal.returns-clause-sites
+returns-clause-sites c w reached = sites-hold board_batches batch_laws most_batches w (reached_sound w reached).sound
+
+pub returns-clause-detached : goal.returns-clause-detached
+returns-clause-detached c w reached = only-full board_batches batch_laws most_batches w (reached_sound w reached).sound
+
+pub returns-clause-strangers : goal.returns-clause-strangers
+returns-clause-strangers c w reached event = stray-replies board_batches batch_laws most_batches w (reached_sound w reached).sound event
+
+pub returns-clause-plain : goal.returns-clause-plain
+returns-clause-plain c w reached plain =
+    plain_linked board_batches batch_laws w (reached_sound w reached).strays
+    (subst (λ (v : BoardWorld). (i : ℕ) → is_stray i v.trace ≡ false) (sym reached.is) (plain_run board_batches batch_laws reached.events (opened_world board_batches reached.board reached.limit) plain (λ i. refl)))

@@ -14,8 +14,8 @@ happen-requires c = mix_ready (the_view c.self.inside) c.self.invariant
 
 pub invariant_of-self-in_err-reply : goal.invariant_of-self-in_err-reply
 invariant_of-self-in_err-reply c =
-    mix_still (the_view c.self.inside) _ c.self.invariant
-    (mix_spared (the_view c.self.inside) c.happen.new.star (option_map bare_attached c.happen.new.site) _ c.in_err-reply.ensures.spared (ap numbered_mix c.reserve.ensures.items))
+    mix_still (the_view c.self.inside) _ c.args.event.now c.self.invariant
+    (mix_spared (the_view c.self.inside) c.args.event.now c.happen.new.star (option_map bare_attached c.happen.new.site) _ c.in_err-reply.ensures.spared (ap numbered_mix c.reserve.ensures.items))
 
 pub invariant_of-self-2 : goal.invariant_of-self-2
 invariant_of-self-2 c =

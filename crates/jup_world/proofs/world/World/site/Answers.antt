@@ -1,5 +1,7 @@
 use Rattle.std.proofs.Common.{◌≡◌, ◌∙◌, List, sym, ap, subst, map, Some, None, is_some, false, rules}
 use Rattle.std.specs.Option.{option_map}
+use Rattle.jup_batch.specs.BoardBatches.{board_batches}
+use Rattle.jup_batch.specs.BoardBatches.{batch_laws}
 use Rattle.jup_world.specs.contracts.world.World.{the_view}
 use Rattle.jup_world.specs.WorldStates.{attached}
 use Rattle.jup_world.specs.BoardWorlds.{BoardAttached}
@@ -7,7 +9,9 @@ use Rattle.jup_world.specs.WorldFields.{lane_of, bare_attached}
 use Rattle.jup_world.specs.SiteNumbers.{AreAscending}
 use Rattle.jup_world.specs.declared.world.attached.Attached.{Attached}
 use Rattle.jup_world.specs.LaneWorlds.{lane_site, messages_of}
+use Rattle.jup_world.proofs.PlayedTraces.{none_stray}
 use Rattle.jup_world.proofs.SitePlaces.{found_at, number_at}
+use Rattle.jup_world.proofs.Sound.StrayLinks.{plain_linked}
 use Rattle.jup_world.proofs.Lanes.LaneSites.{messages_map}
 use Rattle.jup_world.proofs.Lanes.LaneEvents.{lane_found, lane_none}
 use Rattle.jup_world.proofs.Drains.QuietWorlds.{promises, backlogs, tallies_of}
@@ -36,7 +40,7 @@ returns-clause-attached c =
     let place = rw c.deref.ensures.value at c.in_ok-at.ensures.place in
     let found = ap (attached c.args.number) (messages_map c.self.inside.sites.items)
     ∙ found_at c.args.number c.self.inside.sites.items c.in_ok-at.at c.index.result.now place ∙ ap (λ a. Some (bare_attached a)) (sym c.index.ensures) in
-    rw (← c.self.view_is) (sym (ap is_some found) ∙ (promises (messages_of (the_view c.self.inside)) c.self.invariant.world).linked c.args.number)
+    rw (← c.self.view_is) (sym (ap is_some found) ∙ plain_linked board_batches batch_laws (messages_of (the_view c.self.inside)) c.self.invariant.world.board.strays (none_stray c.self.inside.trace.items) c.args.number)
 
 pub returns-clause-number : goal.returns-clause-number
 returns-clause-number c =
@@ -75,4 +79,4 @@ returns-in_err-at-clause-attached c =
     let none = rw c.deref.ensures.value at c.in_err-at.ensures.place in
     let absent = ap (attached c.args.number) (messages_map c.self.inside.sites.items) ∙ none in
     let gone : is_some c.from_residual.result ≡ false = search rules in
-    rw (← c.self.view_is) (gone ∙ sym (ap is_some absent) ∙ (promises (messages_of (the_view c.self.inside)) c.self.invariant.world).linked c.args.number)
+    rw (← c.self.view_is) (gone ∙ sym (ap is_some absent) ∙ plain_linked board_batches batch_laws (messages_of (the_view c.self.inside)) c.self.invariant.world.board.strays (none_stray c.self.inside.trace.items) c.args.number)

@@ -8,6 +8,7 @@ use Rattle.jup_world.specs.LaneWorlds.{messages_of}
 use Rattle.jup_world.specs.LaneSteps.{Steps}
 use Rattle.jup_world.proofs.CallFacts.{on_err}
 use Rattle.jup_world.proofs.WorldKept.{world_ready}
+use Rattle.jup_world.proofs.PlayedTraces.{none_stray}
 use Rattle.jup_world.proofs.Lanes.LaneSites.{messages_map}
 use Rattle.jup_world.proofs.Lanes.LaneWorldLaws.{step_keeps, spared_keeps}
 use Rattle.jup_world.proofs.Lanes.LaneOrder.{step_order, spared_order}
@@ -16,7 +17,7 @@ use Rattle.jup_world.proofs.world.World.step.Goals as goal
 
 pub happen-requires : goal.happen-requires
 happen-requires c =
-    subst (λ (xs : List BoardAttached). AreReady c.self.inside.star xs) (messages_map c.self.inside.sites.items) (world_ready (messages_of (the_view c.self.inside)) c.self.invariant.world)
+    subst (λ (xs : List BoardAttached). AreReady c.self.inside.star xs) (messages_map c.self.inside.sites.items) (world_ready (messages_of (the_view c.self.inside)) c.self.invariant.world (none_stray c.self.inside.trace.items))
 
 pub invariant_of-self-in_err-reply : goal.invariant_of-self-in_err-reply
 invariant_of-self-in_err-reply c =

@@ -1,5 +1,7 @@
 //! Standard streams that were closed when the program began.
 
+ghost use Rattle.std.specs.Prelude.{◌≤ℤ◌, ◌↔◌, pos, IsTrue};
+
 use std::fs::{File, Files};
 use std::os::fd::AsRawFd;
 
@@ -13,10 +15,17 @@ pub fn hold_streams<R: Files<File = File>>(rt: &R) -> [Option<File>; 3] {
     [hold(rt), hold(rt), hold(rt)]
 }
 
+// Whether a number is that of a standard stream.
+fn is_standard(number: i32) -> bool
+    ensures { IsTrue result ↔ (number ≤ℤ pos 2) }
+{
+    number <= LAST_STREAM
+}
+
 // A file in the lowest place that is free, where that is a standard stream's.
 fn hold<R: Files<File = File>>(rt: &R) -> Option<File> {
     let file = File::open(rt, "/dev/null").ok()?;
-    if file.as_raw_fd() <= LAST_STREAM {
+    if is_standard(file.as_raw_fd()) {
         Some(file)
     } else {
         None

@@ -6,12 +6,22 @@ ghost use Rattle.std.specs.Prelude.{◌≡◌};
 #[cfg(test)]
 mod batches;
 #[cfg(test)]
+mod contents;
+#[cfg(test)]
 mod expect;
 #[cfg(test)]
 mod growths;
+#[cfg(test)]
+mod histories;
+#[cfg(test)]
+mod honest_sites;
 #[cfg(test)]
 mod hub_growths;
 #[cfg(test)]
 mod hubs;
 #[cfg(test)]
+mod served;
+#[cfg(test)]
 mod stars;
+#[cfg(test)]
+mod strangers;

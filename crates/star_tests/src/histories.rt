@@ -1,0 +1,222 @@
+//! Random histories of one hub, which three honest sites and two strangers call. The clauses of `honest_sites_agree` are checked after each step.
+ghost use Rattle.jup_window.specs.Entries.{EachWidget};
+ghost use Rattle.jup_star.specs.Openings.{IsShort};
+
+use crate::contents::{Content, is_one_order, names_on};
+use crate::expect::{expect_eq, expect_that};
+use crate::honest_sites::Honest;
+use crate::served::Served;
+use crate::strangers::Stranger;
+use jup_star::Star;
+use jup_value::Name;
+use jup_window::Board;
+use std::alloc::Global;
+use std::process::Abort;
+use std::sync::Wait;
+use test_boards::{Dice, board_of};
+
+// How many honest sites there are in the end.
+const SITES: usize = 3;
+
+// After how many steps the orders of a moment are kept, and a site joins while there are fewer.
+const EACH: u32 = 25;
+
+// More rounds than it takes until nothing is on its way.
+const MOST_ROUNDS: u32 = 2_000;
+
+fn board(rt: &impl Abort, alloc: Global) -> Board
+    ensures { EachWidget IsShort result }
+{
+    let lines = ["window 1", "text 1 \"Jupiter\"", "toggle 2 off"];
+    board_of(alloc, &lines).expect(rt, "a board")
+}
+
+fn open_star(rt: &impl Abort, alloc: Global, limit: u32) -> Star {
+    Star::open(alloc, board(rt, alloc), limit).expect(rt, "a layout and a limit")
+}
+
+fn open(rt: &impl Abort, alloc: Global, limit: u32) -> Served {
+    let star = open_star(rt, alloc, limit);
+    let twin = open_star(rt, alloc, limit);
+    Served::open(rt, alloc, star, twin)
+}
+
+/// A hub with its callers, and what is compared.
+#[derive(Drop)]
+struct History {
+    opening: Board,
+    limit: usize,
+    served: Served,
+    sites: Vec<Honest>,
+    strangers: [Stranger; 2],
+    // The orders of the star's items at some earlier moments.
+    kept: Vec<Vec<Name>>,
+    // How often an honest site lost its link, and how often one was level with the star.
+    lost: u32,
+    level: u32,
+}
+
+// The star shows what its order means.
+fn star_shows(rt: &impl Abort, alloc: Global, opening: &Board, star: &Star) {
+    let mut due = Content::of(rt, alloc, opening);
+    for entry in star.order() {
+        due.take_all(rt, alloc, entry.edit.as_slice());
+    }
+    expect_that(rt, Content::of(rt, alloc, star.board()).same(&due));
+}
+
+// A list of names in the same order as each of those that were kept.
+fn keeps_orders(names: &[Name], kept: &[Vec<Name>]) -> bool {
+    kept.iter().all(|old| is_one_order(old, names))
+}
+
+impl History {
+    fn open(rt: &impl Abort, alloc: Global, limit: u32) -> History {
+        History {
+            opening: board(rt, alloc),
+            limit: limit as usize,
+            served: open(rt, alloc, limit),
+            sites: Vec::new(alloc),
+            strangers: [Stranger::new(), Stranger::new()],
+            kept: Vec::new(alloc),
+            lost: 0,
+            level: 0,
+        }
+    }
+
+    // One more honest site joins.
+    fn joins<R: Abort + Wait>(&mut self, rt: &R, alloc: Global) {
+        let honest = Honest::joins(rt, alloc, &mut self.served);
+        self.sites.push(honest).expect(rt, "memory");
+    }
+
+    // An honest site goes on, or once in 150 times someone has it leave. If it has no link, another site may join in its place.
+    fn site_goes_on<R: Abort + Wait>(&mut self, rt: &R, alloc: Global, dice: &mut Dice) {
+        let at = dice.roll(3) as usize;
+        let Some(honest) = self.sites.get_mut(at) else {
+            return;
+        };
+        let had_link = honest.has_link;
+        if had_link && dice.once_in(150) {
+            self.served.leaves(rt, honest.number());
+            honest.has_link = false;
+        } else if !had_link && dice.once_in(40) {
+            *honest = Honest::joins(rt, alloc, &mut self.served);
+        } else {
+            honest.goes_on(rt, alloc, dice, &mut self.served, self.limit);
+        }
+        if had_link && !honest.has_link {
+            self.lost = self.lost.saturating_add(1);
+        }
+    }
+
+    fn stranger_goes_on<R: Abort + Wait>(&mut self, rt: &R, alloc: Global, dice: &mut Dice) {
+        let at = dice.roll(2) as usize;
+        if let Some(stranger) = self.strangers.get_mut(at) {
+            stranger.goes_on(rt, alloc, dice, &mut self.served);
+        }
+    }
+
+    // What holds at every moment.
+    fn is_well(&self, rt: &impl Abort, alloc: Global) {
+        star_shows(rt, alloc, &self.opening, self.served.star());
+        let names = names_on(rt, alloc, self.served.star().board());
+        expect_that(rt, keeps_orders(&names, &self.kept));
+        for honest in &self.sites {
+            honest.is_well(rt, alloc, &self.opening, &self.served);
+        }
+    }
+
+    // The orders of this moment are kept.
+    fn keeps(&mut self, rt: &impl Abort, alloc: Global) {
+        let names = names_on(rt, alloc, self.served.star().board());
+        self.kept.push(names).expect(rt, "memory");
+        for honest in &mut self.sites {
+            honest.keeps(rt, alloc);
+        }
+    }
+
+    // One message of each honest site comes up, and it is handed one of those that are fetched.
+    fn moves<R: Abort + Wait>(&mut self, rt: &R, alloc: Global) {
+        for honest in &mut self.sites {
+            honest.is_heard(rt, alloc, &mut self.served, self.limit);
+            honest.fetches(rt, alloc, &mut self.served, 64);
+            honest.is_handed(rt, alloc);
+        }
+    }
+
+    fn is_drained(&self) -> bool {
+        self.sites
+            .iter()
+            .all(|honest| honest.is_drained(&self.served))
+    }
+
+    // All that is on its way comes, while the strangers are silent. Then each site with a link is level with the star.
+    fn drains<R: Abort + Wait>(&mut self, rt: &R, alloc: Global) {
+        for _ in 0..MOST_ROUNDS {
+            if self.is_drained() {
+                break;
+            }
+            self.moves(rt, alloc);
+        }
+        expect_that(rt, self.is_drained());
+        for honest in self.sites.iter().filter(|honest| honest.has_link) {
+            honest.is_level(rt, &self.served);
+            self.level = self.level.saturating_add(1);
+        }
+    }
+
+    // So many steps, each of an honest site or of a stranger. The sites join one after another.
+    fn plays<R: Abort + Wait>(&mut self, rt: &R, alloc: Global, dice: &mut Dice, steps: u32) {
+        for step in 0..steps {
+            if step % EACH == 0 {
+                self.keeps(rt, alloc);
+            }
+            if step % EACH == 0 && self.sites.len() < SITES {
+                self.joins(rt, alloc);
+            } else if dice.once_in(4) {
+                self.stranger_goes_on(rt, alloc, dice);
+            } else {
+                self.site_goes_on(rt, alloc, dice);
+            }
+            self.is_well(rt, alloc);
+        }
+        self.drains(rt, alloc);
+    }
+
+    // How many messages of strangers were accepted, and how many refused.
+    fn strangers_messages(&self) -> (u32, u32) {
+        let [one, two] = &self.strangers;
+        (
+            one.accepted.saturating_add(two.accepted),
+            one.refused.saturating_add(two.refused),
+        )
+    }
+}
+
+// After each of six rounds the sites with a link are level with the star. Strangers are heard and refused.
+#[test]
+fn honest_sites_agree_whatever_strangers_send(rt: HostRuntime) {
+    let alloc = rt.alloc();
+    let mut dice = Dice::of(1995);
+    let mut history = History::open(&rt, alloc, 100_000);
+    for _ in 0..6 {
+        history.plays(&rt, alloc, &mut dice, 200);
+    }
+    let (accepted, refused) = history.strangers_messages();
+    expect_eq(&rt, (accepted, accepted >= 50), (accepted, true));
+    expect_eq(&rt, (refused, refused >= 50), (refused, true));
+    expect_that(&rt, history.lost >= 1);
+    expect_that(&rt, history.level >= 12);
+}
+
+// Only a full order refuses what an honest site sends. Without its link the site still shows what its view means.
+#[test]
+fn only_a_full_order_refuses_an_honest_site(rt: HostRuntime) {
+    let alloc = rt.alloc();
+    let mut dice = Dice::of(2026);
+    let mut history = History::open(&rt, alloc, 40);
+    history.plays(&rt, alloc, &mut dice, 600);
+    expect_eq(&rt, history.served.taken(), 40);
+    expect_that(&rt, history.lost >= 3);
+}

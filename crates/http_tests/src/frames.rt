@@ -22,14 +22,16 @@ struct Seen {
 
 // Takes a piece whole.
 fn take(stream: &mut FrameStream, bytes: &[u8], seen: &mut Seen) {
-    let mut at = 0;
+    let mut at = 0usize;
     for _ in 0..=bytes.len() {
-        if at == bytes.len() {
+        let from = at.min(bytes.len());
+        if from == bytes.len() {
             return;
         }
-        let unframed = stream.unframe(&bytes[at..], &mut seen.data[seen.len..]);
-        at += unframed.taken;
-        seen.len += unframed.given;
+        let start = seen.len.min(seen.data.len());
+        let unframed = stream.unframe(&bytes[from..], &mut seen.data[start..]);
+        at = from + unframed.taken;
+        seen.len = start + unframed.given;
         match unframed.event {
             Some(Event::Ping(_)) => seen.pings = seen.pings.saturating_add(1),
             Some(Event::Closed(code)) => seen.end = End::Closed(code),

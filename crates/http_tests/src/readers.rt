@@ -109,11 +109,12 @@ fn a_read_that_fails_loses_nothing(rt: HostRuntime) {
         "there is memory",
     );
     let mut found = [0u8; 4];
-    let mut len = 0;
+    let mut len = 0usize;
     for _ in 0..18 {
-        if let Ok(more) = reader.read(&mut found[len..]) {
-            len += more;
+        let start = len.min(found.len());
+        if let Ok(more) = reader.read(&mut found[start..]) {
+            len = start + more;
         }
     }
-    expect_that(&rt, &found[..len] == b"hi".as_slice());
+    expect_that(&rt, &found[..len.min(4)] == b"hi".as_slice());
 }

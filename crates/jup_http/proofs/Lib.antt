@@ -2,3 +2,4 @@ pub mod StreamLemmas
 pub mod ReaderLemmas
 pub mod ArrivalLemmas
 pub mod RequestLemmas
+pub mod TextLemmas

@@ -1,11 +1,13 @@
 //! What holds of every stream.
-ghost use Rattle.std.specs.Prelude.{◌≡◌, ℕ, List, [], ◌∷◌, ◌++◌, Option, Err};
+ghost use Rattle.std.specs.Prelude.{◌≡◌, ℕ, List, [], ◌∷◌, ◌++◌, Option, Some, Err, IsUtf8};
 ghost use Rattle.std.specs.List.{flat_map};
 ghost use Rattle.websocket.specs.FrameHeader.{IsHeader, IsBytes, encode_header};
 ghost use Rattle.websocket.specs.declared.protocol.frame.header.FrameHeader.{FrameHeader};
 ghost use Rattle.jup_http.specs.declared.breach.Breach.{Breach};
 ghost use Rattle.jup_http.specs.declared.frame.Message.{Message};
 ghost use Rattle.jup_http.specs.Limits.{longest_head, most_fields, longest_message, longest_sent};
+ghost use Rattle.jup_http.specs.declared.texts.CharPart.TheVariants as CharPart;
+ghost use Rattle.jup_http.specs.Texts.{after_bytes};
 ghost use Rattle.jup_http.specs.Frames.{frame_of};
 ghost use Rattle.jup_http.specs.Streams.{Told, broken, between, tells};
 ghost use Rattle.jup_http.specs.Arrivals.{Sent, wire, AreTaken};
@@ -24,6 +26,11 @@ pub fn limits_are_stated()
 pub fn frames_arrive()
     ensures { (pending next : Option Message) (fs : List Sent) (told : List Told) (rest : List ℕ) → AreTaken pending fs told next
         → tells (between pending) (flat_map wire fs ++ rest) ≡ told ++ tells (between next) rest }
+{}
+
+/// A text that is UTF-8 is taken whole, byte by byte.
+pub fn utf8_is_taken()
+    ensures { (bs : List ℕ) → IsUtf8 bs → after_bytes (Some CharPart.Whole) bs ≡ Some CharPart.Whole }
 {}
 
 /// A header that breaks a rule is told of at its last byte, and nothing after it.

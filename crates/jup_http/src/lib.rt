@@ -21,7 +21,7 @@ pub use breach::Breach;
 pub use ending::Ending;
 pub use frame::LONGEST_MESSAGE;
 pub use held::Held;
-pub use laws::{bad_headers_are_refused, frames_arrive, limits_are_stated};
+pub use laws::{bad_headers_are_refused, frames_arrive, limits_are_stated, utf8_is_taken};
 pub use origins::is_origin;
 pub use reader::MessageReader;
 pub use refusal::Refusal;

@@ -25,3 +25,5 @@ mod served;
 mod stars;
 #[cfg(test)]
 mod strangers;
+#[cfg(test)]
+mod told;

@@ -462,3 +462,44 @@ fn one_message_is_fetched_without_a_list(rt: HostRuntime) {
     expect_eq(&rt, star.waiting(1), Some(1));
     expect_eq(&rt, star_number(star.fetch_one(9).err()), 33);
 }
+
+// The deletion of the one item of the opening text.
+fn deletion_of_the_first() -> BoardOp {
+    let name = Name { site: 0, number: 1 };
+    BoardOp {
+        win: 1,
+        wid: 1,
+        op: WidgetOp::Text(SeqOp::Delete { place: 0, name }),
+    }
+}
+
+// Both sites of a star delete the one item of its text.
+fn star_with_two_deletions(rt: &impl Abort, alloc: Global) -> Star {
+    let board = board_of(alloc, &["window 1", "text 1 \"z\""]).expect(rt, "a board");
+    let mut star = Star::open(alloc, board, LIMIT).expect(rt, "a layout and a limit");
+    joins(rt, alloc, &mut star);
+    joins(rt, alloc, &mut star);
+    let deletion = first_message(alloc, deletion_of_the_first());
+    expect_eq(rt, star.take(alloc, 1, &deletion), Ok(Some(0)));
+    expect_eq(rt, star.take(alloc, 2, &deletion), Ok(Some(1)));
+    star
+}
+
+// What site 1 is sent for the second deletion bears a no-op.
+#[test]
+fn a_second_deletion_is_sent_as_a_no_op(rt: HostRuntime) {
+    let mut star = star_with_two_deletions(&rt, rt.alloc());
+    let nothing = BoardOp {
+        win: 1,
+        wid: 1,
+        op: WidgetOp::Text(SeqOp::Nothing),
+    };
+    let due = Down::Op(Msg {
+        mine: 0,
+        heard: 1,
+        op: alone(rt.alloc(), nothing),
+    });
+    expect_eq(&rt, star.fetch_one(1), Ok(Some(due)));
+    expect_eq(&rt, star.fetch_one(1), Ok(None));
+    expect_that(&rt, reads(star.board(), ""));
+}

@@ -19,3 +19,5 @@ mod printed_boards;
 mod singles;
 #[cfg(test)]
 mod texts;
+#[cfg(test)]
+mod told;

@@ -22,4 +22,6 @@ mod sequences;
 #[cfg(test)]
 mod settings;
 #[cfg(test)]
+mod told;
+#[cfg(test)]
 mod values;

@@ -4,6 +4,7 @@ use jup_seq::{ListOp, SeqEdit, SeqOp, Source, TextOp};
 use jup_value::{Item, Label, Name, Seq};
 use jup_xform::{Side, Transform, across};
 use std::alloc::Global;
+use std::process::Abort;
 
 // The first insertion of a site.
 pub(crate) fn insert(place: u32, site: u32, value: char) -> TextOp {
@@ -197,6 +198,82 @@ fn insertion_goes_across_a_queue(rt: HostRuntime) {
     expect_eq(&rt, op, insert(0, 1, 'a'));
     expect_eq(&rt, queue[0], delete(1, 1));
     expect_eq(&rt, queue[1], insert(1, 2, 'x'));
+}
+
+// A label of one letter.
+fn letter(rt: &impl Abort, letter: &[u8]) -> Label {
+    Label::read(letter).expect(rt, "a label")
+}
+
+// The labels p, q and r.
+fn labels(rt: &impl Abort, alloc: Global) -> Seq<Label> {
+    let mut list = Seq::new(alloc);
+    for &value in &[letter(rt, b"p"), letter(rt, b"q"), letter(rt, b"r")] {
+        let place = list.len();
+        let name = Name {
+            site: 0,
+            number: place.saturating_add(1),
+        };
+        let item = Item { name, value };
+        attempt(alloc, &SeqOp::Insert { place, item }, &mut list);
+    }
+    list
+}
+
+// Whether both ways round are valid and lead from these labels to one list, which is that.
+fn lists_meet(rt: &impl Abort, alloc: Global, c: ListOp, s: ListOp, end: &[Label]) -> bool {
+    let (mut moved_c, mut moved_s) = (c, s);
+    Transform::transform(&mut moved_c, &mut moved_s);
+    let (mut one, mut other) = (labels(rt, alloc), labels(rt, alloc));
+    let are_valid = attempt(alloc, &c, &mut one)
+        && attempt(alloc, &moved_s, &mut one)
+        && attempt(alloc, &s, &mut other)
+        && attempt(alloc, &moved_c, &mut other);
+    are_valid && shows(&one, end) && shows(&other, end)
+}
+
+// Whether a list has these labels.
+fn shows(list: &Seq<Label>, labels: &[Label]) -> bool {
+    let mut place = 0;
+    for label in labels {
+        if !list.get(place).is_some_and(|item| item.value == *label) {
+            return false;
+        }
+        place = place.saturating_add(1);
+    }
+    list.len() == place
+}
+
+// The relabel at a place of the item of the number.
+fn relabel_as(place: u32, number: u32, value: Label) -> ListOp {
+    SeqOp::Relabel {
+        place,
+        name: Name { site: 0, number },
+        value,
+    }
+}
+
+#[test]
+fn relabel_of_a_list_moves_with_its_item(rt: HostRuntime) {
+    let alloc = rt.alloc();
+    let z = letter(&rt, b"z");
+    let gone = SeqOp::Delete {
+        place: 0,
+        name: Name { site: 0, number: 1 },
+    };
+    let end = [letter(&rt, b"q"), z];
+    let relabel = relabel_as(2, 3, z);
+    expect_that(&rt, lists_meet(&rt, alloc, relabel, gone, &end));
+    let put = SeqOp::Insert {
+        place: 1,
+        item: Item {
+            name: FIRST,
+            value: letter(&rt, b"y"),
+        },
+    };
+    let end = [letter(&rt, b"p"), letter(&rt, b"y"), z, letter(&rt, b"r")];
+    let relabel = relabel_as(1, 2, z);
+    expect_that(&rt, lists_meet(&rt, alloc, relabel, put, &end));
 }
 
 const FIRST: Name = Name { site: 1, number: 1 };

@@ -1,0 +1,58 @@
+//! What people are told of each fault.
+use crate::expect::expect_eq;
+use jup_setting::BadBounds;
+use jup_value::{BadLabel, NoMemory};
+use jup_window::{BoardFault, EditFault};
+use std::alloc::Global;
+use std::fmt::Display;
+use std::process::Abort;
+
+// This is told of a fault.
+fn tells<R: Abort, F: Display>(rt: &R, alloc: Global, fault: &F, due: &str) {
+    let told = format!(in alloc; "{fault}").expect(rt, "memory");
+    expect_eq(rt, told.as_str(), due);
+}
+
+#[test]
+fn each_fault_of_an_edit_is_told(rt: HostRuntime) {
+    for &(fault, due) in &[
+        (EditFault::NoWindow, "no such window"),
+        (EditFault::NoWidget, "no such widget in the window"),
+        (EditFault::WrongKind, "the command does not fit the widget"),
+        (EditFault::BadPlace, "the place is past the end"),
+        (EditFault::BadValue, "the value is not within the bounds"),
+        (
+            EditFault::LongText,
+            "the sequence is too long to insert into",
+        ),
+        (EditFault::Backlog, "too many edits are not acknowledged"),
+        (EditFault::NoMemory, "no memory"),
+        (EditFault::Spent, "the site has made all of its edits"),
+        (EditFault::BadBatch, "not 1 to 32 commands"),
+        (EditFault::Stopped, "the site has stopped"),
+    ] {
+        tells(&rt, rt.alloc(), &fault, due);
+    }
+}
+
+#[test]
+fn each_fault_of_a_board_and_of_a_value_is_told(rt: HostRuntime) {
+    for &(fault, due) in &[
+        (BoardFault::NoWindow, "no such window"),
+        (BoardFault::NoMemory, "no memory"),
+        (BoardFault::DoubleId, "the id is taken"),
+        (BoardFault::TooMany, "there are 64 already"),
+        (BoardFault::BadId, "0 is no id"),
+    ] {
+        tells(&rt, rt.alloc(), &fault, due);
+    }
+    let due = "a label has 1 to 48 bytes, each from a space to `~`";
+    tells(&rt, rt.alloc(), &BadLabel, due);
+    tells(
+        &rt,
+        rt.alloc(),
+        &BadBounds,
+        "the value is not within the bounds",
+    );
+    tells(&rt, rt.alloc(), &NoMemory, "no memory");
+}

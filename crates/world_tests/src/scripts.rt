@@ -114,8 +114,29 @@ fn a_pair_script_prints_both_ends(rt: HostRuntime) {
             "pair slider -10 0 -5\nclient -7\nserver 0\n",
             "c s' -7\ns c' -7\n",
         ),
+        (
+            "pair slider 5 5 5\nclient 5\nserver 5\n",
+            "c s' 5\ns c' 5\n",
+        ),
     ] {
         prints(&rt, rt.alloc(), script, printed);
+    }
+}
+
+// A carriage return is a character of its line, which is then no line of a script.
+#[test]
+fn a_line_that_ends_in_a_carriage_return_is_bad(rt: HostRuntime) {
+    for &(script, line, fault) in &[
+        ("pair toggle on\r\n", 1, ScriptFault::BadSwitch),
+        ("pair toggle on\nclient off\r\n", 2, ScriptFault::BadSwitch),
+        ("pair slider 0 10 5\r\n", 1, ScriptFault::BadInteger),
+        ("two\r\n", 1, ScriptFault::NoMode),
+        ("two\nstart \"\"\r\n", 2, ScriptFault::BadText),
+        ("star 1\r\n", 1, ScriptFault::BadLimit),
+        ("star 1\nwindow 1\r\n", 2, ScriptFault::BadId),
+        ("star 1\nshow\r\n", 2, ScriptFault::NoEvent),
+    ] {
+        is_bad_at(&rt, rt.alloc(), script, ScriptEnd::Bad(line, fault), "");
     }
 }
 

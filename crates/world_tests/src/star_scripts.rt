@@ -35,6 +35,16 @@ fn a_star_script_sets_and_fills_each_kind_of_widget(rt: HostRuntime) {
     prints(&rt, rt.alloc(), script, printed);
 }
 
+// A slider may have one value alone, which it shows.
+#[test]
+fn a_star_script_has_a_slider_of_one_value(rt: HostRuntime) {
+    let script =
+        "star 9\nwindow 1\nslider 4 5 5 5\njoin\nedit 1 set 1 4 5\nedit 1 set 1 4 6\nup 1\nshow\n";
+    let printed =
+        "joined 1\nmade set 1 4 5\nrefused 5\ntaken 0\nstar\nwindow 1\nslider 4 5 5 5\nsite 1\nwindow 1\nslider 4 5 5 5\nquiet yes\n";
+    prints(&rt, rt.alloc(), script, printed);
+}
+
 // Ids may come in any order, and are printed ascending.
 #[test]
 fn a_star_script_takes_ids_in_any_order(rt: HostRuntime) {
@@ -64,6 +74,16 @@ fn a_bad_board_is_told_by_its_line_and_what_is_wrong(rt: HostRuntime) {
         ("star 1\nwindow 1 \n", 2, ScriptFault::BadId),
         ("star 1\nwindow 1", 2, ScriptFault::Unended),
         ("star 1\nwindow 1\nwindow 1\n", 3, ScriptFault::DoubleId),
+        (
+            "star 1\nwindow 65535\nwindow 65535\n",
+            3,
+            ScriptFault::DoubleId,
+        ),
+        (
+            "star 1\nwindow 65535\ntext 65535 \"\"\ntoggle 65535 on\n",
+            4,
+            ScriptFault::DoubleId,
+        ),
         ("star 1\ntext 1 \"\"\n", 2, ScriptFault::NoWindow),
         ("star 1\nwindow 1\ntext 1\n", 3, ScriptFault::BadText),
         ("star 1\nwindow 1\ntext 0 \"\"\n", 3, ScriptFault::BadId),

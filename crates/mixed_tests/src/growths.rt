@@ -5,7 +5,7 @@ use crate::expect::{expect_eq, expect_that};
 use jup_batch::BoardEdits;
 use jup_mixed::{MixEvent, MixHappened, Mixed};
 use jup_seq::SeqOp;
-use jup_star::{OpenFault, Up};
+use jup_star::{OpenFault, StarFault, Up};
 use jup_text::write_board;
 use jup_value::{Item, Name};
 use jup_window::{Command, Edit, Effect};
@@ -16,14 +16,20 @@ use std::process::Abort;
 use test_boards::{board_of, reads};
 use test_marks::{begin, end};
 
-// What a star with strangers shows: its board and the site's as they are printed, the counts of entries and of events, how many messages wait
+// What a star with strangers shows: its board and the site's as they are printed, its order and its trace in full, how many messages wait
 // for links 1 and 2, and whether anything is on its way to the site or from it.
 #[derive(Drop)]
 struct Seen {
     boards: Vec<u8>,
-    counts: (usize, usize),
+    happened: String,
     waiting: [Option<usize>; 2],
     is_quiet: bool,
+}
+
+// The order of the edits and the trace, with all that is in them.
+fn happened_in(rt: &impl Abort, alloc: Global, mixed: &Mixed) -> String {
+    let (order, trace) = (mixed.star().order(), mixed.trace());
+    format!(in alloc; "{order:?} {trace:?}").expect(rt, "memory")
 }
 
 fn look_at(rt: &impl Abort, alloc: Global, mixed: &Mixed) -> Seen {
@@ -33,7 +39,7 @@ fn look_at(rt: &impl Abort, alloc: Global, mixed: &Mixed) -> Seen {
     write_board(alloc, site.board(), &mut boards).expect(rt, "memory");
     Seen {
         boards,
-        counts: (mixed.star().order().len(), mixed.trace().len()),
+        happened: happened_in(rt, alloc, mixed),
         waiting: [mixed.star().waiting(1), mixed.star().waiting(2)],
         is_quiet: mixed.quiet(),
     }
@@ -42,7 +48,8 @@ fn look_at(rt: &impl Abort, alloc: Global, mixed: &Mixed) -> Seen {
 // All is seen as before; but where a message is moved down, one that waited may be on its way.
 fn is_spared(rt: &impl Abort, event: &MixEvent, was: &Seen, now: &Seen) {
     expect_eq(rt, now.boards.as_slice(), was.boards.as_slice());
-    expect_eq(rt, (now.counts, now.is_quiet), (was.counts, was.is_quiet));
+    expect_eq(rt, now.happened.as_str(), was.happened.as_str());
+    expect_eq(rt, now.is_quiet, was.is_quiet);
     expect_eq(rt, now.waiting[1], was.waiting[1]);
     let one_less = was.waiting[0].map(|count| count.saturating_sub(1));
     let fetched = *event == MixEvent::Down && now.waiting[0] == one_less;
@@ -200,4 +207,57 @@ fn mixed_open(rt: HostRuntime) {
     }
     let mixed = mixed.expect(&rt, "a layout and a limit");
     expect_that(&rt, mixed.quiet() && reads(mixed.star().board(), "ab"));
+}
+
+// The deletion of the first item of the opening text, by the stranger.
+fn stray_deletion(alloc: Global) -> MixEvent {
+    let name = Name { site: 0, number: 1 };
+    strays(alloc, 2, 0, SeqOp::Delete { place: 0, name })
+}
+
+// One command of the site, and what it makes.
+fn type_one(rt: &impl Abort, alloc: Global, place: u32, number: u32, value: char) -> MixHappened {
+    let commands = Few::from_slice(alloc, &[insert(place, value)]).expect(rt, "memory");
+    let put = Edit {
+        win: 1,
+        wid: 1,
+        what: Effect::PutChar(Name { site: 1, number }, value),
+    };
+    let edits: BoardEdits = Few::from_slice(alloc, &[put]).expect(rt, "memory");
+    MixHappened {
+        event: MixEvent::Edit(commands),
+        reply: Reply::Made(edits),
+    }
+}
+
+// A stranger's deletion is taken between an edit of the site and its taking. The same again detaches the stranger, and the site edits on.
+fn strangers_row(rt: &impl Abort, alloc: Global) -> Vec<MixHappened> {
+    let mut all = Vec::new(alloc);
+    all.push(type_one(rt, alloc, 2, 1, 'c'))
+        .expect(rt, "memory");
+    add(rt, &mut all, MixEvent::JoinStray, Reply::Joined(2));
+    add(rt, &mut all, stray_deletion(alloc), Reply::Taken(0));
+    add(rt, &mut all, MixEvent::Up, Reply::Taken(1));
+    add(rt, &mut all, MixEvent::Down, Reply::Shown);
+    let detached = Reply::Detached(StarFault::BadCount);
+    add(rt, &mut all, stray_deletion(alloc), detached);
+    add(rt, &mut all, stray_deletion(alloc), Reply::Nothing);
+    all.push(type_one(rt, alloc, 0, 2, 'd'))
+        .expect(rt, "memory");
+    add(rt, &mut all, MixEvent::Up, Reply::Taken(2));
+    all
+}
+
+// All events of the row are marked.
+#[test]
+fn step_of_the_strangers_row(rt: HostRuntime) {
+    let mut mixed = mixed_over(&rt, rt.alloc(), "text 1 \"ab\"");
+    let all = strangers_row(&rt, rt.alloc());
+    for wanted in all.as_slice() {
+        happens(&rt, rt.alloc(), &mut mixed, wanted, true);
+    }
+    expect_eq(&rt, mixed.trace(), all.as_slice());
+    expect_that(&rt, mixed.quiet() && reads(mixed.star().board(), "dbc"));
+    let site = mixed.site().expect(&rt, "the site is attached");
+    expect_that(&rt, reads(site.board(), "dbc"));
 }

@@ -15,15 +15,21 @@ use std::process::Abort;
 use test_boards::board_of;
 use test_marks::{begin, end};
 
-// What a world shows: its boards as they are printed, the counts of entries and of events, what the sites wait for and what waits for them,
+// What a world shows: its boards as they are printed, its order and its trace in full, what the sites wait for and what waits for them,
 // and whether anything is on its way.
 #[derive(Drop)]
 struct Seen {
     boards: Vec<u8>,
-    counts: (usize, usize),
+    happened: String,
     backlogs: [Option<u32>; 2],
     waiting: [Option<usize>; 2],
     is_quiet: bool,
+}
+
+// The order of a world's edits and its trace, with all that is in them.
+fn happened_in(rt: &impl Abort, alloc: Global, world: &World) -> String {
+    let (order, trace) = (world.star().order(), world.trace());
+    format!(in alloc; "{order:?} {trace:?}").expect(rt, "memory")
 }
 
 fn look_at(rt: &impl Abort, alloc: Global, world: &World) -> Seen {
@@ -37,7 +43,7 @@ fn look_at(rt: &impl Abort, alloc: Global, world: &World) -> Seen {
     let backlog = |number: u32| -> Option<u32> { world.site(number).map(|site| site.backlog()) };
     Seen {
         boards,
-        counts: (world.star().order().len(), world.trace().len()),
+        happened: happened_in(rt, alloc, world),
         backlogs: [backlog(1), backlog(2)],
         waiting: [world.star().waiting(1), world.star().waiting(2)],
         is_quiet: is_quiet(world),
@@ -60,8 +66,12 @@ fn wait_as_before(rt: &impl Abort, fetched: bool, was: Option<usize>, now: Optio
 
 fn is_spared(rt: &impl Abort, event: &Event, was: &Seen, now: &Seen) {
     expect_eq(rt, now.boards.as_slice(), was.boards.as_slice());
-    expect_eq(rt, (now.counts, now.backlogs), (was.counts, was.backlogs));
-    expect_eq(rt, now.is_quiet, was.is_quiet);
+    expect_eq(rt, now.happened.as_str(), was.happened.as_str());
+    expect_eq(
+        rt,
+        (now.backlogs, now.is_quiet),
+        (was.backlogs, was.is_quiet),
+    );
     let fetched = may_fetch(event, 1);
     wait_as_before(rt, fetched, was.waiting[0], now.waiting[0]);
     let fetched = may_fetch(event, 2);

@@ -62,6 +62,49 @@ fn words_with_more_behind_them_are_no_commands(rt: HostRuntime) {
     );
 }
 
+// The longest command has 130 bytes: each number has all its digits, and each byte of the label is printed as two.
+#[test]
+fn the_longest_command_is_read(rt: HostRuntime) {
+    let alloc = rt.alloc();
+    let mut command = String::from_str(alloc, "ins 65535 65535 4294967295 item \"").expect(
+        &rt, "memory",
+    );
+    for _ in 0..48 {
+        command.push_str("\\\"").expect(&rt, "memory");
+    }
+    command.push_str("\"").expect(&rt, "memory");
+    expect_eq(&rt, command.len(), 130);
+    let printed = "site 1\nrefused 1\nbye\n";
+    client_prints(&rt, alloc, command.as_bytes(), GREETED.as_bytes(), printed);
+}
+
+// A line of so many bytes that are no command, and behind them one that would end the client.
+fn long_line(rt: &impl Abort, alloc: Global, len: usize) -> Vec<u8> {
+    let mut line = Vec::new(alloc);
+    for _ in 0..len {
+        line.push(b'x').expect(rt, "memory");
+    }
+    line.extend_from_slice(b"quit\nset 1 3 on\n")
+        .expect(rt, "memory");
+    line
+}
+
+// Of a line that is too long, the rest is skipped up to its end.
+#[test]
+fn a_long_line_is_one_bad_command(rt: HostRuntime) {
+    let printed = "site 1\nbad command\nmade set 1 3 on\nbye\n";
+    for len in [4_092, 4_093, 4_096, 4_097, 8_192] {
+        let line = long_line(&rt, rt.alloc(), len);
+        client_prints(
+            &rt,
+            rt.alloc(),
+            line.as_slice(),
+            GREETED.as_bytes(),
+            printed,
+        );
+    }
+}
+
 #[test]
 fn a_read_of_commands_that_is_interrupted_is_made_again(rt: HostRuntime) {
     let commands = OneByOne {

@@ -2,7 +2,7 @@
 
 use crate::clients::GREETED;
 use crate::expect::{expect_eq, expect_that};
-use crate::fakes::{FailsAfter, FailsAt};
+use crate::fakes::{Endless, FailsAfter, FailsAt};
 use crate::programs::{LAYOUT, daemon_at, expect_failure, serve};
 use crate::sessions::{TYPED, expect_end, ran, write_fails};
 use jup_session::{ClientEnd, Ending, Open, run_client};
@@ -44,12 +44,30 @@ fn each_read_of_a_session(rt: HostRuntime) {
 // The greeting, the pong and the last line are three writes, or two: the pong meets the failure before or after the site says bye.
 #[test]
 fn each_write_of_a_session(rt: HostRuntime) {
-    expect_eq(&rt, write_fails(&rt, rt.alloc(), 0), Ending::Fault(71));
+    let from: &[u8] = b"hello 3\nping 7\nbye\n";
+    expect_eq(
+        &rt,
+        write_fails(&rt, rt.alloc(), from, 0),
+        Ending::Fault(71),
+    );
     for writes in 1..3 {
-        let ending = write_fails(&rt, rt.alloc(), writes);
+        let ending = write_fails(&rt, rt.alloc(), from, writes);
         expect_that(&rt, ending == Ending::Fault(71) || ending == Ending::Bye);
     }
-    expect_eq(&rt, write_fails(&rt, rt.alloc(), 3), Ending::Bye);
+    expect_eq(&rt, write_fails(&rt, rt.alloc(), from, 3), Ending::Bye);
+}
+
+// A site that pings on and never says bye has a session that only its failed write ends: the first behind the greeting, or a later one.
+#[test]
+fn a_write_that_fails_behind_the_greeting(rt: HostRuntime) {
+    for writes in 1..4 {
+        let from = Endless {
+            text: b"hello 3\n",
+            line: b"ping 7\n",
+        };
+        let ending = write_fails(&rt, rt.alloc(), from, writes);
+        expect_eq(&rt, (writes, ending), (writes, Ending::Fault(71)));
+    }
 }
 
 // How a client of this link ends that is told to sync and to quit.

@@ -24,6 +24,22 @@ impl<'a> Read for FailsAfter<'a> {
     }
 }
 
+/// Gives its text, and then one line again and again.
+#[derive(Drop)]
+pub(crate) struct Endless<'a> {
+    pub(crate) text: &'a [u8],
+    pub(crate) line: &'a [u8],
+}
+
+impl<'a> Read for Endless<'a> {
+    fn read(&mut self, buf: &mut [u8]) -> io::Result<usize> {
+        if self.text.is_empty() {
+            self.text = self.line;
+        }
+        self.text.read(buf)
+    }
+}
+
 /// Gives one byte at each second read. The reads between are interrupted.
 #[derive(Drop)]
 pub(crate) struct OneByOne<'a> {

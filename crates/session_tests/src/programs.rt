@@ -163,6 +163,16 @@ fn a_layout_that_is_too_long(rt: HostRuntime) {
     expect_failure(&rt, &told, 5, "", "layout too long\n");
 }
 
+// A layout of the most bytes is read. Here its first line is too long.
+#[test]
+fn a_layout_of_the_most_bytes(rt: HostRuntime) {
+    let alloc = rt.alloc();
+    let words = daemon_at(&rt, alloc, "127.0.0.1:47012", "100", "2");
+    let told = serve(&rt, alloc, &words, io::repeat(b'a').take(16_777_216));
+    let errors = "layout line 1: fault 41\n256 bytes without the end of a line\n";
+    expect_failure(&rt, &told, 5, "", errors);
+}
+
 // The program refused its words: it said why, and printed nothing.
 fn words_refused(rt: &impl Abort, told: &Told) {
     expect_eq(rt, told.status, 2);

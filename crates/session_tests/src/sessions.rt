@@ -445,9 +445,10 @@ fn first_edit(alloc: Global, site: u32) -> Result<Up, NoMemory> {
 }
 
 // The second session of a hub, whose writer fails at a write. The other site stays.
-pub(crate) fn write_fails<R: Threads + Wait + Sync + Abort>(
+pub(crate) fn write_fails<R: Threads + Wait + Sync + Abort, I: Read + Drop>(
     rt: &R,
     alloc: Global,
+    from: I,
     writes: u32,
 ) -> Ending {
     let (hub, mut pass) = open_hub(rt, alloc, EMPTY_TEXT, 100);
@@ -458,7 +459,6 @@ pub(crate) fn write_fails<R: Threads + Wait + Sync + Abort>(
         writes,
         text: &mut text,
     };
-    let from: &[u8] = b"hello 3\nping 7\nbye\n";
     let (mut pass, ending) = serve_link(rt, alloc, from, to, &hub, pass, &Bell::new(), &Open);
     let edit = first_edit(alloc, 1).expect(rt, "one operation takes no memory");
     expect_eq(rt, hub.take(rt, alloc, &mut pass, 1, &edit), Ok(Some(0)));

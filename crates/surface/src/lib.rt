@@ -1,5 +1,5 @@
-//! The public calls of the libraries, from values to worlds and the hub, at their paths and with their signatures: a call that
-//! moves away, or that takes or answers something else, fails the check of this crate.
+//! Every public call of the specification, at its path and with its signature: a call that moves away, or that takes or answers
+//! something else, fails the check of this crate.
 //!
 //! A call is named by a pointer with its type, where the prover can make one. A generic call, and one that answers a reference, is
 //! called by a function that has its signature. Nothing runs, and no contract says more than a call asks for.
@@ -10,6 +10,8 @@ pub mod hubs;
 pub mod lines;
 pub mod links;
 pub mod operations;
+pub mod runs;
+pub mod sessions;
 pub mod settings;
 pub mod stars;
 pub mod values;

@@ -1,5 +1,7 @@
-//! `jup_world`: whole runs of the system.
+//! `jup_world`, `jup_mixed` and `jup_script`: whole runs of the system.
 
+use jup_mixed::{MixEvent, MixHappened, Mixed};
+use jup_script::{ScriptEnd, run_script};
 use jup_setting::Slider;
 use jup_star::{OpenFault, Site, Star};
 use jup_value::Seq;
@@ -9,6 +11,7 @@ use jup_world::{
 };
 use jup_xform::NoMemory;
 use std::alloc::Global;
+use std::io::{Read, Write};
 
 /// The calls of a world that answer values.
 pub fn world_calls() {
@@ -56,4 +59,40 @@ pub fn client(two: &Two) -> &Seq<char> {
 /// `Two::server`.
 pub fn server(two: &Two) -> &Seq<char> {
     two.server()
+}
+
+/// `run_script`.
+pub fn script<R: Read + Drop, W: Write>(
+    alloc: Global,
+    reader: R,
+    writer: &mut W,
+) -> Result<(), ScriptEnd> {
+    run_script(alloc, reader, writer)
+}
+
+/// The calls of one site beside strangers that answer values.
+pub fn mixed_calls() {
+    let _: fn(Global, Board, u32) -> Result<Mixed, OpenFault> = Mixed::open;
+    let _: fn(&mut Mixed, Global, &MixEvent) -> Result<Reply, NoMemory> = Mixed::step;
+    let _: fn(&Mixed) -> bool = Mixed::quiet;
+}
+
+/// `Mixed::trace`.
+pub fn mixed_trace(mixed: &Mixed) -> &[MixHappened] {
+    mixed.trace()
+}
+
+/// `Mixed::opening`.
+pub fn mixed_opening(mixed: &Mixed) -> &Board {
+    mixed.opening()
+}
+
+/// `Mixed::star`.
+pub fn mixed_star(mixed: &Mixed) -> &Star {
+    mixed.star()
+}
+
+/// `Mixed::site`.
+pub fn mixed_site(mixed: &Mixed) -> Option<&Site> {
+    mixed.site()
 }

@@ -83,7 +83,7 @@ pub fn serve<
 
 /// `client_main`.
 pub fn connect<
-    R: Net<Listener = TcpListener, Stream = TcpStream> + Clock,
+    R: Net<Listener = TcpListener, Stream = TcpStream> + Threads + Wait + Clock + Sync,
     C: Read + Drop,
     O: Write,
     E: Write,

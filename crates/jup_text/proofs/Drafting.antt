@@ -1,5 +1,5 @@
 -- Items that are read one by one, each named behind the last.
-use Rattle.std.proofs.Common.{◌≡◌, ℕ, ◌+◌, List, [], ◌∷◌, ◌++◌, map, Option, Some, None, Result, Ok, Err, refl, sym, ap, subst, ◌∙◌, append_assoc, append-nil}
+use Rattle.std.proofs.Common.{◌≡◌, ℕ, ◌+◌, List, [], ◌∷◌, ◌++◌, map, Option, Some, None, Ok, refl, sym, ap, subst, ◌∙◌, append_assoc, append-nil}
 use Rattle.std.specs.Prelude.{codes, decimal}
 use Rattle.std.specs.List.{flat_map}
 use Rattle.std.proofs.lemmas.List.{map-append}
@@ -13,7 +13,6 @@ use Rattle.jup_text.specs.Quotes.{quoted}
 use Rattle.jup_text.specs.Boards.{line_of}
 use Rattle.jup_text.specs.WidgetLines.{AreNumbered, IsWidgetLine}
 use Rattle.jup_text.proofs.Printing.{labels_line}
-use Rattle.jup_text.proofs.Quoting.{HasRead}
 
 -- the item behind a number
 abbrev pub next_item : {V : Type 0} → ℕ → V → Item V

@@ -7,3 +7,4 @@ pub mod CommandWords
 pub mod OneCommand
 pub mod Printing
 pub mod Drafting
+pub mod NextLines

@@ -2,11 +2,11 @@
 use Rattle.std.proofs.Common.{◌≡◌, ◌≢◌, ℕ, suc, ◌+◌, ◌<◌, List, [], ◌∷◌, ◌++◌, length, take, drop, add-one, Bool, ◌==◌, Some, None, ltb, refl, sym, ap, subst, ◌∙◌, arith, inl, inr}
 use Rattle.std.specs.Prelude.{position}
 use Rattle.std.specs.List.{AllByRecursion, position_or_len, before_first, after_first}
-use Rattle.std.proofs.lemmas.Bool.{cases_Bool, ne_eqb, eqb-true, eq-eqb, cond-true, lt-ltb, ltb-true, true≢false}
+use Rattle.std.proofs.lemmas.Bool.{cases_Bool, cases_lt, ne_eqb, eqb-true, eq-eqb, cond-true, lt-ltb, ltb-true, true≢false}
 use Rattle.std.proofs.lemmas.Option.{none-some, cond_some}
 use Rattle.std.proofs.lemmas.List.Sums.{split_at_first, passes_at_first}
 use Rattle.std.proofs.Math.Seq.{take-append_seam}
-use Rattle.std.proofs.lemmas.List.{length-append}
+use Rattle.std.proofs.lemmas.List.{length-append, take_all}
 use Rattle.std.proofs.Math.Numerals.{one-add}
 
 abbrev pub is_byte : ℕ → ℕ → Bool
@@ -50,6 +50,14 @@ before_lacks b (x ∷ text) = elim (cases_Bool (x == b)) [
 
 pub lacks_before : (b : ℕ) (text : List ℕ) (end : ℕ) → Some end ≡ position (is_byte b) text → Lacks b (take end text)
 lacks_before b text end e = subst (λ (i : ℕ). Lacks b (take i text)) (found_at b text end e).1 (before_lacks b text)
+
+-- it is nowhere where it has no place
+pub lacks_all : (b : ℕ) (text : List ℕ) → None ≡ position (is_byte b) text → Lacks b text
+lacks_all b text none =
+    elim (cases_lt (position_or_len (is_byte b) text) (length text)) [
+      | inl within ↦ absurd (none-some _ (none ∙ cond-true _ _ _ (lt-ltb _ _ within)))
+      | inr past ↦ subst (Lacks b) (take_all (position_or_len (is_byte b) text) text past) (before_lacks b text)
+    ]
 
 drop_past : (b : ℕ) (xs ys : List ℕ) → drop (length xs + 1) (xs ++ b ∷ ys) ≡ ys
 drop_past b xs ys = rw add-one (go xs)

@@ -2,6 +2,7 @@ pub mod Boards
 pub mod Commands
 pub mod Drafts
 pub mod Edits
+pub mod NextLines
 pub mod Numbering
 pub mod Quotes
 pub mod WidgetLines

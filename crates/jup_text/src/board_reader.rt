@@ -1,7 +1,10 @@
 //! Boards that are read line by line, as they are printed. The items are named 0.1, 0.2 and so on, through
 //! the whole board in the order of its lines.
-ghost use Rattle.std.specs.Prelude.{◌≡◌, ℕ, List, [], ◌++◌, None, OnOk, OnErr, codes};
+ghost use Rattle.std.specs.Prelude.{◌≡◌, ℕ, List, [], ◌++◌, Some, None, OnOk, OnErr, IsOkUnless, codes};
+ghost use Rattle.jup_window.specs.Additions.{widget_fault};
+ghost use Rattle.jup_text.specs.declared.board_reader.Untaken.TheVariants as untaken;
 ghost use Rattle.jup_text.specs.Drafts.{IsTaken, TakesWindow, TakesWidget};
+ghost use Rattle.jup_text.specs.NextLines.{IsNext, IsNextWindow};
 ghost use Rattle.jup_text.specs.WidgetLines.{IsWidgetLine};
 
 use self::widget_lines::{WidgetLine, read_widget};
@@ -21,6 +24,11 @@ pub enum Untaken {
 }
 
 impl From<BoardFault> for Untaken {
+    ghost use Rattle.jup_window.specs.declared.faults.BoardFault.TheVariants as faults;
+    ghost use Rattle.jup_text.specs.declared.board_reader.Untaken.TheVariants as untaken;
+
+    ghost from_gives = { λ fault made. fault ≡ faults.NoMemory → made ≡ untaken.NoMemory };
+
     fn from(fault: BoardFault) -> Untaken {
         match fault {
             BoardFault::NoMemory => Untaken::NoMemory,
@@ -78,6 +86,7 @@ impl BoardReader {
     pub fn take(&mut self, alloc: Global, line: &str) -> Result<(), Untaken>
         ensures ok { OnOk result (IsTaken self.old line.now self.new) }
         ensures err { OnErr result (self.new ≡ self.old) }
+        ensures every { IsNext self.old line.now → IsOkUnless result untaken.NoMemory }
     {
         let Some((word, rest)) = next_word(line.as_bytes()) else {
             return Err(Untaken::BadLine);
@@ -93,6 +102,7 @@ impl BoardReader {
     fn take_window(&mut self, alloc: Global, id: &[u8]) -> Result<(), Untaken>
         ensures ok { OnOk result (TakesWindow self.old (codes "window " ++ id.now) self.new) }
         ensures err { OnErr result (self.new ≡ self.old) }
+        ensures every { IsNextWindow self.old (codes "window " ++ id.now) → IsOkUnless result untaken.NoMemory }
     {
         let Some(win) = id_of(id) else {
             return Err(Untaken::BadLine);
@@ -107,6 +117,8 @@ impl BoardReader {
         ensures ok { (line : List ℕ) → IsWidgetLine self.old.2 line read.wid read.widget read.last
             → OnOk result (TakesWidget self.old line self.new) }
         ensures err { OnErr result (self.new ≡ self.old) }
+        ensures every { (win : ℕ) → self.old.1 ≡ Some win → widget_fault win read.wid self.old.0 ≡ None
+            → IsOkUnless result untaken.NoMemory }
     {
         let WidgetLine { wid, widget, last } = read;
         let Some(win) = self.window else {

@@ -1,5 +1,5 @@
 //! Switches, numbers, and the words of a line.
-ghost use Rattle.std.specs.Prelude.{◌≡◌, ◌≢◌, ◌==◌, ◌<◌, ◌^◌, ◌∷◌, ◌++◌, ℕ, List, length, position, decimal, IfSome, IfNone};
+ghost use Rattle.std.specs.Prelude.{◌≡◌, ◌≢◌, ◌⊎◌, ◌==◌, ◌<◌, ◌^◌, [], ◌∷◌, ◌++◌, ℕ, ℤ, List, length, position, decimal, IfSome, IfNone};
 ghost use Rattle.std.specs.Fmt.{signed_decimal};
 ghost use Rattle.jup_number.specs.Numbers.{IsU32, IsInt};
 ghost use Rattle.jup_number.specs.Spelled.{IsReadingOf};
@@ -78,7 +78,8 @@ pub(crate) fn next_id(text: &[u8]) -> Option<(u16, &[u8])>
 
 /// The signed number before the first space, and what follows that space.
 pub(crate) fn next_integer(text: &[u8]) -> Option<(i32, &[u8])>
-    ensures { IfSome result (λ read. text.now ≡ signed_decimal read.0 ++ 32 ∷ read.1.now) }
+    ensures read { IfSome result (λ read. IsInt read.0 × (text.now ≡ signed_decimal read.0 ++ 32 ∷ read.1.now)) }
+    ensures none { IfNone result ((n : ℤ) (rest : List ℕ) → IsInt n → text.now ≢ signed_decimal n ++ 32 ∷ rest) }
 {
     let (word, rest) = next_word(text)?;
     Some((jup_number::read_integer(word)?, rest))
@@ -86,9 +87,14 @@ pub(crate) fn next_integer(text: &[u8]) -> Option<(i32, &[u8])>
 
 /// The word before the first space, or all where there is none, and what follows the word.
 pub(crate) fn split_word(text: &[u8]) -> (&[u8], &[u8])
-    ensures { text.now ≡ result.0.now ++ result.1.now }
+    ensures parts { text.now ≡ result.0.now ++ result.1.now }
+    ensures word { IsWord result.0.now }
+    ensures behind { (result.1.now ≡ []) ⊎ ((rest : List ℕ) × (result.1.now ≡ 32 ∷ rest)) }
 {
-    text.split_at(space_of(text).unwrap_or(text.len()))
+    match space_of(text) {
+        Some(at) => text.split_at(at),
+        None => text.split_at(text.len()),
+    }
 }
 
 // Where the first space stands.

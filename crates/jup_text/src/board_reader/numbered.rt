@@ -1,5 +1,7 @@
 //! Sequences that are filled at their end with the items of a layout.
-ghost use Rattle.std.specs.Prelude.{◌≡◌, ◌+◌, [], ◌∷◌, ◌++◌, OnOk};
+ghost use Rattle.std.specs.Prelude.{◌≡◌, ◌+◌, ◌<◌, ◌^◌, [], ◌∷◌, ◌++◌, length, OnOk, IsOkUnless};
+ghost use Rattle.jup_limits.specs.Limits.{longest_sequence};
+ghost use Rattle.jup_text.specs.declared.board_reader.Untaken.TheVariants as untaken;
 ghost use Rattle.jup_text.specs.Numbering.{IsNumberedTo};
 
 use super::Untaken;
@@ -46,6 +48,8 @@ impl<V: Copy> Numbered<V> {
         ensures items { OnOk result (self.new.items.items
             ≡ self.old.items.items ++ (record { name = record { site = 0; number = self.old.last + 1 }; value = value }) ∷ []) }
         ensures last { OnOk result (self.new.last ≡ self.old.last + 1) }
+        ensures every { length self.old.items.items < longest_sequence → self.old.last + 1 < 2 ^ 32
+            → IsOkUnless result untaken.NoMemory }
     {
         let place = self.items.len();
         if place >= LONGEST_SEQUENCE || self.last == u32::MAX {

@@ -1,7 +1,14 @@
 //! The lines of widgets, as they are printed.
-ghost use Rattle.std.specs.Prelude.{◌≡◌, ◌≢◌, ℕ, List, ◌∷◌, ◌++◌, map, IfOk, IfSome, MatchOption, codes};
+ghost use Rattle.std.specs.Prelude.{◌≡◌, ◌≢◌, ℕ, ℤ, Bool, List, ◌∷◌, ◌++◌, map, IfOk, IfSome, IsSome, IsOkUnless, MatchOption, codes, decimal};
+ghost use Rattle.std.specs.Char.{IsScalar};
 ghost use Rattle.std.specs.List.{flat_map};
+ghost use Rattle.jup_value.specs.Labels.{IsLabelText};
+ghost use Rattle.jup_window.specs.declared.widgets.Widget.{Widget};
+ghost use Rattle.jup_text.specs.declared.board_reader.Untaken.TheVariants as untaken;
+ghost use Rattle.jup_text.specs.Commands.{IsId};
+ghost use Rattle.jup_text.specs.NextLines.{AreValues, IsHeld, IsToggleText, IsSliderText};
 ghost use Rattle.jup_text.specs.Quotes.{quoted};
+ghost use Rattle.jup_text.specs.Words.{IsWord};
 ghost use Rattle.jup_text.specs.WidgetLines.{AreNumbered, IsLineOf, IsNumbered, IsWidgetLine};
 
 use super::Untaken;
@@ -29,7 +36,10 @@ pub(crate) fn read_widget(
     kind: &[u8],
     rest: &[u8],
 ) -> Result<WidgetLine, Untaken>
-    ensures { IfOk result (λ r. IsWidgetLine last (kind.now ++ 32 ∷ rest.now) r.wid r.widget r.last) }
+    ensures line { IfOk result (λ r. IsWidgetLine last (kind.now ++ 32 ∷ rest.now) r.wid r.widget r.last) }
+    ensures id { IfOk result (λ r. IsId r.wid) }
+    ensures every { IsWord kind.now → (wid : ℕ) (widget : Widget) → IsId wid → IsHeld last widget
+        → IsLineOf (kind.now ++ 32 ∷ rest.now) wid widget → IsOkUnless result untaken.NoMemory }
 {
     if kind == b"text".as_slice() {
         return read_text(alloc, last, rest);
@@ -45,7 +55,10 @@ pub(crate) fn read_widget(
 
 // What follows the word `text`.
 fn read_text(alloc: Global, last: u32, rest: &[u8]) -> Result<WidgetLine, Untaken>
-    ensures { IfOk result (λ r. IsWidgetLine last (codes "text " ++ rest.now) r.wid r.widget r.last) }
+    ensures line { IfOk result (λ r. IsWidgetLine last (codes "text " ++ rest.now) r.wid r.widget r.last) }
+    ensures id { IfOk result (λ r. IsId r.wid) }
+    ensures every { (wid : ℕ) (chars : List ℕ) → IsId wid → AreValues IsScalar last chars
+        → rest.now ≡ decimal wid ++ 32 ∷ quoted chars → IsOkUnless result untaken.NoMemory }
 {
     let Some((wid, text)) = next_id(rest) else {
         return Err(Untaken::BadLine);
@@ -61,7 +74,10 @@ fn read_text(alloc: Global, last: u32, rest: &[u8]) -> Result<WidgetLine, Untake
 // What follows the word `list`.
 #[tactic(auto, using(crate::proofs::Drafting::list_line))]
 fn read_list(alloc: Global, last: u32, rest: &[u8]) -> Result<WidgetLine, Untaken>
-    ensures { IfOk result (λ r. IsWidgetLine last (codes "list " ++ rest.now) r.wid r.widget r.last) }
+    ensures line { IfOk result (λ r. IsWidgetLine last (codes "list " ++ rest.now) r.wid r.widget r.last) }
+    ensures id { IfOk result (λ r. IsId r.wid) }
+    ensures every { (wid : ℕ) (labels : List (List ℕ)) → IsId wid → AreValues IsLabelText last labels
+        → rest.now ≡ decimal wid ++ flat_map (λ label. 32 ∷ quoted label) labels → IsOkUnless result untaken.NoMemory }
 {
     let (id, labels) = split_word(rest);
     let Some(wid) = id_of(id) else {
@@ -79,6 +95,8 @@ fn read_list(alloc: Global, last: u32, rest: &[u8]) -> Result<WidgetLine, Untake
 fn read_chars(alloc: Global, last: u32, text: &[u8]) -> Result<Numbered<char>, Untaken>
     ensures text { IfOk result (λ r. text.now ≡ quoted (map (λ item. item.value) r.items.items)) }
     ensures numbered { IfOk result (λ r. AreNumbered last r.items.items r.last) }
+    ensures every { (chars : List ℕ) → AreValues IsScalar last chars → text.now ≡ quoted chars
+        → IsOkUnless result untaken.NoMemory }
 {
     let mut items = Numbered::new(alloc, last);
     let Some(inner) = behind_quote(text) else {
@@ -100,6 +118,8 @@ fn read_chars(alloc: Global, last: u32, text: &[u8]) -> Result<Numbered<char>, U
 fn read_labels(alloc: Global, last: u32, labels: &[u8]) -> Result<Numbered<Label>, Untaken>
     ensures labels { IfOk result (λ r. labels.now ≡ flat_map (λ item. 32 ∷ quoted item.value) r.items.items) }
     ensures numbered { IfOk result (λ r. AreNumbered last r.items.items r.last) }
+    ensures every { (texts : List (List ℕ)) → AreValues IsLabelText last texts
+        → labels.now ≡ flat_map (λ label. 32 ∷ quoted label) texts → IsOkUnless result untaken.NoMemory }
 {
     let mut items = Numbered::new(alloc, last);
     let mut rest = labels;
@@ -129,6 +149,9 @@ fn behind_space(text: &[u8]) -> Option<&[u8]>
 fn read_setting(kind: &[u8], rest: &[u8]) -> Option<(u16, Widget)>
     ensures line { IfSome result (λ r. IsLineOf (kind.now ++ 32 ∷ rest.now) r.0 r.1) }
     ensures no_items { IfSome result (λ r. (last : ℕ) → IsNumbered last r.1 last) }
+    ensures id { IfSome result (λ r. IsId r.0) }
+    ensures toggles { kind.now ≡ codes "toggle" → (wid : ℕ) (on : Bool) → IsToggleText rest.now wid on → IsSome result }
+    ensures sliders { kind.now ≡ codes "slider" → (wid : ℕ) (lo hi value : ℤ) → IsSliderText rest.now wid lo hi value → IsSome result }
 {
     if kind == b"toggle".as_slice() {
         return read_toggle(rest);
@@ -143,6 +166,8 @@ fn read_setting(kind: &[u8], rest: &[u8]) -> Option<(u16, Widget)>
 fn read_toggle(rest: &[u8]) -> Option<(u16, Widget)>
     ensures line { IfSome result (λ r. IsLineOf (codes "toggle " ++ rest.now) r.0 r.1) }
     ensures no_items { IfSome result (λ r. (last : ℕ) → IsNumbered last r.1 last) }
+    ensures id { IfSome result (λ r. IsId r.0) }
+    ensures every { (wid : ℕ) (on : Bool) → IsToggleText rest.now wid on → IsSome result }
 {
     let (wid, word) = next_id(rest)?;
     let on = switch_of(word)?;
@@ -153,6 +178,8 @@ fn read_toggle(rest: &[u8]) -> Option<(u16, Widget)>
 fn read_slider(rest: &[u8]) -> Option<(u16, Widget)>
     ensures line { IfSome result (λ r. IsLineOf (codes "slider " ++ rest.now) r.0 r.1) }
     ensures no_items { IfSome result (λ r. (last : ℕ) → IsNumbered last r.1 last) }
+    ensures id { IfSome result (λ r. IsId r.0) }
+    ensures every { (wid : ℕ) (lo hi value : ℤ) → IsSliderText rest.now wid lo hi value → IsSome result }
 {
     let (wid, rest) = next_id(rest)?;
     let (lo, rest) = next_integer(rest)?;

@@ -1,7 +1,8 @@
-use Rattle.std.proofs.Common.{◌≡◌, [], ◌∷◌, ◌++◌, rules}
+use Rattle.std.proofs.Common.{◌≡◌, ◌≢◌, [], ◌∷◌, ◌++◌, sym, ◌∙◌, arith, rules}
 use Rattle.std.specs.List.{flat_map}
 use Rattle.jup_text.specs.Quotes.{quoted}
 use Rattle.jup_text.proofs.Drafting.{next_item, labels_next, numbered_next}
+use Rattle.jup_text.proofs.NextLines.{labels_go_on, no_more_labels, no_label_next, labels_left, number_of, texts_next}
 use Rattle.jup_text.proofs.board_reader.widget_lines.read_labels.Goals as goal
 
 pub loop-label-preserved : goal.loop-label-preserved
@@ -19,5 +20,28 @@ loop-label-preserved c =
     next.read.1 more in
     record {
       read = search rules;
+      texts = texts_next so_far.items.items pushed.items.items (next_item so_far.last value) c.loop-label.invariant.texts next.read.0 more;
       numbered = numbered_next c.args.last so_far.last pushed.last so_far.items.items pushed.items.items value c.loop-label.invariant.numbered more c.in_ok-push.ensures.last;
     }
+
+pub returns-in_default-next_quoted_label-clause-every : goal.returns-in_default-next_quoted_label-clause-every
+returns-in_default-next_quoted_label-clause-every c = λ texts held same.
+    let on = labels_go_on c.loop-label.items.items.items texts c.loop-label.rest.now c.loop-label.invariant.texts held.each (sym c.loop-label.invariant.read ∙ same) in
+    absurd (no_label_next _ c.loop-label.rest.now c.in-Some.label.now texts on c.in-Some.ensures c.in_default-next_quoted_label.ensures.none)
+
+pub returns-in_err-push-clause-every : goal.returns-in_err-push-clause-every
+returns-in_err-push-clause-every c = λ texts held same.
+    let so_far = c.loop-label.items in
+    let on = labels_go_on so_far.items.items texts c.loop-label.rest.now c.loop-label.invariant.texts held.each (sym c.loop-label.invariant.read ∙ same) in
+    let more = labels_left _ c.loop-label.rest.now c.in-Some.label.now texts on c.in-Some.ensures in
+    let count = number_of c.args.last so_far.last so_far.items.items c.loop-label.invariant.numbered in
+    let short = held.short in
+    let numbered = held.numbered in
+    let missing = c.in_err-push.ensures.every (omega (arith, more, short)) (omega (arith, count, more, numbered)) in
+    search rules
+
+pub returns-else-is_empty-clause-every : goal.returns-else-is_empty-clause-every
+returns-else-is_empty-clause-every c = λ texts held same.
+    let on = labels_go_on c.loop-label.items.items.items texts c.loop-label.rest.now c.loop-label.invariant.texts held.each (sym c.loop-label.invariant.read ∙ same) in
+    let some : c.loop-label.rest.now ≢ [] = search rules in
+    absurd (no_more_labels _ c.loop-label.rest.now texts on some c.in_default.ensures)

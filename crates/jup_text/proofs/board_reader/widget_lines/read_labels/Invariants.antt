@@ -1,5 +1,6 @@
 use Rattle.std.proofs.Common.{◌≡◌, ◌∷◌, ◌++◌, length}
-use Rattle.std.specs.List.{flat_map}
+use Rattle.std.specs.List.{flat_map, AllByRecursion}
+use Rattle.jup_value.specs.Labels.{IsLabelText}
 use Rattle.jup_text.specs.Quotes.{quoted}
 use Rattle.jup_text.specs.WidgetLines.{AreNumbered}
 use Rattle.jup_text.proofs.board_reader.widget_lines.read_labels.Given as goal
@@ -9,6 +10,7 @@ abbrev pub invariant-loop-label : goal.invariant-loop-label
 invariant-loop-label l = record {
   read : l.fn.labels ≡ flat_map (λ item. 32 ∷ quoted item.value) l.items.items.items ++ l.rest;
   numbered : AreNumbered l.fn.last l.items.items.items l.items.last;
+  texts : AllByRecursion (λ item. IsLabelText item.value) l.items.items.items;
 }
 
 abbrev pub decreases-loop-label : goal.decreases-loop-label

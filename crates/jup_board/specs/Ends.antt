@@ -1,10 +1,9 @@
 -- The exit statuses of the program.
 use Rattle.std.specs.Prelude.{ℕ}
 use Rattle.jup_board.specs.declared.ending.BoardEnd.{BoardEnd}
-use Rattle.jup_board.specs.declared.ending.BoardEnd.TheVariants.{Words, Line, Layout, LongBoard, LongInput, LongLayout, Io, NoMemory}
+use Rattle.jup_board.specs.declared.ending.BoardEnd.TheVariants.{Line, Layout, LongBoard, LongInput, LongLayout, Io, NoMemory}
 
 abbrev pub board_end_status : BoardEnd → ℕ
-board_end_status (Words error) = 2
 board_end_status (Line line fault) = 5
 board_end_status (Layout fault) = 5
 board_end_status LongBoard = 5

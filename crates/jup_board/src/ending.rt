@@ -3,25 +3,23 @@ ghost use Rattle.std.specs.Prelude.{◌≡◌, ◌≤◌};
 ghost use Rattle.jup_board.specs.Ends.{board_end_status};
 
 use crate::LineFault;
-use clap::error::ErrorKind as WordsKind;
 use jup_layout::LayoutFault;
-use jup_rules::cause_of;
 use std::io;
-use std::io::{ErrorKind, Write};
+use std::io::ErrorKind;
 use thiserror::Error;
 
 /// What was tried when a read or a write failed.
-#[derive(Clone, Copy, Debug, PartialEq, Eq)]
+#[derive(Clone, Copy, Debug, Error)]
 pub enum Attempt {
+    #[error("read the input")]
     ReadInput,
+    #[error("print")]
     Print,
 }
 
 /// Why a board is not made a layout, or a layout not printed.
 #[derive(Debug, Drop, Error)]
 pub enum BoardEnd {
-    #[error("{0}")]
-    Words(clap::Error),
     /// The line of this number, from 1, is no line of a printed board, or is refused there.
     #[error("line {0}: bad board")]
     Line(u32, LineFault),
@@ -59,32 +57,12 @@ impl BoardEnd {
     {
         match self {
             BoardEnd::Io(_) => 1,
-            BoardEnd::Words(_) => 2,
             BoardEnd::NoMemory => 3,
             BoardEnd::Line(..)
             | BoardEnd::Layout(_)
             | BoardEnd::LongBoard
             | BoardEnd::LongInput
             | BoardEnd::LongLayout(_) => 5,
-        }
-    }
-
-    /// Writes what went wrong, for people, in a line of its own, if the text of this end leaves that open.
-    pub fn explain<E: Write>(&self, errors: &mut E) -> io::Result<()> {
-        match self {
-            BoardEnd::Line(_, fault) => writeln!(errors, "{fault}"),
-            BoardEnd::Layout(fault) => {
-                let cause = cause_of(fault.number);
-                writeln!(errors, "{cause}")
-            }
-            BoardEnd::LongLayout(bytes) => {
-                writeln!(errors, "it has {bytes} bytes, and 16777216 are the most")
-            }
-            BoardEnd::Io(Attempt::ReadInput) => writeln!(errors, "cannot read the input"),
-            BoardEnd::Io(Attempt::Print) => writeln!(errors, "cannot print"),
-            BoardEnd::Words(_) | BoardEnd::LongBoard | BoardEnd::LongInput | BoardEnd::NoMemory => {
-                Ok(())
-            }
         }
     }
 }
@@ -96,16 +74,6 @@ impl From<LayoutFault> for BoardEnd {
             BoardEnd::NoMemory
         } else {
             BoardEnd::Layout(fault)
-        }
-    }
-}
-
-impl From<clap::Error> for BoardEnd {
-    fn from(error: clap::Error) -> BoardEnd {
-        if error.kind() == WordsKind::OutOfMemory {
-            BoardEnd::NoMemory
-        } else {
-            BoardEnd::Words(error)
         }
     }
 }

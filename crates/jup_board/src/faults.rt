@@ -9,7 +9,7 @@ use std::alloc::Global;
 use thiserror::Error;
 
 /// Why a line of a printed board is bad.
-#[derive(Clone, Copy, Debug, PartialEq, Eq, Error)]
+#[derive(Clone, Copy, Debug, Error)]
 pub enum LineFault {
     #[error("the line is not UTF-8")]
     NotText,

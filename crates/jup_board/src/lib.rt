@@ -10,12 +10,10 @@ mod layout_text;
 mod lines;
 mod program;
 mod reading;
-mod words;
 
 pub use converting::{layout_of_printed, printed_of_layout};
 pub use ending::{Attempt, BoardEnd};
 pub use faults::LineFault;
 pub use layout_text::write_layout;
-pub use program::board_main;
+pub use program::{lay_out, print_layout};
 pub use reading::read_printed;
-pub use words::{Direction, board_words};

@@ -2,56 +2,32 @@
 ghost use Rattle.std.specs.Prelude.{◌≤◌, IfOk, vec_len};
 ghost use Rattle.jup_limits.specs.Limits.{longest_board, longest_input};
 
-use crate::{Attempt, BoardEnd, Direction, board_words, layout_of_printed, printed_of_layout};
+use crate::{Attempt, BoardEnd, layout_of_printed, printed_of_layout};
 use jup_limits::{LONGEST_BOARD, LONGEST_INPUT};
 use std::alloc::Global;
 use std::io;
 use std::io::{Read, Write};
 
-/// Makes of the input what the words say, writes it, and answers the exit status: 0 where it is written, 1 for a failed read or
-/// write, 2 for the words, 3 for memory, 5 for a board or a layout that is refused; then nothing is written.
-pub fn board_main<I: Read + Drop, O: Write, E: Write>(
+/// Reads a printed board to the end of the input, and writes its layout. Nothing is written before all of it is made.
+pub fn lay_out<I: Read + Drop, O: Write>(
     alloc: Global,
-    words: &[String],
     input: I,
     out: &mut O,
-    errors: &mut E,
-) -> u8
-    ensures { result ≤ 5 }
-{
-    let made = match board_words(alloc, words) {
-        Ok(direction) => convert(alloc, direction, input),
-        Err(error) => Err(error.into()),
-    };
-    match made {
-        Ok(text) => match print(text.as_slice(), out) {
-            Ok(()) => 0,
-            Err(error) => tell(&BoardEnd::of_failure(Attempt::Print, &error), errors),
-        },
-        Err(BoardEnd::Words(help)) if !help.use_stderr() => match write!(out, "{help}") {
-            Ok(()) => 0,
-            Err(_) => tell(&BoardEnd::Io(Attempt::Print), errors),
-        },
-        Err(end) => tell(&end, errors),
-    }
+) -> Result<(), BoardEnd> {
+    let text = read_board(alloc, input)?;
+    let layout = layout_of_printed(alloc, text.as_slice())?;
+    write(layout.as_slice(), out)
 }
 
-// What is made of the input.
-fn convert<I: Read + Drop>(
+/// Reads a layout to the end of the input, and writes its board as it is printed. Nothing is written before all of it is made.
+pub fn print_layout<I: Read + Drop, O: Write>(
     alloc: Global,
-    direction: Direction,
     input: I,
-) -> Result<Vec<u8>, BoardEnd> {
-    match direction {
-        Direction::LayOut => {
-            let text = read_board(alloc, input)?;
-            layout_of_printed(alloc, text.as_slice())
-        }
-        Direction::Print => {
-            let text = read_layout(alloc, input)?;
-            Ok(printed_of_layout(alloc, text.as_slice())?)
-        }
-    }
+    out: &mut O,
+) -> Result<(), BoardEnd> {
+    let text = read_layout(alloc, input)?;
+    let board = printed_of_layout(alloc, text.as_slice())?;
+    write(board.as_slice(), out)
 }
 
 fn read_board<I: Read + Drop>(alloc: Global, input: I) -> Result<Vec<u8>, BoardEnd>
@@ -83,20 +59,10 @@ fn read_most<I: Read + Drop>(alloc: Global, input: I, most: u64) -> Result<Vec<u
     }
 }
 
-fn print<O: Write>(text: &[u8], out: &mut O) -> io::Result<()> {
-    out.write_all(text)?;
-    out.flush()
-}
-
-// Tells why on standard error, and answers the exit status.
-fn tell<E: Write>(end: &BoardEnd, errors: &mut E) -> u8
-    ensures { result ≤ 5 }
-{
-    if let BoardEnd::Words(error) = end {
-        let _ = write!(errors, "{error}");
-    } else {
-        let _ = writeln!(errors, "{end}");
-    }
-    let _ = end.explain(errors);
-    end.status()
+fn write<O: Write>(text: &[u8], out: &mut O) -> Result<(), BoardEnd> {
+    let written: io::Result<()> = match out.write_all(text) {
+        Ok(()) => out.flush(),
+        Err(error) => Err(error),
+    };
+    written.map_err(|error| BoardEnd::of_failure(Attempt::Print, &error))
 }

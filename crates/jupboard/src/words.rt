@@ -20,26 +20,16 @@ Example:
   char 0.2 105";
 
 /// What is made.
-#[derive(Clone, Copy, Debug, PartialEq, Eq)]
-pub enum Direction {
+#[derive(Clone, Copy)]
+pub(crate) enum Direction {
     /// A layout, of a printed board.
     LayOut,
     /// A printed board, of a layout.
     Print,
 }
 
-/// Reads the words after the program's name.
-pub fn board_words(alloc: Global, words: &[String]) -> Result<Direction, Error> {
-    let mut command = board_command(alloc)?;
-    let matches = command.try_get_matches_from_mut(words)?;
-    if matches.get_flag("print") {
-        Ok(Direction::Print)
-    } else {
-        Ok(Direction::LayOut)
-    }
-}
-
-fn board_command<'a>(alloc: Global) -> Result<Command<'a>, AllocError> {
+// What is asked of the words.
+fn command<'a>(alloc: Global) -> Result<Command<'a>, AllocError> {
     let print = Arg::new(alloc, "print")
         .long("print")
         .action(ArgAction::SetTrue)
@@ -49,4 +39,15 @@ fn board_command<'a>(alloc: Global) -> Result<Command<'a>, AllocError> {
         .about(ABOUT)
         .after_help(EXAMPLE)
         .arg(print)
+}
+
+/// Reads the words after the program's name.
+pub(crate) fn read_words(alloc: Global, words: &[String]) -> Result<Direction, Error> {
+    let mut command = command(alloc)?;
+    let matches = command.try_get_matches_from_mut(words)?;
+    if matches.get_flag("print") {
+        Ok(Direction::Print)
+    } else {
+        Ok(Direction::LayOut)
+    }
 }

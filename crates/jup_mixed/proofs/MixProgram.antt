@@ -1,5 +1,5 @@
 -- What holds of every one of the program: after each event, and after want of memory.
-use Rattle.std.proofs.Common.{◌≡◌, Bool, true, nat_le, inl, inr, refl, sym, ◌∙◌, ap, subst, ℕ, ◌+◌, List, [], ◌∷◌, ◌++◌, drop, length, Option, Some, None, option_map, append-nil, drop_of_length-le, le_refl}
+use Rattle.std.proofs.Common.{◌≡◌, Bool, true, nat_le, inl, inr, refl, sym, ◌∙◌, ap, subst, ℕ, List, [], ◌∷◌, ◌++◌, drop, length, Option, Some, None, option_map, append-nil, drop_of_length-le, le_refl}
 use Rattle.std.proofs.lemmas.Bool.{leb-true}
 use Rattle.jup_batch.specs.BatchBoards as board
 use Rattle.jup_window.specs.Entries.{EachWidget}

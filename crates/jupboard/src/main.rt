@@ -1,6 +1,8 @@
 //! Makes a layout of a printed board, and prints the board of a layout.
 #![tactic(auto)]
 
+ghost use Rattle.std.specs.Prelude.{◌≡◌, ◌≤◌};
+
 use self::words::{Direction, read_words};
 use clap::error::ErrorKind;
 use jup_board::{BoardEnd, lay_out, print_layout};
@@ -12,7 +14,9 @@ use std::{env, io};
 mod words;
 
 // Makes what is asked for of standard input. Why it was not made is told on standard error, and in a second line what is wrong.
-fn make(rt: &HostRuntime, direction: Direction) -> u8 {
+fn make(rt: &HostRuntime, direction: Direction) -> u8
+    ensures { result ≤ 5 }
+{
     let made = match direction {
         Direction::LayOut => lay_out(rt.alloc(), rt.stdin(), &mut rt.stdout()),
         Direction::Print => print_layout(rt.alloc(), rt.stdin(), &mut rt.stdout()),
@@ -42,7 +46,9 @@ fn explain(rt: &HostRuntime, end: &BoardEnd) {
 }
 
 // Tells what the words came to: help on standard output, all else on standard error.
-fn tell(rt: &HostRuntime, error: &clap::Error) -> u8 {
+fn tell(rt: &HostRuntime, error: &clap::Error) -> u8
+    ensures { result ≤ 3 }
+{
     match error.kind() {
         ErrorKind::DisplayHelp => match print!(rt; "{error}") {
             Ok(()) => 0,
@@ -56,7 +62,9 @@ fn tell(rt: &HostRuntime, error: &clap::Error) -> u8 {
     }
 }
 
-fn tell_end(rt: &HostRuntime, text: &str, status: u8) -> u8 {
+fn tell_end(rt: &HostRuntime, text: &str, status: u8) -> u8
+    ensures { result ≡ status }
+{
     let _ = eprintln!(rt; "{text}");
     status
 }

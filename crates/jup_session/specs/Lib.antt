@@ -1,4 +1,3 @@
-pub mod Outputs
 pub mod Gates
 pub mod Greetings
 pub mod Sessions

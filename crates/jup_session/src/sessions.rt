@@ -6,10 +6,8 @@ mod greeting;
 mod leaving;
 mod link;
 mod outgoing;
-pub(crate) mod output;
 mod reading;
 mod serving;
-pub(crate) mod source;
 mod writing;
 
 pub use bell::Bell;

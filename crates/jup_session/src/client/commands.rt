@@ -2,7 +2,8 @@
 ghost use Rattle.std.specs.Prelude.{◌≤◌};
 
 use jup_intake::is_interrupted;
-use jup_rules::{Asking, ClientEnd, Request, SessionFault, TypedLine, count_read};
+use jup_rules::{Asking, ClientEnd, Request, SessionFault, TypedLine};
+use jup_stream::Source;
 use jup_xform::NoMemory;
 use std::alloc::Global;
 use std::io::Read;
@@ -37,13 +38,13 @@ impl<C: Read + Drop> Requests<C> {
     }
 
     /// The next one: `Quit` at the end of the input. A last line needs no line feed.
-    pub(crate) fn next_request(
+    pub(crate) fn next_request<F: Read + Drop>(
         &mut self,
         alloc: Global,
-        reads: &mut u32,
+        link: &mut Source<F>,
     ) -> Result<Request, ClientEnd> {
         for _ in 0..u64::MAX {
-            if !self.next_line(reads)? {
+            if !self.next_line(link)? {
                 return Ok(self.asking.end());
             }
             if let Some(request) = self.request(alloc)? {
@@ -54,7 +55,7 @@ impl<C: Read + Drop> Requests<C> {
     }
 
     // Reads the next line. False at the end of the input.
-    fn next_line(&mut self, reads: &mut u32) -> Result<bool, ClientEnd> {
+    fn next_line<F: Read + Drop>(&mut self, link: &mut Source<F>) -> Result<bool, ClientEnd> {
         self.line.clear();
         for _ in 0..u64::MAX {
             if self.fill_line()? {
@@ -63,7 +64,7 @@ impl<C: Read + Drop> Requests<C> {
             if self.is_over {
                 return Ok(!self.line.is_empty());
             }
-            self.read(reads)?;
+            self.read(link)?;
         }
         Err(SessionFault::ReadsSpent.into())
     }
@@ -83,9 +84,9 @@ impl<C: Read + Drop> Requests<C> {
         Ok(false)
     }
 
-    // One read.
-    fn read(&mut self, reads: &mut u32) -> Result<(), ClientEnd> {
-        *reads = count_read(*reads)?;
+    // One read, which is counted with those of the link.
+    fn read<F: Read + Drop>(&mut self, link: &mut Source<F>) -> Result<(), ClientEnd> {
+        link.count_read()?;
         let mut piece = [0u8; PIECE];
         let len = match self.from.read(&mut piece) {
             Ok(len) => {

@@ -1,16 +1,15 @@
 //! A client, run over any reader and writer.
 
 use super::commands::Requests;
-use crate::sessions::output::Output;
-use crate::sessions::source::Source;
 use jup_rules::{
     Answer, ClientEnd, ClientState, Request, Said, SessionFault, Told, board_line_in, greeting_in,
     put_said, told_text,
 };
 use jup_seq::SeqOp;
+use jup_stream::{Output, Source};
 use jup_value::Label;
 use jup_window::{BoardOp, WidgetOp};
-use jup_wire::{Line, LineSink};
+use jup_wire::Line;
 use std::alloc::Global;
 use std::io::{Read, Write};
 use std::marker::PhantomData;
@@ -68,7 +67,7 @@ impl<F: Read + Drop, T: Write + Drop> Client<F, T> {
         requests: &mut Requests<C>,
         out: &mut O,
     ) -> Result<bool, ClientEnd> {
-        let request = requests.next_request(alloc, &mut self.source.reads)?;
+        let request = requests.next_request(alloc, &mut self.source)?;
         self.answer(alloc, &request, out)?;
         Ok(matches!(request, Request::Quit))
     }
@@ -76,7 +75,10 @@ impl<F: Read + Drop, T: Write + Drop> Client<F, T> {
     // Says this to the server, if anything.
     fn say(&mut self, said: Option<Said>) -> Result<(), ClientEnd> {
         if let Some(said) = said {
-            put_said(&mut self.output, &said)?;
+            match put_said(&mut self.output, &said) {
+                Ok(()) => {}
+                Err(never) => match never {},
+            }
             self.output.send()?;
         }
         Ok(())
@@ -86,7 +88,7 @@ impl<F: Read + Drop, T: Write + Drop> Client<F, T> {
     fn sync(&mut self, alloc: Global) -> Result<(), ClientEnd> {
         for _ in 0..u64::MAX {
             let line = self.source.next_line(alloc)?;
-            let heard = self.state.hear(alloc, line)?;
+            let heard = self.state.hear(alloc, &line)?;
             self.say(heard.said)?;
             if heard.is_synced {
                 return Ok(());
@@ -131,9 +133,9 @@ fn greet<F: Read + Drop, T: Write + Drop>(
     source: &mut Source<F>,
     output: &mut Output<T>,
 ) -> Result<ClientState, ClientEnd> {
-    output.put(Line::Hello)?;
+    output.push(&Line::Hello);
     output.send()?;
-    let (site, limit) = greeting_in(source.next_line(alloc)?)?;
+    let (site, limit) = greeting_in(&source.next_line(alloc)?)?;
     let board = read_board(alloc, source)?;
     ClientState::open(alloc, site, limit, board.as_slice())
 }
@@ -147,7 +149,7 @@ fn read_board<F: Read + Drop>(
     let _of: PhantomData<(SeqOp<Label>, WidgetOp, BoardOp)> = PhantomData;
     let mut lines = Vec::new(alloc);
     for _ in 0..u64::MAX {
-        let Some(line) = board_line_in(source.next_line(alloc)?)? else {
+        let Some(line) = board_line_in(&source.next_line(alloc)?)? else {
             return Ok(lines);
         };
         if lines.push(line).is_err() {

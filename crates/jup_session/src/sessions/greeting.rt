@@ -1,19 +1,18 @@
 //! The greeting of a session: up to the line `ready`.
 ghost use Rattle.std.specs.Prelude.{◌≡◌, OnOk, OnErr, IfOk};
 ghost use Rattle.jup_hub.specs.Passes.{view_of, IsPassOf};
-ghost use Rattle.jup_session.specs.Outputs.{PutsLines};
+ghost use Rattle.jup_stream.specs.Puts.{PutsLines};
 ghost use Rattle.jup_session.specs.Greetings.{welcome_lines};
 ghost use Rattle.jup_session.specs.Sessions.{Joins, IsSession};
 
 use super::leaving::leave;
-use super::output::Output;
-use super::source::Source;
 use super::writing::tell;
 use jup_hub::{Hub, Pass};
 use jup_layout::put_board;
 use jup_rules::{Ending, SessionFault, check_greeting};
 use jup_star::Joined;
-use jup_wire::{Line, LineSink};
+use jup_stream::{Output, Source};
+use jup_wire::Line;
 use std::alloc::Global;
 use std::io::{Read, Write};
 use std::sync::Wait;
@@ -73,12 +72,15 @@ fn greet<R: Wait, I: Read + Drop>(
 // Tells the site its number, the limit and the board. It takes no memory: a line is made when it is put, so a peer
 // that does not read costs no more than its copy of the board.
 fn welcome<O: Write + Drop>(output: &mut Output<O>, joined: &Joined) -> Result<(), SessionFault>
-    ensures lines { OnOk result (PutsLines output.old (welcome_lines joined.now) output.new) }
+    ensures lines { PutsLines output.old (welcome_lines joined.now) output.new }
 {
     let site = joined.site;
     let limit = joined.limit;
-    output.put(Line::Welcome { site, limit })?;
-    put_board(output, &joined.board)?;
-    output.put(Line::Ready)?;
+    output.push(&Line::Welcome { site, limit });
+    match put_board(output, &joined.board) {
+        Ok(()) => {}
+        Err(never) => match never {},
+    }
+    output.push(&Line::Ready);
     output.send()
 }

@@ -5,10 +5,10 @@ ghost use Rattle.jup_session.specs.Sessions.{Serves};
 
 use super::due::Due;
 use super::link::Link;
-use super::source::Source;
 use crate::{Gate, take_edit};
 use jup_hub::{HubFault, Pass};
 use jup_rules::{Awaits, Ending, Gatekeeper, Incoming, Next, Ring, SessionFault, ring_after};
+use jup_stream::Source;
 use std::io::Read;
 use std::sync::Wait;
 
@@ -54,7 +54,7 @@ fn hear_all<R: Wait, I: Read + Drop, G: Gate>(
             Ok(line) => line,
             Err(stop) => return keeper.end(stop),
         };
-        let incoming = match keeper.hear(link.alloc, line) {
+        let incoming = match keeper.hear(link.alloc, &line) {
             Next::Line => continue,
             Next::Take(incoming) => incoming,
             Next::End(ending) => return ending,

@@ -6,13 +6,12 @@ ghost use Rattle.jup_session.specs.Sessions.{HasMadeNone, HasServed, BothServe, 
 use super::Bell;
 use super::greeting::begin;
 use super::link::Link;
-use super::output::Output;
 use super::reading::read_half;
-use super::source::Source;
 use super::writing::write_half;
 use crate::Gate;
 use jup_hub::{Hub, Pass};
 use jup_rules::{Ending, Pongs, SessionFault};
+use jup_stream::{Output, Source};
 use std::alloc::Global;
 use std::io::{Read, Write};
 use std::sync::{Mutex, Wait};

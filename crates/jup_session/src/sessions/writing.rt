@@ -4,18 +4,17 @@ ghost use Rattle.std.specs.List.{flat_map};
 ghost use Rattle.jup_hub.specs.Passes.{view_of, IsPassOf};
 ghost use Rattle.jup_rules.specs.Endings.{last_line};
 ghost use Rattle.jup_rules.specs.Messages.{down_lines};
-ghost use Rattle.jup_session.specs.Outputs.{PutsLines};
+ghost use Rattle.jup_stream.specs.Puts.{PutsLines};
 ghost use Rattle.jup_session.specs.Sessions.{Serves, Leaves, HasMadeNone, HasServed};
 
 use super::leaving::leave;
 use super::link::Link;
-use super::output::Output;
 use jup_hub::Pass;
 use jup_rules::{
     Ending, MOST_FETCHED, SessionFault, is_last_fetch, pongs_in, put_downs, refused_fetch,
 };
 use jup_star::{Down, Downs};
-use jup_wire::LineSink;
+use jup_stream::Output;
 use std::io::Write;
 use std::sync::Wait;
 
@@ -68,9 +67,9 @@ pub(crate) fn tell<O: Write + Drop>(
     output: &mut Output<O>,
     ending: Ending,
 ) -> Result<(), SessionFault>
-    ensures line { OnOk result (PutsLines output.old (last_line ending ∷ []) output.new) }
+    ensures line { PutsLines output.old (last_line ending ∷ []) output.new }
 {
-    output.put(ending.line())?;
+    output.push(&ending.line());
     output.send()
 }
 
@@ -158,12 +157,16 @@ fn hand_on<R: Wait, O: Write + Drop>(
 }
 
 // Writes messages, in order.
+#[tactic(auto, using(jup_stream::specs::Puts::puts_sent, jup_stream::specs::Puts::puts_none))]
 fn write_downs<O: Write + Drop>(output: &mut Output<O>, downs: &[Down]) -> Result<(), SessionFault>
-    ensures { OnOk result (PutsLines output.old (flat_map down_lines downs.now) output.new) }
+    ensures { PutsLines output.old (flat_map down_lines downs.now) output.new }
 {
     if downs.is_empty() {
         return Ok(());
     }
-    put_downs(output, downs)?;
+    match put_downs(output, downs) {
+        Ok(()) => {}
+        Err(never) => match never {},
+    }
     output.send()
 }

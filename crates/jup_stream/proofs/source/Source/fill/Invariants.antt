@@ -1,0 +1,5 @@
+use Rattle.jup_stream.specs.Sources.{ReadsOn}
+use Rattle.jup_stream.proofs.source.Source.fill.Given as goal
+
+abbrev pub invariant-loop : goal.invariant-loop
+invariant-loop g l = ReadsOn l.fn.self l.self

@@ -1,0 +1,29 @@
+use Rattle.std.proofs.Common.{◌≡◌, ℕ, ◌-◌, List, [], ◌++◌, IsTrue, rules, length, take, drop, sym, ap, refl, ◌∙◌, subst, append_assoc, append-nil, take-append-drop, drop_of_length-le}
+use Rattle.std.proofs.lemmas.List.{take_rest}
+use Rattle.std.specs.Io.KnownBytes.{Appends}
+use Rattle.std.proofs.KnownBytes.{Appends-trans}
+use Rattle.jup_stream.proofs.Putting.{appends_kept}
+use Rattle.jup_stream.proofs.writes.write_bytes.Goals as goal
+use Rattle.jup_stream.proofs.writes.write_bytes.Goals.{in-Ok, in-Err+else-not-is_interrupted}
+
+moves_front : (all done rest : List ℕ) (n : ℕ) → all ≡ done ++ rest → all ≡ (done ++ take n rest) ++ take (length rest - n) (drop n rest)
+moves_front all done rest n e =
+    e ∙ ap (λ l. done ++ l) (sym (take-append-drop n rest)) ∙ sym (append_assoc done (take n rest) (drop n rest)) ∙ ap (λ l. (done ++ take n rest) ++ l) (sym (take_rest rest n))
+
+pub loop-preserved : goal.loop-preserved
+loop-preserved g c =
+    let (done, split, appended) = c.loop.invariant in
+    let rest = c.loop.rest.now in
+    elim c.match-write.branch [
+      | in-Ok w ↦ subst (λ r. (x : List ℕ) × (c.args.bytes.now ≡ x ++ r.now) × Appends (g.O.Write.contents c.args.to.now) (g.O.Write.contents c.write.new.self) x) (sym w.rest-is)
+          (done ++ take w.in-Ok.len rest, moves_front _ done rest w.in-Ok.len split, Appends-trans _ _ _ _ _ appended w.in-Ok.ensures.bytes)
+      | in-Err+else-not-is_interrupted w ↦ subst (λ r. (x : List ℕ) × (c.args.bytes.now ≡ x ++ r.now) × Appends (g.O.Write.contents c.args.to.now) (g.O.Write.contents c.write.new.self) x) (sym w.rest-is)
+          (done, split, appends_kept _ _ _ _ appended w.in-Err.ensures.bytes)
+    ]
+
+pub returns-then-is_empty : goal.returns-then-is_empty
+returns-then-is_empty g c =
+    let (done, split, appended) = c.loop.invariant in
+    let rest = c.loop.rest.now in
+    let empty : rest ≡ [] = drop_of_length-le rest {i = 0} (search rules) in
+    (done, rest, split, appended, λ _. empty)

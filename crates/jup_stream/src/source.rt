@@ -1,0 +1,172 @@
+//! The lines of a reader, read piece by piece.
+ghost use Rattle.std.specs.Prelude.{◌≡◌, [], ◌∷◌, IfOk, IfErr, OnOk, IfSome, IsNone, IsFalse};
+ghost use Rattle.jup_wire.specs.Streams.{HasRead};
+ghost use Rattle.jup_stream.specs.Sources.{ReadsOn, HandsOn, Stops};
+
+use crate::pieces::{count, end_of, feed_front, line_at, read_once};
+use jup_rules::{SessionFault, Stop};
+use jup_seq::SeqOp;
+use jup_value::Label;
+use jup_window::{BoardOp, WidgetOp};
+use jup_wire::{Fed, Line, Reader, WireFault};
+use jup_xform::NoMemory;
+use std::alloc::Global;
+use std::io::Read;
+use std::marker::{Model, PhantomData};
+
+/// Bytes that one read asks for. They lie on the reading thread's stack, of which an idle session keeps what it ever touched.
+const PIECE: usize = 1_024;
+
+/// What comes by a link, as lines.
+///
+/// Contracts see the bytes that the reader has left, where these are known, how the bytes read so far were taken, and the lines
+/// of them that are still to be handed on.
+#[derive(Drop)]
+pub struct Source<I: Read + Drop> {
+    from: I,
+    reader: Reader,
+    /// The reads that were made, here and by others that count theirs with these.
+    reads: u32,
+    /// What the last piece gave, and how many of its lines were handed on.
+    fed: Option<Fed>,
+    given: usize,
+    // The checker learns of the types within a line from a field that names them.
+    within: PhantomData<(SeqOp<Label>, WidgetOp, BoardOp, Line)>,
+}
+
+impl<I: Read + Drop> Model for Source<I> {
+    ghost use Rattle.std.specs.Prelude.{◌≡◌};
+    ghost use Rattle.jup_stream.specs.Sources.{Sourced, sourced, waiting_of, fault_of};
+
+    ghost Value = { Sourced };
+
+    ghost view = { λ s. sourced (I.remaining s.from) s.reader (waiting_of s.fed s.given) };
+
+    ghost invariant = { λ s. s.reader.fault ≡ fault_of s.fed };
+}
+
+impl<I: Read + Drop> Source<I> {
+    /// A source before its first read.
+    pub fn new(from: I) -> Source<I>
+        ensures known { result.known ≡ I.remaining from }
+        ensures read { HasRead [] [] result.progress }
+        ensures waiting { result.waiting ≡ [] }
+    {
+        Source {
+            from,
+            reader: Reader::new(),
+            reads: 0,
+            fed: None,
+            given: 0,
+            within: PhantomData,
+        }
+    }
+
+    /// The next line: those of the last piece, then its fault, then those of further pieces.
+    #[tactic(auto, using(crate::proofs::HowRead::hands_after, crate::proofs::HowRead::stops_after, crate::proofs::HowRead::stops_spent))]
+    pub fn next_line(&mut self, alloc: Global) -> Result<Line, Stop>
+        ensures line { IfOk result (λ line. HandsOn self.old (line ∷ []) self.new) }
+        ensures stop { IfErr result (λ stop. Stops self.old stop self.new) }
+    {
+        self.fill(alloc)?;
+        match self.hand_on() {
+            Some(line) => Ok(line),
+            None => Err(Stop::Fault(SessionFault::ReadsSpent)),
+        }
+    }
+
+    /// Whether a line is there without a read.
+    pub fn has_line(&self) -> bool
+        ensures { IsFalse result → self.now.waiting ≡ [] }
+    {
+        match &self.fed {
+            Some(fed) => self.given < fed.lines.as_slice().len(),
+            None => false,
+        }
+    }
+
+    /// Counts a read that somebody else makes with those of this source.
+    pub fn count_read(&mut self) -> Result<(), SessionFault>
+        ensures same { self.new ≡ self.old }
+        ensures fault { IfErr result (λ fault. fault ≡ SessionFault.ReadsSpent) }
+    {
+        if !count(&mut self.reads) {
+            return Err(SessionFault::ReadsSpent);
+        }
+        Ok(())
+    }
+
+    // The fault of the bytes read so far.
+    fn fault(&self) -> Option<WireFault>
+        ensures { result ≡ self.now.progress.fault }
+    {
+        match &self.fed {
+            Some(fed) => fed.fault,
+            None => None,
+        }
+    }
+
+    // Hands on a line that waits.
+    #[tactic(auto, using(crate::proofs::HowRead::hands_first))]
+    fn hand_on(&mut self) -> Option<Line>
+        ensures some { IfSome result (λ line. HandsOn self.old (line ∷ []) self.new) }
+        ensures none { IsNone result → (self.old.waiting ≡ []) × (self.new ≡ self.old) }
+    {
+        let line = match &self.fed {
+            Some(fed) => line_at(fed.lines.as_slice(), self.given),
+            None => None,
+        };
+        if line.is_some() {
+            self.given += 1;
+        }
+        line
+    }
+
+    // Reads until there is a line to give.
+    #[tactic(auto, using(crate::proofs::HowRead::reads_both, crate::proofs::HowRead::stops_after, crate::proofs::HowRead::stops_spent, crate::proofs::HowRead::stops_fault))]
+    fn fill(&mut self, alloc: Global) -> Result<(), Stop>
+        ensures on { OnOk result (ReadsOn self.old self.new) }
+        ensures stop { IfErr result (λ stop. Stops self.old stop self.new) }
+    {
+        for _ in 0..u64::MAX {
+            if self.has_line() {
+                return Ok(());
+            }
+            if let Some(fault) = self.fault() {
+                return Err(Stop::Fault(SessionFault::Wire(fault)));
+            }
+            if let Err(stop) = self.read(alloc) {
+                return Err(stop);
+            }
+        }
+        if self.has_line() {
+            return Ok(());
+        }
+        Err(Stop::Fault(SessionFault::ReadsSpent))
+    }
+
+    // One read, whose lines are next. One that was interrupted gives none.
+    fn read(&mut self, alloc: Global) -> Result<(), Stop>
+        requires { self.old.waiting ≡ [] }
+        ensures on { OnOk result (ReadsOn self.old self.new) }
+        ensures stop { IfErr result (λ stop. Stops self.old stop self.new) }
+    {
+        if !count(&mut self.reads) {
+            return Err(Stop::Fault(SessionFault::ReadsSpent));
+        }
+        let mut piece = [0u8; PIECE];
+        let len = match read_once(&mut self.from, &mut piece) {
+            Ok(Some(len)) => len,
+            Ok(None) => return Err(end_of(&self.reader)),
+            Err(fault) => return Err(Stop::Fault(fault)),
+        };
+        match feed_front(&mut self.reader, alloc, &piece, len) {
+            Ok(fed) => {
+                self.fed = Some(fed);
+                self.given = 0;
+                Ok(())
+            }
+            Err(NoMemory) => Err(Stop::Fault(SessionFault::NoMemory)),
+        }
+    }
+}

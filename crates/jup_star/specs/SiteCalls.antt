@@ -15,6 +15,7 @@ use Rattle.jup_star.specs.declared.messages.Up.TheVariants.{Op as UpOp, Ack as U
 use Rattle.jup_star.specs.declared.messages.Down.{Down}
 use Rattle.jup_star.specs.declared.messages.Down.TheVariants.{Op, Ack, Pong}
 use Rattle.jup_star.specs.declared.site.Made.{Made}
+use Rattle.jup_star.specs.declared.site.Delivered.{Delivered}
 use Rattle.jup_star.specs.declared.faults.SiteFault.{SiteFault}
 use Rattle.jup_star.specs.declared.faults.SiteFault.TheVariants.{NoMemory as SiteNoMemory, BadCount, BadAck, BadName, BadOp, Stopped as SiteStopped}
 use Rattle.jup_star.specs.declared.faults.OpenFault.{OpenFault}
@@ -129,3 +130,13 @@ abbrev pub DeliverAnswers : Down BoardBatch → BoardSite → BoardSite → Resu
 DeliverAnswers down s t r = MatchBool (deliver_lacks_memory r)
     ((t ≡ s) × (deliver_asks down s ≡ true))
     ((r ≡ deliver_reply down s) × (t ≡ site_delivered down s))
+
+-- the acknowledgement that a site owes after a message
+abbrev pub owed_of : Result Delivered SiteFault → Result (Option (Up BoardBatch)) SiteFault
+owed_of (Ok delivered) = Ok delivered.owed
+owed_of (Err fault) = Err fault
+
+-- a board after the operations that a site applied, if any
+abbrev pub shown_after : Option BoardBatch → board.Windows → board.Windows
+shown_after None b = b
+shown_after (Some op) b = board.after op b

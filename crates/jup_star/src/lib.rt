@@ -26,5 +26,5 @@ pub use faults::{OpenFault, SiteFault, StarFault};
 pub use messages::{Down, Entry, Up};
 pub use openings::is_short;
 pub use outbox::Downs;
-pub use site::{Made, Site};
+pub use site::{Delivered, Made, Site};
 pub use star::{Joined, Star};

@@ -1,5 +1,5 @@
 //! A site.
-ghost use Rattle.std.specs.Prelude.{◌≡◌, ◌≤◌, ◌<◌, true, false, [], ◌∷◌, Ok, Err, length, IfOk, IfErr, OnOk, OnErr};
+ghost use Rattle.std.specs.Prelude.{◌≡◌, ◌≤◌, ◌<◌, true, false, [], ◌∷◌, Ok, Err, length, IfOk, IfErr, OnOk, OnErr, IfSome, IfNone, is_some};
 ghost use Rattle.jup_limits.specs.Limits.{most_operations};
 ghost use Rattle.jup_link.specs.Links.{IsNumber, IsCount, opened, after_count};
 ghost use Rattle.jup_batch.specs.BatchBoards.{bare, after, edit_of, IsValid, HasRoom};
@@ -13,7 +13,7 @@ ghost use Rattle.jup_window.specs.FaultNumbers.{edit_fault_number};
 ghost use Rattle.jup_star.specs.FirstFaults.{fault_of, first_fault};
 ghost use Rattle.jup_star.specs.LinkStates.{operation_at, end_after};
 ghost use Rattle.jup_star.specs.SiteStates.{opened_site, edit_answer, heard_tests, shown_tests};
-ghost use Rattle.jup_star.specs.SiteCalls.{site_open_fault, EditAnswers, DeliverAnswers, Bears, is_edit_memory, asks_room};
+ghost use Rattle.jup_star.specs.SiteCalls.{site_open_fault, EditAnswers, DeliverAnswers, owed_of, shown_after, Bears, is_edit_memory, asks_room};
 ghost use Rattle.jup_star.specs.TextRelabels.{UpRelabelsNoText};
 ghost use Rattle.jup_star.specs.declared.messages.Down.TheVariants.{Op, Ack, Pong};
 
@@ -44,6 +44,15 @@ const NO_OPERATION: BoardOp = BoardOp {
 pub struct Made {
     pub edit: BoardEdits,
     pub up: Up,
+}
+
+/// What a site did for a message of the star.
+#[derive(Drop)]
+pub struct Delivered {
+    /// The acknowledgement that the site now owes.
+    pub owed: Option<Up>,
+    /// The operations of another site's edit as this site applied them: transformed past its own edits on their way.
+    pub shown: Option<BoardBatch>,
 }
 
 /// A client: its board, which shows its own edits at once and those of others as they come, and its end of
@@ -198,24 +207,36 @@ impl Site {
     pub fn deliver(&mut self, alloc: Global, down: &Down) -> Result<Option<Up>, SiteFault>
         ensures { DeliverAnswers down.now self.old self.new result }
     {
+        match self.deliver_shown(alloc, down) {
+            Ok(delivered) => Ok(delivered.owed),
+            Err(fault) => Err(fault),
+        }
+    }
+
+    /// Delivers a message as [`Site::deliver`] does, and also returns the operations that the site applied. A copy of the
+    /// board before the call becomes the board after it by these operations, so a caller that keeps such a copy compares nothing.
+    pub fn deliver_shown(&mut self, alloc: Global, down: &Down) -> Result<Delivered, SiteFault>
+        ensures answer { DeliverAnswers down.now self.old self.new (owed_of result) }
+        ensures shown { IfOk result (λ delivered. self.new.board ≡ shown_after delivered.shown self.old.board) }
+    {
         if self.stopped {
             return Err(SiteFault::Stopped);
         }
         match down {
             Down::Op(msg) => self.deliver_edit(alloc, msg),
             Down::Ack(heard) => self.deliver_ack(alloc, *heard),
-            Down::Pong(_) => Ok(None),
+            Down::Pong(_) => Ok(Delivered {
+                owed: None,
+                shown: None,
+            }),
         }
     }
 
     // Takes an edit of another site.
-    fn deliver_edit(
-        &mut self,
-        alloc: Global,
-        msg: &Msg<BoardBatch>,
-    ) -> Result<Option<Up>, SiteFault>
+    fn deliver_edit(&mut self, alloc: Global, msg: &Msg<BoardBatch>) -> Result<Delivered, SiteFault>
         requires { self.old.stopped ≡ false }
-        ensures { DeliverAnswers (Op msg.now) self.old self.new result }
+        ensures answer { DeliverAnswers (Op msg.now) self.old self.new (owed_of result) }
+        ensures shown { IfOk result (λ delivered. self.new.board ≡ shown_after delivered.shown self.old.board) }
     {
         match check_shown(self.number, &self.end, msg) {
             Err(fault) => {
@@ -225,17 +246,21 @@ impl Site {
             Ok(()) => {}
         }
         let msg = reserve_shown(alloc, msg, &mut self.board)?;
-        if !show(&mut self.board, &mut self.end, msg) {
+        let Some(op) = show(&mut self.board, &mut self.end, msg) else {
             halt(alloc, &mut self.end, &mut self.stopped);
             return Err(SiteFault::BadOp);
-        }
-        Ok(acknowledge(&mut self.end).map(Up::Ack))
+        };
+        Ok(Delivered {
+            owed: acknowledge(&mut self.end).map(Up::Ack),
+            shown: Some(op),
+        })
     }
 
     // Takes an acknowledgement.
-    fn deliver_ack(&mut self, alloc: Global, heard: u32) -> Result<Option<Up>, SiteFault>
+    fn deliver_ack(&mut self, alloc: Global, heard: u32) -> Result<Delivered, SiteFault>
         requires { self.old.stopped ≡ false }
-        ensures { DeliverAnswers (Ack heard) self.old self.new result }
+        ensures answer { DeliverAnswers (Ack heard) self.old self.new (owed_of result) }
+        ensures shown { IfOk result (λ delivered. self.new.board ≡ shown_after delivered.shown self.old.board) }
     {
         match hear(&mut self.end, heard) {
             Err(fault) => {
@@ -244,7 +269,10 @@ impl Site {
             }
             Ok(()) => {}
         }
-        Ok(None)
+        Ok(Delivered {
+            owed: None,
+            shown: None,
+        })
     }
 
     /// Makes the edit of a command: the board shows it at once, and the message tells the star of it. Refused,
@@ -350,24 +378,24 @@ fn reserve_shown(
     copy_of(alloc, msg)
 }
 
-// Receives an edit of another site and applies it, where it fits the board, and answers whether it does.
-// It takes no memory.
-fn show(board: &mut Board, end: &mut End<BoardBatch>, msg: Msg<BoardBatch>) -> bool
+// Receives an edit of another site and applies it, where it fits the board, and answers its operation as it was
+// applied. It takes no memory.
+fn show(board: &mut Board, end: &mut End<BoardBatch>, msg: Msg<BoardBatch>) -> Option<BoardBatch>
     requires number { IsNumber end.old.link msg.mine }
     requires count { IsCount end.old.link msg.heard }
     requires room { HasRoom msg.op 0 board.old }
-    ensures fits { result ≡ accepts (operation_at board_batches end.old.link msg) (bare board.old) }
+    ensures fits { is_some result ≡ accepts (operation_at board_batches end.old.link msg) (bare board.old) }
     ensures end { end.new.link ≡ end_after board_batches end.old.link msg }
-    ensures same { result ≡ false → bare board.new ≡ bare board.old }
-    ensures shown { result ≡ true
-        → bare board.new ≡ after (operation_at board_batches end.old.link msg) (bare board.old) }
+    ensures same { IfNone result (bare board.new ≡ bare board.old) }
+    ensures op { IfSome result (λ op. op ≡ operation_at board_batches end.old.link msg) }
+    ensures shown { IfSome result (λ op. bare board.new ≡ after op (bare board.old)) }
 {
     let op = receive(end, msg);
     if !fits(&op, board) {
-        return false;
+        return None;
     }
     op.apply(board);
-    true
+    Some(op)
 }
 
 /// An edit of the site as it goes into the queue and into its message, and what it means.

@@ -1,19 +1,13 @@
 -- A site that joins stands at the end of the star's order.
-use Rattle.std.proofs.Common.{◌≡◌, ℕ, ◌+◌, ◌<◌, ◌≤◌, List, [], ◌++◌, drop, take, length, refl, ap, sym, ◌∙◌, subst, arith, append-nil, add-zero, eq-eqb, take_all, drop_of_length-le, length-append, le_refl}
-use Rattle.jup_link.specs.Laws.LinkSteps.{small_le, InStepAt-opened}
+use Rattle.std.proofs.Common.{ℕ, ◌+◌, [], length, refl, sym, subst, arith, eq-eqb}
 use Rattle.jup_window.specs.Operations.{Operations, AreLawful}
 use Rattle.jup_star.specs.LinkStates.{opened_link}
 use Rattle.jup_star.specs.StarStates.{StarOf, joined}
 use Rattle.jup_star.specs.SiteStates.{opened_site}
 use Rattle.jup_star.proofs.Lookup.{found-end}
-use Rattle.jup_world.specs.Each.{Each}
-use Rattle.jup_world.specs.Turns.{turns, edits, own_edits}
 use Rattle.jup_world.specs.WorldStates.{AttachedOf}
-use Rattle.jup_world.specs.Sound.{named_by, own_counts, ChangesKnown, HoldsKnown, Paired, told_of, Standing}
-use Rattle.jup_world.proofs.Sound.TraceLaws.{edits-turns, length-turns}
-use Rattle.jup_world.proofs.Known.{known_more, all_changes_more, own_counts-above}
-use Rattle.jup_world.proofs.Sound.WorldTakes.{named-turns}
 use Rattle.jup_world.proofs.StarKeepsLinks.{star-joined}
+use Rattle.jup_world.proofs.Sound.NewSites.{stands-new}
 use Rattle.jup_honest.proofs.CalledStars.{IsCalled}
 use Rattle.jup_honest.proofs.HonestSteps.{StandsWith, IsHonestAt}
 
@@ -26,86 +20,11 @@ module _ (O : Operations) (L : AreLawful O) (most : ℕ) (first : O.t.Content) (
   abbrev pub new_site : AttachedOf O
   new_site = record { site = opened_site i s.limit s.board; up = []; down = [] }
 
-  -- the number is new
-  new : s.given < i
-  new = omega arith
-
-  -- no entry bears a name of it
-  no_name : named_by O i i (turns i s.order) ≡ 0
-  no_name = named-turns O L i 0 i s.order ∙ h.star.no_name i new
-
-  -- it knows what the star knows
-  counts : (j : ℕ) → named_by O 0 j (turns 0 s.order) ≤ own_counts O i 0 (λ j. named_by O i j (turns i s.order)) j
-  counts j =
-      let above = own_counts-above O L i 0 (λ j. named_by O i j (turns i s.order)) (omega (arith, no_name)) j in
-      omega (arith, named-turns O L 0 i j s.order)
-
-  knows : HoldsKnown O (own_counts O i 0 (λ j. named_by O i j (turns i s.order))) s.board
-  knows n x = known_more O L (λ j. named_by O 0 j (turns 0 s.order)) (own_counts O i 0 (λ j. named_by O i j (turns i s.order))) n counts (h.star.board_known n x)
-
-  -- with nothing behind it neither
-  none_named : named_by O i i (turns i s.order ++ []) ≡ 0
-  none_named = ap (named_by O i i) (append-nil (turns i s.order)) ∙ no_name
-
-  -- nothing is added
-  all_nil : {A : Type 0} → (xs : List A) → (xs ++ []) ++ [] ≡ xs
-  all_nil xs = append-nil (xs ++ []) ∙ append-nil xs
-
-  -- a new link and a new site are in step
-  new_pair : Paired O most i first (turns i s.order) [] s.board [] (opened_link i) new_site
-  new_pair = record {
-    from = s.board;
-    site_ahead = [];
-    star_ahead = [];
-    site_side = refl;
-    link_side = refl;
-    in_step = InStepAt-opened O.t L.lawful 0 s.board h.star.distinct (small_le O.t L.lawful 0 h.star.room s.board (omega arith) h.star.small);
-    room = h.star.room;
-    small = h.star.small;
-    enough = omega (arith, h.star.enough, length-append (turns i s.order) [], length-turns i s.order);
-    raw = [];
-    raw_sent = refl;
-    row = tt;
-    column = refl;
-    all_made = sym (append-nil (own_edits (turns i s.order ++ [])) ∙ ap own_edits (append-nil (turns i s.order)) ∙ h.no_entry i new);
-    shows = h.star.content_is ∙ ap (O.t.meaning first) (edits-turns 0 i s.order ∙ sym (all_nil (edits (turns i s.order))));
-    up_inherits = tt;
-    down_inherits = tt;
-    raw_named = none_named;
-    rest_named = tt;
-    board_known = knows;
-    from_known = subst (λ k. HoldsKnown O (own_counts O i k (λ j. named_by O i j (turns i s.order))) s.board) (sym none_named) knows;
-    view_known = subst (Each (ChangesKnown O (own_counts O i 0 (λ j. named_by O i j (turns i s.order))))) (edits-turns 0 i s.order ∙ sym (all_nil (edits (turns i s.order))))
-        (all_changes_more O L (λ j. named_by O 0 j (turns 0 s.order)) (own_counts O i 0 (λ j. named_by O i j (turns i s.order))) counts (edits (turns 0 s.order)) h.star.order_known);
-    falling_foreign = tt;
-    positive = omega arith;
-    site_number = refl;
-    link_number = refl;
-    link_named = sym none_named;
-    goes_on = refl;
-    backlog = omega arith;
-    few_heard = omega arith;
-    few_sent = omega arith;
-  }
-
-  -- at the end of the order
-  new_stands : Standing O most first (turns i s.order) s.board [] (length s.order) 0 i (opened_link i) new_site
-  new_stands = record {
-    pair = subst (λ k. Paired O most i first (take k (turns i s.order)) (drop k (turns i s.order)) s.board [] (opened_link i) new_site) (sym told)
-        (subst (λ us. Paired O most i first us (drop (length (turns i s.order)) (turns i s.order)) s.board [] (opened_link i) new_site) (sym (take_all (length (turns i s.order)) (turns i s.order) (le_refl _)))
-        (subst (λ us. Paired O most i first (turns i s.order) us s.board [] (opened_link i) new_site) (sym (drop_of_length-le (turns i s.order) (le_refl _))) new_pair));
-    joined_within = omega (arith, length-turns i s.order);
-    shown_within = omega arith;
-  }
-    where
-      told : told_of O (length s.order) 0 (turns i s.order) ≡ length (turns i s.order)
-      told = add-zero (length s.order) ∙ sym (length-turns i s.order)
-
   -- so a site that joins stands beside the star
   pub honest-new : IsHonestAt O most first (length s.order) i (joined s) [] 0 new_site
   honest-new = record {
     star = star-joined O L most first s h.star;
     given = omega arith;
     stands = subst (λ o. StandsWith O most first s.order s.board [] (length s.order) 0 i new_site o)
-        (sym (found-end (λ k. k.site) i s.links (opened_link i) (h.star.no_link i new) (eq-eqb i i refl))) new_stands;
+        (sym (found-end (λ k. k.site) i s.links (opened_link i) (h.star.no_link i (omega arith)) (eq-eqb i i refl))) (stands-new O L most first s h.star i refl (h.no_entry i (omega arith)));
   }

@@ -3,6 +3,8 @@
 pub mod BacklogLaws
 pub mod BoardWorldLaws
 pub mod GivenNames
+pub mod LinkCounts
+pub mod NewSites
 pub mod ReplyLaws
 pub mod Silent
 pub mod SoundFetched

@@ -1,24 +1,13 @@
 -- Each event keeps the counts of every link.
-use Rattle.std.proofs.Common.{◌≡◌, ℕ, ◌+◌, ◌<◌, Bool, true, false, List, [], ◌∷◌, ◌++◌, drop, length, refl, ap, sym, ◌∙◌, subst, Option, Some, None, option_map, arith, take, length-append, append_assoc, take-append-drop, eq-eqb, leb-true, leb-false}
+use Rattle.std.proofs.Common.{◌≡◌, ℕ, ◌+◌, ◌<◌, List, [], ◌∷◌, ◌++◌, drop, length, refl, ap, sym, ◌∙◌, subst, Option, Some, None, option_map, arith, take, append_assoc, take-append-drop, eq-eqb}
 use Rattle.std.specs.Prelude.{if◌then◌else◌}
-use Rattle.std.proofs.lemmas.Bool.{and_parts}
-use Rattle.jup_xform.specs.declared.Transform.{Ghosts}
 use Rattle.jup_limits.specs.Limits.{answer_after}
-use Rattle.jup_link.specs.declared.Msg.{Msg}
-use Rattle.jup_link.specs.Links.{Link, IsCount, generated, accepts_count, after_ack, answered, owes}
-use Rattle.jup_link.specs.Messages.{next_message}
-use Rattle.jup_link.specs.InStep.{InStepAt, Comes}
-use Rattle.jup_link.specs.Laws.LinkSteps.{client_generated, generated-after_count, generated-after_receive}
+use Rattle.jup_link.specs.InStep.{InStepAt}
+use Rattle.jup_link.specs.Laws.LinkSteps.{client_generated}
 use Rattle.jup_window.specs.Operations.{Operations, AreLawful}
 use Rattle.jup_star.specs.declared.messages.Up.TheVariants.{Op as UpOp, Ack as UpAck, Ping as UpPing}
-use Rattle.jup_star.specs.declared.messages.Down.{Down}
-use Rattle.jup_star.specs.declared.messages.Down.TheVariants.{Op as DownOp, Ack as DownAck, Pong as DownPong}
-use Rattle.jup_star.specs.declared.faults.SiteFault.TheVariants.{BadOp}
-use Rattle.jup_star.specs.FirstFaults.{test}
-use Rattle.jup_star.specs.LinkStates.{LinkState, opened_link, link_acked, link_ponged, link_fetched, link_sent, link_heard, operation_at, end_after}
+use Rattle.jup_star.specs.LinkStates.{LinkState, opened_link, link_acked, link_ponged, link_fetched, link_sent, link_heard, operation_at}
 use Rattle.jup_star.specs.StarStates.{link_of, at_link, without, joined}
-use Rattle.jup_star.specs.SiteStates.{running_test, heard_tests, deliver_tests, fits_shown, deliver_fault}
-use Rattle.jup_star.proofs.TestLists.{all_hold}
 use Rattle.jup_star.specs.Streams.{ups, downs}
 use Rattle.jup_star.proofs.Lookup.{found-end, found-end_other}
 use Rattle.jup_world.specs.WorldStates.{WorldOf, AttachedOf, EventOf, attached, at_site, without_site}
@@ -32,26 +21,7 @@ use Rattle.jup_world.proofs.EventSteps.{StepOf, Still, Enters, EntersStray, Goes
 use Rattle.jup_world.proofs.Sound.SoundRuns.{sound-happens}
 use Rattle.jup_world.proofs.Sound.SoundJoined.{no_site}
 use Rattle.jup_world.proofs.Sound.WorldTakes.{standing_of}
-
--- counts told one list after another
-told_count-append : {Op : Type 0} → (n : ℕ) (ds es : List (Down Op)) → told_count n (ds ++ es) ≡ told_count (told_count n ds) es
-told_count-append n [] es = refl
-told_count-append n (DownOp m ∷ ds) es = told_count-append m.heard ds es
-told_count-append n (DownAck k ∷ ds) es = told_count-append k ds es
-told_count-append n (DownPong k ∷ ds) es = told_count-append n ds es
-
--- one more message at the end of an outbox
-told_last : {Op : Type 0} → (n : ℕ) (ds os es : List (Down Op)) → told_count n (ds ++ (os ++ es)) ≡ told_count (told_count n (ds ++ os)) es
-told_last n ds os es = ap (told_count n) (sym (append_assoc ds os es)) ∙ told_count-append n (ds ++ os) es
-
--- a stream without messages brings no operation
-no_operations : {Op State Edit : Type 0} → (t : Ghosts Op State Edit) (n k : ℕ) (before ahead : List Op) → Comes t n k before [] ahead → ahead ≡ []
-no_operations t n k before [] comes = refl
-no_operations t n k before (o ∷ os) comes = absurd comes
-
--- a count that a test accepts
-count_of : {Op : Type 0} → (l : Link Op) (n : ℕ) → accepts_count l n ≡ true → IsCount l n
-count_of l n test = let two = and_parts _ _ test in record { low = leb-true _ _ two.0; high = leb-true _ _ two.1 }
+use Rattle.jup_world.proofs.Sound.LinkCounts.{edit_counts, sent_counts, heard_counts, ponged_counts, acked_counts, pinged_counts, handed_counts, no_operations}
 
 module _ (O : Operations) (L : AreLawful O) where
   -- links and sites under one number
@@ -59,77 +29,6 @@ module _ (O : Operations) (L : AreLawful O) where
   -- a site that joins
   opened_counts : (w : WorldOf O) (i : ℕ) → Counts O (opened_link i) (new_site O w i)
   opened_counts w i = record { short = omega arith; told = refl; sent = refl }
-
-  -- a site that edits
-  edit_counts : (l : LinkState O.Op) (a : AttachedOf O) (op : O.Op) → Counts O l a → Counts O l (with_edit O op a)
-  edit_counts l a op c = record { short = c.short; told = c.told; sent = omega (arith, c.sent, length-append a.site.end.outgoing (op ∷ [])) }
-
-  -- a link to which another site's edit is sent: its message bears the count
-  sent_counts : (l : LinkState O.Op) (a : AttachedOf O) (op : O.Op) → Counts O l a → Counts O (link_sent op l) a
-  sent_counts l a op c = record {
-    short = omega arith;
-    told = omega (arith, told_last a.site.end.acknowledged a.down l.outbox (DownOp (next_message l.end op) ∷ []));
-    sent = c.sent;
-  }
-
-  -- a link that hears its site's edit: it acknowledges where `answer_after` are unanswered
-  heard_counts : (l : LinkState O.Op) (a : AttachedOf O) (m : Msg O.Op) → Counts O l a → Counts O (link_heard O m l) (one_taken O a)
-  heard_counts l a m c = cases (owes (l.end.unanswered + 1)) refl
-    where
-      cases : (b : Bool) → owes (l.end.unanswered + 1) ≡ b
-          → Counts O (record { site = l.site; end = if b then after_ack (end_after O l.end m) else end_after O l.end m; outbox = l.outbox ++ (if b then DownAck (l.end.received + 1) ∷ [] else []); named = l.named + O.insertions (O.t.edit_of m.op) }) (one_taken O a)
-      cases true due = record { short = omega arith; told = omega (arith, told_last a.site.end.acknowledged a.down l.outbox (DownAck (l.end.received + 1) ∷ [])); sent = c.sent }
-      cases false paid = record {
-        short = let few = leb-false answer_after (l.end.unanswered + 1) paid in omega (arith, few);
-        told = omega (arith, told_last a.site.end.acknowledged a.down l.outbox [], c.told);
-        sent = c.sent;
-      }
-
-  -- a ping that is answered
-  ponged_counts : (l : LinkState O.Op) (a : AttachedOf O) (k : ℕ) → Counts O l a → Counts O (link_ponged k l) (one_taken O a)
-  ponged_counts l a k c = record { short = c.short; told = omega (arith, told_last a.site.end.acknowledged a.down l.outbox (DownPong k ∷ []), c.told); sent = c.sent }
-
-  -- an acknowledgement that is taken
-  acked_counts : (l : LinkState O.Op) (a : AttachedOf O) (n : ℕ) → Counts O l a → Counts O (link_acked n l) (one_taken O a)
-  acked_counts l a n c = record { short = c.short; told = c.told; sent = c.sent }
-
-  -- a site that sends a ping
-  pinged_counts : (l : LinkState O.Op) (a : AttachedOf O) (k : ℕ) → Counts O l a → Counts O l (pinged O k a)
-  pinged_counts l a k c = record { short = c.short; told = c.told; sent = c.sent }
-
-  -- an end that answers has acknowledged and generated what it had
-  same_answered : (P : Link O.Op → Type 0) (e : Link O.Op) → P (after_ack e) → P e → P (answered e)
-  same_answered P e paid unpaid = cases (owes e.unanswered)
-    where
-      cases : (b : Bool) → P (if b then after_ack e else e)
-      cases true = paid
-      cases false = unpaid
-
-  -- a site that is handed its oldest message
-  handed_counts : (l : LinkState O.Op) (a : AttachedOf O) (gone : ℕ) (d : Down O.Op) (ds : List (Down O.Op)) → a.down ++ l.outbox ≡ d ∷ (ds ++ drop gone l.outbox) → deliver_fault O d a.site ≡ None
-      → Counts O l a → Counts O (link_fetched gone l) (one_handed O d ds a)
-  handed_counts l a gone (DownOp m) ds e none c = record {
-    short = c.short;
-    told = same_answered (λ x. told_count x.acknowledged (ds ++ drop gone l.outbox) + l.end.unanswered ≡ l.end.received) (end_after O a.site.end m) told told;
-    sent = same_answered (λ x. a.site.made ≡ generated x) (end_after O a.site.end m) sent sent;
-  }
-    where
-      told : told_count m.heard (ds ++ drop gone l.outbox) + l.end.unanswered ≡ l.end.received
-      told = sym (ap (λ x. told_count a.site.end.acknowledged x + l.end.unanswered) e) ∙ c.told
-
-      sent : a.site.made ≡ generated (end_after O a.site.end m)
-      sent = c.sent ∙ sym (generated-after_receive O.t a.site.end m.heard m.op
-          (count_of a.site.end m.heard (all_hold (deliver_tests O a.site m ++ test (fits_shown O a.site m) BadOp ∷ []) none).1.1.0))
-  handed_counts l a gone (DownAck n) ds e none c = record {
-    short = c.short;
-    told = sym (ap (λ x. told_count a.site.end.acknowledged x + l.end.unanswered) e) ∙ c.told;
-    sent = c.sent ∙ sym (generated-after_count O.t a.site.end n (count_of a.site.end n (all_hold (running_test a.site ∷ heard_tests a.site.end n) none).1.0));
-  }
-  handed_counts l a gone (DownPong k) ds e none c = record {
-    short = c.short;
-    told = sym (ap (λ x. told_count a.site.end.acknowledged x + l.end.unanswered) e) ∙ c.told;
-    sent = c.sent;
-  }
 
   -- all numbers
 
@@ -150,7 +49,7 @@ module _ (O : Operations) (L : AreLawful O) where
 
     -- an edit is sent to each other link
     sent_on : (op : O.Op) (ol : Option (LinkState O.Op)) (oa : Option (AttachedOf O)) → CountsAt O ol oa → CountsAt O (option_map (link_sent op) ol) oa
-    sent_on op (Some l) (Some a) c = sent_counts l a op c
+    sent_on op (Some l) (Some a) c = sent_counts O L l a op c
     sent_on op (Some l) None c = tt
     sent_on op None (Some a) c = tt
     sent_on op None None c = tt
@@ -193,19 +92,19 @@ module _ (O : Operations) (L : AreLawful O) where
       (subst (λ o. CountsAt O (link_of (w.star.given + 1) (w.star.links ++ opened_link (w.star.given + 1) ∷ [])) o) (sym (no_site O L most w s (w.star.given + 1) refl)) (no_counts (link_of (w.star.given + 1) (w.star.links ++ opened_link (w.star.given + 1) ∷ []))))
       (λ j e. subst (λ o. CountsAt O o (attached j w.sites)) (sym (found-end_other (λ k. k.site) j w.star.links (opened_link (w.star.given + 1)) e)) (all j))
   counts-step most w s all e o (Goes i l oa fl fa why) = without_one w all i
-  counts-step most w s all e o (Makes i command l a op fl fa ok) = site_only w all i (with_edit O op) l a (λ b. refl) fl fa (edit_counts l a op (here_of w all i l a fl fa))
-  counts-step most w s all e o (Asks i k l a fl fa) = site_only w all i (pinged O k) l a (λ b. refl) fl fa (pinged_counts l a k (here_of w all i l a fl fa))
+  counts-step most w s all e o (Makes i command l a op fl fa ok) = site_only w all i (with_edit O op) l a (λ b. refl) fl fa (edit_counts O L l a op (here_of w all i l a fl fa))
+  counts-step most w s all e o (Asks i k l a fl fa) = site_only w all i (pinged O k) l a (λ b. refl) fl fa (pinged_counts O L l a k (here_of w all i l a fl fa))
   counts-step most w s all e o (Takes i l oa (UpOp m) fl fa brought none) =
       at_all (λ k. k.site) (λ b. b.site.number) (λ j ol oa. CountsAt O ol oa) i (link_heard O m) (link_sent (operation_at O l.end m)) (one_taken O)
-      (λ k. refl) (λ k. refl) (λ b. refl) w.star.links w.sites l oa fl fa (taken_counts w all i l oa fl fa (link_heard O m l) (λ a c. heard_counts l a m c))
+      (λ k. refl) (λ k. refl) (λ b. refl) w.star.links w.sites l oa fl fa (taken_counts w all i l oa fl fa (link_heard O m l) (λ a c. heard_counts O L l a m c))
       (λ j e. sent_on w all (operation_at O l.end m) (link_of j w.star.links) (attached j w.sites) (all j))
   counts-step most w s all e o (Takes i l oa (UpAck n) fl fa brought none) =
       at_one (λ k. k.site) (λ b. b.site.number) (λ j ol oa. CountsAt O ol oa) i (link_acked n) (one_taken O) (λ k. refl) (λ b. refl) w.star.links w.sites l oa fl fa
-      (taken_counts w all i l oa fl fa (link_acked n l) (λ a c. acked_counts l a n c)) (λ j e. all j)
+      (taken_counts w all i l oa fl fa (link_acked n l) (λ a c. acked_counts O L l a n c)) (λ j e. all j)
   counts-step most w s all e o (Takes i l oa (UpPing k) fl fa brought none) =
       at_one (λ k. k.site) (λ b. b.site.number) (λ j ol oa. CountsAt O ol oa) i (link_ponged k) (one_taken O) (λ k. refl) (λ b. refl) w.star.links w.sites l oa fl fa
-      (taken_counts w all i l oa fl fa (link_ponged k l) (λ a c. ponged_counts l a k c)) (λ j e. all j)
-  counts-step most w s all e o (Hands i gone l a d ds fl fa falls none) = with_one w all i (link_fetched gone) (one_handed O d ds) l a (λ k. refl) (handed_number O d ds) fl fa (handed_counts l a gone d ds falls none (here_of w all i l a fl fa))
+      (taken_counts w all i l oa fl fa (link_ponged k l) (λ a c. ponged_counts O L l a k c)) (λ j e. all j)
+  counts-step most w s all e o (Hands i gone l a d ds fl fa falls none) = with_one w all i (link_fetched gone) (one_handed O d ds) l a (λ k. refl) (handed_number O d ds) fl fa (handed_counts O L l a gone d ds falls none (here_of w all i l a fl fa))
 
   -- each event keeps the counts
   pub counts-happens : (most : ℕ) (w : WorldOf O) → IsSound O most w → AllCount O w → (e : EventOf O) → AllCount O (happens O w e)

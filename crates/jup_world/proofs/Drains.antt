@@ -1,4 +1,4 @@
--- What a drain comes to, and that it ends.
+-- What a drain does, and that it ends.
 
 pub mod DrainLaws
 pub mod DrainSteps

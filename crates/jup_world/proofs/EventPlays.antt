@@ -1,4 +1,4 @@
--- What each event does to a star and its sites, by what the calls of the two told.
+-- What each event does to a star and its sites, by what the calls of the two answered.
 use Rattle.std.proofs.Common.{◌≡◌, refl, sym, ◌∙◌, ap, subst, ℕ, ◌+◌, ◌≤◌, Bool, true, false, ◌&&◌, List, [], ◌∷◌, ◌++◌, nat_le, Option, Some, None, is_some, Result, Ok, Err, IsOk, arith}
 use Rattle.std.proofs.lemmas.Bool.{and_from, le-leb, ltb-true}
 use Rattle.jup_limits.specs.Limits.{highest_limit, last_site}
@@ -48,7 +48,7 @@ found_both : (w : BoardWorld) (i : ℕ) (f : BoardLink → BoardAttached → Out
     → at_linked board_batches w i f (link_of i w.star.links) ≡ f l a
 found_both w i f l a fl fa = rw (fl, fa) refl
 
--- a site that is handed the oldest message of its stream, or of its outbox
+-- a site that receives the oldest message of its stream, or of its outbox
 abbrev pub handed_as : List (Down BoardBatch) → List (Down BoardBatch) → BoardAttached → BoardAttached
 handed_as [] [] b = b
 handed_as [] (d ∷ os) b = one_handed board_batches d [] b
@@ -170,7 +170,7 @@ plays_detached s t sites next i l a up ups fault refusal fl fa first call same f
 fetched_none : (i : ℕ) (s : BoardStar) → fetched i 0 s ≡ s
 fetched_none i s = ap (λ (ls : List BoardLink). record s { links = ls }) (map_kept (λ l. l.site) i s.links)
 
--- what a site is handed, by what its stream and its outbox have
+-- what a site receives, by what its stream and its outbox have
 handed_down : (w : BoardWorld) (i : ℕ) (l : BoardLink) (a : BoardAttached) → a.site.number ≡ i → FirstFits (refilled l a)
     → first_down board_batches w i a a.down l.outbox
     ≡ answers (first_reply (refilled l a)) (refilled_star l a w.star) (at_site i (λ b. handed_as a.down l.outbox b) w.sites)
@@ -189,7 +189,7 @@ plays_down s t sites next i reply l a fl fa number fits is e f opening trace =
     ∙ handed_down (world_of opening s sites trace) i l a number fits
     ∙ (λ j. record { reply = sym is j; star = sym e j; sites = sym f j })
 
--- the site that was handed it
+-- the site that received it
 pub handed_site : (l : BoardLink) (a : BoardAttached) → handed (refilled l a) ≡ handed_as a.down l.outbox a
 handed_site l a = cases a.down l.outbox refl
   where

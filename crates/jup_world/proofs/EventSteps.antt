@@ -1,4 +1,4 @@
--- What an event comes to: nothing, or one of few steps of a link and of the site under its number. The case analysis stands here once.
+-- What an event does: nothing, or one of few steps of a link and of the site under its number. This module alone has the case analysis.
 use Rattle.std.proofs.Common.{◌≡◌, ℕ, ◌++◌, List, [], ◌∷◌, drop, refl, ap, sym, ◌∙◌, subst, Option, Some, None, Result, Ok, Err}
 use Rattle.jup_window.specs.Operations.{Operations}
 use Rattle.jup_star.specs.declared.messages.Entry.{Entry}
@@ -27,7 +27,7 @@ result_cases (Ok x) P f g = f x refl
 result_cases (Err e) P f g = g e refl
 
 module _ (O : Operations) where
-  -- a site that is handed a message keeps its number
+  -- a site that receives a message keeps its number
   pub handed_number : (d : Down O.Op) (ds : List (Down O.Op)) (a : AttachedOf O) → (one_handed O d ds a).site.number ≡ a.site.number
   handed_number (DownOp m) ds a = refl
   handed_number (DownAck n) ds a = refl
@@ -73,7 +73,7 @@ module _ (O : Operations) where
       StrayLeaves : WhyGone i l None (LeaveStray i) Left
       IsDropped : {oa : Option (AttachedOf O)} {e : EventOf O} (up : Up O.Op) (fault : StarFault) → Brings i up oa e → up_fault O w.star l up ≡ Some fault → WhyGone i l oa e (Detached fault)
 
-    -- an event, what it answers and what it leaves. A link is one of a stranger where no site has its number
+    -- an event, what it answers and what it leaves. A link is one of a stranger if no site has its number
     pub data StepOf : EventOf O → Outcome O → Type 0 where
       -- nothing changes
       Still : {e : EventOf O} {r : ReplyOf O} → WhyStill e r → StepOf e (unchanged O w r)
@@ -92,11 +92,11 @@ module _ (O : Operations) where
       -- the star takes a message
       Takes : {e : EventOf O} (i : ℕ) (l : LinkState O.Op) (oa : Option (AttachedOf O)) (up : Up O.Op) → link_of i w.star.links ≡ Some l → attached i w.sites ≡ oa
           → Brings i up oa e → up_fault O w.star l up ≡ None → StepOf e (up_outcome O w i l up None)
-      -- a site is handed the oldest message to it
+      -- a site receives the oldest message to it
       Hands : (i gone : ℕ) (l : LinkState O.Op) (a : AttachedOf O) (d : Down O.Op) (ds : List (Down O.Op)) → link_of i w.star.links ≡ Some l → attached i w.sites ≡ Some a
           → a.down ++ l.outbox ≡ d ∷ (ds ++ drop gone l.outbox) → deliver_fault O d a.site ≡ None → StepOf (MoveDown i) (down_outcome O w i gone d ds None)
 
-    -- what changes nothing, or lets a link go, tells nothing; nor does a message but by its entry
+    -- an event that changes nothing, or lets a link go, adds nothing to what is read off the trace, and a message adds only its entry
     pub still_silent : {e : EventOf O} {r : ReplyOf O} → WhyStill e r → IsSilent e r
     still_silent (Finds e) = nothing_silent e
     still_silent (NotJoined fault) = record { no_edit = λ j. refl; no_join = λ j n k. refl; no_shown = λ j. refl; no_entry = λ p o. refl }
@@ -151,7 +151,7 @@ module _ (O : Operations) where
         (λ fault f. subst (λ sites. StepOf (Stray i up) (record { reply = Detached fault; star = left i w.star; sites = sites })) (filter_absent (λ a. a.site.number) i w.sites alone)
         (Goes i l None fl alone (IsDropped up fault Strays f)))
 
-    -- a site is handed a message
+    -- a site receives a message
     handed_step : (i gone : ℕ) (l : LinkState O.Op) (a : AttachedOf O) → link_of i w.star.links ≡ Some l → attached i w.sites ≡ Some a → (d : Down O.Op) (ds : List (Down O.Op))
         → a.down ++ l.outbox ≡ d ∷ (ds ++ drop gone l.outbox) → StepOf (MoveDown i) (down_outcome O w i gone d ds (deliver_fault O d a.site))
     handed_step i gone l a fl fa d ds falls = either (deliver_fault O d a.site) (λ f. StepOf (MoveDown i) (down_outcome O w i gone d ds f))

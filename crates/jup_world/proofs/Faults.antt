@@ -1,4 +1,4 @@
--- A message that fits is refused nowhere, but an edit by a star whose order is full.
+-- Nothing refuses a message that fits, except a star with a full order, which refuses an edit.
 use Rattle.std.proofs.Common.{◌≡◌, ℕ, ◌≤◌, ◌<◌, ◌⊎◌, Bool, true, false, not, ◌&&◌, List, [], ◌∷◌, ◌++◌, length, nat_lt, refl, ap, inl, inr, ◌∙◌, IsTrue, Some, None, eq-eqb, le-leb, lt-ltb}
 use Rattle.std.proofs.lemmas.Bool.{ltb-true, ltb-false}
 use Rattle.jup_link.specs.declared.Msg.{Msg}
@@ -29,7 +29,7 @@ both : (b c : Bool) → b ≡ true → c ≡ true → b && c ≡ true
 both true c h k = k
 both false c h k = absurd (cc)
 
--- a count, and a number, that may be said
+-- a count, and a number, that may be sent
 pub count_fits : {Op : Type 0} → (l : Link Op) (n : ℕ) → IsCount l n → accepts_count l n ≡ true
 count_fits l n h = both _ _ (le-leb l.acknowledged n h.low) (le-leb n (generated l) h.high)
 

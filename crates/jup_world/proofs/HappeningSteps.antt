@@ -111,7 +111,7 @@ module _ (s : BoardStar) (sites : List Attached) (ready : AreReady s (map bare_a
       cases (up ∷ ups) first told =
           plays_detached s t (map bare_attached sites) next i l.0 (bare_attached e) up ups fault refusal l.1 found first (take_refused i up s t l.0 fault other l.1 told) same (gone ∙ ap (without_site i) (unchanged new made))
 
-  -- memory is refused
+  -- an allocation failed
   pub refused_same : (t : BoardStar) (fault : StarFault) → IsRefused e.site.number (messages ups e.up.way) s t fault → is_no_memory fault ≡ true → t ≡ s
   refused_same t fault refused memory = cases (messages ups e.up.way) refused
     where

@@ -132,7 +132,7 @@ module _ (O : Operations) (L : AreLawful O) where
   raw_last c i k [] last r = omega arith
   raw_last c i k (e ∷ es) last r = let rest = raw_last c i (k + O.insertions e) es last r.3 in omega arith
 
-  -- a site knows no less of its own insertions than the entries tell
+  -- a site knows no less of its own insertions than the entries have
   pub own_counts-above : (i k : ℕ) (c : ℕ → ℕ) → c i ≤ k → (j : ℕ) → c j ≤ own_counts O i k c j
   own_counts-above i k c h j = cases (nat_eq j i) refl
     where
@@ -140,7 +140,7 @@ module _ (O : Operations) (L : AreLawful O) where
       cases true e = subst (λ m. c m ≤ k) (sym (eqb-true j i e)) h
       cases false e = le_refl (c j)
 
-  -- and no more than all entries tell, once its own are among them
+  -- and no more than all entries have, once its own are among them
   pub own_counts-below : (i k : ℕ) (c d : ℕ → ℕ) → k ≤ d i → ((j : ℕ) → c j ≤ d j) → (j : ℕ) → own_counts O i k c j ≤ d j
   own_counts-below i k c d h f j = cases (nat_eq j i) refl
     where

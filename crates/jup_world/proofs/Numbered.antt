@@ -19,7 +19,7 @@ map_kept {A = A} key i (x ∷ xs) = both (cond (nat_eq (key x) i) x x) (itself (
     both : (y : A) → y ≡ x → {ys : List A} → ys ≡ xs → y ∷ ys ≡ x ∷ xs
     both y p q = cc
 
--- a list of which no element has the number, where that one is changed or taken away
+-- a list of which no element has the number, if that one is changed or taken away
 module _ {A : Type 0} (key : A → ℕ) (i : ℕ) where
   found_here : (x : A) (xs : List A) (b : Bool) → nat_eq (key x) i ≡ b → found key i (x ∷ xs) ≡ None → (nat_eq (key x) i ≡ false) × (found key i xs ≡ None)
   found_here x xs true e none = absurd (let some : found key i (x ∷ xs) ≡ Some x = ap (λ b. cond b (Some x) (found key i xs)) e in cc)

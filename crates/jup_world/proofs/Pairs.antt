@@ -1,4 +1,4 @@
--- A site and its end at the star stay in step, as each of the two edits and is handed edits.
+-- A site and its end at the star stay in step, as each of the two edits and receives edits.
 
 pub mod EditGrid
 pub mod Moved

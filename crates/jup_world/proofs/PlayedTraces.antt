@@ -1,4 +1,4 @@
--- The program plays no stranger, so its trace tells of none.
+-- The program plays no stranger, so its trace has none.
 use Rattle.std.proofs.Common.{◌≡◌, refl, ◌∙◌, ℕ, false, List, [], ◌∷◌, ◌++◌}
 use Rattle.jup_window.specs.declared.commands.Command.{Command}
 use Rattle.jup_window.specs.declared.faults.EditFault.{EditFault}

@@ -1,4 +1,4 @@
--- Where the site of a number stands, and what a change of one site does to the list of sites.
+-- Where the site of a number is, and what a change of one site does to the list of sites.
 use Rattle.std.proofs.Common.{◌≡◌, refl, sym, ◌∙◌, ap, subst, ℕ, zero, suc, ◌+◌, ◌<◌, ◌≤◌, Bool, true, false, cond, not, List, [], ◌∷◌, ◌++◌, length, map, filter, get_or, nat_eq, nat_lt, Option, Some, None, arith, position, MatchOption, eqb-true, ne_eqb}
 use Rattle.std.proofs.Math.ListN.{set}
 use Rattle.std.proofs.lemmas.Bool.{ltb-true, lt-ltb, eq-eqb}
@@ -66,7 +66,7 @@ number_at i (a ∷ later) (suc at) d place = number_at i later at d place.1
 
 -- # Ascending numbers
 
--- no site of a number stands among those above it
+-- no site of a number is among those above it
 above_none : (f : BoardAttached → BoardAttached) (i least most : ℕ) (sites : List BoardAttached) → i ≤ least → AreAscending least most sites → at_site i f sites ≡ sites
 above_none f i least most [] low up = refl
 above_none f i least most (a ∷ later) low up =

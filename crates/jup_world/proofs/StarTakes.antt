@@ -1,4 +1,4 @@
--- The star takes an edit, whoever sent it.
+-- The star takes an edit, no matter who sent it.
 use Rattle.std.proofs.Common.{◌≡◌, ◌⊎◌, ℕ, ◌+◌, ◌-◌, ◌<◌, ◌≤◌, inl, inr, Bool, true, false, cond, List, [], ◌∷◌, ◌++◌, length, nat_eq, refl, ap, sym, ◌∙◌, subst, Option, Some, None, option_map, arith, IsTrue, eq-eqb, ne_eqb, eqb-true, add-zero, length-append, if◌then◌else◌}
 use Rattle.std.proofs.lemmas.Bool.{ltb-true}
 use Rattle.jup_xform.specs.Rows.{row_operation, row_entries}

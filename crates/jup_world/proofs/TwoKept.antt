@@ -138,7 +138,7 @@ owed_names : (P : SeqOp ℕ → Type 0) (b : Bool) (n : ℕ) → AllMessages P (
 owed_names P true n = tt
 owed_names P false n = tt
 
--- the messages behind the oldest
+-- the messages after the oldest
 all_later : (P : SeqOp ℕ → Type 0) (m : Message (SeqOp ℕ)) (ms : List (Message (SeqOp ℕ))) → AllMessages P (m ∷ ms) → AllMessages P ms
 all_later P (Ack k) ms all = all
 all_later P (Operation mine heard o) ms all = all.1
@@ -299,7 +299,7 @@ next_up_accepted s two = up_accepts s.client s.server s.up s.down two
 pub next_down_accepted : (s : TwoState) → IsTwo s → AcceptsNext texts s.client.link s.client.text s.down
 next_down_accepted s two = down_accepts s.client s.server s.up s.down two
 
--- # Calls that answer for want of memory, and then leave all as it was
+-- # Calls that answer that an allocation failed, and then leave all as it was
 
 pub client_step : {A E : Type 0} (r : Result A E) (s : TwoState) (edit : TwoEdit) (end : TwoEnd) (up : List (Message (SeqOp ℕ)))
     → OnOk r (end ≡ edited s.client (two_operation 1 s.client edit)) → OnOk r (up ≡ s.up ++ sent_by s.client (two_operation 1 s.client edit))

@@ -1,4 +1,4 @@
--- What holds of every world of the program: as it is opened, after each event, and after want of memory.
+-- What holds of every world of the program: as it is opened, after each event, and after a failed allocation.
 use Rattle.std.proofs.Common.{◌≡◌, refl, sym, ◌∙◌, ap, subst, inl, inr, ℕ, ◌+◌, ◌≤◌, Bool, true, false, ◌&&◌, List, [], ◌∷◌, ◌++◌, drop, length, nat_le, Some, None, arith, leb-false, append-nil, drop_of_length-le, le_refl}
 use Rattle.std.proofs.lemmas.Bool.{leb-true}
 use Rattle.jup_limits.specs.Limits.{highest_limit}
@@ -62,7 +62,7 @@ ascending_above : (least most more : ℕ) (xs : List BoardAttached) → most ≤
 ascending_above least most more [] h up = omega arith
 ascending_above least most more (a ∷ xs) h up = (up.0, ascending_above a.site.number most more xs h up.1)
 
--- an event, by what it comes to
+-- an event, by its outcome
 step_numbered : (w : BoardWorld) → IsSound board_batches most_batches w → AreNumbered w.star w.sites → (e : BoardEvent) (o : Outcome board_batches) → StepOf board_batches w e o → KeepsNumbers o
 step_numbered w s is e o (Still why) = is
 step_numbered w s is e o (Enters none) = record {
@@ -115,7 +115,7 @@ world_new b limit opening some limited = record {
   };
 }
 
--- and so it is where a star refuses neither the limit nor the board
+-- and so it is if a star refuses neither the limit nor the board
 pub world_opened : (b : board.Windows) (limit : ℕ) → star_open_fault (board.bare b) limit ≡ None → board.HasDistinctNames b → EachWidget IsShort b → IsWorld (opened_world board_batches (board.bare b) limit)
 world_opened b limit none distinct short =
     let held = open_held (nat_le 1 limit) (nat_le limit highest_limit) (only_site 0 (board.bare b)) none in

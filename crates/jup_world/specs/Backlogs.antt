@@ -9,7 +9,7 @@ use Rattle.jup_star.specs.LinkStates.{LinkState}
 use Rattle.jup_star.specs.StarStates.{link_of}
 use Rattle.jup_world.specs.WorldStates.{WorldOf, AttachedOf, attached, IsQuiet}
 
--- the count that a site will last have been told once it is handed these messages
+-- the last count that a site knows once these messages are delivered to it
 abbrev pub told_count : {Operation : Type 0} → ℕ → List (Down Operation) → ℕ
 told_count n [] = n
 told_count n (DownOp m ∷ ds) = told_count m.heard ds
@@ -17,8 +17,8 @@ told_count n (DownAck k ∷ ds) = told_count k ds
 told_count n (DownPong k ∷ ds) = told_count n ds
 
 module _ (O : Operations) where
-  -- of a site's edits that the star received, it told of all but its end's fewer than `answer_after` unanswered ones; and each edit that the
-  -- site made was sent
+  -- of a site's edits that the star received, it acknowledged all but fewer than `answer_after`, the unanswered ones of its end; and each
+  -- edit that the site made was sent
   pub record Counts (l : LinkState O.Op) (a : AttachedOf O) : Type 0 where
     pub short : l.end.unanswered < answer_after
     pub told : told_count a.site.end.acknowledged (a.down ++ l.outbox) + l.end.unanswered ≡ l.end.received
@@ -35,8 +35,8 @@ module _ (O : Operations) where
   abbrev pub AllCount : WorldOf O → Type 0
   AllCount w = (i : ℕ) → CountsAt (link_of i w.star.links) (attached i w.sites)
 
-  -- a site's backlog is the edits that it made less those that it was told were received, and where no message is on its way it is
-  -- below `answer_after`
+  -- a site's backlog is the edits that it made less those of which it knows that the star received them. If no message is on its
+  -- way, the backlog is below `answer_after`.
   pub record BacklogIsShort (w : WorldOf O) : Type 0 where
     pub backlog : (i : ℕ) (a : AttachedOf O) → attached i w.sites ≡ Some a → a.site.made ≡ a.site.end.acknowledged + length a.site.end.outgoing
     pub bounded : (i : ℕ) (a : AttachedOf O) → attached i w.sites ≡ Some a → length a.site.end.outgoing ≤ most_unacknowledged

@@ -1,10 +1,10 @@
--- What may happen in a world whose links carry messages, and what is answered. The program has two events more, which move bytes.
+-- What may happen in a world whose links carry messages, and what is answered. The program has two more events, which move bytes.
 use Rattle.std.specs.Prelude.{ℕ}
 use Rattle.jup_star.specs.declared.faults.StarFault.{StarFault}
 use Rattle.jup_star.specs.declared.messages.Up.{Up as Message}
 
--- a site joins, leaves, edits; the star takes the oldest message from it; it is handed the oldest to it; it sends a ping. And a stranger
--- joins; the star is handed this message by a link that has no site; a stranger leaves
+-- a site joins, leaves, edits; the star takes the oldest message from it; the site receives the oldest message to it; it sends a ping.
+-- And a stranger joins; the star receives this message by a link that has no site; a stranger leaves
 pub data Event (Command Operation : Type 0) : Type 0 where
   Join : Event Command Operation
   Leave : ℕ → Event Command Operation
@@ -16,7 +16,7 @@ pub data Event (Command Operation : Type 0) : Type 0 where
   Stray : ℕ → Message Operation → Event Command Operation
   LeaveStray : ℕ → Event Command Operation
 
--- what an event answers; that bytes were moved is told where links carry bytes alone
+-- what an event answers. Only if links carry bytes, a reply says that bytes were moved.
 pub data Reply (Edit Fault : Type 0) : Type 0 where
   Joined : ℕ → Reply Edit Fault
   NoJoin : StarFault → Reply Edit Fault

@@ -28,7 +28,7 @@ Plays event star sites reply next_star next_sites =
     → outcome board_batches (record { opening = opening; star = star; sites = sites; trace = trace }) event
     ≡ record { reply = reply; star = next_star; sites = next_sites }
 
--- want of memory left all as it was, but that the oldest message of the outbox of a link may stand in its empty down stream
+-- an allocation failed, and left all as it was, except that the oldest message of a link's outbox may have moved to its empty down stream
 abbrev pub Spares : ℕ → BoardLink → BoardStar → List BoardAttached → BoardStar → List BoardAttached → Type 0
 Spares i l star sites next_star next_sites =
     ((next_star ≡ star) × (next_sites ≡ sites))
@@ -39,7 +39,7 @@ abbrev pub with_answer : Result BoardBatch ℕ → BoardAttached → BoardAttach
 with_answer (Ok op) a = with_edit board_batches op a
 with_answer (Err number) a = a
 
--- the star was handed the oldest message of a site's up stream, if there is one, and took it
+-- the star received the oldest message of a site's up stream, if there is one, and took it
 abbrev pub Rises : ℕ → List (Up BoardBatch) → BoardStar → BoardStar → BoardReply → Type 0
 Rises i [] star next reply = (reply ≡ Nothing) × (next ≡ star)
 Rises i (up ∷ ups) star next reply = (place : Option ℕ) × (reply ≡ place_reply board_batches place) × Answers (Take i up) star next (Taken (Ok place))
@@ -66,7 +66,7 @@ fetched_for i (down ∷ downs) outbox star = star
 abbrev pub refilled_star : BoardLink → BoardAttached → BoardStar → BoardStar
 refilled_star l a star = fetched_for a.site.number a.down l.outbox star
 
--- a site that was handed the oldest message of its down stream, and what that answers
+-- a site that received the oldest message of its down stream, and what that answers
 abbrev pub handed_first : List (Down BoardBatch) → BoardAttached → BoardAttached
 handed_first [] a = a
 handed_first (down ∷ downs) a = one_handed board_batches down downs a
@@ -89,7 +89,7 @@ FitsFirst (down ∷ downs) site = deliver_fault board_batches down site ≡ None
 abbrev pub FirstFits : BoardAttached → Type 0
 FirstFits a = FitsFirst a.down a.site
 
--- want of memory left a site and its star as they were, or with a message fetched
+-- an allocation failed, and left a site and its star as they were, or with a message fetched
 abbrev pub SparesAt : BoardLink → BoardAttached → BoardStar → BoardAttached → BoardStar → Type 0
 SparesAt l a star b next = ((b ≡ a) × (next ≡ star)) ⊎ ((b ≡ refilled l a) × (next ≡ refilled_star l a star))
 
@@ -127,7 +127,7 @@ pub record IsWorld (w : BoardWorld) : Type 0 where
   pub board : IsBoardWorld w
   pub numbered : AreNumbered w.star w.sites
 
--- want of memory left a world as it was, but that the oldest message of an outbox may stand in its empty down stream
+-- an allocation failed, and left a world as it was, except that the oldest message of an outbox may have moved to its empty down stream
 abbrev pub IsSpared : BoardWorld → BoardWorld → Type 0
 IsSpared w v =
     (v ≡ w)

@@ -1,4 +1,4 @@
--- What all sites come to, once no message is on its way.
+-- What all sites show, once no message is on its way.
 use Rattle.std.specs.Prelude.{◌≡◌, ◌<◌, ℕ, length, Some}
 use Rattle.jup_limits.specs.Limits.{answer_after}
 use Rattle.jup_batch.specs.BatchBoards.{content, meaning}
@@ -8,7 +8,7 @@ use Rattle.jup_world.specs.Traces.{made}
 use Rattle.jup_world.specs.BoardTraces.{order_of}
 use Rattle.jup_world.specs.BoardWorlds.{BoardWorld, BoardAttached}
 
--- After whatever has happened, where no message is on its way:
+-- After whatever has happened, if no message is on its way:
 pub record AllAgree (w : BoardWorld) : Type 0 where
   -- the server and all attached sites hold equal windows
   pub equal : (i : ℕ) (a : BoardAttached) → attached i w.sites ≡ Some a → a.site.board ≡ w.star.board
@@ -17,5 +17,5 @@ pub record AllAgree (w : BoardWorld) : Type 0 where
   pub content : content w.star.board ≡ meaning (content w.opening) (edits (turns 0 (order_of w.trace)))
   -- that order has every edit of each attached site once, in that site's order
   pub whole : (i : ℕ) (a : BoardAttached) → attached i w.sites ≡ Some a → own_edits (turns i (order_of w.trace)) ≡ made i w.trace
-  -- and no site has as many as `answer_after` edits that it was not told are taken
+  -- and no site has as many as `answer_after` edits of which it does not know that they are taken
   pub backlog : (i : ℕ) (a : BoardAttached) → attached i w.sites ≡ Some a → length a.site.end.outgoing < answer_after

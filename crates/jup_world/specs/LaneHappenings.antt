@@ -77,7 +77,7 @@ star_filled i [] [] star = star
 star_filled i [] (down ∷ outbox) star = fetched i 1 star
 star_filled i (byte ∷ stream) outbox star = star
 
--- want of memory left a site and its star as they were, or with its down stream filled
+-- an allocation failed, and left a site and its star as they were, or with its down stream filled
 abbrev pub FillsAt : BoardLink → BoardAttached → List ℕ → BoardStar → BoardAttached → BoardStar → Type 0
 FillsAt l a stream star b next = ((b ≡ a) × (next ≡ star)) ⊎ ((b ≡ with_filled stream l a) × (next ≡ star_filled a.site.number stream l.outbox star))
 
@@ -97,7 +97,7 @@ pub record AreRead (event : LaneEvent) (star : BoardStar) (sites next_sites : Li
   pub down : (j : ℕ) (l : BoardLink) (a b : LaneSite) → link_of j star.links ≡ Some l → lane_site j sites ≡ Some a → lane_site j next_sites ≡ Some b
       → length b.down.read ≡ down_read event j l a
 
--- want of memory left all as it was, but that bytes were moved on the way of the event, and a message may have been fetched
+-- an allocation failed, and left all as it was, except that bytes were moved on the way of the event, and a message may have been fetched
 pub record SitesRest (event : LaneEvent) (star : BoardStar) (sites : List LaneSite) (next_star : BoardStar) (next_sites : List LaneSite) : Type 0 where
   pub messages : ((next_star ≡ star) × (map messages_at next_sites ≡ map messages_at sites))
       ⊎ ((i : ℕ) × (l : BoardLink) × (a : LaneSite) × TouchesDown event i × (link_of i star.links ≡ Some l) × (lane_site i sites ≡ Some a)

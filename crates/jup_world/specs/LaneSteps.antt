@@ -1,4 +1,4 @@
--- What an event does to a world whose links carry bytes, and what want of memory leaves.
+-- What an event does to a world whose links carry bytes, and what a failed allocation leaves.
 use Rattle.std.specs.Prelude.{◌≡◌, ◌⊎◌, ℕ, ◌+◌, ◌-◌, cond, min, nat_eq, List, [], ◌∷◌, ◌++◌, length, Option, Some, None, slice_get, take}
 use Rattle.jup_batch.specs.BoardBatches.{board_batches}
 use Rattle.jup_batch.specs.BatchBoards.{BoardBatch}
@@ -24,7 +24,7 @@ abbrev pub there_up : Option LaneSite → List ℕ
 there_up None = []
 there_up (Some a) = a.up.stream
 
--- those that stand in a down stream once it is filled: where it has none, those of the oldest message of the outbox
+-- the bytes of a down stream once it is filled: if it had none, those of the oldest message of the outbox
 abbrev pub filled_stream : List ℕ → List (Down BoardBatch) → List ℕ
 filled_stream [] [] = []
 filled_stream [] (down ∷ outbox) = bytes_of downs down
@@ -49,7 +49,7 @@ filled_for m i None (Some a) = m
 filled_for m i (Some l) None = m
 filled_for m i (Some l) (Some a) = filled_from m i l a.down.stream l.outbox
 
--- each event: a push changes no message, but that it fills an empty down stream
+-- each event: a push changes no message, except that it fills an empty down stream
 abbrev pub lane_outcome : LaneWorld → LaneEvent → Outcome board_batches
 lane_outcome w (Plain event) = outcome board_batches (messages_of w) event
 lane_outcome w (PushUp i n) = unchanged board_batches (messages_of w) (push_reply (min n (length (there_up (lane_site i w.sites)))))
@@ -93,13 +93,13 @@ abbrev pub AllSteps : LaneWorld → List LaneEvent → LaneWorld → Type 0
 AllSteps w [] v = v ≡ w
 AllSteps w (e ∷ es) v = (u : LaneWorld) × Steps w e u × AllSteps u es v
 
--- what an event answers: a push `Nothing` where it moves no byte, else how many
+-- what an event answers: a push `Nothing` if it moves no byte, else how many
 abbrev pub AnswersTo : LaneWorld → LaneEvent → BoardReply → Type 0
 AnswersTo w (Plain event) r = RepliesTo board_batches (messages_of w) event r
 AnswersTo w (PushUp i n) r = r ≡ push_reply (min n (length (there_up (lane_site i w.sites))))
 AnswersTo w (PushDown i n) r = r ≡ push_reply (min n (length (there_down (link_of i w.star.links) (lane_site i w.sites))))
 
--- # Want of memory
+-- # A failed allocation
 
 -- a down stream that had no byte may have been given the oldest message of the outbox
 abbrev pub filled_way : List ℕ → List (Down BoardBatch) → Way → Way
@@ -117,9 +117,10 @@ TouchesDown (Plain (MoveDown i)) j = i ≡ j
 TouchesDown (PushDown i n) j = i ≡ j
 TouchesDown event j = ⊥
 
--- Want of memory left all as it was, trace and boards too, but for the link of the event: on the way that the event moves, bytes may
--- have gone from the stream into the reader, and down the oldest message of the outbox may stand last in the stream. So on each link
--- the lines read, the reader's part and the stream, then the outbox, stand for the same messages
+-- An allocation failed, and left all as it was, trace and boards too, except the link of the event. On the way that the event moves,
+-- bytes may have gone from the stream into the reader. Down, the oldest message of the outbox may have become the last of the
+-- stream. So on each link the messages are still the same ones: those of the lines read, the reader's part and the stream, and then
+-- the outbox
 pub record Rests (w : LaneWorld) (event : LaneEvent) (v : LaneWorld) : Type 0 where
   pub opening : v.opening ≡ w.opening
   pub trace : v.trace ≡ w.trace
@@ -138,7 +139,7 @@ IsSparedBy w (Plain (MoveDown i)) v = Rests w (Plain (MoveDown i)) v
 IsSparedBy w (PushDown i n) v = Rests w (PushDown i n) v
 IsSparedBy w event v = v ≡ w
 
--- events in turn, of which each happened, or was refused for want of memory: all that may come of calls of a world
+-- events in turn, each of which happened or was refused because an allocation failed: all that calls of a world may lead to
 abbrev pub AllTried : LaneWorld → List LaneEvent → LaneWorld → Type 0
 AllTried w [] v = v ≡ w
 AllTried w (e ∷ es) v = (u : LaneWorld) × (Steps w e u ⊎ IsSparedBy w e u) × AllTried u es v

@@ -37,7 +37,7 @@ pub record LaneWorld : Type 0 where
 abbrev pub messages_at : LaneSite → BoardAttached
 messages_at a = record { site = a.site; up = messages ups a.up; down = messages downs a.down }
 
--- what stands in a trace but for the pushes
+-- what is in a trace except the pushes
 abbrev pub plain_happened : LaneEvent → BoardReply → List (Happened Commands BoardBatch BoardEdits ℕ)
 plain_happened (Plain event) reply = record { event = event; reply = reply } ∷ []
 plain_happened (PushUp i n) reply = []
@@ -68,8 +68,8 @@ abbrev pub AllCarry : List LaneSite → Type 0
 AllCarry [] = Unit {0}
 AllCarry (a ∷ sites) = Carries ups a.up × Carries downs a.down × AllCarry sites
 
--- No message is on its way: no byte is in a stream, in a part of a line that a reader holds, or in a line that was read and
--- not handed over, and none is in an outbox
+-- No message is on its way. No byte is in a stream, in a part of a line that a reader holds, or in a line that was read and
+-- not handed over. No outbox has a message
 abbrev pub IsStill : LaneWorld → Type 0
 IsStill w = (i : ℕ) (l : BoardLink) (a : LaneSite) → link_of i w.star.links ≡ Some l → lane_site i w.sites ≡ Some a
     → IsIdle a.up × IsIdle a.down × (l.outbox ≡ [])

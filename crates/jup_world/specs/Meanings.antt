@@ -1,11 +1,11 @@
--- What lists of edits mean, wherever they stand, and what that says of the operations on their way over a link.
+-- What lists of edits mean, wherever they are, and what that says of the operations on their way over a link.
 use Rattle.std.specs.Prelude.{◌≡◌, List, [], ◌∷◌, ◌++◌}
 use Rattle.jup_xform.specs.Rows.{row_operation, row_entries}
 use Rattle.jup_window.specs.Operations.{Operations}
 use Rattle.jup_world.specs.Turns.{Turn, Own, Other, own_edits}
 
 module _ (O : Operations) where
-  -- two lists of edits mean one thing, whatever stands before and after them
+  -- two lists of edits have the same meaning, whatever comes before and after them
   unfoldable pub SameMeaning : List O.Edit → List O.Edit → Type 0
   SameMeaning one two = (x : O.t.Content) (before later : List O.Edit) → O.t.meaning x (before ++ (one ++ later)) ≡ O.t.meaning x (before ++ (two ++ later))
 
@@ -27,14 +27,14 @@ module _ (O : Operations) where
   abbrev pub servers_past : List O.Op → O.Op → List O.Op
   servers_past ss c = row_entries O.t.client_past O.t.server_past c ss
 
-  -- each operation that the star has still to take stands for the edit that its site made, after those before it
+  -- each operation that the star has still to take represents the edit that its site made, after those before it
   abbrev pub RowStands : List O.Edit → List O.Op → List O.Edit → Type 0
   RowStands after [] [] = Unit {0}
   RowStands after [] (e ∷ es) = ⊥
   RowStands after (c ∷ cs) [] = ⊥
   RowStands after (c ∷ cs) (e ∷ es) = StandsFor (O.t.edit_of c) e after × RowStands (after ++ e ∷ []) cs es
 
-  -- each operation that a site has still to be handed means its entry of the order, before the site's own entries that follow it
+  -- each operation that a site has still to receive means its entry of the order, before the site's own entries that follow it
   abbrev pub Shows : List O.Edit → List (Turn O.Edit) → List O.Op → Type 0
   Shows told [] bs = bs ≡ []
   Shows told (Own e ∷ ts) bs = Shows (told ++ e ∷ []) ts bs

@@ -37,7 +37,7 @@ most_edits (played.Ping i k) = 0
 most_edits (played.PushUp i n) = 0
 most_edits (played.PushDown i n) = 0
 
--- a reply tells of one edit at most, or of no more than so many
+-- a reply reports one edit at most, or no more than so many
 abbrev pub MakesFew : Answer BoardEdits EditFault → ℕ → Type 0
 MakesFew (answer.Made edits) n = (length edits ≤ 1) ⊎ (length edits ≤ n)
 MakesFew (answer.Joined i) n = Unit {0}

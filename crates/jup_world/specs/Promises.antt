@@ -13,12 +13,12 @@ module _ (O : Operations) where
 
   -- at every moment
   pub record Promises (w : WorldOf O) : Type 0 where
-    -- the star's order is the one that the trace tells
+    -- the star's order is the one that the trace gives
     pub order : w.star.order ≡ order_of O w.trace
-    -- the star's content is what that order means, and a site's what it was told and made means
+    -- the star's content is the meaning of that order, and a site's is the meaning of what has reached it and of what it made
     pub star_content : O.t.content w.star.board ≡ O.t.meaning (O.t.content w.opening) (edits (turns 0 (order_of O w.trace)))
     pub site_content : (i : ℕ) (a : AttachedOf O) → attached i w.sites ≡ Some a → O.t.content a.site.board ≡ O.t.meaning (O.t.content w.opening) (view O i w.trace)
-    -- where no message is on its way, all boards are equal, and the order has every edit of each attached site once, in its order
+    -- if no message is on its way, all boards are equal, and the order has every edit of each attached site once, in its order
     pub equal : IsQuiet O w → (i : ℕ) (a : AttachedOf O) → attached i w.sites ≡ Some a → a.site.board ≡ w.star.board
     pub whole : IsQuiet O w → (i : ℕ) (a : AttachedOf O) → attached i w.sites ≡ Some a → own_edits (turns i (order_of O w.trace)) ≡ made i w.trace
     -- the attached sites are those that have links and are no strangers, and none has stopped
@@ -34,6 +34,6 @@ module _ (O : Operations) where
   abbrev pub IsCopy : WorldOf O → O.State → Type 0
   IsCopy w x = (x ≡ w.star.board) ⊎ ((i : ℕ) × (a : AttachedOf O) × (attached i w.sites ≡ Some a) × (x ≡ a.site.board))
 
-  -- any copy at one moment, and any at the same or a later one: the items that both show stand in the same order in both
+  -- any copy at one moment, and any at the same or a later one: the items that both show are in the same order in both
   abbrev pub OrdersAgree : WorldOf O → WorldOf O → Type 0
   OrdersAgree w v = (x y : O.State) → IsCopy w x → IsCopy v y → O.t.keeps_order x y

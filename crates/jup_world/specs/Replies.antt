@@ -19,7 +19,7 @@ use Rattle.jup_world.specs.WorldSteps.{Outcome, unchanged}
 use Rattle.jup_world.specs.Sound.{named_in}
 
 module _ (O : Operations) where
-  -- a join: the number after those given, but for 64 links, and else for 65,535 numbers given
+  -- a join answers the number after those given, unless there are 64 links, or else 65,535 numbers were given
   pub record JoinReplies (s : StarOf O) (r : ReplyOf O) : Type 0 where
     pub full : most_attached ≤ length s.links → r ≡ NoJoin Full
     pub spent : length s.links < most_attached → last_site ≤ s.given → r ≡ NoJoin SitesSpent
@@ -44,7 +44,7 @@ module _ (O : Operations) where
   DownReplies (DownAck n ∷ ds) r = r ≡ Heard
   DownReplies (DownPong k ∷ ds) r = r ≡ Heard
 
-  -- an event at a site: nothing where it is not attached
+  -- an event at a site: nothing if it is not attached
   pub record SiteReplies (w : WorldOf O) (i : ℕ) (r : ReplyOf O) (P : LinkState O.Op → AttachedOf O → Type 0) : Type 0 where
     pub absent : attached i w.sites ≡ None → r ≡ Nothing
     pub present : (l : LinkState O.Op) (a : AttachedOf O) → link_of i w.star.links ≡ Some l → attached i w.sites ≡ Some a → P l a
@@ -76,7 +76,7 @@ module _ (O : Operations) where
   IsAccepted w i l (UpAck n) o = IsHeard w o
   IsAccepted w i l (UpPing k) o = IsHeard w o
 
-  -- an event of a stranger: nothing where there is no such link, or a site has it. All sites keep their boards and streams
+  -- an event of a stranger: nothing if there is no such link, or a site has it. All sites keep their boards and streams
   pub record StrayReplies (w : WorldOf O) (i : ℕ) (o : Outcome O) (P : LinkState O.Op → Type 0) : Type 0 where
     pub sites : o.sites ≡ w.sites
     pub absent : link_of i w.star.links ≡ None → o ≡ unchanged O w Nothing

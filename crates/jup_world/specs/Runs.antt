@@ -1,4 +1,4 @@
--- Runs of a world, and want of memory in one.
+-- Runs of a world, and a failed allocation in one.
 use Rattle.std.specs.Prelude.{List, [], ◌∷◌, map}
 use Rattle.jup_world.specs.Events.{Join, Leave, Edit as MakeEdit, Up as MoveUp, Down as MoveDown, Ping as SendPing, JoinStray, Stray, LeaveStray}
 use Rattle.jup_world.specs.BoardWorlds.{BoardEvent}
@@ -28,7 +28,7 @@ pub record IsDelivered (w v : LaneWorld) : Type 0 where
   pub deliveries : AreDeliveries events
   pub steps : AllSteps w (map (λ e. Plain e) events) v
 
--- or memory was refused at the next of some
+-- or an allocation failed at the next of some
 pub record IsDeliveredInPart (w v : LaneWorld) : Type 0 where
   pub between : LaneWorld
   pub delivered : IsDelivered w between

@@ -8,7 +8,7 @@ module _ {Operation State : Type 0} where
   AreAscending least most [] = least ≤ most
   AreAscending least most (a ∷ later) = (least < a.site.number) × AreAscending a.site.number most later
 
-  -- the first site of a number stands at a place
+  -- the first site of a number is at a place
   abbrev pub IsSiteAt : ℕ → List (AttachedState Operation State) → ℕ → Type 0
   IsSiteAt i [] n = ⊥
   IsSiteAt i (a ∷ later) zero = is_number i a ≡ true

@@ -1,4 +1,5 @@
--- What holds of every star, whoever sends to it; and of every world: the two ends of each link are in step, and the operations on their way mean what their sites made.
+-- What holds of every star, no matter who sends to it; and of every world. The two ends of each link are in step, and the operations on their way mean what their sites
+-- made.
 use Rattle.std.specs.Prelude.{◌≡◌, ℕ, ◌+◌, ◌≤◌, ◌<◌, ◌⊎◌, false, cond, List, [], ◌∷◌, ◌++◌, length, take, drop, nat_eq, IsTrue, Option, Some, None}
 use Rattle.jup_limits.specs.Limits.{most_unacknowledged, most_beyond}
 use Rattle.jup_xform.specs.Rows.{row_operation}
@@ -33,7 +34,7 @@ module _ (O : Operations) where
   abbrev pub IsKnown : (ℕ → ℕ) → O.t.Name → Type 0
   IsKnown counts n = (O.site_of n ≡ 0) ⊎ (O.number_of n ≤ counts (O.site_of n))
 
-  -- the counts that site i knows: its own insertions, and those of the entries that it was told
+  -- the counts that site i knows: its own insertions, and those of the entries that have reached it
   abbrev pub own_counts : ℕ → ℕ → (ℕ → ℕ) → ℕ → ℕ
   own_counts i own counts j = cond (nat_eq j i) own (counts j)
 
@@ -56,7 +57,7 @@ module _ (O : Operations) where
   Inherits (c ∷ cs) [] = ⊥
   Inherits (c ∷ cs) (e ∷ es) = ((n : O.t.Name) → O.t.inserts (O.t.edit_of c) n → O.t.inserts e n) × Inherits cs es
 
-  -- the edits that a site made and the star has not taken: each bears the site's next names, is no no-op, and changes only
+  -- the edits that a site made and the star has not taken. Each bears the site's next names, is no no-op, and changes only
   -- what the site knew or what it inserts
   abbrev pub RawNamed : (ℕ → ℕ) → ℕ → ℕ → List O.Edit → ℕ → Type 0
   RawNamed counts i k [] last = k ≡ last
@@ -71,8 +72,8 @@ module _ (O : Operations) where
       ((1 ≤ j) × (nat_eq j i ≡ false) × IsTrue (O.bears_next j (named_by i j past) e) × ChangesHeld (λ k. named_by i k past) e)
       × OrderNamed i (past ++ Other j e ∷ []) ts
 
-  -- Site i and its link, the star's order being seen as `past`, which the site was told, and `rest`: all that holds of the
-  -- two ends, of what the operations mean, and of names.
+  -- Site i and its link, with the star's order as `past`, which has reached the site, and `rest`. The record has all that
+  -- holds of the two ends, of the meaning of the operations, and of names.
   pub record Paired (most i : ℕ) (first : O.t.Content) (past rest : List (Turn O.Edit)) (held : O.State) (mine : List O.Edit) (l : LinkState O.Op) (a : AttachedOf O) : Type 0 where
     -- the link
     pub from : O.State
@@ -110,11 +111,11 @@ module _ (O : Operations) where
     pub few_heard : l.end.received ≤ length (past ++ rest)
     pub few_sent : generated l.end ≤ length (past ++ rest)
 
-  -- the length of the order that a site was told, from the length at its join and the number of operations shown
+  -- the length of the part of the order that has reached a site, from the length at its join and the number of operations shown
   abbrev pub told_of : ℕ → ℕ → List (Turn O.Edit) → ℕ
   told_of joined shown ts = joined + through_others shown (drop joined ts)
 
-  -- a site that stands in the world beside its link: its pair, at what the trace says that it was told
+  -- a site of the world with its link: its pair, for the entries that have reached it by the trace
   pub record Standing (most : ℕ) (first : O.t.Content) (ts : List (Turn O.Edit)) (held : O.State) (mine : List O.Edit) (joined shown : ℕ) (i : ℕ)
       (l : LinkState O.Op) (a : AttachedOf O) : Type 0 where
     pub pair : Paired most i first (take (told_of joined shown ts) ts) (drop (told_of joined shown ts) ts) held mine l a
@@ -136,7 +137,7 @@ module _ (O : Operations) where
   abbrev pub edits_in : List (Entry O.Edit) → List O.Edit
   edits_in order = edits (turns 0 order)
 
-  -- An operation of a queue: what is left, past some operations, of the one that the star applied for an entry of its order. Where
+  -- An operation of a queue: what is left, past some operations, of the one that the star applied for an entry of its order. If
   -- the star applied that, it meant the entry.
   pub record IsMoved (es : List O.Edit) (b : O.Op) : Type 0 where
     pub before : List O.Edit
@@ -148,7 +149,7 @@ module _ (O : Operations) where
     pub same : SameMeaning O (before ++ O.t.edit_of applied ∷ []) (before ++ meant ∷ [])
     pub is : b ≡ row_operation O.t.server_past applied past
 
-  -- a link, whoever is at its far end
+  -- a link, no matter who is at its far end
   pub record IsSoundLink (order : List (Entry O.Edit)) (i : ℕ) (l : LinkState O.Op) : Type 0 where
     pub side : l.end.side ≡ Server
     pub positive : 1 ≤ i
@@ -160,7 +161,7 @@ module _ (O : Operations) where
   SoundLinkAt order i None = Unit {0}
   SoundLinkAt order i (Some l) = IsSoundLink order i l
 
-  -- a star, whoever sends to it: `first` is what it was opened with, and `most` how small that is
+  -- a star, no matter who sends to it: `first` is what it was opened with, and `most` how small that is
   pub record IsSoundStar (most : ℕ) (first : O.t.Content) (s : StarOf O) : Type 0 where
     pub content_is : O.t.content s.board ≡ O.t.meaning first (edits_in s.order)
     pub distinct : O.t.is_distinct s.board

@@ -18,8 +18,8 @@ module _ (O : Operations) where
   abbrev pub IsIdle : LinkState O.Op → AttachedOf O → Type 0
   IsIdle l a = (a.up ≡ []) × (a.down ≡ []) × (l.outbox ≡ [])
 
-  -- a site and its link: it shows what it was told and made means, and the two ends are in step; where no message is on its way
-  -- between them its board is the star's, and the order has each of its edits once, in its order
+  -- a site and its link: the site shows the meaning of what has reached it and of what it made, and the two ends are in step.
+  -- If no message is on its way between them, its board is the star's, and the order has each of its edits once, in its order
   pub record SiteHolds (w : WorldOf O) (i : ℕ) (l : LinkState O.Op) (a : AttachedOf O) : Type 0 where
     pub content : O.t.content a.site.board ≡ O.t.meaning (O.t.content w.opening) (view O i w.trace)
     pub in_step : InStep O.t 0 a.site.board w.star.board a.site.end l.end (ups a.up) (downs (a.down ++ l.outbox))
@@ -35,14 +35,14 @@ module _ (O : Operations) where
   abbrev pub OnlyFull : WorldOf O → Type 0
   OnlyFull w = (i : ℕ) (a : AttachedOf O) (fault : StarFault) → attached i w.sites ≡ Some a → (outcome O w (MoveUp i)).reply ≡ Detached fault → (fault ≡ LogFull) × (w.star.limit ≤ length w.star.order)
 
-  -- what stands under a number: a link without a site is one of a stranger
+  -- what a number has: a link without a site is one of a stranger
   abbrev pub LinkedAt : Bool → Option (LinkState O.Op) → Option (AttachedOf O) → Type 0
   LinkedAt stray None None = Unit {0}
   LinkedAt stray None (Some a) = ⊥
   LinkedAt stray (Some l) None = stray ≡ true
   LinkedAt stray (Some l) (Some a) = stray ≡ false
 
-  -- the trace tells which links are strangers'
+  -- the trace says which links are strangers'
   pub record KnowsStrays (w : WorldOf O) : Type 0 where
     pub links : (i : ℕ) → LinkedAt (is_stray i w.trace) (link_of i w.star.links) (attached i w.sites)
     pub new : (i : ℕ) → w.star.given < i → is_stray i w.trace ≡ false

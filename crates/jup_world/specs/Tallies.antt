@@ -22,7 +22,7 @@ module _ (O : Operations) where
   abbrev pub CountsItsEdits : List (Happened O.Command O.Op O.Edit ℕ) → AttachedOf O → Type 0
   CountsItsEdits trace a = a.site.made ≡ length (made a.site.number trace)
 
-  -- the star has given the numbers that the trace tells, and each of its sites made the edits
+  -- the star has given the numbers that the trace records, and each of its sites made the edits
   pub record IsTallied (w : WorldOf O) : Type 0 where
     pub given : w.star.given ≡ numbers_given w.trace
     pub made : Each (CountsItsEdits w.trace) w.sites

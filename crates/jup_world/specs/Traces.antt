@@ -1,4 +1,4 @@
--- What is read off a trace alone: the star's order, what each site made and was told, and what it should show.
+-- What is read off a trace alone: the star's order, what each site made, what has reached it, and what it should show.
 use Rattle.std.specs.Prelude.{ℕ, ◌+◌, Bool, false, ◌||◌, cond, List, [], ◌∷◌, ◌++◌, length, take, drop, nat_eq}
 use Rattle.jup_window.specs.Operations.{Operations}
 use Rattle.jup_star.specs.declared.messages.Entry.{Entry}
@@ -39,7 +39,7 @@ module _ {Command Operation Edit Fault : Type 0} where
   join_seen i now at Join (Joined j) = cond (nat_eq j i) now at
   join_seen i now at event reply = at
 
-  -- how many edits of other sites a site was handed
+  -- how many edits of other sites a site received
   abbrev pub was_shown : ℕ → Event Command Operation → Reply Edit Fault → ℕ
   was_shown i (MoveDown j) Shown = cond (nat_eq j i) 1 0
   was_shown i event reply = 0
@@ -80,12 +80,12 @@ module _ (O : Operations) where
   abbrev pub joined_at : ℕ → List (HappenedOf O) → ℕ
   joined_at i trace = over_trace (λ past at h. join_seen i (length (order_of past)) at h.event h.reply) 0 [] trace
 
-  -- how many entries a site was told: up to the last that it was handed, or those before it joined. The n-th that it is handed is
-  -- the n-th entry of another site after its join
+  -- how many entries have reached a site: those up to the last that was delivered to it, or those before it joined. The n-th that
+  -- is delivered to it is the n-th entry of another site after its join
   abbrev pub told : ℕ → List (HappenedOf O) → ℕ
   told i trace = joined_at i trace + through_others (shown_count i trace) (drop (joined_at i trace) (turns i (order_of trace)))
 
-  -- what a site should show: the entries that it was told, and its own edits that are not among them
+  -- what a site should show: the entries that have reached it, and its own edits that are not among them
   abbrev pub told_entries : ℕ → List (HappenedOf O) → List O.Edit
   told_entries i trace = edits (take (told i trace) (turns i (order_of trace)))
 

@@ -40,8 +40,8 @@ pub record TwoState : Type 0 where
 
 -- # Edits
 
--- the operation of an edit that this site makes at its end, or the first refusal that is due: a place past the end, a text of
--- 65,536 items or more, 16,777,216 edits made
+-- the operation of an edit that this site makes at its end, or the first refusal that applies. It is refused for a place past
+-- the end, a text of 65,536 items or more, or 16,777,216 edits made
 abbrev pub deletion : ℕ → ℕ → Option (Item ℕ) → Result (SeqOp ℕ) EditFault
 deletion made place None = Err BadPlace
 deletion made place (Some item) = if nat_le highest_limit made then Err Spent else Ok (DeleteOp place item.name)
@@ -61,7 +61,7 @@ insertions (DeleteOp place name) = 0
 insertions (RelabelOp place name value) = 0
 insertions NoOp = 0
 
--- an end that made an operation: it is applied at once, and sent
+-- an end that made an operation: it applies the operation immediately, and sends it
 abbrev pub made_by : TwoEnd → SeqOp ℕ → TwoEnd
 made_by e op = record {
   text = after op e.text;
@@ -150,7 +150,7 @@ abbrev pub AreInStep : TwoState → Type 0
 AreInStep s =
     InStep texts (most_of_two - (s.client.made + s.server.made)) s.client.text s.server.text s.client.link s.server.link s.up s.down
 
--- each name of a site that stands in a text is one of its first insertions
+-- each name of a site that a text holds is one of its first insertions
 abbrev pub HoldsWithin : ℕ → ℕ → Items ℕ → Type 0
 HoldsWithin site most x = (n : Name) → has_name n x.items ≡ true → n.site ≡ site → n.number ≤ most
 

@@ -7,6 +7,6 @@ use Rattle.jup_world.specs.BoardWorlds.{BoardAttached}
 abbrev pub lane_of : Attached → LaneSite
 lane_of a = record { site = a.site; up = a.up.way; down = a.down.way }
 
--- with the messages that stand on them
+-- with the messages that are on them
 abbrev pub bare_attached : Attached → BoardAttached
 bare_attached a = messages_at (lane_of a)

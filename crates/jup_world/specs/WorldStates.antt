@@ -10,8 +10,8 @@ use Rattle.jup_world.specs.Events.{Event}
 use Rattle.jup_world.specs.Events.{Reply}
 use Rattle.jup_world.specs.Events.{Happened}
 
--- an attached site, and its streams: what it sent that the star has not taken, and what was fetched for it that it was not
--- handed, oldest first
+-- an attached site, and its streams: what it sent that the star has not taken, and what was fetched for it that it has not
+-- received, oldest first
 pub record AttachedState (Operation State : Type 0) : Type 0 where
   pub site : SiteState Operation State
   pub up : List (Up Operation)

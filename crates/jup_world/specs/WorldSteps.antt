@@ -68,7 +68,7 @@ module _ (O : Operations) where
   first_up w i l [] = unchanged w Nothing
   first_up w i l (up ∷ ups) = up_outcome w i l up (up_fault O w.star l up)
 
-  -- a site is handed the oldest message on its way down, and sends back what it owes; `downs` is what is left of its down stream
+  -- a site receives the oldest message on its way down, and sends back what it owes; `downs` is what is left of its down stream
   abbrev pub down_reply : Down O.Op → ReplyOf O
   down_reply (DownOp m) = Shown
   down_reply (DownAck n) = Heard
@@ -78,13 +78,13 @@ module _ (O : Operations) where
   abbrev pub one_handed : Down O.Op → List (Down O.Op) → AttachedOf O → AttachedOf O
   one_handed down downs a = record { site = received O down a.site; up = a.up ++ option_to_list (sent_back O down a.site); down = downs }
 
-  -- `gone` messages were fetched first. No site refuses what it is handed here
+  -- `gone` messages were fetched first. No site refuses what it receives here
   abbrev pub down_outcome : WorldOf O → ℕ → ℕ → Down O.Op → List (Down O.Op) → Option SiteFault → Outcome
   down_outcome w i gone down downs (Some fault) = unchanged w Nothing
   down_outcome w i gone down downs None =
       record { reply = down_reply down; star = fetched i gone w.star; sites = at_site i (one_handed down downs) w.sites }
 
-  -- the oldest is that of the stream, and where that is empty that of the outbox
+  -- the oldest is that of the stream, and if that is empty that of the outbox
   abbrev pub first_down : WorldOf O → ℕ → AttachedOf O → List (Down O.Op) → List (Down O.Op) → Outcome
   first_down w i a (down ∷ downs) outbox = down_outcome w i 0 down downs (deliver_fault O down a.site)
   first_down w i a [] (down ∷ outbox) = down_outcome w i 1 down [] (deliver_fault O down a.site)
@@ -112,18 +112,18 @@ module _ (O : Operations) where
   abbrev pub stray_leaves : WorldOf O → ℕ → Outcome
   stray_leaves w i = record { reply = Left; star = left i w.star; sites = w.sites }
 
-  -- an event of a stranger, which does nothing where there is no such link, or a site has it
+  -- an event of a stranger, which does nothing if there is no such link, or a site has it
   abbrev pub at_stray : WorldOf O → (LinkState O.Op → Outcome) → Option (AttachedOf O) → Option (LinkState O.Op) → Outcome
   at_stray w f (Some a) ol = unchanged w Nothing
   at_stray w f None None = unchanged w Nothing
   at_stray w f None (Some l) = f l
 
-  -- an event at a site, which does nothing where the site is not attached
+  -- an event at a site, which does nothing if the site is not attached
   abbrev pub at_attached : WorldOf O → LinkState O.Op → (LinkState O.Op → AttachedOf O → Outcome) → Option (AttachedOf O) → Outcome
   at_attached w l f None = unchanged w Nothing
   at_attached w l f (Some a) = f l a
 
-  -- the site is attached where it has a link
+  -- the site is attached if it has a link
   abbrev pub at_linked : WorldOf O → ℕ → (LinkState O.Op → AttachedOf O → Outcome) → Option (LinkState O.Op) → Outcome
   at_linked w i f None = unchanged w Nothing
   at_linked w i f (Some l) = at_attached w l f (attached i w.sites)
@@ -144,7 +144,7 @@ module _ (O : Operations) where
   outcome w (Stray i up) = at_stray w (λ l. stray_sends w i l up (up_fault O w.star l up)) (attached i w.sites) (link_of i w.star.links)
   outcome w (LeaveStray i) = at_stray w (λ l. stray_leaves w i) (attached i w.sites) (link_of i w.star.links)
 
-  -- a world after an event, which stands in the trace with its reply
+  -- a world after an event, with the event and its reply at the end of the trace
   abbrev pub with_outcome : WorldOf O → EventOf O → Outcome → WorldOf O
   with_outcome w event o = record w { star = o.star; sites = o.sites; trace = w.trace ++ record { event = event; reply = o.reply } ∷ [] }
 
@@ -157,7 +157,7 @@ module _ (O : Operations) where
   run w [] = w
   run w (e ∷ es) = run (happens w e) es
 
-  -- want of memory leaves a world as it was, but that messages may stand in a site's down stream that stood in its outbox
+  -- a failed allocation leaves a world as it was, except that messages may have moved from a site's outbox to its down stream
   abbrev pub with_fetched : ℕ → LinkState O.Op → AttachedOf O → AttachedOf O
   with_fetched n l a = record a { down = a.down ++ take n l.outbox }
 

@@ -23,7 +23,7 @@ pub enum Event<C = Command> {
     Batch(u32, Commands),
     /// The star takes the oldest message from this site.
     Up(u32),
-    /// This site is handed the oldest message to it.
+    /// This site receives the oldest message to it.
     Down(u32),
     /// This site sends a ping of this number.
     Ping(u32, u32),
@@ -44,13 +44,13 @@ pub enum Reply<E = BoardEdits, F = EditFault> {
     /// The site made this edit: what each of its operations means.
     Made(E),
     Refused(F),
-    /// The edit stands at this place of the star's order.
+    /// The edit is at this place of the star's order.
     Taken(u32),
     /// The message was an acknowledgement, a ping or a pong.
     Heard,
     /// The message was refused, and the site is detached.
     Detached(StarFault),
-    /// The site was handed an edit of another site.
+    /// The site received an edit of another site.
     Shown,
     Asked,
     /// So many bytes were moved to a reader.

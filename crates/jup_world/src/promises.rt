@@ -22,21 +22,21 @@ ghost use Rattle.jup_lane.specs.Messages.{ups, downs};
 /// After any list of joins, departures, edits, pings and deliveries, and of joins, messages and departures of
 /// strangers, of whom nothing is known:
 ///
-/// - the star and each attached site show what the star's order and the site's own edits mean, and whenever
-///   no message is on its way they hold equal boards;
-/// - whatever event comes next is answered, nothing is withheld, and no edit is refused on its way up but by
-///   an order that is full;
-/// - as many numbers were given as joins are told, and each site made as many edits as are told of it;
-/// - a site's backlog is the edits that it made less those that it was told were received: at most 1,024,
-///   and 63 whenever no message is on its way;
+/// - the star and each attached site show the meaning of the star's order and of the site's own edits.
+///   Whenever no message is on its way, they hold equal boards;
+/// - whatever event comes next is answered, nothing is withheld, and only a full order refuses an edit on its
+///   way up;
+/// - as many numbers were given as the trace has joins, and each site made as many edits as the trace has of it;
+/// - a site's backlog is the edits that it made less those that it knows the star received. It is at most
+///   1,024, and 63 whenever no message is on its way;
 /// - whatever events come next, the star and each site that is attached before and after keep the order of
 ///   their items;
-/// - each attached site holds what it should beside its link alone: whenever no message is on its way between
-///   the two, its board is the star's, whatever is on its way elsewhere;
+/// - each attached site holds what it should, by its own link alone. Whenever no message is on its way
+///   between it and the star, its board is the star's, whatever is on its way elsewhere;
 /// - a full order alone detaches a site;
-/// - a stranger's event leaves all sites as they are, and its message is refused, its link alone being gone,
-///   or is an acknowledgement or a ping, or is one valid entry of the order under its link's next name;
-/// - where no event was one of a stranger, the attached sites are those that have links.
+/// - a stranger's event leaves all sites as they are. Its message is an acknowledgement, a ping, or one valid
+///   entry of the order under its link's next name, or it is refused and the link goes;
+/// - if no event was one of a stranger, the attached sites are those that have links.
 ///
 /// It does nothing: its contract is the theorem.
 pub fn worlds_agree()
@@ -58,9 +58,9 @@ pub fn worlds_agree()
 /// the items that both show. A copy is the star's board, or that of an attached site; the two may be of one
 /// moment or of two. So it is:
 ///
-/// - where links carry messages, after any list of events and over any that follow (`copies`);
-/// - where links carry bytes, over all that calls of a [`World`](crate::World) may do to it, pushes and events
-///   that are refused for want of memory among them (`bytes`).
+/// - if links carry messages, after any list of events and over any that follow (`copies`);
+/// - if links carry bytes, over all that calls of a [`World`](crate::World) may do to it, pushes and events
+///   that are refused because an allocation failed among them (`bytes`).
 ///
 /// It does nothing: its contract is the theorem.
 pub fn orders_agree()

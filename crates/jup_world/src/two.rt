@@ -1,4 +1,4 @@
-//! Two ends of a link over one text, edited and delivered by hand: the protocol with nothing round it.
+//! Two ends of a link over one text, edited and delivered by hand: the protocol by itself.
 ghost use Rattle.std.specs.Prelude.{◌≡◌, ℕ, ◌↔◌, ◌+◌, ◌<◌, ◌≤◌, [], ◌++◌, length, map, false, Ok, IsTrue, OnOk, OnErr, IfOk};
 ghost use Rattle.std.specs.VecDeque.{deque_len, deque_capacity};
 ghost use Rattle.jup_limits.specs.Limits.{highest_limit, longest_input};
@@ -43,7 +43,7 @@ pub enum TwoEvent {
     Down,
 }
 
-/// What an event answers: of a delivery `Nothing` where no message is on its way.
+/// What an event answers: of a delivery `Nothing` if no message is on its way.
 #[derive(Clone, Copy, Debug, PartialEq, Eq)]
 pub enum TwoReply {
     Made,
@@ -134,7 +134,7 @@ fn insertions(op: &TextOp) -> u32
     }
 }
 
-// An end makes an edit: it is applied at once, and its message goes last into the stream.
+// An end makes an edit: it applies it immediately, and its message goes last into the stream.
 fn make(
     alloc: Global,
     end: &mut TextEnd,
@@ -182,7 +182,7 @@ fn reserve_next(
     Ok(())
 }
 
-// Hands a message to the end that it comes to.
+// Delivers a message to an end.
 fn take(end: &mut TextEnd, message: Travelling)
     requires accepted { AcceptsMessage texts end.old.link.link (plain end.old).text (carried message) }
     requires room { HasRoomFor message end.old.text }
@@ -313,10 +313,10 @@ impl Two {
         })
     }
 
-    /// Plays one event. An edit is made exactly where none of its refusals holds, in this order: a place
-    /// past the end (4), an insertion into a text of 65,536 items or more (6), an end that has made
-    /// 16,777,216 edits (9). A delivery moves the oldest message, and sends the acknowledgement that is
-    /// then owed. Where memory is refused nothing has changed.
+    /// Plays one event. An edit is made exactly if none of its refusals holds. They are, in this order, a
+    /// place past the end (4), an insertion into a text of 65,536 items or more (6), and 16,777,216 edits
+    /// made (9). A delivery moves the oldest message, and sends the acknowledgement that is then owed. If an
+    /// allocation fails, nothing has changed.
     pub fn step(&mut self, alloc: Global, event: &TwoEvent) -> Result<TwoReply, NoMemory>
         ensures reply { IfOk result (λ reply. reply ≡ two_reply self.old event.now) }
         ensures ok { OnOk result (self.new ≡ two_after self.old event.now) }

@@ -64,7 +64,7 @@ impl Model for World {
     ghost invariant = { λ w. IsLaneWorld (bare_world w) };
 }
 
-// Room for what an event leaves in the trace, made while memory may still be refused: for its commands, and
+// Room for what an event leaves in the trace, made while an allocation may still fail: for its commands, and
 // for the edits of its reply.
 #[derive(Drop)]
 struct Room {
@@ -116,7 +116,7 @@ impl World {
         ensures refusal { IfErr result (λ fault. ((fault ≡ open_fault.NoMemory) × (star_open_fault (bare board) limit ≡ None))
             ⊎ (star_open_fault (bare board) limit ≡ Some fault)) }
     {
-        // It tells that no two items of a widget have one name, on which all that follows rests.
+        // It says that no two items of a widget have one name, on which all that follows rests.
         let _short = is_short(&board);
         let star = Star::open(alloc, board, limit)?;
         let opening = match star.board().copy(alloc) {
@@ -131,9 +131,10 @@ impl World {
         })
     }
 
-    /// Plays one event, which then stands in the trace with its reply. Where memory is refused all is as it
-    /// was; but `Up`, `Down` and `PushDown` may have moved bytes on their own way of their site's link from the
-    /// stream to the reader, and the latter two may have filled its down stream from its outbox.
+    /// Plays one event, and puts it with its reply at the end of the trace. If an allocation fails, all is as
+    /// it was, except on the link of the event's site. `Up`, `Down` and `PushDown` may have moved bytes on
+    /// their own way of that link from the stream to the reader. The latter two may have filled its down stream
+    /// from its outbox.
     pub fn step(&mut self, alloc: Global, event: &Event) -> Result<Reply, NoMemory>
         ensures reply { IfOk result (λ reply. numbered_reply reply ≡ (lane_outcome self.old (lane_event event.now)).reply) }
         ensures withheld { IfOk result (λ reply. AnswersTo self.old (lane_event event.now) (numbered_reply reply)) }
@@ -148,15 +149,15 @@ impl World {
         Ok(reply)
     }
 
-    /// Whether no message is on its way, down to the byte: no attached link has a byte in a stream, a part of
+    /// Whether no message is on its way, down to the byte. No attached link has a byte in a stream, a part of
     /// a line in a reader, a line in a tray, or a message in its outbox.
     ///
-    /// After every list of joins, departures, local edits and deliveries over links that lose nothing and
-    /// keep their order, whenever no message is on its way the server and all attached sites hold equal
-    /// windows: each text and list holds exactly the items inserted and not deleted in the server's order,
-    /// none reordered at any site, and each toggle and slider holds its last setting in that order. The
-    /// clause `agree` says so, and `order` of [`World::step`], [`World::run`] and [`World::drain`] that none
-    /// is reordered.
+    /// Take any list of joins, departures, local edits and deliveries, over links that lose nothing and keep
+    /// their order. Whenever no message is on its way, the server and all attached sites hold equal windows.
+    /// Each text and list holds exactly the items inserted and not deleted in the server's order, and no item
+    /// is reordered at any site. Each toggle and slider holds its last setting in that order. The clause
+    /// `agree` says so, and the clause `order` of [`World::step`], [`World::run`] and [`World::drain`] says
+    /// that no item is reordered.
     pub fn quiet(&self) -> bool
         ensures quiet { IsTrue result ↔ IsStill self.now }
         ensures agree { IsTrue result → AllAgree (messages_of self.now) }
@@ -178,8 +179,8 @@ impl World {
         &self.opening
     }
 
-    /// The star. At every moment its order is the one that the trace tells, its content is what that order
-    /// means, and it has given as many numbers as the trace tells of joins.
+    /// The star. At every moment its order is the one that the trace gives, and its content is the meaning of
+    /// that order. It has given as many numbers as the trace has joins.
     pub fn star(&self) -> &Star
         ensures star { result.now ≡ self.now.star }
         ensures order { result.now.order ≡ order_of (plain_trace self.now.trace) }
@@ -196,10 +197,10 @@ impl World {
         &self.sites
     }
 
-    /// The site of a number, which is attached exactly where it has a link at the star, and then has not
-    /// stopped. At every moment its content is what the entries that it was told, and its own edits that are
-    /// not among them, mean; it made the edits that the trace says; and its backlog is those less the ones
-    /// that it was told are taken.
+    /// The site of a number. It is attached exactly if it has a link at the star, and then has not stopped.
+    /// At every moment its content is the meaning of the entries that have reached it, and of its own edits
+    /// that are not among them. It made the edits that the trace says. Its backlog is those of them of which
+    /// it does not know that the star took them.
     pub fn site(&self, number: u32) -> Option<&Site>
         ensures site { option_copied result ≡ option_map (λ a. a.site) (lane_site number self.now.sites) }
         ensures attached { is_some result ≡ is_some (link_of number self.now.star.links) }

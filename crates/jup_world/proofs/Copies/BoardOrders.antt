@@ -1,4 +1,4 @@
--- Of boards it is symmetric that one keeps the order of the other's items.
+-- Between boards, to keep the order of the other's items is symmetric.
 use Rattle.std.proofs.Common.{sym}
 use Rattle.jup_batch.specs.BatchBoards.{Windows}
 use Rattle.jup_batch.specs.BoardBatches.{board_batches}

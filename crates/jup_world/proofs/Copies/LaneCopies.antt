@@ -1,4 +1,4 @@
--- Any two copies of the board in a world whose links carry bytes, of whose events some were refused for want of memory.
+-- Any two copies of the board in a world whose links carry bytes, after events of which some were refused because an allocation failed.
 use Rattle.std.proofs.Common.{◌≡◌, ◌⊎◌, ℕ, inl, inr, Bool, true, false, List, [], ◌∷◌, take, nat_eq, refl, sym, subst, Some, eqb-true}
 use Rattle.jup_batch.specs.BatchBoards.{Windows, BoardEdits}
 use Rattle.jup_batch.specs.BoardBatches.{board_batches}
@@ -53,7 +53,7 @@ module _ (symmetric : (x y : Windows) → board_batches.t.keeps_order x y → bo
       (λ w is i l a fl fa was. was_star_fetched board_batches batch_laws symmetric most_batches w i 1 l a fl fa u.star was)
       events u v is steps (was_now board_batches batch_laws most_batches (messages_of u) is.world.board.sound)
 
-  -- what a site had been told by the first moment
+  -- what had reached a site by the first moment
   abbrev seen : ℕ → List (Entry BoardEdits)
   seen i = take (told_count board_batches batch_laws (messages_of u) i) u.star.order
 

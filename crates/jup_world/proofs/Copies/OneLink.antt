@@ -1,5 +1,5 @@
 -- One link at one moment: its site and the star show in one order what both show. Neither end has inserted a name that both know since the state from which
--- both went on, so that state stands between. Where one end has received all that the other made, more is known.
+-- both went on, so that state connects the two. If one end has received all that the other made, more is known.
 use Rattle.std.proofs.Common.{◌≡◌, ℕ, ◌+◌, ◌≤◌, Bool, true, false, cond, List, [], ◌∷◌, ◌++◌, nat_eq, refl, ap, sym, ◌∙◌, subst, inl, inr, arith, eqb-true, ne_eqb}
 use Rattle.std.proofs.lemmas.Bool.{eqb-false}
 use Rattle.jup_xform.specs.Grid.{after_all, AreValid}
@@ -18,7 +18,7 @@ module _ (O : Operations) (L : AreLawful O) where
   abbrev pub InsertNone : (O.t.Name → Type 0) → List O.Op → Type 0
   InsertNone K os = Each (λ o. (n : O.t.Name) → O.t.inserts (O.t.edit_of o) n → K n → ⊥) os
 
-  -- A state and a later one: what both hold stands in one order, and each known name that the later one holds the earlier one held.
+  -- A state and a later one: what both hold is in one order in both, and the earlier one held each known name that the later one holds.
   pub record Since (K : O.t.Name → Type 0) (x z : O.State) : Type 0 where
     pub order : O.t.keeps_order x z
     pub none_back : (n : O.t.Name) → K n → O.t.holds z n → O.t.holds x n
@@ -70,7 +70,7 @@ module _ (O : Operations) (L : AreLawful O) where
         (λ n j known positive foreign of. let below = bound n j known positive foreign of in omega (arith, named_by-append O L i j past (Other s e ∷ []))),
   )
 
-  -- where no entry is another site's, no other site names anything
+  -- if no entry is another site's, no other site names anything
   none_named : (i j : ℕ) (ts : List (Turn O.Edit)) → others ts ≡ [] → nat_eq i j ≡ false → named_by O i j ts ≡ 0
   none_named i j [] none apart = refl
   none_named i j (Own e ∷ ts) none apart = one (nat_eq i j) apart (none_named i j ts none apart)
@@ -127,7 +127,7 @@ module _ (O : Operations) (L : AreLawful O) where
     pair_order known = L.keeps.order_chain a.site.board h.from held (symmetric h.from a.site.board site_since.order) star_since.order
         (λ n here there. star_since.none_back n (both_know n (h.board_known n here) (known n there)) there)
 
-    -- Where the site has received all that the star sent, each name that the star knows and the site shows the star shows,
+    -- If the site has received all that the star sent, each name that the star knows and the site shows the star shows,
     pub told_all : h.star_ahead ≡ [] → HoldsKnown O star_counts held → Since (IsKnown O star_counts) held a.site.board
     told_all none known =
         let is : held ≡ h.from = h.in_step.states.far_is ∙ ap (λ bs. after_all O.t bs h.from) none in
@@ -140,7 +140,7 @@ module _ (O : Operations) (L : AreLawful O) where
         own n (inl z) e = (let positive = h.positive in absurd (omega arith))
         own n (inr m) e = subst (λ s. O.number_of n ≤ named_by O i s (past ++ rest)) e m
 
-    -- and where no entry of another site is left to come, the site knows what the star knows.
+    -- and if no entry of another site is left to come, the site knows what the star knows.
     pub knows_all : others rest ≡ [] → (n : O.t.Name) → IsKnown O star_counts n → IsKnown O site_counts n
     knows_all none n (inl z) = inl z
     knows_all none n (inr m) = inr (cases (nat_eq (O.site_of n) i) refl)
@@ -154,7 +154,7 @@ module _ (O : Operations) (L : AreLawful O) where
             let apart : nat_eq i (O.site_of n) ≡ false = ne_eqb i (O.site_of n) (λ same. eqb-false (O.site_of n) i e (sym same)) in
             omega (arith, m, named_by-append O L i (O.site_of n) past rest, none_named i (O.site_of n) rest none apart)
 
-    -- Where the star has received all that the site sent, it knows what the site shows.
+    -- If the star has received all that the site sent, it knows what the site shows.
     pub sent_all : h.site_ahead ≡ [] → (n : O.t.Name) → O.t.holds a.site.board n → IsKnown O star_counts n
     sent_all none n held_there =
         known_more O L site_counts star_counts n

@@ -1,4 +1,4 @@
--- Over any run: what a site once showed and what the star shows stand in one order.
+-- Over any run: what a site once showed and what the star shows are in one order.
 use Rattle.std.proofs.Common.{◌≡◌, ◌⊎◌, ℕ, ◌+◌, ◌<◌, inl, inr, false, List, [], ◌∷◌, ◌++◌, nat_eq, refl, ap, sym, ◌∙◌, subst, Option, Some, None, option_map, arith, append_assoc, append-nil, ne_eqb}
 use Rattle.jup_link.specs.declared.Msg.{Msg}
 use Rattle.jup_window.specs.Operations.{Operations, AreLawful}
@@ -27,7 +27,7 @@ module _ (O : Operations) (L : AreLawful O) where
 
   module _ (symmetric : (x y : O.State) → O.t.keeps_order x y → O.t.keeps_order y x) (most : ℕ) (w : WorldOf O) (s : IsSound O most w) (i : ℕ) (x : O.State) (old : w.star.given < i → ⊥)
       (h : IsBeingTaken O L most (O.t.content w.opening) w.star i x (link_of i w.star.links) (attached i w.sites)) where
-    -- what stands under a number beside a star, where that is the board's own
+    -- what a number has at a star, if it is the number of the board's own site
     abbrev Here : StarOf O → ℕ → Option (LinkState O.Op) → Option (AttachedOf O) → Type 0
     Here star j ol oa = j ≡ i → IsPastBoard O L most (O.t.content w.opening) star i x ol oa
 
@@ -40,7 +40,7 @@ module _ (O : Operations) (L : AreLawful O) where
     stays : (v : StarOf O) → v.board ≡ w.star.board → v.order ≡ w.star.order → (j : ℕ) → Here v j (link_of j w.star.links) (attached j w.sites)
     stays v b o j is = subst (λ k. IsPastBoard O L most (O.t.content w.opening) v i x (link_of k w.star.links) (attached k w.sites)) (sym is) (same_star v _ _ b o h.goes)
 
-    -- the link and the site of the board's number, where an event found them under its own
+    -- the link and the site of the board's number, if an event found them under its own
     link_is : (j : ℕ) (l : LinkState O.Op) → link_of j w.star.links ≡ Some l → j ≡ i → link_of i w.star.links ≡ Some l
     link_is j l fl is = subst (λ k. link_of k w.star.links ≡ Some l) is fl
 
@@ -113,7 +113,7 @@ module _ (O : Operations) (L : AreLawful O) where
         inl (subst (λ k. IsBeingTaken O L most (O.t.content w.opening) (taken O j (UpOp m) l w.star) i x (option_map (link_sent (operation_at O l.end m)) (link_of k w.star.links)) (attached k w.sites)) (sym is)
         (taking_other O L symmetric most (O.t.content w.opening) w.star s.star i x _ _ h j l fl m none (subst (λ k. nat_eq j k ≡ false) is apart)))) i refl
 
-    -- an event, by what it comes to
+    -- an event, by its outcome
     taking_step : (e : EventOf O) (o : Outcome O) → Follows O L w.star o.star → StepOf O w e o → PastBoardAt most (O.t.content w.opening) i x o.star o.sites
     taking_step e o follows (Still why) = inl h
     taking_step e o follows (Enters none) = enters
@@ -186,7 +186,7 @@ module _ (O : Operations) (L : AreLawful O) where
       ];
     }
 
-    -- so what it showed and what the star shows stand in one order
+    -- so what it showed and what the star shows are in one order
     pub was_order : (most : ℕ) (w : WorldOf O) (s : IsSound O most w) (i : ℕ) (x : O.State) → WasShown most w i x → O.t.keeps_order x w.star.board
     was_order most w s i x was = elim was.past [
       | inl h ↦ taking_order O L symmetric most (O.t.content w.opening) w.star s.star i x _ _ h

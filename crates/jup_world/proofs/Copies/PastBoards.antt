@@ -23,12 +23,12 @@ use Rattle.jup_world.proofs.Orders.StarRuns.{StarKnows, Follows}
 use Rattle.jup_world.proofs.Copies.OneLink.{star_counts, pair_order, sent_all}
 
 module _ (O : Operations) (L : AreLawful O) where
-  -- as long as the number has a link, it has a site: the link's end is this one's, and the messages on their way up begin with those that this site had sent
+  -- as long as the number has a link, it has a site. The link's end is this one's, and the messages on their way up begin with those that this site had sent.
   abbrev pub GoesOn : LinkState O.Op → AttachedOf O → Option (LinkState O.Op) → Option (AttachedOf O) → Type 0
   GoesOn link site ol oa = (l : LinkState O.Op) → ol ≡ Some l → (b : AttachedOf O) × (oa ≡ Some b) × (link.end ≡ l.end) × (later : List (Up O.Op)) × (b.up ≡ site.up ++ later)
 
-  -- The star has still to take some of what the site of a number had sent when it showed this board. The site as it was, put in the place of the
-  -- present one, stands beside the star like any site that is handed nothing and makes nothing more.
+  -- The star has still to take some of what the site of a number had sent when it showed this board. That earlier site may replace the present
+  -- one: then star and link are those of a site that receives nothing and makes nothing more.
   pub record IsBeingTaken (most : ℕ) (first : O.t.Content) (s : StarOf O) (i : ℕ) (x : O.State) (ol : Option (LinkState O.Op)) (oa : Option (AttachedOf O)) : Type 0 where
     pub joined : ℕ
     pub shown : ℕ
@@ -76,7 +76,7 @@ module _ (O : Operations) (L : AreLawful O) where
     pub taking_order : O.t.keeps_order x s.board
     taking_order = subst (λ y. O.t.keeps_order y s.board) h.board (pair_order O L symmetric most i first _ _ s.board h.mine h.link h.site h.stands.pair held_known)
 
-    -- where nothing is left on its way of what the site had sent, all is taken
+    -- if nothing is left on its way of what the site had sent, all is taken
     pub all_taken : h.site.up ≡ [] → IsTaken s x
     all_taken none = record {
       order = taking_order;

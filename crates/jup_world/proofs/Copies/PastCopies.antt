@@ -60,7 +60,7 @@ module _ (O : Operations) (L : AreLawful O) where
       let more = named_more m p p' q q' rest (omega arith) in
       omega (arith, same, more, named_by-append O L 0 m (turn 0 r ∷ []) (turns 0 p), named_by-append O L 0 m (turn 0 t ∷ []) (turns 0 q))
 
-  -- how many of the first entries of the order a site was told, and what these name
+  -- how many of the first entries of the order have reached a site, and what these name
   abbrev pub told_count : WorldOf O → ℕ → ℕ
   told_count w j = told_of O (joined_at O j w.trace) (shown_count j w.trace) (turns j w.star.order)
 
@@ -105,13 +105,13 @@ module _ (O : Operations) (L : AreLawful O) where
 
     -- # A past board of a site
 
-    -- A past board and a past star: both show in one order what both show, and where the star had as many entries as the board's site had been
-    -- told, it held each name of the board that it knew.
+    -- A past board and a past star: both show in one order what both show. If the star's order had as many entries as had reached the board's
+    -- site, it held each name of the board that it knew.
     pub record Beside (x : O.State) (seen : ℕ) (z : StarOf O) : Type 0 where
       pub order : O.t.keeps_order x z.board
       pub level : length z.order ≡ seen → (n : O.t.Name) → StarKnows O L z n → O.t.holds x n → O.t.holds z.board n
 
-    -- A board that the site of a number once showed, when it had named so many items and been told these entries, beside a star of each length.
+    -- A board that the site of a number once showed, when it had named so many items and these entries had reached it, beside a star of each length.
     pub record WasCopy (most : ℕ) (w : WorldOf O) (i : ℕ) (x : O.State) (named : ℕ) (seen : List (Entry O.Edit)) : Type 0 where
       pub shown : WasShown O L most w i x
       pub later : List (Entry O.Edit)
@@ -146,7 +146,7 @@ module _ (O : Operations) (L : AreLawful O) where
         count : length (take (told_count w i) w.star.order) ≡ told_count w i
         count = length-take-le (told_count w i) w.star.order (omega (arith, length-turns i w.star.order, told_within O L (joined_at O i w.trace) (shown_count i w.trace) (turns i w.star.order) st.1.joined_within st.1.shown_within))
 
-    -- each event keeps it: a star that the event adds has more entries than the site had been told
+    -- each event keeps it: a star that the event adds has more entries than had reached the site
     pub copy_happens : (most : ℕ) (w : WorldOf O) (s : IsSound O most w) (i : ℕ) (x : O.State) (named : ℕ) (seen : List (Entry O.Edit)) (e : EventOf O)
         → WasCopy most w i x named seen → WasCopy most (happens O w e) i x named seen
     copy_happens most w s i x named seen e was = record {
@@ -193,7 +193,7 @@ module _ (O : Operations) (L : AreLawful O) where
 
   -- # A past board of a site, and another site
 
-  -- a name that both sites know is known to a star that had at least as many entries as each was told
+  -- a name that both sites know is known to a star whose order had all the entries that had reached either site
   knows_both : (w : WorldOf O) (i j : ℕ) → nat_eq i j ≡ false → (named : ℕ) (seen later : List (Entry O.Edit)) → w.star.order ≡ seen ++ later → (b : AttachedOf O) (z : StarOf O) (more : List (Entry O.Edit)) → w.star.order ≡ z.order ++ more
       → length seen ≤ length z.order → told_count w j ≤ length z.order
       → (n : O.t.Name) → IsKnown O (own_counts O i named (named_in O seen)) n → SiteKnows O L w j b n → StarKnows O L z n
@@ -222,7 +222,7 @@ module _ (O : Operations) (L : AreLawful O) where
     within : told_count w j ≤ length w.star.order
     within = omega (arith, length-turns j w.star.order, told_within O L (joined_at O j w.trace) (shown_count j w.trace) (turns j w.star.order) st.1.joined_within st.1.shown_within)
 
-    -- So both show in one order what both show: the star that had as many entries as the one that was told more stands between.
+    -- So both show in one order what both show: what connects them is the star with as many entries as had reached the site that knows more.
     pub copies_meet : O.t.keeps_order x b.site.board
     copies_meet = cases (nat_le (length seen) (told_count w j)) refl
       where

@@ -1,4 +1,4 @@
--- A star as it once was, and each event at a site that has still to be handed some of what that star had sent.
+-- A star as it once was, and each event at a site that has still to receive some of what that star had sent.
 use Rattle.std.proofs.Common.{◌≡◌, ◌⊎◌, ℕ, ◌+◌, inl, inr, false, cond, List, [], ◌∷◌, ◌++◌, drop, take, length, nat_eq, refl, ap, sym, ◌∙◌, subst, Option, Some, None, option_map, arith, append_assoc, append-nil, add-zero, eq-eqb, ne_eqb}
 use Rattle.jup_link.specs.declared.Msg.{Msg}
 use Rattle.jup_window.specs.Operations.{Operations, AreLawful}
@@ -25,12 +25,12 @@ use Rattle.jup_world.proofs.Copies.OneLink.{Since}
 use Rattle.jup_world.proofs.Copies.PastStars.{IsBeingTold, IsTold, telling_now, telling_order, told_same, turns_same, all_handed, all_told, telling_more, telling_makes, brings, telling_handed}
 
 module _ (O : Operations) (L : AreLawful O) where
-  -- a link and a site of a number, beside a past star: the site has still to be handed some of what that star had sent, or was handed all
+  -- a link and a site of a number, beside a past star: the site has still to receive some of what that star had sent, or received all
   abbrev pub PastStarAt : ℕ → WorldOf O → StarOf O → ℕ → Option (LinkState O.Op) → Option (AttachedOf O) → Type 0
   PastStarAt most w z j ol oa = (l : LinkState O.Op) (b : AttachedOf O) → ol ≡ Some l → oa ≡ Some b
       → IsBeingTold O L most (O.t.content w.opening) z j (joined_at O j w.trace) (shown_count j w.trace) l b ⊎ IsTold O L z (SiteKnows O L w j b) b
 
-  -- A star that the world once had: the present one went on from there, and each site has still to be handed some of what it had sent, or was handed all.
+  -- A star that the world once had, from which the present one went on. Each site has received all that it had sent, or still has some of it to receive.
   pub record WasStar (most : ℕ) (w : WorldOf O) (z : StarOf O) : Type 0 where
     pub sound : IsSoundStar O most (O.t.content w.opening) z
     pub follows : Follows O L z w.star
@@ -54,7 +54,7 @@ module _ (O : Operations) (L : AreLawful O) where
     told_then : told_of O (joined_at O j w.trace) (shown_count j w.trace) (turns j w.star.order) ≡ told_of O (joined_at O j w.trace) (shown_count j w.trace) (turns j z.order)
     told_then = told_same O L symmetric most (O.t.content w.opening) z was.sound j (joined_at O j w.trace) (shown_count j w.trace) l b h w.star.order was.more was.grows
 
-    -- what the site was told is the beginning of that star's order
+    -- what has reached the site is the beginning of that star's order
     turns_then : told_turns O L w j ≡ take (told_of O (joined_at O j w.trace) (shown_count j w.trace) (turns j z.order)) (turns j z.order)
     turns_then = turns_same O L symmetric most (O.t.content w.opening) z was.sound j (joined_at O j w.trace) (shown_count j w.trace) l b h w.star.order was.more was.grows
 
@@ -63,11 +63,11 @@ module _ (O : Operations) (L : AreLawful O) where
         → IsKnown O (own_counts O j b.site.named (λ k. named_by O j k (take (told_of O (joined_at O j w.trace) (shown_count j w.trace) (turns j z.order)) (turns j z.order)))) n → SiteKnows O L w j b n
     bridge n k = subst (λ ts. IsKnown O (own_counts O j b.site.named (λ k. named_by O j k ts)) n) (sym turns_then) k
 
-    -- so it was handed all where nothing of that is left on its way,
+    -- so it received all if nothing of that is left on its way,
     pub handed_then : h.site.down ≡ [] → IsTold O L z (SiteKnows O L w j b) b
     handed_then = all_handed O L symmetric most (O.t.content w.opening) z was.sound j (joined_at O j w.trace) (shown_count j w.trace) l b h (SiteKnows O L w j b) bridge
 
-    -- or where it was told as many entries as that star had
+    -- or if as many entries have reached it as that star had
     pub whole_then : told_of O (joined_at O j w.trace) (shown_count j w.trace) (turns j w.star.order) ≡ length z.order → IsTold O L z (SiteKnows O L w j b) b
     whole_then e = all_told O L symmetric most (O.t.content w.opening) z was.sound j (joined_at O j w.trace) (shown_count j w.trace) l b h (SiteKnows O L w j b) bridge (sym told_then ∙ e)
 
@@ -82,7 +82,7 @@ module _ (O : Operations) (L : AreLawful O) where
       | inr t ↦ t.since.order
     ]
 
-    -- and where the site was told as many entries as the star had, the star showed what it knew of all that the site shows
+    -- and if as many entries have reached the site as the star had, the star showed what it knew of all that the site shows
     pub past_since : told_of O (joined_at O j w.trace) (shown_count j w.trace) (turns j w.star.order) ≡ length z.order → Since O L (StarKnows O L z) z.board b.site.board
     past_since e = elim (was.sites j l b fl fb) [
       | inl h ↦ (whole_then symmetric most w z was j l b h e).since
@@ -92,7 +92,7 @@ module _ (O : Operations) (L : AreLawful O) where
   -- # Each event
 
   module _ (symmetric : (x y : O.State) → O.t.keeps_order x y → O.t.keeps_order y x) (most : ℕ) (w : WorldOf O) (s : IsSound O most w) (z : StarOf O) (was : WasStar most w z) where
-    -- A site that was there was handed all before the event, or after it, having been shown so many edits more, has still to be handed some.
+    -- A site that was there received all before the event, or still has some to receive after it, when so many more edits were shown to it.
     abbrev pub Then : ℕ → ℕ → AttachedOf O → LinkState O.Op → AttachedOf O → Type 0
     Then n j b k c = IsTold O L z (SiteKnows O L w j b) b ⊎ IsBeingTold O L most (O.t.content w.opening) z j (joined_at O j w.trace) (shown_count j w.trace + n) k c
 
@@ -144,7 +144,7 @@ module _ (O : Operations) (L : AreLawful O) where
     site_changes i g kg l a fl fa here j = subst (λ ls. After 0 j (link_of j ls) (attached j (at_site i g w.sites))) (map_kept (λ k. k.site) i w.star.links)
         (one_changes i (λ k. k) g (λ k. refl) kg l (Some a) fl fa here j)
 
-    -- a stranger joins, or a site: whoever was there has another number
+    -- a stranger or a site joins: each site that was there already has another number
     apart_new : (j : ℕ) (b : AttachedOf O) → attached j w.sites ≡ Some b → nat_eq (w.star.given + 1) j ≡ false
     apart_new j b fb = ne_eqb (w.star.given + 1) j (λ is. given_before O L most w s j b fb (omega arith))
 
@@ -154,7 +154,7 @@ module _ (O : Operations) (L : AreLawful O) where
     enters : (j : ℕ) → After 0 j (link_of j (joined w.star).links) (attached j (w.sites ++ new_site O w (w.star.given + 1) ∷ []))
     enters j b k c fb e q = enters_stray j b k c fb e (sym (found-end_other (λ x. x.site.number) j w.sites (new_site O w (w.star.given + 1)) (apart_new j b fb)) ∙ q)
 
-    -- a site is handed a message
+    -- a site receives a message
     handed : (i gone : ℕ) (l : LinkState O.Op) (a : AttachedOf O) → link_of i w.star.links ≡ Some l → attached i w.sites ≡ Some a → (d : Down O.Op) (ds : List (Down O.Op)) → a.down ++ l.outbox ≡ d ∷ (ds ++ drop gone l.outbox)
         → After (brings d) i (Some (link_fetched gone l)) (Some (one_handed O d ds a))
     handed i gone l a fl fa d ds falls = changes (brings d) i l a fl fa (link_fetched gone l) (one_handed O d ds a) (λ h.
@@ -179,7 +179,7 @@ module _ (O : Operations) (L : AreLawful O) where
     brought_leaves : {i : ℕ} {up : Up O.Op} {oa : Option (AttachedOf O)} {e : EventOf O} → Brings O w i up oa e → (o : Outcome O) → ((j : ℕ) → After 0 j (link_of j o.star.links) (attached j o.sites)) → Leaves e o
     brought_leaves brought o all j = subst (λ n. After n j (link_of j o.star.links) (attached j o.sites)) (sym (brought_shown O w brought o.reply j)) (all j)
 
-    -- by what it comes to
+    -- by its outcome
     telling_step : (e : EventOf O) (o : Outcome O) → StepOf O w e o → Leaves e o
     telling_step e o (Still why) = λ j. subst (λ n. After n j (link_of j w.star.links) (attached j w.sites)) (sym ((still_silent O w why).no_shown j)) (stays j)
     telling_step e o (Enters none) = enters

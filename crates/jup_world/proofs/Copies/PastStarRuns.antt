@@ -1,4 +1,4 @@
--- Over any run a star that the world once had stays a past star: of what it had sent each site has still to be handed some, or was handed all.
+-- Over any run a star that the world once had stays a past star. Each site has received all that this star had sent, or still has some of it to receive.
 use Rattle.std.proofs.Common.{◌≡◌, ◌⊎◌, ℕ, ◌+◌, ◌<◌, ◌≤◌, inl, inr, Bool, true, false, cond, List, [], ◌∷◌, ◌++◌, drop, take, length, nat_eq, refl, ap, sym, ◌∙◌, subst, Option, Some, None, option_map, arith, append_assoc, append-nil, add-zero, eqb-true, take_all, le_refl, take-append-drop}
 use Rattle.jup_window.specs.Operations.{Operations, AreLawful}
 use Rattle.jup_star.specs.declared.messages.Entry.{Entry}
@@ -51,7 +51,7 @@ module _ (O : Operations) (L : AreLawful O) where
       above : w.star.given < j
       above = (let is = eqb-true (w.star.given + 1) j e in omega arith)
 
-      -- the site was told the whole order
+      -- the whole order has reached the site
       joined_here : joined_at O j (with_outcome O w Join (join_outcome O w None)).trace ≡ length w.star.order
       joined_here = joined-end O j w.trace (record { event = Join; reply = Joined (w.star.given + 1) }) ∙ one (nat_eq (w.star.given + 1) j) e ∙ ap (λ (os : List (Entry O.Edit)). length os) s.order_is
         where
@@ -100,7 +100,7 @@ module _ (O : Operations) (L : AreLawful O) where
         cases false e = nobody Join (join_outcome O w None) (found-end_other (λ x. x.site.number) j w.sites (new_site O w (w.star.given + 1)) e ∙ none)
         cases true e = new_one e
 
-    -- an event, by what it comes to
+    -- an event, by its outcome
     new_step : (e : EventOf O) (o : Outcome O) → StepOf O w e o → New e o
     new_step e o (Still why) = nobody e o none
     new_step e o (Enters joins) = new_joins
@@ -118,7 +118,7 @@ module _ (O : Operations) (L : AreLawful O) where
   -- # Over any run
 
   module _ (symmetric : (x y : O.State) → O.t.keeps_order x y → O.t.keeps_order y x) (most : ℕ) (w : WorldOf O) (s : IsSound O most w) (e : EventOf O) (z : StarOf O) (was : WasStar O L most w z) where
-    -- what a site was handed stays handed
+    -- what a site has received stays received
     told_on_event : (j : ℕ) (b c : AttachedOf O) → attached j w.sites ≡ Some b → attached j (happens O w e).sites ≡ Some c → IsTold O L z (SiteKnows O L w j b) b → IsTold O L z (SiteKnows O L (happens O w e) j c) c
     told_on_event j b c fb fc t =
         let f : SiteFollows O L w (happens O w e) j b c = run_follows O L (e ∷ []) most w s j b c fb fc in
@@ -149,7 +149,7 @@ module _ (O : Operations) (L : AreLawful O) where
             (λ none k c fk fc. inr (new_event most w s z was j c none e fc))
             (λ b fb. before j b fb)
 
-  -- and so does want of memory, by which a message was fetched and nothing else happened
+  -- and so it does if an allocation fails: a message may have been fetched, and nothing else happened
   module _ (symmetric : (x y : O.State) → O.t.keeps_order x y → O.t.keeps_order y x) (most : ℕ) (w : WorldOf O) (i n : ℕ) (l : LinkState O.Op) (a : AttachedOf O) (fl : link_of i w.star.links ≡ Some l) (fa : attached i w.sites ≡ Some a)
       (z : StarOf O) (was : WasStar O L most w z) where
     -- the link and the site

@@ -33,8 +33,8 @@ brings (DownAck n) = 0
 brings (DownPong k) = 0
 
 module _ (O : Operations) (L : AreLawful O) where
-  -- A site has still to be handed some of what a past star had sent to it, and these messages come first of all on their way to it. The past star, put in
-  -- the place of the present one, stands beside the site like any star that takes nothing more.
+  -- A site has still to receive some of what a past star had sent to it, and these messages come first of all on their way to it. That past star may
+  -- replace the present one: then star and link are those of a star that takes nothing more.
   pub record IsBeingTold (most : ℕ) (first : O.t.Content) (s : StarOf O) (i joined shown : ℕ) (l : LinkState O.Op) (b : AttachedOf O) : Type 0 where
     pub mine : List O.Edit
     pub link : LinkState O.Op
@@ -45,12 +45,12 @@ module _ (O : Operations) (L : AreLawful O) where
     pub later : List (Down O.Op)
     pub down : b.down ++ l.outbox ≡ site.down ++ later
 
-  -- The site was handed all of it: it knows each name that the past star knew, and of these it holds none that this star did not hold.
+  -- The site received all of it: it knows each name that the past star knew, and of these it holds none that this star did not hold.
   pub record IsTold (s : StarOf O) (knows : O.t.Name → Type 0) (b : AttachedOf O) : Type 0 where
     pub since : Since O L (StarKnows O L s) s.board b.site.board
     pub all : (n : O.t.Name) → StarKnows O L s n → knows n
 
-  -- once all is handed, it stays so as the site goes on
+  -- once all is delivered, it stays so as the site goes on
   pub told_on : (s : StarOf O) (knows knows' : O.t.Name → Type 0) (a b : AttachedOf O) → (known : (n : O.t.Name) → O.t.holds s.board n → StarKnows O L s n)
       → O.t.keeps_order a.site.board b.site.board → ((n : O.t.Name) → knows n → knows' n) → ((n : O.t.Name) → knows n → O.t.holds b.site.board n → O.t.holds a.site.board n)
       → IsTold s knows a → IsTold s knows' b
@@ -62,7 +62,7 @@ module _ (O : Operations) (L : AreLawful O) where
     all = λ n k. more n (t.all n k);
   }
 
-  -- the star of the moment is one of whose messages the site may still be handed some
+  -- the star of the moment is one of whose messages the site may still receive some
   pub telling_now : (most : ℕ) (first : O.t.Content) (s : StarOf O) (mine : List O.Edit) (i joined shown : ℕ) (l : LinkState O.Op) (a : AttachedOf O)
       → Standing O most first (turns i s.order) s.board mine joined shown i l a → IsBeingTold most first s i joined shown l a
   telling_now most first s mine i joined shown l a st = record {
@@ -98,7 +98,7 @@ module _ (O : Operations) (L : AreLawful O) where
     telling_order = subst (λ (z : SiteOf O). O.t.keeps_order s.board z.board) h.same
         (symmetric h.site.site.board s.board (pair_order O L symmetric most i first _ _ s.board h.mine h.link h.site h.stands.pair held_known))
 
-    -- of the order, which has grown since, the site was told no more than of that star's: as many entries, and the same
+    -- no more entries of the order, which has grown since, have reached the site than of that star's: as many, and the same
     pub told_same : (order more : List (Entry O.Edit)) → order ≡ s.order ++ more → told_of O joined shown (turns i order) ≡ told_of O joined shown (turns i s.order)
     told_same order more grows = ap (told_of O joined shown) (ap (turns i) grows ∙ turns-append i s.order more)
         ∙ told_end O L joined shown (turns i s.order) (turns i more) h.stands.joined_within h.stands.shown_within
@@ -109,7 +109,7 @@ module _ (O : Operations) (L : AreLawful O) where
         ∙ take-append-le (told_of O joined shown (turns i s.order)) (turns i s.order) (turns i more)
         (told_within O L joined shown (turns i s.order) h.stands.joined_within h.stands.shown_within)
 
-    -- where nothing of the star's is ahead of the site, all is told
+    -- if nothing that the star made is ahead of the site, all of it has reached the site
     module _ (knows : O.t.Name → Type 0)
         (bridge : (n : O.t.Name) → IsKnown O (own_counts O i b.site.named (λ k. named_by O i k (take (told_of O joined shown (turns i s.order)) (turns i s.order)))) n → knows n) where
       told_from : h.stands.pair.star_ahead ≡ [] → IsTold s knows b
@@ -136,7 +136,7 @@ module _ (O : Operations) (L : AreLawful O) where
           (subst (λ ms. Comes (mirror O.t) h.site.site.end.received h.site.site.end.acknowledged h.stands.pair.in_step.near_queue.before ms h.stands.pair.star_ahead)
           (ap downs (ap (λ ds. ds ++ h.link.outbox) none ∙ h.outbox)) h.stands.pair.in_step.near_queue.comes))
 
-      -- or since the site was told the whole of that star's order
+      -- or since the whole of that star's order has reached the site
       pub all_told : told_of O joined shown (turns i s.order) ≡ length s.order → IsTold s knows b
       all_told whole_told = told_from (ahead h.stands.pair.star_ahead (subst (λ ts. Inherits O h.stands.pair.star_ahead (others ts)) nothing h.stands.pair.down_inherits))
         where
@@ -174,7 +174,7 @@ module _ (O : Operations) (L : AreLawful O) where
       down = h.down;
     }
 
-    -- the site is handed the oldest message to it, which is the past star's if any of those is left
+    -- the site receives the oldest message to it, which is the past star's if any of those is left
     module _ (gone : ℕ) (d : Down O.Op) (ds : List (Down O.Op)) (comes : b.down ++ l.outbox ≡ d ∷ (ds ++ drop gone l.outbox)) where
       heads : (h.site.down ≡ []) ⊎ ((vs : List (Down O.Op)) × (h.site.down ≡ d ∷ vs) × (ds ++ drop gone l.outbox ≡ vs ++ h.later))
       heads = cases h.site.down refl
@@ -187,7 +187,7 @@ module _ (O : Operations) (L : AreLawful O) where
               let more : ds ++ drop gone l.outbox ≡ vs ++ h.later = cc in
               inr (vs, q ∙ ap (λ z. z ∷ vs) one, more)
 
-      -- once it is handed, the others come first
+      -- once it is delivered, the others come first
       carried : (n : ℕ) (vs : List (Down O.Op)) → ds ++ drop gone l.outbox ≡ vs ++ h.later
           → Standing O most first (turns i s.order) s.board h.mine joined n i (link_fetched 0 h.link) (one_handed O d vs h.site)
           → IsBeingTold most first s i joined n (link_fetched gone l) (one_handed O d ds b)

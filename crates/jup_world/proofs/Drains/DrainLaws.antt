@@ -21,7 +21,7 @@ both_empty [] ys e = (refl, e)
 both_empty (x ∷ xs) ys e = absurd cc
 
 module _ (O : Operations) (L : AreLawful O) where
-  -- nothing is on its way up where nothing is answered
+  -- nothing is on its way up if nothing is answered
   none_up : (s : StarOf O) (us : List (Up O.Op)) → UpReplies O s us Nothing → us ≡ []
   none_up s [] r = refl
   none_up s (UpOp m ∷ us) r = cases (nat_le s.limit (length s.order)) refl
@@ -39,7 +39,7 @@ module _ (O : Operations) (L : AreLawful O) where
   none_down (DownAck n ∷ ds) r = absurd cc
   none_down (DownPong k ∷ ds) r = absurd cc
 
-  -- where no delivery at an attached site answers anything, no message is on its way
+  -- if no delivery at an attached site answers anything, no message is on its way
   pub nothing_quiet : (most : ℕ) (w : WorldOf O) → IsSound O most w
       → ((i : ℕ) (a : AttachedOf O) → attached i w.sites ≡ Some a → ((outcome O w (MoveUp i)).reply ≡ Nothing) × ((outcome O w (MoveDown i)).reply ≡ Nothing))
       → IsQuiet O w
@@ -50,11 +50,11 @@ module _ (O : Operations) (L : AreLawful O) where
       let below = both_empty a.down l.outbox (none_down (a.down ++ l.outbox) (down.present l a fl fa)) in
       (none_up w.star a.up (up.present l a fl fa), below.0, below.1)
 
-  -- an outcome that leaves the star and the sites where it answers nothing
+  -- an outcome that leaves the star and the sites if it answers nothing
   abbrev pub LeavesAll : WorldOf O → Outcome O → Type 0
   LeavesAll w o = o.reply ≡ Nothing → (o.star ≡ w.star) × (o.sites ≡ w.sites)
 
-  -- an event, by what it comes to
+  -- an event, by its outcome
   step_leaves : (w : WorldOf O) (e : EventOf O) (o : Outcome O) → StepOf O w e o → LeavesAll w o
   step_leaves w e o (Still why) r = (refl, refl)
   step_leaves w e o (Enters none) r = absurd cc

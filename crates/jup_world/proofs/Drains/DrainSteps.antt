@@ -82,7 +82,7 @@ settles_one w v event reply nothing is delivers step answer test = record {
     still : IsFalse (not nothing) → (outcome board_batches (messages_of w) event).reply ≡ Nothing
     still none = sym answer ∙ ap numbered_reply (test.0 (was nothing none))
 
--- memory was refused at one
+-- an allocation failed at one
 pub part_one : (w v : LaneWorld) (event : BoardEvent) → IsDelivery event → IsSparedBy w (Plain event) v → IsDeliveredInPart w v
 part_one w v event delivers spared = record { between = w; delivered = record { events = []; deliveries = tt; steps = refl }; event = event; delivery = delivers; spared = spared }
 
@@ -134,7 +134,7 @@ settles_both false two w v u p q = record {
   same_sites = λ none. q.same_sites none ∙ p.same_sites refl;
 }
 
--- # What a delivery answers does not hang on what has happened
+-- # What a delivery answers does not depend on the events before it
 
 up_alike : (w v : BoardWorld) (i : ℕ) (l : BoardLink) (us : List (Up BoardBatch)) → v.star ≡ w.star → (first_up board_batches v i l us).reply ≡ (first_up board_batches w i l us).reply
 up_alike w v i l [] e = refl
@@ -223,7 +223,7 @@ from_messages i sites a found = there (lane_site i sites) refl
     there None e = absurd (let f = messages_found i sites in cc)
     there (Some b) e = (b, e)
 
--- where the site is not attached
+-- if the site is not attached
 pub map_some : {A B : Type 0} (f : A → B) (o : Option A) → is_some (option_map f o) ≡ is_some o
 map_some f None = refl
 map_some f (Some x) = refl
@@ -265,7 +265,7 @@ last_above i least most a x (y ∷ ys) up found = step (nat_eq x.site.number i) 
     step true e rest h = let same : x.site.number ≡ i = eqb-true _ _ e in let over = last_over x.site.number most y ys up.1 in omega arith
     step false e rest h = rest h
 
--- each site that is found stands between 1 and the last
+-- the number of each site that is found is between 1 and that of the last
 within_last : (most : ℕ) (sites : List Attached) (e : Attached) → AreAscending 0 most (map bare_attached sites) → Some e ≡ slice_get sites (length sites - 1)
     → (i : ℕ) (a : BoardAttached) → attached i (map bare_attached sites) ≡ Some a → (1 ≤ i) × (i ≤ e.site.number)
 within_last most [] e up is i a found = absurd (cc)

@@ -96,7 +96,7 @@ module _ (w : BoardWorld) (sound : IsSound board_batches most_batches w) (i : �
   abbrev Falls : ℕ → ℕ → Option BoardLink → Option BoardAttached → Type 0
   Falls d j ol oa = link_weight w.star.given ol oa + cond (nat_eq i j) d 0 ≤ before j
 
-  -- or so much less but for an edit that was sent
+  -- or so much less, except for an edit that was sent
   abbrev Outweighs : ℕ → ℕ → Option BoardLink → Option BoardAttached → Type 0
   Outweighs d j ol oa = link_weight w.star.given ol oa + cond (nat_eq i j) d 0 ≤ before j + 2
 
@@ -160,7 +160,7 @@ module _ (w : BoardWorld) (sound : IsSound board_batches most_batches w) (i : �
       split (UpAck n) = omega arith
       split (UpPing k) = omega arith
 
-  -- what a site sends back is lighter than what it was handed
+  -- what a site sends back is lighter than what it received
   back_light : (d : Down BoardBatch) → up_weight w.star.given (option_to_list (sent_back board_batches d a.site)) + 1 ≤ down_weight (d ∷ [])
   back_light (DownOp m) = let little = owed_up_little w.star.given (end_after board_batches a.site.end m) (owes (end_after board_batches a.site.end m).unanswered) in omega arith
   back_light (DownAck n) = omega arith
@@ -173,7 +173,7 @@ module _ (w : BoardWorld) (sound : IsSound board_batches most_batches w) (i : �
 
 -- # Deliveries
 
--- a delivery that answers something, by what it comes to
+-- a delivery that answers something, by its outcome
 step_lightens : (w : BoardWorld) (s : IsSound board_batches most_batches w) (e : BoardEvent) (o : Outcome board_batches) → StepOf board_batches w e o → IsDelivery e → (o.reply ≡ Nothing → ⊥) → weight_of o.star o.sites < weight_of w.star w.sites
 step_lightens w s e o (Still (Finds event)) delivers some = absurd (some refl)
 step_lightens w s e o (Still (NotJoined fault)) delivers some = absurd delivers

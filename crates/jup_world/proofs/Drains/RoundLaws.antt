@@ -16,7 +16,7 @@ use Rattle.jup_world.specs.Drains.{way_event}
 use Rattle.jup_world.specs.Rounds.{Repeats, Delivers, Visits, Passes, IsRound}
 use Rattle.jup_world.proofs.Drains.DrainSteps.{nothing_numbered}
 
--- one delivery, and what it tells
+-- one delivery, and what it says
 pub delivery_told : (way : Way) (i : ℕ) (w v : LaneWorld) (reply : Reply BoardEdits EditFault) (nothing : Bool) → Steps w (Plain (way_event way i)) v
     → numbered_reply reply ≡ (outcome board_batches (messages_of w) (way_event way i)).reply → (IsTrue nothing ↔ (reply ≡ answer.Nothing)) → Delivers way i (not nothing) w v
 delivery_told way i w v reply nothing step tells test = record { step = step; nothing = (still nothing test.0, none nothing test.1) }
@@ -49,7 +49,7 @@ pub visit_absent : (way : Way) (i : ℕ) (o : Option LaneSite) (w : LaneWorld) �
 visit_absent way i None w absent = (refl, refl)
 visit_absent way i (Some a) w absent = absurd cc
 
--- one number more
+-- one more number
 pub pass_more : (way : Way) (n : ℕ) (before here : Bool) (w u v : LaneWorld) → Passes way n before w u → Visits way (n + 1) here (lane_site (n + 1) u.sites) u v → Passes way (n + 1) (before || here) w v
 pass_more way n before here w u v passes visits =
     let next : n + 1 ≡ suc n = omega arith in

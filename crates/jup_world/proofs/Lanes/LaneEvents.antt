@@ -1,4 +1,4 @@
--- What the program does at an attached site, said of the bytes of its link.
+-- What the program does at an attached site, for the bytes of its link.
 use Rattle.std.proofs.Common.{◌≡◌, ◌⊎◌, refl, sym, ◌∙◌, ap, subst, inl, inr, ℕ, zero, suc, ◌+◌, ◌-◌, min, Bool, true, false, List, [], ◌∷◌, ◌++◌, length, map, get_or, nat_eq, Option, Some, None, option_map, Result, Ok, Err, IfOk, OnOk, OnErr, arith, eq-eqb, eqb-true}
 use Rattle.std.proofs.Math.ListN.{set}
 use Rattle.jup_limits.specs.declared.NoMemory.{NoMemory}
@@ -99,7 +99,7 @@ push_up_reads i n = (λ j a other. rw other (more-none (length a.up.read)), λ j
 pub push_down_reads : (i n : ℕ) → ReadsAt (PushDown i n) i
 push_down_reads i n = (λ j a other. refl, λ j l a other. rw other (more-none (length a.down.read)))
 
--- nothing is read where the site is not attached
+-- nothing is read if the site is not attached
 pub absent_read : (event : LaneEvent) (i : ℕ) (star : BoardStar) (sites : List Attached) → ReadsAt event i → attached i (map bare_attached sites) ≡ None → AreRead event star (map lane_of sites) (map lane_of sites)
 absent_read event i star sites reads none =
     same_read event star (map lane_of sites) (map lane_of sites) refl
@@ -170,7 +170,7 @@ module _ (s : BoardStar) (sites : List Attached) (ready : AreReady s (map bare_a
   pub site_same : (new : Attached) → lane_of new ≡ lane_of e → map lane_of (set sites at new) ≡ map lane_of sites
   site_same new same = same_lanes sites at e new (same ∙ ap lane_of value)
 
-  -- # Want of memory
+  -- # A failed allocation
 
   -- on its way up
   pub up_rests : (t : BoardStar) (new : Attached) → t ≡ s → bare_attached new ≡ bare_attached e → IsMovedUp (lane_of e) (lane_of new)

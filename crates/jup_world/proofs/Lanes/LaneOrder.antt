@@ -90,7 +90,7 @@ steps_follow [] w v is same = subst (λ (u : LaneWorld). Keeps (messages_of w) (
 steps_follow (e ∷ es) w v is next =
     keeps_chain (messages_of w) (messages_of next.0) (messages_of v) is.world (step_follows w e next.0 is next.1) (steps_follow es next.0 v (step_keeps w e next.0 is next.1) next.2)
 
--- an event that happened, or was refused for want of memory, leaves a world
+-- an event that happened, or was refused because an allocation failed, leaves a world
 pub try_keeps : (w : LaneWorld) (event : LaneEvent) (v : LaneWorld) → IsLaneWorld w → Steps w event v ⊎ IsSparedBy w event v → IsLaneWorld v
 try_keeps w event v is (inl step) = step_keeps w event v is step
 try_keeps w event v is (inr spared) = spared_keeps w v event is spared
@@ -112,7 +112,7 @@ tried_follow (e ∷ es) w v is next =
 order_of_keeps : (w v : BoardWorld) → Keeps w v → OrderIsKept board_batches w v
 order_of_keeps w v kept = record { star = kept.star.order; sites = λ i a b fa fb. (kept.sites i a b fa fb).order }
 
--- the order of items is kept by a step, by steps, and by want of memory after some
+-- a step keeps the order of items, and so do several steps, and an allocation that fails after some
 pub step_order : (w : LaneWorld) (event : LaneEvent) (v : LaneWorld) → IsLaneWorld w → Steps w event v → OrderIsKept board_batches (messages_of w) (messages_of v)
 step_order w event v is step = order_of_keeps (messages_of w) (messages_of v) (step_follows w event v is step)
 

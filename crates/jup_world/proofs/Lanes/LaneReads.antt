@@ -156,7 +156,7 @@ rests_none l a b same = record {
   carry = subst (λ (x : LaneSite). Carries downs a.down → Carries downs x.down) (sym same) (λ is. is);
 }
 
--- a message was handed to the site
+-- a message was delivered to the site
 pub handed-site : (a b : LaneSite) (mid down : Way) (m : Down BoardBatch) → IsFilled downs a.down mid (Some m) → down ≡ mid → b.down ≡ handed_over (length (bytes_of downs m)) down
     → messages downs down ≡ m ∷ messages downs b.down → length b.up.read ≡ length a.up.read → (Carries ups a.up → Carries ups b.up)
     → IsRead a (length a.up.read) (length a.down.read - oldest_length downs (messages downs a.down)) b
@@ -201,7 +201,7 @@ pushed-site l a mid b count most filled is down up = record {
   carry_down = λ c. moved-carries downs downs_laws mid.down b.down (record { count = count; is = down }) (filled.carry c);
 }
 
--- memory was refused once it was filled
+-- an allocation failed once it was filled
 pub rests_filled : (l : BoardLink) (a mid b : LaneSite) → IsFilledDown l a mid → b ≡ mid → RestsDown l a b
 rests_filled l a mid b filled same =
     rests_down l a mid b (refilled_way l a mid filled) (record {

@@ -53,7 +53,7 @@ pub played_answers : (w : LaneWorld) (event : LaneEvent) (reply : BoardReply) (t
 played_answers w event reply t next is plays =
     subst (λ (r : BoardReply). AnswersTo w event r) (sym (played_reply w event reply t next plays)) (answered w event is.world)
 
--- a world after want of memory
+-- a world after a failed allocation
 rests : (w : LaneWorld) (event : LaneEvent) (t : BoardStar) (next : List LaneSite) (trace : List Noted) → SitesRest event w.star w.sites t next → trace ≡ w.trace → AllCarry w.sites
     → Rests w event (record { opening = w.opening; star = t; sites = next; trace = trace })
 rests w event t next trace rest kept carry = record {
@@ -103,7 +103,7 @@ steps_next f w v u events n e below is before step =
     (sym (ap (map f) (take_more events n e below ∙ ap (λ x. take n events ++ x ∷ []) (sym is)) ∙ map-append f (take n events) (e ∷ [])))
     (steps_more w v u (map f (take n events)) (f e) before step)
 
--- memory was refused at the next
+-- an allocation failed at the next
 pub halted : {E : Type 0} (f : E → LaneEvent) (w v u : LaneWorld) (events : List E) (n : ℕ) (e : E) → n < length events → e ≡ get_or events n e
     → AllSteps w (map f (take n events)) v → IsSparedBy v (f e) u → IsHalted w (map f events) n u
 halted f w v u events n e below is before spared = record {

@@ -51,7 +51,7 @@ carry_at i (b ∷ sites) a all e = step (nat_eq b.site.number i) (carry_at i sit
 
 -- # Quiet
 
--- no byte is on its way just where no message is
+-- no byte is on its way exactly if no message is
 pub still_quiet : (w : LaneWorld) → AllCarry w.sites → IsStill w ↔ IsQuiet board_batches (messages_of w)
 still_quiet w all = (to, from)
   where
@@ -86,7 +86,7 @@ plain-noted t event reply = plain-append t _ ∙ ap (λ hs. plain_trace t ++ hs)
 
 -- # Steps
 
--- an empty down stream that is filled leaves what want of memory may leave
+-- an empty down stream that is filled leaves what a failed allocation may leave
 pub filled_spared : (w : LaneWorld) (i : ℕ) → IsSpared (messages_of w) (filled_for (messages_of w) i (link_of i w.star.links) (lane_site i w.sites))
 filled_spared w i = cases (link_of i w.star.links) refl (lane_site i w.sites) refl
   where
@@ -126,7 +126,7 @@ after_down w i n = cases (link_of i w.star.links) (lane_site i w.sites)
     cases (Some l) None = kept (messages_of w) refl refl
     cases (Some l) (Some a) = from l a.down.stream l.outbox
 
--- so a push leaves what want of memory may leave
+-- so a push leaves what a failed allocation may leave
 pub pushed_spared : (w : LaneWorld) (i n : ℕ) → IsSpared (messages_of w) (messages_after w (PushDown i n))
 pushed_spared w i n = subst (IsSpared (messages_of w)) (sym (after_down w i n)) (filled_spared w i)
 
@@ -157,7 +157,7 @@ pub steps_run : (events : List BoardEvent) (w v : LaneWorld) → AllSteps w (map
 steps_run [] w v same = ap messages_of same
 steps_run (e ∷ es) w v next = steps_run es next.0 v next.2 ∙ ap (λ m. run board_batches m es) next.1.messages
 
--- # Want of memory
+-- # A failed allocation
 
 pub rests_spared : (w v : LaneWorld) (event : LaneEvent) → Rests w event v → IsSpared (messages_of w) (messages_of v)
 rests_spared w v event rests = spared rests.messages

@@ -36,7 +36,7 @@ module _ (O : Operations) (L : AreLawful O) where
   named_by-take i j (suc k) (suc m) (Own e ∷ ts) h = omega (arith, named_by-take i j k m ts (omega arith))
   named_by-take i j (suc k) (suc m) (Other s e ∷ ts) h = omega (arith, named_by-take i j k m ts (omega arith))
 
-  -- what is named among the entries told, as the order and the number of those shown grow
+  -- what is named among the entries that have reached a site, as the order and the number of those shown grow
   pub told_more : (i j joined n m : ℕ) (ts us : List (Turn O.Edit)) → joined ≤ length ts → n ≤ length (others (drop joined ts)) → n ≤ m
       → named_by O i j (take (told_of O joined n ts) ts) ≤ named_by O i j (take (told_of O joined m (ts ++ us)) (ts ++ us))
   told_more i j joined n m ts us within shown more =
@@ -83,7 +83,7 @@ module _ (O : Operations) (L : AreLawful O) where
     pub joined_same : joined_at O j (happens O w e).trace ≡ joined_at O j w.trace
     joined_same = joined-end O j w.trace (record { event = e; reply = (outcome O w e).reply }) ∙ join_kept w j (length (order_of O w.trace)) (joined_at O j w.trace) (given_before most w s j a fa) e
 
-    -- it was handed no fewer
+    -- it received no fewer
     shown_more : shown_count j w.trace ≤ shown_count j (happens O w e).trace
     shown_more = omega (arith, shown-end j w.trace (record { event = e; reply = (outcome O w e).reply }))
 

@@ -23,11 +23,11 @@ use Rattle.jup_world.proofs.Sound.SoundJoined.{no_site}
 use Rattle.jup_world.proofs.EventSteps.{StepOf, Still, Enters, EntersStray, Goes, Makes, Asks, Takes, Hands, handed_number, step_of}
 
 module _ (O : Operations) (L : AreLawful O) where
-  -- the entries that a site was told
+  -- the entries that have reached a site
   abbrev pub told_turns : WorldOf O → ℕ → List (Turn O.Edit)
   told_turns w j = take (told_of O (joined_at O j w.trace) (shown_count j w.trace) (turns j w.star.order)) (turns j w.star.order)
 
-  -- a name that a site knows: of the layout, of its own insertions, or of an entry that it was told
+  -- a name that a site knows: of the layout, of its own insertions, or of an entry that has reached it
   abbrev pub SiteKnows : WorldOf O → ℕ → AttachedOf O → O.t.Name → Type 0
   SiteKnows w j a n = IsKnown O (own_counts O j a.site.named (λ k. named_by O j k (told_turns w j))) n
 
@@ -37,7 +37,7 @@ module _ (O : Operations) (L : AreLawful O) where
     pub named : a.site.named ≤ b.site.named
     pub none_back : (n : O.t.Name) → SiteKnows w j a n → O.t.holds b.site.board n → O.t.holds a.site.board n
 
-  -- what stands under a number before and after: a site that keeps, or is gone, and a new one under a new number alone
+  -- what a number has before and after: a site that stays, or has left, and a new one under a new number alone
   abbrev pub StepsTo : WorldOf O → ℕ → Option (AttachedOf O) → Option (AttachedOf O) → Type 0
   StepsTo w j None None = Unit {0}
   StepsTo w j None (Some b) = w.star.given < j
@@ -117,7 +117,7 @@ module _ (O : Operations) (L : AreLawful O) where
         few : length (take (told_of O (joined_at O i w.trace) (shown_count i w.trace) (turns i w.star.order)) (turns i w.star.order) ++ drop (told_of O (joined_at O i w.trace) (shown_count i w.trace) (turns i w.star.order)) (turns i w.star.order)) + most_beyond ≤ most
         few = subst (λ us. length us + most_beyond ≤ most) (sym (take-append-drop (told_of O (joined_at O i w.trace) (shown_count i w.trace) (turns i w.star.order)) (turns i w.star.order))) (order_fits O L most w s i l a fl fa)
 
-    -- a site that is handed a message
+    -- a site that receives a message
     handed : (i : ℕ) (l : LinkState O.Op) (a : AttachedOf O) → link_of i w.star.links ≡ Some l → attached i w.sites ≡ Some a → (gone : ℕ) (d : Down O.Op) (ds : List (Down O.Op))
         → downs (a.down ++ l.outbox) ≡ downs (d ∷ (ds ++ drop gone l.outbox)) → SiteKeeps w i a (one_handed O d ds a)
     handed i l a fl fa gone (DownOp m) ds e = record {
@@ -132,11 +132,11 @@ module _ (O : Operations) (L : AreLawful O) where
     handed i l a fl fa gone (DownAck n) ds e = still w i a (one_handed O (DownAck n) ds a) refl refl
     handed i l a fl fa gone (DownPong k) ds e = still w i a (one_handed O (DownPong k) ds a) refl refl
 
-    -- a site that is changed where it stands
+    -- a site that is changed in place
     one_known : (i : ℕ) (g : AttachedOf O → AttachedOf O) → ((b : AttachedOf O) → (g b).site.number ≡ b.site.number) → (a : AttachedOf O) → attached i w.sites ≡ Some a → SiteKeeps w i a (g a) → SitesStep w (at_site i g w.sites)
     one_known i g kg a fa keeps = one_site w i g kg (λ b fb. (let is : a ≡ b = cc in subst (λ x. SiteKeeps w i x (g x)) is keeps))
 
-    -- under each number, from before an event to after it, by what it comes to
+    -- under each number, from before an event to after it, by its outcome
     keeps_step : (e : EventOf O) (o : Outcome O) → StepOf O w e o → SitesStep w o.sites
     keeps_step e o (Still why) = same_sites w
     keeps_step e o (Enters none) = one_added most w s

@@ -42,7 +42,7 @@ module _ (O : Operations) (L : AreLawful O) where
   }
 
   module _ (most : ℕ) (w : WorldOf O) (s : IsSound O most w) where
-    -- an event, by what it comes to: the star took an edit, or its board and its order stay
+    -- an event, by its outcome: the star took an edit, or its board and its order stay
     step-follows : (e : EventOf O) (o : Outcome O) → StepOf O w e o → Follows w.star o.star
     step-follows e o (Takes i l oa (UpOp m) fl fa brought none) = record {
       given = omega arith;

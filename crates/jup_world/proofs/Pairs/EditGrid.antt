@@ -1,4 +1,4 @@
--- Edits of one square: what is the same wherever it stands in a list of edits.
+-- Edits of one square: what stays the same at any place in a list of edits.
 use Rattle.std.proofs.Common.{inl, inr, ◌≡◌, List, [], ◌∷◌, ◌++◌, refl, sym, ◌∙◌, append_assoc, append-nil}
 use Rattle.jup_xform.specs.Members.{SomeOf}
 use Rattle.jup_window.specs.Operations.{Operations, AreLawful}
@@ -21,7 +21,7 @@ module _ (O : Operations) (L : AreLawful O) where
   unfolding SameMeaning
   same-trans a b c h k x p q = h x p q ∙ k x p q
 
-  -- lists of one meaning, behind one list
+  -- lists of one meaning, after one list
   pub same-before : (p a b : List O.Edit) → SameMeaning O a b → SameMeaning O (p ++ a) (p ++ b)
   unfolding SameMeaning
   same-before p a b h x p' q =
@@ -89,7 +89,7 @@ module _ (O : Operations) (L : AreLawful O) where
       let law = L.keeps.edit_server c s apart x (p ++ after) q in
       simp append_assoc (simp append_assoc at law)
 
-  -- past a server's operation, a client's operation still stands for its edit
+  -- a client's operation past a server's still represents its edit
   pub stands-past : (c s : O.Op) (e : O.Edit) (after next : List O.Edit) → StandsFor O (O.t.edit_of c) e after
       → SameMeaning O (after ++ O.t.edit_of s ∷ []) next → StandsFor O (O.t.edit_of (O.t.client_past c s)) e next
   unfolding StandsFor

@@ -1,4 +1,4 @@
--- The operations of a queue, which stand for entries of the order, and an operation past them.
+-- The operations of a queue, which represent entries of the order, and an operation past them.
 use Rattle.std.proofs.Common.{ℕ, zero, suc, List, [], ◌∷◌, ◌++◌, drop, refl, ap, sym, ◌∙◌, subst, inl, inr, ◌⊎◌, append_assoc}
 use Rattle.jup_xform.specs.Rows.{row_operation, row_entries}
 use Rattle.jup_xform.specs.Laws.RowLaws.{row_operation-append}

@@ -124,7 +124,7 @@ module _ (O : Operations) (L : AreLawful O) where
     pub pair-asked : (k : ℕ) → Paired O most i first past rest held mine l (pinged O k a)
     pair-asked k = pair-streams (a.up ++ UpPing k ∷ []) a.down l.outbox (ups-append a.up (UpPing k ∷ []) ∙ append-nil (ups a.up)) refl
 
-    -- an ack or a ping that the star takes, an ack or a pong that the site is handed
+    -- an ack or a ping that the star takes, an ack or a pong that the site receives
     pub pair-up_acked : (n : ℕ) (rising : List (Up O.Op)) → a.up ≡ UpAck n ∷ rising
         → Paired O most i first past rest held mine (link_acked n l) (site_with a a.site.end rising a.down)
     pair-up_acked n rising e =
@@ -140,7 +140,7 @@ module _ (O : Operations) (L : AreLawful O) where
         → Paired O most i first past rest held mine (link_ponged k l) (site_with a a.site.end rising a.down)
     pair-up_asked k rising e = pair-streams rising a.down (l.outbox ++ DownPong k ∷ []) (sym (ap ups e)) (stream (DownPong k) ∙ append-nil (downs (a.down ++ l.outbox)))
 
-    -- a site is handed an acknowledgement
+    -- a site receives an acknowledgement
     pub pair-down_acked : (n : ℕ) (falling outbox : List (Down O.Op)) → downs (a.down ++ l.outbox) ≡ Ack n ∷ downs (falling ++ outbox)
         → Paired O most i first past rest held mine (link_with l l.end outbox) (site_with a (after_count a.site.end n) a.up falling)
     pair-down_acked n falling outbox e =

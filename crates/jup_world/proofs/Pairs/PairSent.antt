@@ -47,7 +47,7 @@ module _ (O : Operations) (L : AreLawful O) where
     whole : past ++ (rest ++ Other j e ∷ []) ≡ (past ++ rest) ++ Other j e ∷ []
     whole = sym (append_assoc past rest (Other j e ∷ []))
 
-    -- the message stands last
+    -- the message is last
     stream : downs (a.down ++ (l.outbox ++ DownOp (next_message l.end op) ∷ [])) ≡ downs (a.down ++ l.outbox) ++ message l.end op ∷ []
     stream = ap downs (sym (append_assoc a.down l.outbox (DownOp (next_message l.end op) ∷ []))) ∙ downs-append (a.down ++ l.outbox) (DownOp (next_message l.end op) ∷ [])
 

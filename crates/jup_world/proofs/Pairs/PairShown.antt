@@ -1,4 +1,4 @@
--- A site is handed an edit: it and its link stay in step.
+-- A site receives an edit: it and its link stay in step.
 use Rattle.std.proofs.Common.{◌≡◌, ℕ, ◌+◌, ◌-◌, ◌≤◌, ◌⊎◌, false, List, [], ◌∷◌, ◌++◌, length, take, drop, ap, sym, ◌∙◌, subst, inl, inr, arith, append_assoc, le_refl, take-append-drop}
 use Rattle.std.proofs.lemmas.Bool.{eqb-false}
 use Rattle.jup_limits.specs.Limits.{most_beyond}
@@ -23,7 +23,7 @@ use Rattle.jup_world.proofs.Pairs.Rows.{row-past, column-shown, edits-append}
 use Rattle.jup_world.proofs.Known.{Each-append, Each-first, Each-second, Each-at, known_more, known_other, other_known, own_counts-more, all_changes_more, raw_named-more, raw_last, own_counts-above, named_by-append}
 use Rattle.jup_world.proofs.Pairs.Shown.{own_apart, each_shown, inserts_servers, inherits_clients, told_next, NextOther, next_other}
 
--- a site that is handed an edit, before it pays what it owes
+-- a site that receives an edit, before it pays what it owes
 abbrev pub shown : (O : Operations) → SiteOf O → Msg O.Op → SiteOf O
 shown O site m = record site { board = O.t.after (operation_at O site.end m) site.board; end = end_after O site.end m }
 
@@ -48,7 +48,7 @@ module _ (O : Operations) (L : AreLawful O) (most i : ℕ) (first : O.t.Content)
   next : NextOther O L i past rest s ss
   next = next_other O L i past rest s ss h.rest_named (subst (λ d. Inherits O d (others rest)) down h.down_inherits)
 
-  -- the edits told then
+  -- the edits that have reached the site then
   told_is : edits (told_next O L past rest) ≡ edits past ++ edits (take (through_others 1 rest) rest)
   told_is = edits-append past (take (through_others 1 rest) rest)
 
@@ -56,7 +56,7 @@ module _ (O : Operations) (L : AreLawful O) (most i : ℕ) (first : O.t.Content)
   whole : told_next O L past rest ++ drop (through_others 1 rest) rest ≡ past ++ rest
   whole = append_assoc past (take (through_others 1 rest) rest) (drop (through_others 1 rest) rest) ∙ ap (λ r. past ++ r) (take-append-drop (through_others 1 rest) rest)
 
-  -- the operations still to be handed, after the entry
+  -- the operations still to be delivered, after the entry
   column_next : SameMeaning O ((edits past ++ own_edits rest) ++ O.t.edit_of s ∷ []) (edits (told_next O L past rest) ++ own_edits (drop (through_others 1 rest) rest))
       × Shows O (edits (told_next O L past rest)) (drop (through_others 1 rest) rest) ss
   column_next = subst (λ p. SameMeaning O ((edits past ++ own_edits rest) ++ O.t.edit_of s ∷ []) (p ++ own_edits (drop (through_others 1 rest) rest)) × Shows O p (drop (through_others 1 rest) rest) ss)
@@ -113,7 +113,7 @@ module _ (O : Operations) (L : AreLawful O) (most i : ℕ) (first : O.t.Content)
   received_is : received_operation O.t a.site.end m.heard m.op ≡ server_past_all O s h.site_ahead
   received_is = (client_receives O.t L.lawful h.site_side stepping).0
 
-  -- the message is next, its count may be said, and its operation is valid there
+  -- the message is next, its count may be sent, and its operation is valid there
   pub pair_fits : IsNumber a.site.end m.mine × IsCount a.site.end m.heard × O.t.is_valid (received_operation O.t a.site.end m.heard m.op) a.site.board
   pair_fits = let came = client_receives O.t L.lawful h.site_side stepping in (came.1, came.2, came.3)
 
@@ -141,7 +141,7 @@ module _ (O : Operations) (L : AreLawful O) (most i : ℕ) (first : O.t.Content)
       (after_receive O.t a.site.end m.heard m.op) l.end (ups a.up) f)
       (sym left) (client_receives O.t L.lawful h.site_side stepping).4
 
-  -- it was told no more insertions of its own than it made
+  -- no more insertions of its own have reached it than it made
   own_told : named_by O i i (told_next O L past rest) ≤ a.site.named
   own_told =
       let last = raw_last O L (λ j. named_by O i j past) i (named_by O i i (past ++ rest)) h.raw a.site.named h.raw_named in
@@ -165,7 +165,7 @@ module _ (O : Operations) (L : AreLawful O) (most i : ℕ) (first : O.t.Content)
       known_here : (n : O.t.Name) → IsKnown O (λ k. named_by O i k (told_next O L past rest)) n → IsKnown O new_counts n
       known_here n k = known_more O L (λ j. named_by O i j (told_next O L past rest)) new_counts n (own_counts-above O L i a.site.named (λ j. named_by O i j (told_next O L past rest)) own_told) k
 
-  -- the pair once the site was handed the edit
+  -- the pair once the site received the edit
   pub pair-shown : Paired O most i first (told_next O L past rest) (drop (through_others 1 rest) rest) held mine (link_left l outbox) (shown_at O a m falling)
   unfolding old_counts new_counts
   pair-shown = record {
@@ -217,7 +217,7 @@ module _ (O : Operations) (L : AreLawful O) (most i : ℕ) (first : O.t.Content)
   pub shown_keeps_order : O.t.keeps_order a.site.board (O.t.after (received_operation O.t a.site.end m.heard m.op) a.site.board)
   shown_keeps_order = L.keeps.order a.site.board (received_operation O.t a.site.end m.heard m.op) (client_distinct O.t L.lawful stepping) pair_fits.2
 
-  -- no name that the site knew comes back by an edit that it is handed
+  -- no name that the site knew comes back by an edit that it receives
   pub shown_none_back : (n : O.t.Name) → IsKnown O (own_counts O i a.site.named (λ j. named_by O i j past)) n
       → O.t.holds (O.t.after (received_operation O.t a.site.end m.heard m.op) a.site.board) n → O.t.holds a.site.board n
   unfolding old_counts

@@ -59,7 +59,7 @@ module _ (O : Operations) (L : AreLawful O) where
     raw_is : h.raw ≡ O.t.edit_of m.op ∷ edits_sent O us
     raw_is = sym h.raw_sent ∙ ap (edits_sent O) comes
 
-    -- what it and those after it stand for
+    -- what it and those after it represent
     row : RowStands O (edits past ++ own_edits rest) (c ∷ cs) (O.t.edit_of m.op ∷ edits_sent O us)
     row = subst (λ es. RowStands O (edits past ++ own_edits rest) (c ∷ cs) es) raw_is (subst (λ os. RowStands O (edits past ++ own_edits rest) os h.raw) up h.row)
 
@@ -76,7 +76,7 @@ module _ (O : Operations) (L : AreLawful O) where
     apart = others_apart O L i past rest h.star_ahead c h.rest_named h.down_inherits
         (λ n x. L.next_site i (named_by O i i (past ++ rest)) (O.t.edit_of m.op) n named.0 (inherits.0 n x))
 
-    -- the operations still to be handed, past it
+    -- the operations still to be delivered, past it
     column : Shows O (edits past) (rest ++ Own (O.t.edit_of m.op) ∷ []) (servers_past O h.star_ahead c) × StandsFor O (O.t.edit_of (client_past_all O c h.star_ahead)) (O.t.edit_of m.op) (edits past ++ edits rest)
     column = column-taken O L rest h.star_ahead (edits past) c (O.t.edit_of m.op) apart h.column row.0
 

@@ -40,7 +40,7 @@ same_way n ds os = ap downs (append_assoc ds (take n os) (drop n os) ∙ ap (λ 
 
 module _ (O : Operations) (L : AreLawful O) (most : ℕ) (first : O.t.Content) (s : StarOf O) (mine : List O.Edit) (i joined n : ℕ) (l : LinkState O.Op) (a : AttachedOf O)
     (st : Standing O most first (turns i s.order) s.board mine joined n i l a) (fits : length s.order + most_beyond ≤ most) where
-  -- how many entries it was told, and those, and the others
+  -- how many entries have reached it, and those, and the others
   abbrev pub t : ℕ
   t = told_of O joined n (turns i s.order)
 
@@ -127,7 +127,7 @@ module _ (O : Operations) (L : AreLawful O) (most : ℕ) (first : O.t.Content) (
       turned false e = refl
       turned true e = absurd (cc)
 
-  -- the site is handed an edit
+  -- the site receives an edit
   pub place-shown : (m : Msg O.Op) (gone : ℕ) (falling : List (Down O.Op)) → downs (a.down ++ l.outbox) ≡ sent m ∷ downs (falling ++ drop gone l.outbox)
       → Standing O most first (turns i s.order) s.board mine joined (n + 1) i (link_fetched gone l) (one_handed O (DownOp m) falling a)
   place-shown m gone falling comes =

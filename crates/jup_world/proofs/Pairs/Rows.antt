@@ -21,8 +21,8 @@ edits-append (Own e ∷ ts) us = ap (λ es. e ∷ es) (edits-append ts us)
 edits-append (Other j e ∷ ts) us = ap (λ es. e ∷ es) (edits-append ts us)
 
 module _ (O : Operations) (L : AreLawful O) where
-  -- a server's operation goes through a row: each entry still stands for its edit, and the operation leads from the end of
-  -- the row to the end of the new one
+  -- a server's operation goes through a row: each entry still represents its edit. The operation leads from the end of the
+  -- row to the end of the new one.
   pub row-past : (cs : List O.Op) (es : List O.Edit) (s : O.Op) (after next : List O.Edit)
       → RowStands O after cs es → AllApart O.t cs s → SameMeaning O (after ++ O.t.edit_of s ∷ []) next
       → RowStands O next (clients_past O cs s) es
@@ -43,7 +43,7 @@ module _ (O : Operations) (L : AreLawful O) where
   row-more (d ∷ cs) [] c after h = absurd h
   row-more (d ∷ cs) (e ∷ es) c after h = (h.0, row-more cs es c (after ++ e ∷ []) h.1)
 
-  -- the server takes the site's next operation: it goes through the column, and comes to stand for its edit after the whole order
+  -- the server takes the site's next operation, which goes through the column: it then represents its edit after the whole order
   pub column-taken : (ts : List (Turn O.Edit)) (bs : List O.Op) (told : List O.Edit) (c : O.Op) (e : O.Edit)
       → AllApart O.t bs c → Shows O told ts bs → StandsFor O (O.t.edit_of c) e (told ++ own_edits ts)
       → Shows O told (ts ++ Own e ∷ []) (servers_past O bs c) × StandsFor O (O.t.edit_of (client_past_all O c bs)) e (told ++ edits ts)

@@ -1,4 +1,4 @@
--- The next edit that a site is handed, and what may stand beside a site's own edits.
+-- The next edit that a site receives, and what may be concurrent with a site's own edits.
 use Rattle.std.proofs.Common.{sym, ◌∙◌, inl, inr, ◌≡◌, ℕ, ◌+◌, ◌≤◌, ◌<◌, Bool, true, false, cond, List, [], ◌∷◌, ◌++◌, take, drop, nat_eq, refl, ap, subst, arith, append_assoc, eq-eqb}
 use Rattle.jup_xform.specs.Grid.{AllApart}
 use Rattle.jup_link.specs.declared.Msg.{Msg}
@@ -77,11 +77,11 @@ module _ (O : Operations) (L : AreLawful O) where
   own_apart c i k (o ∷ cs) (e ∷ es) last s h r f =
       (L.apart_from_sites o s (λ m n x y same. f n y (sym same ∙ L.next_site i k e m r.0 (h.0 m x))), own_apart c i (k + O.insertions e) cs es last s h.1 r.3 f)
 
-  -- the entries told once the next was handed
+  -- the entries that have reached the site once the next was delivered
   abbrev pub told_next : List (Turn O.Edit) → List (Turn O.Edit) → List (Turn O.Edit)
   told_next past ts = past ++ take (through_others 1 ts) ts
 
-  -- the next entry of another site: whose it is and what it may name, seen from what the site was told before and after it
+  -- the next entry of another site: whose it is, and what it may name, by the entries that had reached the site before it and after it
   pub record NextOther (i : ℕ) (past ts : List (Turn O.Edit)) (s : O.Op) (ss : List O.Op) : Type 0 where
     pub site : ℕ
     pub edit : O.Edit
@@ -96,7 +96,7 @@ module _ (O : Operations) (L : AreLawful O) where
     pub rest_named : OrderNamed O i (told_next past ts) (drop (through_others 1 ts) ts)
     pub rest_inherits : Inherits O ss (others (drop (through_others 1 ts) ts))
 
-  -- there is one where something is still to be handed
+  -- there is one if something is still to be delivered
   pub next_other : (i : ℕ) (past ts : List (Turn O.Edit)) (s : O.Op) (ss : List O.Op) → OrderNamed O i past ts → Inherits O (s ∷ ss) (others ts) → NextOther i past ts s ss
   next_other i past [] s ss h k = absurd k
   next_other i past (Own f ∷ ts) s ss h k =

@@ -1,4 +1,4 @@
--- A site at its place of the order, as the order grows and as it is handed edits.
+-- A site at its place of the order, as the order grows and as it receives edits.
 use Rattle.std.proofs.Common.{◌≡◌, ℕ, zero, suc, ◌+◌, ◌≤◌, List, [], ◌∷◌, ◌++◌, length, take, drop, ap, sym, ◌∙◌, subst, arith, length-append, length-drop, add-one, Ok, take-append-drop, take-add, drop-drop}
 use Rattle.std.proofs.lemmas.List.{drop-append-le, take-append-le}
 use Rattle.jup_limits.specs.Limits.{most_beyond}
@@ -14,11 +14,11 @@ use Rattle.jup_world.proofs.Pairs.PairMakes.{pair-makes}
 use Rattle.jup_world.proofs.Pairs.Shown.{told_next}
 
 module _ (O : Operations) (L : AreLawful O) where
-  -- a longer order does not move what was told
+  -- a longer order does not change what has reached a site
   pub told_end : (joined n : ℕ) (ts us : List (Turn O.Edit)) → joined ≤ length ts → n ≤ length (others (drop joined ts)) → told_of O joined n (ts ++ us) ≡ told_of O joined n ts
   told_end joined n ts us h k = ap (λ k. joined + k) (ap (through_others n) (drop-append-le joined ts us h) ∙ through-append n (drop joined ts) us k)
 
-  -- what was told is within the order
+  -- what has reached a site is within the order
   pub told_within : (joined n : ℕ) (ts : List (Turn O.Edit)) → joined ≤ length ts → n ≤ length (others (drop joined ts)) → told_of O joined n ts ≤ length ts
   told_within joined n ts h k = omega (arith, through-within n (drop joined ts) k, length-drop joined ts)
 
@@ -31,11 +31,11 @@ module _ (O : Operations) (L : AreLawful O) where
 
   module _ (most : ℕ) (first : O.t.Content) (ts : List (Turn O.Edit)) (held : O.State) (mine : List O.Edit) (joined n i : ℕ) (l : LinkState O.Op) (a : AttachedOf O)
       (h : Standing O most first ts held mine joined n i l a) where
-    -- how many entries it was told
+    -- how many entries have reached it
     t : ℕ
     t = told_of O joined n ts
 
-    -- told and still to be told
+    -- what has reached the site, and what is still to reach it
     halves : take (told_of O joined n ts) ts ++ drop (told_of O joined n ts) ts ≡ ts
     halves = take-append-drop (told_of O joined n ts) ts
 

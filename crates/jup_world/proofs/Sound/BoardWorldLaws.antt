@@ -1,4 +1,4 @@
--- Worlds of boards are sound: as they are opened, after each event, and after want of memory.
+-- Worlds of boards are sound: as they are opened, after each event, and after a failed allocation.
 use Rattle.std.proofs.Common.{◌≡◌, refl, ℕ, ◌+◌, ◌≤◌, sym, subst, List, [], ◌∷◌, arith, Some}
 use Rattle.jup_limits.specs.Limits.{highest_limit}
 use Rattle.jup_batch.specs.BatchBoards.{Windows}
@@ -41,7 +41,7 @@ pub run_sound : (events : List BoardEvent) (w : BoardWorld) → IsBoardWorld w �
 run_sound [] w is = is
 run_sound (e ∷ es) w is = run_sound es (happens board_batches w e) (happens_sound w e is)
 
--- and so does want of memory
+-- and so does a failed allocation
 pub fetched_sound : (w : BoardWorld) (i n : ℕ) (l : BoardLink) (a : BoardAttached) → link_of i w.star.links ≡ Some l → attached i w.sites ≡ Some a
     → IsBoardWorld w → IsBoardWorld (only_fetched board_batches w i n l)
 fetched_sound w i n l a fl fa is = record {

@@ -43,7 +43,7 @@ none_insert p xs n y none new = none_append p (take n xs) (y ∷ drop n xs) (non
 none_remove : {X : Type 0} (p : X → Bool) (xs : List X) (n : ℕ) → list_any p xs ≡ false → list_any p (remove xs n) ≡ false
 none_remove p xs n none = none_append p (take n xs) (drop (suc n) xs) (none_take p xs n none) (none_drop p xs (suc n) none)
 
--- names stay as they are where a value is changed
+-- names stay as they are if a value is changed
 none_relabel : {V : Type 0} (p : Name → Bool) (xs : List (Item V)) (n : ℕ) (v : V) → list_any (λ z. p z.name) xs ≡ false → list_any (λ z. p z.name) (with_value xs n v) ≡ false
 none_relabel p [] n v none = none
 none_relabel p (x ∷ xs) zero v none = none
@@ -56,7 +56,7 @@ none_relabel p (x ∷ xs) (suc n) v none =
 name_eq_self : (n : Name) → name_eq n n ≡ true
 name_eq_self n = and_from (n.site == n.site) (n.number == n.number) (eq-eqb n.site n.site refl) (eq-eqb n.number n.number refl)
 
--- an operation that inserts no name of a site leaves none where there was none
+-- an operation that inserts no name of a site leaves none if there was none
 widget_none : (i : ℕ) (o : WidgetOp) (w : Widget) → ((n : Name) → effects.inserts n (effects.effect_of o) ≡ true → n.site ≡ i → ⊥) → some_in_widget i w ≡ false → some_in_widget i (widget.after o w) ≡ false
 widget_none i (OnText (Insert p y)) (Text x) other none = none_insert (λ z. z.name.site == i) x.items p y none (ne_eqb y.name.site i (other y.name (name_eq_self y.name)))
 widget_none i (OnText (Delete p n)) (Text x) other none = none_remove (λ z. z.name.site == i) x.items p none
@@ -81,7 +81,7 @@ widget_none i (OnSlider o) (Text x) other none = none
 widget_none i (OnSlider o) (Labels x) other none = none
 widget_none i (OnSlider o) (Toggle x) other none = none
 
--- what stands under an id is changed
+-- what an id has is changed
 none_change : {A : Type 0} (p : A → Bool) (f : A → A) (k : ℕ) → ((a : A) → p a ≡ false → p (f a) ≡ false) → (es : List (ℕ × A)) → list_any (λ e. p e.1) es ≡ false → list_any (λ e. p e.1) (change_at k f es) ≡ false
 none_change p f k keeps [] none = refl
 none_change {A = A} p f k keeps (e ∷ es) none = step (e.0 == k) (or_parts (p e.1) (list_any (λ x. p x.1) es) none) (none_change p f k keeps es (or_parts (p e.1) (list_any (λ x. p x.1) es) none).1)
@@ -110,7 +110,7 @@ batch_none i (o ∷ os) b other none =
 
 -- # Layouts
 
--- where each element passes one test, and what passes it fails the other
+-- if each element passes one test, and what passes it fails the other
 all_none : {X : Type 0} (p q : X → Bool) → ((x : X) → p x ≡ true → q x ≡ false) → (xs : List X) → list_all p xs ≡ true → list_any q xs ≡ false
 all_none p q fails [] all = refl
 all_none p q fails (x ∷ xs) all = let both = and_parts (p x) (list_all p xs) all in or_from (q x) (list_any q xs) (fails x both.0) (all_none p q fails xs both.1)

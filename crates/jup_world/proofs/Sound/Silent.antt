@@ -1,4 +1,4 @@
--- Events of which the trace tells nothing that is read off it.
+-- Events of which the trace records nothing that is read off it.
 use Rattle.std.proofs.Common.{◌≡◌, ℕ, ◌+◌, ◌≤◌, List, [], ◌∷◌, ◌++◌, length, ap, sym, ◌∙◌, subst, Option, Some, option_map, append-nil, add-zero, arith}
 use Rattle.jup_window.specs.Operations.{Operations, AreLawful}
 use Rattle.jup_star.proofs.Lookup.{found}
@@ -19,7 +19,7 @@ module _ (O : Operations) (L : AreLawful O) where
   abbrev pub after_event : WorldOf O → StarOf O → List (AttachedOf O) → EventOf O → ReplyOf O → WorldOf O
   after_event w star sites event reply = record { opening = w.opening; star = star; sites = sites; trace = w.trace ++ record { event = event; reply = reply } ∷ [] }
 
-  -- links and sites change, and numbers are given, and the trace tells nothing of it
+  -- links and sites change, and numbers are given, and the trace records nothing of it
   pub sound-silent : (most : ℕ) (w : WorldOf O) (event : EventOf O) (reply : ReplyOf O) (given : ℕ) (links : List (LinkState O.Op)) (sites : List (AttachedOf O))
       → IsSound O most w → IsSilent O event reply → w.star.given ≤ given
       → ((i : ℕ) → StandsAt O most (O.t.content w.opening) (turns i w.star.order) w.star.board (made i w.trace) (joined_at O i w.trace) (shown_count i w.trace) i (found (λ l. l.site) i links) (attached i sites))
@@ -41,7 +41,7 @@ module _ (O : Operations) (L : AreLawful O) where
         no_entry = λ i g. s.no_entry i (omega arith);
       }
 
-  -- a link and its site, if it has one, change, and the trace tells nothing of it
+  -- a link and its site, if it has one, change, and the trace records nothing of it
   pub sound-at : (most : ℕ) (w : WorldOf O) (event : EventOf O) (reply : ReplyOf O) (i : ℕ) (f : LinkState O.Op → LinkState O.Op) (g : AttachedOf O → AttachedOf O) (l : LinkState O.Op) (oa : Option (AttachedOf O))
       → ((k : LinkState O.Op) → (f k).site ≡ k.site) → ((b : AttachedOf O) → (g b).site.number ≡ b.site.number)
       → IsSound O most w → IsSilent O event reply → link_of i w.star.links ≡ Some l → attached i w.sites ≡ oa

@@ -1,4 +1,4 @@
--- A world of which messages were fetched, and no more, is sound: so it is where memory was wanted.
+-- A world of which messages were fetched, and no more, is sound: so a world is sound after a failed allocation.
 use Rattle.std.proofs.Common.{◌≡◌, ℕ, refl, Some, arith}
 use Rattle.jup_window.specs.Operations.{Operations, AreLawful}
 use Rattle.jup_star.specs.LinkStates.{LinkState, link_fetched}

@@ -62,7 +62,7 @@ module _ (O : Operations) (L : AreLawful O) where
         place-asked O L most (O.t.content w.opening) w.star (made i w.trace) i (joined_at O i w.trace) (shown_count i w.trace) l a (standing O L most w s i l a fl fa) fits k us rising
     ponged i l fl k oa fa e Strays = tt
 
-    -- an event, by what it comes to
+    -- an event, by its outcome
     sound-step : (e : EventOf O) (o : Outcome O) → StepOf O w e o → IsSound O most (with_outcome O w e o)
     sound-step e o (Still why) = sound-same O L most w e _ s (still_silent O w why)
     sound-step e o (Enters none) = sound-joined O L most w s (w.star.given + 1) refl
@@ -114,7 +114,7 @@ module _ (O : Operations) (L : AreLawful O) where
   }
 
   module _ (most : ℕ) (w : WorldOf O) (s : IsSound O most w) where
-    -- a site shows what it was told and made means
+    -- a site shows the meaning of what has reached it and of what it made
     pub shows_view : (i : ℕ) (l : LinkState O.Op) (a : AttachedOf O) → Standing O most (O.t.content w.opening) (turns i w.star.order) w.star.board (made i w.trace) (joined_at O i w.trace) (shown_count i w.trace) i l a
         → O.t.content a.site.board ≡ O.t.meaning (O.t.content w.opening) (view O i w.trace)
     shows_view i l a st =
@@ -127,7 +127,7 @@ module _ (O : Operations) (L : AreLawful O) where
         let left : drop (length (own_edits past)) (made i w.trace) ≡ own_edits rest ++ st.pair.raw = ap (drop (length (own_edits past))) mine ∙ drop-append_seam (own_edits past) (own_edits rest ++ st.pair.raw) in
         st.pair.shows ∙ ap (O.t.meaning (O.t.content w.opening)) (append_assoc (edits past) (own_edits rest) st.pair.raw ∙ ap (λ es. edits past ++ es) (sym left) ∙ ap seen (sym s.order_is))
 
-    -- where no message is on its way between them it is level with the star
+    -- if no message is on its way between them it is level with the star
     pub level : (i : ℕ) (l : LinkState O.Op) (a : AttachedOf O) → Standing O most (O.t.content w.opening) (turns i w.star.order) w.star.board (made i w.trace) (joined_at O i w.trace) (shown_count i w.trace) i l a
         → (a.up ≡ []) × (a.down ≡ []) × (l.outbox ≡ []) → a.site.board ≡ w.star.board
     level i l a st q =

@@ -1,4 +1,4 @@
--- A sound world is sound after a site was handed an edit.
+-- A sound world is sound after a site received an edit.
 use Rattle.std.proofs.Common.{◌≡◌, ℕ, ◌+◌, ◌<◌, ◌≤◌, Bool, true, false, cond, List, ◌∷◌, ◌++◌, drop, take, length, nat_eq, refl, ap, sym, ◌∙◌, subst, Some, None, arith, append-nil, add-zero, eq-eqb, ne_eqb, take-append-drop}
 use Rattle.jup_limits.specs.Limits.{most_beyond}
 use Rattle.jup_link.specs.declared.Msg.{Msg}
@@ -32,7 +32,7 @@ module _ (O : Operations) (L : AreLawful O) (most : ℕ) (w : WorldOf O) (s : Is
   pub st : Standing O most (O.t.content w.opening) (turns i w.star.order) w.star.board (made i w.trace) (joined_at O i w.trace) (shown_count i w.trace) i l a
   st = standing O L most w s i l a fl fa
 
-  -- how many entries it was told
+  -- how many entries have reached it
   abbrev pub t : ℕ
   t = told_of O (joined_at O i w.trace) (shown_count i w.trace) (turns i w.star.order)
 
@@ -48,7 +48,7 @@ module _ (O : Operations) (L : AreLawful O) (most : ℕ) (w : WorldOf O) (s : Is
   pub first : (o : O.Op) × (os : List O.Op) × (st.pair.star_ahead ≡ o ∷ os)
   first = first_falling O L st.pair m (downs (falling ++ drop gone l.outbox)) comes
 
-  -- a site that stands is handed nothing that it refuses
+  -- an attached site receives nothing that it refuses
   pub shown_fits : deliver_fault O (DownOp m) a.site ≡ None
   shown_fits = place-fits O L most (O.t.content w.opening) w.star (made i w.trace) i (joined_at O i w.trace) (shown_count i w.trace) l a st order_room (DownOp m) gone falling comes
 

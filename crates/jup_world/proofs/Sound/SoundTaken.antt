@@ -72,7 +72,7 @@ module _ (O : Operations) (L : AreLawful O) (most : ℕ) (w : WorldOf O) (s : Is
     showns : (j : ℕ) → shown_count j (w.trace ++ h ∷ []) ≡ shown_count j w.trace
     showns j = shown-end j w.trace h ∙ ap (λ k. shown_count j w.trace + k) (brought_shown O w brought (Taken (length w.star.order)) j) ∙ add-zero (shown_count j w.trace)
 
-    -- what the trace tells of a site stays
+    -- what the trace says of a site stays the same
     renamed : (j : ℕ) (ol : Option (LinkState O.Op)) (oa : Option (AttachedOf O)) → Stands j (made j w.trace) (joined_at O j w.trace) (shown_count j w.trace) ol oa
         → Stands j (made j (w.trace ++ h ∷ [])) (joined_at O j (w.trace ++ h ∷ [])) (shown_count j (w.trace ++ h ∷ [])) ol oa
     renamed j ol oa g =
@@ -80,7 +80,7 @@ module _ (O : Operations) (L : AreLawful O) (most : ℕ) (w : WorldOf O) (s : Is
         (subst (λ k. Stands j (made j w.trace) k (shown_count j (w.trace ++ h ∷ [])) ol oa) (sym (joined-end O j w.trace h ∙ brought_join O w brought (Taken (length w.star.order)) j _ _))
         (subst (λ n. Stands j (made j w.trace) (joined_at O j w.trace) n ol oa) (sym (showns j)) g))
 
-    -- so the world is sound, if the order is the one that the trace tells, and the site stands
+    -- so the world is sound, if the order is the one that the trace gives, and the site and its link are sound
     sound-brought : order_of O (w.trace ++ h ∷ []) ≡ w.star.order ++ entry O i m ∷ []
         → Stands i (made i w.trace) (joined_at O i w.trace) (shown_count i w.trace) (Some (link_heard O m l)) (option_map (one_taken O) oa)
         → IsSound O most (after_event O L w (taken O i (UpOp m) l w.star) (at_site i (one_taken O) w.sites) e (Taken (length w.star.order)))

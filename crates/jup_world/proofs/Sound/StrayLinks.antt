@@ -1,4 +1,4 @@
--- The links without a site are those that the trace tells to be strangers'.
+-- The links without a site are those of strangers, by the trace.
 use Rattle.std.specs.Prelude.{is_some, ◌&&◌}
 use Rattle.std.proofs.Common.{◌≡◌, ℕ, ◌+◌, ◌≤◌, Bool, true, false, cond, not, ◌||◌, List, [], ◌∷◌, ◌++◌, map, nat_eq, refl, ap, sym, ◌∙◌, subst, Option, Some, None, option_map, arith, eq-eqb, ne_eqb}
 use Rattle.jup_window.specs.Operations.{Operations, AreLawful}
@@ -103,7 +103,7 @@ module _ (O : Operations) (L : AreLawful O) where
         (λ j e. subst (λ o. LinkedAt O (is_stray j w.trace || nat_eq (w.star.given + 1) j) o (attached j w.sites)) (sym (found-end_other (λ x. x.site) j w.star.links (opened_link (w.star.given + 1)) e))
         (subst (λ b. LinkedAt O b (link_of j w.star.links) (attached j w.sites)) (sym (or_false (is_stray j w.trace) (nat_eq (w.star.given + 1) j) e)) (k.links j)))
 
-    -- an event, by what it comes to
+    -- an event, by its outcome
     strays-step : (e : EventOf O) (o : Outcome O) → StepOf O w e o → KnowsStrays O (with_outcome O w e o)
     strays-step e o (Still why) = unseen e o (λ j. still_unseen w j e _ why) (omega arith) k.links
     strays-step e o (Enters none) = unseen e o (λ j. refl) (omega arith) entered
@@ -126,7 +126,7 @@ module _ (O : Operations) (L : AreLawful O) where
     pub strays-happens : (e : EventOf O) → KnowsStrays O (happens O w e)
     strays-happens e = strays-step e (outcome O w e) (step_of O w e)
 
-    -- want of memory
+    -- a failed allocation
     pub strays-fetched : (i m : ℕ) (l : LinkState O.Op) → KnowsStrays O (only_fetched O w i m l)
     strays-fetched i m l = record { links = changed i (link_fetched m) (λ x. x) (with_fetched O m l) (λ x. refl) (λ x. refl) (λ b. refl); new = k.new }
 
@@ -140,7 +140,7 @@ module _ (O : Operations) (L : AreLawful O) where
       cases b (Some l) None k = sym (ap not k)
       cases b (Some l) (Some a) k = sym (ap not k)
 
-  -- where no event was one of a stranger, no number is a stranger's
+  -- if no event was one of a stranger, no number is a stranger's
   plain_unseen : (j : ℕ) (e : EventOf O) (r : ReplyOf O) → IsPlain O e → stray_seen j e r ≡ false
   plain_unseen j JoinStray r plain = absurd plain
   plain_unseen j e r plain = refl

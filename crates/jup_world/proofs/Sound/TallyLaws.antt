@@ -41,13 +41,13 @@ each-more : {A : Type 0} (P Q : A → Type 0) (y : A) → ((a : A) → P a → Q
 each-more P Q y h [] each last = (last, tt)
 each-more P Q y h (x ∷ xs) each last = (h x each.0, each-more P Q y h xs each.1 last)
 
--- one event more gives its numbers
+-- one more event gives its numbers
 pub given-end : {Command Operation Edit Fault : Type 0} (hs : List (Happened Command Operation Edit Fault)) (h : Happened Command Operation Edit Fault) → numbers_given (hs ++ h ∷ []) ≡ numbers_given hs + gives h.reply
 given-end [] h = omega arith
 given-end (g ∷ hs) h = omega (arith, given-end hs h)
 
 module _ (O : Operations) where
-  -- the trace with an event more
+  -- the trace with one more event
   abbrev noted : WorldOf O → EventOf O → ReplyOf O → List (Happened O.Command O.Op O.Edit ℕ)
   noted w e r = w.trace ++ record { event = e; reply = r } ∷ []
 
@@ -114,7 +114,7 @@ module _ (O : Operations) where
   gone_gives w StrayLeaves = refl
   gone_gives w (IsDropped up fault brought f) = refl
 
-  -- an event, by what it comes to
+  -- an event, by its outcome
   step_tally : (w : WorldOf O) → Each (CountsItsEdits O w.trace) w.sites → made (w.star.given + 1) w.trace ≡ [] → (e : EventOf O) (o : Outcome O) → StepOf O w e o → IsTallyOf w e o
   step_tally w all new e o (Still why) = same_tally w e _ (still_silent O w why).no_edit (still_gives w why) all
   step_tally w all new e o (Enters none) = (
@@ -150,7 +150,7 @@ module _ (O : Operations) where
         made = tally.1;
       }
 
-  -- want of memory
+  -- a failed allocation
   pub tallied-fetched : (w : WorldOf O) → IsTallied O w → (i n : ℕ) (l : LinkState O.Op) → IsTallied O (only_fetched O w i n l)
   tallied-fetched w is i n l = record {
     given = is.given;

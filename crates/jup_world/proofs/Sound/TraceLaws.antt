@@ -27,7 +27,7 @@ module _ {Command Operation Edit Fault : Type 0} where
   made-end i [] h = append-nil (edit_made i h.event h.reply)
   made-end i (g ∷ hs) h = ap (λ es. edit_made i g.event g.reply ++ es) (made-end i hs h) ∙ sym (append_assoc (edit_made i g.event g.reply) (made i hs) (edit_made i h.event h.reply))
 
-  -- and the edit that was handed
+  -- and the edit that was delivered
   pub shown-end : (i : ℕ) (hs : List (Happened Command Operation Edit Fault)) (h : Happened Command Operation Edit Fault) → shown_count i (hs ++ h ∷ []) ≡ shown_count i hs + was_shown i h.event h.reply
   shown-end i [] h = omega arith
   shown-end i (g ∷ hs) h = omega (arith, shown-end i hs h)
@@ -67,7 +67,7 @@ edits-turns i j (r ∷ rs) = both (nat_eq r.site i) (nat_eq r.site j) (edits-tur
     both false true ih = ap (λ es. r.edit ∷ es) ih
     both false false ih = ap (λ es. r.edit ∷ es) ih
 
--- further entries do not move what was told
+-- further entries do not change what has reached a site
 pub through-append : {Edit : Type 0} → (n : ℕ) (ts us : List (Turn Edit)) → n ≤ length (others ts) → through_others n (ts ++ us) ≡ through_others n ts
 through-append zero ts us h = refl
 through-append (suc n) [] us h = absurd (omega arith)

@@ -1,4 +1,4 @@
--- An attached site is refused nothing but an edit by a full order.
+-- Only a full order refuses an attached site anything, and that is an edit.
 use Rattle.std.proofs.Common.{◌≡◌, ℕ, List, ◌∷◌, ◌++◌, drop, ap, subst, Some, None}
 use Rattle.jup_link.specs.InStep.{InStepAt}
 use Rattle.jup_link.specs.Laws.LinkSteps.{client_counts, server_counts}
@@ -21,7 +21,7 @@ use Rattle.jup_world.proofs.Sound.SoundShown.{shown_fits}
 
 module _ (O : Operations) (L : AreLawful O) where
   module _ (most : ℕ) (w : WorldOf O) (s : IsSound O most w) (i : ℕ) (l : LinkState O.Op) (a : AttachedOf O) (fl : link_of i w.star.links ≡ Some l) (fa : attached i w.sites ≡ Some a) where
-    -- the oldest message of an attached site's up stream is taken where it is an acknowledgement
+    -- the oldest message of an attached site's up stream is taken if it is an acknowledgement
     pub ack_fits : (n : ℕ) (us : List (Up O.Op)) → a.up ≡ UpAck n ∷ us → up_fault O w.star l (UpAck n) ≡ None
     ack_fits n us e = acked (standing O L most w s i l a fl fa)
       where

@@ -1,4 +1,4 @@
--- Where a site of a world stands, and the order that the trace tells once the star took its edit.
+-- Where a site of a world is, and the order that the trace gives once the star took its edit.
 use Rattle.std.proofs.Common.{◌≡◌, ℕ, ◌+◌, ◌≤◌, Bool, true, false, cond, List, [], ◌∷◌, ◌++◌, drop, length, nat_eq, refl, ap, sym, ◌∙◌, subst, Option, Some, None, arith, eqb-true, take-append-drop}
 use Rattle.std.proofs.Math.Seq.{drop-append_seam}
 use Rattle.jup_limits.specs.Limits.{most_beyond}

@@ -32,7 +32,7 @@ use jup_xform::NoMemory;
 use std::alloc::Global;
 use std::marker::PhantomData;
 
-/// A site, what it sent that the star has not taken, and what was fetched for it that it was not handed,
+/// A site, what it sent that the star has not taken, and what was fetched for it that it has not received,
 /// each oldest first.
 #[derive(Drop)]
 pub struct Attached {
@@ -65,14 +65,14 @@ fn reply_to_take(place: Option<u32>) -> Reply
     }
 }
 
-/// Where the site of a number stands.
+/// Where the site of a number is.
 pub(crate) fn place_of(sites: &[Attached], number: u32) -> Option<usize>
     requires { (most : ℕ) × AreAscending 0 most (map bare_attached sites.now) }
     ensures place { MatchOption result (attached number (map bare_attached sites.now) ≡ None)
         (λ at. IsSiteAt number (map bare_attached sites.now) at) }
     ensures below { IfSome result (λ at. at < length sites.now) }
 {
-    // Mostly each site from the first on is attached, so that the place is known.
+    // Usually each site from the first on is attached, so its place is known.
     let first = sites.first().map_or(0, |attached| attached.site.number());
     let likely = number.saturating_sub(first) as usize;
     if stands_at(sites, likely, number) {
@@ -81,7 +81,7 @@ pub(crate) fn place_of(sites: &[Attached], number: u32) -> Option<usize>
     first_of(sites, number)
 }
 
-// Whether the site of a number stands at a place.
+// Whether the site of a number is at a place.
 fn stands_at(sites: &[Attached], at: usize, number: u32) -> bool
     requires { (most : ℕ) × AreAscending 0 most (map bare_attached sites.now) }
     ensures { IsTrue result → IsSiteAt number (map bare_attached sites.now) at }
@@ -246,8 +246,8 @@ impl Attached {
         Ok(reply_to_take(place))
     }
 
-    /// Moves the oldest message on its way down: fetches it if the down stream is empty, and hands it to
-    /// the site. Where memory is refused, it may have been fetched, and some of its bytes moved.
+    /// Moves the oldest message on its way down: fetches it if the down stream is empty, and hands it to the
+    /// site. If an allocation fails, it may have been fetched, and some of its bytes moved.
     pub fn move_down(&mut self, alloc: Global, star: &mut Star) -> Result<Reply, NoMemory>
         requires linked { is_some (link_of self.old.site.number star.old.links) ≡ true }
         requires fits { (l : BoardLink) → link_of self.old.site.number star.old.links ≡ Some l
@@ -356,7 +356,7 @@ impl Attached {
     }
 
     /// Moves up to so many bytes of the down stream, which is filled first if it has none, to the site's
-    /// reader. Where memory is refused, a message may have been fetched.
+    /// reader. If an allocation fails, a message may have been fetched.
     pub(crate) fn push_down(
         &mut self,
         alloc: Global,

@@ -20,7 +20,7 @@ use jup_xform::NoMemory;
 use std::alloc::Global;
 use std::marker::PhantomData;
 
-/// Memory was refused in a run, after so many events, which stand.
+/// An allocation failed in a run, after so many events, which remain.
 #[derive(Clone, Copy, Debug, PartialEq, Eq)]
 pub struct Halted {
     pub done: usize,
@@ -71,9 +71,9 @@ impl World {
         Ok(())
     }
 
-    /// Delivers all messages, in rounds: in each, for each attached site ascending `Up` until that answers
-    /// `Nothing`, and then for each ascending `Down` until that does. It ends after a round of `Nothing`
-    /// alone. Its events stand in the trace; where memory is refused, those before it do.
+    /// Delivers all messages, in rounds. Each round calls `Up` for each attached site, ascending, until that
+    /// answers `Nothing`, and then `Down` likewise. It ends after a round of `Nothing` alone. The trace has
+    /// its events; if an allocation fails, it has those before the failure.
     pub fn drain(&mut self, alloc: Global) -> Result<(), NoMemory>
         ensures rounds { OnOk result (IsDrained self.old self.new) }
         ensures delivered { OnOk result (IsDelivered self.old self.new) }

@@ -17,7 +17,7 @@ use jup_window::Command;
 use jup_xform::NoMemory;
 use std::alloc::Global;
 
-/// Plays one event. Where memory is refused, a message may have been fetched into an empty down stream, and
+/// Plays one event. If an allocation fails, a message may have been fetched into an empty down stream, and
 /// bytes may have been moved on the way that the event moves.
 pub(crate) fn happen(
     alloc: Global,
@@ -178,7 +178,7 @@ fn move_up(
     }
 }
 
-// A site is handed the oldest message on its way down.
+// A site receives the oldest message on its way down.
 fn move_down(
     alloc: Global,
     star: &mut Star,

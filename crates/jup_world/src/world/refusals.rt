@@ -1,4 +1,4 @@
-//! Refusals apart from want of memory.
+//! Refusals other than those because an allocation failed.
 ghost use Rattle.std.specs.Prelude.{◌≡◌, true, false, IfOk, OnErr};
 ghost use Rattle.jup_star.specs.StarCalls.{is_no_memory};
 ghost use Rattle.jup_star.specs.SiteCalls.{is_edit_memory};
@@ -7,7 +7,7 @@ use jup_star::StarFault;
 use jup_window::EditFault;
 use jup_xform::NoMemory;
 
-/// A refusal of an edit that is not for want of memory.
+/// A refusal of an edit, unless an allocation failed.
 pub(crate) fn edit_refusal(fault: EditFault) -> Result<EditFault, NoMemory>
     ensures same { IfOk result (λ refusal. refusal ≡ fault) }
     ensures other { IfOk result (λ refusal. is_edit_memory fault ≡ false) }
@@ -28,7 +28,7 @@ pub(crate) fn edit_refusal(fault: EditFault) -> Result<EditFault, NoMemory>
     }
 }
 
-/// A refusal of the star that is not for want of memory.
+/// A refusal of the star, unless an allocation failed.
 pub fn star_refusal(fault: StarFault) -> Result<StarFault, NoMemory>
     ensures same { IfOk result (λ refusal. refusal ≡ fault) }
     ensures other { IfOk result (λ refusal. is_no_memory fault ≡ false) }

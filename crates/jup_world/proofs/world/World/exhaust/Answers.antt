@@ -20,7 +20,7 @@ pub returns-clause-moved : goal.returns-clause-moved
 returns-clause-moved c =
     settles_last c.loop-moved.moved c.in_ok-move_one.field-0 _ _ _ c.loop-moved.invariant.0 c.in_ok-move_one.ensures.moved c.if-branch.false
 
--- a site is found where it is attached
+-- a site is found if it is attached
 there : (w : LaneWorld) (i : ℕ) (found : Option (Bor BoardSite)) → option_map (λ x. x.now) found ≡ option_map (λ x. x.site) (lane_site i w.sites) → is_some (lane_site i w.sites) ≡ is_some found
 there w i found is = sym (map_some (λ x. x.site) (lane_site i w.sites)) ∙ ap is_some (sym is) ∙ map_some (λ x. x.now) found
 

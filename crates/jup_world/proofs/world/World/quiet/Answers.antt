@@ -9,7 +9,7 @@ use Rattle.jup_world.proofs.Lanes.LaneSites.{messages_map}
 use Rattle.jup_world.proofs.Lanes.LaneWorldLaws.{still_quiet}
 use Rattle.jup_world.proofs.world.World.quiet.Goals as goal
 
--- the test tells whether no message is on its way
+-- the test answers whether no message is on its way
 test : (c : goal.After-are_quiet) → IsTrue c.are_quiet.result ↔ AllQuiet c.self.inside.star (messages_of (the_view c.self.inside)).sites
 test c =
     let is : IsTrue c.are_quiet.result ↔ AllQuiet c.self.inside.star (map bare_attached c.self.inside.sites.items) = rw c.deref.ensures.value at c.are_quiet.ensures in

@@ -1,4 +1,4 @@
--- A message that has begun, and the line behind it.
+-- A message that has begun, and the line after it.
 use Rattle.std.proofs.Common.{◌≡◌, ℕ, ◌-◌, ◌<◌, false, List, [], ◌∷◌, ◌++◌, length, Some, refl, sym, ap, subst, ◌∙◌, arith, lit≤}
 use Rattle.std.specs.Prelude.{IsTrue, map, replicate}
 use Rattle.std.proofs.lemmas.Bool.{false≢true}
@@ -26,7 +26,7 @@ same_dos (o ∷ os) (p ∷ ps) x y same e =
     let rest = same_dos os ps x y (omega (arith, same)) (cc) in
     (let first : o ≡ p = cc in cc, rest.1)
 
--- behind fewer operations than a message has stands one more
+-- after fewer operations than a message has, one more follows
 next_is_do : (os ps : List BoardOp) (line : Line) (x y : List Line) → length os < length ps → dos os ++ line ∷ x ≡ dos ps ++ y → (op : BoardOp) × (line ≡ Do op)
 next_is_do os [] line x y lt e = absurd (omega (arith, lt))
 next_is_do [] (p ∷ ps) line x y lt e = (p, cc)

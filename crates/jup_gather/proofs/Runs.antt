@@ -14,7 +14,7 @@ use Rattle.jup_gather.proofs.Begun.{no_part}
 pub at_first : HasGathered [] [] (Some [])
 at_first = record { sound = tt; rest = (refl, no_part) }
 
--- a piece is complete behind others
+-- a piece is complete after others
 complete : (lines part : List Line) (pieces : List Piece) (piece : Piece) (line : Line) → AllByRecursion IsPiece pieces → lines ≡ all_lines pieces ++ part
     → IsPiece piece → part ++ line ∷ [] ≡ piece_lines piece → HasGathered (lines ++ line ∷ []) (pieces ++ piece ∷ []) (Some [])
 complete lines part pieces piece line sound come is whole = record {
@@ -70,7 +70,7 @@ gathers_cases (Some part) new line Misplaced lines pieces step has =
     } in
     subst (λ h. HasGathered (lines ++ line ∷ []) (pieces ++ []) h) (sym step.1) (still _ pieces None stopped)
 
--- what holds of the lines so far holds with one line more
+-- what holds of the lines so far holds with one more line
 pub gathers_on : (held new : Option (List Line)) (line : Line) (gathered : Gathered) → Gathers held line gathered new → (lines : List Line) (pieces : List Piece) → HasGathered lines pieces held
     → HasGathered (lines ++ line ∷ []) (pieces ++ pieces_of gathered) new
 gathers_on held new line gathered step lines pieces has = gathers_cases held new line gathered lines pieces step has

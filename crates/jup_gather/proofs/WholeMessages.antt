@@ -15,7 +15,7 @@ use Rattle.jup_gather.specs.Gathering.{Gathers, GathersAll}
 use Rattle.jup_gather.proofs.Begun.{dos}
 use Rattle.jup_gather.proofs.OneGathering.{one_piece, part_begins_none}
 
--- what a line of a message comes to, by the lines behind it
+-- what a line of a message gives, by the lines after it
 Comes : Msg (List BoardOp) → List Line → Line → List Line → Gathered → Option (List Line) → Type 0
 Comes m part line [] gathered new = (gathered ≡ Whole m) × (new ≡ Some [])
 Comes m part line (next ∷ rest) gathered new = (gathered ≡ Held) × (new ≡ Some (part ++ line ∷ []))

@@ -1,4 +1,4 @@
--- What a line comes to, behind those that are held.
+-- What a line gives, after those that are held.
 use Rattle.std.specs.Prelude.{◌≡◌, ◌≤◌, IsTrue, List, [], ◌∷◌, ◌++◌, Option, Some, None}
 use Rattle.jup_wire.specs.declared.line.Line.{Line}
 use Rattle.jup_wire.specs.declared.line.Line.TheVariants.{Batch}
@@ -6,7 +6,7 @@ use Rattle.jup_gather.specs.declared.gathered.Gathered.{Gathered}
 use Rattle.jup_gather.specs.declared.gathered.Gathered.TheVariants.{Whole, Plain, Held, Misplaced}
 use Rattle.jup_gather.specs.Pieces.{Piece, Message, Alone, message_lines, stands_alone, IsPiece, IsPart, HasNoPlace}
 
--- behind the lines that were held, the line comes to this, and these are held then
+-- after the lines that were held, the line gives this, and these are held then
 abbrev pub Gathers : Option (List Line) → Line → Gathered → Option (List Line) → Type 0
 Gathers None line gathered new = (gathered ≡ Misplaced) × (new ≡ None)
 Gathers (Some part) line (Whole m) new = IsPiece (Message m) × (part ++ line ∷ [] ≡ message_lines m) × (new ≡ Some [])
@@ -26,7 +26,7 @@ pieces_of (Plain line) = Alone line ∷ []
 pieces_of Held = []
 pieces_of Misplaced = []
 
--- what lines come to one by one, and what is held behind the last
+-- what lines give one by one, and what is held after the last
 abbrev pub GathersAll : Option (List Line) → List Line → List Gathered → Option (List Line) → Type 0
 GathersAll old [] [] new = new ≡ old
 GathersAll old [] (gathered ∷ others) new = ⊥

@@ -1,4 +1,4 @@
--- The lines of a link as what they say: messages of several lines, and lines that stand alone.
+-- The lines of a link by what they say: messages of several lines, and lines that stand alone.
 use Rattle.std.specs.Prelude.{◌≡◌, ◌≢◌, Bool, true, false, IsTrue, List, [], ◌∷◌, ◌++◌, length, map, Option, MatchOption}
 use Rattle.std.specs.List.{flat_map, AllByRecursion}
 use Rattle.jup_link.specs.declared.Msg.{Msg}
@@ -30,11 +30,11 @@ abbrev pub IsPiece : Piece → Type 0
 IsPiece (Message m) = IsCount (length m.op)
 IsPiece (Alone line) = IsTrue (stands_alone line)
 
--- the lines of pieces, one behind the other
+-- the lines of pieces, one after the other
 abbrev pub all_lines : List Piece → List Line
 all_lines pieces = flat_map piece_lines pieces
 
--- lines that begin a message, of which some are missing; it has not begun where there is none
+-- lines that begin a message, of which some are missing; it has not begun if there is none
 pub record IsPart (part : List Line) : Type 0 where
   pub message : Msg (List BoardOp)
   pub rest : List Line
@@ -46,11 +46,11 @@ pub record IsPart (part : List Line) : Type 0 where
 abbrev pub BeginsNone : List Line → Type 0
 BeginsNone lines = (piece : Piece) (later : List Line) → IsPiece piece → lines ≢ piece_lines piece ++ later
 
--- whatever comes behind it, a line makes no piece of such a part
+-- whatever comes after it, a line makes no piece of such a part
 abbrev pub HasNoPlace : List Line → Line → Type 0
 HasNoPlace part line = (more : List Line) → BeginsNone (part ++ line ∷ more)
 
--- behind pieces and a part a line has no place
+-- after pieces and a part a line has no place
 pub record IsMisplaced (lines : List Line) (pieces : List Piece) : Type 0 where
   pub part : List Line
   pub line : Line
@@ -59,7 +59,7 @@ pub record IsMisplaced (lines : List Line) (pieces : List Piece) : Type 0 where
   pub no_place : HasNoPlace part line
   pub come : lines ≡ all_lines pieces ++ (part ++ line ∷ more)
 
--- these lines are pieces, and then a part of a message that is held; nothing is held where a line is misplaced
+-- these lines are pieces, and then a part of a message that is held; nothing is held if a line is misplaced
 pub record HasGathered (lines : List Line) (pieces : List Piece) (held : Option (List Line)) : Type 0 where
   pub sound : AllByRecursion IsPiece pieces
   pub rest : MatchOption held (IsMisplaced lines pieces) (λ part. (lines ≡ all_lines pieces ++ part) × IsPart part)

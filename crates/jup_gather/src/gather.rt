@@ -51,8 +51,8 @@ impl Gather {
 
     /// Takes the next line. Once a line is misplaced, so is every later one.
     ///
-    /// Memory is asked for the operations of a batch of two or more, at its first line. Where it is refused nothing
-    /// changes.
+    /// It takes memory for the operations of a batch of two or more, at its first line. If an allocation fails,
+    /// nothing changes.
     pub fn push(&mut self, alloc: Global, line: &Line) -> Result<Gathered, NoMemory>
         ensures step { IfOk result (λ gathered. Gathers self.old line.now gathered self.new) }
         // Whatever came before: the messages and lines given so far are those of all the lines so far.

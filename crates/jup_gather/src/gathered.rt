@@ -1,10 +1,10 @@
-//! What lines come to.
+//! What lines give.
 
 use jup_batch::BoardBatch;
 use jup_link::Msg;
 use jup_wire::Line;
 
-/// What a line comes to, behind those before it.
+/// What a line gives, after those before it.
 #[derive(Debug, Drop, PartialEq, Eq)]
 pub enum Gathered {
     /// It is the last line of this message.

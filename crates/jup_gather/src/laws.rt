@@ -9,13 +9,13 @@ ghost use Rattle.jup_gather.specs.declared.gathered.Gathered.TheVariants.{Held, 
 ghost use Rattle.jup_gather.specs.Pieces.{Piece, Message, message_lines, IsPiece, HasGathered};
 ghost use Rattle.jup_gather.specs.Gathering.{GathersAll};
 
-/// Lines are gathered in one way: what they say and what is held behind them is determined.
+/// Lines are gathered in one way: what they say and what is held after them is determined.
 pub fn one_gathering()
     ensures { (lines : List Line) (ps qs : List Piece) (held other : Option (List Line))
         → HasGathered lines ps held → HasGathered lines qs other → (ps ≡ qs) × (held ≡ other) }
 {}
 
-/// The lines of a message, where none is held, are all held but the last, which gives that message.
+/// If no line is held, each line of a message is held except the last, which gives the message.
 pub fn message_comes_whole()
     ensures { (m : Msg (List BoardOp)) (answers : List Gathered) (new : Option (List Line))
         → IsPiece (Message m) → GathersAll (Some []) (message_lines m) answers new

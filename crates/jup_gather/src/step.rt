@@ -29,7 +29,7 @@ pub(crate) enum State {
     Stopped,
 }
 
-/// What is held behind a line, and what the line came to.
+/// What is held after a line, and what the line came to.
 #[derive(Drop)]
 pub(crate) struct Step {
     pub(crate) state: State,
@@ -58,7 +58,7 @@ impl Step {
     }
 }
 
-/// A batch line where nothing is held.
+/// A batch line if nothing is held.
 fn begin_message(alloc: Global, mine: u32, heard: u32, count: u32) -> Result<Step, NoMemory>
     ensures step { IfOk result (λ step. Gathers (Some []) (lines.Batch mine heard count) step.gathered (held step.state)) }
     ensures refused { OnErr result (2 ≤ count) }
@@ -82,7 +82,7 @@ fn begin_message(alloc: Global, mine: u32, heard: u32, count: u32) -> Result<Ste
     })
 }
 
-/// A line where nothing is held.
+/// A line if nothing is held.
 pub(crate) fn begin(alloc: Global, line: Line) -> Result<Step, NoMemory>
     ensures step { IfOk result (λ step. Gathers (Some []) line step.gathered (held step.state)) }
     ensures refused { OnErr result (AsksMemory line) }
@@ -97,7 +97,7 @@ pub(crate) fn begin(alloc: Global, line: Line) -> Result<Step, NoMemory>
     }
 }
 
-/// An operation behind a message that has begun.
+/// An operation after a message that has begun.
 fn take(part: Part, op: BoardOp) -> Step
     ensures { Gathers (Some (part_lines part)) (lines.Do op) result.gathered (held result.state) }
 {
@@ -127,7 +127,7 @@ fn take(part: Part, op: BoardOp) -> Step
     }
 }
 
-/// A line behind a message that has begun. It takes no memory.
+/// A line after a message that has begun. It takes no memory.
 pub(crate) fn go_on(part: Part, line: Line) -> Step
     ensures { Gathers (Some (part_lines part)) line result.gathered (held result.state) }
 {

@@ -1,4 +1,4 @@
--- A message that is read where it stands, before the reader is given its bytes.
+-- A message that is read in place, before the reader is given its bytes.
 use Rattle.std.proofs.Common.{◌≡◌, ◌≢◌, ◌⊎◌, ℕ, ◌-◌, ◌≤◌, inl, inr, List, [], ◌∷◌, ◌++◌, length, take, drop, Some, refl, sym, ap, subst, ◌∙◌, append_assoc, append-nil, arith, ◌+◌, length-take, length-drop, length-append, take-append-drop}
 use Rattle.std.specs.Prelude.{◌↔◌}
 use Rattle.std.specs.List.{flat_map, AllByRecursion}
@@ -67,7 +67,7 @@ down_oldest m len bytes begins =
 pub moved-zero : (w : Way) → moved 0 w ≡ w
 moved-zero w = same_ways (moved 0 w) w (append-nil w.read) refl
 
--- a place within, and what is written behind
+-- a place within, and what is written after
 pub moved-sent : (k : ℕ) (bytes : List ℕ) (w : Way) → k ≤ length w.stream → moved k (sent bytes w) ≡ sent bytes (moved k w)
 moved-sent k bytes w le = same_ways (moved k (sent bytes w)) (sent bytes (moved k w)) (ap (λ t. w.read ++ t) (take-append-le k w.stream bytes le)) (drop-append-le k w.stream bytes le)
 
@@ -87,7 +87,7 @@ module _ {Message : Type 0} (C : Codec Message) where
   grown [] m now e k is = inl is
   grown (x ∷ ms) m now e k is = inr (is ∙ sym (ap (oldest_length C) e))
 
-  -- and stay so where a message is written
+  -- and stay so when a message is written
   pub sent_ahead : (k : ℕ) (bytes : List ℕ) (w now : Way) (m : Message) → IsAhead C k w → now ≡ sent bytes w → messages C now ≡ messages C w ++ m ∷ [] → IsAhead C k now
   sent_ahead k bytes w now m (inl none) is e = inl none
   sent_ahead k bytes w now m (inr stands) is e =
@@ -166,7 +166,7 @@ module _ {Message : Type 0} (C : Codec Message) where
   whole_oldest [] read m whole = absurd cc
   whole_oldest (x ∷ ms) read m whole = (ms, ap (λ t. t ∷ ms) (sym whole.0))
 
-  -- dropping it where it stands hands it over
+  -- dropping it in place hands it over
   pub dropped_there : (k : ℕ) (w : Way) (m : Message) → Stands C k w → IsWhole C (moved k w) (Some m)
       → (handed_over k w ≡ handed_over (length (bytes_of C m)) (moved k w)) × (messages C (moved k w) ≡ m ∷ drop 1 (messages C w))
   dropped_there k w m stands whole =
@@ -191,7 +191,7 @@ module _ {Message : Type 0} (C : Codec Message) (L : IsCodec C) where
   pub stream_is : (w : Way) → Carries C w → w.read ≡ [] → w.stream ≡ flat_map spelling (flat_map C.lines (messages C w))
   stream_is w carries none = sym (ap (λ t. t ++ w.stream) none) ∙ carries.bytes ∙ bytes_are C L (messages C w)
 
-  -- the oldest message is handed over, or none where there is none
+  -- the oldest message is handed over, or none if there is none
   handed_oldest : (w : Way) (count : ℕ) (ms : List Message) → Carries C w → messages C w ≡ ms → count ≡ oldest_length C ms → Carries C (handed_over count w) × (messages C (handed_over count w) ≡ drop 1 ms)
   handed_oldest w count [] carries e is =
       let none : 0 - length w.read ≡ 0 = omega arith in
@@ -201,7 +201,7 @@ module _ {Message : Type 0} (C : Codec Message) (L : IsCodec C) where
       let now = carried-handed C L w m ms carries e in
       (subst (λ n. Carries C (handed_over n w)) (sym is) now.1, ap (λ n. messages C (handed_over n w)) is ∙ now.0)
 
-  -- so it is where the reader has no byte
+  -- so it is if the reader has no byte
   pub record Dropped (w now : Way) : Type 0 where
     pub carries : Carries C now
     pub left : messages C now ≡ drop 1 (messages C w)

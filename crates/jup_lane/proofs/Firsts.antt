@@ -67,7 +67,7 @@ single_there (a ∷ b ∷ rest) mine heard count op ops x y long first second ba
 
 -- ---- lines that begin those of messages
 
--- what begins some lines, where a piece's lines are the first of them and of those behind
+-- what begins some lines, if a piece's lines are the first of them and of those after
 IsPieceThere : Piece → List Line → Option Gathered → Type 0
 IsPieceThere piece there None = length there < length (piece_lines piece)
 IsPieceThere piece there (Some (Whole m)) = (piece ≡ Message m) × (length (piece_lines piece) ≤ length there)

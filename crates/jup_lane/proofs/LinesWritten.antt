@@ -1,4 +1,4 @@
--- The lines of a message, written one behind another.
+-- The lines of a message, written one after another.
 use Rattle.std.proofs.Common.{◌≡◌, ℕ, zero, suc, ◌+◌, ◌*◌, ◌<◌, ◌≤◌, get_or, List, [], ◌∷◌, ◌++◌, length, sym, ap, ◌∙◌, append-nil, arith, length-append}
 use Rattle.std.specs.Prelude.{IsTrue, ◌↔◌, vec_len, vec_capacity}
 use Rattle.std.specs.Global.{Vec}
@@ -35,7 +35,7 @@ begun old now line left exact is e grown room short few =
       room = omega (arith, long, was, now_is, grown, room, short (exact.0 is), few);
     }
 
--- one line more
+-- one more line
 pub more : (old mid now : Vec ℕ) (lines : List Line) (line : Line) (left : ℕ) → HasWritten old mid lines (suc left) → (IsTrue (is_spelled line) ↔ HasSpelling line) → IsTrue (is_spelled line)
     → now.items ≡ mid.items ++ line_bytes line → length (line_bytes line) ≤ 106 → vec_capacity mid ≤ vec_capacity now → HasWritten old now (lines ++ line ∷ []) left
 more old mid now lines line left before exact is e short grown =

@@ -30,7 +30,7 @@ part_none : (part : List ℕ) → IsPart part → lines_in part ≡ []
 unfolding lines_behind
 part_none part is = ap (λ t. lines_behind t []) (sym (append-nil part)) ∙ text_on part [] [] (open-part part (recursion_from_All (λ byte. byte ≢ 10) part is.open_ended))
 
--- the next line feed stands no later than one that is there
+-- the next line feed is no later than one that is there
 feed_before : (before after : List ℕ) → next_feed (before ++ 10 ∷ after) ≤ length before
 feed_before [] after = le_refl 0
 feed_before (b ∷ before) after =
@@ -89,7 +89,7 @@ module _ {Message : Type 0} (C : Codec Message) (L : IsCodec C) where
       let on = on_the_way w.read w.stream tray all p (lines_spelled C L (messages C w) is.spelled) read (is.bytes ∙ bytes_are C L (messages C w)) in
       (on.1.0, sym on.1.1)
 
-  -- where it has the bytes of the oldest message, it gave its lines
+  -- if it has the bytes of the oldest message, it gave its lines
   lines_there : (w : Way) (tray : List Line) (p : Progress) (m : Message) (ms : List Message) → Carries C w → p.fault ≡ None → HasRead w.read tray p → messages C w ≡ m ∷ ms
       → length (bytes_of C m) ≤ length w.read → length (C.lines m) ≤ length tray
   lines_there w tray p m ms is none read first le =
@@ -102,7 +102,7 @@ module _ {Message : Type 0} (C : Codec Message) (L : IsCodec C) where
       let long = ap length lines ∙ length-append (C.lines m) (lines_in (drop n w.read)) in
       omega (arith, long)
 
-  -- and where it gave its lines, it has its bytes
+  -- and if it gave its lines, it has its bytes
   bytes_there : (w : Way) (tray : List Line) (p : Progress) (m : Message) (ms : List Message) → Carries C w → p.fault ≡ None → HasRead w.read tray p → messages C w ≡ m ∷ ms
       → length (C.lines m) ≤ length tray → length (bytes_of C m) ≤ length w.read
   bytes_there w tray p m ms is none read first le =
@@ -135,7 +135,7 @@ module _ {Message : Type 0} (C : Codec Message) (L : IsCodec C) where
 
   -- # Towards the oldest message
 
-  -- where some of its bytes are not read, a line feed stands ahead, and not behind its end
+  -- if some of its bytes are not read, a line feed is ahead, and not after its end
   feed_ahead : (w : Way) (m : Message) (ms : List Message) → Carries C w → messages C w ≡ m ∷ ms → length w.read < length (bytes_of C m)
       → (next_feed w.stream < length w.stream) × (length w.read + (next_feed w.stream + 1) ≤ length (bytes_of C m))
   feed_ahead w m ms is first lt =
@@ -154,7 +154,7 @@ module _ {Message : Type 0} (C : Codec Message) (L : IsCodec C) where
   pub towards-start : (w : Way) → IsTowards C w w
   towards-start w = record { count = 0; is = sym (moved-none w); within = omega arith; short = inl refl }
 
-  -- nothing is on its way where there is no message
+  -- nothing is on its way if there is no message
   none_ahead : (w : Way) → Carries C w → messages C w ≡ [] → (w.read ≡ []) × (w.stream ≡ [])
   none_ahead w is none = parts w.read w.stream (is.bytes ∙ ap (λ t. bytes_of_all C t) none)
     where
@@ -206,7 +206,7 @@ module _ {Message : Type 0} (C : Codec Message) (L : IsCodec C) where
           ] in
           (ms, first, to.is ∙ ap (λ k. moved k old) count)
 
-  -- where a search has ended, it is
+  -- if a search has ended, it is
   pub filled-there : (old w : Way) (first : Option Message) → Carries C old → IsTowards C old w → IsWhole C w first → (first ≡ None → ⊥) → IsFilled C old w first
   filled-there old w None is to whole there = absurd (there refl)
   filled-there old w (Some m) is to whole there = filled-some old w m is to whole

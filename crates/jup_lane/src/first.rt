@@ -29,7 +29,7 @@ pub(crate) fn single_in(bytes: &[u8]) -> Option<(Msg<BoardBatch>, usize)>
     Some((msg, single.len))
 }
 
-/// Whether lines of the first message are missing, as the first line tells.
+/// Whether lines of the first message are missing, as the first line says.
 pub(crate) fn is_short(there: &VecDeque<Line>) -> bool
     ensures { IsTrue result → BeginsNone there.now.items }
 {

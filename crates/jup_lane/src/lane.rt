@@ -12,9 +12,9 @@ use std::marker::Model;
 
 /// One way of a link, as a queue of messages whose store is bytes.
 ///
-/// Contracts see the bytes that the reader was given and those in the stream (`Way` of `specs/Lanes`), and
-/// the messages that all of them are. A message that is read where it stands in the stream, with no reader, counts as
-/// given to the reader.
+/// Contracts see the bytes that the reader was given and those in the stream (`Way` of `specs/Lanes`), and the
+/// messages that all of them are. A message that is read in the stream itself, with no reader, counts as given to the
+/// reader.
 #[derive(Drop)]
 pub struct Lane<M: Message> {
     track: Track<M>,
@@ -67,8 +67,8 @@ impl<M: Message> Lane<M> {
         self.track.send(message);
     }
 
-    /// The oldest message. Those of its bytes that the reader has not are moved first; where memory is
-    /// refused, some may have been moved.
+    /// The oldest message. Those of its bytes that the reader has not are moved first; if an allocation
+    /// fails, some may have been moved.
     pub fn first(&mut self, alloc: Global) -> Result<Option<M>, NoMemory>
         ensures first { IfOk result (λ first. IsFilled (codec M.Message) self.old.way self.new.way first) }
         ensures whole { IfOk result (λ first. IsWhole (codec M.Message) self.new.way first) }
@@ -83,7 +83,7 @@ impl<M: Message> Lane<M> {
         self.track.first(alloc)
     }
 
-    // The oldest message, if it can be read where it stands. Its bytes count as given to the reader then.
+    // The oldest message, if it can be read in place. Its bytes count as given to the reader then.
     fn read_ahead(&mut self) -> Option<M>
         ensures first { IfSome result (λ message. IsFilled (codec M.Message) self.old.way self.new.way (Some message)) }
         ensures whole { IfSome result (λ message. IsWhole (codec M.Message) self.new.way (Some message)) }
@@ -111,7 +111,7 @@ impl<M: Message> Lane<M> {
         }
     }
 
-    /// Moves the oldest bytes of the stream into the reader, up to so many, and tells how many.
+    /// Moves the oldest bytes of the stream into the reader, up to so many, and answers how many.
     pub fn push(&mut self, alloc: Global, most: u32) -> Result<usize, NoMemory>
         ensures count { IfOk result (λ count. count ≡ min most (length self.old.way.stream)) }
         ensures ok { IfOk result (λ count. self.new.way ≡ moved count self.old.way) }
@@ -130,7 +130,7 @@ impl<M: Message> Lane<M> {
         self.track.as_slice().len() == self.ahead
     }
 
-    /// Whether no byte is on its way, which is where no message is.
+    /// Whether no byte is on its way, which is so exactly if no message is.
     pub fn is_idle(&self) -> bool
         ensures idle { IsTrue result ↔ IsIdle self.now.way }
         ensures messages { IsTrue result ↔ (messages (codec M.Message) self.now.way ≡ []) }

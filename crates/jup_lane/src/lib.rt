@@ -1,8 +1,8 @@
 //! The two ways of a link as bytes.
 //!
-//! A [`Lane`] is one way: a queue of messages whose store is bytes. What is sent is written into its stream by
-//! `jup_wire`; bytes are moved from there to its reader, any number at a time; and a message is handed over once
-//! the reader has all its bytes. A [`Message`] is one line or several.
+//! A [`Lane`] is one way: a queue of messages whose store is bytes. `jup_wire` writes what is sent into its
+//! stream. Bytes are moved from there to its reader, any number at a time. A message is handed over once the
+//! reader has all its bytes. A [`Message`] is one line or several.
 #![tactic(auto)]
 
 ghost use Rattle.jup_lane.specs.Codecs.{IsCodec};

@@ -20,7 +20,7 @@ use std::collections::VecDeque;
 /// No batch line has a longer spelling.
 const LONGEST_BATCH: usize = 31;
 
-/// No message has a longer spelling: a batch line, and 32 lines more.
+/// No message has a longer spelling: a batch line, and 32 more lines.
 pub const MOST_MESSAGE: usize = LONGEST_BATCH + MOST_OPERATIONS as usize * LONGEST;
 
 /// What a link carries: a message of one line or of several.
@@ -52,23 +52,23 @@ pub trait Message: Drop {
         ensures capacity { vec_capacity out.old ≤ vec_capacity out.new };
 
     /// The message that begins some bytes, which are those of messages that have a spelling, and how many bytes it
-    /// has; none where that cannot be told without gathering lines.
+    /// has; none if that cannot be decided without gathering lines.
     fn read(bytes: &[u8]) -> Option<(Self, usize)>
         ensures { IfSome result (λ x. (ms : List Self) → AllByRecursion is_spelled ms
             → bytes.now ≡ flat_map spelling (flat_map lines ms) → IsOldest lines x.0 x.1 ms) };
 
-    /// Whether lines of the first message are missing, as can be told without gathering them.
+    /// Whether lines of the first message are missing, as can be decided without gathering them.
     fn is_short(there: &VecDeque<Line>) -> bool
         ensures { IsTrue result → (ms : List Self) (more : List Line) → AllByRecursion is_spelled ms
             → there.now.items ++ more ≡ flat_map lines ms → IsFirst lines there.now.items ms None };
 
-    /// The message that begins some lines, which begin those of messages that have a spelling; none where not
+    /// The message that begins some lines, which begin those of messages that have a spelling; none if not
     /// all of its lines are there.
     fn first(alloc: Global, there: &VecDeque<Line>) -> Result<Option<Self>, NoMemory>
         ensures { IfOk result (λ first. (ms : List Self) (more : List Line) → AllByRecursion is_spelled ms
             → there.now.items ++ more ≡ flat_map lines ms → IsFirst lines there.now.items ms first) };
 
-    /// Of how many lines it is.
+    /// How many lines it has.
     fn count(&self) -> usize
         ensures { result ≡ length (lines self.now) };
 }

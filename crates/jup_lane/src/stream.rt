@@ -52,7 +52,7 @@ impl Stream {
         self.as_slice().is_empty()
     }
 
-    /// Makes room for so many bytes more.
+    /// Makes room for so many more bytes.
     pub(crate) fn reserve(&mut self, more: usize) -> Result<(), NoMemory>
         ensures bytes { self.new.bytes ≡ self.old.bytes }
         ensures ok { OnOk result (more ≤ self.new.spare) }
@@ -74,7 +74,7 @@ impl Stream {
         }
     }
 
-    /// Writes a message behind the others. It takes no memory.
+    /// Writes a message after the others. It takes no memory.
     pub(crate) fn write<M: Message>(&mut self, message: &M)
         requires may_go { M.may_go message.now }
         requires room { MOST_MESSAGE ≤ self.old.spare }

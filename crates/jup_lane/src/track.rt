@@ -18,8 +18,8 @@ use std::alloc::Global;
 use std::collections::VecDeque;
 use std::marker::{Model, PhantomData};
 
-/// A queue of messages whose store is bytes: those in its stream, the part of a line that its reader holds, and
-/// the lines that were read and not handed over, which are its tray.
+/// A queue of messages whose store is bytes. These are the bytes in its stream, the part of a line that its
+/// reader holds, and those of its tray: the lines that were read and not handed over.
 #[derive(Drop)]
 pub(crate) struct Track<M: Message> {
     tray: VecDeque<Line>,
@@ -53,7 +53,7 @@ fn push_spelled(tray: &mut VecDeque<Line>, text: &[u8]) -> Result<(), NoMemory>
     Ok(())
 }
 
-// Where the next line feed stands.
+// Where the next line feed is.
 fn feed_ahead(stream: &[u8]) -> Option<usize>
     ensures place { MatchOption result (length stream.now ≤ next_feed stream.now) (λ at. at ≡ next_feed stream.now) }
     ensures within { IfSome result (λ at. at < length stream.now) }
@@ -143,8 +143,8 @@ impl<M: Message> Track<M> {
         Ok(())
     }
 
-    /// The oldest message. Those of its bytes that the reader has not are moved first; where memory is
-    /// refused, some may have been moved.
+    /// The oldest message. Those of its bytes that the reader has not are moved first; if an allocation
+    /// fails, some may have been moved.
     pub(crate) fn first(&mut self, alloc: Global) -> Result<Option<M>, NoMemory>
         ensures first { IfOk result (λ first. IsFilled (codec M.Message) self.old.way self.new.way first) }
         ensures whole { IfOk result (λ first. IsWhole (codec M.Message) self.new.way first) }
@@ -183,7 +183,7 @@ impl<M: Message> Track<M> {
         self.stream.drop_front(count);
     }
 
-    // Moves the bytes of the oldest message line by line, while its first line tells that lines of it are missing. So its lines are mostly
+    // Moves the bytes of the oldest message line by line, while its first line says that lines of it are missing. So its lines are mostly
     // gathered once.
     fn fill(&mut self, alloc: Global) -> Result<(), NoMemory>
         ensures towards { IsTowards (codec M.Message) self.old.way self.new.way }
@@ -198,7 +198,7 @@ impl<M: Message> Track<M> {
         Ok(())
     }
 
-    // Whether the first line of the oldest message tells that lines of it are missing.
+    // Whether the first line of the oldest message says that lines of it are missing.
     fn is_short(&self) -> bool
         ensures { IsTrue result → IsWhole (codec M.Message) self.now.way None }
     {
@@ -226,13 +226,13 @@ impl<M: Message> Track<M> {
             self.take_in(alloc, at + 1)?;
             return Ok(true);
         };
-        // The reader holds no part of a line, so this one is read where it stands.
+        // The reader holds no part of a line, so this one is read in place.
         push_spelled(&mut self.tray, &self.stream.as_slice()[..at])?;
         self.stream.drop_front(at + 1);
         Ok(true)
     }
 
-    /// Moves the oldest bytes of the stream into the reader, up to so many, and tells how many.
+    /// Moves the oldest bytes of the stream into the reader, up to so many, and answers how many.
     pub(crate) fn push(&mut self, alloc: Global, most: u32) -> Result<usize, NoMemory>
         ensures count { IfOk result (λ count. count ≡ min most (length self.old.way.stream)) }
         ensures ok { IfOk result (λ count. self.new.way ≡ moved count self.old.way) }
@@ -253,7 +253,7 @@ impl<M: Message> Track<M> {
         self.stream.is_empty()
     }
 
-    /// Whether no byte is on its way, which is where no message is.
+    /// Whether no byte is on its way, which is so exactly if no message is.
     pub(crate) fn is_idle(&self) -> bool
         ensures idle { IsTrue result ↔ IsIdle self.now.way }
         ensures messages { IsTrue result ↔ (messages (codec M.Message) self.now.way ≡ []) }

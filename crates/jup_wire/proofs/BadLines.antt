@@ -1,4 +1,4 @@
--- What is wrong with a line that is none.
+-- What is wrong with bytes that are no line.
 use Rattle.std.proofs.Common.{◌≡◌, ℕ, cond, eqb, List, ◌∷◌, ◌++◌, Option, Some, None, sym, ap, subst, ◌∙◌, inl, inr, ◌<◌, ◌^◌}
 use Rattle.std.specs.Prelude.{decimal, codes}
 use Rattle.std.specs.Str.{bytes_eq}

@@ -9,7 +9,7 @@ use Rattle.jup_number.proofs.Numbers.{IsValueOf, Continues, value_ends}
 use Rattle.jup_wire.proofs.Numbers.{number_takes, number_of_none, number_of_zeros, number_from_value, digits_of_decimal}
 use Rattle.jup_wire.proofs.Splits.{lacks, lacks-append, split_parts, split_again, split_lacks}
 
--- a field, by where its separator stands
+-- a field, by where its separator is
 after_split : {A : Type 0} → (List ℕ → Option A) → Option (List ℕ × List ℕ) → Option (A × List ℕ)
 after_split read None = None
 after_split read (Some parts) = with_rest parts.1 (read parts.0)
@@ -39,7 +39,7 @@ pub field_none : (separator : ℕ) (bytes : List ℕ) → lacks separator bytes 
 unfolding after_split
 field_none separator bytes open_ended = by_split number_of separator bytes ∙ ap (after_split number_of) (split_lacks separator bytes open_ended)
 
--- one byte more that is no separator
+-- one more byte that is no separator
 pub lacks_more : (separator : ℕ) (bytes : List ℕ) (at : ℕ) → at < length bytes → lacks separator (take at bytes) ≡ true → (get_or bytes at 0 ≡ separator → ⊥) → lacks separator (take (at + 1) bytes) ≡ true
 lacks_more separator bytes at lt open_ended other =
     let byte = get_or bytes at 0 in
@@ -57,7 +57,7 @@ longer separator (b ∷ before) after (suc at) open_ended =
     let rest = longer separator before after at p.1 in
     omega (arith, rest)
 
--- where a digit does not go on, no number stands before the separator
+-- if a digit does not continue the number, no number comes before the separator
 pub field_ends : (separator : ℕ) (bytes : List ℕ) (at value : ℕ) → at < length bytes → (get_or bytes at 0 ≡ separator → ⊥) → lacks separator (take at bytes) ≡ true
     → IsValueOf (take at bytes) value → (Continues value (get_or bytes at 0) → ⊥) → field_of separator number_of bytes ≡ None
 unfolding after_split

@@ -105,7 +105,7 @@ tested read text Is limit reader test = record {
   short = λ a is. reader.short a is.1;
 }
 
--- the same where the test decides what is read, and that is shorter
+-- the same if the test decides what is read, and that is shorter
 refined : {A : Type 0} (read : List ℕ → Option A) (text : A → List ℕ) (Is : A → Type 0) (limit : ℕ) → IsReader read text Is limit
     → (test : A → Bool) (Passes : A → Type 0) → ((a : A) → Decides (test a) (Passes a)) → ((a : A) → Passes a → Is a) → (less : ℕ) → ((a : A) → Passes a → length (text a) ≤ less)
     → IsReader (λ bytes. read bytes >>= λ a. cond (test a) (Some a) None) text Passes less
@@ -183,7 +183,7 @@ name_field name is = lacks-append 32 (decimal name.site) (46 ∷ decimal name.nu
 
 -- ---- signed numbers
 
--- what a minus stands before
+-- what a minus comes before
 abbrev below : ℕ → Option ℤ
 below n = cond (ltb 0 n && leb n (2 ^ 31)) (Some (neg_ℤ (pos n))) None
 

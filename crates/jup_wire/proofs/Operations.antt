@@ -25,7 +25,7 @@ use Rattle.jup_wire.proofs.Leaves.{tested, lacks-decimal, number_reader, scalar_
 number_field : IsField 32 decimal IsU32
 number_field = lacks-decimal 32 (lit≤ tt)
 
--- a test for one whole word, and another reader where it fails
+-- a test for one whole word, and another reader if it fails
 pub word_or : {B : Type 0} (text : B → List ℕ) (Is : B → Type 0) (word : List ℕ) (b : B) → Is b → word ≡ text b → (other : Option B) (bytes : List ℕ) (x : B)
     → (other ≡ Some x → Is x × (bytes ≡ text x)) → cond (bytes_eq bytes word) (Some b) other ≡ Some x → Is x × (bytes ≡ text x)
 word_or text Is word b is spelled other bytes x takes e =

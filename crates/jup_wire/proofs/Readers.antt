@@ -25,7 +25,7 @@ within m le r = record { takes = r.takes; again = r.again; one_line = r.one_line
 abbrev pub IsField : {A : Type 0} → ℕ → (A → List ℕ) → (A → Type 0) → Type 0
 IsField {A} separator text Is = (a : A) → Is a → lacks separator (text a) ≡ true
 
--- ---- a field and what stands after it
+-- ---- a field and what comes after it
 
 pub field_takes : {A : Type 0} (separator : ℕ) (read : List ℕ → Option A) (text : A → List ℕ) (Is : A → Type 0) (limit : ℕ) → IsReader read text Is limit
     → (bytes : List ℕ) (x : A × List ℕ) → field_of separator read bytes ≡ Some x → Is x.0 × (bytes ≡ text x.0 ++ separator ∷ x.1)
@@ -61,9 +61,9 @@ module _ {A B : Type 0} (separator : ℕ) (first : List ℕ → Option A) (first
     short = λ x is. omega (arith, length-append (first_text x.0) (separator ∷ second_text x.1), one.short x.0 is.0, two.short x.1 is.1);
   }
 
--- ---- a word and what stands behind it
+-- ---- a word and what comes after it
 
--- what the reader reads behind the word is spelled by the word, a space and what was read
+-- what the reader reads after the word is spelled by the word, a space and what was read
 abbrev pub TakesBehind : {B : Type 0} → (B → List ℕ) → (B → Type 0) → List ℕ × (List ℕ → Option B) → Type 0
 TakesBehind {B} text Is entry = (rest : List ℕ) (b : B) → entry.1 rest ≡ Some b → Is b × (entry.0 ++ 32 ∷ rest ≡ text b)
 

@@ -23,7 +23,7 @@ number_there separator bytes rest n e = field_takes separator number_of decimal 
 pub id_there : (bytes rest : List ℕ) (n : ℕ) → field_of 32 id_of bytes ≡ Some (n, rest) → IsId n × (bytes ≡ decimal n ++ 32 ∷ rest)
 id_there bytes rest n e = field_takes 32 id_of decimal IsId 5 id_reader bytes (n, rest) e
 
--- two fields, one behind the other
+-- two fields, one after the other
 pub two_fields : (bytes first middle second rest : List ℕ) (between behind : ℕ) → bytes ≡ first ++ between ∷ middle → middle ≡ second ++ behind ∷ rest → bytes ≡ (first ++ between ∷ second) ++ behind ∷ rest
 two_fields bytes first middle second rest between behind e next = e ∙ ap (λ t. first ++ between ∷ t) next ∙ sym (append_assoc first (between ∷ second) (behind ∷ rest))
 
@@ -43,7 +43,7 @@ batch_there bytes head r1 r2 r3 foot rest mine heard headed footed e one two las
 
 -- ---- the line of an operation on a text
 
--- the word of its kind stands before its fields
+-- the word of its kind comes before its fields
 joined : (op : SeqOp ℕ) → join_with_byte 32 (codes "text" ∷ seq_fields decimal op) ≡ codes "text " ++ join_with_byte 32 (seq_fields decimal op)
 joined (Insert place item) = refl
 joined (Delete place name) = refl
@@ -77,7 +77,7 @@ both_lines first second bytes middle rest len one two long =
     let all : length bytes ≡ length lines + length rest = ap length stands ∙ length-append lines rest in
     record { spelled = (one.0, (two.0, tt)); rest = rest; stands = stands; long = omega (arith, long, all) }
 
--- what stands behind both is no longer than all
+-- what comes after both is no longer than all
 pub left_within : (first second : Line) (bytes middle rest : List ℕ) → BeginsWith first middle bytes → BeginsWith second rest middle → length rest ≤ length bytes
 left_within first second bytes middle rest one two =
     let all = ap length one.1 ∙ length-append (spelling first) middle in

@@ -1,4 +1,4 @@
--- Where a separator stands.
+-- Where a separator is.
 use Rattle.std.proofs.Common.{◌≡◌, ◌==◌, ℕ, suc, ◌+◌, ◌-◌, ◌<◌, ◌≤◌, Bool, true, false, not, ◌&&◌, cond, List, [], ◌∷◌, ◌++◌, length, get_or, take, drop, le_refl, Option, Some, None, refl, sym, ap, subst, ◌∙◌, arith, inl, inr, add-one}
 use Rattle.memchr.specs.Find.{IsFirstByte, is_byte}
 use Rattle.std.specs.Prelude.{position}
@@ -84,7 +84,7 @@ found_place separator bytes (Some k) found =
     position_or_len_is (λ b. b == separator) bytes k 0 (let high = n.high in omega (arith, high)) (λ j lt. false_from_ne_true (get_or bytes j 0 == separator) (n.before j (omega arith) lt)) (λ lt. found.1) in
     sym (cond-true _ (Some (place separator bytes)) None (lt-ltb _ _ (let high = n.high in omega (arith, here, high))) ∙ ap Some here)
 
--- what is left behind a place, as a range gives it
+-- what is left after a place, as a range gives it
 pub range_from : (bytes : List ℕ) (k : ℕ) → take (length bytes - k) (drop k bytes) ≡ drop k bytes
 range_from bytes k = take_all (length bytes - k) (drop k bytes) (omega (arith, length-drop k bytes))
 

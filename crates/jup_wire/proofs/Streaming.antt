@@ -46,7 +46,7 @@ lacks_all separator (b ∷ bytes) none =
     rest f None e = refl
     rest f (Some parts) e = absurd (none_is_some (f parts) (sym e))
 
--- a text of more than 255 bytes is too long, whatever comes behind it
+-- a text of more than 255 bytes is too long, whatever comes after it
 pub long_text : (text more : List ℕ) → All (λ byte. byte ≢ 10) text → 255 < length text → Faults LongLine (text ++ more) []
 long_text text more open_ended long = record {
   told = take 256 text;
@@ -74,13 +74,13 @@ pub ends_there : (text piece : List ℕ) (r : Result Line WireFault) → IsPart 
 ends_there text piece r part same found bad =
     ends_is text r part (subst (λ (t : List ℕ). IfOk r (λ line. HasSpelling line × (t ≡ line_text line))) same found) (subst (λ (t : List ℕ). IfErr r (λ fault. IsBad fault t)) same bad)
 
--- a part and a text behind it
+-- a part and a text after it
 pub both_open : (part text : List ℕ) → IsPart part → All (λ byte. byte ≢ 10) text → All (λ byte. byte ≢ 10) (part ++ text)
 both_open part text is open_ended = All-append (λ byte. byte ≢ 10) part text is.open_ended open_ended
 
 -- ---- lines, one after another
 
--- one line more
+-- one more line
 pub one_line_more : (bytes left text behind : List ℕ) (lines : List Line) (line : Line) → bytes ≡ flat_map spelling lines ++ left → left ≡ text ++ 10 ∷ behind → text ≡ line_text line
     → bytes ≡ flat_map spelling (lines ++ line ∷ []) ++ behind
 one_line_more bytes left text behind lines line before cut is =
@@ -89,7 +89,7 @@ one_line_more bytes left text behind lines line before cut is =
     ∙ ap (λ (t : List ℕ). (flat_map spelling lines ++ t) ++ behind) (sym (append-nil (spelling line)))
     ∙ ap (λ (t : List ℕ). t ++ behind) (sym (flat_map-append spelling lines (line ∷ [])))
 
--- or a fault behind the lines
+-- or a fault after the lines
 pub fault_behind : (bytes left text behind : List ℕ) (lines : List Line) (fault : WireFault) → bytes ≡ flat_map spelling lines ++ left → left ≡ text ++ 10 ∷ behind
     → ((more : List ℕ) → Faults fault (text ++ 10 ∷ more) []) → Faults fault bytes lines
 fault_behind bytes left text behind lines fault before cut faults =
@@ -104,7 +104,7 @@ rest_behind bytes rest left lines (Some fault) spelled before read =
     let f = read.rest in
     record { spelled = spelled; rest = record { told = f.told; more = f.more; faulty = f.faulty; stream = before ∙ ap (stream_of lines) f.stream } }
 
--- ---- a piece behind a part
+-- ---- a piece after a part
 
 -- its first line
 pub first_line : (part piece text behind : List ℕ) (none lines : List Line) (line : Line) → none ≡ [] → piece ≡ text ++ 10 ∷ behind → part ++ text ≡ line_text line → lines ≡ none ++ line ∷ []
@@ -122,7 +122,7 @@ first_fault part piece text behind left none fault empty cut faults =
       rest = fault_behind (part ++ piece) (part ++ piece) (part ++ text) behind [] fault refl (ap (λ (t : List ℕ). part ++ t) cut ∙ sym (append_assoc part text (10 ∷ behind))) faults;
     })
 
--- the lines behind its first, up to a fault
+-- the lines after its first, up to a fault
 pub then_fault : (bytes whole rest left : List ℕ) (lines : List Line) (fault : Option WireFault) → is_some fault ≡ true → bytes ≡ whole → ReadsTo whole lines fault rest
     → HasRead bytes lines (record { part = left; fault = fault })
 then_fault bytes whole rest left lines None some same reads = absurd (false≢true some)

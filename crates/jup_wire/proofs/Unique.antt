@@ -21,7 +21,7 @@ use Rattle.std.proofs.lemmas.List.Elements.{recursion_from_All}
 use Rattle.std.proofs.lemmas.List.Concat.{flat_map-cons}
 use Rattle.jup_wire.proofs.WholeLines.{line_reader}
 
--- what stands before the first line feed, and what comes after it
+-- what comes before the first line feed, and what comes after it
 pub before_feed : (s t x y : List ℕ) → lacks 10 s ≡ true → lacks 10 t ≡ true → s ++ 10 ∷ x ≡ t ++ 10 ∷ y → (s ≡ t) × (x ≡ y)
 before_feed s t x y ls lt e = some_pair_parts s t x y (sym (split_again 10 s x ls) ∙ ap (split_of 10) e ∙ split_again 10 t y lt)
 
@@ -35,11 +35,11 @@ one a b x y l m is_l is_m e =
 
 -- ---- where a stream goes on
 
--- what a reader meets first in the bytes behind the lines that it has read: the text of a whole line, if a line feed is among 256 bytes
+-- what a reader meets first in the bytes after the lines that it has read: the text of a whole line, if a line feed is among 256 bytes
 abbrev pub next_text : List ℕ → Option (List ℕ × List ℕ)
 next_text rest = split_of 10 (take 256 rest)
 
--- the fault that is told there
+-- the fault that the reader reports there
 abbrev told_at : Option (List ℕ × List ℕ) → ℕ → Option WireFault
 told_at (Some parts) len = Some (refusal_of (version_of parts.0))
 told_at None len = cond (ltb len 256) None (Some LongLine)
@@ -133,7 +133,7 @@ fault_stops EarlyEnd told more bad = absurd bad
 
 -- ---- one reading
 
--- the lines, and where the stream stops behind them
+-- the lines, and where the stream stops after them
 pub record Read (bytes : List ℕ) (lines : List Line) (fault : Option WireFault) : Type 0 where
   pub spelled : AllByRecursion HasSpelling lines
   pub rest : List ℕ
@@ -187,7 +187,7 @@ goes_on (l ∷ ls) (m ∷ ms) x left all_g all_s e =
     let q = goes_on ls ms x left all_g.1 all_s.1 p.2 in
     (q.0, ap (λ (k : Line). k ∷ ms) (sym p.0) ∙ ap (λ (t : List Line). l ∷ t) q.1, q.2, q.3)
 
--- a fault is told in no stream of lines
+-- no stream of lines has a fault
 no_fault : (fault : WireFault) (told more : List ℕ) (rest : List Line) → IsFaulty fault told → AllByRecursion HasSpelling rest → told ++ more ≡ flat_map spelling rest → ⊥
 no_fault fault told more [] faulty all e =
     none-some fault (nothing_stops.tells ∙ ap (λ (t : List ℕ). told_at (next_text t) (length t)) (sym e) ∙ sym (fault_stops fault told more faulty).tells)

@@ -27,7 +27,7 @@ number_field = lacks-decimal 32 (lit≤ tt)
 id_field : IsField 32 decimal IsId
 id_field n lt = lacks-decimal 32 (lit≤ tt) n (omega (arith, lt))
 
--- ---- what stands behind the first word
+-- ---- what comes after the first word
 
 welcome_rest : IsReader (pair_of 32 number_of number_of) (λ x. decimal x.0 ++ 32 ∷ decimal x.1) (λ x. IsU32 x.0 × IsU32 x.1) 21
 welcome_rest = pair_reader 32 number_of decimal IsU32 10 number_reader number_of decimal IsU32 10 number_reader number_field refl

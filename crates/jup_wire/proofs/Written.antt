@@ -69,7 +69,7 @@ minus z n fits is lt =
     let same = to_z-of_z w32 z fits in
     ap (λ (k : ℕ). 45 ∷ decimal k) (is ∙ ap unsigned_abs same) ∙ below_zero z (ap (λ (y : ℤ). lt_z y (pos 0)) (sym same) ∙ lt)
 
--- fields with a space between them are the first, and each other behind a space
+-- fields with a space between them are the first, and each other after a space
 pub joined : (field : List ℕ) (others : List (List ℕ)) → join_with_byte 32 (field ∷ others) ≡ field ++ after_spaces others
 joined field [] = sym (append-nil field)
 joined field (other ∷ others) = ap (λ (t : List ℕ). field ++ 32 ∷ t) (joined other others)

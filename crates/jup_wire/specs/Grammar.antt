@@ -136,7 +136,7 @@ is_spelled (Batch mine heard count) = is_count count
 is_spelled (Do op) = relabels_no_text op.op
 is_spelled line = true
 
--- what is written for a line: its spelling, and nothing where it has none
+-- what is written for a line: its spelling, and nothing if it has none
 abbrev pub line_bytes : Line → List ℕ
 line_bytes line = if is_spelled line then spelling line else []
 

@@ -67,7 +67,7 @@ count_of bytes = number_of bytes >>= λ n. if is_count n then Some n else None
 unfoldable pub scalar_of : List ℕ → Option ℕ
 scalar_of bytes = number_of bytes >>= λ n. if scalar n then Some n else None
 
--- a signed number: a minus stands before a number that is not 0
+-- a signed number: a minus comes before a number that is not 0
 unfoldable pub int_of : List ℕ → Option ℤ
 int_of bytes = if slice_index bytes 0 == 45
     then (number_of (drop 1 bytes) >>= λ n. if nat_lt 0 n && nat_le n (2 ^ 31) then Some (neg_ℤ (pos n)) else None)
@@ -85,7 +85,7 @@ is_label bytes = nat_lt 0 (length bytes) && nat_le (length bytes) longest_label 
 unfoldable pub label_of : List ℕ → Option (List ℕ)
 label_of bytes = if is_label bytes then Some bytes else None
 
--- the reader that stands beside the word in a table
+-- the reader beside the word in a table
 abbrev pub dispatch : {A : Type 0} → List (List ℕ × (List ℕ → Option A)) → List ℕ → List ℕ → Option A
 dispatch [] word rest = None
 dispatch (e ∷ table) word rest = if bytes_eq word e.0 then e.1 rest else dispatch table word rest
@@ -183,7 +183,7 @@ line_of bytes = if bytes_eq bytes (codes "ready") then Some Ready else (if bytes
 unfoldable pub version_of : List ℕ → Option ℕ
 version_of bytes = split_of 32 bytes >>= λ parts. if bytes_eq parts.0 (codes "hello") then number_of parts.1 else None
 
--- what is wrong with a line that is none, by the version that it names as a greeting
+-- what is wrong with bytes that are no line, by the version that they name as a greeting
 abbrev pub refusal_of : Option ℕ → WireFault
 refusal_of None = BadLine
 refusal_of (Some version) = if version == this_version then BadLine else BadVersion

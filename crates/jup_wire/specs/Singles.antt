@@ -1,4 +1,4 @@
--- Lines that stand at the start of some bytes, and those of a message of one operation.
+-- Lines at the start of some bytes, and those of a message of one operation.
 use Rattle.std.specs.Prelude.{◌≡◌, ℕ, List, [], ◌∷◌, ◌++◌, length, decimal}
 use Rattle.std.specs.List.{flat_map, AllByRecursion, join_with_byte}
 use Rattle.jup_seq.specs.declared.operations.SeqOp.{SeqOp}
@@ -12,7 +12,7 @@ use Rattle.jup_wire.specs.Grammar.{seq_fields, spelling, IsBody, HasSpelling}
 abbrev pub BeginsWith : Line → List ℕ → List ℕ → Type 0
 BeginsWith line rest bytes = HasSpelling line × (bytes ≡ spelling line ++ rest)
 
--- the same of an operation on a text, without the ids and the kind that stand before it on its line
+-- the same of an operation on a text, without the ids and the kind that come before it on its line
 abbrev pub BeginsWithOp : SeqOp ℕ → List ℕ → List ℕ → Type 0
 BeginsWithOp op rest bytes = IsBody (widget.Text op) × (bytes ≡ join_with_byte 32 (seq_fields decimal op) ++ 10 ∷ rest)
 
@@ -20,7 +20,7 @@ BeginsWithOp op rest bytes = IsBody (widget.Text op) × (bytes ≡ join_with_byt
 abbrev pub single_lines : Single → List Line
 single_lines single = Batch single.mine single.heard 1 ∷ Do single.op ∷ []
 
--- lines stand at the start of the bytes, and are so long
+-- the bytes begin with the lines, which are so long
 pub record BeginsLines (lines : List Line) (len : ℕ) (bytes : List ℕ) : Type 0 where
   pub spelled : AllByRecursion HasSpelling lines
   pub rest : List ℕ

@@ -22,14 +22,14 @@ pub record IsBadLine (fault : WireFault) (bytes : List ℕ) : Type 0 where
   pub whole : bytes ≡ text ++ 10 ∷ []
   pub bad : IsBad fault text
 
--- the fault is told where these bytes stand in a line's place
+-- the reader reports the fault for these bytes in place of a line
 abbrev pub IsFaulty : WireFault → List ℕ → Type 0
 IsFaulty BadLine bytes = IsBadLine BadLine bytes
 IsFaulty BadVersion bytes = IsBadLine BadVersion bytes
 IsFaulty LongLine bytes = (length bytes ≡ 256) × All (λ byte. byte ≢ 10) bytes
 IsFaulty EarlyEnd bytes = ⊥
 
--- after the lines comes what the fault is told for
+-- after the lines comes what has the fault
 pub record Faults (fault : WireFault) (bytes : List ℕ) (lines : List Line) : Type 0 where
   pub told : List ℕ
   pub more : List ℕ
@@ -52,12 +52,12 @@ ending_at (Some fault) part = Err fault
 ending_at None [] = Ok tt
 ending_at None (byte ∷ part) = Err EarlyEnd
 
--- what a line feed behind a text makes of it: the line that it is, or a fault, whatever comes behind it
+-- what a line feed after a text makes of it: the line that it is, or a fault, whatever comes after it
 abbrev pub Ends : List ℕ → Result Line WireFault → Type 0
 Ends text (Ok line) = HasSpelling line × (text ≡ line_text line)
 Ends text (Err fault) = (more : List ℕ) → Faults fault (text ++ 10 ∷ more) []
 
--- the lines that bytes begin with, up to a fault or the last line feed, behind which the rest stands
+-- the lines that bytes begin with, up to a fault or the last line feed, after which the rest follows
 abbrev pub ReadsTo : List ℕ → List Line → Option WireFault → List ℕ → Type 0
 ReadsTo bytes lines None rest = AllByRecursion HasSpelling lines × (bytes ≡ stream_of lines rest) × All (λ byte. byte ≢ 10) rest
 ReadsTo bytes lines (Some fault) rest = AllByRecursion HasSpelling lines × Faults fault bytes lines

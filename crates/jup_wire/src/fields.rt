@@ -19,7 +19,7 @@ pub(crate) trait FieldValue: Sized {
         ensures { result ≡ read_of bytes.now };
 }
 
-/// The bytes behind a heading, if they begin with it.
+/// The bytes after a heading, if they begin with it.
 pub(crate) fn behind<'a>(bytes: &'a [u8], heading: &[u8]) -> Option<&'a [u8]>
     ensures { MatchOption result ((rest : List ℕ) → bytes.now ≢ heading.now ++ rest) (λ rest. bytes.now ≡ heading.now ++ rest.now) }
 {
@@ -34,7 +34,7 @@ pub(crate) fn split(bytes: &[u8], separator: u8) -> Option<(&[u8], &[u8])>
     Some((&bytes[..at], &bytes[at + 1..]))
 }
 
-/// The text before the first line feed, and the bytes behind it.
+/// The text before the first line feed, and the bytes after it.
 pub(crate) fn split_line(bytes: &[u8]) -> Option<(&[u8], &[u8])>
     ensures { Gives (λ parts. (parts.0.now, parts.1.now)) result (split_of 10 bytes.now) }
 {
@@ -42,7 +42,7 @@ pub(crate) fn split_line(bytes: &[u8]) -> Option<(&[u8], &[u8])>
     Some((&bytes[..at], &bytes[at + 1..]))
 }
 
-/// Where the first line feed stands.
+/// Where the first line feed is.
 pub fn feed_of(bytes: &[u8]) -> Option<usize>
     ensures place { result ≡ position (λ byte. byte == 10) bytes.now }
     ensures within { IfSome result (λ at. at < length bytes.now) }
@@ -57,7 +57,7 @@ fn place_of(bytes: &[u8], wanted: u8) -> Option<usize>
     bytes.iter().position(|byte| *byte == wanted)
 }
 
-/// The field before the first space, and the bytes behind that space.
+/// The field before the first space, and the bytes after that space.
 #[tactic(auto, unfolding(crate::specs::Reading::field_of))]
 pub(crate) fn field<T: FieldValue>(bytes: &[u8]) -> Option<(T, &[u8])>
     ensures { Gives (λ x. (x.0, x.1.now)) result (field_of 32 T.read_of bytes.now) }
@@ -66,7 +66,7 @@ pub(crate) fn field<T: FieldValue>(bytes: &[u8]) -> Option<(T, &[u8])>
     Some((T::read(field)?, rest))
 }
 
-/// The number before the first separator, and the bytes behind that. It goes over the digits once.
+/// The number before the first separator, and the bytes after that. It goes over the digits once.
 pub(crate) fn number_before(bytes: &[u8], separator: u8) -> Option<(u32, &[u8])>
     ensures { Gives (λ x. (x.0, x.1.now)) result (field_of separator number_of bytes.now) }
 {
@@ -80,7 +80,7 @@ pub(crate) fn number_before(bytes: &[u8], separator: u8) -> Option<(u32, &[u8])>
     None
 }
 
-/// The number that the digits before a place write, if that is its one spelling, and the bytes behind the place.
+/// The number that the digits before a place write, if that is its one spelling, and the bytes after the place.
 fn numeral_before(value: u32, bytes: &[u8], at: usize) -> Option<(u32, &[u8])>
     requires within { at < length bytes.now }
     requires digits { AllDigits 10 (take at bytes.now) }

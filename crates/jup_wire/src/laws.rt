@@ -14,7 +14,7 @@ use jup_seq::SeqOp;
 use jup_value::Name;
 use jup_window::{BoardOp, WidgetOp};
 
-// The values of a line are those of their types: they are known to be where they are passed by value.
+// The values of a line are in the ranges of their types. The checker knows that of a value that is passed by value.
 fn is_name(name: Name)
     ensures { IsName name }
 {
@@ -37,8 +37,8 @@ fn has_body(op: BoardOp) -> bool
     !matches!(op.op, WidgetOp::Text(SeqOp::Relabel { .. }))
 }
 
-/// Whether a line has a spelling. Each that a program holds has one, but for a batch of no operation or of
-/// more than 32, and for a relabel of a text.
+/// Whether a line has a spelling. Each line that a program holds has one, except a batch of no operation or
+/// of more than 32, and a relabel of a text.
 pub fn has_spelling(line: &Line) -> bool
     ensures test { result ≡ is_spelled line.now }
     ensures spelling { IsTrue result ↔ HasSpelling line.now }
@@ -83,8 +83,8 @@ pub fn one_reading()
         → (ls ≡ ms) × (p.fault ≡ q.fault) }
 {}
 
-/// Where the bytes of lines are on their way, what has come are the first of these lines, with no fault,
-/// and what is left completes the others.
+/// While the bytes of lines are on their way, what has come are the first of these lines, with no fault, and
+/// what is left completes the others.
 pub fn on_the_way()
     ensures { (moved left : List ℕ) (given sent : List Line) (p : Progress)
         → AllByRecursion HasSpelling sent → HasRead moved given p → moved ++ left ≡ flat_map spelling sent

@@ -1,6 +1,6 @@
-//! The lines that a link carries and that a layout has, as bytes: one spelling a line, and no bytes
-//! outside the grammar are read, however they are cut into pieces. What the lines of a layout come to is
-//! said in `jup_layout`.
+//! The lines that a link carries and that a layout has, as bytes. Each line has one spelling. The reader
+//! refuses bytes outside the grammar, however they are cut into pieces. `jup_layout` says what the lines of a
+//! layout mean.
 #![tactic(auto)]
 
 mod faults;

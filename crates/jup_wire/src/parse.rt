@@ -16,8 +16,8 @@ use jup_window::{BoardOp, WidgetOp};
 /// The version of the protocol, as a greeting names it.
 const THIS_VERSION: u32 = 3;
 
-/// The line that the bytes are, which have no line feed behind them, or what is wrong with them: `BadLine`,
-/// or `BadVersion`.
+/// The line that the bytes are, which have no line feed after them, or what is wrong with them: `BadLine`, or
+/// `BadVersion`.
 pub fn read_line(bytes: &[u8]) -> Result<Line, WireFault>
     ensures line { IfOk result (λ line. HasSpelling line × (bytes.now ≡ line_text line)) }
     ensures every { (line : Line) → HasSpelling line → bytes.now ≡ line_text line → result ≡ Ok line }
@@ -29,7 +29,7 @@ pub fn read_line(bytes: &[u8]) -> Result<Line, WireFault>
     }
 }
 
-/// What is wrong with a line that is none, by the version that it names.
+/// What is wrong with bytes that are no line, by the version that they name.
 fn refusal(version: Option<u32>) -> WireFault
     ensures { result ≡ refusal_of version }
 {

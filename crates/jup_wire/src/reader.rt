@@ -30,7 +30,7 @@ fn finish_line(text: &[u8]) -> Result<Line, WireFault>
     read_line(text)
 }
 
-/// The same where a part comes before the text. The part stays.
+/// The same if a part comes before the text. The part stays.
 fn finish_line_behind(part: &mut Part, text: &[u8]) -> Result<Line, WireFault>
     requires part { IsPart (part_bytes part.old) }
     requires text { All (λ byte. byte ≢ 10) text.now }
@@ -50,7 +50,7 @@ fn finish_line_behind(part: &mut Part, text: &[u8]) -> Result<Line, WireFault>
     line
 }
 
-/// Puts bytes without a line feed behind a part, if both are no more than a part.
+/// Puts bytes without a line feed after a part, if both are no more than a part.
 fn hold(part: &mut Part, bytes: &[u8]) -> Option<WireFault>
     requires part { IsPart (part_bytes part.old) }
     requires bytes { All (λ byte. byte ≢ 10) bytes.now }
@@ -63,14 +63,14 @@ fn hold(part: &mut Part, bytes: &[u8]) -> Option<WireFault>
     None
 }
 
-/// What stands behind the last line feed, if no line had a fault.
+/// What comes after the last line feed, if no line had a fault.
 #[derive(Drop)]
 struct Rest<'a> {
     left: &'a [u8],
     fault: Option<WireFault>,
 }
 
-/// Reads whole lines, up to the first fault, and puts them behind those that came before.
+/// Reads whole lines, up to the first fault, and puts them after those that came before.
 fn read_lines<'a>(lines: &mut Lines, bytes: &'a [u8]) -> Result<Rest<'a>, NoMemory>
     requires { AllByRecursion HasSpelling lines.old }
     ensures { IfOk result (λ rest. ReadsTo (flat_map spelling lines.old ++ bytes.now) lines.new rest.fault rest.left.now) }
@@ -91,7 +91,7 @@ fn read_lines<'a>(lines: &mut Lines, bytes: &'a [u8]) -> Result<Rest<'a>, NoMemo
     Ok(Rest { left, fault: None })
 }
 
-/// Takes a piece, up to the first fault. Where memory is refused the part is as it was.
+/// Takes a piece, up to the first fault. If an allocation fails, the part is as it was.
 fn read_piece(alloc: Global, part: &mut Part, piece: &[u8]) -> Result<Fed, NoMemory>
     requires { IsPart (part_bytes part.old) }
     ensures read { IfOk result (λ fed.
@@ -246,7 +246,7 @@ impl Reader {
         Ok(fed)
     }
 
-    /// Whether the bytes may end here: the fault that was met, or one where a part of a line is held.
+    /// Whether the bytes may end here: the fault that was met, or one if a part of a line is held.
     pub fn finish(&self) -> Result<(), WireFault>
         ensures { result ≡ ending_at self.now.fault self.now.part }
     {

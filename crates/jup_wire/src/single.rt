@@ -1,4 +1,4 @@
-//! Reading the message of one operation, which most messages are, where its lines stand.
+//! Reading a message of one operation, as most messages are, in place.
 
 ghost use Rattle.std.specs.Prelude.{◌≡◌, ◌∷◌, ◌++◌, IfSome, codes};
 ghost use Rattle.jup_wire.specs.declared.line.Line.TheVariants.{Batch, Do};
@@ -12,7 +12,7 @@ use jup_seq::{SeqOp, TextOp};
 use jup_value::{Item, Name};
 use jup_window::{BoardOp, WidgetOp};
 
-/// A message of one operation that stands at the start of some bytes.
+/// A message of one operation at the start of some bytes.
 #[derive(Clone, Copy, Debug, PartialEq, Eq)]
 pub struct Single {
     pub mine: u32,
@@ -58,7 +58,7 @@ fn single_of_any(bytes: &[u8], mine: u32, heard: u32, rest: &[u8]) -> Option<Sin
     }
 }
 
-/// What the line of a batch of one tells, and the bytes behind it.
+/// The two counts of the line of a batch of one, and the bytes after it.
 fn batch_of_one(bytes: &[u8]) -> Option<(u32, u32, &[u8])>
     ensures { IfSome result (λ x. BeginsWith (Batch x.0 x.1 1) x.2.now bytes.now) }
 {
@@ -69,7 +69,7 @@ fn batch_of_one(bytes: &[u8]) -> Option<(u32, u32, &[u8])>
     Some((mine, heard, rest))
 }
 
-/// The insertion or deletion of a line, read in one pass, and the bytes behind it.
+/// The insertion or deletion of a line, read in one pass, and the bytes after it.
 fn operation_on_text(bytes: &[u8]) -> Option<(BoardOp, &[u8])>
     ensures { IfSome result (λ x. BeginsWith (Do x.0) x.1.now bytes.now) }
 {
@@ -82,7 +82,7 @@ fn operation_on_text(bytes: &[u8]) -> Option<(BoardOp, &[u8])>
     Some((BoardOp { win, wid, op }, rest))
 }
 
-/// An insertion or a deletion up to its line feed, and the bytes behind that.
+/// An insertion or a deletion up to its line feed, and the bytes after that.
 fn text_op_here(bytes: &[u8]) -> Option<(TextOp, &[u8])>
     ensures { IfSome result (λ x. BeginsWithOp x.0 x.1.now bytes.now) }
 {
@@ -92,7 +92,7 @@ fn text_op_here(bytes: &[u8]) -> Option<(TextOp, &[u8])>
     }
 }
 
-/// The insertion behind its word, up to its line feed, and the bytes behind that.
+/// The insertion after its word, up to its line feed, and the bytes after that.
 #[inline(never)]
 fn insertion_here(bytes: &[u8]) -> Option<(TextOp, &[u8])>
     ensures { IfSome result (λ x. BeginsWithOp x.0 x.1.now (codes "ins " ++ bytes.now)) }
@@ -105,7 +105,7 @@ fn insertion_here(bytes: &[u8]) -> Option<(TextOp, &[u8])>
     Some((SeqOp::Insert { place, item }, rest))
 }
 
-/// The deletion behind its word, up to its line feed, and the bytes behind that.
+/// The deletion after its word, up to its line feed, and the bytes after that.
 #[inline(never)]
 fn deletion_here(bytes: &[u8]) -> Option<(TextOp, &[u8])>
     ensures { IfSome result (λ x. BeginsWithOp x.0 x.1.now (codes "del " ++ bytes.now)) }
@@ -115,7 +115,7 @@ fn deletion_here(bytes: &[u8]) -> Option<(TextOp, &[u8])>
     Some((SeqOp::Delete { place, name }, rest))
 }
 
-/// The name before the first separator behind its dot, and the bytes behind that.
+/// The name before the first separator after its dot, and the bytes after that.
 fn name_before(bytes: &[u8], separator: u8) -> Option<(Name, &[u8])>
     ensures { IfSome result (λ x. IsName x.0 × (bytes.now ≡ name_text x.0 ++ separator ∷ x.1.now)) }
 {

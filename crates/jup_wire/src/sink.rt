@@ -1,4 +1,4 @@
-//! What lines are put into, one behind the other.
+//! What lines are put into, one after the other.
 ghost use Rattle.std.specs.Prelude.{◌≡◌, [], ◌∷◌, ◌++◌, OnOk};
 
 use crate::line::Line;
@@ -13,14 +13,14 @@ pub trait LineSink {
     /// Why a line was not taken.
     type Fault;
 
-    // the sink behind is the one before with these lines taken
+    // the sink after is the one before with these lines taken
     ghost takes: { Self → List Line → Self → Type 0 };
 
     ghost takes_none: { (a : Self) → takes a [] a };
 
     ghost takes_more: { (a b c : Self) (xs ys : List Line) → takes a xs b → takes b ys c → takes a (xs ++ ys) c };
 
-    /// Puts a line behind those that were taken.
+    /// Puts a line after those that were taken.
     fn put(&mut self, line: Line) -> Result<(), Self::Fault>
         ensures taken { OnOk result (takes self.old (line ∷ []) self.new) };
 }

@@ -101,7 +101,7 @@ fn push_line(out: &mut Vec<u8>, line: &Line)
     }
 }
 
-/// Appends a line's first word, and the field behind it.
+/// Appends a line's first word, and the field after it.
 fn push_word<T: Spelled>(out: &mut Vec<u8>, word: &[u8], value: &T)
     requires { HasRoom out.old (length word.now + (T.most + 1)) }
     ensures { Appends out.old out.new (word.now ++ 32 ∷ T.text value.now) (length word.now + (T.most + 1)) }

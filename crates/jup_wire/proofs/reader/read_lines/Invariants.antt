@@ -3,7 +3,7 @@ use Rattle.std.specs.List.{flat_map, AllByRecursion}
 use Rattle.jup_wire.specs.Grammar.{spelling, HasSpelling}
 use Rattle.jup_wire.proofs.reader.read_lines.Given as goal
 
--- the lines so far, and what is left behind them
+-- the lines so far, and what is left after them
 abbrev pub invariant-loop-text : goal.invariant-loop-text
 invariant-loop-text l = record {
   spelled : AllByRecursion HasSpelling l.lines;

@@ -13,7 +13,7 @@ push_spelled-requires g c =
     c.self.inside.tray.items c.self.inside.reader c.self.inside.stream.bytes c.self.invariant.carries c.self.invariant.read none feed.1 in
     (line.0, line.1, ap (take c.in-Some.at) c.as_slice-2.ensures ∙ ap (λ (k : ℕ). take k c.self.inside.stream.bytes) feed.0 ∙ line.2)
 
--- what is so of the lane once the line stands in the tray
+-- what is so of the lane once the line is in the tray
 fact : (g : given.Over) (c : goal.After-drop_front g)
     → TakenIn (codec g.M.Message) (codec_laws g.M.Message g.M.Message.spelled g.M.Message.some g.M.Message.gathers)
     (way_of c.self.inside.tray.items c.self.inside.reader.part c.self.inside.stream.bytes) (next_feed c.self.inside.stream.bytes + 1)

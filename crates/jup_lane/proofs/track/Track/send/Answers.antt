@@ -7,7 +7,7 @@ use Rattle.jup_lane.proofs.Feeding.{codec_laws}
 use Rattle.jup_lane.proofs.track.Track.send.Given as given
 use Rattle.jup_lane.proofs.track.Track.send.Goals as goal
 
--- the message is written behind what stands in the stream
+-- the message is written after what is in the stream
 written : (g : given.Over) (c : goal.After-write g)
     → way_of c.self.inside.tray.items c.self.inside.reader.part c.write.new.self.bytes
     ≡ sent (bytes_of (codec g.M.Message) c.args.message.now) (way_of c.self.inside.tray.items c.self.inside.reader.part c.self.inside.stream.bytes)

@@ -7,8 +7,8 @@ use Rattle.jup_xform.specs.Grid.{after_all, AreValid, GridCloses, mirror}
 use Rattle.jup_link.specs.Links.{Link, Message, Operation, Ack, IsCount, IsNumber, after_count, arrived, after_arrival}
 
 -- Two ends of a link have a state in common, the base: the one after the operations that both have received. `near_ahead` are the
--- near end's operations that the far end has not received, `far_ahead` the far end's that the near end has not, and each list leads
--- from the base to the present state of its end. The near end is the client's; at `mirror t` it is the server's.
+-- near end's operations that the far end has not received, and `far_ahead` the far end's that the near end has not received. Each
+-- list leads from the base to the present state of its end. The near end is the client's; at `mirror t` it is the server's.
 
 -- the states: the grid of the two lists closes, and the base is small by the operations of both and `n` more
 pub record StatesMeet {Op State Edit : Type 0} (t : Ghosts Op State Edit) (n : ℕ) (base : State) (near_ahead far_ahead : List Op) (near far : State) : Type 0 where
@@ -29,7 +29,7 @@ pub record IsNext {Op State Edit : Type 0} (t : Ghosts Op State Edit) (received 
   pub gives : row_operation t.client_past o (drop (heard - acknowledged) before) ≡ a
   pub apart : (other : Op) → t.are_apart o other → t.are_apart a other
 
--- messages that come to the far end bring the operations `ahead`, and are accepted in turn: `received` and `acknowledged` are
+-- messages that come to the far end bring the operations `ahead`, and are accepted in turn. `received` and `acknowledged` are
 -- the far end's counts, and `before` are the entries of its queue that the near end has received
 abbrev pub Comes : {Op State Edit : Type 0} → Ghosts Op State Edit → ℕ → ℕ → List Op → List (Message Op) → List Op → Type 0
 Comes t received acknowledged before [] [] = Unit {0}
@@ -82,7 +82,7 @@ abbrev pub past_first : {Op : Type 0} → (Op → Op → Op) → (Op → Op → 
 past_first past other [] es = es
 past_first past other (o ∷ os) es = row_entries past other o es
 
--- an end receives all the messages that come to it, in turn: it accepts each, and the operations that they give are those of
+-- an end receives all the messages that come to it, in turn, and accepts each. The operations that they give are those of
 -- `brings`, each past all of this end's `ahead` as those before it left `ahead`
 abbrev pub BringsInTurn : {Op State Edit : Type 0} → Ghosts Op State Edit → Link Op → List Op → List (Message Op) → List Op → Type 0
 BringsInTurn t l ahead [] [] = Unit {0}

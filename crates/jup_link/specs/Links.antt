@@ -6,7 +6,7 @@ use Rattle.jup_xform.specs.declared.row.Side.{Side}
 use Rattle.jup_xform.specs.Rows.{row_operation, row_entries}
 use Rattle.jup_xform.specs.Sides.{past, opposite}
 
--- an end of a link, but for the room in its queue
+-- an end of a link, without the room in its queue
 pub record Link (Op : Type 0) : Type 0 where
   pub side : Side
   pub received : ℕ  -- how many of the other end's operations it received

@@ -8,8 +8,8 @@ use Rattle.jup_link.specs.Streams.{MessagesApart}
 use Rattle.jup_link.specs.InStep.{InStepAt, BringsInTurn, shared_after, rest, past_first}
 
 -- the two ends of a link, the state that each end's owner has, and the messages on their way, oldest first.
--- The last three fields follow what both ends have seen: the state after the operations that both received,
--- and those of each end that the other has not received, moved past those that it received itself
+-- The last three fields follow what both ends have seen. They are the state after the operations that both
+-- received, and those of each end that the other has not received, moved past those that it received itself
 pub record Pair (Op State : Type 0) : Type 0 where
   pub client_state : State
   pub server_state : State
@@ -70,7 +70,7 @@ moved_down t p (Operation mine heard o ∷ ms) = record p {
   client_ahead = past_first t.server_past t.client_past p.server_ahead p.client_ahead;
 }
 
--- a pair after an event: an edit is applied at once, and its message goes last into the stream
+-- a pair after an event: an end applies an edit immediately, and its message goes last into the stream
 abbrev pub pair_after : {Op State Edit : Type 0} → Ghosts Op State Edit → Pair Op State → PairEvent Op → Pair Op State
 pair_after t p (ClientEdits o) = record p {
   client = after_send p.client o;
@@ -94,15 +94,15 @@ abbrev pub pair_after_all : {Op State Edit : Type 0} → Ghosts Op State Edit �
 pair_after_all t p [] = p
 pair_after_all t p (e ∷ es) = pair_after_all t (pair_after t p e) es
 
--- an end may make an edit: it is valid there, apart from the other end's operations on their way, there is room for one more,
--- and its number is one that the other end can count
+-- an end may make an edit. It is valid there, and apart from the other end's operations on their way. There is room for one
+-- more, and its number is one that the other end can count
 pub record MayEdit {Op State Edit : Type 0} (t : Ghosts Op State Edit) (p : Pair Op State) (l : Link Op) (x : State) (incoming : List (Message Op)) (o : Op) : Type 0 where
   pub valid : t.is_valid o x
   pub apart : MessagesApart t incoming o
   pub small : t.is_small (1 + (length p.client_ahead + length p.server_ahead)) p.shared
   pub counted : generated l < 4294967295
 
--- an event may happen: only an edit is asked anything
+-- an event may happen: only an edit has conditions
 abbrev pub IsAllowed : {Op State Edit : Type 0} → Ghosts Op State Edit → Pair Op State → PairEvent Op → Type 0
 IsAllowed t p (ClientEdits o) = MayEdit t p p.client p.client_state p.down o
 IsAllowed t p (ServerEdits o) = MayEdit t p p.server p.server_state p.up o
@@ -127,8 +127,8 @@ pub record IsInStep {Op State Edit : Type 0} (t : Ghosts Op State Edit) (p : Pai
   pub server_side : p.server.side ≡ Server
   pub meets : InStepAt t 0 p.shared p.client_ahead p.server_ahead p.client_state p.server_state p.client p.server p.up p.down
 
--- what two ends promise: they are in step; all messages on their way are accepted in turn, and bring what their sender has ahead;
--- the next of each stream is accepted, and valid where it comes; with nothing on its way the states are equal
+-- what two ends promise. They are in step. All messages on their way are accepted in turn, and bring what their sender has ahead.
+-- The next message of each stream is accepted, and what it gives is valid there. With nothing on its way the states are equal
 pub record Agrees {Op State Edit : Type 0} (t : Ghosts Op State Edit) (p : Pair Op State) : Type 0 where
   pub in_step : IsInStep t p
   pub up_brings : BringsInTurn t p.server p.server_ahead p.up p.client_ahead

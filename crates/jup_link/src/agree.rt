@@ -5,9 +5,9 @@ ghost use Rattle.jup_link.specs.Pairs.{PairEvent, opened_pair, pair_after_all, A
 
 use jup_xform::Transform;
 
-/// Two new ends over one state agree after any edits, acknowledgements and deliveries: they are in step,
-/// each message is accepted in its turn, what it gives is valid where it comes, and the two states are
-/// equal where nothing is on its way.
+/// Two new ends over one state agree after any edits, acknowledgements and deliveries. They are in step, each
+/// message is accepted in its turn, and what it gives is valid there. If nothing is on its way, the two
+/// states are equal.
 ///
 /// It does nothing: its contract is the theorem.
 pub fn ends_agree<T: Transform>()

@@ -126,8 +126,8 @@ impl<T: Transform> End<T> {
         self.acknowledged <= heard && heard <= self.generated
     }
 
-    /// Whether a message may be received now: whether it is the next one, or else `BadCount`, and then
-    /// whether its acknowledgement is one that this end can have, or else `BadAck`.
+    /// Whether a message may be received now. It is the next one, or else `BadCount`; then its
+    /// acknowledgement is one that this end can have, or else `BadAck`.
     pub fn check(&self, msg: &Msg<T>) -> Result<(), LinkFault>
         ensures ok { IsOk result
             ↔ (IsNumber self.now.link msg.now.mine × IsCount self.now.link msg.now.heard) }

@@ -1,10 +1,10 @@
 //! The two-way link of the Jupiter collaboration system (Nichols, Curtis, Dixon and Lamping, UIST 1995),
 //! over any operations that can be transformed past one another.
 //!
-//! Both ends of a link apply their own operations at once and send them. An [`End`] counts what it sent
-//! and received, keeps the operations that are not known to be received, and says what is to be applied
-//! for a message that comes. It holds no state: its owner applies the operations. Messages between two
-//! ends must come in order, none lost and none twice. Then the ends agree: see [`ends_agree`].
+//! Both ends of a link apply their own operations immediately and send them. An [`End`] counts what it sent
+//! and received, keeps the operations that are not known to be received, and says what is to be applied for a
+//! message that comes. It holds no state: its owner applies the operations. Messages between two ends must
+//! come in order, none lost and none twice. Then the ends agree: see [`ends_agree`].
 #![tactic(auto)]
 
 ghost use Rattle.std.specs.Prelude.{◌≡◌};

@@ -1,4 +1,4 @@
--- Lists of links: where the link of a site stands, and what a change of one leaves.
+-- Lists of links: where the link of a site is, and what a change of one leaves.
 
 pub mod LinkLists
 pub mod LinkPlaces

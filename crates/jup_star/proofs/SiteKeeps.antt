@@ -66,7 +66,7 @@ edited_site s commands op is valid room site =
       known = known_edited s.number s.named s.board op site.known valid next;
     }
 
--- a site with another board, end and count of insertions, and one edit more
+-- a site with another board, end and count of insertions, and one more edit
 pub edited_with : (s : BoardSite) (op : BoardBatch) (b : board.Windows) (e : Link BoardBatch) (k : ℕ) → b ≡ board.after op s.board → e ≡ after_send s.end op → k ≡ insertions (board.edit_of op)
     → ◌≡◌ {A = BoardSite} (record s { board = b; end = e; made = s.made + 1; named = s.named + k }) (edited board_batches op s)
 edited_with s op b e k board end count = rw (board, end, count) refl

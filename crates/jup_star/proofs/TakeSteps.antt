@@ -48,7 +48,7 @@ pub edit_detached : (s : BoardStar) (i : ℕ) (m : Msg BoardBatch) (l : BoardLin
 edit_detached s i m l e ls found early links =
     take_detached i (Op m) s _ l e found (up_early s l m e (sym early)) (early_not_memory s.limit (length s.order) l m e early) (ap (with_links s) links)
 
--- memory was refused
+-- an allocation failed
 pub edit_waits : (s : BoardStar) (i : ℕ) (m : Msg BoardBatch) (l : BoardLink) (b : board.Windows) (ls : List BoardLink) (o : List (Entry BoardEdits)) → link_of i s.links ≡ Some l
     → None ≡ early_fault board_batches s.limit (length s.order) l m → b ≡ s.board → ls ≡ s.links → o ≡ s.order
     → Answers (Take i (Op m)) s (star_with s b ls o) (Taken (Err NoMemory))

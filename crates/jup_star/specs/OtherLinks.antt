@@ -1,5 +1,5 @@
--- The links of all other sites, whatever a site sends. Who is at the far end of such a link nobody knows, so what is said here is
--- said of every far end that one may think of.
+-- The links of all other sites, whatever a site sends. Nobody knows who is at the far end of such a link, so the definitions hold
+-- for every far end that is possible.
 use Rattle.std.specs.Prelude.{◌≡◌, ◌≢◌, ◌≤◌, ℕ, List, ◌++◌, Some}
 use Rattle.std.specs.Option.{IsSomeAnd}
 use Rattle.jup_limits.specs.Limits.{most_unacknowledged}
@@ -41,7 +41,7 @@ module _ (O : Operations) where
   StaysInStep far before after site = (l : LinkState O.Op) → link_of site before.links ≡ Some l → IsInStepWith far l before.board
       → IsSomeAnd (link_of site after.links) (λ k. IsInStepWith far k after.board)
 
--- of a star of boards, the link of every site but one stays in step with whoever is at its far end
+-- in a star of boards, the link of every site but one stays in step with its far end, no matter who is there
 unfoldable pub OthersStayInStep : BoardStar → BoardStar → ℕ → Type 0
 OthersStayInStep before after site = (other : ℕ) (far : FarEnd board_batches) → other ≢ site → SendsAsSite board_batches other far
     → StaysInStep board_batches far before after other

@@ -6,11 +6,11 @@ use Rattle.jup_batch.specs.BatchBoards.{BoardBatch, Shape, shape}
 use Rattle.jup_star.specs.declared.link.Link.{Link}
 use Rattle.jup_star.specs.LinkStates.{LinkState, is_of}
 
--- a link but for its room
+-- a link without its room
 abbrev pub bare_link : Link → LinkState BoardBatch
 bare_link l = record { site = l.site; end = l.end.link; outbox = l.outbox.messages; named = l.named }
 
--- a link has room for one message and one operation, and copies of this shape, where a batch of it is not of one operation, which is copied without memory
+-- a link has room for one message and one operation, and copies of this shape, if a batch of it is not of one operation, which is copied without memory
 pub record HasRoom (u : Shape) (l : Link) : Type 0 where
   pub queue : 1 ≤ l.end.spare
   pub outbox : 1 ≤ l.outbox.spare

@@ -35,7 +35,7 @@ site_open_fault number limit b = first_fault (
     ∷ test (not (has_site number b)) BadSite
     ∷ [])
 
--- what a site tells of an edit that it made, and the message of it
+-- what a site answers for an edit that it made, and the message of the edit
 abbrev pub made_by : BoardBatch → BoardSite → Made
 made_by op s = record { edit = board.edit_of op; up = UpOp (next_message s.end op) }
 
@@ -76,8 +76,8 @@ abbrev pub edit_lacks_memory : Result Made EditFault → Bool
 edit_lacks_memory (Ok made) = false
 edit_lacks_memory (Err fault) = is_edit_memory fault
 
--- what a command does at a site: where memory is refused nothing, and no other refusal held; else the reply and the next site
--- are those of the command
+-- what a command does at a site. If an allocation fails, it does nothing, and no other refusal applied. Otherwise the
+-- reply and the next site are those of the command
 abbrev pub EditAnswers : List Command → BoardSite → BoardSite → Result Made EditFault → Type 0
 EditAnswers command s t r = MatchBool (edit_lacks_memory r)
     ((t ≡ s) × (is_ok (edit_answer board_batches command s) ≡ true))
@@ -124,8 +124,8 @@ abbrev pub deliver_lacks_memory : Result (Option (Up BoardBatch)) SiteFault → 
 deliver_lacks_memory (Ok back) = false
 deliver_lacks_memory (Err fault) = is_site_memory fault
 
--- what a message does at a site: where memory is refused nothing, and no refusal that is tested before that held; else the
--- reply and the next site are those of the message
+-- what a message does at a site. If an allocation fails, it does nothing, and no refusal that is tested before the
+-- allocation applied. Otherwise the reply and the next site are those of the message
 abbrev pub DeliverAnswers : Down BoardBatch → BoardSite → BoardSite → Result (Option (Up BoardBatch)) SiteFault → Type 0
 DeliverAnswers down s t r = MatchBool (deliver_lacks_memory r)
     ((t ≡ s) × (deliver_asks down s ≡ true))

@@ -1,4 +1,4 @@
--- A site, and what each call answers and leaves. It is said of any operations: a site's are those on boards.
+-- A site, and what each call answers and leaves. The definitions are for any operations: a site's are those on boards.
 use Rattle.std.specs.Prelude.{◌≡◌, ℕ, ◌+◌, ◌*◌, ◌≤◌, Bool, true, false, not, List, [], ◌∷◌, ◌++◌, length, nat_le, Option, Some, None, Result, Ok, Err, if◌then◌else◌}
 use Rattle.jup_limits.specs.Limits.{highest_limit, most_operations, most_unacknowledged}
 use Rattle.jup_xform.specs.declared.row.Side.TheVariants.{Client}
@@ -46,7 +46,7 @@ module _ {Operation State : Type 0} where
 abbrev pub owed_up : {Operation : Type 0} → Link Operation → Option (Up Operation)
 owed_up e = if owes e.unanswered then Some (UpAck e.received) else None
 
--- what is asked of an acknowledgement
+-- the tests of an acknowledgement
 abbrev pub heard_tests : {Operation : Type 0} → Link Operation → ℕ → List (Test SiteFault)
 heard_tests e n = test (accepts_count e n) BadAck ∷ []
 
@@ -55,8 +55,8 @@ module _ (O : Operations) where
   abbrev pub SiteOf : Type 0
   SiteOf = SiteState O.Op O.State
 
-  -- the operation that a command makes, or the number of the first refusal, memory aside: the site is stopped (25), the command
-  -- does not fit the board (1 to 6), 1,024 edits are not acknowledged (7), all edits were made (9)
+  -- the operation that a command makes, or the number of the first refusal, memory aside. The refusals are: the site is stopped
+  -- (25), the command does not fit the board (1 to 6), 1,024 edits are not acknowledged (7), all edits were made (9)
   abbrev pub within_bounds : SiteOf → Result O.Op ℕ → Result O.Op ℕ
   within_bounds s (Err n) = Err n
   within_bounds s (Ok op) = if nat_le most_unacknowledged (length s.end.outgoing) then Err 7 else if nat_le s.limit s.made then Err 9 else Ok op
@@ -64,7 +64,7 @@ module _ (O : Operations) where
   abbrev pub edit_answer : O.Command → SiteOf → Result O.Op ℕ
   edit_answer command s = if s.stopped then Err 25 else within_bounds s (O.operation_of s.board command s.number s.named)
 
-  -- the site once it made an edit: it is applied at once and queued
+  -- the site once it made an edit: it applies the edit immediately and queues it
   abbrev pub edited : O.Op → SiteOf → SiteOf
   edited op s = record s {
     board = O.t.after op s.board;
@@ -73,7 +73,7 @@ module _ (O : Operations) where
     named = s.named + O.insertions (O.t.edit_of op);
   }
 
-  -- what is asked of an edit of another site before any memory is, in order: its counts, and that it bears no name of this site
+  -- the tests of an edit of another site before any memory is asked for, in order: its counts, and that it bears no name of this site
   abbrev pub shown_tests : ℕ → Link O.Op → Msg O.Op → List (Test SiteFault)
   shown_tests number e m = count_tests BadCount BadAck e m ++ test (not (O.bears_site number (O.t.edit_of m.op))) BadName ∷ []
 
@@ -107,8 +107,8 @@ module _ (O : Operations) where
   after_fault down s None = received down s
   after_fault down s (Some e) = if s.stopped then s else halted s
 
-  -- What holds of every site: it made no more edits than it may, its link carries no more than these, it named no more items
-  -- than it made edits, and its board holds no item that it has yet to name
+  -- What holds of every site. It made no more edits than it may, and its link carries no more than these. It named no more
+  -- items than it made edits, and its board holds no item that it has yet to name
   pub record IsSite (s : SiteOf) : Type 0 where
     pub limited : s.limit ≤ highest_limit
     pub counted : s.made ≤ s.limit

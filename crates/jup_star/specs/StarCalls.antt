@@ -28,8 +28,8 @@ BoardStar = StarState BoardBatch board.Windows BoardEdits
 abbrev pub BoardLink : Type 0
 BoardLink = LinkState BoardBatch
 
--- what holds of every star: it has no more entries than it may, and no more sites than there may be; its links are as said; and no
--- sequence has grown by more than an item for each entry
+-- what holds of every star. It has no more entries than it may, and no more sites than there may be. Its links are as described,
+-- and no sequence has grown by more than an item for each entry
 pub record IsStar (s : BoardStar) : Type 0 where
   pub limited : s.limit ≤ highest_limit
   pub counted : length s.order ≤ s.limit
@@ -39,7 +39,7 @@ pub record IsStar (s : BoardStar) : Type 0 where
   pub apart : AreApart s.links
   pub short : board.IsSmall (most_batches - length s.order) s.board
 
--- what a site is told as it joins, but for the room of its board
+-- what a site gets as it joins, without the room of its board
 abbrev pub joining : BoardStar → Joined
 joining s = record { site = s.given + 1; limit = s.limit; board = s.board }
 
@@ -102,7 +102,7 @@ take_asks s (Op m) (Some l) = is_none (early_fault board_batches s.limit (length
 take_asks s (Ack n) (Some l) = false
 take_asks s (Ping k) (Some l) = true
 
--- whether a fetch does: only where it takes a message out
+-- whether a fetch does: only if it takes a message out
 abbrev pub fetch_asks : ℕ → Option BoardLink → Bool
 fetch_asks max None = false
 fetch_asks max (Some l) = nat_le 1 max && nat_le 1 (length l.outbox)
@@ -136,8 +136,8 @@ is_refused (TakenReply r) = lacks_memory r
 is_refused (FetchedReply r) = lacks_memory r
 is_refused (LeftReply r) = lacks_memory r
 
--- what a call on the star does: where memory is refused nothing, and it had come to ask for memory; else the reply and the
--- next star are those of the call
+-- what a call on the star does. If an allocation fails, it does nothing, and it had come to ask for memory. Otherwise the
+-- reply and the next star are those of the call
 abbrev pub Answers : Call → BoardStar → BoardStar → Reply → Type 0
 Answers call s t r = MatchBool (is_refused r) ((t ≡ s) × (asks_memory call s ≡ true)) ((r ≡ reply_of call s) × (t ≡ star_after call s))
 

@@ -1,4 +1,4 @@
--- The star, and what each call answers and leaves. It is said of any operations: the star's are those on boards.
+-- The star, and what each call answers and leaves. The definitions are for any operations: the star's are those on boards.
 use Rattle.std.specs.Prelude.{◌≡◌, ℕ, ◌+◌, ◌*◌, ◌≤◌, Bool, false, not, List, [], ◌∷◌, ◌++◌, length, map, filter, find, nat_lt, Option, Some, None, if◌then◌else◌}
 use Rattle.jup_limits.specs.Limits.{last_site, most_attached, most_operations}
 use Rattle.jup_link.specs.Links.{Link, generated, accepts_count}
@@ -13,7 +13,7 @@ use Rattle.jup_star.specs.FirstFaults.{Test, test, first_fault}
 use Rattle.jup_star.specs.Counts.{count_tests}
 use Rattle.jup_star.specs.LinkStates.{LinkState, is_of, opened_link, link_acked, link_ponged, link_fetched, link_sent, link_heard, operation_at}
 
--- how many edits it takes in its life, its board, how many site numbers it gave, its links, and the edits that it took in order
+-- how many edits it takes over its lifetime, its board, how many site numbers it gave, its links, and the edits that it took in order
 pub record StarState (Operation State Edit : Type 0) : Type 0 where
   pub limit : ℕ
   pub board : State
@@ -57,7 +57,7 @@ module _ {Operation State Edit : Type 0} where
   abbrev pub fetched : ℕ → ℕ → StarState Operation State Edit → StarState Operation State Edit
   fetched i n s = with_links s (at_link i (link_fetched n) s.links)
 
--- what is asked of an acknowledgement, and of the room for one more edit in the order
+-- the tests of an acknowledgement, and of the room for one more edit in the order
 abbrev pub ack_tests : {Operation : Type 0} → Link Operation → ℕ → List (Test StarFault)
 ack_tests e n = test (accepts_count e n) BadAck ∷ []
 
@@ -69,8 +69,8 @@ module _ (O : Operations) where
   abbrev pub StarOf : Type 0
   StarOf = StarState O.Op O.State O.Edit
 
-  -- what is asked of an edit before any memory is, in order: that it is something, and bears the next name of its site; and,
-  -- after its counts were asked and before the room in the order is
+  -- the tests of an edit before any memory is asked for, in order: it is something, and it bears the next name of its site.
+  -- They come after the tests of its counts, and before that of the room in the order
   abbrev pub edit_tests : LinkState O.Op → O.Edit → List (Test StarFault)
   edit_tests l e = test (not (O.is_nothing e)) NotAnEdit ∷ test (O.bears_next l.site l.named e) BadName ∷ []
 

@@ -1,10 +1,10 @@
 //! The sites and the star of the Jupiter collaboration system (Nichols, Curtis, Dixon and Lamping, UIST
 //! 1995), as values without threads and sockets.
 //!
-//! A [`Site`] is a client: it applies its own edits at once and gives the messages that tell of them. The
-//! [`Star`] is the server's core: it has a link to each attached site, puts the edits that come up into one
-//! order, and sends each on to all other sites. Messages between the two must come in order, none lost and
-//! none twice.
+//! A [`Site`] is a client: it applies its own edits immediately, and gives the messages that report them. The
+//! [`Star`] is the server's core: it has a link to each attached site. It puts the edits that come up into
+//! one order, and sends each on to all other sites. Messages between the two must come in order, none lost
+//! and none twice.
 #![tactic(auto, unfolding(crate::specs::StarCalls::reply_of, crate::specs::StarCalls::star_after, crate::specs::StarCalls::asks_memory))]
 
 mod calls;

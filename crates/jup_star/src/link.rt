@@ -29,15 +29,15 @@ pub(crate) struct Link {
     pub(crate) copies: Option<Copies>,
 }
 
-/// Copies of a batch that is about to be sent: one for the queue, and one for the message. They are made while memory may
-/// still be refused, and written over with the batch as it is then sent. One of a single operation needs none.
+/// Copies of a batch that is about to be sent: one for the queue, and one for the message. They are made while an
+/// allocation may still fail, and written over with the batch as it is then sent. One of a single operation needs none.
 #[derive(Drop)]
 pub(crate) struct Copies {
     pub(crate) kept: BoardBatch,
     pub(crate) sent: BoardBatch,
 }
 
-// The first fault of an edit for want of room in the order.
+// The fault of an edit for which the order has no room.
 fn check_log(limit: u32, count: usize) -> Result<(), StarFault>
     ensures { fault_of result ≡ first_fault (log_tests limit count) }
 {
@@ -97,7 +97,7 @@ impl Link {
         Ok(())
     }
 
-    // The first fault of an edit, but for what its operation meets on the board.
+    // The first fault of an edit, except for that of its operation on the board.
     pub(crate) fn check(
         &self,
         limit: u32,

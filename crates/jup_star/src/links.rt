@@ -30,13 +30,13 @@ fn stands_at(links: &[Link], at: usize, site: u32) -> bool
     }
 }
 
-/// Where the link of a site stands.
+/// Where the link of a site is.
 pub(crate) fn link_at(links: &[Link], site: u32) -> Option<usize>
     requires { AreApart (map bare_link links.now) }
     ensures place { MatchOption result (IsNew site (map bare_link links.now)) (λ at. IsPlace site (map bare_link links.now) at) }
     ensures below { IfSome result (λ at. at < length links.now) }
 {
-    // Mostly each site from that of the first link on has a link, so that its place is known.
+    // Usually each site from that of the first link on has a link, so its place is known.
     let first = links.first().map_or(0, |link| link.site);
     let likely = site.saturating_sub(first) as usize;
     if stands_at(links, likely, site) {

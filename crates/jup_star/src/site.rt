@@ -39,7 +39,7 @@ const NO_OPERATION: BoardOp = BoardOp {
     op: WidgetOp::Toggle(SetOp::Nothing),
 };
 
-/// An edit that a site made, and the message that tells the star of it.
+/// An edit that a site made, and its message to the star.
 #[derive(Drop)]
 pub struct Made {
     pub edit: BoardEdits,
@@ -55,11 +55,11 @@ pub struct Delivered {
     pub shown: Option<BoardBatch>,
 }
 
-/// A client: its board, which shows its own edits at once and those of others as they come, and its end of
-/// the link to the star.
+/// A client: its board, which shows its own edits immediately and those of others as they come, and its end
+/// of the link to the star.
 ///
-/// Contracts see it without the room that it keeps. Memory aside each call has one reply and leaves one
-/// site, and what a call refuses for want of memory changes nothing.
+/// Contracts see it without the room that it keeps. Memory aside, each call has one reply and leaves one
+/// site. A call that is refused because an allocation failed changes nothing.
 #[derive(Drop)]
 pub struct Site {
     number: u32,
@@ -174,7 +174,7 @@ impl Site {
         Ok(op)
     }
 
-    // Writes the operations that commands make, or tells the first refusal.
+    // Writes the operations that commands make, or answers the first refusal.
     fn name_batch(&self, commands: &[Command], ops: &mut [BoardOp]) -> Result<(), EditFault>
         requires running { self.now.stopped ≡ false }
         requires some { 1 ≤ length commands.now }
@@ -197,13 +197,18 @@ impl Site {
         Ok(())
     }
 
-    /// Takes a message of the star, and answers an acknowledgement where one is then owed. An edit is shown
-    /// at once.
+    /// Takes a message of the star, and answers an acknowledgement if one is then owed. The site shows an
+    /// edit immediately.
     ///
-    /// Refused, in this order, are: every message at a stopped site; of an edit the wrong count, the wrong
-    /// acknowledgement, an insertion that bears a name of this site, no memory, and an operation that does
-    /// not fit the board; of an acknowledgement the wrong count. Every refusal but `NoMemory` stops the
-    /// site: its board stays as it was, its link is gone, and it takes no more.
+    /// Refused, in this order, are:
+    ///
+    /// - every message at a stopped site;
+    /// - of an edit: the wrong count, the wrong acknowledgement, an insertion that bears a name of this site,
+    ///   no memory, and an operation that does not fit the board;
+    /// - of an acknowledgement: the wrong count.
+    ///
+    /// Every refusal but `NoMemory` stops the site: its board stays as it was, its link is gone, and it takes
+    /// no more.
     pub fn deliver(&mut self, alloc: Global, down: &Down) -> Result<Option<Up>, SiteFault>
         ensures { DeliverAnswers down.now self.old self.new result }
     {
@@ -275,9 +280,9 @@ impl Site {
         })
     }
 
-    /// Makes the edit of a command: the board shows it at once, and the message tells the star of it. Refused,
-    /// in this order: the site is stopped, what [`Board::name_it`] refuses, 1,024 edits are not
-    /// acknowledged, all edits were made, no memory. A refusal changes nothing.
+    /// Makes the edit of a command: the board shows it immediately, and the message is for the star. Refused,
+    /// in this order: the site is stopped, what [`Board::name_it`] refuses, 1,024 edits are not acknowledged,
+    /// all edits were made, no memory. A refusal changes nothing.
     pub fn edit(&mut self, alloc: Global, command: &Command) -> Result<Made, EditFault>
         ensures answer { EditAnswers (command.now ∷ []) self.old self.new result }
         ensures shown { OnOk result (self.new.board
@@ -301,10 +306,17 @@ impl Site {
         })
     }
 
-    /// Makes one edit of 1 to 32 commands, each judged on the board after those before it: the board shows all
-    /// of them at once, and one message tells the star. Refused, in this order: the site is stopped, not 1 to
-    /// 32 commands, what [`Board::name_it`] refuses of the first command that is refused, 1,024 edits are not
-    /// acknowledged, all edits were made, no memory. A refusal changes nothing.
+    /// Makes one edit of 1 to 32 commands, each judged on the board after those before it. The board shows all
+    /// of them immediately, and one message is for the star. Refused, in this order, are:
+    ///
+    /// - a stopped site;
+    /// - not 1 to 32 commands;
+    /// - a command that [`Board::name_it`] refuses: the first one counts;
+    /// - 1,024 edits that are not acknowledged;
+    /// - an edit after all edits were made;
+    /// - no memory.
+    ///
+    /// A refusal changes nothing.
     pub fn edit_batch(&mut self, alloc: Global, commands: &[Command]) -> Result<Made, EditFault>
         ensures answer { EditAnswers commands.now self.old self.new result }
         ensures shown { OnOk result (self.new.board ≡ all_shown commands.now self.old.number self.old.named self.old.board) }
@@ -352,7 +364,7 @@ fn hear(end: &mut End<BoardBatch>, heard: u32) -> Result<(), SiteFault>
     Ok(())
 }
 
-// The first fault of an edit of another site, but for what its operation meets on the board.
+// The first fault of an edit of another site, except for that of its operation on the board.
 fn check_shown(number: u32, end: &End<BoardBatch>, msg: &Msg<BoardBatch>) -> Result<(), SiteFault>
     ensures { fault_of result ≡ first_fault (shown_tests board_batches number end.now.link msg.now) }
 {
@@ -378,7 +390,7 @@ fn reserve_shown(
     copy_of(alloc, msg)
 }
 
-// Receives an edit of another site and applies it, where it fits the board, and answers its operation as it was
+// Receives an edit of another site and applies it, if it fits the board, and answers its operation as it was
 // applied. It takes no memory.
 fn show(board: &mut Board, end: &mut End<BoardBatch>, msg: Msg<BoardBatch>) -> Option<BoardBatch>
     requires number { IsNumber end.old.link msg.mine }

@@ -26,7 +26,7 @@ use jup_window::Board;
 use std::alloc::Global;
 use std::marker::Model;
 
-/// What a site is told as it joins.
+/// What a site gets as it joins.
 #[derive(Drop)]
 pub struct Joined {
     pub site: u32,
@@ -38,8 +38,8 @@ pub struct Joined {
 
 /// The server's core: the board, the order of the edits that were taken, and a link to each attached site.
 ///
-/// Contracts see it without the room that it keeps. Memory aside each call has one reply and leaves one
-/// star, and what a call refuses for want of memory changes nothing: its `Answers` clause says that.
+/// Contracts see it without the room that it keeps. Memory aside, each call has one reply and leaves one
+/// star. A call that is refused because an allocation failed changes nothing, as its `Answers` clause says.
 #[derive(Drop)]
 pub struct Star {
     limit: u32,
@@ -116,12 +116,17 @@ impl Star {
 
     /// Takes what a site sent, and answers the place of an edit in the order, from 0.
     ///
-    /// Refused, in this order, are of an edit: no link, the wrong count, the wrong acknowledgement, a
-    /// no-op, an insertion that does not bear the site's next name, a full order, no memory, and an
-    /// operation that does not fit the board; of an acknowledgement: no link, the wrong count; of a ping:
-    /// no link, no memory. Every refusal but `NoLink` and `NoMemory` detaches this link, and only this one.
+    /// Refused, in this order, are:
     ///
-    /// Whoever sent it, and whatever it is: all other links stay in step with their sites.
+    /// - of an edit: no link, the wrong count, the wrong acknowledgement, a no-op, an insertion that does not
+    ///   bear the site's next name. Then come a full order, no memory, and an operation that does not fit the
+    ///   board;
+    /// - of an acknowledgement: no link, and the wrong count;
+    /// - of a ping: no link, and no memory.
+    ///
+    /// Every refusal but `NoLink` and `NoMemory` detaches this link, and only this one.
+    ///
+    /// No matter who sent it, and whatever it is, all other links stay in step with their sites.
     pub fn take(&mut self, alloc: Global, site: u32, up: &Up) -> Result<Option<u32>, StarFault>
         ensures call { Answers (Take site up.now) self.old self.new (Taken result) }
         ensures others { OthersStayInStep self.old self.new site }

@@ -21,7 +21,7 @@ use jup_window::Board;
 use jup_xform::{NoMemory, Transform};
 use std::alloc::Global;
 
-/// What an edit takes with it, made while memory may still be refused: its message, and its entry.
+/// What an edit takes with it, made while an allocation may still fail: its message, and its entry.
 #[derive(Drop)]
 pub(crate) struct Prepared {
     pub(crate) msg: Msg<BoardBatch>,
@@ -84,8 +84,8 @@ fn hear_at(links: &mut Vec<Link>, at: usize, site: u32, msg: Msg<BoardBatch>) ->
     links[at].hear(msg)
 }
 
-/// Applies the operation of a message and sends it on, where it fits the board, and answers whether it
-/// does. Else no link but the one that it came by has changed. It takes no memory.
+/// Applies the operation of a message and sends it on, if it fits the board, and answers whether it does.
+/// Otherwise only the link that it came by has changed. It takes no memory.
 pub(crate) fn carry_out(
     board: &mut Board,
     links: &mut Vec<Link>,

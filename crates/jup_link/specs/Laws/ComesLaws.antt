@@ -11,7 +11,7 @@ use Rattle.jup_link.specs.Links.{Message, Operation, Ack}
 use Rattle.jup_link.specs.Streams.{operation_count, AllMessages, MessagesApart}
 use Rattle.jup_link.specs.InStep.{Comes}
 
--- two streams joined have the property where each has it
+-- two streams joined have the property if each has it
 pub AllMessages-append : {Op : Type 0} (P : Op → Type 0) (ms ns : List (Message Op)) → AllMessages P ms → AllMessages P ns → AllMessages P (ms ++ ns)
 AllMessages-append P [] ns first second = second
 AllMessages-append P (Ack n ∷ ms) ns first second = AllMessages-append P ms ns first second
@@ -59,7 +59,7 @@ module _ {Op State Edit : Type 0} (t : Ghosts Op State Edit) where
   Comes-first r k before mine heard o ms [] comes = absurd comes
   Comes-first r k before mine heard o ms (a ∷ rest) comes = (a, rest, refl)
 
-  -- where entries are dropped, their number goes from the length to the count
+  -- when entries are dropped, their number goes from the length to the count
   count_after_drop : (k n : ℕ) (xs : List Op) → k ≤ n → n ≤ k + length xs → k + length xs ≡ n + length (drop (n - k) xs)
   count_after_drop k n xs low high = omega (arith, length-drop (n - k) xs)
 

@@ -86,7 +86,7 @@ module _ {Op State Edit : Type 0} (t : Ghosts Op State Edit) (lawful : IsLawful 
       let came = client_receives t lawful m.client_side (subst (λ ss. InStepAt t n m.base m.client_ahead ss x y c s up (Operation mine heard o ∷ down)) first.2 m.meets) in
       (came.1, came.2, came.3, InStep-of t m.client_side m.server_side came.4)
 
-  -- where nothing is on its way the states are equal
+  -- if nothing is on its way the states are equal
   pub InStep-quiet : (n : ℕ) (x y : State) (c s : Link Op) → InStep t n x y c s [] [] → x ≡ y
   InStep-quiet n x y c s m = quiet_equal t m.meets
 

@@ -106,7 +106,7 @@ module _ {Op State Edit : Type 0} (t : Ghosts Op State Edit) where
 
 -- the queues and the streams
 module _ {Op State Edit : Type 0} (t : Ghosts Op State Edit) where
-  -- an end's queue where it generates an operation
+  -- an end's queue when it generates an operation
   pub QueueMeets-send : (l : Link Op) (heard : ℕ) (ahead : List Op) (stream : List (Message Op)) (brings : List Op) (o : Op)
       → QueueMeets t l heard ahead stream brings → QueueMeets t (after_send l o) heard (ahead ++ o ∷ []) stream brings
   QueueMeets-send l heard ahead stream brings o q = record {
@@ -116,7 +116,7 @@ module _ {Op State Edit : Type 0} (t : Ghosts Op State Edit) where
     comes = q.comes;
   }
 
-  -- the stream to an end where the other end generates an operation
+  -- the stream to an end when the other end generates an operation
   pub QueueMeets-message : (l : Link Op) (ahead : List Op) (stream : List (Message Op)) (brings : List Op) (sender : Link Op) (o : Op)
       → QueueMeets t l sender.received ahead stream brings → generated sender ≡ l.received + length brings → generated sender < 4294967295
       → QueueMeets t l sender.received ahead (stream ++ message sender o ∷ []) (brings ++ o ∷ [])
@@ -127,7 +127,7 @@ module _ {Op State Edit : Type 0} (t : Ghosts Op State Edit) where
     comes = Comes-send t l.received l.acknowledged q.before stream brings (generated sender) sender.received o q.comes number counted q.count;
   }
 
-  -- the stream to an end where the other end acknowledges
+  -- the stream to an end when the other end acknowledges
   pub QueueMeets-ack : (l : Link Op) (ahead : List Op) (stream : List (Message Op)) (brings : List Op) (heard : ℕ)
       → QueueMeets t l heard ahead stream brings → QueueMeets t l heard ahead (stream ++ Ack heard ∷ []) brings
   QueueMeets-ack l ahead stream brings heard q = record {
@@ -213,7 +213,7 @@ module _ {Op State Edit : Type 0} (t : Ghosts Op State Edit) where
         QueueMeets-in_turn (after_arrival t.client_past t.server_past l told o) heard (row_entries t.client_past t.server_past a ahead) ms brings next.3,
       )
 
--- an end's queue, where the other end receives the first operation that it has ahead
+-- an end's queue, when the other end receives the first operation that it has ahead
 module _ {Op State Edit : Type 0} (t : Ghosts Op State Edit) (lawful : IsLawful t) where
   -- that entry joins those that were received, and what comes is moved past it
   pub QueueMeets-heard : (l : Link Op) (heard : ℕ) (b : Op) (ahead : List Op) (stream : List (Message Op)) (brings : List Op)
@@ -238,7 +238,7 @@ module _ {Op State Edit : Type 0} (t : Ghosts Op State Edit) (lawful : IsLawful 
     far_queue = QueueMeets-send t far near.received ss out cs s m.far_queue;
   }
 
-  -- the same where it is apart from the messages' operations
+  -- the same if it is apart from the messages' operations
   pub InStepAt-edit : (n : ℕ) (base : State) (cs ss : List Op) (x y : State) (near far : Link Op) (out back : List (Message Op)) (s : Op)
       → InStepAt t (n + 1) base cs ss x y near far out back → t.is_valid s y → MessagesApart t out s → generated far < 4294967295
       → InStepAt t n base cs (ss ++ s ∷ []) x (t.after s y) near (after_send far s) out (back ++ message far s ∷ [])
@@ -287,7 +287,7 @@ module _ {Op State Edit : Type 0} (t : Ghosts Op State Edit) (lawful : IsLawful 
         },
       )
 
--- what holds where nothing is on its way
+-- what holds if nothing is on its way
 module _ {Op State Edit : Type 0} (t : Ghosts Op State Edit) where
   -- the two states are equal
   pub InStepAt-quiet : (n : ℕ) (base : State) (cs ss : List Op) (x y : State) (near far : Link Op)

@@ -127,7 +127,7 @@ small_next t lawful m n x o less small valid = lawful.small_after n x o (small_l
 
 -- two ends in step, for those who name what leads from the base to each: what holds of them
 module _ {Op State Edit : Type 0} (t : Ghosts Op State Edit) (lawful : IsLawful t) {n : ℕ} {base : State} {cs ss : List Op} {x y : State} {c s : Link Op} {up down : List (Message Op)} where
-  -- what the server's end has not received stands in the client's queue
+  -- what the server's end has not received is in the client's queue
   pub client_lengths : InStepAt t n base cs ss x y c s up down → length cs ≤ length c.outgoing
   client_lengths m = omega (arith, ap (λ (z : List Op). length z) m.near_queue.queue, length-append m.near_queue.before cs)
 
@@ -135,7 +135,7 @@ module _ {Op State Edit : Type 0} (t : Ghosts Op State Edit) (lawful : IsLawful 
   pub client_distinct : InStepAt t n base cs ss x y c s up down → t.is_distinct x
   client_distinct m = rw m.states.near_is (distinct_after_all t lawful cs base m.states.distinct m.states.near_valid)
 
-  -- the client's state is small by k where the base is by k and the client's operations
+  -- the client's state is small by k if the base is by k and the client's operations
   pub client_small : (k : ℕ) → InStepAt t n base cs ss x y c s up down → t.is_small (k + length cs) base → t.is_small k x
   client_small k m small = rw m.states.near_is (small_after_all t lawful k cs base small m.states.near_valid)
 
@@ -173,7 +173,7 @@ module _ {Op State Edit : Type 0} (t : Ghosts Op State Edit) (lawful : IsLawful 
   pub server_counts : {k : ℕ} → InStepAt t n base cs ss x y c s (Ack k ∷ up) down → IsCount s k × InStepAt t n base cs ss x y c (after_count s k) up down
   server_counts {k} m = InStepAt-count t lawful n base cs ss x y c s k up down m
 
--- where nothing is on its way the states are equal
+-- if nothing is on its way the states are equal
 pub quiet_equal : {Op State Edit : Type 0} (t : Ghosts Op State Edit) {n : ℕ} {base : State} {cs ss : List Op} {x y : State} {c s : Link Op} → InStepAt t n base cs ss x y c s [] [] → x ≡ y
 quiet_equal t {n} {base} {cs} {ss} {x} {y} {c} {s} m = InStepAt-quiet t n base cs ss x y c s m
 

@@ -39,14 +39,14 @@ counted_after [] i new all = tt
 counted_after (k ∷ ls) zero new all = all.1
 counted_after (k ∷ ls) (suc i) new all = counted_after ls i new all
 
--- one link more was passed, and is what f makes of it
+-- one more link was passed, and is what f makes of it
 pub passed : (f : BoardLink → BoardLink) (ls : List Link) (i : ℕ) (d new : Link) → i < length ls → bare_link new ≡ f (bare_link (get_or ls i d))
     → map bare_link (take (suc i) (set ls i new)) ++ map f (map bare_link (drop (suc i) (set ls i new))) ≡ map bare_link (take i ls) ++ map f (map bare_link (drop i ls))
 passed f [] i d new below made = absurd (omega arith)
 passed f (k ∷ ls) zero d new below made = ap (λ (x : BoardLink). x ∷ map f (map bare_link ls)) made
 passed f (k ∷ ls) (suc i) d new below made = ap (λ (xs : List BoardLink). bare_link k ∷ xs) (passed f ls i d new (omega arith) made)
 
--- the same where f leaves it
+-- the same if f leaves it
 pub not_passed : (f : BoardLink → BoardLink) (ls : List Link) (i : ℕ) (d : Link) → i < length ls → f (bare_link (get_or ls i d)) ≡ bare_link (get_or ls i d)
     → map bare_link (take (suc i) ls) ++ map f (map bare_link (drop (suc i) ls)) ≡ map bare_link (take i ls) ++ map f (map bare_link (drop i ls))
 not_passed f [] i d below made = absurd (omega arith)

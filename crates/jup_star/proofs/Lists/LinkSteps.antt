@@ -77,7 +77,7 @@ some_is x y e = cc
 pub found_is : (i : ℕ) (ls : List Link) (at : ℕ) (d : Link) (l : BoardLink) → IsPlace i (map bare_link ls) at → link_of i (map bare_link ls) ≡ Some l → bare_link (get_or ls at d) ≡ l
 found_is i ls at d l place found = some_is _ _ (sym (place_found i ls at d place) ∙ found)
 
--- the link that stands at the place of a site can hear what that site's link can
+-- the link at the place of a site can hear what that site's link can
 pub can_hear : (i at : ℕ) (m : Msg BoardBatch) (ls : List Link) (d l : Link) → l ≡ get_or ls at d → IsPlace i (map bare_link ls) at → IsHeardBy i m (map bare_link ls)
     → CanHear m (bare_link l)
 can_hear i at m ls d l is place heard =

@@ -13,7 +13,7 @@ use Rattle.jup_number.proofs.Numbers.{decimal_digits, digit_below}
 
 -- ---- with no minus
 
--- where no number is read, no signed one is
+-- if no number is read, no signed one is
 pub none_from_zero : (bytes : List ℕ) → (0 < length bytes → get_or bytes 0 0 ≢ 45) → IsReadingOf decimal IsU32 bytes None → IsReadingOf signed_decimal IsInt bytes None
 none_from_zero bytes plain none (pos n) is same = none n (omega (arith, is.sfits)) same
 none_from_zero bytes plain none (negsuc n) is same = plain (omega (arith, ap length same)) (ap (λ (bs : List ℕ). get_or bs 0 0) same)
@@ -29,7 +29,7 @@ pub read_from_zero : (bytes : List ℕ) (n : ℕ) (r : Option ℤ) → (0 < leng
 read_from_zero bytes n (Some z) plain read h = subst (λ (y : ℤ). IsInt y × (bytes ≡ signed_decimal y)) (sym h.1) (record { sfits = h.0 }, read.1)
 read_from_zero bytes n None plain read h = too_large bytes n plain read h
 
--- ---- behind a minus
+-- ---- after a minus
 
 -- a decimal begins with no minus
 plain_head : (n : ℕ) → n < 2 ^ 32 → get_or (decimal n) 0 0 ≢ 45

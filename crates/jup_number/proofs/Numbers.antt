@@ -58,7 +58,7 @@ IsValueOf digits value = AllDigits 10 digits × (value ≡ digits_value 10 digit
 abbrev pub Continues : ℕ → ℕ → Type 0
 Continues value digit = (digit_value digit < 10) × (value * 10 + digit_value digit < 2 ^ 32)
 
--- one digit more
+-- one more digit
 pub value_more : (ds : List ℕ) (i value next : ℕ) → i < length ds → IsValueOf (take i ds) value
     → Continues value (get_or ds i 0) × (next ≡ value * 10 + digit_value (get_or ds i 0)) → IsValueOf (take (i + 1) ds) next
 value_more ds i value next lt so_far step =

@@ -62,7 +62,7 @@ fn from_zero(magnitude: u32) -> Option<i32>
     i32::try_from(magnitude).ok()
 }
 
-/// The signed number with this magnitude behind a minus.
+/// The signed number with this magnitude after a minus.
 fn below_zero(magnitude: u32) -> Option<i32>
     ensures { SomeIff result ((0 < magnitude) × (magnitude ≤ 2 ^ 31)) (neg_ℤ (pos magnitude)) }
 {

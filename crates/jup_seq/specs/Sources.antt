@@ -14,19 +14,19 @@ use Rattle.jup_seq.specs.declared.sources.Source.TheVariants.{Inserted, Place}
 use Rattle.jup_seq.specs.Operations.{IsValid, after, next_place}
 use Rattle.jup_seq.specs.Traces.{name_at-insert}
 
--- the name under which the operation put the item there, or the place where it stood before
+-- the name under which the operation put the item there, or the place where it was before
 abbrev pub source : {V : Type 0} → ℕ → SeqOp V → Source
 source p (Insert r y) = if nat_eq p r then Inserted y.name else Place (if nat_lt p r then p else p - 1)
 source p (Delete r m) = Place (if nat_lt p r then p else next_place p)
 source p (Relabel r m v) = Place p
 source p Nothing = Place p
 
--- the name of the item that is told of, in the sequence before the operation
+-- the name of the item of a source, in the sequence before the operation
 abbrev pub source_name : {V : Type 0} → Source → Items V → Option Name
 source_name (Inserted n) x = Some n
 source_name (Place q) x = name_at q x.items
 
--- the place that is told of is one of the sequence
+-- the place of a source is one of the sequence
 abbrev pub IsWithin : {V : Type 0} → Source → Items V → Type 0
 IsWithin (Inserted n) x = Unit {0}
 IsWithin (Place q) x = q < length x.items
@@ -65,7 +65,7 @@ delete_sourced p r m x few v l =
         let e : next_place p ≡ suc p = omega (arith, b) in
         rw e (name_at-remove_above x.items r p a c, d)
 
--- that is so of what is told of each operation
+-- this is so of the source that each operation gives
 pub sourced : {V : Type 0} (p : ℕ) (e : SeqOp V) → IsSource p e (source p e)
 sourced p (Insert r y) = insert_sourced p r y
 sourced p (Delete r m) = delete_sourced p r m

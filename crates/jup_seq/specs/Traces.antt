@@ -1,4 +1,4 @@
--- What tells whether an operation may be applied after others: where the item of its name stands, and how long the sequence is
+-- What determines whether an operation may be applied after others: where the item of its name is, and how long the sequence is
 use Rattle.std.proofs.Common.{◌≡◌, ℕ, zero, suc, ◌+◌, ◌-◌, ◌<◌, ◌≤◌, Bool, true, false, cond, ◌||◌, List, [], ◌∷◌, length, insert, remove, Option, Some, None, refl, sym, ap, ◌∙◌, arith, inl, inr, ◌↔◌, subst, eq-eqb}
 use Rattle.std.specs.Prelude.{nat_le, nat_lt, nat_eq, if◌then◌else◌}
 use Rattle.std.specs.List.{position_from}
@@ -17,7 +17,7 @@ use Rattle.jup_seq.specs.Operations.{HasDistinctNames, IsValid, after, next_plac
 use Rattle.jup_seq.specs.Laws.Effects.{distinct_after}
 use Rattle.jup_seq.specs.Laws.Squares.{next_place-small}
 
--- where a name stands after an operation, from where it stood
+-- where a name is after an operation, from where it was
 abbrev pub place_after : {V : Type 0} → Name → Option ℕ → SeqOp V → Option ℕ
 place_after n None (Insert r y) = if name_eq y.name n then Some r else None
 place_after n (Some q) (Insert r y) = Some (if nat_le r q then next_place q else q)
@@ -50,7 +50,7 @@ Allows (Delete p n) r = r.place ≡ Some p
 Allows (Relabel p n v) r = r.place ≡ Some p
 Allows Nothing r = Unit {0}
 
--- where a name stands
+-- where a name is
 abbrev pub Stands : {V : Type 0} → Name → Option ℕ → Items V → Type 0
 Stands n None x = has_name n x.items ≡ false
 Stands n (Some q) x = name_at q x.items ≡ Some n
@@ -67,7 +67,7 @@ IsTrace (Delete p n) x r = IsNameTrace n x r
 IsTrace (Relabel p n v) x r = IsNameTrace n x r
 IsTrace Nothing x r = Unit {0}
 
--- where a name stands after an operation
+-- where a name is after an operation
 
 pub name_at-insert : {V : Type 0} (xs : List (Item V)) (r : ℕ) (y : Item V) → r ≤ length xs → name_at r (insert xs r y) ≡ Some y.name
 name_at-insert xs zero y l = refl
@@ -139,7 +139,7 @@ traced (Delete p n) e x r valid is = name_traced n e x r valid is
 traced (Relabel p n v) e x r valid is = name_traced n e x r valid is
 traced Nothing e x r valid is = tt
 
--- and tells whether its operation is valid
+-- and determines whether its operation is valid
 absent_told : {V : Type 0} (n : Name) (place : Option ℕ) (x : Items V) → Stands n place x → (place ≡ None) ↔ (has_name n x.items ≡ false)
 absent_told n None x h = ((λ e. h), (λ e. refl))
 absent_told n (Some q) x h = ((λ e. absurd cc), (λ e. absurd (false≢true (sym e ∙ has_name_at x.items q n h))))
@@ -157,7 +157,7 @@ told (Delete p n) x r is = place_told n r.place p x is.distinct is.stands
 told (Relabel p n v) x r is = place_told n r.place p x is.distinct is.stands
 told Nothing x r is = ((λ h. tt), (λ h. tt))
 
--- the place of a name is where it stands
+-- the place of a name is where it is
 
 stands_from : {V : Type 0} (k : ℕ) (n : Name) (xs : List (Item V)) (j : ℕ) → position_from (λ x. name_eq x.name n) k xs ≡ Some j → (k ≤ j) × (name_at (j - k) xs ≡ Some n)
 stands_from k n [] j h = absurd cc

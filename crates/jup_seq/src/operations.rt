@@ -19,14 +19,14 @@ use std::alloc::Global;
 /// An operation on a sequence. Places are counted from 0.
 #[derive(Clone, Copy, Debug, PartialEq, Eq)]
 pub enum SeqOp<V> {
-    /// Puts an item before the one that stands at the place, or at the end.
+    /// Puts an item before the one at the place, or at the end.
     Insert { place: u32, item: Item<V> },
     /// Takes out the item at the place, which has the name.
     Delete { place: u32, name: Name },
     /// Gives the item at the place, which has the name, another value.
     Relabel { place: u32, name: Name, value: V },
-    /// What is left of a deletion, or a relabel, where the other end deleted the same item, and of a
-    /// server's relabel where the client relabelled the same item.
+    /// What is left of a deletion, or a relabel, if the other end deleted the same item, and of a server's
+    /// relabel if the client relabelled the same item.
     Nothing,
 }
 
@@ -157,8 +157,8 @@ impl<V: Copy> SeqOp<V> {
         }
     }
 
-    // A server's operation past a client's: of two insertions at one place it stands right, and of two
-    // relabels of one item it falls away.
+    // A server's operation past a client's: of two insertions at one place it goes to the right, and of two
+    // relabels of one item it is dropped.
     fn past_client(&self, other: &SeqOp<V>) -> SeqOp<V>
         ensures { result ≡ server_past self.now other.now }
     {
@@ -256,7 +256,7 @@ impl<V: Copy> Transform for SeqOp<V> {
         }
     }
 
-    /// Memory is refused only where there is not room already.
+    /// An allocation can fail only if there is not room already.
     fn reserve(&self, _alloc: Global, beside: u32, state: &mut Seq<V>) -> Result<(), NoMemory>
         requires { beside < 4294967295 }
         ensures ok { OnOk result (HasRoom self.now beside state.new) }

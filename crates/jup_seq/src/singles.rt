@@ -8,7 +8,7 @@ use jup_limits::SMALL_LENGTH;
 use jup_value::{Name, Seq};
 use jup_xform::Single;
 
-/// Where the item of a name stands in a sequence, if it does, and how many items there are.
+/// Where the item of a name is in a sequence, if it is there, and how many items there are.
 #[derive(Clone, Copy, Debug, PartialEq, Eq)]
 pub struct SeqTrace {
     place: Option<u32>,

@@ -1,4 +1,4 @@
-//! What of a sequence is told through an operation, without applying it: how many items there are after it, and
+//! What can be found out of a sequence after an operation without applying it: how many items there are, and
 //! where the item at a place came from.
 ghost use Rattle.std.specs.Prelude.{◌≡◌, length};
 ghost use Rattle.jup_value.specs.Items.{Items};
@@ -14,12 +14,12 @@ use jup_value::Name;
 pub enum Source {
     /// The operation put it there, under this name.
     Inserted(Name),
-    /// It stood at this place before.
+    /// It was at this place before.
     Place(u32),
 }
 
 impl<V: Copy> SeqOp<V> {
-    /// How many items there are after the operation, where there were `len` before it.
+    /// How many items there are after the operation, if there were `len` before it.
     pub fn length_after(&self, len: u32) -> u32
         ensures exact { result ≡ length_after len self.now }
         ensures counts { (x : Items V) → IsValid self.now x → length x.items ≡ len
@@ -32,7 +32,7 @@ impl<V: Copy> SeqOp<V> {
         }
     }
 
-    /// Where the item that stands at a place after the operation came from.
+    /// Where the item that is at a place after the operation came from.
     pub fn source(&self, place: u32) -> Source
         ensures exact { result ≡ source place self.now }
         ensures told { IsSource place self.now result }

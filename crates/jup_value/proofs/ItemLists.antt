@@ -54,14 +54,14 @@ or_swap true false c = refl
 or_swap false true c = refl
 or_swap false false c = refl
 
--- two choices change places where their tests do not both pass
+-- two choices change places if their tests do not both pass
 pub swap_cond : {A : Type 0} → (s t : Bool) (a b c : A) → (s ≡ true → t ≡ true → ⊥) → cond s a (cond t b c) ≡ cond t b (cond s a c)
 swap_cond true true a b c h = absurd (h refl refl)
 swap_cond true false a b c h = refl
 swap_cond false true a b c h = refl
 swap_cond false false a b c h = refl
 
--- a choice that is left out where it had nothing to give
+-- a choice that is left out if it had nothing to give
 none_or_kept : {A : Type 0} → (s : Bool) (a : A) (o : Option A) → (s ≡ true → o ≡ None) → o ≡ cond s None (cond s (Some a) o)
 none_or_kept true a o h = h refl
 none_or_kept false a o h = refl
@@ -84,7 +84,7 @@ name_at_within (x ∷ xs) (suc i) n h = omega (arith, name_at_within xs i n h)
 pub name_at_apart : {V : Type 0} → (xs : List (Item V)) (i : ℕ) (m n : Name) → name_at i xs ≡ Some n → has_name m xs ≡ false → name_eq m n ≡ true → ⊥
 name_at_apart xs i m n h out same = false≢true (sym out ∙ ap (λ k. has_name k xs) (name_eq_same m n same) ∙ has_name_at xs i n h)
 
--- where names are distinct, a name stands at one place
+-- if names are distinct, a name is at one place
 pub same_place : {V : Type 0} → (xs : List (Item V)) (i k : ℕ) (n : Name) → AreDistinct xs → name_at i xs ≡ Some n → name_at k xs ≡ Some n → i ≡ k
 same_place [] i k n d h g = absurd cc
 same_place (x ∷ xs) zero zero n d h g = refl
@@ -97,7 +97,7 @@ pub value_of-none : {V : Type 0} → (n : Name) (xs : List (Item V)) → has_nam
 value_of-none n [] h = refl
 value_of-none n (x ∷ xs) h = let parts = or_parts (name_eq x.name n) (has_name n xs) h in rw parts.0 (value_of-none n xs parts.1)
 
--- from any number on, a name has no place exactly where the list does not have it
+-- from any number on, a name has no place exactly if the list does not have it
 absent_from : {V : Type 0} (k : ℕ) (n : Name) (xs : List (Item V)) → IsNone (position_from (λ x. name_eq x.name n) k xs) ↔ (has_name n xs ≡ false)
 absent_from k n [] = (λ h. refl, λ h. refl)
 absent_from k n (x ∷ xs) = first_or_later (name_eq x.name n) k _ _ (absent_from (k + 1) n xs)
@@ -106,7 +106,7 @@ absent_from k n (x ∷ xs) = first_or_later (name_eq x.name n) k _ _ (absent_fro
     first_or_later true k later held h = (λ none. absurd cc, λ out. absurd cc)
     first_or_later false k later held h = h
 
--- a name has no place exactly where the list does not have it
+-- a name has no place exactly if the list does not have it
 pub absent_place : {V : Type 0} → (n : Name) (xs : List (Item V)) (place : Option ℕ) → place ≡ place_of n xs → IsNone place ↔ (has_name n xs ≡ false)
 absent_place n xs place e = rw e (absent_from 0 n xs)
 
@@ -175,7 +175,7 @@ has_name-remove_other n m [] i h apart = absurd cc
 has_name-remove_other n m (x ∷ xs) zero h apart = let e : x.name ≡ m = cc in rw (e, apart) refl
 has_name-remove_other n m (x ∷ xs) (suc i) h apart = rw (has_name-remove_other n m xs i h apart) refl
 
--- where names are distinct, a removal takes the name at its place
+-- if names are distinct, a removal takes the name at its place
 pub has_name-remove_same : {V : Type 0} → (m : Name) (xs : List (Item V)) (i : ℕ) → AreDistinct xs → name_at i xs ≡ Some m → has_name m (remove xs i) ≡ false
 has_name-remove_same m [] i d h = absurd cc
 has_name-remove_same m (x ∷ xs) zero d h = let e : x.name ≡ m = cc in rw (← e) d.0
@@ -189,7 +189,7 @@ AreDistinct-remove [] (suc i) d = tt
 AreDistinct-remove (x ∷ xs) zero d = d.1
 AreDistinct-remove (x ∷ xs) (suc i) d = (has_name-remove_none x.name xs i d.0, AreDistinct-remove xs i d.1)
 
--- where names are distinct, after a removal its name has no value and each other what it had
+-- if names are distinct, after a removal its name has no value and each other what it had
 pub value_of-remove : {V : Type 0} → (n m : Name) (xs : List (Item V)) (i : ℕ) → AreDistinct xs → name_at i xs ≡ Some m → value_of n (remove xs i) ≡ cond (name_eq m n) None (value_of n xs)
 value_of-remove n m [] i d h = absurd cc
 value_of-remove n m (x ∷ xs) zero d h =
@@ -263,7 +263,7 @@ cond_again : {A : Type 0} (s : Bool) (a b c : A) → cond s a c ≡ cond s a (co
 cond_again true a b c = refl
 cond_again false a b c = refl
 
--- where names are distinct, the name at the place has the value and each other what it had
+-- if names are distinct, the name at the place has the value and each other what it had
 pub value_of-with_value : {V : Type 0} → (n m : Name) (xs : List (Item V)) (i : ℕ) (v : V) → AreDistinct xs → name_at i xs ≡ Some m → value_of n (with_value xs i v) ≡ cond (name_eq m n) (Some v) (value_of n xs)
 value_of-with_value n m [] i v d h = absurd cc
 value_of-with_value n m (x ∷ xs) zero v d h =
@@ -317,7 +317,7 @@ remove-with_value [] p v = refl
 remove-with_value (x ∷ xs) zero v = refl
 remove-with_value (x ∷ xs) (suc p) v = ap (λ ys. x ∷ ys) (remove-with_value xs p v)
 
--- of two values at one place the last stands
+-- of two values at one place the last remains
 pub with_value-with_value : {V : Type 0} → (xs : List (Item V)) (p : ℕ) (v w : V) → with_value (with_value xs p v) p w ≡ with_value xs p w
 with_value-with_value [] p v w = refl
 with_value-with_value (x ∷ xs) zero v w = refl

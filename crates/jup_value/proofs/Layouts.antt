@@ -16,7 +16,7 @@ set-put_in [] i p y b h = refl
 set-put_in (b ∷ bs) zero p y d h = ap (λ c. insert c p y ∷ bs) h
 set-put_in (b ∷ bs) (suc i) p y d h = ap (λ cs. b ∷ cs) (set-put_in bs i p y d h)
 
--- an item more in a block is an item more in the whole, behind those of the blocks before it
+-- one more item in a block is one more item in the whole, after those of the blocks before it
 pub joined-put_in : {X : Type 0} → (bs : List (List X)) (i p at : ℕ) (y : X) → i < length bs → p ≤ length (get_or bs i []) → at ≡ length (joined (take i bs)) + p → joined (put_in bs i p y) ≡ insert (joined bs) at y
 joined-put_in [] i p at y l h e = absurd (omega arith)
 joined-put_in (b ∷ bs) zero p at y l h e =
@@ -42,7 +42,7 @@ AreBlocks-at [] i a l = absurd (omega arith)
 AreBlocks-at (b ∷ bs) zero a l = a.1
 AreBlocks-at (b ∷ bs) (suc i) a l = AreBlocks-at bs i a.2 (omega arith)
 
--- # A full block in two halves, with an item more
+-- # A full block in two halves, with one more item
 
 -- the halves together are the block with the item
 joined_halves : {X : Type 0} → (b rest : List X) (p : ℕ) (y : X) → p ≤ length b → length b ≡ 128 → left_half b p y ++ (right_half b p y ++ rest) ≡ insert b p y ++ rest
@@ -109,7 +109,7 @@ split_counted ok placed new old ns made was bs i m n left right is went there pu
 pub sum_before : (ns : List ℕ) (i j : ℕ) → i < length ns → j ≡ i + 1 → sum (take j ns) ≡ sum (take i ns) + get_or ns i 0
 sum_before ns i j l e = rw e (sum_by_more (λ n. n) ns i 0 l)
 
--- what `find` says of a table, said of its blocks
+-- what `find` says of a table, for its blocks
 
 pub place_in_table : {X : Type 0} → (bs : List (List X)) (ns : List ℕ) (at : ℕ) → ns ≡ map length bs → at ≤ length (joined bs) → at ≤ sum ns
 place_in_table bs ns at table h = omega (arith, ap sum table ∙ sum_lengths bs)
@@ -252,7 +252,7 @@ beyond_first false j m o p q h f = f h
 
 -- a name is looked for in one block after another
 
--- the place of a name, where the first item has the number k
+-- the place of a name, if the first item has the number k
 abbrev pub place_from : {V : Type 0} → ℕ → Name → List (Item V) → Option ℕ
 place_from k n xs = position_from (λ x. name_eq x.name n) k xs
 

@@ -166,7 +166,7 @@ AreMarked-with_value ms [] i v a = tt
 AreMarked-with_value ms (x ∷ xs) zero v a = a
 AreMarked-with_value ms (x ∷ xs) (suc i) v a = (a.0, AreMarked-with_value ms xs i v a.1)
 
--- a name that no item has stands at no place
+-- a name that no item has is at no place
 none_from : {V : Type 0} (k : ℕ) (n : Name) (xs : List (Item V)) → has_name n xs ≡ false → position_from (λ x. name_eq x.name n) k xs ≡ None
 none_from k n [] h = refl
 none_from k n (x ∷ xs) h = let parts = or_parts (name_eq x.name n) (has_name n xs) h in rw parts.0 (none_from (k + 1) n xs parts.1)
@@ -176,7 +176,7 @@ place_of-absent n xs h = none_from 0 n xs h
 
 -- marks are looked up by their order
 
--- a mark is below all behind it
+-- a mark is below all after it
 below_rest : (site : ℕ) (ms : List Name) → AreAbove site ms → AreAscending ms → (k : ℕ) (d : Name) → k < length ms → site < (get_or ms k d).site
 below_rest site [] above a k d l = absurd (omega arith)
 below_rest site (m ∷ ms) above a zero d l = above
@@ -202,7 +202,7 @@ point_below site (m ∷ ms) (suc i) l below above =
 covers_apart : (m n : Name) → (m.site ≡ n.site → ⊥) → covers m n ≡ false
 covers_apart m n apart = rw (false_from_ne_true (eqb m.site n.site) (λ same. apart (eqb-true m.site n.site same))) refl
 
--- no mark behind that of a name's site marks it
+-- no mark after that of a name's site marks it
 unmarked_behind : (n : Name) (site : ℕ) (ms : List Name) → n.site ≤ site → AreAbove site ms → AreAscending ms → is_marked n ms ≡ false
 unmarked_behind n site [] l above a = refl
 unmarked_behind n site (m ∷ ms) l above a =
@@ -231,7 +231,7 @@ marked_none n ms at a e h = marked_at n ms a ∙ rw (← e, h) refl
 pub marked_some : (n m : Name) (ms : List Name) (at : ℕ) → AreAscending ms → at ≡ marks_below n.site ms → slice_get ms at ≡ Some m → is_marked n ms ≡ covers m n
 marked_some n m ms at a e h = marked_at n ms a ∙ rw (← e, h) refl
 
--- the mark of a site stands where as many are below it
+-- the mark of a site is at the place with as many below it
 above_at : (site : ℕ) (ms : List Name) (k : ℕ) (m : Name) → AreAbove site ms → AreAscending ms → slice_get ms k ≡ Some m → site < m.site
 above_at site [] k m above a h = absurd cc
 above_at site (n ∷ ns) zero m above a h = let same : n ≡ m = cc in omega (arith, above, ap (λ x. x.site) same)

@@ -33,7 +33,7 @@ abbrev pub value_of : {V : Type 0} → Name → List (Item V) → Option V
 value_of n [] = None
 value_of n (x ∷ xs) = if name_eq x.name n then Some x.value else value_of n xs
 
--- whether an item with the name m stands before one with the name n
+-- whether an item with the name m comes before one with the name n
 abbrev pub stands_before : {V : Type 0} → Name → Name → List (Item V) → Bool
 stands_before m n [] = false
 stands_before m n (x ∷ xs) = if name_eq x.name m then has_name n xs else stands_before m n xs
@@ -49,7 +49,7 @@ pub record Items (V : Type 0) : Type 0 where
   pub items : List (Item V)
   pub spare : ℕ
 
--- how a proof tells names apart: by site and number
+-- how a proof distinguishes names: by site and number
 abbrev pub name_code : Coded Name
 name_code = code_by (ℕ × ℕ) (coded× coded_ℕ coded_ℕ) (λ n. (n.site, n.number)) (λ p. record { site = p.0; number = p.1 }) (λ _. refl)
 

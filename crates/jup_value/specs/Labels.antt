@@ -12,7 +12,7 @@ pub record IsLabelText (text : List ℕ) : Type 0 where
 abbrev pub padded : List ℕ → List ℕ
 padded text = text ++ replicate (longest_label - length text) 0
 
--- these are the fields of a label: a label's text of this length, and zeros behind it
+-- these are the fields of a label: a label's text of this length, and zeros after it
 pub record AreLabelFields (len : ℕ) (bytes : List ℕ) : Type 0 where
   pub long : length (take len bytes) ≡ len
   pub zeros : padded (take len bytes) ≡ bytes

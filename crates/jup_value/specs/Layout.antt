@@ -6,23 +6,23 @@ use Rattle.std.specs.List.{flat_map}
 abbrev pub joined : {X : Type 0} → List (List X) → List X
 joined bs = flat_map (λ b. b) bs
 
--- how many items stand before a block
+-- how many items come before a block
 abbrev pub items_before : {X : Type 0} → List (List X) → ℕ → ℕ
 items_before bs i = length (joined (take i bs))
 
--- an item more in the block at a place
+-- one more item in the block at a place
 abbrev pub put_in : {X : Type 0} → List (List X) → ℕ → ℕ → X → List (List X)
 put_in [] i p y = []
 put_in (b ∷ bs) zero p y = insert b p y ∷ bs
 put_in (b ∷ bs) (suc i) p y = b ∷ put_in bs i p y
 
--- an item less in the block at a place
+-- the block at a place with one item fewer
 abbrev pub take_in : {X : Type 0} → List (List X) → ℕ → ℕ → List (List X)
 take_in [] i p = []
 take_in (b ∷ bs) zero p = remove b p ∷ bs
 take_in (b ∷ bs) (suc i) p = b ∷ take_in bs i p
 
--- a full block in two halves of 64, and an item more: up to 64 it goes into the left half
+-- a full block in two halves of 64, and one more item: up to 64 it goes into the left half
 abbrev pub left_half : {X : Type 0} → List X → ℕ → X → List X
 left_half b p y = if nat_le p 64 then insert (take 64 b) p y else take 64 b
 
@@ -35,16 +35,16 @@ split_with [] i p y = []
 split_with (b ∷ bs) zero p y = left_half b p y ∷ right_half b p y ∷ bs
 split_with (b ∷ bs) (suc i) p y = b ∷ split_with bs i p y
 
--- an item more in a block, which is first split in two where it is full
+-- one more item in a block, which is first split in two if it is full
 abbrev pub with_item : {X : Type 0} → List X → ℕ → X → List (List X)
 with_item b p y = if nat_lt (length b) 128 then insert b p y ∷ [] else left_half b p y ∷ right_half b p y ∷ []
 
--- an item more among all: it goes into the first block that ends at its place or behind it, or into a new one where there is no block
+-- one more item among all: it goes into the first block that ends at its place or after it, or into a new one if there is no block
 abbrev pub with_item_at : {X : Type 0} → List (List X) → ℕ → X → List (List X)
 with_item_at [] p y = (y ∷ []) ∷ []
 with_item_at (b ∷ bs) p y = if nat_le p (length b) then with_item b p y ++ bs else b ∷ with_item_at bs (p - length b) y
 
--- an item less among all: a block that loses its last item is taken out, and no other block changes
+-- one item fewer among all: a block that loses its last item is taken out, and no other block changes
 abbrev pub without_item_at : {X : Type 0} → List (List X) → ℕ → List (List X)
 without_item_at [] p = []
 without_item_at (b ∷ bs) p = if nat_lt p (length b) then (if nat_lt 1 (length b) then remove b p ∷ bs else bs) else b ∷ without_item_at bs (p - length b)

@@ -1,4 +1,4 @@
--- The highest number that the items of each site had in a sequence, which tells a new name from one that may be held.
+-- The highest number that the items of each site had in a sequence, which distinguishes a new name from one that may be held.
 use Rattle.std.specs.Prelude.{◌≡◌, ℕ, suc, ◌<◌, Bool, true, ◌&&◌, ◌==◌, nat_lt, nat_le, List, [], ◌∷◌, if◌then◌else◌}
 use Rattle.std.specs.List.{list_any}
 use Rattle.jup_value.specs.declared.names.Name.{Name}
@@ -15,7 +15,7 @@ abbrev pub AreMarked : {V : Type 0} → List Name → List (Item V) → Type 0
 AreMarked ms [] = Unit {0}
 AreMarked ms (x ∷ xs) = (is_marked x.name ms ≡ true) × AreMarked ms xs
 
--- how many marks stand before that of a site
+-- how many marks come before that of a site
 abbrev pub marks_below : ℕ → List Name → ℕ
 marks_below site [] = 0
 marks_below site (m ∷ ms) = if nat_lt m.site site then suc (marks_below site ms) else 0

@@ -106,7 +106,7 @@ fn find<V: Copy>(items: &[Item<V>], name: Name) -> Option<usize>
     ensures place { result ≡ place_of name items.now }
     ensures within { IfSome result (λ at. at < length items.now) }
 {
-    // Numbers differ where sites do not, so they are asked first: the search is then faster.
+    // Names of one site differ in their numbers, so the numbers are compared first: the search is then faster.
     items.iter().position(|item| item.name.number == name.number && item.name.site == name.site)
 }
 
@@ -192,7 +192,7 @@ impl<V: Copy> Block<V> {
         Block { items: right }
     }
 
-    /// Moves the items out of the room of a whole block where they need less, and gives that room.
+    /// Moves the items out of the room of a whole block if they need less, and gives that room.
     pub fn shrink(&mut self, alloc: Global) -> Option<Room<V>>
         ensures { self.new ≡ self.old }
     {
@@ -216,7 +216,7 @@ impl<V: Copy> Block<V> {
         Ok(Block { items })
     }
 
-    /// Where the item with a name stands.
+    /// Where the item with a name is.
     pub fn place_of(&self, name: Name) -> Option<u32>
         ensures { result ≡ place_of name self.now }
     {

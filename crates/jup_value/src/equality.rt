@@ -3,7 +3,7 @@ ghost use Rattle.std.specs.Prelude.{◌≡◌, ◌↔◌, IsTrue};
 
 use crate::{Label, Seq};
 
-/// What the value of an item tells: whether it is another one's.
+/// The value of an item, which can be compared with another.
 pub trait ItemValue: Copy {
     /// Whether both are one value.
     fn same(&self, other: &Self) -> bool

@@ -178,7 +178,7 @@ pub(crate) fn copy_blocks<V: Copy>(
     Ok(copied)
 }
 
-/// Where the item with a name stands.
+/// Where the item with a name is.
 pub(crate) fn place_in<V: Copy>(blocks: &[Block<V>], name: Name) -> Option<u32>
     requires { length (joined blocks.now) ≤ 4294967295 }
     ensures { result ≡ place_of name (joined blocks.now) }
@@ -212,7 +212,7 @@ pub(crate) fn make_ready<V: Copy>(
     Ok(())
 }
 
-// Takes back the room of the block at a place, where it needs less.
+// Takes back the room of the block at a place, if it needs less.
 fn take_back_from<V: Copy>(
     alloc: Global,
     blocks: &mut [Block<V>],
@@ -233,7 +233,7 @@ fn take_back_from<V: Copy>(
     }
 }
 
-/// Takes back the room that an insertion took, where fewer are ready than wanted: `last` is the block that it went into,
+/// Takes back the room that an insertion took, if fewer are ready than wanted: `last` is the block that it went into,
 /// which it may have split.
 pub(crate) fn take_back<V: Copy>(
     alloc: Global,

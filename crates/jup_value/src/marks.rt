@@ -1,4 +1,4 @@
-//! The highest number that the items of each site had, which tells a new name without a search.
+//! The highest number that the items of each site had, which identifies a new name without a search.
 ghost use Rattle.std.specs.Prelude.{◌≡◌, ◌+◌, ◌<◌, ◌≤◌, length, IsTrue, slice_get, vec_len, vec_capacity};
 ghost use Rattle.jup_value.specs.Marks.{is_marked, marks_below, raised, AreAscending};
 
@@ -22,13 +22,13 @@ fn stands_at(marks: &[Name], at: usize, site: u32) -> bool
     }
 }
 
-// How many marks stand before that of a site.
+// How many marks come before that of a site.
 fn place_of_mark(marks: &[Name], site: u32) -> usize
     requires { AreAscending marks.now }
     ensures place { result ≡ marks_below site marks.now }
     ensures within { result ≤ length marks.now }
 {
-    // Mostly each site from that of the first mark on has a mark, so that its place is known.
+    // Usually each site from that of the first mark on has a mark, so its place is known.
     let first = mark_at(marks, 0).map_or(0, |mark| mark.site);
     let likely = site.saturating_sub(first) as usize;
     if stands_at(marks, likely, site) {

@@ -16,7 +16,7 @@ use std::marker::Model;
 ///
 /// Contracts see the list of its items, and `spare`, the number of insertions that it has room for.
 ///
-/// The items stand in blocks of at most 128, and a place is found by the table of their lengths.
+/// The items are in blocks of at most 128, and a place is found by the table of their lengths.
 #[derive(Drop)]
 pub struct Seq<V> {
     blocks: Vec<Block<V>>,
@@ -119,7 +119,7 @@ impl<V: Copy> Seq<V> {
         place_in(&self.blocks, name)
     }
 
-    /// Makes room for one insertion. Memory is refused only where there is not room already.
+    /// Makes room for one insertion. An allocation can fail only if there is not room already.
     pub fn reserve_one(&mut self) -> Result<(), NoMemory>
         ensures items { self.new.items ≡ self.old.items }
         ensures spare { self.old.spare ≤ self.new.spare }
@@ -129,7 +129,7 @@ impl<V: Copy> Seq<V> {
         self.reserve_more(1)
     }
 
-    /// Makes room for so many insertions. Memory is refused only where there is not room already.
+    /// Makes room for so many insertions. An allocation can fail only if there is not room already.
     pub fn reserve_more(&mut self, more: u32) -> Result<(), NoMemory>
         ensures items { self.new.items ≡ self.old.items }
         ensures spare { self.old.spare ≤ self.new.spare }
@@ -150,7 +150,7 @@ impl<V: Copy> Seq<V> {
         make_ready(self.alloc, &mut self.ready, wanted)
     }
 
-    /// Puts an item at a place, before the item that stood there. It takes no memory.
+    /// Puts an item at a place, before the item that was there. It takes no memory.
     pub fn insert(&mut self, at: u32, item: Item<V>)
         requires place { at ≤ length self.old.items }
         requires room { 1 ≤ self.old.spare }
@@ -213,7 +213,7 @@ impl<V: Copy> Seq<V> {
         })
     }
 
-    /// How many blocks the items stand in: each has 1 to 128 of them.
+    /// How many blocks the items are in: each has 1 to 128 of them.
     pub fn blocks(&self) -> u32
         ensures some_in_each { result ≤ length self.now.items }
         ensures few_in_each { length self.now.items ≤ 128 * result }

@@ -16,7 +16,7 @@ fn group_sum(group: &[u32]) -> u32
     total
 }
 
-// Past which groups, from the front, a place stands, and how far.
+// Past which groups, from the front, a place is, and how far.
 fn skip_from_front(lengths: &[u32], place: u32) -> (usize, u32)
     requires few { sum lengths.now < 2 ^ 32 }
     requires place { place ≤ sum lengths.now }
@@ -37,7 +37,7 @@ fn skip_from_front(lengths: &[u32], place: u32) -> (usize, u32)
     (at, left)
 }
 
-// The first block that ends at a place or behind it, and the offset of the place in it, looked for from the front.
+// The first block that ends at a place or after it, and the offset of the place in it. It looks from the front.
 #[tactic(auto, using(crate::proofs::Layouts::sum_before))]
 fn gap_from_front(lengths: &[u32], place: u32) -> (usize, u32)
     requires few { sum lengths.now < 2 ^ 32 }
@@ -60,7 +60,7 @@ fn gap_from_front(lengths: &[u32], place: u32) -> (usize, u32)
     (at, left)
 }
 
-// Before which groups, from the back, a place stands, and the sum of the lengths that are left.
+// Before which groups, from the back, a place is, and the sum of the lengths that are left.
 fn skip_from_back(lengths: &[u32], total: u32, place: u32) -> (usize, u32)
     requires total { total ≡ sum lengths.now }
     requires place { place ≤ sum lengths.now }
@@ -103,8 +103,8 @@ fn gap_from_back(lengths: &[u32], total: u32, place: u32) -> (usize, u32)
     (0, place)
 }
 
-/// The first block that ends at a place or behind it, and the offset of the place in it; the number of blocks where there
-/// is none. `total` is the sum of the lengths.
+/// The first block that ends at a place or after it, and the offset of the place in it; the number of blocks if there is
+/// none. `total` is the sum of the lengths.
 pub(crate) fn find_gap(lengths: &[u32], total: u32, place: u32) -> (usize, u32)
     requires total { total ≡ sum lengths.now }
     requires place { place ≤ sum lengths.now }
@@ -114,7 +114,7 @@ pub(crate) fn find_gap(lengths: &[u32], total: u32, place: u32) -> (usize, u32)
     ensures first { 0 < place → 0 < result.1 }
     ensures past { result.0 ≡ length lengths.now → lengths.now ≡ [] }
 {
-    // An item is mostly put at the end, or near it.
+    // Most items are put at the end, or near it.
     if place <= total / 2 {
         gap_from_front(lengths, place)
     } else {
@@ -130,7 +130,7 @@ pub(crate) fn find_item(lengths: &[u32], total: u32, place: u32) -> (usize, u32)
     ensures place { place ≡ sum (take result.0 lengths.now) + result.1 }
     ensures within { result.1 < slice_index lengths.now result.0 }
 {
-    // The item ends where the gap behind it is.
+    // The item ends where the gap after it is.
     let (block, end) = find_gap(lengths, total, place + 1);
     (block, end - 1)
 }

@@ -1,4 +1,4 @@
--- What a board is, and looks like but for its room, where the widget at a place is changed.
+-- What a board is, with and without its room, after the widget at a place is changed.
 use Rattle.std.proofs.Common.{◌≡◌, ℕ, ◌==◌, List, [], ◌∷◌, Option, Some, None, refl, sym, ap, ◌∙◌, inl, inr}
 use Rattle.std.specs.Option.{option_and_then, option_map, IfSome}
 use Rattle.std.proofs.lemmas.Bool.{cases_Bool}
@@ -36,7 +36,7 @@ change_at-none k (e ∷ es) = elim (cases_Bool (e.0 == k)) [ inl here ↦ rw her
 change_widget-none : {A : Type 0} (p : Place) (b : Grouped A) → change_widget p (λ a. a) b ≡ b
 change_widget-none p b = ap (λ h. change_at p.0 h b) (λ i ws. change_at-none p.1 ws i) ∙ change_at-none p.0 b
 
--- what is put under an id, where a change makes it of what was there
+-- what is put under an id, if a change makes it of what was there
 pub put-changed : {A : Type 0} → (k : ℕ) (f : A → A) (es : List (ℕ × A)) (a : A) → Some a ≡ at_id k es → change_at k (λ _. f a) es ≡ change_at k f es
 put-changed k f es a there = change_at-agree k (λ _. f a) f es (rw (sym there) refl)
 

@@ -15,6 +15,6 @@ module _ (A : RattleType) (t : MutBor (List (ℕ × A.Denot))) where
   abbrev pub lends_entry : ℕ → MutBor A.Denot → Fml
   lends_entry i r = Lends (the_row A) A t r (with_value_at t.now i)
 
-  -- the last value written through r stands under the id, and at `None` the table stays as it is
+  -- the id has the last value written through r, and at `None` the table stays as it is
   abbrev pub lends_value : ℕ → Option (MutBor A.Denot) → Fml
   lends_value k r = LendsIf (the_row A) A t r (λ w. change_at k (λ _. w) t.now) t.now

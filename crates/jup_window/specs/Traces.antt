@@ -1,4 +1,4 @@
--- What tells whether an operation on a board may be applied after others
+-- What determines whether an operation on a board may be applied after others
 use Rattle.std.proofs.Common.{◌≡◌, ℕ, ℤ, List, Bool, true, false, Option, Some, None, refl, subst, ◌↔◌, IsTrue, if◌then◌else◌}
 use Rattle.std.specs.Option.{option_map, IsSomeAnd}
 use Rattle.jup_value.specs.Items.{Items}
@@ -47,7 +47,7 @@ AllowsOn (Sequence r) (OnList o) = seq_traces.Allows o r
 AllowsOn (Sequence r) o = ⊥
 AllowsOn (Setting taken) o = IsTrue taken
 
--- the same on a board, where the widget may be absent
+-- the same on a board, if the widget may be absent
 abbrev pub IsTraceIn : Option Widget → WidgetTrace → WidgetOp → Type 0
 IsTraceIn None r o = r ≡ Misfit
 IsTraceIn (Some w) r o = IsTraceOn r o w
@@ -110,7 +110,7 @@ widget_traced e w valid =
     of_valid (λ e w. (r : WidgetTrace) (o : WidgetOp) → IsTraceOn r o w → IsTraceOn (widget_trace_past r o e) o (widget.after e w))
     (λ c x vc. text_traced c x vc.1) list_traced toggle_traced (λ c x vc. slider_traced c x) e w valid
 
--- or on another, where the widget may be absent
+-- or on another, if the widget may be absent
 in_traced : (here : Bool) (o e : WidgetOp) (w : Option Widget) (r : WidgetTrace) → (here ≡ true → IsSomeAnd w (widget.IsValid e)) → IsTraceIn w r o
     → IsTraceIn (option_map (λ v. if here then widget.after e v else v) w) (if here then widget_trace_past r o e else r) o
 in_traced false o e None r valid is = is
@@ -124,7 +124,7 @@ traced o e b r valid is =
     (in_traced (same_place (board.place e) (board.place o)) o.op e.op (widget_at (board.place o) b) r
     (λ same. subst (λ p. IsSomeAnd (widget_at p b) (widget.IsValid e.op)) (same_place-true (board.place e) (board.place o) same) valid) is)
 
--- a trace tells whether its operation is valid
+-- a trace determines whether its operation is valid
 
 widget_told : (r : WidgetTrace) (o : WidgetOp) (w : Widget) → IsTraceOn r o w → (AllowsOn r o ↔ widget.IsValid o w)
 widget_told (Sequence r) (OnText o) (Text x) is =

@@ -108,7 +108,7 @@ impl Transform for BoardOp {
         self.op.fresh_after(&earlier.op)
     }
 
-    /// Memory is refused only where there is not room already.
+    /// An allocation can fail only if there is not room already.
     fn reserve(&self, alloc: Global, beside: u32, state: &mut Board) -> Result<(), NoMemory>
         requires { beside < 4294967295 }
         ensures ok { OnOk result (board.HasRoom self.now beside state.new) }

@@ -148,7 +148,7 @@ impl Command {
         }
     }
 
-    /// The place that it names in a text or a list. It is 0 where a value is set.
+    /// The place that it names in a text or a list. It is 0 if a value is set.
     pub fn place(&self) -> u32
         ensures { result ≡ item_place self.now }
     {
@@ -160,9 +160,9 @@ impl Command {
         }
     }
 
-    /// The operation on a widget, with a name for an insertion. Of the widget's items only their count
-    /// and the name of the one at the command's place, if there is one, are looked at, as they are given
-    /// here: so they may be those of the widget as it is after other operations.
+    /// The operation on a widget, with a name for an insertion. Of the widget's items it uses only what is
+    /// given here: their count, and the name of the one at the command's place, if there is one. So they may
+    /// be those of the widget as it is after other operations.
     pub fn on_widget(
         &self,
         widget: &Widget,
@@ -204,10 +204,13 @@ impl Board {
         get(window.widgets(), wid).ok_or(EditFault::NoWidget)
     }
 
-    /// The operation of a command: an insertion under the given name, or a deletion or a relabel of the
-    /// item at the place under its own. It takes no memory. Refused, in this order: no such window, no such
-    /// widget, a command or a value that does not fit the widget, a place past the end, a value
-    /// outside the slider's bounds, an insertion into a sequence of 65,536 items or more.
+    /// The operation of a command: an insertion under the given name, or a deletion or a relabel of the item
+    /// at the place under its own. It takes no memory. Refused, in this order, are:
+    ///
+    /// - a window or a widget that is not there;
+    /// - a command or a value that does not fit the widget;
+    /// - a place past the end, or a value outside the slider's bounds;
+    /// - an insertion into a sequence of 65,536 items or more.
     pub fn name_it(&self, command: &Command, name: Name) -> Result<BoardOp, EditFault>
         requires fresh { IsFresh command.now name (bare self.now) }
         ensures named { result ≡ named command.now name (bare self.now) }

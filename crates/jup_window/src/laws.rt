@@ -1,5 +1,5 @@
-//! What boards hold and what their edits mean, written out. The laws of `Transform` speak of an
-//! implementation's own words for these; these functions do nothing but say which they are for boards.
+//! What boards hold and what their edits mean, written out. The laws of `Transform` use an implementation's
+//! own words for these. These functions say what those words are for boards, and do nothing else.
 ghost use Rattle.std.specs.Prelude.{◌≡◌, ◌≢◌, ◌↔◌, ℕ, ℤ, Bool, List, [], ◌∷◌, ◌++◌, Contains, ◌⊎◌, Some, None, IsTrue};
 ghost use Rattle.jup_value.specs.declared.names.Name.{Name};
 ghost use Rattle.jup_value.specs.declared.names.Item.{Item};
@@ -32,8 +32,8 @@ pub fn boards_are_lawful()
     ensures { AreLawful board_operations }
 {}
 
-/// The content of a board has the content of each widget under its ids: of a text or a list the
-/// values by the names of the items, without their order, and of a setting its value.
+/// The content of a board has the content of each widget under its ids. Of a text or a list it has the values
+/// by the names of the items, without their order. Of a setting it has the value.
 pub fn board_content()
     ensures text { (board : Windows) (p : Place) (text : Items ℕ)
         → widget_at p board ≡ Some (Widget.Text text)
@@ -53,7 +53,7 @@ pub fn board_content()
         → widget_at p board ≡ None → ⟦<BoardOp as Transform>⟧.content board p ≡ None }
 {}
 
-/// An operation may be applied where its ids name a widget of its kind and it may be applied there; but a
+/// An operation may be applied if its ids name a widget of its kind and it may be applied there; but a
 /// relabel of a text may not.
 pub fn operation_validity()
     ensures text { (p : Place) (op : SeqOp ℕ) (board : Windows) (text : Items ℕ)
@@ -136,8 +136,8 @@ pub fn operation_transform()
         × (⟦<BoardOp as Transform>⟧.server_past s c ≡ s) }
 {}
 
-/// Where order is kept from one board to another, it is kept in each text and each list that stands
-/// under the same ids in both.
+/// If order is kept from one board to another, it is kept in each text and each list that has the same ids in
+/// both.
 pub fn board_order()
     ensures text { (x y : Windows) (p : Place) (v w : Items ℕ)
         → ⟦<BoardOp as Transform>⟧.keeps_order x y
@@ -149,9 +149,9 @@ pub fn board_order()
         → ⟦<SeqOp<Label> as Transform>⟧.keeps_order v w }
 {}
 
-/// An insertion puts its value under its name, a deletion deletes its name, and a relabel of a list gives
-/// its name its label, whatever the place in the sequence, and a setting sets its value, each on the widget
-/// that the operation's ids name. A relabel of a text has no edit.
+/// An insertion puts its value under its name, and a deletion deletes its name. A relabel of a list gives its
+/// name its label, whatever the place in the sequence. A setting sets its value. Each acts on the widget that
+/// the operation's ids name. A relabel of a text has no edit.
 pub fn operation_edits()
     ensures character { (p : Place) (at : ℕ) (item : Item ℕ)
         → ⟦<BoardOp as Transform>⟧.edit_of (op_at p (WidgetOp.Text (SeqOp.Insert at item)))
@@ -191,9 +191,11 @@ pub fn operation_edits()
         ≡ edit_at p Effect.Nothing }
 {}
 
-/// What the laws ask before they promise anything: of a board that each text and each list has distinct
-/// names and is small, of two operations that they insert no name in common, in whatever widgets, of a later
-/// operation of a batch that it inserts no name that an earlier one inserts or deletes.
+/// The premises of the laws:
+///
+/// - of a board, that each text and each list has distinct names and is small;
+/// - of two operations, that they insert no name in common, in whatever widgets;
+/// - of a later operation of a batch, that it inserts no name that an earlier one inserts or deletes.
 pub fn premises()
     ensures distinct { (board : Windows)
         → ⟦<BoardOp as Transform>⟧.is_distinct board
@@ -210,8 +212,8 @@ pub fn premises()
         ⊎ ⟦<BoardOp as Transform>⟧.deletes (⟦<BoardOp as Transform>⟧.edit_of earlier) n → m.name ≢ n.name) }
 {}
 
-/// The names that an edit inserts, those that it deletes, and those that it changes, which are those that
-/// it deletes or gives another label, each in the widget of the edit's ids.
+/// The names that an edit inserts, those that it deletes, and those that it changes, each in the widget of
+/// the edit's ids. It changes those that it deletes or gives another label.
 pub fn edited_names()
     ensures character { (p : Place) (name : Name) (value : ℕ) (n : Placed)
         → ⟦<BoardOp as Transform>⟧.inserts (edit_at p (Effect.PutChar name value)) n
@@ -239,9 +241,8 @@ pub fn edited_names()
         → ¬ ⟦<BoardOp as Transform>⟧.changes edit n }
 {}
 
-/// What a list of edits makes of a text: the names that it had and those that are inserted, less
-/// those that are deleted anywhere in the list, each with the character of its last insertion, else
-/// with its own.
+/// What a list of edits makes of a text. It has the names that it had and those that are inserted, less those
+/// that are deleted anywhere in the list. Each has the character of its last insertion, else its own.
 pub fn text_meaning()
     ensures deleted { (before : Content) (edits : List Edit) (p : Place) (name : Name)
         → Contains edits (edit_at p (Effect.Deleted name))
@@ -259,9 +260,9 @@ pub fn text_meaning()
         ≡ character name (before p) }
 {}
 
-/// What a list of edits makes of a list of labels: the names that it had and those that are inserted,
-/// less those that are deleted anywhere in the list, each with the label of its last relabel, else of its
-/// last insertion, else with its own.
+/// What a list of edits makes of a list of labels. It has the names that it had and those that are inserted,
+/// less those that are deleted anywhere in the list. Each has the label of its last relabel, else of its last
+/// insertion, else its own.
 pub fn list_meaning()
     ensures deleted { (before : Content) (edits : List Edit) (p : Place) (name : Name)
         → Contains edits (edit_at p (Effect.Deleted name))
@@ -291,8 +292,8 @@ pub fn list_meaning()
         → label name (⟦<BoardOp as Transform>⟧.meaning before edits p) ≡ None }
 {}
 
-/// What a list of edits makes of a toggle or a slider: its last setting, and where it has none,
-/// what was there before.
+/// What a list of edits makes of a toggle or a slider: its last setting, and if it has none, what was there
+/// before.
 pub fn setting_meaning()
     ensures toggle { (before : Content) (edits : List Edit) (p : Place) (had on : Bool)
         → before p ≡ Some (On had)

@@ -11,7 +11,7 @@ use crate::widgets::Widget;
 use jup_seq::SeqTrace;
 use jup_xform::{Single, Transform};
 
-/// What of a widget tells whether an operation may be applied to it.
+/// What of a widget determines whether an operation may be applied to it.
 #[derive(Clone, Copy, Debug, PartialEq, Eq)]
 pub enum WidgetTrace {
     /// What is traced in a text or a list.

@@ -43,11 +43,11 @@ small_before k x (Delete p n) valid small = let shorter = length-remove x.items 
 small_before k x (Relabel p n v) valid small = let same = length-with_value x.items p v in omega arith
 small_before k x Nothing valid small = omega arith
 
--- a name that stands in the list is apart from one that does not
+-- a name that the list has is apart from one that it does not have
 held_apart : {V : Type 0} (xs : List (Item V)) (k n : Name) → has_name k xs ≡ false → has_name n xs ≡ true → name_eq k n ≡ false
 held_apart xs k n out held = false_from_ne_true (name_eq k n) (λ same. false≢true (sym out ∙ ap (λ m. has_name m xs) (name_eq_same k n same) ∙ held))
 
--- a valid operation leaves the order of all names that stand before and after it
+-- a valid operation leaves the order of all names that are held before and after it
 pub order : {V : Type 0} → (x : Items V) (c : SeqOp V) → HasDistinctNames x → IsValid c x → KeepsOrder x (after c x)
 order x (Insert p y) distinct valid = λ m n hm hn gm gn.
     sym (stands_before-insert m n x.items p y (held_apart x.items y.name m valid.1 hm) (held_apart x.items y.name n valid.1 hn))
@@ -57,7 +57,7 @@ order x (Delete p k) distinct valid = λ m n hm hn gm gn.
 order x (Relabel p k v) distinct valid = λ m n hm hn gm gn. sym (stands_before-with_value m n x.items p v)
 order x Nothing distinct valid = λ m n hm hn gm gn. refl
 
--- order kept from x to y and from y to z is kept from x to z, where what x and z share stands in y
+-- order kept from x to y and from y to z is kept from x to z, if y has what x and z share
 pub order_chain : {V : Type 0} → (x y z : Items V) → KeepsOrder x y → KeepsOrder y z → ((n : Name) → has_name n x.items ≡ true → has_name n z.items ≡ true → has_name n y.items ≡ true) → KeepsOrder x z
 order_chain x y z first second shared = λ m n hm hn gm gn.
     let ym = shared m hm gm in
@@ -71,7 +71,7 @@ or_none : {A : Type 0} (s : Bool) (o : Option A) → cond s None o ≡ cond (s |
 or_none true o = refl
 or_none false o = refl
 
--- a value that is given is a value in place of another, where there is another
+-- a value that is given is a value in place of another, if there is another
 label_held : {V : Type 0} (s : Bool) (v : V) (o : Option V) → (s ≡ true → labelled v o ≡ Some v) → cond s (Some v) o ≡ cond s (labelled v o) o
 label_held true v o h = sym (h refl)
 label_held false v o h = refl

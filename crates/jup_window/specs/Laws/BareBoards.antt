@@ -22,7 +22,7 @@ bare_in : (k : ℕ) (o : Option (List (ℕ × Widget))) → option_and_then (λ 
 bare_in k None = refl
 bare_in k (Some ws) = at_id-map widget.bare k ws
 
--- the widget at a place of a board but for its room
+-- the widget at a place of a board without its room
 pub widget_at-bare : (p : Place) (b : board.Windows) → widget_at p (board.bare b) ≡ option_map widget.bare (widget_at p b)
 widget_at-bare p b = ap (λ o. option_and_then (λ ws. at_id p.1 ws) o) (at_id-map board.bare_widgets p.0 b) ∙ bare_in p.1 (at_id p.0 b)
 
@@ -74,7 +74,7 @@ every_in site k n (Some ws) every h = every_there (at_id k ws) (at_id-every (λ 
     every_there None every h = absurd (false≢true h)
     every_there (Some w) every h = every_held site n w every h
 
--- where each item has the site, so has each name that is held
+-- if each item has the site, so has each name that is held
 pub only_site-held : (site : ℕ) (b : board.Windows) (n : board.Placed) → only_site site b ≡ true → board.Holds b n → n.name.site ≡ site
 only_site-held site b n every h =
     every_in site n.at.1 n.name (at_id n.at.0 b) (at_id-every (λ ws. every_in_window site ws) n.at.0 b every) h
@@ -113,7 +113,7 @@ none_in site k n (Some ws) none h is = none_there (at_id k ws) (at_id-none (λ w
     none_there None none h is = false≢true h
     none_there (Some w) none h is = none_held site n w none h is
 
--- where no item has the site, no name that is held has it
+-- if no item has the site, no name that is held has it
 pub has_site-held : (site : ℕ) (b : board.Windows) (n : board.Placed) → has_site site b ≡ false → board.Holds b n → n.name.site ≡ site → ⊥
 has_site-held site b n none h is =
     none_in site n.at.1 n.name (at_id n.at.0 b) (at_id-none (λ ws. some_in_window site ws) n.at.0 b none) h is

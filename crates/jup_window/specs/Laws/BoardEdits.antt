@@ -20,7 +20,7 @@ use Rattle.jup_window.specs.Laws.EffectPairs.{Fades, client_effect, server_effec
 
 -- the meaning of lists of edits, widget by widget
 
--- two lists of edits mean the same where they do on each widget
+-- two lists of edits mean the same if they do on each widget
 at_each : (X : board.Content) (one two : List Edit)
     → ((p : Place) (w : effects.Content) → effects.meaning w (map (λ e. board.effect_at p e) one) ≡ effects.meaning w (map (λ e. board.effect_at p e) two))
     → board.meaning X one ≡ board.meaning X two
@@ -67,11 +67,11 @@ fades_at false true at_s c s other kept h = inl refl
 fades_at true true true c s other kept h = fades_past (effects.effect_of (widget.client_past c s)) (effects.effect_of c) (effects.effect_of s) other (client_effect c s) kept
 fades_at true true false c s other kept h = absurd (false≢true (sym (h refl)))
 
--- where the client's operation is at a place, the server's is there where both are on one widget
+-- if the client's operation is at a place, the server's is there if both are on one widget
 same_at : (c s : BoardOp) (p : Place) → same_place (board.place c) p ≡ true → same_place (board.place c) (board.place s) ≡ same_place (board.place s) p
 same_at c s p at_c = ap (λ q. same_place q (board.place s)) (same_place-true (board.place c) p at_c) ∙ same_place-comm p (board.place s)
 
--- and the client's is there where the server's is
+-- and the client's is there if the server's is
 same_at_server : (c s : BoardOp) (p : Place) → same_place (board.place s) p ≡ true → same_place (board.place c) (board.place s) ≡ same_place (board.place c) p
 same_at_server c s p at_s = ap (λ q. same_place (board.place c) q) (same_place-true (board.place s) p at_s)
 
@@ -146,7 +146,7 @@ more_at : (o : Option effects.Content) (es fs : List Effect) → AreFreshAfter f
 more_at None es fs fresh = refl
 more_at (Some w) es fs fresh = ap (λ y. Some y) (meaning-more w es fs fresh)
 
--- a list after another means what the two mean in one, where no name that is inserted later is changed earlier
+-- a list after another means what the two mean in one, if no name that is inserted later is changed earlier
 abbrev pub AreFresh : List Edit → List Edit → Type 0
 AreFresh fs es = (n : board.Placed) → SomeOf (λ f. board.Inserts f n) fs → SomeOf (λ e. board.Changes e n) es → ⊥
 

@@ -73,7 +73,7 @@ inserts_server s c n h =
     same_inserted (same_place (place s) n.at) n.name (effects.effect_of (server_past s c).op) (effects.effect_of s.op)
     (same_name (server_past s c).op s.op (server_inserted (same_place (place c) (place s)) s.op c.op)) h
 
--- a transform leaves what is changed, but for what the other operation changes
+-- a transform leaves what is changed, except what the other operation changes
 
 -- a name that is changed at a place is so at all
 pub changes_at_all : (here : Bool) (n : Name) (e : Effect) → effects.changes n (if here then e else Nothing) ≡ true → effects.changes n e ≡ true
@@ -191,9 +191,9 @@ held_after b c n vc held =
     rw (widget_at-change (place c) n.at (widget.after c.op) b)
     (after_in (same_place (place c) n.at) n.name c.op (widget_at n.at b) (valid_there c n.at b vc) held)
 
--- order kept chains where what both ends hold is held in between
+-- order kept chains if what both ends hold is held in between
 
--- order is kept where nothing changes
+-- order is kept if nothing changes
 pub order_self : (b : Windows) → KeepsOrder b b
 order_self b = λ p m n hm hn gm gn. refl
 

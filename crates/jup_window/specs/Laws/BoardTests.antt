@@ -95,7 +95,7 @@ widget-accepts (OnToggle o) (Toggle x) h = refl
 widget-accepts (OnSlider o) (Slider x) h = slider-accepts o x h
 widget-accepts o w h = absurd h
 
--- the same where the widget may be absent
+-- the same if the widget may be absent
 valid_in : (o : WidgetOp) (w : Option Widget) → accepts_in o w ≡ true → IsSomeAnd w (widget.IsValid o)
 valid_in o None h = absurd (false≢true h)
 valid_in o (Some w) h = widget-valid o w h

@@ -29,7 +29,7 @@ use Rattle.jup_window.specs.Laws.BoardTests.{decides}
 
 -- the laws of the trait, as the implementation for operations on boards gives them
 
--- those on which a grid stands
+-- those on which a grid relies
 pub boards_lawful : IsLawful boards
 boards_lawful = record {
   square = laws.square;
@@ -137,7 +137,7 @@ numbered_ok : (r : Result BoardOp EditFault) (op : BoardOp) → numbered r ≡ O
 numbered_ok (Ok o) op e = let same : o ≡ op = cc in ap (λ x. Ok x) same
 numbered_ok (Err fault) op e = absurd cc
 
--- a site's next name is held nowhere, where no later name of the site is
+-- a site's next name is held nowhere, if no later name of the site is
 next_is_fresh : (c : Command) (i k : ℕ) (b : board.Windows) → ((n : board.Placed) → board.Holds b n → n.name.site ≡ i → n.name.number ≤ k) → IsFresh c (next_name i k) b
 next_is_fresh (InsertAt win wid p v) i k b known =
     false_from_ne_true (board.held (win, wid) (next_name i k) b) (λ held.

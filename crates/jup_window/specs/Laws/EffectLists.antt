@@ -49,7 +49,7 @@ settings_same had before one two later same =
 in_three : {A B : Type 0} (f : A → B) (before one later : List A) → map f (before ++ (one ++ later)) ≡ map f before ++ (map f one ++ map f later)
 in_three f before one later = map-append f before (one ++ later) ∙ ap (λ rest. map f before ++ rest) (map-append f one later)
 
--- they mean the same wherever they stand
+-- they mean the same wherever they are
 pub meaning-same : (X : Content) (before one two later : List Effect) → SameEffects one two → meaning X (before ++ (one ++ later)) ≡ meaning X (before ++ (two ++ later))
 meaning-same (Chars had) before one two later same =
     rw (in_three on_chars before one later, in_three on_chars before two later)
@@ -75,9 +75,9 @@ meaning-none (At had) = refl
 pub same-nothing : SameEffects (Nothing ∷ []) []
 same-nothing = record { chars = λ n. (refl, λ had. refl, λ kept had. refl); labels = λ n. (refl, λ had. refl, λ kept had. refl); toggle = λ had. refl; slider = λ had. refl }
 
--- a list after another means what the two mean in one, where no name that is inserted later is changed earlier
+-- a list after another means what the two mean in one, if no name that is inserted later is changed earlier
 
--- one of a mapped list has a property where one of the list has another that follows
+-- one of a mapped list has a property if one of the list has another that follows
 pub some_of-map : {A B : Type 0} (f : A → B) (P : B → Type 0) (Q : A → Type 0) (xs : List A) → ((x : A) → P (f x) → Q x) → SomeOf P (map f xs) → SomeOf Q xs
 some_of-map f P Q [] h some = some
 some_of-map f P Q (x ∷ xs) h (inl here) = inl (h x here)

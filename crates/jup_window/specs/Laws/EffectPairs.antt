@@ -30,7 +30,7 @@ pub record Gone (past own other : Effect) : Type 0 where
   pub other_is : other ≡ Deleted name
   pub past_is : past ≡ Nothing
 
--- what remains of an effect past another: the effect, or none where the other deletes the name that it changes
+-- what remains of an effect past another: the effect, or none if the other deletes the name that it changes
 abbrev pub Fades : Effect → Effect → Effect → Type 0
 Fades past own other = (past ≡ own) ⊎ Gone past own other
 
@@ -410,7 +410,7 @@ meaning_between X before between later first one two same =
     ∙ meaning-same X before (first ∷ (between ++ one ∷ [])) (first ∷ (between ++ two ∷ [])) later same
     ∙ ap (λ es. meaning X (before ++ (first ∷ es))) right
 
--- where the other's effect stands earlier, the moved effect means what it meant before
+-- if the other's effect comes earlier, the moved effect means what it meant before
 pub meaning-fades : (X : Content) (before between later : List Effect) (past own other : Effect) → Fades past own other
     → meaning X (before ++ (other ∷ (between ++ (past ∷ later)))) ≡ meaning X (before ++ (other ∷ (between ++ (own ∷ later))))
 meaning-fades X before between later past own other (inl e) = rw e refl

@@ -105,7 +105,7 @@ IsFreshOn (DeleteAt win wid p) n w = Unit {0}
 IsFreshOn (RelabelAt win wid p v) n w = Unit {0}
 IsFreshOn (SetValue win wid s) n w = Unit {0}
 
--- an accepted command's operation is valid on its widget where the name is fresh there
+-- an accepted command's operation is valid on its widget if the name is fresh there
 valid_on : (c : Command) (n : Name) (w : Widget) (op : WidgetOp) → IsFreshOn c n w → on_widget c n w ≡ Ok op → widget.IsValid op w
 valid_on c n w op fresh e =
     of_named n (λ c w o. IsFreshOn c n w → widget.IsValid o w)
@@ -145,7 +145,7 @@ named_on c n b op w (Ok o) there is e =
     let same : ◌≡◌ {A = BoardOp} (record { win = (command_place c).0; wid = (command_place c).1; op = o }) op = cc in
     subst (λ x. Named c n b x) same (record { widget = w; there = there; is = is; place_is = refl })
 
--- so it does where the widget may be refused
+-- so it does if the widget may be refused
 named_in : (c : Command) (n : Name) (b : board.Windows) (op : BoardOp) (r : Result Widget EditFault) → named_widget (command_place c) b ≡ r
     → map_ok {A = WidgetOp} {B = BoardOp} (λ o. record { win = (command_place c).0; wid = (command_place c).1; op = o }) (and_then_ok (on_widget c n) r) ≡ Ok op → Named c n b op
 named_in c n b op (Err fault) found e = absurd cc
@@ -155,7 +155,7 @@ named_in c n b op (Ok w) found e = named_on c n b op w (on_widget c n w) (in_the
 pub named_from : (c : Command) (n : Name) (b : board.Windows) (op : BoardOp) → named c n b ≡ Ok op → Named c n b op
 named_from c n b op e = named_in c n b op (named_widget (command_place c) b) refl e
 
--- the operation is valid where the name is fresh
+-- the operation is valid if the name is fresh
 
 -- a name that is fresh on the board is fresh on the widget
 fresh_in : (c : Command) (n : Name) (b : board.Windows) (w : Widget) → widget_at (command_place c) b ≡ Some w → IsFresh c n b → IsFreshOn c n w
@@ -164,13 +164,13 @@ fresh_in (DeleteAt win wid p) n b w there fresh = tt
 fresh_in (RelabelAt win wid p v) n b w there fresh = tt
 fresh_in (SetValue win wid s) n b w there fresh = tt
 
--- an accepted command's operation is valid where the name is fresh
+-- an accepted command's operation is valid if the name is fresh
 pub named_valid : (c : Command) (n : Name) (b : board.Windows) (op : BoardOp) → IsFresh c n b → named c n b ≡ Ok op → board.IsValid op b
 named_valid c n b op fresh e =
     let found = named_from c n b op e in
     rw found.there (valid_on c n found.widget op.op (fresh_in c n b found.widget (ap (λ p. widget_at p b) found.place_is ∙ found.there) fresh) found.is)
 
--- a name is fresh where no item has its site
+-- a name is fresh if no item has its site
 pub IsFresh-no_site : (c : Command) (n : Name) (b : board.Windows) → has_site n.site b ≡ false → IsFresh c n b
 IsFresh-no_site (InsertAt win wid p v) n b none =
     false_from_ne_true (board.held (win, wid) n b) (λ held. has_site-held n.site b (record { at = (win, wid); name = n }) none held refl)

@@ -88,7 +88,7 @@ apart_names (Delete p m) s apart = tt
 apart_names (Relabel p n v) s apart = tt
 apart_names NoSeqOp s apart = tt
 
--- a text takes the effect of the edit of its own operation as that edit, but for a relabel
+-- a text takes the effect of the edit of its own operation as that edit, except for a relabel
 on_chars-effect : (o : SeqOp ℕ) → IsTrue (is_no_relabel o) → on_chars (char_effect (seq_edits.edit_of o)) ≡ seq_edits.edit_of o
 on_chars-effect (Insert p y) kept = refl
 on_chars-effect (Delete p n) kept = refl

@@ -187,7 +187,7 @@ changed-server_past (OnToggle s) (OnToggle c) = inl refl
 changed-server_past (OnSlider s) (OnSlider c) = inl refl
 changed-server_past s c = inl refl
 
--- past another operation an operation changes what it changed, but for what the other changes, and nothing else
+-- past another operation an operation changes what it changed, except what the other changes, and nothing else
 
 -- a name that an operation on a text deletes is one that its edit does
 seq_deletes : {V : Type 0} (n : Name) (o : SeqOp V) → is_name n (deleted_by o) ≡ true → seq_names.DeletesName (seq_edits.edit_of o) n

@@ -11,7 +11,7 @@ use Rattle.jup_window.specs.Laws.BoardNames.{inserted_there, deleted_there}
 use Rattle.jup_window.specs.Laws.BoardsAreLawful.{inserts_own, deletes_own}
 use Rattle.jup_window.proofs.laws.premises.Goals as goal
 
--- two names that may be there are apart where they are not one name
+-- two names that may be there are apart if they are not one name
 apart_from : (j k : Option Name) → ((m n : Name) → j ≡ Some m → k ≡ Some n → m ≡ n → ⊥) → AreApartNames j k
 apart_from (Some m) (Some n) differ = false_from_ne_true (name_eq m n) (λ same. differ m n refl refl (name_eq_same m n same))
 apart_from (Some m) None differ = tt

@@ -1,4 +1,4 @@
--- The operation that a command becomes after others is told without applying them
+-- The operation that a command becomes after others is computed without applying them
 use Rattle.std.proofs.Common.{◌≡◌, ℕ, zero, suc, inl, inr, ◌<◌, ◌≤◌, Bool, true, false, List, [], ◌∷◌, length, Option, Some, None, refl, ap, sym, subst, ◌∙◌, Ok, Err, arith}
 use Rattle.std.specs.Prelude.{Result, nat_lt, is_some, if◌then◌else◌, ◌==◌}
 use Rattle.std.specs.Option.{option_map, option_and_then}
@@ -32,7 +32,7 @@ use Rattle.jup_window.specs.Laws.NamedCommands.{named-bare}
 use Rattle.jup_batch.specs.Later.{count_after, source_before, source_in, held_after, placed, told_after}
 use Rattle.jup_batch.proofs.LaterWidgets.{IsAlike, later, absent_later}
 
--- what is told is judged alike on widgets of one kind and with the same bounds
+-- the operation that is computed is the same on widgets of one kind and with the same bounds
 
 insertion_alike : (p : ℕ) (v : Value) (n : Name) (k : ℕ) (w u : Widget) → IsAlike w u → insertion_on p v n k u ≡ insertion_on p v n k w
 insertion_alike p (Char v) n k (Text x) (Text y) a = refl
@@ -114,7 +114,7 @@ past_end p (Labels x) l = no_item x.items p l
 past_end p (Toggle x) l = refl
 past_end p (Slider x) l = refl
 
--- the name that is told of a place is that of the item there
+-- the name that is computed for a place is that of the item there
 held_later : (p k : ℕ) (m : Option Name) (u : Widget) → item_count u ≡ k → (p < item_count u → item_name p u ≡ m) → item_name p u ≡ (if nat_lt p k then m else None)
 held_later p k m u count named =
     elim (cases_Bool (nat_lt p k)) [
@@ -184,7 +184,7 @@ none_in k (Some ws) f e = absent (at_id k ws) e
     absent None e = refl
     absent (Some w) e = absurd cc
 
--- a command becomes what is told of its widget
+-- a command becomes what is computed from its widget
 pub named_after : (c : Command) (n : Name) (b : board.Windows) (w : Widget) (es : List BoardOp)
     → AreValid boards es (board.bare b) → named_widget (command_place c) b ≡ Ok w → item_count w ≤ 4294967295 → named c n (after_all boards es (board.bare b)) ≡ told_after c n es w
 named_after c n b w es valid found few =
@@ -194,7 +194,7 @@ named_after c n b w es valid found few =
     let window : is_some (at_id ids.0 (board.bare b)) ≡ true = ap is_some (at_id-map board.bare_widgets ids.0 b) ∙ is_some-map board.bare_widgets (at_id ids.0 b) ∙ parts.0 in
     told_later c n (board.bare b) (widget.bare w) es valid there (let same = count_bare w in omega (arith, same, few)) window ∙ told_bare c n es w
 
--- and is refused as before where there is no widget
+-- and is refused as before if there is no widget
 absent_named : (c : Command) (n : Name) (b : board.Windows) (es : List BoardOp) → widget_at (command_place c) b ≡ None → named c n (after_all boards es b) ≡ named c n b
 absent_named c n b es none =
     let ids = command_place c in

@@ -1,4 +1,4 @@
--- A widget of a board after operations is of its kind, and has as many items as is told, named as is told
+-- A widget of a board after operations is of its kind, and its items are as many, and have the names, that are computed
 use Rattle.std.proofs.Common.{◌≡◌, ℕ, ◌<◌, ◌≤◌, Bool, true, false, List, [], ◌∷◌, length, Option, Some, None, refl, ap, sym, subst, ◌∙◌, arith, if◌then◌else◌}
 use Rattle.std.specs.Prelude.{reverse}
 use Rattle.std.specs.List.{fold}
@@ -51,24 +51,24 @@ IsAlike-then (Slider x) (Slider y) (Labels z) a b = absurd b
 IsAlike-then (Slider x) (Slider y) (Toggle z) a b = absurd b
 IsAlike-then u v w a b = absurd a
 
--- the place that is told of is one of the widget
+-- the place of a source is one of the widget
 abbrev pub IsWithin : Source → Widget → Type 0
 IsWithin (Inserted n) w = Unit {0}
 IsWithin (Place p) w = p < item_count w
 
--- an item of this name came from where it is told
+-- an item of this name came from the source
 abbrev pub CameFrom : Source → Widget → Option Name → Type 0
 CameFrom s w m = (m ≡ source_in s w) × IsWithin s w
 
 -- one operation
 
--- what one operation does to what is told of a widget
+-- what one operation does to what is computed from a widget
 record Stepped (e : WidgetOp) (w : Widget) : Type 0 where
   alike : IsAlike w (widget.after e w)
   count : item_count (widget.after e w) ≡ widget_count (item_count w) e
   named : item_count w ≤ 4294967295 → (p : ℕ) → p < item_count (widget.after e w) → CameFrom (widget_source (Place p) e) w (item_name p (widget.after e w))
 
--- what is told of a text, and of a list
+-- what is computed from a text, and from a list
 text_source : (s : Source) (x : Items ℕ) (m : Option Name) → (m ≡ sources.source_name s x) × sources.IsWithin s x → CameFrom s (Text x) m
 text_source (Inserted n) x m is = is
 text_source (Place p) x m is = is
@@ -109,7 +109,7 @@ count_few k (OnSlider e) few = few
 
 -- several operations
 
--- the widget of some ids after operations, and what is told of it
+-- the widget of some ids after operations, and what is computed from it
 pub record Later (ids : Ids) (b : board.Windows) (w : Widget) (es : List BoardOp) : Type 0 where
   pub widget : Widget
   pub there : widget_at ids (after_all boards es b) ≡ Some widget
@@ -130,7 +130,7 @@ came_past e w (Place p) m step few is = let here = step.named few p is.1 in (is.
 abbrev past : Ids → BoardOp → Widget → Widget
 past ids e w = if is_on ids e then widget.after e.op w else w
 
--- what one operation on the board does to what is told of a widget
+-- what one operation on the board does to what is computed from a widget
 record Passed (ids : Ids) (b : board.Windows) (w : Widget) (e : BoardOp) : Type 0 where
   there : widget_at ids (board.after e b) ≡ Some (past ids e w)
   alike : IsAlike w (past ids e w)

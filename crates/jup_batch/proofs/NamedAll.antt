@@ -37,11 +37,11 @@ prepended_more : (es : List BoardOp) (op : BoardOp) (r : Result (List BoardOp) �
 prepended_more es op (Ok os) = ap (λ xs. Ok xs) (sym (append_assoc es (op ∷ []) os))
 prepended_more es op (Err n) = refl
 
--- what the rest gives, where its first command gives an operation or a refusal
+-- what the rest gives, if its first command gives an operation or a refusal
 abbrev rest_of : List Command → ℕ → ℕ → board.Windows → Result BoardOp ℕ → Result (List BoardOp) ℕ
 rest_of rest site next y r = and_then_ok (λ o. map_ok (λ os. o ∷ os) (operations_of board_operations (board.after o y) rest site (next + insertions (board.edit_of o)))) r
 
--- one command more
+-- one more command
 pub one_named : (commands : List Command) (site count : ℕ) (b : board.Windows) (es : List BoardOp) (c : Command) (rest : List Command) (next : ℕ) (op : BoardOp)
     → AreNamed commands site count b es (c ∷ rest) next → named c (next_name site next) (after_all boards es b) ≡ Ok op
     → AreNamed commands site count b (es ++ op ∷ []) rest (next + insertions (board.edit_of op))

@@ -1,4 +1,4 @@
--- What `Boards` says of one operation, said of a batch of them: the words of the contracts of stars and sites
+-- What `Boards` says of one operation, for a batch of them: the words of the contracts of stars and sites
 use Rattle.std.proofs.Common.{◌≡◌, ℕ, ◌≤◌, Bool, true, false, List, [], ◌∷◌, length, Option, Some, None, refl, ap, ◌∙◌, sym, inl, inr, arith}
 use Rattle.std.proofs.lemmas.Bool.{or_parts, eq-eqb, false≢true}
 use Rattle.jup_xform.specs.declared.Transform.{Ghosts}
@@ -34,7 +34,7 @@ Commands = List Command
 abbrev pub boards_of : Ghosts BoardBatch board.Windows BoardEdits
 boards_of = batches boards
 
--- what a contract sees of a board, a board but for its room, and its content: those of single operations
+-- what a contract sees of a board, a board without its room, and its content: those of single operations
 abbrev pub Windows : Type 0
 Windows = board.Windows
 
@@ -84,7 +84,7 @@ insertions es = all_insertions board_operations es
 abbrev pub bears_site : ℕ → BoardEdits → Bool
 bears_site i es = one_bears_site board_operations i es
 
--- what is fixed of a batch where it is made: how many operations it has
+-- what is fixed of a batch when it is made: how many operations it has
 abbrev pub Shape : Type 0
 Shape = List (Unit {0})
 
@@ -141,7 +141,7 @@ foreign i (e ∷ es) n other (inr has) own =
     let parts = or_parts (board_operations.bears_site i e) (one_bears_site board_operations i es) other in
     foreign i es n parts.1 has own
 
--- one operation is copied where it stands
+-- one operation is copied in place
 
 pub several_operations : (os : BoardBatch) → 1 ≤ length os → (copies_freely_batch boards os → ⊥) → 2 ≤ length os
 several_operations [] some copied = absurd (omega (arith, some))

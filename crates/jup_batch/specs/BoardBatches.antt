@@ -21,7 +21,7 @@ use Rattle.jup_window.specs.Laws.BoardsAreLawful.{board_laws, inserts_own}
 use Rattle.jup_batch.specs.Batched.{batched, AreBatchable}
 use Rattle.jup_batch.specs.Laws.BatchedLaws.{batched_laws}
 
--- whether two names, where both are there, differ
+-- whether two names, if both are there, differ
 abbrev pub names_differ : Option Name → Option Name → Bool
 names_differ (Some m) (Some n) = not (name_eq m n)
 names_differ (Some m) None = true

@@ -1,4 +1,4 @@
--- What is told of a widget of a board as it is after operations, without applying them
+-- What is computed from a widget of a board after operations, without applying them
 use Rattle.std.specs.Prelude.{ℕ, Bool, List, reverse, Option, Some, None, Result, nat_lt, if◌then◌else◌}
 use Rattle.std.specs.List.{fold}
 use Rattle.jup_value.specs.declared.names.Name.{Name}
@@ -21,7 +21,7 @@ use Rattle.jup_window.specs.Commands.{map_ok, told_on, item_place, command_place
 abbrev pub is_on : Ids → BoardOp → Bool
 is_on ids e = same_place (board.place e) ids
 
--- how many items a widget has after an operation, and where an item came from of which it is told where it stands then
+-- how many items a widget has after an operation, and where an item came from whose source after the operation is known
 
 -- of an operation on the widget
 abbrev pub widget_count : ℕ → WidgetOp → ℕ
@@ -51,12 +51,12 @@ count_after ids k es = fold (count_past ids) k es
 abbrev pub source_before : Ids → Source → List BoardOp → Source
 source_before ids s es = fold (source_past ids) s (reverse es)
 
--- the name that is told of, on the widget before all of them
+-- the name of a source, on the widget before all of them
 abbrev pub source_in : Source → Widget → Option Name
 source_in (Inserted n) w = Some n
 source_in (Place p) w = item_name p w
 
--- the name of the item at a place after the operations, where there are so many items then
+-- the name of the item at a place after the operations, if there are so many items then
 abbrev pub held_after : Ids → ℕ → ℕ → List BoardOp → Widget → Option Name
 held_after ids p k es w = if nat_lt p k then source_in (source_before ids (Place p) es) w else None
 
@@ -64,7 +64,7 @@ held_after ids p k es w = if nat_lt p k then source_in (source_before ids (Place
 abbrev pub placed : Command → Result WidgetOp EditFault → Result BoardOp EditFault
 placed c r = map_ok (λ op. record { win = (command_place c).0; wid = (command_place c).1; op = op }) r
 
--- the operation of a command after others, as it is told of the widget before all of them
+-- the operation of a command after others, as it is computed from the widget before all of them
 abbrev pub told_after : Command → Name → List BoardOp → Widget → Result BoardOp EditFault
 told_after c n es w =
     let k = count_after (command_place c) (item_count w) es in

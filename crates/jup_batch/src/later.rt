@@ -1,4 +1,4 @@
-//! What is told of a widget of a board as it is after operations. None is applied, and no memory is taken.
+//! What can be found out of a widget of a board as it is after operations. No operation is applied, and no memory is taken.
 ghost use Rattle.std.specs.Prelude.{◌≡◌, ◌≤◌};
 ghost use Rattle.jup_window.specs.Widgets.{item_count};
 ghost use Rattle.jup_batch.specs.Later as later;
@@ -14,7 +14,7 @@ fn is_on(ids: (u16, u16), op: &BoardOp) -> bool
     op.win == ids.0 && op.wid == ids.1
 }
 
-// How many items the widget has after an operation, where there were so many before it.
+// How many items the widget has after an operation, if there were so many before it.
 fn count_past(ids: (u16, u16), count: u32, op: &BoardOp) -> u32
     ensures { result ≡ later.count_past ids count op.now }
 {
@@ -28,7 +28,7 @@ fn count_past(ids: (u16, u16), count: u32, op: &BoardOp) -> u32
     }
 }
 
-// Where an item came from, of which it is told where it was after an operation.
+// Where an item came from, given where it was after an operation.
 fn source_past(ids: (u16, u16), source: Source, op: &BoardOp) -> Source
     ensures { result ≡ later.source_past ids source op.now }
 {
@@ -42,7 +42,7 @@ fn source_past(ids: (u16, u16), source: Source, op: &BoardOp) -> Source
     }
 }
 
-// How many items the widget of these ids has after some operations, where it had so many before them.
+// How many items the widget of these ids has after some operations, if it had so many before them.
 fn count_after(ids: (u16, u16), count: u32, earlier: &[BoardOp]) -> u32
     ensures { result ≡ later.count_after ids count earlier.now }
 {
@@ -51,7 +51,7 @@ fn count_after(ids: (u16, u16), count: u32, earlier: &[BoardOp]) -> u32
         .fold(count, |count, op| count_past(ids, count, op))
 }
 
-// Where the item came from that stands at a place after some operations.
+// Where the item that is at a place after some operations came from.
 fn source_before(ids: (u16, u16), place: u32, earlier: &[BoardOp]) -> Source
     ensures { result ≡ later.source_before ids (Source.Place place) earlier.now }
 {
@@ -61,7 +61,7 @@ fn source_before(ids: (u16, u16), place: u32, earlier: &[BoardOp]) -> Source
     )
 }
 
-// The name of the item at a place of a widget after some operations, where it then has so many items.
+// The name of the item at a place of a widget after some operations, if it then has so many items.
 fn held_after(
     widget: &Widget,
     ids: (u16, u16),

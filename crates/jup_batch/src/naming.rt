@@ -16,8 +16,8 @@ use jup_window::{Board, BoardOp, Command, EditFault};
 pub const MOST_COMMANDS: usize = MOST_OPERATIONS as usize;
 
 /// The operation that a command becomes on the board as it is after some operations, each of which may be applied
-/// after those before it: an insertion under the given name, or a deletion or a relabel of the item that then stands
-/// at the place. The refusals are those of [`Board::name_it`] there.
+/// after those before it. It is an insertion under the given name, or a deletion or a relabel of the item that is
+/// then at the place. The refusals are those of [`Board::name_it`] there.
 pub fn name_after(
     board: &Board,
     command: &Command,
@@ -34,9 +34,9 @@ pub fn name_after(
     told_after(command, name, earlier, widget)
 }
 
-/// Writes the operations that commands become, each on the board as it is after those before it, and with the next
-/// name of the site, of which `count` insertions were named before. The first refusal is answered; which operations
-/// were written by then is left open.
+/// Writes the operations that commands become, each on the board as it is after those before it. They get the next
+/// names of the site, which named `count` insertions before. It answers the first refusal; which operations were
+/// written by then is left open.
 pub fn name_all(
     board: &Board,
     commands: &[Command],

@@ -1,4 +1,4 @@
--- The relation of each of a list to one, and of each to each of another, said of the elements.
+-- The relation of each of a list to one, and of each to each of another, stated for the elements.
 use Rattle.std.proofs.Common.{◌≡◌, List, [], ◌∷◌, zero, suc, arith, refl, subst}
 use Rattle.std.specs.Prelude.{Contains}
 use Rattle.jup_xform.specs.Batches.{EachTo, EachPair}

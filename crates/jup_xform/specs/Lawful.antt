@@ -5,7 +5,7 @@ use Rattle.jup_xform.specs.Grid.{SquareMeets}
 use Rattle.jup_xform.specs.Members.{SomeOf}
 use Rattle.jup_xform.specs.Rows.{row_operation}
 
--- the laws of `Transform` on which a grid stands; they are the same seen from either end
+-- the laws of `Transform` on which a grid relies; they are the same seen from either end
 pub record IsLawful {Op State Edit : Type 0} (t : Ghosts Op State Edit) : Type 0 where
   pub square : (x : State) (c s : Op) → t.is_distinct x → t.is_small 1 x → t.is_valid c x → t.is_valid s x → t.are_apart c s → SquareMeets t c s x
   pub distinct_after : (x : State) (c : Op) → t.is_distinct x → t.is_valid c x → t.is_distinct (t.after c x)

@@ -1,4 +1,4 @@
--- The elements of a list, wherever they stand
+-- The elements of a list, wherever they are
 use Rattle.std.specs.Prelude.{List}
 use Rattle.jup_xform.specs.declared.store.Store.{Store}
 use Rattle.jup_xform.specs.declared.store.Store.TheVariants.{One, More}

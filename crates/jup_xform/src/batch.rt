@@ -20,10 +20,10 @@ use jup_limits::MOST_OPERATIONS;
 use std::alloc::Global;
 use std::marker::Model;
 
-/// An operation that a batch may hold: whether it may be applied after others is told by a trace,
-/// which is taken of a state and carried past one operation after another, without applying any.
+/// An operation that a batch may hold. A trace determines whether it may be applied after others: it is taken
+/// of a state and carried past one operation after another, without applying any.
 pub trait Single: Transform {
-    /// What of a state tells whether the operation may be applied.
+    /// What of a state determines whether the operation may be applied.
     type Trace: Copy;
 
     /// That this is the operation's trace of a state.
@@ -43,14 +43,14 @@ pub trait Single: Transform {
     fn trace_after(&self, trace: Self::Trace, earlier: &Self) -> Self::Trace
         ensures { result ≡ trace_past self.now trace earlier.now };
 
-    /// Whether the operation may be applied where it has this trace.
+    /// Whether the operation may be applied if it has this trace.
     fn allowed_by(&self, trace: Self::Trace) -> bool
         ensures { IsTrue result ↔ allows self.now trace };
 
     /// A trace stays one past a valid operation.
     ghost traced: { (o e : Self) (x : Self.State) (r : Self.Trace) → Self.is_valid e x → is_trace o x r → is_trace o (Self.after e x) (trace_past o r e) };
 
-    /// It allows its operation exactly where that is valid.
+    /// It allows its operation exactly if that is valid.
     ghost told: { (o : Self) (x : Self.State) (r : Self.Trace) → is_trace o x r → (allows o r ↔ Self.is_valid o x) };
 }
 
@@ -144,7 +144,7 @@ fn edits_of<T: Transform>(alloc: Global, ops: &[T]) -> Result<Vec<T::Edit>, NoMe
     Ok(all)
 }
 
-/// Moves a client's list and a server's past one another: the grid, said of each list as of the other.
+/// Moves a client's list and a server's past one another: the grid, with a clause for each list.
 fn cross<T: Transform>(c: &mut [T], s: &mut [T])
     ensures client { c.new ≡ batch_client_past T.Transform c.old s.old }
     ensures server { s.new ≡ batch_server_past T.Transform s.old c.old }
@@ -152,7 +152,7 @@ fn cross<T: Transform>(c: &mut [T], s: &mut [T])
     grid(c, s);
 }
 
-/// The same where the server's list stands.
+/// The same for the server's list in its store.
 fn cross_store<T: Transform>(c: &mut [T], s: &mut Store<T>)
     ensures client { c.new ≡ batch_client_past T.Transform c.old (items_of s.old) }
     ensures server { items_of s.new ≡ batch_server_past T.Transform (items_of s.old) c.old }

@@ -40,7 +40,7 @@ impl<E> Few<E> {
 }
 
 impl<E: Copy> Few<E> {
-    /// These elements. Memory is asked for two or more.
+    /// These elements. Two or more take memory.
     pub fn from_slice(alloc: Global, elements: &[E]) -> Result<Few<E>, NoMemory>
         ensures elements { IfOk result (λ few. few ≡ elements.now) }
         ensures refused { OnErr result (2 ≤ length elements.now) }

@@ -1,6 +1,6 @@
-//! What a batch is, by what its operations are: what it is applied to and leaves, where it may be applied, how two are
-//! moved past one another, and what a list of edits means. The laws of `Transform` speak of an implementation's own
-//! words for these; these functions do nothing but say which they are, for operations of any type.
+//! What a batch is, by its operations: what it is applied to and leaves, when it may be applied, how two are
+//! transformed, and what a list of edits means. The laws of `Transform` use an implementation's own words for these.
+//! These functions say what those words are for operations of any type, and do nothing else.
 ghost use Rattle.std.specs.Prelude.{◌≡◌, ℕ, ◌+◌, ◌*◌, ◌<◌, ◌≤◌, ◌⊎◌, ◌↔◌, List, [], ◌∷◌, length, Contains};
 ghost use Rattle.jup_limits.specs.Limits.{most_operations};
 ghost use Rattle.jup_xform.specs.Batches.{joined};
@@ -16,8 +16,9 @@ pub fn batch_content<T: Single>()
     ensures holds { (x : T.State) (n : T.Name) → ⟦<Batch<T> as Transform>⟧.holds x n ↔ T.holds x n }
 {}
 
-/// Where a batch may be applied: one operation where that may be; more where the first may be, and the others after
-/// it, none of which inserts a name that the first inserts or deletes. There are 1 to 32 operations.
+/// When a batch may be applied. One operation may be applied as a batch if it may be applied at all. More may be
+/// applied if the first may be, and then the others after it. None of these inserts a name that the first inserts
+/// or deletes. There are 1 to 32 operations.
 pub fn batch_validity<T: Single>()
     ensures none { (x : T.State) → ¬ ⟦<Batch<T> as Transform>⟧.is_valid [] x }
     ensures one { (op : T) (x : T.State) → ⟦<Batch<T> as Transform>⟧.is_valid (op ∷ []) x ↔ T.is_valid op x }
@@ -55,7 +56,7 @@ pub fn batch_meaning<T: Single>()
 {}
 
 /// Two concurrent batches past one another are the grid of both lists: each operation in order past the whole of the
-/// other list as it then stands.
+/// other list as it then is.
 pub fn batch_transform<T: Single>()
     ensures client { (cs ss : List T)
         → ⟦<Batch<T> as Transform>⟧.client_past cs ss ≡ grid_rows T.client_past T.server_past cs ss }
@@ -63,9 +64,9 @@ pub fn batch_transform<T: Single>()
         → ⟦<Batch<T> as Transform>⟧.server_past ss cs ≡ grid_rows T.server_past T.client_past ss cs }
 {}
 
-/// What the laws ask before they promise anything: of a state what an operation asks of it, with so many items fewer
-/// as this and the other batches may insert; of two batches that each operation of one is apart from each of the
-/// other, or fresh after it.
+/// The premises of the laws. Of a state they are those of an operation, with as many items fewer as this and the
+/// other batches may insert. Of two batches they are that each operation of one is apart from each of the other,
+/// or fresh after it.
 pub fn premises<T: Single>()
     ensures whole { (x : T.State) → ⟦<Batch<T> as Transform>⟧.bare x ≡ T.bare x }
     ensures distinct { (x : T.State) → ⟦<Batch<T> as Transform>⟧.is_distinct x ↔ T.is_distinct x }

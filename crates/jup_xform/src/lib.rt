@@ -1,8 +1,8 @@
 //! Operations that can be transformed past one another, after the Jupiter collaboration system
 //! (Nichols, Curtis, Dixon and Lamping, UIST 1995).
 //!
-//! [`Transform`] says what links, stars and worlds may rest on, and nothing of any widget: its ghost
-//! members are the words, its methods compute them, and its laws are proved of each operation type.
+//! [`Transform`] says what links, stars and worlds may rely on, and nothing of any widget. Its ghost members
+//! are the words, and its methods compute them. Its laws are proved of each operation type.
 #![tactic(auto)]
 
 ghost use Rattle.std.specs.Prelude.{◌≡◌, ℕ, ◌+◌, ◌↔◌, ◌⊎◌, IsTrue, List, [], ◌∷◌, ◌++◌, OnOk, OnErr, IfOk};
@@ -25,8 +25,8 @@ pub use few::Few;
 pub use jup_limits::NoMemory;
 pub use row::{Side, across, grid};
 
-/// An operation on a state, which can be transformed past an operation that the other end of a link
-/// made at the same time. `c` stands for a client's operation and `s` for a server's.
+/// An operation on a state, which can be transformed past an operation that the other end of a link made at
+/// the same time. `c` is a client's operation and `s` a server's.
 pub trait Transform: Drop {
     /// What operations are applied to. It may keep room for growth, which contracts see beside the rest.
     type State;
@@ -45,7 +45,7 @@ pub trait Transform: Drop {
     /// The edit that an operation makes.
     ghost edit_of: { Self → Self.Edit };
 
-    /// A state but for the room that it keeps.
+    /// A state without the room that it keeps.
     ghost bare: { Self.State → Self.State };
 
     /// Whether the operation may be applied, and the state that it leaves.
@@ -65,7 +65,7 @@ pub trait Transform: Drop {
     /// Each sequence is shorter than 2,147,483,648 items by more than this number.
     ghost is_small: { ℕ → Self.State → Type 0 };
 
-    /// Names that stand in one sequence in both states stand in the same order in both.
+    /// Names that one sequence has in both states are in the same order in both.
     ghost keeps_order: { Self.State → Self.State → Type 0 };
 
     /// The insertions of both have no name in common.
@@ -74,7 +74,7 @@ pub trait Transform: Drop {
     /// The operation inserts no name that the other, which comes before it, inserts or deletes.
     ghost is_fresh: { Self → Self → Type 0 };
 
-    /// A name of an item together with the sequence that it stands in.
+    /// A name of an item together with its sequence.
     ghost Name: { Type 0 };
 
     /// The names that a state holds, and those that an edit inserts, deletes, and deletes or gives
@@ -92,7 +92,7 @@ pub trait Transform: Drop {
 
     ghost server_past: { Self → Self → Self };
 
-    /// What is fixed where an operation is made, as the number of operations in a batch.
+    /// What is fixed when an operation is made, as the number of operations in a batch.
     ghost Shape: { Type 0 };
 
     ghost shape: { Self → Shape };
@@ -112,8 +112,8 @@ pub trait Transform: Drop {
     fn fresh_after(&self, earlier: &Self) -> bool
         ensures { IsTrue result ↔ is_fresh self.now earlier.now };
 
-    /// Makes room for this operation and for `beside` others in the same sequence. Memory is refused only
-    /// where there is not room already.
+    /// Makes room for this operation and for `beside` others in the same sequence. An allocation can fail
+    /// only if there is not room already.
     fn reserve(&self, alloc: Global, beside: u32, state: &mut Self::State) -> Result<(), NoMemory>
         requires { can_reserve beside }
         ensures ok { OnOk result (has_room self.now beside state.new) }
@@ -142,7 +142,7 @@ pub trait Transform: Drop {
         requires { shape self.now ≡ shape into.old }
         ensures { into.new ≡ self.now };
 
-    /// The edit that the operation makes. Memory is refused only where a copy takes some too.
+    /// The edit that the operation makes. An allocation can fail only if a copy allocates too.
     fn edit(&self, alloc: Global) -> Result<Self::Edit, NoMemory>
         ensures edit { IfOk result (λ edit. edit ≡ edit_of self.now) }
         ensures refused { OnErr result (copies_freely self.now → ⊥) };
@@ -200,8 +200,8 @@ pub trait Transform: Drop {
 
     ghost inserts_server: { (s c : Self) (n : Name) → inserts (edit_of (server_past s c)) n → inserts (edit_of s) n };
 
-    /// A client's operation past a server's still changes what it changed, but for what the server's changes;
-    /// a server's past a client's changes nothing else.
+    /// A client's operation past a server's still changes what it changed, except what the server's changes.
+    /// A server's past a client's changes nothing else.
     ghost changes_client: { (c s : Self) (n : Name) → changes (edit_of c) n → changes (edit_of (client_past c s)) n ⊎ changes (edit_of s) n };
 
     ghost changes_server: { (s c : Self) (n : Name) → changes (edit_of (server_past s c)) n → changes (edit_of s) n };
@@ -218,13 +218,13 @@ pub trait Transform: Drop {
 
     ghost held_after: { (x : Self.State) (c : Self) (n : Name) → is_valid c x → holds x n → holds (after c x) n ⊎ deletes (edit_of c) n };
 
-    /// Order kept chains where what both ends hold is held in between.
+    /// Order kept chains if what both ends hold is held in between.
     ghost order_self: { (x : Self.State) → keeps_order x x };
 
     ghost order_chain: { (x y z : Self.State) → keeps_order x y → keeps_order y z → ((n : Name) → holds x n → holds z n → holds y n) → keeps_order x z };
 
-    /// Lists of edits: no edit changes nothing, and two lists in turn mean the joined list, where the
-    /// second inserts no name that the first changes.
+    /// Lists of edits: no edit changes nothing, and two lists in turn mean the joined list, if the second
+    /// inserts no name that the first changes.
     ghost meaning_none: { (k : Content) → meaning k [] ≡ k };
 
     ghost meaning_more: { (k : Content) (es fs : List Self.Edit) → ((n : Name) → SomeOf (λ f. inserts f n) fs → SomeOf (λ e. changes e n) es → ⊥)

@@ -1,4 +1,4 @@
-//! Where the elements of a list stand.
+//! Where the elements of a list are.
 ghost use Rattle.std.specs.Prelude.{◌≡◌};
 ghost use Rattle.jup_xform.specs.Stores.{items_of};
 

@@ -1,4 +1,4 @@
--- Edits of batches in a row: a batch past another means, behind that one's edits, what it meant.
+-- Edits of batches in a row: a batch past another means, after that one's edits, what it meant.
 use Rattle.std.specs.Prelude.{◌≡◌, List, [], ◌∷◌, ◌++◌, refl}
 use Rattle.std.proofs.Common.{ap, sym, ◌∙◌, append_assoc}
 use Rattle.jup_xform.specs.declared.Transform.{Ghosts}
@@ -48,7 +48,7 @@ module _ {Op State Edit : Type 0} (t : Ghosts Op State Edit) where
   ArePast-batches (cs ∷ past) ss gs p = ArePast-batches past ss (batch_server_past t gs cs) (ArePast-batch cs ss gs p)
 
 module _ {Op State Edit : Type 0} (t : Ghosts Op State Edit) (keeps : KeepsMeaning t) where
-  -- where the edits of a list stand earlier, an operation past it means what it meant before
+  -- if the edits of a list come earlier, an operation past it means what it meant before
   row_edit_client : (c : Op) (ss gs : List Op) → ArePast t ss gs → (k : t.Content) (before between later : List Edit)
       → t.meaning k (before ++ (edits t ss ++ (between ++ t.edit_of (row_operation t.client_past c gs) ∷ later)))
       ≡ t.meaning k (before ++ (edits t ss ++ (between ++ t.edit_of c ∷ later)))

@@ -93,7 +93,7 @@ module _ {Op State Edit : Type 0} (t : Ghosts Op State Edit) (lawful : IsLawful 
       let e : k ≡ (k - m) + m = omega arith in
       small_less t lawful (k - m) m x (rw e at small)
 
-  -- a grid closes where the state is small by all its operations but one
+  -- a grid closes if the state is small by all its operations but one
   GridCloses-within : (m : ℕ) (cs done ss : List Op) (x : State)
       → t.is_distinct x → t.is_small m x → length cs + length done + length ss ≤ m + 1 → AreValid t cs x → AreValid t done x
       → AreValid t ss (after_all t done x) → EachPair t.are_apart cs ss

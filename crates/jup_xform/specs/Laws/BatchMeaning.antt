@@ -27,7 +27,7 @@ module _ {Op State Edit : Type 0} (t : Ghosts Op State Edit) (keeps : KeepsMeani
   batch_inserts_server (s ∷ ss) cs n (inl i) = inl (row_inserts_server s cs n i)
   batch_inserts_server (s ∷ ss) cs n (inr i) = inr (batch_inserts_server ss (row_entries t.server_past t.client_past s cs) n i)
 
-  -- what a list changes it still changes past another, but for what the other changes
+  -- what a list changes it still changes past another, except what the other changes
   row_changes_client : (c : Op) (ss : List Op) (n : t.Name) → t.changes (t.edit_of c) n
       → t.changes (t.edit_of (row_operation t.client_past c ss)) n ⊎ Changes t (edits t ss) n
   row_changes_client c [] n d = inl d

@@ -122,7 +122,7 @@ module _ {Op State Edit : Type 0} (t : Ghosts Op State Edit) (lawful : IsLawful 
       let next : n + suc (length os) ≡ (n + 1) + length os = omega arith in
       lawful.small_before n x o valid.0 (small_before_all (n + 1) os (t.after o x) valid.1 (rw next at small))
 
--- a grid that closes still does when the server's list gets one operation more
+-- a grid that closes still does when the server's list gets one more operation
 module _ {Op State Edit : Type 0} (t : Ghosts Op State Edit) (lawful : IsLawful t) where
   square_at : (n : ℕ) (x : State) (c s : Op) → t.is_distinct x → t.is_small (n + 1) x → t.is_valid c x → t.is_valid s x → t.are_apart c s → SquareMeets t c s x
   square_at n x c s distinct small valid_c valid_s apart = lawful.square x c s distinct (small_less t lawful n 1 x small) valid_c valid_s apart

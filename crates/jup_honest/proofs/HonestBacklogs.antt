@@ -1,4 +1,4 @@
--- The backlog of a site: it was told of all its edits that the star received, except fewer than `answer_after`.
+-- The backlog of a site: it knows of all its edits that the star received, except fewer than `answer_after`.
 use Rattle.std.proofs.Common.{◌≡◌, ℕ, ◌+◌, Bool, true, false, cond, List, [], ◌∷◌, ◌++◌, drop, length, nat_eq, refl, sym, subst, Option, Some, None, arith, take, append-nil, eq-eqb, eqb-true}
 use Rattle.jup_batch.specs.BatchBoards.{BoardBatch, Windows, content}
 use Rattle.jup_batch.specs.BoardBatches.{board_batches, batch_laws}

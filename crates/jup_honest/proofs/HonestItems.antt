@@ -33,7 +33,7 @@ others_longer (Other j e ∷ ts) us zero h = omega arith
 others_longer (Other j e ∷ ts) us (suc n) h = omega (arith, others_longer ts us n (omega (arith, h)))
 
 module _ (O : Operations) (L : AreLawful O) (most : ℕ) (first : O.t.Content) (since i : ℕ) where
-  -- the entries that it was told
+  -- the entries that have reached it
   abbrev Told : List (OrderEntry O.Edit) → ℕ → List (Turn O.Edit)
   Told order shown = take (told_of O since shown (turns i order)) (turns i order)
 
@@ -87,7 +87,7 @@ module _ (O : Operations) (L : AreLawful O) (most : ℕ) (first : O.t.Content) (
 
   -- # With its link, or without it
 
-  -- a site that stands beside a star
+  -- a site that is in step with a star
   stood-placed : (s : StarOf O) (mine : List O.Edit) (shown : ℕ) (l : LinkState O.Op) (a : AttachedOf O) → Stood O L most first since i s mine shown l a → Placed s.order shown a.site
   stood-placed s mine shown l a st = record { known = λ n held. st.pair.board_known n held; joined_within = st.joined_within; shown_within = st.shown_within }
 

@@ -1,4 +1,4 @@
--- What a site relies on that stands beside the hub's star.
+-- What a site relies on while it is in step with the hub's star.
 use Rattle.std.proofs.Common.{◌≡◌, inl, inr, ℕ, Bool, true, false, cond, List, [], ◌∷◌, ◌++◌, take, drop, length, refl, ap, sym, ◌∙◌, subst, Option, Some, None, arith, append-nil, append_assoc, take-append-drop, nat_eq, eq-eqb}
 use Rattle.std.proofs.lemmas.List.{take-append-le}
 use Rattle.std.proofs.Math.Seq.{drop-append_seam}
@@ -52,7 +52,7 @@ module _ (O : Operations) (L : AreLawful O) (most : ℕ) (first : O.t.Content) (
   abbrev rest : List (Turn O.Edit)
   rest = drop seen (turns i s.order)
 
-  -- it shows what it was told and made
+  -- it shows the meaning of what has reached it and of what it made
   pub stands-view : O.t.content a.site.board ≡ O.t.meaning first (edits past ++ drop (length (own_edits past)) mine)
   stands-view =
       let made_is : mine ≡ own_edits past ++ (own_edits rest ++ st.pair.raw) =
@@ -75,7 +75,7 @@ module _ (O : Operations) (L : AreLawful O) (most : ℕ) (first : O.t.Content) (
       let none : st.pair.raw ≡ [] = sym st.pair.raw_sent ∙ ap (λ r. edits_sent O (ups r)) up in
       sym (made_is ∙ ap (λ es. own_edits (turns i s.order) ++ es) none ∙ append-nil (own_edits (turns i s.order)))
 
-  -- what it shows and what the star shows stand in one order
+  -- what it shows and what the star shows are in one order
   module _ (symmetric : (x y : O.State) → O.t.keeps_order x y → O.t.keeps_order y x) (sound : IsSoundStar O most first s) where
     -- the star knows what its board holds, counted as the site counts
     counted : (j : ℕ) → star_counts O L symmetric most i first past rest s.board mine l a st.pair j ≡ named_in O s.order j
@@ -91,7 +91,7 @@ module _ (O : Operations) (L : AreLawful O) (most : ℕ) (first : O.t.Content) (
 
 module _ (O : Operations) (L : AreLawful O) (most : ℕ) (first : O.t.Content) (order : List (OrderEntry O.Edit)) (mine : List O.Edit) (since shown i : ℕ) (site : SiteOf O) (down : List (Down O.Op))
     (g : IsGone O most first order mine since shown i site down) where
-  -- a longer order tells it no more
+  -- a longer order brings it no more
   pub gone-told : take (told_of O since shown (turns i order)) (turns i order) ≡ take (told_of O since shown (turns i g.last.order)) (turns i g.last.order)
   gone-told =
       let ts : List (Turn O.Edit) = turns i g.last.order in
@@ -100,7 +100,7 @@ module _ (O : Operations) (L : AreLawful O) (most : ℕ) (first : O.t.Content) (
       ∙ ap (λ k. take k (ts ++ us)) (told_end O L since shown ts us g.stands.joined_within g.stands.shown_within)
       ∙ take-append-le (told_of O since shown ts) ts us (told_within O L since shown ts g.stands.joined_within g.stands.shown_within)
 
-  -- so it shows what it was told and made
+  -- so it shows the meaning of what has reached it and of what it made
   pub gone-view : O.t.content site.board ≡ O.t.meaning first (edits (take (told_of O since shown (turns i order)) (turns i order))
       ++ drop (length (own_edits (take (told_of O since shown (turns i order)) (turns i order)))) mine)
   gone-view =

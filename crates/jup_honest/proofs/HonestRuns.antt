@@ -1,4 +1,4 @@
--- An honest site stands beside the hub's star at every moment of its run.
+-- An honest site is in step with the hub's star at every moment of its run.
 use Rattle.std.proofs.Common.{◌≡◌, ℕ, ◌+◌, ◌≤◌, Bool, true, false, cond, List, [], ◌∷◌, ◌++◌, take, drop, length, nat_eq, refl, ap, sym, ◌∙◌, subst, Option, Some, None, option_to_list, Ok, arith, append-nil, append_assoc, eqb-true, length-append, drop_of_length-le, le_refl}
 use Rattle.std.proofs.lemmas.List.{drop-append-le}
 use Rattle.std.proofs.Math.Seq.{drop-append_seam}
@@ -78,7 +78,7 @@ abbrev pub link_at : Connection → BoardAttached
 link_at a = record { site = a.site; up = drop (length a.taken) a.sent; down = drop (length a.handed) a.fetched }
 
 module _ (board : Windows) where
-  -- it stands beside the star
+  -- it is in step with the star
   abbrev pub Stands : Connection → Type 0
   Stands a = IsHonestAt board_batches most_batches (content board) a.since a.number a.star (made a) (edits_among a.handed) (link_at a)
 
@@ -114,7 +114,7 @@ module _ (board : Windows) where
     next-accepted d rest e =
         honest-accepts board_batches batch_laws most_batches (content board) a.since a.number a.star (made a) (edits_among a.handed) (link_at a) h d rest (left_of a.fetched a.handed (d ∷ rest) e)
 
-    -- it is handed it
+    -- it receives the message
     hand-stands : (d : Down BoardBatch) → IsReliable (after (Deliver d) a) → Stands (after (Deliver d) a)
     hand-stands d g =
         subst (λ o. Stands (record a { site = after_fault board_batches d a.site o; sent = a.sent ++ sent_as_handed (deliver_result d a.site o); handed = a.handed ++ d ∷ [] }))

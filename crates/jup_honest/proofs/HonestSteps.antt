@@ -28,7 +28,7 @@ use Rattle.jup_world.proofs.Pairs.PairLink.{pair-asked}
 use Rattle.jup_world.proofs.Pairs.PlaceKept.{place-taken, place-acked, place-asked, place-sent, place-shown, place-told, place-answered, place-fetched, place-fits, place-accepted, place-ack_fits}
 
 module _ (O : Operations) where
-  -- a site whose link is gone: it stands beside the star that there was then, whose order is the first of the order now
+  -- a site whose link is gone: it is in step with the star that there was then, whose order is the beginning of the order now
   pub record IsGone (most : ℕ) (first : O.t.Content) (order : List (Entry O.Edit)) (mine : List O.Edit) (since shown i : ℕ) (site : SiteOf O) (down : List (Down O.Op)) : Type 0 where
     pub last : StarOf O
     pub sound : IsSoundStar O most first last
@@ -43,7 +43,7 @@ module _ (O : Operations) where
   StandsWith most first order held mine since shown i a None = IsGone most first order mine since shown i a.site a.down
   StandsWith most first order held mine since shown i a (Some l) = Standing O most first (turns i order) held mine since shown i l a
 
-  -- site i, which joined when the order had `since` entries, beside a star that anyone calls. It made these edits, was handed so
+  -- site i, which joined when the order had `since` entries, beside a star that anyone calls. It made these edits, received so
   -- many of others, and has these messages on their way
   pub record IsHonestAt (most : ℕ) (first : O.t.Content) (since i : ℕ) (s : StarOf O) (mine : List O.Edit) (shown : ℕ) (a : AttachedOf O) : Type 0 where
     pub star : IsSoundStar O most first s
@@ -67,7 +67,7 @@ module _ (O : Operations) (L : AreLawful O) (most : ℕ) (first : O.t.Content) (
   pub sound-fits : (s : StarOf O) → IsSoundStar O most first s → length s.order + most_beyond ≤ most
   sound-fits s h = omega (arith, h.few, h.limited)
 
-  -- the site that is left where a link is gone
+  -- the site that is left if a link is gone
   abbrev pub left_at : (order : List (Entry O.Edit)) (mine : List O.Edit) (shown : ℕ) (a : AttachedOf O) → IsGone O most first order mine since shown i a.site a.down → AttachedOf O
   left_at order mine shown a g = record { site = a.site; up = g.up; down = a.down }
 
@@ -268,7 +268,7 @@ module _ (O : Operations) (L : AreLawful O) (most : ℕ) (first : O.t.Content) (
         cases None g = stood-accepts g.last g.sound mine shown g.link (left_at s.order mine shown a g) g.stands d falling e
         cases (Some l) st = stood-accepts s h.star mine shown l a st d falling e
 
-    -- and is handed it
+    -- and receives it
     pub honest-handed : (d : Down O.Op) (falling : List (Down O.Op)) → a.down ≡ d ∷ falling → HonestAt s mine (shown + brings d) (one_handed O d falling a)
     honest-handed d falling e = honest-with mine (shown + brings d) (one_handed O d falling a) step
       where

@@ -90,7 +90,7 @@ module _ (board : Windows) where
         let grown = call-order e.call a.star in
         keeps-same board_batches batch_laws most_batches (content board) a.since a.number a.star.order (edits_among a.handed) a.site place (star_after e.call a.star).order grown.0 grown.1
 
-    -- and at a third, where the number and the place of the join are the same
+    -- and at a third, if the number and the place of the join are the same
     chain_at : (b c : Connection)
         → Keeps board_batches batch_laws most_batches (content board) a.since a.number a.star.order b.star.order (edits_among a.handed) (edits_among b.handed) a.site b.site
         → Keeps board_batches batch_laws most_batches (content board) a.since a.number b.star.order c.star.order (edits_among b.handed) (edits_among c.handed) b.site c.site

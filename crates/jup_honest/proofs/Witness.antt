@@ -35,7 +35,7 @@ message mine heard on = record { mine = mine; heard = heard; op = switch on }
 abbrev command : Commands
 command = SetCommand 1 1 (ToggleSetting true) ∷ []
 
--- the site edits and pings; a stranger joins and edits; the star takes the stranger's edit, then the site's messages; and the site is handed all
+-- the site edits and pings; a stranger joins and edits; the star takes the stranger's edit, then the site's messages; and the site receives all
 abbrev steps : List Step
 steps =
     Called (entry [] Join (JoinedReply (Ok (record { site = 2; limit = 9; board = board }))))

@@ -16,8 +16,8 @@ use Rattle.jup_star.specs.SiteCalls.{BoardSite, edit_reply, site_edited, deliver
 use Rattle.jup_star.specs.StarCalls.{BoardStar, star_after}
 use Rattle.jup_hub.specs.declared.view.Entry.{Entry}
 
--- A step: the site makes one edit of commands, or refuses them; it is handed a message; it sends a ping; or anyone calls the hub.
--- A call of the site that is refused for want of memory changes nothing, and is no step
+-- A step: the site makes one edit of commands, or refuses them; it receives a message; it sends a ping; or anyone calls the hub.
+-- A call of the site that is refused because an allocation failed changes nothing, and is no step
 pub data Step : Type 0 where
   Edit : Commands → Step
   Deliver : Down BoardBatch → Step
@@ -32,8 +32,9 @@ history (Deliver down ∷ steps) = history steps
 history (Ping k ∷ steps) = history steps
 history (Called e ∷ steps) = e ∷ history steps
 
--- Both ends and what passed between them: the number of the site, and how many entries the order had as it joined; the hub's star, and
--- the site; the messages that the site sent, and those that the star took or refused; those fetched for the site, and those handed to it
+-- Both ends and what passed between them. It has the number of the site, and how many entries the order had as it joined; then the hub's
+-- star, and the site. It has the messages that the site sent, and those that the star took or refused; then those fetched for the site,
+-- and those delivered to it
 pub record Connection : Type 0 where
   pub number : ℕ
   pub since : ℕ
@@ -49,7 +50,7 @@ abbrev pub sent_as_made : Result Made ℕ → List (Up BoardBatch)
 sent_as_made (Ok made) = made.up ∷ []
 sent_as_made (Err number) = []
 
--- and as it is handed a message: what it owes
+-- and as it receives a message: what it owes
 abbrev pub sent_as_handed : Result (Option (Up BoardBatch)) SiteFault → List (Up BoardBatch)
 sent_as_handed (Ok owed) = option_to_list owed
 sent_as_handed (Err fault) = []
@@ -96,7 +97,7 @@ abbrev pub through : List Step → Connection → Connection
 through [] c = c
 through (step ∷ steps) c = through steps (after step c)
 
--- the site opens with the answer to its join, which the star gave as it stood then; nothing was sent yet
+-- the site opens with the answer to its join, which the star gave as it was then; nothing was sent yet
 abbrev pub new_connection : BoardStar → Joined → Connection
 new_connection star answer = record {
   number = answer.site;
@@ -113,8 +114,8 @@ new_connection star answer = record {
 abbrev pub Begins : {A : Type 0} → List A → List A → Type 0
 Begins all first = (rest : List _) × (all ≡ first ++ rest)
 
--- The link loses nothing, adds nothing and keeps order: what the star was brought is the beginning of what the site sent, and what the
--- site was handed is the beginning of what was fetched for it. A site on such a link is honest
+-- The link loses nothing, adds nothing and keeps order. What has come to the star is the beginning of what the site sent. What was
+-- delivered to the site is the beginning of what was fetched for it. A site on such a link is honest
 pub record IsReliable (c : Connection) : Type 0 where
   pub up : Begins c.sent c.taken
   pub down : Begins c.fetched c.handed
@@ -124,7 +125,7 @@ abbrev pub IsReliableThrough : List Step → Connection → Type 0
 IsReliableThrough [] c = IsReliable c
 IsReliableThrough (step ∷ steps) c = IsReliable c × IsReliableThrough steps (after step c)
 
--- Nothing comes before it was sent: the star was brought no more messages than the site had sent, and the site was handed no more than
+-- Nothing comes before it was sent: the star was brought no more messages than the site had sent, and the site received no more than
 -- were fetched for it. Only numbers are compared, so this says when messages came, and not which
 pub record IsCausal (c : Connection) : Type 0 where
   pub up : length c.taken ≤ length c.sent

@@ -38,7 +38,7 @@ made c = edits_sent board_batches (ups c.sent)
 abbrev pub order_of : Connection → List (Turn BoardEdits)
 order_of c = turns c.number c.star.order
 
--- the entries that it was told: up to the last of others that it was handed, or those before it joined
+-- the entries that have reached it: up to the last of others that was delivered to it, or those before it joined
 abbrev pub told : Connection → List (Turn BoardEdits)
 told c = take (told_of board_batches c.since (edits_among c.handed) (order_of c)) (order_of c)
 
@@ -46,7 +46,7 @@ told c = take (told_of board_batches c.since (edits_among c.handed) (order_of c)
 abbrev pub view : Connection → List BoardEdits
 view c = edits (told c) ++ drop (length (own_edits (told c))) (made c)
 
--- nothing is on its way: the star was brought all that the site sent, and all that the star sent it was fetched and handed to it
+-- nothing is on its way: the star was brought all that the site sent, and all that the star sent it was fetched and delivered to it
 pub record IsDrained (c : Connection) (l : BoardLink) : Type 0 where
   pub up : c.taken ≡ c.sent
   pub down : c.handed ≡ c.fetched
@@ -59,7 +59,7 @@ IsTakenUnlessFull s (UpOp m) r =
 IsTakenUnlessFull s (UpAck n) r = r ≡ Taken (Ok None)
 IsTakenUnlessFull s (UpPing k) r = r ≡ Taken (Ok None)
 
--- a message that is handed to it is accepted, and answered with what the site owes for it
+-- a message that is delivered to it is accepted, and answered with what the site owes for it
 abbrev pub IsAccepted : Connection → Down BoardBatch → Type 0
 IsAccepted c down = deliver_reply down c.site ≡ Ok (sent_back board_batches down c.site)
 
@@ -83,8 +83,8 @@ pub record LinkPromises (c : Connection) (l : BoardLink) : Type 0 where
   pub equal : IsDrained c l → c.site.board ≡ c.star.board
   pub whole : IsDrained c l → own_edits (order_of c) ≡ made c
 
--- While it has its link: its backlog is the edits that it made, less those that it was told were received. It is bounded, and below
--- `answer_after` once nothing is on its way
+-- A site that has its link: its backlog is the edits that it made, less those that it knows the star received. It is bounded, and
+-- below `answer_after` once nothing is on its way
 pub record IsBacklogShort (c : Connection) (l : BoardLink) : Type 0 where
   pub backlog : c.site.made ≡ c.site.end.acknowledged + length c.site.end.outgoing
   pub bounded : length c.site.end.outgoing ≤ most_unacknowledged
@@ -121,7 +121,7 @@ IsAnsweredWell c (Take j up) r = j ≡ c.number → IsTakenUnlessFull c.star up 
 IsAnsweredWell c (Fetch j max) r = Unit {0}
 IsAnsweredWell c (Leave j) r = Unit {0}
 
--- what comes of a step: each message that it is handed is accepted, and as long as it has its link only a full order refuses what it
+-- what comes of a step: each message that it receives is accepted, and as long as it has its link only a full order refuses what it
 -- sends
 abbrev pub GoesWell : Step → Connection → Type 0
 GoesWell (Edit commands) c = Unit {0}

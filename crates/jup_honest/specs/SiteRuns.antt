@@ -12,8 +12,8 @@ use Rattle.jup_hub.specs.Histories.{entry, star_through, IsLegal}
 use Rattle.jup_world.specs.Openings.{IsOpening}
 use Rattle.jup_honest.specs.Connections.{Step, Connection, history, takes_of, fetches_of, through, new_connection, IsReliableThrough}
 
--- what the hub's star was opened with; the calls before the site joined; the number under which it was joined, and the answer with
--- which the site was opened; and all steps since
+-- what the hub's star was opened with, and the calls before the site joined. Then the number under which it was joined, the answer
+-- with which the site was opened, and all steps since
 pub record SiteRun : Type 0 where
   pub board : Windows
   pub limit : ℕ
@@ -37,8 +37,8 @@ start run = new_connection (star_through (opening run) run.before) run.answer
 abbrev pub now : SiteRun → Connection
 now run = through run.steps (start run)
 
--- The history is legal, whoever made its calls, from a star opened on a board that it may be opened with; and the link of the site
--- loses nothing and keeps the order
+-- The history is legal, no matter who made its calls, and begins with a star opened on a board that it may be opened with. The
+-- link of the site loses nothing and keeps the order
 pub record IsHonest (run : SiteRun) : Type 0 where
   pub opens : IsOpening run.board
   pub limited : run.limit ≤ highest_limit

@@ -8,9 +8,9 @@ ghost use Rattle.jup_honest.specs.Connections.{Step, Called, Connection, through
 ghost use Rattle.jup_honest.specs.SiteRuns.{SiteRun, IsHonest, IsOfHistory, start, now, longer};
 ghost use Rattle.jup_honest.specs.Promises.{IsDrained, IsBacklogShort, SitePromises, LinkPromises, StarShows, IsAttached, Remains, KeepsOrder, AllGoesWell, AreDrained};
 
-/// Take any legal history of a hub: any number of passes, any calls, strangers among them. A site joined in
-/// it at any time and was opened from the answer. The hub's takes for its number bring its messages, in order,
-/// and it is handed, in order, what the fetches for its number answered. Then:
+/// Take any legal history of a hub: any number of passes, any calls, strangers among them. A site joined in it
+/// at any time and was opened from the answer. The hub's takes for its number bring its messages, in order,
+/// and it receives, in order, what the fetches for its number answered. Then:
 ///
 /// - `opens`: the site opens.
 /// - `well`: it accepts each message. While it has its link, only a full order refuses what it sends.
@@ -18,7 +18,7 @@ ghost use Rattle.jup_honest.specs.Promises.{IsDrained, IsBacklogShort, SitePromi
 ///   of that order makes of it, also once its link is gone.
 /// - `link`: while it has its link, the site and the star show in one order the items that both show. Once
 ///   nothing is on its way, its board is the star's, and the order has each of its edits once, in order.
-/// - `backlog`: it was told of its edits that the star received, except fewer than 64 once nothing is on its
+/// - `backlog`: it knows of all its edits that the star received, except fewer than 64 once nothing is on its
 ///   way.
 /// - `remains`: only a call to leave for it, or a full order that refuses its edit, takes its link away.
 /// - `order`: from one moment to any later one, the star and the site keep the order of their items.
@@ -48,7 +48,7 @@ pub fn honest_sites_agree()
         → (now run).site.board ≡ (now other).site.board }
 {}
 
-/// There is such a run: the site and a stranger set one toggle at the same time, the site sends a ping, and in
+/// There is such a run: the site and a stranger set one toggle at the same time, and the site sends a ping. In
 /// the end nothing is on its way. So nobody can make the premises of [`honest_sites_agree`] impossible to meet.
 ///
 /// It does nothing: its contract is the theorem.

@@ -1,4 +1,4 @@
--- What a call of the hub tells.
+-- What a call of the hub says.
 use Rattle.std.proofs.Common.{◌≡◌, ℕ, ◌+◌, length, arith, length-append, List, [], ◌∷◌, ◌++◌, true, false, Bool, Option, Result, Ok, Err, Some, None, MatchBool, sym, refl, ap, ◌∙◌, subst, true≢false}
 use Rattle.jup_star.specs.StarCalls.{reply_of, star_after, asks_memory, is_no_memory, lacks_memory, is_refused, Answers, BoardStar}
 use Rattle.jup_star.specs.declared.faults.StarFault.{StarFault}
@@ -41,12 +41,12 @@ pub called_again : (v : View) (log : List Entry) (call : Call) (reply : Reply) (
 called_again v log call reply m m' none_is took settled =
     ap (λ (x : SeatState). x.0) settled ∙ (ap (λ (x : SeatState). at_turn None (having_called (whole x.0) call reply x.0)) took ∙ (λ i. at_turn (sym none_is i) (having_called log call reply v)))
 
--- an answer other than for want of memory is a call
+-- an answer is a call, unless it is that an allocation failed
 pub makes : {A : Type 0} (reply : Result A StarFault → Reply) (call : Call) (v w : View) (r : Result A StarFault) → lacks_memory r ≡ false → Called call (reply r) v w → Made reply call v w (told r)
 makes reply call v w (Ok x) has h = h
 makes reply call v w (Err e) has h = subst (λ b. MatchBool b ((w ≡ v) × ComesToAsk call v) (Called call (reply (Err e)) v w)) (sym has) h
 
--- want of memory is none
+-- an allocation that failed is none
 pub makes_none : {A : Type 0} (reply : Result A StarFault → Reply) (call : Call) (v w : View) (r : Result A StarFault) → lacks_memory r ≡ true → (w ≡ v) × ComesToAsk call v → Made reply call v w (told r)
 makes_none reply call v w (Ok x) lacks h = absurd (true≢false (sym lacks))
 makes_none reply call v w (Err e) lacks h = subst (λ b. MatchBool b ((w ≡ v) × ComesToAsk call v) (Called call (reply (Err e)) v w)) (sym lacks) h
@@ -55,7 +55,7 @@ makes_none reply call v w (Err e) lacks h = subst (λ b. MatchBool b ((w ≡ v) 
 pub answered : (call : Call) (s t : BoardStar) (r : Reply) → is_refused r ≡ false → Answers call s t r → (r ≡ reply_of call s) × (t ≡ star_after call s)
 answered call s t r not_refused h = subst (λ b. MatchBool b ((t ≡ s) × (asks_memory call s ≡ true)) ((r ≡ reply_of call s) × (t ≡ star_after call s))) not_refused h
 
--- and where memory was
+-- and if an allocation failed
 pub refused : (call : Call) (s t : BoardStar) (r : Reply) → is_refused r ≡ true → Answers call s t r → (t ≡ s) × (asks_memory call s ≡ true)
 refused call s t r is h = subst (λ b. MatchBool b ((t ≡ s) × (asks_memory call s ≡ true)) ((r ≡ reply_of call s) × (t ≡ star_after call s))) is h
 

@@ -94,7 +94,7 @@ pub AllOwned-append : (owner : List ℕ → ℕ) (seat : ℕ) (ts us : List Tall
 AllOwned-append owner seat [] us a b = b
 AllOwned-append owner seat (t ∷ ts) us a b = (a.0, AllOwned-append owner seat ts us a.1 b)
 
--- another owner function that agrees where the owner is this seat
+-- another owner function that agrees if the owner is this seat
 pub AllOwned-moves : (owner owner' : List ℕ → ℕ) (seat seat' : ℕ) (ts : List Tally) → ((n : List ℕ) → owner n ≡ suc seat → owner' n ≡ suc seat') → AllOwned owner seat ts → AllOwned owner' seat' ts
 AllOwned-moves owner owner' seat seat' [] moves own = tt
 AllOwned-moves owner owner' seat seat' (t ∷ ts) moves own = (moves t.number own.0, AllOwned-moves owner owner' seat seat' ts moves own.1)

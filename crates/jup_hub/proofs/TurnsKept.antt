@@ -71,7 +71,7 @@ module _ (star : BoardStar) where
     no_child = r.no_child;
   }
 
-  -- a step that changes no word
+  -- a step that leaves the words of the table as they are
   unmoved : (s : TableState) (r : Rule s) (i id : ℕ) (cs : List (ℕ × Option Desk)) (w : View) → (w.is_live ≡ true → Fits star r.log r.owner (turn s) r.holder id w) → Rule (stepped s i (get_or s.words i 0) id cs w keeps)
   unmoved s r i id cs w mine = subst (λ (ws : List ℕ). Rule record { words = ws; homes = s.homes; views = set s.views id w }) (sym (set-get_or s.words i 0))
       (restaged s r s.words s.homes id w r.holder r.wide refl r.at_rest mine (λ j v other h. h))
@@ -296,7 +296,7 @@ module _ (star : BoardStar) where
         no_child = λ k n none_has. given-other r.owner c seat (k ∷ n) (λ e. let same = ap r.owner (same_tail k v.splits n v.number e) in let none' = given-none r.owner c seat n none_has in let has = f.owned.0 in omega arith) ∙ r.no_child k n (given-none r.owner c seat n none_has);
       }
 
-  -- the owners after the seat to took over the numbers of the seat from
+  -- the owners after the seat `to` took over the numbers of the seat `from`
   abbrev moved : (List ℕ → ℕ) → ℕ → ℕ → List ℕ → ℕ
   moved owner from to n = cond (eqb (owner n) (suc from)) (suc to) (owner n)
 

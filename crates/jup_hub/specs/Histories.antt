@@ -1,4 +1,4 @@
--- Histories of calls on a star: what each call answers, what star stands after them, and whose calls they are.
+-- Histories of calls on a star: what each call answers, which star they leave, and whose calls they are.
 use Rattle.std.specs.Prelude.{◌≡◌, ℕ, ◌+◌, Bool, false, not, ◌||◌, List, [], ◌∷◌, ◌++◌, length, filter}
 use Rattle.std.specs.Str.{bytes_eq}
 use Rattle.jup_star.specs.StarCalls.{BoardStar, reply_of, star_after}

@@ -23,7 +23,7 @@ view_of pass = pass.seat.me.0
 abbrev pub IsPassOf : Hub → Pass → Type 0
 IsPassOf hub pass = (pass.seat.table_id ≡ hub.table.shared.table_id) × ((view_of pass).opening ≡ opening_of hub)
 
--- What a call did. Where memory was refused or the count is spent, the pass has seen and made what it had, and it had come to that; any
+-- What a call did. If an allocation failed or the count is spent, the pass has seen and made what it had, and it had come to that. Any
 -- other answer is a call of the one history
 abbrev pub Made : {A : Type 0} → (Result A StarFault → Reply) → Call → View → View → Result A HubFault → Type 0
 Made reply call v w (Ok x) = Called call (reply (Ok x)) v w

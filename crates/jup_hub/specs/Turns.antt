@@ -1,5 +1,5 @@
--- The rule of the table, and what each step tells.
--- Word 0 is the count of events, and word 1 the turn: 0 where it is free. The slot holds the star and a copy of the count.
+-- The rule of the table, and what each step shows. Word 0 is the count of events, and word 1 the turn: 0 if it is free.
+-- The slot holds the star and a copy of the count.
 use Rattle.std.specs.Prelude.{◌≡◌, ◌≢◌, ℕ, suc, ◌≤◌, true, List, [], ◌∷◌, length, slice_index, Option, Some, None}
 use mathlib.Core.Option as maybe
 use lib.ListN.{get_elem?}
@@ -15,11 +15,11 @@ use Rattle.jup_hub.specs.declared.view.View.{View}
 use Rattle.jup_hub.specs.Histories.{star_through, IsLegal, calls_by, BeginsWithAll, AllTallied, AllApart}
 use Rattle.jup_hub.specs.Knowledge.{tallies, at_turn, having_seen, having_called, with_call, Meets}
 
--- what lies in the slot after a history: the star that stands after it, and how long it is
+-- what is in the slot after a history: the star after it, and how long it is
 abbrev pub desk_after : BoardStar → List Entry → Desk
 desk_after star log = record { star = star_through star log; count = length log }
 
--- a seat owns the numbers of some tallies. The owner of a number is one more than the seat of the pass that has it, and 0 where no
+-- a seat owns the numbers of some tallies. The owner of a number is one more than the seat of the pass that has it, and 0 if no
 -- pass has it
 abbrev pub AllOwned : (List ℕ → ℕ) → ℕ → List Tally → Type 0
 AllOwned owner seat [] = Unit {0}
@@ -31,8 +31,8 @@ module _ (star : BoardStar) (log : List Entry) (owner : List ℕ → ℕ) (turn 
   HasTurn None = Unit {0}
   HasTurn (Some whole) = (turn ≢ 0) × (seat ≡ holder) × (whole ≡ log)
 
-  -- What the pass in a seat knows is so: the star that the hub was opened with, its turn, what it has seen, and the calls under its
-  -- numbers, which differ and are its own. No pass has a number yet that will be split from its own
+  -- What the pass in a seat knows is so: the star that the hub was opened with, its turn, and what it has seen. So are the calls
+  -- under its numbers, which differ and are its own. No pass has a number yet that will be split from its own
   pub record Fits (v : View) : Type 0 where
     pub opened : v.opening ≡ star
     pub has_turn : HasTurn v.turn
@@ -42,8 +42,8 @@ module _ (star : BoardStar) (log : List Entry) (owner : List ℕ → ℕ) (turn 
     pub owned : AllOwned owner seat (tallies v)
     pub unborn : (k : ℕ) → v.splits ≤ k → owner (k ∷ v.number) ≡ 0
 
--- What holds between any two steps. There is one legal history, as long as the count. Where the turn is free, what lies in the slot
--- stands after it. What each pass knows is so. A number that no pass has bears no calls, and none is split from it
+-- What holds between any two steps. There is one legal history, as long as the count. If the turn is free, what is in the slot
+-- is after it. What each pass knows is so. A number that no pass has bears no calls, and none is split from it
 pub record Kept (star : BoardStar) (s : State (Option Desk) View) : Type 0 where
   pub log : List Entry
   pub owner : List ℕ → ℕ
@@ -64,7 +64,7 @@ SeatState = Me (Option Desk) View
 abbrev TableStep : Type 0
 TableStep = Step (Option Desk)
 
--- the turn was free: the pass meets the history of all calls, and takes what lies in the slot
+-- the turn was free: the pass meets the history of all calls, and takes what is in the slot
 abbrev pub TookTurn : SeatState → SeatState → Type 0
 TookTurn m m' = (log : List Entry) × Meets m.0 log × (m' ≡ (at_turn (Some log) m.0, (0, Some (desk_after m.0.opening log)) ∷ m.1))
 
@@ -88,7 +88,7 @@ looked st m found m' = (log : List Entry) × Meets m.0 log × (found ≡ length 
 abbrev pub learned : TableStep → SeatState → ℕ → SeatState → Type 0
 learned st m found m' = (log : List Entry) × Meets m.0 log × (m' ≡ m)
 
--- the history of all calls, where the pass has the turn
+-- the history of all calls, if the pass has the turn
 abbrev pub whole_or : Option (List Entry) → List Entry
 whole_or None = []
 whole_or (Some log) = log
@@ -105,7 +105,7 @@ IsIdle m = (m.1 ≡ []) × (m.0.turn ≡ None) × (m.0.is_live ≡ true)
 abbrev pub IsAtTurn : SeatState → Type 0
 IsAtTurn m = (m.1 ≡ (0, None) ∷ []) × (m.0.turn ≡ Some (whole m.0)) × (m.0.is_live ≡ true)
 
--- the star that stands after the history of all calls
+-- the star after the history of all calls
 abbrev pub star_now : View → BoardStar
 star_now v = star_through v.opening (whole v)
 

@@ -20,6 +20,6 @@ pub(crate) trait Ask {
     fn ask(&self, star: &mut Star) -> Result<Self::Answer, StarFault>
         ensures { Answers (call self.now) star.old star.new (reply result) };
 
-    /// Its reply lacks memory just where its answer does.
+    /// Its reply says that an allocation failed exactly if its answer does.
     ghost tells_memory: { (r : Result Self.Answer TheStarFault) → is_refused (reply r) ≡ lacks_memory r };
 }

@@ -26,7 +26,7 @@ use std::snapshot::Snapshot;
 use std::sync::Wait;
 
 impl Hub {
-    /// A hub over a star, with its first pass. For want of memory the star comes back.
+    /// A hub over a star, with its first pass. If an allocation fails, it gives the star back.
     pub fn open(alloc: Global, star: Star) -> Result<(Hub, Pass), Star>
         ensures ok { IfOk result (λ r. (opening_of r.0 ≡ star) × IsPassOf r.0 r.1
             × (view_of r.1 ≡ newcomer star)) }
@@ -79,8 +79,8 @@ impl Hub {
     }
 
     /// Gives a new site its number, the limit and a copy of the board. Like the next three it waits for the
-    /// turn, and is refused by `Spent` before all else, or as the star refuses it. Whatever it answers but
-    /// `Spent` and want of memory is an event.
+    /// turn. `Spent` comes before all other refusals, which are the star's. Every answer is an event, except
+    /// `Spent` and a failed allocation.
     pub fn join_site<R: Wait>(
         &self,
         rt: &R,
@@ -136,8 +136,8 @@ impl Hub {
         self.act(rt, pass, &Leaving { site })
     }
 
-    /// A copy of the star's board, as it is after all calls so far. It waits for the turn, and is no event. For want of memory it is
-    /// refused, and by nothing else.
+    /// A copy of the star's board, as it is after all calls so far. It waits for the turn, and is no event. It is refused only if an
+    /// allocation fails.
     pub fn board<R: Wait>(&self, rt: &R, alloc: Global, pass: &mut Pass) -> Result<Board, HubFault>
         requires { IsPassOf self.now pass.old }
         ensures pass { IsPassOf self.now pass.new }
@@ -166,8 +166,8 @@ impl Hub {
         is_longer
     }
 
-    /// The star, with the number of events since the hub was opened. Refused only where a turn is held: then
-    /// hub and pass come back as they were.
+    /// The star, with the number of events since the hub was opened. Refused only if a turn is held: then hub
+    /// and pass come back as they were.
     pub fn close(self, pass: Pass) -> Result<Closed, (Hub, Pass)>
         requires { IsPassOf self pass }
         ensures closed { IfOk result (λ r. (log : List Entry) × Meets (view_of pass) log

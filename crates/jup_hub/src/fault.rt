@@ -39,14 +39,14 @@ impl From<StarFault> for HubFault {
     }
 }
 
-// Whether memory was refused.
+// Whether an allocation failed.
 pub(crate) fn lacks_memory<T>(answer: &Result<T, StarFault>) -> bool
     ensures { result ≡ lacks_memory answer.now }
 {
     matches!(answer, Err(StarFault::NoMemory))
 }
 
-// The star's answer, as the hub tells it.
+// The star's answer, as the hub reports it.
 pub(crate) fn hub_answer<T>(answer: Result<T, StarFault>) -> Result<T, HubFault>
     ensures { result ≡ told answer }
 {

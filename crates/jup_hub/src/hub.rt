@@ -12,8 +12,8 @@ use std::snapshot::Snapshot;
 
 /// A star that threads share.
 ///
-/// Each call on it, refused or not, is one event of one history of all calls, unless it lacks memory or the
-/// count of events is spent. Each thread calls with a [`Pass`] of its own.
+/// Each call on it, refused or not, is one event of one history of all calls, unless an allocation fails or
+/// the count of events is spent. Each thread calls with a [`Pass`] of its own.
 #[derive(Drop)]
 pub struct Hub {
     pub(crate) table: Table<Option<Desk>, View, Snapshot<Star>, Turns, Global>,

@@ -1,7 +1,7 @@
 //! A star that threads share.
 //!
 //! Threads call one [`Hub`], each with a [`Pass`] of its own. Each call on the star is one event of one
-//! history, whatever the schedule, and the contract of a call says what its pass has then seen and made: a
+//! history, whatever the schedule. The contract of a call says what its pass has then seen and made: a
 //! [`View`].
 #![tactic(auto)]
 

@@ -1,8 +1,8 @@
 //! The rule of the table, and its kinds of step.
 //!
-//! Word 0 is the count of events, and word 1 the turn: 0 where it is free. In the slot lies the star with a
-//! copy of the count. Whoever has the turn takes the star out, calls it, stores the count and puts the star
-//! back; the store of the count is the step at which the call becomes one of the history.
+//! Word 0 is the count of events, and word 1 the turn, which is 0 if it is free. The slot has the star with a
+//! copy of the count. The pass that has the turn takes the star out, calls it, stores the count and puts the
+//! star back. The store of the count is the step at which the call becomes one of the history.
 ghost use Rattle.jup_hub.specs.Knowledge.{newcomer, spent, after_split, split_from, joined_with};
 ghost use Rattle.jup_hub.specs.Turns.{Kept, tried, decided, gave, looked, learned};
 
@@ -60,7 +60,7 @@ pub trait Deed {
     ghost reply: { Reply };
 }
 
-// A brand stands for any deed: which one, the proof says where the brand is used. What is written here is not used.
+// A brand represents any deed. The proof says which one, at the place that uses the brand. What is written here is not used.
 impl Deed for Brand {
     ghost use Rattle.std.specs.Prelude.{Ok};
     ghost use Rattle.jup_star.specs.declared.calls.Call.TheVariants.{Join};

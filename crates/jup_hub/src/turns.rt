@@ -21,7 +21,7 @@ pub(crate) type HubTable = Shared<Option<Desk>, View, Snapshot<Star>, Turns>;
 
 pub(crate) type HubSeat = Seat<Option<Desk>, View>;
 
-// Tries once to win the turn, and takes the star out of its slot where it was free.
+// Tries once to win the turn, and takes the star out of its slot if it was free.
 pub(crate) fn try_turn(table: &HubTable, seat: &mut HubSeat) -> Option<Desk>
     requires table { IsHubTable table.now.table_id × (seat.old.table_id ≡ table.now.table_id) }
     requires idle { IsIdle seat.old.me }
@@ -92,7 +92,7 @@ fn decide<D: Deed>(table: &HubTable, seat: &mut HubSeat, next: u64)
 }
 
 // Makes the answered call one of the history, and gives the turn up. The call and its answer are passed so
-// that the proof can say which one the brand stands for.
+// that the proof can say which one the brand represents.
 pub(crate) fn settle<A: Ask, D: Deed>(
     table: &HubTable,
     seat: &mut HubSeat,

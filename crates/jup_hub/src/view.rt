@@ -1,11 +1,11 @@
-//! What a pass knows. No value of these types is made: they stand in contracts and proofs alone.
+//! What a pass knows. No value of these types is made: only contracts and proofs use them.
 
 use jup_star::{Call, Reply, Star};
 use std::collections::LinkedList;
 
 /// One event of a history: a call with its reply, and the number of the pass that made it.
 ///
-/// The number of a pass is like that of a section: the first pass has none, and the pass that was split from
+/// The number of a pass is like that of a section. The first pass has none, and the pass that was split from
 /// pass n as its k-th, from 0, has k before n.
 pub struct Entry {
     pub by: LinkedList<u64>,

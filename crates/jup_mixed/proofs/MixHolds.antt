@@ -70,7 +70,7 @@ module _ (O : Operations) where
   joined_is [] past at = refl
   joined_is (h ∷ hs) past at = joined_is hs (past ++ world_happened O h ∷ []) (join_seen 1 (length (order_of O past)) at (world_event O h.event) h.reply) ∙ no_join h.event h.reply (length (order_of O past)) at
 
-  -- what the site should show, by its place, how many it was handed, the order, and what it made
+  -- what the site should show, by its place, how many it received, the order, and what it made
   abbrev seen : ℕ → ℕ → List (Entry O.Edit) → List O.Edit → List O.Edit
   seen at n order mine =
       edits (take (at + through_others n (drop at (turns 1 order))) (turns 1 order))
@@ -107,7 +107,7 @@ module _ (O : Operations) (L : AreLawful O) (most : ℕ) (m : MixOf O) (h : IsHo
     running = λ a fa. (let k = home_link a fa in (holds k.0 a k.1 fa).running);
   }
 
-  -- it made the edits that the trace says, and its backlog is those less the ones that it was told are taken
+  -- it made the edits that the trace says, and its backlog is those less the ones that it knows are taken
   pub home-made : (a : AttachedOf O) → m.site ≡ Some a → a.site.made ≡ length (mix_made m.trace)
   home-made a fa = (tallies O (world_of O m) h.tallied).made 1 a (there a fa) ∙ ap (λ es. length es) (made_is O m.trace)
 

@@ -140,7 +140,7 @@ module _ (s : BoardStar) (a : Attached) (ready : IsReady s (Some (bare_attached 
       cases [] told = absurd told
       cases (up ∷ more) told = take_wanted a.site.number up s t fault memory told
 
-  -- it is handed the oldest message
+  -- it receives the oldest message
   pub linked : is_some (link_of a.site.number s.links) ≡ true
   linked = ap (λ n. is_some (link_of n s.links)) number ∙ ap is_some fl
 
@@ -209,7 +209,7 @@ module _ (s : BoardStar) (a : Attached) (ready : IsReady s (Some (bare_attached 
       choose (inl same) = inl (same.1, ap Some same.0)
       choose (inr more) = too (messages downs a.down.way) (ready (bare_attached a) refl).1.0.outbox refl refl more.0 more.1
 
--- the same where the site is one that may be absent
+-- the same if the site is one that may be absent
 module _ (s : BoardStar) (site : Option Attached) (a : Attached) (is : site ≡ Some a) (ready : IsReady s (option_map bare_attached site)) where
   -- it is ready
   pub ready_there : IsReady s (Some (bare_attached a))

@@ -1,4 +1,4 @@
--- What holds of every one of the program: after each event, and after want of memory.
+-- What holds of every one of the program: after each event, and after a failed allocation.
 use Rattle.std.proofs.Common.{◌≡◌, Bool, true, nat_le, inl, inr, refl, sym, ◌∙◌, ap, subst, ℕ, List, [], ◌∷◌, ◌++◌, drop, length, Option, Some, None, option_map, append-nil, drop_of_length-le, le_refl}
 use Rattle.std.proofs.lemmas.Bool.{leb-true}
 use Rattle.jup_batch.specs.BatchBoards as board
@@ -115,7 +115,7 @@ mix_keeps m event h = home-order board_batches batch_laws (event ∷ []) most_ba
 pub mix_answered : (m : BoardMix) (event : BoardMixEvent) → IsMix m → MixReplies board_batches m event (mix_outcome board_batches m event)
 mix_answered m event h = all-replies board_batches batch_laws most_batches m h event
 
--- after want of memory
+-- after a failed allocation
 pub mix_spared : (m : BoardMix) (event : BoardMixEvent) (t : BoardStar) (next : Option BoardAttached) (trace : MixTrace) → MixSpares event m.star m.site t next → trace ≡ m.trace
     → IsMixSpared m event (record { opening = m.opening; star = t; site = next; trace = trace })
 mix_spared m HomeDown t next trace (inl same) e = inl (λ j. record { opening = m.opening; star = same.0 j; site = same.1 j; trace = e j })
@@ -165,7 +165,7 @@ home_quiet m h a fa = (to, from)
         let all = q there.0 a there.1 fa in
         (all.0, all.1, ap (λ n. lengths (link_of n m.star.links)) number ∙ ap lengths there.1 ∙ ap (λ (os : List (Down BoardBatch)). Some (length os)) all.2)
 
--- so where the site may be absent
+-- so if the site may be absent
 pub some_quiet : (m : BoardMix) → IsMix m → (a : BoardAttached) → m.site ≡ Some a → (b : Bool) → IsTrue b ↔ IsQuietAt a m.star → IsTrue b ↔ IsHomeQuiet board_batches m
 some_quiet m h a fa b test = let quiet = home_quiet m h a fa in ((λ yes. quiet.0 (test.0 yes)), (λ yes. test.1 (quiet.1 yes)))
 

@@ -76,7 +76,7 @@ module _ (O : Operations) (most : ℕ) (m : MixOf O) (h : IsHomeWorld O most m) 
   downs a fa [] (d ∷ os) = falls a fa 1 d [] (deliver_fault O d a.site)
   downs a fa [] [] = refl
 
-  -- where the site is gone, so is its link
+  -- if the site is gone, so is its link
   pub unlinked : m.site ≡ None → link_of 1 m.star.links ≡ None
   unlinked none = cases (link_of 1 m.star.links) (subst (λ oa. LinkedAt O (is_stray 1 (world_of O m).trace) (link_of 1 m.star.links) oa) (found_home O m.site h.number ∙ none) (h.strays.links 1))
     where

@@ -39,7 +39,7 @@ MixPlays event star site reply next_star next_site =
     → mix_outcome board_batches (record { opening = opening; star = star; site = site; trace = trace }) event
     ≡ record { reply = reply; star = next_star; site = next_site }
 
--- want of memory left all as it was; but at a delivery to the site the oldest message of its outbox may stand in its down stream
+-- an allocation failed, and left all as it was, except that at a delivery to the site the oldest message of its outbox may have moved to its down stream
 abbrev pub MixSpares : BoardMixEvent → BoardStar → Option BoardAttached → BoardStar → Option BoardAttached → Type 0
 MixSpares HomeDown star site next_star next_site =
     ((next_star ≡ star) × (next_site ≡ site))

@@ -28,16 +28,16 @@ use Rattle.jup_world.specs.Sound.{named_in, edits_in}
 module _ (O : Operations) where
   -- at every moment
   pub record MixPromises (m : MixOf O) : Type 0 where
-    -- the star's content is what its order means, and the site's what it was told and made means
+    -- the star's content is the meaning of its order, and the site's is the meaning of what has reached it and of what it made
     pub star_content : O.t.content m.star.board ≡ O.t.meaning (O.t.content m.opening) (edits_in O m.star.order)
     pub site_content : (a : AttachedOf O) → m.site ≡ Some a → O.t.content a.site.board ≡ O.t.meaning (O.t.content m.opening) (mix_view m.star.order m.trace)
     -- the two ends of the site's link are in step
     pub in_step : (l : LinkState O.Op) (a : AttachedOf O) → link_of 1 m.star.links ≡ Some l → m.site ≡ Some a
         → InStep O.t 0 a.site.board m.star.board a.site.end l.end (ups a.up) (downs (a.down ++ l.outbox))
-    -- where no message is on its way from the site or to it, its board is the star's, and the order has each of its edits once
+    -- if no message is on its way from the site or to it, its board is the star's, and the order has each of its edits once
     pub equal : IsHomeQuiet O m → (a : AttachedOf O) → m.site ≡ Some a → a.site.board ≡ m.star.board
     pub whole : IsHomeQuiet O m → (a : AttachedOf O) → m.site ≡ Some a → own_edits (turns 1 m.star.order) ≡ mix_made m.trace
-    -- the site is attached where it has a link, and has not stopped
+    -- the site is attached if it has a link, and has not stopped
     pub linked : is_some m.site ≡ is_some (link_of 1 m.star.links)
     pub running : (a : AttachedOf O) → m.site ≡ Some a → a.site.stopped ≡ false
 
@@ -81,7 +81,7 @@ module _ (O : Operations) where
     pub own : j ≡ 1 → o ≡ still O m Nothing
     pub present : j ≢ 1 → (l : LinkState O.Op) → link_of j m.star.links ≡ Some l → o ≡ record { reply = Left; star = left j m.star; site = m.site }
 
-  -- an event of site 1: nothing where it is not attached
+  -- an event of site 1: nothing if it is not attached
   pub record HomeReplies (m : MixOf O) (o : MixOutcome O) (P : LinkState O.Op → AttachedOf O → Type 0) : Type 0 where
     pub absent : m.site ≡ None → o.reply ≡ Nothing
     pub present : (l : LinkState O.Op) (a : AttachedOf O) → link_of 1 m.star.links ≡ Some l → m.site ≡ Some a → P l a
@@ -108,7 +108,7 @@ module _ (O : Operations) where
   abbrev pub IsMixCopy : MixOf O → O.State → Type 0
   IsMixCopy m x = (x ≡ m.star.board) ⊎ ((a : AttachedOf O) × (m.site ≡ Some a) × (x ≡ a.site.board))
 
-  -- any copy at one moment, and any at the same or a later one: the items that both show stand in the same order in both
+  -- any copy at one moment, and any at the same or a later one: the items that both show are in the same order in both
   abbrev pub MixOrdersAgree : MixOf O → MixOf O → Type 0
   MixOrdersAgree m k = (x y : O.State) → IsMixCopy m x → IsMixCopy k y → O.t.keeps_order x y
 

@@ -40,7 +40,7 @@ module _ (O : Operations) where
   first_home_up m l a [] = still m Nothing
   first_home_up m l a (up ∷ ups) = home_up m l a up (up_fault O m.star l up)
 
-  -- the site is handed a message, of which `gone` were fetched first
+  -- the site receives a message, of which `gone` were fetched first
   abbrev pub home_down : MixOf O → AttachedOf O → ℕ → Down O.Op → List (Down O.Op) → Option SiteFault → MixOutcome
   home_down m a gone down downs (Some fault) = still m Nothing
   home_down m a gone down downs None = record { reply = down_reply O down; star = fetched 1 gone m.star; site = Some (one_handed O down downs a) }
@@ -51,7 +51,7 @@ module _ (O : Operations) where
   first_home_down m a [] (down ∷ outbox) = home_down m a 1 down [] (deliver_fault O down a.site)
   first_home_down m a [] [] = still m Nothing
 
-  -- an event of site 1, which does nothing where that is not attached
+  -- an event of site 1, which does nothing if that is not attached
   abbrev pub at_home : MixOf O → (LinkState O.Op → AttachedOf O → MixOutcome) → Option (LinkState O.Op) → Option (AttachedOf O) → MixOutcome
   at_home m f None site = still m Nothing
   at_home m f (Some l) None = still m Nothing
@@ -71,7 +71,7 @@ module _ (O : Operations) where
   abbrev pub stray_leaves : MixOf O → ℕ → MixOutcome
   stray_leaves m j = record { reply = Left; star = left j m.star; site = m.site }
 
-  -- an event of a link, which does nothing where that is absent
+  -- an event of a link, which does nothing if that is absent
   abbrev pub at_link_of : MixOf O → (LinkState O.Op → MixOutcome) → Option (LinkState O.Op) → MixOutcome
   at_link_of m f None = still m Nothing
   at_link_of m f (Some l) = f l
@@ -89,7 +89,7 @@ module _ (O : Operations) where
   mix_outcome m (Stray j up) = at_stray m j (λ l. stray_sends m j l up (up_fault O m.star l up))
   mix_outcome m (LeaveStray j) = at_stray m j (λ l. stray_leaves m j)
 
-  -- the state after an event, which stands in the trace with its reply
+  -- the state after an event, with the event and its reply at the end of the trace
   abbrev pub with_mix : MixOf O → MixEventOf O → MixOutcome → MixOf O
   with_mix m event o = record { opening = m.opening; star = o.star; site = o.site; trace = m.trace ++ record { event = event; reply = o.reply } ∷ [] }
 

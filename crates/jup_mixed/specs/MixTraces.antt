@@ -1,4 +1,4 @@
--- What is read off a trace of site 1 and strangers. The order is the star's own, since what strangers meant stands nowhere else.
+-- What is read off a trace of site 1 and strangers. The order is the star's own, since what strangers meant is nowhere else.
 use Rattle.std.specs.Prelude.{ℕ, ◌+◌, List, [], ◌∷◌, ◌++◌, length, take, drop}
 use Rattle.jup_star.specs.declared.messages.Entry.{Entry}
 use Rattle.jup_world.specs.Events.{Reply}
@@ -19,7 +19,7 @@ module _ {Command Operation Edit Fault : Type 0} where
   mix_made [] = []
   mix_made (h ∷ hs) = home_made h.event h.reply ++ mix_made hs
 
-  -- how many edits of others it was handed at an event
+  -- how many edits of others it received at an event
   abbrev pub home_shown : MixEvent Command Operation → Reply Edit Fault → ℕ
   home_shown HomeDown Shown = 1
   home_shown event reply = 0
@@ -29,7 +29,7 @@ module _ {Command Operation Edit Fault : Type 0} where
   mix_shown [] = 0
   mix_shown (h ∷ hs) = home_shown h.event h.reply + mix_shown hs
 
-  -- how many entries of the order it was told: up to the last that it was handed. It joined before any
+  -- how many entries of the order have reached it: those up to the last that was delivered to it. It joined before any
   abbrev pub mix_told : List (Entry Edit) → List (MixHappened Command Operation Edit Fault) → ℕ
   mix_told order trace = through_others (mix_shown trace) (turns 1 order)
 

@@ -17,7 +17,7 @@ use std::alloc::Global;
 /// The number of the site.
 const HOME: u32 = 1;
 
-/// Plays one event. Where memory is refused, `Down` may have fetched a message into the empty down stream.
+/// Plays one event. If an allocation fails, `Down` may have fetched a message into the empty down stream.
 pub(crate) fn happen(
     alloc: Global,
     star: &mut Star,
@@ -81,7 +81,7 @@ fn move_up(alloc: Global, star: &mut Star, site: &mut Option<Attached>) -> Resul
     }
 }
 
-// The site is handed the oldest message on its way down.
+// The site receives the oldest message on its way down.
 fn move_down(alloc: Global, star: &mut Star, site: &mut Option<Attached>) -> Result<Reply, NoMemory>
     requires { IsReady star.old (option_map bare_attached site.old) }
     ensures few { IfOk result (λ reply. MakesFew reply 0) }

@@ -54,7 +54,7 @@ impl Model for Mixed {
     ghost invariant = { λ m. IsMix (bare_mix m) };
 }
 
-// What stands within an event.
+// The types within an event.
 type Within = (
     SeqOp<char>,
     SeqOp<Label>,
@@ -74,7 +74,7 @@ type Within = (
     BoardEdits,
 );
 
-// What an event takes with it into the trace, made while memory may still be refused: a copy of it, and room
+// What an event takes with it into the trace, made while an allocation may still fail: a copy of it, and room
 // for the edits that it may make.
 #[derive(Drop)]
 struct Note {
@@ -122,7 +122,7 @@ impl Mixed {
         ensures refusal { IfErr result (λ fault. ((fault ≡ open_fault.NoMemory) × (star_open_fault (bare board) limit ≡ None))
             ⊎ (star_open_fault (bare board) limit ≡ Some fault)) }
     {
-        // It tells that no two items of a widget have one name, on which all that follows rests.
+        // It says that no two items of a widget have one name, on which all that follows rests.
         let _short = is_short(&board);
         let mut star = Star::open(alloc, board, limit)?;
         let opening = star.board().copy(alloc)?;
@@ -138,8 +138,9 @@ impl Mixed {
         })
     }
 
-    /// Plays one event, which then stands in the trace with its reply. Where memory is refused all is as it
-    /// was; but `Down` may have fetched the oldest message of the site's outbox into its down stream.
+    /// Plays one event, and puts it with its reply at the end of the trace. If an allocation fails, all is as
+    /// it was, except that `Down` may have fetched the oldest message of the site's outbox into its down
+    /// stream.
     pub fn step(&mut self, alloc: Global, event: &MixEvent) -> Result<Reply, NoMemory>
         ensures reply { IfOk result (λ reply. numbered_reply reply ≡ (mix_outcome board_batches self.old event.now).reply) }
         ensures withheld { OnOk result (MixReplies board_batches self.old event.now (mix_outcome board_batches self.old event.now)) }
@@ -178,10 +179,10 @@ impl Mixed {
         &self.trace
     }
 
-    /// Site 1, which is attached exactly where it has a link at the star, and then has not stopped. At every
-    /// moment its content is what the entries that it was told, and its own edits that are not among them,
-    /// mean; it made the edits that the trace says; and its backlog is those less the ones that it was told
-    /// are taken.
+    /// Site 1. It is attached exactly if it has a link at the star, and then has not stopped. At every moment
+    /// its content is the meaning of the entries that have reached it, and of its own edits that are not
+    /// among them. It made the edits that the trace says. Its backlog is those of them of which it does not
+    /// know that the star took them.
     pub fn site(&self) -> Option<&Site>
         ensures site { option_copied result ≡ option_map (λ a. a.site) self.now.site }
         ensures attached { is_some result ≡ is_some (link_of 1 self.now.star.links) }

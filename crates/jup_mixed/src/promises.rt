@@ -8,15 +8,16 @@ ghost use Rattle.jup_mixed.specs.MixPromises.{MixPromises, MixReplies, OnlyFull,
 /// After any list of edits of site 1, deliveries to it and from it, and joins, messages and departures of
 /// strangers:
 ///
-/// - the star shows what its order means, and the site what it was told and made means; whenever no message
-///   is on its way to the site or from it, its board is the star's, and the order has each of its edits once;
-/// - whatever event comes next is answered, and nothing is withheld. If it is a stranger's message, site 1
-///   stays as it is, and the message is refused, its link alone being gone, or is an acknowledgement or a ping,
-///   or is one valid entry of the order under its link's next name;
+/// - the star shows the meaning of its order, and the site that of what has reached it and of what it made.
+///   Whenever no message is on its way to the site or from it, its board is the star's, and the order has
+///   each of its edits once;
+/// - whatever event comes next is answered, and nothing is withheld. A stranger's message leaves site 1 as it
+///   is. It is an acknowledgement, a ping, or one valid entry of the order under its link's next name, or it is
+///   refused and the link goes;
 /// - the site is detached by a full order alone;
 /// - whatever events come next, the star and the site keep the order of their items;
-/// - at every moment, also while messages are on their way, the star and the site, at that moment or at two,
-///   show in the same order the items that both show.
+/// - at every moment, also while messages are on their way, the star and the site show in the same order the
+///   items that both show. The two may be of one moment or of two.
 ///
 /// It does nothing: its contract is the theorem.
 pub fn mixed_agree()

@@ -30,7 +30,7 @@ use Rattle.jup_honest.specs.SiteRuns.{SiteRun, start}
 use Rattle.jup_honest.specs.Connections.{sent_as_made, sent_as_handed}
 use Rattle.jup_socket.specs.Clients.{said_of_answer, said_of_heard, IsEditStep, IsDeliverStep}
 
--- what is said of an owed message
+-- what the client says of an owed message
 said_owed : (owed : Option (Up BoardBatch)) → option_to_list (option_map (λ up. SaysUp up) owed) ≡ map (λ up. SaysUp up) (option_to_list owed)
 said_owed None = refl
 said_owed (Some up) = refl

@@ -159,7 +159,7 @@ downs_first (d ∷ ds) (t ∷ ts) last rest ends e =
     (later.0, ap (λ u. u ∷ ds) first ∙ ap (λ us. t ∷ us) later.1)
 
 module _ (answer : Joined) (a : Connection) (d : DownSocket answer a) where
-  -- what is left of the lines behind those that were read
+  -- what is left of the lines after those that were read
   rest : List Line
   rest = (on_the_way d.read d.left (greeting d.site d.limit d.body ++ (d.lines ++ d.waiting)) (written_down answer a.fetched d.last) d.progress d.spelled d.reads d.bytes).1.0
 
@@ -167,7 +167,7 @@ module _ (answer : Joined) (a : Connection) (d : DownSocket answer a) where
   unfolding rest
   whole = (on_the_way d.read d.left (greeting d.site d.limit d.body ++ (d.lines ++ d.waiting)) (written_down answer a.fetched d.last) d.progress d.spelled d.reads d.bytes).1.1
 
-  -- behind the first line
+  -- after the first line
   behind : board_lines answer.board ++ line.Ready ∷ (messages_down a.fetched ++ d.last) ≡ d.body ++ line.Ready ∷ ((d.lines ++ d.waiting) ++ rest)
   behind =
       sym (append_assoc (board_lines answer.board) (line.Ready ∷ []) (messages_down a.fetched ++ d.last))

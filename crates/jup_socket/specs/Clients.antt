@@ -21,12 +21,12 @@ abbrev pub said_of_heard : Result Heard ClientEnd → List Said
 said_of_heard (Ok heard) = option_to_list heard.said
 said_of_heard (Err end) = []
 
--- for want of memory the client ends, its site as it was; else the site has made the edit, and its message is what is said
+-- if an allocation fails, the client ends, with its site as it was; otherwise the site has made the edit, and the client says its message
 abbrev pub IsEditStep : Commands → ClientState → Result Answer ClientEnd → ClientState → Type 0
 IsEditStep commands old r new = ((r ≡ Err NoMemory) × (new.site ≡ old.site))
     ⊎ ((new.site ≡ site_edited commands old.site) × (said_of_answer r ≡ map (λ up. SaysUp up) (sent_as_made (edit_reply commands old.site))))
 
--- the same of a message that it is handed
+-- the same of a message that it receives
 abbrev pub IsDeliverStep : Down BoardBatch → ClientState → Result Heard ClientEnd → ClientState → Type 0
 IsDeliverStep down old r new = ((r ≡ Err NoMemory) × (new.site ≡ old.site))
     ⊎ ((new.site ≡ site_delivered down old.site) × (said_of_heard r ≡ map (λ up. SaysUp up) (sent_as_handed (deliver_reply down old.site))))

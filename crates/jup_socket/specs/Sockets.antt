@@ -18,7 +18,7 @@ use Rattle.jup_honest.specs.Connections.{Step, Connection, after}
 
 -- # Up
 
--- a client that says bye says nothing behind it
+-- a client that says bye says nothing after it
 abbrev pub farewell : Bool → List Said
 farewell true = SaysBye ∷ []
 farewell false = []
@@ -76,7 +76,7 @@ abbrev pub written_down : Joined → List (Down BoardBatch) → List Line → Li
 written_down answer fetched last = greeting answer.site answer.limit (board_lines answer.board) ++ (messages_down fetched ++ last)
 
 -- The bytes that the session wrote, or is to write, are those of that. The client read the first of them: these are a greeting, then whole lines, some of
--- which may wait, and then a part of one. By the others the server said all that, and the first of these messages were handed to the site
+-- which may wait, and then a part of one. By the others the server said all that, and the first of these messages were delivered to the site
 pub record DownSocket (answer : Joined) (c : Connection) : Type 0 where
   pub last : List Line
   pub ends : AllByRecursion IsLast last

@@ -1,4 +1,4 @@
-//! What the bytes of a link tell of a site and its hub.
+//! What the bytes of a link say of a site and its hub.
 
 ghost use Rattle.std.specs.Prelude.{◌≡◌, ◌≤◌, ◌<◌, length, Result, Ok};
 ghost use Rattle.jup_limits.specs.Limits.{highest_limit};
@@ -21,7 +21,7 @@ ghost use Rattle.jup_socket.specs.Sockets.{AtSocket, AtSocketThrough, DownSocket
 
 /// The session has read the first of the bytes that the client wrote, and the star was brought the first of the
 /// messages that their lines say. The client has read the first of the bytes that the session wrote, and its
-/// site was handed the first of the messages that their lines say. Then the link is reliable. It is enough that
+/// site received the first of the messages that their lines say. Then the link is reliable. It is enough that
 /// this holds at the end, if no message came before it was sent.
 ///
 /// Once the client has read the line `ready`, its greeting gave it its number, its limit and its board.
@@ -40,9 +40,9 @@ pub fn sockets_are_reliable()
         → length (board_lines answer.board) < 4294967295 → board_with s.body ≡ Ok (bare answer.board) }
 {}
 
-/// What a client of `jup_rules` does for an edit, and for a message that it hears, is a step of its site, and it
-/// says the messages that the site sends in that step. If it lacks memory it ends instead, and its site stays
-/// as it was. The site that it opens from its greeting is the one with which the run begins.
+/// What a client of `jup_rules` does for an edit, and for a message that it hears, is a step of its site. It
+/// says the messages that the site sends in that step. If an allocation fails, it ends instead, and its site
+/// stays as it was. The site that it opens from its greeting is the one with which the run begins.
 ///
 /// It does nothing: its contract is the theorem.
 pub fn clients_are_honest()

@@ -4,7 +4,7 @@ use Rattle.jup_script.specs.declared.ending.ScriptEnd.{ScriptEnd}
 use Rattle.jup_script.specs.declared.faults.ScriptFault.{ScriptFault}
 use Rattle.jup_script.specs.declared.ending.ScriptEnd.TheVariants.{Bad, LongInput, NoMemory, ReadFailed, WriteFailed}
 
--- what is wrong with the line, where one is bad
+-- what is wrong with the line, if one is bad
 abbrev pub script_end_fault : ScriptEnd → Option ScriptFault
 script_end_fault (Bad line fault) = Some fault
 script_end_fault LongInput = None

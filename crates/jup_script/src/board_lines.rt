@@ -8,8 +8,8 @@ use jup_window::{Board, BoardFault, Widget};
 use jup_xform::NoMemory;
 use std::alloc::Global;
 
-/// What is wrong with a line that was not taken behind the lines of this board, the last of whose windows has
-/// this id. The board itself is asked whether it refuses the id, which it says before it asks for memory.
+/// What is wrong with a line that was not taken after the lines of this board, the last of whose windows has
+/// this id. The board itself says whether it refuses the id, before it asks for memory.
 pub(crate) fn board_line_fault(
     alloc: Global,
     mut board: Board,
@@ -46,7 +46,7 @@ fn id_of(word: &str) -> Option<u16> {
     }
 }
 
-// What is wrong behind an id that the board takes.
+// What is wrong after an id that the board takes.
 fn value_fault(alloc: Global, word: &str, value: &str) -> Result<ScriptFault, NoMemory> {
     let fault = match word {
         "text" => match read_quoted(alloc, value)? {

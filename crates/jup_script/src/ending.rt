@@ -22,7 +22,7 @@ pub enum ScriptEnd {
 }
 
 impl ScriptEnd {
-    /// What is wrong with the line, where one is bad.
+    /// What is wrong with the line, if one is bad.
     pub fn fault(self) -> Option<ScriptFault>
         ensures { result ≡ script_end_fault self }
     {

@@ -35,7 +35,7 @@ pub enum ScriptFault {
 }
 
 impl ScriptFault {
-    // What is told of it, for people.
+    // The text that people read of it.
     fn text(self) -> &'static str {
         match self {
             ScriptFault::NotText => "the line is not UTF-8",

@@ -22,9 +22,9 @@ mod two;
 pub use ending::ScriptEnd;
 pub use faults::ScriptFault;
 
-/// Plays a script, and writes its replies. The script is read to its end before the first reply, so
-/// where it is too long or can't be read nothing is written; before a bad line the replies of the lines
-/// before it are.
+/// Plays a script, and writes its replies. It reads the script to its end before the first reply, so it
+/// writes nothing if the script is too long or can't be read. If a line is bad, it writes the replies of the
+/// lines before it.
 pub fn run_script<R: Read + Drop, W: Write>(
     alloc: Global,
     reader: R,

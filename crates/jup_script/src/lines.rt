@@ -50,7 +50,7 @@ impl<'a> Script<'a> {
         }
     }
 
-    /// The next line, which is bad where there is none.
+    /// The next line, which is bad if there is none.
     pub(crate) fn required_line(&mut self) -> Result<&'a str, ScriptEnd>
         ensures rest { length self.new.rest.now ≤ length self.old.rest.now }
         ensures short { IfOk result (λ text. length text.now ≤ longest_input) }
@@ -79,7 +79,7 @@ impl<'a> Script<'a> {
         ScriptEnd::Bad(self.line, fault)
     }
 
-    /// What was read of that line, which is bad where a fault was met.
+    /// What was read of that line, which is bad if a fault was met.
     pub(crate) fn judge<T>(&self, read: Result<T, ScriptFault>) -> Result<T, ScriptEnd>
         ensures ok { IfOk result (λ value. read ≡ Ok value) }
         ensures end { IfErr result ComesInPlay }
@@ -91,7 +91,7 @@ impl<'a> Script<'a> {
     }
 }
 
-/// Reads a number that stands in a line.
+/// Reads a number in a line.
 pub(crate) fn number_of(word: &str) -> Result<u32, ScriptFault> {
     read_number(word).ok_or(ScriptFault::BadNumber)
 }

@@ -89,7 +89,7 @@ fn read_signed(word: &str) -> Result<i32, ScriptFault> {
     read_integer(word).ok_or(ScriptFault::BadInteger)
 }
 
-// What stands after the word for an end of the link.
+// What comes after the word for an end of the link.
 fn value_of<'a>(script: &mut Script<'a>, end: &str) -> Result<&'a str, ScriptEnd>
     ensures { IfErr result ComesInPlay }
 {

@@ -89,7 +89,7 @@ fn read_board<'a>(
     Ok((reader.whole(), None))
 }
 
-// A world over a board. No board that was read so is refused, so that the line would be that of the limit.
+// A world over a board. A board that was read so is not refused, so a refusal is of the line of the limit.
 fn open(alloc: Global, board: Board, limit: u32) -> Result<World, ScriptEnd>
     ensures { IfErr result ComesInPlay }
 {
@@ -105,7 +105,7 @@ fn open(alloc: Global, board: Board, limit: u32) -> Result<World, ScriptEnd>
     }
 }
 
-// Plays one line, with those that follow it where it begins a batch, and prints what it answers.
+// Plays one line, with those that follow it if it begins a batch, and prints what it answers.
 fn play_line<W: Write>(
     alloc: Global,
     world: &mut World,
@@ -129,7 +129,7 @@ fn play_line<W: Write>(
     }
 }
 
-// The event of a line, and of those that follow it where it begins a batch.
+// The event of a line, and of those that follow it if it begins a batch.
 fn read_event(alloc: Global, line: &str, script: &mut Script<'_>) -> Result<Event, ScriptEnd>
     ensures rest { length script.new.rest.now ≤ length script.old.rest.now }
     ensures end { IfErr result ComesInPlay }
@@ -180,7 +180,7 @@ fn next_commands(
     Ok(commands)
 }
 
-// The next line, which is bad where it is no command.
+// The next line, which is bad if it is no command.
 fn next_command(script: &mut Script<'_>) -> Result<Command, ScriptEnd>
     ensures rest { length script.new.rest.now ≤ length script.old.rest.now }
     ensures end { IfErr result ComesInPlay }

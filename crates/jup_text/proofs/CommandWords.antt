@@ -1,4 +1,4 @@
--- A command's text by its first words: its kind, its ids, and what stands behind them.
+-- A command's text by its first words: its kind, its ids, and what comes after them.
 use Rattle.std.proofs.Common.{◌≡◌, ◌≢◌, ℕ, ◌^◌, ◌<◌, List, [], ◌∷◌, ◌++◌, get_or, refl, sym, ap, ◌∙◌, arith, lit<}
 use Rattle.std.specs.Prelude.{codes, decimal}
 use Rattle.std.specs.Char.{digit_value}
@@ -35,7 +35,7 @@ pub no_first : {A : Type 0} (text : A → List ℕ) (Is : A → Type 0) → ((a 
     → (a : A) (behind : List ℕ) → Is a → bytes ≢ text a ++ 32 ∷ behind
 no_first text Is words bytes word rest is parts none a behind a_is same = none a a_is (same_parts 32 word (text a) rest behind is (words a a_is) (sym parts ∙ same)).0
 
--- what stands behind the first word is not that
+-- what comes after the first word is not that
 pub no_second : (bytes word rest other behind : List ℕ) → IsWord word → IsWord other → bytes ≡ word ++ 32 ∷ rest → rest ≢ behind → bytes ≢ other ++ 32 ∷ behind
 no_second bytes word rest other behind is other_is parts none same = none (same_parts 32 word other rest behind is other_is (sym parts ∙ same)).1
 
@@ -175,7 +175,7 @@ other_kind line kind rest win wid h ins del rel set (Set k l setting) is same = 
 four_letters : (a b c d : ℕ) → 32 < a → 32 < b → 32 < c → 32 < d → IsWord (a ∷ b ∷ c ∷ d ∷ [])
 four_letters a b c d first second third fourth = (λ e. absurd (omega (arith, e, first)), letters b c d second third fourth)
 
--- a text of no word, or of another word than those of a value
+-- a text without a word, or with another word than those of a value
 pub no_value : (text : List ℕ) → ((word rest : List ℕ) → IsWord word → text ≢ word ++ 32 ∷ rest) → (value : Value) → IsValue value → text ≢ value_text value
 no_value text none (Char c) is same = none (codes "char") _ (four_letters 99 104 97 114 (lit< tt) (lit< tt) (lit< tt) (lit< tt)) same
 no_value text none (Label label) is same = none (codes "item") _ (four_letters 105 116 101 109 (lit< tt) (lit< tt) (lit< tt) (lit< tt)) same

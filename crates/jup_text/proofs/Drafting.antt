@@ -1,4 +1,4 @@
--- Items that are read one by one, each named behind the last.
+-- Items that are read one by one, each named after the last.
 use Rattle.std.proofs.Common.{◌≡◌, ℕ, ◌+◌, List, [], ◌∷◌, ◌++◌, map, Option, Some, None, Ok, refl, sym, ap, subst, ◌∙◌, append_assoc, append-nil}
 use Rattle.std.specs.Prelude.{codes, decimal}
 use Rattle.std.specs.List.{flat_map}
@@ -14,11 +14,11 @@ use Rattle.jup_text.specs.Boards.{line_of}
 use Rattle.jup_text.specs.WidgetLines.{AreNumbered, IsWidgetLine}
 use Rattle.jup_text.proofs.Printing.{labels_line}
 
--- the item behind a number
+-- the item after a number
 abbrev pub next_item : {V : Type 0} → ℕ → V → Item V
 next_item last value = record { name = record { site = 0; number = last + 1 }; value = value }
 
--- one item more
+-- one more item
 pub one_more : {V : Type 0} (before last : ℕ) (xs : List (Item V)) (value : V) → AreNumbered before xs last → AreNumbered before (xs ++ next_item last value ∷ []) (last + 1)
 one_more before last [] value are = (ap (λ n. record { site = 0; number = n + 1 }) are, ap (λ (n : ℕ). n + 1) are)
 one_more before last (x ∷ xs) value are = (are.0, one_more (before + 1) last xs value are.1)
@@ -31,7 +31,7 @@ numbered_next before last next xs ys value are more later =
 pub values_next : (last : ℕ) (xs ys : List (Item ℕ)) (value : ℕ) → ys ≡ xs ++ next_item last value ∷ [] → map (λ item. item.value) ys ≡ map (λ item. item.value) xs ++ value ∷ []
 values_next last xs ys value more = ap (map (λ item. item.value)) more ∙ map-append (λ item. item.value) xs (next_item last value ∷ [])
 
--- labels that were read behind spaces, and one more
+-- labels that were read after spaces, and one more
 pub labels_next : (labels rest label later : List ℕ) (last : ℕ) (xs ys : List (Item (List ℕ))) (value : List ℕ)
     → labels ≡ flat_map (λ item. 32 ∷ quoted item.value) xs ++ rest → rest ≡ 32 ∷ label → label ≡ quoted value ++ later → ys ≡ xs ++ next_item last value ∷ []
     → labels ≡ flat_map (λ item. 32 ∷ quoted item.value) ys ++ later

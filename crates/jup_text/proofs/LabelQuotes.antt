@@ -23,7 +23,7 @@ plain_behind : (cs es : List ℕ) → AllByRecursion IsPlain (cs ++ es) → AllB
 plain_behind [] es all = all
 plain_behind (c ∷ cs) es all = plain_behind cs es all.1
 
--- a character more than a label can have: of 48 already, or none from a space to `~`
+-- one more character than a label can have: of 48 already, or none from a space to `~`
 pub no_more_label : (text cs rest later : List ℕ) (c : ℕ) → HasRead text cs rest → IsScalar c → rest ≡ quoted_char c ++ later → (length cs ≡ 48) ⊎ (126 < c)
     → (label behind : List ℕ) → IsLabelText label → text ≢ quoted label ++ behind
 no_more_label text cs rest later c read is next bad label behind is_label same = go (behind_read text cs rest label behind read (label_scalars label is_label) (same ∙ quoted_parts label behind))

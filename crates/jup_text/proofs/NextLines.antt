@@ -86,7 +86,7 @@ same_fronts ds es r s d_word e_word r_ends s_ends same =
     let front = (same_parts 32 ds es more_r.0 more_s.0 d_word e_word whole).0 in
     (front, append_cancel_left es r s (ap (λ (t : List ℕ). t ++ r) (sym front) ∙ same))
 
--- labels, each behind a space
+-- labels, each after a space
 abbrev pub spaced_labels : List (List ℕ) → List ℕ
 spaced_labels labels = flat_map (λ label. 32 ∷ quoted label) labels
 
@@ -208,7 +208,7 @@ pub number_of : {V : Type 0} (before last : ℕ) (items : List (Item V)) → Are
 number_of before last [] are = omega (arith, are)
 number_of before last (x ∷ xs) are = let behind = number_of (before + 1) last xs are.1 in omega (arith, behind)
 
--- a text goes on behind the characters that were read, where one more follows
+-- a text goes on after the characters that were read, if one more follows
 pub more_chars : (text cs rest later : List ℕ) (c : ℕ) → HasRead text cs rest → rest ≡ quoted_char c ++ later → (chars : List ℕ) → AllByRecursion IsScalar chars → text ≡ quoted chars → length cs < length chars
 more_chars text cs rest later c read next chars all same = go (behind_read text cs rest chars [] read all same)
   where
@@ -223,7 +223,7 @@ same_label a b r s a_is b_is same =
     let whole = all_are_read (quoted a ++ r) a (34 ∷ r) b s here (λ c later c_is e. no_quote_first c later r (sym e)) (label_scalars b b_is) (same ∙ quoted_parts b s) in
     ap (λ (t : List ℕ). drop 1 t) whole.1
 
--- labels that go on behind those that were read
+-- labels that go on after those that were read
 pub record GoesOn (count : ℕ) (rest : List ℕ) (texts : List (List ℕ)) : Type 0 where
   pub more : List (List ℕ)
   pub length_is : length texts ≡ count + length more
@@ -241,7 +241,7 @@ labels_go_on (x ∷ xs) (t ∷ ts) rest read all same =
     let many = later.length_is in
     record { more = later.more; length_is = omega (arith, many); spelled = later.spelled; each = later.each }
 
--- behind a space a label has to follow
+-- after a space a label has to follow
 pub no_label_next : (count : ℕ) (rest label : List ℕ) (texts : List (List ℕ)) → GoesOn count rest texts → rest ≡ 32 ∷ label
     → ((text behind : List ℕ) → IsLabelText text → label ≢ quoted text ++ behind) → ⊥
 no_label_next count rest label texts on space none = go on.more on.spelled on.each
@@ -264,7 +264,7 @@ no_more_labels count rest texts on some none = go on.more on.spelled
     go [] spelled = some spelled
     go (x ∷ xs) spelled = none (quoted x ++ spaced_labels xs) spelled
 
--- one label more was read
+-- one more label was read
 pub texts_next : (items after : List (Item (List ℕ))) (item : Item (List ℕ)) → AllByRecursion (λ item. IsLabelText item.value) items → IsLabelText item.value → after ≡ items ++ item ∷ []
     → AllByRecursion (λ item. IsLabelText item.value) after
 texts_next items after item all is more = subst (λ (xs : List (Item (List ℕ))). AllByRecursion (λ item. IsLabelText item.value) xs) (sym more) (go items all)

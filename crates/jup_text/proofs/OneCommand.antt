@@ -24,7 +24,7 @@ use Rattle.jup_text.proofs.LabelQuotes.{label_scalars}
 use Rattle.jup_text.proofs.Splits.{same_parts}
 use Rattle.jup_text.proofs.CommandWords.{command_head, head_same, head_ids, number_word}
 
--- a text in quotes tells its characters
+-- a text in quotes determines its characters
 quoted_injective : (cs ds : List ℕ) → AllByRecursion IsScalar cs → AllByRecursion IsScalar ds → quoted cs ≡ quoted ds → cs ≡ ds
 quoted_injective cs ds c_is d_is same =
     sym (all_are_read (quoted cs) cs (34 ∷ []) ds [] (record { spelled = refl; scalars = c_is }) (λ c later is e. no_quote_first c later [] (sym e)) d_is same).0
@@ -67,7 +67,7 @@ one_setting (Toggle on) (Slider z) s_is t_is same = absurd (no_switch on z t_is 
 one_setting (Slider z) (Toggle on) s_is t_is same = absurd (no_switch on z s_is (sym same))
 one_setting (Slider y) (Slider z) s_is t_is same = ap Slider (signed_decimal_injective y z (int_mag y s_is) (int_mag z t_is) same)
 
--- a place with what stands behind it
+-- a place with what comes after it
 placed : (p q : ℕ) (r s : List ℕ) → IsU32 p → IsU32 q → decimal p ++ 32 ∷ r ≡ decimal q ++ 32 ∷ s → (p ≡ q) × (r ≡ s)
 placed p q r s p_is q_is same =
     let parts = same_parts 32 (decimal p) (decimal q) r s (number_word p p_is) (number_word q q_is) same in

@@ -5,7 +5,7 @@ use Rattle.std.specs.Fmt.{signed_decimal}
 use Rattle.std.specs.List.{flat_map, join_with_byte}
 use Rattle.jup_text.specs.Boards.{line_of}
 
--- words behind the first, each behind a space
+-- words after the first, each after a space
 pub join_spaced : {A : Type 0} (text : A → List ℕ) (word : List ℕ) (xs : List A) → join_with_byte 32 (word ∷ map text xs) ≡ word ++ flat_map (λ x. 32 ∷ text x) xs
 join_spaced text word [] = sym (append-nil word)
 join_spaced text word (x ∷ xs) = ap (λ (t : List ℕ). word ++ 32 ∷ t) (join_spaced text (text x) xs)

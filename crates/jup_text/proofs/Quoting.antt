@@ -92,7 +92,7 @@ numbered_none text end found none c rest is number same =
 pub unbraced : (text : List ℕ) → None ≡ position (is_byte 125) text → NoNumber text
 unbraced text none c rest is number same = no_byte 125 text none (hexadecimal c) rest (hex_braceless c (scalar_small c is)) same
 
--- ---- the front of a spelling tells the character
+-- ---- the front of a spelling determines the character
 
 -- the character at the front of a text that has one, and what follows it
 front : List ℕ → ℕ × List ℕ
@@ -178,7 +178,7 @@ goes_on (c ∷ cs) (d ∷ ds) r s all_c all_d same =
     let rest = goes_on cs ds r s all_c.1 all_d.1 one.1 in
     (rest.0, ap (λ (x : ℕ). x ∷ ds) (sym one.0) ∙ ap (λ (t : List ℕ). c ∷ t) rest.1, rest.2, rest.3)
 
--- the characters that were read behind the first quote, and what follows them
+-- the characters that were read after the first quote, and what follows them
 pub record HasRead (word chars rest : List ℕ) : Type 0 where
   pub spelled : word ≡ 34 ∷ (flat_map quoted_char chars ++ rest)
   pub scalars : AllByRecursion IsScalar chars
@@ -197,12 +197,12 @@ more_read word cs rest later c read is next = record {
   scalars = scalars-append cs c read.scalars is;
 }
 
--- what a text that goes on so has behind the characters that were read
+-- what a text that goes on so has after the characters that were read
 pub behind_read : (word cs rest ds s : List ℕ) → HasRead word cs rest → AllByRecursion IsScalar ds → word ≡ 34 ∷ (flat_map quoted_char ds ++ 34 ∷ s)
     → (es : List ℕ) × (ds ≡ cs ++ es) × (rest ≡ flat_map quoted_char es ++ 34 ∷ s) × AllByRecursion IsScalar es
 behind_read word cs rest ds s read all same = goes_on cs ds rest s read.scalars all (ap (drop 1) (sym read.spelled ∙ same))
 
--- where no character follows, the text is those that were read, if it is one at all
+-- if no character follows, the text is those that were read, if it is one at all
 pub all_are_read : (word cs rest ds s : List ℕ) → HasRead word cs rest → ((c : ℕ) (later : List ℕ) → IsScalar c → rest ≢ quoted_char c ++ later)
     → AllByRecursion IsScalar ds → word ≡ 34 ∷ (flat_map quoted_char ds ++ 34 ∷ s) → (ds ≡ cs) × (rest ≡ 34 ∷ s)
 all_are_read word cs rest ds s read none all same = go (behind_read word cs rest ds s read all same)

@@ -51,7 +51,7 @@ before_lacks b (x ∷ text) = elim (cases_Bool (x == b)) [
 pub lacks_before : (b : ℕ) (text : List ℕ) (end : ℕ) → Some end ≡ position (is_byte b) text → Lacks b (take end text)
 lacks_before b text end e = subst (λ (i : ℕ). Lacks b (take i text)) (found_at b text end e).1 (before_lacks b text)
 
--- it is nowhere where it has no place
+-- it is nowhere if it has no place
 pub lacks_all : (b : ℕ) (text : List ℕ) → None ≡ position (is_byte b) text → Lacks b text
 lacks_all b text none =
     elim (cases_lt (position_or_len (is_byte b) text) (length text)) [
@@ -66,7 +66,7 @@ drop_past b xs ys = rw add-one (go xs)
     go [] = refl
     go (z ∷ zs) = go zs
 
--- what stands before the first place of a byte, and what behind it
+-- what comes before the first place of a byte, and what comes after it
 pub byte_cut : (b : ℕ) (ds rest : List ℕ) → Lacks b ds → ◌≡◌ {A = List ℕ × List ℕ} (before_first (is_byte b) (ds ++ b ∷ rest), after_first (is_byte b) (ds ++ b ∷ rest)) (ds, rest)
 byte_cut b ds rest lacks =
     let cut : ℕ → List ℕ × List ℕ = λ i. (take i (ds ++ b ∷ rest), drop (i + 1) (ds ++ b ∷ rest)) in

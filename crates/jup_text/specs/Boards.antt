@@ -1,4 +1,4 @@
--- Boards as text: a line for each window, and behind it one for each of its widgets.
+-- Boards as text: a line for each window, and after it one for each of its widgets.
 use Rattle.std.specs.Prelude.{ℕ, List, [], ◌∷◌, ◌++◌, map, codes, decimal}
 use Rattle.std.specs.Fmt.{signed_decimal}
 use Rattle.std.specs.List.{flat_map, join_with_byte}

@@ -50,7 +50,7 @@ IsCommand (Delete win wid place) = IsId win × (IsId wid × IsU32 place)
 IsCommand (Relabel win wid place label) = IsId win × (IsId wid × (IsU32 place × IsLabelText label))
 IsCommand (Set win wid setting) = IsId win × (IsId wid × IsSetting setting)
 
--- the line that begins a batch of so many commands, which stand on lines of their own
+-- the line that begins a batch of so many commands, which are on lines of their own
 abbrev pub batch_text : ℕ → List ℕ
 batch_text count = join_with_byte 32 (codes "batch" ∷ decimal count ∷ [])
 
@@ -58,6 +58,6 @@ batch_text count = join_with_byte 32 (codes "batch" ∷ decimal count ∷ [])
 abbrev pub IsBatchCount : ℕ → Type 0
 IsBatchCount count = count ≤ 64
 
--- parts of a command's text, for what reads them: the value of an insertion, and what stands behind the ids
+-- parts of a command's text, for what reads them: the value of an insertion, and what comes after the ids
 abbrev pub value_text : Value → List ℕ
 value_text value = join_with_byte 32 (value_words value)

@@ -18,7 +18,7 @@ pub record TakesWindow (old : Draft) (line : List ℕ) (new : Draft) : Type 0 wh
   pub allowed : entry_fault win old.0 ≡ None
   pub taken : new ≡ (with_entry win [] old.0, Some win, old.2)
 
--- the line of a widget that may be added to the last window: its items are named onward behind the last
+-- the line of a widget that may be added to the last window: its items get the names after the last
 pub record TakesWidget (old : Draft) (line : List ℕ) (new : Draft) : Type 0 where
   pub win : ℕ
   pub wid : ℕ

@@ -22,7 +22,7 @@ effect_words win wid Nothing = []
 abbrev pub edit_text : Edit → List ℕ
 edit_text edit = join_with_byte 32 (effect_words edit.win edit.wid edit.what)
 
--- an edit behind another, with a semicolon and a space between them
+-- an edit after another, with a semicolon and a space between them
 abbrev pub other_text : Edit → List ℕ
 other_text edit = codes "; " ++ edit_text edit
 

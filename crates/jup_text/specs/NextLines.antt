@@ -16,7 +16,7 @@ use Rattle.jup_text.specs.Drafts.{Draft}
 use Rattle.jup_text.specs.WidgetLines.{IsLineOf}
 use Rattle.jup_text.specs.Words.{switch_text}
 
--- the values of a text or a list after so many items of the board: each is in its range, a sequence has room for them, and their numbers do not end
+-- the values of a text or a list after so many items of the board. Each is in its range, a sequence has room for them, and there are numbers left for them
 pub record AreValues {V : Type 0} (IsIn : V → Type 0) (before : ℕ) (values : List V) : Type 0 where
   pub each : AllByRecursion IsIn values
   pub short : length values ≤ longest_sequence

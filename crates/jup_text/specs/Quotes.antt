@@ -8,7 +8,7 @@ use Rattle.std.specs.List.{flat_map, AllByRecursion}
 abbrev pub hexadecimal : ℕ → List ℕ
 hexadecimal = digits 16 false
 
--- a character between quotes: a quote or a backslash behind a backslash, any other from a space to `~` itself, every other as `\u{H}`, H its number
+-- a character between quotes: a quote or a backslash after a backslash, any other from a space to `~` itself, every other as `\u{H}`, H its number
 unfoldable pub quoted_char : ℕ → List ℕ
 quoted_char c =
     if c == 34 || c == 92 then 92 ∷ c ∷ []

@@ -82,7 +82,7 @@ impl BoardReader {
         self.board
     }
 
-    /// Takes one line more. A line that is refused, for want of memory too, leaves all as it was.
+    /// Takes one more line. A line that is refused, also because an allocation failed, leaves all as it was.
     pub fn take(&mut self, alloc: Global, line: &str) -> Result<(), Untaken>
         ensures ok { OnOk result (IsTaken self.old line.now self.new) }
         ensures err { OnErr result (self.new ≡ self.old) }

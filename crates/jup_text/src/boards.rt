@@ -13,7 +13,7 @@ use jup_xform::NoMemory;
 use std::alloc::Global;
 use std::fmt;
 
-/// Appends a board as it is printed, each line with its line feed, or nothing where memory is refused.
+/// Appends a board as it is printed, each line with its line feed, or nothing if an allocation fails.
 pub fn write_board(alloc: Global, board: &Board, into: &mut Vec<u8>) -> Result<(), NoMemory>
     ensures appended { OnOk result (into.new.items ≡ into.old.items ++ board_text board.now) }
     ensures same { OnErr result (into.new.items ≡ into.old.items) }
@@ -21,7 +21,7 @@ pub fn write_board(alloc: Global, board: &Board, into: &mut Vec<u8>) -> Result<(
     append(alloc, &PrintedBoard(board), into)
 }
 
-// Appends a text, or nothing where memory is refused.
+// Appends a text, or nothing if an allocation fails.
 pub(super) fn append<D: fmt::Display>(
     alloc: Global,
     text: &D,
@@ -91,7 +91,7 @@ fn write_widget<W: fmt::Write>(f: &mut fmt::Formatter<W>, entry: &(u16, Widget))
     }
 }
 
-// Writes each label behind a space.
+// Writes each label after a space.
 fn write_labels<W: fmt::Write>(f: &mut fmt::Formatter<W>, list: &Seq<Label>) -> fmt::Result
     ensures { DisplaysOnOk W.Write.write_str_gives f.old result
         (Some (flat_map (λ item. 32 ∷ quoted item.value) list.now.items)) f.new }

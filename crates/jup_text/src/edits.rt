@@ -15,7 +15,7 @@ use std::alloc::Global;
 use std::fmt;
 
 /// Appends the edits of a batch as they are printed, with `; ` between them. An edit that changes nothing has no
-/// spelling; nothing is appended where memory is refused.
+/// spelling; nothing is appended if an allocation fails.
 pub fn write_edit(alloc: Global, edits: &Edits<Edit>, into: &mut Vec<u8>) -> Result<(), NoMemory>
     ensures appended { OnOk result (into.new.items ≡ into.old.items ++ edits_text edits.now) }
     ensures same { OnErr result (into.new.items ≡ into.old.items) }
@@ -40,7 +40,7 @@ impl fmt::Display for PrintedEdits<'_> {
     }
 }
 
-// Writes each edit behind `; `.
+// Writes each edit after `; `.
 fn write_others<W: fmt::Write>(f: &mut fmt::Formatter<W>, edits: &[Edit]) -> fmt::Result
     ensures { DisplaysOnOk W.Write.write_str_gives f.old result (Some (flat_map other_text edits.now)) f.new }
 {

@@ -144,7 +144,7 @@ fn numbered_char(text: &[u8]) -> Option<(char, &[u8])>
     }
 }
 
-// Where the first closing brace stands.
+// Where the first closing brace is.
 fn brace_of(text: &[u8]) -> Option<usize>
     ensures place { result ≡ position (λ byte. byte == 125) text.now }
     ensures within { IfSome result (λ at. at < length text.now) }
@@ -226,7 +226,7 @@ impl fmt::Display for QuotedChar {
     }
 }
 
-// Whether a character stands between quotes as itself, if it is no quote and no backslash.
+// Whether a character is written between quotes as itself, if it is no quote and no backslash.
 fn is_plain(value: char) -> bool
     ensures { IsTrue result ↔ ((32 ≤ value) × (value ≤ 126)) }
 {

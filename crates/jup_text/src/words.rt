@@ -85,7 +85,7 @@ pub(crate) fn next_integer(text: &[u8]) -> Option<(i32, &[u8])>
     Some((jup_number::read_integer(word)?, rest))
 }
 
-/// The word before the first space, or all where there is none, and what follows the word.
+/// The word before the first space, or all if there is none, and what follows the word.
 pub(crate) fn split_word(text: &[u8]) -> (&[u8], &[u8])
     ensures parts { text.now ≡ result.0.now ++ result.1.now }
     ensures word { IsWord result.0.now }
@@ -97,7 +97,7 @@ pub(crate) fn split_word(text: &[u8]) -> (&[u8], &[u8])
     }
 }
 
-// Where the first space stands.
+// Where the first space is.
 fn space_of(text: &[u8]) -> Option<usize>
     ensures place { result ≡ position (λ byte. byte == 32) text.now }
     ensures within { IfSome result (λ at. at < length text.now) }

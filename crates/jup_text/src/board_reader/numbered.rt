@@ -42,8 +42,7 @@ impl<V: Copy> Numbered<V> {
         self.items
     }
 
-    /// Puts one item more at the end, under the next number. Refused: a sequence of 65,536 items, no
-    /// memory.
+    /// Puts one more item at the end, under the next number. Refused: a sequence of 65,536 items, no memory.
     pub(crate) fn push(&mut self, value: V) -> Result<(), Untaken>
         ensures items { OnOk result (self.new.items.items
             ≡ self.old.items.items ++ (record { name = record { site = 0; number = self.old.last + 1 }; value = value }) ∷ []) }

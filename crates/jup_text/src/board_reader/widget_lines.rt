@@ -29,7 +29,7 @@ pub(crate) struct WidgetLine {
     pub(crate) last: u32,
 }
 
-/// Reads the line of a widget: its first word, and what stands behind that. Its items are numbered after the last.
+/// Reads the line of a widget: its first word, and what comes after that. Its items are numbered after the last.
 pub(crate) fn read_widget(
     alloc: Global,
     last: u32,
@@ -114,7 +114,7 @@ fn read_chars(alloc: Global, last: u32, text: &[u8]) -> Result<Numbered<char>, U
     }
 }
 
-// The items of a list, each a label behind a space, numbered after the last.
+// The items of a list, each a label after a space, numbered after the last.
 fn read_labels(alloc: Global, last: u32, labels: &[u8]) -> Result<Numbered<Label>, Untaken>
     ensures labels { IfOk result (λ r. labels.now ≡ flat_map (λ item. 32 ∷ quoted item.value) r.items.items) }
     ensures numbered { IfOk result (λ r. AreNumbered last r.items.items r.last) }

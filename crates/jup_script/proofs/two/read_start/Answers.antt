@@ -1,7 +1,7 @@
 use Rattle.std.proofs.Common.{◌≤◌, length, vec_len, IfSome, arith}
 use Rattle.jup_script.proofs.two.read_start.Goals as goal
 
--- the text stands in a line, behind its word
+-- the text is in a line, after its word
 pub returns-in-Ok-Some-clause-short : goal.returns-in-Ok-Some-clause-short
 returns-in-Ok-Some-clause-short c =
     let text = c.in-Some-start-default.text.now in

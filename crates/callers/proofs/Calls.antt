@@ -1,4 +1,4 @@
--- What the reply to a call of a pass tells.
+-- What the reply to a call of a pass says.
 use Rattle.std.proofs.Common.{◌≡◌, ◌≤◌, List, [], ◌∷◌, ◌++◌, Result, Ok, Err, IfOk}
 use Rattle.jup_star.specs.StarCalls.{BoardStar, reply_of, star_after, bare_joined}
 use Rattle.jup_star.specs.declared.star.Joined.{Joined}

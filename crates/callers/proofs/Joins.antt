@@ -1,4 +1,4 @@
--- What a join that is answered tells, and what a departure leaves.
+-- What a join that is answered says, and what a departure leaves.
 use Rattle.std.proofs.Common.{◌≡◌, refl, ◌∙◌, sym, ap, ℕ, ◌+◌, ◌≤◌, Bool, true, false, List, [], ◌∷◌, Option, Some, None, Result, Ok, arith}
 use Rattle.jup_batch.specs.BatchBoards.{bare}
 use Rattle.jup_star.specs.LinkStates.{is_of}
@@ -9,7 +9,7 @@ use Rattle.jup_star.specs.declared.faults.StarFault.{StarFault}
 use Rattle.jup_star.specs.declared.calls.Call.TheVariants.{Join, Leave}
 use Rattle.jup_star.specs.declared.calls.Reply.TheVariants.{Joined as JoinedReply, Left}
 
--- what is told as a site joins is what the star then has
+-- what a site gets as it joins is what the star then has
 pub joined_as : (s t : BoardStar) (j : Joined) → Answers Join s t (JoinedReply (bare_joined (Ok j))) → (bare j.board ≡ t.board) × (j.site ≡ t.given)
 unfolding reply_of star_after
 joined_as s t j answers = cases (join_fault s) refl
@@ -43,7 +43,7 @@ none_without i (l ∷ ls) = cases (is_of i l) refl (none_without i ls)
     cases true e none = rw e none
     cases false e none = rw e (rw e none)
 
--- behind a departure the site has no link
+-- after a departure the site has no link
 pub left_none : (i : ℕ) (s t : BoardStar) (r : Result (Unit {0}) StarFault) → lacks_memory r ≡ false → Answers (Leave i) s t (Left r) → link_of i t.links ≡ None
 unfolding reply_of star_after
 left_none i s t r memory answers = cases (link_of i s.links) refl

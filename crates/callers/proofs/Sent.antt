@@ -1,4 +1,4 @@
--- What the lines of a message have come to, one by one.
+-- What the lines of a message give, one by one.
 use Rattle.std.proofs.Common.{◌≡◌, refl, ◌∙◌, sym, ap, subst, List, [], ◌∷◌, ◌++◌, Option, Some, None}
 use Rattle.jup_link.specs.declared.Msg.{Msg}
 use Rattle.jup_window.specs.declared.board_operations.BoardOp.{BoardOp}

@@ -34,7 +34,7 @@ crowd = pair ++ JoinStray ∷ []
 abbrev pub turns_on : Msg BoardBatch
 turns_on = record { mine = 0; heard = 0; op = record { win = 1; wid = 1; op = OnToggle (SetTo true) } ∷ [] }
 
--- the star takes it, and both sites are told
+-- the star takes it, and both sites receive it
 abbrev pub told : List BoardEvent
 told = crowd ++ Stray 3 (UpOp turns_on) ∷ Down 1 ∷ Down 2 ∷ []
 

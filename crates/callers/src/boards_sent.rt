@@ -6,7 +6,7 @@ use jup_layout::{LayoutFault, board_of, lines_of};
 use jup_window::Board;
 use std::alloc::Global;
 
-/// The lines of a board are that board, where it has fewer than 4,294,967,295 of them.
+/// The lines of a board are that board, if it has fewer than 4,294,967,295 of them.
 pub fn send_board(alloc: Global, board: &Board) -> Result<Board, LayoutFault>
     ensures { IfOk result (λ sent. bare sent ≡ bare board.now) }
 {

@@ -7,7 +7,7 @@ use std::alloc::Global;
 use std::io;
 use std::io::Read;
 
-/// What the first bytes of a connection are answered at once, if anything: a request that is refused.
+/// The immediate answer to the first bytes of a connection, if there is one: a request that is refused.
 pub fn answer_refused(bytes: &[u8], origins: &[&[u8]]) -> Option<&'static str> {
     match read_request(bytes, origins) {
         Some(Request::Refused(refusal)) => Some(refusal_head(refusal)),

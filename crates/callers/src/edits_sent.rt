@@ -12,7 +12,7 @@ pub fn send_edit(alloc: Global, msg: &Msg<BoardBatch>) -> Result<Option<Msg<Boar
     ensures { IfOk result (λ sent. sent ≡ Some msg.now) }
 {
     message_comes_whole();
-    // It tells that an edit has 1 to 32 operations.
+    // It says that an edit has 1 to 32 operations.
     let _ops = msg.op.as_slice();
     let mut gather = Gather::new();
     let mut sent = None;

@@ -7,7 +7,7 @@ ghost use Rattle.jup_hub.specs.declared.view.Entry.{Entry};
 use jup_hub::{Closed, Hub, Pass};
 
 /// Splits a pass and takes it in again, looks for news and closes the hub. It has no handle for waiting, so none of these calls waits.
-/// The star is the one after some history from the opening on, which has as many events as are told.
+/// The star is the one after some history from the opening on, which has as many events as [`Hub::close`] gives.
 pub fn close_hub(hub: Hub, mut pass: Pass) -> Result<Closed, (Hub, Pass)>
     requires { IsPassOf hub pass }
     ensures closed { IfOk result (λ closed. (log : List Entry)

@@ -7,7 +7,7 @@ use jup_star::Joined;
 use std::alloc::Global;
 use std::sync::Wait;
 
-/// A site joins by a pass: it gets a number from 1 on, and the pass has made one call more.
+/// A site joins by a pass: it gets a number from 1 on, and the pass has made one more call.
 pub fn join_hub<R: Wait>(
     rt: &R,
     alloc: Global,

@@ -17,7 +17,7 @@ use jup_world::worlds_agree;
 /// Sites 1 and 2 are at a star over a board of one toggle, and a stranger joins as number 3. What the theorem on worlds says of them:
 ///
 /// - the stranger's edit is one entry of the order, and an acknowledgement of what it was not sent detaches it alone;
-/// - once both sites were told of the edit, each holds the star's board, where the toggle is on;
+/// - once both sites have received the edit, each holds the star's board, where the toggle is on;
 /// - an order of one edit is full, and so it detaches site 1 at its first edit;
 /// - before the stranger joined, the attached sites were those that had links.
 pub fn meet_a_stranger()

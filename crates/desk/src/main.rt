@@ -15,7 +15,7 @@ fn join(alloc: Global, star: &mut Star) -> anyhow::Result<Site> {
     Ok(site)
 }
 
-// A site shows its own edit at once, and the star takes it.
+// A site shows its own edit immediately, and the star takes it.
 fn edit(alloc: Global, star: &mut Star, site: &mut Site, command: &Command) -> anyhow::Result<()> {
     let made = site.edit(alloc, command)?;
     star.take(alloc, site.number(), &made.up)?;

@@ -6,8 +6,8 @@ use std::io;
 use std::io::{ErrorKind, Read};
 use std::sync::Wait;
 
-/// Reads what an intake has, and waits where it has nothing. What came before the end of the link, or before a read of it failed, comes
-/// before that.
+/// Reads what an intake has, and waits if it has nothing. It gives what came before the end of the link, or before a failed read,
+/// and then the end or the failure.
 #[derive(Drop)]
 pub struct Drained<'a, R: Wait> {
     rt: &'a R,

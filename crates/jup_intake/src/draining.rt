@@ -7,8 +7,8 @@ use jup_rules::{Inbox, LinkEnd};
 use std::io::Read;
 use std::sync::Wait;
 
-/// Reads a link into an intake, up to its end, or until nobody takes any more: it looks for that before each read, so a read of the
-/// link has to end after some time, by a failure of which [`has_waited`] tells.
+/// Reads a link into an intake, up to its end, or until nobody takes any more. It checks that before each read, so a read of the
+/// link has to end after some time, with an error for which [`has_waited`] is true.
 pub fn drain<R: Wait, I: Read + Drop>(rt: &R, mut from: I, intake: &Intake) {
     let mut piece = [0u8; Inbox::PIECE];
     for _ in rt.forever() {
@@ -30,7 +30,7 @@ pub fn drain<R: Wait, I: Read + Drop>(rt: &R, mut from: I, intake: &Intake) {
     }
 }
 
-// One read: how many bytes came, 0 where it is to be tried again, or how the link ended.
+// One read: how many bytes came, 0 if it is to be tried again, or how the link ended.
 fn read_piece<I: Read>(from: &mut I, piece: &mut [u8]) -> Result<usize, LinkEnd>
     ensures same { length piece.new ≡ length piece.old }
     ensures most { IfOk result (λ len. len ≤ length piece.new) }

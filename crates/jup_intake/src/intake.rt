@@ -9,7 +9,7 @@ use std::sync::{Condvar, Mutex, Wait};
 #[derive(Drop)]
 pub struct Intake {
     held: Mutex<Held>,
-    /// Told of each change: two threads share an intake, so that at most one waits.
+    /// Notified of each change: two threads share an intake, so that at most one waits.
     changed: Condvar,
 }
 
@@ -45,7 +45,7 @@ impl Intake {
         self.changed.notify_all();
     }
 
-    /// Waits for room, and answers how many bytes may be put. `None` where nobody takes any more.
+    /// Waits for room, and answers how many bytes may be put. `None` if nobody takes any more.
     pub(crate) fn wait_for_room<R: Wait>(&self, rt: &R) -> Option<usize> {
         let held = self
             .changed
@@ -56,7 +56,7 @@ impl Intake {
         Some(held.inbox.room())
     }
 
-    /// Puts bytes. Where their growth is refused it waits, and tries again once some were taken. False where nobody takes any more.
+    /// Puts bytes. If an allocation for them fails, it waits, and tries again once some were taken. False if nobody takes any more.
     pub(crate) fn put<R: Wait>(&self, rt: &R, bytes: &[u8]) -> bool {
         let mut held = self.held.lock(rt);
         for _ in rt.forever() {
@@ -79,7 +79,7 @@ impl Intake {
         self.changed.notify_all();
     }
 
-    /// Takes the next bytes, or the end behind them, and waits for them where there is nothing.
+    /// Takes the next bytes, or the end after them, and waits for them if there is nothing.
     pub(crate) fn take<R: Wait>(&self, rt: &R, buf: &mut [u8]) -> Given
         requires { 1 ≤ length buf.old }
         ensures { count_in result ≤ length buf.new }

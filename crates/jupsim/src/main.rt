@@ -9,8 +9,8 @@ use std::{env, io};
 
 mod words;
 
-// Plays the script. Why it was not played to its end is told on standard error, and in a second line what is wrong with a
-// line that is bad.
+// Plays the script. If it was not played to its end, it prints why on standard error, and in a second line what is wrong
+// with a bad line.
 fn play(rt: &HostRuntime) -> u8 {
     let Err(end) = run_script(rt.alloc(), rt.stdin(), &mut rt.stdout()) else {
         return 0;
@@ -22,7 +22,7 @@ fn play(rt: &HostRuntime) -> u8 {
     end.status()
 }
 
-// Tells what the words came to: help on standard output, all else on standard error.
+// Prints what the words came to: help on standard output, all else on standard error.
 fn tell(rt: &HostRuntime, error: &clap::Error) -> u8 {
     match error.kind() {
         ErrorKind::DisplayHelp => match print!(rt; "{error}") {

@@ -1,8 +1,8 @@
-//! Every public call of the specification, at its path and with its signature: a call that moves away, or that takes or answers
+//! Every public call of the specification, at its path and with its signature. A call that moves away, or that takes or answers
 //! something else, fails the check of this crate.
 //!
-//! A call is named by a pointer with its type, where the prover can make one. A generic call, and one that answers a reference, is
-//! called by a function that has its signature. Nothing runs, and no contract says more than a call asks for.
+//! A pointer with its type names a call, if the prover can make one. A function with its signature calls a generic call, and
+//! one that answers a reference. Nothing runs, and no contract says more than a call requires.
 #![tactic(auto)]
 
 pub mod boards;

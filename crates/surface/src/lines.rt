@@ -1,4 +1,4 @@
-//! `jup_wire`, and `jup_layout`, `jup_gather`, `jup_lane` and `jup_text`, which have what was its own or that of worlds.
+//! `jup_wire`, `jup_layout`, `jup_gather`, `jup_lane` and `jup_text`: lines, messages and printed texts.
 
 use jup_batch::{BoardBatch, BoardEdits};
 use jup_gather::{Gather, Gathered, lines_of_op};

@@ -5,7 +5,7 @@ ghost use Rattle.jup_value.specs.Items.{has_name};
 use jup_value::{BadLabel, Item, Label, Name, NoMemory, Seq};
 use std::alloc::Global;
 
-/// Labels, and want of memory.
+/// Labels, and failed allocations.
 pub fn labels() {
     let _: fn(&[u8]) -> Result<Label, BadLabel> = Label::read;
     let _: fn(BadLabel) -> u32 = BadLabel::number;

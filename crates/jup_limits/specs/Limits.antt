@@ -21,7 +21,7 @@ longest_sequence = 65536
 abbrev pub highest_limit : ℕ
 highest_limit = 16777216
 
--- edits of a site on their way, of which it was not told that they were received
+-- edits of a site on their way, of which it does not know that they were received
 abbrev pub most_unacknowledged : ℕ
 most_unacknowledged = 1024
 

@@ -1,8 +1,8 @@
 //! The limits of the protocol, each in one place, and the refusal that any call may meet.
 //!
 //! Each constant is what the definition of the same name in `specs/` says. Three definitions have no constant, since only
-//! proofs name them. What bounds no message and no state, as the
-//! sizes of rooms and how long a program waits, stands in the crate that chose it.
+//! proofs name them. What bounds no message and no state, as the sizes of rooms and how long a program waits, is in the
+//! crate that chose it.
 #![tactic(auto)]
 
 ghost use Rattle.std.specs.Prelude.{◌≡◌};
@@ -42,7 +42,7 @@ pub const LONGEST_SEQUENCE: u32 = 65_536;
 /// The highest limit of edits that a star can be opened with.
 pub const HIGHEST_LIMIT: u32 = 16_777_216;
 
-/// How many edits a site has on their way, of which it was not told that they were received.
+/// How many edits a site has on their way, of which it does not know that they were received.
 pub const MOST_UNACKNOWLEDGED: u32 = 1_024;
 
 /// How many operations an end receives before it owes an acknowledgement.

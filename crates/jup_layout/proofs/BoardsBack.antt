@@ -9,7 +9,7 @@ use Rattle.jup_layout.specs.Layouts.{board_with, no_memory, Makes}
 use Rattle.jup_layout.proofs.Drafting.{same_Ok}
 use Rattle.jup_layout.proofs.RoundTrip.{round_trip}
 
--- where a board is due that board is made, or memory is wanting
+-- if a board is due that board is made, or an allocation failed
 pub made_as_due : (r : Result board.Windows LayoutFault) (due : Result board.Windows LayoutFault) (windows : board.Windows) → Makes r due → due ≡ Ok windows
     → MatchResult r (λ made. board.bare made ≡ windows) (λ fault. fault ≡ no_memory)
 made_as_due (Ok made) due windows makes is = same_Ok _ _ (sym makes ∙ is)

@@ -1,4 +1,4 @@
--- What a draft's calls give, but for the room of its sequences.
+-- What a draft's calls give, apart from the room of its sequences.
 use Rattle.std.proofs.Common.{◌≡◌, ℕ, zero, suc, false, cond, ◌==◌, nat_lt, List, [], ◌∷◌, length, Option, Some, None, Result, Ok, Err, refl, sym, ap, subst, ◌∙◌, inl, inr}
 use Rattle.std.specs.Prelude.{insert, nat_le, IsTrue}
 use Rattle.std.specs.Option.{option_map, is_none}
@@ -17,7 +17,7 @@ use Rattle.jup_layout.specs.declared.refusals.Refusal.{Refusal}
 use Rattle.jup_layout.specs.declared.refusals.Refusal.TheVariants.{NoMemory, DoubleId, TooMany, BadId, BadBounds, Misplaced, BadItemName}
 use Rattle.jup_layout.specs.Drafts.{refusal_of, Drafted, put_into, whole, unless, with_window, with_widget_in, bare_last, is_free, Follows}
 
--- # A board but for its room
+-- # A board without its room
 
 slot_of-map : {A B : Type 0} (f : A → B) (k : ℕ) (es : List (ℕ × A)) → slot_of k (map_values f es) ≡ slot_of k es
 slot_of-map f k [] = refl
@@ -35,7 +35,7 @@ insert-map f [] (suc i) k a = refl
 insert-map f (e ∷ es) zero k a = refl
 insert-map f (e ∷ es) (suc i) k a = ap (λ xs. (e.0, f e.1) ∷ xs) (insert-map f es i k a)
 
--- an entry more
+-- one more entry
 pub with_entry-map : {A B : Type 0} (f : A → B) (k : ℕ) (a : A) (es : List (ℕ × A)) → map_values f (with_entry k a es) ≡ with_entry k (f a) (map_values f es)
 with_entry-map f k a es = insert-map f es (slot_of k es) k a ∙ ap (λ i. insert (map_values f es) i (k, f a)) (sym (slot_of-map f k es))
 
@@ -66,7 +66,7 @@ fault_in-map wid (Some ws) = entry_fault-map widget.bare wid ws
 pub widget_fault-bare : (win wid : ℕ) (b : board.Windows) → widget_fault win wid (board.bare b) ≡ widget_fault win wid b
 widget_fault-bare win wid b = ap (λ o. fault_in wid o) (at_id-map board.bare_widgets win b) ∙ fault_in-map wid (at_id win b)
 
--- a widget more in a window
+-- one more widget in a window
 pub put-bare : (win wid : ℕ) (w : Widget) (b : board.Windows) → board.bare (change_at win (with_entry wid w) b) ≡ change_at win (with_entry wid (widget.bare w)) (board.bare b)
 put-bare win wid w b = change_at-map board.bare_widgets (with_entry wid w) (with_entry wid (widget.bare w)) (λ ws. with_entry-map widget.bare wid w ws) win b
 
@@ -151,7 +151,7 @@ entry_fault-change {A = A} k h f es = ap (λ o. cond (k == 0) (Some fault.BadId)
     mapped (Some a) = refl
     mapped None = kept None
 
--- # The last widget, and one window more
+-- # The last widget, and one more window
 
 pub entry_fault-whole : (home : Option ℕ) (last : Option (ℕ × Widget)) (b : board.Windows) (win : ℕ) → entry_fault win (put_into home last b) ≡ entry_fault win b
 entry_fault-whole None last b win = refl

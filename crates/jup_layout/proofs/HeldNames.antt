@@ -9,7 +9,7 @@ use Rattle.jup_value.specs.declared.names.Item.{Item}
 use Rattle.jup_value.specs.Items.{name_eq, has_name}
 use Rattle.jup_layout.specs.Names.{AddsName}
 
--- two names are one where they compare equal
+-- two names are one if they compare equal
 pub same_name : (a b : Name) → is_eq (ordering_then (nat_cmp a.site b.site) (nat_cmp a.number b.number)) ≡ name_eq a b
 same_name a b = sym (both_tied (a.site == b.site) (a.number == b.number) (nat_cmp a.site b.site) (nat_cmp a.number b.number) (unsigned_ties a.site b.site) (unsigned_ties a.number b.number))
 

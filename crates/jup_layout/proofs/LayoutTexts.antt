@@ -52,7 +52,7 @@ accepts text (Ok made) lays lines windows are is = same_Ok _ _ (described text (
 accepts text (Err fault) lays lines windows are is =
     elim lays [ inl none ↦ none | inr d ↦ absurd (let no : Err fault ≡ Ok windows = described text (Err fault) lines d are ∙ is in cc) ]
 
--- what a layout gives, its lines give where nothing is asked of the names but that they are distinct
+-- what a layout gives, its lines give if the names have only to be distinct
 from_taken : (r : Result Drafted LayoutFault) (lines : List Line) (windows : board.Windows) → lines_taken 1 (blank (Numbered 0)) lines ≡ r → (r >>? λ d. Ok (whole d)) ≡ Ok windows → board_with lines ≡ Ok windows
 from_taken (Ok end) lines windows is e = ap (λ r. r >>? λ d. Ok (whole d)) (lines_plain lines 1 (blank (Numbered 0)) end is) ∙ e
 from_taken (Err fault) lines windows is e = absurd cc

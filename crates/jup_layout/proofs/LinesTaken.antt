@@ -11,7 +11,7 @@ use Rattle.jup_layout.specs.Layouts.{◌>>?◌, at_line, lines_taken}
 pub drop_at : {A : Type 0} (a : A) (xs : List A) (i : ℕ) → i < length xs → a ≡ get_or xs i a → drop i xs ≡ a ∷ drop (i + 1) xs
 drop_at a xs i lt is = rw add-one (drop-cons xs i a lt ∙ ap (λ x. x ∷ drop (suc i) xs) (sym is))
 
--- one line more
+-- one more line
 pub line_taken : (number i : ℕ) (d next : Drafted) (line : Line) (lines : List Line) → i < length lines → line ≡ get_or lines i line → number ≢ 4294967295 → taken d line ≡ Ok next
     → lines_taken number d (drop i lines) ≡ lines_taken (number + 1) next (drop (i + 1) lines)
 line_taken number i d next line lines lt is other e =

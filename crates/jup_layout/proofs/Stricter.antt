@@ -1,4 +1,4 @@
--- What is taken where names are numbered is taken where they are distinct, with the same answer.
+-- What is taken if names are numbered is taken if they are distinct, with the same answer.
 use Rattle.std.proofs.Common.{◌≡◌, ℕ, suc, Bool, true, false, ◌==◌, List, [], ◌∷◌, ◌++◌, length, Option, Some, None, Result, Ok, Err, refl, ap, ◌∙◌, inl, inr}
 use Rattle.std.proofs.lemmas.Bool.{cases_Bool}
 use Rattle.jup_value.specs.declared.names.Item.{Item}
@@ -13,7 +13,7 @@ use Rattle.jup_layout.specs.Drafts.{naming_refusal, next_naming, first_refusal, 
 use Rattle.jup_layout.specs.Layouts.{◌>>?◌, at_line, lines_taken}
 use Rattle.jup_layout.proofs.Drafting.{same_Ok}
 
--- the same lines, where nothing is asked of the names but that they are distinct
+-- the same lines, if the names have only to be distinct
 abbrev pub plain : Drafted → Drafted
 plain d = record d { naming = Distinct }
 

@@ -30,7 +30,7 @@ refusal_of fault.DoubleId = DoubleId
 refusal_of fault.TooMany = TooMany
 refusal_of fault.BadId = BadId
 
--- what is asked of an item's name and of its place, before that no item of the sequence has the name
+-- the tests of an item's name and of its place, before the test that no item of the sequence has the name
 abbrev pub naming_refusal : Naming → Name → ℕ → Option Refusal
 naming_refusal Distinct name place = None
 naming_refusal (Numbered count) name place =
@@ -48,7 +48,7 @@ first_refusal None held = if held then Some BadItemName else None
 abbrev pub item_refusal : {V : Type 0} → Naming → Name → List (Item V) → Option Refusal
 item_refusal naming name items = first_refusal (naming_refusal naming name (length items)) (has_name name items)
 
--- what the lines so far describe: a board, the window of the last window line, and the last widget
+-- what the lines so far describe: a board, and the window of the last window line. Then the last widget
 -- line's widget, which takes items and is not on the board yet, with the window that it belongs to
 pub record Drafted : Type 0 where
   pub board : board.Windows
@@ -122,7 +122,7 @@ abbrev pub with_added : Option (ℕ × Widget) → Added → Drafted → Result 
 with_added last (AddedChar item) d = with_char_in last item d
 with_added last (AddedLabel item) d = with_label_in last item d
 
--- after one line more
+-- after one more line
 abbrev pub taken : Drafted → Line → Result Drafted Refusal
 taken d (line.Window win) = with_window win d
 taken d (line.Text wid) = with_widget wid (Text (record { items = []; spare = 0 })) d
@@ -151,28 +151,28 @@ items_in_last (Some (wid, Labels x)) = length x.items
 items_in_last (Some (wid, Toggle x)) = 0
 items_in_last (Some (wid, Slider x)) = 0
 
--- no refusal is due where the last widget is put into its window
+-- no refusal is due when the last widget is put into its window
 abbrev pub is_free : Option ℕ → Option (ℕ × Widget) → board.Windows → Bool
 is_free None last windows = true
 is_free (Some win) None windows = true
 is_free (Some win) (Some entry) windows = is_none (widget_fault win entry.0 windows)
 
--- a widget under its id, but for its room
+-- a widget under its id, without its room
 abbrev pub bare_last : Option (ℕ × Widget) → Option (ℕ × Widget)
 bare_last last = option_map (λ entry. (entry.0, widget.bare entry.1)) last
 
--- a call gives what is due but for room and for want of memory
+-- a call gives what is due, apart from room and failed allocations
 abbrev pub Follows : {A B : Type 0} → (A → B) → Result A Refusal → Result B Refusal → Type 0
 Follows view (Ok a) due = due ≡ Ok (view a)
 Follows view (Err NoMemory) due = Unit {0}
 Follows view (Err refusal) due = due ≡ Err refusal
 
--- memory is refused a sequence only where it has no room; but names that are kept take memory of their own
+-- an allocation for a sequence can fail only if it has no room; but names that are kept need allocations of their own
 abbrev pub LacksRoom : Naming → ℕ → Type 0
 LacksRoom Distinct spare = Unit {0}
 LacksRoom (Numbered count) spare = spare ≡ 0
 
--- a sequence with one item more at its end, unless it is refused
+-- a sequence with one more item at its end, unless it is refused
 abbrev pub Appended : {V : Type 0} → Naming → Items V → Item V → Result (Items V × Naming) Refusal → Type 0
 Appended naming before item (Ok after) =
     (item_refusal naming item.name before.items ≡ None) × (after.0.items ≡ before.items ++ item ∷ []) × (after.1 ≡ next_naming naming)

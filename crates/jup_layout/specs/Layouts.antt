@@ -35,23 +35,23 @@ lines_taken number d (line ∷ lines) =
 abbrev pub board_from : Naming → List Line → Result board.Windows LayoutFault
 board_from naming lines = lines_taken 1 (blank naming) lines >>? λ d. Ok (whole d)
 
--- where the names are distinct in each sequence, and where they are numbered as in a layout
+-- if the names are distinct in each sequence, and if they are numbered as in a layout
 abbrev pub board_with : List Line → Result board.Windows LayoutFault
 board_with lines = board_from Distinct lines
 
 abbrev pub layout_with : List Line → Result board.Windows LayoutFault
 layout_with lines = board_from (Numbered 0) lines
 
--- want of memory
+-- a failed allocation
 abbrev pub no_memory : LayoutFault
 no_memory = record { line = 0; number = 8 }
 
--- the board that is due but for room, or the fault that is due, or want of memory
+-- the board that is due apart from its room, or the fault that is due, or a failed allocation
 abbrev pub Makes : Result board.Windows LayoutFault → Result board.Windows LayoutFault → Type 0
 Makes (Ok windows) due = due ≡ Ok (board.bare windows)
 Makes (Err fault) due = (fault ≡ no_memory) ⊎ (due ≡ Err fault)
 
--- after the lines of a text: the end of its bytes is a fault of the line behind them, or none
+-- after the lines of a text: the end of its bytes is a fault of the line after them, or none
 abbrev pub ended : ℕ → Result (Unit {0}) WireFault → board.Windows → Result board.Windows LayoutFault
 ended count (Ok done) windows = Ok windows
 ended count (Err fault) windows = Err (record { line = suc count; number = wire_fault_number fault })
@@ -72,7 +72,7 @@ pub record AreLines (text : List ℕ) (lines : List Line) : Type 0 where
   pub spelled : AllByRecursion HasSpelling lines
   pub whole : text ≡ flat_map spelling lines
 
--- the layout that a text describes but for room, or its first fault, or want of memory
+-- the layout that a text describes apart from its room, or its first fault, or a failed allocation
 abbrev pub Lays : List ℕ → Result board.Windows LayoutFault → Type 0
 Lays text (Ok windows) = Describes text (Ok (board.bare windows))
 Lays text (Err fault) = (fault ≡ no_memory) ⊎ Describes text (Err fault)

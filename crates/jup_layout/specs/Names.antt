@@ -19,11 +19,11 @@ is_held name names = contains (λ x y. ordering_then (nat_cmp x.0 y.0) (nat_cmp 
 abbrev pub AreNamesOf : {V : Type 0} → List (Item V) → Names → Type 0
 AreNamesOf items names = (name : Name) → is_held name names ≡ has_name name items
 
--- items have one name more
+-- items have one more name
 abbrev pub AddsName : {V : Type 0} → Name → List (Item V) → List (Item V) → Type 0
 AddsName name before after = (other : Name) → has_name other after ≡ (name_eq name other || has_name other before)
 
--- or, where they are numbered, none are kept
+-- or, if they are numbered, none are kept
 abbrev pub AreKept : {V : Type 0} → Naming → List (Item V) → Names → Type 0
 AreKept Distinct items names = AreNamesOf items names
 AreKept (Numbered count) items names = Unit {0}

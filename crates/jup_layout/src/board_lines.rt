@@ -89,7 +89,7 @@ fn put_window<S: LineSink>(sink: &mut S, win: u16, window: &Window) -> Result<()
     Ok(())
 }
 
-/// Puts the lines of a board: each window's line, and behind it each widget's with its items, all ascending by id.
+/// Puts the lines of a board: each window's line, and after it each widget's with its items, all ascending by id.
 pub fn put_board<S: LineSink>(sink: &mut S, board: &Board) -> Result<(), S::Fault>
     ensures lines { OnOk result (S.takes sink.old (board_lines board.now) sink.new) }
     ensures sound { OnOk result (IsBoard board.now) }

@@ -21,7 +21,7 @@ use jup_xform::NoMemory;
 use std::alloc::Global;
 use std::marker::Model;
 
-/// What the lines so far describe. Contracts see it but for the room of its sequences.
+/// What the lines so far describe. Contracts see it without the room of its sequences.
 #[derive(Drop)]
 pub(crate) struct Draft {
     // Each widget but the last.
@@ -31,7 +31,7 @@ pub(crate) struct Draft {
     // The last widget line's widget, which still takes items, and before it the window that it belongs to.
     home: Option<u16>,
     last: Option<(u16, Widget)>,
-    // The names of its items, where these are not numbered.
+    // The names of its items, if these are not numbered.
     names: Names,
     naming: Naming,
 }
@@ -58,7 +58,7 @@ impl Model for Draft {
     } };
 }
 
-// The board with a widget more, under an id that is free.
+// The board with one more widget, under an id that is free.
 fn put(mut board: Board, win: u16, wid: u16, widget: Widget) -> Result<Board, Refusal>
     requires { IsNone (widget_fault win wid board) }
     ensures { Follows boards.bare result
@@ -70,8 +70,8 @@ fn put(mut board: Board, win: u16, wid: u16, widget: Widget) -> Result<Board, Re
     }
 }
 
-// Whether no item of a sequence has the name, which is then among the names, where these are kept. A number
-// of a layout is above all before it, so that nothing is searched.
+// Whether no item of a sequence has the name, which is then among the names, if these are kept. A number of a
+// layout is above all before it, so that nothing is searched.
 fn is_new<V: Copy>(
     items: &Seq<V>,
     names: &mut Names,
@@ -89,7 +89,7 @@ fn is_new<V: Copy>(
     }
 }
 
-// The sequence with one item more at its end, and what is asked of the next item.
+// The sequence with one more item at its end, and what is asked of the next item.
 fn append<V: Copy>(
     mut items: Seq<V>,
     names: &mut Names,
@@ -118,7 +118,7 @@ fn append<V: Copy>(
     Ok((items, naming.after(item.name, place)))
 }
 
-/// An item that a line puts behind those of the last widget.
+/// An item that a line puts after those of the last widget.
 #[derive(Clone, Copy)]
 pub(crate) enum Added {
     Char(Item<char>),
@@ -258,7 +258,7 @@ impl Draft {
         }
     }
 
-    /// What the lines describe together with one line more.
+    /// What the lines describe together with one more line.
     pub(crate) fn take(self, alloc: Global, line: &Line) -> Result<Draft, Refusal>
         requires { items_in_last self.last < 4294967295 }
         ensures { Follows (λ d. d) result (taken self line.now) }

@@ -21,7 +21,7 @@ use thiserror::Error;
 #[derive(Clone, Copy, Debug, PartialEq, Eq, Error)]
 #[error("line {line}: fault {number}")]
 pub struct LayoutFault {
-    /// The first line that is wrong, counted from 1; 0 for want of memory.
+    /// The first line that is wrong, counted from 1; 0 if an allocation failed.
     pub line: u32,
     /// What is wrong with it.
     pub number: u32,
@@ -68,9 +68,15 @@ fn build(alloc: Global, naming: Naming, lines: &[Line]) -> Result<Board, LayoutF
 
 /// The board that lines describe, windows and widgets in any order of ids.
 ///
-/// A widget belongs to the last window line, an item to the last widget line. Each line is refused, in
-/// this order: 44 for a line of another kind, a widget before any window, and an item whose widget is
-/// not of its kind; 13; 12, 10 and 11 as the board answers; 45 for a name that the sequence has; 8.
+/// A widget belongs to the last window line, an item to the last widget line. Each line is refused, in this
+/// order:
+///
+/// - 44 for a line of another kind, a widget before any window, and an item whose widget is not of its kind;
+/// - 13;
+/// - 12, 10 and 11 as the board answers;
+/// - 45 for a name that the sequence has;
+/// - 8.
+///
 /// Line 4,294,967,295 is refused with 11.
 pub fn board_of(alloc: Global, lines: &[Line]) -> Result<Board, LayoutFault>
     ensures board { IfOk result (λ made. board_with lines.now ≡ Ok (board.bare made)) }
@@ -105,12 +111,12 @@ fn lay_out(alloc: Global, text: &[u8]) -> Result<Board, LayoutFault>
     }
 }
 
-/// The board of a layout's text, of at most 16,777,216 bytes: lines as [`board_of`] takes them, with two
-/// more tests of an item's line before that of a held name: 45 where the item is not named `0.k`, as the
-/// k-th item of the whole text, and 11 where its sequence has 65,536 items.
+/// The board of a layout's text, of at most 16,777,216 bytes. It takes lines as [`board_of`] does, with two
+/// more tests of an item's line before that of a held name. The fault is 45 if the item is not named `0.k`,
+/// as the k-th item of the whole text, and 11 if its sequence has 65,536 items.
 ///
-/// The fault is that of the first line that has one: as [`board_of`] answers, or 40 to 42 for bytes that
-/// are no line, or 43 for a last line without its line feed.
+/// The fault is that of the first line that has one. It is as [`board_of`] answers, or 40 to 42 for bytes
+/// that are no line, or 43 for a last line without its line feed.
 pub fn layout(alloc: Global, text: &[u8]) -> Result<Board, LayoutFault>
     requires { length text.now ≤ longest_input }
     ensures board { IfOk result (λ made. Describes text.now (Ok (board.bare made))) }

@@ -13,7 +13,7 @@ pub(crate) enum Refusal {
     TooMany,
     BadId,
     BadBounds,
-    /// A line of another kind, or behind no line that it may belong to.
+    /// A line of another kind, or after no line that it may belong to.
     Misplaced,
     BadItemName,
 }

@@ -59,7 +59,7 @@ laid windows put puts none =
       whole = puts.bytes none ∙ bytes 0 (board_lines windows) are;
     }
 
--- where none of their bytes was dropped
+-- if none of their bytes was dropped
 pub laid_whole : {E : Type 0} (windows : Windows) (put : Gathered) (r : Result (Vec ℕ) E) → PutsNumbered ([], 0, 0) (board_lines windows) put
     → IfOk r (λ made. made.items ≡ put.0) → IfOk r (λ made. put.2 ≡ 0) → IfOk r (λ made. IsLayoutOf windows made.items)
 laid_whole windows put (Ok made) puts is none = subst (λ (t : List ℕ). IsLayoutOf windows t) (sym is) (laid windows put puts none)

@@ -41,7 +41,7 @@ pub enum BoardEnd {
 }
 
 impl BoardEnd {
-    /// The end where this was tried and failed so: out of memory, or by a failed read or write.
+    /// The end if this was tried and failed so: out of memory, or by a failed read or write.
     pub fn of_failure(attempt: Attempt, error: &io::Error) -> BoardEnd {
         if error.kind() == ErrorKind::OutOfMemory {
             BoardEnd::NoMemory
@@ -69,7 +69,7 @@ impl BoardEnd {
 
 impl From<LayoutFault> for BoardEnd {
     fn from(fault: LayoutFault) -> BoardEnd {
-        // A layout that memory was refused for has no line.
+        // A layout for which an allocation failed has no line.
         if fault.line == 0 {
             BoardEnd::NoMemory
         } else {

@@ -42,7 +42,7 @@ pub enum LineFault {
 }
 
 /// What is wrong with a line that was not taken after the lines of this board, the last of whose windows has this id. The board
-/// itself is asked whether it refuses the id, which it says before it asks for memory.
+/// itself says whether it refuses the id, before it asks for memory.
 pub(crate) fn line_fault(
     alloc: Global,
     mut board: Board,
@@ -97,7 +97,7 @@ fn value_fault(alloc: Global, word: &str, id: u16, value: &str) -> Result<LineFa
     Ok(fault)
 }
 
-// Of a list's line it is asked how many quoted texts there are: it is too long, or else one of its labels is bad.
+// A list's line with too many quoted texts is too long; otherwise one of its labels is bad.
 fn list_fault(id: u16, value: &str) -> LineFault {
     let count = quoted_texts(value.as_bytes());
     if count > u64::from(jup_limits::LONGEST_SEQUENCE) {

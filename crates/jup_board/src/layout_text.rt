@@ -60,7 +60,7 @@ impl LayoutText {
         }
     }
 
-    // The layout, or how long it is where it is too long.
+    // The layout, or how long it is if it is too long.
     fn whole(self) -> Result<Vec<u8>, BoardEnd>
         ensures whole { IfOk result (λ made. made.items ≡ self.0) }
         ensures all { IfOk result (λ made. self.2 ≡ 0) }
@@ -98,7 +98,7 @@ impl LayoutText {
         Ok(Name { site: 0, number })
     }
 
-    // Drops the bytes so far where they are too many for a layout.
+    // Drops the bytes so far if they are too many for a layout.
     fn shorten(&mut self)
         ensures kept { self.new.2 ≡ 0 → self.new ≡ self.old }
         ensures number { self.new.1 ≡ self.old.1 }

@@ -13,7 +13,7 @@ use std::{env, io};
 
 mod words;
 
-// Makes what is asked for of standard input. Why it was not made is told on standard error, and in a second line what is wrong.
+// Makes what is asked for of standard input. If it was not made, it prints why on standard error, and in a second line what is wrong.
 fn make(rt: &HostRuntime, direction: Direction) -> u8
     ensures { result ≤ 5 }
 {
@@ -45,7 +45,7 @@ fn explain(rt: &HostRuntime, end: &BoardEnd) {
     };
 }
 
-// Tells what the words came to: help on standard output, all else on standard error.
+// Prints what the words came to: help on standard output, all else on standard error.
 fn tell(rt: &HostRuntime, error: &clap::Error) -> u8
     ensures { result ≤ 3 }
 {

@@ -1,4 +1,4 @@
-//! Sequences of many items: how many blocks they stand in, which names are found, and other values.
+//! Sequences of many items: how many blocks they are in, which names are found, and other values.
 use crate::expect::{expect_eq, expect_that};
 use jup_value::{Item, Name, NoMemory, Seq};
 use std::alloc::Global;

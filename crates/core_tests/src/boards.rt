@@ -1,4 +1,4 @@
-//! Refusals in their order, and each call once where it succeeds.
+//! Refusals in their order, and each call once when it succeeds.
 use crate::expect::{expect_eq, expect_that};
 use jup_seq::SeqOp;
 use jup_setting::{SetOp, Slider, Toggle};
@@ -55,7 +55,7 @@ pub(crate) fn set(win: u16, wid: u16, setting: Setting) -> Command {
     Command::Set { win, wid, setting }
 }
 
-// The operation of a command under a name, where the board holds no name of its site.
+// The operation of a command under a name, if the board holds no name of its site.
 pub(crate) fn named_as(board: &Board, command: &Command, name: Name) -> Result<BoardOp, EditFault> {
     if board.has_site(name.site) {
         return Err(EditFault::Stopped);
@@ -75,7 +75,7 @@ fn refusal(board: &Board, command: Command) -> u32 {
     }
 }
 
-// Applies an operation where it is valid and there is memory, and says whether it did.
+// Applies an operation if it is valid and there is memory, and says whether it did.
 fn attempt<T: Transform>(alloc: Global, op: &T, state: &mut T::State) -> bool
     requires { T.can_reserve 0 }
 {
@@ -209,7 +209,7 @@ fn insertion_into_a_long_text_is_refused(rt: HostRuntime) {
     }
 }
 
-// Applies a command where it is not refused, and says whether it did.
+// Applies a command if it is not refused, and says whether it did.
 fn apply(alloc: Global, board: &mut Board, command: Command) -> bool {
     match operation_of(board, &command) {
         Ok(op) => attempt(alloc, &op, board),

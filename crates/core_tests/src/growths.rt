@@ -1,5 +1,5 @@
-//! Growths of sequences, operations, batches and boards that are refused, each test for the call of its name. `./growths` refuses one after another of
-//! those between the two marks: a call that lacks memory leaves all as it was, and made again it gives its answer.
+//! Failed allocations in sequences, operations, batches and boards, each test for the call of its name. `./growths` makes one after another of the
+//! allocations between the two marks fail. A call that fails leaves all as it was, and gives its answer if it is made again.
 use crate::batches::{insert_next, on_text, text_and_toggle};
 use crate::blocks::{counts, sequence_of};
 use crate::boards::toggle;

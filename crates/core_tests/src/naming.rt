@@ -51,7 +51,7 @@ fn board_of(rt: &impl Abort, alloc: Global, text: Seq<char>) -> Board {
     board
 }
 
-// The operations that commands become where the board holds no name of site 1.
+// The operations that commands become if the board holds no name of site 1.
 fn operations_of(
     board: &Board,
     commands: &[Command],

@@ -32,7 +32,7 @@ fn relabel(place: u32, number: u32, value: char) -> TextOp {
     }
 }
 
-// Applies an operation where it is valid and there is memory, and says whether it did.
+// Applies an operation if it is valid and there is memory, and says whether it did.
 pub(crate) fn attempt<T: Transform>(alloc: Global, op: &T, state: &mut T::State) -> bool
     requires { T.can_reserve 0 }
 {

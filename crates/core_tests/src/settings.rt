@@ -1,4 +1,4 @@
-//! Which values a slider takes, two settings at once, a setting past a queue, and each call once.
+//! Which values a slider takes, two concurrent settings, a setting past a queue, and each call once.
 use crate::expect::{expect_eq, expect_that};
 use jup_setting::{BadBounds, SetOp, SettingEdit, Slider, Toggle};
 use jup_xform::{Side, Transform, across, meet};
@@ -9,7 +9,7 @@ const OFF: SetOp<bool> = SetOp::Set(false);
 
 const NOTHING: SetOp<bool> = SetOp::Nothing;
 
-// The bounds and the value of a slider, where there is such a one.
+// The bounds and the value of a slider, if there is such a one.
 fn parts(lo: i32, hi: i32, value: i32) -> Result<[i32; 3], BadBounds> {
     match Slider::new(lo, hi, value) {
         Ok(slider) => Ok([slider.lo(), slider.hi(), slider.value()]),

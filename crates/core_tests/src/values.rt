@@ -1,4 +1,4 @@
-//! Which labels there are, when sequences are the same, and that the calls of a sequence succeed where memory is left.
+//! Which labels there are, when sequences are the same, and that the calls of a sequence succeed if memory is left.
 use crate::expect::{expect_eq, expect_that};
 use jup_value::{BadLabel, Item, Label, Name, NoMemory, Seq};
 use std::alloc::Global;

@@ -1,5 +1,5 @@
-//! Growths of lines, layouts, messages and printed texts that are refused, each test for the call of its name. `./growths` refuses one after another of
-//! those between the two marks: a call that lacks memory leaves all as it was, and made again it gives its answer.
+//! Failed allocations in lines, layouts, messages and printed texts, each test for the call of its name. `./growths` makes one after another of the
+//! allocations between the two marks fail. A call that fails leaves all as it was, and gives its answer if it is made again.
 use crate::expect::{expect_eq, expect_that};
 use crate::gathering::{TOGGLED, TWO, message, push};
 use crate::layouts::FOUR_WIDGETS;
@@ -56,7 +56,7 @@ fn reader_feed(rt: HostRuntime) {
     expect_eq(&rt, (fed.fault, reader.finish()), (None, Ok(())));
 }
 
-// The board of a layout, or made again where memory was refused.
+// The board of a layout, or made again if an allocation failed.
 fn laid(rt: &impl Abort, alloc: Global) -> Board {
     begin(alloc);
     let made = layout(alloc, FOUR_WIDGETS);
@@ -152,7 +152,7 @@ fn message_lines_of_op(rt: HostRuntime) {
 
 const PRINTED: &str = "window 1\ntext 1 \"z\"\nlist 2 \"red\"\ntoggle 3 off\nslider 4 0 10 5\n";
 
-// Texts are put behind what was there.
+// Texts are put after what was there.
 #[test]
 fn text_write_board(rt: HostRuntime) {
     let board = four_widgets(&rt, rt.alloc());
@@ -213,7 +213,7 @@ fn text_read_quoted(rt: HostRuntime) {
     );
 }
 
-// Has the reader take a line, at the second time if the first lacked memory.
+// Has the reader take a line, a second time if an allocation failed in the first.
 fn take_line(rt: &impl Abort, alloc: Global, reader: &mut BoardReader, line: &str) {
     begin(alloc);
     let mut taken = reader.take(alloc, line);
@@ -224,7 +224,7 @@ fn take_line(rt: &impl Abort, alloc: Global, reader: &mut BoardReader, line: &st
     expect_eq(rt, (line, taken), (line, Ok(())));
 }
 
-// The items of a line that lacked memory were not numbered, so that those behind them have the numbers that are due.
+// The items of a line that was refused because an allocation failed were not numbered, so the items after them have the numbers that are due.
 #[test]
 fn board_reader_take(rt: HostRuntime) {
     let mut reader = BoardReader::new(rt.alloc());

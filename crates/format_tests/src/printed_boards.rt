@@ -15,7 +15,7 @@ fn first_name(board: &Board, wid: u16) -> Option<Name> {
     }
 }
 
-// Reads a line, and once more where memory was refused, as it may be one time.
+// Reads a line, and once more if an allocation failed, as it may be one time.
 fn take(reader: &mut BoardReader, alloc: Global, line: &str) -> Result<(), Untaken> {
     match reader.take(alloc, line) {
         Err(Untaken::NoMemory) => reader.take(alloc, line),
@@ -23,7 +23,7 @@ fn take(reader: &mut BoardReader, alloc: Global, line: &str) -> Result<(), Untak
     }
 }
 
-// Run this with each allocation refused in turn.
+// Run this with each allocation failing in turn.
 #[test]
 fn a_line_that_is_refused_numbers_no_items(rt: HostRuntime) {
     let alloc = rt.alloc();

@@ -96,7 +96,7 @@ fn a_command_is_read_from_its_one_spelling(rt: HostRuntime) {
     expect_eq(&rt, read_command(b"set 1 2 \xff"), None);
 }
 
-// The edits are printed so, behind what was there.
+// The edits are printed so, after what was there.
 fn are_printed(rt: &impl Abort, alloc: Global, edits: &[Edit], printed: &[u8]) {
     let edits = Few::from_slice(alloc, edits).expect(rt, "memory");
     let mut text = Vec::from_slice(alloc, b"made ").expect(rt, "memory");

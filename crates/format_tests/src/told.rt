@@ -1,4 +1,4 @@
-//! What people are told of each fault of a line and of a layout.
+//! The texts that people read of each fault of a line and of a layout.
 use crate::expect::expect_eq;
 use jup_layout::LayoutFault;
 use jup_wire::WireFault;
@@ -6,7 +6,7 @@ use std::alloc::Global;
 use std::fmt::Display;
 use std::process::Abort;
 
-// This is told of a fault.
+// The text of a fault is this.
 fn tells<R: Abort, F: Display>(rt: &R, alloc: Global, fault: &F, due: &str) {
     let told = format!(in alloc; "{fault}").expect(rt, "memory");
     expect_eq(rt, told.as_str(), due);

@@ -3,7 +3,7 @@ use crate::expect::{expect_eq, expect_that};
 use jup_http::{Breach, Event, FrameStream};
 use std::process::Abort;
 
-/// What frames tell at last.
+/// What frames report at last.
 #[derive(Clone, Copy, Debug, PartialEq, Eq)]
 pub(crate) enum End {
     Waiting,
@@ -11,7 +11,7 @@ pub(crate) enum End {
     Broken(Breach),
 }
 
-/// What a stream told so far.
+/// What a stream reported so far.
 #[derive(Clone, Copy)]
 struct Seen {
     data: [u8; 128],

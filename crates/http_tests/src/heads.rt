@@ -123,7 +123,7 @@ fn a_head_that_is_cut_waits_for_its_rest(rt: HostRuntime) {
     expect_request(&rt, b"GET / HTTP/1.1\r\nHost: 127.0.0.1:4711\r\n\r", None);
 }
 
-// Spaces in front of a method are no head, so a long target stands here.
+// A head does not begin with spaces, so this one has a long target.
 #[test]
 fn a_head_that_never_ends_is_refused(rt: HostRuntime) {
     let mut head = [b'a'; LONGEST_HEAD];

@@ -52,7 +52,7 @@ fn asks(link: u32) -> MixEvent {
     MixEvent::Stray(link, Up::Ping(7))
 }
 
-// With any one allocation refused it comes to the same: an event that was refused memory is played again.
+// If any one allocation fails, the result is the same: the event is played again.
 #[test]
 fn a_stranger_deletes_and_then_says_it_again(rt: HostRuntime) {
     let alloc = rt.alloc();

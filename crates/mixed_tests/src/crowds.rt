@@ -32,7 +32,7 @@ fn slips(dice: &mut Dice, number: u32) -> u32 {
 /// A stranger's link, and what a site in its place would know.
 #[derive(Clone, Copy, Drop)]
 struct Stranger {
-    /// Its number, or 0 where it has none.
+    /// Its number, or 0 if it has none.
     link: u32,
     /// How many edits the order had at its join.
     joined_at: u32,
@@ -101,7 +101,7 @@ impl Stranger {
             .saturating_sub(self.made)
     }
 
-    // What it says to have heard: mostly all that it was told, else less, or one more.
+    // What it says to have heard: mostly all that has reached it, otherwise less, or one more.
     fn hears(&self, dice: &mut Dice, star: &Star) -> u32 {
         let told = self.told_count(star);
         if dice.once_in(4) {
@@ -112,7 +112,7 @@ impl Stranger {
         }
     }
 
-    // An insertion into text 1, behind so many that were taken.
+    // An insertion into text 1, after so many that were taken.
     fn insertion(&self, dice: &mut Dice, board: &Board, named: u32) -> SeqOp<char> {
         let site = slips(dice, self.link);
         let number = slips(dice, named.saturating_add(1));
@@ -125,7 +125,7 @@ impl Stranger {
         }
     }
 
-    // The first operation of an edit: an insertion, the deletion of what stands at a place, or nothing.
+    // The first operation of an edit: an insertion, the deletion of what is at a place, or nothing.
     fn operation(&self, dice: &mut Dice, board: &Board) -> SeqOp<char> {
         if dice.once_in(40) {
             return SeqOp::Nothing;
@@ -140,7 +140,7 @@ impl Stranger {
         self.insertion(dice, board, self.named)
     }
 
-    // The operations of an edit of text 1: one, and at times an insertion more.
+    // The operations of an edit of text 1: one, and at times one more insertion.
     fn operations(
         &self,
         rt: &impl Abort,

@@ -19,7 +19,7 @@ fn open_mixed(alloc: Global, widget: &str) -> Option<Mixed> {
     Mixed::open(alloc, board, LIMIT).ok()
 }
 
-/// A star over a window 1 with this widget. It is opened again where memory was refused once.
+/// A star over a window 1 with this widget. It is opened again if an allocation failed once.
 pub(crate) fn mixed_over(rt: &impl Abort, alloc: Global, widget: &str) -> Mixed {
     match open_mixed(alloc, widget) {
         Some(mixed) => mixed,
@@ -27,7 +27,7 @@ pub(crate) fn mixed_over(rt: &impl Abort, alloc: Global, widget: &str) -> Mixed 
     }
 }
 
-/// Plays an event, and once more where memory was refused.
+/// Plays an event, and once more if an allocation failed.
 pub(crate) fn step(rt: &impl Abort, alloc: Global, mixed: &mut Mixed, event: &MixEvent) -> Reply {
     match mixed.step(alloc, event) {
         Ok(reply) => reply,

@@ -1,5 +1,5 @@
-//! Growths of a star with strangers that are refused, each test for the call, or the kind of event, of its name. `./growths` refuses one after another of
-//! those between the two marks: after an event that lacked memory all is seen as before, and played again it gives its answer.
+//! Failed allocations in a star with strangers, each test for the call, or the kind of event, of its name. `./growths` makes one after another of the
+//! allocations between the two marks fail. An event that fails leaves all that is seen as before, and gives its answer if it is played again.
 use crate::events::{insert, mixed_over, strays};
 use crate::expect::{expect_eq, expect_that};
 use jup_batch::BoardEdits;
@@ -16,8 +16,8 @@ use std::process::Abort;
 use test_boards::{board_of, reads};
 use test_marks::{begin, end};
 
-// What a star with strangers shows: its board and the site's as they are printed, its order and its trace in full, how many messages wait
-// for links 1 and 2, and whether anything is on its way to the site or from it.
+// What a star with strangers shows: its board and the site's as they are printed, and its order and its trace in full. Then how many
+// messages wait for links 1 and 2, and whether anything is on its way to the site or from it.
 #[derive(Drop)]
 struct Seen {
     boards: Vec<u8>,
@@ -45,7 +45,7 @@ fn look_at(rt: &impl Abort, alloc: Global, mixed: &Mixed) -> Seen {
     }
 }
 
-// All is seen as before; but where a message is moved down, one that waited may be on its way.
+// All is seen as before; but if a message is moved down, one that waited may be on its way.
 fn is_spared(rt: &impl Abort, event: &MixEvent, was: &Seen, now: &Seen) {
     expect_eq(rt, now.boards.as_slice(), was.boards.as_slice());
     expect_eq(rt, now.happened.as_str(), was.happened.as_str());
@@ -56,7 +56,7 @@ fn is_spared(rt: &impl Abort, event: &MixEvent, was: &Seen, now: &Seen) {
     expect_that(rt, fetched || now.waiting[0] == was.waiting[0]);
 }
 
-// The event happens, with this reply. Where it is marked, and lacks memory, all is as before.
+// The event happens, with this reply. If it is marked, and an allocation fails, all is as before.
 fn happens(
     rt: &impl Abort,
     alloc: Global,
@@ -123,7 +123,7 @@ fn type_xy(rt: &impl Abort, alloc: Global) -> (MixEvent, Reply) {
     (MixEvent::Edit(commands), Reply::Made(edits))
 }
 
-// Puts an event with its reply behind the others.
+// Puts an event with its reply after the others.
 fn add(rt: &impl Abort, all: &mut Vec<MixHappened>, event: MixEvent, reply: Reply) {
     all.push(MixHappened { event, reply }).expect(rt, "memory");
 }

@@ -139,7 +139,7 @@ fn takes_both(rt: &impl Abort, alloc: Global, star: &mut Star, one: &Up, two: &U
     expect_eq(rt, star.take(alloc, 2, two), Ok(Some(1)));
 }
 
-// The star takes an edit of each site, and each site is handed the other's.
+// The star takes an edit of each site, and each site receives the other's.
 fn exchange(rt: &impl Abort, alloc: Global, pair: &mut Pair, one: &Up, two: &Up) {
     takes_both(rt, alloc, &mut pair.star, one, two);
     hears_one(rt, alloc, &mut pair.star, &mut pair.one);
@@ -360,7 +360,7 @@ fn batches_on_several_widgets_end_equal(rt: HostRuntime) {
     shows(&rt, alloc, pair.two.board(), printed);
 }
 
-// One deletion asks for no memory, where a batch of several does.
+// One deletion asks for no memory, while a batch of several does.
 #[test]
 fn one_deletion_is_shown_without_memory(rt: HostRuntime) {
     let alloc = rt.alloc();

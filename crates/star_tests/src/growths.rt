@@ -1,5 +1,5 @@
-//! Growths of ends, sites and the star that are refused, each test for the call of its name. `./growths` refuses one after another of those between the
-//! two marks: a call that lacks memory leaves all as it was, and made again it gives its answer.
+//! Failed allocations in ends, sites and the star, each test for the call of its name. `./growths` makes one after another of the allocations between
+//! the two marks fail. A call that fails leaves all as it was, and gives its answer if it is made again.
 use crate::batches::{cut, delete, down, makes, pair_over, put, set};
 use crate::expect::{expect_eq, expect_that};
 use crate::stars::{
@@ -49,7 +49,7 @@ fn end_generate(rt: HostRuntime) {
     expect_eq(&rt, (sent.mine, link.backlog()), (0, 1));
 }
 
-// A star over the blank board is opened, and again where memory was refused.
+// A star over the blank board is opened, and again if an allocation failed.
 #[test]
 fn star_open(rt: HostRuntime) {
     let board = blank(&rt, rt.alloc());
@@ -180,7 +180,7 @@ fn star_fetch(rt: HostRuntime) {
 
 // Why a site makes no edit of these commands, if so.
 fn refusal(alloc: Global, site: &mut Site, commands: &[Command]) -> Option<EditFault> {
-    // The checker has to be told of the types within what is dropped here.
+    // The checker has to know the types within what is dropped here.
     let _within: PhantomData<(Up, Made)> = PhantomData;
     match commands {
         [command] => site.edit(alloc, command).err(),
@@ -188,7 +188,7 @@ fn refusal(alloc: Global, site: &mut Site, commands: &[Command]) -> Option<EditF
     }
 }
 
-// A site of a text makes an edit of these commands, and shows it; where memory was refused first it showed nothing of it.
+// A site of a text makes an edit of these commands, and shows it; if an allocation failed first, it showed nothing of it.
 fn edits(rt: &impl Abort, alloc: Global, commands: &[Command], letters: &str) {
     let mut pair = pair_over(rt, alloc, "pqr");
     begin(alloc);
@@ -219,7 +219,7 @@ fn site_edit_batch(rt: HostRuntime) {
     edits(&rt, rt.alloc(), &commands, "aqr");
 }
 
-// A site is handed this, and shows it; where memory was refused first it showed nothing of it.
+// A site receives this, and shows it; if an allocation failed first, it showed nothing of it.
 fn delivers(rt: &impl Abort, alloc: Global, site: &mut Site, down: &Down, shown: [&str; 2]) {
     let [before, after] = shown;
     begin(alloc);

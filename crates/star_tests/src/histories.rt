@@ -136,7 +136,7 @@ impl History {
         }
     }
 
-    // One message of each honest site comes up, and it is handed one of those that are fetched.
+    // One message of each honest site comes up, and it receives one of those that are fetched.
     fn moves<R: Abort + Wait>(&mut self, rt: &R, alloc: Global) {
         for honest in &mut self.sites {
             honest.is_heard(rt, alloc, &mut self.served, self.limit);

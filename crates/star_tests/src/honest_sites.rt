@@ -27,7 +27,7 @@ pub(crate) struct Honest {
     /// How many of these were brought to the hub.
     taken: usize,
     fetched: Vec<Down>,
-    /// How many of these it was handed.
+    /// How many of these it received.
     handed: usize,
     pub has_link: bool,
     /// The orders of its items at some earlier moments.
@@ -131,7 +131,7 @@ impl Honest {
         }
     }
 
-    /// It is handed the oldest message that was fetched, and accepts it.
+    /// It receives the oldest message that was fetched, and accepts it.
     pub(crate) fn is_handed(&mut self, rt: &impl Abort, alloc: Global) {
         let Some(down) = self.fetched.get(self.handed) else {
             return;
@@ -170,7 +170,7 @@ impl Honest {
         }
     }
 
-    // How many entries of the order it was told: those before its join, and those up to the last of others that it was handed.
+    // How many entries of the order have reached it: those before its join, and those up to the last of others that was delivered to it.
     fn told(&self, order: &[Entry]) -> usize {
         let handed = self.fetched.iter().take(self.handed);
         let mut left = handed.filter(|down| matches!(down, Down::Op(_))).count();
@@ -200,7 +200,7 @@ impl Honest {
         content
     }
 
-    // How many of its edits it was told that the star received: as the last message says that tells a count.
+    // How many of its edits it knows that the star received: the count of the last message that has one.
     fn acknowledged(&self) -> usize {
         let mut count: u32 = 0;
         for down in self.fetched.iter().take(self.handed) {
@@ -214,7 +214,7 @@ impl Honest {
     }
 
     /// It shows what its view of the order means. It keeps the order of its items, which is the star's while it has its link, and has
-    /// the link that it should have. Its backlog is its edits less those that it was told were received.
+    /// the link that it should have. Its backlog is its edits less those that it knows the star received.
     pub(crate) fn is_well(&self, rt: &impl Abort, alloc: Global, opening: &Board, served: &Served) {
         let shown = Content::of(rt, alloc, self.site.board());
         let due = self.view(rt, alloc, opening, served.star().order());

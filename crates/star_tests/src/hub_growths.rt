@@ -1,4 +1,4 @@
-//! Growths of the hub that are refused, each test for the call of its name, as in `growths`: a call that lacks memory is no event.
+//! Failed allocations in the hub, each test for the call of its name, as in `growths`: a call that fails is no event.
 ghost use Rattle.jup_hub.specs.Passes.{IsPassOf};
 
 use crate::expect::{expect_eq, expect_that};

@@ -1,4 +1,4 @@
-//! Each call once where it succeeds, and calls of two threads.
+//! Each call once when it succeeds, and calls of two threads.
 ghost use Rattle.std.specs.Prelude.{All};
 ghost use Rattle.jup_window.specs.Entries.{EachWidget};
 ghost use Rattle.jup_star.specs.Openings.{IsShort};
@@ -47,7 +47,7 @@ fn insertion(site: u32) -> BoardOp {
     }
 }
 
-// The message that tells of it.
+// The message of the edit.
 pub(crate) fn told_of(alloc: Global, site: u32) -> Up {
     Up::Op(Msg {
         mine: 0,
@@ -56,7 +56,7 @@ pub(crate) fn told_of(alloc: Global, site: u32) -> Up {
     })
 }
 
-// How it stands in the order.
+// The entry of the edit in the order.
 fn entry_of(alloc: Global, site: u32) -> Entry {
     let name = Name { site, number: 1 };
     let put = Edit {

@@ -95,7 +95,7 @@ impl Served {
         }
     }
 
-    /// A site is detached, by whoever calls.
+    /// A site is detached, no matter who calls.
     pub(crate) fn leaves<R: Abort + Wait>(&mut self, rt: &R, site: u32) {
         let left = self.hub.leave(rt, &mut self.pass, site);
         let due = self.twin.leave(site);

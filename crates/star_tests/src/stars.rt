@@ -1,4 +1,4 @@
-//! Refusals in their order, and each call once where it succeeds.
+//! Refusals in their order, and each call once when it succeeds.
 ghost use Rattle.jup_window.specs.Entries.{EachWidget};
 ghost use Rattle.jup_star.specs.Openings.{IsShort};
 
@@ -110,8 +110,8 @@ fn star_number(fault: Option<StarFault>) -> u32 {
     }
 }
 
-// The number of the fault that a star has in an edit of site 2, after which site 2 has no link, site 1 is
-// told nothing, and its edit is the first that is taken.
+// The number of the fault that a star finds in an edit of site 2. After it site 2 has no link, and nothing
+// waits for site 1, whose edit is the first that is taken.
 pub(crate) fn refusal_of_two(rt: &impl Abort, alloc: Global, msg: Msg<BoardBatch>) -> u32 {
     let mut star = star_of_two(rt, alloc);
     let refused = star.take(alloc, 2, &Up::Op(msg));
@@ -311,7 +311,7 @@ fn deliver_all(rt: &impl Abort, alloc: Global, star: &mut Star, site: &mut Site)
     downs.as_slice().len()
 }
 
-// One message waits for a site, which is handed it.
+// One message waits for a site, which receives it.
 pub(crate) fn hears_one(rt: &impl Abort, alloc: Global, star: &mut Star, site: &mut Site) {
     expect_eq(rt, deliver_all(rt, alloc, star, site), 1);
 }
@@ -333,7 +333,7 @@ struct Race {
     made: [Entry; 2],
 }
 
-// The star takes what a site made, at a place of its order. How it stands there.
+// The star takes what a site made, at a place of its order. The entry there.
 pub(crate) fn takes(
     rt: &impl Abort,
     alloc: Global,

@@ -95,7 +95,7 @@ impl Stranger {
         )
     }
 
-    // What it sends: mostly an edit, after all edits that it was told of or one more.
+    // What it sends: mostly an edit, after all edits that have reached it or one more.
     fn message(&self, alloc: Global, dice: &mut Dice, served: &Served) -> Up {
         if dice.once_in(10) {
             return Up::Ping(dice.roll(100));
@@ -148,7 +148,7 @@ impl Stranger {
         self.named = 0;
     }
 
-    /// It joins if it has no link. Else it sends a message, or fetches and forgets, or leaves.
+    /// It joins if it has no link. Otherwise it sends a message, or fetches and forgets, or leaves.
     pub(crate) fn goes_on<R: Abort + Wait>(
         &mut self,
         rt: &R,

@@ -1,4 +1,4 @@
-//! What people are told of each fault of a link, a site, a star and a hub.
+//! The texts that people read of each fault of a link, a site, a star and a hub.
 use crate::expect::expect_eq;
 use jup_hub::HubFault;
 use jup_link::LinkFault;
@@ -7,13 +7,13 @@ use std::alloc::Global;
 use std::fmt::Display;
 use std::process::Abort;
 
-// This is told of a fault.
+// The text of a fault is this.
 fn tells<R: Abort, F: Display>(rt: &R, alloc: Global, fault: &F, due: &str) {
     let told = format!(in alloc; "{fault}").expect(rt, "memory");
     expect_eq(rt, told.as_str(), due);
 }
 
-// The hub tells of a refusal of the star what the star tells.
+// The hub's text for a refusal of the star is the star's.
 #[test]
 fn each_fault_of_a_star_is_told(rt: HostRuntime) {
     for &(fault, due) in &[

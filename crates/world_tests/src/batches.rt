@@ -30,7 +30,7 @@ fn makes(
     gives(rt, alloc, world, event, reply);
 }
 
-// What site 1 types behind the first letter of "pqr", and what site 2 deletes behind it.
+// What site 1 types after the first letter of "pqr", and what site 2 deletes after it.
 fn effects() -> [Effect; 2] {
     [put(1, 1, 'X'), put(1, 2, 'Y')]
 }
@@ -39,7 +39,7 @@ fn cut() -> [Effect; 2] {
     [deletion_of(2), deletion_of(3)]
 }
 
-// A world with three sites, of which two have edited before either was told of the other.
+// A world with three sites, of which two have edited before either received the other's edit.
 fn apart(rt: &impl Abort, alloc: Global) -> World {
     let mut world = world_of(rt, alloc, LIMIT, "text 1 \"pqr\"", 3);
     let typing = [insert(1, 'X'), insert(2, 'Y')];
@@ -114,8 +114,8 @@ fn a_refused_batch_leaves_the_world(rt: HostRuntime) {
     gives(&rt, alloc, &mut world, types(1, 0, 'b'), typed);
 }
 
-// The message is "batch 0 0 2", "do 1 1 text ins 0 1.1 97" and "do 1 1 text ins 1 1.2 98", both up and down: 12, 25 and 25 bytes
-// with their line feeds.
+// The message is "batch 0 0 2", "do 1 1 text ins 0 1.1 97" and "do 1 1 text ins 1 1.2 98", both up and down. These lines have
+// 12, 25 and 25 bytes with their line feeds.
 const BYTES: u32 = 62;
 
 // Site 1 types two letters as one edit.

@@ -95,7 +95,7 @@ pub(crate) fn reply_of(rt: &impl Abort, alloc: Global, what: Effect) -> Reply {
     Reply::Made(edits(rt, alloc, &[what]))
 }
 
-// The event happens, has this reply, and stands in the trace.
+// The event happens, has this reply, and is in the trace.
 pub(crate) fn gives(rt: &impl Abort, alloc: Global, world: &mut World, event: Event, reply: Reply) {
     let replied = world.step(alloc, &event).expect(rt, "memory");
     expect_eq(rt, (&event, &replied), (&event, &reply));

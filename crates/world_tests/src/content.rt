@@ -1,4 +1,4 @@
-//! What a board holds, without its order, and what edits make of that: computed here, from what each edit is said to mean.
+//! What a board holds, without its order, and what edits make of that. It is computed here, from the documented meaning of each edit.
 use jup_value::{Item, Label, Name, Seq};
 use jup_window::{Board, Edit, Effect, Widget};
 use std::alloc::Global;

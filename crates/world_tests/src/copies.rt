@@ -51,7 +51,7 @@ fn copies(rt: &impl Abort, alloc: Global, world: &World) -> Vec<Vec<Name>> {
     orders
 }
 
-// Whether the names that both lists have stand in one order in both: those of the first ascend in the second.
+// Whether the names that both lists have are in one order in both: those of the first ascend in the second.
 fn is_one_order(names: &[Name], others: &[Name]) -> bool {
     let mut reached = 0;
     for name in names {
@@ -74,7 +74,7 @@ fn all_agree(rt: &impl Abort, orders: &[Vec<Name>], others: &[Vec<Name>]) {
     }
 }
 
-// The number of an attached site, or 0, which no site has, where there is none.
+// The number of an attached site, or 0, which no site has, if there is none.
 fn someone(dice: &mut Dice, world: &World) -> u32 {
     let count = u32::try_from(world.sites().len()).unwrap_or(0);
     let at = dice.roll(count.max(1)) as usize;
@@ -84,7 +84,7 @@ fn someone(dice: &mut Dice, world: &World) -> u32 {
     }
 }
 
-// A place in a widget of what a site shows, or the one behind the last item.
+// A place in a widget of what a site shows, or the one after the last item.
 fn place(dice: &mut Dice, world: &World, site: u32, wid: u16) -> u32 {
     let board = match world.site(site) {
         Some(site) => site.board(),
@@ -160,7 +160,7 @@ fn keep(rt: &impl Abort, kept: &mut Vec<Vec<Name>>, orders: Vec<Vec<Name>>) {
     }
 }
 
-// Plays events, compares after each, and tells at how many moments two copies differed.
+// Plays events, compares after each, and answers at how many moments two copies differed.
 fn plays(rt: &impl Abort, alloc: Global, dice: &mut Dice, world: &mut World) -> usize {
     let mut apart: usize = 0;
     let mut kept = Vec::new(alloc);

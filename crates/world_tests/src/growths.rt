@@ -1,5 +1,5 @@
-//! Growths of worlds that are refused, each test for the call, or the kind of event, of its name. `./growths` refuses one after another of those between
-//! the two marks: after an event that lacked memory all is seen as before, and played again it gives its answer.
+//! Failed allocations in worlds, each test for the call, or the kind of event, of its name. `./growths` makes one after another of the allocations
+//! between the two marks fail. An event that fails leaves all that is seen as before, and gives its answer if it is played again.
 use super::boards::{
     LIMIT, batch, drain, edits, insert, is_quiet, reads, reply_of, types, world_of,
 };
@@ -15,8 +15,8 @@ use std::process::Abort;
 use test_boards::board_of;
 use test_marks::{begin, end};
 
-// What a world shows: its boards as they are printed, its order and its trace in full, what the sites wait for and what waits for them,
-// and whether anything is on its way.
+// What a world shows: its boards as they are printed, and its order and its trace in full. Then what the sites wait for and what waits
+// for them, and whether anything is on its way.
 #[derive(Drop)]
 struct Seen {
     boards: Vec<u8>,
@@ -58,7 +58,7 @@ fn may_fetch(event: &Event, number: u32) -> bool {
     }
 }
 
-// As many messages wait for a site as before, or one less where one may have been fetched.
+// As many messages wait for a site as before, or one less if one may have been fetched.
 fn wait_as_before(rt: &impl Abort, fetched: bool, was: Option<usize>, now: Option<usize>) {
     let one_less = was.map(|count| count.saturating_sub(1));
     expect_that(rt, now == was || (fetched && now == one_less));
@@ -78,7 +78,7 @@ fn is_spared(rt: &impl Abort, event: &Event, was: &Seen, now: &Seen) {
     wait_as_before(rt, fetched, was.waiting[1], now.waiting[1]);
 }
 
-// The event happens, with this reply. Where it is marked, and lacks memory, all is as before.
+// The event happens, with this reply. If it is marked, and an allocation fails, all is as before.
 fn happens(rt: &impl Abort, alloc: Global, world: &mut World, wanted: &Happened, is_marked: bool) {
     let was = look_at(rt, alloc, world);
     if is_marked {
@@ -142,7 +142,7 @@ fn first_part(rt: &impl Abort, alloc: Global) -> [(Event, Reply); 9] {
     ]
 }
 
-// Then each is handed what the other made, and site 2 leaves. The trace has room for 16 events, so that the second departure of nobody makes it grow.
+// Then each receives what the other made, and site 2 leaves. The trace has room for 16 events, so that the second departure of nobody makes it grow.
 fn second_part() -> [(Event, Reply); 8] {
     [
         // Of the 7 of "pong 7".
@@ -287,7 +287,7 @@ fn all_agree(rt: &impl Abort, world: &World) {
     expect_that(rt, is_quiet(world));
 }
 
-// Events are played. What was done stands in the trace, and the rest goes on from there.
+// Events are played. The trace has what was done, and the rest goes on from there.
 fn runs(rt: &impl Abort, alloc: Global, world: &mut World, events: &[Event]) {
     begin(alloc);
     let ran = world.run(alloc, events);
@@ -308,7 +308,7 @@ fn world_run(rt: HostRuntime) {
     all_agree(&rt, &world);
 }
 
-// A drain that lacked memory is begun anew.
+// A drain in which an allocation failed is called again.
 #[test]
 fn world_drain(rt: HostRuntime) {
     let mut world = world_of(&rt, rt.alloc(), LIMIT, "text 1 \"\"", 0);

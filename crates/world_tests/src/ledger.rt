@@ -1,4 +1,4 @@
-//! What a trace tells: which edits were made, in which order the star took them, and which of them each site was told.
+//! What a trace records: which edits were made, in which order the star took them, and which of them have reached each site.
 use super::content::Content;
 use jup_window::{Board, Edit};
 use jup_world::{Event, Happened, Reply};
@@ -27,7 +27,7 @@ pub(crate) struct Ledger {
     // The edits that were made, and those that the star took.
     made: Vec<Turn>,
     order: Vec<Turn>,
-    // Which site was handed an edit of another, once for each.
+    // Which site received an edit of another, once for each.
     shown: Vec<u32>,
     // How many entries the order had when each site joined, site 1 first.
     joined: Vec<usize>,
@@ -116,7 +116,7 @@ impl Ledger {
         self.read = trace.len();
     }
 
-    // How many edits of others a site was handed.
+    // How many edits of others a site received.
     fn shown_to(&self, site: u32) -> usize {
         self.shown.iter().filter(|shown| **shown == site).count()
     }
@@ -127,7 +127,7 @@ impl Ledger {
         self.joined.get(at).copied().unwrap_or(0)
     }
 
-    // What a site was told of the order: all up to its join, and on to the last edit of another that it was handed.
+    // What has reached a site of the order: all up to its join, and on to the last edit of another that was delivered to it.
     fn told_count(&self, site: u32) -> usize {
         let mut left = self.shown_to(site);
         let mut told = self.joined_at(site);
@@ -143,7 +143,7 @@ impl Ledger {
         told
     }
 
-    // The entries of the order that a site was told; the star, as number 0, has all.
+    // The entries of the order that have reached a site; the star, as number 0, has all.
     fn told_entries(&self, rt: &impl Abort, alloc: Global, number: u32) -> Vec<Turn> {
         let told = match number {
             0 => self.order.len(),
@@ -156,8 +156,8 @@ impl Ledger {
         entries
     }
 
-    // The edits that the star, as number 0, or a site should show: the entries that it was told, and then its own that are not
-    // among them.
+    // The edits that the star, as number 0, or a site should show: the entries that have reached it, and then its own that are
+    // not among them.
     fn view(&self, rt: &impl Abort, alloc: Global, number: u32) -> Vec<Turn> {
         let mut view = self.told_entries(rt, alloc, number);
         let own = count_of(&view, number);
@@ -178,7 +178,7 @@ impl Ledger {
         }
     }
 
-    // What the star, as number 0, or a site should hold, where all began with a board.
+    // What the star, as number 0, or a site should hold, if all began with a board.
     pub(crate) fn content(
         &self,
         rt: &impl Abort,

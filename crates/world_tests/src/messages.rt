@@ -49,7 +49,7 @@ fn goes_up(rt: &impl Abort, alloc: Global, star: &mut Star, site: u32, made: Mad
         .expect(rt, "an edit that is taken")
 }
 
-// A site is handed its oldest message, and answers none.
+// A site receives its oldest message, and answers none.
 fn goes_down(rt: &impl Abort, alloc: Global, star: &mut Star, site: &mut Site) {
     let downs = star.fetch(alloc, site.number(), 1).expect(rt, "memory");
     let Some(Down::Op(msg)) = downs.into_messages().pop() else {
@@ -80,7 +80,7 @@ fn sends(
     site: &mut Site,
     value: char,
 ) -> Option<u32> {
-    // The checker has to be told of the types within what passes here.
+    // The checker has to know the types within what passes here.
     let _within: PhantomData<(Up, Made)> = PhantomData;
     let command = Command::Insert {
         win: 1,
@@ -98,7 +98,7 @@ fn shows(rt: &impl Abort, alloc: Global, board: &Board, printed: &str) {
     expect_eq(rt, text.as_slice(), printed.as_bytes());
 }
 
-// Both sites type before either is handed a message.
+// Both sites type before either receives a message.
 #[test]
 fn messages_pass_through_lines(rt: HostRuntime) {
     let alloc = rt.alloc();

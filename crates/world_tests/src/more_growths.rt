@@ -1,4 +1,4 @@
-//! Growths of scripts, of two ends and of one way of a link that are refused, each test for the call of its name, as in `growths`.
+//! Failed allocations in scripts, in two ends and in one way of a link, each test for the call of its name, as in `growths`.
 use super::lanes::{first_edit, send};
 use crate::expect::{expect_eq, expect_that};
 use jup_lane::Lane;
@@ -21,7 +21,7 @@ const TWO: &str = "two\nstart \"ab\"\nclient ins 1 \"x\"\nserver del 1\nup\ndown
 
 const TWO_DUE: &str = "made\nmade\nmoved\nmoved\nclient \"ax\"\nserver \"ax\"\nquiet yes\n";
 
-// A script is played, and again from its start where memory was refused; what it printed by then is the beginning of what is due.
+// A script is played, and again from its start if an allocation failed; what it printed by then is the beginning of what is due.
 fn is_played(rt: &impl Abort, alloc: Global, script: &str, due: &str) {
     let mut replies = Vec::with_capacity(alloc, 1_024).expect(rt, "memory");
     begin(alloc);
@@ -70,7 +70,7 @@ fn shown(two: &Two) -> (u32, u32, bool) {
     (two.client().len(), two.server().len(), two.quiet())
 }
 
-// The client inserts and the server deletes, and each is handed the other's edit.
+// The client inserts and the server deletes, and each receives the other's edit.
 #[test]
 fn two_step(rt: HostRuntime) {
     let mut two = Two::open(rt.alloc(), ['a', 'b'].as_slice()).expect(&rt, "memory");
@@ -116,7 +116,7 @@ fn lane_reserve(rt: HostRuntime) {
     );
 }
 
-// The first message, of 37 bytes, and a ping behind it.
+// The first message, of 37 bytes, and a ping after it.
 fn lane_of_two(rt: &impl Abort, alloc: Global) -> Lane<Up> {
     let mut lane: Lane<Up> = Lane::new(alloc);
     send(rt, &mut lane, &Up::Op(first_edit(alloc)));
@@ -140,7 +140,7 @@ fn lane_push(rt: HostRuntime) {
     expect_that(&rt, !lane.is_idle());
 }
 
-// The oldest message, which is asked for again where memory was refused.
+// The oldest message, which is asked for again if an allocation failed.
 fn first_of(rt: &impl Abort, alloc: Global, lane: &mut Lane<Up>) -> Up {
     begin(alloc);
     let mut first = lane.first(alloc);

@@ -1,5 +1,5 @@
-//! Random edits of one to five commands at three sites, on a widget of each kind. After each event every board holds what the edits
-//! mean that its end was told of.
+//! Random edits of one to five commands at three sites, on a widget of each kind. After each event every board holds the meaning of
+//! the edits that its end knows.
 use super::boards::{LIMIT, batch, drain, is_quiet};
 use super::content::Content;
 use super::ledger::Ledger;
@@ -44,7 +44,7 @@ pub(super) fn board_at(world: &World, number: u32) -> &Board {
     }
 }
 
-// A place in a widget, or the one behind its last item.
+// A place in a widget, or the one after its last item.
 fn place(dice: &mut Dice, board: &Board, wid: u16) -> u32 {
     let count = board.widget(1, wid).map_or(0, |widget| widget.item_count());
     dice.roll(count.saturating_add(1))
@@ -108,7 +108,7 @@ fn command(rt: &impl Abort, dice: &mut Dice, board: &Board) -> Command {
     }
 }
 
-// One to five commands, each as if it were alone on the board, so that some of them are refused behind the others.
+// One to five commands, each as if it were alone on the board, so that some of them are refused after the others.
 pub(super) fn commands(
     rt: &impl Abort,
     alloc: Global,

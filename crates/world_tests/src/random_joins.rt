@@ -1,5 +1,5 @@
-//! Joins and departures at random, among random edits and deliveries. After each event every board holds what the edits mean that its end was told of, and
-//! whenever all is delivered all attached sites show the star's board.
+//! Joins and departures at random, among random edits and deliveries. After each event every board holds the meaning of the edits that its end knows.
+//! Whenever all is delivered, all attached sites show the star's board.
 use super::boards::{batch, drain};
 use super::ledger::Ledger;
 use super::random_batches::{all_agree, all_hold, board_at, commands, open_world};
@@ -25,7 +25,7 @@ fn attached_sites(rt: &impl Abort, alloc: Global, world: &World, given: u32) -> 
     numbers
 }
 
-// A site joins, or the star's number 0, which no site has, is named where none is attached.
+// A site joins, or the star's number 0, which no site has, is named if none is attached.
 fn someone(dice: &mut Dice, numbers: &[u32]) -> u32 {
     let count = u32::try_from(numbers.len()).unwrap_or(0);
     let at = dice.roll(count.max(1)) as usize;

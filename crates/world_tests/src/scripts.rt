@@ -445,7 +445,7 @@ fn both_have(rt: &impl Abort, two: &Two, len: u32) {
     expect_eq(rt, (two.client().len(), two.server().len()), (len, len));
 }
 
-// Many more edits than are acknowledged at once, none of which has been delivered.
+// Many more edits than one acknowledgement counts, none of which has been delivered.
 #[test]
 fn one_end_edits_on_while_the_other_hears_nothing(rt: HostRuntime) {
     let alloc = rt.alloc();

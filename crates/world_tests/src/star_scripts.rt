@@ -178,7 +178,7 @@ fn a_bad_list_or_setting_of_a_board_is_told_by_its_line_and_what_is_wrong(rt: Ho
     }
 }
 
-// The line is bad behind the start.
+// The line is bad after the start.
 fn is_bad_event(rt: &impl Abort, alloc: Global, line: &str, fault: ScriptFault) {
     let script = format!(in alloc; "{START}{line}").expect(rt, "memory");
     let end = ScriptEnd::Bad(6, fault);
@@ -241,7 +241,7 @@ fn a_bad_line_of_a_batch_is_told_by_its_number_and_what_is_wrong(rt: HostRuntime
     }
 }
 
-// A script with so many lines of a word and an id behind its start.
+// A script with so many lines of a word and an id after its start.
 fn script_of(
     rt: &impl Abort,
     alloc: Global,

@@ -1,4 +1,4 @@
-//! What a world tells beside its boards: its order, its trace, what its sites wait for; and its bounds. Whole runs that were
+//! What a world shows beside its boards: its order, its trace, what its sites wait for; and its bounds. Whole runs that were
 //! worked out by hand are scripts of `examples/`.
 use super::boards::{
     LIMIT, all_show, deletes, drain, edits, gives, is_quiet, reply_of, sets, types, world_of,
@@ -121,7 +121,7 @@ fn the_order_has_both_deletions_of_one_item(rt: HostRuntime) {
     took(&rt, alloc, &world, &[(1, &[FIRST]), (2, &[FIRST])]);
 }
 
-// The message that shows site 1 the setting of site 2 tells it besides that the star has its own.
+// The message that shows site 1 the setting of site 2 also tells it that the star has its own.
 #[test]
 fn a_message_down_acknowledges_what_the_star_took(rt: HostRuntime) {
     let alloc = rt.alloc();
@@ -179,7 +179,7 @@ fn shown_len(world: &World, number: u32) -> Option<u32> {
     }
 }
 
-// The bound holds where an edit is made, and not where edits meet.
+// The bound holds when an edit is made, and not when edits meet.
 #[test]
 fn edits_that_meet_may_pass_the_bound(rt: HostRuntime) {
     let alloc = rt.alloc();
@@ -218,7 +218,7 @@ fn a_site_waits_for_an_acknowledgement_after_1024_edits(rt: HostRuntime) {
     expect_eq(&rt, backlog(&world), Some(961));
 }
 
-// Site 1 sets widget 1 on so many times, each of which the star takes and site 2 is handed.
+// Site 1 sets widget 1 on so many times, each of which the star takes and site 2 receives.
 fn switches_on_for_both(rt: &impl Abort, alloc: Global, world: &mut World, times: u32) {
     for place in 0..times {
         switches_on(rt, alloc, world);

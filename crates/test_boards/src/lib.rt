@@ -15,7 +15,7 @@ use jup_window::{Board, BoardOp, Widget};
 use jup_xform::Batch;
 use std::alloc::Global;
 
-/// The board of these lines, which a star may be opened with; none where a line is bad or memory is refused.
+/// The board of these lines, which a star may be opened with; none if a line is bad or an allocation fails.
 pub fn board_of(alloc: Global, lines: &[&str]) -> Option<Board>
     ensures { IfSome result (λ board. EachWidget IsShort board) }
 {

@@ -21,9 +21,9 @@ Example:
   listening 127.0.0.1:4711";
 
 /// What `jupd --help` says of its counts.
-const LIMIT_HELP: &str = "How many edits are taken in all, 1 to 16777216";
+const LIMIT_HELP: &str = "How many edits are taken in total, 1 to 16777216";
 
-const SESSIONS_HELP: &str = "How many sessions are served in all, 1 to 1024";
+const SESSIONS_HELP: &str = "How many sessions are served in total, 1 to 1024";
 
 /// What `jup --help` says first, and last.
 const CLIENT_ABOUT: &str = "Edits the board of a server, by commands from standard input";

@@ -394,7 +394,7 @@ fn text_takes_no_relabel(rt: HostRuntime) {
 }
 
 #[test]
-fn command_is_judged_by_what_is_told_of_items(rt: HostRuntime) {
+fn command_is_judged_by_what_is_given_of_items(rt: HostRuntime) {
     let board = one_label(&rt, rt.alloc());
     let list = board.named_widget(1, 2).expect(&rt, "it is there");
     expect_eq(&rt, list.item_count(), 1);

@@ -114,7 +114,7 @@ fn meet(alloc: Global, start: &str, c: TextOp, s: TextOp, end: &str) -> bool {
 }
 
 #[test]
-fn of_insertions_at_one_place_the_clients_stands_left(rt: HostRuntime) {
+fn of_insertions_at_one_place_the_clients_comes_first(rt: HostRuntime) {
     let (c, s) = (insert(2, 1, 'X'), insert(2, 2, 'Y'));
     expect_eq(&rt, pair(c, s), (insert(2, 1, 'X'), insert(3, 2, 'Y')));
     expect_that(&rt, meet(rt.alloc(), "abcd", c, s, "abXYcd"));
@@ -181,7 +181,7 @@ fn relabel_moves_with_its_item(rt: HostRuntime) {
 }
 
 #[test]
-fn of_two_relabels_of_one_item_the_clients_stands(rt: HostRuntime) {
+fn of_two_relabels_of_one_item_the_clients_applies(rt: HostRuntime) {
     let (c, s) = (relabel(1, 2, 'c'), relabel(1, 2, 's'));
     expect_eq(&rt, pair(c, s), (c, SeqOp::Nothing));
     expect_that(&rt, meet(rt.alloc(), "pqr", c, s, "pcr"));
@@ -298,7 +298,7 @@ fn taken_out() -> ListOp {
 }
 
 #[test]
-fn operations_on_a_list_are_copied_and_told_apart(rt: HostRuntime) {
+fn operations_on_a_list_are_copied_and_compared(rt: HostRuntime) {
     let red = Label::read(b"red").expect(&rt, "a label");
     let (put, gone) = (put_in(red), taken_out());
     expect_that(&rt, put.edit(rt.alloc()) == Ok(SeqEdit::Put(FIRST, red)));

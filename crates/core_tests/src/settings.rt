@@ -49,7 +49,7 @@ fn a_setting_is_valid_within_the_bounds(rt: HostRuntime) {
 }
 
 #[test]
-fn the_later_of_two_settings_stands_at_both_ends(rt: HostRuntime) {
+fn the_later_of_two_settings_applies_at_both_ends(rt: HostRuntime) {
     let mut client = Toggle { on: false };
     let mut server = Toggle { on: false };
     meet(&mut client, &mut server, ON, OFF);
@@ -57,7 +57,7 @@ fn the_later_of_two_settings_stands_at_both_ends(rt: HostRuntime) {
 }
 
 #[test]
-fn a_setting_beside_none_stands_at_both_ends(rt: HostRuntime) {
+fn a_setting_beside_none_applies_at_both_ends(rt: HostRuntime) {
     let mut client = Slider::new(0, 10, 5).expect(&rt, "5 is from 0 to 10");
     let mut server = client;
     meet(&mut client, &mut server, SetOp::Nothing, SetOp::Set(3));

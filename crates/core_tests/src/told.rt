@@ -14,7 +14,7 @@ fn tells<R: Abort, F: Display>(rt: &R, alloc: Global, fault: &F, due: &str) {
 }
 
 #[test]
-fn each_fault_of_an_edit_is_told(rt: HostRuntime) {
+fn each_fault_of_an_edit_has_its_text(rt: HostRuntime) {
     for &(fault, due) in &[
         (EditFault::NoWindow, "no such window"),
         (EditFault::NoWidget, "no such widget in the window"),
@@ -36,7 +36,7 @@ fn each_fault_of_an_edit_is_told(rt: HostRuntime) {
 }
 
 #[test]
-fn each_fault_of_a_board_and_of_a_value_is_told(rt: HostRuntime) {
+fn each_fault_of_a_board_and_of_a_value_has_its_text(rt: HostRuntime) {
     for &(fault, due) in &[
         (BoardFault::NoWindow, "no such window"),
         (BoardFault::NoMemory, "no memory"),

@@ -159,7 +159,7 @@ fn is_stopped(rt: &impl Abort, alloc: Global, gather: &mut Gather) {
 }
 
 #[test]
-fn line_among_operations_is_misplaced_for_ever(rt: HostRuntime) {
+fn line_among_operations_is_misplaced_and_so_is_each_later_one(rt: HostRuntime) {
     let alloc = rt.alloc();
     let mut gather = Gather::new();
     expect_eq(&rt, push(&rt, alloc, &mut gather, &TWO), Gathered::Held);
@@ -178,7 +178,7 @@ fn line_among_operations_is_misplaced_for_ever(rt: HostRuntime) {
 }
 
 #[test]
-fn operation_without_its_batch_line_is_misplaced_for_ever(rt: HostRuntime) {
+fn operation_without_its_batch_line_is_misplaced_and_so_is_each_later_line(rt: HostRuntime) {
     let alloc = rt.alloc();
     let mut gather = Gather::new();
     expect_eq(

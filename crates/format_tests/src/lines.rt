@@ -336,7 +336,7 @@ fn bytes_outside_the_grammar_are_refused(rt: HostRuntime) {
 }
 
 #[test]
-fn long_line_is_told_with_its_256th_byte(rt: HostRuntime) {
+fn long_line_is_reported_at_its_256th_byte(rt: HostRuntime) {
     let mut reader = Reader::new();
     let most = feed(&rt, rt.alloc(), &mut reader, &[b'x'; 255]);
     expect_eq(&rt, most.fault, None);

@@ -40,7 +40,7 @@ fn inserted() -> Option<Single> {
 }
 
 #[test]
-fn an_insertion_is_read_and_what_stands_behind_it_is_left(rt: HostRuntime) {
+fn an_insertion_is_read_and_what_comes_after_it_is_left(rt: HostRuntime) {
     let whole = b"batch 5 0 1\ndo 2 31 text ins 10 4.17 233\n".as_slice();
     expect_single(&rt, whole, inserted());
     let more = b"batch 5 0 1\ndo 2 31 text ins 10 4.17 233\nba".as_slice();

@@ -13,7 +13,7 @@ fn tells<R: Abort, F: Display>(rt: &R, alloc: Global, fault: &F, due: &str) {
 }
 
 #[test]
-fn each_fault_of_a_line_and_of_a_layout_is_told(rt: HostRuntime) {
+fn each_fault_of_a_line_and_of_a_layout_has_its_text(rt: HostRuntime) {
     for &(fault, due) in &[
         (WireFault::BadLine, "no line of the protocol"),
         (WireFault::LongLine, "256 bytes without the end of a line"),

@@ -120,7 +120,7 @@ fn no_origin_admits_nobody(rt: HostRuntime) {
 }
 
 #[test]
-fn origins_are_told_from_other_texts(rt: HostRuntime) {
+fn origins_are_distinguished_from_other_texts(rt: HostRuntime) {
     for origin in [
         b"http://127.0.0.1:4711".as_slice(),
         b"https://board.example",

@@ -107,7 +107,7 @@ fn fragments_are_one_message_with_control_frames_between(rt: HostRuntime) {
 }
 
 #[test]
-fn an_empty_frame_is_whole_at_once(rt: HostRuntime) {
+fn an_empty_frame_is_whole_immediately(rt: HostRuntime) {
     expect_told(
         &rt,
         b"\x81\x80\0\0\0\0\x89\x80\0\0\0\0\x82\x81\0\0\0\0a",
@@ -142,7 +142,7 @@ fn control_frames_are_whole_and_short(rt: HostRuntime) {
 }
 
 #[test]
-fn a_ping_of_125_bytes_is_told(rt: HostRuntime) {
+fn a_ping_of_125_bytes_is_reported(rt: HostRuntime) {
     let mut ping = [b'p'; 131];
     ping[..6].copy_from_slice(b"\x89\xfd\0\0\0\0");
     expect_told(&rt, &ping, b"", 1, End::Waiting);
@@ -205,7 +205,7 @@ fn messages_are_bounded_by_their_headers(rt: HostRuntime) {
 }
 
 #[test]
-fn a_close_tells_a_code_that_may_be_sent(rt: HostRuntime) {
+fn a_close_has_a_code_that_may_be_sent(rt: HostRuntime) {
     expect_told(&rt, b"\x88\x80\0\0\0\0", b"", 0, End::Closed(None));
     expect_broken(&rt, b"\x88\x81\0\0\0\0\x03", Breach::BadClose);
     for code in [
@@ -239,7 +239,7 @@ fn the_reason_of_a_close_is_utf8(rt: HostRuntime) {
 }
 
 #[test]
-fn nothing_is_told_behind_a_close_or_a_breach(rt: HostRuntime) {
+fn nothing_is_reported_after_a_close_or_a_breach(rt: HostRuntime) {
     let closed = b"\x88\x82\0\0\0\0\x0f\xa0\x81\x81\0\0\0\0a\x89\x80\0\0\0\0";
     expect_told(&rt, closed, b"", 0, End::Closed(Some(4_000)));
     expect_broken(&rt, b"\x83\x80\0\0\0\0\x81\x81\0\0\0\0a", Breach::Header);

@@ -73,7 +73,7 @@ fn what_is_no_upgrade_gets_no_link(rt: HostRuntime) {
 }
 
 #[test]
-fn another_version_is_told_of(rt: HostRuntime) {
+fn another_version_is_refused(rt: HostRuntime) {
     let head =
         b"GET /ws HTTP/1.1\r\nHost: 127.0.0.1:4711\r\nConnection: Upgrade\r\nUpgrade: websocket\r\nSec-WebSocket-Version: 8\r\nSec-WebSocket-Key: dGhlIHNhbXBsZSBub25jZQ==\r\n\r\n";
     expect_refused(&rt, head, Refusal::OtherVersion);
@@ -104,7 +104,7 @@ fn other_targets_and_methods_are_refused(rt: HostRuntime) {
 }
 
 #[test]
-fn what_is_no_head_is_refused_at_once(rt: HostRuntime) {
+fn what_is_no_head_is_refused_immediately(rt: HostRuntime) {
     expect_refused(&rt, b"GET / HTTP/2.0\r\n", Refusal::BadHead);
     expect_refused(
         &rt,

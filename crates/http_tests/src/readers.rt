@@ -19,13 +19,13 @@ fn expect_read(rt: &impl Abort, alloc: Global, frames: &[u8], due: &[u8], ending
 }
 
 #[test]
-fn payloads_come_one_behind_the_other(rt: HostRuntime) {
+fn payloads_come_one_after_the_other(rt: HostRuntime) {
     let frames = b"\x81\x83\0\0\0\0ab\n\x02\x81\0\0\0\0c\x89\x81\0\0\0\0!\x80\x82\0\0\0\0d\n";
     expect_read(&rt, rt.alloc(), frames, b"ab\ncd\n", None);
 }
 
 #[test]
-fn what_stands_before_a_breach_is_given(rt: HostRuntime) {
+fn what_comes_before_a_breach_is_given(rt: HostRuntime) {
     let frames = b"\x81\x83\0\0\0\0ab\n\x81\x01c";
     expect_read(
         &rt,

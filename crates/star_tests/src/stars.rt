@@ -368,7 +368,7 @@ fn the_order_has_edits_as_they_were_made(rt: HostRuntime) {
 }
 
 #[test]
-fn the_later_of_two_insertions_stands_left(rt: HostRuntime) {
+fn the_later_of_two_insertions_comes_first(rt: HostRuntime) {
     let alloc = rt.alloc();
     let mut race = run_race(&rt, alloc);
     expect_eq(&rt, race.star.waiting(1), Some(1));

@@ -15,7 +15,7 @@ fn tells<R: Abort, F: Display>(rt: &R, alloc: Global, fault: &F, due: &str) {
 
 // The hub's text for a refusal of the star is the star's.
 #[test]
-fn each_fault_of_a_star_is_told(rt: HostRuntime) {
+fn each_fault_of_a_star_has_its_text(rt: HostRuntime) {
     for &(fault, due) in &[
         (StarFault::NoMemory, "no memory"),
         (StarFault::BadCount, "not the next operation"),
@@ -36,7 +36,7 @@ fn each_fault_of_a_star_is_told(rt: HostRuntime) {
 }
 
 #[test]
-fn each_fault_of_a_site_and_of_a_link_is_told(rt: HostRuntime) {
+fn each_fault_of_a_site_and_of_a_link_has_its_text(rt: HostRuntime) {
     for &(fault, due) in &[
         (SiteFault::NoMemory, "no memory"),
         (SiteFault::BadCount, "not the next operation"),

@@ -213,7 +213,7 @@ fn name(number: u32) -> Name {
 }
 
 #[test]
-fn an_order_is_told_from_its_opposite(rt: HostRuntime) {
+fn an_order_differs_from_its_opposite(rt: HostRuntime) {
     let [a, b, c, d] = [name(1), name(2), name(3), name(4)];
     assert!(rt; is_one_order(&[a, b, c], &[a, d, c]));
     assert!(rt; is_one_order(&[b, a], &[c, a]));

@@ -180,7 +180,7 @@ fn refusals(world: &World) -> usize {
 
 // Some edits are refused, and more are not, so that neither kind is missing.
 #[test]
-fn every_board_holds_what_its_end_was_told(rt: HostRuntime) {
+fn every_board_holds_what_has_reached_its_end(rt: HostRuntime) {
     let alloc = rt.alloc();
     let mut world = open_world(&rt, alloc);
     let mut ledger = Ledger::new(alloc);

@@ -141,7 +141,7 @@ fn a_line_that_ends_in_a_carriage_return_is_bad(rt: HostRuntime) {
 }
 
 #[test]
-fn a_bad_line_of_a_pair_is_told_by_its_number_and_what_is_wrong(rt: HostRuntime) {
+fn a_bad_line_of_a_pair_is_reported_with_its_number_and_fault(rt: HostRuntime) {
     for &(script, line, fault) in &[
         ("", 1, ScriptFault::Missing),
         ("\n", 1, ScriptFault::NoMode),
@@ -192,7 +192,7 @@ fn a_bad_line_of_a_pair_is_told_by_its_number_and_what_is_wrong(rt: HostRuntime)
 }
 
 #[test]
-fn a_bad_line_of_two_ends_is_told_by_its_number_and_what_is_wrong(rt: HostRuntime) {
+fn a_bad_line_of_two_ends_is_reported_with_its_number_and_fault(rt: HostRuntime) {
     for &(script, line, fault) in &[
         ("two \nstart \"\"\n", 1, ScriptFault::NoMode),
         ("two\n", 2, ScriptFault::Missing),
@@ -241,7 +241,7 @@ fn a_bad_line_of_two_ends_is_told_by_its_number_and_what_is_wrong(rt: HostRuntim
 }
 
 #[test]
-fn replies_that_were_due_stand_before_a_bad_line(rt: HostRuntime) {
+fn replies_that_were_due_come_before_a_bad_line(rt: HostRuntime) {
     let script = "pair toggle on\nclient off\nserver on\nmore\n";
     let end = ScriptEnd::Bad(4, ScriptFault::Surplus);
     is_bad_at(&rt, rt.alloc(), script, end, "c s' off\ns c' off\n");

@@ -57,7 +57,7 @@ fn a_star_script_takes_ids_in_any_order(rt: HostRuntime) {
 }
 
 #[test]
-fn a_bad_board_is_told_by_its_line_and_what_is_wrong(rt: HostRuntime) {
+fn a_bad_board_is_reported_with_its_line_and_fault(rt: HostRuntime) {
     for &(script, line, fault) in &[
         ("star\n", 1, ScriptFault::NoMode),
         ("star \n", 1, ScriptFault::BadLimit),
@@ -107,7 +107,7 @@ fn a_bad_board_is_told_by_its_line_and_what_is_wrong(rt: HostRuntime) {
 }
 
 #[test]
-fn a_bad_list_or_setting_of_a_board_is_told_by_its_line_and_what_is_wrong(rt: HostRuntime) {
+fn a_bad_list_or_setting_of_a_board_is_reported_with_its_line_and_fault(rt: HostRuntime) {
     for &(script, line, fault) in &[
         ("star 1\nwindow 1\nlist\n", 3, ScriptFault::BadId),
         ("star 1\nwindow 1\nlist 1 \n", 3, ScriptFault::BadLabels),
@@ -186,7 +186,7 @@ fn is_bad_event(rt: &impl Abort, alloc: Global, line: &str, fault: ScriptFault) 
 }
 
 #[test]
-fn a_bad_event_is_told_by_its_line_and_what_is_wrong(rt: HostRuntime) {
+fn a_bad_event_is_reported_with_its_line_and_fault(rt: HostRuntime) {
     for &(line, fault) in &[
         ("join 1\nshow\n", ScriptFault::NoEvent),
         ("leave\nshow\n", ScriptFault::NoEvent),
@@ -223,7 +223,7 @@ fn a_bad_event_is_told_by_its_line_and_what_is_wrong(rt: HostRuntime) {
 }
 
 #[test]
-fn a_bad_line_of_a_batch_is_told_by_its_number_and_what_is_wrong(rt: HostRuntime) {
+fn a_bad_line_of_a_batch_is_reported_with_its_number_and_fault(rt: HostRuntime) {
     for &(lines, bad, fault) in &[
         ("edit 1 batch 1\n", 7, ScriptFault::Missing),
         ("edit 1 batch 1\nup 1\n", 7, ScriptFault::NoCommand),

@@ -136,7 +136,7 @@ fn a_message_down_acknowledges_what_the_star_took(rt: HostRuntime) {
 }
 
 #[test]
-fn a_world_tells_the_board_that_it_was_opened_with(rt: HostRuntime) {
+fn a_world_returns_the_board_that_it_was_opened_with(rt: HostRuntime) {
     let alloc = rt.alloc();
     let mut world = world_of(&rt, alloc, LIMIT, "text 1 \"ab\"", 2);
     plays(&rt, alloc, &mut world, types(1, 1, 'x'));
@@ -267,7 +267,7 @@ fn a_world_is_opened_on_a_layout_with_a_limit(rt: HostRuntime) {
 }
 
 #[test]
-fn a_trace_tells_of_more_than_65536_events(rt: HostRuntime) {
+fn a_trace_has_more_than_65536_events(rt: HostRuntime) {
     let alloc = rt.alloc();
     let mut world = world_of(&rt, alloc, LIMIT, "text 1 \"\"", 1);
     for _ in 0..65_536 {

@@ -1,4 +1,4 @@
--- A site that joins stands at the end of the star's order.
+-- A site that joins is placed at the end of the star's order.
 use Rattle.std.proofs.Common.{ℕ, ◌+◌, [], length, refl, sym, subst, arith, eq-eqb}
 use Rattle.jup_window.specs.Operations.{Operations, AreLawful}
 use Rattle.jup_star.specs.LinkStates.{opened_link}
@@ -20,7 +20,7 @@ module _ (O : Operations) (L : AreLawful O) (most : ℕ) (first : O.t.Content) (
   abbrev pub new_site : AttachedOf O
   new_site = record { site = opened_site i s.limit s.board; up = []; down = [] }
 
-  -- so a site that joins stands beside the star
+  -- so a site that joins is in step with the star
   pub honest-new : IsHonestAt O most first (length s.order) i (joined s) [] 0 new_site
   honest-new = record {
     star = star-joined O L most first s h.star;

@@ -83,7 +83,7 @@ module _ (O : Operations) (L : AreLawful O) where
       (λ j e. subst (λ o. CountsAt O o (attached j (w.sites ++ new_site O w (w.star.given + 1) ∷ []))) (sym (found-end_other (λ k. k.site) j w.star.links (opened_link (w.star.given + 1)) e))
       (subst (λ o. CountsAt O (link_of j w.star.links) o) (sym (found-end_other (λ b. b.site.number) j w.sites (new_site O w (w.star.given + 1)) e)) (all j)))
 
-  -- an event, by what it comes to
+  -- an event, by its outcome
   counts-step : (most : ℕ) (w : WorldOf O) → IsSound O most w → AllCount O w → (e : EventOf O) (o : Outcome O) → StepOf O w e o → (j : ℕ) → CountsAt O (link_of j o.star.links) (attached j o.sites)
   counts-step most w s all e o (Still why) = all
   counts-step most w s all e o (Enters none) = enter_counts most w s all
@@ -115,7 +115,7 @@ module _ (O : Operations) (L : AreLawful O) where
   counts-run [] most w s all = all
   counts-run (e ∷ es) most w s all = counts-run es most (happens O w e) (sound-happens O L most w e s) (counts-happens most w s all e)
 
-  -- want of memory
+  -- a failed allocation
   pub counts-fetched : (w : WorldOf O) (all : AllCount O w) (i n : ℕ) (l : LinkState O.Op) (a : AttachedOf O) → link_of i w.star.links ≡ Some l → attached i w.sites ≡ Some a → AllCount O (only_fetched O w i n l)
   counts-fetched w all i n l a fl fa = with_one w all i (link_fetched n) (with_fetched O n l) l a (λ k. refl) (λ b. refl) fl fa (record {
     short = (here_of w all i l a fl fa).short;

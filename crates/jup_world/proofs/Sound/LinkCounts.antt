@@ -23,7 +23,7 @@ use Rattle.jup_world.specs.WorldSteps.{with_edit, one_taken, one_handed, pinged}
 use Rattle.jup_world.specs.Traces.{made}
 use Rattle.jup_world.specs.Backlogs.{told_count, Counts}
 
--- counts told one list after another
+-- counts received one list after another
 pub told_count-append : {Op : Type 0} → (n : ℕ) (ds es : List (Down Op)) → told_count n (ds ++ es) ≡ told_count (told_count n ds) es
 told_count-append n [] es = refl
 told_count-append n (DownOp m ∷ ds) es = told_count-append m.heard ds es
@@ -56,7 +56,7 @@ module _ (O : Operations) (L : AreLawful O) where
     sent = c.sent;
   }
 
-  -- a link that hears its site's edit: it acknowledges where `answer_after` are unanswered
+  -- a link that hears its site's edit: it acknowledges if `answer_after` are unanswered
   pub heard_counts : (l : LinkState O.Op) (a : AttachedOf O) (m : Msg O.Op) → Counts O l a → Counts O (link_heard O m l) (one_taken O a)
   heard_counts l a m c = cases (owes (l.end.unanswered + 1)) refl
     where
@@ -89,7 +89,7 @@ module _ (O : Operations) (L : AreLawful O) where
       cases true = paid
       cases false = unpaid
 
-  -- a site that is handed its oldest message
+  -- a site that receives its oldest message
   pub handed_counts : (l : LinkState O.Op) (a : AttachedOf O) (gone : ℕ) (d : Down O.Op) (ds : List (Down O.Op)) → a.down ++ l.outbox ≡ d ∷ (ds ++ drop gone l.outbox) → deliver_fault O d a.site ≡ None
       → Counts O l a → Counts O (link_fetched gone l) (one_handed O d ds a)
   handed_counts l a gone (DownOp m) ds e none c = record {

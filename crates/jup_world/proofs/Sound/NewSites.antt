@@ -1,4 +1,4 @@
--- A site that joins a star is at the end of its order.
+-- A site that joins a star has received all of the star's order.
 use Rattle.std.proofs.Common.{◌≡◌, ℕ, ◌+◌, ◌<◌, ◌≤◌, List, [], ◌++◌, drop, take, length, refl, ap, sym, ◌∙◌, subst, arith, append-nil, add-zero, take_all, drop_of_length-le, length-append, le_refl}
 use Rattle.jup_link.specs.Laws.LinkSteps.{small_le, InStepAt-opened}
 use Rattle.jup_window.specs.Operations.{Operations, AreLawful}
@@ -35,7 +35,7 @@ module _ (O : Operations) (L : AreLawful O) (most : ℕ) (first : O.t.Content) (
   knows : HoldsKnown O (own_counts O i 0 (λ j. named_by O i j (turns i s.order))) s.board
   knows n x = known_more O L (λ j. named_by O 0 j (turns 0 s.order)) (own_counts O i 0 (λ j. named_by O i j (turns i s.order))) n counts (h.board_known n x)
 
-  -- with nothing behind it neither
+  -- and with nothing after it neither
   none_named : named_by O i i (turns i s.order ++ []) ≡ 0
   none_named = ap (named_by O i i) (append-nil (turns i s.order)) ∙ no_name
 

@@ -24,7 +24,7 @@ module _ (O : Operations) (L : AreLawful O) where
     new : w.star.given < i
     new = omega arith
 
-    -- the new site stands at the end of the order
+    -- the new site is at the end of the order
     new_stands : Standing O most (O.t.content w.opening) (turns i w.star.order) w.star.board (made i w.trace) (length w.star.order) (shown_count i w.trace) i (opened_link i) (new_site O w i)
     new_stands = subst (λ es. Standing O most (O.t.content w.opening) (turns i w.star.order) w.star.board es (length w.star.order) (shown_count i w.trace) i (opened_link i) (new_site O w i)) (sym (s.no_edit i new))
         (subst (λ n. Standing O most (O.t.content w.opening) (turns i w.star.order) w.star.board [] (length w.star.order) n i (opened_link i) (new_site O w i)) (sym (s.no_shown i new))

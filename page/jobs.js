@@ -1,0 +1,63 @@
+// What a user did to a text, made in as many edits as it takes.
+import { MOST_ITEMS, MOST_OPERATIONS } from "./core.js";
+import { placeOf } from "./texts.js";
+
+// A step deletes an item by its `name`, or inserts a `value`. Steps name items, so others may change the text between two edits.
+export class Job {
+  #taken = 0; // how many steps the next edit has
+  #near = 0; // where the last item was that it deleted
+
+  // All insertions come after the item named `after`, or in front of all items if that is null. `place` is where they come.
+  constructor(view, place, after, steps) {
+    Object.assign(this, { view, place, after, steps });
+    this.#near = place;
+  }
+
+  get isDone() {
+    return this.steps.length === 0;
+  }
+
+  // The characters that are still to be inserted.
+  get rest() {
+    return this.steps.filter(({ value }) => value !== undefined).map(({ value }) => value);
+  }
+
+  // The commands of the next edit. Items that others have deleted are passed over. What a full text has no room for comes last.
+  next() {
+    const { win, wid, widget } = this.view;
+    const commands = [];
+    let room = MOST_ITEMS - widget.items.length;
+    let place = this.#placeOfInsertion(widget.items);
+    const gone = []; // the places of the items that are deleted
+    this.place = place;
+    this.#taken = 0;
+    for (const { name, value } of this.steps.slice(0, MOST_OPERATIONS)) {
+      const isInsertion = name === undefined;
+      if (isInsertion && room-- <= 0 && commands.length > 0) break;
+      this.#taken += 1;
+      if (isInsertion) commands.push({ verb: "ins", win, wid, place: place++, value });
+      else {
+        const found = placeOf(widget.items, name, this.#near);
+        if (found < 0) continue;
+        commands.push({ verb: "del", win, wid, place: found - gone.filter((it) => it < found).length });
+        gone.push(found);
+        this.#near = found;
+        room += 1;
+      }
+    }
+    return commands;
+  }
+
+  // The operations of the next edit are made.
+  made(ops) {
+    this.steps.splice(0, this.#taken);
+    const last = ops.findLast((op) => op.verb === "ins");
+    if (last) Object.assign(this, { after: last.name, place: last.place + 1 });
+  }
+
+  #placeOfInsertion(items) {
+    if (this.after === null) return 0;
+    const found = placeOf(items, this.after, this.place - 1);
+    return found >= 0 ? found + 1 : Math.min(this.place, items.length);
+  }
+}

@@ -1,0 +1,171 @@
+"""What the parts of the page's tests share: a server, two tabs of which one is far away, and what they show."""
+import contextlib
+import os
+import signal
+import socket
+import subprocess
+import sys
+import tempfile
+import time
+
+from browser import Late
+from lag import Lag
+
+TOP = os.path.dirname(os.path.dirname(os.path.dirname(os.path.abspath(__file__))))
+sys.path.insert(0, f"{TOP}/conformance")
+from links import Differs, free_address  # noqa: E402
+
+LIMIT = 1_000_000
+# How many seconds a piece takes each way to the tab that is far away.
+ONE_WAY = 0.08
+PATIENCE = 180
+# How long two tabs have to show the same before that counts.
+STEADY = 0.5
+BOARD = """window 1
+text 1 "Hi"
+list 2 "buy bread" "call Ann"
+toggle 3 off
+slider 4 0 10 5
+window 2
+text 1 ""
+slider 2 -100 100 0
+"""
+CAPTIONS = """1 "Party"
+1.1 "Notes"
+1.2 "Who brings what"
+1.3 "Everything is paid"
+1.4 "Guests"
+2 "Later"
+2.1 "More \\"notes\\""
+"""
+# The texts, the labels of lists, the toggles and the sliders that a page shows, in their order.
+SHOWN = """[...document.querySelectorAll('main .widget')].map((it) => {
+  const [area, list, box, range] = ['textarea', 'ol', '[role=switch]', '[type=range]'].map((kind) => it.querySelector(kind));
+  return area ? area.value : list ? [...list.querySelectorAll('input')].map((field) => field.value) : box ? box.checked : Number(range.value);
+})"""
+STATE = "document.body?.dataset.stage"
+AREA = "document.querySelectorAll('main textarea')[0]"
+OTHER_AREA = "document.querySelectorAll('main textarea')[1]"
+
+
+def expect(found, wanted, what):
+    if found != wanted:
+        raise Differs(f"{what}: expected {wanted!r}, but got {found!r}")
+
+
+def expect_that(is_so, what):
+    if not is_so:
+        raise Differs(f"it is not so that {what}")
+
+
+class Server:
+    """A `jupweb` with a board of its own, at an address that it keeps when it is started again."""
+
+    def __init__(self, program, board=BOARD, limit=LIMIT, origin=None):
+        self.folder = tempfile.TemporaryDirectory(prefix="page-")
+        self.board = f"{self.folder.name}/board"
+        captions = f"{self.folder.name}/captions"
+        for path, text in ((self.board, board), (captions, CAPTIONS)):
+            with open(path, "w", encoding="utf-8") as file:
+                file.write(text)
+        self.address = free_address()
+        self.port = int(self.address.split(":")[1])
+        self.words = [program, "--listen", self.address, "--board", self.board, "--limit", str(limit), "--captions", captions]
+        self.words += ["--origin", f"http://{origin}"] if origin else []
+        self.start()
+
+    @property
+    def url(self):
+        return f"http://{self.address}/"
+
+    def start(self):
+        self.process = subprocess.Popen(self.words, stdin=subprocess.PIPE, stdout=subprocess.DEVNULL)
+        end = time.monotonic() + PATIENCE
+        while time.monotonic() < end and self.process.poll() is None:
+            with contextlib.suppress(OSError), socket.create_connection(("127.0.0.1", self.port), 1):
+                return
+            time.sleep(0.05)
+        raise Late("the server does not listen")
+
+    def kill(self):
+        self.process.send_signal(signal.SIGKILL)
+        self.process.wait()
+
+    def stop(self):
+        """Stops it as its user does, by a line."""
+        with contextlib.suppress(OSError):
+            self.process.stdin.write(b"stop\n")
+            self.process.stdin.flush()
+        try:
+            self.process.wait(PATIENCE)
+        except subprocess.TimeoutExpired:
+            self.kill()
+            raise Differs("the server does not stop") from None
+
+    def kept(self):
+        with open(self.board, encoding="utf-8") as file:
+            return file.read()
+
+
+class Stage:
+    """A server, a tab beside it and one that is far away, in a browser. Without `is_far` both are beside it. Times may be `slack` times as long as they are meant to be."""
+
+    def __init__(self, browser, program, is_far=True, shots=None, slack=1, **how):
+        self.browser, self.shots, self.slack = browser, shots, slack
+        far = free_address()
+        self.server = Server(program, origin=far, **how)
+        self.lag = Lag(int(far.split(":")[1]), self.server.port, ONE_WAY)
+        self.a, self.b = browser.tab(), browser.tab()
+        self.tabs = [self.a, self.b]
+        self.a.open(self.server.url)
+        self.b.open(f"http://{far}/" if is_far else self.server.url)
+        for it in self.tabs:
+            it.until(f"{STATE} === 'open'")
+
+    def __enter__(self):
+        return self
+
+    def __exit__(self, *_):
+        for it in self.tabs:
+            it.call("Page.close")
+        if self.server.process.poll() is None:
+            self.server.kill()
+        self.server.folder.cleanup()
+
+    def picture(self, tab, name):
+        """Leaves a picture of a tab, if a folder for it is given."""
+        if self.shots:
+            tab.shot(f"{self.shots}/{name}.png")
+
+    def agreed(self):
+        """Waits until both tabs show the same, and have nothing that is not confirmed. Returns what they show."""
+        end = time.monotonic() + PATIENCE
+        since, last = time.monotonic(), None
+        while time.monotonic() < end:
+            shown = [it.run(SHOWN) for it in self.tabs]
+            is_quiet = all(it.run(STATE) in ("open", "full") for it in self.tabs)
+            if not is_quiet or shown[0] != shown[1] or shown[0] != last:
+                since, last = time.monotonic(), shown[0]
+            elif time.monotonic() - since > STEADY:
+                return last
+            time.sleep(0.05)
+        raise Differs(f"the tabs do not come to show the same: {shown}")
+
+    def agrees_on(self, *texts):
+        """Tests that both come to show these widgets first."""
+        expect(self.agreed()[: len(texts)], list(texts), "what both tabs show")
+
+
+def focus(tab, start=None, end=None, area=AREA):
+    """Puts the cursor into a text, at its end or as a selection."""
+    offset = "it.value.length" if start is None else start
+    tab.run(f"(() => {{ const it = {area}; it.focus(); it.setSelectionRange({offset}, {offset if end is None else end}); }})()")
+
+
+def selected(tab, area=AREA):
+    return tab.run(f"(() => {{ const it = {area}; return it.value.slice(it.selectionStart, it.selectionEnd); }})()")
+
+
+def after_cursor(tab, count, area=AREA):
+    """The characters after the cursor."""
+    return tab.run(f"(() => {{ const it = {area}; return it.value.slice(it.selectionStart, it.selectionStart + {count}); }})()")

@@ -1,0 +1,164 @@
+// The view of a text.
+import { Job } from "./jobs.js";
+import { difference, placeOf, scalarsOf, shownAs, textOf } from "./texts.js";
+import { View, make } from "./view.js";
+
+// A paste of more characters is made by the page, since a browser can take seconds to put it into an area.
+const LONG_PASTE = 512;
+// After how many milliseconds without a key others see what is being composed. On a phone every word is composed.
+const COMPOSED = 1000;
+
+// The area shows `shown`, which is the text of `items`. Within a composition it can show more, and is not drawn.
+export class TextView extends View {
+  caret = null; // where a job of this view has come to
+
+  constructor(...given) {
+    super(...given);
+    this.area = make("textarea", {
+      id: this.id, rows: 3,
+      input: (event) => (event.isComposing ? this.#composes() : this.#typed()),
+      paste: (event) => this.#pasted(event),
+      compositionstart: () => (this.isHeld = true),
+      compositionend: () => this.#composed(),
+    });
+    this.element = make("div", { className: "widget" }, this.label({ htmlFor: this.id }), this.area);
+    this.#reset(0);
+  }
+
+  setOpen(isOpen) {
+    this.area.readOnly = !isOpen || this.page.isBusyWith(this);
+  }
+
+  forgetNames() {
+    this.items = null;
+  }
+
+  #keep(items, shown) {
+    this.items = items;
+    this.shown = shown;
+  }
+
+  // Shows what the board has, with the cursor at an offset.
+  #reset(cursor) {
+    this.#keep([...this.widget.items], textOf(this.widget.items));
+    this.area.value = this.shown;
+    this.area.setSelectionRange(cursor, cursor);
+  }
+
+  #composes() {
+    clearTimeout(this.pause);
+    this.pause = setTimeout(() => this.items !== null && this.#typed(), COMPOSED);
+  }
+
+  #composed() {
+    clearTimeout(this.pause);
+    this.isHeld = false;
+    if (this.items !== null) this.#typed();
+    this.page.drawSoon();
+  }
+
+  // The user changed the area as a browser does it.
+  #typed() {
+    const { value, selectionEnd } = this.area;
+    const { head, tail } = difference(this.shown, value, selectionEnd);
+    if (value !== this.shown) this.#replace(head, this.shown.length - tail, value.slice(head, value.length - tail));
+  }
+
+  #pasted(event) {
+    const text = event.clipboardData.getData("text/plain").replace(/\r\n?/g, "\n");
+    if (text.length <= LONG_PASTE || this.area.readOnly) return;
+    event.preventDefault();
+    this.#replace(this.area.selectionStart, this.area.selectionEnd, text);
+  }
+
+  // The user replaced a part of what was shown by a text.
+  #replace(start, end, text) {
+    const [from, to] = [this.#place(start), this.#place(end)];
+    const values = scalarsOf(text);
+    // The last item goes first, since that is fastest in a long text.
+    const gone = this.items.slice(from, to).reverse();
+    const steps = [...gone.map(({ name }) => ({ name })), ...values.map((value) => ({ value }))];
+    const job = new Job(this, from, this.items[from - 1]?.name ?? null, steps);
+    if (!this.page.isShort(job)) {
+      // What is made of it is shown as it is made.
+      this.#reset(start);
+      this.page.begin(job);
+      return;
+    }
+    const ops = this.page.run(job);
+    if (ops === null) {
+      this.#reset(start);
+      return;
+    }
+    const come = ops.filter((op) => op.verb === "ins").map(({ name, value }) => ({ name, value }));
+    this.#keep([...this.items.slice(0, from), ...come, ...this.items.slice(to)], this.area.value);
+    if (values.map(shownAs).join("") !== text) this.#show();
+  }
+
+  // The place among the items of an offset in what is shown, and the other way round.
+  #place(offset) {
+    return this.shown.length === this.items.length ? offset : Array.from(this.shown.slice(0, offset)).length;
+  }
+
+  #offset(place) {
+    return this.shown.length === this.items.length ? place : textOf(this.items.slice(0, place)).length;
+  }
+
+  draw() {
+    if (this.items === null) this.#showAgain();
+    else this.#show();
+  }
+
+  // Shows the widget's text. The cursor stays after the item that was before it, and a selection stays on its items.
+  #show() {
+    const { selectionStart, selectionEnd, selectionDirection } = this.area;
+    const end = this.caret ?? this.#after(this.#place(selectionEnd));
+    const start = this.caret !== null || selectionStart === selectionEnd ? end : Math.min(this.#before(this.#place(selectionStart)), end);
+    this.caret = null;
+    this.#put();
+    this.#select(this.#offset(start), this.#offset(end), selectionDirection);
+  }
+
+  // The same if all items have other names: the cursor stays at the characters that it was at.
+  #showAgain() {
+    const { selectionStart, selectionEnd, selectionDirection } = this.area;
+    const { length } = this.shown;
+    const { head, tail } = this.#put();
+    const moved = (offset) => (offset <= head ? offset : offset >= length - tail ? offset + this.shown.length - length : head);
+    this.#select(moved(selectionStart), moved(selectionEnd), selectionDirection);
+  }
+
+  // Puts the widget's text into the area.
+  #put() {
+    const was = this.area.value;
+    this.#keep([...this.widget.items], textOf(this.widget.items));
+    const { head, tail } = difference(was, this.shown);
+    if (was !== this.shown) this.area.setRangeText(this.shown.slice(head, this.shown.length - tail), head, was.length - tail, "preserve");
+    return { head, tail };
+  }
+
+  #select(start, end, direction) {
+    const { area } = this;
+    if (document.activeElement === area && (start !== area.selectionStart || end !== area.selectionEnd)) area.setSelectionRange(start, end, direction);
+  }
+
+  // The place after the last item in front of a place that the widget still has.
+  #after(place) {
+    const { items, names } = this.widget;
+    for (let at = place - 1; at >= 0; at--) {
+      const { name } = this.items[at];
+      if (names.has(name)) return placeOf(items, name, at) + 1;
+    }
+    return 0;
+  }
+
+  // The place of the first item from a place on that the widget still has.
+  #before(place) {
+    const { items, names } = this.widget;
+    for (let at = place; at < this.items.length; at++) {
+      const { name } = this.items[at];
+      if (names.has(name)) return placeOf(items, name, at);
+    }
+    return items.length;
+  }
+}

@@ -8,7 +8,7 @@ use Rattle.jup_wire.specs.declared.line.Line.{Line}
 use Rattle.jup_wire.specs.Grammar.{line_text, spelling}
 use Rattle.jup_wire.specs.Streams.{stream_of, Progress, HasRead}
 
-spelled_long : (lines : List Line) → length lines ≤ length (flat_map spelling lines)
+pub spelled_long : (lines : List Line) → length lines ≤ length (flat_map spelling lines)
 spelled_long [] = omega arith
 spelled_long (l ∷ ls) =
     let rest = spelled_long ls in

@@ -84,7 +84,7 @@ fresh-id {A} k es free =
     none None e = refl
     none (Some a) e = absurd cc
 
-at_id-insert : {A : Type 0} (h : ℕ) (es : List (ℕ × A)) (i : ℕ) (e : ℕ × A) → (e.0 == h) ≡ false → at_id h (insert es i e) ≡ at_id h es
+pub at_id-insert : {A : Type 0} (h : ℕ) (es : List (ℕ × A)) (i : ℕ) (e : ℕ × A) → (e.0 == h) ≡ false → at_id h (insert es i e) ≡ at_id h es
 at_id-insert h [] zero e other = rw other refl
 at_id-insert h [] (suc i) e other = rw other refl
 at_id-insert h (x ∷ es) zero e other = rw other refl

@@ -7,3 +7,6 @@ pub mod BoardsBack
 pub mod Counts
 pub mod Stricter
 pub mod LayoutTexts
+pub mod PutEntries
+pub mod Saying
+pub mod SaidTexts

@@ -3,3 +3,4 @@ pub mod Drafts
 pub mod FaultNumbers
 pub mod Layouts
 pub mod Names
+pub mod Said

@@ -1,11 +1,12 @@
 //! Boards as lines, and lines as a board.
-ghost use Rattle.std.specs.Prelude.{◌≡◌, ◌⊎◌, ◌<◌, ◌≤◌, length, Ok, Err, IfOk, IfErr, MatchResult, List};
+ghost use Rattle.std.specs.Prelude.{◌≡◌, ◌⊎◌, ◌<◌, ◌≤◌, length, Ok, Err, IfOk, IfErr, IsOkUnless, MatchResult, List};
 ghost use Rattle.jup_limits.specs.Limits.{longest_input};
 ghost use Rattle.jup_window.specs.Boards as board;
 ghost use Rattle.jup_layout.specs.BoardLines.{board_lines, IsBoard};
 ghost use Rattle.jup_wire.specs.declared.line.Line.{Line};
 ghost use Rattle.jup_layout.specs.declared.refusals.Refusal.TheVariants as refusals;
 ghost use Rattle.jup_layout.specs.FaultNumbers.{refusal_number};
+ghost use Rattle.jup_layout.specs.Said.{AreBoardLines, AreLayoutLines, Shows, IsLayout};
 ghost use Rattle.jup_layout.specs.Layouts.{board_from, board_with, no_memory, layout_with, Makes, Lays, Describes, AreLines};
 
 use crate::drafts::Draft;
@@ -82,6 +83,10 @@ pub fn board_of(alloc: Global, lines: &[Line]) -> Result<Board, LayoutFault>
     ensures board { IfOk result (λ made. board_with lines.now ≡ Ok (board.bare made)) }
     ensures fault { IfErr result (λ fault. (fault ≡ no_memory) ⊎ (board_with lines.now ≡ Err fault)) }
 
+    // In the words of the lines: each may come after those before it, and the board shows what they say.
+    ensures said { IfOk result (λ made. AreBoardLines lines.now × Shows lines.now (board.bare made)) }
+    ensures every { AreBoardLines lines.now → length lines.now < 4294967295 → IsOkUnless result no_memory }
+
     // The lines of a board are that board.
     ensures back { (windows : board.Windows) → IsBoard windows → lines.now ≡ board_lines windows
         → length lines.now < 4294967295
@@ -121,6 +126,11 @@ pub fn layout(alloc: Global, text: &[u8]) -> Result<Board, LayoutFault>
     requires { length text.now ≤ longest_input }
     ensures board { IfOk result (λ made. Describes text.now (Ok (board.bare made))) }
     ensures fault { IfErr result (λ fault. (fault ≡ no_memory) ⊎ Describes text.now (Err fault)) }
+
+    // In the words of its lines: which texts are layouts, and of which board.
+    ensures said { IfOk result (λ made. IsLayout text.now (board.bare made)) }
+    ensures every { (lines : List Line) → AreLines text.now lines → AreLayoutLines lines
+        → IsOkUnless result no_memory }
 
     ensures accepts { (lines : List Line) (windows : board.Windows) → AreLines text.now lines
         → layout_with lines ≡ Ok windows

@@ -1,0 +1,27 @@
+//! What a server of browsers decides: its command line and its end, which bytes begin a request, whose pages may ask, how long it waits
+//! for whom, what it tells its operator once, the board that a file keeps, and captions. Nothing here opens a socket.
+#![tactic(auto)]
+
+mod captions;
+mod closing;
+mod command;
+mod end;
+mod kept_file;
+mod notices;
+mod opening;
+mod origins;
+mod patience;
+mod star;
+mod words;
+
+pub use captions::{CaptionFault, check_captions};
+pub use closing::close_code;
+pub use command::{Command, command_of};
+pub use end::{Attempt, ServiceEnd};
+pub use kept_file::{KeptFile, KeptFileFault};
+pub use notices::{Notice, Told, notice_of};
+pub use opening::{Opening, opening_of};
+pub use origins::{Address, own_origins};
+pub use patience::{LONGEST_SILENCE, Presence, head_wait};
+pub use star::star_of_printed;
+pub use words::{ServiceWords, service_words};

@@ -1,0 +1,78 @@
+//! What a server tells its operator, each once.
+ghost use Rattle.std.specs.Prelude.{◌≡◌, not, true, false};
+ghost use Rattle.jup_service.specs.Notices.{notice_of, is_told, with_told};
+
+use thiserror::Error;
+
+/// What a server tells its operator while it runs.
+#[derive(Clone, Copy, Debug, PartialEq, Eq, Error)]
+pub enum Notice {
+    #[error("all site numbers are spent: nobody can join any more; a restart with the same board begins anew")]
+    SitesSpent,
+    #[error("the order is full: no edit is taken any more; a restart with the same board begins anew")]
+    OrderFull,
+    #[error("cannot accept a connection: it is tried again")]
+    CannotAccept,
+    #[error("cannot write the board: it is tried again")]
+    CannotWrite,
+}
+
+/// What the number of a fault that ended a session tells the operator.
+pub fn notice_of(fault: u32) -> Option<Notice>
+    ensures { result ≡ notice_of fault }
+{
+    match fault {
+        31 => Some(Notice::SitesSpent),
+        32 => Some(Notice::OrderFull),
+        _ => None,
+    }
+}
+
+/// Which notices were told.
+#[derive(Clone, Copy, Debug, PartialEq, Eq)]
+pub struct Told {
+    sites: bool,
+    order: bool,
+    accept: bool,
+    write: bool,
+}
+
+impl Told {
+    /// None was.
+    pub fn new() -> Told
+        ensures { (notice : Notice) → is_told result notice ≡ false }
+    {
+        Told {
+            sites: false,
+            order: false,
+            accept: false,
+            write: false,
+        }
+    }
+
+    /// Counts a notice as told. Whether it has to be, since it was not.
+    pub fn tell(&mut self, notice: Notice) -> bool
+        ensures first { result ≡ not (is_told self.old notice) }
+        ensures told { self.new ≡ with_told self.old notice true }
+    {
+        let was = match notice {
+            Notice::SitesSpent => std::mem::replace(&mut self.sites, true),
+            Notice::OrderFull => std::mem::replace(&mut self.order, true),
+            Notice::CannotAccept => std::mem::replace(&mut self.accept, true),
+            Notice::CannotWrite => std::mem::replace(&mut self.write, true),
+        };
+        !was
+    }
+
+    /// What the notice told of is over: it is to be told again when it comes back.
+    pub fn clear(&mut self, notice: Notice)
+        ensures { self.new ≡ with_told self.old notice false }
+    {
+        match notice {
+            Notice::SitesSpent => self.sites = false,
+            Notice::OrderFull => self.order = false,
+            Notice::CannotAccept => self.accept = false,
+            Notice::CannotWrite => self.write = false,
+        }
+    }
+}

@@ -1,0 +1,51 @@
+//! The origins of a server: under which of them its own pages ask.
+ghost use Rattle.std.specs.Prelude.{◌≡◌, IfOk, All, option_map, string_bytes};
+ghost use Rattle.jup_service.specs.Origins.{origin_of, IsOwnOrigin};
+
+use std::alloc::{AllocError, Global};
+
+/// The port that a browser leaves out of an origin.
+const DEFAULT_PORT: u16 = 80;
+
+/// Where a server listens.
+#[derive(Clone, Copy, Debug)]
+pub struct Address {
+    pub port: u16,
+    /// Whether the machine's own programs alone reach it.
+    pub is_loopback: bool,
+    /// Whether it is every address of the machine.
+    pub is_wildcard: bool,
+}
+
+/// The origins of a server that listens at `host` and was told a further one.
+pub fn own_origins(
+    alloc: Global,
+    host: &str,
+    at: Address,
+    told: Option<&str>,
+) -> Result<Vec<String>, AllocError>
+    ensures { IfOk result (λ origins. All (λ o. IsOwnOrigin host.now at (option_map (λ t. t.now) told.entry) (string_bytes o)) origins.items) }
+{
+    let mut origins = Vec::new(alloc);
+    if let Some(told) = told {
+        origins.push(String::from_str(alloc, told)?)?;
+    }
+    if at.is_wildcard {
+        return Ok(origins);
+    }
+    origins.push(origin_of(alloc, host, at.port)?)?;
+    if at.is_loopback {
+        origins.push(origin_of(alloc, "localhost", at.port)?)?;
+    }
+    Ok(origins)
+}
+
+// The origin of a host and a port.
+fn origin_of(alloc: Global, host: &str, port: u16) -> Result<String, AllocError>
+    ensures { IfOk result (λ origin. string_bytes origin ≡ origin_of host.now port) }
+{
+    if port == DEFAULT_PORT {
+        return format!(in alloc; "http://{host}");
+    }
+    format!(in alloc; "http://{host}:{port}")
+}

@@ -1,0 +1,186 @@
+//! The command line.
+ghost use Rattle.std.specs.Prelude.{◌≡◌, ◌≤◌, true, IfOk, IfSome, string_bytes};
+ghost use Rattle.jup_limits.specs.Limits.{highest_limit};
+ghost use Rattle.jup_http.specs.Requests.{is_origin};
+
+use clap::error::ErrorKind;
+use clap::{Arg, ArgAction, ArgMatches, Command, Error, value_parser};
+use jup_http::is_origin;
+use jup_limits::HIGHEST_LIMIT;
+use std::alloc::{AllocError, Global};
+
+const ABOUT: &str = "Serves one board, which a file keeps, to browsers and to clients";
+
+const EXAMPLE: &str = "\
+Example:
+  $ printf 'window 1\\ntext 1 \"Hi\"\\n' > hi.board
+  $ jupweb --listen 127.0.0.1:4711 --board hi.board
+  listening 127.0.0.1:4711
+
+Open http://127.0.0.1:4711/ in a browser. A line `stop` on standard input ends
+the server, and a line `show` prints the board.";
+
+const BAD_LIMIT: &str = "a count out of range";
+
+const BAD_ORIGIN: &str =
+    "an origin is http:// or https:// and a host, with a port or without one, and no path";
+
+/// What the server is told to do.
+#[derive(Drop)]
+pub struct ServiceWords {
+    /// Where to listen, as given.
+    pub listen: String,
+    /// The file of the board.
+    pub board: String,
+    /// Edits that the star takes in its life.
+    pub limit: u32,
+    /// The file of the page, if not the program's own page is served.
+    pub page: Option<String>,
+    /// The file of the captions.
+    pub captions: Option<String>,
+    /// An origin under which browsers reach the server, beside its own address.
+    pub origin: Option<String>,
+}
+
+/// Reads the words after the program's name.
+pub fn service_words(alloc: Global, words: &[String]) -> Result<ServiceWords, Error>
+    ensures limit { IfOk result (λ w. (1 ≤ w.limit) × (w.limit ≤ highest_limit)) }
+    ensures origin { IfOk result (λ w. IfSome w.origin (λ o. is_origin (string_bytes o) ≡ true)) }
+{
+    let mut command = command(alloc)?;
+    read_words(alloc, &mut command, words)
+}
+
+// Reads the words by the program's command line.
+fn read_words<'a>(
+    alloc: Global,
+    command: &mut Command<'a>,
+    words: &'a [String],
+) -> Result<ServiceWords, Error>
+    ensures limit { IfOk result (λ w. (1 ≤ w.limit) × (w.limit ≤ highest_limit)) }
+    ensures origin { IfOk result (λ w. IfSome w.origin (λ o. is_origin (string_bytes o) ≡ true)) }
+{
+    let matches = command.try_get_matches_from_mut(words)?;
+    match told_by(alloc, &matches) {
+        Ok(told) => Ok(told),
+        Err(Unread::NoMemory) => Err(AllocError.into()),
+        Err(Unread::BadLimit) => Err(bad_value(command, BAD_LIMIT)),
+        Err(Unread::BadOrigin) => Err(bad_value(command, BAD_ORIGIN)),
+    }
+}
+
+// Why values are refused that were given as they should be.
+#[derive(Clone, Copy)]
+enum Unread {
+    NoMemory,
+    BadLimit,
+    BadOrigin,
+}
+
+impl From<AllocError> for Unread {
+    fn from(_error: AllocError) -> Unread {
+        Unread::NoMemory
+    }
+}
+
+// The program's command line.
+fn command<'a>(alloc: Global) -> Result<Command<'a>, AllocError> {
+    Command::new(alloc, "jupweb")
+        .no_binary_name(true)
+        .about(ABOUT)
+        .after_help(EXAMPLE)
+        .arg(option(
+            alloc,
+            "listen",
+            "ADDR",
+            "Where to listen, as 127.0.0.1:4711",
+        )
+        .required(true))?
+        .arg(option(
+            alloc,
+            "board",
+            "FILE",
+            "The printed board, which is read and written",
+        )
+        .required(true))?
+        .arg(limit(alloc))?
+        .arg(option(alloc, "page", "FILE", "Another page than the program's own"))?
+        .arg(option(alloc, "captions", "FILE", "Captions of windows and widgets"))?
+        .arg(option(
+            alloc,
+            "origin",
+            "ORIGIN",
+            "Where browsers find the server, as https://board.example",
+        ))
+}
+
+// An option with a value.
+fn option<'a>(alloc: Global, name: &'a str, value: &'a str, help: &'a str) -> Arg<'a> {
+    Arg::new(alloc, name)
+        .long(name)
+        .action(ArgAction::Set)
+        .value_name(value)
+        .help(help)
+}
+
+fn limit<'a>(alloc: Global) -> Arg<'a> {
+    let help = "How many edits are taken in all, 1 to 16777216, which is also the default";
+    option(alloc, "limit", "N", help).value_parser(value_parser!(u32).range(
+        1..=i64::from(HIGHEST_LIMIT),
+    ))
+}
+
+// What the server is told.
+fn told_by(alloc: Global, matches: &ArgMatches<'_>) -> Result<ServiceWords, Unread>
+    ensures limit { IfOk result (λ w. (1 ≤ w.limit) × (w.limit ≤ highest_limit)) }
+    ensures origin { IfOk result (λ w. IfSome w.origin (λ o. is_origin (string_bytes o) ≡ true)) }
+{
+    let limit = limit_of(matches.get_one("limit"))?;
+    let origin = origin_of(alloc, matches.get_str("origin"))?;
+    Ok(ServiceWords {
+        listen: String::from_str(alloc, matches.get_str("listen").unwrap_or(""))?,
+        board: String::from_str(alloc, matches.get_str("board").unwrap_or(""))?,
+        limit,
+        page: copy(alloc, matches.get_str("page"))?,
+        captions: copy(alloc, matches.get_str("captions"))?,
+        origin,
+    })
+}
+
+// The limit that was given, or the highest.
+fn limit_of(limit: Option<u32>) -> Result<u32, Unread>
+    ensures { IfOk result (λ n. (1 ≤ n) × (n ≤ highest_limit)) }
+{
+    let limit = limit.unwrap_or(HIGHEST_LIMIT);
+    if limit < 1 || limit > HIGHEST_LIMIT {
+        return Err(Unread::BadLimit);
+    }
+    Ok(limit)
+}
+
+fn origin_of(alloc: Global, origin: Option<&str>) -> Result<Option<String>, Unread>
+    ensures { IfOk result (λ origin. IfSome origin (λ o. is_origin (string_bytes o) ≡ true)) }
+{
+    let Some(origin) = origin else {
+        return Ok(None);
+    };
+    if !is_origin(origin.as_bytes()) {
+        return Err(Unread::BadOrigin);
+    }
+    Ok(Some(String::from_str(alloc, origin)?))
+}
+
+fn copy(alloc: Global, text: Option<&str>) -> Result<Option<String>, AllocError> {
+    match text {
+        Some(text) => Ok(Some(String::from_str(alloc, text)?)),
+        None => Ok(None),
+    }
+}
+
+// The error for a value that was read and is refused.
+fn bad_value(command: &mut Command<'_>, message: &str) -> Error {
+    match command.error(ErrorKind::ValueValidation, message) {
+        Ok(error) => error,
+        Err(error) => error.into(),
+    }
+}

@@ -13,7 +13,7 @@ use Rattle.jup_wire.specs.declared.line.Line.TheVariants as line
 use Rattle.jup_wire.specs.Grammar.{HasSpelling, is_spelled, line_bytes, spelling}
 use Rattle.jup_wire.proofs.OneMore.{all-append}
 use Rattle.jup_layout.specs.BoardLines.{item_lines, widget_lines, window_lines, board_lines}
-use Rattle.jup_board.specs.Layouts.{layout_lines, IsLayoutOf}
+use Rattle.jup_board.specs.Layouts.{IsLayoutOf}
 use Rattle.jup_board.specs.Numbered.{numbered_line, number_after, numbered_lines, Gathered, IsWritable, PutsNumbered}
 
 -- a line of a board has a spelling, whatever number its item gets

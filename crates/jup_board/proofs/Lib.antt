@@ -1,3 +1,5 @@
+mod FollowingLines
 mod Headings
 mod Laid
+mod PlainBytes
 mod Readings

@@ -1,4 +1,5 @@
 pub mod Ends
+pub mod Headings
 pub mod Layouts
 pub mod Numbered
 pub mod Printed

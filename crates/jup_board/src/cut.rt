@@ -1,10 +1,20 @@
 //! Texts that are cut at a byte.
-ghost use Rattle.std.specs.Prelude.{◌≡◌, ◌∷◌, ◌++◌, IfSome};
+ghost use Rattle.std.specs.Prelude.{◌≡◌, ◌==◌, ◌<◌, ◌∷◌, ◌++◌, length, position, IfSome, MatchOption};
+ghost use Rattle.jup_board.specs.Printed.{Lacks};
 
 /// What comes before the first such byte, and what follows it.
 pub(crate) fn cut_at(text: &[u8], byte: u8) -> Option<(&[u8], &[u8])>
-    ensures { IfSome result (λ cut. text.now ≡ cut.0.now ++ byte ∷ cut.1.now) }
+    ensures { MatchOption result (Lacks byte text.now)
+        (λ cut. Lacks byte cut.0.now × (text.now ≡ cut.0.now ++ byte ∷ cut.1.now)) }
 {
-    let end = text.iter().position(|it| *it == byte)?;
+    let end = place_of(text, byte)?;
     Some((&text[..end], &text[end + 1..]))
+}
+
+// Where the first such byte is.
+fn place_of(text: &[u8], byte: u8) -> Option<usize>
+    ensures place { result ≡ position (λ it. it == byte) text.now }
+    ensures within { IfSome result (λ at. at < length text.now) }
+{
+    text.iter().position(|it| *it == byte)
 }

@@ -1,5 +1,8 @@
 //! What a server prints before its board.
-ghost use Rattle.std.specs.Prelude.{◌≡◌, ◌⊎◌, ◌≤◌, ◌++◌, ℕ, List, [], IfSome};
+ghost use Rattle.std.specs.Prelude.{◌≡◌, ◌≤◌, ◌++◌, ℕ, List, MatchOption};
+ghost use Rattle.jup_window.specs.Boards.{Windows};
+ghost use Rattle.jup_text.specs.Boards.{board_text};
+ghost use Rattle.jup_board.specs.Headings.{BeginsOtherwise, Follows, PassesOver};
 ghost use Rattle.jup_board.specs.Printed.{IsHeading, IsListening, IsOrder};
 
 use crate::cut::cut_at;
@@ -8,6 +11,8 @@ use jup_number::read_number;
 /// What follows the lines `listening ADDR` and `order K`, and how many of them are there.
 pub(crate) fn behind_heading(text: &[u8]) -> (&[u8], u32)
     ensures rest { (heading : List ℕ) × IsHeading heading × (text.now ≡ heading ++ result.0.now) }
+    ensures board { (heading : List ℕ) (windows : Windows) → IsHeading heading → text.now ≡ heading ++ board_text windows
+        → result.0.now ≡ board_text windows }
     ensures lines { result.1 ≤ 2 }
 {
     let (text, listening) = skip_listening(text);
@@ -17,7 +22,7 @@ pub(crate) fn behind_heading(text: &[u8]) -> (&[u8], u32)
 
 // Passes over the line `listening ADDR`, if that is the first.
 fn skip_listening(text: &[u8]) -> (&[u8], u32)
-    ensures rest { (line : List ℕ) × ((line ≡ []) ⊎ IsListening line) × (text.now ≡ line ++ result.0.now) }
+    ensures rest { PassesOver IsListening text.now result.0.now }
     ensures lines { result.1 ≤ 1 }
 {
     match behind_listening(text) {
@@ -28,7 +33,7 @@ fn skip_listening(text: &[u8]) -> (&[u8], u32)
 
 // Passes over the line `order K`, if that is the first.
 fn skip_order(text: &[u8]) -> (&[u8], u32)
-    ensures rest { (line : List ℕ) × ((line ≡ []) ⊎ IsOrder line) × (text.now ≡ line ++ result.0.now) }
+    ensures rest { PassesOver IsOrder text.now result.0.now }
     ensures lines { result.1 ≤ 1 }
 {
     match behind_order(text) {
@@ -38,7 +43,7 @@ fn skip_order(text: &[u8]) -> (&[u8], u32)
 }
 
 fn behind_listening(text: &[u8]) -> Option<&[u8]>
-    ensures { IfSome result (λ rest. (line : List ℕ) × IsListening line × (text.now ≡ line ++ rest.now)) }
+    ensures { MatchOption result (BeginsOtherwise IsListening text.now) (λ rest. Follows IsListening text.now rest.now) }
 {
     let (line, rest) = cut_at(text, b'\n')?;
     let (word, _address) = cut_at(line, b' ')?;
@@ -49,7 +54,7 @@ fn behind_listening(text: &[u8]) -> Option<&[u8]>
 }
 
 fn behind_order(text: &[u8]) -> Option<&[u8]>
-    ensures { IfSome result (λ rest. (line : List ℕ) × IsOrder line × (text.now ≡ line ++ rest.now)) }
+    ensures { MatchOption result (BeginsOtherwise IsOrder text.now) (λ rest. Follows IsOrder text.now rest.now) }
 {
     let (line, rest) = cut_at(text, b'\n')?;
     let (word, number) = cut_at(line, b' ')?;

@@ -15,7 +15,8 @@ pub(crate) struct BoardLines<'a> {
 }
 
 impl<'a> BoardLines<'a> {
-    ghost use Rattle.std.specs.Prelude.{◌≡◌, ◌<◌, ◌∷◌, ◌++◌, [], IsSome, MatchOption, IfOk};
+    ghost use Rattle.std.specs.Prelude.{◌≡◌, ◌<◌, ◌∷◌, ◌++◌, ℕ, List, [], IsOk, IsSome, IsUtf8, MatchOption, IfOk, IfSome};
+    ghost use Rattle.jup_board.specs.Printed.{Lacks};
 
     /// The lines of a text, of which so many came before.
     pub(crate) fn new(rest: &'a [u8], line: u32) -> BoardLines<'a>
@@ -31,6 +32,9 @@ impl<'a> BoardLines<'a> {
         ensures read { IfOk result (λ line. MatchOption line ((self.old.rest.now ≡ []) × (self.new.rest.now ≡ []))
             (λ text. self.old.rest.now ≡ (text.now ++ 10 ∷ []) ++ self.new.rest.now)) }
         ensures shorter { IfOk result (λ line. IsSome line → length self.new.rest.now < length self.old.rest.now) }
+        ensures one { IfOk result (λ line. IfSome line (λ text. Lacks 10 text.now)) }
+        ensures every { (line rest : List ℕ) → Lacks 10 line → IsUtf8 line → self.old.rest.now ≡ line ++ 10 ∷ rest → IsOk result }
+        ensures end { self.old.rest.now ≡ [] → IsOk result }
     {
         if self.rest.is_empty() {
             return Ok(None);

@@ -1,10 +1,10 @@
 use Rattle.std.proofs.Common.{length}
-use Rattle.jup_board.specs.Printed.{IsReadTo}
+use Rattle.jup_board.proofs.Readings.{Reads}
 use Rattle.jup_board.proofs.reading.read_printed.Given as goal
 
 -- the lines that were taken, and what is left
 abbrev pub invariant-loop-reader : goal.invariant-loop-reader
-invariant-loop-reader l = IsReadTo l.initial.lines.rest.now l.lines.rest.now l.reader
+invariant-loop-reader l = Reads l.fn.text l.initial.lines.rest.now l.lines.rest.now l.reader
 
 -- the bytes of the lines that are left
 abbrev pub decreases-loop-reader : goal.decreases-loop-reader

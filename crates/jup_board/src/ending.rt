@@ -8,15 +8,6 @@ use std::io;
 use std::io::ErrorKind;
 use thiserror::Error;
 
-/// What was tried when a read or a write failed.
-#[derive(Clone, Copy, Debug, Error)]
-pub enum Attempt {
-    #[error("read the input")]
-    ReadInput,
-    #[error("print")]
-    Print,
-}
-
 /// Why a board is not made a layout, or a layout not printed.
 #[derive(Debug, Drop, Error)]
 pub enum BoardEnd {
@@ -34,19 +25,23 @@ pub enum BoardEnd {
     /// The layout of a board has so many bytes, more than a layout may have.
     #[error("layout too long")]
     LongLayout(u64),
+    /// The input can't be read.
     #[error("io fault")]
-    Io(Attempt),
+    Unread,
+    /// What was made can't be printed.
+    #[error("io fault")]
+    Unprinted,
     #[error("no memory")]
     NoMemory,
 }
 
 impl BoardEnd {
-    /// The end if this was tried and failed so: out of memory, or by a failed read or write.
-    pub fn of_failure(attempt: Attempt, error: &io::Error) -> BoardEnd {
+    /// The end of a failed read or write: this one, unless memory ran out.
+    pub fn of_failure(end: BoardEnd, error: &io::Error) -> BoardEnd {
         if error.kind() == ErrorKind::OutOfMemory {
             BoardEnd::NoMemory
         } else {
-            BoardEnd::Io(attempt)
+            end
         }
     }
 
@@ -56,7 +51,7 @@ impl BoardEnd {
         ensures most { result ≤ 5 }
     {
         match self {
-            BoardEnd::Io(_) => 1,
+            BoardEnd::Unread | BoardEnd::Unprinted => 1,
             BoardEnd::NoMemory => 3,
             BoardEnd::Line(..)
             | BoardEnd::Layout(_)

@@ -107,38 +107,17 @@ fn list_fault(id: u16, value: &str) -> LineFault {
     }
 }
 
-// How many quoted texts begin in a line.
+// How many quoted texts begin in a line: one for every two quotes that no backslash escapes.
 fn quoted_texts(value: &[u8]) -> u64 {
-    let mut count = 0u64;
-    let mut place = Place::Outside;
+    let mut quotes = 0u64;
+    let mut is_escaped = false;
     for byte in value {
-        let next = place.after(*byte);
-        if place == Place::Outside && next == Place::Inside {
-            count = count.saturating_add(1);
+        if *byte == b'"' && !is_escaped {
+            quotes = quotes.saturating_add(1);
         }
-        place = next;
+        is_escaped = *byte == b'\\' && !is_escaped;
     }
-    count
-}
-
-// Where a byte of a line is, as quotes go.
-#[derive(Clone, Copy, PartialEq, Eq)]
-enum Place {
-    Outside,
-    Inside,
-    Escaped,
-}
-
-impl Place {
-    // Where the byte after this one is.
-    fn after(self, byte: u8) -> Place {
-        match (self, byte) {
-            (Place::Outside, b'"') | (Place::Escaped, _) => Place::Inside,
-            (Place::Inside, b'"') => Place::Outside,
-            (Place::Inside, b'\\') => Place::Escaped,
-            (place, _) => place,
-        }
-    }
+    quotes / 2 + quotes % 2
 }
 
 fn slider_fault(value: &str) -> LineFault {

@@ -12,7 +12,7 @@ mod program;
 mod reading;
 
 pub use converting::{layout_of_printed, printed_of_layout};
-pub use ending::{Attempt, BoardEnd};
+pub use ending::BoardEnd;
 pub use faults::LineFault;
 pub use layout_text::write_layout;
 pub use program::{lay_out, print_layout};

@@ -2,7 +2,7 @@
 ghost use Rattle.std.specs.Prelude.{◌≤◌, IfOk, vec_len};
 ghost use Rattle.jup_limits.specs.Limits.{longest_board, longest_input};
 
-use crate::{Attempt, BoardEnd, layout_of_printed, printed_of_layout};
+use crate::{BoardEnd, layout_of_printed, printed_of_layout};
 use jup_limits::{LONGEST_BOARD, LONGEST_INPUT};
 use std::alloc::Global;
 use std::io;
@@ -55,7 +55,7 @@ fn read_most<I: Read + Drop>(alloc: Global, input: I, most: u64) -> Result<Vec<u
     let mut text = Vec::new(alloc);
     match input.take(most).read_to_end(&mut text) {
         Ok(_) => Ok(text),
-        Err(error) => Err(BoardEnd::of_failure(Attempt::ReadInput, &error)),
+        Err(error) => Err(BoardEnd::of_failure(BoardEnd::Unread, &error)),
     }
 }
 
@@ -64,5 +64,8 @@ fn write<O: Write>(text: &[u8], out: &mut O) -> Result<(), BoardEnd> {
         Ok(()) => out.flush(),
         Err(error) => Err(error),
     };
-    written.map_err(|error| BoardEnd::of_failure(Attempt::Print, &error))
+    match written {
+        Ok(()) => Ok(()),
+        Err(error) => Err(BoardEnd::of_failure(BoardEnd::Unprinted, &error)),
+    }
 }

@@ -128,7 +128,8 @@ impl From<BoardEnd> for ServiceEnd {
             | BoardEnd::Layout(_)
             | BoardEnd::LongInput
             | BoardEnd::LongLayout(_)
-            | BoardEnd::Io(_) => ServiceEnd::LongBoard,
+            | BoardEnd::Unread
+            | BoardEnd::Unprinted => ServiceEnd::LongBoard,
         }
     }
 }

@@ -7,7 +7,6 @@ use self::words::{Direction, read_words};
 use clap::error::ErrorKind;
 use jup_board::{BoardEnd, lay_out, print_layout};
 use jup_limits::LONGEST_INPUT;
-use jup_rules::{cause_of, without_words};
 use std::process::ExitCode;
 use std::{env, io};
 
@@ -33,14 +32,15 @@ fn explain(rt: &HostRuntime, end: &BoardEnd) {
     let _ = match end {
         BoardEnd::Line(_, fault) => eprintln!(rt; "{fault}"),
         BoardEnd::Layout(fault) => {
-            let cause = cause_of(fault.number);
+            let cause = fault.cause();
             eprintln!(rt; "{cause}")
         }
         BoardEnd::LongLayout(bytes) => {
             let most = LONGEST_INPUT;
             eprintln!(rt; "it has {bytes} bytes, and {most} are the most")
         }
-        BoardEnd::Io(attempt) => eprintln!(rt; "cannot {attempt}"),
+        BoardEnd::Unread => eprintln!(rt; "cannot read the input"),
+        BoardEnd::Unprinted => eprintln!(rt; "cannot print"),
         BoardEnd::LongBoard | BoardEnd::LongInput | BoardEnd::NoMemory => Ok(()),
     };
 }
@@ -71,7 +71,6 @@ fn tell_end(rt: &HostRuntime, text: &str, status: u8) -> u8
 
 fn main(rt: HostRuntime) -> ExitCode {
     let alloc = rt.alloc();
-    let mut errors = rt.stderr();
     let words: io::Result<Vec<String>> = match env::args(&rt) {
         Ok(words) => words.skip(1).collect(alloc).map_err(io::Error::from),
         Err(error) => Err(error),
@@ -81,7 +80,8 @@ fn main(rt: HostRuntime) -> ExitCode {
             Ok(direction) => make(&rt, direction),
             Err(error) => tell(&rt, &error),
         },
-        Err(error) => without_words(&error, &mut errors),
+        Err(error) if error.kind() == io::ErrorKind::OutOfMemory => tell_end(&rt, "no memory", 3),
+        Err(_) => tell_end(&rt, "a word is no text", 2),
     };
     ExitCode::from(status)
 }

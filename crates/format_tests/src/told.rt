@@ -28,3 +28,23 @@ fn each_fault_of_a_line_and_of_a_layout_has_its_text(rt: HostRuntime) {
     };
     tells(&rt, rt.alloc(), &fault, "line 8: fault 10");
 }
+
+#[test]
+fn each_fault_of_a_layout_has_its_cause(rt: HostRuntime) {
+    for &(number, due) in &[
+        (8, "no memory"),
+        (10, "the id is taken"),
+        (11, "there are too many already"),
+        (12, "0 is no id"),
+        (13, "the value is not within the bounds"),
+        (40, "no line of the protocol"),
+        (41, "256 bytes without the end of a line"),
+        (42, "a greeting of another version"),
+        (43, "the bytes end too early"),
+        (44, "a line out of its place"),
+        (45, "the item is not named as its place asks"),
+    ] {
+        let fault = LayoutFault { line: 1, number };
+        expect_eq(&rt, fault.cause(), due);
+    }
+}

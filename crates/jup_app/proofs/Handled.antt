@@ -9,10 +9,12 @@ use Rattle.jup_star.specs.declared.calls.Reply.{Reply}
 use Rattle.jup_star.specs.declared.calls.Reply.TheVariants as reply
 use Rattle.jup_star.specs.SiteCalls.{BoardSite}
 use Rattle.jup_world.specs.BoardWorlds.{BoardAttached}
+use Rattle.jup_hub.specs.declared.fault.HubFault.{HubFault}
 use Rattle.jup_hub.specs.declared.view.Entry.{Entry}
 use Rattle.jup_hub.specs.declared.view.View.{View}
 use Rattle.jup_hub.specs.Histories.{BeginsWith, BeginsWithAll}
 use Rattle.jup_hub.specs.Knowledge.{Called, having_called, with_call}
+use Rattle.jup_session.specs.Gates.{HasAnswered}
 use Rattle.jup_app.specs.Runs.{BoardUp, BoardDown, delivered, Made, made, Step, Edited, Took, Got, calls_of, edits_of, IsPlayed, IsAccepted, all_delivered, AcceptsAll}
 use Rattle.jup_app.specs.Plays.{makes, link_with, HasSeen, Plays, Handles, IsDelivering}
 use Rattle.jup_app.proofs.Count.{makes-append}
@@ -39,6 +41,12 @@ begins_more a xs b x = (x.0 ++ xs, ap (λ h. h ++ xs) x.1 ∙ append_assoc b x.0
 
 abbrev entry_of : View → Call → Reply → List Entry
 entry_of v call reply = record { by = v.number; call = call; reply = reply } ∷ []
+
+-- an edit that was taken behind its gate
+pub edit_answered : {P : Type 0} (view : P → View) (site : ℕ) (up : BoardUp) (v : View) (p q : P) (answer : Result (Option ℕ) HubFault) (place : Option ℕ) → HasAnswered site up v (view p) (Some answer) → answer ≡ Ok place → q ≡ p
+    → Called (Take site up) (reply.Taken (Ok place)) v (view q)
+edit_answered view site up v p q answer place answered was same =
+    subst (λ r. Called (Take site up) (reply.Taken (Ok place)) v (view r)) (sym same) (subst (λ (r : Result (Option ℕ) HubFault). HasAnswered site up v (view p) (Some r)) was answered)
 
 -- a call that was made
 pub called_seen : (call : Call) (reply : Reply) (v w : View) → Called call reply v w → (h : List Entry) → HasSeen h v → HasSeen h w

@@ -1,5 +1,5 @@
 //! A pass that counts its calls.
-ghost use Rattle.std.specs.Prelude.{◌≡◌, ◌+◌, IfOk, Ok};
+ghost use Rattle.std.specs.Prelude.{◌≡◌, ◌⊎◌, ◌+◌, IfOk, Ok, Err};
 ghost use Rattle.jup_star.specs.declared.calls.Call.TheVariants.{Join, Take, Fetch};
 ghost use Rattle.jup_star.specs.declared.calls.Reply.TheVariants.{Joined as JoinedReply, Taken, Fetched};
 ghost use Rattle.jup_star.specs.StarCalls.{bare_joined};
@@ -8,6 +8,7 @@ ghost use Rattle.jup_hub.specs.Knowledge.{Called};
 
 use crate::runs::stop::Stop;
 use jup_hub::{Hub, Pass};
+use jup_session::{Gate, take_edit};
 use jup_star::{Downs, Joined, Up};
 use std::alloc::Global;
 use std::sync::Wait;
@@ -64,6 +65,32 @@ impl Caller {
         ensures called { IfOk result (λ p. Called (Take site up.now) (Taken (Ok p)) (view_of self.old.pass) (view_of self.new.pass)) }
     {
         let place = hub.take(rt, alloc, &mut self.pass, site, up)?;
+        self.count()?;
+        Ok(place)
+    }
+
+    /// The hub takes an edit of a site behind its gate, which is told once the hub has answered, also where it refused.
+    pub(crate) fn take_edit<R: Wait, G: Gate>(
+        &mut self,
+        rt: &R,
+        alloc: Global,
+        hub: &Hub,
+        gate: &G,
+        site: u32,
+        nth: u32,
+        up: &Up,
+    ) -> Result<Option<u32>, Stop>
+        requires { IsPassOf hub.now self.old.pass }
+        ensures pass { IsPassOf hub.now self.new.pass }
+        ensures count { IfOk result (λ _. self.new.calls ≡ self.old.calls + 1) }
+        ensures called { IfOk result (λ p. Called (Take site up.now) (Taken (Ok p)) (view_of self.old.pass) (view_of self.new.pass)) }
+        ensures told { (result ≡ Err Stop.GateShut) ⊎ G.is_told gate.now site nth }
+    {
+        let Some(answer) = take_edit(rt, alloc, hub, &mut self.pass, gate, site, nth, up, || {})
+        else {
+            return Err(Stop::GateShut);
+        };
+        let place = answer?;
         self.count()?;
         Ok(place)
     }

@@ -9,7 +9,7 @@ use crate::runs::receive::receive;
 use crate::runs::stop::Stop;
 use jup_batch::BoardEdits;
 use jup_hub::Hub;
-use jup_session::{Gate, pass_gate};
+use jup_session::Gate;
 use jup_star::{Site, Up};
 use jup_window::{Command, EditFault};
 use std::alloc::Global;
@@ -60,7 +60,7 @@ impl Player {
         Ok(())
     }
 
-    // Has the hub take an edit once the gate is ready.
+    // Has the hub take an edit once the gate is ready, and tells the gate then.
     fn send<R: Wait, G: Gate>(
         &mut self,
         rt: &R,
@@ -75,12 +75,8 @@ impl Player {
         ensures handled { IfOk result (λ _. Handles self.old.number (view_of self.old.caller.pass) (view_of self.new.caller.pass) self.old.caller.calls self.new.caller.calls (link_with self.old.site (up.now ∷ [])) (link_with self.new.site [])) }
     {
         let nth = self.taken.saturating_add(1);
-        if !pass_gate(gate, self.number, nth, || {}) {
-            return Err(Stop::GateShut);
-        }
-        let answer = self.caller.take(rt, alloc, hub, self.number, up);
-        gate.answered(self.number, nth);
-        answer?;
+        self.caller
+            .take_edit(rt, alloc, hub, gate, self.number, nth, up)?;
         self.taken = nth;
         Ok(())
     }

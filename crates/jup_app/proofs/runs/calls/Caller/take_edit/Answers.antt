@@ -1,0 +1,6 @@
+use Rattle.jup_hub.specs.Passes.{view_of}
+use Rattle.jup_app.proofs.Handled.{edit_answered}
+use Rattle.jup_app.proofs.runs.calls.Caller.take_edit.Goals as goal
+
+pub returns-clause-called : goal.returns-clause-called
+returns-clause-called g c = edit_answered view_of _ _ _ _ _ _ _ c.in-Some.ensures.answered c.in_ok-place.was c.in_ok-count.ensures.pass

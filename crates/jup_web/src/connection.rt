@@ -1,0 +1,181 @@
+//! One connection: a request of HTTP, a session over a WebSocket, or a session by lines.
+ghost use Rattle.std.specs.Prelude.{◌≤◌, length, IfOk};
+ghost use Rattle.jup_hub.specs.Passes.{IsPassOf};
+
+use crate::browser::{BrowserBytes, UntilStopped};
+use crate::session::{Service, run_session};
+use crate::turn::{BROWSER_PATIENCE, InTurn};
+use jup_http::{
+    LONGEST_HEAD, Media, MessageReader, MessageWriter, Request, body_head, put_close, read_request,
+    refusal_head,
+};
+use jup_hub::Pass;
+use jup_intake::is_interrupted;
+use jup_service::{LONGEST_SILENCE, Opening, close_code, head_wait, opening_of};
+use jup_session::{Outgoing, hang_up};
+use std::io;
+use std::io::{ErrorKind, Read, Write};
+use std::net::TcpStream;
+use std::sync::{Mutex, Wait};
+use std::thread::Threads;
+use std::time::{Clock, Duration, Instant};
+use websocket::handshake::server::write_response;
+
+/// What the first bytes of a connection are.
+enum Head {
+    Lines,
+    Request(Request),
+}
+
+/// Serves a connection to its end.
+pub(crate) fn serve_connection<R: Threads + Wait + Clock + Eprint + Sync>(
+    rt: &R,
+    service: &Service<'_>,
+    stream: &TcpStream,
+    pass: Pass,
+)
+    requires { IsPassOf service.now.hub.now pass }
+{
+    let _ = stream.set_nodelay(true);
+    let mut head = [0u8; LONGEST_HEAD];
+    match read_head(rt, service.origins, stream, &mut head) {
+        Ok((len, Head::Lines)) => serve_lines(rt, service, stream, &head[..len], pass),
+        Ok((_, Head::Request(Request::Link(key)))) => {
+            if greet(service, stream, &key).is_ok() {
+                serve_browser(rt, service, stream, pass);
+            }
+        }
+        Ok((_, Head::Request(request))) => {
+            let _ = answer(service, stream, request);
+        }
+        Err(_) => {}
+    }
+    hang_up(rt, stream);
+}
+
+// Reads until it is clear what comes, and answers how many bytes were read.
+fn read_head<R: Clock>(
+    rt: &R,
+    origins: &[&[u8]],
+    stream: &TcpStream,
+    head: &mut [u8; LONGEST_HEAD],
+) -> io::Result<(usize, Head)>
+    ensures { IfOk result (λ read. read.0 ≤ length head.new) }
+{
+    let start = Instant::now(rt)?;
+    let mut from = stream;
+    let mut len = 0usize;
+    for _ in 0..LONGEST_HEAD {
+        stream.set_read_timeout(Some(wait_from(rt, start)?))?;
+        match from.read(&mut head[len..]) {
+            Ok(0) => return Err(io::Error::from(ErrorKind::UnexpectedEof)),
+            Ok(more) => len += more,
+            Err(error) if is_interrupted(&error) => {}
+            Err(error) => return Err(error),
+        }
+        if let Some(found) = head_of(&head[..len], origins) {
+            return Ok((len, found));
+        }
+    }
+    Err(io::Error::from(ErrorKind::TimedOut))
+}
+
+// How long the next read of a head may wait.
+fn wait_from<R: Clock>(rt: &R, start: Instant) -> io::Result<Duration> {
+    let elapsed = start.elapsed(rt)?.as_millis();
+    let elapsed = u64::try_from(elapsed).unwrap_or(u64::MAX);
+    match head_wait(elapsed) {
+        Some(wait) => Ok(Duration::from_millis(wait)),
+        None => Err(io::Error::from(ErrorKind::TimedOut)),
+    }
+}
+
+// What the bytes are that came so far; `None` if it takes more to tell.
+fn head_of(bytes: &[u8], origins: &[&[u8]]) -> Option<Head> {
+    match opening_of(bytes)? {
+        Opening::Lines => Some(Head::Lines),
+        Opening::Request => match read_request(bytes, origins) {
+            Some(request) => Some(Head::Request(request)),
+            None => None,
+        },
+    }
+}
+
+// A session whose first bytes were read.
+fn serve_lines<R: Threads + Wait + Eprint + Sync>(
+    rt: &R,
+    service: &Service<'_>,
+    stream: &TcpStream,
+    first: &[u8],
+    pass: Pass,
+)
+    requires { IsPassOf service.now.hub.now pass }
+{
+    let _ = stream.set_read_timeout(None);
+    let reader = first.chain(UntilStopped::new(rt, service.stop, stream));
+    let writer = Outgoing::new(stream, Outgoing::PATIENCE);
+    run_session(rt, service, reader, writer, pass);
+}
+
+// Answers a request that is none for a link.
+fn answer(service: &Service<'_>, stream: &TcpStream, request: Request) -> io::Result<()> {
+    let mut to = Outgoing::new(stream, BROWSER_PATIENCE);
+    match request {
+        Request::Page => send(service, &mut to, Media::Html, service.page),
+        Request::Captions => send(service, &mut to, Media::Plain, service.captions),
+        Request::Who => {
+            let links = service.connections.count_links();
+            let text = format!(in service.alloc; "{links}\n")?;
+            send(service, &mut to, Media::Plain, text.as_bytes())
+        }
+        Request::Refused(refusal) => to.write_all(refusal_head(refusal).as_bytes()),
+        Request::Link(_) => Ok(()),
+    }
+}
+
+fn send<O: Write>(service: &Service<'_>, to: &mut O, media: Media, body: &[u8]) -> io::Result<()> {
+    let head = body_head(service.alloc, media, body.len())?;
+    to.write_all(head.as_bytes())?;
+    to.write_all(body)
+}
+
+// Accepts a WebSocket.
+fn greet(service: &Service<'_>, stream: &TcpStream, key: &[u8; 28]) -> io::Result<()> {
+    let mut head = Vec::new(service.alloc);
+    if write_response(key, &[], &mut head).is_err() {
+        return Err(io::Error::from(ErrorKind::OutOfMemory));
+    }
+    let mut to = Outgoing::new(stream, BROWSER_PATIENCE);
+    to.write_all(&head)
+}
+
+// A session whose lines are the payloads of messages, and the close behind it.
+fn serve_browser<R: Threads + Wait + Eprint + Sync>(
+    rt: &R,
+    service: &Service<'_>,
+    stream: &TcpStream,
+    pass: Pass,
+)
+    requires { IsPassOf service.now.hub.now pass }
+{
+    let _ = stream.set_read_timeout(Some(Duration::from_secs(LONGEST_SILENCE)));
+    let turn = Mutex::new(());
+    let turn = &turn;
+    let from = UntilStopped::new(rt, service.stop, stream);
+    let Ok(bytes) = BrowserBytes::new(service.alloc, from, InTurn::new(rt, turn, stream)) else {
+        return;
+    };
+    let Ok(writer) = MessageWriter::new(service.alloc, InTurn::new(rt, turn, stream)) else {
+        return;
+    };
+    let Ok(mut reader) = MessageReader::new(service.alloc, bytes, InTurn::new(rt, turn, stream))
+    else {
+        return;
+    };
+    run_session(rt, service, &mut reader, writer, pass);
+    let code = close_code(reader.ending(), service.stop.is_told(rt));
+    let mut frame = Vec::new(service.alloc);
+    if put_close(code, &mut frame).is_ok() {
+        let _ = InTurn::new(rt, turn, stream).write_all(&frame);
+    }
+}

@@ -1,0 +1,67 @@
+//! The connections that are open, so that a stop can end them.
+
+use std::array;
+use std::net::{Shutdown, TcpStream};
+use std::sync::atomic::{AtomicU64, Ordering};
+use std::sync::{Mutex, Wait};
+
+/// Connections that may be open at a time: 64 links, and as many that ask for a page or have not said yet what they bring.
+const MOST_OPEN: usize = 128;
+
+/// The connections that are open.
+#[derive(Drop)]
+pub(crate) struct Connections {
+    sockets: Mutex<[Option<TcpStream>; MOST_OPEN]>,
+    /// How many of them are links.
+    links: AtomicU64,
+}
+
+impl Connections {
+    pub(crate) fn new() -> Connections {
+        Connections {
+            sockets: Mutex::new(array::from_fn(|_| None)),
+            links: AtomicU64::new(0),
+        }
+    }
+
+    /// Keeps a handle of a socket, and answers its place. `None` where too many are open, or no handle can be made.
+    pub(crate) fn enter<R: Wait>(&self, rt: &R, stream: &TcpStream) -> Option<usize> {
+        let handle = stream.try_clone().ok()?;
+        let mut sockets = self.sockets.lock(rt);
+        let place = sockets.iter().position(|socket| socket.is_none())?;
+        *sockets.get_mut(place)? = Some(handle);
+        Some(place)
+    }
+
+    /// Lets go of the handle at a place.
+    pub(crate) fn leave<R: Wait>(&self, rt: &R, place: usize) {
+        let mut sockets = self.sockets.lock(rt);
+        if let Some(socket) = sockets.get_mut(place) {
+            *socket = None;
+        }
+    }
+
+    pub(crate) fn are_none<R: Wait>(&self, rt: &R) -> bool {
+        self.sockets.lock(rt).iter().all(|socket| socket.is_none())
+    }
+
+    /// Shuts a side of each socket, or both.
+    pub(crate) fn shut<R: Wait>(&self, rt: &R, side: Shutdown) {
+        let sockets = self.sockets.lock(rt);
+        for socket in sockets.iter().flatten() {
+            let _ = socket.shutdown(side);
+        }
+    }
+
+    pub(crate) fn begin_link(&self) {
+        self.links.fetch_add(1, Ordering::SeqCst);
+    }
+
+    pub(crate) fn end_link(&self) {
+        self.links.fetch_sub(1, Ordering::SeqCst);
+    }
+
+    pub(crate) fn count_links(&self) -> u64 {
+        self.links.load(Ordering::SeqCst)
+    }
+}

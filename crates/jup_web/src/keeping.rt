@@ -1,0 +1,124 @@
+//! The board that a file keeps.
+ghost use Rattle.std.specs.Prelude.{◌≡◌, IfOk, IfSome};
+ghost use Rattle.jup_hub.specs.Passes.{view_of, IsPassOf};
+ghost use Rattle.jup_web.specs.Keeping.{IsTextAt};
+
+use crate::session::Service;
+use jup_hub::{Hub, Pass};
+use jup_service::{KeptFile, Notice};
+use jup_text::write_board;
+use jup_xform::NoMemory;
+use std::alloc::Global;
+use std::fs::{File, Files};
+use std::sync::Wait;
+use std::time::{Clock, Duration};
+
+/// Milliseconds between two looks for news.
+const PAUSE: u64 = 500;
+
+/// The board of a hub as it is printed, after all calls so far.
+pub fn board_text<R: Wait>(
+    rt: &R,
+    alloc: Global,
+    hub: &Hub,
+    pass: &mut Pass,
+) -> Result<Vec<u8>, NoMemory>
+    requires { IsPassOf hub.now pass.old }
+    ensures pass { IsPassOf hub.now pass.new }
+    ensures same { view_of pass.new ≡ view_of pass.old }
+    ensures text { IfOk result (λ text. IsTextAt text.items (view_of pass.old)) }
+{
+    let board = match hub.board(rt, alloc, pass) {
+        Ok(board) => board,
+        Err(_) => return Err(NoMemory),
+    };
+    let mut text = Vec::new(alloc);
+    write_board(alloc, &board, &mut text)?;
+    Ok(text)
+}
+
+/// The same if there were events after all that the pass had seen, or if it is asked for anyway. The text has all that the pass has
+/// then seen.
+pub fn take_news<R: Wait>(
+    rt: &R,
+    alloc: Global,
+    hub: &Hub,
+    pass: &mut Pass,
+    is_due: bool,
+) -> Result<Option<Vec<u8>>, NoMemory>
+    requires { IsPassOf hub.now pass.old }
+    ensures pass { IsPassOf hub.now pass.new }
+    ensures text { IfOk result (λ news. IfSome news (λ text. IsTextAt text.items (view_of pass.new))) }
+{
+    let has_news = hub.news(pass);
+    if !has_news && !is_due {
+        return Ok(None);
+    }
+    match board_text(rt, alloc, hub, pass) {
+        Ok(text) => Ok(Some(text)),
+        Err(NoMemory) => Err(NoMemory),
+    }
+}
+
+/// A file that keeps a board, and what it has.
+#[derive(Drop)]
+pub(crate) struct KeptBoard<'a> {
+    file: &'a KeptFile,
+    text: Vec<u8>,
+    /// Whether a board was not written that should have been.
+    is_due: bool,
+}
+
+impl<'a> KeptBoard<'a> {
+    /// The file has this text.
+    pub(crate) fn new(file: &'a KeptFile, text: Vec<u8>) -> KeptBoard<'a> {
+        KeptBoard {
+            file,
+            text,
+            is_due: false,
+        }
+    }
+
+    // Writes a text that the file does not have.
+    fn write<R: Wait + Eprint, F: Files<File = File>>(
+        &mut self,
+        rt: &R,
+        files: &F,
+        service: &Service<'_>,
+        text: Vec<u8>,
+    ) {
+        self.is_due = true;
+        if text != self.text {
+            if self.file.save(files, text.as_slice()).is_err() {
+                service.notices.tell(rt, Notice::CannotWrite);
+                return;
+            }
+            service.notices.clear(rt, Notice::CannotWrite);
+            self.text = text;
+        }
+        self.is_due = false;
+    }
+}
+
+/// Writes the board whenever it has changed, until the server is told to stop.
+pub(crate) fn keep<R: Wait + Clock + Eprint, F: Files<File = File>>(
+    rt: &R,
+    files: &F,
+    service: &Service<'_>,
+    mut board: KeptBoard<'_>,
+    pass: &mut Pass,
+)
+    requires { IsPassOf service.now.hub.now pass.old }
+    ensures { IsPassOf service.now.hub.now pass.new }
+{
+    for _ in rt.forever() {
+        if service.stop.wait(rt, Duration::from_millis(PAUSE)) {
+            return;
+        }
+        match take_news(rt, service.alloc, service.hub, pass, board.is_due) {
+            Ok(Some(text)) => board.write(rt, files, service, text),
+            Ok(None) => {}
+            Err(NoMemory) => board.is_due = true,
+        }
+    }
+}

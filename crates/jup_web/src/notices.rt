@@ -1,0 +1,31 @@
+//! What the operator is told on standard error.
+
+use jup_service::{Notice, Told};
+use std::sync::{Mutex, Wait};
+
+/// Tells each notice once.
+#[derive(Drop)]
+pub(crate) struct Notices {
+    told: Mutex<Told>,
+}
+
+impl Notices {
+    pub(crate) fn new() -> Notices {
+        Notices {
+            told: Mutex::new(Told::new()),
+        }
+    }
+
+    /// Tells a notice that was not told.
+    pub(crate) fn tell<R: Wait + Eprint>(&self, rt: &R, notice: Notice) {
+        let is_first = self.told.lock(rt).tell(notice);
+        if is_first {
+            let _ = eprintln!(rt; "{notice}");
+        }
+    }
+
+    /// What the notice told of is over.
+    pub(crate) fn clear<R: Wait>(&self, rt: &R, notice: Notice) {
+        self.told.lock(rt).clear(notice);
+    }
+}

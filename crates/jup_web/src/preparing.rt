@@ -1,0 +1,131 @@
+//! What a server reads and finds out before it serves.
+use jup_service::{
+    Address, Attempt, KeptFile, ServiceEnd, ServiceWords, check_captions, own_origins,
+    star_of_printed,
+};
+use jup_star::Star;
+use std::alloc::{AllocError, Global};
+use std::fs::{File, Files};
+use std::io::Read;
+use std::net::{Net, TcpListener, TcpStream};
+
+/// What a server has before it serves.
+#[derive(Drop)]
+pub(crate) struct Prepared {
+    pub(crate) file: KeptFile,
+    /// What the file has.
+    pub(crate) text: Vec<u8>,
+    pub(crate) star: Star,
+    pub(crate) captions: Vec<u8>,
+    /// The page that was told, if one was.
+    pub(crate) page: Option<Vec<u8>>,
+    pub(crate) listener: TcpListener,
+    pub(crate) origins: Vec<String>,
+}
+
+/// Reads the files, in this order: board, captions, page. Then it listens.
+pub(crate) fn prepare<R: Net<Listener = TcpListener, Stream = TcpStream> + Files<File = File>>(
+    rt: &R,
+    alloc: Global,
+    told: &ServiceWords,
+) -> Result<Prepared, ServiceEnd> {
+    let (file, text) = KeptFile::open(rt, alloc, told.board.as_str())?;
+    let star = star_of_printed(alloc, text.as_slice(), told.limit)?;
+    let captions = read_captions(rt, alloc, told.captions.as_ref())?;
+    let page = read_told(rt, alloc, told.page.as_ref(), Attempt::ReadPage)?;
+    let listener = listen(rt, told)?;
+    let origins = origins_of(alloc, told, &listener)?;
+    Ok(Prepared {
+        file,
+        text,
+        star,
+        captions,
+        page,
+        listener,
+        origins,
+    })
+}
+
+// All of a file, if one was told; `None` where none was.
+fn read_told<R: Files<File = File>>(
+    rt: &R,
+    alloc: Global,
+    name: Option<&String>,
+    attempt: Attempt,
+) -> Result<Option<Vec<u8>>, ServiceEnd> {
+    let Some(name) = name else {
+        return Ok(None);
+    };
+    let mut file = match File::open(rt, name.as_str()) {
+        Ok(file) => file,
+        Err(error) => return Err(ServiceEnd::of_failure(attempt, &error)),
+    };
+    let mut bytes = Vec::new(alloc);
+    match file.read_to_end(&mut bytes) {
+        Ok(_) => Ok(Some(bytes)),
+        Err(error) => Err(ServiceEnd::of_failure(attempt, &error)),
+    }
+}
+
+// The captions of a file, or none.
+fn read_captions<R: Files<File = File>>(
+    rt: &R,
+    alloc: Global,
+    name: Option<&String>,
+) -> Result<Vec<u8>, ServiceEnd> {
+    let Some(text) = read_told(rt, alloc, name, Attempt::ReadCaptions)? else {
+        return Ok(Vec::new(alloc));
+    };
+    match check_captions(alloc, text.as_slice()) {
+        Ok(()) => Ok(text),
+        Err((line, fault)) => Err(ServiceEnd::of_captions(line, fault)),
+    }
+}
+
+// Listens as told.
+fn listen<R: Net<Listener = TcpListener, Stream = TcpStream>>(
+    rt: &R,
+    told: &ServiceWords,
+) -> Result<TcpListener, ServiceEnd> {
+    match TcpListener::bind(rt, told.listen.as_str()) {
+        Ok(listener) => Ok(listener),
+        Err(error) => Err(ServiceEnd::of_failure(Attempt::Listen, &error)),
+    }
+}
+
+// The origins under which browsers reach a server that listens. There has to be one.
+fn origins_of(
+    alloc: Global,
+    told: &ServiceWords,
+    listener: &TcpListener,
+) -> Result<Vec<String>, ServiceEnd> {
+    let at = match listener.local_addr() {
+        Ok(at) => at,
+        Err(error) => return Err(ServiceEnd::of_failure(Attempt::Listen, &error)),
+    };
+    let address = Address {
+        port: at.port(),
+        is_loopback: at.ip().is_loopback(),
+        is_wildcard: at.ip().is_unspecified(),
+    };
+    let listen = told.listen.as_str();
+    let (host, _) = listen.rsplit_once(':').unwrap_or((listen, ""));
+    let origin = match &told.origin {
+        Some(origin) => Some(origin.as_str()),
+        None => None,
+    };
+    let origins = own_origins(alloc, host, address, origin)?;
+    if origins.is_empty() {
+        return Err(ServiceEnd::NoOrigin);
+    }
+    Ok(origins)
+}
+
+/// The bytes of texts.
+pub(crate) fn slices(alloc: Global, texts: &[String]) -> Result<Vec<&[u8]>, AllocError> {
+    let mut slices = Vec::new(alloc);
+    for text in texts {
+        slices.push(text.as_bytes())?;
+    }
+    Ok(slices)
+}

@@ -1,0 +1,260 @@
+//! The server's run.
+ghost use Rattle.std.specs.Prelude.{◌≤◌, IfOk};
+ghost use Rattle.jup_hub.specs.Passes.{IsPassOf};
+
+use crate::connection::serve_connection;
+use crate::connections::Connections;
+use crate::keeping::{KeptBoard, board_text, keep};
+use crate::notices::Notices;
+use crate::operating::operate;
+use crate::preparing::{Prepared, prepare, slices};
+use crate::session::Service;
+use crate::stop::Stop;
+use crate::telling::tell;
+use jup_hub::{Hub, Pass};
+use jup_service::{Attempt, KeptFile, Notice, ServiceEnd, service_words};
+use jup_session::Bell;
+use jup_xform::NoMemory;
+use std::alloc::Global;
+use std::fs::{File, Files};
+use std::io::Read;
+use std::net::{Net, Shutdown, TcpListener, TcpStream};
+use std::sync::Wait;
+use std::thread::Threads;
+use std::time::{Clock, Duration};
+use std::{io, thread};
+
+/// Milliseconds after which it is tried again to accept a connection.
+const ACCEPT_PAUSE: u64 = 100;
+
+/// How often it is looked, after a stop, whether all connections have ended, and the milliseconds between.
+const ENDING_LOOKS: u32 = 50;
+
+const ENDING_PAUSE: u64 = 100;
+
+/// Serves as the words say, with this page if they name no other, until a line `stop` comes by the input; and answers the exit status: 0, or 1
+/// for a failed read, write or bind and for a board that another program has, 2 for the words, 3 for memory, 5 for a board or captions.
+pub fn web_main<
+    R: Net<Listener = TcpListener, Stream = TcpStream>
+        + Files<File = File>
+        + Threads
+        + Wait
+        + Clock
+        + Print
+        + Eprint
+        + Sync,
+    I: Read + Send + Drop,
+>(rt: &R, alloc: Global, words: &[String], page: &str, input: I) -> u8
+    ensures { result ≤ 5 }
+{
+    let told = match service_words(alloc, words) {
+        Ok(told) => told,
+        Err(error) => return tell(rt, &ServiceEnd::from(error)),
+    };
+    let served = match prepare(rt, alloc, &told) {
+        Ok(prepared) => serve(rt, alloc, prepared, page, input),
+        Err(end) => Err(end),
+    };
+    match served {
+        Ok(()) => 0,
+        Err(end) => tell(rt, &end),
+    }
+}
+
+// Serves until a stop, and keeps the board.
+fn serve<
+    R: Files<File = File> + Threads + Wait + Clock + Print + Eprint + Sync,
+    I: Read + Send + Drop,
+>(rt: &R, alloc: Global, prepared: Prepared, page: &str, input: I) -> Result<(), ServiceEnd> {
+    let Prepared {
+        file,
+        text,
+        star,
+        captions,
+        page: told,
+        listener,
+        origins,
+    } = prepared;
+    let origins = slices(alloc, origins.as_slice())?;
+    let Ok((hub, pass)) = Hub::open(alloc, star) else {
+        return Err(ServiceEnd::NoMemory);
+    };
+    let stop = match announce(rt, &listener) {
+        Ok(stop) => stop,
+        Err(error) => return Err(ServiceEnd::of_failure(Attempt::Print, &error)),
+    };
+    let service = Service {
+        alloc,
+        hub: &hub,
+        bell: &Bell::new(),
+        stop: &stop,
+        connections: &Connections::new(),
+        notices: &Notices::new(),
+        origins: &origins,
+        page: page_of(&told, page),
+        captions: captions.as_slice(),
+    };
+    let board = KeptBoard::new(&file, text);
+    let pass = serve_all(rt, rt, &service, listener, input, board, pass)?;
+    save_last(rt, rt, &service, &file, pass)
+}
+
+// The page that is served.
+fn page_of<'a>(told: &'a Option<Vec<u8>>, own: &'a str) -> &'a [u8] {
+    match told {
+        Some(told) => told.as_slice(),
+        None => own.as_bytes(),
+    }
+}
+
+// Prints where connections may come, and makes ready for a stop.
+fn announce<R: Print>(rt: &R, listener: &TcpListener) -> io::Result<Stop> {
+    let at = listener.local_addr()?;
+    let stop = Stop::new(listener)?;
+    println!(rt; "listening {at}")?;
+    Ok(stop)
+}
+
+// Writes the board after all sessions.
+fn save_last<R: Wait, F: Files<File = File>>(
+    rt: &R,
+    files: &F,
+    service: &Service<'_>,
+    file: &KeptFile,
+    mut pass: Pass,
+) -> Result<(), ServiceEnd>
+    requires { IsPassOf service.now.hub.now pass }
+{
+    let text = match board_text(rt, service.alloc, service.hub, &mut pass) {
+        Ok(text) => text,
+        Err(NoMemory) => return Err(ServiceEnd::NoMemory),
+    };
+    match file.save(files, text.as_slice()) {
+        Ok(()) => Ok(()),
+        Err(error) => Err(ServiceEnd::of_failure(Attempt::WriteBoard, &error)),
+    }
+}
+
+// Runs a thread that accepts connections and one for the operator, and keeps the board in this one. It returns once all have ended,
+// after a stop.
+fn serve_all<
+    R: Threads + Wait + Clock + Print + Eprint + Sync,
+    F: Files<File = File>,
+    I: Read + Send + Drop,
+>(
+    rt: &R,
+    files: &F,
+    service: &Service<'_>,
+    listener: TcpListener,
+    input: I,
+    board: KeptBoard<'_>,
+    mut pass: Pass,
+) -> Result<Pass, ServiceEnd>
+    requires { IsPassOf service.now.hub.now pass }
+    ensures { IfOk result (λ p. IsPassOf service.now.hub.now p) }
+{
+    let acceptors = service.hub.split(&mut pass);
+    let operators = service.hub.split(&mut pass);
+    thread::scope(
+        thread::scope_env(),
+        rt,
+        |scope| -> Result<Pass, ServiceEnd>
+            requires { IsPassOf service.now.hub.now pass × IsPassOf service.now.hub.now acceptors × IsPassOf service.now.hub.now operators }
+            ensures { IfOk result (λ p. IsPassOf service.entry.now.hub.now p) }
+        {
+            let acceptor = scope.spawn(
+                move ||
+                    requires { IsPassOf service.now.hub.now acceptors }
+                { accept_all(rt, service, listener, acceptors) },
+            );
+            let operator = scope.spawn(
+                move ||
+                    requires { IsPassOf service.now.hub.now operators }
+                { operate(rt, service, input, operators) },
+            );
+            if acceptor.is_err() || operator.is_err() {
+                service.stop.tell(rt);
+                return Err(ServiceEnd::NoMemory);
+            }
+            keep(rt, files, service, board, &mut pass);
+            Ok(pass)
+        },
+    )
+}
+
+// Accepts connections, each in a thread of its own, until a stop. It returns once all have ended.
+fn accept_all<R: Threads + Wait + Clock + Eprint + Sync>(
+    rt: &R,
+    service: &Service<'_>,
+    listener: TcpListener,
+    mut pass: Pass,
+)
+    requires { IsPassOf service.now.hub.now pass }
+{
+    thread::scope(
+        thread::scope_env(),
+        rt,
+        |scope|
+            requires { IsPassOf service.now.hub.now pass }
+        {
+            for _ in rt.forever() {
+                let Some((place, stream)) = next_connection(rt, service, &listener) else {
+                    break;
+                };
+                let theirs = service.hub.split(&mut pass);
+                let child = scope.spawn(
+                    move ||
+                        requires { IsPassOf service.now.hub.now theirs }
+                    {
+                        serve_connection(rt, service, &stream, theirs);
+                        service.connections.leave(rt, place);
+                    },
+                );
+                if child.is_err() {
+                    service.connections.leave(rt, place);
+                    service.notices.tell(rt, Notice::CannotAccept);
+                }
+            }
+            drop(listener);
+            end_connections(rt, service);
+        },
+    )
+}
+
+// The next connection that can be served, with its place among those that are open. `None` after a stop.
+fn next_connection<R: Wait + Clock + Eprint>(
+    rt: &R,
+    service: &Service<'_>,
+    listener: &TcpListener,
+) -> Option<(usize, TcpStream)> {
+    for _ in rt.forever() {
+        let accepted = listener.accept();
+        if service.stop.is_told(rt) {
+            return None;
+        }
+        match accepted {
+            Ok((stream, _)) => {
+                if let Some(place) = service.connections.enter(rt, &stream) {
+                    return Some((place, stream));
+                }
+            }
+            Err(_) => {
+                service.notices.tell(rt, Notice::CannotAccept);
+                service.stop.wait(rt, Duration::from_millis(ACCEPT_PAUSE));
+            }
+        }
+    }
+    unreachable!()
+}
+
+// Ends the connections that are open: first as if their clients were gone, and after five seconds whatever they do.
+fn end_connections<R: Wait + Clock>(rt: &R, service: &Service<'_>) {
+    service.connections.shut(rt, Shutdown::Read);
+    for _ in 0..ENDING_LOOKS {
+        if service.connections.are_none(rt) {
+            return;
+        }
+        thread::sleep(rt, Duration::from_millis(ENDING_PAUSE));
+    }
+    service.connections.shut(rt, Shutdown::Both);
+}

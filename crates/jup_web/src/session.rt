@@ -1,0 +1,54 @@
+//! One session of a connection.
+ghost use Rattle.jup_hub.specs.Passes.{IsPassOf};
+
+use crate::connections::Connections;
+use crate::notices::Notices;
+use crate::stop::Stop;
+use jup_hub::{Hub, Pass};
+use jup_service::notice_of;
+use jup_session::{Bell, Ending, Open, serve_link};
+use std::alloc::Global;
+use std::io::{Read, Write};
+use std::sync::Wait;
+use std::thread::Threads;
+
+/// What all connections share.
+#[derive(Clone, Copy)]
+pub(crate) struct Service<'a> {
+    pub(crate) alloc: Global,
+    pub(crate) hub: &'a Hub,
+    pub(crate) bell: &'a Bell,
+    pub(crate) stop: &'a Stop,
+    pub(crate) connections: &'a Connections,
+    pub(crate) notices: &'a Notices,
+    pub(crate) origins: &'a [&'a [u8]],
+    pub(crate) page: &'a [u8],
+    pub(crate) captions: &'a [u8],
+}
+
+/// Runs a session over a reader and a writer of lines.
+pub(crate) fn run_session<
+    R: Threads + Wait + Eprint + Sync,
+    I: Read + Drop,
+    O: Write + Send + Drop,
+>(rt: &R, service: &Service<'_>, reader: I, writer: O, pass: Pass)
+    requires { IsPassOf service.now.hub.now pass }
+{
+    service.connections.begin_link();
+    let (_, ending) = serve_link(
+        rt,
+        service.alloc,
+        reader,
+        writer,
+        service.hub,
+        pass,
+        service.bell,
+        &Open,
+    );
+    service.connections.end_link();
+    if let Ending::Fault(number) = ending {
+        if let Some(notice) = notice_of(number) {
+            service.notices.tell(rt, notice);
+        }
+    }
+}

@@ -1,0 +1,48 @@
+//! Whose turn it is to write to a socket that both halves of a session write to.
+ghost use Rattle.std.specs.Prelude.{◌≡◌, length, IfOk};
+
+use jup_session::Outgoing;
+use std::io;
+use std::io::Write;
+use std::net::TcpStream;
+use std::sync::{Mutex, Wait};
+
+/// Seconds that a browser may take no byte of what is written to it. A client by lines may take longer.
+pub(crate) const BROWSER_PATIENCE: u32 = 30;
+
+/// One half's way to a socket. What one write is given goes out whole before what the other half writes.
+#[derive(Drop)]
+pub(crate) struct InTurn<'a, R: Wait> {
+    rt: &'a R,
+    turn: &'a Mutex<()>,
+    to: Outgoing<'a>,
+}
+
+impl<'a, R: Wait> InTurn<'a, R> {
+    pub(crate) fn new(rt: &'a R, turn: &'a Mutex<()>, stream: &'a TcpStream) -> InTurn<'a, R> {
+        InTurn {
+            rt,
+            turn,
+            to: Outgoing::new(stream, BROWSER_PATIENCE),
+        }
+    }
+
+    // Puts all that is given, while nothing else goes out.
+    fn put(&mut self, buf: &[u8]) -> io::Result<usize>
+        ensures { IfOk result (λ n. n ≡ length buf.now) }
+    {
+        let _mine = self.turn.lock(self.rt);
+        self.to.write_all(buf)?;
+        Ok(buf.len())
+    }
+}
+
+impl<'a, R: Wait> Write for InTurn<'a, R> {
+    fn write(&mut self, buf: &[u8]) -> io::Result<usize> {
+        self.put(buf)
+    }
+
+    fn flush(&mut self) -> io::Result<()> {
+        self.to.flush()
+    }
+}

@@ -1,6 +1,7 @@
 -- What the calls of a session come to.
 use Rattle.std.proofs.Common.{◌≡◌, ℕ, ◌⊎◌, inl, inr, Bool, true, false, List, [], ◌∷◌, ◌++◌, Option, Some, None, Result, Ok, Err, MatchBool, refl, sym, ap, ◌∙◌, subst}
 use Rattle.std.proofs.lemmas.List.{append_assoc, append-nil}
+use Rattle.std.specs.List.{AllByRecursion}
 use Rattle.jup_batch.specs.BatchBoards.{BoardBatch}
 use Rattle.jup_star.specs.declared.messages.Up.{Up}
 use Rattle.jup_star.specs.StarCalls.{BoardStar, is_no_memory, bare_joined}
@@ -25,45 +26,54 @@ use Rattle.jup_rules.specs.declared.next.Awaits.TheVariants.{Gate, Pongs}
 use Rattle.jup_rules.specs.declared.next.Incoming.{Incoming}
 use Rattle.jup_rules.specs.declared.ring.Ring.{Ring}
 use Rattle.jup_session.specs.Gates.{HasAnswered, HasToWait, HasCalled, followed_by, IsHandled}
-use Rattle.jup_session.specs.Sessions.{IsCallFor, AreCallsFor, AreTalliesFor, HasLeft, IsFull, SomeLeft, FollowsJoin, IsSession, Serves, Leaves, HasMadeNone, HasServed, IsJoinOf, Joins, BothServe}
+use Rattle.jup_session.specs.Sessions.{IsCallFor, AreCallsFor, AreTalliesFor, HasLeft, IsFull, SomeLeft, FollowsJoin, IsSession, Makes, Serves, Leaves, HasMadeNone, HasServed, IsJoinOf, Joins, BothServe}
 
--- calls for a site, and more of them
-more_calls : (site : ℕ) (xs ys : List Entry) → AreCallsFor site xs → AreCallsFor site ys → AreCallsFor site (xs ++ ys)
-more_calls site [] ys one two = two
-more_calls site (x ∷ xs) ys one two = (one.0, more_calls site xs ys one.1 two)
+-- calls of one kind, and more of them
+pub more_calls : (IsOne : Call → Type 0) (xs ys : List Entry) → AllByRecursion (λ e. IsOne e.call) xs → AllByRecursion (λ e. IsOne e.call) ys → AllByRecursion (λ e. IsOne e.call) (xs ++ ys)
+more_calls IsOne [] ys one two = two
+more_calls IsOne (x ∷ xs) ys one two = (one.0, more_calls IsOne xs ys one.1 two)
+
+-- that are of another kind too
+pub calls_too : (IsOne Is : Call → Type 0) (xs : List Entry) → ((call : Call) → IsOne call → Is call) → AllByRecursion (λ e. IsOne e.call) xs → AllByRecursion (λ e. Is e.call) xs
+calls_too IsOne Is [] too all = tt
+calls_too IsOne Is (x ∷ xs) too all = (too x.call all.0, calls_too IsOne Is xs too all.1)
 
 left_later : (xs ys : List Entry) → HasLeft ys → HasLeft (xs ++ ys)
 left_later [] ys h = h
 left_later (x ∷ xs) ys h = inr (left_later xs ys h)
 
 -- a pass that is as it was
-pub serves_none : (site : ℕ) (v : View) → Serves site v v
-serves_none site v = record { calls = []; number = refl; made = sym (append-nil v.made); kept = refl; alone = tt }
+pub makes_none : (IsOne : Call → Type 0) (v : View) → Makes IsOne v v
+makes_none IsOne v = record { calls = []; number = refl; made = sym (append-nil v.made); kept = refl; alone = tt }
 
-serves_same : (site : ℕ) (v w : View) → w ≡ v → Serves site v w
-serves_same site v w e = subst (λ (x : View). Serves site v x) (sym e) (serves_none site v)
+pub makes_same : (IsOne : Call → Type 0) (v w : View) → w ≡ v → Makes IsOne v w
+makes_same IsOne v w e = subst (λ (x : View). Makes IsOne v x) (sym e) (makes_none IsOne v)
 
 -- one that has seen more
-pub serves_news : (site : ℕ) (v w : View) (log : List Entry) → w ≡ having_seen log v → Serves site v w
-serves_news site v w log e = subst (λ (x : View). Serves site v x) (sym e) (record { calls = []; number = refl; made = sym (append-nil v.made); kept = refl; alone = tt })
+pub makes_news : (IsOne : Call → Type 0) (v w : View) (log : List Entry) → w ≡ having_seen log v → Makes IsOne v w
+makes_news IsOne v w log e = subst (λ (x : View). Makes IsOne v x) (sym e) (record { calls = []; number = refl; made = sym (append-nil v.made); kept = refl; alone = tt })
 
 -- one that another was split from
-pub serves_split : (site : ℕ) (v w : View) → w ≡ after_split v → Serves site v w
-serves_split site v w e = subst (λ (x : View). Serves site v x) (sym e) (record { calls = []; number = refl; made = sym (append-nil v.made); kept = refl; alone = tt })
+pub makes_split : (IsOne : Call → Type 0) (v w : View) → w ≡ after_split v → Makes IsOne v w
+makes_split IsOne v w e = subst (λ (x : View). Makes IsOne v x) (sym e) (record { calls = []; number = refl; made = sym (append-nil v.made); kept = refl; alone = tt })
 
 -- and the one that was split off
 pub split_makes_none : (v w : View) → w ≡ split_from v → HasMadeNone w
 split_makes_none v w e = subst HasMadeNone (sym e) (refl, refl)
 
 -- first some calls, then others
-pub serves_both : (site : ℕ) (u v w : View) → Serves site u v → Serves site v w → Serves site u w
-serves_both site u v w one two = record {
+pub makes_both : (IsOne : Call → Type 0) (u v w : View) → Makes IsOne u v → Makes IsOne v w → Makes IsOne u w
+makes_both IsOne u v w one two = record {
   calls = one.calls ++ two.calls;
   number = two.number ∙ one.number;
   made = two.made ∙ ap (λ (l : List Entry). l ++ two.calls) one.made ∙ append_assoc u.made one.calls two.calls;
   kept = two.kept ∙ one.kept;
-  alone = more_calls site one.calls two.calls one.alone two.alone;
+  alone = more_calls IsOne one.calls two.calls one.alone two.alone;
 }
+
+-- calls that are of another kind too
+pub makes_too : (IsOne Is : Call → Type 0) (v w : View) → ((call : Call) → IsOne call → Is call) → Makes IsOne v w → Makes Is v w
+makes_too IsOne Is v w too m = record { calls = m.calls; number = m.number; made = m.made; kept = m.kept; alone = calls_too IsOne Is m.calls too m.alone }
 
 pub leaves_after : (site : ℕ) (u v w : View) → Serves site u v → Leaves site v w → Leaves site u w
 leaves_after site u v w one two = record {
@@ -71,15 +81,13 @@ leaves_after site u v w one two = record {
   number = two.number ∙ one.number;
   made = two.made ∙ ap (λ (l : List Entry). l ++ two.calls) one.made ∙ append_assoc u.made one.calls two.calls;
   kept = two.kept ∙ one.kept;
-  alone = more_calls site one.calls two.calls one.alone two.alone;
+  alone = more_calls (IsCallFor site) one.calls two.calls one.alone two.alone;
   left = elim two.left [ inl h ↦ inl (left_later one.calls two.calls h) | inr h ↦ inr h ];
 }
 
-pub leaves_serves : (site : ℕ) (v w : View) → Leaves site v w → Serves site v w
-leaves_serves site v w l = record { calls = l.calls; number = l.number; made = l.made; kept = l.kept; alone = l.alone }
-
-called : (site : ℕ) (call : Call) (reply : Reply) (v w : View) → IsCallFor site call → Called call reply v w → Serves site v w
-called site call reply v w is c = record {
+-- one call
+makes_one : (IsOne : Call → Type 0) (call : Call) (reply : Reply) (v w : View) → IsOne call → Called call reply v w → Makes IsOne v w
+makes_one IsOne call reply v w is c = record {
   calls = entry v.number call reply ∷ [];
   number = ap (λ (x : View). x.number) c.view;
   made = ap (λ (x : View). x.made) c.view;
@@ -87,20 +95,31 @@ called site call reply v w is c = record {
   alone = (is, tt);
 }
 
--- a call for the site, whatever it is answered
-pub serves_call : {A : Type 0} (site : ℕ) (reply : Result A StarFault → Reply) (call : Call) (v w : View) (r : Result A HubFault) → IsCallFor site call → Made reply call v w r → Serves site v w
-serves_call site reply call v w (Ok x) is m = called site call (reply (Ok x)) v w is m
-serves_call site reply call v w (Err Spent) is m = serves_same site v w m.0
-serves_call site reply call v w (Err (Star e)) is m = go (is_no_memory e) m
+called : (site : ℕ) (call : Call) (reply : Reply) (v w : View) → IsCallFor site call → Called call reply v w → Serves site v w
+called site call reply v w is c = makes_one (IsCallFor site) call reply v w is c
+
+-- whatever it is answered
+pub makes_call : {A : Type 0} (IsOne : Call → Type 0) (reply : Result A StarFault → Reply) (call : Call) (v w : View) (r : Result A HubFault) → IsOne call → Made reply call v w r → Makes IsOne v w
+makes_call IsOne reply call v w (Ok x) is m = makes_one IsOne call (reply (Ok x)) v w is m
+makes_call IsOne reply call v w (Err Spent) is m = makes_same IsOne v w m.0
+makes_call IsOne reply call v w (Err (Star e)) is m = go (is_no_memory e) m
   where
-    go : (b : Bool) → MatchBool b ((w ≡ v) × ComesToAsk call v) (Called call (reply (Err e)) v w) → Serves site v w
-    go true h = serves_same site v w h.0
-    go false h = called site call (reply (Err e)) v w is h
+    go : (b : Bool) → MatchBool b ((w ≡ v) × ComesToAsk call v) (Called call (reply (Err e)) v w) → Makes IsOne v w
+    go true h = makes_same IsOne v w h.0
+    go false h = makes_one IsOne call (reply (Err e)) v w is h
 
 -- a message that the hub was called for, or not
 pub serves_answered : (site : ℕ) (up : Up BoardBatch) (v w : View) (answer : Option (Result (Option ℕ) HubFault)) → HasAnswered site up v w answer → Serves site v w
-serves_answered site up v w (Some answer) made = serves_call site (λ r. Taken r) (Take site up) v w answer refl made
-serves_answered site up v w None same = serves_same site v w same
+serves_answered site up v w (Some answer) made = makes_call (IsCallFor site) (λ r. Taken r) (Take site up) v w answer refl made
+serves_answered site up v w None same = makes_same (IsCallFor site) v w same
+
+-- what was called for a message
+pub serves_handled : (site : ℕ) (incoming : Incoming) (v w : View) (followed : Result Ring Ending) → IsHandled site incoming v w followed → Serves site v w
+serves_handled site incoming v w followed h = go h.answer h.called
+  where
+    go : (answer : Option (Result (Option ℕ) HubFault)) → HasCalled site incoming v w answer → Serves site v w
+    go (Some answer) c = serves_answered site incoming.up v w (Some answer) c
+    go None c = serves_answered site incoming.up v w None c.0
 
 -- what came of an edit
 pub edit_called : (site nth : ℕ) (incoming : Incoming) (v w : View) (answer : Option (Result (Option ℕ) HubFault)) → incoming.awaits ≡ Gate nth → HasAnswered site incoming.up v w answer
@@ -133,7 +152,7 @@ leaves_by_leaving site v w (Ok x) m never = gone m
       alone = (refl, tt);
       left = inl (inl tt);
     }
-leaves_by_leaving site v w (Err Spent) m never = let s : Serves site v w = serves_same site v w m.0 in record {
+leaves_by_leaving site v w (Err Spent) m never = let s : Serves site v w = makes_same (IsCallFor site) v w m.0 in record {
   calls = s.calls;
   number = s.number;
   made = s.made;
@@ -190,7 +209,7 @@ both_serve site v u h w one two same e = subst (λ (x : View). BothServe site v 
 pub session_none : (v : View) → IsSession v v
 session_none v = record { calls = []; others = []; number = refl; made = sym (append-nil v.made); kept = sym (append-nil v.kept); one_site = refl }
 
-session_same : (v w : View) → w ≡ v → IsSession v w
+pub session_same : (v w : View) → w ≡ v → IsSession v w
 session_same v w e = subst (λ (x : View). IsSession v x) (sym e) (session_none v)
 
 -- the join of a site

@@ -72,15 +72,19 @@ pub record IsSession (v w : View) : Type 0 where
   pub kept : w.kept ≡ v.kept ++ others
   pub one_site : IsOneSite w calls others
 
--- the pass made calls for a site, and took in no other
-pub record Serves (site : ℕ) (v w : View) : Type 0 where
+-- the pass made calls of one kind alone, and took in no other
+pub record Makes (IsOne : Call → Type 0) (v w : View) : Type 0 where
   pub calls : List Entry
   pub number : w.number ≡ v.number
   pub made : w.made ≡ v.made ++ calls
   pub kept : w.kept ≡ v.kept
-  pub alone : AreCallsFor site calls
+  pub alone : AllByRecursion (λ e. IsOne e.call) calls
 
--- the same, until the site had left, up to `IsFull`
+-- calls for a site
+abbrev pub Serves : ℕ → View → View → Type 0
+Serves site v w = Makes (IsCallFor site) v w
+
+-- calls for a site, until it had left, up to `IsFull`
 pub record Leaves (site : ℕ) (v w : View) : Type 0 where
   pub calls : List Entry
   pub number : w.number ≡ v.number

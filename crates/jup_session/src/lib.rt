@@ -6,6 +6,7 @@
 mod client;
 mod daemon;
 mod gate;
+mod laws;
 mod sessions;
 mod streams;
 
@@ -14,5 +15,6 @@ pub use daemon::daemon_main;
 pub use gate::{Gate, Open, pass_gate, take_edit};
 pub use jup_intake::hang_up;
 pub use jup_rules::{ClientEnd, DaemonWords, Ending, client_words, daemon_words, without_words};
-pub use sessions::{Bell, Outgoing, serve_link};
+pub use laws::one_session;
+pub use sessions::{Bell, Outgoing, Session, serve_link, serve_session};
 pub use streams::hold_streams;

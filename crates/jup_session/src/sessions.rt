@@ -2,7 +2,9 @@
 
 mod bell;
 mod due;
+mod ending;
 mod greeting;
+mod halves;
 mod leaving;
 mod link;
 mod outgoing;
@@ -12,4 +14,4 @@ mod writing;
 
 pub use bell::Bell;
 pub use outgoing::Outgoing;
-pub use serving::serve_link;
+pub use serving::{Session, serve_link, serve_session};

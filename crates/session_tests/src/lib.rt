@@ -18,6 +18,8 @@ mod clients;
 #[cfg(test)]
 mod commanded;
 #[cfg(test)]
+mod exact;
+#[cfg(test)]
 mod expect;
 #[cfg(test)]
 mod failures;

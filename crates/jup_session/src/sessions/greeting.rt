@@ -1,12 +1,17 @@
 //! The greeting of a session: up to the line `ready`.
-ghost use Rattle.std.specs.Prelude.{◌≡◌, OnOk, OnErr, IfOk};
+ghost use Rattle.std.specs.Prelude.{◌≡◌, ◌∷◌, [], OnOk, OnErr, IfOk, IfErr, IsErr, IsTrue, List};
+ghost use Rattle.jup_hub.specs.declared.view.View.{View};
 ghost use Rattle.jup_hub.specs.Passes.{view_of, IsPassOf};
-ghost use Rattle.jup_stream.specs.Puts.{PutsLines};
+ghost use Rattle.jup_wire.specs.declared.line.Line.{Line};
+ghost use Rattle.jup_wire.specs.declared.line.Line.TheVariants.{Hello};
+ghost use Rattle.jup_stream.specs.Puts.{PutsLines, IsFlushed};
+ghost use Rattle.jup_stream.specs.Sources.{HandsOn};
+ghost use Rattle.jup_session.specs.ExactSessions.{EndsEarly, Enters, IsTurnedAway, IsWelcomed};
 ghost use Rattle.jup_session.specs.Greetings.{welcome_lines};
 ghost use Rattle.jup_session.specs.Sessions.{Joins, IsSession};
 
+use super::ending::tell;
 use super::leaving::leave;
-use super::writing::tell;
 use jup_hub::{Hub, Pass};
 use jup_layout::put_board;
 use jup_rules::{Ending, SessionFault, check_greeting};
@@ -30,25 +35,27 @@ pub(crate) fn begin<R: Wait, I: Read + Drop, O: Write + Drop>(
     ensures pass { IsPassOf hub.now pass.new }
     ensures joined { IfOk result (λ site. Joins site (view_of pass.old) (view_of pass.new)) }
     ensures over { OnErr result (IsSession (view_of pass.old) (view_of pass.new)) }
+    ensures welcomed { IfOk result (λ site. (lines : List Line) × IsWelcomed site source.old (view_of pass.old) source.new (view_of pass.new) lines
+        × PutsLines output.old lines output.new) }
+    ensures early { IfErr result (λ ending. (lines : List Line) × EndsEarly source.old (view_of pass.old) source.new (view_of pass.new) ending output.new.failed lines
+        × PutsLines output.old lines output.new) }
+    ensures flushed { IsFlushed output.new }
 {
     let joined = match greet(rt, alloc, source, hub, pass) {
         Ok(joined) => joined,
         Err(ending) => {
-            let _ = tell(output, ending);
+            tell(output, ending);
             return Err(ending);
         }
     };
     if let Err(fault) = welcome(output, &joined) {
         leave(rt, alloc, hub, pass, joined.site);
-        if fault != SessionFault::WriteFailed {
-            let _ = tell(output, fault.into());
-        }
         return Err(fault.into());
     }
     Ok(joined.site)
 }
 
-// Reads the first line, and joins.
+// Reads the greeting, and joins.
 fn greet<R: Wait, I: Read + Drop>(
     rt: &R,
     alloc: Global,
@@ -58,21 +65,42 @@ fn greet<R: Wait, I: Read + Drop>(
 ) -> Result<Joined, Ending>
     requires { IsPassOf hub.now pass.old }
     ensures pass { IsPassOf hub.now pass.new }
-    ensures joined { IfOk result (λ joined. Joins joined.site (view_of pass.old) (view_of pass.new)) }
-    ensures over { OnErr result (IsSession (view_of pass.old) (view_of pass.new)) }
+    ensures hello { OnOk result (HandsOn source.old (Hello ∷ []) source.new) }
+    ensures enters { IfOk result (λ joined. Enters joined (view_of pass.old) (view_of pass.new)) }
+    ensures away { IfErr result (λ ending. IsTurnedAway source.old (view_of pass.old) source.new (view_of pass.new) ending) }
 {
-    let first = source.next_line(alloc)?;
-    check_greeting(&first)?;
+    match read_greeting(alloc, source) {
+        Ok(()) => {}
+        Err(ending) => return Err(ending),
+    }
     match hub.join_site(rt, alloc, pass) {
         Ok(joined) => Ok(joined),
         Err(fault) => Err(SessionFault::Hub(fault).into()),
     }
 }
 
+// Reads the first line, which has to be the greeting.
+fn read_greeting<I: Read + Drop>(alloc: Global, source: &mut Source<I>) -> Result<(), Ending>
+    ensures hello { OnOk result (HandsOn source.old (Hello ∷ []) source.new) }
+    ensures away { IfErr result (λ ending. (v : View) → IsTurnedAway source.old v source.new v ending) }
+{
+    let first = match source.next_line(alloc) {
+        Ok(first) => first,
+        Err(stop) => return Err(stop.into()),
+    };
+    if let Err(fault) = check_greeting(&first) {
+        return Err(fault.into());
+    }
+    Ok(())
+}
+
 // Tells the site its number, the limit and the board. It takes no memory: a line is made when it is put, so a peer
 // that does not read costs no more than its copy of the board.
 fn welcome<O: Write + Drop>(output: &mut Output<O>, joined: &Joined) -> Result<(), SessionFault>
     ensures lines { PutsLines output.old (welcome_lines joined.now) output.new }
+    ensures fault { IfErr result (λ fault. fault ≡ SessionFault.WriteFailed) }
+    ensures failed { IsErr result → IsTrue output.new.failed }
+    ensures flushed { IsFlushed output.new }
 {
     let site = joined.site;
     let limit = joined.limit;

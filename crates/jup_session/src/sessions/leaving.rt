@@ -1,6 +1,7 @@
 //! How a site leaves for which much may wait.
 ghost use Rattle.jup_hub.specs.Passes.{view_of, IsPassOf};
-ghost use Rattle.jup_session.specs.Sessions.{Serves, Leaves};
+ghost use Rattle.jup_session.specs.Departures.{GivesBack, Departs};
+ghost use Rattle.jup_session.specs.Sessions.{Makes, Leaves};
 
 use jup_hub::{Hub, Pass};
 use jup_rules::{MOST_FETCHED, is_last_fetch};
@@ -12,6 +13,7 @@ use std::sync::Wait;
 pub(crate) fn leave<R: Wait>(rt: &R, alloc: Global, hub: &Hub, pass: &mut Pass, site: u32)
     requires { IsPassOf hub.now pass.old }
     ensures pass { IsPassOf hub.now pass.new }
+    ensures departs { Departs site (view_of pass.old) (view_of pass.new) }
     ensures leaves { Leaves site (view_of pass.old) (view_of pass.new) }
 {
     give_back(rt, alloc, hub, pass, site);
@@ -22,7 +24,7 @@ pub(crate) fn leave<R: Wait>(rt: &R, alloc: Global, hub: &Hub, pass: &mut Pass, 
 fn give_back<R: Wait>(rt: &R, alloc: Global, hub: &Hub, pass: &mut Pass, site: u32)
     requires { IsPassOf hub.now pass.old }
     ensures pass { IsPassOf hub.now pass.new }
-    ensures serves { Serves site (view_of pass.old) (view_of pass.new) }
+    ensures gives { Makes (GivesBack site) (view_of pass.old) (view_of pass.new) }
 {
     for _ in rt.forever() {
         if !give_some(rt, alloc, hub, pass, site) {
@@ -36,7 +38,7 @@ fn give_back<R: Wait>(rt: &R, alloc: Global, hub: &Hub, pass: &mut Pass, site: u
 fn give_some<R: Wait>(rt: &R, alloc: Global, hub: &Hub, pass: &mut Pass, site: u32) -> bool
     requires { IsPassOf hub.now pass.old }
     ensures pass { IsPassOf hub.now pass.new }
-    ensures serves { Serves site (view_of pass.old) (view_of pass.new) }
+    ensures gives { Makes (GivesBack site) (view_of pass.old) (view_of pass.new) }
 {
     let Ok(downs) = hub.fetch(rt, alloc, pass, site, MOST_FETCHED) else {
         return false;
@@ -56,7 +58,7 @@ fn acknowledge<R: Wait>(
 )
     requires { IsPassOf hub.now pass.old }
     ensures pass { IsPassOf hub.now pass.new }
-    ensures serves { Serves site (view_of pass.old) (view_of pass.new) }
+    ensures gives { Makes (GivesBack site) (view_of pass.old) (view_of pass.new) }
 {
     if let Some(Down::Op(last)) = downs.last() {
         let heard = last.mine.saturating_add(1);

@@ -6,12 +6,12 @@ use std::io::{ErrorKind, Write};
 use std::net::{Shutdown, TcpStream};
 use std::time::Duration;
 
-/// Writes to a socket, and fails once the peer has taken no byte for some seconds. If a write has failed, the drop of the
-/// writer ends the socket's other side too: the half of the session that reads is then woken, and finds the ending noted.
+/// Writes to a socket, and fails once the peer has taken no byte for some seconds. A write that fails ends the socket's other side
+/// too: the half of the session that reads is then woken.
+#[derive(Drop)]
 pub struct Outgoing<'a> {
     stream: &'a TcpStream,
     patience: u32,
-    has_failed: bool,
 }
 
 impl<'a> Outgoing<'a> {
@@ -23,11 +23,12 @@ impl<'a> Outgoing<'a> {
         // The kernel wakes a writer that waits once a third of the socket's room is free. A write that asks anew each
         // second is given all room that there is, so a peer that reads slowly is seen to read.
         let _ = stream.set_write_timeout(Some(Duration::from_secs(1)));
-        Outgoing {
-            stream,
-            patience,
-            has_failed: false,
-        }
+        Outgoing { stream, patience }
+    }
+
+    // Ends both sides of the socket.
+    fn cut(&self) {
+        let _ = self.stream.shutdown(Shutdown::Both);
     }
 }
 
@@ -39,29 +40,18 @@ impl<'a> Write for Outgoing<'a> {
                 Ok(len) => return Ok(len),
                 Err(error) if has_waited(&error) => {}
                 Err(error) => {
-                    self.has_failed = !is_interrupted(&error);
+                    if !is_interrupted(&error) {
+                        self.cut();
+                    }
                     return Err(error);
                 }
             }
         }
-        self.has_failed = true;
+        self.cut();
         Err(io::Error::from(ErrorKind::TimedOut))
     }
 
     fn flush(&mut self) -> io::Result<()> {
         Ok(())
-    }
-}
-
-impl<'a> Drop for Outgoing<'a> {
-    fn drop(self) {
-        let Outgoing {
-            stream,
-            patience: _,
-            has_failed,
-        } = self;
-        if has_failed {
-            let _ = stream.shutdown(Shutdown::Both);
-        }
     }
 }

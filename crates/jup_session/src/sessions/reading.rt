@@ -1,7 +1,7 @@
 //! The half of a session that reads and takes.
 ghost use Rattle.jup_hub.specs.Passes.{view_of, IsPassOf};
 ghost use Rattle.jup_session.specs.Gates.{HasCalled, IsHandled};
-ghost use Rattle.jup_session.specs.Sessions.{Serves};
+ghost use Rattle.jup_session.specs.Hearings.{HearsAll};
 
 use super::due::Due;
 use super::link::Link;
@@ -12,27 +12,27 @@ use jup_stream::Source;
 use std::io::Read;
 use std::sync::Wait;
 
-/// Takes what the site sends, up to the ending, which it notes.
+/// Takes what the site sends, up to the ending, which it answers.
 pub(crate) fn read_half<R: Wait, I: Read + Drop, G: Gate>(
     rt: &R,
     source: &mut Source<I>,
     link: &Link<'_>,
     pass: &mut Pass,
     gate: &G,
-)
+) -> Ending
     requires { IsPassOf link.now.hub.now pass.old }
     ensures pass { IsPassOf link.now.hub.now pass.new }
-    ensures serves { Serves link.now.site (view_of pass.old) (view_of pass.new) }
+    ensures hears { HearsAll link.now.site source.old (view_of pass.old) source.new (view_of pass.new) result }
 {
     let mut due = Due::new();
     let ending = hear_all(rt, source, link, pass, gate, &mut due);
-    link.note(rt, ending);
+    // Noted before anybody is woken: the other half then sees it.
+    link.end(rt);
     due.ring(rt, link);
-    link.ring(rt);
+    ending
 }
 
-// Takes message after message, each once its last line is there. Where the link is gone already the other half
-// has noted why, or the site has left by another pass.
+// Takes message after message, each once its last line is there.
 fn hear_all<R: Wait, I: Read + Drop, G: Gate>(
     rt: &R,
     source: &mut Source<I>,
@@ -43,7 +43,7 @@ fn hear_all<R: Wait, I: Read + Drop, G: Gate>(
 ) -> Ending
     requires { IsPassOf link.now.hub.now pass.old }
     ensures pass { IsPassOf link.now.hub.now pass.new }
-    ensures serves { Serves link.now.site (view_of pass.old) (view_of pass.new) }
+    ensures hears { HearsAll link.now.site source.old (view_of pass.old) source.new (view_of pass.new) result }
 {
     let mut keeper = Gatekeeper::new();
     for _ in 0..u64::MAX {
@@ -79,7 +79,6 @@ fn handle<R: Wait, G: Gate>(
 ) -> Result<Ring, Ending>
     requires { IsPassOf link.now.hub.now pass.old }
     ensures pass { IsPassOf link.now.hub.now pass.new }
-    ensures serves { Serves link.now.site (view_of pass.old) (view_of pass.new) }
     ensures handled { IsHandled link.now.site incoming.now (view_of pass.old) (view_of pass.new) result }
 {
     match take(rt, link, pass, gate, incoming, due) {
@@ -89,7 +88,7 @@ fn handle<R: Wait, G: Gate>(
 }
 
 // Has the hub take a message, once what it waits for has come. `None` where that does not come.
-#[tactic(auto, using(crate::proofs::SessionCalls::serves_answered, crate::proofs::SessionCalls::edit_called, crate::proofs::SessionCalls::ping_left))]
+#[tactic(auto, using(crate::proofs::SessionCalls::edit_called, crate::proofs::SessionCalls::ping_left))]
 fn take<R: Wait, G: Gate>(
     rt: &R,
     link: &Link<'_>,
@@ -100,7 +99,6 @@ fn take<R: Wait, G: Gate>(
 ) -> Option<Result<Option<u32>, HubFault>>
     requires { IsPassOf link.now.hub.now pass.old }
     ensures pass { IsPassOf link.now.hub.now pass.new }
-    ensures serves { Serves link.now.site (view_of pass.old) (view_of pass.new) }
     ensures called { HasCalled link.now.site incoming.now (view_of pass.old) (view_of pass.new) result }
 {
     let up = &incoming.up;

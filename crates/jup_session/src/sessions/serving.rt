@@ -1,22 +1,36 @@
 //! One session, from its first line to its last.
-ghost use Rattle.std.specs.Prelude.{◌≡◌};
+ghost use Rattle.std.specs.Prelude.{◌≡◌, not, List};
 ghost use Rattle.jup_hub.specs.Passes.{view_of, IsPassOf};
-ghost use Rattle.jup_session.specs.Sessions.{HasMadeNone, HasServed, BothServe, IsSession};
+ghost use Rattle.jup_wire.specs.declared.line.Line.{Line};
+ghost use Rattle.jup_wire.specs.declared.line.Line.TheVariants.{Error};
+ghost use Rattle.jup_wire.specs.Grammar.{line_bytes};
+ghost use Rattle.jup_stream.specs.Puts.{PutsLines, IsFlushed, WritesFront};
+ghost use Rattle.jup_session.specs.ExactSessions.{BothHalves, HasLines, IsExact};
+ghost use Rattle.jup_session.specs.Sessions.{BothServe, IsSession};
 
 use super::Bell;
+use super::ending::tell_untold;
 use super::greeting::begin;
+use super::halves::both_halves;
 use super::link::Link;
-use super::reading::read_half;
-use super::writing::write_half;
 use crate::Gate;
 use jup_hub::{Hub, Pass};
 use jup_rules::{Ending, Pongs, SessionFault};
-use jup_stream::{Output, Source};
+use jup_stream::{Output, Source, write_bytes};
 use std::alloc::Global;
 use std::io::{Read, Write};
 use std::sync::{Mutex, Wait};
-use std::thread;
-use std::thread::{Promise, Threads};
+use std::thread::Threads;
+
+/// What a session gives back.
+#[derive(Drop)]
+pub struct Session<O: Write + Drop> {
+    pub pass: Pass,
+    pub ending: Ending,
+    pub writer: O,
+    /// Whether a write has failed. The writer lacks the lines from there on.
+    pub has_failed: bool,
+}
 
 /// Runs a session: greets the site, then takes what it sends, and sends what the hub has for it.
 ///
@@ -28,7 +42,7 @@ pub fn serve_link<R: Threads + Wait + Sync, I: Read + Drop, O: Write + Send + Dr
     reader: I,
     writer: O,
     hub: &Hub,
-    mut pass: Pass,
+    pass: Pass,
     bell: &Bell,
     gate: &G,
 ) -> (Pass, Ending)
@@ -36,19 +50,95 @@ pub fn serve_link<R: Threads + Wait + Sync, I: Read + Drop, O: Write + Send + Dr
     ensures pass { IsPassOf hub.now result.0 }
     ensures session { IsSession (view_of pass) (view_of result.0) }
 {
-    let mut output = match Output::new(alloc, writer) {
-        Ok(output) => output,
-        Err(mut writer) => {
-            // The line of the fault, for which no memory is asked.
-            let _ = writer.write_all(b"error 8\n");
-            let _ = writer.flush();
-            return (pass, SessionFault::NoMemory.into());
+    let session = serve_session(rt, alloc, reader, writer, hub, pass, bell, gate);
+    (session.pass, session.ending)
+}
+
+/// The same, and gives back the writer. Where contracts can name the bytes of the reader and of the writer, they say which bytes were
+/// read, what was taken by them, and which were written.
+pub fn serve_session<R: Threads + Wait + Sync, I: Read + Drop, O: Write + Send + Drop, G: Gate>(
+    rt: &R,
+    alloc: Global,
+    reader: I,
+    writer: O,
+    hub: &Hub,
+    pass: Pass,
+    bell: &Bell,
+    gate: &G,
+) -> Session<O>
+    requires { IsPassOf hub.now pass }
+    ensures pass { IsPassOf hub.now result.pass }
+    ensures session { IsSession (view_of pass) (view_of result.pass) }
+    ensures exact { IsExact (I.remaining reader) (O.contents writer) (O.contents result.writer) (view_of pass) (view_of result.pass) result.ending result.has_failed }
+{
+    match Output::new(alloc, writer) {
+        Ok(output) => {
+            let served = serve_lines(rt, alloc, reader, output, hub, pass, bell, gate);
+            let has_failed = served.output.has_failed();
+            Session {
+                pass: served.pass,
+                ending: served.ending,
+                writer: served.output.into_writer(),
+                has_failed,
+            }
         }
-    };
+        Err(mut writer) => {
+            let has_failed = tell_of_memory(&mut writer);
+            Session {
+                pass,
+                ending: SessionFault::NoMemory.into(),
+                writer,
+                has_failed,
+            }
+        }
+    }
+}
+
+// Writes the line of want of memory, for which none is asked. Whether that failed.
+fn tell_of_memory<O: Write + Drop>(writer: &mut O) -> bool
+    ensures { WritesFront (O.contents writer.old) (O.contents writer.new) (line_bytes (Error 8)) (not result) }
+{
+    let is_whole = write_bytes(writer, b"error 8\n");
+    if writer.flush().is_err() {
+        return true;
+    }
+    !is_whole
+}
+
+// What is left of a session when its last line is out.
+#[derive(Drop)]
+struct Served<O: Write + Drop> {
+    pass: Pass,
+    ending: Ending,
+    output: Output<O>,
+}
+
+// A session that has room for its lines.
+fn serve_lines<R: Threads + Wait + Sync, I: Read + Drop, O: Write + Send + Drop, G: Gate>(
+    rt: &R,
+    alloc: Global,
+    reader: I,
+    mut output: Output<O>,
+    hub: &Hub,
+    mut pass: Pass,
+    bell: &Bell,
+    gate: &G,
+) -> Served<O>
+    requires pass { IsPassOf hub.now pass }
+    ensures pass { IsPassOf hub.now result.pass }
+    ensures session { IsSession (view_of pass) (view_of result.pass) }
+    ensures lines { (lines : List Line) × HasLines (I.remaining reader) (view_of pass) (view_of result.pass) result.ending result.output.failed lines
+        × PutsLines output lines result.output }
+    ensures flushed { IsFlushed result.output }
+{
     let mut source = Source::new(reader);
     match begin(rt, alloc, &mut source, &mut output, hub, &mut pass) {
         Ok(site) => serve_site(rt, alloc, source, output, hub, pass, site, bell, gate),
-        Err(ending) => (pass, ending),
+        Err(ending) => Served {
+            pass,
+            ending,
+            output,
+        },
     }
 }
 
@@ -63,75 +153,52 @@ fn serve_site<R: Threads + Wait + Sync, I: Read + Drop, O: Write + Send + Drop, 
     site: u32,
     bell: &Bell,
     gate: &G,
-) -> (Pass, Ending)
-    requires { IsPassOf hub.now pass }
-    ensures pass { IsPassOf hub.now result.0 }
-    ensures served { BothServe site (view_of pass) (view_of result.0) }
+) -> Served<O>
+    requires pass { IsPassOf hub.now pass }
+    requires flushed { IsFlushed output }
+    ensures pass { IsPassOf hub.now result.pass }
+    ensures served { BothServe site (view_of pass) (view_of result.pass) }
+    ensures halves { (lines : List Line) × BothHalves site source (view_of pass) (view_of result.pass) result.ending lines × PutsLines output lines result.output }
+    ensures flushed { IsFlushed result.output }
 {
-    let noted = Mutex::new(None);
+    let is_over = Mutex::new(false);
     let pongs = Mutex::new(Pongs::new());
     let link = Link {
         alloc,
         hub,
         bell,
-        noted: &noted,
+        is_over: &is_over,
         pongs: &pongs,
         site,
     };
-    let pass = both_halves(rt, source, output, &link, pass, gate);
-    (pass, noted.into_inner().unwrap_or(Ending::Gone))
+    serve_halves(rt, source, output, &link, pass, gate)
 }
 
-// What the writing half gives back.
-#[derive(Drop)]
-struct PassOf<'a> {
-    link: &'a Link<'a>,
-}
-
-impl<'a> Promise<Pass> for PassOf<'a> {
-    ghost kept_by = { λ p r. IsPassOf p.link.now.hub.now r × HasServed p.link.now.site (view_of r) };
-}
-
-// The reading half runs here, the writing half in a thread of its own. Where that can't be started it is run
-// here too: it finds the link gone, and tells why.
-fn both_halves<R: Threads + Wait + Sync, I: Read + Drop, O: Write + Send + Drop, G: Gate>(
+// Both halves, and the last line.
+fn serve_halves<R: Threads + Wait + Sync, I: Read + Drop, O: Write + Send + Drop, G: Gate>(
     rt: &R,
-    mut source: Source<I>,
+    source: Source<I>,
     output: Output<O>,
     link: &Link<'_>,
     mut pass: Pass,
     gate: &G,
-) -> Pass
-    requires { IsPassOf link.now.hub.now pass }
-    ensures pass { IsPassOf link.now.hub.now result }
-    ensures served { BothServe link.now.site (view_of pass) (view_of result) }
+) -> Served<O>
+    requires pass { IsPassOf link.now.hub.now pass }
+    requires flushed { IsFlushed output }
+    ensures pass { IsPassOf link.now.hub.now result.pass }
+    ensures served { BothServe link.now.site (view_of pass) (view_of result.pass) }
+    ensures halves { (lines : List Line) × BothHalves link.now.site source (view_of pass) (view_of result.pass) result.ending lines × PutsLines output lines result.output }
+    ensures flushed { IsFlushed result.output }
 {
     let theirs = link.hub.split(&mut pass);
-    thread::scope(
-        thread::scope_env(),
-        rt,
-        |scope| -> Pass
-            requires { IsPassOf link.now.hub.now pass × IsPassOf link.now.hub.now theirs × HasMadeNone (view_of theirs) }
-            ensures { IsPassOf link.entry.now.hub.now result × BothServe link.entry.now.site (view_of pass) (view_of result) }
-        {
-            let child = scope.spawn_with(
-                PassOf { link },
-                move || -> Pass
-                    requires { IsPassOf link.now.hub.now theirs × HasMadeNone (view_of theirs) }
-                    ensures { IsPassOf link.entry.now.hub.now result × HasServed link.entry.now.site (view_of result) }
-                { write_half(rt, output, link, theirs) },
-            );
-            let theirs = match child {
-                Ok(child) => {
-                    read_half(rt, &mut source, link, &mut pass, gate);
-                    child.join(rt)
-                }
-                Err(refused) => {
-                    link.abandon(rt, &mut pass, SessionFault::NoMemory.into());
-                    (refused.value)()
-                }
-            };
-            link.rejoin(pass, theirs)
-        },
-    )
+    let halves = both_halves(rt, source, output, link, pass, theirs, gate);
+    let mut pass = halves.pass;
+    link.hub.rejoin(&mut pass, halves.wrote.pass);
+    let mut output = halves.wrote.output;
+    let ending = tell_untold(&mut output, halves.wrote.told, halves.heard);
+    Served {
+        pass,
+        ending,
+        output,
+    }
 }

@@ -1,12 +1,13 @@
 //! The half of a session that fetches and writes.
-ghost use Rattle.std.specs.Prelude.{◌≡◌, ◌↔◌, [], ◌∷◌, IsTrue, OnOk};
+ghost use Rattle.std.specs.Prelude.{◌≡◌, ◌↔◌, [], IsTrue, IfOk, IfErr, IfSome, OnErr, IfNone};
 ghost use Rattle.std.specs.List.{flat_map};
 ghost use Rattle.jup_hub.specs.Passes.{view_of, IsPassOf};
-ghost use Rattle.jup_rules.specs.Endings.{last_line};
 ghost use Rattle.jup_rules.specs.Messages.{down_lines};
-ghost use Rattle.jup_stream.specs.Puts.{PutsLines};
-ghost use Rattle.jup_session.specs.Sessions.{Serves, Leaves, HasMadeNone, HasServed};
+ghost use Rattle.jup_stream.specs.Puts.{PutsLines, IsFlushed};
+ghost use Rattle.jup_session.specs.Forwards.{Brings, Forwards, IsOfWriting, TellsFault, Wrote as HasWritten, told_line};
+ghost use Rattle.jup_session.specs.Sessions.{Leaves, HasMadeNone, HasServed};
 
+use super::ending::tell;
 use super::leaving::leave;
 use super::link::Link;
 use jup_hub::Pass;
@@ -26,33 +27,39 @@ enum Outbox {
     Gone,
 }
 
-/// Writes what the hub has for the site until an ending is noted, and then tells the site that.
+/// What the writing half gives back.
+#[derive(Drop)]
+pub(crate) struct Wrote<O: Write + Drop> {
+    pub(crate) pass: Pass,
+    pub(crate) output: Output<O>,
+    /// The ending that it told the site itself: a fault of its own.
+    pub(crate) told: Option<Ending>,
+}
+
+/// Writes what the hub has for the site until the other half has ended, and leaves. It tells the site at once of a fault of its own,
+/// and leaves the last line of any other ending to whoever knows that.
 pub(crate) fn write_half<R: Wait, O: Write + Drop>(
     rt: &R,
     mut output: Output<O>,
     link: &Link<'_>,
     mut pass: Pass,
-) -> Pass
+) -> Wrote<O>
     requires pass { IsPassOf link.now.hub.now pass }
     requires new { HasMadeNone (view_of pass) }
-    ensures pass { IsPassOf link.now.hub.now result }
-    ensures served { HasServed link.now.site (view_of result) }
+    requires flushed { IsFlushed output }
+    ensures pass { IsPassOf link.now.hub.now result.pass }
+    ensures served { HasServed link.now.site (view_of result.pass) }
+    ensures wrote { HasWritten link.now.site (view_of pass) output (view_of result.pass) result.output result.told }
+    ensures flushed { IsFlushed result.output }
 {
     let left = forward_all(rt, &mut output, link, &mut pass);
     let is_gone = is_gone(&left);
-    // Noted before the site leaves: the other half notes nothing where it finds the link gone.
-    if let Err(fault) = left {
-        link.note(rt, fault.into());
-    }
     if !is_gone {
         leave(rt, link.alloc, link.hub, &mut pass, link.site);
     }
-    if left != Err(SessionFault::WriteFailed) {
-        let ending = link.ending(rt).unwrap_or(Ending::Gone);
-        let _ = tell(&mut output, ending);
-    }
-    link.ring(rt);
-    pass
+    let told = tell_fault(&mut output, left);
+    link.end(rt);
+    Wrote { pass, output, told }
 }
 
 // Whether the site has no link any more.
@@ -62,43 +69,75 @@ fn is_gone(left: &Result<Outbox, SessionFault>) -> bool
     matches!(left, Ok(Outbox::Gone))
 }
 
-/// Writes the line of an ending.
-pub(crate) fn tell<O: Write + Drop>(
+// Tells the site of a fault, and answers the ending that it told.
+fn tell_fault<O: Write + Drop>(
     output: &mut Output<O>,
-    ending: Ending,
-) -> Result<(), SessionFault>
-    ensures line { PutsLines output.old (last_line ending ∷ []) output.new }
+    left: Result<Outbox, SessionFault>,
+) -> Option<Ending>
+    requires { IfErr left IsOfWriting }
+    ensures put { PutsLines output.old (told_line result) output.new }
+    ensures fault { TellsFault result }
+    ensures flushed { IsFlushed output.old → IsFlushed output.new }
 {
-    output.push(&ending.line());
-    output.send()
+    match left {
+        Ok(_) => None,
+        Err(fault) => {
+            let ending = fault.into();
+            tell(output, ending);
+            Some(ending)
+        }
+    }
 }
 
-// Forwards at each ring, up to a noted ending.
+// Forwards at each ring, until the other half has ended.
 fn forward_all<R: Wait, O: Write + Drop>(
     rt: &R,
     output: &mut Output<O>,
     link: &Link<'_>,
     pass: &mut Pass,
 ) -> Result<Outbox, SessionFault>
-    requires { IsPassOf link.now.hub.now pass.old }
+    requires pass { IsPassOf link.now.hub.now pass.old }
+    requires flushed { IsFlushed output.old }
     ensures pass { IsPassOf link.now.hub.now pass.new }
-    ensures serves { Serves link.now.site (view_of pass.old) (view_of pass.new) }
+    ensures forwards { Forwards link.now.site (view_of pass.old) output.old (view_of pass.new) output.new }
+    ensures flushed { IsFlushed output.new }
     ensures gone { result ≡ Ok Outbox.Gone → Leaves link.now.site (view_of pass.old) (view_of pass.new) }
+    ensures fault { IfErr result IsOfWriting }
 {
     let mut seen = 0;
     for _ in rt.forever() {
         seen = link.wait(rt, seen);
         // Read before the fetch, which then has all that the other half caused.
-        let is_over = link.ending(rt).is_some();
+        let is_over = link.is_over(rt);
         let has_news = link.hub.news(pass);
         if is_over {
-            return forward(rt, output, link, pass);
+            return Ok(forward_last(rt, output, link, pass));
         }
         if has_news {
             let _ = forward(rt, output, link, pass)?;
         }
     }
     unreachable!()
+}
+
+// The last turn. What fails in it is no fault any more: the ending of the other half stands.
+fn forward_last<R: Wait, O: Write + Drop>(
+    rt: &R,
+    output: &mut Output<O>,
+    link: &Link<'_>,
+    pass: &mut Pass,
+) -> Outbox
+    requires pass { IsPassOf link.now.hub.now pass.old }
+    requires flushed { IsFlushed output.old }
+    ensures pass { IsPassOf link.now.hub.now pass.new }
+    ensures forwards { Forwards link.now.site (view_of pass.old) output.old (view_of pass.new) output.new }
+    ensures flushed { IsFlushed output.new }
+    ensures gone { result ≡ Outbox.Gone → Leaves link.now.site (view_of pass.old) (view_of pass.new) }
+{
+    match forward(rt, output, link, pass) {
+        Ok(outbox) => outbox,
+        Err(_) => Outbox::Empty,
+    }
 }
 
 // Fetches and writes until a fetch gives less than was asked for.
@@ -108,17 +147,22 @@ fn forward<R: Wait, O: Write + Drop>(
     link: &Link<'_>,
     pass: &mut Pass,
 ) -> Result<Outbox, SessionFault>
-    requires { IsPassOf link.now.hub.now pass.old }
+    requires pass { IsPassOf link.now.hub.now pass.old }
+    requires flushed { IsFlushed output.old }
     ensures pass { IsPassOf link.now.hub.now pass.new }
-    ensures serves { Serves link.now.site (view_of pass.old) (view_of pass.new) }
+    ensures forwards { Forwards link.now.site (view_of pass.old) output.old (view_of pass.new) output.new }
+    ensures flushed { IsFlushed output.new }
     ensures gone { result ≡ Ok Outbox.Gone → Leaves link.now.site (view_of pass.old) (view_of pass.new) }
+    ensures fault { IfErr result IsOfWriting }
 {
     for _ in rt.forever() {
-        let downs = match fetch(rt, link, pass)? {
-            Some(downs) => downs,
-            None => return Ok(Outbox::Gone),
+        let downs = match fetch(rt, link, pass) {
+            Ok(Some(downs)) => downs,
+            Ok(None) => return Ok(Outbox::Gone),
+            Err(fault) => return Err(fault),
         };
-        if hand_on(rt, output, link, downs.as_slice())? {
+        let messages = downs.as_slice();
+        if hand_on(rt, output, link, messages)? {
             return Ok(Outbox::Empty);
         }
     }
@@ -129,8 +173,11 @@ fn forward<R: Wait, O: Write + Drop>(
 fn fetch<R: Wait>(rt: &R, link: &Link<'_>, pass: &mut Pass) -> Result<Option<Downs>, SessionFault>
     requires { IsPassOf link.now.hub.now pass.old }
     ensures pass { IsPassOf link.now.hub.now pass.new }
-    ensures serves { Serves link.now.site (view_of pass.old) (view_of pass.new) }
+    ensures brings { IfOk result (λ fetched. IfSome fetched (λ downs. Brings link.now.site (view_of pass.old) (view_of pass.new) downs)) }
+    ensures nothing { IfOk result (λ fetched. IfNone fetched (Brings link.now.site (view_of pass.old) (view_of pass.new) [])) }
+    ensures refused { OnErr result (Brings link.now.site (view_of pass.old) (view_of pass.new) []) }
     ensures gone { result ≡ Ok None → Leaves link.now.site (view_of pass.old) (view_of pass.new) }
+    ensures fault { IfErr result IsOfWriting }
 {
     match link
         .hub
@@ -150,7 +197,11 @@ fn hand_on<R: Wait, O: Write + Drop>(
     output: &mut Output<O>,
     link: &Link<'_>,
     downs: &[Down],
-) -> Result<bool, SessionFault> {
+) -> Result<bool, SessionFault>
+    ensures put { PutsLines output.old (flat_map down_lines downs.now) output.new }
+    ensures flushed { IsFlushed output.old → IsFlushed output.new }
+    ensures fault { IfErr result IsOfWriting }
+{
     write_downs(output, downs)?;
     link.pay(rt, pongs_in(downs));
     Ok(is_last_fetch(downs.len()))
@@ -159,7 +210,9 @@ fn hand_on<R: Wait, O: Write + Drop>(
 // Writes messages, in order.
 #[tactic(auto, using(jup_stream::specs::Puts::puts_sent, jup_stream::specs::Puts::puts_none))]
 fn write_downs<O: Write + Drop>(output: &mut Output<O>, downs: &[Down]) -> Result<(), SessionFault>
-    ensures { PutsLines output.old (flat_map down_lines downs.now) output.new }
+    ensures put { PutsLines output.old (flat_map down_lines downs.now) output.new }
+    ensures flushed { IsFlushed output.old → IsFlushed output.new }
+    ensures fault { IfErr result IsOfWriting }
 {
     if downs.is_empty() {
         return Ok(());

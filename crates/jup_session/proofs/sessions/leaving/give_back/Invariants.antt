@@ -1,9 +1,10 @@
 use Rattle.jup_hub.specs.Passes.{view_of, IsPassOf}
-use Rattle.jup_session.specs.Sessions.{Serves}
+use Rattle.jup_session.specs.Departures.{GivesBack}
+use Rattle.jup_session.specs.Sessions.{Makes}
 use Rattle.jup_session.proofs.sessions.leaving.give_back.Given as goal
 
 abbrev pub invariant-loop : goal.invariant-loop
 invariant-loop g l = record {
   pass : IsPassOf l.fn.hub l.pass;
-  serves : Serves l.fn.site (view_of l.fn.pass) (view_of l.pass);
+  gives : Makes (GivesBack l.fn.site) (view_of l.fn.pass) (view_of l.pass);
 }

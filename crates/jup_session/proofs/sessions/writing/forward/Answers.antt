@@ -1,29 +1,50 @@
+use Rattle.std.proofs.Common.{[], subst, flat_map, IfNone, IfSome}
 use Rattle.jup_hub.specs.Passes.{view_of}
-use Rattle.jup_session.proofs.SessionCalls.{serves_both, leaves_after}
+use Rattle.jup_rules.specs.Messages.{down_lines}
+use Rattle.jup_stream.specs.Puts.{PutsLines}
+use Rattle.jup_session.specs.Forwards.{Brings}
+use Rattle.jup_session.proofs.SessionCalls.{leaves_after}
+use Rattle.jup_session.proofs.Forwarding.{forwards_none, forwards_more, forwards_in_vain, forwards_serves}
 use Rattle.jup_session.proofs.sessions.writing.forward.Goals as goal
 
-pub returns-in_err-downs-clause-serves : goal.returns-in_err-downs-clause-serves
-returns-in_err-downs-clause-serves g c =
-    serves_both c.args.link.now.site (view_of c.args.pass.now) (view_of c.loop.pass) (view_of c.fetch.new.pass) c.loop.invariant.serves c.fetch.ensures.serves
+pub loop-init : goal.loop-init
+loop-init g c = record {
+  pass = c.requires.pass;
+  forwards = forwards_none c.args.link.now.site (view_of c.args.pass.now) c.args.output.now;
+  flushed = c.requires.flushed;
+}
 
-pub returns-in-None-2-clause-serves : goal.returns-in-None-2-clause-serves
-returns-in-None-2-clause-serves g c =
-    serves_both c.args.link.now.site (view_of c.args.pass.now) (view_of c.loop.pass) (view_of c.fetch.new.pass) c.loop.invariant.serves c.fetch.ensures.serves
+pub returns-in-Err-clause-forwards : goal.returns-in-Err-clause-forwards
+returns-in-Err-clause-forwards g c =
+    forwards_in_vain c.args.link.now.site (view_of c.args.pass.now) (view_of c.loop.pass) (view_of c.fetch.new.pass) c.args.output.now c.loop.output c.loop.invariant.forwards c.in-Err.ensures.refused
 
-pub returns-in-None-2-clause-gone : goal.returns-in-None-2-clause-gone
-returns-in-None-2-clause-gone g c = λ _.
-    leaves_after c.args.link.now.site (view_of c.args.pass.now) (view_of c.loop.pass) (view_of c.fetch.new.pass) c.loop.invariant.serves (c.fetch.ensures.gone (cc))
+pub returns-in-Ok-None-clause-forwards : goal.returns-in-Ok-None-clause-forwards
+returns-in-Ok-None-clause-forwards g c =
+    forwards_in_vain c.args.link.now.site (view_of c.args.pass.now) (view_of c.loop.pass) (view_of c.fetch.new.pass) c.args.output.now c.loop.output c.loop.invariant.forwards
+    (subst (λ o. IfNone o (Brings c.args.link.now.site (view_of c.loop.pass) (view_of c.fetch.new.pass) [])) c.in-Ok-None.field-0-is c.in-Ok-None.ensures.nothing)
 
-pub returns-in_err-hand_on-clause-serves : goal.returns-in_err-hand_on-clause-serves
-returns-in_err-hand_on-clause-serves g c =
-    serves_both c.args.link.now.site (view_of c.args.pass.now) (view_of c.loop.pass) (view_of c.fetch.new.pass) c.loop.invariant.serves c.fetch.ensures.serves
+pub returns-in-Ok-None-clause-gone : goal.returns-in-Ok-None-clause-gone
+returns-in-Ok-None-clause-gone g c = λ _.
+    leaves_after c.args.link.now.site (view_of c.args.pass.now) (view_of c.loop.pass) (view_of c.fetch.new.pass)
+    (forwards_serves c.args.link.now.site (view_of c.args.pass.now) (view_of c.loop.pass) c.args.output.now c.loop.output c.loop.invariant.forwards) (c.fetch.ensures.gone (cc))
 
-pub returns-then-branch-clause-serves : goal.returns-then-branch-clause-serves
-returns-then-branch-clause-serves g c =
-    serves_both c.args.link.now.site (view_of c.args.pass.now) (view_of c.loop.pass) (view_of c.fetch.new.pass) c.loop.invariant.serves c.fetch.ensures.serves
+pub returns-in_err-hand_on-clause-forwards : goal.returns-in_err-hand_on-clause-forwards
+returns-in_err-hand_on-clause-forwards g c =
+    forwards_more c.args.link.now.site (view_of c.args.pass.now) (view_of c.loop.pass) (view_of c.fetch.new.pass) c.args.output.now c.loop.output c.hand_on.new.output c.in-Ok-Some.downs c.loop.invariant.forwards
+    (subst (λ o. IfSome o (λ downs. Brings c.args.link.now.site (view_of c.loop.pass) (view_of c.fetch.new.pass) downs)) c.in-Ok-Some.field-0-is c.in-Ok-Some.ensures.brings)
+    (subst (λ downs. PutsLines c.loop.output (flat_map down_lines downs) c.hand_on.new.output) c.as_slice-messages.ensures.messages c.hand_on.ensures.put)
+
+pub returns-then-branch-clause-forwards : goal.returns-then-branch-clause-forwards
+returns-then-branch-clause-forwards g c =
+    forwards_more c.args.link.now.site (view_of c.args.pass.now) (view_of c.loop.pass) (view_of c.fetch.new.pass) c.args.output.now c.loop.output c.hand_on.new.output c.in-Ok-Some.downs c.loop.invariant.forwards
+    (subst (λ o. IfSome o (λ downs. Brings c.args.link.now.site (view_of c.loop.pass) (view_of c.fetch.new.pass) downs)) c.in-Ok-Some.field-0-is c.in-Ok-Some.ensures.brings)
+    (subst (λ downs. PutsLines c.loop.output (flat_map down_lines downs) c.hand_on.new.output) c.as_slice-messages.ensures.messages c.hand_on.ensures.put)
 
 pub loop-preserved : goal.loop-preserved
 loop-preserved g c = record {
   pass = c.fetch.ensures.pass;
-  serves = serves_both c.args.link.now.site (view_of c.args.pass.now) (view_of c.loop.pass) (view_of c.fetch.new.pass) c.loop.invariant.serves c.fetch.ensures.serves;
+  forwards = forwards_more c.args.link.now.site (view_of c.args.pass.now) (view_of c.loop.pass) (view_of c.fetch.new.pass) c.args.output.now c.loop.output c.hand_on.new.output c.in-Ok-Some.downs c.loop.invariant.forwards
+      (subst (λ o. IfSome o (λ downs. Brings c.args.link.now.site (view_of c.loop.pass) (view_of c.fetch.new.pass) downs)) c.in-Ok-Some.field-0-is c.in-Ok-Some.ensures.brings)
+      (subst (λ downs. PutsLines c.loop.output (flat_map down_lines downs) c.hand_on.new.output) c.as_slice-messages.ensures.messages c.hand_on.ensures.put);
+  flushed = c.hand_on.ensures.flushed c.loop.invariant.flushed;
 }

@@ -1,8 +1,11 @@
 use Rattle.std.proofs.Common.{sym, subst}
 use Rattle.jup_hub.specs.Passes.{view_of}
 use Rattle.jup_hub.specs.declared.hub.Pass.{Pass}
+use Rattle.jup_session.specs.Departures.{Departs}
 use Rattle.jup_session.specs.Sessions.{HasServed}
 use Rattle.jup_session.proofs.SessionCalls.{served_alone, leaves_after}
+use Rattle.jup_session.proofs.Departing.{departs_none}
+use Rattle.jup_session.proofs.Forwarding.{forwards_serves, wrote_so}
 use Rattle.jup_session.proofs.sessions.writing.write_half.Goals as goal
 use Rattle.jup_session.proofs.sessions.writing.write_half.Goals.{then-not-is_gone, else-not-is_gone}
 
@@ -12,9 +15,21 @@ returns-clause-served g c =
     elim c.if-not-is_gone.branch [
       | then-not-is_gone w ↦ subst (λ (p : Pass). HasServed site (view_of p)) (sym w.pass-is)
           (served_alone site (view_of c.args.pass) (view_of w.leave.new.pass) c.requires.new
-          (leaves_after site (view_of c.args.pass) (view_of c.forward_all-left.new.pass) (view_of w.leave.new.pass) c.forward_all-left.ensures.serves
+          (leaves_after site (view_of c.args.pass) (view_of c.forward_all-left.new.pass) (view_of w.leave.new.pass)
+          (forwards_serves site (view_of c.args.pass) (view_of c.forward_all-left.new.pass) c.args.output c.forward_all-left.new.output c.forward_all-left.ensures.forwards)
           w.leave.ensures.leaves))
       | else-not-is_gone w ↦ subst (λ (p : Pass). HasServed site (view_of p)) (sym w.pass-is)
           (served_alone site (view_of c.args.pass) (view_of c.forward_all-left.new.pass) c.requires.new
           (c.forward_all-left.ensures.gone (c.is_gone-is_gone.ensures.0 w.if-not-is_gone.false)))
     ]
+
+pub returns-clause-wrote : goal.returns-clause-wrote
+returns-clause-wrote g c =
+    let site = c.args.link.now.site in
+    let here = c.forward_all-left.new.pass in
+    wrote_so site (view_of c.args.pass) (view_of here) (view_of c.if-not-is_gone.pass) c.args.output c.forward_all-left.new.output c.tell_fault-told.new.output c.tell_fault-told.result c.forward_all-left.ensures.forwards
+    (elim c.if-not-is_gone.branch [
+      | then-not-is_gone w ↦ subst (λ (p : Pass). Departs site (view_of here) (view_of p)) (sym w.pass-is) w.leave.ensures.departs
+      | else-not-is_gone w ↦ subst (λ (p : Pass). Departs site (view_of here) (view_of p)) (sym w.pass-is) (departs_none site (view_of here))
+    ])
+    c.tell_fault-told.ensures.fault c.tell_fault-told.ensures.put

@@ -1,9 +1,0 @@
-use Rattle.std.proofs.Common.{subst, [], ◌∷◌}
-use Rattle.jup_stream.specs.Puts.{PutsLines, puts_sent}
-use Rattle.jup_session.proofs.sessions.writing.tell.Goals as goal
-
-pub returns : goal.returns
-returns g c = record {
-  line = subst (λ line. PutsLines c.args.output.now (line ∷ []) c.send.new.self) c.line.ensures
-      (puts_sent c.args.output.now c.push.new.self c.send.new.self (c.line.result ∷ []) c.push.ensures c.send.ensures.puts);
-}

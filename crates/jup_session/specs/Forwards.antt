@@ -1,0 +1,84 @@
+-- What the writing half of a session calls of its hub, and what it writes for that.
+use Rattle.std.specs.Prelude.{◌≡◌, ℕ, List, [], ◌∷◌, ◌++◌, Option, Some, None, Result, Ok, Err}
+use Rattle.std.specs.List.{flat_map, AllByRecursion}
+use Rattle.jup_batch.specs.BatchBoards.{BoardBatch}
+use Rattle.jup_star.specs.declared.messages.Down.{Down}
+use Rattle.jup_star.specs.declared.calls.Call.{Call}
+use Rattle.jup_star.specs.declared.calls.Call.TheVariants.{Fetch}
+use Rattle.jup_star.specs.declared.calls.Reply.{Reply}
+use Rattle.jup_star.specs.declared.calls.Reply.TheVariants.{Fetched}
+use Rattle.jup_hub.specs.declared.view.Entry.{Entry}
+use Rattle.jup_hub.specs.declared.view.View.{View}
+use Rattle.jup_wire.specs.declared.line.Line.{Line}
+use Rattle.jup_rules.specs.declared.ending.Ending.{Ending}
+use Rattle.jup_rules.specs.declared.faults.SessionFault.{SessionFault}
+use Rattle.jup_rules.specs.declared.faults.SessionFault.TheVariants.{Hub, WriteFailed}
+use Rattle.jup_rules.specs.Endings.{ending_of, last_line}
+use Rattle.jup_rules.specs.Messages.{down_lines}
+use Rattle.jup_stream.specs.Puts.{Put, PutsLines}
+use Rattle.jup_session.specs.Departures.{Departs}
+
+-- the messages that a reply brings
+abbrev pub brought : Reply → List (Down BoardBatch)
+brought (Fetched (Ok downs)) = downs
+brought reply = []
+
+-- the lines of the messages that calls were answered, one message behind the other, in the order of the calls
+abbrev pub lines_brought : List Entry → List Line
+lines_brought calls = flat_map (λ e. flat_map down_lines (brought e.reply)) calls
+
+-- a fetch for this site
+abbrev pub IsFetchFor : ℕ → Call → Type 0
+IsFetchFor site (Fetch i max) = i ≡ site
+IsFetchFor site call = ⊥
+
+abbrev pub AreFetchesFor : ℕ → List Entry → Type 0
+AreFetchesFor site calls = AllByRecursion (λ e. IsFetchFor site e.call) calls
+
+-- The pass made fetches for the site and no other call, and the lines of the messages that these were answered were put, in order, and nothing else
+pub record Forwards (site : ℕ) (v : View) (a : Put) (w : View) (b : Put) : Type 0 where
+  pub calls : List Entry
+  pub number : w.number ≡ v.number
+  pub made : w.made ≡ v.made ++ calls
+  pub kept : w.kept ≡ v.kept
+  pub alone : AreFetchesFor site calls
+  pub put : PutsLines a (lines_brought calls) b
+
+-- one fetch brought these messages, or none where it was refused or not made
+pub record Brings (site : ℕ) (v w : View) (downs : List (Down BoardBatch)) : Type 0 where
+  pub calls : List Entry
+  pub number : w.number ≡ v.number
+  pub made : w.made ≡ v.made ++ calls
+  pub kept : w.kept ≡ v.kept
+  pub alone : AreFetchesFor site calls
+  pub lines : lines_brought calls ≡ flat_map down_lines downs
+
+-- by which faults the writing half ends a session: a fetch was refused, or a write failed
+abbrev pub IsOfWriting : SessionFault → Type 0
+IsOfWriting (Hub fault) = Unit {0}
+IsOfWriting WriteFailed = Unit {0}
+IsOfWriting fault = ⊥
+
+-- the ending that the writing half tells the site itself is that of such a fault
+abbrev pub TellsFault : Option Ending → Type 0
+TellsFault None = Unit {0}
+TellsFault (Some ending) = (fault : SessionFault) × IsOfWriting fault × (ending ≡ ending_of fault)
+
+-- the last line, where the writing half tells it
+abbrev pub told_line : Option Ending → List Line
+told_line None = []
+told_line (Some ending) = last_line ending ∷ []
+
+-- the last line, where it is told behind that
+abbrev pub untold_line : Option Ending → Ending → List Line
+untold_line None ending = last_line ending ∷ []
+untold_line (Some told) ending = []
+
+-- the writing half: it forwarded, departed, and told of a fault of its own
+pub record Wrote (site : ℕ) (v : View) (a : Put) (w : View) (b : Put) (told : Option Ending) : Type 0 where
+  pub between : View
+  pub middle : Put
+  pub forwards : Forwards site v a between middle
+  pub departs : Departs site between w
+  pub fault : TellsFault told
+  pub put : PutsLines middle (told_line told) b

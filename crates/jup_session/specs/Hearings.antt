@@ -1,0 +1,82 @@
+-- What the reading half of a session hears, and what it calls of its hub for that.
+use Rattle.std.specs.Prelude.{◌≡◌, ◌≢◌, ◌⊎◌, ℕ, List, [], ◌∷◌, ◌++◌, Option, Some, None, IsSomeAnd, Result, Ok, Err}
+use Rattle.jup_star.specs.declared.calls.Call.TheVariants.{Take}
+use Rattle.jup_star.specs.declared.calls.Reply.{Reply}
+use Rattle.jup_star.specs.declared.calls.Reply.TheVariants.{Taken}
+use Rattle.jup_hub.specs.declared.view.Entry.{Entry}
+use Rattle.jup_hub.specs.declared.view.View.{View}
+use Rattle.jup_wire.specs.declared.line.Line.{Line}
+use Rattle.jup_rules.specs.declared.said.Said.{Said}
+use Rattle.jup_rules.specs.declared.said.Said.TheVariants.{Up as SaysUp, Bye as SaysBye}
+use Rattle.jup_rules.specs.declared.faults.SessionFault.{SessionFault}
+use Rattle.jup_rules.specs.declared.faults.SessionFault.TheVariants.{NoMemory, ReadsSpent}
+use Rattle.jup_rules.specs.declared.ending.Ending.{Ending}
+use Rattle.jup_rules.specs.declared.ending.Ending.TheVariants.{Gone, Fault as EndsByFault}
+use Rattle.jup_rules.specs.declared.ending.Stop.{Stop}
+use Rattle.jup_rules.specs.declared.ending.Stop.TheVariants.{End, Fault}
+use Rattle.jup_rules.specs.declared.next.Incoming.{Incoming}
+use Rattle.jup_rules.specs.declared.next.Next.TheVariants.{Take as NextTake, End as NextEnd}
+use Rattle.jup_rules.specs.Endings.{ending_of}
+use Rattle.jup_rules.specs.Gates.{HasHeard, Leads}
+use Rattle.jup_rules.specs.Keepers.{Keeper}
+use Rattle.jup_stream.specs.Sources.{Sourced, HandsOn, Stops}
+use Rattle.jup_session.specs.Gates.{IsHandled}
+
+-- the star took it
+abbrev pub IsTaken : Reply → Type 0
+IsTaken (Taken (Ok place)) = Unit {0}
+IsTaken reply = ⊥
+
+-- the calls are takes of just these messages for the site, in order, and the star took each
+abbrev pub AreTakesOf : ℕ → List Said → List Entry → Type 0
+AreTakesOf site [] [] = Unit {0}
+AreTakesOf site [] (e ∷ es) = ⊥
+AreTakesOf site (SaysUp up ∷ saids) [] = ⊥
+AreTakesOf site (SaysUp up ∷ saids) (e ∷ es) = (e.call ≡ Take site up) × IsTaken e.reply × AreTakesOf site saids es
+AreTakesOf site (SaysBye ∷ saids) calls = ⊥
+
+-- These lines were handed on. By them the site said all that, and each of these messages was taken for it, in order. No other call was made
+pub record Hears (site : ℕ) (a : Sourced) (v : View) (b : Sourced) (w : View) (keeper : Keeper) : Type 0 where
+  pub lines : List Line
+  pub saids : List Said
+  pub calls : List Entry
+  pub handed : HandsOn a lines b
+  pub heard : HasHeard lines saids keeper
+  pub number : w.number ≡ v.number
+  pub made : w.made ≡ v.made ++ calls
+  pub kept : w.kept ≡ v.kept
+  pub takes : AreTakesOf site saids calls
+
+-- how a session ends where no further line comes: the site is gone where its bytes end between messages, and within one they end early
+pub record EndsBehind (keeper : Keeper) (stop : Stop) (ending : Ending) : Type 0 where
+  pub early : stop ≡ End → IsSomeAnd keeper.0 (λ part. part ≢ []) → ending ≡ EndsByFault 43
+  pub gone : stop ≡ End → keeper.0 ≡ Some [] → ending ≡ Gone
+  pub fault : (fault : SessionFault) → stop ≡ Fault fault → ending ≡ ending_of fault
+
+-- Why it ends, behind all that: no further line comes; or the next line ends it, which is a bye or is refused; or the message that this line completes was not
+-- taken, by the star's answer or since it waited in vain; or there were as many lines as can be
+pub data Over (site : ℕ) (b c : Sourced) (w x : View) (keeper : Keeper) (ending : Ending) : Type 0 where
+  Stopped : (stop : Stop) → Stops b stop c → x ≡ w → EndsBehind keeper stop ending → Over site b c w x keeper ending
+  ByLine : (line : Line) (later : Keeper) → HandsOn b (line ∷ []) c → x ≡ w
+      → ((lines : List Line) (saids : List Said) → HasHeard lines saids keeper → Leads lines saids keeper line (NextEnd ending) later) → Over site b c w x keeper ending
+  Untaken : (line : Line) (later : Keeper) (incoming : Incoming) → HandsOn b (line ∷ []) c
+      → ((lines : List Line) (saids : List Said) → HasHeard lines saids keeper → Leads lines saids keeper line (NextTake incoming) later)
+      → IsHandled site incoming w x (Err ending) → Over site b c w x keeper ending
+  Spent : c ≡ b → x ≡ w → ending ≡ ending_of ReadsSpent → Over site b c w x keeper ending
+
+-- all that was heard and taken, and why that ended
+pub record HearsAll (site : ℕ) (a : Sourced) (v : View) (c : Sourced) (x : View) (ending : Ending) : Type 0 where
+  pub before : Sourced
+  pub pass : View
+  pub keeper : Keeper
+  pub hears : Hears site a v before pass keeper
+  pub over : Over site before c pass x keeper ending
+
+-- no thread could be started, so nothing was read and nothing taken
+pub record HearsNothing (a : Sourced) (v : View) (c : Sourced) (x : View) (ending : Ending) : Type 0 where
+  pub source : c ≡ a
+  pub pass : x ≡ v
+  pub memory : ending ≡ ending_of NoMemory
+
+abbrev pub Heard : ℕ → Sourced → View → Sourced → View → Ending → Type 0
+Heard site a v c x ending = HearsAll site a v c x ending ⊎ HearsNothing a v c x ending

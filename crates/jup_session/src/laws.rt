@@ -1,0 +1,26 @@
+//! What holds of all sessions.
+
+ghost use Rattle.std.specs.Prelude.{◌≡◌, ℕ, Bool, List, ◌++◌, Option, Some};
+ghost use Rattle.jup_hub.specs.declared.view.View.{View};
+ghost use Rattle.jup_wire.specs.declared.line.Line.{Line};
+ghost use Rattle.jup_wire.specs.Streams.{HasRead, Progress};
+ghost use Rattle.jup_rules.specs.declared.ending.Ending.{Ending};
+ghost use Rattle.jup_rules.specs.declared.said.Said.{Said};
+ghost use Rattle.jup_rules.specs.Gates.{HasHeard};
+ghost use Rattle.jup_rules.specs.Keepers.{Keeper};
+ghost use Rattle.jup_session.specs.ExactSessions.{IsExact};
+ghost use Rattle.jup_session.specs.SessionBytes.{bytes_read, lines_read, bytes_written, BeginWith};
+
+/// The bytes of a reader begin with those that a session read, and a writer holds those that it wrote behind what it had. In whatever
+/// way the bytes that were read are lines, they begin with the lines that the session looked at. And by these a site says just one
+/// list of messages.
+pub fn one_session()
+    ensures read { (from old new : Option (List ℕ)) (v x : View) (ending : Ending) (failed : Bool) (e : IsExact from old new v x ending failed) (given : List ℕ)
+        → from ≡ Some given → BeginWith given (bytes_read e) }
+    ensures written { (from old new : Option (List ℕ)) (v x : View) (ending : Ending) (failed : Bool) (e : IsExact from old new v x ending failed) (held wrote : List ℕ)
+        → old ≡ Some held → new ≡ Some wrote → wrote ≡ held ++ bytes_written e }
+    ensures lines { (from old new : Option (List ℕ)) (v x : View) (ending : Ending) (failed : Bool) (e : IsExact from old new v x ending failed) (lines : List Line) (progress : Progress)
+        → HasRead (bytes_read e) lines progress → BeginWith lines (lines_read e) }
+    ensures messages { (lines : List Line) (saids others : List Said) (keeper other : Keeper)
+        → HasHeard lines saids keeper → HasHeard lines others other → (saids ≡ others) × (keeper ≡ other) }
+{}

@@ -1,5 +1,5 @@
-//! Growths of whole runs that are refused, each test for the call of its name. `./growths` refuses one after another of those between the two marks: a run
-//! that lacked memory is refused for that, with all its threads ended, and begun anew it runs.
+//! Failed allocations in whole runs, each test for the call of its name. `./growths` makes one after another of the allocations between the two marks
+//! fail. A run that fails is refused for that, with all its threads ended, and it runs if it begins again.
 use crate::expect::{expect_eq, expect_that};
 use crate::runs::{LIMIT, agree, blank, insertions, scripts};
 use jup_app::{Open, RunEnd, RunFault, run_many, run_two};

@@ -84,7 +84,7 @@ fn settings(rt: &impl Abort, alloc: Global, count: usize) -> Vec<Command> {
     script
 }
 
-// What a run of two sites on the blank board came to.
+// The outcome of a run of two sites on the blank board.
 pub(crate) fn ran_two<R: Threads + Wait + Sync + Abort, G: Gate + Sync>(
     rt: &R,
     alloc: Global,
@@ -96,7 +96,7 @@ pub(crate) fn ran_two<R: Threads + Wait + Sync + Abort, G: Gate + Sync>(
     run.expect(rt, "a run that ends")
 }
 
-// What a run of many sites on the blank board came to.
+// The outcome of a run of many sites on the blank board.
 pub(crate) fn ran_many<R: Threads + Wait + Sync + Abort, G: Gate + Sync>(
     rt: &R,
     alloc: Global,

@@ -106,7 +106,7 @@ impl Gate for Waits {
     }
 }
 
-// Counts how often it was told.
+// Counts how many answers it was given.
 #[derive(Drop)]
 struct Told {
     times: AtomicU64,
@@ -189,9 +189,9 @@ fn the_lowest_site_that_is_refused_tells_why(rt: HostRuntime) {
     }
 }
 
-// The order has room for one of the two sites' edits, and the gate is told of both takes.
+// The order has room for one of the two sites' edits, and the gate gets the answers to both takes.
 #[test]
-fn the_gate_of_a_run_is_told_of_a_refused_take(rt: HostRuntime) {
+fn the_gate_of_a_run_is_informed_of_a_refused_take(rt: HostRuntime) {
     let alloc = rt.alloc();
     let script = insertions(&rt, alloc, 'a', 1);
     let gate = Told {

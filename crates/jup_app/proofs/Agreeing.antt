@@ -197,7 +197,7 @@ module _ (board : Windows) (limit n : ℕ) (scripts : List (List Command)) (star
       let given : star.given ≡ (star_through s0 is.joined).given = ap (λ (t : BoardStar). t.given) (sym whole) ∙ both.1 in
       (subst (λ (t : BoardStar). OrderWithin n t) whole both.0, omega (arith, given, first.1, is.as_many))
 
-  -- a site that stands is one of the n
+  -- an attached site is one of the n
   is_one : (i : ℕ) (l : BoardLink) (a : BoardAttached) → link_of i (assembled_world board limit n is.logs is.later).star.links ≡ Some l → attached i (assembled_world board limit n is.logs is.later).sites ≡ Some a → IsSite n i
   is_one i l a fl fa =
       let w : BoardWorld = assembled_world board limit n is.logs is.later in

@@ -1,4 +1,4 @@
--- What the calls of a run tell, put together.
+-- What the calls of a run say, put together.
 use Rattle.std.proofs.Common.{◌≡◌, ◌≢◌, ℕ, zero, suc, ◌+◌, ◌-◌, ◌<◌, ◌≤◌, List, [], ◌∷◌, ◌++◌, length, take, map, get_or, Option, Some, None, Result, Ok, Err, IfOk, refl, sym, ap, ◌∙◌, subst, arith, append-nil, length-append}
 use Rattle.std.proofs.lemmas.List.{get_or_default, length-map}
 use Rattle.jup_window.specs.declared.commands.Command.{Command}

@@ -129,7 +129,7 @@ silent_known : (ks : List Tally) (e : Entry) (h : List Entry) → IsKnown e.by k
 silent_known [] e h is none = is
 silent_known (k ∷ ks) e h is none = elim is [ inl same ↦ not_silent k.number e h (sym same) none.0 | inr more ↦ silent_known ks e h more none.1 ]
 
--- where the others have no entry, all are by the first
+-- if the others have no entry, all are by the first
 pub only_one : (k : Tally) (ks : List Tally) (h : List Entry) → Each (λ (e : Entry). IsKnown e.by (k ∷ ks)) h → Each (λ (j : Tally). calls_by j.number h ≡ []) ks → Each (λ (e : Entry). e.by ≡ k.number) h
 only_one k ks [] all none = tt
 only_one k ks (e ∷ h) all none = (
@@ -137,7 +137,7 @@ only_one k ks (e ∷ h) all none = (
   only_one k ks h all.1 (each_weaker (λ (j : Tally). calls_by j.number (e ∷ h) ≡ []) (λ (j : Tally). calls_by j.number h ≡ []) ks (λ j none. tail_silent j.number e h none) none),
 )
 
--- where the first has no entry, all are by the others
+-- if the first has no entry, all are by the others
 pub none_first : (k : Tally) (ks : List Tally) (h : List Entry) → Each (λ (e : Entry). IsKnown e.by (k ∷ ks)) h → calls_by k.number h ≡ [] → Each (λ (e : Entry). IsKnown e.by ks) h
 none_first k ks [] all none = tt
 none_first k ks (e ∷ h) all none = (

@@ -41,11 +41,11 @@ join_is : (w : BoardWorld) → join_fault w.star ≡ None → happens board_batc
 unfolding joined_world
 join_is w fine = ap (λ (o : Option StarFault). with_outcome board_batches w event.Join (join_outcome board_batches w o)) fine
 
--- a site that was told what the star tells is the one that the core opens
+-- a site that got what the star gives is the one that the core opens
 site_is : (w : BoardWorld) (j : BoardSite) → IsFresh j → told_to j ≡ joining w.star → j ≡ opened_site (w.star.given + 1) w.star.limit w.star.board
 site_is w j fresh told = fresh ∙ ap (λ (t : Joined). opened_site t.site t.limit t.board) told
 
--- no site stands under a number that was not given
+-- no site has a number that was not given
 abbrev pub IsClear : BoardWorld → Type 0
 IsClear w = (i : ℕ) → w.star.given < i → attached i w.sites ≡ None
 

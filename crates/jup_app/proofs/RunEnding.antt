@@ -320,7 +320,7 @@ module _ (board : Windows) (limit : ℕ) (opened : IsOpening board) (low : limit
   pub is_run : (star : BoardStar) → star ≡ star_through (opened_star board limit) h → IsRun board limit scripts star after
   is_run star is = subst (λ n. IsRunOf board limit n scripts star after) facts.as_many (subst (λ s. IsRunOf board limit (length js) scripts s after) (sym is) run_of_js)
 
--- a run, from what each of its calls tells
+-- a run, from what each of its calls says
 pub run_ends : (board : Windows) (limit : ℕ) (hub : Hub) (a b c d e : View) (opening star : BoardStar) (n1 m1 n2 n3 events : ℕ) (js : List BoardSite) (scripts : List (Bor (List Command))) (jobs : List Job) (results : List (Result Player Stop)) (before after shown : List SiteEnd) (h0 h : List Entry)
     → IsOpening board → limit ≤ highest_limit → a.opening ≡ opening → opening ≡ opened_star board limit → (joined : HasJoinedAll a n1 js) → length js ≡ length scripts → IsSame a b → m1 ≡ n1
     → ((k : List Entry) → HasMet a k → AreJobs hub k js scripts jobs) → length jobs ≡ length js → AllRan hub jobs results → length results ≡ length jobs

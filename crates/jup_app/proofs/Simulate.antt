@@ -300,7 +300,7 @@ pub record Ends (n : ℕ) (w : BoardWorld) (es : List BoardEvent) (s : BoardStar
   pub sites : (i : ℕ) → IsSite n i → attached i (after w es).sites ≡ Some (ends i)
   pub replied : (i : ℕ) → IsSite n i → edits_at i (after w es).trace ≡ edits_at i w.trace ++ edits_of (logs i)
 
--- the first k sites have played to their end, and the others stand
+-- the first k sites have played to their end, and the others are as they were
 record Half (n k : ℕ) (w : BoardWorld) (here : ℕ → BoardAttached) (logs : ℕ → List Step) (ends : ℕ → BoardAttached) : Type 0 where
   star : (after w (left_over k logs)).star ≡ w.star
   done : (i : ℕ) → IsSite k i → (attached i (after w (left_over k logs)).sites ≡ Some (ends i)) × (edits_at i (after w (left_over k logs)).trace ≡ edits_at i w.trace ++ edits_of (logs i))

@@ -51,7 +51,7 @@ edit_gives c s t m a = go (edit_answer board_batches c s) refl a.0 a.1
     go (Ok op) e f g = record { op = op; is = e; made = cc; site = g }
     go (Err n) e f g = absurd cc
 
--- a command that was refused, but not for want of memory
+-- a command that was refused, unless an allocation failed
 pub edit_refused : (c : Commands) (s t : BoardSite) (f : EditFault) → is_edit_memory f ≡ false → EditAnswers c s t (Err f) → (edit_answer board_batches c s ≡ Err (edit_fault_number f)) × (t ≡ s)
 edit_refused c s t f not a =
     let both = rw not at a in

@@ -174,7 +174,7 @@ drop_none : {A : Type 0} (m : ℕ) → drop {A = A} m [] ≡ []
 drop_none zero = refl
 drop_none (suc m) = refl
 
--- nothing is changed where no link is of the site
+-- nothing is changed if no link is of the site
 unchanged_new : (i : ℕ) (f : BoardLink → BoardLink) (ls : List BoardLink) → IsNew i ls → at_link i f ls ≡ ls
 unchanged_new i f [] new = refl
 unchanged_new i f (l ∷ ls) new = ap (λ b. cond b (f l) l ∷ at_link i f ls) new.0 ∙ ap (λ ks. l ∷ ks) (unchanged_new i f ls new.1)

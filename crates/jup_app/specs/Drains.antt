@@ -43,7 +43,7 @@ pub record EndsQuiet (ends : List SiteEnd) (n : ℕ) (v w : View) : Type 0 where
   pub made : w.made ≡ v.made ++ empties
   pub are : AreNumbered ends → makes empties ≡ empty_fetches n
 
--- all sites are drained: at the end each was asked once more, and had nothing
+-- all sites are drained: a last fetch for each gave nothing
 pub record IsDrained (v w : View) (before after : ℕ) (old new : List SiteEnd) : Type 0 where
   pub drained : Drained v w before after old new
   pub earlier : List Entry

@@ -19,7 +19,7 @@ use Rattle.jup_app.specs.declared.runs.stop.Stop.{Stop}
 use Rattle.jup_app.specs.Runs.{Made}
 use Rattle.jup_app.specs.Plays.{makes}
 
--- what a new site was told as it joined
+-- what a new site got as it joined
 abbrev pub told_to : BoardSite → Joined
 told_to s = record { site = s.number; limit = s.limit; board = s.board }
 
@@ -45,7 +45,7 @@ pub record HasJoinedAll (v : View) (calls : ℕ) (sites : List BoardSite) : Type
   pub kept : v.kept ≡ []
   pub count : calls ≡ length v.made
 
--- what is left of a view where another was split from it
+-- what is left of a view if another was split from it
 pub record IsSame (v w : View) : Type 0 where
   pub number : w.number ≡ v.number
   pub seen : w.seen ≡ v.seen
@@ -68,7 +68,7 @@ pub record IsSeated (hub : Hub) (history : List Entry) (site : BoardSite) (p : P
 abbrev pub end_of : Player → SiteEnd
 end_of p = record { site = p.site; replies = p.replies }
 
--- why the first that was stopped was
+-- why the first that was stopped was stopped
 abbrev pub first_stop : List (Result Player Stop) → Option Stop
 first_stop [] = None
 first_stop (Ok player ∷ results) = first_stop results

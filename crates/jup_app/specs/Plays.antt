@@ -71,7 +71,7 @@ pub record Fetches (i : ℕ) (v w : View) : Type 0 where
   pub later : List Entry
   pub made : w.made ≡ v.made ++ entry v.number (Fetch i most_fetched) reply ∷ later
 
--- The pass met a history. Where that was longer than all that it had seen, its next call was such a fetch
+-- The pass met a history. If that was longer than all that it had seen, its next call was such a fetch
 pub record CatchesUp (i : ℕ) (v w : View) : Type 0 where
   pub history : List Entry
   pub met : Meets v history

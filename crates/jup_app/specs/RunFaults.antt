@@ -32,7 +32,7 @@ open_refusal refusal.NoMemory = NoMemory
 open_refusal refusal.BadLimit = BadLimit
 open_refusal refusal.BadSite = BadSite
 
--- why a run stops where the hub refuses a call
+-- why a run stops if the hub refuses a call
 abbrev pub stop_of_hub : HubFault → Stop
 stop_of_hub (hub.Star star.NoMemory) = stop.NoMemory
 stop_of_hub (hub.Star star.LogFull) = stop.LogFull
@@ -68,7 +68,7 @@ IsOfRun GateShut = Unit {0}
 IsOfRun BadSites = ⊥
 IsOfRun RunBroken = Unit {0}
 
--- the first refusal, where there is one; else only a run that has begun is refused
+-- the first refusal, if there is one; else only a run that has begun is refused
 abbrev pub RefusedFirst : {A : Type 0} → Option RunFault → Result A RunFault → Type 0
 RefusedFirst (Some fault) r = r ≡ Err fault
 RefusedFirst None r = IfErr r IsOfRun

@@ -18,11 +18,11 @@ use Rattle.jup_world.specs.Events.{Happened}
 use Rattle.jup_world.specs.BoardWorlds.{BoardAttached, BoardEvent, BoardReply}
 use Rattle.jup_world.specs.WorldSteps.{with_edit, one_taken, one_handed}
 
--- what a site sends up, and what it is handed
+-- what a site sends up, and what it receives
 abbrev pub BoardUp : Type 0
 BoardUp = Up BoardBatch
 
--- and is handed
+-- and receives
 abbrev pub BoardDown : Type 0
 BoardDown = Down BoardBatch
 
@@ -43,8 +43,8 @@ pub record Made : Type 0 where
 abbrev pub made : Entry → Made
 made e = record { call = e.call; reply = e.reply }
 
--- a step of one site: an edit with its answer, a message that the hub took with its place in the order, or messages that a
--- fetch of at most so many gave
+-- a step of one site: an edit with its answer, a message that the hub took with its place in the order, or messages
+-- and how many were asked for
 pub data Step : Type 0 where
   Edited : Commands → EditAnswer → Step
   Took : BoardUp → Option ℕ → Step
@@ -100,7 +100,7 @@ abbrev pub AcceptsAll : List BoardDown → BoardAttached → Type 0
 AcceptsAll [] a = Unit {0}
 AcceptsAll (d ∷ ds) a = IsAccepted d a × AcceptsAll ds (delivered d a)
 
--- the log brings one state of a site to another: each edit has the site's answer, what is taken is the oldest message on its
+-- the log brings one state of a site to another. Each edit has the site's answer. What is taken is the oldest message on its
 -- way up, and what is fetched is delivered in turn
 abbrev pub IsPlayed : BoardAttached → List Step → BoardAttached → Type 0
 IsPlayed a [] b = a ≡ b

@@ -14,7 +14,7 @@ pub record IsJob (hub : Hub) (history : List Entry) (site : BoardSite) (script :
   pub seated : IsSeated hub history site job.player
   pub script_is : job.script.now ≡ script
 
--- stands where a list of sites has none
+-- the default, for a list of sites that has none
 abbrev pub no_site : BoardSite
 no_site = opened_site 0 0 []
 

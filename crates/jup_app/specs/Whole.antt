@@ -1,4 +1,4 @@
--- What a whole run comes to.
+-- The outcome of a whole run.
 use Rattle.std.specs.Prelude.{◌≡◌, ℕ, suc, ◌<◌, List, [], ◌∷◌, ◌++◌, length, map, get_or, Some, Result, Ok, Err}
 use Rattle.jup_window.specs.declared.commands.Command.{Command}
 use Rattle.jup_batch.specs.BatchBoards.{BoardEdits, Windows, content, meaning}
@@ -23,7 +23,7 @@ use Rattle.jup_app.specs.Plays.{link_with, answered}
 abbrev pub assembled_world : Windows → ℕ → ℕ → (ℕ → List Step) → List Entry → BoardWorld
 assembled_world board limit n logs later = run board_batches (opened_world board_batches board limit) (joins n ++ assembled n logs later)
 
--- There is a legal history and one log for each script, of which the assembled run of the core has these replies, this star
+-- There is a legal history, and one log for each script. The run of the core that they make has these replies, this star
 -- and these sites, and no message on its way
 pub record IsRunOf (board : Windows) (limit n : ℕ) (scripts : List (List Command)) (star : BoardStar) (ends : List SiteEnd) : Type 0 where
   -- the joins, the calls after them, and the log of each site

@@ -33,7 +33,7 @@ use Rattle.jup_http.specs.Streams.{Told, brought, broken, Step, step, tells, bet
 use Rattle.jup_http.specs.Arrivals.{Sent, wire, IsSent, kind_with, Brings, IsTaken, AreTaken}
 use Rattle.jup_http.proofs.StreamLemmas.{over_tells}
 
--- what a step tells, and then what these bytes do
+-- what a step reports, and then what these bytes do
 abbrev pub follows : Step → List ℕ → List Told
 follows s rest = s.told ++ tells s.next rest
 

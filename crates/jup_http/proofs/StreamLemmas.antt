@@ -31,7 +31,7 @@ next_byte : (s : Standing) (bytes more : List ℕ) (at b : ℕ) → at < length 
     → tells s (drop at bytes ++ more) ≡ tells s (b ∷ (drop (at + 1) bytes ++ more))
 next_byte s bytes more at b inside is = rw (drop-cons bytes at 0 inside, is, add-one at) refl
 
--- one byte more was put
+-- one more byte was put
 pub put_more : (all given behind told : List Told) (s next : Standing) (bytes more : List ℕ) (at b : ℕ) → at < length bytes → b ≡ get_or bytes at 0
     → all ≡ given ++ tells s (drop at bytes ++ more)
     → ((rest : List ℕ) → given ++ tells s (b ∷ rest) ≡ behind ++ told ++ tells next rest)
@@ -39,18 +39,18 @@ pub put_more : (all given behind told : List Told) (s next : Standing) (bytes mo
 put_more all given behind told s next bytes more at b inside is so_far put =
     so_far ∙ ap (λ t. given ++ t) (next_byte s bytes more at b inside is) ∙ put (drop (at + 1) bytes ++ more)
 
--- what a byte tells stands in front of what those behind it tell
+-- what a byte reports comes before what those after it report
 pub told_first : (given : List Told) (s : Standing) (b : ℕ) (next : Standing) (told : List Told) (rest : List ℕ)
     → step s b ≡ record { next = next; told = told } → given ++ tells s (b ∷ rest) ≡ given ++ told ++ tells next rest
 told_first given s b next told rest is = ap (λ (t : Step). given ++ (t.told ++ tells t.next rest)) is ∙ sym (append_assoc given told (tells next rest))
 
--- a byte of data goes behind those before it
+-- a byte of data goes after those before it
 pub data_put : (buf : List ℕ) (given b : ℕ) (rest : List Told) → given < length buf
     → map brought (take given buf) ++ (brought b ∷ []) ++ rest ≡ map brought (take (suc given) (set buf given b)) ++ rest
 data_put buf given b rest room =
     ap (λ t. t ++ rest) (sym (map-append brought (take given buf) (b ∷ [])) ∙ ap (map brought) (sym (take-suc-set buf given b room)))
 
--- behind the end nothing is told
+-- after the end nothing is reported
 pub over_tells : (s : Standing) (bs : List ℕ) → s.place ≡ Over → tells s bs ≡ []
 unfolding step
 over_tells s [] over = refl

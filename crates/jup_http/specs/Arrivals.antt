@@ -26,19 +26,19 @@ pub record IsSent (f : Sent) : Type 0 where
   pub header : IsHeader f.header (length f.payload)
   pub bytes : IsBytes (encode_header f.header (length f.payload))
 
--- a message with these bytes more, which a text takes if it may still become UTF-8
+-- a message with these bytes added, which a text takes if it may still become UTF-8
 abbrev pub kind_with : Kind → List ℕ → Option Kind
 kind_with Kinds.Binary bs = Some Kinds.Binary
 kind_with (Kinds.Text part) bs = text_of (after_bytes (Some part) bs)
 
--- a frame of data brings its payload, one of control what it tells; then this message is pending
+-- a frame of data brings its payload, one of control what it reports; then this message is pending
 abbrev pub Brings : Option Message → Frame → List ℕ → List Told → Option Message → Type 0
 Brings pending (Frames.Data d) payload told next =
     (kind : Kind) × (kind_with d.message.kind payload ≡ Some kind) × (message_after d.is_final (record { kind = kind; len = d.message.len }) ≡ Ok next)
     × (told ≡ map brought payload)
 Brings pending (Frames.Control c) payload told next = ends_control pending c.code payload ≡ record { next = between next; told = told }
 
--- the frame may come where this message is pending, and brings this
+-- the frame may come if this message is pending, and brings this
 abbrev pub IsTaken : Option Message → Sent → List Told → Option Message → Type 0
 IsTaken pending f told next = (frame : Frame) × (frame_of pending f.header (length f.payload) ≡ Ok frame) × Brings pending frame f.payload told next
 

@@ -1,4 +1,4 @@
--- What the values of the code tell of a stream.
+-- What the values of the code report of a stream.
 use Rattle.std.specs.Prelude.{List, [], ◌∷◌, Option, None, Some}
 use Rattle.jup_http.specs.declared.stream.Event.{Event}
 use Rattle.jup_http.specs.declared.stream.Event.TheVariants.{Ping, Closed, Broken}
@@ -8,7 +8,7 @@ use Rattle.jup_http.specs.declared.stream.FrameStream.{FrameStream}
 use Rattle.jup_http.specs.Frames.{held_bytes}
 use Rattle.jup_http.specs.Streams.{Told, brought, ping, closed, broken, Standing, Step}
 
--- where a stream stands
+-- where a stream is
 abbrev pub standing : FrameStream → Standing
 standing s = record { place = s.place; pending = s.pending; held = held_bytes s.held }
 

@@ -26,7 +26,7 @@ use Rattle.jup_http.specs.declared.frame.Frame.TheVariants as Frames
 abbrev pub held_bytes : Held → List ℕ
 held_bytes held = take held.len held.bytes
 
--- the status code of a close that tells of a breach (section 7.4.1)
+-- the status code of a close that reports a breach (section 7.4.1)
 abbrev pub breach_number : Breach → ℕ
 breach_number Header = 1002
 breach_number ReservedBit = 1002
@@ -50,7 +50,7 @@ begun None DataCode.Continue = Err NothingToContinue
 begun None DataCode.Text = Ok (record { kind = Kinds.Text Whole; len = 0 })
 begun None DataCode.Binary = Ok (record { kind = Kinds.Binary; len = 0 })
 
--- with so many bytes more
+-- with so many more bytes
 abbrev pub lengthened : Message → ℕ → Result Message Breach
 lengthened m more = cond (nat_lt longest_message (m.len + more)) (Err LongMessage) (Ok (record { kind = m.kind; len = m.len + more }))
 
@@ -74,11 +74,11 @@ masked_of pending opcode is_final len None = Err Unmasked
 masked_of pending (Op.Control code) is_final len (Some key) = control_of code is_final key len
 masked_of pending (Op.Data kind) is_final len (Some key) = data_of (extended (begun pending kind) len) is_final key len
 
--- the frame behind a header, where this message is pending; or the rule that the header breaks
+-- the frame after a header, if this message is pending; or the rule that the header breaks
 abbrev pub frame_of : Option Message → FrameHeader → ℕ → Result Frame Breach
 frame_of pending h len = cond (h.rsv1 || h.rsv2 || h.rsv3) (Err ReservedBit) (masked_of pending h.opcode h.is_final len h.mask)
 
--- ---- what its payload comes to
+-- ---- what its payload gives
 
 abbrev pub text_of : Option CharPart → Option Kind
 text_of None = None
@@ -100,7 +100,7 @@ is_whole (Kinds.Text AfterED) = false
 is_whole (Kinds.Text AfterF0) = false
 is_whole (Kinds.Text AfterF4) = false
 
--- the message that is pending behind a frame of it: none behind its last one, where a text has to be whole
+-- the message that is pending after a frame of it: none after its last one, where a text has to be whole
 abbrev pub message_after : Bool → Message → Result (Option Message) Breach
 message_after is_final m = cond (not is_final) (Ok (Some m)) (cond (is_whole m.kind) (Ok None) (Err BadText))
 

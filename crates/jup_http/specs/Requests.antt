@@ -12,16 +12,16 @@ use Rattle.jup_http.specs.declared.request.Request.TheVariants.{Page, Captions, 
 use Rattle.jup_http.specs.declared.refusal.Refusal.{Refusal}
 use Rattle.jup_http.specs.declared.refusal.Refusal.TheVariants.{BadHead, Foreign, NoPage, BadMethod, NoUpgrade, OtherVersion}
 
--- ---- origins (RFC 6454): a scheme, a host, and the port where it is not the scheme's own
+-- ---- origins (RFC 6454): a scheme, a host, and the port if it is not the scheme's own
 
--- an origin with this scheme, behind which the host and the port have this property
+-- an origin with this scheme, after which the host and the port have this property
 abbrev pub has_scheme : List ℕ → (List ℕ → Bool) → List ℕ → Bool
 has_scheme scheme property origin = bytes_eq (take (length scheme) origin) scheme && property (drop (length scheme) origin)
 
 abbrev pub has_host : (List ℕ → Bool) → List ℕ → Bool
 has_host property origin = has_scheme (codes "http://") property origin || has_scheme (codes "https://") property origin
 
--- letters, digits, and what else stands in names, addresses and ports
+-- letters, digits, and what else is in names, addresses and ports
 abbrev pub is_host_byte : ℕ → Bool
 is_host_byte b = is_ascii_alphanumeric b || b == 45 || b == 46 || b == 58 || b == 91 || b == 93 || b == 95
 

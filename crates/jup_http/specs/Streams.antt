@@ -17,20 +17,20 @@ use Rattle.jup_http.specs.declared.stream.Place.{Place}
 use Rattle.jup_http.specs.declared.stream.Place.TheVariants.{Head, Within, Over}
 use Rattle.jup_http.specs.Frames.{frame_of, kind_after, message_after, closed_of}
 
--- what a byte tells: a byte of a message of data, a ping with its payload, a close with its status code, or a breach
+-- what a byte reports: a byte of a message of data, a ping with its payload, a close with its status code, or a breach
 pub data Told : Type 0 where
   brought : ℕ → Told
   ping : List ℕ → Told
   closed : Option ℕ → Told
   broken : Breach → Told
 
--- where a stream stands: its place, the message that is pending, and bytes of the present frame that wait for its others
+-- where a stream is: its place, the message that is pending, and bytes of the present frame that wait for its others
 pub record Standing : Type 0 where
   pub place : Place
   pub pending : Option Message
   pub held : List ℕ
 
--- where a byte leads, and what it tells
+-- where a byte leads, and what it reports
 pub record Step : Type 0 where
   pub next : Standing
   pub told : List Told
@@ -49,7 +49,7 @@ over = record { place = Over; pending = None; held = [] }
 abbrev pub fails : Breach → Step
 fails b = record { next = over; told = broken b ∷ [] }
 
--- a frame of data is whole; its last byte is not told where its text is cut short
+-- a frame of data is whole; its last byte is not reported if its text is cut short
 abbrev pub ends_data : List Told → Result (Option Message) Breach → Step
 ends_data told (Err b) = fails b
 ends_data told (Ok pending) = record { next = between pending; told = told }
@@ -72,7 +72,7 @@ begins pending (Ok (Frames.Data f)) =
 begins pending (Ok (Frames.Control f)) =
     cond (f.len == 0) (ends_control pending f.code []) (record { next = record { place = Within (Frames.Control f); pending = pending; held = [] }; told = [] })
 
--- a header with one byte more
+-- a header with one more byte
 abbrev pub step_head : Option Message → List ℕ → Decoded (FrameHeader × ℕ) → Step
 step_head pending held (Err e) = fails Header
 step_head pending held (Ok None) = record { next = record { place = Head; pending = pending; held = held }; told = [] }
@@ -106,7 +106,7 @@ step_at Over pending held b = record { next = record { place = Over; pending = p
 unfoldable pub step : Standing → ℕ → Step
 step s b = step_at s.place s.pending s.held b
 
--- all that these bytes tell
+-- all that these bytes report
 abbrev pub tells : Standing → List ℕ → List Told
 tells s [] = []
 tells s (b ∷ bs) = (step s b).told ++ tells (step s b).next bs

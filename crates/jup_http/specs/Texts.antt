@@ -20,7 +20,7 @@ after_first byte =
     (cond (is_in_range 0xF1 0xF3 byte) (Some LacksThree)
     (cond (byte == 0xF4) (Some AfterF4) None)))))))
 
--- how far the last character has come with one byte more, if a text may go on with it
+-- how far the last character has come with one more byte, if a text may go on with it
 abbrev pub after_byte : CharPart → ℕ → Option CharPart
 after_byte Whole byte = after_first byte
 after_byte LacksOne byte = within 0x80 0xBF Whole byte
@@ -31,7 +31,7 @@ after_byte AfterED byte = within 0x80 0x9F LacksOne byte
 after_byte AfterF0 byte = within 0x90 0xBF LacksTwo byte
 after_byte AfterF4 byte = within 0x80 0x8F LacksTwo byte
 
--- with all of these bytes more
+-- with all of these bytes added
 abbrev pub after_bytes : Option CharPart → List ℕ → Option CharPart
 after_bytes part [] = part
 after_bytes None (b ∷ bs) = None

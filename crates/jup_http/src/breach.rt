@@ -30,7 +30,7 @@ pub enum Breach {
 }
 
 impl Breach {
-    /// The status code of the close that tells of this breach (RFC 6455, section 7.4.1).
+    /// The status code of the close that reports this breach (RFC 6455, section 7.4.1).
     pub fn number(self) -> u16
         ensures { result ≡ breach_number self }
     {

@@ -7,7 +7,7 @@ use crate::Breach;
 /// How the frames of a client end.
 #[derive(Clone, Copy, Debug, PartialEq, Eq)]
 pub enum Ending {
-    /// By a close, with this status code if it tells one.
+    /// By a close, with this status code if it has one.
     Closed(Option<u16>),
     /// By a broken rule.
     Broken(Breach),

@@ -1,4 +1,4 @@
-//! The frame behind a header, and what its end comes to (RFC 6455, sections 5.2 to 5.5).
+//! The frame after a header, and what its end gives (RFC 6455, sections 5.2 to 5.5).
 ghost use Rattle.std.specs.Prelude.{◌≡◌, IfOk};
 ghost use Rattle.websocket.specs.Text.{is_utf8};
 ghost use Rattle.jup_http.specs.Frames.{begun, lengthened, control_of, frame_of, kind_after, message_after, closed_of, IsNew};
@@ -54,7 +54,7 @@ pub(crate) enum Frame {
     Control(ControlFrame),
 }
 
-/// The frame behind a header with this length, where this message is pending; or the rule that the header breaks.
+/// The frame after a header with this length, if this message is pending; or the rule that the header breaks.
 pub(crate) fn frame_of(
     pending: Option<Message>,
     header: &FrameHeader,
@@ -113,7 +113,7 @@ fn begun(pending: Option<Message>, kind: Data) -> Result<Message, Breach>
     }
 }
 
-// A message with a frame more, of so many bytes.
+// A message with one more frame, of so many bytes.
 fn lengthened(message: Message, more: u64) -> Result<Message, Breach>
     ensures { result ≡ lengthened message more }
 {
@@ -128,7 +128,7 @@ fn lengthened(message: Message, more: u64) -> Result<Message, Breach>
 }
 
 impl Kind {
-    /// The same with a byte more; `None` if no text goes on so.
+    /// The same with one more byte; `None` if no text goes on so.
     pub(crate) fn after(self, byte: u8) -> Option<Kind>
         ensures { result ≡ kind_after self byte }
     {
@@ -142,7 +142,7 @@ impl Kind {
     }
 }
 
-/// The message that stays pending behind a frame of it.
+/// The message that stays pending after a frame of it.
 pub(crate) fn message_after(is_final: bool, message: Message) -> Result<Option<Message>, Breach>
     ensures { result ≡ message_after is_final message }
 {
@@ -155,7 +155,7 @@ pub(crate) fn message_after(is_final: bool, message: Message) -> Result<Option<M
     }
 }
 
-/// The status code that a close tells, if it tells one.
+/// The status code that a close has, if it has one.
 pub(crate) fn closed_of(payload: &[u8]) -> Result<Option<u16>, Breach>
     ensures { result ≡ closed_of payload.now }
 {

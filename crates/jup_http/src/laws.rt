@@ -22,7 +22,7 @@ pub fn limits_are_stated()
     ensures sent { LONGEST_SENT ≡ longest_sent }
 {}
 
-/// Frames that may come, one behind the other, bring the payloads of their messages, and what their control frames tell, in order.
+/// Frames that may come, one after the other, bring the payloads of their messages, and what their control frames report, in order.
 pub fn frames_arrive()
     ensures { (pending next : Option Message) (fs : List Sent) (told : List Told) (rest : List ℕ) → AreTaken pending fs told next
         → tells (between pending) (flat_map wire fs ++ rest) ≡ told ++ tells (between next) rest }
@@ -33,7 +33,7 @@ pub fn utf8_is_taken()
     ensures { (bs : List ℕ) → IsUtf8 bs → after_bytes (Some CharPart.Whole) bs ≡ Some CharPart.Whole }
 {}
 
-/// A header that breaks a rule is told of at its last byte, and nothing after it.
+/// A header that breaks a rule is reported at its last byte, and nothing after it.
 pub fn bad_headers_are_refused()
     ensures { (pending : Option Message) (h : FrameHeader) (len : ℕ) (breach : Breach) (rest : List ℕ) → IsHeader h len → IsBytes (encode_header h len)
         → frame_of pending h len ≡ Err breach → tells (between pending) (encode_header h len ++ rest) ≡ broken breach ∷ [] }

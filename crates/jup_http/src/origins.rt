@@ -38,7 +38,7 @@ fn is_host_byte(byte: u8) -> bool
     byte.is_ascii_alphanumeric() || matches!(byte, b'-' | b'.' | b':' | b'[' | b']' | b'_')
 }
 
-/// Whether a request comes from a page of this server, or from a program that is no browser: a browser tells the origin of a page
+/// Whether a request comes from a page of this server, or from a program that is no browser. A browser sends the origin of a page
 /// that asks for a WebSocket. The line `Host` has to name this server, since a page elsewhere may have a name that points here.
 pub(crate) fn is_own(bytes: &[u8], spans: &[HeaderSpan], origins: &[&[u8]]) -> bool
     requires { All (IsHeaderWithin (length bytes.now)) spans.now }
@@ -115,7 +115,7 @@ fn is_host_of(host: &[u8], origin: &[u8]) -> bool
     }
 }
 
-// Whether two texts are equal but for the case of letters.
+// Whether two texts are equal except for the case of letters.
 fn eq_ignore_case(a: &[u8], b: &[u8]) -> bool
     ensures { result ≡ eq_ignore_case a.now b.now }
 {

@@ -14,9 +14,9 @@ const PIECE: usize = 1_024;
 /// Room for a pong, whose header has 2 bytes.
 const ROOM: usize = 128;
 
-/// Reads the payloads of the messages of data that come by `from`, one behind the other and as they come, and answers pings by `to`.
+/// Reads the payloads of the messages of data that come by `from`, one after the other and as they come, and answers pings by `to`.
 ///
-/// It takes no memory but what it has from the first, so whatever comes it keeps what it promises of the bytes that are left.
+/// It takes no memory except what it has from the start. So whatever comes, it keeps what it promises of the bytes that are left.
 #[derive(Drop)]
 pub struct MessageReader<I: Drop, O: Drop> {
     from: I,
@@ -97,7 +97,7 @@ impl<I: Read + Drop, O: Write + Drop> MessageReader<I, O> {
         unframed.given
     }
 
-    // Reads once, where all bytes are taken, and answers how many bytes came.
+    // Reads once, if all bytes are taken, and answers how many bytes came.
     fn fill(&mut self) -> io::Result<usize>
         requires { untaken self.old ≡ [] }
         ensures keeps { Keeps (payloads_left I.remaining self.old) (payloads_left I.remaining self.new) }
@@ -134,7 +134,7 @@ impl<I: Read + Drop, O: Write + Drop> MessageReader<I, O> {
         self.to.write_all(&self.pong)
     }
 
-    // What a read answers where no byte tells anything.
+    // What a read answers if no byte reports anything.
     fn end(&self) -> io::Result<usize>
         ensures { IfOk result (λ n. n ≡ 0) }
     {

@@ -34,12 +34,12 @@ pub enum Request {
     Refused(Refusal),
 }
 
-/// What the head in front of these bytes asks of a server that has these origins; `None` if it takes more bytes to tell.
+/// What the head in front of these bytes asks of a server that has these origins; `None` if it takes more bytes to decide.
 pub fn read_request(bytes: &[u8], origins: &[&[u8]]) -> Option<Request>
-    // A head of at most 64 header lines is read as it stands, whatever follows it.
+    // A head of at most 64 header lines is read as it is, whatever follows it.
     ensures head { (h : RequestHead) (rest : List ℕ) → ReadsRequest bytes.now h rest → length h.fields ≤ most_fields
         → IsSomeAnd result (Asks origins.now h.method h.target h.minor (map name_and_value h.fields)) }
-    // More is waited for only while more bytes can complete a head.
+    // It waits for more only while more bytes can complete a head.
     ensures unfinished { IsNone result → MayBecomeRequest bytes.now }
     ensures bounded { IsNone result → length bytes.now < longest_head }
 {

@@ -7,29 +7,29 @@ use crate::{Breach, Held};
 use websocket::protocol::frame::FrameHeader;
 use websocket::protocol::frame::coding::Control;
 
-/// Where a stream stands.
+/// Where a stream is.
 #[derive(Clone, Copy)]
 pub(crate) enum Place {
     /// Between two frames, or within a header.
     Head,
     /// Within the payload of a frame.
     Within(Frame),
-    /// Behind a close or a breach.
+    /// After a close or a breach.
     Over,
 }
 
-/// What frames tell beside data.
+/// What frames report beside data.
 #[derive(Clone, Copy)]
 pub enum Event {
     /// A ping with this payload, which a pong answers.
     Ping(Held),
-    /// The client closes the WebSocket, with this status code if it tells one.
+    /// The client closes the WebSocket, with this status code if it has one.
     Closed(Option<u16>),
     /// A rule is broken.
     Broken(Breach),
 }
 
-// What a byte comes to.
+// What a byte gives.
 #[derive(Clone, Copy)]
 pub(crate) enum Met {
     Nothing,
@@ -45,11 +45,11 @@ pub struct Unframed {
     pub taken: usize,
     /// Bytes of data that were given.
     pub given: usize,
-    /// What the last byte that was taken told, if it was no data.
+    /// What the last byte that was taken reported, if it was no data.
     pub event: Option<Event>,
 }
 
-/// The frames that a client sends. Contracts see where the stream stands.
+/// The frames that a client sends. Contracts see where the stream is.
 #[derive(Clone, Copy)]
 pub struct FrameStream {
     place: Place,
@@ -76,7 +76,7 @@ impl FrameStream {
         }
     }
 
-    /// Whether the client has closed the WebSocket, or broken a rule. Then no byte tells anything.
+    /// Whether the client has closed the WebSocket, or broken a rule. Then no byte reports anything.
     pub fn is_over(&self) -> bool
         ensures { IsTrue result ↔ ((standing self.now).place ≡ Place.Over) }
     {
@@ -119,7 +119,7 @@ impl FrameStream {
         }
     }
 
-    // Takes a byte, and puts what it brings behind the data that was given.
+    // Takes a byte, and puts what it brings after the data that was given.
     fn put(&mut self, byte: u8, buf: &mut [u8], given: &mut usize) -> Option<Event>
         requires { given.old < length buf.old }
         ensures given { given.new ≤ length buf.new }
@@ -272,7 +272,7 @@ impl FrameStream {
         }
     }
 
-    // The stream stands between two frames, and the last byte came to this.
+    // The stream is between two frames, and the last byte came to this.
     fn rest(&mut self, pending: Option<Message>, met: Met) -> Met
         ensures { stepped result self.new ≡ record { next = between pending; told = told_by met } }
     {
@@ -290,7 +290,7 @@ impl FrameStream {
         self.stop(Event::Broken(breach))
     }
 
-    // The stream is over, and told this at last.
+    // The stream is over, and reported this at last.
     fn stop(&mut self, event: Event) -> Met
         ensures { stepped result self.new ≡ record { next = over; told = told_by_event event } }
     {

@@ -17,7 +17,7 @@ pub(crate) enum CharPart {
 }
 
 impl CharPart {
-    /// The same with a byte more; `None` if no text goes on so.
+    /// The same with one more byte; `None` if no text goes on so.
     pub(crate) fn after(self, byte: u8) -> Option<CharPart>
         ensures { result ≡ after_byte self byte }
     {

@@ -1,4 +1,4 @@
--- What the lines of a user come to, one by one.
+-- What the lines of a user give, one by one.
 use Rattle.std.proofs.Common.{◌≡◌, ◌≢◌, ◌≤◌, ◌<◌, ◌+◌, ◌-◌, ℕ, List, [], ◌∷◌, ◌++◌, length, map, Option, Some, None, inl, inr, refl, sym, ap, ◌∙◌, subst, arith, Bool, true, false, if◌then◌else◌, Vec, Global}
 use Rattle.std.specs.List.{AllByRecursion}
 use Rattle.std.proofs.lemmas.List.{append_assoc, length-append, length-map, map-append}
@@ -48,7 +48,7 @@ no_request first others Bad are is e = absurd is
 
 -- ---- lines of a batch
 
--- what the line behind others makes of the commands so far
+-- what the line after others makes of the commands so far
 pub record IsNext (line : List ℕ) (old new : Option (List Command)) : Type 0 where
   pub more : (others : List (List ℕ)) → AreCommands others old → AreCommands (others ++ line ∷ []) new
 

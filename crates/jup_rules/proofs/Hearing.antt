@@ -16,7 +16,7 @@ use Rattle.jup_rules.specs.Messages.{HasSaid, IsRefused}
 use Rattle.jup_rules.specs.Keepers.{Keeper}
 use Rattle.jup_rules.specs.Gates.{says_edit, counted, HasHeard, incoming_of, edits_with, next_of, edits_after, Leads}
 
--- one edit more, where the count may have stopped
+-- one more edit, if the count may have stopped
 counted_more : (n : ℕ) → counted (counted n + 1) ≡ counted (n + 1)
 counted_more n =
     let low : counted n ≤ n = min-le_left n 4294967295 in
@@ -30,7 +30,7 @@ counted_more n =
     let again : counted (n + 1) ≤ counted n + 1 = omega (arith, back) in
     le_antisymm (le-min here (min-le_right (counted n + 1) 4294967295)) (le-min again most)
 
--- one that is said more
+-- one more that the site says
 count_more : (saids : List Said) (said : Said) → count_by says_edit (saids ++ said ∷ []) ≡ count_by says_edit saids + count_by says_edit (said ∷ [])
 count_more saids said = sum_by-append _ saids (said ∷ [])
 

@@ -2,7 +2,7 @@
 use Rattle.std.proofs.Common.{◌≡◌, ◌≤◌, ℕ, List, ◌++◌, length, take, drop, arith, sym, ap, ◌∙◌}
 use Rattle.std.proofs.lemmas.List.{take-append-le, take-append-drop, take_all, length-take-le}
 
--- a piece that was taken of the front of some bytes stands at the front of the room that it was put into, and the rest follows
+-- a piece that was taken of the front of some bytes is at the front of the room that it was put into, and the rest follows
 pub taken_front : (len : ℕ) (front back all piece room rest : List ℕ) → front ++ back ≡ all → len ≤ length front → piece ≡ take len front → rest ≡ drop len all
     → all ≡ take len (piece ++ room) ++ rest
 taken_front len front back all piece room rest parts fits piece_is rest_is =

@@ -1,4 +1,4 @@
--- What sessions and programs bound by themselves. No message and no state hangs on it.
+-- What sessions and programs bound by themselves. No message and no state depends on it.
 use Rattle.std.specs.Prelude.{ℕ, ◌*◌}
 
 -- messages that one fetch asks for
@@ -9,7 +9,7 @@ most_fetched = 64
 abbrev pub most_pongs : ℕ
 most_pongs = 1024
 
--- sessions that a daemon may be told to serve
+-- sessions that a daemon may be asked to serve
 abbrev pub most_sessions : ℕ
 most_sessions = 1024
 

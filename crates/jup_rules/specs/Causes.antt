@@ -7,7 +7,7 @@ use Rattle.jup_rules.specs.declared.daemon_end.Attempt.TheVariants.{ReadLayout, 
 use Rattle.jup_rules.specs.declared.daemon_end.DaemonEnd.{DaemonEnd}
 use Rattle.jup_rules.specs.declared.daemon_end.DaemonEnd.TheVariants.{Words, Layout, LongLayout, Io, NoMemory as DaemonNoMemory, Held}
 
--- a fault, and a failed read or write. Want of memory says so itself, and the caller tells where no link could be had
+-- a fault, and a failed read or write. `NoMemory` has its own text, and the caller knows the address to which no link could be made
 abbrev pub client_end_is_explained : ClientEnd → Bool
 client_end_is_explained (ClientFault number) = true
 client_end_is_explained ClientNoMemory = false
@@ -15,7 +15,7 @@ client_end_is_explained Unconnected = false
 client_end_is_explained ReadFailed = true
 client_end_is_explained WriteFailed = true
 
--- the caller tells where it was to listen
+-- the caller knows where it was to listen
 abbrev pub attempt_is_explained : Attempt → Bool
 attempt_is_explained ReadLayout = true
 attempt_is_explained Listen = false

@@ -14,7 +14,7 @@ use Rattle.jup_rules.specs.declared.faults.SessionFault.TheVariants.{Hub, NoMemo
 use Rattle.jup_rules.specs.declared.client_end.ClientEnd.{ClientEnd}
 use Rattle.jup_rules.specs.declared.client_end.ClientEnd.TheVariants.{Fault, NoMemory, ReadFailed, WriteFailed}
 
--- want of memory has a case of its own, as have reads and writes; all else is its number
+-- no memory has a case of its own, as have reads and writes; all else is its number
 abbrev pub end_of_fault : SessionFault → ClientEnd
 end_of_fault SessionNoMemory = NoMemory
 end_of_fault (Hub (Star StarNoMemory)) = NoMemory
@@ -27,11 +27,11 @@ abbrev pub end_of_stop : Stop → ClientEnd
 end_of_stop End = Fault 43
 end_of_stop (StopFault fault) = end_of_fault fault
 
--- lines that are no board; line 0 is want of memory
+-- lines that are no board; line 0 means that an allocation failed
 abbrev pub end_of_layout : LayoutFault → ClientEnd
 end_of_layout fault = if fault.line == 0 then NoMemory else Fault fault.number
 
--- a number is 8 where memory was refused, and only there
+-- a number is 8 exactly if an allocation failed
 abbrev pub end_of_number : ℕ → ClientEnd
 end_of_number number = if number == 8 then NoMemory else Fault number
 

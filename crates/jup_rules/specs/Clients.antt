@@ -1,4 +1,4 @@
--- What a client sends and tells.
+-- What a client sends and prints.
 use Rattle.std.specs.Prelude.{◌≡◌, ◌==◌, ◌⊎◌, ℕ, ◌+◌, Bool, false, if◌then◌else◌, List, Option, Some, None, Result, Ok, Err, ◌∷◌, []}
 use Rattle.std.specs.Option.{option_map}
 use Rattle.jup_batch.specs.BatchBoards.{BoardBatch}
@@ -35,7 +35,7 @@ use Rattle.jup_star.specs.declared.faults.OpenFault.{OpenFault}
 use Rattle.jup_layout.specs.declared.layouts.LayoutFault.{LayoutFault}
 use Rattle.jup_layout.specs.Layouts.{board_with}
 
--- a line that does not belong where it stands: an error bears its own number, and every other is misplaced
+-- a line out of its place: an error bears its own number, and every other is misplaced
 abbrev pub refusal_of : Line → ClientEnd
 refusal_of (line.Error number) = Fault number
 refusal_of _ = Fault 44
@@ -57,19 +57,19 @@ board_line_in (line.Char name value) = Ok (Some (line.Char name value))
 board_line_in (line.Item name label) = Ok (Some (line.Item name label))
 board_line_in other = Err (refusal_of other)
 
--- what is said to the server and what the user is told, together, and the latter by itself
+-- what the client says to the server and what the user sees, together, and the latter by itself
 abbrev pub saying : Said → Told → Answer
 saying said told = record { said = Some said; told = told }
 
 abbrev pub telling : Told → Answer
 telling told = record { said = None; told = told }
 
--- an edit that was made is sent and told; a refusal is told by its number, but want of memory ends the client
+-- the client sends an edit that was made, and shows it to the user. It shows a refusal by its number, but a failed allocation ends the client
 abbrev pub edit_answer : Result Made EditFault → Result Answer ClientEnd
 edit_answer (Ok made) = Ok (saying (SaysUp made.up) (told.Made made.edit))
 edit_answer (Err fault) = if is_edit_memory fault then Err NoMemory else Ok (telling (told.Refused (edit_fault_number fault)))
 
--- pings are numbered from 1, and where no number is left the client ends
+-- pings are numbered from 1, and if no number is left the client ends
 abbrev pub sync_answer : ℕ → Result Answer ClientEnd
 sync_answer pings = if pings == 4294967295 then Err (Fault 46) else Ok (saying (SaysUp (UpPing (pings + 1))) told.Synced)
 
@@ -95,7 +95,7 @@ is_pong pings (DownPong count) = count == pings
 is_pong pings (DownOp msg) = false
 is_pong pings (DownAck count) = false
 
--- the message that lines come to, and none where they are held; a line that is no message is refused
+-- the message that lines give, and none if they are held; a line that is no message is refused
 abbrev pub down_in : Gathered → Result (Option (Down BoardBatch)) ClientEnd
 down_in (Whole msg) = Ok (Some (DownOp msg))
 down_in (Plain (line.Ack count)) = Ok (Some (DownAck count))
@@ -104,7 +104,7 @@ down_in (Plain other) = Err (refusal_of other)
 down_in Held = Ok None
 down_in Misplaced = Err (Fault 44)
 
--- an acknowledgement that is owed is said
+-- the client says an acknowledgement that is owed
 abbrev pub heard_answer : ℕ → Down BoardBatch → Result (Option (Up BoardBatch)) SiteFault → Result Heard ClientEnd
 heard_answer pings down (Ok owed) = Ok (record { said = option_map (λ up. SaysUp up) owed; is_synced = is_pong pings down })
 heard_answer pings down (Err fault) = Err (end_of_site fault)
@@ -113,18 +113,18 @@ heard_answer pings down (Err fault) = Err (end_of_site fault)
 abbrev pub Delivers : Down BoardBatch → ClientState → Result Heard ClientEnd → ClientState → Type 0
 Delivers down c r d = (outcome : Result (Option (Up BoardBatch)) SiteFault) × DeliverAnswers down c.site d.site outcome × (r ≡ heard_answer c.pings down outcome) × (d.pings ≡ c.pings)
 
--- what a client does for what lines come to
+-- what a client does for what lines give
 abbrev pub HearsDown : Result (Option (Down BoardBatch)) ClientEnd → ClientState → Result Heard ClientEnd → ClientState → Type 0
 HearsDown (Ok (Some down)) c r d = Delivers down c r d
 HearsDown (Ok None) c r d = (r ≡ Ok (record { said = None; is_synced = false })) × (d.site ≡ c.site) × (d.pings ≡ c.pings)
 HearsDown (Err end) c r d = (r ≡ Err end) × (d.site ≡ c.site) × (d.pings ≡ c.pings)
 
--- a line is gathered, and what it comes to is heard; for want of memory nothing is
+-- a line is gathered, and the client hears what it gives; if an allocation fails, it hears nothing
 abbrev pub Hears : Line → ClientState → Result Heard ClientEnd → ClientState → Type 0
 Hears line c r d = ((r ≡ Err NoMemory) × (d ≡ c))
     ⊎ ((gathered : Gathered) × Gathers c.gather line gathered d.gather × HearsDown (down_in gathered) c r d)
 
--- a client that a server greeted: its site shows the board of the lines; or the lines are none, or no site is opened so, or memory was refused
+-- a client that a server greeted: its site shows the board of the lines; or the lines are none, or no site is opened so, or an allocation failed
 abbrev pub IsOpened : ℕ → ℕ → List Line → Result ClientState ClientEnd → Type 0
 IsOpened site limit lines (Ok c) = (windows : Windows) × (board_with lines ≡ Ok windows) × (site_open_fault site limit windows ≡ None) × (c ≡ record { site = opened_site site limit windows; gather = Some []; pings = 0 })
 IsOpened site limit lines (Err end) = (end ≡ NoMemory) ⊎ ((fault : LayoutFault) × (board_with lines ≡ Err fault) × (end ≡ end_of_layout fault))

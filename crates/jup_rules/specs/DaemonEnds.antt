@@ -17,11 +17,11 @@ use Rattle.jup_layout.specs.declared.layouts.LayoutFault.{LayoutFault}
 use Rattle.jup_rules.specs.declared.daemon_end.DaemonEnd.{DaemonEnd}
 use Rattle.jup_rules.specs.declared.daemon_end.DaemonEnd.TheVariants.{Words, Layout, NoMemory}
 
--- want of memory is told as such; other refusals of the words say themselves what is wrong with them
+-- no memory is reported as such; other refusals of the words have their own text
 abbrev pub IsEndOfWords : WordsError → DaemonEnd → Type 0
 IsEndOfWords error end = (kind_of error ≡ words.OutOfMemory → end ≡ NoMemory) × (kind_of error ≢ words.OutOfMemory → end ≡ Words error)
 
--- want of memory has the line 0
+-- no memory has the line 0
 abbrev pub end_of_layout : LayoutFault → DaemonEnd
 end_of_layout fault = if fault.line == 0 then NoMemory else Layout fault
 
@@ -43,6 +43,6 @@ pub record IsFaultOf (text : List ℕ) (limit : ℕ) (fault : LayoutFault) : Typ
   pub of_line : fault.line ≢ 0 → Describes text (Err fault)
   pub of_whole : fault.line ≡ 0 → IsUnopened text limit fault.number
 
--- want of memory, or a fault of the layout
+-- no memory, or a fault of the layout
 abbrev pub IsRefusalOf : List ℕ → ℕ → DaemonEnd → Type 0
 IsRefusalOf text limit end = (end ≡ NoMemory) ⊎ ((fault : LayoutFault) × (end ≡ Layout fault) × IsFaultOf text limit fault)

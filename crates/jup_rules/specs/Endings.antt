@@ -1,4 +1,4 @@
--- How a session ends: its last line, and which ending stands.
+-- How a session ends: its last line, and which ending counts.
 use Rattle.std.specs.Prelude.{Option, Some, None}
 use Rattle.jup_wire.specs.declared.line.Line.{Line}
 use Rattle.jup_wire.specs.declared.line.Line.TheVariants.{Bye as ByeLine, Error}
@@ -15,7 +15,7 @@ last_line Bye = ByeLine
 last_line Gone = ByeLine
 last_line (Fault number) = Error number
 
--- the ending that was noted first stands
+-- the ending that was noted first counts
 abbrev pub standing : Option Ending → Ending → Ending
 standing None later = later
 standing (Some noted) later = noted
@@ -24,7 +24,7 @@ standing (Some noted) later = noted
 abbrev pub ending_of : SessionFault → Ending
 ending_of fault = Fault (session_fault_number fault)
 
--- the site is gone where its bytes end between lines
+-- the site is gone if its bytes end between lines
 abbrev pub ended_by : Stop → Ending
 ended_by End = Gone
 ended_by (StopFault fault) = ending_of fault

@@ -39,7 +39,8 @@ counted edits = min edits 4294967295
 abbrev pub HasHeard : List Line → List Said → Keeper → Type 0
 HasHeard lines saids keeper = HasSaid lines saids keeper.0 × (keeper.1 ≡ counted (count_by says_edit saids))
 
--- what a message waits for, of a site that sent so many edits before: an edit for the gate, which is asked for the next one, and a ping until few enough pongs are owed
+-- what a message of a site that sent so many edits before waits for. An edit waits for the gate, which is asked for the next edit, and a ping until few enough pongs are
+-- owed
 abbrev pub awaits_of : ℕ → Up BoardBatch → Awaits
 awaits_of edits (UpOp msg) = Gate (counted (edits + 1))
 awaits_of edits (UpPing number) = Pongs
@@ -55,7 +56,7 @@ edits_with edits (UpAck count) = edits
 abbrev pub incoming_of : ℕ → Up BoardBatch → Incoming
 incoming_of edits up = record { up = up; awaits = awaits_of edits up }
 
--- what comes next where a site that sent so many edits has said this by a line, or where the line was refused
+-- what comes next if a site that sent so many edits has said this by a line, or if the line was refused
 abbrev pub next_of : ℕ → Result (Option Said) SessionFault → Next
 next_of edits (Ok None) = NextLine
 next_of edits (Ok (Some (SaysUp up))) = Take (incoming_of edits up)
@@ -69,8 +70,8 @@ edits_after edits (Ok (Some (SaysUp up))) = edits_with edits up
 edits_after edits (Ok (Some SaysBye)) = edits
 edits_after edits (Err fault) = edits
 
--- Behind those lines, by which the site had said all that, one line leads to what comes next: another line, where by this one it says nothing yet; the message
--- that it says, once what that waits for has come; or the end, where it says bye, and where the line is refused
+-- After those lines, by which the site had said all that, one line leads to what comes next. That is another line, if by this one the site says nothing yet.
+-- It is the message that the site says, once what that waits for has come. It is the end, if the site says bye, or if the line is refused.
 abbrev pub Leads : List Line → List Said → Keeper → Line → Next → Keeper → Type 0
 Leads lines saids old line NextLine new = HasHeard (lines ++ line ∷ []) saids new
 Leads lines saids old line (Take incoming) new = HasHeard (lines ++ line ∷ []) (saids ++ SaysUp incoming.up ∷ []) new
@@ -90,7 +91,7 @@ rung_by (UpOp msg) = All
 rung_by (UpAck count) = Own
 rung_by (UpPing number) = Own
 
--- what follows from the star's answer: where the site has no link any more it is gone, and any other refusal ends the session with its number
+-- what follows from the star's answer: if the site has no link any more it is gone, and any other refusal ends the session with its number
 abbrev pub outcome : Up BoardBatch → Result (Option ℕ) HubFault → Result Ring Ending
 outcome up (Ok place) = Ok (rung_by up)
 outcome up (Err (Star NoLink)) = Err Gone

@@ -8,8 +8,8 @@ use Rattle.jup_rules.specs.declared.inbox.Given.TheVariants.{Bytes, End}
 abbrev pub Arrived : Type 0
 Arrived = List ℕ × Option LinkEnd
 
--- What a reader is given: first the bytes that wait, in the order in which they came, at least one of them; once there are none how the
--- link ended; and nothing only before it has
+-- What a reader is given: first the bytes that wait, at least one of them, in the order in which they came. Once there are none, it is
+-- given how the link ended. It is given nothing only before the link has ended
 abbrev pub AreGiven : Arrived → Arrived → List ℕ → Option Given → Type 0
 AreGiven before behind buf (Some (Bytes len)) = (1 ≤ len) × (len ≤ length buf) × (before.0 ≡ take len buf ++ behind.0) × (behind.1 ≡ before.1)
 AreGiven before behind buf (Some (End end)) = (before ≡ ([], Some end)) × (behind ≡ before)

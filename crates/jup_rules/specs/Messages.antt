@@ -1,4 +1,4 @@
--- What a site says and what it is told, as what a link brings: an edit is several lines, and all else is one.
+-- What a site says and what it hears, as the pieces that a link carries: an edit is several lines, and all else is one.
 use Rattle.std.specs.Prelude.{◌≡◌, ◌≢◌, ◌⊎◌, Bool, true, false, List, [], ◌∷◌, ◌++◌, map, Option, Some, None, Result, Ok, Err}
 use Rattle.jup_batch.specs.BatchBoards.{BoardBatch}
 use Rattle.jup_star.specs.declared.messages.Up.{Up}
@@ -43,7 +43,7 @@ is_pong (DownPong number) = true
 is_pong (DownOp msg) = false
 is_pong (DownAck count) = false
 
--- what lines come to is this; nothing is said yet where they are held, and what else no site says is misplaced
+-- what lines give is this: a site says nothing yet if they are held, and what else no site says is misplaced
 abbrev pub IsSaidBy : Gathered → Result (Option Said) SessionFault → Type 0
 IsSaidBy gathered (Ok (Some said)) = pieces_of gathered ≡ said_piece said ∷ []
 IsSaidBy gathered (Ok None) = gathered ≡ Held
@@ -53,11 +53,11 @@ IsSaidBy gathered (Err fault) = (fault ≡ Misplaced) × (gathered ≢ Held) × 
 abbrev pub HasSaid : List Line → List Said → Option (List Line) → Type 0
 HasSaid lines saids held = HasGathered lines (map said_piece saids) held
 
--- whatever comes behind it, by a line behind those that are held a site says nothing
+-- whatever comes after it, by a line after those that are held a site says nothing
 abbrev pub IsUnsaid : Option (List Line) → Line → Type 0
 IsUnsaid None line = Unit {0}
 IsUnsaid (Some part) line = (said : Said) (more later : List Line) → IsPiece (said_piece said) → part ++ line ∷ more ≢ piece_lines (said_piece said) ++ later
 
--- why a line of a site is refused: memory was, which changes nothing; or by that line no site says anything
+-- why a line of a site is refused: an allocation failed, which changes nothing; or by that line no site says anything
 abbrev pub IsRefused : SessionFault → Option (List Line) → Line → Option (List Line) → Type 0
 IsRefused fault old line new = ((fault ≡ NoMemory) × (new ≡ old)) ⊎ ((fault ≡ Misplaced) × IsUnsaid old line)

@@ -34,7 +34,7 @@ client_end_status Unconnected = 1
 client_end_status ClientReadFailed = 1
 client_end_status ClientWriteFailed = 1
 
--- 1 for a failed read, write, bind or accept, 2 for the words, 3 for memory, 5 for the layout, 6 where the hub can't be closed
+-- 1 for a failed read, write, bind or accept, 2 for the words, 3 for memory, 5 for the layout, 6 if the hub can't be closed
 abbrev pub daemon_end_status : DaemonEnd → ℕ
 daemon_end_status (Words error) = 2
 daemon_end_status (Layout fault) = 5

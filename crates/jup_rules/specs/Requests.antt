@@ -25,7 +25,7 @@ IsRequest Show = Unit {0}
 IsRequest Quit = Unit {0}
 IsRequest Bad = ⊥
 
--- these are the lines of that request, with nothing before or behind them; or it is bad, and they are those of none
+-- these are the lines of that request, with nothing before or after them; or it is bad, and they are those of none
 abbrev pub IsRequestOf : List (List ℕ) → Request → Type 0
 IsRequestOf lines request = (IsRequest request × (lines ≡ request_lines request))
     ⊎ ((request ≡ Bad) × ((other : Request) → IsRequest other → lines ≢ request_lines other))
@@ -54,7 +54,7 @@ abbrev pub IsHeld : List (List ℕ) → Option Begun → Type 0
 IsHeld lines None = lines ≡ []
 IsHeld lines (Some begun) = IsBegunBy lines begun
 
--- what lines come to: they are held where some are missing; else they are a request
+-- what lines give: they are held if some are missing; else they are a request
 abbrev pub ComesTo : List (List ℕ) → Option Request → Option Begun → Type 0
 ComesTo lines None held = IsHeld lines held
 ComesTo lines (Some request) held = IsRequestOf lines request × (held ≡ None)

@@ -15,7 +15,7 @@ line_of words = words ++ 10 ∷ []
 abbrev pub numbered : List ℕ → ℕ → List ℕ
 numbered word number = word ++ 32 ∷ decimal number
 
--- what a client prints to tell its user, and the board where it was asked for
+-- what a client prints for its user, and the board if it was asked for
 abbrev pub told_text : Told → Windows → List ℕ
 told_text (Site number) board = line_of (numbered (codes "site") number)
 told_text (Made edits) board = codes "made " ++ line_of (edits_text edits)

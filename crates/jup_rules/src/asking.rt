@@ -38,8 +38,8 @@ impl Asking {
         Asking { part: None }
     }
 
-    /// Takes the next line, and answers what the lines ask for; nothing where lines of a batch are missing. A line of
-    /// a batch that is no command makes it bad once its last line is there. Want of memory changes nothing.
+    /// Takes the next line, and answers what the lines ask for; nothing if lines of a batch are missing. A line of a
+    /// batch that is no command makes it bad once its last line is there. If an allocation fails, nothing changes.
     pub fn push(&mut self, alloc: Global, line: &[u8]) -> Result<Option<Request>, NoMemory>
         ensures asked { IfOk result (λ asked. (lines : List (List ℕ))
             → IsHeld lines self.old → ComesTo (lines ++ line.now ∷ []) asked self.new) }
@@ -53,7 +53,7 @@ impl Asking {
         Ok(step.request)
     }
 
-    /// What the end of the lines asks for: to quit, where no batch has begun. One that has is bad, and is forgotten.
+    /// What the end of the lines asks for: to quit, if no batch has begun. One that has is bad, and is forgotten.
     pub fn end(&mut self) -> Request
         ensures quit { self.old ≡ None → result ≡ Request.Quit }
         ensures bad { self.old ≢ None → result ≡ Request.Bad }
@@ -66,7 +66,7 @@ impl Asking {
     }
 }
 
-/// What is held behind a line, or what the line completes.
+/// What is held after a line, or what the line completes.
 #[derive(Drop)]
 struct Step {
     part: Option<BatchPart>,

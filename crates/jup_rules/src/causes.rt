@@ -1,7 +1,7 @@
 //! What went wrong, for people.
 
-/// What went wrong where a fault has this number, in the words of its own error type; 11, 22 and 43 stand for several faults, and
-/// their words fit each. A peer is told the number alone.
+/// What went wrong if a fault has this number, in the words of its own error type. The numbers 11, 22 and 43 have several faults
+/// each, and their words fit each. A peer gets the number alone.
 pub fn cause_of(number: u32) -> &'static str {
     match number {
         8 => "no memory",

@@ -17,12 +17,12 @@ use thiserror::Error;
 /// Why a client ends early.
 #[derive(Clone, Copy, Debug, PartialEq, Eq, Error)]
 pub enum ClientEnd {
-    /// The number of a fault in what the server sent, or of one that the server told.
+    /// The number of a fault in what the server sent, or of one that the server reported.
     #[error("fault {0}")]
     Fault(u32),
     #[error("no memory")]
     NoMemory,
-    /// No link could be had.
+    /// It could not connect.
     #[error("io fault")]
     Unconnected,
     #[error("io fault")]
@@ -44,7 +44,7 @@ impl ClientEnd {
         }
     }
 
-    /// The end of a client that could not connect: for want of memory, or as it is.
+    /// The end of a client that could not connect: because an allocation failed, or as it is.
     pub fn of_connecting(error: &io::Error) -> ClientEnd
         ensures memory { error_kind error.now ≡ ErrorKind.OutOfMemory → result ≡ ClientEnd.NoMemory }
         ensures other { error_kind error.now ≢ ErrorKind.OutOfMemory → result ≡ ClientEnd.Unconnected }
@@ -56,8 +56,8 @@ impl ClientEnd {
         }
     }
 
-    /// What stands behind this end, for people; `None` where its own text says so, and where no link could be had, since what was
-    /// called is known to the caller.
+    /// The cause of this end, for people. It is `None` if the end's own text says so, and if no link could be made: the caller
+    /// knows the address.
     pub fn cause(self) -> Option<&'static str>
         ensures { IsSome result ↔ (client_end_is_explained self ≡ true) }
     {

@@ -34,7 +34,7 @@ pub struct Answer {
     pub told: Told,
 }
 
-/// What a client does for a line of its server: it says this, if anything. `is_synced` where the line answers its last ping.
+/// What a client does for a line of its server: it says this, if anything. `is_synced` if the line answers its last ping.
 #[derive(Drop)]
 pub struct Heard {
     pub said: Option<Said>,
@@ -42,7 +42,7 @@ pub struct Heard {
 }
 
 /// A client beside its link: its site, the lines that it holds of a message of its server, and the number of its
-/// last ping, from 1; 0 where it sent none.
+/// last ping. Pings are numbered from 1; the number is 0 if it sent none.
 #[derive(Drop)]
 pub struct ClientState {
     pub site: Site,
@@ -101,7 +101,7 @@ impl ClientState {
         })
     }
 
-    /// Hears a line of the server, behind the line `ready`. A message of several lines is delivered by its last.
+    /// Hears a line of the server, after the line `ready`. A message of several lines is delivered by its last.
     pub fn hear(&mut self, alloc: Global, line: &Line) -> Result<Heard, ClientEnd>
         ensures { Hears line.now self.old result self.new }
     {
@@ -115,7 +115,7 @@ impl ClientState {
         }
     }
 
-    // Delivers a message, and acknowledges it where that is owed.
+    // Delivers a message, and acknowledges it if that is owed.
     fn deliver(&mut self, alloc: Global, down: &Down) -> Result<Heard, ClientEnd>
         ensures delivers { Delivers down.now self.old result self.new }
         ensures held { self.new.gather ≡ self.old.gather }
@@ -128,7 +128,7 @@ impl ClientState {
     }
 }
 
-// The message to a site that lines come to; none where they are held.
+// The message to a site that lines give; none if they are held.
 fn down_in(gathered: Gathered) -> Result<Option<Down>, ClientEnd>
     ensures { result ≡ down_in gathered }
 {
@@ -152,7 +152,7 @@ pub fn greeting_in(line: &Line) -> Result<(u32, u32), ClientEnd>
     }
 }
 
-/// A line of the board that a server greets with; none behind its last.
+/// A line of the board that a server greets with; none after its last.
 pub fn board_line_in(line: &Line) -> Result<Option<Line>, ClientEnd>
     ensures { result ≡ board_line_in line.now }
 {
@@ -191,7 +191,7 @@ fn edit_answer(outcome: Result<Made, EditFault>) -> Result<Answer, ClientEnd>
     }
 }
 
-// What a line means where it does not belong: the fault that it tells, or one of its own.
+// What a line means where it does not belong: the fault that it reports, or one of its own.
 fn refusal_of(line: &Line) -> ClientEnd
     ensures { result ≡ refusal_of line.now }
 {

@@ -23,7 +23,7 @@ pub enum Attempt {
 }
 
 impl Attempt {
-    // What is told where it failed. Whoever was to listen knows where.
+    // What it prints if the attempt failed. The caller knows the address to listen at.
     fn cause(self) -> Option<&'static str>
         ensures { IsSome result ↔ (attempt_is_explained self ≡ true) }
     {
@@ -54,7 +54,7 @@ pub enum DaemonEnd {
 }
 
 impl DaemonEnd {
-    /// The end of a daemon that tried this and failed so: for want of memory, or by a failed read or write.
+    /// The end of a daemon that tried this and failed so: because an allocation failed, or by a failed read or write.
     pub fn of_failure(attempt: Attempt, error: &io::Error) -> DaemonEnd
         ensures memory { error_kind error.now ≡ ErrorKind.OutOfMemory → result ≡ DaemonEnd.NoMemory }
         ensures other { error_kind error.now ≢ ErrorKind.OutOfMemory → result ≡ DaemonEnd.Io attempt }
@@ -66,7 +66,7 @@ impl DaemonEnd {
         }
     }
 
-    /// What stands behind this end, for people; `None` where its own text says so, and for an address, which the caller has.
+    /// The cause of this end, for people. It is `None` if the end's own text says so, and for an address, which the caller has.
     pub fn cause(&self) -> Option<&'static str>
         ensures { IsSome result ↔ (daemon_end_is_explained self.now ≡ true) }
     {
@@ -120,7 +120,7 @@ impl From<LayoutFault> for DaemonEnd {
     ghost from_gives = { λ fault made. made ≡ end_of_layout fault };
 
     fn from(fault: LayoutFault) -> DaemonEnd {
-        // A layout that memory was refused for has no line.
+        // A layout for which an allocation failed has no line.
         if fault.line == 0 {
             DaemonEnd::NoMemory
         } else {

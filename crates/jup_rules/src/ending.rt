@@ -29,8 +29,8 @@ impl Ending {
         }
     }
 
-    /// How a session ends where no further line of its site comes, and these lines are held of a message: the
-    /// site is gone only where its bytes end between messages.
+    /// How a session ends if no further line of its site comes, and these lines are held of a message. The
+    /// site is gone only if its bytes end between messages.
     pub fn behind(gather: &Gather, stop: Stop) -> Ending
         ensures early { stop ≡ Stop.End → IsSomeAnd gather.now (λ part. part ≢ []) → result ≡ Ending.Fault 43 }
         ensures gone { stop ≡ Stop.End → gather.now ≡ Some [] → result ≡ Ending.Gone }
@@ -42,7 +42,7 @@ impl Ending {
         }
     }
 
-    /// The ending that stands where this one comes after what was noted: the first that was.
+    /// The ending that counts if this one comes after what was noted: the first that was noted.
     pub fn after(self, noted: Option<Ending>) -> Ending
         ensures { result ≡ standing noted self }
     {

@@ -9,7 +9,7 @@ use thiserror::Error;
 /// Why a session ends early.
 #[derive(Clone, Copy, Debug, PartialEq, Eq, Error)]
 pub enum SessionFault {
-    /// The hub refused a call, or the star behind it.
+    /// The hub refused a call, or its star did.
     #[error(transparent)]
     Hub(HubFault),
     /// Bytes that are no line, or that end within one.

@@ -18,7 +18,7 @@ pub fn is_last_fetch(count: usize) -> bool
     count < MOST_FETCHED as usize
 }
 
-/// Why a session ends whose fetch was refused so. `None` where its site has no link any more: it has left, and the other half knows why.
+/// Why a session ends whose fetch was refused so. `None` if its site has no link any more: it has left, and the other half knows why.
 pub fn refused_fetch(fault: HubFault) -> Option<SessionFault>
     ensures unlinked { IfNone result (fault ≡ Star NoLink) }
     ensures refused { IfSome result (λ ending. (fault ≢ Star NoLink) × (ending ≡ SessionFault.Hub fault)) }

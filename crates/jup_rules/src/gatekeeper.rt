@@ -13,8 +13,8 @@ use jup_wire::Line;
 use std::alloc::Global;
 use std::marker::Model;
 
-/// Hears the lines of a site behind its greeting, one by one: which messages they are, which of the site's edits each edit
-/// is, and what has to come before the star takes a message.
+/// Hears the lines of a site after its greeting, one by one. It says which messages they are, which of the site's edits
+/// each edit is, and what has to come before the star takes a message.
 ///
 /// Contracts see the lines that are held of a message, and how many edits the site has sent.
 #[derive(Drop)]
@@ -43,10 +43,10 @@ impl Gatekeeper {
         }
     }
 
-    /// Hears the next line, and tells what comes next. A line that is misplaced, one that no site says, and want of memory
-    /// end the session.
+    /// Hears the next line, and answers what comes next. A line that is misplaced, one that no site says, and a failed
+    /// allocation end the session.
     pub fn hear(&mut self, alloc: Global, line: &Line) -> Next
-        // Whatever came before: by all the lines so far the site said what was told, and each edit is counted.
+        // Whatever came before: by all the lines so far the site said what was answered, and each edit is counted.
         ensures { (lines : List Line) (saids : List Said) → HasHeard lines saids self.old
             → Leads lines saids self.old line.now result self.new }
     {
@@ -54,7 +54,7 @@ impl Gatekeeper {
         self.next(said)
     }
 
-    // What comes next where the site has said this.
+    // What comes next once the site has said this.
     fn next(&mut self, said: Result<Option<Said>, SessionFault>) -> Next
         ensures next { result ≡ next_of self.old.1 said }
         ensures counted { self.new ≡ (self.old.0, edits_after self.old.1 said) }
@@ -67,7 +67,7 @@ impl Gatekeeper {
         }
     }
 
-    // A message, which is counted where it is an edit.
+    // A message, which is counted if it is an edit.
     fn admit(&mut self, up: Up) -> Incoming
         ensures incoming { result ≡ incoming_of self.old.1 up }
         ensures counted { self.new ≡ (self.old.0, edits_with self.old.1 up) }
@@ -83,7 +83,7 @@ impl Gatekeeper {
         Incoming { up, awaits }
     }
 
-    /// How the session ends where no further line comes: the site is gone only where its bytes end between messages.
+    /// How the session ends if no further line comes: the site is gone only if its bytes end between messages.
     pub fn end(&self, stop: Stop) -> Ending
         ensures early { stop ≡ Stop.End → IsSomeAnd self.now.0 (λ part. part ≢ []) → result ≡ Ending.Fault 43 }
         ensures gone { stop ≡ Stop.End → self.now.0 ≡ Some [] → result ≡ Ending.Gone }

@@ -50,8 +50,8 @@ impl Model for Inbox {
 }
 
 impl Inbox {
-    /// Bytes that one read of the link may ask for. Room for so many is made once, so that a piece needs no memory where nothing
-    /// waits: whoever puts it waits for the reader to take some only where there are some.
+    /// Bytes that one read of the link may ask for. Room for so many is made once, so that a piece needs no memory if nothing
+    /// waits. The thread that puts it waits for the reader to take some only if there are some.
     pub const PIECE: usize = 16_384;
 
     /// Nothing came yet.
@@ -78,7 +78,7 @@ impl Inbox {
         self.bytes.is_empty() && self.end.is_none()
     }
 
-    /// Puts bytes behind those that wait. False, and nothing is put, where there is no room for them, or no memory.
+    /// Puts bytes after those that wait. False, and nothing is put, if there is no room for them, or no memory.
     pub fn put(&mut self, bytes: &[u8]) -> bool
         ensures put { IsTrue result → self.new ≡ (self.old.0 ++ bytes.now, self.old.1) }
         ensures refused { IsFalse result → self.new ≡ self.old }
@@ -89,7 +89,7 @@ impl Inbox {
         self.reserve(bytes.len()).is_ok() && self.bytes.write(bytes).is_ok()
     }
 
-    // Makes room for some bytes: where it grows it is doubled, up to all that may wait.
+    // Makes room for some bytes: if it grows it is doubled, up to all that may wait.
     fn reserve(&mut self, len: usize) -> Result<(), NoMemory>
         ensures { self.new ≡ self.old }
     {
@@ -103,15 +103,15 @@ impl Inbox {
         }
     }
 
-    /// Notes how the link ended, behind what it brought.
+    /// Notes how the link ended, after what it brought.
     pub fn end(&mut self, end: LinkEnd)
         ensures { self.new ≡ (self.old.0, Some end) }
     {
         self.end = Some(end);
     }
 
-    /// Gives the reader the first bytes that wait, as many as lie together and fit; where none wait how the link ended; and nothing
-    /// where it has not.
+    /// Gives the reader the first bytes that wait, as many as are contiguous and fit. If none wait, it gives how the link ended, or
+    /// nothing if it has not.
     pub fn take(&mut self, buf: &mut [u8]) -> Option<Given>
         requires { 1 ≤ length buf.old }
         ensures { AreGiven self.old self.new buf.new result }

@@ -1,5 +1,5 @@
-//! What the two ends of a link and their programs decide: what a line means, which line a message is, how a session ends, with which number and
-//! exit status, and what a command line asks for. Nothing here reads or writes.
+//! What the two ends of a link and their programs decide: what a line means, and which lines a message is. They also decide how a session
+//! ends, with which number and exit status, and what a command line asks for. Nothing here reads or writes.
 #![tactic(auto)]
 
 mod asking;

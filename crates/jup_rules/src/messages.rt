@@ -13,15 +13,15 @@ use jup_star::{Down, Up};
 use jup_wire::{Line, LineSink};
 use std::alloc::Global;
 
-/// Hears the next line of a site behind its greeting, and answers what the site says by the lines up to it;
-/// nothing where lines of a message are missing. Refused are a line that is misplaced, and one that no site
+/// Hears the next line of a site after its greeting, and answers what the site says by the lines up to it;
+/// nothing if lines of a message are missing. Refused are a line that is misplaced, and one that no site
 /// says.
 pub fn hear_site(
     gather: &mut Gather,
     alloc: Global,
     line: &Line,
 ) -> Result<Option<Said>, SessionFault>
-    // Whatever came before: what was said so far is what all the lines so far say.
+    // Whatever came before: what the site said so far is what all the lines so far say.
     ensures said { IfOk result (λ said. (lines : List Line) (saids : List Said)
         → HasSaid lines saids gather.old
         → HasSaid (lines ++ line.now ∷ []) (saids ++ option_to_list said) gather.new) }
@@ -33,7 +33,7 @@ pub fn hear_site(
     }
 }
 
-// What a site says by what its lines come to.
+// What a site says by what its lines give.
 fn said_by(gathered: Gathered) -> Result<Option<Said>, SessionFault>
     ensures { IsSaidBy gathered result }
 {
@@ -70,7 +70,7 @@ fn put_down<S: LineSink>(sink: &mut S, down: &Down) -> Result<(), S::Fault>
     }
 }
 
-/// Puts the lines of messages to a site, one message behind the other.
+/// Puts the lines of messages to a site, one message after the other.
 pub fn put_downs<S: LineSink>(sink: &mut S, downs: &[Down]) -> Result<(), S::Fault>
     ensures { OnOk result (S.takes sink.old (flat_map down_lines downs.now) sink.new) }
 {

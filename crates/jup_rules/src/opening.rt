@@ -16,7 +16,7 @@ pub fn star_of_layout(alloc: Global, text: &[u8], limit: u32) -> Result<Star, Da
     ensures refusal { IfErr result (λ end. IsRefusalOf text.now limit end) }
 {
     let board = layout(alloc, text)?;
-    // The words and the layout rule these refusals out: each is told as a fault of the whole layout.
+    // The words and the layout rule these refusals out: each is reported as a fault of the whole layout.
     if !is_short(&board) {
         return Err(whole_layout(BoardFault::TooMany.number()));
     }

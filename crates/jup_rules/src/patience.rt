@@ -4,14 +4,14 @@ ghost use Rattle.std.specs.Prelude.{◌≡◌, ◌-◌, ◌≤◌, ◌↔◌, �
 /// Milliseconds that a peer may be silent.
 const SILENCE: u64 = 1_000;
 
-/// Milliseconds that its last bytes may take in all.
+/// Milliseconds that its last bytes may take in total.
 const IN_ALL: u64 = 10_000;
 
 /// Bytes that may come.
 const MOST_BYTES: u64 = 4_194_304;
 
-/// How many milliseconds the next read of a peer's last bytes may wait, once `bytes` came in `elapsed` milliseconds since it was told that nothing
-/// more comes. `None` where it was waited for long enough: after 10 seconds or 4 MiB in all.
+/// How many milliseconds the next read of a peer's last bytes may wait, once `bytes` came in the `elapsed` milliseconds since the end of what was
+/// sent to it. `None` if the peer was given long enough: after 10 seconds or 4 MiB in total.
 pub fn next_wait(elapsed: u64, bytes: u64) -> Option<u64>
     ensures over { IsNone result ↔ ((10000 ≤ elapsed) ⊎ (4194304 ≤ bytes)) }
     ensures wait { IfSome result (λ wait. wait ≡ min 1000 (10000 - elapsed)) }

@@ -11,7 +11,7 @@ const MOST: u32 = 1_024;
 
 /// The pongs that a site is owed: one for each ping that was taken, until it is written. Contracts see their number.
 ///
-/// A site that pings and never reads would else fill its outbox without end, and others would lack the memory.
+/// Otherwise a site that pings and never reads would fill its outbox without end, and leave no memory for others.
 #[derive(Debug, Drop)]
 pub struct Pongs {
     owed: u32,
@@ -36,7 +36,7 @@ impl Pongs {
         Pongs { owed: 0 }
     }
 
-    /// Counts a ping that is to be taken. False where 1,024 pongs are owed: then it has to wait.
+    /// Counts a ping that is to be taken. False if 1,024 pongs are owed: then it has to wait.
     pub fn take_ping(&mut self) -> bool
         ensures taken { IsTrue result ↔ (self.old < most_pongs) }
         ensures owed { self.new ≡ (if result then self.old + 1 else self.old) }
@@ -49,7 +49,7 @@ impl Pongs {
         is_taken
     }
 
-    /// Takes off pongs that were written. True where a ping may be taken that had to wait before.
+    /// Takes off pongs that were written. True if a ping may be taken that had to wait before.
     pub fn pay(&mut self, count: usize) -> bool
         ensures owed { self.new ≡ self.old - count }
         ensures again { IsTrue result ↔ (most_pongs ≤ self.old) × (self.new < most_pongs) }

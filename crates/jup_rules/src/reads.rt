@@ -4,7 +4,7 @@ ghost use Rattle.jup_rules.specs.Bounds.{most_reads};
 
 use crate::SessionFault;
 
-/// Counts one read more. Refused where 4,294,967,295 were made.
+/// Counts one more read. Refused if 4,294,967,295 were made.
 pub fn count_read(reads: u32) -> Result<u32, SessionFault>
     ensures counted { IfOk result (λ count. (reads < most_reads) × (count ≡ reads + 1)) }
     ensures spent { IfErr result (λ fault. (reads ≡ most_reads) × (fault ≡ SessionFault.ReadsSpent)) }

@@ -7,7 +7,7 @@ use jup_window::Command;
 pub enum Request {
     /// The edit of a command.
     Edit(Command),
-    /// The edit of these commands, which stood on lines of their own.
+    /// The edit of these commands, which were on lines of their own.
     Batch(Vec<Command>),
     Sync,
     Show,

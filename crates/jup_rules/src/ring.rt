@@ -15,7 +15,7 @@ pub enum Ring {
 }
 
 /// What follows once the star has answered a message: whom the session wakes, or how it ends. An edit is news for all
-/// sites, and what answers another message is for its own. Where the site has no link any more it is gone.
+/// sites, and what answers another message is for its own. If the site has no link any more it is gone.
 pub fn ring_after(up: &Up, answer: Result<Option<u32>, HubFault>) -> Result<Ring, Ending>
     ensures { result ≡ outcome up.now answer }
 {

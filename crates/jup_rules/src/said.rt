@@ -2,7 +2,7 @@
 
 use jup_star::Up;
 
-/// What a site says by its link, behind its greeting.
+/// What a site says by its link, after its greeting.
 #[derive(Debug, Drop, PartialEq, Eq)]
 pub enum Said {
     /// A message to the star.

@@ -9,7 +9,7 @@ use jup_window::Board;
 use jup_xform::NoMemory;
 use std::alloc::Global;
 
-/// What a client prints to tell its user, each line with its line feed.
+/// What a client prints for its user, each line with its line feed.
 pub fn told_text(alloc: Global, told: &Told, board: &Board) -> Result<Vec<u8>, NoMemory>
     ensures { IfOk result (λ text. text.items ≡ texts.told_text told.now board.now) }
 {

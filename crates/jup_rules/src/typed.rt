@@ -50,7 +50,7 @@ impl TypedLine {
         !self.is_long && self.bytes.is_empty()
     }
 
-    /// One byte more.
+    /// One more byte.
     pub fn push(&mut self, byte: u8) -> Result<(), NoMemory>
         ensures ok { OnOk result (self.new ≡ typed_on self.old byte) }
         ensures err { OnErr result (self.new ≡ self.old) }

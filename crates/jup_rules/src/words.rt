@@ -8,7 +8,7 @@ use clap::{Arg, ArgAction, ArgMatches, Command, Error, value_parser};
 use jup_limits::HIGHEST_LIMIT;
 use std::alloc::{AllocError, Global};
 
-/// Sessions that a daemon may be told to serve.
+/// Sessions that a daemon may be asked to serve.
 const MOST_SESSIONS: u32 = 1_024;
 
 /// What `jupd --help` says first, and last.
@@ -37,14 +37,14 @@ Example:
   quit
   bye";
 
-/// What the daemon is told to do.
+/// What the words ask of the daemon.
 #[derive(Drop)]
 pub struct DaemonWords {
     /// Where to listen, as given.
     pub listen: String,
-    /// Edits that the star takes in its life.
+    /// Edits that the star takes over its lifetime.
     pub limit: u32,
-    /// Sessions that are served in all.
+    /// Sessions that are served in total.
     pub sessions: u32,
 }
 
@@ -85,7 +85,7 @@ fn read_daemon<'a>(
     }
 }
 
-// What the daemon is told; `None` where a count is out of range.
+// What the words ask of the daemon; `None` if a count is out of range.
 fn told_by(alloc: Global, matches: &ArgMatches<'_>) -> Result<Option<DaemonWords>, AllocError>
     ensures limit { IfOk result (λ told. IfSome told (λ w. (1 ≤ w.limit) × (w.limit ≤ highest_limit))) }
     ensures sessions { IfOk result (λ told. IfSome told (λ w. (1 ≤ w.sessions) × (w.sessions ≤ most_sessions))) }
@@ -157,7 +157,7 @@ fn count<'a>(alloc: Global, name: &'a str, most: u32, help: &'a str) -> Arg<'a> 
         .help(help)
 }
 
-// The error for words that were read and that are none.
+// The error for words that were read and are refused.
 fn bad_words(command: &mut Command<'_>, kind: ErrorKind, message: &str) -> Error {
     match command.error(kind, message) {
         Ok(error) => error,

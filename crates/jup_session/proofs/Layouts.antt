@@ -3,7 +3,7 @@ use Rattle.std.proofs.Common.{◌≡◌, ◌+◌, ◌≤◌, ℕ, List, [], ◌+
 use Rattle.std.proofs.lemmas.List.{take_all, length-take}
 use Rattle.std.specs.Option.{option_map}
 
--- one byte more than a layout may have is asked for: where fewer came they are all
+-- one more byte than a layout may have is asked for: if fewer came they are all
 pub read_whole : (most limit : ℕ) (remaining : Option (List ℕ)) (before text : List ℕ) → limit ≡ most + 1 → before ≡ [] → IfSome (option_map (take limit) remaining) (λ bytes. text ≡ before ++ bytes)
     → length text ≤ most → IfSome remaining (λ bytes. text ≡ bytes)
 read_whole most limit None before text asked none read short = tt

@@ -244,7 +244,7 @@ follows site w Join (Joined (Ok j)) later others is one two left =
     (subst (λ (s : ℕ). AreCallsFor s later) (sym is) one, subst (λ (s : ℕ). AreTalliesFor s others) (sym is) two, left)
 follows site w call reply later others is one two left = absurd is
 
--- a site that joined and left at once
+-- a site that joined and left with no call between
 pub session_left : (site : ℕ) (v u w : View) → Joins site v u → Leaves site u w → IsSession v w
 session_left site v u w j l = record {
   calls = j.join ∷ l.calls;

@@ -25,7 +25,7 @@ HasToWait (Gate nth) = Unit {0}
 HasToWait Pongs = Unit {0}
 HasToWait Nothing = ⊥
 
--- the hub was called for a message, but for one that waited in vain
+-- the hub was called for a message, unless the message waited in vain
 abbrev pub HasCalled : ℕ → Incoming → View → View → Option (Result (Option ℕ) HubFault) → Type 0
 HasCalled site incoming v w (Some answer) = HasAnswered site incoming.up v w (Some answer)
 HasCalled site incoming v w None = HasAnswered site incoming.up v w None × HasToWait incoming.awaits

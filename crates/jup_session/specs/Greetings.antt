@@ -1,4 +1,4 @@
--- What a site is told when it has joined.
+-- What the server writes to a site that has joined.
 use Rattle.std.specs.Prelude.{List, [], ◌∷◌, ◌++◌}
 use Rattle.jup_star.specs.declared.star.Joined.{Joined}
 use Rattle.jup_wire.specs.declared.line.Line.{Line}

@@ -24,7 +24,7 @@ IsCallFor site (Leave i) = i ≡ site
 abbrev pub AreCallsFor : ℕ → List Entry → Type 0
 AreCallsFor site calls = AllByRecursion (λ e. IsCallFor site e.call) calls
 
--- under each number stand such calls alone
+-- under each number are such calls alone
 abbrev pub AreTalliesFor : ℕ → List Tally → Type 0
 AreTalliesFor site others = AllByRecursion (λ t. AreCallsFor site t.calls) others
 
@@ -39,8 +39,8 @@ abbrev pub HasLeft : List Entry → Type 0
 HasLeft [] = ⊥
 HasLeft (e ∷ es) = TellsGone e.call e.reply ⊎ HasLeft es
 
--- some legal history in which just these calls stand under a number is as long as a count can be. One that long can always be thought of, since others
--- may call as often as they like: so what is said up to it, that a site has left, is no promise, and tests show it
+-- some legal history in which just these calls are under a number is as long as a count can be. One that long is always conceivable, since others may
+-- call as often as they like. So the clause that a site has left, which allows for one, is no promise, and tests show it
 abbrev pub IsFull : BoardStar → Tally → Type 0
 IsFull opening t = (log : List Entry) × IsLegal opening log × (calls_by t.number log ≡ t.calls) × (length log ≡ 18446744073709551615)
 
@@ -49,7 +49,8 @@ abbrev pub SomeLeft : BoardStar → List Tally → Type 0
 SomeLeft opening [] = ⊥
 SomeLeft opening (t ∷ ts) = HasLeft t.calls ⊎ IsFull opening t ⊎ SomeLeft opening ts
 
--- what follows a join, where w is the pass at the end: nothing where it was refused; else calls for the site that joined alone; that it has left is said up to `IsFull`
+-- what follows a join, where w is the pass at the end. If the join was refused, nothing follows; otherwise calls for the site that joined alone. That it has left is
+-- claimed only up to `IsFull`
 abbrev pub FollowsJoin : View → Call → Reply → List Entry → List Tally → Type 0
 FollowsJoin w Join (Joined (Ok joined)) later others =
     AreCallsFor joined.site later × AreTalliesFor joined.site others
@@ -62,8 +63,8 @@ abbrev pub IsOneSite : View → List Entry → List Tally → Type 0
 IsOneSite w [] others = others ≡ []
 IsOneSite w (first ∷ later) others = FollowsJoin w first.call first.reply later others
 
--- A session from the pass v to the pass w. Under the pass's own number, and under those that it took in, stand no further calls but at most one join
--- and then calls for the site that joined alone. That this site has left is said only up to a history as long as a count can be (`IsFull`)
+-- A session from the pass v to the pass w. It adds calls under the pass's own number, and under those that it took in: at most one join, and then
+-- calls for the site that joined alone. That this site has left is claimed only up to a history as long as a count can be (`IsFull`)
 pub record IsSession (v w : View) : Type 0 where
   pub calls : List Entry
   pub others : List Tally

@@ -1,4 +1,4 @@
-//! Who may take an edit, and when.
+//! When an edit may be taken.
 ghost use Rattle.std.specs.Prelude.{◌≡◌, IsTrue, IsFalse, IsSome, IsNone};
 ghost use Rattle.jup_hub.specs.Passes.{view_of, IsPassOf};
 ghost use Rattle.jup_session.specs.Gates.{HasAnswered};
@@ -12,10 +12,10 @@ use std::thread::yield_now;
 /// How often a gate that is not ready is asked again.
 const MOST_ASKED_AGAIN: u32 = 100_000;
 
-/// Asked before the nth edit of a site is taken, from 1, and told once the hub has answered, also where it refused.
+/// Asked before the nth edit of a site is taken, from 1, and informed once the hub has answered, also if it refused.
 ///
-/// Contracts speak of a gate by three facts, which it may say more of: that it was ready for an edit, that it was not, and that
-/// it was told.
+/// Contracts use three facts of a gate, and an implementation may define each: that it was ready for an edit, that it was not,
+/// and that it was informed.
 pub trait Gate {
     ghost use Rattle.std.specs.Prelude.{ℕ};
 
@@ -47,8 +47,8 @@ impl Gate for Open {
     fn answered(&self, _site: u32, _nth: u32) {}
 }
 
-/// Asks a gate for an edit, and where it is not ready again after a yield, up to 100,000 times. Whether it was ready. What is to
-/// be done before one waits is done before it is asked again.
+/// Asks a gate for an edit, and answers whether it was ready. If it is not, asks again after a yield, up to 100,000 times. What
+/// has to be done before a wait is done before the gate is asked again.
 pub fn pass_gate<G: Gate, F: FnOnce() + Drop>(
     gate: &G,
     site: u32,
@@ -81,8 +81,9 @@ fn ask_again<G: Gate>(gate: &G, site: u32, nth: u32) -> bool
     gate.ready(site, nth)
 }
 
-/// Has the hub take the nth edit of a site once the gate is ready for it, and tells the gate once the hub has answered,
-/// also where it refused. `None` where the gate stayed shut: then the hub was asked nothing, and the gate told nothing.
+/// Has the hub take the nth edit of a site once the gate is ready for it, and informs the gate once the hub has
+/// answered, also if it refused. `None` if the gate stayed shut: then the hub was not called, and the gate was not
+/// informed.
 pub fn take_edit<R: Wait, G: Gate, F: FnOnce() + Drop>(
     rt: &R,
     alloc: Global,

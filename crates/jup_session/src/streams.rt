@@ -8,9 +8,9 @@ use std::os::fd::AsRawFd;
 /// The number of standard error, the last of the three streams.
 const LAST_STREAM: i32 = 2;
 
-/// Puts a file that is empty, and takes no writes, in the place of each standard stream that is closed, and keeps it there
-/// as long as the result is held. Else the next socket would take that place: what is printed would go to the peer, and
-/// what the peer sends would be read as commands.
+/// Puts an empty file, which takes no writes, in the place of each standard stream that is closed, as long as the result
+/// is held. Otherwise the next socket would take that place. The program would print to the peer, and read commands from
+/// the peer.
 pub fn hold_streams<R: Files<File = File>>(rt: &R) -> [Option<File>; 3] {
     [hold(rt), hold(rt), hold(rt)]
 }
@@ -22,7 +22,7 @@ fn is_standard(number: i32) -> bool
     number <= LAST_STREAM
 }
 
-// A file in the lowest place that is free, where that is a standard stream's.
+// A file in the lowest place that is free, if that is a standard stream's.
 fn hold<R: Files<File = File>>(rt: &R) -> Option<File> {
     let file = File::open(rt, "/dev/null").ok()?;
     if is_standard(file.as_raw_fd()) {

@@ -24,7 +24,7 @@ reads_both a b c one two = record {
   goes_on = λ before lines h. subst (λ l. HasRead l (lines ++ c.waiting) c.progress) (append_assoc before one.bytes two.bytes) (two.goes_on (before ++ one.bytes) lines (one.goes_on before lines h));
 }
 
--- one piece, where no line waits
+-- one piece, if no line waits
 pub reads_piece : (w w' : Option (List ℕ)) (p p' : Progress) (waiting waiting' : List Line) (piece : List ℕ) → waiting ≡ [] → Consumes w w' piece
     → ((before : List ℕ) (lines : List Line) → HasRead before lines p → HasRead (before ++ piece) (lines ++ waiting') p')
     → ReadsOn (sourced w p waiting) (sourced w' p' waiting')
@@ -73,7 +73,7 @@ stops_failed w w' p waiting none kept = record { middle = w; reads = reads_none 
 pub stops_spent : (a : Sourced) → a.waiting ≡ [] → Stops a (Fault ReadsSpent) a
 stops_spent a none = record { middle = a.known; reads = reads_none a; lost = []; consumed = Consumes-nil a.known; none = none; why = refl }
 
--- memory was refused for a piece
+-- an allocation failed for a piece
 pub stops_memory : (w w' : Option (List ℕ)) (p p' : Progress) (waiting : List Line) (piece : List ℕ) → waiting ≡ [] → Consumes w w' piece → p' ≡ p
     → Stops (sourced w p waiting) (Fault NoMemory) (sourced w' p' waiting)
 stops_memory w w' p p' waiting piece none consumed same = subst (λ q. Stops (sourced w p waiting) (Fault NoMemory) (sourced w' q waiting)) (sym same)

@@ -7,7 +7,7 @@ use Rattle.std.proofs.KnownBytes.{Appends-nil, Appends-trans}
 use Rattle.jup_wire.specs.declared.line.Line.{Line}
 use Rattle.jup_wire.specs.Grammar.{line_bytes}
 
--- what the writer holds, where that is known, the bytes that are gathered for it, and whether a write has failed
+-- what the writer holds, if that is known, the bytes that are gathered for it, and whether a write has failed
 pub record Put : Type 0 where
   pub written : Option (List ℕ)
   pub held : List ℕ
@@ -20,8 +20,8 @@ put_as written held failed = record { written = written; held = held; failed = f
 abbrev pub fresh_put : Option (List ℕ) → Put
 fresh_put written = put_as written [] false
 
--- These bytes were put behind those that were gathered. The front of all that was written since, and the rest is gathered, unless a write has failed. Behind
--- a write that failed nothing is written.
+-- These bytes were put after those that were gathered. The front of all that was written since, and the rest is gathered, unless a write has failed. After a
+-- write that failed nothing is written.
 pub record Puts (a : Put) (bytes : List ℕ) (b : Put) : Type 0 where
   pub moved : List ℕ
   pub left : List ℕ
@@ -38,7 +38,7 @@ PutsLines a lines b = Puts a (flat_map line_bytes lines) b
 abbrev pub IsFlushed : Put → Type 0
 IsFlushed a = IsFalse a.failed → a.held ≡ []
 
--- of these bytes the front was written, all of them where all is true
+-- of these bytes the front was written, all of them if all is true
 abbrev pub WritesFront : Option (List ℕ) → Option (List ℕ) → List ℕ → Bool → Type 0
 WritesFront old new bytes all = (front : List ℕ) × (rest : List ℕ) × (bytes ≡ front ++ rest) × Appends old new front × (IsTrue all → rest ≡ [])
 

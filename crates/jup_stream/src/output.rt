@@ -13,10 +13,10 @@ use std::marker::Model;
 /// Bytes that are gathered before they are written: 16 lines of the longest kind. Each session keeps this room while it is idle.
 const ROOM: usize = 2_048;
 
-/// A writer that gathers lines. It makes its room once, so that no line is refused for want of memory. Once a write has failed it
-/// takes lines and drops them, and [`send`](Output::send) says so.
+/// A writer that gathers lines. It makes its room once, so that no line needs an allocation. Once a write has failed it takes
+/// lines and drops them, and [`send`](Output::send) says so.
 ///
-/// Contracts see what the writer holds, where that is known, the bytes that are gathered, and whether a write has failed.
+/// Contracts see what the writer holds, if that is known, the bytes that are gathered, and whether a write has failed.
 #[derive(Drop)]
 pub struct Output<O: Write + Drop> {
     to: O,
@@ -34,7 +34,7 @@ impl<O: Write + Drop> Model for Output<O> {
 }
 
 impl<O: Write + Drop> Output<O> {
-    /// An output with its room. For want of memory the bare writer comes back.
+    /// An output with its room. If an allocation fails, it gives the bare writer back.
     pub fn new(alloc: Global, to: O) -> Result<Output<O>, O>
         ensures new { IfOk result (λ output. output ≡ fresh_put (O.contents to)) }
         ensures err { IfErr result (λ back. back ≡ to) }
@@ -49,7 +49,7 @@ impl<O: Write + Drop> Output<O> {
         }
     }
 
-    /// Puts a line behind those before.
+    /// Puts a line after those before.
     pub fn push(&mut self, line: &Line)
         ensures { PutsLines self.old (line.now ∷ []) self.new }
     {

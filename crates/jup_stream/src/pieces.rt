@@ -13,7 +13,7 @@ use jup_xform::NoMemory;
 use std::alloc::Global;
 use std::io::Read;
 
-/// Counts one read more, if it may be made. Whether it may.
+/// Counts one more read, if it may be made. Whether it may.
 pub(crate) fn count(reads: &mut u32) -> bool
     ensures counted { IsTrue result → reads.new ≡ reads.old + 1 }
     ensures spent { IsFalse result → (reads.old ≡ most_reads) × (reads.new ≡ reads.old) }

@@ -14,13 +14,13 @@ use std::alloc::Global;
 use std::io::Read;
 use std::marker::{Model, PhantomData};
 
-/// Bytes that one read asks for. They lie on the reading thread's stack, of which an idle session keeps what it ever touched.
+/// Bytes that one read asks for. They are on the reading thread's stack, of which an idle session keeps what it ever touched.
 const PIECE: usize = 1_024;
 
 /// What comes by a link, as lines.
 ///
-/// Contracts see the bytes that the reader has left, where these are known, how the bytes read so far were taken, and the lines
-/// of them that are still to be handed on.
+/// Contracts see the bytes that the reader has left, if these are known. They see how the bytes read so far were taken, and the
+/// lines of them that are still to be handed on.
 #[derive(Drop)]
 pub struct Source<I: Read + Drop> {
     from: I,

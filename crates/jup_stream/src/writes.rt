@@ -61,7 +61,7 @@ pub(crate) fn send_out<O: Write + Drop>(to: &mut O, text: &mut Vec<u8>, has_fail
     }
 }
 
-// Writes what is gathered where a line may not fit behind it.
+// Writes what is gathered if a line may not fit after it.
 #[tactic(auto, using(crate::specs::Puts::puts_none))]
 fn make_room<O: Write + Drop>(to: &mut O, text: &mut Vec<u8>, has_failed: &mut bool)
     requires { 2048 ≤ vec_capacity text.old }

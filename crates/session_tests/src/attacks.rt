@@ -13,7 +13,7 @@ use std::thread::{Threads, join};
 use std::time::{Clock, Duration};
 use std::{io, thread};
 
-/// How often the client is begun again.
+/// How often the client is started again.
 const TRIES: u32 = 1_000;
 
 const ADDR: &str = "127.0.0.1:47018";

@@ -5,7 +5,7 @@ use jup_session::Bell;
 use std::thread::{join, sleep};
 use std::time::Duration;
 
-// A wait for what was rung already returns at once, so these would hang where a ring was missed.
+// A wait for what was rung already returns immediately, so these tests would hang if a ring were missed.
 #[test]
 fn no_ring_before_the_wait_is_missed(rt: HostRuntime) {
     let bell = Bell::new();

@@ -1,4 +1,4 @@
-//! Edits that come at once.
+//! Edits that come together.
 
 use crate::expect::expect_eq;
 use crate::fakes::OneByOne;

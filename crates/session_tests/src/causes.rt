@@ -1,4 +1,4 @@
-//! What people are told of a fault is what its own type says of it.
+//! The text that people read of a fault is what its own type says of it.
 
 use crate::expect::expect_eq;
 use jup_hub::HubFault;

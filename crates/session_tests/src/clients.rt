@@ -69,7 +69,7 @@ fn commands_that_make_no_edit(rt: HostRuntime) {
 }
 
 #[test]
-fn of_two_relabels_the_own_stands_at_the_client(rt: HostRuntime) {
+fn of_two_relabels_the_own_applies_at_the_client(rt: HostRuntime) {
     let ran = run(
         rt.alloc(),
         b"rel 1 2 0 \"jam\"\nrel 1 2 1 \"tea\"\nsync\nshow\nquit\n",

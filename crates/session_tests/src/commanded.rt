@@ -40,7 +40,7 @@ fn only_its_own_pong_ends_a_sync(rt: HostRuntime) {
 }
 
 #[test]
-fn all_operations_of_a_message_are_shown_at_once(rt: HostRuntime) {
+fn all_operations_of_a_message_are_shown_together(rt: HostRuntime) {
     client_prints(
         &rt,
         rt.alloc(),
@@ -52,7 +52,7 @@ fn all_operations_of_a_message_are_shown_at_once(rt: HostRuntime) {
 }
 
 #[test]
-fn words_with_more_behind_them_are_no_commands(rt: HostRuntime) {
+fn words_with_more_after_them_are_no_commands(rt: HostRuntime) {
     client_prints(
         &rt,
         rt.alloc(),
@@ -78,7 +78,7 @@ fn the_longest_command_is_read(rt: HostRuntime) {
     client_prints(&rt, alloc, command.as_bytes(), GREETED.as_bytes(), printed);
 }
 
-// A line of so many bytes that are no command, and behind them one that would end the client.
+// A line of so many bytes that are no command, and after them one that would end the client.
 fn long_line(rt: &impl Abort, alloc: Global, len: usize) -> Vec<u8> {
     let mut line = Vec::new(alloc);
     for _ in 0..len {
@@ -125,7 +125,7 @@ fn end_after_greeting(alloc: Global, out: &mut Vec<u8>) -> Result<(), ClientEnd>
 }
 
 #[test]
-fn an_edit_that_was_not_sent_is_not_told(rt: HostRuntime) {
+fn an_edit_that_was_not_sent_is_not_reported(rt: HostRuntime) {
     let mut out = Vec::new(rt.alloc());
     let end = end_after_greeting(rt.alloc(), &mut out);
     expect_eq(&rt, end, Err(ClientEnd::WriteFailed));

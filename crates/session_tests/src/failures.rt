@@ -17,8 +17,8 @@ fn first_bytes(text: &[u8], len: usize) -> FailsAfter<'_> {
     }
 }
 
-// What a session writes whose read fails behind so many bytes of what was typed, and how many edits are taken by then.
-fn due_behind(len: usize) -> (&'static str, usize) {
+// What a session writes whose read fails after so many bytes of what was typed, and how many edits are taken by then.
+fn due_after(len: usize) -> (&'static str, usize) {
     match len {
         0..8 => ("error 70\n", 0),
         8..45 => ("welcome 1 100\nwindow 1\ntext 1\nready\nerror 70\n", 0),
@@ -35,7 +35,7 @@ fn each_read_of_a_session(rt: HostRuntime) {
     expect_eq(&rt, TYPED.len(), 56);
     for len in 0..56 {
         let left = ran(&rt, rt.alloc(), first_bytes(TYPED, len), &Open);
-        let (written, taken) = due_behind(len);
+        let (written, taken) = due_after(len);
         expect_end(&rt, &left, Ending::Fault(70), written);
         expect_eq(&rt, (len, left.taken, left.waiting), (len, taken, None));
     }
@@ -57,9 +57,9 @@ fn each_write_of_a_session(rt: HostRuntime) {
     expect_eq(&rt, write_fails(&rt, rt.alloc(), from, 3), Ending::Bye);
 }
 
-// A site that pings on and never says bye has a session that only its failed write ends: the first behind the greeting, or a later one.
+// A site that pings on and never says bye has a session that only its failed write ends: the first after the greeting, or a later one.
 #[test]
-fn a_write_that_fails_behind_the_greeting(rt: HostRuntime) {
+fn a_write_that_fails_after_the_greeting(rt: HostRuntime) {
     for writes in 1..4 {
         let from = Endless {
             text: b"hello 3\n",
@@ -70,7 +70,7 @@ fn a_write_that_fails_behind_the_greeting(rt: HostRuntime) {
     }
 }
 
-// How a client of this link ends that is told to sync and to quit.
+// How a client of this link ends whose input is `sync` and `quit`.
 fn end_over<I: Read + Drop>(alloc: Global, from: I) -> Result<(), ClientEnd> {
     let (mut to, mut out) = (Vec::new(alloc), Vec::new(alloc));
     let commands: &[u8] = b"sync\nquit\n";
@@ -88,8 +88,8 @@ fn each_read_of_a_link_by_a_client(rt: HostRuntime) {
     expect_eq(&rt, end_over(rt.alloc(), LINK), Ok(()));
 }
 
-// How a client ends whose user's input fails behind so many bytes, and what it printed.
-fn printed_behind(alloc: Global, len: usize) -> (Result<(), ClientEnd>, Vec<u8>) {
+// How a client ends whose user's input fails after so many bytes, and what it printed.
+fn printed_after(alloc: Global, len: usize) -> (Result<(), ClientEnd>, Vec<u8>) {
     let (mut to, mut out) = (Vec::new(alloc), Vec::new(alloc));
     let typed = first_bytes(b"set 1 3 on\nquit\n", len);
     let end = run_client(alloc, typed, &mut out, GREETED.as_bytes(), &mut to);
@@ -99,7 +99,7 @@ fn printed_behind(alloc: Global, len: usize) -> (Result<(), ClientEnd>, Vec<u8>)
 #[test]
 fn each_read_of_commands(rt: HostRuntime) {
     for len in 0..16 {
-        let (end, out) = printed_behind(rt.alloc(), len);
+        let (end, out) = printed_after(rt.alloc(), len);
         let due = if len < 11 {
             "site 1\n"
         } else {
@@ -128,7 +128,7 @@ fn end_printing(alloc: Global, writes: u32) -> Result<(), ClientEnd> {
     run_client(alloc, commands, &mut printed, LINK, &mut to)
 }
 
-// It greets, pings and says bye; it tells its site, of the sync, and bye.
+// It greets, pings and says bye; it prints its site, the sync, and bye.
 #[test]
 fn each_write_of_a_client(rt: HostRuntime) {
     for writes in 0..3 {

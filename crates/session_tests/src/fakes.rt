@@ -107,7 +107,7 @@ impl<'a> Read for LineByLine<'a> {
     }
 }
 
-/// Takes its second write only after a second, or once many lines were given, and tells how many were.
+/// Takes its second write only after a second, or once many lines were given, and reports how many were.
 #[derive(Drop)]
 pub(crate) struct Slow<'a, R> {
     pub(crate) rt: &'a R,
@@ -167,7 +167,7 @@ impl<'a, R: Clock> Write for FailsBehind<'a, R> {
     }
 }
 
-/// Lets up to a number of edits through, and counts how often it was asked and told.
+/// Lets up to a number of edits through, and counts how often it was asked and informed.
 #[derive(Drop)]
 pub(crate) struct Counting {
     pub(crate) most: u32,

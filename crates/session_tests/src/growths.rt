@@ -1,5 +1,5 @@
-//! Growths of sessions, clients and the words of a daemon that are refused, each test for the call of its name. `./growths` refuses one after another of
-//! those between the two marks: what lacked memory says so, and begun anew it does all that was asked for.
+//! Failed allocations in sessions, in clients and in the words of a daemon, each test for the call of its name. `./growths` makes one after another of
+//! the allocations between the two marks fail. What fails says so, and does all that was asked for if it begins again.
 ghost use Rattle.jup_hub.specs.Passes.{IsPassOf};
 
 use crate::expect::{expect_eq, expect_that};
@@ -15,8 +15,8 @@ use std::sync::Wait;
 use std::thread::Threads;
 use test_marks::{begin, end};
 
-// Whether a session that lacked memory told so, wherever that came.
-fn tells_of_memory(written: &[u8]) -> bool {
+// Whether a session in which an allocation failed says so, wherever that was.
+fn reports_no_memory(written: &[u8]) -> bool {
     match str::from_utf8(written) {
         Ok(written) => {
             let told = written.strip_prefix(GREETING).unwrap_or(written);
@@ -33,7 +33,7 @@ fn is_due(rt: &impl Abort, ending: Ending, written: &[u8]) {
         expect_that(rt, written == Ok(TYPED_ANSWER) || written == Ok(CUT_ANSWER));
     } else {
         expect_eq(rt, ending, Ending::Fault(8));
-        expect_that(rt, tells_of_memory(written));
+        expect_that(rt, reports_no_memory(written));
     }
 }
 
@@ -79,7 +79,7 @@ fn session_served(rt: HostRuntime) {
 const PRINTED: &str = "site 1\nmade ins 1 1 1.1 \"a\"\nmade ins 1 1 1.2 \"b\"; del 1 1 1.1\n\
     synced\nwindow 1\ntext 1 \"b\"\nbye\n";
 
-// How a client ends, which printed the beginning of what is due, and all of it where it ended well.
+// How a client ends, which printed the beginning of what is due, and all of it if it ended well.
 fn client(rt: &impl Abort, alloc: Global) -> Result<(), ClientEnd> {
     let mut to = Vec::with_capacity(alloc, 256).expect(rt, "memory");
     let mut out = Vec::with_capacity(alloc, 256).expect(rt, "memory");
@@ -103,7 +103,7 @@ fn client_run(rt: HostRuntime) {
     expect_eq(&rt, ended, Ok(()));
 }
 
-// The limit and the sessions that words tell of, or why they are refused.
+// The limit and the sessions that words ask for, or why they are refused.
 fn read_words(rt: &impl Abort, alloc: Global, limit: &str) -> Result<(u32, u32), ErrorKind> {
     let words = daemon_at(rt, alloc, "127.0.0.1:47011", limit, "2");
     begin(alloc);

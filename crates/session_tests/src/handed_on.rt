@@ -1,4 +1,4 @@
-//! Writers that lose what is not flushed, and writers that fail behind a line.
+//! Writers that lose what is not flushed, and writers that fail after a line.
 
 use std::io;
 use std::io::{ErrorKind, Write};

@@ -12,7 +12,7 @@ use std::thread::{Threads, join};
 use std::time::{Clock, Duration};
 use std::{io, str, thread};
 
-/// How often a client is begun again.
+/// How often a client is started again.
 const TRIES: u32 = 1_000;
 
 pub(crate) const LAYOUT: &str =
@@ -86,7 +86,7 @@ pub(crate) fn expect_success(rt: &impl Abort, told: &Told, status: u8, out: &str
     expect_that(rt, told.errors.is_empty());
 }
 
-// The program ended so, printed this, and told this on standard error.
+// The program ended so, printed this, and printed this on standard error.
 pub(crate) fn expect_failure(rt: &impl Abort, told: &Told, status: u8, out: &str, errors: &str) {
     expect_eq(rt, told.status, status);
     expect_text(rt, told.out.as_slice(), out);
@@ -107,7 +107,7 @@ pub(crate) fn run_client<
     1
 }
 
-// Whether it printed an order of two edits that stand in either order.
+// Whether it printed two edits in either order.
 fn is_either_order(told: &Told) -> bool {
     let out = told.out.as_slice();
     out == b"listening 127.0.0.1:47011\norder 2\nwindow 1\ntext 1 \"ab\"\n".as_slice()
@@ -173,7 +173,7 @@ fn a_layout_of_the_most_bytes(rt: HostRuntime) {
     expect_failure(&rt, &told, 5, "", errors);
 }
 
-// The program refused its words: it said why, and printed nothing.
+// The program refused its words: it printed why, and printed nothing.
 fn words_refused(rt: &impl Abort, told: &Told) {
     expect_eq(rt, told.status, 2);
     expect_that(rt, told.out.is_empty() && !told.errors.is_empty());
@@ -204,7 +204,7 @@ fn words_that_are_missing(rt: HostRuntime) {
     words_refused(&rt, &connect(&rt, alloc, &none, b""));
 }
 
-// The table of statuses in `docs/PROGRAMS.md` has these: 3 for want of memory, and 2 where a word is not UTF-8.
+// The table of statuses in `docs/PROGRAMS.md` has these: 3 if an allocation fails, and 2 if a word is not UTF-8.
 #[test]
 fn a_program_that_cannot_have_its_words_says_why(rt: HostRuntime) {
     for &(kind, status, text) in &[
@@ -239,7 +239,7 @@ fn helps(rt: &impl Abort, told: &Told, options: &[&str]) {
 }
 
 #[test]
-fn help_tells_all_options(rt: HostRuntime) {
+fn help_lists_all_options(rt: HostRuntime) {
     let alloc = rt.alloc();
     let words = words_of(&rt, alloc, &["--help"]);
     let told = serve(&rt, alloc, &words, "".as_bytes());

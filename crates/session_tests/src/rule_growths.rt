@@ -1,4 +1,4 @@
-//! Growths of what sessions and programs decide that are refused, each test for the call of its name, as in `growths`.
+//! Failed allocations in what sessions and programs decide, each test for the call of its name, as in `growths`.
 
 use crate::expect::{expect_eq, expect_text, expect_that};
 use crate::programs::client_of;
@@ -76,7 +76,7 @@ fn client_told(rt: HostRuntime) {
     }
 }
 
-// Takes a line of a user, and again where memory was refused.
+// Takes a line of a user, and again if an allocation failed.
 fn asks(rt: &impl Abort, alloc: Global, asking: &mut Asking, line: &[u8]) -> Option<Request> {
     begin(alloc);
     let mut asked = asking.push(alloc, line);
@@ -101,7 +101,7 @@ fn asking_push(rt: HostRuntime) {
     );
 }
 
-// A batch of two that lacked memory has not begun: its first line comes again.
+// A batch of two in which an allocation failed has not begun: its first line comes again.
 #[test]
 fn site_heard(rt: HostRuntime) {
     let mut gather = Gather::new();
@@ -121,7 +121,7 @@ fn site_heard(rt: HostRuntime) {
     expect_that(&rt, gather.part());
 }
 
-// The address that words tell of, or why they are refused.
+// The address that words name, or why they are refused.
 fn address(rt: &impl Abort, alloc: Global) -> Result<String, ErrorKind> {
     let words = client_of(rt, alloc, "127.0.0.1:47011");
     begin(alloc);
@@ -147,7 +147,7 @@ fn full_room(rt: &impl Abort, alloc: Global) -> Inbox {
     inbox
 }
 
-// What is taken of an inbox at once.
+// What one call takes of an inbox.
 fn taken(inbox: &mut Inbox) -> (Option<Given>, u8) {
     let mut room = [0u8; 64];
     let given = inbox.take(&mut room);
@@ -187,7 +187,7 @@ fn inbox_put(rt: HostRuntime) {
     expect_eq(&rt, taken(&mut inbox).0, Some(Given::End(LinkEnd::Failed)));
 }
 
-// A line of a user that has one byte more where memory was refused for it before.
+// A line of a user that has one more byte if an allocation failed for it before.
 #[test]
 fn typed_push(rt: HostRuntime) {
     let mut line = TypedLine::new(rt.alloc());

@@ -132,7 +132,7 @@ fn a_session_of_single_bytes(rt: HostRuntime) {
     expect_eq(&rt, left.taken, 1);
 }
 
-// A line behind the greeting that ends the session in a fault, with nothing taken.
+// A line after the greeting that ends the session in a fault, with nothing taken.
 fn is_refused<R: Threads + Wait + Sync + Abort>(rt: &R, alloc: Global, line: &str, number: u32) {
     let from = format!(in alloc; "hello 3\n{line}").expect(rt, "there is memory");
     let written = format!(in alloc; "{GREETING}error {number}\n").expect(rt, "there is memory");
@@ -143,7 +143,7 @@ fn is_refused<R: Threads + Wait + Sync + Abort>(rt: &R, alloc: Global, line: &st
 }
 
 #[test]
-fn faults_behind_the_greeting(rt: HostRuntime) {
+fn faults_after_the_greeting(rt: HostRuntime) {
     for &(line, number) in &[
         ("batch 1 0 1\ndo 1 1 text ins 0 1.1 97\n", 20),
         ("batch 0 5 1\ndo 1 1 text ins 0 1.1 97\n", 21),
@@ -416,7 +416,7 @@ fn the_64th_edit_is_acknowledged_each_way(rt: HostRuntime) {
 }
 
 #[test]
-fn the_read_behind_the_greeting_fails(rt: HostRuntime) {
+fn the_read_after_the_greeting_fails(rt: HostRuntime) {
     let from = FailsAfter { text: b"hello 3\n" };
     let left = ran(&rt, rt.alloc(), from, &Open);
     expect_end(
@@ -469,7 +469,7 @@ pub(crate) fn write_fails<R: Threads + Wait + Sync + Abort, I: Read + Drop>(
 }
 
 #[test]
-fn the_gate_is_asked_before_an_edit_and_told_after(rt: HostRuntime) {
+fn the_gate_is_asked_before_an_edit_and_informed_after(rt: HostRuntime) {
     let gate = Counting::new(1);
     let left = ran(&rt, rt.alloc(), TYPED, &gate);
     expect_eq(&rt, left.ending, Ending::Bye);

@@ -14,7 +14,7 @@ use std::thread::{Threads, join};
 use std::time::{Clock, Duration};
 use std::{io, thread};
 
-/// Pieces that are written: 16 MiB in all, which no socket here holds.
+/// Pieces that are written: 16 MiB in total, which no socket here holds.
 const PIECES: u64 = 256;
 
 const PIECE: [u8; 65_536] = [b'x'; 65_536];
@@ -68,7 +68,7 @@ fn is_refused<R: Net<Listener = TcpListener, Stream = TcpStream> + Clock>(
     false
 }
 
-// The last session, and whether who comes beside it is refused.
+// The last session, and whether a connection beside it is refused.
 fn last_session<R: Net<Listener = TcpListener, Stream = TcpStream> + Clock + Abort>(
     rt: &R,
     alloc: Global,

@@ -60,7 +60,7 @@ pub(crate) fn read_to_end(rt: &impl Abort, link: &TcpStream, text: &mut Vec<u8>)
     from.read_to_end(text).expect(rt, "the link is open");
 }
 
-// A link that reads what it is told of a client's edit. The client's exit status.
+// A link that reads what the server sends it of a client's edit. The client's exit status.
 fn listens<
     R: Net<Listener = TcpListener, Stream = TcpStream> + Threads + Wait + Clock + Sync + Abort,
 >(rt: &R, alloc: Global, addr: &str, words: &[String], heard: &mut Vec<u8>) -> u8 {
@@ -74,7 +74,7 @@ fn listens<
 }
 
 #[test]
-fn an_edit_is_told_to_the_other_link(rt: HostRuntime) {
+fn an_edit_is_sent_to_the_other_link(rt: HostRuntime) {
     let alloc = rt.alloc();
     let addr = "127.0.0.1:47014";
     let daemon = daemon_at(&rt, alloc, addr, "100", "2");
@@ -142,7 +142,7 @@ fn a_full_order_ends_a_client_with_status_4(rt: HostRuntime) {
     );
 }
 
-// A link that sends a bad line and much behind it, and then reads all that it is told, up to the end.
+// A link that sends a bad line and much after it, and then reads all that comes, up to the end.
 fn strays<R: Net<Listener = TcpListener, Stream = TcpStream> + Clock + Abort>(
     rt: &R,
     alloc: Global,

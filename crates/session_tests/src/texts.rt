@@ -5,7 +5,7 @@ use std::fmt::Write;
 use std::ops::Range;
 use std::process::Abort;
 
-/// A line for each of these numbers, between a first and a last text. A `#` in it stands for the number.
+/// A line for each of these numbers, between a first and a last text. Each `#` in it becomes the number.
 pub(crate) fn lines(
     rt: &impl Abort,
     alloc: Global,

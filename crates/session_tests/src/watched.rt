@@ -24,7 +24,7 @@ impl<'a> Sight<'a> {
     }
 }
 
-/// Looks at the hub as it is asked, and as it is told. Counts the edits whose take stood between.
+/// Looks at the hub when it is asked, and when it is answered. Counts the edits that the hub took between the two.
 #[derive(Drop)]
 struct Watching<'a, R> {
     rt: &'a R,
@@ -46,7 +46,7 @@ impl<'a, R: Wait> Gate for Watching<'a, R> {
 }
 
 #[test]
-fn the_gate_is_told_once_the_hub_has_taken(rt: HostRuntime) {
+fn the_gate_is_informed_once_the_hub_has_taken(rt: HostRuntime) {
     let alloc = rt.alloc();
     let (hub, mut pass) = open_hub(&rt, alloc, EMPTY_TEXT, 100);
     let sight = Sight {

@@ -16,7 +16,7 @@ use jup_star::Site;
 use std::alloc::Global;
 use std::sync::Wait;
 
-// Joins a site, and opens it with what it is told.
+// Joins a site, and opens it with what it gets.
 fn join_one<R: Wait>(rt: &R, alloc: Global, hub: &Hub, caller: &mut Caller) -> Result<Site, Stop>
     requires pass { IsPassOf hub.now caller.old.pass }
     ensures pass { IsPassOf hub.now caller.new.pass }
@@ -71,7 +71,7 @@ pub(crate) fn seat(alloc: Global, hub: &Hub, caller: &mut Caller, site: Site) ->
     }
 }
 
-// Why the first site that was stopped was.
+// Why the first site that was stopped was stopped.
 fn first_stop(results: &[Result<Player, Stop>]) -> Option<Stop>
     ensures { result ≡ first_stop results.now }
 {
@@ -83,7 +83,7 @@ fn first_stop(results: &[Result<Player, Stop>]) -> Option<Stop>
     None
 }
 
-/// Takes in the passes of players whose threads have ended. The first site that was stopped tells why.
+/// Takes in the passes of players whose threads have ended. The first site that was stopped says why.
 pub(crate) fn rejoin_all(
     alloc: Global,
     hub: &Hub,

@@ -26,7 +26,7 @@ pub(crate) struct Player {
     pub(crate) replies: Vec<Result<BoardEdits, EditFault>>,
 }
 
-// A fault that is an answer: all but want of memory.
+// A fault that is an answer: all except a failed allocation.
 fn decline(fault: EditFault) -> Result<EditFault, Stop>
     ensures answer { IfOk result (λ f. (f ≡ fault) × (is_edit_memory fault ≡ false)) }
     ensures stop { IfErr result (λ stop. (stop ≡ Stop.NoMemory) × (is_edit_memory fault ≡ true)) }
@@ -38,7 +38,7 @@ fn decline(fault: EditFault) -> Result<EditFault, Stop>
 }
 
 impl Player {
-    // Receives where there is news.
+    // Receives if there is news.
     fn catch_up<R: Wait>(&mut self, rt: &R, alloc: Global, hub: &Hub) -> Result<(), Stop>
         requires { IsPassOf hub.now self.old.caller.pass }
         ensures pass { IsPassOf hub.now self.new.caller.pass }

@@ -34,10 +34,12 @@ pub struct RunEnd {
 
 /// Plays the scripts of two sites on a board.
 ///
-/// Each site edits in a thread of its own, through one hub. Each edit is taken before the next; after that,
-/// and before an edit where there is news, up to 64 messages are fetched and delivered. At the end both sites
-/// are drained. Refused, in this order: a limit that is not 1 to 16,777,216, a board with an item that is not
-/// of a layout; then, by the lowest site that meets one: a gate that stays shut, a full order, no memory, and
+/// Each site edits in a thread of its own, through one hub. Each edit is taken before the next. After that,
+/// and before an edit if there is news, up to 64 messages are fetched and delivered. At the end both sites
+/// are drained.
+///
+/// Refused, in this order, are a limit that is not 1 to 16,777,216, and a board with an item that is not of a
+/// layout. Then, by the lowest site that meets one, a gate that stays shut, a full order, no memory, and
 /// whatever no run should meet.
 pub fn run_two<R: Threads + Wait + Sync, G: Gate + Sync>(
     rt: &R,

@@ -1,4 +1,4 @@
-//! Why a run that has begun comes to no end.
+//! Why a run that has begun is stopped.
 ghost use Rattle.std.specs.Prelude.{◌≡◌};
 
 use jup_hub::HubFault;

@@ -69,7 +69,7 @@ impl<C: Read + Drop> Requests<C> {
         Err(SessionFault::ReadsSpent.into())
     }
 
-    // Moves bytes of the piece into the line. True where the line is whole.
+    // Moves bytes of the piece into the line. True if the line is whole.
     fn fill_line(&mut self) -> Result<bool, ClientEnd> {
         for _ in self.given..self.piece.len() {
             let Some(byte) = self.piece.get(self.given).copied() else {

@@ -17,8 +17,13 @@ use std::time::{Clock, Duration};
 /// Milliseconds that a read of the link waits before its thread looks whether the client has ended.
 const LOOK: u64 = 100;
 
-/// Connects as the words say, does what the input asks for, and answers the exit status: 0 after `quit` or
-/// the end of the input, 1 for a failed read, write or connect, 2 for the words, 3 for memory, 4 for a fault.
+/// Connects as the words say, does what the input asks for, and answers the exit status:
+///
+/// - 0 after `quit` or the end of the input
+/// - 1 for a failed read, write or connect
+/// - 2 for the words
+/// - 3 for memory
+/// - 4 for a fault
 ///
 /// The link is read while the user thinks, by a thread of its own: a client that did not read would lose its link.
 pub fn client_main<
@@ -97,7 +102,7 @@ fn run_beside_drain<R: Threads + Wait + Sync, C: Read + Drop, O: Write>(
     })
 }
 
-// Tells a fault on standard output, and on standard error what it is; answers the exit status.
+// Prints a fault on standard output, and on standard error what it is; answers the exit status.
 fn tell_fault<O: Write, E: Write>(out: &mut O, errors: &mut E, end: ClientEnd) -> u8
     ensures { result ≤ 4 }
 {
@@ -108,7 +113,7 @@ fn tell_fault<O: Write, E: Write>(out: &mut O, errors: &mut E, end: ClientEnd) -
     end.status()
 }
 
-// Tells why on standard error, and answers the exit status.
+// Prints why on standard error, and answers the exit status.
 fn tell<E: Write>(errors: &mut E, end: ClientEnd) -> u8
     ensures { result ≤ 4 }
 {

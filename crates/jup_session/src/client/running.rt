@@ -37,7 +37,7 @@ impl<F: Read + Drop, T: Write + Drop> Client<F, T> {
         })
     }
 
-    // Tells the user of the site, and then does what the commands ask for, until `quit` or their end.
+    // Shows the site to the user, and then does what the commands ask for, until `quit` or their end.
     fn run<C: Read + Drop, O: Write>(
         &mut self,
         alloc: Global,
@@ -53,7 +53,7 @@ impl<F: Read + Drop, T: Write + Drop> Client<F, T> {
         Err(SessionFault::ReadsSpent.into())
     }
 
-    // Tells the user the number of the site, and the board.
+    // Shows the user the number of the site, and the board.
     fn tell_site<O: Write>(&self, alloc: Global, out: &mut O) -> Result<(), ClientEnd> {
         let site = &self.state.site;
         let text = told_text(alloc, &Told::Site(site.number()), site.board())?;
@@ -127,7 +127,7 @@ pub fn run_client<C: Read + Drop, O: Write, F: Read + Drop, T: Write + Drop>(
     client.run(alloc, &mut requests, out)
 }
 
-// Greets the server, and opens the site that it is told of.
+// Greets the server, and opens the site that it answers.
 fn greet<F: Read + Drop, T: Write + Drop>(
     alloc: Global,
     source: &mut Source<F>,

@@ -17,9 +17,14 @@ use std::thread::Threads;
 use std::time::Clock;
 use std::{io, thread};
 
-/// Serves as the words say a board whose layout is the input, and answers the exit status: 0 after the last
-/// session, 1 for a failed read, write, bind or accept, 2 for the words, 3 for memory, 5 for the layout, 6
-/// where the hub can't be closed.
+/// Serves as the words say a board whose layout is the input, and answers the exit status:
+///
+/// - 0 after the last session
+/// - 1 for a failed read, write, bind or accept
+/// - 2 for the words
+/// - 3 for memory
+/// - 5 for the layout
+/// - 6 if the hub can't be closed
 pub fn daemon_main<
     R: Net<Listener = TcpListener, Stream = TcpStream> + Threads + Wait + Clock + Sync,
     I: Read + Drop,
@@ -66,7 +71,7 @@ fn serve<
     serve_star(rt, alloc, told, star, listener, out)
 }
 
-// Prints the address on standard error, where the system was left to choose the port.
+// Prints the address on standard error, if the system was left to choose the port.
 fn tell_port<E: Write>(listen: &str, listener: &TcpListener, errors: &mut E) {
     if !listen.ends_with(":0") {
         return;
@@ -136,7 +141,7 @@ fn print<O: Write>(text: &[u8], out: &mut O) -> io::Result<()> {
 }
 
 // Accepts the sessions, each in a thread of its own. The scope waits for all that run, on each way out. Nobody
-// listens meanwhile: who comes after the last one is refused, and does not wait for what never comes.
+// listens meanwhile: a connection after the last one is refused, and does not wait for what never comes.
 fn serve_all<R: Threads + Wait + Clock + Sync>(
     rt: &R,
     alloc: Global,

@@ -4,7 +4,7 @@ ghost use Rattle.std.specs.Prelude.{◌≤◌};
 use jup_rules::{Attempt, DaemonEnd};
 use std::io::Write;
 
-/// Tells why on standard error, and answers the exit status; help goes to standard output.
+/// Prints why on standard error, and answers the exit status; help goes to standard output.
 pub(crate) fn tell<O: Write, E: Write>(end: &DaemonEnd, out: &mut O, errors: &mut E) -> u8
     ensures { result ≤ 6 }
 {

@@ -33,8 +33,9 @@ impl Place {
         }
     }
 
-    // Wakes those who wait. Who is about to wait has compared the counts, and holds the lock until it does: the lock is taken, and
-    // given up at once, so that the ring comes behind that. Without it a ring between the two is lost, which no test can be sure to meet.
+    // Wakes those who wait. A thread that is about to wait has compared the counts, and holds the lock until it waits. So this takes the
+    // lock and releases it immediately, and the ring comes after the wait has begun. Without it a ring between the two is lost, which no
+    // test can be sure to meet.
     fn wake<R: Wait>(&self, rt: &R) {
         drop(self.rings.lock(rt));
         self.rung.notify_all();
@@ -69,7 +70,8 @@ impl Bell {
     }
 
     /// Waits until the count of rings at a site's place is not the one that was seen, and answers it. No ring is
-    /// missed: who waits says so before it compares the counts, and a ring is counted before it looks who waits.
+    /// missed: a thread that waits says so before it compares the counts, and a ring is counted before it looks
+    /// for threads that wait.
     pub fn wait<R: Wait>(&self, rt: &R, site: u32, seen: u64) -> u64 {
         let place = self.place(site);
         let rings = place.rings.lock(rt);

@@ -20,7 +20,7 @@ impl Due {
         Due { ring: None }
     }
 
-    /// One ring more. A ring for all is one for the own half too.
+    /// One more ring. A ring for all is one for the own half too.
     pub(crate) fn add(&mut self, ring: Ring)
         ensures due { self.new.ring ≢ None }
         ensures all { (self.new.ring ≡ Some All) ↔ ((self.old.ring ≡ Some All) ⊎ (ring ≡ All)) }

@@ -22,7 +22,7 @@ use std::alloc::Global;
 use std::io::{Read, Write};
 use std::sync::Wait;
 
-/// Greets the site, and answers its number. Where it comes to no session the site was told why.
+/// Greets the site, and answers its number. If no session begins, the site was sent the reason.
 pub(crate) fn begin<R: Wait, I: Read + Drop, O: Write + Drop>(
     rt: &R,
     alloc: Global,
@@ -94,7 +94,7 @@ fn read_greeting<I: Read + Drop>(alloc: Global, source: &mut Source<I>) -> Resul
     Ok(())
 }
 
-// Tells the site its number, the limit and the board. It takes no memory: a line is made when it is put, so a peer
+// Sends the site its number, the limit and the board. It takes no memory: a line is made when it is put, so a peer
 // that does not read costs no more than its copy of the board.
 fn welcome<O: Write + Drop>(output: &mut Output<O>, joined: &Joined) -> Result<(), SessionFault>
     ensures lines { PutsLines output.old (welcome_lines joined.now) output.new }

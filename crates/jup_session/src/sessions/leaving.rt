@@ -20,7 +20,7 @@ pub(crate) fn leave<R: Wait>(rt: &R, alloc: Global, hub: &Hub, pass: &mut Pass, 
     let _ = hub.leave(rt, pass, site);
 }
 
-// Gives back what waits for a site. Where memory is refused, the star drops the rest as the site leaves.
+// Gives back what waits for a site. If an allocation fails, the star drops the rest as the site leaves.
 fn give_back<R: Wait>(rt: &R, alloc: Global, hub: &Hub, pass: &mut Pass, site: u32)
     requires { IsPassOf hub.now pass.old }
     ensures pass { IsPassOf hub.now pass.new }
@@ -47,7 +47,7 @@ fn give_some<R: Wait>(rt: &R, alloc: Global, hub: &Hub, pass: &mut Pass, site: u
     !is_last_fetch(downs.as_slice().len())
 }
 
-// Acknowledges messages in the place of the site, which will never be told of them: the star keeps each edit until then.
+// Acknowledges messages in the place of the site, which will never receive them: the star keeps each edit until then.
 fn acknowledge<R: Wait>(
     rt: &R,
     alloc: Global,

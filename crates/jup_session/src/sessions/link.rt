@@ -62,7 +62,7 @@ impl<'a> Link<'a> {
         unreachable!()
     }
 
-    /// Counts pongs that were written, and rings where the other half may wait for that.
+    /// Counts pongs that were written, and rings if the other half may wait for that.
     pub(crate) fn pay<R: Wait>(&self, rt: &R, pongs: usize) {
         let may_wait = self.pongs.lock(rt).pay(pongs);
         if may_wait {

@@ -20,8 +20,8 @@ impl<'a> Outgoing<'a> {
 
     /// The writing side of a socket. A write of it fails once the peer has taken no byte for so many seconds.
     pub fn new(stream: &'a TcpStream, patience: u32) -> Outgoing<'a> {
-        // The kernel wakes a writer that waits once a third of the socket's room is free. A write that asks anew each
-        // second is given all room that there is, so a peer that reads slowly is seen to read.
+        // The kernel wakes a writer that waits once a third of the socket's room is free. A write that asks again
+        // each second is given all room that there is, so a peer that reads slowly is seen to read.
         let _ = stream.set_write_timeout(Some(Duration::from_secs(1)));
         Outgoing { stream, patience }
     }

@@ -87,7 +87,7 @@ fn handle<R: Wait, G: Gate>(
     }
 }
 
-// Has the hub take a message, once what it waits for has come. `None` where that does not come.
+// Has the hub take a message, once what it waits for has come. `None` if that does not come.
 #[tactic(auto, using(crate::proofs::SessionCalls::edit_called, crate::proofs::SessionCalls::ping_left))]
 fn take<R: Wait, G: Gate>(
     rt: &R,
@@ -121,7 +121,7 @@ fn take<R: Wait, G: Gate>(
     }
 }
 
-// Counts a ping that is to be taken. Where too many pongs are owed those who are due are woken first, the half that writes them among them.
+// Counts a ping that is to be taken. If too many pongs are owed, it first wakes those that are due, among them the half that writes the pongs.
 fn take_ping<R: Wait>(rt: &R, link: &Link<'_>, due: &mut Due) -> bool {
     if link.try_ping(rt) {
         return true;

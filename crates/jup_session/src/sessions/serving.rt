@@ -142,7 +142,7 @@ fn serve_lines<R: Threads + Wait + Sync, I: Read + Drop, O: Write + Send + Drop,
     }
 }
 
-// The session of a site that has joined, behind the greeting.
+// The session of a site that has joined, after the greeting.
 fn serve_site<R: Threads + Wait + Sync, I: Read + Drop, O: Write + Send + Drop, G: Gate>(
     rt: &R,
     alloc: Global,

@@ -169,7 +169,7 @@ fn forward<R: Wait, O: Write + Drop>(
     unreachable!()
 }
 
-// Fetches what the hub has for the site, up to as much as is asked for. `None` where the site has no link any more.
+// Fetches what the hub has for the site, up to as much as is asked for. `None` if the site has no link any more.
 fn fetch<R: Wait>(rt: &R, link: &Link<'_>, pass: &mut Pass) -> Result<Option<Downs>, SessionFault>
     requires { IsPassOf link.now.hub.now pass.old }
     ensures pass { IsPassOf link.now.hub.now pass.new }

@@ -1,0 +1,44 @@
+//! Growths that are refused, each test for the call of its name. `./growths` refuses one after another of those between the two marks: a call that
+//! lacks memory says so, and made again it gives its answer.
+use crate::boards::BOARD;
+use crate::expect::{expect_eq, expect_that};
+use jup_service::{
+    Address, CaptionFault, ServiceEnd, check_captions, own_origins, star_of_printed,
+};
+use test_marks::{begin, end};
+
+#[test]
+fn captions_check(rt: HostRuntime) {
+    let text = b"1 \"Dinner\"\n1.2 \"Who brings what\"\n";
+    begin(rt.alloc());
+    let checked = check_captions(rt.alloc(), text);
+    end(rt.alloc());
+    expect_that(
+        &rt,
+        matches!(checked, Ok(()) | Err((_, CaptionFault::NoMemory))),
+    );
+    expect_eq(&rt, check_captions(rt.alloc(), text), Ok(()));
+}
+
+#[test]
+fn origins_own(rt: HostRuntime) {
+    let at = Address {
+        port: 1,
+        is_loopback: true,
+        is_wildcard: false,
+    };
+    begin(rt.alloc());
+    let _origins = own_origins(rt.alloc(), "127.0.0.1", at, Some("http://a"));
+    end(rt.alloc());
+    let origins = own_origins(rt.alloc(), "127.0.0.1", at, Some("http://a"));
+    expect_eq(&rt, origins.expect(&rt, "memory").len(), 3);
+}
+
+#[test]
+fn star_printed(rt: HostRuntime) {
+    begin(rt.alloc());
+    let opened = star_of_printed(rt.alloc(), BOARD, 10);
+    end(rt.alloc());
+    expect_that(&rt, matches!(&opened, Ok(_) | Err(ServiceEnd::NoMemory)));
+    expect_that(&rt, star_of_printed(rt.alloc(), BOARD, 10).is_ok());
+}

@@ -42,7 +42,7 @@ begins_more a xs b x = (x.0 ++ xs, ap (λ h. h ++ xs) x.1 ∙ append_assoc b x.0
 abbrev entry_of : View → Call → Reply → List Entry
 entry_of v call reply = record { by = v.number; call = call; reply = reply } ∷ []
 
--- an edit that was taken behind its gate
+-- an edit that its gate let through, and that the hub took
 pub edit_answered : {P : Type 0} (view : P → View) (site : ℕ) (up : BoardUp) (v : View) (p q : P) (answer : Result (Option ℕ) HubFault) (place : Option ℕ) → HasAnswered site up v (view p) (Some answer) → answer ≡ Ok place → q ≡ p
     → Called (Take site up) (reply.Taken (Ok place)) v (view q)
 edit_answered view site up v p q answer place answered was same =
@@ -111,7 +111,7 @@ took_one i u p v w n m s rest c more = record {
   count = more;
 }
 
--- messages that a fetch gave, delivered in turn
+-- messages that a fetch gave, delivered in order
 pub got_some : (i : ℕ) (k : ℕ) (ds : List BoardDown) (v w : View) (n m : ℕ) (l l' : BoardAttached) → Called (Fetch i k) (reply.Fetched (Ok ds)) v w → m ≡ n + 1 → 0 < k → AcceptsAll ds l → all_delivered ds l ≡ l'
     → Handles i v w n m l l'
 unfolding called_plays

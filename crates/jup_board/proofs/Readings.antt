@@ -41,7 +41,7 @@ uncut_none text line rest lacks is = (lacks_behind 10 line (10 ∷ rest) (subst 
 pub same_line : (text x y r s : List ℕ) → text ≡ x ++ 10 ∷ r → Lacks 10 x → Lacks 10 y → text ≡ y ++ 10 ∷ s → x ≡ y
 same_line text x y r s x_is x_lacks y_lacks y_is = (same_parts 10 x y r s x_lacks y_lacks (sym x_is ∙ y_is)).0
 
--- ---- where the text is a printed board
+-- ---- if the text is a printed board
 
 -- no line of the text is left, or one that is a text of one line
 pub line_left : (draft : Draft) (rest : List ℕ) → GoesOn draft rest → (rest ≡ []) ⊎ ((line later : List ℕ) × Lacks 10 line × IsUtf8 line × (rest ≡ line ++ 10 ∷ later))

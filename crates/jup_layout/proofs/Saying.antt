@@ -234,7 +234,7 @@ module _ (naming : Naming) (older : List Part) (d : Drafted) (agrees : Agrees na
 abbrev ending : Windows → Option ℕ → ℕ → ℕ → Naming → Widget → Drafted
 ending board window home wid naming w = record { board = board; window = window; home = Some home; last = Some (wid, w); naming = naming }
 
--- what an item of the last widget leaves of what was said: the ids, and all widgets but that one
+-- what an item of the last widget leaves as it was: the ids, and all widgets except that one
 record Extends (older : List Part) (add : Widget → Widget) (d : Drafted) : Type 0 where
   pub ids : AreIdsOf (window_ids older) (whole d)
   pub widgets : (win : ℕ) → last_window older ≡ Some win → (ws : List (ℕ × Widget)) × (at_id win (whole d) ≡ Some ws) × AreIdsOf (widget_ids older) ws

@@ -1,4 +1,4 @@
--- What lines say of a board, each by the lines before it: of the window of the last window's line, and of the widget of the last widget's line.
+-- What lines say of a board. The lines before a line decide what it is about: the window of the last window's line, and the widget of the last widget's line.
 use Rattle.std.specs.Prelude.{◌≡◌, ◌≢◌, ℕ, suc, ◌<◌, Bool, false, List, [], ◌∷◌, ◌++◌, length, Option, Some, None, if◌then◌else◌}
 use Rattle.std.specs.List.{AllByRecursion}
 use Rattle.std.specs.Option.{option_map, IsSome}
@@ -39,9 +39,9 @@ part_of (line.Char name value) = SaysChar (record { name = name; value = value }
 part_of (line.Item name value) = SaysLabel (record { name = name; value = value })
 part_of other = SaysNothing
 
--- ---- what a history says; the last part that was said comes first in it
+-- ---- what a history says, in which the newest part comes first
 
--- the item more at the end of a text, or of a list
+-- a text, or a list, with one more item at its end
 abbrev pub with_char : Item ℕ → Widget → Widget
 with_char item (Text x) = Text (record x { items = x.items ++ item ∷ [] })
 with_char item (Labels x) = Labels x
@@ -89,7 +89,7 @@ widget_ids (SaysChar item ∷ older) = widget_ids older
 widget_ids (SaysLabel item ∷ older) = widget_ids older
 widget_ids (SaysNothing ∷ older) = widget_ids older
 
--- what is asked of the name of the next item
+-- what the name of the next item has to be
 abbrev pub named_by : Naming → List Part → Naming
 named_by naming [] = naming
 named_by naming (SaysWindow win ∷ older) = named_by naming older
@@ -114,7 +114,7 @@ widget_said p (SaysNothing ∷ older) = widget_said p older
 
 -- ---- which parts may come next
 
--- an id for one more window, or one more widget of a window, that has these
+-- an id for one more window of a board, or one more widget of a window, with these ids so far
 abbrev pub IsFreeId : ℕ → List ℕ → Type 0
 IsFreeId id ids = (0 < id) × (AllByRecursion (λ other. other ≢ id) ids × (length ids < most_entries))
 
@@ -124,7 +124,7 @@ IsBounded (Labels x) = Unit {0}
 IsBounded (Toggle x) = Unit {0}
 IsBounded (Slider x) = IsWithin x x.value
 
--- an item more of a sequence: where items are numbered, it has the next number of all, and the sequence has room; and no item of the sequence has its name
+-- One more item of a sequence: no item of the sequence has its name. If items are numbered, it has the next number of all, and the sequence has room
 abbrev pub IsNamed : Naming → Name → ℕ → Type 0
 IsNamed Distinct name place = Unit {0}
 IsNamed (Numbered count) name place = (name ≡ record { site = 0; number = suc count }) × (place < longest_sequence)
@@ -139,12 +139,12 @@ MayCome naming older (SaysChar item) = (p : Place) × (x : Items ℕ) × (last_p
 MayCome naming older (SaysLabel item) = (p : Place) × (x : Items (List ℕ)) × (last_place older ≡ Some p) × (widget_said p older ≡ Some (Labels x)) × IsNextItem (named_by naming older) item.name x.items
 MayCome naming older SaysNothing = ⊥
 
--- lines that may come one after another, after such a history
+-- lines that may follow such a history, one after another
 abbrev pub MayFollow : Naming → List Part → List Line → Type 0
 MayFollow naming older [] = Unit {0}
 MayFollow naming older (line ∷ lines) = MayCome naming older (part_of line) × MayFollow naming (part_of line ∷ older) lines
 
--- what such lines have said at their end
+-- the history after such lines
 abbrev pub history : List Part → List Line → List Part
 history older [] = older
 history older (line ∷ lines) = history (part_of line ∷ older) lines

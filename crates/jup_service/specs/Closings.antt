@@ -3,7 +3,7 @@ use Rattle.std.specs.Prelude.{ℕ, Bool, true, false, Option, None, Some}
 use Rattle.jup_http.specs.declared.ending.Ending.{Ending}
 use Rattle.jup_http.specs.Sending.{answer_code}
 
--- a browser's close or breach is answered; else the server goes away, or all went as it should
+-- the server answers a browser's close or breach; else it goes away, or closes normally
 abbrev pub close_code : Option Ending → Bool → Option ℕ
 close_code (Some ending) stops = answer_code ending
 close_code None true = Some 1001

@@ -1,4 +1,4 @@
-//! A file that keeps a text, whole whatever happens.
+//! A file that keeps a text whole, also if a write is cut off.
 ghost use Rattle.std.specs.Prelude.{OnOk};
 ghost use Rattle.std.specs.Io.KnownBytes.{Appends};
 
@@ -8,18 +8,18 @@ use std::io;
 use std::io::{Read, Write};
 use std::path::{Path, PathBuf};
 
-/// A file that this program alone reads and writes. Beside it stand its lock, and while it is written the new text.
+/// A file that this program alone reads and writes. In its folder are its lock, and during a write the new text.
 #[derive(Drop)]
 pub struct KeptFile {
     path: PathBuf,
-    /// The new text is put here, and then renamed over the file.
+    /// A write puts the new text into the file of this name, and then renames it over the kept file.
     fresh: String,
     folder: PathBuf,
-    /// Held as long as the program runs. The system gives it up where the program is killed.
+    /// The program holds it as long as it runs. The system releases it if the program is killed.
     lock: File,
 }
 
-/// Why a file is not opened.
+/// Why the program does not open a file.
 #[derive(Drop)]
 pub enum KeptFileFault {
     /// Another program has it.
@@ -40,8 +40,8 @@ impl From<AllocError> for KeptFileFault {
 }
 
 impl KeptFile {
-    /// Opens the file of this name, which has to be there and to be writable, and gives its text. A name that leads to another
-    /// file stands for that one.
+    /// Opens the file of this name, which has to exist and to be writable, and gives its text. If the name is a link, the file that
+    /// it leads to is opened.
     pub fn open<R: Files<File = File>>(
         rt: &R,
         alloc: Global,
@@ -61,8 +61,9 @@ impl KeptFile {
         Ok((kept, text))
     }
 
-    /// Puts a text in the place of the file's, with the file's mode. Whenever this is cut off, the file has one of the two texts, whole:
-    /// the new one is written beside it and is on the disk before its name is the file's. On return the name is on the disk too.
+    /// Replaces the file's text by this one, and keeps the file's mode. Whenever this is cut off, the file has one of the two texts,
+    /// whole. The new text is written to a second file, and is on the disk before a rename gives it the file's name. On return the
+    /// rename is on the disk too.
     pub fn save<R: Files<File = File>>(&self, rt: &R, text: &[u8]) -> io::Result<()> {
         let mode = rt.metadata(self.path.as_str())?.permissions();
         let mut fresh = File::create(rt, self.fresh.as_str())?;
@@ -88,7 +89,7 @@ fn lock_beside<R: Files<File = File>>(
     }
 }
 
-// The text of a file that is also writable.
+// Reads the text of a file, which also has to be writable.
 fn read_text<R: Files<File = File>>(rt: &R, alloc: Global, path: &PathBuf) -> io::Result<Vec<u8>> {
     let mut file = OpenOptions::new()
         .read(true)
@@ -99,7 +100,7 @@ fn read_text<R: Files<File = File>>(rt: &R, alloc: Global, path: &PathBuf) -> io
     Ok(text)
 }
 
-// The file's name with a word behind it.
+// The file's name with a dot and a word after it.
 fn beside(alloc: Global, path: &PathBuf, word: &str) -> Result<String, AllocError> {
     let name = path.as_str();
     format!(in alloc; "{name}.{word}")
@@ -110,7 +111,7 @@ fn folder_of(alloc: Global, path: &PathBuf) -> io::Result<PathBuf> {
     Ok(PathBuf::from_str(alloc, folder.as_os_str())?)
 }
 
-/// Writes all of a text, and has it put on the disk.
+/// Writes all of a text, and syncs it to the disk.
 fn write_synced<F: Write + OpenFile>(file: &mut F, text: &[u8]) -> io::Result<()>
     ensures { OnOk result (Appends (F.contents file.old) (F.contents file.new) text.now) }
 {

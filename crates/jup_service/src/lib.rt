@@ -1,5 +1,6 @@
-//! What a server of browsers decides: its command line and its end, which bytes begin a request, whose pages may ask, how long it waits
-//! for whom, what it tells its operator once, the board that a file keeps, and captions. Nothing here opens a socket.
+//! What a server of browsers decides: its command line and its end, which bytes begin a request, and whose pages may send requests. Also
+//! how long it waits for a client, what it reports to its operator once, the board that a file keeps, and captions. Nothing here opens a
+//! socket.
 #![tactic(auto)]
 
 mod captions;

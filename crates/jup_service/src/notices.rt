@@ -1,10 +1,10 @@
-//! What a server tells its operator, each once.
+//! What a server reports to its operator, each notice once.
 ghost use Rattle.std.specs.Prelude.{◌≡◌, not, true, false};
 ghost use Rattle.jup_service.specs.Notices.{notice_of, is_told, with_told};
 
 use thiserror::Error;
 
-/// What a server tells its operator while it runs.
+/// What a server reports to its operator while it runs.
 #[derive(Clone, Copy, Debug, PartialEq, Eq, Error)]
 pub enum Notice {
     #[error("all site numbers are spent: nobody can join any more; a restart with the same board begins anew")]
@@ -17,7 +17,7 @@ pub enum Notice {
     CannotWrite,
 }
 
-/// What the number of a fault that ended a session tells the operator.
+/// What the server reports to its operator after a session that a fault of this number ended, if it reports anything.
 pub fn notice_of(fault: u32) -> Option<Notice>
     ensures { result ≡ notice_of fault }
 {
@@ -28,7 +28,7 @@ pub fn notice_of(fault: u32) -> Option<Notice>
     }
 }
 
-/// Which notices were told.
+/// Which notices the server has reported.
 #[derive(Clone, Copy, Debug, PartialEq, Eq)]
 pub struct Told {
     sites: bool,
@@ -38,7 +38,7 @@ pub struct Told {
 }
 
 impl Told {
-    /// None was.
+    /// The server has reported none.
     pub fn new() -> Told
         ensures { (notice : Notice) → is_told result notice ≡ false }
     {
@@ -50,7 +50,7 @@ impl Told {
         }
     }
 
-    /// Counts a notice as told. Whether it has to be, since it was not.
+    /// Counts a notice as reported. True if it was not, so that the server has to report it now.
     pub fn tell(&mut self, notice: Notice) -> bool
         ensures first { result ≡ not (is_told self.old notice) }
         ensures told { self.new ≡ with_told self.old notice true }
@@ -64,7 +64,7 @@ impl Told {
         !was
     }
 
-    /// What the notice told of is over: it is to be told again when it comes back.
+    /// What the notice reports is over. If it comes back, the server has to report it again.
     pub fn clear(&mut self, notice: Notice)
         ensures { self.new ≡ with_told self.old notice false }
     {

@@ -1,4 +1,4 @@
-//! The origins of a server: under which of them its own pages ask.
+//! The origins under which a server's own pages send requests.
 ghost use Rattle.std.specs.Prelude.{◌≡◌, IfOk, All, option_map, string_bytes};
 ghost use Rattle.jup_service.specs.Origins.{origin_of, IsOwnOrigin};
 
@@ -11,13 +11,13 @@ const DEFAULT_PORT: u16 = 80;
 #[derive(Clone, Copy, Debug)]
 pub struct Address {
     pub port: u16,
-    /// Whether the machine's own programs alone reach it.
+    /// Whether only programs on the same machine reach it.
     pub is_loopback: bool,
     /// Whether it is every address of the machine.
     pub is_wildcard: bool,
 }
 
-/// The origins of a server that listens at `host` and was told a further one.
+/// The origins of a server that listens at `host`, with the further one that its command line names, if it names one.
 pub fn own_origins(
     alloc: Global,
     host: &str,

@@ -25,7 +25,7 @@ const BAD_LIMIT: &str = "a count out of range";
 const BAD_ORIGIN: &str =
     "an origin is http:// or https:// and a host, with a port or without one, and no path";
 
-/// What the server is told to do.
+/// What the command line asks of the server.
 #[derive(Drop)]
 pub struct ServiceWords {
     /// Where to listen, as given.
@@ -38,11 +38,11 @@ pub struct ServiceWords {
     pub page: Option<String>,
     /// The file of the captions.
     pub captions: Option<String>,
-    /// An origin under which browsers reach the server, beside its own address.
+    /// A further origin under which browsers reach the server, besides its own address.
     pub origin: Option<String>,
 }
 
-/// Reads the words after the program's name.
+/// Reads the arguments after the program's name.
 pub fn service_words(alloc: Global, words: &[String]) -> Result<ServiceWords, Error>
     ensures limit { IfOk result (λ w. (1 ≤ w.limit) × (w.limit ≤ highest_limit)) }
     ensures origin { IfOk result (λ w. IfSome w.origin (λ o. is_origin (string_bytes o) ≡ true)) }
@@ -51,7 +51,7 @@ pub fn service_words(alloc: Global, words: &[String]) -> Result<ServiceWords, Er
     read_words(alloc, &mut command, words)
 }
 
-// Reads the words by the program's command line.
+// Reads the arguments by the program's command line.
 fn read_words<'a>(
     alloc: Global,
     command: &mut Command<'a>,
@@ -69,7 +69,7 @@ fn read_words<'a>(
     }
 }
 
-// Why values are refused that were given as they should be.
+// Why the values of a command line that parses are refused.
 #[derive(Clone, Copy)]
 enum Unread {
     NoMemory,
@@ -130,7 +130,7 @@ fn limit<'a>(alloc: Global) -> Arg<'a> {
     ))
 }
 
-// What the server is told.
+// What the parsed command line asks of the server.
 fn told_by(alloc: Global, matches: &ArgMatches<'_>) -> Result<ServiceWords, Unread>
     ensures limit { IfOk result (λ w. (1 ≤ w.limit) × (w.limit ≤ highest_limit)) }
     ensures origin { IfOk result (λ w. IfSome w.origin (λ o. is_origin (string_bytes o) ≡ true)) }

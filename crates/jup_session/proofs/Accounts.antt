@@ -38,7 +38,7 @@ at_more : (from : Option (List ℕ)) (bytes : List ℕ) (lines more : List Line)
 at_more from bytes lines more a b at h =
     (Consumes-trans from a.known b.known bytes h.bytes at.0 h.consumed, subst (λ l. HasRead (bytes ++ h.bytes) l b.progress) (sym (append_assoc lines more b.waiting)) (h.goes_on bytes lines at.1))
 
--- of two lists of lines, the same bytes are but one
+-- bytes have just one list of lines, which begins with those handed on so far
 at_lines : (from : Option (List ℕ)) (bytes : List ℕ) (lines others : List Line) (s : Sourced) (progress : Progress) → At from bytes lines s → HasRead bytes others progress → BeginWith others lines
 at_lines from bytes lines others s progress at other = (s.waiting, sym (one_read bytes (lines ++ s.waiting) others s.progress progress at.1 other).0)
 
@@ -113,7 +113,7 @@ pub account_written : (from old new : Option (List ℕ)) (v x : View) (ending : 
     → wrote ≡ held ++ bytes_written e
 account_written from old new v x ending failed e held wrote is so = appended old new (bytes_written e) held wrote e.wrote.3 is so
 
--- ---- what is said by lines
+-- ---- what a site says by lines
 
 abbrev said_by : Piece → Said
 said_by (Message m) = SaysUp (UpOp m)

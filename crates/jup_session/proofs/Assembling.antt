@@ -1,4 +1,4 @@
--- What the parts of a session come to.
+-- How the parts of a session make up the whole.
 use Rattle.std.proofs.Common.{arith, ◌≡◌, ◌∙◌, sym, ap, subst, ℕ, ◌⊎◌, inl, inr, Bool, true, false, IsTrue, not, List, [], ◌∷◌, ◌++◌, Option, Some, None, Result, Ok, Err, refl, append_assoc, append-nil}
 use Rattle.std.specs.List.{flat_map, AllByRecursion}
 use Rattle.std.specs.Io.KnownBytes.{Keeps}
@@ -20,12 +20,12 @@ use Rattle.jup_session.specs.ExactSessions.{IsFresh, IsWelcomed, EndsEarly, Both
 use Rattle.jup_session.specs.Forwards.{lines_brought, told_line, untold_line, Wrote}
 use Rattle.jup_session.specs.Hearings.{Heard}
 
--- the last line is told by one of the two
+-- the last line is written once, by the writing half or after it
 last_told : (told : Option Ending) (heard : Ending) → told_line told ++ untold_line told heard ≡ last_line (standing told heard) ∷ []
 last_told None heard = refl
 last_told (Some ending) heard = refl
 
--- both halves, where the pass v' was split, and the pass u of the writing half is taken in
+-- both halves: the pass v is split into v' and t, and the pass u of the writing half is joined again
 pub both_halves_so : (site : ℕ) (a b : Sourced) (v v' t u w x : View) (p q r : Put) (heard : Ending) (told : Option Ending) (ending : Ending) → v' ≡ after_split v → t ≡ split_from v
     → Heard site a v' b w heard → Wrote site t p u q told → x ≡ joined_with w u → ending ≡ standing told heard → PutsLines q (untold_line told heard) r
     → (lines : List Line) × BothHalves site a v x ending lines × PutsLines p lines r
@@ -83,12 +83,12 @@ served_so from site start greeted v u x p q r ending failed fresh one two = (
   puts_more p q r one.0 two.0 one.2 two.2,
 )
 
--- and one that ended early
+-- a session that ended early
 pub early_so : (from : Option (List ℕ)) (start last : Sourced) (v x : View) (p r : Put) (ending : Ending) (failed : Bool) → IsFresh from start
     → ((lines : List Line) × EndsEarly start v last x ending failed lines × PutsLines p lines r) → (lines : List Line) × HasLines from v x ending failed lines × PutsLines p lines r
 early_so from start last v x p r ending failed fresh ends = (ends.0, Early start last fresh ends.1, ends.2)
 
--- what was written
+-- what a session wrote
 pub exact_so : (from old new : Option (List ℕ)) (v x : View) (p r : Put) (ending : Ending) (failed : Bool) → p ≡ fresh_put old → new ≡ r.written → failed ≡ r.failed → IsFlushed r
     → ((lines : List Line) × HasLines from v x ending r.failed lines × PutsLines p lines r) → IsExact from old new v x ending failed
 exact_so from old new v x p r ending failed fresh at is flushed has = subst (λ f. IsExact from old new v x ending f) (sym is) (record {
@@ -98,12 +98,12 @@ exact_so from old new v x p r ending failed fresh at is flushed has = subst (λ 
       (written_of old r (flat_map line_bytes has.0) (subst (λ (y : Put). PutsLines y has.0 r) fresh has.2) flushed);
 })
 
--- where there is no room for lines, and the writer passes on what it took
+-- if there is no room for lines, and the writer passes on what it took
 pub passed_on : (old mid new : Option (List ℕ)) (bytes : List ℕ) (whole failed : Bool) → WritesFront old mid bytes whole → Keeps mid new → (IsTrue (not failed) → IsTrue whole)
     → WritesFront old new bytes (not failed)
 passed_on old mid new bytes whole failed h kept well = (h.0, h.1, h.2, appends_kept old mid new h.0 h.3 kept, λ e. h.4 (well e))
 
--- the line of want of memory
+-- the line of a session that is out of memory
 pub error_8 : line_bytes (Error 8) ≡ 101 ∷ 114 ∷ 114 ∷ 111 ∷ 114 ∷ 32 ∷ 56 ∷ 10 ∷ []
 error_8 = ap (λ (l : List ℕ). 101 ∷ 114 ∷ 114 ∷ 111 ∷ 114 ∷ 32 ∷ (l ++ 10 ∷ [])) (decimal_digit 8 (omega arith))
 

@@ -22,15 +22,15 @@ gives_for site (Take i (Ping number)) is = absurd is
 gives_for site (Fetch i max) is = is
 gives_for site (Leave i) is = absurd is
 
--- messages are fetched, and dropped
+-- the session fetches messages and drops them
 pub gives_fetched : (site max : ℕ) (v w : View) (r : Result (List (Down BoardBatch)) HubFault) → Made (λ a. Fetched a) (Fetch site max) v w r → Makes (GivesBack site) v w
 gives_fetched site max v w r m = makes_call (GivesBack site) (λ a. Fetched a) (Fetch site max) v w r refl m
 
--- and acknowledged
+-- and acknowledges them
 pub gives_acknowledged : (site count : ℕ) (v w : View) (r : Result (Option ℕ) HubFault) → Made (λ a. Taken a) (Take site (Ack count)) v w r → Makes (GivesBack site) v w
 gives_acknowledged site count v w r m = makes_call (GivesBack site) (λ a. Taken a) (Take site (Ack count)) v w r refl m
 
--- the site leaves behind that
+-- the site leaves after that
 pub departs_so : (site : ℕ) (u v w : View) (r : Result (Unit {0}) HubFault) → Makes (GivesBack site) u v → Made (λ a. Left a) (Leave site) v w r → Departs site u w
 departs_so site u v w r back m = record { between = v; back = back; leaves = makes_call (IsLeaveOf site) (λ a. Left a) (Leave site) v w r refl m }
 

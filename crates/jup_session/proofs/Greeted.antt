@@ -40,7 +40,7 @@ away_session a b v w ending (NoLine stop stops same is) = session_same v w same
 away_session a b v w ending (NoGreeting line handed other same is) = session_same v w same
 away_session a b v w ending (NoJoin fault handed made is) = session_refused v w fault made
 
--- where it comes to no join the last line is told
+-- if the site does not join, the session writes the last line
 pub away_early : (a b : Sourced) (v w : View) (p q : Put) (ending : Ending) → IsTurnedAway a v b w ending → PutsLines p (last_line ending ∷ []) q
     → (lines : List Line) × EndsEarly a v b w ending q.failed lines × PutsLines p lines q
 away_early a b v w p q ending away put = (last_line ending ∷ [], TurnedAway away refl, put)
@@ -52,7 +52,7 @@ pub welcomed_so : (a b : Sourced) (v w : View) (p q : Put) (joined : Joined) →
     → (lines : List Line) × IsWelcomed joined.site a v b w lines × PutsLines p lines q
 welcomed_so a b v w p q joined hello enters put = (welcome_lines joined, record { hello = hello; joined = joined; site_is = refl; enters = enters; lines_are = refl }, put)
 
--- where the welcome is cut off the site leaves
+-- if the welcome is cut off, the site leaves
 pub unwelcome_early : (a b : Sourced) (v u w : View) (p q : Put) (joined : Joined) (fault : SessionFault) (ending : Ending) → HandsOn a (Hello ∷ []) b → Enters joined v u → Departs joined.site u w
     → IsTrue q.failed → fault ≡ WriteFailed → ending ≡ ending_of fault → PutsLines p (welcome_lines joined) q → (lines : List Line) × EndsEarly a v b w ending q.failed lines × PutsLines p lines q
 unwelcome_early a b v u w p q joined fault ending hello enters departs failed at is put = (

@@ -1,4 +1,4 @@
--- What the calls of a session come to.
+-- What the calls of a session make up.
 use Rattle.std.proofs.Common.{◌≡◌, ℕ, ◌⊎◌, inl, inr, Bool, true, false, List, [], ◌∷◌, ◌++◌, Option, Some, None, Result, Ok, Err, MatchBool, refl, sym, ap, ◌∙◌, subst}
 use Rattle.std.proofs.lemmas.List.{append_assoc, append-nil}
 use Rattle.std.specs.List.{AllByRecursion}
@@ -98,7 +98,7 @@ makes_one IsOne call reply v w is c = record {
 called : (site : ℕ) (call : Call) (reply : Reply) (v w : View) → IsCallFor site call → Called call reply v w → Serves site v w
 called site call reply v w is c = makes_one (IsCallFor site) call reply v w is c
 
--- whatever it is answered
+-- whatever the hub answers
 pub makes_call : {A : Type 0} (IsOne : Call → Type 0) (reply : Result A StarFault → Reply) (call : Call) (v w : View) (r : Result A HubFault) → IsOne call → Made reply call v w r → Makes IsOne v w
 makes_call IsOne reply call v w (Ok x) is m = makes_one IsOne call (reply (Ok x)) v w is m
 makes_call IsOne reply call v w (Err Spent) is m = makes_same IsOne v w m.0

@@ -31,17 +31,17 @@ pub record IsFresh (from : Option (List ℕ)) (start : Sourced) : Type 0 where
   pub read : HasRead [] [] start.progress
   pub waiting : start.waiting ≡ []
 
--- the site joined, and was answered this
+-- the site joined, and the hub answered this
 abbrev pub Enters : Joined → View → View → Type 0
 Enters joined v w = Called Join (JoinedReply (bare_joined (Ok joined))) v w
 
--- why it comes to no join: there is no first line, or it is no greeting, or the hub refuses the join
+-- why the site does not join: there is no first line, or it is no greeting, or the hub refuses the join
 pub data IsTurnedAway (a : Sourced) (v : View) (b : Sourced) (w : View) (ending : Ending) : Type 0 where
   NoLine : (stop : Stop) → Stops a stop b → w ≡ v → ending ≡ ended_by stop → IsTurnedAway a v b w ending
   NoGreeting : (line : Line) → HandsOn a (line ∷ []) b → line ≢ Hello → w ≡ v → ending ≡ ending_of Misplaced → IsTurnedAway a v b w ending
   NoJoin : (fault : HubFault) → HandsOn a (Hello ∷ []) b → Made (λ r. JoinedReply (bare_joined r)) Join v w (Err fault) → ending ≡ ending_of (Hub fault) → IsTurnedAway a v b w ending
 
--- the site said hello, joined under this number, and is to be told this
+-- the site said hello and joined under this number, and the session is to write these lines
 pub record IsWelcomed (site : ℕ) (a : Sourced) (v : View) (b : Sourced) (w : View) (lines : List Line) : Type 0 where
   pub hello : HandsOn a (Hello ∷ []) b
   pub joined : Joined
@@ -64,9 +64,9 @@ pub data EndsEarly (a : Sourced) (v : View) (b : Sourced) (w : View) (ending : E
   Unwelcome : IsUnwelcome a v b w ending failed lines → EndsEarly a v b w ending failed lines
 
 -- Both halves of a session, from the pass v, which has joined the site, to the pass x.
--- In: under its own number stand takes of just the messages that the lines read spell, in order, up to why there are no more.
--- Out: under one number more stand fetches, and then what gives back and leaves. The lines are those of the messages that these fetches were answered, in order,
--- and the last line. What the reading half heard is the ending, but for a fault of the writing half
+-- In: under its own number are takes of just the messages that the lines read spell, in order, up to the reason why there are no more.
+-- Out: under one number more are fetches, and then the calls that give back and leave. The lines are those of the messages that these fetches brought, in order,
+-- and the last line. The ending is what the reading half heard, unless the writing half reported a fault
 pub record BothHalves (site : ℕ) (a : Sourced) (v x : View) (ending : Ending) (lines : List Line) : Type 0 where
   pub last : Sourced
   pub heard : Ending
@@ -85,7 +85,7 @@ pub record BothHalves (site : ℕ) (a : Sourced) (v x : View) (ending : Ending) 
   pub departs : AllByRecursion (λ e. IsLeaveOf site e.call) leaves
   pub lines_are : lines ≡ lines_brought fetches ++ last_line ending ∷ []
 
--- a session whose site was welcomed, and served by both halves
+-- a session that welcomed its site, and served it by both halves
 pub record IsServed (a : Sourced) (v x : View) (ending : Ending) (lines : List Line) : Type 0 where
   pub site : ℕ
   pub greeted : Sourced
@@ -96,15 +96,15 @@ pub record IsServed (a : Sourced) (v x : View) (ending : Ending) (lines : List L
   pub halves : BothHalves site greeted behind x ending later
   pub lines_are : lines ≡ first ++ later
 
--- the lines that a session is to write, by the bytes of its reader and by what its hub answered: the line of want of memory where there is no room for any,
--- and nothing is read; or those of a session that ends early, or is served
+-- The lines that a session is to write, by the bytes of its reader and by the answers of its hub. If it has no room for any line, it reads nothing, and
+-- the one line reports that it is out of memory. Otherwise the session ends early, or both halves serve the site
 pub data HasLines (from : Option (List ℕ)) (v x : View) (ending : Ending) (failed : Bool) (lines : List Line) : Type 0 where
   NoRoom : x ≡ v → ending ≡ ending_of NoMemory → lines ≡ last_line ending ∷ [] → HasLines from v x ending failed lines
   Early : (start last : Sourced) → IsFresh from start → EndsEarly start v last x ending failed lines → HasLines from v x ending failed lines
   Served : (start : Sourced) → IsFresh from start → IsServed start v x ending lines → HasLines from v x ending failed lines
 
 -- A session, from the pass v to the pass x, over a reader with these bytes and a writer that held `old`. The writer then holds the bytes of the session's
--- lines as well: all of them, or a front where a write failed
+-- lines as well: all of them, or a front if a write failed
 pub record IsExact (from old new : Option (List ℕ)) (v x : View) (ending : Ending) (failed : Bool) : Type 0 where
   pub lines : List Line
   pub has_lines : HasLines from v x ending failed lines

@@ -1,4 +1,4 @@
--- What the writing half of a session calls of its hub, and what it writes for that.
+-- The calls that the writing half of a session makes of its hub, and what it writes for them.
 use Rattle.std.specs.Prelude.{◌≡◌, ℕ, List, [], ◌∷◌, ◌++◌, Option, Some, None, Result, Ok, Err}
 use Rattle.std.specs.List.{flat_map, AllByRecursion}
 use Rattle.jup_batch.specs.BatchBoards.{BoardBatch}
@@ -23,7 +23,7 @@ abbrev pub brought : Reply → List (Down BoardBatch)
 brought (Fetched (Ok downs)) = downs
 brought reply = []
 
--- the lines of the messages that calls were answered, one message behind the other, in the order of the calls
+-- the lines of the messages that calls brought, one message after the other, in the order of the calls
 abbrev pub lines_brought : List Entry → List Line
 lines_brought calls = flat_map (λ e. flat_map down_lines (brought e.reply)) calls
 
@@ -35,7 +35,7 @@ IsFetchFor site call = ⊥
 abbrev pub AreFetchesFor : ℕ → List Entry → Type 0
 AreFetchesFor site calls = AllByRecursion (λ e. IsFetchFor site e.call) calls
 
--- The pass made fetches for the site and no other call, and the lines of the messages that these were answered were put, in order, and nothing else
+-- The pass made fetches for the site and no other call. The session put the lines of the messages that these brought, in order, and nothing else
 pub record Forwards (site : ℕ) (v : View) (a : Put) (w : View) (b : Put) : Type 0 where
   pub calls : List Entry
   pub number : w.number ≡ v.number
@@ -44,7 +44,7 @@ pub record Forwards (site : ℕ) (v : View) (a : Put) (w : View) (b : Put) : Typ
   pub alone : AreFetchesFor site calls
   pub put : PutsLines a (lines_brought calls) b
 
--- one fetch brought these messages, or none where it was refused or not made
+-- one fetch brought these messages, or none if it was refused or not made
 pub record Brings (site : ℕ) (v w : View) (downs : List (Down BoardBatch)) : Type 0 where
   pub calls : List Entry
   pub number : w.number ≡ v.number
@@ -59,22 +59,22 @@ IsOfWriting (Hub fault) = Unit {0}
 IsOfWriting WriteFailed = Unit {0}
 IsOfWriting fault = ⊥
 
--- the ending that the writing half tells the site itself is that of such a fault
+-- the ending that the writing half reports to the site itself is that of such a fault
 abbrev pub TellsFault : Option Ending → Type 0
 TellsFault None = Unit {0}
 TellsFault (Some ending) = (fault : SessionFault) × IsOfWriting fault × (ending ≡ ending_of fault)
 
--- the last line, where the writing half tells it
+-- the last line, if the writing half writes it
 abbrev pub told_line : Option Ending → List Line
 told_line None = []
 told_line (Some ending) = last_line ending ∷ []
 
--- the last line, where it is told behind that
+-- the last line, if the writing half has not written it
 abbrev pub untold_line : Option Ending → Ending → List Line
 untold_line None ending = last_line ending ∷ []
 untold_line (Some told) ending = []
 
--- the writing half: it forwarded, departed, and told of a fault of its own
+-- the writing half: it forwarded, departed, and reported a fault of its own
 pub record Wrote (site : ℕ) (v : View) (a : Put) (w : View) (b : Put) (told : Option Ending) : Type 0 where
   pub between : View
   pub middle : Put

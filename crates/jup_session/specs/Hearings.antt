@@ -1,4 +1,4 @@
--- What the reading half of a session hears, and what it calls of its hub for that.
+-- What the reading half of a session hears, and the calls that it makes of its hub for that.
 use Rattle.std.specs.Prelude.{◌≡◌, ◌≢◌, ◌⊎◌, ℕ, List, [], ◌∷◌, ◌++◌, Option, Some, None, IsSomeAnd, Result, Ok, Err}
 use Rattle.jup_star.specs.declared.calls.Call.TheVariants.{Take}
 use Rattle.jup_star.specs.declared.calls.Reply.{Reply}
@@ -35,7 +35,7 @@ AreTakesOf site (SaysUp up ∷ saids) [] = ⊥
 AreTakesOf site (SaysUp up ∷ saids) (e ∷ es) = (e.call ≡ Take site up) × IsTaken e.reply × AreTakesOf site saids es
 AreTakesOf site (SaysBye ∷ saids) calls = ⊥
 
--- These lines were handed on. By them the site said all that, and each of these messages was taken for it, in order. No other call was made
+-- These lines were handed on. By them the site said all these messages, and the star took each of them, in order. The pass made no other call
 pub record Hears (site : ℕ) (a : Sourced) (v : View) (b : Sourced) (w : View) (keeper : Keeper) : Type 0 where
   pub lines : List Line
   pub saids : List Said
@@ -47,14 +47,14 @@ pub record Hears (site : ℕ) (a : Sourced) (v : View) (b : Sourced) (w : View) 
   pub kept : w.kept ≡ v.kept
   pub takes : AreTakesOf site saids calls
 
--- how a session ends where no further line comes: the site is gone where its bytes end between messages, and within one they end early
+-- how a session ends if no further line comes: the site is gone if its bytes end between messages, and within one they end early
 pub record EndsBehind (keeper : Keeper) (stop : Stop) (ending : Ending) : Type 0 where
   pub early : stop ≡ End → IsSomeAnd keeper.0 (λ part. part ≢ []) → ending ≡ EndsByFault 43
   pub gone : stop ≡ End → keeper.0 ≡ Some [] → ending ≡ Gone
   pub fault : (fault : SessionFault) → stop ≡ Fault fault → ending ≡ ending_of fault
 
--- Why it ends, behind all that: no further line comes; or the next line ends it, which is a bye or is refused; or the message that this line completes was not
--- taken, by the star's answer or since it waited in vain; or there were as many lines as can be
+-- Why a session ends after these messages. No further line comes, or the next line ends it, which is a bye or is refused. Or the message that this line
+-- completes was not taken, by the star's answer or since it waited in vain. Or there were as many lines as a session can have
 pub data Over (site : ℕ) (b c : Sourced) (w x : View) (keeper : Keeper) (ending : Ending) : Type 0 where
   Stopped : (stop : Stop) → Stops b stop c → x ≡ w → EndsBehind keeper stop ending → Over site b c w x keeper ending
   ByLine : (line : Line) (later : Keeper) → HandsOn b (line ∷ []) c → x ≡ w
@@ -64,7 +64,7 @@ pub data Over (site : ℕ) (b c : Sourced) (w x : View) (keeper : Keeper) (endin
       → IsHandled site incoming w x (Err ending) → Over site b c w x keeper ending
   Spent : c ≡ b → x ≡ w → ending ≡ ending_of ReadsSpent → Over site b c w x keeper ending
 
--- all that was heard and taken, and why that ended
+-- all that the session heard and took, and why that ended
 pub record HearsAll (site : ℕ) (a : Sourced) (v : View) (c : Sourced) (x : View) (ending : Ending) : Type 0 where
   pub before : Sourced
   pub pass : View
@@ -72,7 +72,7 @@ pub record HearsAll (site : ℕ) (a : Sourced) (v : View) (c : Sourced) (x : Vie
   pub hears : Hears site a v before pass keeper
   pub over : Over site before c pass x keeper ending
 
--- no thread could be started, so nothing was read and nothing taken
+-- the session could not start a thread, so it read nothing and took nothing
 pub record HearsNothing (a : Sourced) (v : View) (c : Sourced) (x : View) (ending : Ending) : Type 0 where
   pub source : c ≡ a
   pub pass : x ≡ v

@@ -32,7 +32,7 @@ module _ {a b : Sourced} {v w : View} {ending : Ending} {failed : Bool} {lines :
   lines_early (Unwelcome un) = Hello ∷ []
 
 module _ {site : ℕ} {b c : Sourced} {w x : View} {keeper : Keeper} {ending : Ending} where
-  -- the bytes behind those of the messages that were taken
+  -- the bytes after those of the messages that were taken
   abbrev pub bytes_over : Over site b c w x keeper ending → List ℕ
   bytes_over (Stopped stop stops same ends) = stops.reads.bytes
   bytes_over (ByLine line later handed same leads) = handed.bytes
@@ -67,7 +67,7 @@ module _ {from : Option (List ℕ)} {v x : View} {ending : Ending} {failed : Boo
   lines_of (Served start fresh served) = Hello ∷ lines_heard served.halves.hears
 
 module _ {from old new : Option (List ℕ)} {v x : View} {ending : Ending} {failed : Bool} where
-  -- the bytes that the session read, but for a piece that want of memory lost
+  -- the bytes that the session read, except a piece that a failed allocation lost
   abbrev pub bytes_read : IsExact from old new v x ending failed → List ℕ
   bytes_read e = bytes_of e.has_lines
 

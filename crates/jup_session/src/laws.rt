@@ -11,9 +11,9 @@ ghost use Rattle.jup_rules.specs.Keepers.{Keeper};
 ghost use Rattle.jup_session.specs.ExactSessions.{IsExact};
 ghost use Rattle.jup_session.specs.SessionBytes.{bytes_read, lines_read, bytes_written, BeginWith};
 
-/// The bytes of a reader begin with those that a session read, and a writer holds those that it wrote behind what it had. In whatever
-/// way the bytes that were read are lines, they begin with the lines that the session looked at. And by these a site says just one
-/// list of messages.
+/// The bytes of a reader begin with those that a session read. The writer holds what it had, and after that the bytes that the session
+/// wrote. In whatever way the bytes read are lines, these begin with the lines that the session looked at. By the lines a site says
+/// just one list of messages.
 pub fn one_session()
     ensures read { (from old new : Option (List ℕ)) (v x : View) (ending : Ending) (failed : Bool) (e : IsExact from old new v x ending failed) (given : List ℕ)
         → from ≡ Some given → BeginWith given (bytes_read e) }

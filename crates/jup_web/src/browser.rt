@@ -1,4 +1,4 @@
-//! What is read of a socket: up to a stop, and of a browser as long as it is there.
+//! Readers of a socket: one reads up to a stop, and one reads a browser as long as it is there.
 use crate::stop::Stop;
 use crate::turn::InTurn;
 use jup_http::put_ping;
@@ -10,7 +10,7 @@ use std::io::{ErrorKind, Read, Write};
 use std::net::TcpStream;
 use std::sync::Wait;
 
-/// Reads a socket until the server is told to stop: then its bytes have ended, also where more come.
+/// Reads a socket until the server has to stop: then its bytes have ended, even if more come.
 #[derive(Drop)]
 pub(crate) struct UntilStopped<'a, R: Wait> {
     rt: &'a R,
@@ -34,7 +34,7 @@ impl<'a, R: Wait> Read for UntilStopped<'a, R> {
     }
 }
 
-/// Reads what a browser sends, and asks it by a ping after a silence. After a second silence its bytes have ended.
+/// Reads what a browser sends, and sends it a ping after a silence. After a second silence its bytes have ended.
 #[derive(Drop)]
 pub(crate) struct BrowserBytes<'a, R: Wait> {
     from: UntilStopped<'a, R>,
@@ -44,7 +44,7 @@ pub(crate) struct BrowserBytes<'a, R: Wait> {
 }
 
 impl<'a, R: Wait> BrowserBytes<'a, R> {
-    /// The silence is that which the socket's reads wait.
+    /// A silence is as long as a read of the socket waits.
     pub(crate) fn new(
         alloc: Global,
         from: UntilStopped<'a, R>,
@@ -60,7 +60,7 @@ impl<'a, R: Wait> BrowserBytes<'a, R> {
         })
     }
 
-    // Asks a browser that was heard. False where it was asked before.
+    // Sends a ping to a browser that was heard. False if it has sent nothing since the last ping.
     fn ask(&mut self) -> io::Result<bool> {
         let Some(presence) = self.presence.after_silence() else {
             return Ok(false);

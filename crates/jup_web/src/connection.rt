@@ -90,7 +90,7 @@ fn wait_from<R: Clock>(rt: &R, start: Instant) -> io::Result<Duration> {
     }
 }
 
-// What the bytes are that came so far; `None` if it takes more to tell.
+// What the bytes are that came so far; `None` if they do not show it yet.
 fn head_of(bytes: &[u8], origins: &[&[u8]]) -> Option<Head> {
     match opening_of(bytes)? {
         Opening::Lines => Some(Head::Lines),
@@ -101,7 +101,7 @@ fn head_of(bytes: &[u8], origins: &[&[u8]]) -> Option<Head> {
     }
 }
 
-// A session whose first bytes were read.
+// Serves a session whose first bytes were read.
 fn serve_lines<R: Threads + Wait + Eprint + Sync>(
     rt: &R,
     service: &Service<'_>,
@@ -117,7 +117,7 @@ fn serve_lines<R: Threads + Wait + Eprint + Sync>(
     run_session(rt, service, reader, writer, pass);
 }
 
-// Answers a request that is none for a link.
+// Answers a request that does not ask for a link.
 fn answer(service: &Service<'_>, stream: &TcpStream, request: Request) -> io::Result<()> {
     let mut to = Outgoing::new(stream, BROWSER_PATIENCE);
     match request {
@@ -149,7 +149,7 @@ fn greet(service: &Service<'_>, stream: &TcpStream, key: &[u8; 28]) -> io::Resul
     to.write_all(&head)
 }
 
-// A session whose lines are the payloads of messages, and the close behind it.
+// Serves a session whose lines are the payloads of messages, and sends the close after it.
 fn serve_browser<R: Threads + Wait + Eprint + Sync>(
     rt: &R,
     service: &Service<'_>,

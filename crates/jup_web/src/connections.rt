@@ -5,7 +5,7 @@ use std::net::{Shutdown, TcpStream};
 use std::sync::atomic::{AtomicU64, Ordering};
 use std::sync::{Mutex, Wait};
 
-/// Connections that may be open at a time: 64 links, and as many that ask for a page or have not said yet what they bring.
+/// Connections that may be open at a time: 64 links, and as many that ask for a page or have not shown yet what they are.
 const MOST_OPEN: usize = 128;
 
 /// The connections that are open.
@@ -24,7 +24,7 @@ impl Connections {
         }
     }
 
-    /// Keeps a handle of a socket, and answers its place. `None` where too many are open, or no handle can be made.
+    /// Keeps a handle of a socket, and answers its place. `None` if too many are open, or no handle can be made.
     pub(crate) fn enter<R: Wait>(&self, rt: &R, stream: &TcpStream) -> Option<usize> {
         let handle = stream.try_clone().ok()?;
         let mut sockets = self.sockets.lock(rt);

@@ -37,8 +37,8 @@ pub fn board_text<R: Wait>(
     Ok(text)
 }
 
-/// The same if there were events after all that the pass had seen, or if it is asked for anyway. The text has all that the pass has
-/// then seen.
+/// The same if there were events after all that the pass had seen, or if the caller asks for it anyway. The text has all that the
+/// pass has then seen.
 pub fn take_news<R: Wait>(
     rt: &R,
     alloc: Global,
@@ -65,7 +65,7 @@ pub fn take_news<R: Wait>(
 pub(crate) struct KeptBoard<'a> {
     file: &'a KeptFile,
     text: Vec<u8>,
-    /// Whether a board was not written that should have been.
+    /// Whether a board that should be in the file was not written.
     is_due: bool,
 }
 
@@ -100,7 +100,7 @@ impl<'a> KeptBoard<'a> {
     }
 }
 
-/// Writes the board whenever it has changed, until the server is told to stop.
+/// Writes the board whenever it has changed, until the server has to stop.
 pub(crate) fn keep<R: Wait + Clock + Eprint, F: Files<File = File>>(
     rt: &R,
     files: &F,

@@ -1,6 +1,6 @@
-//! A server whose sessions come by a WebSocket or by lines, at one address, which serves a page too and keeps its board in a file.
+//! A server that has sessions by a WebSocket or by lines at one address, serves a page there too, and keeps its board in a file.
 //!
-//! [`web_main`] is the program's inside. What is decided stands in `jup_service`; here are threads, sockets and standard streams.
+//! [`web_main`] is the body of the program. `jup_service` makes the decisions; this crate has the threads, sockets and standard streams.
 #![tactic(auto)]
 
 mod browser;

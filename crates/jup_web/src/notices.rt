@@ -1,9 +1,9 @@
-//! What the operator is told on standard error.
+//! What the server reports to its operator on standard error.
 
 use jup_service::{Notice, Told};
 use std::sync::{Mutex, Wait};
 
-/// Tells each notice once.
+/// Reports each notice once.
 #[derive(Drop)]
 pub(crate) struct Notices {
     told: Mutex<Told>,
@@ -16,7 +16,7 @@ impl Notices {
         }
     }
 
-    /// Tells a notice that was not told.
+    /// Reports a notice that it has not reported.
     pub(crate) fn tell<R: Wait + Eprint>(&self, rt: &R, notice: Notice) {
         let is_first = self.told.lock(rt).tell(notice);
         if is_first {
@@ -24,7 +24,7 @@ impl Notices {
         }
     }
 
-    /// What the notice told of is over.
+    /// What the notice reports is over.
     pub(crate) fn clear<R: Wait>(&self, rt: &R, notice: Notice) {
         self.told.lock(rt).clear(notice);
     }

@@ -9,7 +9,7 @@ use std::io;
 use std::io::{BufRead, BufReader, ErrorKind, Read, Write};
 use std::sync::Wait;
 
-/// Obeys the operator until a stop. The end of the input is none.
+/// Obeys the operator until a stop. The end of the input is no stop.
 pub(crate) fn operate<R: Wait + Print, I: Read + Drop>(
     rt: &R,
     service: &Service<'_>,

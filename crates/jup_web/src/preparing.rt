@@ -17,7 +17,7 @@ pub(crate) struct Prepared {
     pub(crate) text: Vec<u8>,
     pub(crate) star: Star,
     pub(crate) captions: Vec<u8>,
-    /// The page that was told, if one was.
+    /// The page that the command line names, if it names one.
     pub(crate) page: Option<Vec<u8>>,
     pub(crate) listener: TcpListener,
     pub(crate) origins: Vec<String>,
@@ -46,7 +46,7 @@ pub(crate) fn prepare<R: Net<Listener = TcpListener, Stream = TcpStream> + Files
     })
 }
 
-// All of a file, if one was told; `None` where none was.
+// Reads all of the file that the command line names; `None` if it names none.
 fn read_told<R: Files<File = File>>(
     rt: &R,
     alloc: Global,
@@ -67,7 +67,7 @@ fn read_told<R: Files<File = File>>(
     }
 }
 
-// The captions of a file, or none.
+// Reads the captions of the file that the command line names, if it names one.
 fn read_captions<R: Files<File = File>>(
     rt: &R,
     alloc: Global,
@@ -82,7 +82,7 @@ fn read_captions<R: Files<File = File>>(
     }
 }
 
-// Listens as told.
+// Listens where the command line says.
 fn listen<R: Net<Listener = TcpListener, Stream = TcpStream>>(
     rt: &R,
     told: &ServiceWords,

@@ -24,16 +24,21 @@ use std::thread::Threads;
 use std::time::{Clock, Duration};
 use std::{io, thread};
 
-/// Milliseconds after which it is tried again to accept a connection.
+/// Milliseconds after which the server tries again to accept a connection.
 const ACCEPT_PAUSE: u64 = 100;
 
-/// How often it is looked, after a stop, whether all connections have ended, and the milliseconds between.
+/// How often the server looks, after a stop, whether all connections have ended, and the milliseconds between.
 const ENDING_LOOKS: u32 = 50;
 
 const ENDING_PAUSE: u64 = 100;
 
-/// Serves as the words say, with this page if they name no other, until a line `stop` comes by the input; and answers the exit status: 0, or 1
-/// for a failed read, write or bind and for a board that another program has, 2 for the words, 3 for memory, 5 for a board or captions.
+/// Serves as the arguments say, with this page if they name no other, until a line `stop` comes on the input. It answers the exit status:
+///
+/// - 0: nothing failed.
+/// - 1: a read, a write or a bind failed, or another program has the board.
+/// - 2: the arguments are refused.
+/// - 3: the server is out of memory.
+/// - 5: the board or the captions are refused.
 pub fn web_main<
     R: Net<Listener = TcpListener, Stream = TcpStream>
         + Files<File = File>
@@ -99,7 +104,7 @@ fn serve<
     save_last(rt, rt, &service, &file, pass)
 }
 
-// The page that is served.
+// The page that the server serves.
 fn page_of<'a>(told: &'a Option<Vec<u8>>, own: &'a str) -> &'a [u8] {
     match told {
         Some(told) => told.as_slice(),
@@ -107,7 +112,7 @@ fn page_of<'a>(told: &'a Option<Vec<u8>>, own: &'a str) -> &'a [u8] {
     }
 }
 
-// Prints where connections may come, and makes ready for a stop.
+// Prints where the server listens, and prepares the stop.
 fn announce<R: Print>(rt: &R, listener: &TcpListener) -> io::Result<Stop> {
     let at = listener.local_addr()?;
     let stop = Stop::new(listener)?;
@@ -115,7 +120,7 @@ fn announce<R: Print>(rt: &R, listener: &TcpListener) -> io::Result<Stop> {
     Ok(stop)
 }
 
-// Writes the board after all sessions.
+// Writes the board after all sessions have ended.
 fn save_last<R: Wait, F: Files<File = File>>(
     rt: &R,
     files: &F,
@@ -247,7 +252,7 @@ fn next_connection<R: Wait + Clock + Eprint>(
     unreachable!()
 }
 
-// Ends the connections that are open: first as if their clients were gone, and after five seconds whatever they do.
+// Ends the connections that are open: first as if their clients were gone, and after five seconds regardless of what they do.
 fn end_connections<R: Wait + Clock>(rt: &R, service: &Service<'_>) {
     service.connections.shut(rt, Shutdown::Read);
     for _ in 0..ENDING_LOOKS {

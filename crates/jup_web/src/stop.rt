@@ -1,4 +1,4 @@
-//! How a server is told to stop, and who learns of it.
+//! How a thread stops the server, and how the other threads learn of it.
 
 use std::io;
 use std::net::{Shutdown, TcpListener, TcpStream};
@@ -6,12 +6,12 @@ use std::os::fd::OwnedFd;
 use std::sync::{Condvar, CondvarTimeouts, Mutex, Wait};
 use std::time::{Clock, Duration};
 
-/// Whether the server was told to stop.
+/// Whether the server has to stop.
 #[derive(Drop)]
 pub(crate) struct Stop {
     told: Mutex<bool>,
     changed: Condvar,
-    /// The socket that listens. To shut it wakes the thread that accepts, which then finds out.
+    /// The socket that listens. A shutdown of it wakes the thread that accepts, which then sees the stop.
     door: TcpStream,
 }
 
@@ -25,7 +25,7 @@ impl Stop {
         })
     }
 
-    /// Tells all.
+    /// Reports the stop to all threads.
     pub(crate) fn tell<R: Wait>(&self, rt: &R) {
         *self.told.lock(rt) = true;
         self.changed.notify_all();
@@ -36,7 +36,7 @@ impl Stop {
         *self.told.lock(rt)
     }
 
-    /// Waits so long, or until the server is told to stop. Whether it was.
+    /// Waits for this time, or until the server has to stop. True if it has to.
     pub(crate) fn wait<R: Wait + Clock>(&self, rt: &R, time: Duration) -> bool {
         let told = self.told.lock(rt);
         let (told, _) = self

@@ -1,9 +1,9 @@
-//! What a server says that ends early.
+//! What a server that ends early reports.
 ghost use Rattle.std.specs.Prelude.{◌≤◌};
 
 use jup_service::{Attempt, ServiceEnd};
 
-/// Tells why, and answers the exit status. Help goes to standard output.
+/// Reports why the server ends, and answers the exit status. Help goes to standard output.
 pub(crate) fn tell<R: Print + Eprint>(rt: &R, end: &ServiceEnd) -> u8
     ensures { result ≤ 5 }
 {

@@ -69,7 +69,8 @@ impl Caller {
         Ok(place)
     }
 
-    /// The hub takes an edit of a site behind its gate, which is told once the hub has answered, also where it refused.
+    /// Has the hub take an edit of a site once the gate is ready for it, and informs the gate once the hub has answered, also if it
+    /// refused.
     pub(crate) fn take_edit<R: Wait, G: Gate>(
         &mut self,
         rt: &R,

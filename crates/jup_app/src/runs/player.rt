@@ -60,7 +60,7 @@ impl Player {
         Ok(())
     }
 
-    // Has the hub take an edit once the gate is ready, and tells the gate then.
+    // Has the hub take an edit once the gate is ready, and then informs the gate.
     fn send<R: Wait, G: Gate>(
         &mut self,
         rt: &R,

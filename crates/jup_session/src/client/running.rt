@@ -97,7 +97,7 @@ impl<F: Read + Drop, T: Write + Drop> Client<F, T> {
         Err(SessionFault::ReadsSpent.into())
     }
 
-    // Does what is asked for, and then tells the user.
+    // Does what a request asks for, and then reports to the user.
     fn answer<O: Write>(
         &mut self,
         alloc: Global,

@@ -8,7 +8,7 @@ use jup_rules::Ending;
 use jup_stream::Output;
 use std::io::Write;
 
-/// Tells the site how its session ended. Once a write has failed nothing is told.
+/// Reports to the site how its session ended. After a failed write it writes nothing.
 pub(crate) fn tell<O: Write + Drop>(output: &mut Output<O>, ending: Ending)
     ensures put { PutsLines output.old (last_line ending ∷ []) output.new }
     ensures flushed { IsFlushed output.new }
@@ -17,7 +17,8 @@ pub(crate) fn tell<O: Write + Drop>(output: &mut Output<O>, ending: Ending)
     let _ = output.send();
 }
 
-/// The ending that stands, where the writing half told the site this and the reading half heard that. It is told, unless it was.
+/// The ending that counts: the one that the writing half reported to the site, or else the one that the reading half heard. In the
+/// second case it reports that ending to the site.
 pub(crate) fn tell_untold<O: Write + Drop>(
     output: &mut Output<O>,
     told: Option<Ending>,

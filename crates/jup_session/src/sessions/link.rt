@@ -14,13 +14,13 @@ pub(crate) struct Link<'a> {
     pub(crate) bell: &'a Bell,
     /// Whether one half has ended.
     pub(crate) is_over: &'a Mutex<bool>,
-    /// The pongs that the site is owed.
+    /// The pongs that the session owes the site.
     pub(crate) pongs: &'a Mutex<Pongs>,
     pub(crate) site: u32,
 }
 
 impl<'a> Link<'a> {
-    /// Rings where this site waits.
+    /// Rings at the place where this site waits.
     pub(crate) fn ring<R: Wait>(&self, rt: &R) {
         self.bell.ring_for(rt, self.site);
     }
@@ -41,13 +41,13 @@ impl<'a> Link<'a> {
         *self.is_over.lock(rt)
     }
 
-    /// Counts a ping that is to be taken, if the site is owed fewer pongs than it may be.
+    /// Counts a ping that the hub is to take, if the session owes the site fewer pongs than it may.
     pub(crate) fn try_ping<R: Wait>(&self, rt: &R) -> bool {
         self.pongs.lock(rt).take_ping()
     }
 
-    /// The same, once the site is owed fewer pongs than it may be. False where the other half ended before that. No clause can say so, since what
-    /// stands under a lock has no name: `session_tests` has a ping that waits, and has to end with its session.
+    /// The same, once the session owes the site fewer pongs than it may. False if the other half ended before that. No clause can say so,
+    /// since a value under a lock has no name. `session_tests` has a ping that waits, and that has to end with its session.
     pub(crate) fn take_ping<R: Wait>(&self, rt: &R) -> bool {
         let mut seen = 0;
         for _ in rt.forever() {

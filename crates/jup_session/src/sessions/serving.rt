@@ -34,7 +34,7 @@ pub struct Session<O: Write + Drop> {
 
 /// Runs a session: greets the site, then takes what it sends, and sends what the hub has for it.
 ///
-/// It reads in this thread, and writes in one of its own. Of the hub it asks at most one join, and then calls for the site that
+/// It reads in this thread, and writes in one of its own. It makes at most one join of the hub, and then calls for the site that
 /// joined alone, which has left when this returns.
 pub fn serve_link<R: Threads + Wait + Sync, I: Read + Drop, O: Write + Send + Drop, G: Gate>(
     rt: &R,
@@ -54,8 +54,8 @@ pub fn serve_link<R: Threads + Wait + Sync, I: Read + Drop, O: Write + Send + Dr
     (session.pass, session.ending)
 }
 
-/// The same, and gives back the writer. Where contracts can name the bytes of the reader and of the writer, they say which bytes were
-/// read, what was taken by them, and which were written.
+/// The same, and gives back the writer. If contracts can name the bytes of the reader and of the writer, they say which bytes the
+/// session read, what it took by them, and which it wrote.
 pub fn serve_session<R: Threads + Wait + Sync, I: Read + Drop, O: Write + Send + Drop, G: Gate>(
     rt: &R,
     alloc: Global,
@@ -94,7 +94,7 @@ pub fn serve_session<R: Threads + Wait + Sync, I: Read + Drop, O: Write + Send +
     }
 }
 
-// Writes the line of want of memory, for which none is asked. Whether that failed.
+// Writes the line that reports that the session is out of memory, without an allocation. True if that failed.
 fn tell_of_memory<O: Write + Drop>(writer: &mut O) -> bool
     ensures { WritesFront (O.contents writer.old) (O.contents writer.new) (line_bytes (Error 8)) (not result) }
 {
@@ -105,7 +105,7 @@ fn tell_of_memory<O: Write + Drop>(writer: &mut O) -> bool
     !is_whole
 }
 
-// What is left of a session when its last line is out.
+// What is left of a session after its last line.
 #[derive(Drop)]
 struct Served<O: Write + Drop> {
     pass: Pass,

@@ -32,12 +32,12 @@ enum Outbox {
 pub(crate) struct Wrote<O: Write + Drop> {
     pub(crate) pass: Pass,
     pub(crate) output: Output<O>,
-    /// The ending that it told the site itself: a fault of its own.
+    /// The ending that it reported to the site itself: a fault of its own.
     pub(crate) told: Option<Ending>,
 }
 
-/// Writes what the hub has for the site until the other half has ended, and leaves. It tells the site at once of a fault of its own,
-/// and leaves the last line of any other ending to whoever knows that.
+/// Writes what the hub has for the site until the other half has ended, and leaves. It reports a fault of its own to the site
+/// immediately. The last line of any other ending it leaves to its caller, which knows the ending.
 pub(crate) fn write_half<R: Wait, O: Write + Drop>(
     rt: &R,
     mut output: Output<O>,
@@ -69,7 +69,7 @@ fn is_gone(left: &Result<Outbox, SessionFault>) -> bool
     matches!(left, Ok(Outbox::Gone))
 }
 
-// Tells the site of a fault, and answers the ending that it told.
+// Reports a fault to the site, and answers the ending that it reported.
 fn tell_fault<O: Write + Drop>(
     output: &mut Output<O>,
     left: Result<Outbox, SessionFault>,
@@ -120,7 +120,7 @@ fn forward_all<R: Wait, O: Write + Drop>(
     unreachable!()
 }
 
-// The last turn. What fails in it is no fault any more: the ending of the other half stands.
+// The last turn. What fails in it is no fault any more: the ending of the other half counts.
 fn forward_last<R: Wait, O: Write + Drop>(
     rt: &R,
     output: &mut Output<O>,
@@ -140,7 +140,7 @@ fn forward_last<R: Wait, O: Write + Drop>(
     }
 }
 
-// Fetches and writes until a fetch gives less than was asked for.
+// Fetches and writes until a fetch gives less than it asked for.
 fn forward<R: Wait, O: Write + Drop>(
     rt: &R,
     output: &mut Output<O>,
@@ -169,7 +169,7 @@ fn forward<R: Wait, O: Write + Drop>(
     unreachable!()
 }
 
-// Fetches what the hub has for the site, up to as much as is asked for. `None` if the site has no link any more.
+// Fetches what the hub has for the site, up to `MOST_FETCHED` messages. `None` if the site has no link any more.
 fn fetch<R: Wait>(rt: &R, link: &Link<'_>, pass: &mut Pass) -> Result<Option<Downs>, SessionFault>
     requires { IsPassOf link.now.hub.now pass.old }
     ensures pass { IsPassOf link.now.hub.now pass.new }
@@ -191,7 +191,7 @@ fn fetch<R: Wait>(rt: &R, link: &Link<'_>, pass: &mut Pass) -> Result<Option<Dow
     }
 }
 
-// Writes what was fetched, and counts the pongs in it as paid. Whether the hub has no more.
+// Writes the messages of a fetch, and counts the pongs in it as paid. True if the hub has no more.
 fn hand_on<R: Wait, O: Write + Drop>(
     rt: &R,
     output: &mut Output<O>,

@@ -7,9 +7,9 @@ use thiserror::Error;
 /// What a server reports to its operator while it runs.
 #[derive(Clone, Copy, Debug, PartialEq, Eq, Error)]
 pub enum Notice {
-    #[error("all site numbers are spent: nobody can join any more; a restart with the same board begins anew")]
+    #[error("all site numbers are spent: nobody can join any more; a restart with the same board begins again")]
     SitesSpent,
-    #[error("the order is full: no edit is taken any more; a restart with the same board begins anew")]
+    #[error("the order is full: no edit is taken any more; a restart with the same board begins again")]
     OrderFull,
     #[error("cannot accept a connection: it is tried again")]
     CannotAccept,

@@ -1,5 +1,5 @@
-//! Growths that are refused, each test for the call of its name. `./growths` refuses one after another of those between the two marks: a call that
-//! lacks memory says so, and made again it gives its answer.
+//! Calls whose allocation fails, each in the test of its name. `./growths` fails one allocation after another between the two marks.
+//! A call whose allocation fails reports it, and the same call then gives its answer.
 use crate::boards::BOARD;
 use crate::expect::{expect_eq, expect_that};
 use jup_service::{

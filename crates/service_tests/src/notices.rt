@@ -1,4 +1,4 @@
-//! What the operator is told once.
+//! What the server reports to its operator once.
 use crate::expect::expect_eq;
 use jup_service::{Notice, Told, notice_of};
 

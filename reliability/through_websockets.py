@@ -2,6 +2,7 @@
 import asyncio
 import contextlib
 import os
+import socket
 import struct
 import subprocess
 import sys
@@ -9,11 +10,14 @@ import sys
 from browsers import BINARY, CLOSE, PING, PONG, TEXT, frame, upgrade
 from peers import free_port
 
+# How many bytes each side of the relay holds. A peer that reads nothing has to reach the server, as it does without a relay.
+ROOM = 4_096
+
 
 async def send_all(reader, outer):
     """Sends what comes as messages. The end of the bytes becomes a close."""
     with contextlib.suppress(OSError):
-        while data := await reader.read(4_096):
+        while data := await reader.read(ROOM):
             outer.write(frame(BINARY, data))
             await outer.drain()
         outer.write(frame(CLOSE, struct.pack(">H", 1_000)))
@@ -43,8 +47,22 @@ async def receive_all(inner, outer, writer):
                 await writer.drain()
 
 
+async def narrow_connection(target):
+    """A connection that holds few bytes which its reader has not taken."""
+    narrow = socket.socket()
+    for room in (socket.SO_RCVBUF, socket.SO_SNDBUF):
+        narrow.setsockopt(socket.SOL_SOCKET, room, ROOM)
+    # Over loopback a segment is large, and so is what the server's system then holds.
+    narrow.setsockopt(socket.IPPROTO_TCP, socket.TCP_MAXSEG, 536)
+    narrow.setblocking(False)
+    await asyncio.get_running_loop().sock_connect(narrow, ("127.0.0.1", target))
+    return await asyncio.open_connection(sock=narrow, limit=ROOM)
+
+
 async def relay(reader, writer, target):
-    inner, outer = await asyncio.open_connection("127.0.0.1", target)
+    inner, outer = await narrow_connection(target)
+    writer.get_extra_info("socket").setsockopt(socket.SOL_SOCKET, socket.SO_SNDBUF, ROOM)
+    writer.transport.set_write_buffer_limits(ROOM)
     outer.write(upgrade(target))
     await inner.readuntil(b"\r\n\r\n")
     sending = asyncio.create_task(send_all(reader, outer))

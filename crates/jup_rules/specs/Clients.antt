@@ -1,17 +1,18 @@
 -- What a client sends and prints.
-use Rattle.std.specs.Prelude.{◌≡◌, ◌==◌, ◌⊎◌, ℕ, ◌+◌, Bool, false, if◌then◌else◌, List, Option, Some, None, Result, Ok, Err, ◌∷◌, []}
+use Rattle.std.specs.Prelude.{◌≡◌, ◌==◌, ◌⊎◌, ℕ, ◌+◌, Bool, false, if◌then◌else◌, List, Option, Some, None, Result, Ok, Err, IfOk, ◌∷◌, []}
 use Rattle.std.specs.Option.{option_map}
 use Rattle.jup_batch.specs.BatchBoards.{BoardBatch}
 use Rattle.jup_window.specs.declared.commands.Command.{Command}
 use Rattle.jup_window.specs.declared.faults.EditFault.{EditFault}
 use Rattle.jup_window.specs.FaultNumbers.{edit_fault_number}
-use Rattle.jup_star.specs.SiteCalls.{EditAnswers, DeliverAnswers, is_edit_memory, site_open_fault}
+use Rattle.jup_star.specs.SiteCalls.{EditAnswers, DeliverAnswers, owed_of, shown_after, is_edit_memory, site_open_fault}
 use Rattle.jup_star.specs.SiteStates.{opened_site}
 use Rattle.jup_star.specs.declared.messages.Down.{Down}
 use Rattle.jup_star.specs.declared.messages.Down.TheVariants.{Op as DownOp, Ack as DownAck, Pong as DownPong}
 use Rattle.jup_star.specs.declared.messages.Up.{Up}
 use Rattle.jup_star.specs.declared.messages.Up.TheVariants.{Ping as UpPing}
 use Rattle.jup_star.specs.declared.site.Made.{Made}
+use Rattle.jup_star.specs.declared.site.Delivered.{Delivered}
 use Rattle.jup_star.specs.declared.faults.SiteFault.{SiteFault}
 use Rattle.jup_wire.specs.declared.line.Line.{Line}
 use Rattle.jup_wire.specs.declared.line.Line.TheVariants as line
@@ -104,19 +105,20 @@ down_in (Plain other) = Err (refusal_of other)
 down_in Held = Ok None
 down_in Misplaced = Err (Fault 44)
 
--- the client says an acknowledgement that is owed
-abbrev pub heard_answer : ℕ → Down BoardBatch → Result (Option (Up BoardBatch)) SiteFault → Result Heard ClientEnd
-heard_answer pings down (Ok owed) = Ok (record { said = option_map (λ up. SaysUp up) owed; is_synced = is_pong pings down })
+-- the client says an acknowledgement that is owed, and returns what its board took
+abbrev pub heard_answer : ℕ → Down BoardBatch → Result Delivered SiteFault → Result Heard ClientEnd
+heard_answer pings down (Ok delivered) = Ok (record { said = option_map (λ up. SaysUp up) delivered.owed; is_synced = is_pong pings down; shown = delivered.shown })
 heard_answer pings down (Err fault) = Err (end_of_site fault)
 
 -- a message is delivered to the site
 abbrev pub Delivers : Down BoardBatch → ClientState → Result Heard ClientEnd → ClientState → Type 0
-Delivers down c r d = (outcome : Result (Option (Up BoardBatch)) SiteFault) × DeliverAnswers down c.site d.site outcome × (r ≡ heard_answer c.pings down outcome) × (d.pings ≡ c.pings)
+Delivers down c r d = (outcome : Result Delivered SiteFault) × DeliverAnswers down c.site d.site (owed_of outcome)
+    × IfOk outcome (λ delivered. d.site.board ≡ shown_after delivered.shown c.site.board) × (r ≡ heard_answer c.pings down outcome) × (d.pings ≡ c.pings)
 
 -- what a client does for what lines give
 abbrev pub HearsDown : Result (Option (Down BoardBatch)) ClientEnd → ClientState → Result Heard ClientEnd → ClientState → Type 0
 HearsDown (Ok (Some down)) c r d = Delivers down c r d
-HearsDown (Ok None) c r d = (r ≡ Ok (record { said = None; is_synced = false })) × (d.site ≡ c.site) × (d.pings ≡ c.pings)
+HearsDown (Ok None) c r d = (r ≡ Ok (record { said = None; is_synced = false; shown = None })) × (d.site ≡ c.site) × (d.pings ≡ c.pings)
 HearsDown (Err end) c r d = (r ≡ Err end) × (d.site ≡ c.site) × (d.pings ≡ c.pings)
 
 -- a line is gathered, and the client hears what it gives; if an allocation fails, it hears nothing

@@ -3,10 +3,10 @@ ghost use Rattle.std.specs.Prelude.{◌≡◌, IfOk};
 ghost use Rattle.jup_rules.specs.Clients.{greeting_in, board_line_in, refusal_of, edit_answer, sync_answer, after_sync, down_in, IsOpened, Answers, Hears, Delivers};
 
 use crate::{ClientEnd, Request, Said, SessionFault};
-use jup_batch::BoardEdits;
+use jup_batch::{BoardBatch, BoardEdits};
 use jup_gather::{Gather, Gathered};
 use jup_layout::board_of;
-use jup_star::{Down, Made, Site, Up};
+use jup_star::{Delivered, Down, Made, Site, Up};
 use jup_window::EditFault;
 use jup_wire::Line;
 use std::alloc::Global;
@@ -35,10 +35,12 @@ pub struct Answer {
 }
 
 /// What a client does for a line of its server: it says this, if anything. `is_synced` if the line answers its last ping.
+/// `shown` are the operations that its board took, if the line completes another site's edit.
 #[derive(Drop)]
 pub struct Heard {
     pub said: Option<Said>,
     pub is_synced: bool,
+    pub shown: Option<BoardBatch>,
 }
 
 /// A client beside its link: its site, the lines that it holds of a message of its server, and the number of its
@@ -111,6 +113,7 @@ impl ClientState {
             None => Ok(Heard {
                 said: None,
                 is_synced: false,
+                shown: None,
             }),
         }
     }
@@ -120,10 +123,11 @@ impl ClientState {
         ensures delivers { Delivers down.now self.old result self.new }
         ensures held { self.new.gather ≡ self.old.gather }
     {
-        let owed = self.site.deliver(alloc, down)?;
+        let Delivered { owed, shown } = self.site.deliver_shown(alloc, down)?;
         Ok(Heard {
             said: owed.map(Said::Up),
             is_synced: matches!(down, Down::Pong(count) if *count == self.pings),
+            shown,
         })
     }
 }

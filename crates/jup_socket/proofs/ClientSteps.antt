@@ -7,9 +7,10 @@ use Rattle.jup_window.specs.FaultNumbers.{edit_fault_number}
 use Rattle.jup_star.specs.declared.messages.Up.{Up}
 use Rattle.jup_star.specs.declared.messages.Down.{Down}
 use Rattle.jup_star.specs.declared.site.Made.{Made}
+use Rattle.jup_star.specs.declared.site.Delivered.{Delivered}
 use Rattle.jup_star.specs.declared.faults.SiteFault.{SiteFault}
 use Rattle.jup_star.specs.declared.faults.SiteFault.TheVariants.{NoMemory as SiteNoMemory, BadCount, BadAck, BadName, BadOp, Stopped}
-use Rattle.jup_star.specs.SiteCalls.{edit_reply, site_edited, is_edit_memory, EditAnswers, deliver_reply, site_delivered, DeliverAnswers}
+use Rattle.jup_star.specs.SiteCalls.{edit_reply, site_edited, is_edit_memory, EditAnswers, deliver_reply, site_delivered, DeliverAnswers, owed_of}
 use Rattle.jup_rules.specs.declared.said.Said.TheVariants.{Up as SaysUp}
 use Rattle.jup_rules.specs.declared.client_end.ClientEnd.{ClientEnd}
 use Rattle.jup_rules.specs.declared.client_end.ClientEnd.TheVariants.{NoMemory}
@@ -47,13 +48,13 @@ edit_step commands c d r h = cases h.0 h.1 h.2
         go false f k = inr (k.1, ap said_of_answer (is ∙ ap (λ b. if b then Err NoMemory else Ok (telling (told.Refused (edit_fault_number fault)))) f) ∙ ap (λ m. map (λ up. SaysUp up) (sent_as_made m)) k.0)
 
 pub deliver_step : (down : Down BoardBatch) (c d : ClientState) (r : Result Heard ClientEnd) → Delivers down c r d → IsDeliverStep down c r d
-deliver_step down c d r h = cases h.0 h.1 h.2
+deliver_step down c d r h = cases h.0 h.1 h.3
   where
     refused : (fault : SiteFault) → (d.site ≡ site_delivered down c.site) → Err fault ≡ deliver_reply down c.site → r ≡ heard_answer c.pings down (Err fault) → IsDeliverStep down c r d
     refused fault site reply is = inr (site, ap said_of_heard is ∙ ap (λ m. map (λ up. SaysUp up) (sent_as_handed m)) reply)
 
-    cases : (o : Result (Option (Up BoardBatch)) SiteFault) → DeliverAnswers down c.site d.site o → r ≡ heard_answer c.pings down o → IsDeliverStep down c r d
-    cases (Ok owed) e is = inr (e.1, ap said_of_heard is ∙ said_owed owed ∙ ap (λ m. map (λ up. SaysUp up) (sent_as_handed m)) e.0)
+    cases : (o : Result Delivered SiteFault) → DeliverAnswers down c.site d.site (owed_of o) → r ≡ heard_answer c.pings down o → IsDeliverStep down c r d
+    cases (Ok delivered) e is = inr (e.1, ap said_of_heard is ∙ said_owed delivered.owed ∙ ap (λ m. map (λ up. SaysUp up) (sent_as_handed m)) e.0)
     cases (Err SiteNoMemory) e is = inl (is, e.0)
     cases (Err BadCount) e is = refused BadCount e.1 e.0 is
     cases (Err BadAck) e is = refused BadAck e.1 e.0 is

@@ -3,3 +3,4 @@ mod BareTexts
 mod SiteLines
 mod Hearing
 mod Taking
+mod Lagging

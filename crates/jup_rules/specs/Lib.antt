@@ -9,8 +9,10 @@ pub mod Endings
 pub mod Gates
 pub mod Inboxes
 pub mod Keepers
+pub mod Lags
 pub mod Messages
 pub mod Numbers
 pub mod Requests
+pub mod Shares
 pub mod Texts
 pub mod Typed

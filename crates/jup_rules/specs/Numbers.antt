@@ -3,7 +3,7 @@ use Rattle.std.specs.Prelude.{ℕ}
 use Rattle.jup_hub.specs.Faults.{hub_fault_number}
 use Rattle.jup_wire.specs.FaultNumbers.{wire_fault_number}
 use Rattle.jup_rules.specs.declared.faults.SessionFault.{SessionFault}
-use Rattle.jup_rules.specs.declared.faults.SessionFault.TheVariants.{Hub, Wire, NoMemory, Misplaced, ReadsSpent, GateShut, ReadFailed, WriteFailed}
+use Rattle.jup_rules.specs.declared.faults.SessionFault.TheVariants.{Hub, Wire, NoMemory, Misplaced, ReadsSpent, GateShut, ReadFailed, WriteFailed, FarBehind}
 use Rattle.jup_rules.specs.declared.client_end.ClientEnd.{ClientEnd}
 use Rattle.jup_rules.specs.declared.client_end.ClientEnd.TheVariants.{Fault as ClientFault, NoMemory as ClientNoMemory, Unconnected, ReadFailed as ClientReadFailed, WriteFailed as ClientWriteFailed}
 use Rattle.jup_rules.specs.declared.daemon_end.DaemonEnd.{DaemonEnd}
@@ -18,6 +18,7 @@ session_fault_number ReadsSpent = 46
 session_fault_number GateShut = 60
 session_fault_number ReadFailed = 70
 session_fault_number WriteFailed = 71
+session_fault_number FarBehind = 71
 
 abbrev pub client_end_number : ClientEnd → ℕ
 client_end_number (ClientFault number) = number

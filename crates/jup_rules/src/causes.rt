@@ -1,6 +1,6 @@
 //! What went wrong, for people.
 
-/// What went wrong if a fault has this number, in the words of its own error type. The numbers 11, 22 and 43 have several faults
+/// What went wrong if a fault has this number, in the words of its own error type. The numbers 11, 22, 43 and 71 have several faults
 /// each, and their words fit each. A peer gets the number alone.
 pub fn cause_of(number: u32) -> &'static str {
     match number {
@@ -31,7 +31,7 @@ pub fn cause_of(number: u32) -> &'static str {
         51 => "not a number or a board of this site",
         60 => "the gate stayed shut",
         70 => "a read failed",
-        71 => "a write failed",
+        71 => "a write failed, or the site is too far behind",
         _ => "a fault that is not known here",
     }
 }

@@ -27,6 +27,9 @@ pub enum SessionFault {
     ReadFailed,
     #[error("a write failed")]
     WriteFailed,
+    /// The site is more operations behind than a site of a running server may be.
+    #[error("the site is too far behind")]
+    FarBehind,
 }
 
 impl SessionFault {
@@ -42,7 +45,7 @@ impl SessionFault {
             SessionFault::ReadsSpent => 46,
             SessionFault::GateShut => 60,
             SessionFault::ReadFailed => 70,
-            SessionFault::WriteFailed => 71,
+            SessionFault::WriteFailed | SessionFault::FarBehind => 71,
         }
     }
 }

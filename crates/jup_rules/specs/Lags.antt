@@ -1,0 +1,48 @@
+-- How far a site is behind: the operations of others that it has not acknowledged.
+use Rattle.std.specs.Prelude.{◌≡◌, ℕ, ◌+◌, ◌-◌, min, List, [], ◌∷◌, take, drop, length, sum}
+use Rattle.jup_batch.specs.BatchBoards.{BoardBatch}
+use Rattle.jup_star.specs.declared.messages.Up.{Up}
+use Rattle.jup_star.specs.declared.messages.Up.TheVariants.{Op as UpOp, Ack as UpAck, Ping as UpPing}
+use Rattle.jup_star.specs.declared.messages.Down.{Down}
+use Rattle.jup_star.specs.declared.messages.Down.TheVariants.{Op as DownOp, Ack as DownAck, Pong as DownPong}
+
+-- What is kept of a site: how many operations it knows of those that the server has taken, how many each message has that was fetched for it and that it has not
+-- acknowledged, how many messages it acknowledged, and how many of these were not fetched yet
+pub record Behind : Type 0 where
+  pub known : ℕ
+  pub waiting : List ℕ
+  pub acknowledged : ℕ
+  pub early : ℕ
+
+-- a count of operations, which stops at the largest that there is; no server takes so many
+abbrev pub counted : ℕ → ℕ
+counted operations = min operations 18446744073709551615
+
+-- Messages of so many operations each were fetched for the site. Of all operations that the server has taken so many are not others' since the site joined: they
+-- were taken before that, or are its own
+pub record IsBehind (besides : ℕ) (messages : List ℕ) (site : Behind) : Type 0 where
+  pub known : site.known ≡ counted (besides + sum (take site.acknowledged messages))
+  pub waiting : site.waiting ≡ drop site.acknowledged messages
+  pub early : site.early ≡ site.acknowledged - length messages
+
+-- the operations that it does not know, where the server has taken so many: also those that wait to be fetched
+abbrev pub behind_of : ℕ → Behind → ℕ
+behind_of taken site = taken - site.known
+
+-- the operations of a message of a site
+abbrev pub operations_in : Up BoardBatch → ℕ
+operations_in (UpOp msg) = length msg.op
+operations_in (UpAck count) = 0
+operations_in (UpPing number) = 0
+
+-- how many messages it acknowledges
+abbrev pub heard_by : Up BoardBatch → ℕ
+heard_by (UpOp msg) = msg.heard
+heard_by (UpAck count) = count
+heard_by (UpPing number) = 0
+
+-- the operations of a message to a site, where it is one that a site acknowledges
+abbrev pub brought_by : Down BoardBatch → List ℕ
+brought_by (DownOp msg) = length msg.op ∷ []
+brought_by (DownAck count) = []
+brought_by (DownPong number) = []

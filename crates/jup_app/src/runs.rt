@@ -1,4 +1,4 @@
-//! Whole runs of many sites through one hub.
+//! Whole runs of many sites through one hub. No log is kept: it would take a list in memory for each site, and prove nothing more.
 
 mod calls;
 mod drain;

@@ -6,8 +6,8 @@ use Rattle.jup_star.specs.declared.messages.Up.TheVariants.{Op as UpOp, Ack as U
 use Rattle.jup_star.specs.declared.messages.Down.{Down}
 use Rattle.jup_star.specs.declared.messages.Down.TheVariants.{Op as DownOp, Ack as DownAck, Pong as DownPong}
 
--- What is kept of a site: how many operations it knows of those that the server has taken, how many each message has that was fetched for it and that it has not
--- acknowledged, how many messages it acknowledged, and how many of these were not fetched yet
+-- What is kept of a site: how many operations it knows of those that the server has taken. Some messages were fetched for it, and it has not acknowledged
+-- them: how many operations each has. And how many messages it acknowledged, and how many of these were not fetched yet
 pub record Behind : Type 0 where
   pub known : ℕ
   pub waiting : List ℕ

@@ -1,4 +1,4 @@
-//! How far a site is behind the others.
+//! How many operations of others a site does not know yet.
 ghost use Rattle.std.specs.Prelude.{◌≡◌, ℕ, ◌+◌, ◌-◌, ◌≤◌, List, [], ◌∷◌, ◌++◌, take, drop, sum, max, OnOk, OnErr};
 ghost use Rattle.std.specs.VecDeque.{deque_len};
 ghost use Rattle.jup_rules.specs.Lags.{IsBehind, counted, behind_of, operations_in, heard_by, brought_by};
@@ -103,7 +103,7 @@ impl Lag {
         Ok(())
     }
 
-    // Notes that the site has acknowledged so many messages in all.
+    // Notes that the site has acknowledged so many messages in total.
     fn acknowledge(&mut self, count: u32)
         ensures kept { (besides : ℕ) (messages : List ℕ) → IsBehind besides messages self.old → IsBehind besides messages self.new }
         ensures acknowledged { self.new.acknowledged ≡ max self.old.acknowledged count }

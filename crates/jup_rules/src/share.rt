@@ -14,9 +14,9 @@ const LONGEST_REST: u64 = 2_000_000;
 /// What becomes of a message before the star takes it.
 #[derive(Clone, Copy, Debug, PartialEq, Eq)]
 pub enum Admission {
-    /// It is taken at once.
+    /// It is taken immediately.
     Free,
-    /// It is taken once no other costly one is, and the session rests behind it.
+    /// It is taken once no other costly one is, and the session rests after it.
     Costly,
     /// It is not taken, and the session ends: its site is too far behind.
     FarBehind,

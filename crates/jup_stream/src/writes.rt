@@ -17,6 +17,7 @@ pub fn write_bytes<O: Write + Drop>(to: &mut O, bytes: &[u8]) -> bool
         if rest.is_empty() {
             return true;
         }
+        // The contract of `write` says which bytes were taken. That of `write_all` says nothing after a failure.
         match to.write(rest) {
             Ok(0) => return false,
             Ok(len) => rest = &rest[len..],

@@ -13,7 +13,8 @@ use jup_window::EditFault;
 use std::alloc::Global;
 use std::sync::Wait;
 
-/// A site at the end of a run, with what each command of its script was answered.
+/// A site at the end of a run, with what each command of its script was answered. The sites are in the order of their scripts, and each
+/// `Site` has its number.
 #[derive(Drop)]
 pub struct SiteEnd {
     pub site: Site,

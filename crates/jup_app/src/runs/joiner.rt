@@ -61,6 +61,7 @@ pub(crate) fn seat(alloc: Global, hub: &Hub, caller: &mut Caller, site: Site) ->
     ensures seated { (h : List Entry) → HasMet (view_of caller.old.pass) h → IsSeated hub.now h site result }
 {
     let mut pass = hub.split(&mut caller.pass);
+    // So the pass is known to have no call in what was there before.
     let _ = hub.news(&mut pass);
     Player {
         caller: Caller { pass, calls: 0 },

@@ -117,6 +117,7 @@ fn run_sites<R: Threads + Wait + Sync, G: Gate + Sync>(
     let jobs = seat_all(alloc, &hub, &mut caller, sites, scripts)?;
     let results = play_all(rt, alloc, &hub, gate, jobs)?;
     let mut ends = rejoin_all(alloc, &hub, &mut caller, results)?;
+    // The pass took others in. With this look, all that they saw is part of one history.
     let _ = hub.news(&mut caller.pass);
     drain(rt, alloc, &hub, &mut caller, ends.as_mut_slice())?;
     let Caller { pass, calls } = caller;

@@ -5,7 +5,8 @@ use jup_hub::HubFault;
 use jup_star::{SiteFault, StarFault};
 use std::alloc::{AllocError, AllocFailed};
 
-/// What stops a site, or the pass that joins and drains the sites.
+/// What stops a site, or the pass that joins and drains the sites. It is no `RunFault`, so that what is refused before a run begins
+/// cannot come from within the run.
 #[derive(Clone, Copy, Drop)]
 pub(crate) enum Stop {
     NoMemory,

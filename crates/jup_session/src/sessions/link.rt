@@ -4,6 +4,7 @@ use super::Bell;
 use jup_hub::Hub;
 use jup_rules::Pongs;
 use std::alloc::Global;
+use std::sync::atomic::{AtomicBool, Ordering};
 use std::sync::{Mutex, Wait};
 
 /// What both halves of a session share.
@@ -13,7 +14,7 @@ pub(crate) struct Link<'a> {
     pub(crate) hub: &'a Hub,
     pub(crate) bell: &'a Bell,
     /// Whether one half has ended.
-    pub(crate) is_over: &'a Mutex<bool>,
+    pub(crate) is_over: &'a AtomicBool,
     /// The pongs that the session owes the site.
     pub(crate) pongs: &'a Mutex<Pongs>,
     pub(crate) site: u32,
@@ -32,13 +33,13 @@ impl<'a> Link<'a> {
 
     /// Notes that one half has ended, and rings for the other.
     pub(crate) fn end<R: Wait>(&self, rt: &R) {
-        *self.is_over.lock(rt) = true;
+        self.is_over.store(true, Ordering::SeqCst);
         self.ring(rt);
     }
 
     /// Whether one half has ended.
-    pub(crate) fn is_over<R: Wait>(&self, rt: &R) -> bool {
-        *self.is_over.lock(rt)
+    pub(crate) fn is_over(&self) -> bool {
+        self.is_over.load(Ordering::SeqCst)
     }
 
     /// Counts a ping that the hub is to take, if the session owes the site fewer pongs than it may.
@@ -54,7 +55,7 @@ impl<'a> Link<'a> {
             if self.try_ping(rt) {
                 return true;
             }
-            if self.is_over(rt) {
+            if self.is_over() {
                 return false;
             }
             seen = self.wait(rt, seen);
@@ -64,6 +65,9 @@ impl<'a> Link<'a> {
 
     /// Counts pongs that were written, and rings if the other half may wait for that.
     pub(crate) fn pay<R: Wait>(&self, rt: &R, pongs: usize) {
+        if pongs == 0 {
+            return;
+        }
         let may_wait = self.pongs.lock(rt).pay(pongs);
         if may_wait {
             self.ring(rt);

@@ -19,6 +19,7 @@ use jup_rules::{Ending, Pongs, SessionFault};
 use jup_stream::{Output, Source, write_bytes};
 use std::alloc::Global;
 use std::io::{Read, Write};
+use std::sync::atomic::AtomicBool;
 use std::sync::{Mutex, Wait};
 use std::thread::Threads;
 
@@ -161,7 +162,7 @@ fn serve_site<R: Threads + Wait + Sync, I: Read + Drop, O: Write + Send + Drop, 
     ensures halves { (lines : List Line) × BothHalves site source (view_of pass) (view_of result.pass) result.ending lines × PutsLines output lines result.output }
     ensures flushed { IsFlushed result.output }
 {
-    let is_over = Mutex::new(false);
+    let is_over = AtomicBool::new(false);
     let pongs = Mutex::new(Pongs::new());
     let link = Link {
         alloc,

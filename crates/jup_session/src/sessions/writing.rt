@@ -108,7 +108,7 @@ fn forward_all<R: Wait, O: Write + Drop>(
     for _ in rt.forever() {
         seen = link.wait(rt, seen);
         // Read before the fetch, which then has all that the other half caused.
-        let is_over = link.is_over(rt);
+        let is_over = link.is_over();
         let has_news = link.hub.news(pass);
         if is_over {
             return Ok(forward_last(rt, output, link, pass));

@@ -2,6 +2,7 @@
 
 Each script takes the path of a built `jupd`. Without it `./run` builds one.
 """
+import glob
 import os
 import resource
 import socket
@@ -11,6 +12,8 @@ import tempfile
 import time
 
 ROOT = os.path.dirname(os.path.dirname(os.path.abspath(__file__)))
+# The numbers of the system calls sendto and write, as /proc shows them of a thread that waits in one.
+SENDS = (b"44 ", b"1 ")
 
 
 def program(name="jupd"):
@@ -52,6 +55,14 @@ class Daemon:
         with open(f"/proc/{self.process.pid}/status") as status:
             return next(int(line.split()[1]) for line in status if line.startswith(kind))
 
+    def writes_that_wait(self):
+        """How many of its threads wait in a write to a socket."""
+        count = 0
+        for task in glob.glob(f"/proc/{self.process.pid}/task/*/syscall"):
+            with open(task, "rb") as call:
+                count += call.read().startswith(SENDS)
+        return count
+
     def ends_within(self, seconds):
         """Whether it exits by itself, with status 0, within so many seconds. `printed` is then what it printed."""
         try:
@@ -72,7 +83,7 @@ class Peer:
         self.socket.connect(("127.0.0.1", daemon.port))
         self.socket.setsockopt(socket.IPPROTO_TCP, socket.TCP_NODELAY, 1)
         self.lines = self.socket.makefile("rb")
-        self.site, self.edits, self.heard, self.pings = 0, 0, 0, 0
+        self.site, self.edits, self.items, self.heard, self.pings = 0, 0, 0, 0, 0
 
     def send(self, text):
         self.socket.sendall(text)
@@ -84,10 +95,12 @@ class Peer:
         while self.lines.readline() != b"ready\n":
             pass
 
-    def edit(self):
-        """Inserts a character at the front of text 1 of window 1."""
+    def edit(self, times=1):
+        """Inserts a character at the front of text 1 of window 1, or so many in one edit."""
+        batch = b"batch %d %d %d\n" % (self.edits, self.heard, times)
         self.edits += 1
-        self.send(b"batch %d %d 1\ndo 1 1 text ins 0 %d.%d 97\n" % (self.edits - 1, self.heard, self.site, self.edits))
+        self.send(batch + b"".join(b"do 1 1 text ins 0 %d.%d 97\n" % (self.site, self.items + it) for it in range(1, times + 1)))
+        self.items += times
 
     def relabel(self, times=32):
         """Gives item 0.1 of list 2 of window 1 other labels, so many in one edit. The board does not grow."""

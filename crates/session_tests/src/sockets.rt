@@ -1,9 +1,9 @@
-//! A socket whose peer takes nothing, a listener after the last session, and a client that reads while its user thinks.
+//! A socket whose peer takes nothing, one that hangs up while its peer sends on, a listener after the last session, and a client that reads while its user thinks.
 
-use crate::expect::{expect_eq, expect_that};
+use crate::expect::{expect_eq, expect_text, expect_that};
 use crate::programs::{client_of, daemon_at, expect_success, serve};
 use crate::strangers::{link_to, read_to, read_to_end, send};
-use jup_session::{Outgoing, client_main};
+use jup_session::{Outgoing, client_main, hang_up};
 use std::alloc::Global;
 use std::io::{ErrorKind, Read, Write};
 use std::net::{Net, TcpListener, TcpStream};
@@ -52,6 +52,37 @@ fn a_write_fails_whose_peer_takes_nothing(rt: HostRuntime) {
     let mut from = &near;
     expect_eq(&rt, from.read(&mut [0u8; 1]).ok(), Some(0));
     drop(far);
+}
+
+// Hangs up, and closes the socket.
+fn hangs_up(clock: &impl Clock, link: TcpStream) {
+    hang_up(clock, &link);
+}
+
+// Reads to the end of a link, and sends on: a piece, and another after the first has arrived.
+fn sends_on<R: Clock + Abort>(rt: &R, link: TcpStream, heard: &mut Vec<u8>) {
+    read_to_end(rt, &link, heard);
+    for _ in 0..2 {
+        send(rt, &link, &PIECE);
+        thread::sleep(rt, Duration::from_millis(100));
+    }
+    send(rt, &link, &PIECE);
+}
+
+// A socket that is closed with bytes unread is reset. The peer can then lose the last line, and its next write fails.
+#[test]
+fn a_last_line_arrives_while_the_peer_sends_on(rt: HostRuntime) {
+    let (near, far) = both_ends(&rt, "127.0.0.1:47034");
+    send(&rt, &far, &PIECE);
+    send(&rt, &near, b"error 40\n");
+    let mut heard = Vec::new(rt.alloc());
+    let (host, text) = (&rt, &mut heard);
+    join(
+        host,
+        move || hangs_up(host, near),
+        move || sends_on(host, far, text),
+    );
+    expect_text(&rt, heard.as_slice(), "error 40\n");
 }
 
 // Whether a connection is refused within a second.

@@ -3,3 +3,4 @@ pub mod ReaderLemmas
 pub mod ArrivalLemmas
 pub mod RequestLemmas
 pub mod TextLemmas
+pub mod ResponseLemmas

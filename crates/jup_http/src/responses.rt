@@ -1,6 +1,7 @@
 //! The heads of answers.
-ghost use Rattle.std.specs.Prelude.{◌≡◌};
-ghost use Rattle.jup_http.specs.Responses.{head_of, reason_of, refusal_fields};
+ghost use Rattle.std.specs.Prelude.{◌≡◌, ◌++◌, IfOk, codes, string_bytes};
+ghost use Rattle.websocket.specs.Headers.{crlf};
+ghost use Rattle.jup_http.specs.Responses.{head_of, reason_of, refusal_fields, media_type, guard_lines, body_fields};
 
 use crate::Refusal;
 use std::alloc::{AllocError, Global};
@@ -13,7 +14,9 @@ pub enum Media {
 }
 
 impl Media {
-    fn name(self) -> &'static str {
+    fn name(self) -> &'static str
+        ensures { result.now ≡ media_type self }
+    {
         match self {
             Media::Html => "text/html; charset=utf-8",
             Media::Plain => "text/plain; charset=utf-8",
@@ -21,14 +24,20 @@ impl Media {
     }
 }
 
-// The header lines that each body has.
-const FIXED: &str =
-    "cache-control: no-store\r\nconnection: close\r\nx-content-type-options: nosniff\r\nreferrer-policy: no-referrer\r\ncontent-security-policy: default-src 'none'; script-src 'unsafe-inline'; style-src 'unsafe-inline'; img-src data:; connect-src 'self'; base-uri 'none'; form-action 'none'; frame-ancestors 'none'\r\n\r\n";
+// The header lines that each body has, and the end of the head.
+fn guard_lines() -> &'static str
+    ensures { result.now ≡ guard_lines ++ crlf }
+{
+    "cache-control: no-store\r\nconnection: close\r\nx-content-type-options: nosniff\r\nreferrer-policy: no-referrer\r\ncontent-security-policy: default-src 'none'; script-src 'unsafe-inline'; style-src 'unsafe-inline'; img-src data:; connect-src 'self'; base-uri 'none'; form-action 'none'; frame-ancestors 'none'\r\n\r\n"
+}
 
 /// The head in front of a body of so many bytes.
-pub fn body_head(alloc: Global, media: Media, len: usize) -> Result<String, AllocError> {
+pub fn body_head(alloc: Global, media: Media, len: usize) -> Result<String, AllocError>
+    ensures { IfOk result (λ head. string_bytes head ≡ head_of (codes "200 OK") (body_fields media len)) }
+{
     let name = media.name();
-    format!(in alloc; "HTTP/1.1 200 OK\r\ncontent-type: {name}\r\ncontent-length: {len}\r\n{FIXED}")
+    let guard = guard_lines();
+    format!(in alloc; "HTTP/1.1 200 OK\r\ncontent-type: {name}\r\ncontent-length: {len}\r\n{guard}")
 }
 
 /// The whole answer to a request that is refused.

@@ -118,3 +118,54 @@ fn a_read_that_fails_loses_nothing(rt: HostRuntime) {
     }
     expect_that(&rt, &found[..len.min(4)] == b"hi".as_slice());
 }
+
+// The pong of a ping goes out before the data after it is given, and that of the last ping before the end.
+#[test]
+fn each_ping_has_its_pong(rt: HostRuntime) {
+    let frames = b"\x89\x82\0\0\0\0hi\x81\x81\0\0\0\0a\x89\x80\0\0\0\0".as_slice();
+    let mut pongs: Vec<u8> = Vec::new(rt.alloc());
+    let mut reader = MessageReader::new(rt.alloc(), frames, &mut pongs).expect(
+        &rt,
+        "there is memory",
+    );
+    let mut found = [0u8; 2];
+    expect_eq(&rt, reader.read(&mut found).ok(), Some(1));
+    expect_eq(&rt, reader.read(&mut found).ok(), Some(0));
+    drop(reader);
+    expect_that(&rt, pongs.as_slice() == b"\x8a\x02hi\x8a\x00".as_slice());
+}
+
+// Takes so many bytes, and then fails.
+#[derive(Drop)]
+struct Narrow {
+    room: usize,
+}
+
+impl Write for Narrow {
+    fn write(&mut self, buf: &[u8]) -> io::Result<usize> {
+        let len = buf.len().min(self.room);
+        if len == 0 {
+            return Err(io::Error::from(ErrorKind::BrokenPipe));
+        }
+        self.room -= len;
+        Ok(len)
+    }
+
+    fn flush(&mut self) -> io::Result<()> {
+        Ok(())
+    }
+}
+
+// A pong that is cut off fails the read, and loses no data after it.
+#[test]
+fn a_pong_that_is_cut_off_fails_a_read(rt: HostRuntime) {
+    let frames = b"\x89\x82\0\0\0\0hi\x81\x81\0\0\0\0a".as_slice();
+    let mut reader = MessageReader::new(rt.alloc(), frames, Narrow { room: 3 }).expect(
+        &rt,
+        "there is memory",
+    );
+    let mut found = [0u8; 2];
+    expect_that(&rt, reader.read(&mut found).is_err());
+    expect_eq(&rt, reader.read(&mut found).ok(), Some(1));
+    expect_eq(&rt, found, [b'a', 0]);
+}

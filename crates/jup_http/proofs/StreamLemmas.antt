@@ -56,11 +56,11 @@ unfolding step
 over_tells s [] over = refl
 over_tells s (b ∷ bs) over = rw over (over_tells (record { place = Over; pending = s.pending; held = s.held }) bs refl)
 
-data_of_brought : (bs : List ℕ) → data_of (map brought bs) ≡ bs
+pub data_of_brought : (bs : List ℕ) → data_of (map brought bs) ≡ bs
 data_of_brought [] = refl
 data_of_brought (b ∷ bs) = ap (λ t. b ∷ t) (data_of_brought bs)
 
-data_of_event : (e : Option Event) → data_of (told_by_option e) ≡ []
+pub data_of_event : (e : Option Event) → data_of (told_by_option e) ≡ []
 data_of_event None = refl
 data_of_event (Some (Ping held)) = refl
 data_of_event (Some (Closed code)) = refl

@@ -1,8 +1,13 @@
--- The bytes that a reader of messages has left.
-use Rattle.std.specs.Prelude.{ℕ, List, ◌++◌, slice_range, Option, option_map}
+-- What a reader of messages has left, and what it answers.
+use Rattle.std.specs.Prelude.{◌≡◌, ℕ, List, [], ◌∷◌, ◌++◌, slice_range, Option, None, Some, option_map}
+use Rattle.std.specs.List.{flat_map}
+use Rattle.std.specs.Io.KnownBytes.{Appends}
+use Rattle.jup_http.specs.declared.held.Held.{Held}
 use Rattle.jup_http.specs.declared.reader.MessageReader.{MessageReader}
 use Rattle.jup_http.specs.Events.{standing}
-use Rattle.jup_http.specs.Streams.{brings}
+use Rattle.jup_http.specs.Frames.{held_bytes}
+use Rattle.jup_http.specs.Sending.{pong_frame}
+use Rattle.jup_http.specs.Streams.{Told, brought, ping, closed, broken, tells, brings, data_of}
 
 -- the bytes that were read and not taken
 abbrev pub untaken : {I O : Type 0} → MessageReader I O → List ℕ
@@ -11,3 +16,56 @@ untaken r = slice_range r.piece r.start r.end
 -- the payloads of the messages of data that these bytes, and those that the reader below has left, bring
 abbrev pub payloads_left : {I O : Type 0} → (I → Option (List ℕ)) → MessageReader I O → Option (List ℕ)
 payloads_left remaining r = option_map (λ xs. brings (standing r.stream) (untaken r ++ xs)) (remaining r.from)
+
+-- ---- what is heard, and answered
+
+-- a ping whose pong is due
+abbrev pub due : Option Held → List Told
+due None = []
+due (Some held) = ping (held_bytes held) ∷ []
+
+-- what the reader has not dealt with: the ping whose pong is due, and what those bytes report
+abbrev pub told_left : {I O : Type 0} → (I → Option (List ℕ)) → MessageReader I O → Option (List Told)
+told_left remaining r = option_map (λ xs. due r.ping ++ tells (standing r.stream) (untaken r ++ xs)) (remaining r.from)
+
+-- what the reader has written, where that is known
+abbrev pub written : {I O : Type 0} → (O → Option (List ℕ)) → MessageReader I O → Option (List ℕ)
+written contents r = contents r.to
+
+-- what is known begins with this, and loses it
+abbrev pub Takes : Option (List Told) → Option (List Told) → List Told → Type 0
+Takes None new told = Unit {0}
+Takes (Some all) None told = ⊥
+Takes (Some all) (Some left) told = all ≡ told ++ left
+
+-- nothing is known to be left
+abbrev pub IsDealtWith : Option (List Told) → Type 0
+IsDealtWith None = Unit {0}
+IsDealtWith (Some left) = left ≡ []
+
+-- a pong answers a ping, and has its payload; nothing else has an answer (RFC 6455, section 5.5.3)
+abbrev pub pong_to : Told → List ℕ
+pong_to (brought b) = []
+pong_to (ping payload) = pong_frame payload
+pong_to (closed code) = []
+pong_to (broken b) = []
+
+abbrev pub pongs_to : List Told → List ℕ
+pongs_to told = flat_map pong_to told
+
+-- what came next was dealt with: its data was given, and the pong of each of its pings was written, in order
+pub record Hears (old new : Option (List Told)) (before after : Option (List ℕ)) (payload : List ℕ) : Type 0 where
+  pub told : List Told
+  pub first : Takes old new told
+  pub given : data_of told ≡ payload
+  pub answered : Appends before after (pongs_to told)
+
+-- the same if a read or a write failed: no data was lost, and the pongs may be cut off
+pub record HearsInPart (old new : Option (List Told)) (before after : Option (List ℕ)) : Type 0 where
+  pub told : List Told
+  pub sent : List ℕ
+  pub unsent : List ℕ
+  pub first : Takes old new told
+  pub given : data_of told ≡ []
+  pub pongs : pongs_to told ≡ sent ++ unsent
+  pub answered : Appends before after sent

@@ -3,6 +3,7 @@ ghost use Rattle.std.specs.Prelude.{◌≡◌, ◌≤◌, ◌+◌, ◌++◌, ℕ
 ghost use Rattle.jup_http.specs.Streams.{brought, tells};
 ghost use Rattle.jup_http.specs.Events.{standing, told_by_option};
 
+use crate::sending::write_whole;
 use crate::{Ending, Event, FrameStream, Held, Unframed, put_pong};
 use std::alloc::{AllocError, Global};
 use std::io;
@@ -53,14 +54,15 @@ fn unframe_part(
 }
 
 impl<I: Read + Drop, O: Write + Drop> MessageReader<I, O> {
-    ghost use Rattle.std.specs.Prelude.{[], Ok, IfOk, false, option_map};
-    ghost use Rattle.std.specs.Io.KnownBytes.{Keeps, Appends, Consumes, IsAtEnd};
-    ghost use Rattle.jup_http.specs.Readers.{payloads_left, untaken};
+    ghost use Rattle.std.specs.Prelude.{[], Ok, None, IfOk, OnOk, OnErr, IsTrue, false, option_map};
+    ghost use Rattle.jup_http.specs.Readers.{payloads_left, told_left, written, untaken, Takes, IsDealtWith, Hears, HearsInPart};
     ghost use Rattle.jup_http.specs.Streams.{start, brings};
 
-    /// A reader of what comes by `from`. Contracts of reads speak of the payloads that are left.
+    /// A reader of what comes by `from`. Contracts of reads speak of the payloads that are left, and of the pings to answer.
     pub fn new(alloc: Global, from: I, to: O) -> Result<MessageReader<I, O>, AllocError>
-        ensures { IfOk result (λ reader. payloads_left I.remaining reader ≡ option_map (brings start) (I.remaining from)) }
+        ensures payloads { IfOk result (λ reader. payloads_left I.remaining reader ≡ option_map (brings start) (I.remaining from)) }
+        ensures told { IfOk result (λ reader. told_left I.remaining reader ≡ option_map (tells start) (I.remaining from)) }
+        ensures written { IfOk result (λ reader. written O.contents reader ≡ O.contents to) }
     {
         let pong = Vec::with_capacity(alloc, ROOM)?;
         Ok(MessageReader {
@@ -83,8 +85,9 @@ impl<I: Read + Drop, O: Write + Drop> MessageReader<I, O> {
 
     // Puts the data of bytes that were read into `buf`, up to an event, which it notes.
     fn give(&mut self, buf: &mut [u8]) -> usize
+        requires { self.old.ping ≡ None }
         ensures within { result ≤ length buf.new }
-        ensures gives { Consumes (payloads_left I.remaining self.old) (payloads_left I.remaining self.new) (take result buf.new) }
+        ensures heard { Hears (told_left I.remaining self.old) (told_left I.remaining self.new) (written O.contents self.old) (written O.contents self.new) (take result buf.new) }
     {
         let unframed = unframe_part(&mut self.stream, &self.piece, self.start, self.end, buf);
         self.start += unframed.taken;
@@ -99,9 +102,11 @@ impl<I: Read + Drop, O: Write + Drop> MessageReader<I, O> {
 
     // Reads once, if all bytes are taken, and answers how many bytes came.
     fn fill(&mut self) -> io::Result<usize>
-        requires { untaken self.old ≡ [] }
-        ensures keeps { Keeps (payloads_left I.remaining self.old) (payloads_left I.remaining self.new) }
-        ensures end { result ≡ Ok 0 → IsAtEnd (payloads_left I.remaining self.new) }
+        requires taken { untaken self.old ≡ [] }
+        requires answered { self.old.ping ≡ None }
+        ensures keeps { Takes (told_left I.remaining self.old) (told_left I.remaining self.new) [] }
+        ensures written { written O.contents self.new ≡ written O.contents self.old }
+        ensures end { result ≡ Ok 0 → IsDealtWith (told_left I.remaining self.new) }
     {
         self.start = 0;
         self.end = 0;
@@ -112,8 +117,9 @@ impl<I: Read + Drop, O: Write + Drop> MessageReader<I, O> {
 
     // Reads once, if all bytes are taken and no ping waits. False at the end of the bytes.
     fn renew(&mut self) -> io::Result<bool>
-        ensures keeps { Keeps (payloads_left I.remaining self.old) (payloads_left I.remaining self.new) }
-        ensures end { result ≡ Ok false → IsAtEnd (payloads_left I.remaining self.new) }
+        ensures keeps { Takes (told_left I.remaining self.old) (told_left I.remaining self.new) [] }
+        ensures written { written O.contents self.new ≡ written O.contents self.old }
+        ensures end { result ≡ Ok false → IsDealtWith (told_left I.remaining self.new) }
     {
         if self.start < self.end || self.ping.is_some() {
             return Ok(true);
@@ -124,14 +130,26 @@ impl<I: Read + Drop, O: Write + Drop> MessageReader<I, O> {
 
     // Answers a ping.
     fn answer(&mut self) -> io::Result<()>
-        ensures { Keeps (payloads_left I.remaining self.old) (payloads_left I.remaining self.new) }
+        ensures idle { OnOk result (self.new.ping ≡ None) }
+        ensures ok { OnOk result (Hears (told_left I.remaining self.old) (told_left I.remaining self.new) (written O.contents self.old) (written O.contents self.new) []) }
+        ensures err { OnErr result (HearsInPart (told_left I.remaining self.old) (told_left I.remaining self.new) (written O.contents self.old) (written O.contents self.new)) }
     {
         let Some(payload) = self.ping.take() else {
             return Ok(());
         };
         self.pong.clear();
         put_pong(payload.bytes(), &mut self.pong)?;
-        self.to.write_all(&self.pong)
+        write_whole(&mut self.to, &self.pong)
+    }
+
+    // Whether no byte reports anything more, and all pings are answered.
+    fn is_over(&self) -> bool
+        ensures { IsTrue result → IsDealtWith (told_left I.remaining self.now) }
+    {
+        match self.ping {
+            Some(_) => false,
+            None => self.stream.is_over(),
+        }
     }
 
     // What a read answers if no byte reports anything.
@@ -146,12 +164,25 @@ impl<I: Read + Drop, O: Write + Drop> MessageReader<I, O> {
 }
 
 impl<I: Read + Drop, O: Write + Drop> Read for MessageReader<I, O> {
-    ghost use Rattle.jup_http.specs.Readers.{payloads_left};
+    ghost use Rattle.std.specs.Prelude.{◌<◌, IfOk, IfErr};
+    ghost use Rattle.std.specs.Io.{ReadsAtMost};
+    ghost use Rattle.std.specs.Io.KnownBytes.{ReadConsumes};
+    ghost use Rattle.jup_http.specs.Readers.{payloads_left, told_left, written, IsDealtWith, Hears, HearsInPart};
 
     ghost remaining = { payloads_left I.remaining };
 
     /// The next payloads. An error is `InvalidData` if the client broke a rule, and otherwise that of a read or of a pong's write.
-    fn read(&mut self, buf: &mut [u8]) -> io::Result<usize> {
+    ///
+    /// The pong of a ping is written before any data that comes after the ping is given, and before the end.
+    fn read(&mut self, buf: &mut [u8]) -> io::Result<usize>
+        ensures bound { ReadsAtMost result buf.new }
+        ensures bytes { ReadConsumes (payloads_left I.remaining self.old) (payloads_left I.remaining self.new) result buf.new }
+        ensures pongs { IfOk result (λ n. Hears (told_left I.remaining self.old) (told_left I.remaining self.new)
+            (written O.contents self.old) (written O.contents self.new) (take n buf.new)) }
+        ensures last { IfOk result (λ n. n ≡ 0 → 0 < length buf.new → IsDealtWith (told_left I.remaining self.new)) }
+        ensures failed { IfErr result (λ _. HearsInPart (told_left I.remaining self.old) (told_left I.remaining self.new)
+            (written O.contents self.old) (written O.contents self.new)) }
+    {
         if buf.is_empty() {
             return Ok(0);
         }
@@ -161,7 +192,7 @@ impl<I: Read + Drop, O: Write + Drop> Read for MessageReader<I, O> {
             if given > 0 {
                 return Ok(given);
             }
-            if self.stream.is_over() {
+            if self.is_over() {
                 return self.end();
             }
             if !self.renew()? {

@@ -1,6 +1,7 @@
-use Rattle.std.specs.Io.KnownBytes.{Keeps}
-use Rattle.jup_http.specs.Readers.{payloads_left}
+use Rattle.std.proofs.Common.{[]}
+use Rattle.jup_http.specs.Readers.{told_left, written, Hears}
 use Rattle.jup_http.proofs.reader.MessageReaderRead.read.Given as goal
 
 abbrev pub invariant-loop : goal.invariant-loop
-invariant-loop g l = Keeps (payloads_left g.I.Read.remaining l.fn.self) (payloads_left g.I.Read.remaining l.self)
+invariant-loop g l =
+    Hears (told_left g.I.Read.remaining l.fn.self) (told_left g.I.Read.remaining l.self) (written g.O.Write.contents l.fn.self) (written g.O.Write.contents l.self) []

@@ -1,0 +1,5 @@
+use Rattle.jup_http.proofs.ReaderLemmas.{over_is_end}
+use Rattle.jup_http.proofs.reader.MessageReader.is_over.Goals as goal
+
+pub returns-in-None : goal.returns-in-None
+returns-in-None g c = λ over. over_is_end _ _ _ _ c.in-None.is (c.is_over.ensures.0 over)

@@ -1,0 +1,22 @@
+use Rattle.std.proofs.Common.{◌≡◌, ℕ, List, ◌++◌, sym, ap, ◌∙◌, subst, append_assoc, take, drop, length, ◌-◌, take-append-drop}
+use Rattle.std.proofs.lemmas.List.{take_rest}
+use Rattle.std.specs.Io.KnownBytes.{Appends}
+use Rattle.std.proofs.KnownBytes.{Appends-trans}
+use Rattle.jup_http.proofs.ReaderLemmas.{appends_kept}
+use Rattle.jup_http.proofs.sending.write_whole.Goals as goal
+use Rattle.jup_http.proofs.sending.write_whole.Goals.{in-Ok, in-Err+else-ne}
+
+front_grows : (all done rest : List ℕ) (n : ℕ) → all ≡ done ++ rest → all ≡ (done ++ take n rest) ++ take (length rest - n) (drop n rest)
+front_grows all done rest n is =
+    is ∙ ap (λ l. done ++ l) (sym (take-append-drop n rest)) ∙ sym (append_assoc done (take n rest) (drop n rest)) ∙ ap (λ l. (done ++ take n rest) ++ l) (sym (take_rest rest n))
+
+pub loop-preserved : goal.loop-preserved
+loop-preserved g c =
+    let (done, split, appended) = c.loop.invariant in
+    let rest = c.loop.rest.now in
+    elim c.match-write.branch [
+      | in-Ok w ↦ subst (λ r. (x : List ℕ) × (c.args.frame.now ≡ x ++ r.now) × Appends (g.O.Write.contents c.args.to.now) (g.O.Write.contents c.write.new.self) x) (sym w.rest-is)
+          (done ++ take w.in-Ok.len rest, front_grows _ done rest w.in-Ok.len split, Appends-trans _ _ _ _ _ appended w.in-Ok.ensures.bytes)
+      | in-Err+else-ne w ↦ subst (λ r. (x : List ℕ) × (c.args.frame.now ≡ x ++ r.now) × Appends (g.O.Write.contents c.args.to.now) (g.O.Write.contents c.write.new.self) x) (sym w.rest-is)
+          (done, split, appends_kept _ _ _ _ appended w.in-Err.ensures.bytes)
+    ]

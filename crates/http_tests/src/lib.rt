@@ -10,6 +10,8 @@ mod foreign;
 #[cfg(test)]
 mod frames;
 #[cfg(test)]
+mod growths;
+#[cfg(test)]
 mod heads;
 #[cfg(test)]
 mod readers;

@@ -2,9 +2,11 @@
 //! A call whose allocation fails reports it, and the same call then gives its answer.
 use crate::boards::BOARD;
 use crate::expect::{expect_eq, expect_that};
+use clap::error::ErrorKind;
 use jup_service::{
-    Address, CaptionFault, ServiceEnd, check_captions, own_origins, star_of_printed,
+    Address, CaptionFault, ServiceEnd, check_captions, own_origins, service_words, star_of_printed,
 };
+use std::alloc::Global;
 use test_marks::{begin, end};
 
 #[test]
@@ -41,4 +43,31 @@ fn star_printed(rt: HostRuntime) {
     end(rt.alloc());
     expect_that(&rt, matches!(&opened, Ok(_) | Err(ServiceEnd::NoMemory)));
     expect_that(&rt, star_of_printed(rt.alloc(), BOARD, 10).is_ok());
+}
+
+// The limit that the command line asks for.
+fn limit_told(alloc: Global, words: &[String]) -> Result<u32, ErrorKind> {
+    begin(alloc);
+    let told = service_words(alloc, words);
+    end(alloc);
+    match told {
+        Ok(told) => Ok(told.limit),
+        Err(error) => Err(error.kind()),
+    }
+}
+
+#[test]
+fn words_of_a_server(rt: HostRuntime) {
+    let mut words: Vec<String> = Vec::new(rt.alloc());
+    for word in [
+        "--listen", "a", "--board", "b", "--limit", "7", "--origin", "http://a",
+    ] {
+        let text = String::from_str(rt.alloc(), word).expect(&rt, "memory");
+        words.push(text).expect(&rt, "memory");
+    }
+    let mut told = limit_told(rt.alloc(), &words);
+    if told == Err(ErrorKind::OutOfMemory) {
+        told = limit_told(rt.alloc(), &words);
+    }
+    expect_eq(&rt, told, Ok(7));
 }

@@ -1,5 +1,5 @@
 -- Lines of a board that are taken one after another.
-use Rattle.std.proofs.Common.{◌≡◌, ◌≢◌, ◌∙◌, ◌⊎◌, inl, inr, refl, sym, ap, subst, ℕ, List, [], ◌∷◌, ◌++◌, length, append_assoc, append-nil, arith}
+use Rattle.std.proofs.Common.{◌≡◌, ◌≢◌, ◌∙◌, ◌⊎◌, inl, inr, refl, sym, ap, subst, ℕ, ◌<◌, ◌^◌, List, [], ◌∷◌, ◌++◌, length, append_assoc, append-nil, arith}
 use Rattle.std.specs.Str.{IsUtf8}
 use Rattle.std.proofs.lemmas.List.{length-append}
 use Rattle.std.proofs.lemmas.List.Concat.{flat_map-append}
@@ -18,7 +18,7 @@ taken_more old middle new (x ∷ xs) line (next, first, taken) more = (next, fir
 -- what was read of a text, and what is left
 pub record Reads (text lines rest : List ℕ) (draft : Draft) : Type 0 where
   pub read : IsReadTo lines rest draft
-  pub left : IsPrinted text → GoesOn draft rest
+  pub left : length text < 2 ^ 32 → IsPrinted text → GoesOn draft rest
 
 pub read_none : (text : List ℕ) → IsReadTo text text blank
 read_none text = record { lines = []; spelled = refl; taken = refl }

@@ -2,7 +2,6 @@
 ghost use Rattle.std.specs.Prelude.{◌≡◌, ◌⊎◌, ◌≤◌, length, Err, IfOk, IfErr};
 ghost use Rattle.jup_limits.specs.Limits.{longest_input};
 ghost use Rattle.jup_layout.specs.Layouts.{Describes, no_memory};
-ghost use Rattle.jup_limits.specs.Limits.{longest_board};
 ghost use Rattle.jup_board.specs.Layouts.{IsLayoutOfPrinted, IsPrintOfLayout};
 
 use crate::{BoardEnd, read_printed, write_layout};
@@ -13,7 +12,6 @@ use std::alloc::Global;
 
 /// The layout of the board that a text prints.
 pub fn layout_of_printed(alloc: Global, text: &[u8]) -> Result<Vec<u8>, BoardEnd>
-    requires { length text.now ≤ longest_board }
     ensures { IfOk result (λ made. IsLayoutOfPrinted text.now made.items) }
 {
     let board = read_printed(alloc, text)?;

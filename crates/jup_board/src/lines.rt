@@ -1,7 +1,4 @@
 //! The lines of a printed board.
-ghost use Rattle.std.specs.Prelude.{◌+◌, ◌≤◌, length};
-ghost use Rattle.jup_limits.specs.Limits.{longest_board};
-
 use crate::cut::cut_at;
 use crate::{BoardEnd, LineFault};
 use std::str;
@@ -11,17 +8,14 @@ use std::str;
 pub(crate) struct BoardLines<'a> {
     rest: &'a [u8],
     line: u32,
-    ghost in_limit: { line + length rest.now ≤ longest_board + 2 },
 }
 
 impl<'a> BoardLines<'a> {
-    ghost use Rattle.std.specs.Prelude.{◌≡◌, ◌<◌, ◌∷◌, ◌++◌, ℕ, List, [], IsOk, IsSome, IsUtf8, MatchOption, IfOk, IfSome};
+    ghost use Rattle.std.specs.Prelude.{◌≡◌, ◌<◌, ◌∷◌, ◌++◌, ℕ, List, [], length, IsOk, IsSome, IsUtf8, MatchOption, IfOk, IfSome};
     ghost use Rattle.jup_board.specs.Printed.{Lacks};
 
     /// The lines of a text, of which so many came before.
     pub(crate) fn new(rest: &'a [u8], line: u32) -> BoardLines<'a>
-        requires bytes { length rest.now ≤ longest_board }
-        requires lines { line ≤ 2 }
         ensures { result.rest.now ≡ rest.now }
     {
         BoardLines { rest, line }
@@ -40,10 +34,11 @@ impl<'a> BoardLines<'a> {
             return Ok(None);
         }
         let Some((line, rest)) = cut_at(self.rest, b'\n') else {
-            return Err(BoardEnd::Line(self.line + 1, LineFault::Unended));
+            let line = self.line.saturating_add(1);
+            return Err(BoardEnd::Line(line, LineFault::Unended));
         };
         self.rest = rest;
-        self.line += 1;
+        self.line = self.line.saturating_add(1);
         match str::from_utf8(line) {
             Ok(text) => Ok(Some(text)),
             Err(_) => Err(self.bad(LineFault::NotText)),

@@ -1,6 +1,5 @@
 //! A board from the text that it is printed as.
-ghost use Rattle.std.specs.Prelude.{◌≤◌, length, IfOk, IsOkUnless};
-ghost use Rattle.jup_limits.specs.Limits.{longest_board};
+ghost use Rattle.std.specs.Prelude.{◌<◌, ◌^◌, length, IfOk, IsOkUnless};
 ghost use Rattle.jup_board.specs.declared.ending.BoardEnd.TheVariants as ends;
 ghost use Rattle.jup_board.specs.Printed.{IsPrinted, IsPrintOf};
 
@@ -16,9 +15,8 @@ use std::alloc::Global;
 /// The board that a text prints, windows and widgets in any order of ids. The lines `listening ADDR` and `order K`, which a server
 /// prints, may come before it. The items are named 0.1, 0.2 and so on in the order of the lines.
 pub fn read_printed(alloc: Global, text: &[u8]) -> Result<Board, BoardEnd>
-    requires { length text.now ≤ longest_board }
     ensures board { IfOk result (λ made. IsPrintOf made text.now) }
-    ensures every { IsPrinted text.now → IsOkUnless result ends.NoMemory }
+    ensures every { length text.now < 2 ^ 32 → IsPrinted text.now → IsOkUnless result ends.NoMemory }
 {
     let (rest, passed) = behind_heading(text);
     let mut lines = BoardLines::new(rest, passed);

@@ -44,7 +44,7 @@ pub enum ServiceEnd {
     /// The line of this number, from 1, is no line of a printed board, or is refused there.
     #[error("line {0}: bad board")]
     BadBoard(u32, LineFault),
-    /// The board has more bytes than are read.
+    /// A text or a list of the board has more items than a star may be opened with.
     #[error("board too long")]
     LongBoard,
     #[error("line {0}: bad captions")]

@@ -4,7 +4,6 @@ ghost use Rattle.jup_service.specs.Stars.{IsStarOf};
 
 use crate::ServiceEnd;
 use jup_board::read_printed;
-use jup_limits::LONGEST_BOARD;
 use jup_star::{OpenFault, Star, is_short};
 use std::alloc::Global;
 
@@ -12,9 +11,6 @@ use std::alloc::Global;
 pub fn star_of_printed(alloc: Global, text: &[u8], limit: u32) -> Result<Star, ServiceEnd>
     ensures { IfOk result (λ star. IsStarOf text.now limit star) }
 {
-    if text.len() as u64 > LONGEST_BOARD {
-        return Err(ServiceEnd::LongBoard);
-    }
     let board = read_printed(alloc, text)?;
     // A printed board that is read, and the words, rule these refusals out.
     if !is_short(&board) {

@@ -6,40 +6,70 @@ use jup_text::{read_integer, read_number, read_quoted};
 use jup_window::{Board, BoardFault, Widget};
 use jup_xform::NoMemory;
 use std::alloc::Global;
-use thiserror::Error;
+use std::error::Error;
+use std::fmt;
 
 /// Why a line of a printed board is bad.
-#[derive(Clone, Copy, Debug, Error)]
+#[derive(Clone, Copy, Debug)]
 pub enum LineFault {
-    #[error("the line is not UTF-8")]
     NotText,
-    #[error("the line has no line feed")]
     Unended,
-    #[error("`window W`, `text I Q`, `list I Q ..`, `toggle I VALUE` or `slider I LO HI VALUE` is due")]
     NoBoardLine,
-    #[error("an id from 1 to 65535 is due")]
     BadId,
-    #[error("a window is due above its widgets")]
     NoWindow,
-    #[error("the id is taken")]
     DoubleId,
-    #[error("64 are there already")]
     TooMany,
-    #[error("a text in quotes is due, in its one spelling")]
     BadText,
-    #[error("labels of 1 to 48 bytes in quotes are due, a space before each")]
     BadLabels,
-    #[error("text {0} has {1} characters, and a layout takes 65536")]
+    /// The text of this id has so many characters.
     LongText(u16, u64),
-    #[error("list {0} has {1} items, and a layout takes 65536")]
+    /// The list of this id has so many items.
     LongList(u16, u64),
-    #[error("`on` or `off` is due")]
     BadSwitch,
-    #[error("`LO HI VALUE` is due, numbers from -2147483648 to 2147483647 with no plus sign, no leading zero and no -0")]
     BadBounds,
-    #[error("the value is not within the bounds")]
     OutOfBounds,
 }
+
+impl LineFault {
+    // The text that people read of it, without an id and a length.
+    fn text(self) -> &'static str {
+        match self {
+            LineFault::NotText => "the line is not UTF-8",
+            LineFault::Unended => "the line has no line feed",
+            LineFault::NoBoardLine =>
+                "`window W`, `text I Q`, `list I Q ..`, `toggle I VALUE` or `slider I LO HI VALUE` is due",
+            LineFault::BadId => "an id from 1 to 65535 is due",
+            LineFault::NoWindow => "a window is due above its widgets",
+            LineFault::DoubleId => "the id is taken",
+            LineFault::TooMany => "64 are there already",
+            LineFault::BadText => "a text in quotes is due, in its one spelling",
+            LineFault::BadLabels =>
+                "labels of 1 to 48 bytes in quotes are due, a space before each",
+            LineFault::LongText(..) => "a text is too long",
+            LineFault::LongList(..) => "a list is too long",
+            LineFault::BadSwitch => "`on` or `off` is due",
+            LineFault::BadBounds =>
+                "`LO HI VALUE` is due, numbers from -2147483648 to 2147483647 with no plus sign, no leading zero and no -0",
+            LineFault::OutOfBounds => "the value is not within the bounds",
+        }
+    }
+}
+
+impl fmt::Display for LineFault {
+    fn fmt<W: fmt::Write>(&self, f: &mut fmt::Formatter<W>) -> fmt::Result {
+        let (kind, id, count, items) = match *self {
+            LineFault::LongText(id, count) => ("text", id, count, "characters"),
+            LineFault::LongList(id, count) => ("list", id, count, "items"),
+            fault => return f.write_str(fault.text()),
+        };
+        write!(
+            f,
+            "{kind} {id} has {count} {items}, and a layout takes 65536"
+        )
+    }
+}
+
+impl Error for LineFault {}
 
 /// What is wrong with a line that was not taken after the lines of this board, the last of whose windows has this id. The board
 /// itself says whether it refuses the id, before it asks for memory.
@@ -107,17 +137,20 @@ fn list_fault(id: u16, value: &str) -> LineFault {
     }
 }
 
-// How many quoted texts begin in a line: one for every two quotes that no backslash escapes.
+// How many quoted texts begin in a line. A quote begins one or ends it, unless a backslash escapes it.
 fn quoted_texts(value: &[u8]) -> u64 {
-    let mut quotes = 0u64;
-    let mut is_escaped = false;
+    let mut count = 0u64;
+    let (mut is_open, mut is_escaped) = (false, false);
     for byte in value {
         if *byte == b'"' && !is_escaped {
-            quotes = quotes.saturating_add(1);
+            is_open = !is_open;
+            if is_open {
+                count = count.saturating_add(1);
+            }
         }
         is_escaped = *byte == b'\\' && !is_escaped;
     }
-    quotes / 2 + quotes % 2
+    count
 }
 
 fn slider_fault(value: &str) -> LineFault {

@@ -28,17 +28,21 @@ pub(crate) enum Direction {
     Print,
 }
 
-// What is asked of the words.
-fn command<'a>(alloc: Global) -> Result<Command<'a>, AllocError> {
-    let print = Arg::new(alloc, "print")
+// The option `--print`.
+fn print_option<'a>(alloc: Global) -> Arg<'a> {
+    Arg::new(alloc, "print")
         .long("print")
         .action(ArgAction::SetTrue)
-        .help(PRINT_HELP);
+        .help(PRINT_HELP)
+}
+
+// What is asked of the words.
+fn command<'a>(alloc: Global) -> Result<Command<'a>, AllocError> {
     Command::new(alloc, "jupboard")
         .no_binary_name(true)
         .about(ABOUT)
         .after_help(EXAMPLE)
-        .arg(print)
+        .arg(print_option(alloc))
 }
 
 /// Reads the words after the program's name.

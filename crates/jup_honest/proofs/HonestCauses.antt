@@ -13,7 +13,7 @@ begins_self : {A : Type 0} → (xs : List A) → Begins xs xs
 begins_self xs = ([], sym (append-nil xs))
 
 -- and with what its beginning begins with
-begins_chain : {A : Type 0} → (xs ys zs : List A) → Begins xs ys → Begins ys zs → Begins xs zs
+pub begins_chain : {A : Type 0} → (xs ys zs : List A) → Begins xs ys → Begins ys zs → Begins xs zs
 begins_chain xs ys zs b c = (c.0 ++ b.0, b.1 ∙ ap (λ ls. ls ++ b.0) c.1 ∙ append_assoc zs c.0 b.0)
 
 -- of two beginnings of one list the longer begins with the other
@@ -24,7 +24,7 @@ two_begin (y ∷ ys) (x ∷ xs) s t short e =
     let later = two_begin ys xs s t (omega (arith, short)) (cc) in
     (later.0, (let first : y ≡ x = cc in ap (λ z. z ∷ ys) first ∙ ap (λ zs. x ∷ zs) later.1))
 
-both_begin : {A : Type 0} → (all ys xs : List A) → Begins all ys → Begins all xs → length xs ≤ length ys → Begins ys xs
+pub both_begin : {A : Type 0} → (all ys xs : List A) → Begins all ys → Begins all xs → length xs ≤ length ys → Begins ys xs
 both_begin all ys xs b c short = two_begin ys xs b.0 c.0 short (sym b.1 ∙ c.1)
 
 -- each list of a connection only grows

@@ -38,7 +38,7 @@ all_later : {A : Type 0} (P : A → Type 0) (xs ys : List A) → AllByRecursion 
 all_later P [] ys all = all
 all_later P (x ∷ xs) ys all = all_later P xs ys all.1
 
-all_first : {A : Type 0} (P : A → Type 0) (xs ys : List A) → AllByRecursion P (xs ++ ys) → AllByRecursion P xs
+pub all_first : {A : Type 0} (P : A → Type 0) (xs ys : List A) → AllByRecursion P (xs ++ ys) → AllByRecursion P xs
 all_first P [] ys all = tt
 all_first P (x ∷ xs) ys all = (all.0, all_first P xs ys all.1)
 

@@ -1,0 +1,12 @@
+mod Members
+mod Joins
+mod Owned
+mod HalfCalls
+mod LineBytes
+mod Took
+mod Shapes
+mod ServedRuns
+mod HubRuns
+mod PlainSessions
+mod Witness
+mod ClientWalks

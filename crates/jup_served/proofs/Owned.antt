@@ -1,0 +1,195 @@
+-- In a hub that sessions alone call, the site of each session is its own.
+use Rattle.std.proofs.Common.{◌≡◌, ◌⊎◌, inl, inr, ℕ, ◌≤◌, true, List, [], ◌∷◌, ◌++◌, length, IsTrue, Ok, Err, refl, sym, ap, subst, ◌∙◌}
+use Rattle.std.specs.List.{AllByRecursion}
+use Rattle.jup_limits.specs.Limits.{highest_limit}
+use Rattle.jup_batch.specs.BatchBoards.{Windows}
+use Rattle.jup_star.specs.declared.star.Joined.{Joined}
+use Rattle.jup_star.specs.declared.calls.Call.{Call}
+use Rattle.jup_star.specs.declared.calls.Call.TheVariants.{Join, Take, Fetch, Leave}
+use Rattle.jup_star.specs.declared.calls.Reply.{Reply}
+use Rattle.jup_star.specs.declared.calls.Reply.TheVariants.{Joined as JoinedReply, Taken, Fetched, Left}
+use Rattle.jup_star.specs.StarStates.{opened_star}
+use Rattle.jup_hub.specs.declared.view.Entry.{Entry}
+use Rattle.jup_hub.specs.declared.view.Tally.{Tally}
+use Rattle.jup_hub.specs.declared.view.View.{View}
+use Rattle.jup_hub.specs.Histories.{IsLegal, calls_by, AllTallied, IsNew, AllApart, is_among, calls_in}
+use Rattle.jup_hub.specs.Knowledge.{Meets, tally, tallies}
+use Rattle.jup_hub.proofs.Counting.{no_others}
+use Rattle.jup_world.specs.Openings.{IsOpening}
+use Rattle.jup_session.specs.Sessions.{IsCallFor, AreCallsFor, AreTalliesFor, FollowsJoin, IsOneSite, HasMadeNone}
+use Rattle.jup_honest.proofs.CalledStars.{called-opened}
+use Rattle.jup_served.specs.Ended.{Ended, ServesSite, answer_of, IsOwnedBy}
+use Rattle.jup_served.specs.SessionHubs.{all_tallies, IsOneOf, IsSessionHub}
+use Rattle.jup_served.proofs.Members.{IsIn, all_in, in_all, by_in, in_by, none_other, among_is, among_first, new_later, apart_later, tallied_first, tallied_later}
+use Rattle.jup_served.proofs.Joins.{IsJoin, one_join}
+use Rattle.jup_served.proofs.Shapes.{join, made_is}
+
+-- # The calls of one session
+
+-- a call is for one site
+one_site : (i j : ℕ) (c : Call) → IsCallFor i c → IsCallFor j c → i ≡ j
+one_site i j Join one two = absurd one
+one_site i j (Take k up) one two = sym one ∙ two
+one_site i j (Fetch k max) one two = sym one ∙ two
+one_site i j (Leave k) one two = sym one ∙ two
+
+-- an entry under one of these numbers is one of its calls
+under_for : (site : ℕ) (log : List Entry) (ts : List Tally) → AllTallied log ts → AreTalliesFor site ts → (e : Entry) → IsIn e log → is_among e.by ts ≡ true → IsCallFor site e.call
+under_for site log [] tallied asks e is among = absurd (cc)
+under_for site log (t ∷ ts) tallied asks e is among =
+    elim (among_is e.by t ts among) [
+      | inl here ↦ in_all (λ x. IsCallFor site x.call) t.calls asks.0 e (subst (IsIn e) tallied.0 (in_by t.number log e is here))
+      | inr later ↦ under_for site log ts tallied.1 asks.1 e is later
+    ]
+
+-- the join of a session by which a call for a site is under one of its numbers
+record JoinsFor (number : List ℕ) (site : ℕ) (log : List Entry) : Type 0 where
+  join : Entry
+  is_in : IsIn join log
+  by : join.by ≡ number
+  is_join : IsJoin join site
+
+-- if one of the session's calls is for a site, the session has joined it
+first_join : (w : View) (number : List ℕ) (calls : List Entry) (others : List Tally) (log : List Entry) → IsOneSite w calls others → calls_by number log ≡ calls → AllTallied log others
+    → (e : Entry) (site : ℕ) → IsIn e log → (e.by ≡ number) ⊎ (is_among e.by others ≡ true) → IsCallFor site e.call → JoinsFor number site log
+first_join w number [] others log one tallied all e site is (inl here) asks = absurd (subst (IsIn e) tallied (in_by number log e is here))
+first_join w number [] others log one tallied all e site is (inr among) asks =
+    absurd (let none : is_among e.by [] ≡ true = subst (λ ts. is_among e.by ts ≡ true) one among in cc)
+first_join w number (first ∷ later) others log one tallied all e site is where_is asks = cases first.call first.reply refl refl one
+  where
+    is_first : IsIn first (calls_by number log)
+    is_first = subst (IsIn first) (sym tallied) (inl refl)
+
+    here : IsIn first log × (first.by ≡ number)
+    here = by_in number log first is_first
+
+    joined : (j : Joined) → first.call ≡ Join → first.reply ≡ JoinedReply (Ok j) → AreCallsFor j.site later → AreTalliesFor j.site others → JoinsFor number site log
+    joined j call reply mine theirs = record { join = first; is_in = here.0; by = here.1; is_join = record { answer = j; call = call; reply = reply; site = site_is where_is } }
+      where
+        of_later : IsIn e (first ∷ later) → j.site ≡ site
+        of_later (inl same) = absurd (subst (IsCallFor site) (ap (λ (k : Entry). k.call) (sym same) ∙ call) asks)
+        of_later (inr l) = one_site j.site site e.call (in_all (λ x. IsCallFor j.site x.call) later mine e l) asks
+
+        site_is : (e.by ≡ number) ⊎ (is_among e.by others ≡ true) → j.site ≡ site
+        site_is (inl by) = of_later (subst (IsIn e) tallied (in_by number log e is by))
+        site_is (inr among) = one_site j.site site e.call (under_for j.site log others all theirs e is among) asks
+
+    cases : (c : Call) (r : Reply) → first.call ≡ c → first.reply ≡ r → FollowsJoin w c r later others → JoinsFor number site log
+    cases Join (JoinedReply (Ok j)) call reply follows = joined j call reply follows.0 follows.1
+    cases Join (JoinedReply (Err fault)) call reply follows = absurd (refused where_is)
+      where
+        refused : (e.by ≡ number) ⊎ (is_among e.by others ≡ true) → ⊥
+        refused (inl by) = only_first (subst (IsIn e) tallied (in_by number log e is by))
+          where
+            only_first : IsIn e (first ∷ later) → ⊥
+            only_first (inl same) = subst (IsCallFor site) (ap (λ (k : Entry). k.call) (sym same) ∙ call) asks
+            only_first (inr l) = subst (IsIn e) follows.0 l
+        refused (inr among) = (let none : is_among e.by [] ≡ true = subst (λ ts. is_among e.by ts ≡ true) follows.1 among in cc)
+    cases Join (Taken x) call reply follows = absurd follows
+    cases Join (Fetched x) call reply follows = absurd follows
+    cases Join (Left x) call reply follows = absurd follows
+    cases (Take i up) r call reply follows = absurd follows
+    cases (Fetch i max) r call reply follows = absurd follows
+    cases (Leave i) r call reply follows = absurd follows
+
+-- of a session whose pass had made no call
+session_join : (s : Ended) (log : List Entry) → HasMadeNone s.given → AllTallied log (tallies s.back) → (e : Entry) (site : ℕ) → IsIn e log → is_among e.by (tallies s.back) ≡ true
+    → IsCallFor site e.call → JoinsFor s.back.number site log
+session_join s log new tallied e site is among asks =
+    first_join s.back s.back.number s.calls.calls s.calls.others log s.calls.one_site
+    (tallied.0 ∙ s.calls.made ∙ ap (λ es. es ++ s.calls.calls) new.0)
+    (subst (AllTallied log) kept_is tallied.1) e site is
+    (subst (λ ts. (e.by ≡ s.back.number) ⊎ (is_among e.by ts ≡ true)) kept_is (among_is e.by (tally s.back.number s.back.made) s.back.kept among)) asks
+  where
+    kept_is : s.back.kept ≡ s.calls.others
+    kept_is = s.calls.kept ∙ ap (λ ts. ts ++ s.calls.others) new.1
+
+-- # Several sessions
+
+-- under whose number a call is
+record Found (e : Entry) (sessions : List Ended) : Type 0 where
+  session : Ended
+  is_one : IsOneOf session sessions
+  among : is_among e.by (tallies session.back) ≡ true
+
+found_in : (e : Entry) (sessions : List Ended) → is_among e.by (all_tallies sessions) ≡ true → Found e sessions
+found_in e [] among = absurd (cc)
+found_in e (s ∷ sessions) among =
+    elim (among_first e.by (tallies s.back) (all_tallies sessions) among) [
+      | inl here ↦ record { session = s; is_one = inl refl; among = here }
+      | inr later ↦ (let rest = found_in e sessions later in record { session = rest.session; is_one = inr rest.is_one; among = rest.among })
+    ]
+
+new_one : (s : Ended) (sessions : List Ended) → IsOneOf s sessions → AllByRecursion (λ (t : Ended). HasMadeNone t.given) sessions → HasMadeNone s.given
+new_one s [] one all = absurd one
+new_one s (t ∷ sessions) (inl same) all = subst (λ (u : Ended). HasMadeNone u.given) same all.0
+new_one s (t ∷ sessions) (inr later) all = new_one s sessions later all.1
+
+tallied_one : (log : List Entry) (s : Ended) (sessions : List Ended) → IsOneOf s sessions → AllTallied log (all_tallies sessions) → AllTallied log (tallies s.back)
+tallied_one log s [] one all = absurd one
+tallied_one log s (t ∷ sessions) (inl same) all = subst (λ (u : Ended). AllTallied log (tallies u.back)) same (tallied_first log (tallies t.back) (all_tallies sessions) all)
+tallied_one log s (t ∷ sessions) (inr later) all = tallied_one log s sessions later (tallied_later log (tallies t.back) (all_tallies sessions) all)
+
+-- a number that is none of theirs is not that of a session
+not_its : (n : List ℕ) (s : Ended) (sessions : List Ended) → IsOneOf s sessions → IsNew n (all_tallies sessions) → n ≡ s.back.number → ⊥
+not_its n s [] one new same = one
+not_its n s (t ∷ sessions) (inl is) new same = new.0 (same ∙ ap (λ (u : Ended). u.back.number) (sym is))
+not_its n s (t ∷ sessions) (inr later) new same = not_its n s sessions later (new_later n (tallies t.back) (all_tallies sessions) new) same
+
+-- so two sessions of one number are one
+one_session : (s t : Ended) (sessions : List Ended) → AllApart (all_tallies sessions) → IsOneOf s sessions → IsOneOf t sessions → s.back.number ≡ t.back.number → s ≡ t
+one_session s t [] apart one two same = absurd one
+one_session s t (u ∷ sessions) apart (inl one) (inl two) same = sym one ∙ two
+one_session s t (u ∷ sessions) apart (inl one) (inr two) same =
+    absurd (not_its u.back.number t sessions two (new_later u.back.number u.back.kept (all_tallies sessions) apart.0) (ap (λ (k : Ended). k.back.number) one ∙ same))
+one_session s t (u ∷ sessions) apart (inr one) (inl two) same =
+    absurd (not_its u.back.number s sessions one (new_later u.back.number u.back.kept (all_tallies sessions) apart.0) (ap (λ (k : Ended). k.back.number) two ∙ sym same))
+one_session s t (u ∷ sessions) apart (inr one) (inr two) same = one_session s t sessions (apart_later (tallies u.back) (all_tallies sessions) apart) one two same
+
+-- # The site of a session
+
+-- a session that serves a site has joined it
+served_join : (s : Ended) (log : List Entry) (serves : ServesSite s) → HasMadeNone s.given → AllTallied log (tallies s.back) → JoinsFor s.back.number (answer_of serves).site log
+served_join s log serves new tallied = record {
+  join = join s serves;
+  is_in = found.0;
+  by = found.1;
+  is_join = record { answer = answer_of serves; call = refl; reply = refl; site = refl };
+}
+  where
+    found : IsIn (join s serves) log × ((join s serves).by ≡ s.back.number)
+    found = by_in s.back.number log (join s serves) (subst (IsIn (join s serves)) (sym (tallied.0 ∙ made_is s serves new)) (inl refl))
+
+pub owned : (board : Windows) (limit : ℕ) (sessions : List Ended) (log : List Entry) → IsSessionHub board limit sessions log → (s : Ended) → IsOneOf s sessions → (serves : ServesSite s)
+    → IsOwnedBy s (answer_of serves).site log
+owned board limit sessions log hub s one serves = all_in (λ e. IsCallFor (answer_of serves).site e.call → IsTrue (is_among e.by (tallies s.back))) log each
+  where
+    mine : JoinsFor s.back.number (answer_of serves).site log
+    mine = served_join s log serves (new_one s sessions one hub.new) (tallied_one log s sessions one hub.tallied)
+
+    each : (e : Entry) → IsIn e log → IsCallFor (answer_of serves).site e.call → IsTrue (is_among e.by (tallies s.back))
+    each e is asks =
+        let found = found_in e sessions (none_other (all_tallies sessions) log hub.alone e is) in
+        let theirs = session_join found.session log (new_one found.session sessions found.is_one hub.new) (tallied_one log found.session sessions found.is_one hub.tallied) e (answer_of serves).site is
+        found.among asks in
+        let same = one_join board log (opened_star board limit) (called-opened board limit hub.opens hub.limited) hub.legal theirs.join mine.join (answer_of serves).site theirs.is_in mine.is_in
+        theirs.is_join mine.is_join in
+        let number : found.session.back.number ≡ s.back.number = sym theirs.by ∙ ap (λ (x : Entry). x.by) same ∙ mine.by in
+        subst (λ (t : Ended). IsTrue (is_among e.by (tallies t.back))) (one_session found.session s sessions hub.apart found.is_one one number) found.among
+
+-- the pass that took in the passes of all sessions, and met a history of no further call
+pub closed : (board : Windows) (limit : ℕ) (sessions : List Ended) (v : View) (log : List Entry) → IsOpening board → limit ≤ highest_limit → v.opening ≡ opened_star board limit
+    → v.kept ≡ all_tallies sessions → AllByRecursion (λ (s : Ended). HasMadeNone s.given) sessions → Meets v log → length log ≡ calls_in (all_tallies sessions)
+    → IsSessionHub board limit sessions log
+closed board limit sessions v log opens limited opening kept new meets long =
+    let tallied = subst (AllTallied log) kept meets.tallied.1 in
+    let apart = subst AllApart kept meets.apart.1 in
+    record {
+      opens = opens;
+      limited = limited;
+      legal = subst (λ o. IsLegal o log) opening meets.legal;
+      new = new;
+      tallied = tallied;
+      apart = apart;
+      alone = no_others (all_tallies sessions) log apart tallied long;
+    }

@@ -1,0 +1,313 @@
+-- The run of a site that a session serves is honest.
+use Rattle.std.proofs.Common.{◌≡◌, ◌⊎◌, inl, inr, ℕ, ◌<◌, true, List, [], ◌∷◌, ◌++◌, Ok, IsTrue, refl, sym, ap, subst, ◌∙◌, append_assoc, bytes_eq, arith}
+use Rattle.std.specs.List.{flat_map, AllByRecursion}
+use Rattle.std.proofs.lemmas.List.Elements.{filter-append}
+use Rattle.jup_batch.specs.BatchBoards.{BoardBatch}
+use Rattle.jup_star.specs.declared.messages.Up.{Up}
+use Rattle.jup_star.specs.declared.messages.Down.{Down}
+use Rattle.jup_star.specs.declared.star.Joined.{Joined}
+use Rattle.jup_star.specs.declared.calls.Call.{Call}
+use Rattle.jup_star.specs.declared.calls.Call.TheVariants.{Join, Take, Fetch, Leave}
+use Rattle.jup_star.specs.declared.calls.Reply.TheVariants.{Joined as JoinedReply}
+use Rattle.jup_hub.specs.declared.view.Entry.{Entry}
+use Rattle.jup_hub.specs.Histories.{entry, star_through, IsLegal, calls_by, AllTallied, is_among}
+use Rattle.jup_hub.specs.Knowledge.{tally, tallies}
+use Rattle.jup_wire.specs.declared.line.Line.TheVariants as line
+use Rattle.jup_wire.specs.Grammar.{HasSpelling, line_bytes}
+use Rattle.jup_wire.specs.Streams.{HasRead}
+use Rattle.jup_layout.specs.BoardLines.{board_lines}
+use Rattle.jup_rules.specs.declared.ending.Ending.{Ending}
+use Rattle.jup_rules.specs.declared.ending.Ending.TheVariants.{Bye, Gone, Fault}
+use Rattle.jup_rules.specs.Endings.{last_line}
+use Rattle.jup_session.specs.Sessions.{IsCallFor}
+use Rattle.jup_session.specs.Forwards.{IsFetchFor}
+use Rattle.jup_session.specs.Greetings.{welcome_lines}
+use Rattle.jup_session.specs.SessionBytes.{bytes_of, bytes_heard}
+use Rattle.jup_honest.specs.Connections.{Connection, history, takes_of, fetches_of, Begins, IsReliable, IsCausal, IsCausalThrough, through, after, Step}
+use Rattle.jup_honest.specs.SiteRuns.{SiteRun, IsHonest, opening, calls, start, now}
+use Rattle.jup_honest.proofs.CalledStars.{Called, called-opened, legal-parts}
+use Rattle.jup_honest.proofs.HonestCauses.{begins_chain, both_begin, causal_through}
+use Rattle.jup_honest.proofs.HonestKept.{run-history}
+use Rattle.jup_honest.proofs.HonestRuns.{join_gives}
+use Rattle.jup_socket.specs.Sockets.{IsLast, greeting, messages_down, written_down}
+use Rattle.jup_socket.proofs.SocketLaws.{all_first, up_reliable, down_reliable}
+use Rattle.jup_served.specs.Ended.{Ended, ServesSite, answer_of, writer_of, fetches_for, IsOwnedBy}
+use Rattle.jup_served.specs.Moments.{IsServedRun}
+use Rattle.jup_served.proofs.Members.{IsIn, by_in, among_is}
+use Rattle.jup_served.proofs.Joins.{IsJoin, early_join, early_fetches}
+use Rattle.jup_served.proofs.HalfCalls.{IsTakeFor, takes_both, fetches_both, fetches_are, under_one, takes_under, fetches_under}
+use Rattle.jup_served.proofs.LineBytes.{lines_spelled, bare_lines}
+use Rattle.jup_served.proofs.Shapes.{join, half, departing, made_is, kept_is}
+
+ending_is_last : (e : Ending) → IsLast (last_line e)
+ending_is_last Bye = tt
+ending_is_last Gone = tt
+ending_is_last (Fault n) = tt
+
+-- # Calls
+
+head_of : {A : Type 0} (x y : A) (xs ys : List A) → x ∷ xs ≡ y ∷ ys → x ≡ y
+head_of x y xs ys e = cc
+
+take_is : (site : ℕ) (c : Call) → IsTakeFor site c → IsCallFor site c
+take_is site Join h = absurd h
+take_is site (Take i up) h = h
+take_is site (Fetch i max) h = absurd h
+take_is site (Leave i) h = absurd h
+
+fetch_is : (site : ℕ) (c : Call) → IsFetchFor site c → IsCallFor site c
+fetch_is site Join h = absurd h
+fetch_is site (Take i up) h = absurd h
+fetch_is site (Fetch i max) h = h
+fetch_is site (Leave i) h = absurd h
+
+-- no call is a take and a fetch
+not_both : (i j : ℕ) (c : Call) → IsTakeFor i c → IsFetchFor j c → ⊥
+not_both i j Join take fetch = take
+not_both i j (Take k up) take fetch = fetch
+not_both i j (Fetch k max) take fetch = take
+not_both i j (Leave k) take fetch = take
+
+takes_no_fetch : (i j : ℕ) (es : List Entry) → AllByRecursion (λ (e : Entry). IsTakeFor j e.call) es → AllByRecursion (λ (e : Entry). IsFetchFor i e.call → ⊥) es
+takes_no_fetch i j [] all = tt
+takes_no_fetch i j (e ∷ es) all = ((λ fetch. not_both j i e.call all.0 fetch), takes_no_fetch i j es all.1)
+
+fetches_no_take : (i j : ℕ) (es : List Entry) → AllByRecursion (λ (e : Entry). IsFetchFor j e.call) es → AllByRecursion (λ (e : Entry). IsTakeFor i e.call → ⊥) es
+fetches_no_take i j [] all = tt
+fetches_no_take i j (e ∷ es) all = ((λ take. not_both i j e.call take all.0), fetches_no_take i j es all.1)
+
+swapped : (Is : Call → Type 0) (n m : List ℕ) (es : List Entry) → AllByRecursion (λ (e : Entry). Is e.call → (e.by ≡ n) ⊎ (e.by ≡ m)) es
+    → AllByRecursion (λ (e : Entry). Is e.call → (e.by ≡ m) ⊎ (e.by ≡ n)) es
+swapped Is n m [] all = tt
+swapped Is n m (e ∷ es) all = ((λ is. elim (all.0 is) [ inl one ↦ inr one | inr two ↦ inl two ]), swapped Is n m es all.1)
+
+-- # The two ends
+
+-- at the last moment too
+causal_last : (steps : List Step) (c : Connection) → IsCausalThrough steps c → IsCausal (through steps c)
+causal_last [] c causal = causal
+causal_last (step ∷ steps) c causal = causal_last steps (after step c) causal.1
+
+module _ (run : SiteRun) (log : List Entry) (s : Ended) (is : IsServedRun run log s) where
+  serves : ServesSite s
+  serves = is.serves
+
+  -- the site
+  site_is : run.answer.site ≡ is.serves.served.site
+  site_is = ap (λ (j : Joined). j.site) is.moment.answer ∙ is.serves.served.welcomed.site_is
+
+  -- all that its session took, and all that it fetched
+  abbrev all_taken : List (Up BoardBatch)
+  all_taken = takes_of is.serves.served.site (half s is.serves).calls
+
+  abbrev all_fetched : List (Down BoardBatch)
+  all_fetched = fetches_of is.serves.served.site (fetches_for is.serves)
+
+  -- the client said the messages that the session took
+  sent_first : Begins ((now run).sent ++ is.up.more) all_taken
+  sent_first =
+      let u = is.up in
+      let h = half s is.serves in
+      let hello = is.serves.served.welcomed.hello in
+      let first : HasRead hello.bytes (line.Hello ∷ is.serves.served.greeted.waiting) is.serves.served.greeted.progress =
+      hello.goes_on [] [] (subst (λ w. HasRead [] w is.serves.start.progress) (sym is.serves.fresh.waiting) is.serves.fresh.read) in
+      up_reliable (record (now run) { sent = (now run).sent ++ u.more; taken = all_taken }) (record {
+        bye = u.bye;
+        spelled = u.spelled;
+        read = hello.bytes ++ h.first;
+        left = h.rest ++ u.left;
+        bytes = append_assoc hello.bytes h.first (h.rest ++ u.left)
+            ∙ ap (λ bs. hello.bytes ++ bs) (sym (append_assoc h.first h.rest u.left))
+            ∙ ap (λ bs. hello.bytes ++ (bs ++ u.left)) (sym h.bytes_are)
+            ∙ sym (append_assoc hello.bytes (bytes_heard is.serves.served.halves.hears) u.left)
+            ∙ ap (λ l. bytes_of l ++ u.left) (sym is.serves.is) ∙ u.bytes;
+        lines = h.lines;
+        waiting = h.waiting;
+        progress = h.progress;
+        reads = h.goes_on hello.bytes (line.Hello ∷ []) first;
+        saids = h.saids;
+        held = h.held;
+        said = h.said;
+        later = h.later;
+        takes = h.takes;
+      })
+
+  -- the lines of the session
+  all_lines_are : s.exact.lines ≡ written_down run.answer all_fetched (last_line s.ending ∷ [])
+  all_lines_are =
+      is.serves.served.lines_are ∙ ap (λ ls. ls ++ is.serves.served.later) is.serves.served.welcomed.lines_are
+      ∙ ap (λ ls. welcome_lines is.serves.served.welcomed.joined ++ ls) is.serves.served.halves.lines_are
+      ∙ ap (λ ls. welcome_lines is.serves.served.welcomed.joined ++ (ls ++ last_line s.ending ∷ []))
+      (fetches_are is.serves.served.site (fetches_for is.serves) is.serves.served.halves.alone)
+      ∙ ap (λ ls. greeting is.serves.served.welcomed.joined.site is.serves.served.welcomed.joined.limit ls ++ (messages_down all_fetched ++ last_line s.ending ∷ []))
+      (sym (bare_lines is.serves.served.welcomed.joined.board))
+      ∙ ap (λ (j : Joined). greeting j.site j.limit (board_lines j.board) ++ (messages_down all_fetched ++ last_line s.ending ∷ [])) (sym is.moment.answer)
+
+  -- and the site received the first of the messages that were fetched
+  handed_first : Begins all_fetched (now run).handed
+  handed_first =
+      let d = is.down in
+      let spelled = subst (AllByRecursion HasSpelling) all_lines_are is.spelled in
+      down_reliable run.answer (record (now run) { fetched = all_fetched }) (record {
+        last = last_line s.ending ∷ [];
+        ends = (ending_is_last s.ending, tt);
+        spelled = spelled;
+        read = d.read;
+        left = d.left ++ s.exact.wrote.1;
+        bytes = sym (append_assoc d.read d.left s.exact.wrote.1) ∙ ap (λ bs. bs ++ s.exact.wrote.1) d.bytes ∙ sym s.exact.wrote.2
+            ∙ ap (flat_map line_bytes) all_lines_are ∙ lines_spelled (written_down run.answer all_fetched (last_line s.ending ∷ [])) spelled;
+        site = d.site;
+        limit = d.limit;
+        body = d.body;
+        is_body = d.is_body;
+        lines = d.lines;
+        waiting = d.waiting;
+        progress = d.progress;
+        reads = d.reads;
+        downs = d.downs;
+        held = d.held;
+        said = d.said;
+        later = d.later;
+        handed = d.handed;
+      })
+
+  -- # The history
+
+  legal : IsLegal (opening run) (calls run)
+  legal = (legal-parts (opening run) (calls run) is.moment.first.0 (subst (λ es. IsLegal (opening run) es) is.moment.first.1 (subst (λ o. IsLegal o log) is.moment.opened is.moment.meets.legal))).0
+
+  opened : Called run.board (opening run)
+  opened = called-opened run.board run.limit is.opens is.limited
+
+  parts : IsLegal (opening run) run.before × IsLegal (star_through (opening run) run.before) (entry run.by Join (JoinedReply (Ok run.answer)) ∷ history run.steps)
+  parts = legal-parts (opening run) run.before (entry run.by Join (JoinedReply (Ok run.answer)) ∷ history run.steps) legal
+
+  -- before the site joined its number was not given
+  not_given : (star_through (opening run) run.before).given < run.answer.site
+  not_given = (let gives = join_gives (star_through (opening run) run.before) run.answer parts.1.0 in omega (arith, ap (λ (j : Joined). j.site) gives.0))
+
+  -- the calls of the session in the history
+  tallied : AllTallied log (tally s.back.number (join s is.serves ∷ (half s is.serves).calls) ∷ tally (writer_of is.serves) (fetches_for is.serves ++ departing s is.serves) ∷ [])
+  tallied = subst (λ es. AllTallied log (tally s.back.number es ∷ tally (writer_of is.serves) (fetches_for is.serves ++ departing s is.serves) ∷ [])) (made_is s is.serves is.moment.new)
+      (subst (λ ts. AllTallied log (tally s.back.number s.back.made ∷ ts)) (kept_is s is.serves is.moment.new) is.moment.meets.tallied)
+
+  -- under the number of the reading half
+  read_first : Begins (join s is.serves ∷ (half s is.serves).calls) (calls_by s.back.number (calls run))
+  read_first = (
+    calls_by s.back.number is.moment.first.0,
+    sym tallied.0 ∙ ap (calls_by s.back.number) is.moment.first.1 ∙ filter-append (λ x. bytes_eq x.by s.back.number) (calls run) is.moment.first.0,
+  )
+
+  -- and under that of the writing half
+  write_first : Begins (fetches_for is.serves) (calls_by (writer_of is.serves) (calls run))
+  write_first = is.moment.stays
+
+  -- what the reading half calls is no fetch, and what the writing half calls before the site leaves is no take
+  no_fetches : AllByRecursion (λ (e : Entry). IsFetchFor run.answer.site e.call → ⊥) (calls_by s.back.number (calls run))
+  no_fetches = all_first (λ (e : Entry). IsFetchFor run.answer.site e.call → ⊥) (calls_by s.back.number (calls run)) read_first.0
+      (subst (AllByRecursion (λ (e : Entry). IsFetchFor run.answer.site e.call → ⊥)) read_first.1
+      ((λ fetch. fetch), takes_no_fetch run.answer.site is.serves.served.site (half s is.serves).calls (half s is.serves).alone))
+
+  no_takes : AllByRecursion (λ (e : Entry). IsTakeFor run.answer.site e.call → ⊥) (calls_by (writer_of is.serves) (calls run))
+  no_takes = all_first (λ (e : Entry). IsTakeFor run.answer.site e.call → ⊥) (calls_by (writer_of is.serves) (calls run)) write_first.0
+      (subst (AllByRecursion (λ (e : Entry). IsTakeFor run.answer.site e.call → ⊥)) write_first.1
+      (fetches_no_take run.answer.site is.serves.served.site (fetches_for is.serves) is.serves.served.halves.alone))
+
+  module _ (owned : IsOwnedBy s run.answer.site (calls run)) where
+    of_writer : (e : Entry) → is_among e.by s.back.kept ≡ true → e.by ≡ writer_of is.serves
+    of_writer e kept =
+        elim (among_is e.by (tally (writer_of is.serves) (fetches_for is.serves ++ departing s is.serves)) [] (subst (λ ts. is_among e.by ts ≡ true) (kept_is s is.serves is.moment.new) kept)) [
+          | inl written ↦ written
+          | inr none ↦ absurd (cc)
+        ]
+
+    -- a call for the site is under one of both numbers
+    one_of_both : (e : Entry) → IsTrue (is_among e.by (tallies s.back)) → (e.by ≡ s.back.number) ⊎ (e.by ≡ writer_of is.serves)
+    one_of_both e among =
+        elim (among_is e.by (tally s.back.number s.back.made) s.back.kept among) [
+          | inl own ↦ inl own
+          | inr kept ↦ inr (of_writer e kept)
+        ]
+
+    either : (Is : Call → Type 0) → ((c : Call) → Is c → IsCallFor run.answer.site c) → (es : List Entry) → IsOwnedBy s run.answer.site es
+        → AllByRecursion (λ (e : Entry). Is e.call → (e.by ≡ s.back.number) ⊎ (e.by ≡ writer_of is.serves)) es
+    either Is asks [] all = tt
+    either Is asks (e ∷ es) all = ((λ call. one_of_both e (all.0 (asks e.call call))), either Is asks es all.1)
+
+    -- the takes for the site are the session's
+    takes_by : AllByRecursion (λ (e : Entry). IsTakeFor run.answer.site e.call → e.by ≡ s.back.number) (calls run)
+    takes_by = under_one (IsTakeFor run.answer.site) s.back.number (writer_of is.serves) (calls run)
+        (either (IsTakeFor run.answer.site) (take_is run.answer.site) (calls run) owned) no_takes
+
+    -- and so are the fetches
+    fetches_by : AllByRecursion (λ (e : Entry). IsFetchFor run.answer.site e.call → e.by ≡ writer_of is.serves) (calls run)
+    fetches_by = under_one (IsFetchFor run.answer.site) (writer_of is.serves) s.back.number (calls run)
+        (swapped (IsFetchFor run.answer.site) s.back.number (writer_of is.serves) (calls run)
+        (either (IsFetchFor run.answer.site) (fetch_is run.answer.site) (calls run) owned)) no_fetches
+
+    -- nothing was taken for the site before it joined
+    abbrev since : List Entry
+    since = entry run.by Join (JoinedReply (Ok run.answer)) ∷ history run.steps
+
+    abbrev rest : List Entry
+    rest = calls_by s.back.number since ++ read_first.0
+
+    whole : join s is.serves ∷ (half s is.serves).calls ≡ calls_by s.back.number run.before ++ rest
+    whole = read_first.1 ∙ ap (λ es. es ++ read_first.0) (filter-append (λ x. bytes_eq x.by s.back.number) run.before since)
+        ∙ append_assoc (calls_by s.back.number run.before) (calls_by s.back.number since) read_first.0
+
+    none_before : calls_by s.back.number run.before ≡ []
+    none_before = cases (calls_by s.back.number run.before) refl
+      where
+        cases : (es : List Entry) → calls_by s.back.number run.before ≡ es → es ≡ []
+        cases [] has = refl
+        cases (e ∷ es) has =
+            let same : e ≡ join s is.serves = head_of e (join s is.serves) (es ++ rest) (half s is.serves).calls (ap (λ xs. xs ++ rest) (sym has) ∙ sym whole) in
+            let here = by_in s.back.number run.before e (subst (IsIn e) (sym has) (inl refl)) in
+            let is_join : IsJoin e run.answer.site = subst (λ k. IsJoin k run.answer.site) (sym same)
+            (record { answer = answer_of is.serves; call = refl; reply = refl; site = ap (λ (j : Joined). j.site) (sym is.moment.answer) }) in
+            let low = early_join run.board run.before (opening run) opened parts.0 e run.answer.site here.0 is_join in
+            absurd (omega (arith, low, not_given))
+
+    -- # The lists of the run
+
+    taken_first : Begins all_taken (now run).taken
+    taken_first = (
+      takes_of run.answer.site read_first.0,
+      ap (λ i. takes_of i (half s is.serves).calls) (sym site_is)
+          ∙ ap (takes_of run.answer.site) read_first.1
+          ∙ takes_both run.answer.site (calls_by s.back.number (calls run)) read_first.0
+          ∙ ap (λ us. us ++ takes_of run.answer.site read_first.0)
+          (sym (takes_under s.back.number run.answer.site (calls run) takes_by)
+          ∙ takes_both run.answer.site run.before (entry run.by Join (JoinedReply (Ok run.answer)) ∷ history run.steps)
+          ∙ ap (λ us. us ++ takes_of run.answer.site (history run.steps))
+          (takes_under s.back.number run.answer.site run.before
+          (all_first (λ (e : Entry). IsTakeFor run.answer.site e.call → e.by ≡ s.back.number) run.before since takes_by) ∙ ap (takes_of run.answer.site) none_before)
+          ∙ sym (run-history run).taken),
+    )
+
+    fetched_first : Begins all_fetched (now run).fetched
+    fetched_first = (
+      fetches_of run.answer.site write_first.0,
+      ap (λ i. fetches_of i (fetches_for is.serves)) (sym site_is)
+          ∙ ap (fetches_of run.answer.site) write_first.1
+          ∙ fetches_both run.answer.site (calls_by (writer_of is.serves) (calls run)) write_first.0
+          ∙ ap (λ ds. ds ++ fetches_of run.answer.site write_first.0)
+          (sym (fetches_under (writer_of is.serves) run.answer.site (calls run) fetches_by)
+          ∙ fetches_both run.answer.site run.before (entry run.by Join (JoinedReply (Ok run.answer)) ∷ history run.steps)
+          ∙ ap (λ ds. ds ++ fetches_of run.answer.site (history run.steps)) (early_fetches run.board run.answer.site run.before (opening run) opened parts.0 not_given)
+          ∙ sym (run-history run).fetched),
+    )
+
+    last : IsCausal (now run)
+    last = causal_last run.steps (start run) is.causal
+
+    reliable : IsReliable (now run)
+    reliable = record {
+      up = both_begin ((now run).sent ++ is.up.more) (now run).sent (now run).taken (is.up.more, refl)
+          (begins_chain ((now run).sent ++ is.up.more) all_taken (now run).taken sent_first taken_first) last.up;
+      down = both_begin all_fetched (now run).fetched (now run).handed fetched_first handed_first last.down;
+    }
+
+    pub served_honest : IsHonest run
+    served_honest = record { opens = is.opens; limited = is.limited; legal = legal; reliable = causal_through run.steps (start run) is.causal reliable }

@@ -1,0 +1,4 @@
+pub mod Ended
+pub mod Moments
+pub mod SessionHubs
+pub mod ClientRuns

@@ -26,7 +26,7 @@ use Rattle.jup_rules.specs.Keepers.{Keeper}
 use Rattle.jup_rules.specs.Messages.{HasSaid}
 use Rattle.jup_stream.specs.Sources.{Sourced}
 use Rattle.jup_session.specs.Gates.{HasCalled}
-use Rattle.jup_session.specs.Hearings.{Hears, Over, Stopped, ByLine, Untaken, Spent, Heard}
+use Rattle.jup_session.specs.Hearings.{Hears, Over, Stopped, ByLine, Untaken, Spent, Behind, Heard}
 use Rattle.jup_session.specs.SessionBytes.{bytes_over, bytes_heard}
 use Rattle.jup_honest.specs.Connections.{taken_with, takes_of}
 use Rattle.jup_served.proofs.HalfCalls.{IsTakeFor, takes_both, own_take, takes_are, takes_alone}
@@ -106,6 +106,7 @@ took_over : (site : ℕ) (a b c : Sourced) (v w x : View) (keeper : Keeper) (end
 took_over site a b c v w x keeper ending h (Stopped stop stops same ends) = took_all site a b v w x keeper h stops.reads.bytes same
 took_over site a b c v w x keeper ending h (ByLine line later handed same leads) = took_all site a b v w x keeper h handed.bytes same
 took_over site a b c v w x keeper ending h (Spent at same is) = took_all site a b v w x keeper h [] same
+took_over site a b c v w x keeper ending h (Behind line later incoming handed leads same is) = took_all site a b v w x keeper h handed.bytes same
 took_over site a b c v w x keeper ending h (Untaken line later incoming handed leads handled) =
     let led = leads h.lines h.saids h.heard in
     let may = may_take site incoming w x handled.answer handled.called in

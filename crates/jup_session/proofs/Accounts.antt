@@ -22,7 +22,7 @@ use Rattle.jup_rules.specs.Keepers.{Keeper}
 use Rattle.jup_rules.specs.Messages.{said_piece}
 use Rattle.jup_stream.specs.Sources.{Sourced, HandsOn}
 use Rattle.jup_session.specs.ExactSessions.{IsFresh, IsTurnedAway, NoLine, NoGreeting, NoJoin, EndsEarly, TurnedAway, Unwelcome, IsServed, HasLines, NoRoom, Early, Served, IsExact}
-use Rattle.jup_session.specs.Hearings.{Over, Stopped, ByLine, Untaken, Spent, Heard}
+use Rattle.jup_session.specs.Hearings.{Over, Stopped, ByLine, Untaken, Spent, Behind, Heard}
 use Rattle.jup_session.specs.SessionBytes.{bytes_away, lines_away, bytes_early, lines_early, bytes_over, lines_over, bytes_heard, lines_heard, bytes_of, lines_of, bytes_read, lines_read, bytes_written, BeginWith}
 
 -- so far these bytes of a reader were read, and these lines of them handed on
@@ -63,6 +63,7 @@ at_over from bytes lines site b c w x keeper ending at (Stopped stop stops same 
 at_over from bytes lines site b c w x keeper ending at (ByLine line later handed same leads) = (c, at_more from bytes lines (line ∷ []) b c at handed)
 at_over from bytes lines site b c w x keeper ending at (Untaken line later incoming handed leads handled) = (c, at_more from bytes lines (line ∷ []) b c at handed)
 at_over from bytes lines site b c w x keeper ending at (Spent same is pass) = (b, subst (λ l. At from l (lines ++ []) b) (sym (append-nil bytes)) (subst (λ l. At from bytes l b) (sym (append-nil lines)) at))
+at_over from bytes lines site b c w x keeper ending at (Behind line later incoming handed leads same is) = (c, at_more from bytes lines (line ∷ []) b c at handed)
 
 at_heard : (from : Option (List ℕ)) (bytes : List ℕ) (lines : List Line) (site : ℕ) (a c : Sourced) (v x : View) (ending : Ending) → At from bytes lines a
     → (heard : Heard site a v c x ending) → (s : Sourced) × At from (bytes ++ bytes_heard heard) (lines ++ lines_heard heard) s

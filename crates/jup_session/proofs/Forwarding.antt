@@ -73,7 +73,8 @@ fetched site max reply v w c = record {
   lines = append-nil (flat_map down_lines (brought reply));
 }
 
-brings_none : (site : ℕ) (v w : View) → w ≡ v → Brings site v w []
+-- no fetch was made
+pub brings_none : (site : ℕ) (v w : View) → w ≡ v → Brings site v w []
 brings_none site v w e = subst (λ (x : View). Brings site v x []) (sym e) (record { calls = []; number = refl; made = sym (append-nil v.made); kept = refl; alone = tt; lines = refl })
 
 -- a fetch that was answered

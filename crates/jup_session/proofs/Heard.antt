@@ -27,7 +27,7 @@ use Rattle.jup_rules.specs.Keepers.{Keeper}
 use Rattle.jup_stream.specs.Sources.{Sourced, HandsOn}
 use Rattle.jup_stream.proofs.HowRead.{hands_none, hands_more}
 use Rattle.jup_session.specs.Gates.{HasCalled, followed_by, IsHandled}
-use Rattle.jup_session.specs.Hearings.{IsTaken, AreTakesOf, Hears, Over, Stopped, ByLine, Untaken, Spent, HearsAll, HearsNothing, Heard}
+use Rattle.jup_session.specs.Hearings.{IsTaken, AreTakesOf, Hears, Over, Stopped, ByLine, Untaken, Spent, Behind, HearsAll, HearsNothing, Heard}
 use Rattle.jup_session.specs.Sessions.{IsCallFor, Makes, Serves}
 use Rattle.jup_session.proofs.SessionCalls.{makes_same, makes_both, serves_handled}
 
@@ -116,6 +116,7 @@ over_serves site b c w x keeper ending (Stopped stop stops same ends) = makes_sa
 over_serves site b c w x keeper ending (ByLine line later handed same leads) = makes_same (IsCallFor site) w x same
 over_serves site b c w x keeper ending (Untaken line later incoming handed leads handled) = serves_handled site incoming w x (Err ending) handled
 over_serves site b c w x keeper ending (Spent at same is) = makes_same (IsCallFor site) w x same
+over_serves site b c w x keeper ending (Behind line later incoming handed leads same is) = makes_same (IsCallFor site) w x same
 
 pub heard_serves : (site : ℕ) (a c : Sourced) (v x : View) (ending : Ending) → Heard site a v c x ending → Serves site v x
 heard_serves site a c v x ending (inl h) =

@@ -12,7 +12,7 @@ use Rattle.jup_hub.specs.declared.view.View.{View}
 use Rattle.jup_wire.specs.declared.line.Line.{Line}
 use Rattle.jup_rules.specs.declared.ending.Ending.{Ending}
 use Rattle.jup_rules.specs.declared.faults.SessionFault.{SessionFault}
-use Rattle.jup_rules.specs.declared.faults.SessionFault.TheVariants.{Hub, WriteFailed}
+use Rattle.jup_rules.specs.declared.faults.SessionFault.TheVariants.{Hub, NoMemory, WriteFailed, FarBehind}
 use Rattle.jup_rules.specs.Endings.{ending_of, last_line}
 use Rattle.jup_rules.specs.Messages.{down_lines}
 use Rattle.jup_stream.specs.Puts.{Put, PutsLines}
@@ -53,10 +53,13 @@ pub record Brings (site : ℕ) (v w : View) (downs : List (Down BoardBatch)) : T
   pub alone : AreFetchesFor site calls
   pub lines : lines_brought calls ≡ flat_map down_lines downs
 
--- by which faults the writing half ends a session: a fetch was refused, or a write failed
+-- By which faults the writing half ends a session. A fetch was refused, or there was no memory to note what it brought. Or a write failed, or the site is too
+-- far behind
 abbrev pub IsOfWriting : SessionFault → Type 0
 IsOfWriting (Hub fault) = Unit {0}
+IsOfWriting NoMemory = Unit {0}
 IsOfWriting WriteFailed = Unit {0}
+IsOfWriting FarBehind = Unit {0}
 IsOfWriting fault = ⊥
 
 -- the ending that the writing half reports to the site itself is that of such a fault

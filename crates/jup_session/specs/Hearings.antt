@@ -9,7 +9,7 @@ use Rattle.jup_wire.specs.declared.line.Line.{Line}
 use Rattle.jup_rules.specs.declared.said.Said.{Said}
 use Rattle.jup_rules.specs.declared.said.Said.TheVariants.{Up as SaysUp, Bye as SaysBye}
 use Rattle.jup_rules.specs.declared.faults.SessionFault.{SessionFault}
-use Rattle.jup_rules.specs.declared.faults.SessionFault.TheVariants.{NoMemory, ReadsSpent}
+use Rattle.jup_rules.specs.declared.faults.SessionFault.TheVariants.{NoMemory, ReadsSpent, FarBehind}
 use Rattle.jup_rules.specs.declared.ending.Ending.{Ending}
 use Rattle.jup_rules.specs.declared.ending.Ending.TheVariants.{Gone, Fault as EndsByFault}
 use Rattle.jup_rules.specs.declared.ending.Stop.{Stop}
@@ -54,7 +54,8 @@ pub record EndsBehind (keeper : Keeper) (stop : Stop) (ending : Ending) : Type 0
   pub fault : (fault : SessionFault) → stop ≡ Fault fault → ending ≡ ending_of fault
 
 -- Why a session ends after these messages. No further line comes, or the next line ends it, which is a bye or is refused. Or the message that this line
--- completes was not taken, by the star's answer or since it waited in vain. Or there were as many lines as a session can have
+-- completes was not taken, by the star's answer or since it waited in vain. Or there were as many lines as a session can have. Or the hub was not called for the
+-- message that this line completes, since the site is too far behind
 pub data Over (site : ℕ) (b c : Sourced) (w x : View) (keeper : Keeper) (ending : Ending) : Type 0 where
   Stopped : (stop : Stop) → Stops b stop c → x ≡ w → EndsBehind keeper stop ending → Over site b c w x keeper ending
   ByLine : (line : Line) (later : Keeper) → HandsOn b (line ∷ []) c → x ≡ w
@@ -63,6 +64,9 @@ pub data Over (site : ℕ) (b c : Sourced) (w x : View) (keeper : Keeper) (endin
       → ((lines : List Line) (saids : List Said) → HasHeard lines saids keeper → Leads lines saids keeper line (NextTake incoming) later)
       → IsHandled site incoming w x (Err ending) → Over site b c w x keeper ending
   Spent : c ≡ b → x ≡ w → ending ≡ ending_of ReadsSpent → Over site b c w x keeper ending
+  Behind : (line : Line) (later : Keeper) (incoming : Incoming) → HandsOn b (line ∷ []) c
+      → ((lines : List Line) (saids : List Said) → HasHeard lines saids keeper → Leads lines saids keeper line (NextTake incoming) later)
+      → x ≡ w → ending ≡ ending_of FarBehind → Over site b c w x keeper ending
 
 -- all that the session heard and took, and why that ended
 pub record HearsAll (site : ℕ) (a : Sourced) (v : View) (c : Sourced) (x : View) (ending : Ending) : Type 0 where

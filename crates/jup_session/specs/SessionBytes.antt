@@ -9,7 +9,7 @@ use Rattle.jup_rules.specs.declared.said.Said.{Said}
 use Rattle.jup_rules.specs.Keepers.{Keeper}
 use Rattle.jup_stream.specs.Sources.{Sourced}
 use Rattle.jup_session.specs.ExactSessions.{IsTurnedAway, NoLine, NoGreeting, NoJoin, EndsEarly, TurnedAway, Unwelcome, IsServed, HasLines, NoRoom, Early, Served, IsExact}
-use Rattle.jup_session.specs.Hearings.{Over, Stopped, ByLine, Untaken, Spent, Heard}
+use Rattle.jup_session.specs.Hearings.{Over, Stopped, ByLine, Untaken, Spent, Behind, Heard}
 
 module _ {a b : Sourced} {v w : View} {ending : Ending} where
   abbrev pub bytes_away : IsTurnedAway a v b w ending → List ℕ
@@ -38,6 +38,7 @@ module _ {site : ℕ} {b c : Sourced} {w x : View} {keeper : Keeper} {ending : E
   bytes_over (ByLine line later handed same leads) = handed.bytes
   bytes_over (Untaken line later incoming handed leads handled) = handed.bytes
   bytes_over (Spent at same is) = []
+  bytes_over (Behind line later incoming handed leads same is) = handed.bytes
 
   -- the line that ended the session
   abbrev pub lines_over : Over site b c w x keeper ending → List Line
@@ -45,6 +46,7 @@ module _ {site : ℕ} {b c : Sourced} {w x : View} {keeper : Keeper} {ending : E
   lines_over (ByLine line later handed same leads) = line ∷ []
   lines_over (Untaken line later incoming handed leads handled) = line ∷ []
   lines_over (Spent at same is) = []
+  lines_over (Behind line later incoming handed leads same is) = line ∷ []
 
 module _ {site : ℕ} {a c : Sourced} {v x : View} {ending : Ending} where
   abbrev pub bytes_heard : Heard site a v c x ending → List ℕ

@@ -1,6 +1,7 @@
 //! Sessions: one site over one link, with a thread that reads and a thread that writes.
 
 mod bell;
+mod costly;
 mod due;
 mod ending;
 mod greeting;
@@ -10,6 +11,9 @@ mod link;
 mod outgoing;
 mod reading;
 mod serving;
+mod share;
+mod watch;
+mod watched;
 mod writing;
 
 pub use bell::Bell;

@@ -102,7 +102,7 @@ fn head_of(bytes: &[u8], origins: &[&[u8]]) -> Option<Head> {
 }
 
 // Serves a session whose first bytes were read.
-fn serve_lines<R: Threads + Wait + Eprint + Sync>(
+fn serve_lines<R: Threads + Wait + Clock + Eprint + Sync>(
     rt: &R,
     service: &Service<'_>,
     stream: &TcpStream,
@@ -150,7 +150,7 @@ fn greet(service: &Service<'_>, stream: &TcpStream, key: &[u8; 28]) -> io::Resul
 }
 
 // Serves a session whose lines are the payloads of messages, and sends the close after it.
-fn serve_browser<R: Threads + Wait + Eprint + Sync>(
+fn serve_browser<R: Threads + Wait + Clock + Eprint + Sync>(
     rt: &R,
     service: &Service<'_>,
     stream: &TcpStream,

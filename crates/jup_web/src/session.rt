@@ -11,6 +11,7 @@ use std::alloc::Global;
 use std::io::{Read, Write};
 use std::sync::Wait;
 use std::thread::Threads;
+use std::time::Clock;
 
 /// What all connections share.
 #[derive(Clone, Copy)]
@@ -28,7 +29,7 @@ pub(crate) struct Service<'a> {
 
 /// Runs a session over a reader and a writer of lines.
 pub(crate) fn run_session<
-    R: Threads + Wait + Eprint + Sync,
+    R: Threads + Wait + Clock + Eprint + Sync,
     I: Read + Drop,
     O: Write + Send + Drop,
 >(rt: &R, service: &Service<'_>, reader: I, writer: O, pass: Pass)

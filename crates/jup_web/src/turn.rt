@@ -1,13 +1,14 @@
 //! Whose turn it is to write to a socket that both halves of a session write to.
 ghost use Rattle.std.specs.Prelude.{◌≡◌, length, IfOk};
 
+use jup_intake::is_interrupted;
 use jup_session::Outgoing;
 use std::io;
-use std::io::Write;
+use std::io::{ErrorKind, Write};
 use std::net::TcpStream;
 use std::sync::{Mutex, Wait};
 
-/// Seconds that a browser may take no byte of what is written to it. A client by lines may take longer.
+/// Seconds that a browser has to take a frame. A client by lines may take longer.
 pub(crate) const BROWSER_PATIENCE: u32 = 30;
 
 /// One half's way to a socket. What one write is given goes out whole before what the other half writes.
@@ -27,13 +28,24 @@ impl<'a, R: Wait> InTurn<'a, R> {
         }
     }
 
-    // Puts all that is given, while nothing else goes out.
+    // Puts all that is given, while nothing else goes out. A write that takes less than all has waited for a second, so there are only so
+    // many of them.
     fn put(&mut self, buf: &[u8]) -> io::Result<usize>
         ensures { IfOk result (λ n. n ≡ length buf.now) }
     {
         let _mine = self.turn.lock(self.rt);
-        self.to.write_all(buf)?;
-        Ok(buf.len())
+        let mut rest = buf;
+        for _ in 0..BROWSER_PATIENCE {
+            match self.to.write(rest) {
+                Ok(len) if len == rest.len() => return Ok(buf.len()),
+                Ok(len) => rest = &rest[len..],
+                Err(error) if is_interrupted(&error) => {}
+                Err(error) => return Err(error),
+            }
+        }
+        // A flush after such a write gives a socket up.
+        self.to.flush()?;
+        Err(io::Error::from(ErrorKind::TimedOut))
     }
 }
 

@@ -9,6 +9,7 @@ use std::io::Read;
 use std::process::Abort;
 use std::sync::Wait;
 use std::thread::Threads;
+use std::time::Clock;
 
 // Three edits, which one read brings.
 const BURST: &[u8] =
@@ -23,7 +24,7 @@ fn rings(rt: &impl Wait, bell: &Bell) -> u64 {
 }
 
 // How often a session that is sent a burst wakes another site.
-fn rings_of<R: Threads + Wait + Sync + Abort, I: Read + Drop>(
+fn rings_of<R: Threads + Wait + Clock + Sync + Abort, I: Read + Drop>(
     rt: &R,
     alloc: Global,
     from: I,

@@ -45,10 +45,19 @@ fn causes_are_the_texts_of_faults(rt: HostRuntime) {
         SessionFault::ReadsSpent,
         SessionFault::GateShut,
         SessionFault::ReadFailed,
-        SessionFault::WriteFailed,
     ] {
         is_told(&rt, rt.alloc(), fault);
     }
+}
+
+// A write that failed and a site that is too far behind have one number, whose words name both.
+#[test]
+fn words_of_71_name_both_of_its_faults(rt: HostRuntime) {
+    let alloc = rt.alloc();
+    let (failed, behind) = (SessionFault::WriteFailed, SessionFault::FarBehind);
+    expect_eq(&rt, (failed.number(), behind.number()), (71, 71));
+    let both = format!(in alloc; "{failed}, or {behind}").expect(&rt, "memory");
+    expect_eq(&rt, both.as_str(), cause_of(71));
 }
 
 // What a server greets with is refused by the client's board and by its site.

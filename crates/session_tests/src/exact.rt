@@ -11,9 +11,10 @@ use std::alloc::Global;
 use std::process::Abort;
 use std::sync::Wait;
 use std::thread::Threads;
+use std::time::Clock;
 
 // A session over bytes in memory. Its contract names those that it reads, and those that it appends to the writer.
-fn serve_bytes<R: Threads + Wait + Sync>(
+fn serve_bytes<R: Threads + Wait + Clock + Sync>(
     rt: &R,
     alloc: Global,
     said: &[u8],
@@ -28,7 +29,7 @@ fn serve_bytes<R: Threads + Wait + Sync>(
 }
 
 // A session on an empty text ends so, and wrote this.
-fn expect_written<R: Threads + Wait + Sync + Abort>(
+fn expect_written<R: Threads + Wait + Clock + Sync + Abort>(
     rt: &R,
     alloc: Global,
     said: &[u8],

@@ -13,6 +13,7 @@ use std::process::Abort;
 use std::str;
 use std::sync::Wait;
 use std::thread::Threads;
+use std::time::Clock;
 use test_marks::{begin, end};
 
 // Whether a session in which an allocation failed says so, wherever that was.
@@ -38,7 +39,7 @@ fn is_due(rt: &impl Abort, ending: Ending, written: &[u8]) {
 }
 
 // The session of a hub, of which nothing is left when it has ended.
-fn serve_alone<R: Threads + Wait + Sync + Abort>(
+fn serve_alone<R: Threads + Wait + Clock + Sync + Abort>(
     rt: &R,
     alloc: Global,
     hub: &Hub,
@@ -57,7 +58,7 @@ fn serve_alone<R: Threads + Wait + Sync + Abort>(
 }
 
 // How a session on an empty text ends, whose site has then left, and whose pass has seen all.
-fn session<R: Threads + Wait + Sync + Abort>(rt: &R, alloc: Global) -> Ending {
+fn session<R: Threads + Wait + Clock + Sync + Abort>(rt: &R, alloc: Global) -> Ending {
     let (hub, pass) = open_hub(rt, alloc, EMPTY_TEXT, 100);
     let (mut pass, ending) = serve_alone(rt, alloc, &hub, pass);
     expect_that(rt, !hub.news(&mut pass));

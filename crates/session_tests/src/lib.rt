@@ -8,6 +8,8 @@ mod attacks;
 #[cfg(test)]
 mod batched;
 #[cfg(test)]
+mod behind;
+#[cfg(test)]
 mod bells;
 #[cfg(test)]
 mod bursts;

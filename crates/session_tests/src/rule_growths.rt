@@ -2,13 +2,14 @@
 
 use crate::expect::{expect_eq, expect_text, expect_that};
 use crate::programs::client_of;
+use crate::sessions::first_edit;
 use clap::error::ErrorKind;
 use jup_gather::Gather;
 use jup_rules::{
-    Asking, DaemonEnd, Given, Inbox, LinkEnd, Request, SessionFault, Told, TypedLine, client_words,
-    hear_site, report_text, star_of_layout, told_text,
+    Admission, Asking, DaemonEnd, Given, Inbox, Lag, LinkEnd, Request, SessionFault, Told,
+    TypedLine, client_words, hear_site, report_text, star_of_layout, told_text,
 };
-use jup_star::Star;
+use jup_star::{Down, Star, Up};
 use jup_window::Board;
 use jup_wire::Line;
 use std::alloc::Global;
@@ -185,6 +186,34 @@ fn inbox_put(rt: HostRuntime) {
     }
     expect_eq(&rt, taken(&mut inbox), (Some(Given::Bytes(1)), 0));
     expect_eq(&rt, taken(&mut inbox).0, Some(Given::End(LinkEnd::Failed)));
+}
+
+// A message is noted once there is memory for the note, and its site is behind until it acknowledges it.
+#[test]
+fn lag_fetch(rt: HostRuntime) {
+    let Ok(Up::Op(edit)) = first_edit(rt.alloc(), 2) else {
+        panic!(rt; "one operation takes no memory");
+    };
+    let down = Down::Op(edit);
+    let mut lag = Lag::new(rt.alloc(), 5);
+    begin(rt.alloc());
+    let mut noted = lag.fetch(&down);
+    end(rt.alloc());
+    if noted.is_err() {
+        noted = lag.fetch(&down);
+    }
+    expect_that(&rt, noted.is_ok());
+    expect_eq(&rt, lag.fetch(&Down::Pong(7)), Ok(()));
+    expect_eq(
+        &rt,
+        (lag.admit(&Up::Ping(1), 6), lag.behind(6)),
+        (Admission::Free, 1),
+    );
+    expect_eq(
+        &rt,
+        (lag.admit(&Up::Ack(1), 6), lag.behind(6)),
+        (Admission::Free, 0),
+    );
 }
 
 // A line of a user that has one more byte if an allocation failed for it before.

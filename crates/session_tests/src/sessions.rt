@@ -68,7 +68,7 @@ pub(crate) struct Left {
 }
 
 // Runs a session on an empty text, alone.
-pub(crate) fn ran<R: Threads + Wait + Sync + Abort, I: Read + Drop, G: Gate>(
+pub(crate) fn ran<R: Threads + Wait + Clock + Sync + Abort, I: Read + Drop, G: Gate>(
     rt: &R,
     alloc: Global,
     from: I,
@@ -133,7 +133,12 @@ fn a_session_of_single_bytes(rt: HostRuntime) {
 }
 
 // A line after the greeting that ends the session in a fault, with nothing taken.
-fn is_refused<R: Threads + Wait + Sync + Abort>(rt: &R, alloc: Global, line: &str, number: u32) {
+fn is_refused<R: Threads + Wait + Clock + Sync + Abort>(
+    rt: &R,
+    alloc: Global,
+    line: &str,
+    number: u32,
+) {
     let from = format!(in alloc; "hello 3\n{line}").expect(rt, "there is memory");
     let written = format!(in alloc; "{GREETING}error {number}\n").expect(rt, "there is memory");
     let left = ran(rt, alloc, from.as_bytes(), &Open);
@@ -429,7 +434,7 @@ fn the_read_after_the_greeting_fails(rt: HostRuntime) {
 }
 
 // The first edit of a site, an insertion into the text.
-fn first_edit(alloc: Global, site: u32) -> Result<Up, NoMemory> {
+pub(crate) fn first_edit(alloc: Global, site: u32) -> Result<Up, NoMemory> {
     let name = Name { site, number: 1 };
     let item = Item { name, value: 'b' };
     let op = BoardOp {
@@ -445,7 +450,7 @@ fn first_edit(alloc: Global, site: u32) -> Result<Up, NoMemory> {
 }
 
 // The second session of a hub, whose writer fails at a write. The other site stays.
-pub(crate) fn write_fails<R: Threads + Wait + Sync + Abort, I: Read + Drop>(
+pub(crate) fn write_fails<R: Threads + Wait + Clock + Sync + Abort, I: Read + Drop>(
     rt: &R,
     alloc: Global,
     from: I,
@@ -493,7 +498,7 @@ fn a_gate_that_stays_shut(rt: HostRuntime) {
 }
 
 // What a session writes, and how it ends, that is the last of a hub.
-fn serve_last<R: Threads + Wait + Sync + Abort, I: Read + Drop>(
+fn serve_last<R: Threads + Wait + Clock + Sync + Abort, I: Read + Drop>(
     rt: &R,
     alloc: Global,
     hub: &Hub,

@@ -37,15 +37,16 @@ pub fn open_gate(site: u32, nth: u32) -> bool {
     gate(&Open, site, nth)
 }
 
-/// `Bell::ring`, `Bell::ring_for` and `Bell::wait`.
+/// `Bell::count`, `Bell::ring`, `Bell::ring_for` and `Bell::wait`.
 pub fn bell<R: Wait>(bell: &Bell, rt: &R, site: u32, seen: u64) -> u64 {
+    bell.count(1);
     bell.ring(rt);
     bell.ring_for(rt, site);
     bell.wait(rt, site, seen)
 }
 
 /// `serve_link`.
-pub fn session<R: Threads + Wait + Sync, I: Read + Drop, O: Write + Send + Drop, G: Gate>(
+pub fn session<R: Threads + Wait + Clock + Sync, I: Read + Drop, O: Write + Send + Drop, G: Gate>(
     rt: &R,
     alloc: Global,
     reader: I,

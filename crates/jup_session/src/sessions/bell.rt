@@ -1,5 +1,6 @@
 //! A bell that wakes all who wait for news, or one site.
 
+use super::share::Share;
 use jup_limits::MOST_ATTACHED;
 use std::array;
 use std::sync::atomic::{AtomicU64, Ordering};
@@ -12,6 +13,7 @@ pub struct Bell {
     places: [Place; MOST_ATTACHED],
     /// How often it rang at all places.
     rings: AtomicU64,
+    share: Share,
 }
 
 /// Where some sites wait.
@@ -47,7 +49,19 @@ impl Bell {
         Bell {
             places: array::from_fn(|_| Place::new()),
             rings: AtomicU64::new(0),
+            share: Share::new(),
         }
+    }
+
+    /// Counts operations of an edit that the hub has taken. A site that joins later is not behind by them. A session counts those of its own
+    /// site. Any other caller of the hub counts those of an edit before it rings.
+    pub fn count(&self, operations: u32) {
+        self.share.count(operations);
+    }
+
+    /// What the sessions at this bell share.
+    pub(crate) fn share(&self) -> &Share {
+        &self.share
     }
 
     /// Wakes all sites.

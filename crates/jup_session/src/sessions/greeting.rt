@@ -12,6 +12,7 @@ ghost use Rattle.jup_session.specs.Sessions.{Joins, IsSession};
 
 use super::ending::tell;
 use super::leaving::leave;
+use super::watch::Watch;
 use jup_hub::{Hub, Pass};
 use jup_layout::put_board;
 use jup_rules::{Ending, SessionFault, check_greeting};
@@ -30,6 +31,7 @@ pub(crate) fn begin<R: Wait, I: Read + Drop, O: Write + Drop>(
     output: &mut Output<O>,
     hub: &Hub,
     pass: &mut Pass,
+    watch: &Watch<'_>,
 ) -> Result<u32, Ending>
     requires { IsPassOf hub.now pass.old }
     ensures pass { IsPassOf hub.now pass.new }
@@ -48,6 +50,7 @@ pub(crate) fn begin<R: Wait, I: Read + Drop, O: Write + Drop>(
             return Err(ending);
         }
     };
+    watch.join(rt);
     if let Err(fault) = welcome(output, &joined) {
         leave(rt, alloc, hub, pass, joined.site);
         return Err(fault.into());

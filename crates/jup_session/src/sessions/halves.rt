@@ -18,6 +18,7 @@ use std::snapshot::Snapshot;
 use std::sync::Wait;
 use std::thread;
 use std::thread::{Promise, Threads};
+use std::time::Clock;
 
 /// What both halves give back.
 #[derive(Drop)]
@@ -49,7 +50,7 @@ impl<'a, O: Write + Drop> Promise<Wrote<O>> for Writing<'a, O> {
 /// The reading half runs here, the writing half in a thread of its own. Where that can't be started nothing is read, and the writing
 /// half runs here: it finds that the other has ended.
 pub(crate) fn both_halves<
-    R: Threads + Wait + Sync,
+    R: Threads + Wait + Clock + Sync,
     I: Read + Drop,
     O: Write + Send + Drop,
     G: Gate,

@@ -1,6 +1,7 @@
 //! What both halves of a session share.
 
 use super::Bell;
+use super::watch::Watch;
 use jup_hub::Hub;
 use jup_rules::Pongs;
 use std::alloc::Global;
@@ -13,6 +14,8 @@ pub(crate) struct Link<'a> {
     pub(crate) alloc: Global,
     pub(crate) hub: &'a Hub,
     pub(crate) bell: &'a Bell,
+    /// How far the site is behind.
+    pub(crate) watch: &'a Watch<'a>,
     /// Whether one half has ended.
     pub(crate) is_over: &'a AtomicBool,
     /// The pongs that the session owes the site.

@@ -8,10 +8,17 @@ use std::time::Duration;
 
 /// Writes to a socket, and fails once the peer has taken no byte for some seconds. A write that fails ends the socket's other side
 /// too: the half of the session that reads is then woken.
+///
+/// A write waits for a second at most, and then it is interrupted or takes less than all. So a caller can give the peer up: a flush after
+/// such a write fails, and ends the socket as a write that fails does.
 #[derive(Drop)]
 pub struct Outgoing<'a> {
     stream: &'a TcpStream,
     patience: u32,
+    /// Seconds of waiting since the peer last took a byte.
+    waited: u32,
+    /// Whether the last write took less than all.
+    is_waiting: bool,
 }
 
 impl<'a> Outgoing<'a> {
@@ -23,35 +30,53 @@ impl<'a> Outgoing<'a> {
         // The kernel wakes a writer that waits once a third of the socket's room is free. A write that asks again
         // each second is given all room that there is, so a peer that reads slowly is seen to read.
         let _ = stream.set_write_timeout(Some(Duration::from_secs(1)));
-        Outgoing { stream, patience }
+        Outgoing {
+            stream,
+            patience,
+            waited: 0,
+            is_waiting: false,
+        }
+    }
+
+    // A second more has passed in which the peer took nothing.
+    fn wait_on(&mut self) -> io::Error {
+        self.waited = self.waited.saturating_add(1);
+        if self.waited < self.patience {
+            return io::Error::from(ErrorKind::Interrupted);
+        }
+        self.give_up()
     }
 
     // Ends both sides of the socket.
-    fn cut(&self) {
+    fn give_up(&self) -> io::Error {
         let _ = self.stream.shutdown(Shutdown::Both);
+        io::Error::from(ErrorKind::TimedOut)
     }
 }
 
 impl<'a> Write for Outgoing<'a> {
     fn write(&mut self, buf: &[u8]) -> io::Result<usize> {
         let mut to = self.stream;
-        for _ in 0..self.patience {
-            match to.write(buf) {
-                Ok(len) => return Ok(len),
-                Err(error) if has_waited(&error) => {}
-                Err(error) => {
-                    if !is_interrupted(&error) {
-                        self.cut();
-                    }
-                    return Err(error);
-                }
+        self.is_waiting = true;
+        match to.write(buf) {
+            Ok(len) => {
+                self.waited = 0;
+                self.is_waiting = len < buf.len();
+                Ok(len)
+            }
+            Err(error) if has_waited(&error) => Err(self.wait_on()),
+            Err(error) if is_interrupted(&error) => Err(error),
+            Err(error) => {
+                let _ = self.give_up();
+                Err(error)
             }
         }
-        self.cut();
-        Err(io::Error::from(ErrorKind::TimedOut))
     }
 
     fn flush(&mut self) -> io::Result<()> {
+        if self.is_waiting {
+            return Err(self.give_up());
+        }
         Ok(())
     }
 }

@@ -3,6 +3,7 @@ ghost use Rattle.jup_hub.specs.Passes.{view_of, IsPassOf};
 ghost use Rattle.jup_session.specs.Gates.{HasCalled, IsHandled};
 ghost use Rattle.jup_session.specs.Hearings.{HearsAll};
 
+use super::costly::{enter, leave_turn};
 use super::due::Due;
 use super::link::Link;
 use crate::{Gate, take_edit};
@@ -11,9 +12,10 @@ use jup_rules::{Awaits, Ending, Gatekeeper, Incoming, Next, Ring, SessionFault, 
 use jup_stream::Source;
 use std::io::Read;
 use std::sync::Wait;
+use std::time::Clock;
 
 /// Takes what the site sends, up to the ending, which it answers.
-pub(crate) fn read_half<R: Wait, I: Read + Drop, G: Gate>(
+pub(crate) fn read_half<R: Wait + Clock, I: Read + Drop, G: Gate>(
     rt: &R,
     source: &mut Source<I>,
     link: &Link<'_>,
@@ -32,8 +34,8 @@ pub(crate) fn read_half<R: Wait, I: Read + Drop, G: Gate>(
     ending
 }
 
-// Takes message after message, each once its last line is there.
-fn hear_all<R: Wait, I: Read + Drop, G: Gate>(
+// Takes message after message, each once its last line is there and the site is not too far behind.
+fn hear_all<R: Wait + Clock, I: Read + Drop, G: Gate>(
     rt: &R,
     source: &mut Source<I>,
     link: &Link<'_>,
@@ -59,10 +61,15 @@ fn hear_all<R: Wait, I: Read + Drop, G: Gate>(
             Next::Take(incoming) => incoming,
             Next::End(ending) => return ending,
         };
+        let turn = match enter(rt, link, &incoming.up, due) {
+            Ok(turn) => turn,
+            Err(ending) => return ending,
+        };
         match handle(rt, link, pass, gate, &incoming, due) {
             Ok(ring) => due.add(ring),
             Err(ending) => return ending,
         }
+        leave_turn(rt, link, &incoming.up, turn, due);
     }
     SessionFault::ReadsSpent.into()
 }

@@ -13,6 +13,8 @@ use super::ending::tell_untold;
 use super::greeting::begin;
 use super::halves::both_halves;
 use super::link::Link;
+use super::watch::Watch;
+use super::watched::Watched;
 use crate::Gate;
 use jup_hub::{Hub, Pass};
 use jup_rules::{Ending, Pongs, SessionFault};
@@ -22,6 +24,7 @@ use std::io::{Read, Write};
 use std::sync::atomic::AtomicBool;
 use std::sync::{Mutex, Wait};
 use std::thread::Threads;
+use std::time::Clock;
 
 /// What a session gives back.
 #[derive(Drop)]
@@ -37,7 +40,12 @@ pub struct Session<O: Write + Drop> {
 ///
 /// It reads in this thread, and writes in one of its own. It makes at most one join of the hub, and then calls for the site that
 /// joined alone, which has left when this returns.
-pub fn serve_link<R: Threads + Wait + Sync, I: Read + Drop, O: Write + Send + Drop, G: Gate>(
+pub fn serve_link<
+    R: Threads + Wait + Clock + Sync,
+    I: Read + Drop,
+    O: Write + Send + Drop,
+    G: Gate,
+>(
     rt: &R,
     alloc: Global,
     reader: I,
@@ -57,7 +65,12 @@ pub fn serve_link<R: Threads + Wait + Sync, I: Read + Drop, O: Write + Send + Dr
 
 /// The same, and gives back the writer. If contracts can name the bytes of the reader and of the writer, they say which bytes the
 /// session read, what it took by them, and which it wrote.
-pub fn serve_session<R: Threads + Wait + Sync, I: Read + Drop, O: Write + Send + Drop, G: Gate>(
+pub fn serve_session<
+    R: Threads + Wait + Clock + Sync,
+    I: Read + Drop,
+    O: Write + Send + Drop,
+    G: Gate,
+>(
     rt: &R,
     alloc: Global,
     reader: I,
@@ -72,18 +85,20 @@ pub fn serve_session<R: Threads + Wait + Sync, I: Read + Drop, O: Write + Send +
     ensures session { IsSession (view_of pass) (view_of result.pass) }
     ensures exact { IsExact (I.remaining reader) (O.contents writer) (O.contents result.writer) (view_of pass) (view_of result.pass) result.ending result.has_failed }
 {
-    match Output::new(alloc, writer) {
+    let watch = Watch::new(alloc, bell);
+    match Output::new(alloc, Watched::new(rt, &watch, writer)) {
         Ok(output) => {
-            let served = serve_lines(rt, alloc, reader, output, hub, pass, bell, gate);
+            let served = serve_lines(rt, alloc, reader, output, hub, pass, bell, &watch, gate);
             let has_failed = served.output.has_failed();
             Session {
                 pass: served.pass,
                 ending: served.ending,
-                writer: served.output.into_writer(),
+                writer: served.output.into_writer().into_inner(),
                 has_failed,
             }
         }
-        Err(mut writer) => {
+        Err(watched) => {
+            let mut writer = watched.into_inner();
             let has_failed = tell_of_memory(&mut writer);
             Session {
                 pass,
@@ -115,7 +130,7 @@ struct Served<O: Write + Drop> {
 }
 
 // A session that has room for its lines.
-fn serve_lines<R: Threads + Wait + Sync, I: Read + Drop, O: Write + Send + Drop, G: Gate>(
+fn serve_lines<R: Threads + Wait + Clock + Sync, I: Read + Drop, O: Write + Send + Drop, G: Gate>(
     rt: &R,
     alloc: Global,
     reader: I,
@@ -123,6 +138,7 @@ fn serve_lines<R: Threads + Wait + Sync, I: Read + Drop, O: Write + Send + Drop,
     hub: &Hub,
     mut pass: Pass,
     bell: &Bell,
+    watch: &Watch<'_>,
     gate: &G,
 ) -> Served<O>
     requires pass { IsPassOf hub.now pass }
@@ -133,8 +149,10 @@ fn serve_lines<R: Threads + Wait + Sync, I: Read + Drop, O: Write + Send + Drop,
     ensures flushed { IsFlushed result.output }
 {
     let mut source = Source::new(reader);
-    match begin(rt, alloc, &mut source, &mut output, hub, &mut pass) {
-        Ok(site) => serve_site(rt, alloc, source, output, hub, pass, site, bell, gate),
+    match begin(rt, alloc, &mut source, &mut output, hub, &mut pass, watch) {
+        Ok(site) => serve_site(
+            rt, alloc, source, output, hub, pass, site, bell, watch, gate,
+        ),
         Err(ending) => Served {
             pass,
             ending,
@@ -144,7 +162,7 @@ fn serve_lines<R: Threads + Wait + Sync, I: Read + Drop, O: Write + Send + Drop,
 }
 
 // The session of a site that has joined, after the greeting.
-fn serve_site<R: Threads + Wait + Sync, I: Read + Drop, O: Write + Send + Drop, G: Gate>(
+fn serve_site<R: Threads + Wait + Clock + Sync, I: Read + Drop, O: Write + Send + Drop, G: Gate>(
     rt: &R,
     alloc: Global,
     source: Source<I>,
@@ -153,6 +171,7 @@ fn serve_site<R: Threads + Wait + Sync, I: Read + Drop, O: Write + Send + Drop, 
     pass: Pass,
     site: u32,
     bell: &Bell,
+    watch: &Watch<'_>,
     gate: &G,
 ) -> Served<O>
     requires pass { IsPassOf hub.now pass }
@@ -168,6 +187,7 @@ fn serve_site<R: Threads + Wait + Sync, I: Read + Drop, O: Write + Send + Drop, 
         alloc,
         hub,
         bell,
+        watch,
         is_over: &is_over,
         pongs: &pongs,
         site,
@@ -176,7 +196,7 @@ fn serve_site<R: Threads + Wait + Sync, I: Read + Drop, O: Write + Send + Drop, 
 }
 
 // Both halves, and the last line.
-fn serve_halves<R: Threads + Wait + Sync, I: Read + Drop, O: Write + Send + Drop, G: Gate>(
+fn serve_halves<R: Threads + Wait + Clock + Sync, I: Read + Drop, O: Write + Send + Drop, G: Gate>(
     rt: &R,
     source: Source<I>,
     output: Output<O>,

@@ -89,7 +89,7 @@ fn tell_fault<O: Write + Drop>(
     }
 }
 
-// Forwards at each ring, until the other half has ended.
+// Forwards at each ring, until the other half has ended or the site is too far behind.
 fn forward_all<R: Wait, O: Write + Drop>(
     rt: &R,
     output: &mut Output<O>,
@@ -113,6 +113,7 @@ fn forward_all<R: Wait, O: Write + Drop>(
         if is_over {
             return Ok(forward_last(rt, output, link, pass));
         }
+        link.watch.check(rt)?;
         if has_news {
             let _ = forward(rt, output, link, pass)?;
         }
@@ -169,7 +170,8 @@ fn forward<R: Wait, O: Write + Drop>(
     unreachable!()
 }
 
-// Fetches what the hub has for the site, up to `MOST_FETCHED` messages. `None` if the site has no link any more.
+// Fetches what the hub has for the site, up to `MOST_FETCHED` messages. `None` if the site has no link any more. Refused if the site is
+// too far behind.
 fn fetch<R: Wait>(rt: &R, link: &Link<'_>, pass: &mut Pass) -> Result<Option<Downs>, SessionFault>
     requires { IsPassOf link.now.hub.now pass.old }
     ensures pass { IsPassOf link.now.hub.now pass.new }
@@ -179,6 +181,7 @@ fn fetch<R: Wait>(rt: &R, link: &Link<'_>, pass: &mut Pass) -> Result<Option<Dow
     ensures gone { result ≡ Ok None → Leaves link.now.site (view_of pass.old) (view_of pass.new) }
     ensures fault { IfErr result IsOfWriting }
 {
+    link.watch.check(rt)?;
     match link
         .hub
         .fetch(rt, link.alloc, pass, link.site, MOST_FETCHED)
@@ -191,7 +194,8 @@ fn fetch<R: Wait>(rt: &R, link: &Link<'_>, pass: &mut Pass) -> Result<Option<Dow
     }
 }
 
-// Writes the messages of a fetch, and counts the pongs in it as paid. True if the hub has no more.
+// Writes the messages of a fetch, which it notes first, and counts the pongs in it as paid. True if the hub has no more. If memory for
+// the note is refused, the messages are written and then the session ends.
 fn hand_on<R: Wait, O: Write + Drop>(
     rt: &R,
     output: &mut Output<O>,
@@ -202,8 +206,10 @@ fn hand_on<R: Wait, O: Write + Drop>(
     ensures flushed { IsFlushed output.old → IsFlushed output.new }
     ensures fault { IfErr result IsOfWriting }
 {
+    let noted = link.watch.fetch(rt, downs);
     write_downs(output, downs)?;
     link.pay(rt, pongs_in(downs));
+    noted?;
     Ok(is_last_fetch(downs.len()))
 }
 

@@ -1,6 +1,6 @@
 use Rattle.std.proofs.Common.{refl}
 use Rattle.jup_hub.specs.Passes.{view_of}
-use Rattle.jup_session.specs.Hearings.{Stopped, ByLine, Untaken, Spent}
+use Rattle.jup_session.specs.Hearings.{Stopped, ByLine, Untaken, Spent, Behind}
 use Rattle.jup_session.proofs.Heard.{hears_none, hears_line, hears_take}
 use Rattle.jup_session.proofs.sessions.reading.hear_all.Goals as goal
 
@@ -33,6 +33,15 @@ returns-in-End-clause-hears g c = record {
   keeper = c.loop.keeper;
   hears = c.loop.invariant.hears;
   over = ByLine c.in-Ok.line c.hear.new.self c.in-Ok.ensures.line refl c.in-End.ensures;
+}
+
+pub returns-in-Err-enter-clause-hears : goal.returns-in-Err-enter-clause-hears
+returns-in-Err-enter-clause-hears g c = record {
+  before = c.loop.source;
+  pass = view_of c.loop.pass;
+  keeper = c.loop.keeper;
+  hears = c.loop.invariant.hears;
+  over = Behind c.in-Ok.line c.hear.new.self c.in-Take.incoming c.in-Ok.ensures.line c.in-Take.ensures refl c.in-Err-enter.ensures;
 }
 
 pub returns-in-Err-handle-clause-hears : goal.returns-in-Err-handle-clause-hears

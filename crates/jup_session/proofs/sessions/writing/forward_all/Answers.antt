@@ -26,6 +26,11 @@ returns-then-is_over-clause-gone g c = λ gone.
     leaves_after site (view_of c.args.pass.now) (view_of c.news-has_news.new.pass) (view_of c.forward_last.new.pass)
     (forwards_serves site (view_of c.args.pass.now) (view_of c.news-has_news.new.pass) c.args.output.now c.loop.output news) (c.forward_last.ensures.gone (cc))
 
+pub returns-in_err-check-clause-forwards : goal.returns-in_err-check-clause-forwards
+returns-in_err-check-clause-forwards g c =
+    let met = c.news-has_news.ensures.met in
+    forwards_news c.args.link.now.site (view_of c.args.pass.now) (view_of c.loop.pass) (view_of c.news-has_news.new.pass) c.args.output.now c.loop.output met.0 c.loop.invariant.forwards met.2
+
 pub returns-in_err-forward-clause-forwards : goal.returns-in_err-forward-clause-forwards
 returns-in_err-forward-clause-forwards g c =
     let site = c.args.link.now.site in

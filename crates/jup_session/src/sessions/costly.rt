@@ -1,0 +1,102 @@
+//! Takes that cost the others much.
+ghost use Rattle.std.specs.Prelude.{◌≡◌, IfErr};
+ghost use Rattle.jup_rules.specs.declared.faults.SessionFault.TheVariants.{FarBehind};
+ghost use Rattle.jup_rules.specs.Endings.{ending_of};
+
+use super::due::Due;
+use super::link::Link;
+use jup_rules::{Admission, Ending, SessionFault, rest_after};
+use jup_star::Up;
+use std::sync::{MutexGuard, Wait};
+use std::thread;
+use std::time::{Clock, Duration, Instant};
+
+/// The turn of a take that is not light. While a session has it no other session makes one.
+#[derive(Drop)]
+pub(crate) struct HeavyTurn<'a> {
+    heavy: MutexGuard<'a, ()>,
+    /// The turn of a costly take, which a rest follows.
+    costly: Option<MutexGuard<'a, ()>>,
+    /// When it began; `None` if the clock can't be read.
+    start: Option<Instant>,
+}
+
+/// Waits until a message may be taken, and answers the turn that it needs unless it is light. Refused if the site is too far behind.
+pub(crate) fn enter<'a, R: Wait + Clock>(
+    rt: &R,
+    link: &Link<'a>,
+    up: &Up,
+    due: &mut Due,
+) -> Result<Option<HeavyTurn<'a>>, Ending>
+    ensures { IfErr result (λ ending. ending ≡ ending_of FarBehind) }
+{
+    match link.watch.admit(rt, up) {
+        Admission::FarBehind => Err(SessionFault::FarBehind.into()),
+        Admission::Free if link.watch.is_light(rt, up) => Ok(None),
+        Admission::Free => Ok(Some(begin(rt, link, None))),
+        Admission::Costly => enter_costly(rt, link, due),
+    }
+}
+
+// Waits for the turn of a costly take. Those who are due are woken before that. Meanwhile the others go on, so the site may be too far behind
+// when the turn comes.
+fn enter_costly<'a, R: Wait + Clock>(
+    rt: &R,
+    link: &Link<'a>,
+    due: &mut Due,
+) -> Result<Option<HeavyTurn<'a>>, Ending>
+    ensures { IfErr result (λ ending. ending ≡ ending_of FarBehind) }
+{
+    due.ring(rt, link);
+    let costly = link.bell.share().wait_for_costly(rt);
+    if link.watch.is_far_behind(rt) {
+        return Err(SessionFault::FarBehind.into());
+    }
+    Ok(Some(begin(rt, link, Some(costly))))
+}
+
+// Waits until no other session makes a take that is not light.
+fn begin<'a, R: Wait + Clock>(
+    rt: &R,
+    link: &Link<'a>,
+    costly: Option<MutexGuard<'a, ()>>,
+) -> HeavyTurn<'a> {
+    HeavyTurn {
+        heavy: link.bell.share().wait_for_heavy(rt),
+        costly,
+        start: Instant::now(rt).ok(),
+    }
+}
+
+/// Notes that the hub has taken a message, and gives its turn up. After a costly one the session wakes those who are due and rests, before
+/// it gives up that turn.
+pub(crate) fn leave_turn<R: Wait + Clock>(
+    rt: &R,
+    link: &Link<'_>,
+    up: &Up,
+    turn: Option<HeavyTurn<'_>>,
+    due: &mut Due,
+) {
+    link.watch.take(rt, up);
+    let Some(turn) = turn else {
+        return;
+    };
+    let HeavyTurn {
+        heavy,
+        costly,
+        start,
+    } = turn;
+    let took = micros_since(rt, start).unwrap_or(u64::MAX);
+    drop(heavy);
+    if costly.is_some() {
+        due.ring(rt, link);
+        thread::sleep(rt, Duration::from_micros(rest_after(took)));
+    }
+    drop(costly);
+}
+
+// Microseconds since then. If the clock can't be read there are none, and a session rests for as long as it ever does.
+fn micros_since<R: Clock>(clock: &R, start: Option<Instant>) -> Option<u64> {
+    let elapsed = start?.elapsed(clock).ok()?;
+    u64::try_from(elapsed.as_micros()).ok()
+}

@@ -1,0 +1,83 @@
+//! How far the site of a session is behind, as both halves see it.
+ghost use Rattle.std.specs.Prelude.{◌≡◌, IfErr};
+
+use super::Bell;
+use super::share::Share;
+use jup_rules::{Admission, Lag, SessionFault, is_far_behind, operations_in};
+use jup_star::{Down, Up};
+use std::alloc::Global;
+use std::sync::{Mutex, Wait};
+
+/// Transforms that a message may cost and still be light: some 0.3 ms.
+const LIGHT_TRANSFORMS: u64 = 8_192;
+
+/// How far the site of a session is behind. Both halves note what they see of it.
+#[derive(Drop)]
+pub(crate) struct Watch<'a> {
+    alloc: Global,
+    share: &'a Share,
+    lag: Mutex<Lag>,
+}
+
+impl<'a> Watch<'a> {
+    /// Watches a site that has not joined yet.
+    pub(crate) fn new(alloc: Global, bell: &'a Bell) -> Watch<'a> {
+        let share = bell.share();
+        Watch {
+            alloc,
+            share,
+            lag: Mutex::new(Lag::new(alloc, share.taken())),
+        }
+    }
+
+    /// Notes that the site has just joined.
+    pub(crate) fn join<R: Wait>(&self, rt: &R) {
+        *self.lag.lock(rt) = Lag::new(self.alloc, self.share.taken());
+    }
+
+    /// Whether the site is too far behind, so that its session ends.
+    pub(crate) fn is_far_behind<R: Wait>(&self, rt: &R) -> bool {
+        is_far_behind(self.lag.lock(rt).behind(self.share.taken()))
+    }
+
+    /// Refused if the site is too far behind.
+    pub(crate) fn check<R: Wait>(&self, rt: &R) -> Result<(), SessionFault>
+        ensures { IfErr result (λ fault. fault ≡ SessionFault.FarBehind) }
+    {
+        if self.is_far_behind(rt) {
+            return Err(SessionFault::FarBehind);
+        }
+        Ok(())
+    }
+
+    /// Decides what becomes of a message of the site.
+    pub(crate) fn admit<R: Wait>(&self, rt: &R, up: &Up) -> Admission {
+        self.lag.lock(rt).admit(up, self.share.taken())
+    }
+
+    /// Whether a message of the site costs so little that it waits for no other.
+    pub(crate) fn is_light<R: Wait>(&self, rt: &R, up: &Up) -> bool {
+        let behind = self.lag.lock(rt).behind(self.share.taken());
+        u64::from(operations_in(up)).saturating_mul(behind) <= LIGHT_TRANSFORMS
+    }
+
+    /// Notes a message of the site that the hub has taken. The site knows its own operations before they are counted. Else it would seem
+    /// to be behind by them.
+    pub(crate) fn take<R: Wait>(&self, rt: &R, up: &Up) {
+        self.lag.lock(rt).take(up);
+        self.share.count(operations_in(up));
+    }
+
+    /// Notes messages that were fetched for the site.
+    pub(crate) fn fetch<R: Wait>(&self, rt: &R, downs: &[Down]) -> Result<(), SessionFault>
+        ensures { IfErr result (λ fault. fault ≡ SessionFault.NoMemory) }
+    {
+        let mut lag = self.lag.lock(rt);
+        for down in downs {
+            if lag.fetch(down).is_err() {
+                return Err(SessionFault::NoMemory);
+            }
+        }
+        Ok(())
+    }
+}

@@ -1,0 +1,57 @@
+//! The writer of a session, which is given up once its site is too far behind.
+ghost use Rattle.std.specs.Prelude.{◌≡◌};
+
+use super::watch::Watch;
+use std::io;
+use std::io::{ErrorKind, Write};
+use std::sync::Wait;
+
+/// Writes to another writer. After each write that took less than all it fails if the site is too far behind.
+#[derive(Drop)]
+pub(crate) struct Watched<'a, R: Wait, O: Write + Drop> {
+    rt: &'a R,
+    watch: &'a Watch<'a>,
+    to: O,
+    /// Whether the last write took less than all.
+    is_waiting: bool,
+}
+
+impl<'a, R: Wait, O: Write + Drop> Watched<'a, R, O> {
+    pub(crate) fn new(rt: &'a R, watch: &'a Watch<'a>, to: O) -> Watched<'a, R, O>
+        ensures { result.to ≡ to }
+    {
+        Watched {
+            rt,
+            watch,
+            to,
+            is_waiting: false,
+        }
+    }
+
+    /// The other writer.
+    pub(crate) fn into_inner(self) -> O
+        ensures { result ≡ self.entry.to }
+    {
+        let Watched { to, .. } = self;
+        to
+    }
+}
+
+impl<'a, R: Wait, O: Write + Drop> Write for Watched<'a, R, O> {
+    ghost contents = { λ w. O.contents w.to };
+
+    fn write(&mut self, buf: &[u8]) -> io::Result<usize> {
+        if self.is_waiting && self.watch.is_far_behind(self.rt) {
+            // A flush after such a write gives a socket up.
+            let _ = self.to.flush();
+            return Err(io::Error::from(ErrorKind::TimedOut));
+        }
+        let taken = self.to.write(buf);
+        self.is_waiting = !matches!(taken, Ok(len) if len == buf.len());
+        taken
+    }
+
+    fn flush(&mut self) -> io::Result<()> {
+        self.to.flush()
+    }
+}

@@ -1,0 +1,322 @@
+//! Sites that lag: which messages are taken, where a session rests, and when a session gives its link up.
+
+ghost use Rattle.jup_hub.specs.Passes.{IsPassOf};
+
+use crate::expect::{expect_eq, expect_text};
+use crate::sessions::{EMPTY_TEXT, GREETING, close, first_edit, open_hub};
+use jup_hub::{Hub, Pass};
+use jup_session::{Bell, Ending, Open, serve_link};
+use std::alloc::Global;
+use std::io;
+use std::io::{ErrorKind, Read, Write};
+use std::process::Abort;
+use std::sync::Wait;
+use std::sync::atomic::{AtomicU64, Ordering};
+use std::thread::Threads;
+use std::time::{Clock, Duration};
+
+/// Operations that a site may be behind, and that it may not.
+const MOST: u32 = 262_144;
+
+const EDIT: &[u8] = b"batch 0 0 1\ndo 1 1 text ins 0 1.1 97\nbye\n";
+
+const PING: &[u8] = b"ping 1\nbye\n";
+
+// One operation costs a site that is MOST behind as much as is free, and two cost more.
+const ONE: &[u8] = b"batch 0 0 1\ndo 1 1 text ins 0 1.1 97\nping 1\nbye\n";
+
+const TWO: &[u8] =
+    b"batch 0 0 2\ndo 1 1 text ins 0 1.1 97\ndo 1 1 text ins 0 1.2 98\nping 1\nbye\n";
+
+/// Gives a greeting. Then others make operations, and it gives a text.
+#[derive(Drop)]
+struct Overtaken<'a> {
+    greeting: &'a [u8],
+    bell: &'a Bell,
+    others: u32,
+    text: &'a [u8],
+}
+
+impl<'a> Read for Overtaken<'a> {
+    fn read(&mut self, buf: &mut [u8]) -> io::Result<usize> {
+        if !self.greeting.is_empty() {
+            return self.greeting.read(buf);
+        }
+        self.bell.count(self.others);
+        self.others = 0;
+        self.text.read(buf)
+    }
+}
+
+/// A runtime on whose clock ten milliseconds go by between two looks, and which notes how long it was to sleep.
+#[derive(Drop)]
+struct Ticking<'a, R> {
+    rt: &'a R,
+    looks: AtomicU64,
+    slept: AtomicU64,
+}
+
+impl<'a, R> Ticking<'a, R> {
+    fn new(rt: &'a R) -> Ticking<'a, R> {
+        Ticking {
+            rt,
+            looks: AtomicU64::new(0),
+            slept: AtomicU64::new(0),
+        }
+    }
+
+    // Milliseconds that it was to sleep in total.
+    fn slept(&self) -> u64 {
+        self.slept.load(Ordering::SeqCst)
+    }
+}
+
+impl<'a, R: Threads> Threads for Ticking<'a, R> {}
+
+impl<'a, R: Wait> Wait for Ticking<'a, R> {}
+
+impl<'a, R: Clock> Clock for Ticking<'a, R> {
+    fn monotonic(&self) -> io::Result<Duration> {
+        let looks = self.looks.fetch_add(1, Ordering::SeqCst) % 1_000;
+        Ok(Duration::from_millis(looks * 10))
+    }
+
+    fn since_1970(&self) -> io::Result<Duration> {
+        self.rt.since_1970()
+    }
+
+    fn sleep(&self, duration: Duration) {
+        let millis = u64::try_from(duration.as_millis()).unwrap_or(u64::MAX);
+        self.slept.fetch_add(millis, Ordering::SeqCst);
+    }
+}
+
+/// What a session came to whose site was so many operations behind.
+#[derive(Drop)]
+struct Came {
+    ending: Ending,
+    written: Vec<u8>,
+    taken: usize,
+    slept: u64,
+}
+
+// The session of a site that others overtake before it sends a text.
+fn session_of<R: Threads + Wait + Clock + Sync + Abort>(
+    rt: &R,
+    alloc: Global,
+    others: u32,
+    text: &[u8],
+) -> Came {
+    let (hub, pass) = open_hub(rt, alloc, EMPTY_TEXT, 100);
+    let (bell, ticking) = (Bell::new(), Ticking::new(rt));
+    let from = Overtaken {
+        greeting: b"hello 3\n",
+        bell: &bell,
+        others,
+        text,
+    };
+    let mut written = Vec::new(alloc);
+    let (pass, ending) = serve_link(
+        &ticking,
+        alloc,
+        from,
+        &mut written,
+        &hub,
+        pass,
+        &bell,
+        &Open,
+    );
+    Came {
+        ending,
+        written,
+        taken: close(rt, hub, pass).order().len(),
+        slept: ticking.slept(),
+    }
+}
+
+// It wrote this after the greeting.
+fn expect_answer(rt: &impl Abort, alloc: Global, came: &Came, answer: &str) {
+    let written = format!(in alloc; "{GREETING}{answer}").expect(rt, "there is memory");
+    expect_text(rt, came.written.as_slice(), written.as_str());
+}
+
+#[test]
+fn a_site_that_is_too_far_behind_is_left(rt: HostRuntime) {
+    for &text in &[EDIT, PING] {
+        let came = session_of(&rt, rt.alloc(), MOST + 1, text);
+        expect_eq(&rt, (came.ending, came.taken), (Ending::Fault(71), 0));
+        expect_answer(&rt, rt.alloc(), &came, "error 71\n");
+    }
+}
+
+#[test]
+fn a_site_that_is_not_too_far_behind_stays(rt: HostRuntime) {
+    let came = session_of(&rt, rt.alloc(), MOST, EDIT);
+    expect_eq(
+        &rt,
+        (came.ending, came.taken, came.slept),
+        (Ending::Bye, 1, 0),
+    );
+    expect_answer(&rt, rt.alloc(), &came, "bye\n");
+}
+
+// A take that took ten milliseconds, by a clock that says so of each.
+#[test]
+fn a_session_rests_seven_times_as_long_after_a_costly_take(rt: HostRuntime) {
+    for &(text, slept) in &[(ONE, 0), (TWO, 70)] {
+        let came = session_of(&rt, rt.alloc(), MOST, text);
+        expect_eq(
+            &rt,
+            (came.ending, came.taken, came.slept),
+            (Ending::Bye, 1, slept),
+        );
+        expect_answer(&rt, rt.alloc(), &came, "pong 1\nbye\n");
+    }
+}
+
+/// Gives a greeting and a ping, and then nothing until the half that writes has ended.
+#[derive(Drop)]
+struct Silent<'a, R> {
+    rt: &'a R,
+    bell: &'a Bell,
+    text: &'a [u8],
+}
+
+impl<'a, R: Wait> Read for Silent<'a, R> {
+    fn read(&mut self, buf: &mut [u8]) -> io::Result<usize> {
+        if self.text.is_empty() {
+            // The first ring is that of the ping, which comes before this read, and the second is that of the end.
+            self.bell.wait(self.rt, 1, 1);
+        }
+        self.text.read(buf)
+    }
+}
+
+/// Takes a greeting, and then a byte of each write or nothing at all. Each such write takes long: meanwhile others make operations. Notes whether a
+/// flush gave it up.
+#[derive(Drop)]
+struct Stuck<'a> {
+    bell: &'a Bell,
+    text: &'a mut Vec<u8>,
+    takes_a_byte: bool,
+    is_stuck: bool,
+    given_up: &'a AtomicU64,
+}
+
+impl<'a> Write for Stuck<'a> {
+    fn write(&mut self, buf: &[u8]) -> io::Result<usize> {
+        if self.text.is_empty() || buf.is_empty() {
+            return self.text.write(buf);
+        }
+        self.is_stuck = true;
+        self.bell.count(MOST / 2);
+        if self.takes_a_byte {
+            return self.text.write(&buf[..1]);
+        }
+        Err(io::Error::from(ErrorKind::Interrupted))
+    }
+
+    fn flush(&mut self) -> io::Result<()> {
+        if self.is_stuck {
+            self.given_up.fetch_add(1, Ordering::SeqCst);
+        }
+        Ok(())
+    }
+}
+
+// What was written by a session that owes a pong, at such a writer. The third write that takes long is the last, and a flush gives the writer up.
+fn expect_given_up<R: Threads + Wait + Clock + Sync + Abort>(
+    rt: &R,
+    alloc: Global,
+    takes_a_byte: bool,
+    answer: &str,
+) {
+    let (hub, pass) = open_hub(rt, alloc, EMPTY_TEXT, 100);
+    let (bell, given_up) = (Bell::new(), AtomicU64::new(0));
+    let from = Silent {
+        rt,
+        bell: &bell,
+        text: b"hello 3\nping 1\n",
+    };
+    let mut text = Vec::new(alloc);
+    let to = Stuck {
+        bell: &bell,
+        text: &mut text,
+        takes_a_byte,
+        is_stuck: false,
+        given_up: &given_up,
+    };
+    let (_, ending) = serve_link(rt, alloc, from, to, &hub, pass, &bell, &Open);
+    expect_eq(rt, ending, Ending::Fault(71));
+    let written = format!(in alloc; "{GREETING}{answer}").expect(rt, "there is memory");
+    expect_text(rt, text.as_slice(), written.as_str());
+    expect_eq(rt, given_up.load(Ordering::SeqCst), 1);
+}
+
+// No last line is written, since the line before it may be cut.
+#[test]
+fn a_link_that_takes_nothing_is_left_once_its_site_is_too_far_behind(rt: HostRuntime) {
+    expect_given_up(&rt, rt.alloc(), false, "");
+}
+
+#[test]
+fn a_link_that_takes_a_byte_at_a_time_is_left_too(rt: HostRuntime) {
+    expect_given_up(&rt, rt.alloc(), true, "pon");
+}
+
+/// Gives a greeting. Then another site makes an edit, by which this one is too far behind, and it gives nothing until the half that writes has ended.
+#[derive(Drop)]
+struct Beside<'a, R> {
+    rt: &'a R,
+    alloc: Global,
+    bell: &'a Bell,
+    hub: &'a Hub,
+    pass: Pass,
+    greeting: &'a [u8],
+    ghost ours: { IsPassOf hub.now pass },
+}
+
+impl<'a, R: Wait> Beside<'a, R> {
+    // Has the hub take an edit of site 1, and rings.
+    fn edit(&mut self) {
+        if let Ok(edit) = first_edit(self.alloc, 1) {
+            let _ = self.hub.take(self.rt, self.alloc, &mut self.pass, 1, &edit);
+        }
+        self.bell.count(MOST + 1);
+        self.bell.ring(self.rt);
+    }
+}
+
+impl<'a, R: Wait> Read for Beside<'a, R> {
+    fn read(&mut self, buf: &mut [u8]) -> io::Result<usize> {
+        if self.greeting.is_empty() {
+            self.edit();
+            self.bell.wait(self.rt, 2, 1);
+        }
+        self.greeting.read(buf)
+    }
+}
+
+// It sends nothing. What waits for it is not written, and why it is left is.
+#[test]
+fn a_silent_site_is_left_at_a_ring_once_it_is_too_far_behind(rt: HostRuntime) {
+    let alloc = rt.alloc();
+    let (hub, mut pass) = open_hub(&rt, alloc, EMPTY_TEXT, 100);
+    let first = hub.join_site(&rt, alloc, &mut pass).expect(&rt, "it joins");
+    expect_eq(&rt, first.site, 1);
+    let bell = Bell::new();
+    let from = Beside {
+        rt: &rt,
+        alloc,
+        bell: &bell,
+        hub: &hub,
+        pass: hub.split(&mut pass),
+        greeting: b"hello 3\n",
+    };
+    let mut written = Vec::new(alloc);
+    let (pass, ending) = serve_link(&rt, alloc, from, &mut written, &hub, pass, &bell, &Open);
+    expect_eq(&rt, ending, Ending::Fault(71));
+    let due = "welcome 2 100\nwindow 1\ntext 1\nready\nerror 71\n";
+    expect_text(&rt, written.as_slice(), due);
+    expect_eq(&rt, close(&rt, hub, pass).waiting(2), None);
+}

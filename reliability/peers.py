@@ -121,6 +121,10 @@ class Peer:
             elif not line.startswith(b"ack "):
                 raise AssertionError(f"site {self.site} read {line}")
 
+    def acknowledge(self):
+        """Acknowledges all edits that it has read."""
+        self.send(b"ack %d\n" % self.heard)
+
     def hear(self, count):
         """Reads the operations of an edit after its first line."""
         for _ in range(count):

@@ -1,0 +1,4 @@
+pub mod Joined
+pub mod Heard
+pub mod Copies
+pub mod Refused

@@ -1,0 +1,126 @@
+//! The operations that a board took and that the client has not told its user.
+ghost use Rattle.std.specs.Prelude.{◌≡◌, ◌≤◌, ◌+◌, ◌++◌, ◌∷◌, [], length, vec_len, vec_capacity, IsTrue, OnOk, MatchOption};
+ghost use Rattle.jup_embed.specs.Changes.{kept, operations_in, operations_said};
+
+use jup_batch::{BoardBatch, MOST_COMMANDS};
+use jup_rules::Said;
+use jup_seq::SeqOp;
+use jup_star::Up;
+use jup_value::Label;
+use jup_window::{BoardOp, WidgetOp};
+use jup_xform::NoMemory;
+use std::alloc::Global;
+use std::marker::{Model, PhantomData};
+
+/// The operations that a board took and that the client has not told, oldest first. None are kept if nobody watches. Contracts see
+/// them, whether somebody watches, and for how many more there is room.
+#[derive(Drop)]
+pub(crate) struct Changes {
+    ops: Vec<BoardOp>,
+    // How many of them the client has told.
+    told: usize,
+    is_watched: bool,
+    // The checker learns of the types within an operation from a field that names them.
+    within: PhantomData<(SeqOp<Label>, WidgetOp, BoardOp)>,
+}
+
+impl Model for Changes {
+    ghost use Rattle.std.specs.Prelude.{◌-◌, ◌≤◌, drop, length, vec_len, vec_capacity};
+    ghost use Rattle.jup_embed.specs.Changes.{Untold};
+
+    ghost Value = { Untold };
+
+    ghost view = { λ c. record { untold = drop c.told c.ops.items; watched = c.is_watched; room = vec_capacity c.ops - vec_len c.ops } };
+
+    ghost invariant = { λ c. c.told ≤ length c.ops.items };
+}
+
+impl Changes {
+    /// None. It takes no memory.
+    pub(crate) fn new(alloc: Global, is_watched: bool) -> Changes
+        ensures untold { result.untold ≡ [] }
+        ensures watched { result.watched ≡ is_watched }
+    {
+        Changes {
+            ops: Vec::new(alloc),
+            told: 0,
+            is_watched,
+            within: PhantomData,
+        }
+    }
+
+    /// Tells the oldest.
+    #[tactic(auto, using(crate::proofs::Joined::one_left, crate::proofs::Joined::none_left))]
+    pub(crate) fn next(&mut self) -> Option<BoardOp>
+        ensures told { MatchOption result ((self.old.untold ≡ []) × (self.new.untold ≡ [])) (λ op. self.old.untold ≡ op ∷ self.new.untold) }
+        ensures watched { self.new.watched ≡ self.old.watched }
+    {
+        if self.told < self.ops.len() {
+            let op = self.ops[self.told];
+            self.told += 1;
+            return Some(op);
+        }
+        self.ops.clear();
+        self.told = 0;
+        None
+    }
+
+    /// Makes room for the operations of an edit, if they are kept.
+    pub(crate) fn reserve(&mut self) -> Result<(), NoMemory>
+        ensures untold { self.new.untold ≡ self.old.untold }
+        ensures watched { self.new.watched ≡ self.old.watched }
+        ensures room { OnOk result (IsTrue self.new.watched → 32 ≤ self.new.room) }
+    {
+        if self.is_watched && self.ops.reserve(MOST_COMMANDS).is_err() {
+            return Err(NoMemory);
+        }
+        Ok(())
+    }
+
+    /// Keeps the operations of another site's edit, if somebody watches. There is room for them.
+    #[tactic(auto, using(crate::proofs::Joined::none_more, crate::proofs::Joined::none_kept))]
+    pub(crate) fn keep_shown(&mut self, shown: Option<BoardBatch>)
+        requires { IsTrue self.old.watched → 32 ≤ self.old.room }
+        ensures untold { self.new.untold ≡ self.old.untold ++ kept self.old.watched (operations_in shown) }
+        ensures watched { self.new.watched ≡ self.old.watched }
+    {
+        if let Some(ops) = &shown {
+            self.keep(ops.as_slice());
+        }
+    }
+
+    /// Keeps the operations of what the client says, if that is an edit and somebody watches. There is room for them.
+    #[tactic(auto, using(crate::proofs::Joined::none_more, crate::proofs::Joined::none_kept))]
+    pub(crate) fn keep_said(&mut self, said: &Option<Said>)
+        requires { IsTrue self.old.watched → 32 ≤ self.old.room }
+        ensures untold { self.new.untold ≡ self.old.untold ++ kept self.old.watched (operations_said said.now) }
+        ensures watched { self.new.watched ≡ self.old.watched }
+    {
+        if let Some(Said::Up(Up::Op(msg))) = said {
+            self.keep(msg.op.as_slice());
+        }
+    }
+
+    // Keeps operations, if somebody watches.
+    #[tactic(auto, using(crate::proofs::Joined::none_more))]
+    fn keep(&mut self, ops: &[BoardOp])
+        requires few { length ops.now ≤ 32 }
+        requires room { IsTrue self.old.watched → 32 ≤ self.old.room }
+        ensures untold { self.new.untold ≡ self.old.untold ++ kept self.old.watched ops.now }
+        ensures watched { self.new.watched ≡ self.old.watched }
+    {
+        if self.is_watched {
+            push_all(&mut self.ops, ops);
+        }
+    }
+}
+
+// Puts operations behind others. It takes no memory.
+fn push_all(ops: &mut Vec<BoardOp>, more: &[BoardOp])
+    requires { vec_len ops.old + length more.now ≤ vec_capacity ops.old }
+    ensures { ops.new.items ≡ ops.old.items ++ more.now }
+{
+    for op in more {
+        ops.push_reserved(*op);
+    }
+}

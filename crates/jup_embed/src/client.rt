@@ -1,0 +1,409 @@
+//! A client of one session.
+ghost use Rattle.std.specs.Prelude.{◌≡◌, ◌≤◌, ◌||◌, [], ◌∷◌, length, take, drop, None, Some, Ok, IfOk, IfErr, OnOk, OnErr, IfSome, IsNone, MatchOption};
+ghost use Rattle.jup_wire.specs.Grammar.{line_bytes};
+ghost use Rattle.jup_wire.specs.Streams.{HasRead};
+ghost use Rattle.jup_wire.specs.declared.line.Line.TheVariants.{Hello};
+ghost use Rattle.jup_batch.specs.BatchBoards.{Windows, after, bare};
+ghost use Rattle.jup_star.specs.SiteCalls.{EditAnswers};
+ghost use Rattle.jup_rules.specs.declared.client_state.Told.TheVariants.{Synced, Bye as SaidBye};
+ghost use Rattle.jup_rules.specs.declared.request.Request.TheVariants.{Sync, Quit};
+ghost use Rattle.jup_rules.specs.declared.said.Said.TheVariants.{Up as SaysUp};
+ghost use Rattle.jup_embed.specs.declared.phase.Phase.TheVariants.{Greeting as InGreeting, Over as IsOver};
+ghost use Rattle.jup_embed.specs.Copies.{LacksUntold, KeepsCopies};
+ghost use Rattle.jup_embed.specs.Sessions.{stage_of, board_in, site_in, still_synced, refusal_of, HearsLine, HearsLines, Feeds, KeepsRest, EditedIn, MakesEdit, RefusesEdit, RefusesAt, AnsweredIn, IsDone, Asks, DoesAsked, Commands};
+
+use crate::changes::Changes;
+use crate::outbox::Outbox;
+use crate::phase::Phase;
+use crate::refusals::EmbedFault;
+use jup_rules::{Answer, Asking, ClientEnd, Heard, Request, Said, SessionFault, Told};
+use jup_seq::SeqOp;
+use jup_star::{Made, Site};
+use jup_value::Label;
+use jup_window::{Board, BoardOp, Command, EditFault, WidgetOp};
+use jup_wire::{Line, Reader};
+use jup_xform::NoMemory;
+use std::alloc::Global;
+use std::marker::{Model, PhantomData};
+
+/// How far a session is.
+#[derive(Clone, Copy, Debug, PartialEq, Eq)]
+pub enum Stage {
+    /// The server has not greeted.
+    Greeting,
+    /// Lines of its board come.
+    Opening,
+    Open,
+    /// It has ended, for this reason.
+    Over(ClientEnd),
+}
+
+/// A client of one session: it reads what its server sent, keeps what is to be sent, and has the site whose board the user edits.
+#[derive(Drop)]
+pub struct Client {
+    reader: Reader,
+    phase: Phase,
+    outbox: Outbox,
+    changes: Changes,
+    asking: Asking,
+    is_synced: bool,
+    // The checker learns of the types within a line from a field that names them.
+    within: PhantomData<(SeqOp<Label>, WidgetOp, BoardOp, Line)>,
+}
+
+impl Model for Client {
+    ghost use Rattle.jup_embed.specs.Sessions.{Session};
+
+    ghost Value = { Session };
+
+    ghost view = { λ c. record {
+      progress = c.reader;
+      phase = c.phase;
+      waiting = c.outbox.bytes;
+      changes = c.changes.untold;
+      watched = c.changes.watched;
+      asked = c.asking;
+      synced = c.is_synced;
+    } };
+}
+
+impl Client {
+    /// A client before the first byte, whose greeting waits to be sent. If it is watched, it keeps each operation that its board takes
+    /// until [`next_change`](Client::next_change) tells it.
+    pub fn new(alloc: Global, is_watched: bool) -> Result<Client, NoMemory>
+        ensures read { IfOk result (λ client. HasRead [] [] client.progress) }
+        ensures phase { IfOk result (λ client. client.phase ≡ InGreeting) }
+        ensures greets { IfOk result (λ client. client.waiting ≡ line_bytes Hello) }
+        ensures changes { IfOk result (λ client. client.changes ≡ []) }
+        ensures watched { IfOk result (λ client. client.watched ≡ is_watched) }
+    {
+        let outbox = Outbox::new(alloc)?;
+        Ok(Client {
+            reader: Reader::new(),
+            phase: Phase::Greeting,
+            outbox,
+            changes: Changes::new(alloc, is_watched),
+            asking: Asking::new(),
+            is_synced: false,
+            within: PhantomData,
+        })
+    }
+
+    /// How far the session is.
+    pub fn stage(&self) -> Stage
+        ensures { result ≡ stage_of self.now.phase }
+    {
+        match &self.phase {
+            Phase::Greeting => Stage::Greeting,
+            Phase::Opening(_) => Stage::Opening,
+            Phase::Open(_) => Stage::Open,
+            Phase::Over(end) => Stage::Over(*end),
+        }
+    }
+
+    /// What the user sees, once the session is open.
+    pub fn board(&self) -> Option<&Board>
+        ensures open { IfSome result (λ board. board_in self.now.phase ≡ Some (bare board.now)) }
+        ensures none { IsNone result → board_in self.now.phase ≡ None }
+    {
+        match &self.phase {
+            Phase::Open(state) => Some(state.site.board()),
+            Phase::Greeting | Phase::Opening(_) | Phase::Over(_) => None,
+        }
+    }
+
+    /// The number of its site, and how many of its edits the server has not acknowledged, once the session is open.
+    pub fn site(&self) -> Option<(u32, u32)>
+        ensures { result ≡ site_in self.now.phase }
+    {
+        match &self.phase {
+            Phase::Open(state) => Some((state.site.number(), state.site.backlog())),
+            Phase::Greeting | Phase::Opening(_) | Phase::Over(_) => None,
+        }
+    }
+
+    /// Whether the server has answered the last ping. False if it sent none.
+    pub fn is_synced(&self) -> bool
+        ensures { result ≡ self.now.synced }
+    {
+        self.is_synced
+    }
+
+    /// How many bytes wait to be sent.
+    pub fn waiting(&self) -> usize
+        ensures { result ≡ length self.now.waiting }
+    {
+        self.outbox.len()
+    }
+
+    /// Moves bytes that wait to be sent, the oldest first, and returns how many. Nothing else changes.
+    pub fn move_out(&mut self, to: &mut [u8]) -> usize
+        ensures fits { result ≤ length to.old }
+        ensures moved { take result to.new ≡ take result self.old.waiting }
+        ensures left { self.new ≡ record self.old { waiting = drop result self.old.waiting } }
+        ensures long { length to.new ≡ length to.old }
+    {
+        self.outbox.move_out(to)
+    }
+
+    /// Tells the oldest operation that the board took and that it has not told. Nothing else changes.
+    pub fn next_change(&mut self) -> Option<BoardOp>
+        ensures told { MatchOption result ((self.old.changes ≡ []) × (self.new ≡ self.old))
+            (λ op. self.old ≡ record self.new { changes = op ∷ self.new.changes }) }
+        ensures copy { IfSome result (λ op. (copy : Windows) → LacksUntold copy self.old → LacksUntold (after (op ∷ []) copy) self.new) }
+    {
+        self.changes.next()
+    }
+
+    /// Takes bytes that the server sent, cut anywhere, and hears the lines of all bytes so far in order. A fault ends the session.
+    #[tactic(auto, using(crate::proofs::Copies::fed_keeps))]
+    pub fn feed(&mut self, alloc: Global, bytes: &[u8]) -> Result<(), ClientEnd>
+        ensures fed { OnOk result (Feeds bytes.now self.old self.new) }
+        ensures copies { OnOk result (KeepsCopies self.old self.new) }
+        ensures over { IfErr result (λ end. self.new.phase ≡ IsOver end) }
+    {
+        self.take_in(alloc, bytes)
+    }
+
+    // Takes bytes of the server, unless the session is over.
+    fn take_in(&mut self, alloc: Global, bytes: &[u8]) -> Result<(), ClientEnd>
+        ensures fed { OnOk result (Feeds bytes.now self.old self.new) }
+        ensures over { IfErr result (λ end. self.new.phase ≡ IsOver end) }
+    {
+        if let Phase::Over(end) = &self.phase {
+            return Err(*end);
+        }
+        let fed = self.read_in(alloc, bytes);
+        if let Err(end) = fed {
+            self.phase = Phase::Over(end);
+        }
+        fed
+    }
+
+    // Reads lines, and hears them.
+    fn read_in(&mut self, alloc: Global, bytes: &[u8]) -> Result<(), ClientEnd>
+        ensures { OnOk result (Feeds bytes.now self.old self.new) }
+    {
+        let fed = self.reader.feed(alloc, bytes)?;
+        self.hear_all(alloc, fed.lines.as_slice())?;
+        match fed.fault {
+            Some(fault) => Err(SessionFault::Wire(fault).into()),
+            None => Ok(()),
+        }
+    }
+
+    // Hears lines in order, up to the first that is refused.
+    fn hear_all(&mut self, alloc: Global, lines: &[Line]) -> Result<(), ClientEnd>
+        ensures heard { OnOk result (HearsLines lines.now self.old self.new) }
+        ensures read { OnOk result (self.new.progress ≡ self.old.progress) }
+    {
+        for line in lines {
+            self.hear(alloc, line)?;
+        }
+        Ok(())
+    }
+
+    // Hears a line. Room for the client's answer is made before it is heard.
+    fn hear(&mut self, alloc: Global, line: &Line) -> Result<(), ClientEnd>
+        ensures heard { OnOk result (HearsLine line.now self.old self.new) }
+        ensures refused { OnErr result (KeepsRest self.old self.new) }
+        ensures read { self.new.progress ≡ self.old.progress }
+    {
+        self.outbox.reserve()?;
+        self.changes.reserve()?;
+        let Heard {
+            said,
+            is_synced,
+            shown,
+        } = self.phase.hear(alloc, line)?;
+        self.outbox.say(said);
+        self.changes.keep_shown(shown);
+        self.is_synced = either(self.is_synced, is_synced);
+        Ok(())
+    }
+
+    /// Makes one edit of 1 to 32 commands, each of the board after those before it. The board shows it immediately, and its message waits
+    /// to be sent. A refusal changes nothing.
+    #[tactic(auto, using(crate::proofs::Copies::made_keeps))]
+    pub fn edit(&mut self, alloc: Global, commands: &[Command]) -> Result<(), EmbedFault>
+        ensures made { OnOk result (MakesEdit commands.now self.old self.new) }
+        ensures copies { OnOk result (KeepsCopies self.old self.new) }
+        ensures refused { OnErr result (self.new ≡ self.old) }
+        ensures why { IfErr result (λ fault. RefusesEdit commands.now self.old.phase fault) }
+    {
+        self.make(alloc, commands)
+    }
+
+    // Makes an edit. Room for its message is made before it.
+    fn make(&mut self, alloc: Global, commands: &[Command]) -> Result<(), EmbedFault>
+        ensures made { OnOk result (MakesEdit commands.now self.old self.new) }
+        ensures refused { OnErr result (self.new ≡ self.old) }
+        ensures why { IfErr result (λ fault. RefusesEdit commands.now self.old.phase fault) }
+    {
+        self.outbox.reserve()?;
+        self.changes.reserve()?;
+        let made = edit_in(alloc, &mut self.phase, commands)?;
+        let said = Some(said_of(made));
+        self.changes.keep_said(&said);
+        self.outbox.say(said);
+        Ok(())
+    }
+
+    /// Asks the server for all that it has. Once that has come, the client is synced. A refusal changes nothing.
+    #[tactic(auto, using(crate::proofs::Heard::pinged_so, crate::proofs::Copies::request_keeps))]
+    pub fn ping(&mut self, alloc: Global) -> Result<(), EmbedFault>
+        ensures pinged { OnOk result (IsDone Sync self.old Synced self.new) }
+        ensures copies { OnOk result (KeepsCopies self.old self.new) }
+        ensures refused { OnErr result (self.new ≡ self.old) }
+    {
+        self.request(alloc, &Request::Sync)?;
+        Ok(())
+    }
+
+    /// Says goodbye. The server then ends the session. A refusal changes nothing.
+    #[tactic(auto, using(crate::proofs::Heard::left_so, crate::proofs::Copies::request_keeps))]
+    pub fn bye(&mut self, alloc: Global) -> Result<(), EmbedFault>
+        ensures said { OnOk result (IsDone Quit self.old SaidBye self.new) }
+        ensures copies { OnOk result (KeepsCopies self.old self.new) }
+        ensures refused { OnErr result (self.new ≡ self.old) }
+    {
+        self.request(alloc, &Request::Quit)?;
+        Ok(())
+    }
+
+    /// Does what a line asks for, as the program `jup` takes it, and returns what that tells its user. A line that begins a batch or
+    /// goes on with it tells nothing. A sync is over once the client is synced.
+    #[tactic(auto, using(crate::proofs::Copies::commands_keep))]
+    pub fn command(&mut self, alloc: Global, line: &[u8]) -> Result<Option<Told>, EmbedFault>
+        ensures does { Commands result line.now self.old self.new }
+        ensures copies { KeepsCopies self.old self.new }
+    {
+        self.obey(alloc, line)
+    }
+
+    // Does what a line asks for, if it completes a request.
+    #[tactic(auto, using(crate::proofs::Heard::commanded_so))]
+    fn obey(&mut self, alloc: Global, line: &[u8]) -> Result<Option<Told>, EmbedFault>
+        ensures { Commands result line.now self.old self.new }
+    {
+        let asked = self.asking.push(alloc, line)?;
+        self.do_asked(alloc, asked)
+    }
+
+    // Does what a line asks for, if it completed a request.
+    fn do_asked(
+        &mut self,
+        alloc: Global,
+        asked: Option<Request>,
+    ) -> Result<Option<Told>, EmbedFault>
+        ensures does { DoesAsked result asked self.old self.new }
+        ensures asked { self.new.asked ≡ self.old.asked }
+    {
+        match asked {
+            None => Ok(None),
+            Some(request) => Ok(Some(self.request(alloc, &request)?)),
+        }
+    }
+
+    // Does a request. Room for what the client then says is made before it is done.
+    fn request(&mut self, alloc: Global, request: &Request) -> Result<Told, EmbedFault>
+        ensures asks { Asks request.now self.old result self.new }
+        ensures asked { self.new.asked ≡ self.old.asked }
+    {
+        self.outbox.reserve()?;
+        self.changes.reserve()?;
+        let Answer { said, told } = answer_in(alloc, &mut self.phase, request)?;
+        self.changes.keep_said(&said);
+        self.outbox.say(said);
+        self.is_synced = still_synced(request, self.is_synced);
+        Ok(told)
+    }
+}
+
+fn either(one: bool, other: bool) -> bool
+    ensures { result ≡ one || other }
+{
+    one || other
+}
+
+// Whether a synced client still is, after a request.
+fn still_synced(request: &Request, is_synced: bool) -> bool
+    ensures { result ≡ still_synced request.now is_synced }
+{
+    match request {
+        Request::Sync => false,
+        Request::Edit(_) | Request::Batch(_) | Request::Show | Request::Quit | Request::Bad =>
+            is_synced,
+    }
+}
+
+// The answer of an open session.
+#[tactic(auto, using(crate::proofs::Refused::refused_so))]
+fn answer_in(alloc: Global, phase: &mut Phase, request: &Request) -> Result<Answer, EmbedFault>
+    ensures answered { IfOk result (λ answer. AnsweredIn request.now phase.old answer phase.new) }
+    ensures refused { OnErr result (phase.new ≡ phase.old) }
+{
+    match phase {
+        Phase::Open(state) => match state.answer(alloc, request) {
+            Ok(answer) => Ok(answer),
+            Err(ClientEnd::NoMemory) => Err(EmbedFault::NoMemory),
+            Err(end) => Err(EmbedFault::Over(end)),
+        },
+        Phase::Greeting | Phase::Opening(_) => Err(EmbedFault::NotOpen),
+        Phase::Over(end) => Err(EmbedFault::Over(*end)),
+    }
+}
+
+// Makes an edit in an open session.
+fn edit_in(alloc: Global, phase: &mut Phase, commands: &[Command]) -> Result<Made, EmbedFault>
+    ensures made { IfOk result (λ made. EditedIn commands.now phase.old made phase.new) }
+    ensures refused { OnErr result (phase.new ≡ phase.old) }
+    ensures why { IfErr result (λ fault. RefusesEdit commands.now phase.old fault) }
+{
+    match phase {
+        Phase::Open(state) => edit_at(alloc, &mut state.site, commands),
+        Phase::Greeting | Phase::Opening(_) => Err(EmbedFault::NotOpen),
+        Phase::Over(end) => Err(EmbedFault::Over(*end)),
+    }
+}
+
+// Makes an edit at its site.
+fn edit_at(alloc: Global, site: &mut Site, commands: &[Command]) -> Result<Made, EmbedFault>
+    ensures made { IfOk result (λ made. EditAnswers commands.now site.old site.new (Ok made)) }
+    ensures refused { OnErr result (site.new ≡ site.old) }
+    ensures why { IfErr result (λ fault. RefusesAt commands.now site.old fault) }
+{
+    match edit_site(alloc, site, commands) {
+        Ok(made) => Ok(made),
+        Err(fault) => Err(refusal_of(fault)),
+    }
+}
+
+// One command takes no room for others.
+fn edit_site(alloc: Global, site: &mut Site, commands: &[Command]) -> Result<Made, EditFault>
+    ensures { EditAnswers commands.now site.old site.new result }
+{
+    match commands {
+        [one] => site.edit(alloc, one),
+        commands => site.edit_batch(alloc, commands),
+    }
+}
+
+// What the client says of an edit that it made.
+fn said_of(made: Made) -> Said
+    ensures { result ≡ SaysUp made.up }
+{
+    let Made { up, edit } = made;
+    drop(edit);
+    Said::Up(up)
+}
+
+// What a refusal of the site is to the caller of the client.
+fn refusal_of(fault: EditFault) -> EmbedFault
+    ensures { result ≡ refusal_of fault }
+{
+    match fault {
+        EditFault::NoMemory => EmbedFault::NoMemory,
+        fault => EmbedFault::Edit(fault),
+    }
+}

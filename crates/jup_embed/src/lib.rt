@@ -1,0 +1,15 @@
+//! A client of one session, without threads, sockets or waiting. The caller gives it the bytes of its server, and sends the bytes that it
+//! hands out. In between it makes edits, and reads the board as it is, or change by change.
+#![tactic(auto)]
+
+mod board_view;
+mod changes;
+mod client;
+mod outbox;
+mod phase;
+mod refusals;
+
+pub use board_view::{WidgetKind, WidgetView, copy_label, copy_text, widget_view, window_view};
+pub use client::{Client, Stage};
+pub use phase::{Opening, Phase};
+pub use refusals::EmbedFault;

@@ -1,0 +1,3 @@
+pub mod SomeFault
+pub mod Opened
+pub mod Words

@@ -1,0 +1,93 @@
+//! Changes of a board as C reads them.
+
+use crate::kinds::{DELETE, INSERT_CHAR, INSERT_LABEL, NOTHING, RELABEL, SET_SLIDER, SET_TOGGLE};
+use jup_limits::LONGEST_LABEL;
+use jup_seq::SeqOp;
+use jup_setting::SetOp;
+use jup_value::{Label, Name};
+use jup_window::{BoardOp, WidgetOp};
+
+/// A change of a board in numbers. `kind` is that of the command that makes such a change, or 0 if the board stayed as it was.
+#[repr(C)]
+#[derive(Clone, Copy)]
+pub struct JupChange {
+    pub kind: u32,
+    pub win: u16,
+    pub wid: u16,
+    /// The place in the text or list as the changes before this one left it.
+    pub place: u32,
+    /// The name of the item: the number of its site, and its own.
+    pub site: u32,
+    pub number: u32,
+    pub value: i32,
+    pub label_len: u32,
+    pub label: [u8; 48],
+}
+
+/// What an operation changes.
+pub(crate) fn change_of(op: &BoardOp) -> JupChange {
+    match &op.op {
+        WidgetOp::Text(SeqOp::Insert { place, item }) => JupChange {
+            value: scalar_of(item.value),
+            ..of_item(op, INSERT_CHAR, *place, item.name)
+        },
+        WidgetOp::List(SeqOp::Insert { place, item }) => {
+            with_label(of_item(op, INSERT_LABEL, *place, item.name), &item.value)
+        }
+        WidgetOp::Text(SeqOp::Delete { place, name })
+        | WidgetOp::List(SeqOp::Delete { place, name }) => of_item(op, DELETE, *place, *name),
+        WidgetOp::List(SeqOp::Relabel { place, name, value }) => {
+            with_label(of_item(op, RELABEL, *place, *name), value)
+        }
+        WidgetOp::Toggle(SetOp::Set(on)) => JupChange {
+            value: i32::from(*on),
+            ..of_widget(op, SET_TOGGLE)
+        },
+        WidgetOp::Slider(SetOp::Set(value)) => JupChange {
+            value: *value,
+            ..of_widget(op, SET_SLIDER)
+        },
+        _ => of_widget(op, NOTHING),
+    }
+}
+
+// A change of this kind, with its widget and nothing else.
+fn of_widget(op: &BoardOp, kind: u32) -> JupChange {
+    JupChange {
+        kind,
+        win: op.win,
+        wid: op.wid,
+        place: 0,
+        site: 0,
+        number: 0,
+        value: 0,
+        label_len: 0,
+        label: [0; LONGEST_LABEL],
+    }
+}
+
+fn of_item(op: &BoardOp, kind: u32, place: u32, name: Name) -> JupChange {
+    JupChange {
+        place,
+        site: name.site,
+        number: name.number,
+        ..of_widget(op, kind)
+    }
+}
+
+fn with_label(change: JupChange, label: &Label) -> JupChange {
+    let text = label.bytes();
+    let count = text.len().min(LONGEST_LABEL);
+    let mut bytes = [0; LONGEST_LABEL];
+    bytes[..count].copy_from_slice(&text[..count]);
+    JupChange {
+        label_len: count as u32,
+        label: bytes,
+        ..change
+    }
+}
+
+// A scalar value is at most 0x10FFFF.
+fn scalar_of(value: char) -> i32 {
+    i32::try_from(u32::from(value)).unwrap_or(0)
+}

@@ -1,0 +1,98 @@
+//! Commands as C passes them.
+ghost use Rattle.std.specs.Prelude.{◌≡◌, length};
+
+use crate::kinds::{DELETE, INSERT_CHAR, INSERT_LABEL, RELABEL, SET_SLIDER, SET_TOGGLE};
+use crate::numbers::{BAD_COMMAND, BAD_LABEL};
+use jup_value::Label;
+use jup_window::{Command, Setting, Value};
+
+/// A command in numbers. `kind` says which of the other fields count.
+#[repr(C)]
+#[derive(Clone, Copy)]
+pub struct JupCommand {
+    pub kind: u32,
+    pub win: u16,
+    pub wid: u16,
+    pub place: u32,
+    /// A Unicode scalar value, 0 or 1 of a toggle, or the value of a slider.
+    pub value: i32,
+    pub label_len: u32,
+    pub label: [u8; 48],
+}
+
+/// A command in the place of one that was not read yet.
+pub(crate) const NO_COMMAND: Command = Command::Delete {
+    win: 0,
+    wid: 0,
+    place: 0,
+};
+
+/// Reads commands in order, and returns 0 or the number of the first fault.
+pub(crate) fn read_commands(from: &[JupCommand], to: &mut [Command]) -> u32
+    requires { length to.old ≡ length from.now }
+    ensures { length to.new ≡ length to.old }
+{
+    for k in 0..from.len() {
+        match command_of(&from[k]) {
+            Ok(command) => to[k] = command,
+            Err(fault) => return fault,
+        }
+    }
+    0
+}
+
+/// The command that these numbers are, or why they are none.
+pub(crate) fn command_of(told: &JupCommand) -> Result<Command, u32> {
+    let JupCommand {
+        win,
+        wid,
+        place,
+        ..
+    } = *told;
+    match told.kind {
+        INSERT_CHAR => Ok(Command::Insert {
+            win,
+            wid,
+            place,
+            value: Value::Char(char_of(told.value)?),
+        }),
+        INSERT_LABEL => Ok(Command::Insert {
+            win,
+            wid,
+            place,
+            value: Value::Label(label_of(told)?),
+        }),
+        DELETE => Ok(Command::Delete { win, wid, place }),
+        RELABEL => Ok(Command::Relabel {
+            win,
+            wid,
+            place,
+            label: label_of(told)?,
+        }),
+        SET_TOGGLE => Ok(set(told, Setting::Toggle(told.value != 0))),
+        SET_SLIDER => Ok(set(told, Setting::Slider(told.value))),
+        _ => Err(BAD_COMMAND),
+    }
+}
+
+fn set(told: &JupCommand, setting: Setting) -> Command {
+    Command::Set {
+        win: told.win,
+        wid: told.wid,
+        setting,
+    }
+}
+
+fn char_of(value: i32) -> Result<char, u32> {
+    let Ok(scalar) = u32::try_from(value) else {
+        return Err(BAD_COMMAND);
+    };
+    char::from_u32(scalar).ok_or(BAD_COMMAND)
+}
+
+fn label_of(told: &JupCommand) -> Result<Label, u32> {
+    match told.label.get(..told.label_len as usize) {
+        Some(text) => Label::read(text).map_err(|_| BAD_LABEL),
+        None => Err(BAD_LABEL),
+    }
+}

@@ -1,0 +1,62 @@
+//! Widgets and texts as C reads them.
+ghost use Rattle.std.specs.Prelude.{◌≡◌, length};
+
+use crate::kinds::{LIST, SLIDER, TEXT, TOGGLE};
+use jup_embed::{WidgetKind, WidgetView};
+
+/// A widget in numbers, without its items. `kind` says which of the other fields count.
+#[repr(C)]
+#[derive(Clone, Copy)]
+pub struct JupWidget {
+    pub win: u16,
+    pub wid: u16,
+    pub kind: u32,
+    /// How many characters a text has, or items a list.
+    pub items: u32,
+    pub lo: i32,
+    pub hi: i32,
+    /// 0 or 1 of a toggle, or the value of a slider.
+    pub value: i32,
+}
+
+/// A widget as C reads it.
+pub(crate) fn widget_of(view: &WidgetView) -> JupWidget {
+    let WidgetView { win, wid, kind } = *view;
+    let bare = JupWidget {
+        win,
+        wid,
+        kind: TEXT,
+        items: 0,
+        lo: 0,
+        hi: 0,
+        value: 0,
+    };
+    match kind {
+        WidgetKind::Text(items) => JupWidget { items, ..bare },
+        WidgetKind::List(items) => JupWidget {
+            kind: LIST,
+            items,
+            ..bare
+        },
+        WidgetKind::Toggle(on) => JupWidget {
+            kind: TOGGLE,
+            value: i32::from(on),
+            ..bare
+        },
+        WidgetKind::Slider { lo, hi, value } => JupWidget {
+            kind: SLIDER,
+            lo,
+            hi,
+            value,
+            ..bare
+        },
+    }
+}
+
+/// Copies bytes as far as there is room.
+pub(crate) fn copy_bytes(from: &[u8], to: &mut [u8])
+    ensures { length to.new ≡ length to.old }
+{
+    let count = from.len().min(to.len());
+    to[..count].copy_from_slice(&from[..count]);
+}

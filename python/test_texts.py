@@ -1,0 +1,244 @@
+"""Tests of the module texts."""
+import itertools
+import random
+import time
+import unittest
+
+import texts
+
+# How many characters the long texts have, and how many seconds a difference or a merge of them may take.
+LONG, MOST_SECONDS = 60_000, 1.0
+ALPHABETS = ("ab", "ab \n", "abcdef \n", "xy\r\n ", "aé😀\n")
+
+
+def made(old, edits):
+    """The text that edits make, step by step."""
+    chars = list(old)
+    for step in itertools.chain.from_iterable(edits):
+        if step.char is None:
+            del chars[step.place]
+        else:
+            chars.insert(step.place, step.char)
+    return "".join(chars)
+
+
+class Chance:
+    """Texts at random."""
+
+    def __init__(self, seed):
+        self.random = random.Random(seed)
+
+    def text(self, most, alphabet):
+        return "".join(self.random.choices(alphabet, k=self.random.randrange(most)))
+
+    def changed(self, text, alphabet):
+        for _ in range(self.random.randrange(4)):
+            start = self.random.randrange(len(text) + 1)
+            text = text[:start] + self.text(6, alphabet) + text[start + self.random.randrange(4) :]
+        return text
+
+    def pairs(self, count):
+        for _ in range(count):
+            alphabet = self.random.choice(ALPHABETS)
+            old = self.text(40, alphabet)
+            yield old, self.changed(old, alphabet) if self.random.random() < 0.7 else self.text(40, alphabet)
+
+    def side(self, base, letter):
+        """A side of a merge: its words, and those of the base that it deleted."""
+        words, deleted = [], set()
+        for at, word in enumerate([*base, None]):
+            words += [f"{letter}{at}.{more} " for more in range(self.random.choice([0, 0, 0, 1, 2]))]
+            if word is not None and self.random.random() < 0.25:
+                deleted.add(word)
+            elif word is not None:
+                words.append(word)
+        return words, deleted
+
+    def word(self):
+        return "".join(self.random.choices("abcdefghijklmnopqrstuvwxyz", k=10)) + self.random.choice([" ", "\n", "\r\n"])
+
+    def edited(self, words, most):
+        """The words after some insertions and deletions."""
+        words = list(words)
+        for _ in range(self.random.randrange(most + 1)):
+            if words and self.random.random() < 0.25:
+                del words[self.random.randrange(len(words))]
+            else:
+                words.insert(self.random.randrange(len(words) + 1), self.word())
+        return words
+
+    def long_pairs(self):
+        """Long texts, by what makes them hard."""
+        word = lambda: "".join(self.random.choices("abcdefg", k=6))
+        words = [word() for _ in range(LONG // 7)]
+        noise = lambda alphabet: "".join(self.random.choices(alphabet, k=LONG))
+        yield "nothing in common", noise("abcdef"), noise("ghijkl")
+        yield "two letters at random", noise("ab"), noise("ab")
+        yield "one word of the whole text", "a" * LONG, "a" * (LONG // 2) + "b" + "a" * (LONG // 2 - 1)
+        yield "each second word deleted", " ".join(words), " ".join(words[::2])
+        yield "each second line changed", "\n".join(words), "\n".join(it + "!" * (at % 2) for at, it in enumerate(words))
+        yield "the lines sorted", "\n".join(words), "\n".join(sorted(words))
+        yield "the same line again and again", "x\n" * (LONG // 2), "x\ny\n" * (LONG // 4)
+        yield "white space alone", " " * LONG, " " * (LONG // 2) + "\n" + " " * (LONG // 2 - 1)
+
+
+class Differences(unittest.TestCase):
+    def test_apply(self):
+        for old, new in Chance(1).pairs(3000):
+            hunks = texts.difference(old, new)
+            self.assertEqual(texts.apply(old, hunks), new)
+            self.assertTrue(all(one.end < other.start for one, other in itertools.pairwise(hunks)), hunks)
+
+    def test_equal_texts_have_none(self):
+        self.assertEqual(texts.difference("a b\nc\n", "a b\nc\n"), [])
+
+    def test_only_what_changed_is_in_it(self):
+        rows = [
+            ("a\nb\nc\n", "a\nB\nc\n", [texts.Hunk(2, 4, "B\n")]),
+            ("colr is", "color is", [texts.Hunk(3, 3, "o")]),
+            ("one two three", "one three", [texts.Hunk(4, 8, "")]),
+            ("xa xb ", "xa xq xb ", [texts.Hunk(3, 3, "xq ")]),
+            ("a\r\nb\r\n", "a\r\nb\r\nc\r\n", [texts.Hunk(6, 6, "c\r\n")]),
+            ("one two\nthree four\n", "one 2\nthree 4\n", [texts.Hunk(4, 8, "2\n"), texts.Hunk(14, 19, "4\n")]),
+        ]
+        for old, new, due in rows:
+            with self.subTest(old=old):
+                self.assertEqual(texts.difference(old, new), due)
+
+    def test_a_long_word_is_compared_by_characters(self):
+        old = "春眠不覚暁処処聞啼鳥夜来風雨声花落知多少" * 3
+        new = old[:10] + "X" + old[10:30] + old[31:]
+        self.assertEqual(texts.size(texts.difference(old, new)), 2)
+
+    def test_long_texts_take_no_long_time(self):
+        for name, old, new in Chance(2).long_pairs():
+            with self.subTest(name):
+                start = time.process_time()
+                hunks = texts.difference(old, new)
+                self.assertLess(time.process_time() - start, MOST_SECONDS)
+                self.assertEqual(texts.apply(old, hunks), new)
+
+
+class Edits(unittest.TestCase):
+    def test_they_make_the_text(self):
+        for old, new in Chance(3).pairs(3000):
+            edits = list(texts.edits(old, new))
+            self.assertEqual(made(old, edits), new)
+            self.assertTrue(all(1 <= len(it) <= texts.MOST_COMMANDS for it in edits))
+
+    def test_no_short_word_is_cut(self):
+        words = [f"word{at}" for at in range(300)]
+        text = ""
+        for edit in texts.edits("", " ".join(words)):
+            text = made(text, [edit])
+            self.assertLessEqual(set(text.split()), set(words))
+
+    def test_the_text_is_never_longer_than_both(self):
+        old, new = "a" * 500, "b" * 500
+        text = old
+        for edit in texts.edits(old, new):
+            text = made(text, [edit])
+            self.assertLessEqual(len(text), 500)
+
+
+class Merges(unittest.TestCase):
+    def test_nothing_is_lost_and_nothing_comes_back(self):
+        chance = Chance(4)
+        for _ in range(3000):
+            base = [f"b{at} " for at in range(chance.random.randrange(12))]
+            (mine, gone), (theirs, gone_too) = chance.side(base, "m"), chance.side(base, "t")
+            found = texts.merge("".join(base), "".join(mine), "".join(theirs)).split()
+            due = [it for it in base if it not in gone | gone_too] + [it for it in mine + theirs if it[0] != "b"]
+            self.assertEqual(sorted(found), sorted(it.strip() for it in due))
+
+    def test_what_the_server_had_taken_is_there_once(self):
+        chance = Chance(7)
+        for _ in range(3000):
+            base = [chance.word() for _ in range(chance.random.randrange(1, 12))]
+            taken = chance.edited(base, 3)
+            mine, theirs = chance.edited(taken, 2), chance.edited(taken, 5)
+            found = texts.merge("".join(base), "".join(mine), "".join(theirs)).split()
+            self.assertEqual(len(found), len(set(found)), (base, mine, theirs))
+            kept = {it for it in mine + theirs if (it in mine and it in theirs) or it not in taken + base}
+            self.assertEqual(set(found) & {it.strip() for it in kept}, {it.strip() for it in kept})
+
+    def test_one_side_alone(self):
+        for base, changed in Chance(5).pairs(1000):
+            self.assertEqual(texts.merge(base, changed, base), changed)
+            self.assertEqual(texts.merge(base, base, changed), changed)
+            self.assertEqual(texts.merge(base, changed, changed), changed)
+
+    def test_rows(self):
+        rows = [
+            ("what both inserted is there once", "a\nz\n", "a\nw\nz\n", "a\nx\nw\nz\n", "a\nx\nw\nz\n"),
+            ("also if its neighbour was deleted", "a\nz\n", "a\nw\nz\n", "w\nz\n", "w\nz\n"),
+            ("without a base all is kept", "", "a\nb\n", "b\nc\n", "a\nb\nc\n"),
+            ("a deletion past an insertion", "one two three", "one three", "one two big three", "one big three"),
+            ("both change a word", "the cat sat", "the dog sat", "the cow sat", "the cow dog sat"),
+            ("both delete", "one two three", "one three", "one three", "one three"),
+            ("line ends stay", "a\r\nb\r\n", "a\r\nb\r\nc\r\n", "0\r\na\r\nb\r\n", "0\r\na\r\nb\r\nc\r\n"),
+        ]
+        for name, base, mine, theirs, due in rows:
+            with self.subTest(name):
+                self.assertEqual(texts.merge(base, mine, theirs), due)
+
+    def test_long_texts_take_no_long_time(self):
+        for name, base, mine in Chance(6).long_pairs():
+            with self.subTest(name):
+                theirs = base[: LONG // 3] + " more " + base[LONG // 3 :]
+                start = time.process_time()
+                texts.merge(base, mine, theirs)
+                self.assertLess(time.process_time() - start, 2 * MOST_SECONDS)
+
+
+class Versions(unittest.TestCase):
+    def test_an_old_version_that_was_saved(self):
+        versions = ["a\nb\n", "a\nb\ntheirs\n"]
+        self.assertEqual(texts.started_from(versions, "a\nb\nmine\n"), versions[0])
+        self.assertEqual(texts.started_from(versions, "a\nmine\nb\ntheirs\n"), versions[1])
+        self.assertEqual(texts.started_from(["a\n", "a\n"], "b\n"), "a\n")
+
+    def test_what_others_did_stays_if_an_editor_had_not_read_it(self):
+        shared = texts.Shared("a\nb\n", ["a\nb\n"], 0.0)
+        shared.changed("a\nb\ntheirs\n")
+        shared.wrote(1.0)
+        shared.saved("a\nmine\nb\n", 2.0)
+        self.assertEqual(shared.mine, "a\nmine\nb\ntheirs\n")
+        self.assertEqual(shared.file, "a\nmine\nb\n")
+
+    def test_what_others_did_can_be_deleted_later(self):
+        shared = texts.Shared("a\nb\n", ["a\nb\n"], 0.0)
+        shared.changed("a\nb\ntheirs\n")
+        shared.wrote(1.0)
+        shared.saved("a\nb\n", 1.0 + texts.READ_AGO)
+        self.assertEqual(shared.mine, "a\nb\n")
+
+    def test_what_was_typed_while_nothing_ran(self):
+        shared = texts.Shared("a\nb\n", ["a\nb\n"], 0.0)
+        shared.saved("a\nmine\nb\n", 0.1)
+        shared.changed("b\ntheirs\n")
+        self.assertEqual(shared.mine, "mine\nb\ntheirs\n")
+
+
+class Files(unittest.TestCase):
+    def test_a_text(self):
+        self.assertEqual(texts.read_text("tschüß 😀\r\n".encode()), "tschüß 😀\r\n")
+        self.assertEqual(texts.read_text(b"\xef\xbb\xbfa"), "\ufeffa")
+        self.assertEqual(len(texts.read_text(b"x" * texts.MOST_CHARACTERS)), texts.MOST_CHARACTERS)
+
+    def test_what_is_none(self):
+        rows = [
+            (b"ab\xff", "byte 3 is no UTF-8"),
+            ("aé".encode()[:2], "byte 2 is no UTF-8"),
+            (b"\xed\xa0\x80", "byte 1 is no UTF-8"),
+            (b"a\0b", "character 2 is NUL, so it seems to be no text"),
+            (b"x" * 65_537, "it has 65,537 characters, and a text takes 65,536"),
+        ]
+        for data, why in rows:
+            with self.subTest(why), self.assertRaises(texts.Unfit) as raised:
+                texts.read_text(data)
+            self.assertEqual(str(raised.exception), why)
+
+
+if __name__ == "__main__":
+    unittest.main()

@@ -49,7 +49,8 @@ impl Hub {
         }
     }
 
-    /// A new pass, for another thread. It has seen the same, and has made nothing.
+    /// A new pass, for another thread. It has seen the same, and has made nothing. Its number is a path: k before n for the k-th
+    /// pass that is split from pass n. So nobody else has it, and nobody has to be asked.
     pub fn split(&self, pass: &mut Pass) -> Pass
         requires { IsPassOf self.now pass.old }
         ensures passes { IsPassOf self.now pass.new × IsPassOf self.now result }
@@ -74,6 +75,7 @@ impl Hub {
     {
         let Pass { seat, length } = other;
         self.table.shared.join_seat::<Passes>(&mut pass.seat, seat);
+        // That all numbers differ is learned from the table: the load changes no view.
         self.table.shared.load::<Learn>(&mut pass.seat, 0);
         pass.length = pass.length.max(length);
     }

@@ -9,7 +9,8 @@ use jup_xform::NoMemory;
 use std::alloc::Global;
 use std::collections::BTreeSet;
 
-/// Some names: the site and the number of each.
+/// Some names: the site and the number of each. They are in a tree and not in a table of hashes, since a stranger sends them
+/// and could choose names that all fall into one place.
 #[derive(Drop)]
 pub(crate) struct Names {
     held: BTreeSet<(u32, u32)>,

@@ -49,10 +49,6 @@ longest_board = 33554432
 abbrev pub most_behind : ℕ
 most_behind = 262144
 
--- transforms that one message may cost the server before the session that took it has to rest
-abbrev pub free_transforms : ℕ
-free_transforms = 262144
-
 -- a sequence with fewer items is small: its length, and those after some more insertions, fit in 32 bits
 abbrev pub small_length : ℕ
 small_length = 2147483648

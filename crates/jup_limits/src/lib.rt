@@ -20,7 +20,6 @@ ghost use Rattle.jup_limits.specs.Limits.{
   longest_board,
   small_length,
   most_behind,
-  free_transforms,
 };
 
 mod memory;
@@ -63,10 +62,6 @@ pub const LONGEST_BOARD: u64 = 33_554_432;
 /// How many operations of others, which it has not acknowledged, a site of a running server may be behind before its session ends.
 pub const MOST_BEHIND: u32 = 262_144;
 
-/// How many transforms one message may cost the server before the session that took it has to rest. A message costs its
-/// operations times those that its site is behind.
-pub const FREE_TRANSFORMS: u64 = 262_144;
-
 /// A sequence takes an insertion while it has fewer items than this.
 pub const SMALL_LENGTH: u32 = 2_147_483_648;
 
@@ -85,5 +80,4 @@ pub fn limits_are_stated()
     ensures board { LONGEST_BOARD ≡ longest_board }
     ensures small { SMALL_LENGTH ≡ small_length }
     ensures behind { MOST_BEHIND ≡ most_behind }
-    ensures transforms { FREE_TRANSFORMS ≡ free_transforms }
 {}

@@ -3,7 +3,10 @@ ghost use Rattle.std.specs.Prelude.{◌≡◌, ◌<◌, ◌↔◌, IsTrue};
 ghost use Rattle.jup_limits.specs.Limits.{most_behind};
 ghost use Rattle.jup_rules.specs.Shares.{admission_of, rest_of};
 
-use jup_limits::{FREE_TRANSFORMS, MOST_BEHIND};
+use jup_limits::MOST_BEHIND;
+
+/// How many transforms one message may cost the server before the session that took it has to rest: some 35 ms of the turn.
+const FREE_TRANSFORMS: u64 = 1_048_576;
 
 /// How often as long as a take a session rests after it.
 const RESTS: u64 = 7;

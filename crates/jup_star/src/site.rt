@@ -345,7 +345,7 @@ impl Site {
     }
 }
 
-// Stops a site: its link is gone.
+// Stops a site: its link is gone. It makes and takes nothing more, so it needs nothing of its old end. Its board stays.
 fn halt(alloc: Global, end: &mut End<BoardBatch>, stopped: &mut bool)
     ensures end { end.new.link ≡ opened Side.Client }
     ensures stopped { stopped.new ≡ true }

@@ -1,4 +1,5 @@
--- What holds of each site of this product, however many strangers there are beside it and whatever they send.
+-- What holds of each site of this product, however many strangers there are beside it and whatever they send. A stranger has no
+-- state: what it sends is part of the event, and its link has no site. So one theorem serves runs with strangers and without.
 use Rattle.std.specs.Prelude.{◌≡◌, ℕ, ◌<◌, ◌≤◌, Bool, true, false, List, [], ◌∷◌, ◌++◌, length, Option, Some, None, is_some}
 use Rattle.jup_link.specs.InStep.{InStep}
 use Rattle.jup_window.specs.Operations.{Operations}

@@ -1,4 +1,5 @@
--- How much is on its way in a world: each delivery that moves a message leaves less, so a world can be drained.
+-- How much is on its way in a world: each delivery that moves a message leaves less, so a world can be drained. The rounds of
+-- deliveries go over the numbers from 1 to that of the site that joined last.
 use Rattle.std.specs.Prelude.{ℕ, zero, suc, ◌+◌, ◌*◌, List, [], ◌∷◌, Option, Some, None}
 use Rattle.jup_batch.specs.BatchBoards.{BoardBatch}
 use Rattle.jup_star.specs.declared.messages.Up.{Up}

@@ -7,7 +7,7 @@ use Rattle.jup_star.specs.StarCalls.{BoardLink, BoardStar, Answers, reply_of, st
 use Rattle.jup_star.specs.declared.star.Joined.{Joined}
 use Rattle.jup_star.specs.declared.faults.StarFault.{StarFault}
 use Rattle.jup_star.specs.declared.calls.Call.TheVariants.{Join, Leave}
-use Rattle.jup_star.specs.declared.calls.Reply.TheVariants.{Joined as JoinedReply, Left}
+use Rattle.jup_star.specs.declared.calls.StarReply.TheVariants.{Joined as JoinedReply, Left}
 
 -- what a site gets as it joins is what the star then has
 pub joined_as : (s t : BoardStar) (j : Joined) → Answers Join s t (JoinedReply (bare_joined (Ok j))) → (bare j.board ≡ t.board) × (j.site ≡ t.given)

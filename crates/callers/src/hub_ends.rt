@@ -2,7 +2,7 @@
 ghost use Rattle.std.specs.Prelude.{◌≡◌, List, length, IfOk, IfErr};
 ghost use Rattle.jup_hub.specs.Passes.{opening_of, IsPassOf};
 ghost use Rattle.jup_hub.specs.Histories.{star_through};
-ghost use Rattle.jup_hub.specs.declared.view.Entry.{Entry};
+ghost use Rattle.jup_hub.specs.declared.view.HubEvent.{HubEvent};
 
 use jup_hub::{Closed, Hub, Pass};
 
@@ -10,7 +10,7 @@ use jup_hub::{Closed, Hub, Pass};
 /// The star is the one after some history from the opening on, which has as many events as [`Hub::close`] gives.
 pub fn close_hub(hub: Hub, mut pass: Pass) -> Result<Closed, (Hub, Pass)>
     requires { IsPassOf hub pass }
-    ensures closed { IfOk result (λ closed. (log : List Entry)
+    ensures closed { IfOk result (λ closed. (log : List HubEvent)
         × (closed.star ≡ star_through (opening_of hub) log) × (closed.events ≡ length log)) }
     ensures held { IfErr result (λ held. IsPassOf held.0 held.1) }
 {

@@ -5,24 +5,24 @@ use jup_seq::SeqOp;
 use jup_setting::SetOp;
 use jup_value::{Item, Label};
 use jup_window::{BoardOp, WidgetOp};
-use jup_wire::{Single, read_single};
+use jup_wire::{LoneEdit, read_single};
 use std::marker::PhantomData;
 use std::process::Abort;
 
 // The bytes are read as this message, or as none.
-fn expect_single(rt: &impl Abort, bytes: &[u8], due: Option<Single>) {
+fn expect_single(rt: &impl Abort, bytes: &[u8], due: Option<LoneEdit>) {
     // Types that an operation holds, named so that the borrow checker knows of them.
     let _of: PhantomData<(SeqOp<Label>, WidgetOp, BoardOp)> = PhantomData;
     expect_eq(rt, read_single(bytes), due);
 }
 
-fn single(mine: u32, heard: u32, op: WidgetOp, len: usize) -> Option<Single> {
+fn single(mine: u32, heard: u32, op: WidgetOp, len: usize) -> Option<LoneEdit> {
     let op = BoardOp {
         win: 2,
         wid: 31,
         op,
     };
-    Some(Single {
+    Some(LoneEdit {
         mine,
         heard,
         op,
@@ -31,7 +31,7 @@ fn single(mine: u32, heard: u32, op: WidgetOp, len: usize) -> Option<Single> {
 }
 
 // What "batch 5 0 1" and "do 2 31 text ins 10 4.17 233" say.
-fn inserted() -> Option<Single> {
+fn inserted() -> Option<LoneEdit> {
     let item = Item {
         name: name(4, 17),
         value: 'é',

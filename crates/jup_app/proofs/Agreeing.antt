@@ -16,8 +16,8 @@ use Rattle.jup_star.specs.declared.calls.Call.{Call}
 use Rattle.jup_star.specs.declared.calls.Call.TheVariants.{Join, Take, Fetch, Leave}
 use Rattle.jup_star.specs.StarStates.{link_of, opened_star, join_fault, take_fault, taken, most_batches}
 use Rattle.jup_star.specs.StarCalls.{BoardStar, BoardLink, after_join, after_take, after_fetch, after_leave, star_after, reply_of}
-use Rattle.jup_star.specs.declared.calls.Reply.TheVariants as reply
-use Rattle.jup_hub.specs.declared.view.Entry.{Entry}
+use Rattle.jup_star.specs.declared.calls.StarReply.TheVariants as reply
+use Rattle.jup_hub.specs.declared.view.HubEvent.{HubEvent}
 use Rattle.jup_hub.specs.Histories.{IsLegal, star_through}
 use Rattle.jup_world.specs.Each.{Each}
 use Rattle.jup_world.specs.Events as event
@@ -144,7 +144,7 @@ one_call n (Leave i) s site all = go (link_of i s.links)
     go None = (all, refl)
     go (Some l) = (all, refl)
 
-all_calls : (n : ℕ) (h : List Entry) (s : BoardStar) → Each (λ (e : Entry). IsSite n (site_of e.call)) h → OrderWithin n s → OrderWithin n (star_through s h) × ((star_through s h).given ≡ s.given)
+all_calls : (n : ℕ) (h : List HubEvent) (s : BoardStar) → Each (λ (e : HubEvent). IsSite n (site_of e.call)) h → OrderWithin n s → OrderWithin n (star_through s h) × ((star_through s h).given ≡ s.given)
 all_calls n [] s sited all = (all, refl)
 all_calls n (e ∷ h) s sited all =
     let one = one_call n e.call s sited.0 all in
@@ -159,7 +159,7 @@ join_call s = go (join_fault s)
     go None = (refl, omega arith)
     go (Some e) = (refl, omega arith)
 
-all_joins : (h : List Entry) (s : BoardStar) → Each (λ (e : Entry). e.call ≡ Join) h → ((star_through s h).order ≡ s.order) × ((star_through s h).given ≤ s.given + length h)
+all_joins : (h : List HubEvent) (s : BoardStar) → Each (λ (e : HubEvent). e.call ≡ Join) h → ((star_through s h).order ≡ s.order) × ((star_through s h).given ≤ s.given + length h)
 all_joins [] s joined = (refl, omega arith)
 all_joins (e ∷ h) s joined =
     let here : star_after e.call s ≡ star_after Join s = ap (λ c. star_after c s) joined.0 in

@@ -7,7 +7,7 @@ use Rattle.jup_batch.specs.BatchBoards.{BoardEdits, Commands}
 use Rattle.jup_star.specs.SiteCalls.{BoardSite}
 use Rattle.jup_world.specs.Each.{Each}
 use Rattle.jup_hub.specs.declared.hub.Hub.{Hub}
-use Rattle.jup_hub.specs.declared.view.Entry.{Entry}
+use Rattle.jup_hub.specs.declared.view.HubEvent.{HubEvent}
 use Rattle.jup_hub.specs.declared.view.Tally.{Tally}
 use Rattle.jup_hub.specs.declared.view.View.{View}
 use Rattle.jup_hub.specs.Histories.{calls_by}
@@ -15,7 +15,7 @@ use Rattle.jup_hub.specs.Knowledge.{tally, tallies}
 use Rattle.jup_hub.specs.Passes.{view_of, IsPassOf}
 use Rattle.jup_app.specs.declared.runs.threads.Job.{Job}
 use Rattle.jup_app.specs.declared.runs.player.Player.{Player}
-use Rattle.jup_app.specs.declared.runs.stop.Stop.{Stop}
+use Rattle.jup_app.specs.declared.runs.halt.Halt.{Halt}
 use Rattle.jup_app.specs.declared.runs.drain.SiteEnd.{SiteEnd}
 use Rattle.jup_app.specs.Runs.{EditAnswer, Made, made, Step, calls_of, edits_of, singles, IsPlayed}
 use Rattle.jup_app.specs.Plays.{makes, link_with, answered, Played}
@@ -26,7 +26,7 @@ use Rattle.jup_app.proofs.Count.{total}
 use Rattle.jup_app.proofs.SiteLaws.{played_number}
 
 -- what a site's thread has done, from its opening on
-pub record RanBy (joined : List Entry) (site : BoardSite) (script : List Command) (p : Player) (steps : List Step) : Type 0 where
+pub record RanBy (joined : List HubEvent) (site : BoardSite) (script : List Command) (p : Player) (steps : List Step) : Type 0 where
   pub are : makes (view_of p.caller.pass).made ≡ calls_of site.number steps
   pub kept : (view_of p.caller.pass).kept ≡ []
   pub not_yet : calls_by (view_of p.caller.pass).number joined ≡ []
@@ -39,7 +39,7 @@ pub record RanBy (joined : List Entry) (site : BoardSite) (script : List Command
 plus_zero : (n : ℕ) → 0 + n ≡ n
 plus_zero n = omega arith
 
-pub ran_by : (hub : Hub) (joined : List Entry) (site : BoardSite) (script : List Command) (job : Job) (p : Player) → IsJob hub joined site script job → Ran hub job p → (steps : List Step) × RanBy joined site script p steps
+pub ran_by : (hub : Hub) (joined : List HubEvent) (site : BoardSite) (script : List Command) (job : Job) (p : Player) → IsJob hub joined site script job → Ran hub job p → (steps : List Step) × RanBy joined site script p steps
 ran_by hub joined site script job p j r =
     let seat = j.seated in
     let w = r.played.works in
@@ -49,7 +49,7 @@ ran_by hub joined site script job p j r =
         are = ap makes made_is ∙ w.plays.are ∙ ap (λ n. calls_of n w.steps) seat.number_is;
         kept = w.plays.kept ∙ seat.kept;
         not_yet = ap (λ n. calls_by n joined) w.plays.number ∙ seat.not_yet;
-        count = w.count ∙ ap (λ n. n + length w.plays.calls) seat.count ∙ plus_zero (length w.plays.calls) ∙ ap (λ (es : List Entry). length es) (sym made_is);
+        count = w.count ∙ ap (λ n. n + length w.plays.calls) seat.count ∙ plus_zero (length w.plays.calls) ∙ ap (λ (es : List HubEvent). length es) (sym made_is);
         commands = ap (λ es. map (λ (e : Commands × EditAnswer). e.0) es) w.edits_are ∙ r.played.commands ∙ ap singles j.script_is;
         answers = ap (λ es. map (λ (e : Commands × EditAnswer). e.1) es) w.edits_are ∙ r.played.answers;
         played = subst (λ s. IsPlayed (link_with s []) w.steps (link_with p.site [])) seat.site_is w.plays.played;
@@ -57,7 +57,7 @@ ran_by hub joined site script job p j r =
       },
     )
 
-abbrev pub ok_player : Player → Result Player Stop
+abbrev pub ok_player : Player → Result Player Halt
 ok_player q = Ok q
 
 pub get_or_map : {A B : Type 0} (f : A → B) (xs : List A) (k : ℕ) (d : A) (e : B) → k < length xs → get_or (map f xs) k e ≡ f (get_or xs k d)
@@ -65,7 +65,7 @@ get_or_map f [] k d e within = absurd (omega arith)
 get_or_map f (x ∷ xs) zero d e within = refl
 get_or_map f (x ∷ xs) (suc k) d e within = get_or_map f xs k d e (omega arith)
 
-pub ran_at : (hub : Hub) (jobs : List Job) (results : List (Result Player Stop)) (ps : List Player) → AllRan hub jobs results → results ≡ map ok_player ps → length jobs ≡ length ps
+pub ran_at : (hub : Hub) (jobs : List Job) (results : List (Result Player Halt)) (ps : List Player) → AllRan hub jobs results → results ≡ map ok_player ps → length jobs ≡ length ps
     → (k : ℕ) (dj : Job) (dp : Player) → k < length ps → Ran hub (get_or jobs k dj) (get_or ps k dp)
 ran_at hub jobs results ps all is long k dj dp within =
     let inside : k < length jobs = omega (arith, long) in
@@ -114,7 +114,7 @@ pub map_length : {A B : Type 0} (f : A → B) (xs : List A) → length (map f xs
 map_length f [] = refl
 map_length f (x ∷ xs) = ap suc (map_length f xs)
 
-if_ok_weaker : (r : Result Player Stop) (P Q : Player → Type 0) → ((p : Player) → P p → Q p) → IfOk r P → IfOk r Q
+if_ok_weaker : (r : Result Player Halt) (P Q : Player → Type 0) → ((p : Player) → P p → Q p) → IfOk r P → IfOk r Q
 if_ok_weaker (Ok p) P Q f is = f p is
 if_ok_weaker (Err e) P Q f is = tt
 
@@ -122,8 +122,8 @@ one_job : (xs : List Job) → 0 < length xs → Job
 one_job [] some = absurd (omega arith)
 one_job (x ∷ xs) some = x
 
-pub ran_passes : (hub : Hub) (jobs : List Job) (results : List (Result Player Stop)) → AllRan hub jobs results → length results ≡ length jobs
-    → (k : ℕ) (d : Result Player Stop) → k < length results → IfOk (get_or results k d) (λ (p : Player). IsPassOf hub p.caller.pass)
+pub ran_passes : (hub : Hub) (jobs : List Job) (results : List (Result Player Halt)) → AllRan hub jobs results → length results ≡ length jobs
+    → (k : ℕ) (d : Result Player Halt) → k < length results → IfOk (get_or results k d) (λ (p : Player). IsPassOf hub p.caller.pass)
 ran_passes hub jobs results all long k d within =
     let inside : k < length jobs = omega (arith, long) in
     let dj = one_job jobs (omega (arith, inside)) in

@@ -3,7 +3,7 @@ use Rattle.std.proofs.Common.{◌≡◌, ◌≢◌, ℕ, zero, suc, ◌+◌, ◌
 use Rattle.std.proofs.lemmas.Slice.Eq.{bytes_eq-Decides}
 use Rattle.std.proofs.lemmas.List.{append_cancel_left}
 use Rattle.jup_world.specs.Each.{Each}
-use Rattle.jup_hub.specs.declared.view.Entry.{Entry}
+use Rattle.jup_hub.specs.declared.view.HubEvent.{HubEvent}
 use Rattle.jup_hub.specs.declared.view.Tally.{Tally}
 use Rattle.jup_hub.specs.Histories.{calls_by, AllTallied, IsNew, AllApart}
 use Rattle.jup_app.specs.Runs.{Made, made}
@@ -33,7 +33,7 @@ total [] = 0
 total (k ∷ ks) = length k.calls + total ks
 
 -- how many entries of a history are the hands'
-total_by : List Tally → List Entry → ℕ
+total_by : List Tally → List HubEvent → ℕ
 total_by [] h = 0
 total_by (k ∷ ks) h = length (calls_by k.number h) + total_by ks h
 
@@ -62,10 +62,10 @@ hits_cases n (k ∷ ks) apart =
       ]
     ]
 
-length_more : (n : List ℕ) (e : Entry) (h : List Entry) → length (calls_by n (e ∷ h)) ≡ cond (bytes_eq e.by n) 1 0 + length (calls_by n h)
+length_more : (n : List ℕ) (e : HubEvent) (h : List HubEvent) → length (calls_by n (e ∷ h)) ≡ cond (bytes_eq e.by n) 1 0 + length (calls_by n h)
 length_more n e h = elim (bytes_eq e.by n) as (λ b. length (cond b (e ∷ calls_by n h) (calls_by n h)) ≡ cond b 1 0 + length (calls_by n h)) [ true ↦ omega arith | false ↦ omega arith ]
 
-total_more : (ks : List Tally) (e : Entry) (h : List Entry) → total_by ks (e ∷ h) ≡ hits e.by ks + total_by ks h
+total_more : (ks : List Tally) (e : HubEvent) (h : List HubEvent) → total_by ks (e ∷ h) ≡ hits e.by ks + total_by ks h
 unfolding hits total_by
 total_more [] e h = refl
 total_more (k ∷ ks) e h = omega (arith, length_more k.number e h, total_more ks e h)
@@ -75,7 +75,7 @@ unfolding total_by
 none_by [] = refl
 none_by (k ∷ ks) = omega (arith, none_by ks)
 
-all_known : (ks : List Tally) (h : List Entry) → AllApart ks → (total_by ks h ≤ length h) × (total_by ks h ≡ length h → Each (λ (e : Entry). IsKnown e.by ks) h)
+all_known : (ks : List Tally) (h : List HubEvent) → AllApart ks → (total_by ks h ≤ length h) × (total_by ks h ≡ length h → Each (λ (e : HubEvent). IsKnown e.by ks) h)
 all_known ks [] apart = (omega (arith, none_by ks), λ _. tt)
 all_known ks (e ∷ h) apart =
     let rest = all_known ks h apart in
@@ -84,13 +84,13 @@ all_known ks (e ∷ h) apart =
       | inr one ↦ (omega (arith, total_more ks e h), λ whole. (one.1, rest.1 (omega (arith, total_more ks e h))))
     ]
 
-total_is : (ks : List Tally) (h : List Entry) → AllTallied h ks → total_by ks h ≡ total ks
+total_is : (ks : List Tally) (h : List HubEvent) → AllTallied h ks → total_by ks h ≡ total ks
 unfolding total_by
 total_is [] h own = refl
 total_is (k ∷ ks) h own = omega (arith, ap length own.0, total_is ks h own.1)
 
 -- each entry is by one of the hands
-pub known : (ks : List Tally) (h : List Entry) → AllApart ks → AllTallied h ks → length h ≡ total ks → Each (λ (e : Entry). IsKnown e.by ks) h
+pub known : (ks : List Tally) (h : List HubEvent) → AllApart ks → AllTallied h ks → length h ≡ total ks → Each (λ (e : HubEvent). IsKnown e.by ks) h
 known ks h apart own whole = (all_known ks h apart).1 (total_is ks h own ∙ sym whole)
 
 pub each_append : {A : Type 0} (P : A → Type 0) (xs ys : List A) → Each P (xs ++ ys) → Each P xs × Each P ys
@@ -105,32 +105,32 @@ pub each_weaker : {A : Type 0} (P Q : A → Type 0) (xs : List A) → ((x : A) �
 each_weaker P Q [] f all = tt
 each_weaker P Q (x ∷ xs) f all = (f x all.0, each_weaker P Q xs f all.1)
 
-pub calls_by-append : (n : List ℕ) (h k : List Entry) → calls_by n (h ++ k) ≡ calls_by n h ++ calls_by n k
+pub calls_by-append : (n : List ℕ) (h k : List HubEvent) → calls_by n (h ++ k) ≡ calls_by n h ++ calls_by n k
 calls_by-append n [] k = refl
 calls_by-append n (e ∷ h) k =
     ap (λ ms. cond (bytes_eq e.by n) (e ∷ ms) ms) (calls_by-append n h k)
     ∙ elim (bytes_eq e.by n) as (λ b. cond b (e ∷ (calls_by n h ++ calls_by n k)) (calls_by n h ++ calls_by n k) ≡ cond b (e ∷ calls_by n h) (calls_by n h) ++ calls_by n k) [ true ↦ refl | false ↦ refl ]
 
-pub each_made : (P : Made → Type 0) (h : List Entry) → Each P (makes h) → Each (λ (e : Entry). P (made e)) h
+pub each_made : (P : Made → Type 0) (h : List HubEvent) → Each P (makes h) → Each (λ (e : HubEvent). P (made e)) h
 each_made P [] all = tt
 each_made P (e ∷ h) all = (all.0, each_made P h all.1)
 
 -- what a pass has made since
-pub made_since : (n : List ℕ) (h k : List Entry) (before later : List Entry) → calls_by n h ≡ before → calls_by n (h ++ k) ≡ before ++ later → calls_by n k ≡ later
+pub made_since : (n : List ℕ) (h k : List HubEvent) (before later : List HubEvent) → calls_by n h ≡ before → calls_by n (h ++ k) ≡ before ++ later → calls_by n k ≡ later
 made_since n h k before later a b = append_cancel_left before (calls_by n k) later (ap (λ ms. ms ++ calls_by n k) (sym a) ∙ sym (calls_by-append n h k) ∙ b)
 
-tail_silent : (n : List ℕ) (e : Entry) (h : List Entry) → calls_by n (e ∷ h) ≡ [] → calls_by n h ≡ []
+tail_silent : (n : List ℕ) (e : HubEvent) (h : List HubEvent) → calls_by n (e ∷ h) ≡ [] → calls_by n h ≡ []
 tail_silent n e h none = elim (bytes_eq e.by n) as (λ b. cond b (e ∷ calls_by n h) (calls_by n h) ≡ [] → calls_by n h ≡ []) [ true ↦ λ e. absurd cc | false ↦ λ e. e ] none
 
-not_silent : (n : List ℕ) (e : Entry) (h : List Entry) → e.by ≡ n → calls_by n (e ∷ h) ≡ [] → ⊥
+not_silent : (n : List ℕ) (e : HubEvent) (h : List HubEvent) → e.by ≡ n → calls_by n (e ∷ h) ≡ [] → ⊥
 not_silent n e h is none = let b : bytes_eq e.by n ≡ true = same_bytes e.by n is in let one : e ∷ calls_by n h ≡ [] = rw b at none in absurd cc
 
-silent_known : (ks : List Tally) (e : Entry) (h : List Entry) → IsKnown e.by ks → Each (λ (k : Tally). calls_by k.number (e ∷ h) ≡ []) ks → ⊥
+silent_known : (ks : List Tally) (e : HubEvent) (h : List HubEvent) → IsKnown e.by ks → Each (λ (k : Tally). calls_by k.number (e ∷ h) ≡ []) ks → ⊥
 silent_known [] e h is none = is
 silent_known (k ∷ ks) e h is none = elim is [ inl same ↦ not_silent k.number e h (sym same) none.0 | inr more ↦ silent_known ks e h more none.1 ]
 
 -- if the others have no entry, all are by the first
-pub only_one : (k : Tally) (ks : List Tally) (h : List Entry) → Each (λ (e : Entry). IsKnown e.by (k ∷ ks)) h → Each (λ (j : Tally). calls_by j.number h ≡ []) ks → Each (λ (e : Entry). e.by ≡ k.number) h
+pub only_one : (k : Tally) (ks : List Tally) (h : List HubEvent) → Each (λ (e : HubEvent). IsKnown e.by (k ∷ ks)) h → Each (λ (j : Tally). calls_by j.number h ≡ []) ks → Each (λ (e : HubEvent). e.by ≡ k.number) h
 only_one k ks [] all none = tt
 only_one k ks (e ∷ h) all none = (
   elim all.0 [ inl same ↦ sym same | inr more ↦ absurd (silent_known ks e h more none) ],
@@ -138,22 +138,22 @@ only_one k ks (e ∷ h) all none = (
 )
 
 -- if the first has no entry, all are by the others
-pub none_first : (k : Tally) (ks : List Tally) (h : List Entry) → Each (λ (e : Entry). IsKnown e.by (k ∷ ks)) h → calls_by k.number h ≡ [] → Each (λ (e : Entry). IsKnown e.by ks) h
+pub none_first : (k : Tally) (ks : List Tally) (h : List HubEvent) → Each (λ (e : HubEvent). IsKnown e.by (k ∷ ks)) h → calls_by k.number h ≡ [] → Each (λ (e : HubEvent). IsKnown e.by ks) h
 none_first k ks [] all none = tt
 none_first k ks (e ∷ h) all none = (
   elim all.0 [ inl same ↦ absurd (not_silent k.number e h (sym same) none) | inr more ↦ more ],
   none_first k ks h all.1 (tail_silent k.number e h none),
 )
 
-pub makes-append : (h k : List Entry) → makes (h ++ k) ≡ makes h ++ makes k
+pub makes-append : (h k : List HubEvent) → makes (h ++ k) ≡ makes h ++ makes k
 makes-append [] k = refl
 makes-append (e ∷ h) k = ap (λ ms. made e ∷ ms) (makes-append h k)
 
 -- a history that is all of one pass is its calls
-pub all_of_one : (n : List ℕ) (h : List Entry) → Each (λ (e : Entry). e.by ≡ n) h → h ≡ calls_by n h
+pub all_of_one : (n : List ℕ) (h : List HubEvent) → Each (λ (e : HubEvent). e.by ≡ n) h → h ≡ calls_by n h
 all_of_one n [] all = refl
 all_of_one n (e ∷ h) all = ap (λ es. e ∷ es) (all_of_one n h all.1) ∙ ap (λ b. cond b (e ∷ calls_by n h) (calls_by n h)) (sym (same_bytes e.by n all.0))
 
-pub each_tallied : (ks : List Tally) (h : List Entry) → AllTallied h ks → Each (λ (k : Tally). calls_by k.number h ≡ k.calls) ks
+pub each_tallied : (ks : List Tally) (h : List HubEvent) → AllTallied h ks → Each (λ (k : Tally). calls_by k.number h ≡ k.calls) ks
 each_tallied [] h all = tt
 each_tallied (k ∷ ks) h all = (all.0, each_tallied ks h all.1)

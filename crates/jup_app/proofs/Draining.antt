@@ -7,13 +7,13 @@ use Rattle.std.proofs.lemmas.List.{append_cancel_left}
 use Rattle.std.proofs.Math.Numerals.{add-one}
 use Rattle.jup_star.specs.declared.calls.Call.{Call}
 use Rattle.jup_star.specs.declared.calls.Call.TheVariants.{Join, Take, Fetch}
-use Rattle.jup_star.specs.declared.calls.Reply.{Reply}
-use Rattle.jup_star.specs.declared.calls.Reply.TheVariants as reply
+use Rattle.jup_star.specs.declared.calls.StarReply.{StarReply}
+use Rattle.jup_star.specs.declared.calls.StarReply.TheVariants as reply
 use Rattle.jup_star.specs.SiteCalls.{BoardSite}
 use Rattle.jup_rules.specs.Bounds.{most_fetched}
 use Rattle.jup_world.specs.Each.{Each}
 use Rattle.jup_world.specs.BoardWorlds.{BoardAttached}
-use Rattle.jup_hub.specs.declared.view.Entry.{Entry}
+use Rattle.jup_hub.specs.declared.view.HubEvent.{HubEvent}
 use Rattle.jup_hub.specs.declared.view.View.{View}
 use Rattle.jup_hub.specs.Knowledge.{Called}
 use Rattle.jup_app.specs.declared.runs.drain.SiteEnd.{SiteEnd}
@@ -88,7 +88,7 @@ drained_more v w x n m o old new k e t within a at h =
       calls = a.calls ++ fresh;
       made = now.plays.made ∙ ap (λ es. es ++ fresh) a.made ∙ append_assoc v.made a.calls fresh;
       own = λ numbered j. ap (λ ms. calls_at j ms) (makes-append a.calls fresh) ∙ calls_at-append j (makes a.calls) (makes fresh) ∙ ap (λ ms. ms ++ calls_at j (makes fresh)) (a.own numbered j) ∙ ap (λ ms. calls_of j (a.logs j) ++ calls_at j ms) (are numbered) ∙ own_more i j a.logs now.steps;
-      sites = λ numbered. each_both (λ (e : Entry). IsSite (length old) (site_of e.call)) a.calls fresh (a.sites numbered)
+      sites = λ numbered. each_both (λ (e : HubEvent). IsSite (length old) (site_of e.call)) a.calls fresh (a.sites numbered)
           (each_made (λ (m : Made). IsSite (length old) (site_of m.call)) fresh (subst (λ ms. Each (λ (m : Made). IsSite (length old) (site_of m.call)) ms) (sym (are numbered))
           (each_weaker (λ (m : Made). site_of m.call ≡ i) (λ (m : Made). IsSite (length old) (site_of m.call)) (calls_of i now.steps) (λ m is. (omega (arith, is), omega (arith, is))) (calls_own i now.steps))));
       no_edits = λ j. at_each (λ log (q : ℕ). edits_of log ≡ []) i j (a.logs i ++ now.steps) 0 a.logs (λ k. 0) (λ e. edits_of-append (a.logs i) now.steps ∙ ap (λ es. es ++ edits_of now.steps) (a.no_edits i) ∙ now.no_edits) (λ ne. a.no_edits j);
@@ -131,7 +131,7 @@ drained_both v w x n m o old mid new a b = record {
   calls = a.calls ++ b.calls;
   made = b.made ∙ ap (λ es. es ++ b.calls) a.made ∙ append_assoc v.made a.calls b.calls;
   own = λ numbered i. ap (λ ms. calls_at i ms) (makes-append a.calls b.calls) ∙ calls_at-append i (makes a.calls) (makes b.calls) ∙ ap (λ ms. ms ++ calls_at i (makes b.calls)) (a.own numbered i) ∙ ap (λ ms. calls_of i (a.logs i) ++ ms) (b.own (still_numbered v w n m old mid a numbered) i) ∙ sym (calls_of-append i (a.logs i) (b.logs i));
-  sites = λ numbered. each_both (λ (e : Entry). IsSite (length old) (site_of e.call)) a.calls b.calls (a.sites numbered) (subst (λ q. Each (λ (e : Entry). IsSite q (site_of e.call)) b.calls) a.long (b.sites (still_numbered v w n m old mid a numbered)));
+  sites = λ numbered. each_both (λ (e : HubEvent). IsSite (length old) (site_of e.call)) a.calls b.calls (a.sites numbered) (subst (λ q. Each (λ (e : HubEvent). IsSite q (site_of e.call)) b.calls) a.long (b.sites (still_numbered v w n m old mid a numbered)));
   no_edits = λ i. edits_of-append (a.logs i) (b.logs i) ∙ ap (λ es. es ++ edits_of (b.logs i)) (a.no_edits i) ∙ b.no_edits i;
   number = b.number ∙ a.number;
   kept = b.kept ∙ a.kept;

@@ -2,8 +2,8 @@
 use Rattle.std.proofs.Common.{◌≡◌, ℕ, ◌<◌, List, [], ◌∷◌, ◌++◌, length, Ok, sym, ap, ◌∙◌, subst}
 use Rattle.std.proofs.lemmas.List.{append_assoc}
 use Rattle.jup_star.specs.declared.calls.Call.TheVariants.{Fetch}
-use Rattle.jup_star.specs.declared.calls.Reply.TheVariants.{Fetched}
-use Rattle.jup_hub.specs.declared.view.Entry.{Entry}
+use Rattle.jup_star.specs.declared.calls.StarReply.TheVariants.{Fetched}
+use Rattle.jup_hub.specs.declared.view.HubEvent.{HubEvent}
 use Rattle.jup_hub.specs.declared.view.View.{View}
 use Rattle.jup_hub.specs.Histories.{entry}
 use Rattle.jup_hub.specs.Knowledge.{longest, having_seen, Called, Meets}
@@ -12,25 +12,25 @@ use Rattle.jup_app.specs.Runs.{BoardDown}
 use Rattle.jup_app.specs.Plays.{Handles, Fetches, CatchesUp}
 use Rattle.jup_world.specs.BoardWorlds.{BoardAttached}
 
-pub fetches_first : (i : ℕ) (v u w : View) (ds : List BoardDown) (calls : List Entry) → Called (Fetch i most_fetched) (Fetched (Ok ds)) v u → w.made ≡ u.made ++ calls → Fetches i v w
+pub fetches_first : (i : ℕ) (v u w : View) (ds : List BoardDown) (calls : List HubEvent) → Called (Fetch i most_fetched) (Fetched (Ok ds)) v u → w.made ≡ u.made ++ calls → Fetches i v w
 fetches_first i v u w ds calls c more =
-    let e : Entry = entry v.number (Fetch i most_fetched) (Fetched (Ok ds)) in
+    let e : HubEvent = entry v.number (Fetch i most_fetched) (Fetched (Ok ds)) in
     let one : u.made ≡ v.made ++ e ∷ [] = ap (λ (x : View). x.made) c.view in record {
       reply = Fetched (Ok ds);
       later = calls;
-      made = more ∙ ap (λ (l : List Entry). l ++ calls) one ∙ append_assoc v.made (e ∷ []) calls;
+      made = more ∙ ap (λ (l : List HubEvent). l ++ calls) one ∙ append_assoc v.made (e ∷ []) calls;
     }
 
-fetches_more : (i : ℕ) (v u w : View) (calls : List Entry) → Fetches i v u → w.made ≡ u.made ++ calls → Fetches i v w
+fetches_more : (i : ℕ) (v u w : View) (calls : List HubEvent) → Fetches i v u → w.made ≡ u.made ++ calls → Fetches i v w
 fetches_more i v u w calls f more =
-    let e : Entry = entry v.number (Fetch i most_fetched) f.reply in record {
+    let e : HubEvent = entry v.number (Fetch i most_fetched) f.reply in record {
       reply = f.reply;
       later = f.later ++ calls;
-      made = more ∙ ap (λ (l : List Entry). l ++ calls) f.made ∙ append_assoc v.made (e ∷ f.later) calls;
+      made = more ∙ ap (λ (l : List HubEvent). l ++ calls) f.made ∙ append_assoc v.made (e ∷ f.later) calls;
     }
 
 -- there was news, and it was fetched
-pub caught : (i : ℕ) (v u w : View) (log : List Entry) → Meets v log → u ≡ having_seen log v → Fetches i u w → CatchesUp i v w
+pub caught : (i : ℕ) (v u w : View) (log : List HubEvent) → Meets v log → u ≡ having_seen log v → Fetches i u w → CatchesUp i v w
 caught i v u w log meets is f = record {
   history = log;
   met = meets;
@@ -38,7 +38,7 @@ caught i v u w log meets is f = record {
 }
 
 -- there was none
-pub caught_none : (i : ℕ) (v w : View) (log : List Entry) → Meets v log → (longest v.seen < length log → ⊥) → CatchesUp i v w
+pub caught_none : (i : ℕ) (v w : View) (log : List HubEvent) → Meets v log → (longest v.seen < length log → ⊥) → CatchesUp i v w
 caught_none i v w log meets none = record { history = log; met = meets; fetched = λ later. absurd (none later) }
 
 -- and then the pass made other calls, for whatever site

@@ -5,12 +5,12 @@ use Rattle.std.proofs.lemmas.Bool.Decides.{nat_tests}
 use Rattle.std.specs.Prelude.{◌==◌, true}
 use Rattle.jup_star.specs.declared.calls.Call.{Call}
 use Rattle.jup_star.specs.declared.calls.Call.TheVariants.{Join, Take, Fetch}
-use Rattle.jup_star.specs.declared.calls.Reply.{Reply}
-use Rattle.jup_star.specs.declared.calls.Reply.TheVariants as reply
+use Rattle.jup_star.specs.declared.calls.StarReply.{StarReply}
+use Rattle.jup_star.specs.declared.calls.StarReply.TheVariants as reply
 use Rattle.jup_star.specs.SiteCalls.{BoardSite}
 use Rattle.jup_world.specs.BoardWorlds.{BoardAttached}
 use Rattle.jup_hub.specs.declared.fault.HubFault.{HubFault}
-use Rattle.jup_hub.specs.declared.view.Entry.{Entry}
+use Rattle.jup_hub.specs.declared.view.HubEvent.{HubEvent}
 use Rattle.jup_hub.specs.declared.view.View.{View}
 use Rattle.jup_hub.specs.Histories.{BeginsWith, BeginsWithAll}
 use Rattle.jup_hub.specs.Knowledge.{Called, having_called, with_call}
@@ -33,13 +33,13 @@ delivering_more ds k d start s t up new within fine is so_far =
       accepts = λ later. so_far.accepts (subst (λ xs. AcceptsAll xs (link_with s up)) (sym split) (fine, subst (λ l. AcceptsAll (drop (k + 1) ds) l) (sym is) later));
     }
 
-pub begins_trans : (a b c : List Entry) → BeginsWith a b → BeginsWith b c → BeginsWith a c
+pub begins_trans : (a b c : List HubEvent) → BeginsWith a b → BeginsWith b c → BeginsWith a c
 begins_trans a b c x y = (y.0 ++ x.0, x.1 ∙ ap (λ h. h ++ x.0) y.1 ∙ append_assoc c y.0 x.0)
 
-pub begins_more : (a xs b : List Entry) → BeginsWith a b → BeginsWith (a ++ xs) b
+pub begins_more : (a xs b : List HubEvent) → BeginsWith a b → BeginsWith (a ++ xs) b
 begins_more a xs b x = (x.0 ++ xs, ap (λ h. h ++ xs) x.1 ∙ append_assoc b x.0 xs)
 
-abbrev entry_of : View → Call → Reply → List Entry
+abbrev entry_of : View → Call → StarReply → List HubEvent
 entry_of v call reply = record { by = v.number; call = call; reply = reply } ∷ []
 
 -- an edit that its gate let through, and that the hub took
@@ -49,7 +49,7 @@ edit_answered view site up v p q answer place answered was same =
     subst (λ r. Called (Take site up) (reply.Taken (Ok place)) v (view r)) (sym same) (subst (λ (r : Result (Option ℕ) HubFault). HasAnswered site up v (view p) (Some r)) was answered)
 
 -- a call that was made
-pub called_seen : (call : Call) (reply : Reply) (v w : View) → Called call reply v w → (h : List Entry) → HasSeen h v → HasSeen h w
+pub called_seen : (call : Call) (reply : StarReply) (v w : View) → Called call reply v w → (h : List HubEvent) → HasSeen h v → HasSeen h w
 called_seen call reply v w c h has =
     let all : BeginsWithAll c.before (has.latest ∷ has.others) = subst (λ hs. BeginsWithAll c.before hs) has.seen c.begins in
     let one = all.0 in record {
@@ -59,7 +59,7 @@ called_seen call reply v w c h has =
       begins = begins_more c.before (entry_of v call reply) h (begins_trans c.before has.latest h one has.begins);
     }
 
-unfoldable pub called_plays : (i : ℕ) (call : Call) (reply : Reply) (v w : View) (l m : BoardAttached) (step : Step) → Called call reply v w → calls_of i (step ∷ []) ≡ record { call = call; reply = reply } ∷ [] → IsPlayed l (step ∷ []) m → Plays i v w l m (step ∷ [])
+unfoldable pub called_plays : (i : ℕ) (call : Call) (reply : StarReply) (v w : View) (l m : BoardAttached) (step : Step) → Called call reply v w → calls_of i (step ∷ []) ≡ record { call = call; reply = reply } ∷ [] → IsPlayed l (step ∷ []) m → Plays i v w l m (step ∷ [])
 called_plays i call reply v w l m step c calls played = record {
   calls = record { by = v.number; call = call; reply = reply } ∷ [];
   made = ap (λ (x : View). x.made) c.view;

@@ -5,13 +5,13 @@ use Rattle.jup_batch.specs.BoardBatches.{board_batches}
 use Rattle.jup_star.specs.declared.faults.StarFault.{StarFault}
 use Rattle.jup_star.specs.declared.star.Joined.{Joined}
 use Rattle.jup_star.specs.declared.calls.Call.TheVariants.{Join}
-use Rattle.jup_star.specs.declared.calls.Reply.TheVariants as reply
+use Rattle.jup_star.specs.declared.calls.StarReply.TheVariants as reply
 use Rattle.jup_star.specs.StarStates.{join_fault, joined}
 use Rattle.jup_star.specs.SiteStates.{opened_site}
 use Rattle.jup_star.specs.SiteCalls.{BoardSite}
 use Rattle.jup_star.specs.StarCalls.{BoardStar, joining, reply_of, star_after}
 use Rattle.jup_star.proofs.Lookup.{found-end, found-end_other}
-use Rattle.jup_hub.specs.declared.view.Entry.{Entry}
+use Rattle.jup_hub.specs.declared.view.HubEvent.{HubEvent}
 use Rattle.jup_hub.specs.Histories.{IsLegal, star_through}
 use Rattle.jup_world.specs.Each.{Each}
 use Rattle.jup_world.specs.Events as event
@@ -26,7 +26,7 @@ use Rattle.jup_app.proofs.Simulate.{after, edits_at_last}
 use Rattle.jup_app.proofs.StarLaws.{join_gives}
 
 -- the world after a list of joins: each site has its number, and is as it opened
-pub record HasJoined (w : BoardWorld) (js : List BoardSite) (h : List Entry) : Type 0 where
+pub record HasJoined (w : BoardWorld) (js : List BoardSite) (h : List HubEvent) : Type 0 where
   pub star : (after w (joins (length js))).star ≡ star_through w.star h
   pub sites : (k : ℕ) (d : BoardSite) → k < length js → attached (w.star.given + suc k) (after w (joins (length js))).sites ≡ Some (link_with (get_or js k d) [])
   pub before : (i : ℕ) → i ≤ w.star.given → attached i (after w (joins (length js))).sites ≡ attached i w.sites
@@ -86,7 +86,7 @@ site_at w v j js g grew first others (suc k) d within =
     let at : w.star.given + suc (suc k) ≡ g + suc k = omega (arith, grew) in
     ap (λ n. attached n v.sites) at ∙ others k d (omega arith)
 
-pub has_joined : (js : List BoardSite) (w : BoardWorld) (h : List Entry) → makes h ≡ map joined_call js → Each IsFresh js → IsClear w → IsLegal w.star h → HasJoined w js h
+pub has_joined : (js : List BoardSite) (w : BoardWorld) (h : List HubEvent) → makes h ≡ map joined_call js → Each IsFresh js → IsClear w → IsLegal w.star h → HasJoined w js h
 has_joined [] w [] are fresh clear legal = record { star = refl; sites = λ k d within. absurd (omega arith); before = λ i within. refl; numbers = λ k d within. absurd (omega arith); silent = λ i. refl }
 has_joined [] w (e ∷ h) are fresh clear legal = absurd cc
 has_joined (j ∷ js) w [] are fresh clear legal = absurd cc

@@ -3,10 +3,10 @@ use Rattle.std.proofs.Common.{◌≡◌, ℕ, zero, suc, ◌+◌, ◌<◌, ◌�
 use Rattle.std.proofs.lemmas.List.{map-append}
 use Rattle.jup_star.specs.declared.calls.Call.{Call}
 use Rattle.jup_star.specs.declared.calls.Call.TheVariants.{Join, Take, Fetch}
-use Rattle.jup_star.specs.declared.calls.Reply.{Reply}
-use Rattle.jup_star.specs.declared.calls.Reply.TheVariants as reply
+use Rattle.jup_star.specs.declared.calls.StarReply.{StarReply}
+use Rattle.jup_star.specs.declared.calls.StarReply.TheVariants as reply
 use Rattle.jup_world.specs.Each.{Each}
-use Rattle.jup_hub.specs.declared.view.Entry.{Entry}
+use Rattle.jup_hub.specs.declared.view.HubEvent.{HubEvent}
 use Rattle.jup_hub.specs.declared.view.View.{View}
 use Rattle.jup_hub.specs.Histories.{BeginsWith, BeginsWithAll, calls_by}
 use Rattle.jup_hub.specs.Knowledge.{Called, Meets, after_split, split_from, having_seen, with_call}
@@ -17,7 +17,7 @@ use Rattle.jup_hub.specs.Knowledge.{tallies, joined_with}
 use Rattle.jup_hub.specs.Passes.{view_of}
 use Rattle.jup_app.specs.declared.runs.player.Player.{Player}
 use Rattle.jup_app.specs.declared.runs.drain.SiteEnd.{SiteEnd}
-use Rattle.jup_app.specs.declared.runs.stop.Stop.{Stop}
+use Rattle.jup_app.specs.declared.runs.halt.Halt.{Halt}
 use Rattle.jup_app.specs.Passing.{told_to, IsFresh, joined_call, HasMet, HasJoinedAll, IsSame, HasTaken, end_of, all_tallies, all_calls}
 use Rattle.jup_app.proofs.Count.{makes-append, calls_by-append}
 
@@ -27,7 +27,7 @@ each_snoc P (y ∷ xs) x all one = (all.0, each_snoc P xs x all.1 one)
 
 pub joined_more : (v w : View) (n m : ℕ) (j : BoardSite) (js all : List BoardSite) → HasJoinedAll v n js → Called Join (reply.Joined (Ok (told_to j))) v w → IsFresh j → m ≡ n + 1 → all ≡ js ++ j ∷ [] → HasJoinedAll w m all
 joined_more v w n m j js all a c fresh more is =
-    let e : Entry = record { by = v.number; call = Join; reply = reply.Joined (Ok (told_to j)) } in
+    let e : HubEvent = record { by = v.number; call = Join; reply = reply.Joined (Ok (told_to j)) } in
     let made_is : w.made ≡ v.made ++ e ∷ [] = ap (λ (x : View). x.made) c.view in
     record {
       history = with_call c.before v Join (reply.Joined (Ok (told_to j)));
@@ -35,18 +35,18 @@ joined_more v w n m j js all a c fresh more is =
       made = ap makes made_is ∙ makes-append v.made (e ∷ []) ∙ ap (λ ms. ms ++ joined_call j ∷ []) a.made ∙ sym (map-append joined_call js (j ∷ [])) ∙ ap (λ ns. map joined_call ns) (sym is);
       fresh = subst (λ xs. Each IsFresh xs) (sym is) (each_snoc IsFresh js j a.fresh fresh);
       kept = ap (λ (x : View). x.kept) c.view ∙ a.kept;
-      count = omega (arith, a.count, ap (λ (es : List Entry). length es) made_is, length-append v.made (e ∷ []));
+      count = omega (arith, a.count, ap (λ (es : List HubEvent). length es) made_is, length-append v.made (e ∷ []));
     }
 
 pub joined_none : (v : View) (n : ℕ) (ns : List BoardSite) → ns ≡ [] → HasJoinedAll v n [] → HasJoinedAll v n ns
 joined_none v n ns is a = subst (λ xs. HasJoinedAll v n xs) (sym is) a
 
-nothing_before : (xs ys : List Entry) → xs ++ ys ≡ [] → xs ≡ []
+nothing_before : (xs ys : List HubEvent) → xs ++ ys ≡ [] → xs ≡ []
 nothing_before [] ys e = refl
 nothing_before (x ∷ xs) ys e = absurd cc
 
 -- a pass that was split off, and has had a look, has no call in what was seen before
-pub not_yet_made : (v s w : View) (log h : List Entry) → HasMet v h → s ≡ split_from v → Meets s log → w ≡ having_seen log s → calls_by w.number h ≡ []
+pub not_yet_made : (v s w : View) (log h : List HubEvent) → HasMet v h → s ≡ split_from v → Meets s log → w ≡ having_seen log s → calls_by w.number h ≡ []
 not_yet_made v s w log h has split meets is =
     let none : calls_by s.number log ≡ [] = meets.tallied.0 ∙ ap (λ (x : View). x.made) split in
     let seen : s.seen ≡ h ∷ [] = ap (λ (x : View). x.seen) split ∙ has.seen in
@@ -55,10 +55,10 @@ not_yet_made v s w log h has split meets is =
     let all : calls_by s.number h ++ calls_by s.number pre.0 ≡ [] = sym (calls_by-append s.number h pre.0) ∙ ap (λ es. calls_by s.number es) (sym pre.1) ∙ none in
     ap (λ n. calls_by n h) (ap (λ (x : View). x.number) is) ∙ nothing_before (calls_by s.number h) (calls_by s.number pre.0) all
 
-pub seated_made : (v s w : View) (log : List Entry) → s ≡ split_from v → w ≡ having_seen log s → (w.made ≡ []) × (w.kept ≡ [])
+pub seated_made : (v s w : View) (log : List HubEvent) → s ≡ split_from v → w ≡ having_seen log s → (w.made ≡ []) × (w.kept ≡ [])
 seated_made v s w log split is = (ap (λ (x : View). x.made) is ∙ ap (λ (x : View). x.made) split, ap (λ (x : View). x.kept) is ∙ ap (λ (x : View). x.kept) split)
 
-abbrev ok_player : Player → Result Player Stop
+abbrev ok_player : Player → Result Player Halt
 ok_player q = Ok q
 
 pub taken_none : (v : View) (n : ℕ) (ends : List SiteEnd) → ends ≡ [] → HasTaken v v n n [] ends
@@ -72,7 +72,7 @@ calls_more : (ps : List Player) (p : Player) → all_calls (ps ++ p ∷ []) ≡ 
 calls_more [] p = omega arith
 calls_more (q ∷ ps) p = omega (arith, calls_more ps p)
 
-pub taken_more : (v w x : View) (n m o : ℕ) (results : List (Result Player Stop)) (r : Result Player Stop) (p : Player) (e : SiteEnd) (ends all : List SiteEnd) → HasTaken v w n m results ends
+pub taken_more : (v w x : View) (n m o : ℕ) (results : List (Result Player Halt)) (r : Result Player Halt) (p : Player) (e : SiteEnd) (ends all : List SiteEnd) → HasTaken v w n m results ends
     → r ≡ Ok p → e ≡ end_of p → o ≡ m + p.caller.calls → x ≡ joined_with w (view_of p.caller.pass) → all ≡ ends ++ e ∷ []
     → HasTaken v x n o (results ++ r ∷ []) all
 taken_more v w x n m o results r p e ends all a ok end more view grown = record {

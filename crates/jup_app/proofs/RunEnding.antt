@@ -5,8 +5,8 @@ use Rattle.std.proofs.lemmas.List.{get_or_default}
 use Rattle.jup_star.specs.StarCalls.{BoardStar, BoardLink, reply_of, star_after}
 use Rattle.jup_star.specs.declared.calls.Call.{Call}
 use Rattle.jup_star.specs.declared.calls.Call.TheVariants.{Join, Fetch}
-use Rattle.jup_star.specs.declared.calls.Reply.{Reply}
-use Rattle.jup_star.specs.declared.calls.Reply.TheVariants as reply
+use Rattle.jup_star.specs.declared.calls.StarReply.{StarReply}
+use Rattle.jup_star.specs.declared.calls.StarReply.TheVariants as reply
 use Rattle.jup_rules.specs.Bounds.{most_fetched}
 use Rattle.jup_window.specs.declared.commands.Command.{Command}
 use Rattle.jup_window.specs.declared.faults.EditFault.{EditFault}
@@ -19,7 +19,7 @@ use Rattle.jup_world.specs.Openings.{IsOpening}
 use Rattle.jup_world.specs.WorldStates.{opened_world, attached}
 use Rattle.jup_world.specs.BoardWorlds.{BoardWorld, BoardAttached}
 use Rattle.jup_hub.specs.declared.hub.Hub.{Hub}
-use Rattle.jup_hub.specs.declared.view.Entry.{Entry}
+use Rattle.jup_hub.specs.declared.view.HubEvent.{HubEvent}
 use Rattle.jup_hub.specs.declared.view.Tally.{Tally}
 use Rattle.jup_hub.specs.declared.view.View.{View}
 use Rattle.jup_hub.specs.Histories.{IsLegal, star_through, calls_by, BeginsWith, BeginsWithAll, AllTallied, AllApart}
@@ -27,7 +27,7 @@ use Rattle.jup_hub.specs.Knowledge.{Meets, tally, tallies, having_seen}
 use Rattle.jup_hub.specs.Passes.{view_of}
 use Rattle.jup_app.specs.declared.runs.threads.Job.{Job}
 use Rattle.jup_app.specs.declared.runs.player.Player.{Player}
-use Rattle.jup_app.specs.declared.runs.stop.Stop.{Stop}
+use Rattle.jup_app.specs.declared.runs.halt.Halt.{Halt}
 use Rattle.jup_app.specs.declared.runs.drain.SiteEnd.{SiteEnd}
 use Rattle.jup_app.specs.Runs.{EditAnswer, Made, made, Step, calls_of, edits_of, IsPlayed, IsSite, site_of, made_at, joins, assembled}
 use Rattle.jup_app.specs.Plays.{makes, calls_at, link_with, answered, HasSeen}
@@ -48,7 +48,7 @@ use Rattle.jup_app.proofs.StarLaws.{IsIdle, IsTidy, tidy_through, fetch_nothing,
 use Rattle.jup_app.proofs.Assembly.{RanBy, ran_by, ran_at, logs_of, tally_of, tallies_are, each_player, calls_total, get_or_map, map_length, ok_player}
 
 -- what is known at the close of a run
-pub record Facts (board : Windows) (limit : ℕ) (hub : Hub) (a b c d e : View) (n1 n2 n3 : ℕ) (js : List BoardSite) (jobs : List Job) (results : List (Result Player Stop)) (before after : List SiteEnd) (scripts : List (List Command)) (h0 h : List Entry) : Type 0 where
+pub record Facts (board : Windows) (limit : ℕ) (hub : Hub) (a b c d e : View) (n1 n2 n3 : ℕ) (js : List BoardSite) (jobs : List Job) (results : List (Result Player Halt)) (before after : List SiteEnd) (scripts : List (List Command)) (h0 h : List HubEvent) : Type 0 where
   pub opening : a.opening ≡ opened_star board limit
   pub joined : HasJoinedAll a n1 js
   pub as_many : length js ≡ length scripts
@@ -85,7 +85,7 @@ down_up : (k : ℕ) → suc k - 1 ≡ k
 down_up k = omega arith
 
 -- a history whose calls are two lists is two histories
-makes_split : (h : List Entry) (xs ys : List Made) → makes h ≡ xs ++ ys → (one : List Entry) × (two : List Entry) × (h ≡ one ++ two) × (makes one ≡ xs) × (makes two ≡ ys)
+makes_split : (h : List HubEvent) (xs ys : List Made) → makes h ≡ xs ++ ys → (one : List HubEvent) × (two : List HubEvent) × (h ≡ one ++ two) × (makes one ≡ xs) × (makes two ≡ ys)
 makes_split h [] ys is = ([], h, refl, refl, is)
 makes_split [] (x ∷ xs) ys is = absurd cc
 makes_split (e ∷ h) (x ∷ xs) ys is =
@@ -94,7 +94,7 @@ makes_split (e ∷ h) (x ∷ xs) ys is =
     let rest = makes_split h xs ys tail in
     (e ∷ rest.0, rest.1, ap (λ k. e ∷ k) rest.2, ap (λ ms. made e ∷ ms) rest.3 ∙ ap (λ m. m ∷ xs) head, rest.4)
 
-last_quiet : (i : ℕ) (s : BoardStar) (h : List Entry) → IsTidy s → makes h ≡ record { call = Fetch i most_fetched; reply = reply.Fetched (Ok []) } ∷ [] → IsLegal s h → (star_through s h ≡ s) × (IsIdle s i)
+last_quiet : (i : ℕ) (s : BoardStar) (h : List HubEvent) → IsTidy s → makes h ≡ record { call = Fetch i most_fetched; reply = reply.Fetched (Ok []) } ∷ [] → IsLegal s h → (star_through s h ≡ s) × (IsIdle s i)
 last_quiet i s [] tidy are legal = absurd cc
 last_quiet i s (e ∷ f ∷ h) tidy are legal = absurd cc
 last_quiet i s (e ∷ []) tidy are legal =
@@ -107,7 +107,7 @@ le_cases : (i n : ℕ) → (i ≤ n) ⊎ (n < i)
 le_cases i n = elim (dec_le i n) [ yes low ↦ inl low | no high ↦ inr (omega arith) ]
 
 -- after fetches that gave nothing, of the first n sites, these have nothing in their outboxes
-quiet_after : (n : ℕ) (s : BoardStar) (h : List Entry) → IsTidy s → makes h ≡ empty_fetches n → IsLegal s h → (star_through s h ≡ s) × ((i : ℕ) → IsSite n i → IsIdle s i)
+quiet_after : (n : ℕ) (s : BoardStar) (h : List HubEvent) → IsTidy s → makes h ≡ empty_fetches n → IsLegal s h → (star_through s h ≡ s) × ((i : ℕ) → IsSite n i → IsIdle s i)
 quiet_after zero s [] tidy are legal = (refl, λ i site. absurd (omega arith))
 quiet_after zero s (e ∷ h) tidy are legal = absurd cc
 quiet_after (suc n) s h tidy are legal =
@@ -120,25 +120,25 @@ quiet_after (suc n) s h tidy are legal =
     )
 
 -- at the end of a history too
-quiet_end : (n : ℕ) (s : BoardStar) (front tail : List Entry) (i : ℕ) → IsTidy s → makes tail ≡ empty_fetches n → IsLegal s (front ++ tail) → IsSite n i → IsIdle (star_through s (front ++ tail)) i
+quiet_end : (n : ℕ) (s : BoardStar) (front tail : List HubEvent) (i : ℕ) → IsTidy s → makes tail ≡ empty_fetches n → IsLegal s (front ++ tail) → IsSite n i → IsIdle (star_through s (front ++ tail)) i
 quiet_end n s front tail i tidy are legal site =
     let both = legal_append s front tail legal in
     let q = quiet_after n (star_through s front) tail (tidy_through front s tidy) are both.1 in
     subst (λ t. IsIdle t i) (sym (star_through-append s front tail ∙ q.0)) (q.1 i site)
 
-all_joins : (h : List Entry) (js : List BoardSite) → makes h ≡ map joined_call js → Each (λ (e : Entry). e.call ≡ Join) h
+all_joins : (h : List HubEvent) (js : List BoardSite) → makes h ≡ map joined_call js → Each (λ (e : HubEvent). e.call ≡ Join) h
 all_joins [] js are = tt
 all_joins (e ∷ h) [] are = absurd cc
 all_joins (e ∷ h) (j ∷ js) are = let head : made e ≡ joined_call j = cc in let tail : makes h ≡ map joined_call js = cc in (ap (λ (m : Made). m.call) head, all_joins h js tail)
 
-makes_length : (h : List Entry) → length (makes h) ≡ length h
+makes_length : (h : List HubEvent) → length (makes h) ≡ length h
 makes_length [] = refl
 makes_length (e ∷ h) = ap suc (makes_length h)
 
-module _ (board : Windows) (limit : ℕ) (opened : IsOpening board) (low : limit ≤ highest_limit) (hub : Hub) (a b c d e : View) (n1 n2 n3 : ℕ) (js : List BoardSite) (jobs : List Job) (results : List (Result Player Stop)) (before after : List SiteEnd) (scripts : List (List Command)) (h0 h : List Entry)
+module _ (board : Windows) (limit : ℕ) (opened : IsOpening board) (low : limit ≤ highest_limit) (hub : Hub) (a b c d e : View) (n1 n2 n3 : ℕ) (js : List BoardSite) (jobs : List Job) (results : List (Result Player Halt)) (before after : List SiteEnd) (scripts : List (List Command)) (h0 h : List HubEvent)
     (facts : Facts board limit hub a b c d e n1 n2 n3 js jobs results before after scripts h0 h) where
   many_players : length facts.taken.players ≡ length js
-  many_players = sym (ap (λ (rs : List (Result Player Stop)). length rs) facts.taken.all_ok ∙ map_length ok_player facts.taken.players) ∙ facts.many_results ∙ facts.many_jobs
+  many_players = sym (ap (λ (rs : List (Result Player Halt)). length rs) facts.taken.all_ok ∙ map_length ok_player facts.taken.players) ∙ facts.many_results ∙ facts.many_jobs
 
   some_job : (xs : List Job) → 0 < length xs → Job
   some_job [] some = absurd (omega arith)
@@ -263,7 +263,7 @@ module _ (board : Windows) (limit : ℕ) (opened : IsOpening board) (low : limit
         subst (λ j. IsPlayed (link_with (site_at before (i - 1)) []) (facts.drained.drained.logs j) (link_with (site_at after (i - 1)) [])) (up_down i site.0)
         (subst (λ q. IsPlayed (link_with (site_at before (i - 1)) []) (facts.drained.drained.logs (suc (i - 1))) (link_with q [])) (sym (site_at_is after (i - 1) x end_in))
         (subst (λ q. IsPlayed (link_with q []) (facts.drained.drained.logs (suc (i - 1))) (link_with (get_or after (i - 1) x).site [])) (sym (site_at_is before (i - 1) x inside)) (facts.drained.drained.played (i - 1) x inside)));
-    drain_sites = subst (λ n. Each (λ (z : Entry). IsSite n (site_of z.call)) facts.drained.drained.calls) many_before (facts.drained.drained.sites numbered);
+    drain_sites = subst (λ n. Each (λ (z : HubEvent). IsSite n (site_of z.call)) facts.drained.drained.calls) many_before (facts.drained.drained.sites numbered);
   }
 
   pieces : Parts (opened_star board limit) js (map tally_of facts.taken.players) h facts.drained.drained.calls
@@ -321,9 +321,9 @@ module _ (board : Windows) (limit : ℕ) (opened : IsOpening board) (low : limit
   is_run star is = subst (λ n. IsRunOf board limit n scripts star after) facts.as_many (subst (λ s. IsRunOf board limit (length js) scripts s after) (sym is) run_of_js)
 
 -- a run, from what each of its calls says
-pub run_ends : (board : Windows) (limit : ℕ) (hub : Hub) (a b c d e : View) (opening star : BoardStar) (n1 m1 n2 n3 events : ℕ) (js : List BoardSite) (scripts : List (Bor (List Command))) (jobs : List Job) (results : List (Result Player Stop)) (before after shown : List SiteEnd) (h0 h : List Entry)
+pub run_ends : (board : Windows) (limit : ℕ) (hub : Hub) (a b c d e : View) (opening star : BoardStar) (n1 m1 n2 n3 events : ℕ) (js : List BoardSite) (scripts : List (Bor (List Command))) (jobs : List Job) (results : List (Result Player Halt)) (before after shown : List SiteEnd) (h0 h : List HubEvent)
     → IsOpening board → limit ≤ highest_limit → a.opening ≡ opening → opening ≡ opened_star board limit → (joined : HasJoinedAll a n1 js) → length js ≡ length scripts → IsSame a b → m1 ≡ n1
-    → ((k : List Entry) → HasMet a k → AreJobs hub k js scripts jobs) → length jobs ≡ length js → AllRan hub jobs results → length results ≡ length jobs
+    → ((k : List HubEvent) → HasMet a k → AreJobs hub k js scripts jobs) → length jobs ≡ length js → AllRan hub jobs results → length results ≡ length jobs
     → HasTaken b c m1 n2 results before → Meets c h0 → d ≡ having_seen h0 c → IsDrained d e n2 n3 before after
     → Meets e h → star ≡ star_through opening h → events ≡ length h → events ≡ n3 → shown ≡ after → IsRun board limit (map (λ s. s.now) scripts) star shown
 run_ends board limit hub a b c d e opening star n1 m1 n2 n3 events js scripts jobs results before after shown h0 h fit low at_first opened joined many same same_calls seated many_jobs ran many_results taken met look drained closed star_is long counted whole =

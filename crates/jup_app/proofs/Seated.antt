@@ -3,7 +3,7 @@ use Rattle.std.proofs.Common.{◌≡◌, ◌≢◌, ℕ, zero, suc, ◌+◌, ◌
 use Rattle.std.specs.Borrow.{Bor}
 use Rattle.jup_window.specs.declared.commands.Command.{Command}
 use Rattle.jup_hub.specs.declared.hub.Hub.{Hub}
-use Rattle.jup_hub.specs.declared.view.Entry.{Entry}
+use Rattle.jup_hub.specs.declared.view.HubEvent.{HubEvent}
 use Rattle.jup_hub.specs.declared.view.Tally.{Tally}
 use Rattle.jup_hub.specs.declared.view.View.{View}
 use Rattle.jup_hub.specs.Histories.{IsLegal, BeginsWithAll, AllTallied, AllApart}
@@ -16,7 +16,7 @@ use Rattle.jup_app.specs.Seating.{IsJob, AreJobs, no_site}
 tallies_same : (v w : View) → IsSame v w → tallies v ≡ tallies w
 tallies_same v w s = ap (λ n. tally n v.made ∷ v.kept) (sym s.number) ∙ ap (λ es. tally w.number es ∷ v.kept) (sym s.made) ∙ ap (λ ts. tally w.number w.made ∷ ts) (sym s.kept)
 
-pub meets_same : (v w : View) (h : List Entry) → IsSame v w → Meets v h → Meets w h
+pub meets_same : (v w : View) (h : List HubEvent) → IsSame v w → Meets v h → Meets w h
 meets_same v w h s m = record {
   legal = subst (λ o. IsLegal o h) (sym s.opening) m.legal;
   begins = subst (λ hs. BeginsWithAll h hs) (sym s.seen) m.begins;
@@ -24,7 +24,7 @@ meets_same v w h s m = record {
   apart = subst (λ ts. AllApart ts) (tallies_same v w s) m.apart;
 }
 
-pub met_same : (v w : View) (h : List Entry) → IsSame v w → HasMet v h → HasMet w h
+pub met_same : (v w : View) (h : List HubEvent) → IsSame v w → HasMet v h → HasMet w h
 met_same v w h s m = record { seen = s.seen ∙ m.seen; meets = meets_same v w h s m.meets }
 
 pub same_both : (v w x : View) → IsSame v w → IsSame w x → IsSame v x
@@ -42,7 +42,7 @@ at_snoc P [] x d old new (suc k) within = absurd (omega arith)
 at_snoc P (y ∷ xs) x d old new zero within = old zero (omega arith)
 at_snoc P (y ∷ xs) x d old new (suc k) within = at_snoc (λ n. P (suc n)) xs x d (λ n low. old (suc n) (omega arith)) new k (omega arith)
 
-pub jobs_more : (hub : Hub) (h : List Entry) (done rest : List BoardSite) (site : BoardSite) (scripts : List (Bor (List Command))) (old new : List Job) (job : Job) → length old ≡ length done → AreJobs hub h (done ++ site ∷ rest) scripts old
+pub jobs_more : (hub : Hub) (h : List HubEvent) (done rest : List BoardSite) (site : BoardSite) (scripts : List (Bor (List Command))) (old new : List Job) (job : Job) → length old ≡ length done → AreJobs hub h (done ++ site ∷ rest) scripts old
     → new ≡ old ++ job ∷ [] → ((s : Bor (List Command)) → IsJob hub h site (get_or scripts (length old) s).now job) → AreJobs hub h (done ++ site ∷ rest) scripts new
 jobs_more hub h done rest site scripts old new job long a is one n d s within =
     let sites = done ++ site ∷ rest in
@@ -52,7 +52,7 @@ jobs_more hub h done rest site scripts old new job long a is one n d s within =
     let inside : n < length (old ++ job ∷ []) = subst (λ js. n < length js) is within in
     subst (λ js. IsJob hub h (get_or sites n no_site) (get_or scripts n s).now (get_or js n d)) (sym is) (at_snoc P old job d (λ k low. a k d s low) last n inside)
 
-pub jobs_none : (hub : Hub) (h : List Entry) (sites : List BoardSite) (scripts : List (Bor (List Command))) (jobs : List Job) → jobs ≡ [] → AreJobs hub h sites scripts jobs
+pub jobs_none : (hub : Hub) (h : List HubEvent) (sites : List BoardSite) (scripts : List (Bor (List Command))) (jobs : List Job) → jobs ≡ [] → AreJobs hub h sites scripts jobs
 jobs_none hub h sites scripts jobs none k d s within = let inside : k < length {A = Job} [] = subst (λ (js : List Job). k < length js) none within in absurd (omega (arith, inside))
 
 pub length_last : {A : Type 0} (xs : List A) (x : A) → length (xs ++ x ∷ []) ≡ length xs + 1

@@ -10,13 +10,13 @@ use Rattle.jup_star.specs.declared.messages.Down.TheVariants as down
 use Rattle.jup_star.specs.declared.faults.StarFault.{StarFault}
 use Rattle.jup_star.specs.declared.calls.Call.{Call}
 use Rattle.jup_star.specs.declared.calls.Call.TheVariants.{Join, Take, Fetch, Leave}
-use Rattle.jup_star.specs.declared.calls.Reply.{Reply}
-use Rattle.jup_star.specs.declared.calls.Reply.TheVariants as reply
+use Rattle.jup_star.specs.declared.calls.StarReply.{StarReply}
+use Rattle.jup_star.specs.declared.calls.StarReply.TheVariants as reply
 use Rattle.jup_star.specs.StarStates.{link_of, fetched, taken, up_fault, most_batches}
 use Rattle.jup_star.specs.SiteStates.{edit_answer, deliver_fault}
 use Rattle.jup_star.specs.StarCalls.{BoardStar, BoardLink, reply_of, star_after}
 use Rattle.jup_star.proofs.Lookup.{found-map, found-map_other}
-use Rattle.jup_hub.specs.declared.view.Entry.{Entry}
+use Rattle.jup_hub.specs.declared.view.HubEvent.{HubEvent}
 use Rattle.jup_hub.specs.Histories.{IsLegal, star_through}
 use Rattle.jup_world.specs.Each.{Each}
 use Rattle.jup_world.specs.Events as event
@@ -284,7 +284,7 @@ left (Took u p ∷ log) w i l end reached is played calls = absurd cc
 left (Got n ds ∷ log) w i l end reached is played calls = absurd cc
 
 -- sites that have joined, with the logs that are still to be played, and the history that is still to come
-pub record Tracks (n : ℕ) (w : BoardWorld) (h : List Entry) (here : ℕ → BoardAttached) (logs : ℕ → List Step) (ends : ℕ → BoardAttached) : Type 0 where
+pub record Tracks (n : ℕ) (w : BoardWorld) (h : List HubEvent) (here : ℕ → BoardAttached) (logs : ℕ → List Step) (ends : ℕ → BoardAttached) : Type 0 where
   pub reached : IsReached w
   pub tidy : IsTidy w.star
   pub legal : IsLegal w.star h
@@ -292,7 +292,7 @@ pub record Tracks (n : ℕ) (w : BoardWorld) (h : List Entry) (here : ℕ → Bo
   pub idle : (i : ℕ) → IsSite n i → (here i).down ≡ []
   pub played : (i : ℕ) → IsSite n i → IsPlayed (here i) (logs i) (ends i)
   pub calls : (i : ℕ) → IsSite n i → calls_of i (logs i) ≡ made_at i h
-  pub sited : Each (λ (e : Entry). IsSite n (site_of e.call)) h
+  pub sited : Each (λ (e : HubEvent). IsSite n (site_of e.call)) h
 
 -- a list of events brings the world to this star, with these sites and these replies
 pub record Ends (n : ℕ) (w : BoardWorld) (es : List BoardEvent) (s : BoardStar) (logs : ℕ → List Step) (ends : ℕ → BoardAttached) : Type 0 where
@@ -362,7 +362,7 @@ pub at_each : {A B : Type 0} (P : A → B → Type 0) (i j : ℕ) (x : A) (y : B
 at_each P i j x y f g same other =
     elim (eqb j i) as (λ b. eqb j i ≡ b → P (cond b x (f j)) (cond b y (g j))) [ true ↦ λ e. same (eqb-true j i e) | false ↦ λ e. other e ] refl
 
-next_tracks : (n : ℕ) (w : BoardWorld) (e : Entry) (h : List Entry) (here : ℕ → BoardAttached) (logs : ℕ → List Step) (ends : ℕ → BoardAttached) → Tracks n w (e ∷ h) here logs ends
+next_tracks : (n : ℕ) (w : BoardWorld) (e : HubEvent) (h : List HubEvent) (here : ℕ → BoardAttached) (logs : ℕ → List Step) (ends : ℕ → BoardAttached) → Tracks n w (e ∷ h) here logs ends
     → (c : Called w (site_of e.call) (logs (site_of e.call)) (ends (site_of e.call)) (made e) (made_at (site_of e.call) h))
     → Tracks n (after w (through_call (site_of e.call) (logs (site_of e.call)))) h
     (with_log (site_of e.call) c.link here) (with_log (site_of e.call) (past_call (logs (site_of e.call))) logs) ends
@@ -381,7 +381,7 @@ next_tracks n w e h here logs ends t c =
       sited = t.sited.1;
     }
 
-this_call : (n : ℕ) (w : BoardWorld) (e : Entry) (h : List Entry) (here : ℕ → BoardAttached) (logs : ℕ → List Step) (ends : ℕ → BoardAttached) → Tracks n w (e ∷ h) here logs ends
+this_call : (n : ℕ) (w : BoardWorld) (e : HubEvent) (h : List HubEvent) (here : ℕ → BoardAttached) (logs : ℕ → List Step) (ends : ℕ → BoardAttached) → Tracks n w (e ∷ h) here logs ends
     → Called w (site_of e.call) (logs (site_of e.call)) (ends (site_of e.call)) (made e) (made_at (site_of e.call) h)
 this_call n w e h here logs ends t =
     let i = site_of e.call in let site : IsSite n i = t.sited.0 in
@@ -389,7 +389,7 @@ this_call n w e h here logs ends t =
     (t.calls i site ∙ ap (λ b. cond b ((made e) ∷ made_at i h) (made_at i h)) (eqb_self i)) t.legal.0
 
 -- the assembled events bring the world to the star after the history, with each site at the end of its log
-pub assembled_ends : (h : List Entry) (n : ℕ) (w : BoardWorld) (here : ℕ → BoardAttached) (logs : ℕ → List Step) (ends : ℕ → BoardAttached) → Tracks n w h here logs ends
+pub assembled_ends : (h : List HubEvent) (n : ℕ) (w : BoardWorld) (here : ℕ → BoardAttached) (logs : ℕ → List Step) (ends : ℕ → BoardAttached) → Tracks n w h here logs ends
     → Ends n w (assembled n logs h) (star_through w.star h) logs ends
 assembled_ends [] n w here logs ends t =
     let all = half n n w here logs ends (omega arith) t in

@@ -8,13 +8,13 @@ use Rattle.jup_star.specs.declared.star.Joined.{Joined}
 use Rattle.jup_star.specs.declared.messages.Up.TheVariants as up
 use Rattle.jup_star.specs.declared.calls.Call.{Call}
 use Rattle.jup_star.specs.declared.calls.Call.TheVariants.{Join, Take, Fetch, Leave}
-use Rattle.jup_star.specs.declared.calls.Reply.TheVariants.{Joined as JoinedReply, Taken, Fetched}
+use Rattle.jup_star.specs.declared.calls.StarReply.TheVariants.{Joined as JoinedReply, Taken, Fetched}
 use Rattle.jup_star.specs.LinkStates.{is_of, link_fetched, opened_link, link_heard, link_sent, link_acked, link_ponged, operation_at}
 use Rattle.jup_star.specs.StarStates.{link_of, without, at_link, join_fault, joined, up_fault, take_fault, taken, links_after, place_taken, left, fetched, IsNew, AreApart}
 use Rattle.jup_star.specs.StarCalls.{BoardStar, BoardLink, joining, join_result, after_join, take_result, after_take, fetch_result, after_fetch, after_leave, reply_of, star_after}
 use Rattle.jup_star.proofs.LinkChanges.{apart_map, apart_without}
 use Rattle.jup_world.specs.Each.{Each}
-use Rattle.jup_hub.specs.declared.view.Entry.{Entry}
+use Rattle.jup_hub.specs.declared.view.HubEvent.{HubEvent}
 use Rattle.jup_hub.specs.Histories.{star_through}
 use Rattle.jup_app.specs.Runs.{BoardUp, BoardDown}
 
@@ -166,7 +166,7 @@ tidy_after (Leave i) s tidy = go (link_of i s.links)
     go (Some l) = tidy_left i s tidy
 
 -- and so does a history
-pub tidy_through : (h : List Entry) (s : BoardStar) → IsTidy s → IsTidy (star_through s h)
+pub tidy_through : (h : List HubEvent) (s : BoardStar) → IsTidy s → IsTidy (star_through s h)
 tidy_through [] s tidy = tidy
 tidy_through (e ∷ h) s tidy = tidy_through h (star_after e.call s) (tidy_after e.call s tidy)
 

@@ -4,8 +4,8 @@ use Rattle.jup_limits.specs.Limits.{highest_limit}
 use Rattle.jup_star.specs.StarCalls.{BoardStar, BoardLink, reply_of, star_after}
 use Rattle.jup_star.specs.declared.calls.Call.{Call}
 use Rattle.jup_star.specs.declared.calls.Call.TheVariants.{Join, Take, Fetch, Leave}
-use Rattle.jup_star.specs.declared.calls.Reply.{Reply}
-use Rattle.jup_star.specs.declared.calls.Reply.TheVariants as reply
+use Rattle.jup_star.specs.declared.calls.StarReply.{StarReply}
+use Rattle.jup_star.specs.declared.calls.StarReply.TheVariants as reply
 use Rattle.jup_batch.specs.BatchBoards.{Windows}
 use Rattle.jup_batch.specs.BoardBatches.{board_batches}
 use Rattle.jup_star.specs.StarStates.{opened_star}
@@ -14,7 +14,7 @@ use Rattle.jup_world.specs.Each.{Each}
 use Rattle.jup_world.specs.Openings.{IsOpening}
 use Rattle.jup_world.specs.WorldStates.{opened_world, attached}
 use Rattle.jup_world.specs.BoardWorlds.{BoardWorld, BoardAttached, BoardEvent, IsReached}
-use Rattle.jup_hub.specs.declared.view.Entry.{Entry}
+use Rattle.jup_hub.specs.declared.view.HubEvent.{HubEvent}
 use Rattle.jup_hub.specs.declared.view.Tally.{Tally}
 use Rattle.jup_hub.specs.Histories.{IsLegal, star_through, calls_by, BeginsWith, AllTallied, IsNew, AllApart}
 use Rattle.jup_app.specs.Runs.{Made, made, Step, calls_of, edits_of, IsPlayed, site_of, made_at, IsSite, joins, assembled, edits_at}
@@ -49,11 +49,11 @@ distinct_at (k ∷ ks) zero (suc j) d apart a b same = absurd (new_at k.number k
 distinct_at (k ∷ ks) (suc i) zero d apart a b same = absurd (new_at k.number ks i d apart.0 (omega arith) (sym same))
 distinct_at (k ∷ ks) (suc i) (suc j) d apart a b same = ap suc (distinct_at ks i j d apart.1 (omega arith) (omega arith) same)
 
-pub legal_append : (s : BoardStar) (h k : List Entry) → IsLegal s (h ++ k) → IsLegal s h × IsLegal (star_through s h) k
+pub legal_append : (s : BoardStar) (h k : List HubEvent) → IsLegal s (h ++ k) → IsLegal s h × IsLegal (star_through s h) k
 legal_append s [] k legal = (tt, legal)
 legal_append s (e ∷ h) k legal = let rest = legal_append (star_after e.call s) h k legal.1 in ((legal.0, rest.0), rest.1)
 
-pub star_through-append : (s : BoardStar) (h k : List Entry) → star_through s (h ++ k) ≡ star_through (star_through s h) k
+pub star_through-append : (s : BoardStar) (h k : List HubEvent) → star_through s (h ++ k) ≡ star_through (star_through s h) k
 star_through-append s [] k = refl
 star_through-append s (e ∷ h) k = star_through-append (star_after e.call s) h k
 
@@ -62,11 +62,11 @@ pub pass_of : List Tally → ℕ → List ℕ
 pass_of hands i = (get_or hands (i - 1) (record { number = []; calls = [] })).number
 
 -- what the passes know of the history when the hub is closed: one pass joined the sites, took in the others, and drained them all
-pub record Known (opening : BoardStar) (js : List BoardSite) (hands : List Tally) (firsts drains : List Entry) : Type 0 where
+pub record Known (opening : BoardStar) (js : List BoardSite) (hands : List Tally) (firsts drains : List HubEvent) : Type 0 where
   pub main : List ℕ
-  pub joined : List Entry
-  pub played : List Entry
-  pub history : List Entry
+  pub joined : List HubEvent
+  pub played : List HubEvent
+  pub history : List HubEvent
   pub first : BeginsWith played joined
   pub next : BeginsWith history played
   pub legal : IsLegal opening history
@@ -81,41 +81,41 @@ pub record Known (opening : BoardStar) (js : List BoardSite) (hands : List Tally
   pub count : length history ≡ length (firsts ++ drains) + total hands
 
 -- and what was done for each site
-pub record Whole (opening : BoardStar) (js : List BoardSite) (hands : List Tally) (firsts drains : List Entry) (logs drained : ℕ → List Step) (mids ends : ℕ → BoardAttached) : Type 0 where
+pub record Whole (opening : BoardStar) (js : List BoardSite) (hands : List Tally) (firsts drains : List HubEvent) (logs drained : ℕ → List Step) (mids ends : ℕ → BoardAttached) : Type 0 where
   pub known : Known opening js hands firsts drains
   pub as_many : length hands ≡ length js
   pub own_log : (i : ℕ) (d : Tally) → IsSite (length js) i → makes (get_or hands (i - 1) d).calls ≡ calls_of i (logs i)
   pub own_played : (i : ℕ) (d : BoardSite) → IsSite (length js) i → IsPlayed (link_with (get_or js (i - 1) d) []) (logs i) (mids i)
   pub drain_log : (i : ℕ) → IsSite (length js) i → calls_at i (makes drains) ≡ calls_of i (drained i)
   pub drain_played : (i : ℕ) → IsSite (length js) i → IsPlayed (mids i) (drained i) (ends i)
-  pub drain_sites : Each (λ (e : Entry). IsSite (length js) (site_of e.call)) drains
+  pub drain_sites : Each (λ (e : HubEvent). IsSite (length js) (site_of e.call)) drains
 
 -- a history in its three parts
-pub record Parts (opening : BoardStar) (js : List BoardSite) (hands : List Tally) (history drains : List Entry) : Type 0 where
-  pub joined : List Entry
-  pub between : List Entry
-  pub rest : List Entry
+pub record Parts (opening : BoardStar) (js : List BoardSite) (hands : List Tally) (history drains : List HubEvent) : Type 0 where
+  pub joined : List HubEvent
+  pub between : List HubEvent
+  pub rest : List HubEvent
   pub history_is : history ≡ joined ++ (between ++ rest)
   pub legal : IsLegal opening (joined ++ (between ++ rest))
   pub joins_are : makes joined ≡ map joined_call js
   pub drains_are : rest ≡ drains
-  pub by_hands : Each (λ (e : Entry). IsKnown e.by hands) between
+  pub by_hands : Each (λ (e : HubEvent). IsKnown e.by hands) between
   pub hands_made : Each (λ (k : Tally). calls_by k.number between ≡ k.calls) hands
 
 each_two : {A : Type 0} (P Q R : A → Type 0) (xs : List A) → ((x : A) → P x → Q x → R x) → Each P xs → Each Q xs → Each R xs
 each_two P Q R [] f p q = tt
 each_two P Q R (x ∷ xs) f p q = (f x p.0 q.0, each_two P Q R xs f p.1 q.1)
 
-pub parts : {opening : BoardStar} {js : List BoardSite} {hands : List Tally} {firsts drains : List Entry} → (w : Known opening js hands firsts drains) → Parts opening js hands w.history drains
+pub parts : {opening : BoardStar} {js : List BoardSite} {hands : List Tally} {firsts drains : List HubEvent} → (w : Known opening js hands firsts drains) → Parts opening js hands w.history drains
 parts {opening} {js} {hands} {firsts} {drains} w =
     let between = w.first.0 in let rest = w.next.0 in
     let played_is : w.played ≡ w.joined ++ between = w.first.1 in
     let history_is : w.history ≡ w.joined ++ (between ++ rest) = w.next.1 ∙ ap (λ h. h ++ rest) played_is ∙ append_assoc w.joined between rest in
     let me : Tally = record { number = w.main; calls = firsts ++ drains } in
-    let all : Each (λ (e : Entry). IsKnown e.by (me ∷ hands)) w.history = known (me ∷ hands) w.history w.distinct (w.drains_made, w.all_still) w.count in
-    let all' : Each (λ (e : Entry). IsKnown e.by (me ∷ hands)) (w.joined ++ (between ++ rest)) = subst (λ h. Each (λ (e : Entry). IsKnown e.by (me ∷ hands)) h) history_is all in
-    let in_joined = each_append (λ (e : Entry). IsKnown e.by (me ∷ hands)) w.joined (between ++ rest) all' in
-    let in_rest = each_append (λ (e : Entry). IsKnown e.by (me ∷ hands)) between rest in_joined.1 in
+    let all : Each (λ (e : HubEvent). IsKnown e.by (me ∷ hands)) w.history = known (me ∷ hands) w.history w.distinct (w.drains_made, w.all_still) w.count in
+    let all' : Each (λ (e : HubEvent). IsKnown e.by (me ∷ hands)) (w.joined ++ (between ++ rest)) = subst (λ h. Each (λ (e : HubEvent). IsKnown e.by (me ∷ hands)) h) history_is all in
+    let in_joined = each_append (λ (e : HubEvent). IsKnown e.by (me ∷ hands)) w.joined (between ++ rest) all' in
+    let in_rest = each_append (λ (e : HubEvent). IsKnown e.by (me ∷ hands)) between rest in_joined.1 in
     let main_between : calls_by w.main between ≡ [] =
     made_since w.main w.joined between firsts [] w.joins_made (ap (λ h. calls_by w.main h) (sym played_is) ∙ w.joins_still ∙ sym (append-nil firsts)) in
     let main_rest : calls_by w.main rest ≡ drains =
@@ -139,14 +139,14 @@ parts {opening} {js} {hands} {firsts} {drains} w =
 sub_suc : (k : ℕ) → suc k - 1 ≡ k
 sub_suc k = omega arith
 
-parted : {opening : BoardStar} {js : List BoardSite} {hands : List Tally} {firsts drains : List Entry} {logs drained : ℕ → List Step} {mids ends : ℕ → BoardAttached} → Whole opening js hands firsts drains logs drained mids ends
-    → (h : List Entry) → Each (λ (e : Entry). IsKnown e.by hands) h → Each (λ (k : Tally). calls_by k.number h ≡ k.calls) hands → Parted (length js) (pass_of hands) h
+parted : {opening : BoardStar} {js : List BoardSite} {hands : List Tally} {firsts drains : List HubEvent} {logs drained : ℕ → List Step} {mids ends : ℕ → BoardAttached} → Whole opening js hands firsts drains logs drained mids ends
+    → (h : List HubEvent) → Each (λ (e : HubEvent). IsKnown e.by hands) h → Each (λ (k : Tally). calls_by k.number h ≡ k.calls) hands → Parted (length js) (pass_of hands) h
 unfolding pass_of
 parted {opening} {js} {hands} {firsts} {drains} {logs} w h by by_each =
     let d : Tally = record { number = []; calls = [] } in record {
       own = λ j site. let same : calls_by (pass_of hands j) h ≡ (get_or hands (j - 1) d).calls = each_at (λ (k : Tally). calls_by k.number h ≡ k.calls) hands (j - 1) d by_each (omega (arith, w.as_many)) in
           each_made (λ (m : Made). site_of m.call ≡ j) (calls_by (pass_of hands j) h) (subst (λ ms. Each (λ (m : Made). site_of m.call ≡ j) ms) (sym (ap makes same ∙ w.own_log j d site)) (calls_own j (logs j)));
-      known = each_weaker (λ (e : Entry). IsKnown e.by hands) (λ (e : Entry). (j : ℕ) × IsSite (length js) j × (pass_of hands j ≡ e.by)) h
+      known = each_weaker (λ (e : HubEvent). IsKnown e.by hands) (λ (e : HubEvent). (j : ℕ) × IsSite (length js) j × (pass_of hands j ≡ e.by)) h
           (λ e is. let k = known_at e.by hands d is in (suc k.0, (omega arith, omega (arith, k.1, w.as_many)), ap (λ i. (get_or hands i d).number) (sub_suc k.0) ∙ k.2)) by;
       apart = λ i j site site' same. let e : i - 1 ≡ j - 1 = distinct_at hands (i - 1) (j - 1) d w.known.distinct.1 (omega (arith, w.as_many)) (omega (arith, w.as_many)) same in omega arith;
     }
@@ -159,7 +159,7 @@ both_logs logs drained i = logs i ++ drained i
 abbrev pub first_link : List BoardSite → ℕ → BoardAttached
 first_link js i = link_with (get_or js (i - 1) no_site) []
 
-own_calls : {opening : BoardStar} {js : List BoardSite} {hands : List Tally} {firsts drains : List Entry} {logs drained : ℕ → List Step} {mids ends : ℕ → BoardAttached}
+own_calls : {opening : BoardStar} {js : List BoardSite} {hands : List Tally} {firsts drains : List HubEvent} {logs drained : ℕ → List Step} {mids ends : ℕ → BoardAttached}
     → (w : Whole opening js hands firsts drains logs drained mids ends) (p : Parts opening js hands w.known.history drains) → Parted (length js) (pass_of hands) p.between
     → (i : ℕ) → IsSite (length js) i → made_at i p.between ≡ calls_of i (logs i)
 unfolding pass_of
@@ -174,7 +174,7 @@ pub opened_reached : (board : Windows) (limit : ℕ) → IsOpening board → lim
 opened_reached board limit opening low = record { board = board; limit = limit; events = []; opening = opening; limited = low; is = refl }
 
 module _ (board : Windows) (limit : ℕ) (opening : IsOpening board) (low : limit ≤ highest_limit) where
-  pub tracks : {js : List BoardSite} {hands : List Tally} {firsts drains : List Entry} {logs drained : ℕ → List Step} {mids ends : ℕ → BoardAttached}
+  pub tracks : {js : List BoardSite} {hands : List Tally} {firsts drains : List HubEvent} {logs drained : ℕ → List Step} {mids ends : ℕ → BoardAttached}
       → (w : Whole (opened_star board limit) js hands firsts drains logs drained mids ends) (p : Parts (opened_star board limit) js hands w.known.history drains)
       → HasJoined (opened_world board_batches board limit) js p.joined
       → Tracks (length js) (after (opened_world board_batches board limit) (joins (length js))) (p.between ++ p.rest) (first_link js) (both_logs logs drained) ends
@@ -195,12 +195,12 @@ module _ (board : Windows) (limit : ℕ) (opening : IsOpening board) (low : limi
             ∙ ap (λ ms. ms ++ calls_of i (drained i)) (sym (own_calls w p q i site))
             ∙ ap (λ ms. made_at i p.between ++ ms) (sym (made_at_makes i p.rest ∙ ap (λ h. calls_at i (makes h)) p.drains_are ∙ w.drain_log i site))
             ∙ sym (made_at-append i p.between p.rest);
-        sited = each_both (λ (e : Entry). IsSite n (site_of e.call)) p.between p.rest (sited n (pass_of hands) p.between q)
-            (subst (λ h. Each (λ (e : Entry). IsSite n (site_of e.call)) h) (sym p.drains_are) w.drain_sites);
+        sited = each_both (λ (e : HubEvent). IsSite n (site_of e.call)) p.between p.rest (sited n (pass_of hands) p.between q)
+            (subst (λ h. Each (λ (e : HubEvent). IsSite n (site_of e.call)) h) (sym p.drains_are) w.drain_sites);
       }
 
   -- the run of the core has the star, the sites and the replies
-  pub assembled_run : {js : List BoardSite} {hands : List Tally} {firsts drains : List Entry} {logs drained : ℕ → List Step} {mids ends : ℕ → BoardAttached}
+  pub assembled_run : {js : List BoardSite} {hands : List Tally} {firsts drains : List HubEvent} {logs drained : ℕ → List Step} {mids ends : ℕ → BoardAttached}
       → (w : Whole (opened_star board limit) js hands firsts drains logs drained mids ends)
       → (p : Parts (opened_star board limit) js hands w.known.history drains)
       → HasJoined (opened_world board_batches board limit) js p.joined

@@ -13,7 +13,7 @@ use Rattle.jup_star.specs.declared.site.Made.{Made as MadeEdit}
 use Rattle.jup_star.specs.SiteStates.{edit_answer}
 use Rattle.jup_star.specs.SiteCalls.{EditAnswers, is_edit_memory, made_by}
 use Rattle.jup_world.specs.BoardWorlds.{BoardAttached}
-use Rattle.jup_hub.specs.declared.view.Entry.{Entry}
+use Rattle.jup_hub.specs.declared.view.HubEvent.{HubEvent}
 use Rattle.jup_hub.specs.declared.view.View.{View}
 use Rattle.jup_hub.specs.Histories.{BeginsWith, BeginsWithAll}
 use Rattle.jup_hub.specs.Knowledge.{Meets, having_seen}
@@ -24,7 +24,7 @@ use Rattle.jup_app.proofs.Logs.{played_both, edits_of-append}
 use Rattle.jup_app.proofs.Handled.{plays_both, handles_none, handles_both, begins_trans}
 
 -- a look at the history
-pub seen_later : (v w : View) (log : List Entry) → BeginsWithAll log v.seen → w ≡ having_seen log v → (h : List Entry) → HasSeen h v → HasSeen h w
+pub seen_later : (v w : View) (log : List HubEvent) → BeginsWithAll log v.seen → w ≡ having_seen log v → (h : List HubEvent) → HasSeen h v → HasSeen h w
 seen_later v w log begins is h has =
     let all : BeginsWithAll log (has.latest ∷ has.others) = subst (λ hs. BeginsWithAll log hs) has.seen begins in record {
       latest = log;
@@ -33,7 +33,7 @@ seen_later v w log begins is h has =
       begins = begins_trans log has.latest h all.0 has.begins;
     }
 
-pub handles_news : (i : ℕ) (v w : View) (n : ℕ) (l : BoardAttached) (log : List Entry) → Meets v log → w ≡ having_seen log v → Handles i v w n n l l
+pub handles_news : (i : ℕ) (v w : View) (n : ℕ) (l : BoardAttached) (log : List HubEvent) → Meets v log → w ≡ having_seen log v → Handles i v w n n l l
 handles_news i v w n l log meets is = record {
   steps = [];
   plays = record {

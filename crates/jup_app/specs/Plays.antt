@@ -5,10 +5,10 @@ use Rattle.jup_batch.specs.BatchBoards.{BoardEdits, Commands}
 use Rattle.jup_window.specs.declared.faults.EditFault.{EditFault}
 use Rattle.jup_window.specs.FaultNumbers.{edit_fault_number}
 use Rattle.jup_star.specs.declared.calls.Call.TheVariants.{Fetch}
-use Rattle.jup_star.specs.declared.calls.Reply.{Reply}
-use Rattle.jup_star.specs.declared.calls.Reply.TheVariants.{Fetched}
+use Rattle.jup_star.specs.declared.calls.StarReply.{StarReply}
+use Rattle.jup_star.specs.declared.calls.StarReply.TheVariants.{Fetched}
 use Rattle.jup_star.specs.SiteCalls.{BoardSite}
-use Rattle.jup_hub.specs.declared.view.Entry.{Entry}
+use Rattle.jup_hub.specs.declared.view.HubEvent.{HubEvent}
 use Rattle.jup_hub.specs.declared.view.View.{View}
 use Rattle.jup_rules.specs.Bounds.{most_fetched}
 use Rattle.jup_hub.specs.Histories.{entry, BeginsWith}
@@ -17,7 +17,7 @@ use Rattle.jup_world.specs.BoardWorlds.{BoardAttached}
 use Rattle.jup_app.specs.Runs.{BoardUp, BoardDown, EditAnswer, Made, made, Step, calls_of, edits_of, IsPlayed, all_delivered, AcceptsAll, site_of, singles}
 
 -- the calls of entries
-abbrev pub makes : List Entry → List Made
+abbrev pub makes : List HubEvent → List Made
 makes [] = []
 makes (e ∷ h) = made e ∷ makes h
 
@@ -36,21 +36,21 @@ answered (Ok e) = Ok e
 answered (Err f) = Err (edit_fault_number f)
 
 -- the first history that the pass has seen begins with this one
-pub record HasSeen (h : List Entry) (v : View) : Type 0 where
-  pub latest : List Entry
-  pub others : List (List Entry)
+pub record HasSeen (h : List HubEvent) (v : View) : Type 0 where
+  pub latest : List HubEvent
+  pub others : List (List HubEvent)
   pub seen : v.seen ≡ latest ∷ others
   pub begins : BeginsWith latest h
 
 -- the pass has made the calls of these steps, which bring one state of site i to another
 pub record Plays (i : ℕ) (v w : View) (l m : BoardAttached) (steps : List Step) : Type 0 where
-  pub calls : List Entry
+  pub calls : List HubEvent
   pub made : w.made ≡ v.made ++ calls
   pub are : makes calls ≡ calls_of i steps
   pub number : w.number ≡ v.number
   pub kept : w.kept ≡ v.kept
   pub opening : w.opening ≡ v.opening
-  pub later : (h : List Entry) → HasSeen h v → HasSeen h w
+  pub later : (h : List HubEvent) → HasSeen h v → HasSeen h w
   pub played : IsPlayed l steps m
 
 -- a pass has taken and fetched for site i, with this count of its calls
@@ -67,13 +67,13 @@ pub record IsDelivering (ds : List BoardDown) (k : ℕ) (start now : BoardAttach
 
 -- the next call of the pass was a fetch for site i
 pub record Fetches (i : ℕ) (v w : View) : Type 0 where
-  pub reply : Reply
-  pub later : List Entry
+  pub reply : StarReply
+  pub later : List HubEvent
   pub made : w.made ≡ v.made ++ entry v.number (Fetch i most_fetched) reply ∷ later
 
 -- The pass met a history. If that was longer than all that it had seen, its next call was such a fetch
 pub record CatchesUp (i : ℕ) (v w : View) : Type 0 where
-  pub history : List Entry
+  pub history : List HubEvent
   pub met : Meets v history
   pub fetched : longest v.seen < length history → Fetches i v w
 

@@ -11,8 +11,8 @@ use Rattle.jup_star.specs.declared.faults.SiteFault.{SiteFault}
 use Rattle.jup_star.specs.declared.faults.SiteFault.TheVariants as site
 use Rattle.jup_hub.specs.declared.fault.HubFault.{HubFault}
 use Rattle.jup_hub.specs.declared.fault.HubFault.TheVariants as hub
-use Rattle.jup_app.specs.declared.runs.stop.Stop.{Stop}
-use Rattle.jup_app.specs.declared.runs.stop.Stop.TheVariants as stop
+use Rattle.jup_app.specs.declared.runs.halt.Halt.{Halt}
+use Rattle.jup_app.specs.declared.runs.halt.Halt.TheVariants as stop
 use Rattle.jup_app.specs.declared.runs.fault.RunFault.{RunFault}
 use Rattle.jup_app.specs.declared.runs.fault.RunFault.TheVariants.{NoMemory, LogFull, BadLimit, BadSite, GateShut, BadSites, RunBroken}
 
@@ -33,18 +33,18 @@ open_refusal refusal.BadLimit = BadLimit
 open_refusal refusal.BadSite = BadSite
 
 -- why a run stops if the hub refuses a call
-abbrev pub stop_of_hub : HubFault → Stop
+abbrev pub stop_of_hub : HubFault → Halt
 stop_of_hub (hub.Star star.NoMemory) = stop.NoMemory
 stop_of_hub (hub.Star star.LogFull) = stop.LogFull
 stop_of_hub fault = stop.RunBroken
 
 -- or a site a message
-abbrev pub stop_of_site : SiteFault → Stop
+abbrev pub stop_of_site : SiteFault → Halt
 stop_of_site site.NoMemory = stop.NoMemory
 stop_of_site fault = stop.RunBroken
 
 -- the refusal of a run that has begun
-abbrev pub stopped_by : Stop → RunFault
+abbrev pub stopped_by : Halt → RunFault
 stopped_by stop.NoMemory = NoMemory
 stopped_by stop.LogFull = LogFull
 stopped_by stop.GateShut = GateShut

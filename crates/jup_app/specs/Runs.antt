@@ -7,10 +7,10 @@ use Rattle.jup_star.specs.declared.messages.Up.{Up}
 use Rattle.jup_star.specs.declared.messages.Down.{Down}
 use Rattle.jup_star.specs.declared.calls.Call.{Call}
 use Rattle.jup_star.specs.declared.calls.Call.TheVariants.{Join, Take, Fetch, Leave}
-use Rattle.jup_star.specs.declared.calls.Reply.{Reply}
-use Rattle.jup_star.specs.declared.calls.Reply.TheVariants as reply
+use Rattle.jup_star.specs.declared.calls.StarReply.{StarReply}
+use Rattle.jup_star.specs.declared.calls.StarReply.TheVariants as reply
 use Rattle.jup_star.specs.SiteStates.{edit_answer, deliver_fault}
-use Rattle.jup_hub.specs.declared.view.Entry.{Entry}
+use Rattle.jup_hub.specs.declared.view.HubEvent.{HubEvent}
 use Rattle.jup_world.specs.Events as event
 use Rattle.jup_world.specs.Events.{Event}
 use Rattle.jup_world.specs.Events.{Made as WasMade, Refused as WasRefused}
@@ -37,10 +37,10 @@ EditAnswer = Result BoardEdits ℕ
 -- a call with its reply
 pub record Made : Type 0 where
   pub call : Call
-  pub reply : Reply
+  pub reply : StarReply
 
 -- that of an entry
-abbrev pub made : Entry → Made
+abbrev pub made : HubEvent → Made
 made e = record { call = e.call; reply = e.reply }
 
 -- a step of one site: an edit with its answer, a message that the hub took with its place in the order, or messages
@@ -116,7 +116,7 @@ site_of (Fetch i m) = i
 site_of (Leave i) = i
 
 -- the calls of one site
-abbrev pub made_at : ℕ → List Entry → List Made
+abbrev pub made_at : ℕ → List HubEvent → List Made
 made_at i [] = []
 made_at i (e ∷ h) = cond (eqb (site_of e.call) i) (made e ∷ made_at i h) (made_at i h)
 
@@ -149,7 +149,7 @@ left_over zero logs = []
 left_over (suc n) logs = left_over n logs ++ through_call (suc n) (logs (suc n))
 
 -- the events of a history of n sites that have joined, with one log for each
-abbrev pub assembled : ℕ → (ℕ → List Step) → List Entry → List BoardEvent
+abbrev pub assembled : ℕ → (ℕ → List Step) → List HubEvent → List BoardEvent
 assembled n logs [] = left_over n logs
 assembled n logs (e ∷ h) =
     through_call (site_of e.call) (logs (site_of e.call))

@@ -8,7 +8,7 @@ use Rattle.jup_star.specs.declared.calls.Call.TheVariants.{Join}
 use Rattle.jup_star.specs.StarStates.{opened_star, link_of}
 use Rattle.jup_star.specs.StarCalls.{BoardStar, BoardLink}
 use Rattle.jup_star.specs.declared.messages.Entry.{Entry as OrderEntry}
-use Rattle.jup_hub.specs.declared.view.Entry.{Entry}
+use Rattle.jup_hub.specs.declared.view.HubEvent.{HubEvent}
 use Rattle.jup_hub.specs.Histories.{IsLegal, star_through}
 use Rattle.jup_world.specs.Each.{Each}
 use Rattle.jup_world.specs.BoardWorlds.{BoardWorld}
@@ -20,23 +20,23 @@ use Rattle.jup_app.specs.Runs.{Step, calls_of, edits_of, made_at, site_of, IsSit
 use Rattle.jup_app.specs.Plays.{link_with, answered}
 
 -- the world that n sites, a history after their joins and one log for each site make
-abbrev pub assembled_world : Windows → ℕ → ℕ → (ℕ → List Step) → List Entry → BoardWorld
+abbrev pub assembled_world : Windows → ℕ → ℕ → (ℕ → List Step) → List HubEvent → BoardWorld
 assembled_world board limit n logs later = run board_batches (opened_world board_batches board limit) (joins n ++ assembled n logs later)
 
 -- There is a legal history, and one log for each script. The run of the core that they make has these replies, this star
 -- and these sites, and no message on its way
 pub record IsRunOf (board : Windows) (limit n : ℕ) (scripts : List (List Command)) (star : BoardStar) (ends : List SiteEnd) : Type 0 where
   -- the joins, the calls after them, and the log of each site
-  pub joined : List Entry
-  pub later : List Entry
+  pub joined : List HubEvent
+  pub later : List HubEvent
   pub logs : ℕ → List Step
   -- the history is legal, from a new star to the one that is given
   pub legal : IsLegal (opened_star board limit) (joined ++ later)
   pub after : star_through (opened_star board limit) (joined ++ later) ≡ star
   -- each site joins once, and then come calls of the sites alone: those of their logs
-  pub all_join : Each (λ (e : Entry). e.call ≡ Join) joined
+  pub all_join : Each (λ (e : HubEvent). e.call ≡ Join) joined
   pub as_many : length joined ≡ n
-  pub sited : Each (λ (e : Entry). IsSite n (site_of e.call)) later
+  pub sited : Each (λ (e : HubEvent). IsSite n (site_of e.call)) later
   pub own : (i : ℕ) → IsSite n i → calls_of i (logs i) ≡ made_at i later
   -- the assembled run ends with this star and these sites, and nothing in their streams
   pub star_is : (assembled_world board limit n logs later).star ≡ star

@@ -3,12 +3,12 @@
 mod calls;
 mod drain;
 mod fault;
+mod halt;
 mod joiner;
 mod player;
 mod receive;
 mod run;
 mod seating;
-mod stop;
 mod threads;
 
 pub use drain::SiteEnd;

@@ -7,7 +7,7 @@ use Rattle.jup_star.specs.declared.messages.Down.{Down}
 use Rattle.jup_star.specs.declared.faults.StarFault.{StarFault}
 use Rattle.jup_star.specs.declared.calls.Call.{Call}
 use Rattle.jup_star.specs.declared.calls.Call.TheVariants.{Join, Take, Fetch, Leave}
-use Rattle.jup_star.specs.declared.calls.Reply.TheVariants.{Fetched}
+use Rattle.jup_star.specs.declared.calls.StarReply.TheVariants.{Fetched}
 use Rattle.jup_star.specs.LinkStates.{opened_link}
 use Rattle.jup_star.specs.StarStates.{link_of, join_fault, up_fault, take_fault, most_batches}
 use Rattle.jup_star.specs.StarCalls.{BoardStar, BoardLink, after_join, after_take, after_fetch, after_leave, fetch_result, reply_of, star_after}

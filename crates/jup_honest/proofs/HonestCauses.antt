@@ -5,7 +5,7 @@ use Rattle.jup_star.specs.declared.messages.Up.{Up}
 use Rattle.jup_star.specs.declared.messages.Down.{Down}
 use Rattle.jup_star.specs.declared.calls.Call.{Call}
 use Rattle.jup_star.specs.declared.calls.Call.TheVariants.{Join, Take, Fetch, Leave}
-use Rattle.jup_star.specs.declared.calls.Reply.{Reply}
+use Rattle.jup_star.specs.declared.calls.StarReply.{StarReply}
 use Rattle.jup_honest.specs.Connections.{Step, Edit, Deliver, Ping, Called, Connection, taken_with, fetched_in, fetched_with, after, through, Begins, IsReliable, IsReliableThrough, IsCausal, IsCausalThrough}
 
 -- a list begins with itself
@@ -44,7 +44,7 @@ taken_grows i (Take j u) us = cases (nat_eq j i)
 taken_grows i (Fetch j max) us = begins_self us
 taken_grows i (Leave j) us = begins_self us
 
-fetched_grows : (i : ℕ) (c : Call) (r : Reply) (ds : List (Down BoardBatch)) → Begins (fetched_with i c r ds) ds
+fetched_grows : (i : ℕ) (c : Call) (r : StarReply) (ds : List (Down BoardBatch)) → Begins (fetched_with i c r ds) ds
 fetched_grows i Join r ds = begins_self ds
 fetched_grows i (Take j u) r ds = begins_self ds
 fetched_grows i (Fetch j max) r ds = cases (nat_eq j i)

@@ -13,8 +13,8 @@ use Rattle.jup_star.specs.declared.messages.Up.TheVariants.{Op as UpOp, Ack as U
 use Rattle.jup_star.specs.declared.messages.Down.{Down}
 use Rattle.jup_star.specs.declared.calls.Call.{Call}
 use Rattle.jup_star.specs.declared.calls.Call.TheVariants.{Join, Take, Fetch, Leave}
-use Rattle.jup_star.specs.declared.calls.Reply.{Reply}
-use Rattle.jup_star.specs.declared.calls.Reply.TheVariants.{Taken}
+use Rattle.jup_star.specs.declared.calls.StarReply.{StarReply}
+use Rattle.jup_star.specs.declared.calls.StarReply.TheVariants.{Taken}
 use Rattle.jup_star.specs.LinkStates.{LinkState}
 use Rattle.jup_star.specs.Streams.{ups, downs}
 use Rattle.jup_star.specs.StarStates.{StarOf, link_of, up_fault, take_fault, opened_star, most_batches}
@@ -229,7 +229,7 @@ more_taken i (Take j u) us = cases (nat_eq j i)
 more_taken i (Fetch j max) us = sym (append-nil us)
 more_taken i (Leave j) us = sym (append-nil us)
 
-more_fetched : (i : ℕ) (c : Call) (r : Reply) (ds : List (Down BoardBatch)) → fetched_with i c r ds ≡ ds ++ fetched_with i c r []
+more_fetched : (i : ℕ) (c : Call) (r : StarReply) (ds : List (Down BoardBatch)) → fetched_with i c r ds ≡ ds ++ fetched_with i c r []
 more_fetched i Join r ds = sym (append-nil ds)
 more_fetched i (Take j u) r ds = sym (append-nil ds)
 more_fetched i (Fetch j max) r ds = cases (nat_eq j i)

@@ -13,13 +13,13 @@ use Rattle.jup_star.specs.declared.faults.StarFault.TheVariants.{Full, SitesSpen
 use Rattle.jup_star.specs.declared.star.Joined.{Joined}
 use Rattle.jup_star.specs.declared.calls.Call.{Call}
 use Rattle.jup_star.specs.declared.calls.Call.TheVariants.{Join, Take, Fetch, Leave}
-use Rattle.jup_star.specs.declared.calls.Reply.TheVariants.{Joined as JoinedReply}
+use Rattle.jup_star.specs.declared.calls.StarReply.TheVariants.{Joined as JoinedReply}
 use Rattle.jup_star.specs.FirstFaults.{test, first_fault}
 use Rattle.jup_star.specs.LinkStates.{operation_at}
 use Rattle.jup_star.specs.StarStates.{link_of, join_fault, up_fault, take_fault, taken, most_batches}
 use Rattle.jup_star.specs.StarCalls.{BoardStar, BoardLink, join_result, after_join, after_take, after_fetch, after_leave, reply_of, star_after}
 use Rattle.jup_star.specs.SiteCalls.{site_open_fault}
-use Rattle.jup_hub.specs.declared.view.Entry.{Entry}
+use Rattle.jup_hub.specs.declared.view.HubEvent.{HubEvent}
 use Rattle.jup_hub.specs.Histories.{star_through}
 use Rattle.jup_world.proofs.StarTakes.{inserts, next}
 use Rattle.jup_world.proofs.Sound.GivenNames.{batch_none, layout_none}
@@ -77,7 +77,7 @@ call-named board limit (Leave j) s h n = go (link_of j s.links)
     go None = n
     go (Some l) = record { named = n.named; limit_is = n.limit_is }
 
-through-named : (board : Windows) (limit : ℕ) (es : List Entry) (s : BoardStar) → Called board s → IsNamed limit s → IsNamed limit (star_through s es)
+through-named : (board : Windows) (limit : ℕ) (es : List HubEvent) (s : BoardStar) → Called board s → IsNamed limit s → IsNamed limit (star_through s es)
 through-named board limit [] s h n = n
 through-named board limit (e ∷ es) s h n = through-named board limit es (star_after e.call s) (call-grows board e.call s h).called (call-named board limit e.call s h n)
 

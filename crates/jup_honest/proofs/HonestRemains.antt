@@ -10,12 +10,12 @@ use Rattle.jup_star.specs.declared.faults.StarFault.{StarFault}
 use Rattle.jup_star.specs.declared.faults.StarFault.TheVariants.{LogFull}
 use Rattle.jup_star.specs.declared.calls.Call.{Call}
 use Rattle.jup_star.specs.declared.calls.Call.TheVariants.{Join, Take, Fetch, Leave}
-use Rattle.jup_star.specs.declared.calls.Reply.TheVariants.{Taken}
+use Rattle.jup_star.specs.declared.calls.StarReply.TheVariants.{Taken}
 use Rattle.jup_star.specs.LinkStates.{LinkState, operation_at, opened_link, link_acked, link_ponged, link_fetched, link_sent, link_heard}
 use Rattle.jup_star.specs.StarStates.{StarOf, link_of, join_fault, up_fault, take_fault, joined, left, fetched, taken, most_batches}
 use Rattle.jup_star.specs.StarCalls.{BoardStar, BoardLink, after_join, after_take, after_fetch, after_leave, take_result, reply_of, star_after}
 use Rattle.jup_star.proofs.Lookup.{found-without_other, found-end_other}
-use Rattle.jup_hub.specs.declared.view.Entry.{Entry}
+use Rattle.jup_hub.specs.declared.view.HubEvent.{HubEvent}
 use Rattle.jup_world.specs.Sound.{IsSoundStar}
 use Rattle.jup_world.proofs.StarTakes.{link_here, link_there}
 use Rattle.jup_world.proofs.StarKeepsLinks.{at_here, at_there}
@@ -136,7 +136,7 @@ module _ (board : Windows) (a : Connection) (h : Stands board a) (l : BoardLink)
         cases false e = inr (leave-remains j e)
 
 -- so over a run
-pub run-remains : (y : SiteRun) (e : Entry) → IsHonest (longer y (Called e ∷ [])) → (l : BoardLink) → IsAttached (now y) l → Remains (now y) e
+pub run-remains : (y : SiteRun) (e : HubEvent) → IsHonest (longer y (Called e ∷ [])) → (l : BoardLink) → IsAttached (now y) l → Remains (now y) e
 run-remains y e is l fl =
     let was = shorter y (Called e ∷ []) is in
     let both = (reliable-parts y.steps (Called e ∷ []) (start y) is.reliable).1 in

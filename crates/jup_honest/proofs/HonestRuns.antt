@@ -12,7 +12,7 @@ use Rattle.jup_star.specs.declared.faults.StarFault.{StarFault}
 use Rattle.jup_star.specs.declared.star.Joined.{Joined}
 use Rattle.jup_star.specs.declared.calls.Call.{Call}
 use Rattle.jup_star.specs.declared.calls.Call.TheVariants.{Join, Take, Fetch, Leave}
-use Rattle.jup_star.specs.declared.calls.Reply.TheVariants.{Joined as JoinedReply, Fetched}
+use Rattle.jup_star.specs.declared.calls.StarReply.TheVariants.{Joined as JoinedReply, Fetched}
 use Rattle.jup_link.specs.Links.{Link, owes}
 use Rattle.jup_link.specs.Messages.{next_message}
 use Rattle.jup_star.specs.LinkStates.{end_after}
@@ -23,7 +23,7 @@ use Rattle.jup_star.specs.SiteStates.{edit_answer, deliver_fault, sent_back, aft
 use Rattle.jup_star.specs.SiteCalls.{made_result, after_edit, deliver_result}
 use Rattle.jup_star.proofs.Lookup.{found-without}
 use Rattle.jup_star.proofs.StreamLaws.{ups-append}
-use Rattle.jup_hub.specs.declared.view.Entry.{Entry}
+use Rattle.jup_hub.specs.declared.view.HubEvent.{HubEvent}
 use Rattle.jup_hub.specs.Histories.{star_through, IsLegal}
 use Rattle.jup_world.specs.BoardWorlds.{BoardAttached}
 use Rattle.jup_world.specs.Sound.{edits_sent}
@@ -242,7 +242,7 @@ module _ (board : Windows) where
     called_at (Fetch j max) g = fetch-stands j max
     called_at (Leave j) g = gone-stands j
 
-    pub called-stands : (e : Entry) → e.reply ≡ reply_of e.call a.star → IsReliable (after (Called e) a) → Stands (after (Called e) a)
+    pub called-stands : (e : HubEvent) → e.reply ≡ reply_of e.call a.star → IsReliable (after (Called e) a) → Stands (after (Called e) a)
     called-stands e legal g =
         subst (λ r. Stands (record a { star = star_after e.call a.star; taken = taken_with a.number e.call a.taken; fetched = fetched_with a.number e.call r a.fetched })) (sym legal)
         (called_at e.call

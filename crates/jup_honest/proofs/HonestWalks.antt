@@ -12,7 +12,7 @@ use Rattle.jup_star.specs.StarStates.{link_of, join_fault, take_fault, taken, en
 use Rattle.jup_star.specs.StarCalls.{BoardStar, BoardLink, after_join, after_take, after_fetch, after_leave, star_after}
 use Rattle.jup_star.specs.SiteStates.{edit_answer, received, after_fault}
 use Rattle.jup_star.specs.SiteCalls.{after_edit}
-use Rattle.jup_hub.specs.declared.view.Entry.{Entry}
+use Rattle.jup_hub.specs.declared.view.HubEvent.{HubEvent}
 use Rattle.jup_hub.specs.Histories.{star_through, IsLegal}
 use Rattle.jup_world.proofs.EventSteps.{result_cases}
 use Rattle.jup_world.proofs.Orders.StarRuns.{Follows, follows-same, follows-chain}
@@ -115,7 +115,7 @@ module _ (board : Windows) where
 -- # The star
 
 -- over a history the star keeps the order of its items
-pub star-follows : (board : Windows) (es : List Entry) (s : BoardStar) → CalledStar board s → Follows board_batches batch_laws s (star_through s es)
+pub star-follows : (board : Windows) (es : List HubEvent) (s : BoardStar) → CalledStar board s → Follows board_batches batch_laws s (star_through s es)
 star-follows board [] s h = follows-same board_batches batch_laws s s (omega arith) refl refl
 star-follows board (e ∷ es) s h =
     let one = call-grows board e.call s h in

@@ -1,7 +1,7 @@
 -- A run and its first steps.
 use Rattle.std.proofs.Common.{◌≡◌, List, [], ◌∷◌, ◌++◌, refl, ap, sym, ◌∙◌, subst, Ok, append_assoc}
 use Rattle.jup_star.specs.declared.calls.Call.TheVariants.{Join}
-use Rattle.jup_star.specs.declared.calls.Reply.TheVariants.{Joined as JoinedReply}
+use Rattle.jup_star.specs.declared.calls.StarReply.TheVariants.{Joined as JoinedReply}
 use Rattle.jup_hub.specs.Histories.{entry as called, IsLegal}
 use Rattle.jup_honest.specs.Connections.{Step, Edit, Deliver, Ping, Called, history, Connection, after, through, IsReliableThrough}
 use Rattle.jup_honest.specs.SiteRuns.{SiteRun, IsHonest, opening, calls, start, now, longer}

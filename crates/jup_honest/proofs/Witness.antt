@@ -13,7 +13,7 @@ use Rattle.jup_star.specs.declared.messages.Up.TheVariants.{Op as UpOp, Ping as 
 use Rattle.jup_star.specs.declared.messages.Down.{Down}
 use Rattle.jup_star.specs.declared.messages.Down.TheVariants.{Op as DownOp, Pong as DownPong}
 use Rattle.jup_star.specs.declared.calls.Call.TheVariants.{Join, Take, Fetch}
-use Rattle.jup_star.specs.declared.calls.Reply.TheVariants.{Joined as JoinedReply, Taken, Fetched}
+use Rattle.jup_star.specs.declared.calls.StarReply.TheVariants.{Joined as JoinedReply, Taken, Fetched}
 use Rattle.jup_star.specs.StarCalls.{BoardLink, reply_of, star_after}
 use Rattle.jup_hub.specs.Histories.{entry, IsLegal}
 use Rattle.jup_world.specs.Openings.{IsOpening}

@@ -9,12 +9,12 @@ use Rattle.jup_star.specs.declared.star.Joined.{Joined}
 use Rattle.jup_star.specs.declared.faults.SiteFault.{SiteFault}
 use Rattle.jup_star.specs.declared.calls.Call.{Call}
 use Rattle.jup_star.specs.declared.calls.Call.TheVariants.{Join, Take, Fetch, Leave}
-use Rattle.jup_star.specs.declared.calls.Reply.{Reply}
-use Rattle.jup_star.specs.declared.calls.Reply.TheVariants.{Fetched}
+use Rattle.jup_star.specs.declared.calls.StarReply.{StarReply}
+use Rattle.jup_star.specs.declared.calls.StarReply.TheVariants.{Fetched}
 use Rattle.jup_star.specs.SiteStates.{opened_site}
 use Rattle.jup_star.specs.SiteCalls.{BoardSite, edit_reply, site_edited, deliver_reply, site_delivered}
 use Rattle.jup_star.specs.StarCalls.{BoardStar, star_after}
-use Rattle.jup_hub.specs.declared.view.Entry.{Entry}
+use Rattle.jup_hub.specs.declared.view.HubEvent.{HubEvent}
 
 -- A step: the site makes one edit of commands, or refuses them; it receives a message; it sends a ping; or anyone calls the hub.
 -- A call of the site that is refused because an allocation failed changes nothing, and is no step
@@ -22,10 +22,10 @@ pub data Step : Type 0 where
   Edit : Commands → Step
   Deliver : Down BoardBatch → Step
   Ping : ℕ → Step
-  Called : Entry → Step
+  Called : HubEvent → Step
 
 -- the calls among the steps: a history
-abbrev pub history : List Step → List Entry
+abbrev pub history : List Step → List HubEvent
 history [] = []
 history (Edit commands ∷ steps) = history steps
 history (Deliver down ∷ steps) = history steps
@@ -63,23 +63,23 @@ taken_with i (Fetch j max) ups = ups
 taken_with i (Leave j) ups = ups
 
 -- the messages of a fetch: none if it is refused
-abbrev pub fetched_in : Reply → List (Down BoardBatch)
+abbrev pub fetched_in : StarReply → List (Down BoardBatch)
 fetched_in (Fetched (Ok downs)) = downs
 fetched_in reply = []
 
 -- those are on their way to its site
-abbrev pub fetched_with : ℕ → Call → Reply → List (Down BoardBatch) → List (Down BoardBatch)
+abbrev pub fetched_with : ℕ → Call → StarReply → List (Down BoardBatch) → List (Down BoardBatch)
 fetched_with i Join reply downs = downs
 fetched_with i (Take j up) reply downs = downs
 fetched_with i (Fetch j max) reply downs = cond (nat_eq j i) (downs ++ fetched_in reply) downs
 fetched_with i (Leave j) reply downs = downs
 
 -- the messages of a site that a history brings to the star, and those that it fetches for the site, in order
-abbrev pub takes_of : ℕ → List Entry → List (Up BoardBatch)
+abbrev pub takes_of : ℕ → List HubEvent → List (Up BoardBatch)
 takes_of i [] = []
 takes_of i (e ∷ es) = taken_with i e.call [] ++ takes_of i es
 
-abbrev pub fetches_of : ℕ → List Entry → List (Down BoardBatch)
+abbrev pub fetches_of : ℕ → List HubEvent → List (Down BoardBatch)
 fetches_of i [] = []
 fetches_of i (e ∷ es) = fetched_with i e.call e.reply [] ++ fetches_of i es
 

@@ -10,14 +10,14 @@ use Rattle.jup_star.specs.declared.messages.Down.TheVariants.{Op as DownOp, Ack 
 use Rattle.jup_star.specs.declared.faults.StarFault.TheVariants.{LogFull}
 use Rattle.jup_star.specs.declared.calls.Call.{Call}
 use Rattle.jup_star.specs.declared.calls.Call.TheVariants.{Join, Take, Fetch, Leave}
-use Rattle.jup_star.specs.declared.calls.Reply.{Reply}
-use Rattle.jup_star.specs.declared.calls.Reply.TheVariants.{Taken}
+use Rattle.jup_star.specs.declared.calls.StarReply.{StarReply}
+use Rattle.jup_star.specs.declared.calls.StarReply.TheVariants.{Taken}
 use Rattle.jup_star.specs.Streams.{ups}
 use Rattle.jup_star.specs.StarStates.{link_of}
 use Rattle.jup_star.specs.StarCalls.{BoardStar, BoardLink, reply_of}
 use Rattle.jup_star.specs.SiteStates.{sent_back}
 use Rattle.jup_star.specs.SiteCalls.{deliver_reply}
-use Rattle.jup_hub.specs.declared.view.Entry.{Entry}
+use Rattle.jup_hub.specs.declared.view.HubEvent.{HubEvent}
 use Rattle.jup_world.specs.Turns.{Turn, turns, edits, own_edits}
 use Rattle.jup_world.specs.Sound.{edits_sent, edits_in, told_of}
 use Rattle.jup_honest.specs.Connections.{Step, Edit, Deliver, Ping, Called, Connection, after}
@@ -53,7 +53,7 @@ pub record IsDrained (c : Connection) (l : BoardLink) : Type 0 where
   pub outbox : l.outbox ≡ []
 
 -- a message is taken, and an edit gets the next place in the order; only a full order refuses it
-abbrev pub IsTakenUnlessFull : BoardStar → Up BoardBatch → Reply → Type 0
+abbrev pub IsTakenUnlessFull : BoardStar → Up BoardBatch → StarReply → Type 0
 IsTakenUnlessFull s (UpOp m) r =
     (length s.order < s.limit → r ≡ Taken (Ok (Some (length s.order)))) × (s.limit ≤ length s.order → r ≡ Taken (Err LogFull))
 IsTakenUnlessFull s (UpAck n) r = r ≡ Taken (Ok None)
@@ -104,18 +104,18 @@ pub record KeepsOrder (earlier later : Connection) : Type 0 where
   pub site : board_batches.t.keeps_order earlier.site.board later.site.board
 
 -- the calls that take its link away: one to leave for it, and one to take its edit that a full order refuses
-abbrev pub IsDetachedBy : Connection → Call → Reply → Type 0
+abbrev pub IsDetachedBy : Connection → Call → StarReply → Type 0
 IsDetachedBy c Join r = ⊥
 IsDetachedBy c (Take j up) r = (j ≡ c.number) × (r ≡ Taken (Err LogFull))
 IsDetachedBy c (Fetch j max) r = ⊥
 IsDetachedBy c (Leave j) r = j ≡ c.number
 
 -- a call is one of these, or the site has a link after it
-abbrev pub Remains : Connection → Entry → Type 0
+abbrev pub Remains : Connection → HubEvent → Type 0
 Remains c e = IsDetachedBy c e.call e.reply ⊎ ((k : BoardLink) × IsAttached (after (Called e) c) k)
 
 -- while it has its link, a call to take its message is answered so
-abbrev pub IsAnsweredWell : Connection → Call → Reply → Type 0
+abbrev pub IsAnsweredWell : Connection → Call → StarReply → Type 0
 IsAnsweredWell c Join r = Unit {0}
 IsAnsweredWell c (Take j up) r = j ≡ c.number → IsTakenUnlessFull c.star up r
 IsAnsweredWell c (Fetch j max) r = Unit {0}

@@ -4,10 +4,10 @@ use Rattle.jup_limits.specs.Limits.{highest_limit}
 use Rattle.jup_batch.specs.BatchBoards.{Windows}
 use Rattle.jup_star.specs.declared.star.Joined.{Joined}
 use Rattle.jup_star.specs.declared.calls.Call.TheVariants.{Join}
-use Rattle.jup_star.specs.declared.calls.Reply.TheVariants.{Joined as JoinedReply}
+use Rattle.jup_star.specs.declared.calls.StarReply.TheVariants.{Joined as JoinedReply}
 use Rattle.jup_star.specs.StarStates.{opened_star}
 use Rattle.jup_star.specs.StarCalls.{BoardStar}
-use Rattle.jup_hub.specs.declared.view.Entry.{Entry}
+use Rattle.jup_hub.specs.declared.view.HubEvent.{HubEvent}
 use Rattle.jup_hub.specs.Histories.{entry, star_through, IsLegal}
 use Rattle.jup_world.specs.Openings.{IsOpening}
 use Rattle.jup_honest.specs.Connections.{Step, Connection, history, takes_of, fetches_of, through, new_connection, IsReliableThrough}
@@ -17,7 +17,7 @@ use Rattle.jup_honest.specs.Connections.{Step, Connection, history, takes_of, fe
 pub record SiteRun : Type 0 where
   pub board : Windows
   pub limit : ℕ
-  pub before : List Entry
+  pub before : List HubEvent
   pub by : List ℕ
   pub answer : Joined
   pub steps : List Step
@@ -27,7 +27,7 @@ abbrev pub opening : SiteRun → BoardStar
 opening run = opened_star run.board run.limit
 
 -- the whole history
-abbrev pub calls : SiteRun → List Entry
+abbrev pub calls : SiteRun → List HubEvent
 calls run = run.before ++ entry run.by Join (JoinedReply (Ok run.answer)) ∷ history run.steps
 
 -- both ends at the join, and now

@@ -3,7 +3,7 @@
 ghost use Rattle.std.specs.Prelude.{◌≡◌, ◌≤◌, None, length, List, ◌∷◌, []};
 ghost use Rattle.jup_star.specs.SiteCalls.{site_open_fault};
 ghost use Rattle.jup_star.specs.StarCalls.{BoardLink};
-ghost use Rattle.jup_hub.specs.declared.view.Entry.{Entry};
+ghost use Rattle.jup_hub.specs.declared.view.HubEvent.{HubEvent};
 ghost use Rattle.jup_honest.specs.Connections.{Step, Called, Connection, through, IsReliable, IsReliableThrough, IsCausalThrough};
 ghost use Rattle.jup_honest.specs.SiteRuns.{SiteRun, IsHonest, IsOfHistory, start, now, longer};
 ghost use Rattle.jup_honest.specs.Promises.{IsDrained, IsBacklogShort, SitePromises, LinkPromises, StarShows, IsAttached, Remains, KeepsOrder, AllGoesWell, AreDrained};
@@ -40,7 +40,7 @@ pub fn honest_sites_agree()
     ensures link { (run : SiteRun) → IsHonest run → (l : BoardLink) → IsAttached (now run) l → LinkPromises (now run) l }
     ensures backlog { (run : SiteRun) → IsHonest run → (l : BoardLink) → IsAttached (now run) l
         → IsBacklogShort (now run) l }
-    ensures remains { (run : SiteRun) (e : Entry) → IsHonest (longer run (Called e ∷ [])) → (l : BoardLink)
+    ensures remains { (run : SiteRun) (e : HubEvent) → IsHonest (longer run (Called e ∷ [])) → (l : BoardLink)
         → IsAttached (now run) l → Remains (now run) e }
     ensures order { (run : SiteRun) (later : List Step) → IsHonest (longer run later)
         → KeepsOrder (now run) (now (longer run later)) }

@@ -11,9 +11,9 @@ use Rattle.atomic_table.specs.Table.{State, step, rest, Act, keeps, takes, gives
 use Rattle.atomic_table.proofs.Lists.{at_set, set_else}
 use Rattle.jup_star.specs.StarCalls.{BoardStar, reply_of}
 use Rattle.jup_star.specs.declared.calls.Call.{Call}
-use Rattle.jup_star.specs.declared.calls.Reply.{Reply}
+use Rattle.jup_star.specs.declared.calls.StarReply.{StarReply}
 use Rattle.jup_hub.specs.declared.desk.Desk.{Desk}
-use Rattle.jup_hub.specs.declared.view.Entry.{Entry}
+use Rattle.jup_hub.specs.declared.view.HubEvent.{HubEvent}
 use Rattle.jup_hub.specs.declared.view.View.{View}
 use Rattle.jup_hub.specs.Histories.{entry, star_through, IsLegal}
 use Rattle.jup_hub.specs.Knowledge.{tallies, newcomer, spent, after_split, split_from, joined_with, at_turn, having_seen, with_call, having_called, Meets}
@@ -43,12 +43,12 @@ module _ (star : BoardStar) where
       (λ (t : (j ≢ id) × (get_elem? vs j ≡ some v)). others j v t.0 t.1 live) (at_set vs id j w v e)
 
   -- a pass that can't have had the turn may fit any turn
-  has_none : (log log' : List Entry) (owner owner' : List ℕ → ℕ) (n n' holder holder' j : ℕ) → (n ≢ 0 → ¬ (j ≡ holder)) → (t : Option (List Entry))
+  has_none : (log log' : List HubEvent) (owner owner' : List ℕ → ℕ) (n n' holder holder' j : ℕ) → (n ≢ 0 → ¬ (j ≡ holder)) → (t : Option (List HubEvent))
       → HasTurn star log owner n holder j t → HasTurn star log' owner' n' holder' j t
   has_none log log' owner owner' n n' holder holder' j never None h = tt
   has_none log log' owner owner' n n' holder holder' j never (Some whole) h = absurd (never h.0 h.1)
 
-  refits : (log : List Entry) (owner : List ℕ → ℕ) (n n' holder holder' j : ℕ) (v : View) → Fits star log owner n holder j v → HasTurn star log owner n' holder' j v.turn → Fits star log owner n' holder' j v
+  refits : (log : List HubEvent) (owner : List ℕ → ℕ) (n n' holder holder' j : ℕ) (v : View) → Fits star log owner n holder j v → HasTurn star log owner n' holder' j v.turn → Fits star log owner n' holder' j v
   refits log owner n n' holder holder' j v f h = record { opened = f.opened; has_turn = h; begins = f.begins; tallied = f.tallied; apart = f.apart; owned = f.owned; unborn = f.unborn }
 
   -- a step after which the history and the owners of the numbers are as before
@@ -139,7 +139,7 @@ module _ (star : BoardStar) where
   learns slots id me live s r _ at _ = (me.0, keeps, tt, unmoved s r 0 id me.1 me.0 (r.each_seat id me.0 at), (r.log, meets s r id me.0 at live, refl))
 
   -- the turn is given up
-  pub gives_turn : (slots id : ℕ) (me : SeatState) (log : List Entry) → slots ≡ 1 → me.0.is_live ≡ true → me.0.turn ≡ Some log → me.1 ≡ (0, Some (desk_after me.0.opening log)) ∷ []
+  pub gives_turn : (slots id : ℕ) (me : SeatState) (log : List HubEvent) → slots ≡ 1 → me.0.is_live ≡ true → me.0.turn ≡ Some log → me.1 ≡ (0, Some (desk_after me.0.opening log)) ∷ []
       → Allows Rule slots id me 1 (λ _. 0) (λ _. gave (step slots 1 0 0 none) me 0)
   gives_turn slots id me log one live is hand s r deep at _ = let v : View = me.0 in let f = r.each_seat id v at live in let wide = r.wide in
       let mine = subst (HasTurn star r.log r.owner (turn s) r.holder id) is f.has_turn in
@@ -164,11 +164,11 @@ module _ (star : BoardStar) where
       set_only (x ∷ y ∷ ys) a e = absurd (omega arith)
 
   -- the deciding step: the count is stored
-  pub decides : (slots id : ℕ) (me : SeatState) (log : List Entry) (call : Call) (reply : Reply) (next : ℕ) → me.0.is_live ≡ true → me.0.turn ≡ Some log → next ≡ length log + 1 → reply ≡ reply_of call (star_through me.0.opening log)
+  pub decides : (slots id : ℕ) (me : SeatState) (log : List HubEvent) (call : Call) (reply : StarReply) (next : ℕ) → me.0.is_live ≡ true → me.0.turn ≡ Some log → next ≡ length log + 1 → reply ≡ reply_of call (star_through me.0.opening log)
       → Allows Rule slots id me 0 (λ _. next) (λ _. decided call reply (step slots 0 next 0 none) me next)
   decides slots id me log call reply next live is up answered s r _ at _ = let v : View = me.0 in let f = r.each_seat id v at live in let wide = r.wide in
       let mine = subst (HasTurn star r.log r.owner (turn s) r.holder id) is f.has_turn in
-      let e : Entry = entry v.number call reply in
+      let e : HubEvent = entry v.number call reply in
       let w : View = at_turn (Some (with_call r.log v call reply)) (having_called r.log call reply v) in
       let right : reply ≡ reply_of call (star_through star r.log) = answered ∙ (λ i. reply_of call (star_through (f.opened i) (mine.2 i))) in
       let still : get_or (set s.words 0 next) 1 0 ≡ turn s = get_or-set_other s.words 0 1 next 0 (λ e. omega arith) in
@@ -191,7 +191,7 @@ module _ (star : BoardStar) where
                 opened = f.opened;
                 has_turn = (held, mine.1, refl);
                 begins = BeginsWithAll-whole (r.log ++ e ∷ []);
-                tallied = (calls_by-more v.number r.log e refl ∙ ap (λ (l : List Entry). l ++ e ∷ []) f.tallied.0, AllTallied-other r.log e v.kept f.apart.0 f.tallied.1);
+                tallied = (calls_by-more v.number r.log e refl ∙ ap (λ (l : List HubEvent). l ++ e ∷ []) f.tallied.0, AllTallied-other r.log e v.kept f.apart.0 f.tallied.1);
                 apart = f.apart;
                 owned = f.owned;
                 unborn = f.unborn;
@@ -209,7 +209,7 @@ module _ (star : BoardStar) where
           no_child = r.no_child;
         },
         λ whole is'. let other = subst (HasTurn star r.log r.owner (turn s) r.holder id) is' f.has_turn in
-            ap (λ (l : List Entry). (at_turn (Some (with_call l v call reply)) (having_called l call reply v), me.1)) (sym other.2),
+            ap (λ (l : List HubEvent). (at_turn (Some (with_call l v call reply)) (having_called l call reply v), me.1)) (sym other.2),
       )
 
   -- the owners after a seat got the number c

@@ -3,7 +3,7 @@ use Rattle.std.specs.Prelude.{◌≡◌, Result, Ok, Err, MatchBool}
 use Rattle.jup_star.specs.StarCalls.{BoardStar, is_no_memory}
 use Rattle.jup_star.specs.declared.faults.StarFault.{StarFault}
 use Rattle.jup_star.specs.declared.calls.Call.{Call}
-use Rattle.jup_star.specs.declared.calls.Reply.{Reply}
+use Rattle.jup_star.specs.declared.calls.StarReply.{StarReply}
 use Rattle.jup_hub.specs.declared.fault.HubFault.{HubFault}
 use Rattle.jup_hub.specs.declared.fault.HubFault.TheVariants.{Star, Spent}
 use Rattle.jup_hub.specs.declared.hub.Hub.{Hub}
@@ -25,7 +25,7 @@ IsPassOf hub pass = (pass.seat.table_id ≡ hub.table.shared.table_id) × ((view
 
 -- What a call did. If an allocation failed or the count is spent, the pass has seen and made what it had, and it had come to that. Any
 -- other answer is a call of the one history
-abbrev pub Made : {A : Type 0} → (Result A StarFault → Reply) → Call → View → View → Result A HubFault → Type 0
+abbrev pub Made : {A : Type 0} → (Result A StarFault → StarReply) → Call → View → View → Result A HubFault → Type 0
 Made reply call v w (Ok x) = Called call (reply (Ok x)) v w
 Made reply call v w (Err (Star e)) = MatchBool (is_no_memory e) ((w ≡ v) × ComesToAsk call v) (Called call (reply (Err e)) v w)
 Made reply call v w (Err Spent) = (w ≡ v) × IsSpent v

@@ -7,16 +7,16 @@ use Rattle.atomic_table.specs.Table.{State, Me, Step}
 use Rattle.atomic_table.specs.Seated.{TableId}
 use Rattle.jup_star.specs.StarCalls.{BoardStar}
 use Rattle.jup_star.specs.declared.calls.Call.{Call}
-use Rattle.jup_star.specs.declared.calls.Reply.{Reply}
+use Rattle.jup_star.specs.declared.calls.StarReply.{StarReply}
 use Rattle.jup_hub.specs.declared.desk.Desk.{Desk}
-use Rattle.jup_hub.specs.declared.view.Entry.{Entry}
+use Rattle.jup_hub.specs.declared.view.HubEvent.{HubEvent}
 use Rattle.jup_hub.specs.declared.view.Tally.{Tally}
 use Rattle.jup_hub.specs.declared.view.View.{View}
 use Rattle.jup_hub.specs.Histories.{star_through, IsLegal, calls_by, BeginsWithAll, AllTallied, AllApart}
 use Rattle.jup_hub.specs.Knowledge.{tallies, at_turn, having_seen, having_called, with_call, Meets}
 
 -- what is in the slot after a history: the star after it, and how long it is
-abbrev pub desk_after : BoardStar → List Entry → Desk
+abbrev pub desk_after : BoardStar → List HubEvent → Desk
 desk_after star log = record { star = star_through star log; count = length log }
 
 -- a seat owns the numbers of some tallies. The owner of a number is one more than the seat of the pass that has it, and 0 if no
@@ -25,9 +25,9 @@ abbrev pub AllOwned : (List ℕ → ℕ) → ℕ → List Tally → Type 0
 AllOwned owner seat [] = Unit {0}
 AllOwned owner seat (t ∷ ts) = (owner t.number ≡ suc seat) × AllOwned owner seat ts
 
-module _ (star : BoardStar) (log : List Entry) (owner : List ℕ → ℕ) (turn holder seat : ℕ) where
+module _ (star : BoardStar) (log : List HubEvent) (owner : List ℕ → ℕ) (turn holder seat : ℕ) where
   -- a pass that has the turn is the holder, and what it took to be the history of all calls is it
-  abbrev pub HasTurn : Option (List Entry) → Type 0
+  abbrev pub HasTurn : Option (List HubEvent) → Type 0
   HasTurn None = Unit {0}
   HasTurn (Some whole) = (turn ≢ 0) × (seat ≡ holder) × (whole ≡ log)
 
@@ -45,7 +45,7 @@ module _ (star : BoardStar) (log : List Entry) (owner : List ℕ → ℕ) (turn 
 -- What holds between any two steps. There is one legal history, as long as the count. If the turn is free, what is in the slot
 -- is after it. What each pass knows is so. A number that no pass has bears no calls, and none is split from it
 pub record Kept (star : BoardStar) (s : State (Option Desk) View) : Type 0 where
-  pub log : List Entry
+  pub log : List HubEvent
   pub owner : List ℕ → ℕ
   pub holder : ℕ
   pub wide : length s.words ≡ 2
@@ -66,15 +66,15 @@ TableStep = Step (Option Desk)
 
 -- the turn was free: the pass meets the history of all calls, and takes what is in the slot
 abbrev pub TookTurn : SeatState → SeatState → Type 0
-TookTurn m m' = (log : List Entry) × Meets m.0 log × (m' ≡ (at_turn (Some log) m.0, (0, Some (desk_after m.0.opening log)) ∷ m.1))
+TookTurn m m' = (log : List HubEvent) × Meets m.0 log × (m' ≡ (at_turn (Some log) m.0, (0, Some (desk_after m.0.opening log)) ∷ m.1))
 
 -- a try for the turn
 abbrev pub tried : TableStep → SeatState → ℕ → SeatState → Type 0
 tried st m found m' = (found ≡ 0 → TookTurn m m') × (found ≢ 0 → m' ≡ m)
 
 -- the call is added to the history of all calls
-abbrev pub decided : Call → Reply → TableStep → SeatState → ℕ → SeatState → Type 0
-decided call reply st m stored m' = (log : List Entry) → m.0.turn ≡ Some log → m' ≡ (at_turn (Some (with_call log m.0 call reply)) (having_called log call reply m.0), m.1)
+abbrev pub decided : Call → StarReply → TableStep → SeatState → ℕ → SeatState → Type 0
+decided call reply st m stored m' = (log : List HubEvent) → m.0.turn ≡ Some log → m' ≡ (at_turn (Some (with_call log m.0 call reply)) (having_called log call reply m.0), m.1)
 
 -- the turn is given up, and what is in hand goes into the slot
 abbrev pub gave : TableStep → SeatState → ℕ → SeatState → Type 0
@@ -82,19 +82,19 @@ gave st m stored m' = m' ≡ (at_turn None m.0, [])
 
 -- a look at the count: the pass meets the history of all calls, and has then seen it
 abbrev pub looked : TableStep → SeatState → ℕ → SeatState → Type 0
-looked st m found m' = (log : List Entry) × Meets m.0 log × (found ≡ length log) × (m' ≡ (having_seen log m.0, m.1))
+looked st m found m' = (log : List HubEvent) × Meets m.0 log × (found ≡ length log) × (m' ≡ (having_seen log m.0, m.1))
 
 -- a look at the count by which nothing is seen: the pass fits the history of all calls
 abbrev pub learned : TableStep → SeatState → ℕ → SeatState → Type 0
-learned st m found m' = (log : List Entry) × Meets m.0 log × (m' ≡ m)
+learned st m found m' = (log : List HubEvent) × Meets m.0 log × (m' ≡ m)
 
 -- the history of all calls, if the pass has the turn
-abbrev pub whole_or : Option (List Entry) → List Entry
+abbrev pub whole_or : Option (List HubEvent) → List HubEvent
 whole_or None = []
 whole_or (Some log) = log
 
 -- the same of a view
-abbrev pub whole : View → List Entry
+abbrev pub whole : View → List HubEvent
 whole v = whole_or v.turn
 
 -- a seat at rest
@@ -111,7 +111,7 @@ star_now v = star_through v.opening (whole v)
 
 -- the turn was taken, and the desk out of the slot
 abbrev pub Takes : SeatState → SeatState → Desk → Type 0
-Takes m m' desk = (log : List Entry) × Meets m.0 log × (desk ≡ desk_after m.0.opening log) × (m' ≡ (at_turn (Some log) m.0, (0, None) ∷ []))
+Takes m m' desk = (log : List HubEvent) × Meets m.0 log × (desk ≡ desk_after m.0.opening log) × (m' ≡ (at_turn (Some log) m.0, (0, None) ∷ []))
 
 -- two words and one slot
 abbrev pub IsHubTable : TableId → Type 0

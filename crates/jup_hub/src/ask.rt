@@ -3,7 +3,7 @@ ghost use Rattle.std.specs.Prelude.{◌≡◌, Result};
 ghost use Rattle.jup_star.specs.StarCalls.{Answers, is_refused, lacks_memory};
 ghost use Rattle.jup_star.specs.declared.faults.StarFault.{StarFault as TheStarFault};
 ghost use Rattle.jup_star.specs.declared.calls.Call.{Call};
-ghost use Rattle.jup_star.specs.declared.calls.Reply.{Reply};
+ghost use Rattle.jup_star.specs.declared.calls.StarReply.{StarReply};
 
 use jup_star::{Star, StarFault};
 
@@ -15,7 +15,7 @@ pub(crate) trait Ask {
     ghost call: { Self → Call };
 
     /// What it answered, as a history bears it.
-    ghost reply: { Result Self.Answer TheStarFault → Reply };
+    ghost reply: { Result Self.Answer TheStarFault → StarReply };
 
     fn ask(&self, star: &mut Star) -> Result<Self::Answer, StarFault>
         ensures { Answers (call self.now) star.old star.new (reply result) };

@@ -1,10 +1,10 @@
 //! What a hub is called for.
 ghost use Rattle.std.specs.Prelude.{◌≡◌, ◌<◌, ◌↔◌, true, false, List, length, IfOk, IfErr, IsTrue};
 ghost use Rattle.jup_star.specs.declared.calls.Call.TheVariants.{Join, Take, Fetch, Leave};
-ghost use Rattle.jup_star.specs.declared.calls.Reply.TheVariants.{Joined as JoinedReply, Taken, Fetched, Left};
+ghost use Rattle.jup_star.specs.declared.calls.StarReply.TheVariants.{Joined as JoinedReply, Taken, Fetched, Left};
 ghost use Rattle.jup_batch.specs.BatchBoards.{bare};
 ghost use Rattle.jup_star.specs.StarCalls.{bare_joined};
-ghost use Rattle.jup_hub.specs.declared.view.Entry.{Entry};
+ghost use Rattle.jup_hub.specs.declared.view.HubEvent.{HubEvent};
 ghost use Rattle.jup_hub.specs.Histories.{star_through, AllApart};
 ghost use Rattle.jup_hub.specs.Knowledge.{newcomer, after_split, split_from, joined_with, having_seen, longest, tallies, Meets, MeetsBoard};
 ghost use Rattle.jup_hub.specs.Faults.{is_out_of_memory};
@@ -158,7 +158,7 @@ impl Hub {
     pub fn news(&self, pass: &mut Pass) -> bool
         requires { IsPassOf self.now pass.old }
         ensures pass { IsPassOf self.now pass.new }
-        ensures met { (log : List Entry) × Meets (view_of pass.old) log
+        ensures met { (log : List HubEvent) × Meets (view_of pass.old) log
             × (view_of pass.new ≡ having_seen log (view_of pass.old))
             × (IsTrue result ↔ longest (view_of pass.old).seen < length log) }
     {
@@ -172,7 +172,7 @@ impl Hub {
     /// and pass come back as they were.
     pub fn close(self, pass: Pass) -> Result<Closed, (Hub, Pass)>
         requires { IsPassOf self pass }
-        ensures closed { IfOk result (λ r. (log : List Entry) × Meets (view_of pass) log
+        ensures closed { IfOk result (λ r. (log : List HubEvent) × Meets (view_of pass) log
             × (r.star ≡ star_through (opening_of self) log)
             × (r.events ≡ length log)) }
         ensures held { IfErr result (λ r. (r.0 ≡ self) × IsPassOf r.0 r.1 × (view_of r.1 ≡ view_of pass)) }

@@ -17,4 +17,4 @@ mod view;
 
 pub use fault::HubFault;
 pub use hub::{Closed, Hub, Pass};
-pub use view::{Entry, Tally, View};
+pub use view::{HubEvent, Tally, View};

@@ -53,18 +53,18 @@ impl Play<Option<Desk>, View> for Learn {
 /// The call that a store of the count decides, for the proof alone.
 pub trait Deed {
     ghost use Rattle.jup_star.specs.declared.calls.Call.{Call};
-    ghost use Rattle.jup_star.specs.declared.calls.Reply.{Reply};
+    ghost use Rattle.jup_star.specs.declared.calls.StarReply.{StarReply};
 
     ghost call: { Call };
 
-    ghost reply: { Reply };
+    ghost reply: { StarReply };
 }
 
 // A brand represents any deed. The proof says which one, at the place that uses the brand. What is written here is not used.
 impl Deed for Brand {
     ghost use Rattle.std.specs.Prelude.{Ok};
     ghost use Rattle.jup_star.specs.declared.calls.Call.TheVariants.{Join};
-    ghost use Rattle.jup_star.specs.declared.calls.Reply.TheVariants.{Left};
+    ghost use Rattle.jup_star.specs.declared.calls.StarReply.TheVariants.{Left};
 
     ghost call = { Join };
 

@@ -2,7 +2,7 @@
 use Rattle.std.proofs.Common.{ℕ, IsTrue, List, sym, ap, subst}
 use Rattle.jup_batch.specs.BatchBoards.{Windows}
 use Rattle.jup_star.specs.declared.star.Joined.{Joined}
-use Rattle.jup_hub.specs.declared.view.Entry.{Entry}
+use Rattle.jup_hub.specs.declared.view.HubEvent.{HubEvent}
 use Rattle.jup_hub.specs.Histories.{is_among}
 use Rattle.jup_hub.specs.Knowledge.{tallies}
 use Rattle.jup_session.specs.Sessions.{IsCallFor}
@@ -14,7 +14,7 @@ use Rattle.jup_served.specs.SessionHubs.{IsOneOf, IsSessionHub}
 use Rattle.jup_served.proofs.Owned.{owned}
 use Rattle.jup_served.proofs.ServedRuns.{served_honest}
 
-pub hub_honest : (board : Windows) (limit : ℕ) (sessions : List Ended) (log : List Entry) → IsSessionHub board limit sessions log → (run : SiteRun) (s : Ended) → IsOneOf s sessions → IsServedRun run log s
+pub hub_honest : (board : Windows) (limit : ℕ) (sessions : List Ended) (log : List HubEvent) → IsSessionHub board limit sessions log → (run : SiteRun) (s : Ended) → IsOneOf s sessions → IsServedRun run log s
     → IsHonest run
 hub_honest board limit sessions log hub run s one is =
     served_honest run log s is

@@ -4,10 +4,10 @@ use Rattle.jup_batch.specs.BatchBoards.{Windows}
 use Rattle.jup_star.specs.declared.star.Joined.{Joined}
 use Rattle.jup_star.specs.declared.calls.Call.{Call}
 use Rattle.jup_star.specs.declared.calls.Call.TheVariants.{Join, Take, Fetch, Leave}
-use Rattle.jup_star.specs.declared.calls.Reply.TheVariants.{Joined as JoinedReply, Fetched}
+use Rattle.jup_star.specs.declared.calls.StarReply.TheVariants.{Joined as JoinedReply, Fetched}
 use Rattle.jup_star.specs.StarStates.{link_of, joined}
 use Rattle.jup_star.specs.StarCalls.{BoardStar, fetch_result, reply_of, star_after}
-use Rattle.jup_hub.specs.declared.view.Entry.{Entry}
+use Rattle.jup_hub.specs.declared.view.HubEvent.{HubEvent}
 use Rattle.jup_hub.specs.Histories.{star_through, IsLegal}
 use Rattle.jup_honest.specs.Connections.{fetched_in, fetched_with, fetches_of}
 use Rattle.jup_honest.proofs.CalledStars.{Called, call-grows}
@@ -15,14 +15,14 @@ use Rattle.jup_honest.proofs.HonestRuns.{join_gives}
 use Rattle.jup_served.proofs.Members.{IsIn}
 
 -- an entry is a join, and the answer gives this number
-pub record IsJoin (e : Entry) (n : ℕ) : Type 0 where
+pub record IsJoin (e : HubEvent) (n : ℕ) : Type 0 where
   pub answer : Joined
   pub call : e.call ≡ Join
   pub reply : e.reply ≡ JoinedReply (Ok answer)
   pub site : answer.site ≡ n
 
 -- numbers are given on
-pub given_through : (board : Windows) (es : List Entry) (s : BoardStar) → Called board s → s.given ≤ (star_through s es).given
+pub given_through : (board : Windows) (es : List HubEvent) (s : BoardStar) → Called board s → s.given ≤ (star_through s es).given
 given_through board [] s h = omega arith
 given_through board (e ∷ es) s h =
     let one = call-grows board e.call s h in
@@ -30,13 +30,13 @@ given_through board (e ∷ es) s h =
     omega (arith, one.follows.given, later)
 
 -- a join is answered with the next number
-join_next : (s : BoardStar) (e : Entry) (n : ℕ) → e.reply ≡ reply_of e.call s → IsJoin e n → (n ≡ s.given + 1) × (star_after e.call s ≡ joined s)
+join_next : (s : BoardStar) (e : HubEvent) (n : ℕ) → e.reply ≡ reply_of e.call s → IsJoin e n → (n ≡ s.given + 1) × (star_after e.call s ≡ joined s)
 join_next s e n legal is =
     let gives = join_gives s is.answer (sym is.reply ∙ legal ∙ ap (λ c. reply_of c s) is.call) in
     (sym is.site ∙ ap (λ (j : Joined). j.site) gives.0, ap (λ c. star_after c s) is.call ∙ gives.1)
 
 -- so later joins have higher numbers
-later_join : (board : Windows) (es : List Entry) (s : BoardStar) → Called board s → IsLegal s es → (e : Entry) (n : ℕ) → IsIn e es → IsJoin e n → s.given < n
+later_join : (board : Windows) (es : List HubEvent) (s : BoardStar) → Called board s → IsLegal s es → (e : HubEvent) (n : ℕ) → IsIn e es → IsJoin e n → s.given < n
 later_join board [] s h legal e n is join = absurd is
 later_join board (x ∷ xs) s h legal e n (inl same) join =
     let next = join_next s x n legal.0 (subst (λ k. IsJoin k n) (sym same) join) in omega (arith, next.0)
@@ -46,7 +46,7 @@ later_join board (x ∷ xs) s h legal e n (inr is) join =
     omega (arith, one.follows.given, later)
 
 -- and earlier ones none that was not given yet
-pub early_join : (board : Windows) (es : List Entry) (s : BoardStar) → Called board s → IsLegal s es → (e : Entry) (n : ℕ) → IsIn e es → IsJoin e n → n ≤ (star_through s es).given
+pub early_join : (board : Windows) (es : List HubEvent) (s : BoardStar) → Called board s → IsLegal s es → (e : HubEvent) (n : ℕ) → IsIn e es → IsJoin e n → n ≤ (star_through s es).given
 early_join board [] s h legal e n is join = absurd is
 early_join board (x ∷ xs) s h legal e n (inl same) join =
     let next = join_next s x n legal.0 (subst (λ k. IsJoin k n) (sym same) join) in
@@ -57,7 +57,7 @@ early_join board (x ∷ xs) s h legal e n (inr is) join =
     let one = call-grows board x.call s h in early_join board xs (star_after x.call s) one.called legal.1 e n is join
 
 -- a history has one join of a site
-pub one_join : (board : Windows) (es : List Entry) (s : BoardStar) → Called board s → IsLegal s es → (e f : Entry) (n : ℕ) → IsIn e es → IsIn f es → IsJoin e n → IsJoin f n → e ≡ f
+pub one_join : (board : Windows) (es : List HubEvent) (s : BoardStar) → Called board s → IsLegal s es → (e f : HubEvent) (n : ℕ) → IsIn e es → IsIn f es → IsJoin e n → IsJoin f n → e ≡ f
 one_join board [] s h legal e f n is so one two = absurd is
 one_join board (x ∷ xs) s h legal e f n (inl is) (inl so) one two = sym is ∙ so
 one_join board (x ∷ xs) s h legal e f n (inl is) (inr so) one two =
@@ -85,7 +85,7 @@ fetch_none board i s h above (Fetch j max) = cases (nat_eq j i) refl
     cases false is = refl
 fetch_none board i s h above (Leave j) = refl
 
-pub early_fetches : (board : Windows) (i : ℕ) (es : List Entry) (s : BoardStar) → Called board s → IsLegal s es → (star_through s es).given < i → fetches_of i es ≡ []
+pub early_fetches : (board : Windows) (i : ℕ) (es : List HubEvent) (s : BoardStar) → Called board s → IsLegal s es → (star_through s es).given < i → fetches_of i es ≡ []
 early_fetches board i [] s h legal above = refl
 early_fetches board i (e ∷ es) s h legal above =
     let one = call-grows board e.call s h in

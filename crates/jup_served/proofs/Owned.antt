@@ -6,10 +6,10 @@ use Rattle.jup_batch.specs.BatchBoards.{Windows}
 use Rattle.jup_star.specs.declared.star.Joined.{Joined}
 use Rattle.jup_star.specs.declared.calls.Call.{Call}
 use Rattle.jup_star.specs.declared.calls.Call.TheVariants.{Join, Take, Fetch, Leave}
-use Rattle.jup_star.specs.declared.calls.Reply.{Reply}
-use Rattle.jup_star.specs.declared.calls.Reply.TheVariants.{Joined as JoinedReply, Taken, Fetched, Left}
+use Rattle.jup_star.specs.declared.calls.StarReply.{StarReply}
+use Rattle.jup_star.specs.declared.calls.StarReply.TheVariants.{Joined as JoinedReply, Taken, Fetched, Left}
 use Rattle.jup_star.specs.StarStates.{opened_star}
-use Rattle.jup_hub.specs.declared.view.Entry.{Entry}
+use Rattle.jup_hub.specs.declared.view.HubEvent.{HubEvent}
 use Rattle.jup_hub.specs.declared.view.Tally.{Tally}
 use Rattle.jup_hub.specs.declared.view.View.{View}
 use Rattle.jup_hub.specs.Histories.{IsLegal, calls_by, AllTallied, IsNew, AllApart, is_among, calls_in}
@@ -34,7 +34,7 @@ one_site i j (Fetch k max) one two = sym one ∙ two
 one_site i j (Leave k) one two = sym one ∙ two
 
 -- an entry under one of these numbers is one of its calls
-under_for : (site : ℕ) (log : List Entry) (ts : List Tally) → AllTallied log ts → AreTalliesFor site ts → (e : Entry) → IsIn e log → is_among e.by ts ≡ true → IsCallFor site e.call
+under_for : (site : ℕ) (log : List HubEvent) (ts : List Tally) → AllTallied log ts → AreTalliesFor site ts → (e : HubEvent) → IsIn e log → is_among e.by ts ≡ true → IsCallFor site e.call
 under_for site log [] tallied asks e is among = absurd (cc)
 under_for site log (t ∷ ts) tallied asks e is among =
     elim (among_is e.by t ts among) [
@@ -43,15 +43,15 @@ under_for site log (t ∷ ts) tallied asks e is among =
     ]
 
 -- the join of a session by which a call for a site is under one of its numbers
-record JoinsFor (number : List ℕ) (site : ℕ) (log : List Entry) : Type 0 where
-  join : Entry
+record JoinsFor (number : List ℕ) (site : ℕ) (log : List HubEvent) : Type 0 where
+  join : HubEvent
   is_in : IsIn join log
   by : join.by ≡ number
   is_join : IsJoin join site
 
 -- if one of the session's calls is for a site, the session has joined it
-first_join : (w : View) (number : List ℕ) (calls : List Entry) (others : List Tally) (log : List Entry) → IsOneSite w calls others → calls_by number log ≡ calls → AllTallied log others
-    → (e : Entry) (site : ℕ) → IsIn e log → (e.by ≡ number) ⊎ (is_among e.by others ≡ true) → IsCallFor site e.call → JoinsFor number site log
+first_join : (w : View) (number : List ℕ) (calls : List HubEvent) (others : List Tally) (log : List HubEvent) → IsOneSite w calls others → calls_by number log ≡ calls → AllTallied log others
+    → (e : HubEvent) (site : ℕ) → IsIn e log → (e.by ≡ number) ⊎ (is_among e.by others ≡ true) → IsCallFor site e.call → JoinsFor number site log
 first_join w number [] others log one tallied all e site is (inl here) asks = absurd (subst (IsIn e) tallied (in_by number log e is here))
 first_join w number [] others log one tallied all e site is (inr among) asks =
     absurd (let none : is_among e.by [] ≡ true = subst (λ ts. is_among e.by ts ≡ true) one among in cc)
@@ -67,14 +67,14 @@ first_join w number (first ∷ later) others log one tallied all e site is where
     joined j call reply mine theirs = record { join = first; is_in = here.0; by = here.1; is_join = record { answer = j; call = call; reply = reply; site = site_is where_is } }
       where
         of_later : IsIn e (first ∷ later) → j.site ≡ site
-        of_later (inl same) = absurd (subst (IsCallFor site) (ap (λ (k : Entry). k.call) (sym same) ∙ call) asks)
+        of_later (inl same) = absurd (subst (IsCallFor site) (ap (λ (k : HubEvent). k.call) (sym same) ∙ call) asks)
         of_later (inr l) = one_site j.site site e.call (in_all (λ x. IsCallFor j.site x.call) later mine e l) asks
 
         site_is : (e.by ≡ number) ⊎ (is_among e.by others ≡ true) → j.site ≡ site
         site_is (inl by) = of_later (subst (IsIn e) tallied (in_by number log e is by))
         site_is (inr among) = one_site j.site site e.call (under_for j.site log others all theirs e is among) asks
 
-    cases : (c : Call) (r : Reply) → first.call ≡ c → first.reply ≡ r → FollowsJoin w c r later others → JoinsFor number site log
+    cases : (c : Call) (r : StarReply) → first.call ≡ c → first.reply ≡ r → FollowsJoin w c r later others → JoinsFor number site log
     cases Join (JoinedReply (Ok j)) call reply follows = joined j call reply follows.0 follows.1
     cases Join (JoinedReply (Err fault)) call reply follows = absurd (refused where_is)
       where
@@ -82,7 +82,7 @@ first_join w number (first ∷ later) others log one tallied all e site is where
         refused (inl by) = only_first (subst (IsIn e) tallied (in_by number log e is by))
           where
             only_first : IsIn e (first ∷ later) → ⊥
-            only_first (inl same) = subst (IsCallFor site) (ap (λ (k : Entry). k.call) (sym same) ∙ call) asks
+            only_first (inl same) = subst (IsCallFor site) (ap (λ (k : HubEvent). k.call) (sym same) ∙ call) asks
             only_first (inr l) = subst (IsIn e) follows.0 l
         refused (inr among) = (let none : is_among e.by [] ≡ true = subst (λ ts. is_among e.by ts ≡ true) follows.1 among in cc)
     cases Join (Taken x) call reply follows = absurd follows
@@ -93,7 +93,7 @@ first_join w number (first ∷ later) others log one tallied all e site is where
     cases (Leave i) r call reply follows = absurd follows
 
 -- of a session whose pass had made no call
-session_join : (s : Ended) (log : List Entry) → HasMadeNone s.given → AllTallied log (tallies s.back) → (e : Entry) (site : ℕ) → IsIn e log → is_among e.by (tallies s.back) ≡ true
+session_join : (s : Ended) (log : List HubEvent) → HasMadeNone s.given → AllTallied log (tallies s.back) → (e : HubEvent) (site : ℕ) → IsIn e log → is_among e.by (tallies s.back) ≡ true
     → IsCallFor site e.call → JoinsFor s.back.number site log
 session_join s log new tallied e site is among asks =
     first_join s.back s.back.number s.calls.calls s.calls.others log s.calls.one_site
@@ -107,12 +107,12 @@ session_join s log new tallied e site is among asks =
 -- # Several sessions
 
 -- under whose number a call is
-record Found (e : Entry) (sessions : List Ended) : Type 0 where
+record Found (e : HubEvent) (sessions : List Ended) : Type 0 where
   session : Ended
   is_one : IsOneOf session sessions
   among : is_among e.by (tallies session.back) ≡ true
 
-found_in : (e : Entry) (sessions : List Ended) → is_among e.by (all_tallies sessions) ≡ true → Found e sessions
+found_in : (e : HubEvent) (sessions : List Ended) → is_among e.by (all_tallies sessions) ≡ true → Found e sessions
 found_in e [] among = absurd (cc)
 found_in e (s ∷ sessions) among =
     elim (among_first e.by (tallies s.back) (all_tallies sessions) among) [
@@ -125,7 +125,7 @@ new_one s [] one all = absurd one
 new_one s (t ∷ sessions) (inl same) all = subst (λ (u : Ended). HasMadeNone u.given) same all.0
 new_one s (t ∷ sessions) (inr later) all = new_one s sessions later all.1
 
-tallied_one : (log : List Entry) (s : Ended) (sessions : List Ended) → IsOneOf s sessions → AllTallied log (all_tallies sessions) → AllTallied log (tallies s.back)
+tallied_one : (log : List HubEvent) (s : Ended) (sessions : List Ended) → IsOneOf s sessions → AllTallied log (all_tallies sessions) → AllTallied log (tallies s.back)
 tallied_one log s [] one all = absurd one
 tallied_one log s (t ∷ sessions) (inl same) all = subst (λ (u : Ended). AllTallied log (tallies u.back)) same (tallied_first log (tallies t.back) (all_tallies sessions) all)
 tallied_one log s (t ∷ sessions) (inr later) all = tallied_one log s sessions later (tallied_later log (tallies t.back) (all_tallies sessions) all)
@@ -149,7 +149,7 @@ one_session s t (u ∷ sessions) apart (inr one) (inr two) same = one_session s 
 -- # The site of a session
 
 -- a session that serves a site has joined it
-served_join : (s : Ended) (log : List Entry) (serves : ServesSite s) → HasMadeNone s.given → AllTallied log (tallies s.back) → JoinsFor s.back.number (answer_of serves).site log
+served_join : (s : Ended) (log : List HubEvent) (serves : ServesSite s) → HasMadeNone s.given → AllTallied log (tallies s.back) → JoinsFor s.back.number (answer_of serves).site log
 served_join s log serves new tallied = record {
   join = join s serves;
   is_in = found.0;
@@ -160,25 +160,25 @@ served_join s log serves new tallied = record {
     found : IsIn (join s serves) log × ((join s serves).by ≡ s.back.number)
     found = by_in s.back.number log (join s serves) (subst (IsIn (join s serves)) (sym (tallied.0 ∙ made_is s serves new)) (inl refl))
 
-pub owned : (board : Windows) (limit : ℕ) (sessions : List Ended) (log : List Entry) → IsSessionHub board limit sessions log → (s : Ended) → IsOneOf s sessions → (serves : ServesSite s)
+pub owned : (board : Windows) (limit : ℕ) (sessions : List Ended) (log : List HubEvent) → IsSessionHub board limit sessions log → (s : Ended) → IsOneOf s sessions → (serves : ServesSite s)
     → IsOwnedBy s (answer_of serves).site log
 owned board limit sessions log hub s one serves = all_in (λ e. IsCallFor (answer_of serves).site e.call → IsTrue (is_among e.by (tallies s.back))) log each
   where
     mine : JoinsFor s.back.number (answer_of serves).site log
     mine = served_join s log serves (new_one s sessions one hub.new) (tallied_one log s sessions one hub.tallied)
 
-    each : (e : Entry) → IsIn e log → IsCallFor (answer_of serves).site e.call → IsTrue (is_among e.by (tallies s.back))
+    each : (e : HubEvent) → IsIn e log → IsCallFor (answer_of serves).site e.call → IsTrue (is_among e.by (tallies s.back))
     each e is asks =
         let found = found_in e sessions (none_other (all_tallies sessions) log hub.alone e is) in
         let theirs = session_join found.session log (new_one found.session sessions found.is_one hub.new) (tallied_one log found.session sessions found.is_one hub.tallied) e (answer_of serves).site is
         found.among asks in
         let same = one_join board log (opened_star board limit) (called-opened board limit hub.opens hub.limited) hub.legal theirs.join mine.join (answer_of serves).site theirs.is_in mine.is_in
         theirs.is_join mine.is_join in
-        let number : found.session.back.number ≡ s.back.number = sym theirs.by ∙ ap (λ (x : Entry). x.by) same ∙ mine.by in
+        let number : found.session.back.number ≡ s.back.number = sym theirs.by ∙ ap (λ (x : HubEvent). x.by) same ∙ mine.by in
         subst (λ (t : Ended). IsTrue (is_among e.by (tallies t.back))) (one_session found.session s sessions hub.apart found.is_one one number) found.among
 
 -- the pass that took in the passes of all sessions, and met a history of no further call
-pub closed : (board : Windows) (limit : ℕ) (sessions : List Ended) (v : View) (log : List Entry) → IsOpening board → limit ≤ highest_limit → v.opening ≡ opened_star board limit
+pub closed : (board : Windows) (limit : ℕ) (sessions : List Ended) (v : View) (log : List HubEvent) → IsOpening board → limit ≤ highest_limit → v.opening ≡ opened_star board limit
     → v.kept ≡ all_tallies sessions → AllByRecursion (λ (s : Ended). HasMadeNone s.given) sessions → Meets v log → length log ≡ calls_in (all_tallies sessions)
     → IsSessionHub board limit sessions log
 closed board limit sessions v log opens limited opening kept new meets long =

@@ -8,10 +8,10 @@ use Rattle.jup_batch.specs.BatchBoards.{BoardBatch, bare}
 use Rattle.jup_star.specs.declared.messages.Up.{Up}
 use Rattle.jup_star.specs.declared.star.Joined.{Joined}
 use Rattle.jup_star.specs.declared.calls.Call.TheVariants.{Join, Leave}
-use Rattle.jup_star.specs.declared.calls.Reply.{Reply}
-use Rattle.jup_star.specs.declared.calls.Reply.TheVariants.{Joined as JoinedReply}
+use Rattle.jup_star.specs.declared.calls.StarReply.{StarReply}
+use Rattle.jup_star.specs.declared.calls.StarReply.TheVariants.{Joined as JoinedReply}
 use Rattle.jup_star.specs.StarCalls.{BoardStar}
-use Rattle.jup_hub.specs.declared.view.Entry.{Entry}
+use Rattle.jup_hub.specs.declared.view.HubEvent.{HubEvent}
 use Rattle.jup_hub.specs.declared.view.View.{View}
 use Rattle.jup_hub.specs.Histories.{entry}
 use Rattle.jup_hub.specs.Knowledge.{Meets, tally, after_split, having_called, with_call}
@@ -94,11 +94,11 @@ pub record Plan : Type 0 where
   pub opening : BoardStar
   pub number : List ℕ
   pub joined : Joined
-  pub before : List Entry
+  pub before : List HubEvent
   pub ups : List (Up BoardBatch)
-  pub takes : List Entry
-  pub fetches : List Entry
-  pub left : Reply
+  pub takes : List HubEvent
+  pub fetches : List HubEvent
+  pub left : StarReply
 
 module _ (p : Plan) where
   abbrev pub answer : Joined
@@ -107,13 +107,13 @@ module _ (p : Plan) where
   abbrev pub given : View
   given = record { opening = p.opening; is_live = true; turn = None; number = p.number; splits = 0; seen = [] ∷ []; made = []; kept = [] }
 
-  abbrev pub join : Entry
+  abbrev pub join : HubEvent
   join = entry p.number Join (JoinedReply (Ok answer))
 
   abbrev pub behind : View
   behind = having_called p.before Join (JoinedReply (Ok answer)) given
 
-  abbrev pub leave : Entry
+  abbrev pub leave : HubEvent
   leave = entry (0 ∷ p.number) (Leave p.joined.site) p.left
 
   abbrev pub read : View

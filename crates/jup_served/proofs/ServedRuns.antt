@@ -8,8 +8,8 @@ use Rattle.jup_star.specs.declared.messages.Down.{Down}
 use Rattle.jup_star.specs.declared.star.Joined.{Joined}
 use Rattle.jup_star.specs.declared.calls.Call.{Call}
 use Rattle.jup_star.specs.declared.calls.Call.TheVariants.{Join, Take, Fetch, Leave}
-use Rattle.jup_star.specs.declared.calls.Reply.TheVariants.{Joined as JoinedReply}
-use Rattle.jup_hub.specs.declared.view.Entry.{Entry}
+use Rattle.jup_star.specs.declared.calls.StarReply.TheVariants.{Joined as JoinedReply}
+use Rattle.jup_hub.specs.declared.view.HubEvent.{HubEvent}
 use Rattle.jup_hub.specs.Histories.{entry, star_through, IsLegal, calls_by, AllTallied, is_among}
 use Rattle.jup_hub.specs.Knowledge.{tally, tallies}
 use Rattle.jup_wire.specs.declared.line.Line.TheVariants as line
@@ -68,16 +68,16 @@ not_both i j (Take k up) take fetch = fetch
 not_both i j (Fetch k max) take fetch = take
 not_both i j (Leave k) take fetch = take
 
-takes_no_fetch : (i j : ℕ) (es : List Entry) → AllByRecursion (λ (e : Entry). IsTakeFor j e.call) es → AllByRecursion (λ (e : Entry). IsFetchFor i e.call → ⊥) es
+takes_no_fetch : (i j : ℕ) (es : List HubEvent) → AllByRecursion (λ (e : HubEvent). IsTakeFor j e.call) es → AllByRecursion (λ (e : HubEvent). IsFetchFor i e.call → ⊥) es
 takes_no_fetch i j [] all = tt
 takes_no_fetch i j (e ∷ es) all = ((λ fetch. not_both j i e.call all.0 fetch), takes_no_fetch i j es all.1)
 
-fetches_no_take : (i j : ℕ) (es : List Entry) → AllByRecursion (λ (e : Entry). IsFetchFor j e.call) es → AllByRecursion (λ (e : Entry). IsTakeFor i e.call → ⊥) es
+fetches_no_take : (i j : ℕ) (es : List HubEvent) → AllByRecursion (λ (e : HubEvent). IsFetchFor j e.call) es → AllByRecursion (λ (e : HubEvent). IsTakeFor i e.call → ⊥) es
 fetches_no_take i j [] all = tt
 fetches_no_take i j (e ∷ es) all = ((λ take. not_both i j e.call take all.0), fetches_no_take i j es all.1)
 
-swapped : (Is : Call → Type 0) (n m : List ℕ) (es : List Entry) → AllByRecursion (λ (e : Entry). Is e.call → (e.by ≡ n) ⊎ (e.by ≡ m)) es
-    → AllByRecursion (λ (e : Entry). Is e.call → (e.by ≡ m) ⊎ (e.by ≡ n)) es
+swapped : (Is : Call → Type 0) (n m : List ℕ) (es : List HubEvent) → AllByRecursion (λ (e : HubEvent). Is e.call → (e.by ≡ n) ⊎ (e.by ≡ m)) es
+    → AllByRecursion (λ (e : HubEvent). Is e.call → (e.by ≡ m) ⊎ (e.by ≡ n)) es
 swapped Is n m [] all = tt
 swapped Is n m (e ∷ es) all = ((λ is. elim (all.0 is) [ inl one ↦ inr one | inr two ↦ inl two ]), swapped Is n m es all.1)
 
@@ -88,7 +88,7 @@ causal_last : (steps : List Step) (c : Connection) → IsCausalThrough steps c �
 causal_last [] c causal = causal
 causal_last (step ∷ steps) c causal = causal_last steps (after step c) causal.1
 
-module _ (run : SiteRun) (log : List Entry) (s : Ended) (is : IsServedRun run log s) where
+module _ (run : SiteRun) (log : List HubEvent) (s : Ended) (is : IsServedRun run log s) where
   serves : ServesSite s
   serves = is.serves
 
@@ -203,18 +203,18 @@ module _ (run : SiteRun) (log : List Entry) (s : Ended) (is : IsServedRun run lo
   write_first = is.moment.stays
 
   -- what the reading half calls is no fetch, and what the writing half calls before the site leaves is no take
-  no_fetches : AllByRecursion (λ (e : Entry). IsFetchFor run.answer.site e.call → ⊥) (calls_by s.back.number (calls run))
-  no_fetches = all_first (λ (e : Entry). IsFetchFor run.answer.site e.call → ⊥) (calls_by s.back.number (calls run)) read_first.0
-      (subst (AllByRecursion (λ (e : Entry). IsFetchFor run.answer.site e.call → ⊥)) read_first.1
+  no_fetches : AllByRecursion (λ (e : HubEvent). IsFetchFor run.answer.site e.call → ⊥) (calls_by s.back.number (calls run))
+  no_fetches = all_first (λ (e : HubEvent). IsFetchFor run.answer.site e.call → ⊥) (calls_by s.back.number (calls run)) read_first.0
+      (subst (AllByRecursion (λ (e : HubEvent). IsFetchFor run.answer.site e.call → ⊥)) read_first.1
       ((λ fetch. fetch), takes_no_fetch run.answer.site is.serves.served.site (half s is.serves).calls (half s is.serves).alone))
 
-  no_takes : AllByRecursion (λ (e : Entry). IsTakeFor run.answer.site e.call → ⊥) (calls_by (writer_of is.serves) (calls run))
-  no_takes = all_first (λ (e : Entry). IsTakeFor run.answer.site e.call → ⊥) (calls_by (writer_of is.serves) (calls run)) write_first.0
-      (subst (AllByRecursion (λ (e : Entry). IsTakeFor run.answer.site e.call → ⊥)) write_first.1
+  no_takes : AllByRecursion (λ (e : HubEvent). IsTakeFor run.answer.site e.call → ⊥) (calls_by (writer_of is.serves) (calls run))
+  no_takes = all_first (λ (e : HubEvent). IsTakeFor run.answer.site e.call → ⊥) (calls_by (writer_of is.serves) (calls run)) write_first.0
+      (subst (AllByRecursion (λ (e : HubEvent). IsTakeFor run.answer.site e.call → ⊥)) write_first.1
       (fetches_no_take run.answer.site is.serves.served.site (fetches_for is.serves) is.serves.served.halves.alone))
 
   module _ (owned : IsOwnedBy s run.answer.site (calls run)) where
-    of_writer : (e : Entry) → is_among e.by s.back.kept ≡ true → e.by ≡ writer_of is.serves
+    of_writer : (e : HubEvent) → is_among e.by s.back.kept ≡ true → e.by ≡ writer_of is.serves
     of_writer e kept =
         elim (among_is e.by (tally (writer_of is.serves) (fetches_for is.serves ++ departing s is.serves)) [] (subst (λ ts. is_among e.by ts ≡ true) (kept_is s is.serves is.moment.new) kept)) [
           | inl written ↦ written
@@ -222,34 +222,34 @@ module _ (run : SiteRun) (log : List Entry) (s : Ended) (is : IsServedRun run lo
         ]
 
     -- a call for the site is under one of both numbers
-    one_of_both : (e : Entry) → IsTrue (is_among e.by (tallies s.back)) → (e.by ≡ s.back.number) ⊎ (e.by ≡ writer_of is.serves)
+    one_of_both : (e : HubEvent) → IsTrue (is_among e.by (tallies s.back)) → (e.by ≡ s.back.number) ⊎ (e.by ≡ writer_of is.serves)
     one_of_both e among =
         elim (among_is e.by (tally s.back.number s.back.made) s.back.kept among) [
           | inl own ↦ inl own
           | inr kept ↦ inr (of_writer e kept)
         ]
 
-    either : (Is : Call → Type 0) → ((c : Call) → Is c → IsCallFor run.answer.site c) → (es : List Entry) → IsOwnedBy s run.answer.site es
-        → AllByRecursion (λ (e : Entry). Is e.call → (e.by ≡ s.back.number) ⊎ (e.by ≡ writer_of is.serves)) es
+    either : (Is : Call → Type 0) → ((c : Call) → Is c → IsCallFor run.answer.site c) → (es : List HubEvent) → IsOwnedBy s run.answer.site es
+        → AllByRecursion (λ (e : HubEvent). Is e.call → (e.by ≡ s.back.number) ⊎ (e.by ≡ writer_of is.serves)) es
     either Is asks [] all = tt
     either Is asks (e ∷ es) all = ((λ call. one_of_both e (all.0 (asks e.call call))), either Is asks es all.1)
 
     -- the takes for the site are the session's
-    takes_by : AllByRecursion (λ (e : Entry). IsTakeFor run.answer.site e.call → e.by ≡ s.back.number) (calls run)
+    takes_by : AllByRecursion (λ (e : HubEvent). IsTakeFor run.answer.site e.call → e.by ≡ s.back.number) (calls run)
     takes_by = under_one (IsTakeFor run.answer.site) s.back.number (writer_of is.serves) (calls run)
         (either (IsTakeFor run.answer.site) (take_is run.answer.site) (calls run) owned) no_takes
 
     -- and so are the fetches
-    fetches_by : AllByRecursion (λ (e : Entry). IsFetchFor run.answer.site e.call → e.by ≡ writer_of is.serves) (calls run)
+    fetches_by : AllByRecursion (λ (e : HubEvent). IsFetchFor run.answer.site e.call → e.by ≡ writer_of is.serves) (calls run)
     fetches_by = under_one (IsFetchFor run.answer.site) (writer_of is.serves) s.back.number (calls run)
         (swapped (IsFetchFor run.answer.site) s.back.number (writer_of is.serves) (calls run)
         (either (IsFetchFor run.answer.site) (fetch_is run.answer.site) (calls run) owned)) no_fetches
 
     -- nothing was taken for the site before it joined
-    abbrev since : List Entry
+    abbrev since : List HubEvent
     since = entry run.by Join (JoinedReply (Ok run.answer)) ∷ history run.steps
 
-    abbrev rest : List Entry
+    abbrev rest : List HubEvent
     rest = calls_by s.back.number since ++ read_first.0
 
     whole : join s is.serves ∷ (half s is.serves).calls ≡ calls_by s.back.number run.before ++ rest
@@ -259,7 +259,7 @@ module _ (run : SiteRun) (log : List Entry) (s : Ended) (is : IsServedRun run lo
     none_before : calls_by s.back.number run.before ≡ []
     none_before = cases (calls_by s.back.number run.before) refl
       where
-        cases : (es : List Entry) → calls_by s.back.number run.before ≡ es → es ≡ []
+        cases : (es : List HubEvent) → calls_by s.back.number run.before ≡ es → es ≡ []
         cases [] has = refl
         cases (e ∷ es) has =
             let same : e ≡ join s is.serves = head_of e (join s is.serves) (es ++ rest) (half s is.serves).calls (ap (λ xs. xs ++ rest) (sym has) ∙ sym whole) in
@@ -282,7 +282,7 @@ module _ (run : SiteRun) (log : List Entry) (s : Ended) (is : IsServedRun run lo
           ∙ takes_both run.answer.site run.before (entry run.by Join (JoinedReply (Ok run.answer)) ∷ history run.steps)
           ∙ ap (λ us. us ++ takes_of run.answer.site (history run.steps))
           (takes_under s.back.number run.answer.site run.before
-          (all_first (λ (e : Entry). IsTakeFor run.answer.site e.call → e.by ≡ s.back.number) run.before since takes_by) ∙ ap (takes_of run.answer.site) none_before)
+          (all_first (λ (e : HubEvent). IsTakeFor run.answer.site e.call → e.by ≡ s.back.number) run.before since takes_by) ∙ ap (takes_of run.answer.site) none_before)
           ∙ sym (run-history run).taken),
     )
 

@@ -1,8 +1,8 @@
 -- The calls of a session that served a site: the join and the takes under one number, the fetches and the departure under another.
 use Rattle.std.proofs.Common.{◌≡◌, List, [], ◌∷◌, ◌++◌, Ok, ap, ◌∙◌}
 use Rattle.jup_star.specs.declared.calls.Call.TheVariants.{Join}
-use Rattle.jup_star.specs.declared.calls.Reply.TheVariants.{Joined as JoinedReply}
-use Rattle.jup_hub.specs.declared.view.Entry.{Entry}
+use Rattle.jup_star.specs.declared.calls.StarReply.TheVariants.{Joined as JoinedReply}
+use Rattle.jup_hub.specs.declared.view.HubEvent.{HubEvent}
 use Rattle.jup_hub.specs.declared.view.View.{View}
 use Rattle.jup_hub.specs.Histories.{entry}
 use Rattle.jup_hub.specs.Knowledge.{tally, after_split}
@@ -14,7 +14,7 @@ use Rattle.jup_served.proofs.Took.{Took, took}
 
 module _ (s : Ended) (serves : ServesSite s) where
   -- its join
-  abbrev pub join : Entry
+  abbrev pub join : HubEvent
   join = entry s.given.number Join (JoinedReply (Ok (answer_of serves)))
 
   -- what its reading half took
@@ -22,7 +22,7 @@ module _ (s : Ended) (serves : ServesSite s) where
   half = took serves.served.site serves.served.greeted serves.served.halves.last (after_split serves.served.behind) serves.served.halves.read serves.served.halves.heard serves.served.halves.hears
 
   -- the calls by which its site left
-  abbrev pub departing : List Entry
+  abbrev pub departing : List HubEvent
   departing = serves.served.halves.back ++ serves.served.halves.leaves
 
   module _ (new : HasMadeNone s.given) where

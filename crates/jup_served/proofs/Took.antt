@@ -5,12 +5,12 @@ use Rattle.std.proofs.lemmas.List.{map-append}
 use Rattle.jup_batch.specs.BatchBoards.{BoardBatch}
 use Rattle.jup_star.specs.declared.messages.Up.{Up}
 use Rattle.jup_star.specs.declared.calls.Call.TheVariants.{Take}
-use Rattle.jup_star.specs.declared.calls.Reply.{Reply}
-use Rattle.jup_star.specs.declared.calls.Reply.TheVariants.{Taken}
+use Rattle.jup_star.specs.declared.calls.StarReply.{StarReply}
+use Rattle.jup_star.specs.declared.calls.StarReply.TheVariants.{Taken}
 use Rattle.jup_star.specs.StarCalls.{is_no_memory}
 use Rattle.jup_hub.specs.declared.fault.HubFault.{HubFault}
 use Rattle.jup_hub.specs.declared.fault.HubFault.TheVariants.{Star, Spent as HubSpent}
-use Rattle.jup_hub.specs.declared.view.Entry.{Entry}
+use Rattle.jup_hub.specs.declared.view.HubEvent.{HubEvent}
 use Rattle.jup_hub.specs.declared.view.View.{View}
 use Rattle.jup_hub.specs.Histories.{entry}
 use Rattle.jup_hub.specs.Knowledge.{Called, ComesToAsk}
@@ -42,7 +42,7 @@ pub record Took (site : ℕ) (a : Sourced) (v x : View) (bytes : List ℕ) : Typ
   pub first : List ℕ
   pub goes_on : (before : List ℕ) (ls : List Line) → HasRead before (ls ++ a.waiting) a.progress → HasRead (before ++ first) (ls ++ (lines ++ waiting)) progress
   pub said : HasSaid lines saids held
-  pub calls : List Entry
+  pub calls : List HubEvent
   pub made : x.made ≡ v.made ++ calls
   pub alone : AllByRecursion (λ e. IsTakeFor site e.call) calls
   pub later : List Said
@@ -52,7 +52,7 @@ pub record Took (site : ℕ) (a : Sourced) (v x : View) (bytes : List ℕ) : Typ
 
 -- the call that a message led to: its take, or none
 record MayTake (site : ℕ) (up : Up BoardBatch) (w x : View) : Type 0 where
-  more : List Entry
+  more : List HubEvent
   made : x.made ≡ w.made ++ more
   alone : AllByRecursion (λ e. IsTakeFor site e.call) more
   later : List Said
@@ -61,7 +61,7 @@ record MayTake (site : ℕ) (up : Up BoardBatch) (w x : View) : Type 0 where
 not_taken : (site : ℕ) (up : Up BoardBatch) (w x : View) → x ≡ w → MayTake site up w x
 not_taken site up w x same = record { more = []; made = ap (λ (z : View). z.made) same ∙ sym (append-nil w.made); alone = tt; later = SaysUp up ∷ []; takes = refl }
 
-one_taken : (site : ℕ) (up : Up BoardBatch) (reply : Reply) (w x : View) → Called (Take site up) reply w x → MayTake site up w x
+one_taken : (site : ℕ) (up : Up BoardBatch) (reply : StarReply) (w x : View) → Called (Take site up) reply w x → MayTake site up w x
 one_taken site up reply w x c = record {
   more = entry w.number (Take site up) reply ∷ [];
   made = ap (λ (z : View). z.made) c.view;
@@ -126,7 +126,7 @@ took_over site a b c v w x keeper ending h (Untaken line later incoming handed l
       said = led.0.0;
       calls = h.calls ++ may.more;
       made = may.made ∙ ap (λ es. es ++ may.more) h.made ∙ append_assoc v.made h.calls may.more;
-      alone = all-append (λ (e : Entry). IsTakeFor site e.call) h.calls may.more (takes_alone site h.saids h.calls h.takes) may.alone;
+      alone = all-append (λ (e : HubEvent). IsTakeFor site e.call) h.calls may.more (takes_alone site h.saids h.calls h.takes) may.alone;
       later = may.later;
       takes = ap (λ ss. ss ++ SaysUp incoming.up ∷ []) (takes_are site h.saids h.calls h.takes)
           ∙ ap (λ ss. map (λ u. SaysUp u) (takes_of site h.calls) ++ ss) may.takes

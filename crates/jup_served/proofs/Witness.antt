@@ -14,10 +14,10 @@ use Rattle.jup_star.specs.declared.messages.Down.{Down}
 use Rattle.jup_star.specs.declared.messages.Down.TheVariants.{Op as DownOp, Pong as DownPong}
 use Rattle.jup_star.specs.declared.star.Joined.{Joined}
 use Rattle.jup_star.specs.declared.calls.Call.TheVariants.{Join, Take, Fetch, Leave}
-use Rattle.jup_star.specs.declared.calls.Reply.TheVariants.{Joined as JoinedReply, Taken, Fetched, Left}
+use Rattle.jup_star.specs.declared.calls.StarReply.TheVariants.{Joined as JoinedReply, Taken, Fetched, Left}
 use Rattle.jup_star.specs.StarCalls.{BoardStar, BoardLink, reply_of, star_after}
 use Rattle.jup_star.specs.StarStates.{opened_star}
-use Rattle.jup_hub.specs.declared.view.Entry.{Entry}
+use Rattle.jup_hub.specs.declared.view.HubEvent.{HubEvent}
 use Rattle.jup_hub.specs.Histories.{entry, IsLegal}
 use Rattle.jup_world.specs.Openings.{IsOpening}
 use Rattle.jup_honest.specs.Connections.{Step, Edit, Deliver, Ping, Called, IsCausalThrough}
@@ -73,43 +73,43 @@ abbrev two : List ℕ
 two = 1 ∷ []
 
 -- the calls
-abbrev join_one : Entry
+abbrev join_one : HubEvent
 join_one = entry one Join (JoinedReply (Ok (joined 1)))
 
-abbrev join_two : Entry
+abbrev join_two : HubEvent
 join_two = entry two Join (JoinedReply (Ok (joined 2)))
 
-abbrev edit_two : Entry
+abbrev edit_two : HubEvent
 edit_two = entry two (Take 2 (UpOp (message 0 0 (switch false)))) (Taken (Ok (Some 0)))
 
-abbrev edit_one : Entry
+abbrev edit_one : HubEvent
 edit_one = entry one (Take 1 (UpOp (message 0 0 (switch true)))) (Taken (Ok (Some 1)))
 
-abbrev ping_one : Entry
+abbrev ping_one : HubEvent
 ping_one = entry one (Take 1 (UpPing 7)) (Taken (Ok None))
 
 abbrev downs_one : List (Down BoardBatch)
 downs_one = DownOp (message 0 0 (switch false)) ∷ DownPong 7 ∷ []
 
-abbrev fetch_one : Entry
+abbrev fetch_one : HubEvent
 fetch_one = entry (0 ∷ one) (Fetch 1 64) (Fetched (Ok downs_one))
 
 abbrev downs_two : List (Down BoardBatch)
 downs_two = DownOp (message 0 1 (switch true)) ∷ []
 
-abbrev fetch_two : Entry
+abbrev fetch_two : HubEvent
 fetch_two = entry (0 ∷ two) (Fetch 2 64) (Fetched (Ok downs_two))
 
-abbrev leave_one : Entry
+abbrev leave_one : HubEvent
 leave_one = entry (0 ∷ one) (Leave 1) (Left (Ok tt))
 
-abbrev leave_two : Entry
+abbrev leave_two : HubEvent
 leave_two = entry (0 ∷ two) (Leave 2) (Left (Ok tt))
 
-abbrev later : List Entry
+abbrev later : List HubEvent
 later = edit_two ∷ edit_one ∷ ping_one ∷ fetch_one ∷ fetch_two ∷ leave_one ∷ leave_two ∷ []
 
-abbrev pub log : List Entry
+abbrev pub log : List HubEvent
 log = join_one ∷ join_two ∷ later
 
 -- # The runs

@@ -3,7 +3,7 @@ use Rattle.std.specs.Prelude.{◌≡◌, ℕ, Bool, List, ◌∷◌, Option, IsT
 use Rattle.std.specs.List.{AllByRecursion}
 use Rattle.jup_batch.specs.BatchBoards.{bare}
 use Rattle.jup_star.specs.declared.star.Joined.{Joined}
-use Rattle.jup_hub.specs.declared.view.Entry.{Entry}
+use Rattle.jup_hub.specs.declared.view.HubEvent.{HubEvent}
 use Rattle.jup_hub.specs.declared.view.View.{View}
 use Rattle.jup_hub.specs.Histories.{is_among}
 use Rattle.jup_hub.specs.Knowledge.{tallies}
@@ -42,9 +42,9 @@ module _ {s : Ended} where
   writer_of serves = serves.served.behind.splits ∷ serves.served.behind.number
 
   -- the fetches that this half made before the site began to leave
-  abbrev pub fetches_for : ServesSite s → List Entry
+  abbrev pub fetches_for : ServesSite s → List HubEvent
   fetches_for serves = serves.served.halves.fetches
 
 -- nobody but the session makes a call for the site: each such call is under a number of the session's pass
-abbrev pub IsOwnedBy : Ended → ℕ → List Entry → Type 0
+abbrev pub IsOwnedBy : Ended → ℕ → List HubEvent → Type 0
 IsOwnedBy s site log = AllByRecursion (λ e. IsCallFor site e.call → IsTrue (is_among e.by (tallies s.back))) log

@@ -5,7 +5,7 @@ use Rattle.jup_limits.specs.Limits.{highest_limit}
 use Rattle.jup_batch.specs.BatchBoards.{BoardBatch}
 use Rattle.jup_star.specs.declared.messages.Up.{Up}
 use Rattle.jup_star.specs.declared.messages.Down.{Down}
-use Rattle.jup_hub.specs.declared.view.Entry.{Entry}
+use Rattle.jup_hub.specs.declared.view.HubEvent.{HubEvent}
 use Rattle.jup_hub.specs.Histories.{calls_by, BeginsWith}
 use Rattle.jup_hub.specs.Knowledge.{Meets}
 use Rattle.jup_wire.specs.declared.line.Line.{Line}
@@ -25,7 +25,7 @@ use Rattle.jup_served.specs.Ended.{Ended, ServesSite, answer_of, writer_of, fetc
 -- The session was given a pass that had made no call. The pass that it gave back meets the history `log`, and the run has the first
 -- calls of that, up to some moment. The run is of the session's site: it begins with the answer to the session's join. At its end the site has not
 -- begun to leave: so far the writing half has only fetched
-pub record IsMoment (run : SiteRun) (log : List Entry) (s : Ended) (serves : ServesSite s) : Type 0 where
+pub record IsMoment (run : SiteRun) (log : List HubEvent) (s : Ended) (serves : ServesSite s) : Type 0 where
   pub new : HasMadeNone s.given
   pub opened : s.back.opening ≡ opening run
   pub meets : Meets s.back log
@@ -64,7 +64,7 @@ pub record HasReceived (run : SiteRun) (written : List ℕ) : Type 0 where
 
 -- A session serves the site of this run, over the board and the limit that its hub was opened with. Its client is of this product, and no message
 -- came before it was sent. Each line that the session is to write has a spelling
-pub record IsServedRun (run : SiteRun) (log : List Entry) (s : Ended) : Type 0 where
+pub record IsServedRun (run : SiteRun) (log : List HubEvent) (s : Ended) : Type 0 where
   pub serves : ServesSite s
   pub moment : IsMoment run log s serves
   pub opens : IsOpening run.board

@@ -4,7 +4,7 @@ use Rattle.std.specs.List.{AllByRecursion}
 use Rattle.jup_limits.specs.Limits.{highest_limit}
 use Rattle.jup_batch.specs.BatchBoards.{Windows}
 use Rattle.jup_star.specs.StarStates.{opened_star}
-use Rattle.jup_hub.specs.declared.view.Entry.{Entry}
+use Rattle.jup_hub.specs.declared.view.HubEvent.{HubEvent}
 use Rattle.jup_hub.specs.declared.view.Tally.{Tally}
 use Rattle.jup_hub.specs.Histories.{IsLegal, AllTallied, AllApart, calls_of_others}
 use Rattle.jup_hub.specs.Knowledge.{tallies}
@@ -24,7 +24,7 @@ IsOneOf s (t ∷ sessions) = (t ≡ s) ⊎ IsOneOf s sessions
 
 -- The history of the hub is legal. Each session was given a pass that had made no call. Under each number of theirs the history has just the session's calls, and no two
 -- of these numbers are equal. No call is under another number
-pub record IsSessionHub (board : Windows) (limit : ℕ) (sessions : List Ended) (log : List Entry) : Type 0 where
+pub record IsSessionHub (board : Windows) (limit : ℕ) (sessions : List Ended) (log : List HubEvent) : Type 0 where
   pub opens : IsOpening board
   pub limited : limit ≤ highest_limit
   pub legal : IsLegal (opened_star board limit) log

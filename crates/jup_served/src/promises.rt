@@ -5,7 +5,7 @@ ghost use Rattle.std.specs.List.{AllByRecursion};
 ghost use Rattle.jup_limits.specs.Limits.{highest_limit};
 ghost use Rattle.jup_batch.specs.BatchBoards.{Windows};
 ghost use Rattle.jup_star.specs.StarStates.{opened_star};
-ghost use Rattle.jup_hub.specs.declared.view.Entry.{Entry};
+ghost use Rattle.jup_hub.specs.declared.view.HubEvent.{HubEvent};
 ghost use Rattle.jup_hub.specs.declared.view.View.{View};
 ghost use Rattle.jup_hub.specs.Histories.{calls_in};
 ghost use Rattle.jup_hub.specs.Knowledge.{Meets};
@@ -34,15 +34,15 @@ ghost use Rattle.jup_served.specs.SessionHubs.{all_tallies, IsOneOf, IsSessionHu
 ///
 /// It does nothing: its contract is the theorem.
 pub fn served_sites_are_honest()
-    ensures honest { (run : SiteRun) (log : List Entry) (s : Ended) → IsServedRun run log s → IsOwnedBy s run.answer.site (calls run) → IsHonest run }
-    ensures owned { (board : Windows) (limit : ℕ) (sessions : List Ended) (log : List Entry) → IsSessionHub board limit sessions log
+    ensures honest { (run : SiteRun) (log : List HubEvent) (s : Ended) → IsServedRun run log s → IsOwnedBy s run.answer.site (calls run) → IsHonest run }
+    ensures owned { (board : Windows) (limit : ℕ) (sessions : List Ended) (log : List HubEvent) → IsSessionHub board limit sessions log
         → (s : Ended) → IsOneOf s sessions → (serves : ServesSite s) → IsOwnedBy s (answer_of serves).site log }
-    ensures hub { (run : SiteRun) (sessions : List Ended) (log : List Entry) → IsSessionHub run.board run.limit sessions log
+    ensures hub { (run : SiteRun) (sessions : List Ended) (log : List HubEvent) → IsSessionHub run.board run.limit sessions log
         → (s : Ended) → IsOneOf s sessions → IsServedRun run log s → IsHonest run }
-    ensures agree { (run other : SiteRun) (sessions : List Ended) (log : List Entry) → IsSessionHub run.board run.limit sessions log
+    ensures agree { (run other : SiteRun) (sessions : List Ended) (log : List HubEvent) → IsSessionHub run.board run.limit sessions log
         → (s t : Ended) → IsOneOf s sessions → IsServedRun run log s → IsOneOf t sessions → IsServedRun other log t
         → AreDrained run other → (now run).site.board ≡ (now other).site.board }
-    ensures closed { (board : Windows) (limit : ℕ) (sessions : List Ended) (v : View) (log : List Entry) → IsOpening board → limit ≤ highest_limit
+    ensures closed { (board : Windows) (limit : ℕ) (sessions : List Ended) (v : View) (log : List HubEvent) → IsOpening board → limit ≤ highest_limit
         → v.opening ≡ opened_star board limit → v.made ≡ [] → v.kept ≡ all_tallies sessions → AllByRecursion (λ (s : Ended). HasMadeNone s.given) sessions
         → Meets v log → length log ≡ calls_in (all_tallies sessions) → IsSessionHub board limit sessions log }
 {}
@@ -64,7 +64,7 @@ pub fn clients_show_their_sites()
 ///
 /// It does nothing: its contract is the theorem.
 pub fn served_runs_exist()
-    ensures exists { (run other : SiteRun) × (sessions : List Ended) × (log : List Entry) × (s t : Ended) × IsSessionHub run.board run.limit sessions log
+    ensures exists { (run other : SiteRun) × (sessions : List Ended) × (log : List HubEvent) × (s t : Ended) × IsSessionHub run.board run.limit sessions log
         × IsOneOf s sessions × IsServedRun run log s × IsOneOf t sessions × IsServedRun other log t × AreDrained run other
         × (length (now run).star.order ≡ 2) }
     ensures client { (run : SiteRun) × (old new : ClientState) × (saids : List Said) × IsHonest run × (old.site ≡ (start run).site)

@@ -3,7 +3,7 @@ use Rattle.std.proofs.Common.{arith, ◌≡◌, ◌∙◌, sym, ap, subst, ℕ, 
 use Rattle.std.specs.List.{flat_map, AllByRecursion}
 use Rattle.std.specs.Io.KnownBytes.{Keeps}
 use Rattle.std.proofs.lemmas.Fmt.{decimal_digit}
-use Rattle.jup_hub.specs.declared.view.Entry.{Entry}
+use Rattle.jup_hub.specs.declared.view.HubEvent.{HubEvent}
 use Rattle.jup_hub.specs.declared.view.Tally.{Tally}
 use Rattle.jup_hub.specs.declared.view.View.{View}
 use Rattle.jup_hub.specs.Knowledge.{tally, after_split, split_from, joined_with}
@@ -32,7 +32,7 @@ pub both_halves_so : (site : ℕ) (a b : Sourced) (v v' t u w x : View) (p q r :
 both_halves_so site a b v v' t u w x p q r heard told ending split new hears wrote joined is put =
     let f = wrote.forwards in let d = wrote.departs in
     let made : u.made ≡ f.calls ++ (d.back.calls ++ d.leaves.calls) =
-    d.leaves.made ∙ ap (λ (l : List Entry). l ++ d.leaves.calls) (d.back.made ∙ ap (λ (l : List Entry). l ++ d.back.calls) (f.made ∙ ap (λ (y : View). y.made ++ f.calls) new))
+    d.leaves.made ∙ ap (λ (l : List HubEvent). l ++ d.leaves.calls) (d.back.made ∙ ap (λ (l : List HubEvent). l ++ d.back.calls) (f.made ∙ ap (λ (y : View). y.made ++ f.calls) new))
     ∙ append_assoc f.calls d.back.calls d.leaves.calls in
     let number : u.number ≡ v.splits ∷ v.number = d.leaves.number ∙ d.back.number ∙ f.number ∙ ap (λ (y : View). y.number) new in
     let kept : u.kept ≡ [] = d.leaves.kept ∙ d.back.kept ∙ f.kept ∙ ap (λ (y : View). y.kept) new in
@@ -52,7 +52,7 @@ both_halves_so site a b v v' t u w x p q r heard told ending split new hears wro
         made = ap (λ (y : View). y.made) joined;
         kept = ap (λ (y : View). y.kept) joined
             ∙ ap (λ (n : List ℕ). w.kept ++ tally n u.made ∷ u.kept) number
-            ∙ ap (λ (l : List Entry). w.kept ++ tally (v.splits ∷ v.number) l ∷ u.kept) made
+            ∙ ap (λ (l : List HubEvent). w.kept ++ tally (v.splits ∷ v.number) l ∷ u.kept) made
             ∙ ap (λ (l : List Tally). w.kept ++ tally (v.splits ∷ v.number) (f.calls ++ (d.back.calls ++ d.leaves.calls)) ∷ l) kept;
         alone = f.alone;
         gives_back = d.back.alone;

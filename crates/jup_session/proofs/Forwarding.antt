@@ -7,11 +7,11 @@ use Rattle.jup_star.specs.StarCalls.{is_no_memory}
 use Rattle.jup_star.specs.declared.messages.Down.{Down}
 use Rattle.jup_star.specs.declared.calls.Call.{Call}
 use Rattle.jup_star.specs.declared.calls.Call.TheVariants.{Join, Take, Fetch, Leave}
-use Rattle.jup_star.specs.declared.calls.Reply.{Reply}
-use Rattle.jup_star.specs.declared.calls.Reply.TheVariants.{Fetched}
+use Rattle.jup_star.specs.declared.calls.StarReply.{StarReply}
+use Rattle.jup_star.specs.declared.calls.StarReply.TheVariants.{Fetched}
 use Rattle.jup_hub.specs.declared.fault.HubFault.{HubFault}
 use Rattle.jup_hub.specs.declared.fault.HubFault.TheVariants.{Star, Spent}
-use Rattle.jup_hub.specs.declared.view.Entry.{Entry}
+use Rattle.jup_hub.specs.declared.view.HubEvent.{HubEvent}
 use Rattle.jup_hub.specs.declared.view.View.{View}
 use Rattle.jup_hub.specs.Histories.{entry}
 use Rattle.jup_hub.specs.Knowledge.{Called, ComesToAsk, having_seen}
@@ -31,7 +31,7 @@ pub forwards_none : (site : ℕ) (v : View) (a : Put) → Forwards site v a v a
 forwards_none site v a = record { calls = []; number = refl; made = sym (append-nil v.made); kept = refl; alone = tt; put = puts_none a }
 
 -- the pass has seen more
-pub forwards_news : (site : ℕ) (u v w : View) (a b : Put) (log : List Entry) → Forwards site u a v b → w ≡ having_seen log v → Forwards site u a w b
+pub forwards_news : (site : ℕ) (u v w : View) (a b : Put) (log : List HubEvent) → Forwards site u a v b → w ≡ having_seen log v → Forwards site u a w b
 forwards_news site u v w a b log f e = subst (λ (x : View). Forwards site u a x b) (sym e)
     (record { calls = f.calls; number = f.number; made = f.made; kept = f.kept; alone = f.alone; put = f.put })
 
@@ -40,10 +40,10 @@ pub forwards_both : (site : ℕ) (u v w : View) (a b c : Put) → Forwards site 
 forwards_both site u v w a b c one two = record {
   calls = one.calls ++ two.calls;
   number = two.number ∙ one.number;
-  made = two.made ∙ ap (λ (l : List Entry). l ++ two.calls) one.made ∙ append_assoc u.made one.calls two.calls;
+  made = two.made ∙ ap (λ (l : List HubEvent). l ++ two.calls) one.made ∙ append_assoc u.made one.calls two.calls;
   kept = two.kept ∙ one.kept;
   alone = more_calls (IsFetchFor site) one.calls two.calls one.alone two.alone;
-  put = subst (λ lines. PutsLines a lines c) (sym (flat_map-append (λ (e : Entry). flat_map down_lines (brought e.reply)) one.calls two.calls))
+  put = subst (λ lines. PutsLines a lines c) (sym (flat_map-append (λ (e : HubEvent). flat_map down_lines (brought e.reply)) one.calls two.calls))
       (puts_more a b c (lines_brought one.calls) (lines_brought two.calls) one.put two.put);
 }
 
@@ -63,7 +63,7 @@ forwards_more site u v w a b c downs before brings put = forwards_both site u v 
 pub forwards_in_vain : (site : ℕ) (u v w : View) (a b : Put) → Forwards site u a v b → Brings site v w [] → Forwards site u a w b
 forwards_in_vain site u v w a b before brings = forwards_more site u v w a b b [] before brings (puts_none b)
 
-fetched : (site max : ℕ) (reply : Reply) (v w : View) → Called (Fetch site max) reply v w → Brings site v w (brought reply)
+fetched : (site max : ℕ) (reply : StarReply) (v w : View) → Called (Fetch site max) reply v w → Brings site v w (brought reply)
 fetched site max reply v w c = record {
   calls = entry v.number (Fetch site max) reply ∷ [];
   number = ap (λ (x : View). x.number) c.view;

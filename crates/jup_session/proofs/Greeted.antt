@@ -4,7 +4,7 @@ use Rattle.std.specs.Prelude.{◌≢◌, IsOk, is_ok}
 use Rattle.jup_star.specs.StarCalls.{bare_joined}
 use Rattle.jup_star.specs.declared.star.Joined.{Joined}
 use Rattle.jup_star.specs.declared.calls.Call.TheVariants.{Join}
-use Rattle.jup_star.specs.declared.calls.Reply.TheVariants.{Joined as JoinedReply}
+use Rattle.jup_star.specs.declared.calls.StarReply.TheVariants.{Joined as JoinedReply}
 use Rattle.jup_hub.specs.declared.fault.HubFault.{HubFault}
 use Rattle.jup_hub.specs.declared.view.View.{View}
 use Rattle.jup_hub.specs.Passes.{Made}

@@ -6,10 +6,10 @@ use Rattle.jup_star.specs.declared.messages.Up.{Up}
 use Rattle.jup_star.specs.declared.faults.StarFault.TheVariants.{NoLink}
 use Rattle.jup_star.specs.declared.calls.Call.{Call}
 use Rattle.jup_star.specs.declared.calls.Call.TheVariants.{Take}
-use Rattle.jup_star.specs.declared.calls.Reply.TheVariants.{Taken}
+use Rattle.jup_star.specs.declared.calls.StarReply.TheVariants.{Taken}
 use Rattle.jup_hub.specs.declared.fault.HubFault.{HubFault}
 use Rattle.jup_hub.specs.declared.fault.HubFault.TheVariants.{Star, Spent as HubSpent}
-use Rattle.jup_hub.specs.declared.view.Entry.{Entry}
+use Rattle.jup_hub.specs.declared.view.HubEvent.{HubEvent}
 use Rattle.jup_hub.specs.declared.view.View.{View}
 use Rattle.jup_hub.specs.Histories.{entry}
 use Rattle.jup_hub.specs.Knowledge.{Called}
@@ -31,7 +31,7 @@ use Rattle.jup_session.specs.Hearings.{IsTaken, AreTakesOf, Hears, Over, Stopped
 use Rattle.jup_session.specs.Sessions.{IsCallFor, Makes, Serves}
 use Rattle.jup_session.proofs.SessionCalls.{makes_same, makes_both, serves_handled}
 
-takes_more : (site : ℕ) (saids : List Said) (calls : List Entry) (up : Up BoardBatch) (e : Entry) → AreTakesOf site saids calls → e.call ≡ Take site up → IsTaken e.reply
+takes_more : (site : ℕ) (saids : List Said) (calls : List HubEvent) (up : Up BoardBatch) (e : HubEvent) → AreTakesOf site saids calls → e.call ≡ Take site up → IsTaken e.reply
     → AreTakesOf site (saids ++ SaysUp up ∷ []) (calls ++ e ∷ [])
 takes_more site [] [] up e h is taken = (is, taken, tt)
 takes_more site [] (x ∷ es) up e h is taken = absurd h
@@ -89,7 +89,7 @@ pub hears_take : (site : ℕ) (a b c : Sourced) (v w x : View) (before after : K
     → IsHandled site incoming w x (Ok ring) → Hears site a v c x after
 hears_take site a b c v w x before after line incoming ring h handed leads handled =
     let taken = handled_well site incoming w x ring handled in
-    let e : Entry = entry w.number (Take site incoming.up) (Taken (Ok taken.0)) in
+    let e : HubEvent = entry w.number (Take site incoming.up) (Taken (Ok taken.0)) in
     let view = taken.1.view in record {
       lines = h.lines ++ line ∷ [];
       saids = h.saids ++ SaysUp incoming.up ∷ [];
@@ -97,14 +97,14 @@ hears_take site a b c v w x before after line incoming ring h handed leads handl
       handed = hands_more a b c h.lines line h.handed handed;
       heard = (leads h.lines h.saids h.heard).0;
       number = ap (λ (y : View). y.number) view ∙ h.number;
-      made = ap (λ (y : View). y.made) view ∙ ap (λ (l : List Entry). l ++ e ∷ []) h.made ∙ append_assoc v.made h.calls (e ∷ []);
+      made = ap (λ (y : View). y.made) view ∙ ap (λ (l : List HubEvent). l ++ e ∷ []) h.made ∙ append_assoc v.made h.calls (e ∷ []);
       kept = ap (λ (y : View). y.kept) view ∙ h.kept;
       takes = takes_more site h.saids h.calls incoming.up e h.takes refl tt;
     }
 
 -- ---- all that was called for a site
 
-takes_for : (site : ℕ) (saids : List Said) (calls : List Entry) → AreTakesOf site saids calls → AllByRecursion (λ e. IsCallFor site e.call) calls
+takes_for : (site : ℕ) (saids : List Said) (calls : List HubEvent) → AreTakesOf site saids calls → AllByRecursion (λ e. IsCallFor site e.call) calls
 takes_for site [] [] h = tt
 takes_for site [] (x ∷ es) h = absurd h
 takes_for site (SaysUp up ∷ saids) [] h = absurd h

@@ -10,11 +10,11 @@ use Rattle.jup_star.specs.declared.faults.StarFault.{StarFault}
 use Rattle.jup_star.specs.declared.faults.StarFault.TheVariants.{NoLink}
 use Rattle.jup_star.specs.declared.calls.Call.{Call}
 use Rattle.jup_star.specs.declared.calls.Call.TheVariants.{Join, Take, Fetch, Leave}
-use Rattle.jup_star.specs.declared.calls.Reply.{Reply}
-use Rattle.jup_star.specs.declared.calls.Reply.TheVariants.{Joined, Taken, Fetched, Left}
+use Rattle.jup_star.specs.declared.calls.StarReply.{StarReply}
+use Rattle.jup_star.specs.declared.calls.StarReply.TheVariants.{Joined, Taken, Fetched, Left}
 use Rattle.jup_hub.specs.declared.fault.HubFault.{HubFault}
 use Rattle.jup_hub.specs.declared.fault.HubFault.TheVariants.{Star, Spent}
-use Rattle.jup_hub.specs.declared.view.Entry.{Entry}
+use Rattle.jup_hub.specs.declared.view.HubEvent.{HubEvent}
 use Rattle.jup_hub.specs.declared.view.Tally.{Tally}
 use Rattle.jup_hub.specs.declared.view.View.{View}
 use Rattle.jup_hub.specs.Faults.{is_out_of_memory}
@@ -29,16 +29,16 @@ use Rattle.jup_session.specs.Gates.{HasAnswered, HasToWait, HasCalled, followed_
 use Rattle.jup_session.specs.Sessions.{IsCallFor, AreCallsFor, AreTalliesFor, HasLeft, IsFull, SomeLeft, FollowsJoin, IsSession, Makes, Serves, Leaves, HasMadeNone, HasServed, IsJoinOf, Joins, BothServe}
 
 -- calls of one kind, and more of them
-pub more_calls : (IsOne : Call → Type 0) (xs ys : List Entry) → AllByRecursion (λ e. IsOne e.call) xs → AllByRecursion (λ e. IsOne e.call) ys → AllByRecursion (λ e. IsOne e.call) (xs ++ ys)
+pub more_calls : (IsOne : Call → Type 0) (xs ys : List HubEvent) → AllByRecursion (λ e. IsOne e.call) xs → AllByRecursion (λ e. IsOne e.call) ys → AllByRecursion (λ e. IsOne e.call) (xs ++ ys)
 more_calls IsOne [] ys one two = two
 more_calls IsOne (x ∷ xs) ys one two = (one.0, more_calls IsOne xs ys one.1 two)
 
 -- that are of another kind too
-pub calls_too : (IsOne Is : Call → Type 0) (xs : List Entry) → ((call : Call) → IsOne call → Is call) → AllByRecursion (λ e. IsOne e.call) xs → AllByRecursion (λ e. Is e.call) xs
+pub calls_too : (IsOne Is : Call → Type 0) (xs : List HubEvent) → ((call : Call) → IsOne call → Is call) → AllByRecursion (λ e. IsOne e.call) xs → AllByRecursion (λ e. Is e.call) xs
 calls_too IsOne Is [] too all = tt
 calls_too IsOne Is (x ∷ xs) too all = (too x.call all.0, calls_too IsOne Is xs too all.1)
 
-left_later : (xs ys : List Entry) → HasLeft ys → HasLeft (xs ++ ys)
+left_later : (xs ys : List HubEvent) → HasLeft ys → HasLeft (xs ++ ys)
 left_later [] ys h = h
 left_later (x ∷ xs) ys h = inr (left_later xs ys h)
 
@@ -50,7 +50,7 @@ pub makes_same : (IsOne : Call → Type 0) (v w : View) → w ≡ v → Makes Is
 makes_same IsOne v w e = subst (λ (x : View). Makes IsOne v x) (sym e) (makes_none IsOne v)
 
 -- one that has seen more
-pub makes_news : (IsOne : Call → Type 0) (v w : View) (log : List Entry) → w ≡ having_seen log v → Makes IsOne v w
+pub makes_news : (IsOne : Call → Type 0) (v w : View) (log : List HubEvent) → w ≡ having_seen log v → Makes IsOne v w
 makes_news IsOne v w log e = subst (λ (x : View). Makes IsOne v x) (sym e) (record { calls = []; number = refl; made = sym (append-nil v.made); kept = refl; alone = tt })
 
 -- one that another was split from
@@ -66,7 +66,7 @@ pub makes_both : (IsOne : Call → Type 0) (u v w : View) → Makes IsOne u v �
 makes_both IsOne u v w one two = record {
   calls = one.calls ++ two.calls;
   number = two.number ∙ one.number;
-  made = two.made ∙ ap (λ (l : List Entry). l ++ two.calls) one.made ∙ append_assoc u.made one.calls two.calls;
+  made = two.made ∙ ap (λ (l : List HubEvent). l ++ two.calls) one.made ∙ append_assoc u.made one.calls two.calls;
   kept = two.kept ∙ one.kept;
   alone = more_calls IsOne one.calls two.calls one.alone two.alone;
 }
@@ -79,14 +79,14 @@ pub leaves_after : (site : ℕ) (u v w : View) → Serves site u v → Leaves si
 leaves_after site u v w one two = record {
   calls = one.calls ++ two.calls;
   number = two.number ∙ one.number;
-  made = two.made ∙ ap (λ (l : List Entry). l ++ two.calls) one.made ∙ append_assoc u.made one.calls two.calls;
+  made = two.made ∙ ap (λ (l : List HubEvent). l ++ two.calls) one.made ∙ append_assoc u.made one.calls two.calls;
   kept = two.kept ∙ one.kept;
   alone = more_calls (IsCallFor site) one.calls two.calls one.alone two.alone;
   left = elim two.left [ inl h ↦ inl (left_later one.calls two.calls h) | inr h ↦ inr h ];
 }
 
 -- one call
-makes_one : (IsOne : Call → Type 0) (call : Call) (reply : Reply) (v w : View) → IsOne call → Called call reply v w → Makes IsOne v w
+makes_one : (IsOne : Call → Type 0) (call : Call) (reply : StarReply) (v w : View) → IsOne call → Called call reply v w → Makes IsOne v w
 makes_one IsOne call reply v w is c = record {
   calls = entry v.number call reply ∷ [];
   number = ap (λ (x : View). x.number) c.view;
@@ -95,11 +95,11 @@ makes_one IsOne call reply v w is c = record {
   alone = (is, tt);
 }
 
-called : (site : ℕ) (call : Call) (reply : Reply) (v w : View) → IsCallFor site call → Called call reply v w → Serves site v w
+called : (site : ℕ) (call : Call) (reply : StarReply) (v w : View) → IsCallFor site call → Called call reply v w → Serves site v w
 called site call reply v w is c = makes_one (IsCallFor site) call reply v w is c
 
 -- whatever the hub answers
-pub makes_call : {A : Type 0} (IsOne : Call → Type 0) (reply : Result A StarFault → Reply) (call : Call) (v w : View) (r : Result A HubFault) → IsOne call → Made reply call v w r → Makes IsOne v w
+pub makes_call : {A : Type 0} (IsOne : Call → Type 0) (reply : Result A StarFault → StarReply) (call : Call) (v w : View) (r : Result A HubFault) → IsOne call → Made reply call v w r → Makes IsOne v w
 makes_call IsOne reply call v w (Ok x) is m = makes_one IsOne call (reply (Ok x)) v w is m
 makes_call IsOne reply call v w (Err Spent) is m = makes_same IsOne v w m.0
 makes_call IsOne reply call v w (Err (Star e)) is m = go (is_no_memory e) m
@@ -186,8 +186,8 @@ leaves_by_fetching site max v w fault is made = let c : Called (Fetch site max) 
 -- a pass that had made nothing
 pub served_alone : (site : ℕ) (v w : View) → HasMadeNone v → Leaves site v w → HasServed site w
 served_alone site v w none l =
-    let made : w.made ≡ l.calls = l.made ∙ ap (λ (x : List Entry). x ++ l.calls) none.0 in record {
-      alone = subst (λ (x : List Entry). AreCallsFor site x) (sym made) l.alone;
+    let made : w.made ≡ l.calls = l.made ∙ ap (λ (x : List HubEvent). x ++ l.calls) none.0 in record {
+      alone = subst (λ (x : List HubEvent). AreCallsFor site x) (sym made) l.alone;
       kept = l.kept ∙ none.1;
       left = elim l.left [ inl h ↦ inl (subst HasLeft (sym made) h) | inr h ↦ inr h ];
     }
@@ -238,7 +238,7 @@ session_refused v w (Star e) m = go (is_no_memory e) m
       one_site = (refl, refl);
     }
 
-follows : (site : ℕ) (w : View) (call : Call) (reply : Reply) (later : List Entry) (others : List Tally) → IsJoinOf site call reply → AreCallsFor site later → AreTalliesFor site others
+follows : (site : ℕ) (w : View) (call : Call) (reply : StarReply) (later : List HubEvent) (others : List Tally) → IsJoinOf site call reply → AreCallsFor site later → AreTalliesFor site others
     → HasLeft later ⊎ IsFull w.opening (tally w.number w.made) ⊎ SomeLeft w.opening others → FollowsJoin w call reply later others
 follows site w Join (Joined (Ok j)) later others is one two left =
     (subst (λ (s : ℕ). AreCallsFor s later) (sym is) one, subst (λ (s : ℕ). AreTalliesFor s others) (sym is) two, left)
@@ -250,7 +250,7 @@ session_left site v u w j l = record {
   calls = j.join ∷ l.calls;
   others = [];
   number = l.number ∙ j.number;
-  made = l.made ∙ ap (λ (x : List Entry). x ++ l.calls) j.made ∙ append_assoc v.made (j.join ∷ []) l.calls;
+  made = l.made ∙ ap (λ (x : List HubEvent). x ++ l.calls) j.made ∙ append_assoc v.made (j.join ∷ []) l.calls;
   kept = l.kept ∙ j.kept ∙ sym (append-nil v.kept);
   one_site = follows site w j.join.call j.join.reply l.calls [] j.is_join l.alone tt (elim l.left [ inl h ↦ inl h | inr h ↦ inr (inl h) ]);
 }
@@ -261,7 +261,7 @@ session_served site v u w j b = record {
   calls = j.join ∷ b.calls;
   others = b.other ∷ [];
   number = b.number ∙ j.number;
-  made = b.made ∙ ap (λ (x : List Entry). x ++ b.calls) j.made ∙ append_assoc v.made (j.join ∷ []) b.calls;
+  made = b.made ∙ ap (λ (x : List HubEvent). x ++ b.calls) j.made ∙ append_assoc v.made (j.join ∷ []) b.calls;
   kept = b.kept ∙ ap (λ (x : List Tally). x ++ b.other ∷ []) j.kept;
   one_site = follows site w j.join.call j.join.reply b.calls (b.other ∷ []) j.is_join b.alone (b.other_alone, tt)
       (inr (inr (elim b.left [ inl h ↦ inl h | inr h ↦ inr (inl h) ])));

@@ -4,9 +4,9 @@ use Rattle.std.specs.List.{flat_map, AllByRecursion}
 use Rattle.jup_star.specs.StarCalls.{bare_joined}
 use Rattle.jup_star.specs.declared.star.Joined.{Joined}
 use Rattle.jup_star.specs.declared.calls.Call.TheVariants.{Join}
-use Rattle.jup_star.specs.declared.calls.Reply.TheVariants.{Joined as JoinedReply}
+use Rattle.jup_star.specs.declared.calls.StarReply.TheVariants.{Joined as JoinedReply}
 use Rattle.jup_hub.specs.declared.fault.HubFault.{HubFault}
-use Rattle.jup_hub.specs.declared.view.Entry.{Entry}
+use Rattle.jup_hub.specs.declared.view.HubEvent.{HubEvent}
 use Rattle.jup_hub.specs.declared.view.View.{View}
 use Rattle.jup_hub.specs.Knowledge.{tally, after_split, Called}
 use Rattle.jup_hub.specs.Passes.{Made}
@@ -75,9 +75,9 @@ pub record BothHalves (site : ℕ) (a : Sourced) (v x : View) (ending : Ending) 
   pub told : Option Ending
   pub fault : TellsFault told
   pub ending_is : ending ≡ standing told heard
-  pub fetches : List Entry
-  pub back : List Entry
-  pub leaves : List Entry
+  pub fetches : List HubEvent
+  pub back : List HubEvent
+  pub leaves : List HubEvent
   pub made : x.made ≡ read.made
   pub kept : x.kept ≡ read.kept ++ tally (v.splits ∷ v.number) (fetches ++ (back ++ leaves)) ∷ []
   pub alone : AreFetchesFor site fetches

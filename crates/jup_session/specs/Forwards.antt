@@ -5,9 +5,9 @@ use Rattle.jup_batch.specs.BatchBoards.{BoardBatch}
 use Rattle.jup_star.specs.declared.messages.Down.{Down}
 use Rattle.jup_star.specs.declared.calls.Call.{Call}
 use Rattle.jup_star.specs.declared.calls.Call.TheVariants.{Fetch}
-use Rattle.jup_star.specs.declared.calls.Reply.{Reply}
-use Rattle.jup_star.specs.declared.calls.Reply.TheVariants.{Fetched}
-use Rattle.jup_hub.specs.declared.view.Entry.{Entry}
+use Rattle.jup_star.specs.declared.calls.StarReply.{StarReply}
+use Rattle.jup_star.specs.declared.calls.StarReply.TheVariants.{Fetched}
+use Rattle.jup_hub.specs.declared.view.HubEvent.{HubEvent}
 use Rattle.jup_hub.specs.declared.view.View.{View}
 use Rattle.jup_wire.specs.declared.line.Line.{Line}
 use Rattle.jup_rules.specs.declared.ending.Ending.{Ending}
@@ -19,12 +19,12 @@ use Rattle.jup_stream.specs.Puts.{Put, PutsLines}
 use Rattle.jup_session.specs.Departures.{Departs}
 
 -- the messages that a reply brings
-abbrev pub brought : Reply → List (Down BoardBatch)
+abbrev pub brought : StarReply → List (Down BoardBatch)
 brought (Fetched (Ok downs)) = downs
 brought reply = []
 
 -- the lines of the messages that calls brought, one message after the other, in the order of the calls
-abbrev pub lines_brought : List Entry → List Line
+abbrev pub lines_brought : List HubEvent → List Line
 lines_brought calls = flat_map (λ e. flat_map down_lines (brought e.reply)) calls
 
 -- a fetch for this site
@@ -32,12 +32,12 @@ abbrev pub IsFetchFor : ℕ → Call → Type 0
 IsFetchFor site (Fetch i max) = i ≡ site
 IsFetchFor site call = ⊥
 
-abbrev pub AreFetchesFor : ℕ → List Entry → Type 0
+abbrev pub AreFetchesFor : ℕ → List HubEvent → Type 0
 AreFetchesFor site calls = AllByRecursion (λ e. IsFetchFor site e.call) calls
 
 -- The pass made fetches for the site and no other call. The session put the lines of the messages that these brought, in order, and nothing else
 pub record Forwards (site : ℕ) (v : View) (a : Put) (w : View) (b : Put) : Type 0 where
-  pub calls : List Entry
+  pub calls : List HubEvent
   pub number : w.number ≡ v.number
   pub made : w.made ≡ v.made ++ calls
   pub kept : w.kept ≡ v.kept
@@ -46,7 +46,7 @@ pub record Forwards (site : ℕ) (v : View) (a : Put) (w : View) (b : Put) : Typ
 
 -- one fetch brought these messages, or none if it was refused or not made
 pub record Brings (site : ℕ) (v w : View) (downs : List (Down BoardBatch)) : Type 0 where
-  pub calls : List Entry
+  pub calls : List HubEvent
   pub number : w.number ≡ v.number
   pub made : w.made ≡ v.made ++ calls
   pub kept : w.kept ≡ v.kept

@@ -1,9 +1,9 @@
 -- What the reading half of a session hears, and the calls that it makes of its hub for that.
 use Rattle.std.specs.Prelude.{◌≡◌, ◌≢◌, ◌⊎◌, ℕ, List, [], ◌∷◌, ◌++◌, Option, Some, None, IsSomeAnd, Result, Ok, Err}
 use Rattle.jup_star.specs.declared.calls.Call.TheVariants.{Take}
-use Rattle.jup_star.specs.declared.calls.Reply.{Reply}
-use Rattle.jup_star.specs.declared.calls.Reply.TheVariants.{Taken}
-use Rattle.jup_hub.specs.declared.view.Entry.{Entry}
+use Rattle.jup_star.specs.declared.calls.StarReply.{StarReply}
+use Rattle.jup_star.specs.declared.calls.StarReply.TheVariants.{Taken}
+use Rattle.jup_hub.specs.declared.view.HubEvent.{HubEvent}
 use Rattle.jup_hub.specs.declared.view.View.{View}
 use Rattle.jup_wire.specs.declared.line.Line.{Line}
 use Rattle.jup_rules.specs.declared.said.Said.{Said}
@@ -23,12 +23,12 @@ use Rattle.jup_stream.specs.Sources.{Sourced, HandsOn, Stops}
 use Rattle.jup_session.specs.Gates.{IsHandled}
 
 -- the star took it
-abbrev pub IsTaken : Reply → Type 0
+abbrev pub IsTaken : StarReply → Type 0
 IsTaken (Taken (Ok place)) = Unit {0}
 IsTaken reply = ⊥
 
 -- the calls are takes of just these messages for the site, in order, and the star took each
-abbrev pub AreTakesOf : ℕ → List Said → List Entry → Type 0
+abbrev pub AreTakesOf : ℕ → List Said → List HubEvent → Type 0
 AreTakesOf site [] [] = Unit {0}
 AreTakesOf site [] (e ∷ es) = ⊥
 AreTakesOf site (SaysUp up ∷ saids) [] = ⊥
@@ -39,7 +39,7 @@ AreTakesOf site (SaysBye ∷ saids) calls = ⊥
 pub record Hears (site : ℕ) (a : Sourced) (v : View) (b : Sourced) (w : View) (keeper : Keeper) : Type 0 where
   pub lines : List Line
   pub saids : List Said
-  pub calls : List Entry
+  pub calls : List HubEvent
   pub handed : HandsOn a lines b
   pub heard : HasHeard lines saids keeper
   pub number : w.number ≡ v.number

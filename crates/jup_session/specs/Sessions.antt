@@ -5,9 +5,9 @@ use Rattle.jup_star.specs.StarCalls.{BoardStar}
 use Rattle.jup_star.specs.declared.faults.StarFault.TheVariants.{NoLink}
 use Rattle.jup_star.specs.declared.calls.Call.{Call}
 use Rattle.jup_star.specs.declared.calls.Call.TheVariants.{Join, Take, Fetch, Leave}
-use Rattle.jup_star.specs.declared.calls.Reply.{Reply}
-use Rattle.jup_star.specs.declared.calls.Reply.TheVariants.{Joined, Fetched}
-use Rattle.jup_hub.specs.declared.view.Entry.{Entry}
+use Rattle.jup_star.specs.declared.calls.StarReply.{StarReply}
+use Rattle.jup_star.specs.declared.calls.StarReply.TheVariants.{Joined, Fetched}
+use Rattle.jup_hub.specs.declared.view.HubEvent.{HubEvent}
 use Rattle.jup_hub.specs.declared.view.Tally.{Tally}
 use Rattle.jup_hub.specs.declared.view.View.{View}
 use Rattle.jup_hub.specs.Histories.{IsLegal, calls_by}
@@ -21,7 +21,7 @@ IsCallFor site (Fetch i max) = i ≡ site
 IsCallFor site (Leave i) = i ≡ site
 
 -- each of these is one
-abbrev pub AreCallsFor : ℕ → List Entry → Type 0
+abbrev pub AreCallsFor : ℕ → List HubEvent → Type 0
 AreCallsFor site calls = AllByRecursion (λ e. IsCallFor site e.call) calls
 
 -- under each number are such calls alone
@@ -29,20 +29,20 @@ abbrev pub AreTalliesFor : ℕ → List Tally → Type 0
 AreTalliesFor site others = AllByRecursion (λ t. AreCallsFor site t.calls) others
 
 -- a departure, or an answer that the site has no link
-abbrev pub TellsGone : Call → Reply → Type 0
+abbrev pub TellsGone : Call → StarReply → Type 0
 TellsGone (Leave i) reply = Unit {0}
 TellsGone (Fetch i max) (Fetched (Err NoLink)) = Unit {0}
 TellsGone call reply = ⊥
 
 -- one of these calls is that
-abbrev pub HasLeft : List Entry → Type 0
+abbrev pub HasLeft : List HubEvent → Type 0
 HasLeft [] = ⊥
 HasLeft (e ∷ es) = TellsGone e.call e.reply ⊎ HasLeft es
 
 -- some legal history in which just these calls are under a number is as long as a count can be. One that long is always conceivable, since others may
 -- call as often as they like. So the clause that a site has left, which allows for one, is no promise, and tests show it
 abbrev pub IsFull : BoardStar → Tally → Type 0
-IsFull opening t = (log : List Entry) × IsLegal opening log × (calls_by t.number log ≡ t.calls) × (length log ≡ 18446744073709551615)
+IsFull opening t = (log : List HubEvent) × IsLegal opening log × (calls_by t.number log ≡ t.calls) × (length log ≡ 18446744073709551615)
 
 -- the calls under one of these numbers say that the site has left, or there is such a history
 abbrev pub SomeLeft : BoardStar → List Tally → Type 0
@@ -51,7 +51,7 @@ SomeLeft opening (t ∷ ts) = HasLeft t.calls ⊎ IsFull opening t ⊎ SomeLeft 
 
 -- what follows a join, where w is the pass at the end. If the join was refused, nothing follows; otherwise calls for the site that joined alone. That it has left is
 -- claimed only up to `IsFull`
-abbrev pub FollowsJoin : View → Call → Reply → List Entry → List Tally → Type 0
+abbrev pub FollowsJoin : View → Call → StarReply → List HubEvent → List Tally → Type 0
 FollowsJoin w Join (Joined (Ok joined)) later others =
     AreCallsFor joined.site later × AreTalliesFor joined.site others
     × (HasLeft later ⊎ IsFull w.opening (tally w.number w.made) ⊎ SomeLeft w.opening others)
@@ -59,14 +59,14 @@ FollowsJoin w Join (Joined (Err fault)) later others = (later ≡ []) × (others
 FollowsJoin w call reply later others = ⊥
 
 -- the first call of a session is a join
-abbrev pub IsOneSite : View → List Entry → List Tally → Type 0
+abbrev pub IsOneSite : View → List HubEvent → List Tally → Type 0
 IsOneSite w [] others = others ≡ []
 IsOneSite w (first ∷ later) others = FollowsJoin w first.call first.reply later others
 
 -- A session from the pass v to the pass w. It adds calls under the pass's own number, and under those that it took in: at most one join, and then
 -- calls for the site that joined alone. That this site has left is claimed only up to a history as long as a count can be (`IsFull`)
 pub record IsSession (v w : View) : Type 0 where
-  pub calls : List Entry
+  pub calls : List HubEvent
   pub others : List Tally
   pub number : w.number ≡ v.number
   pub made : w.made ≡ v.made ++ calls
@@ -75,7 +75,7 @@ pub record IsSession (v w : View) : Type 0 where
 
 -- the pass made calls of one kind alone, and took in no other
 pub record Makes (IsOne : Call → Type 0) (v w : View) : Type 0 where
-  pub calls : List Entry
+  pub calls : List HubEvent
   pub number : w.number ≡ v.number
   pub made : w.made ≡ v.made ++ calls
   pub kept : w.kept ≡ v.kept
@@ -87,7 +87,7 @@ Serves site v w = Makes (IsCallFor site) v w
 
 -- calls for a site, until it had left, up to `IsFull`
 pub record Leaves (site : ℕ) (v w : View) : Type 0 where
-  pub calls : List Entry
+  pub calls : List HubEvent
   pub number : w.number ≡ v.number
   pub made : w.made ≡ v.made ++ calls
   pub kept : w.kept ≡ v.kept
@@ -105,13 +105,13 @@ pub record HasServed (site : ℕ) (v : View) : Type 0 where
   pub left : HasLeft v.made ⊎ IsFull v.opening (tally v.number v.made)
 
 -- the join of a site
-abbrev pub IsJoinOf : ℕ → Call → Reply → Type 0
+abbrev pub IsJoinOf : ℕ → Call → StarReply → Type 0
 IsJoinOf site Join (Joined (Ok joined)) = joined.site ≡ site
 IsJoinOf site call reply = ⊥
 
 -- the pass has joined a site
 pub record Joins (site : ℕ) (v w : View) : Type 0 where
-  pub join : Entry
+  pub join : HubEvent
   pub number : w.number ≡ v.number
   pub made : w.made ≡ v.made ++ join ∷ []
   pub kept : w.kept ≡ v.kept
@@ -119,7 +119,7 @@ pub record Joins (site : ℕ) (v w : View) : Type 0 where
 
 -- the pass served a site, and took in another that did so until the site had left, up to `IsFull`
 pub record BothServe (site : ℕ) (v w : View) : Type 0 where
-  pub calls : List Entry
+  pub calls : List HubEvent
   pub other : Tally
   pub number : w.number ≡ v.number
   pub made : w.made ≡ v.made ++ calls

@@ -9,7 +9,7 @@ use Rattle.jup_star.specs.declared.messages.Up.{Up}
 use Rattle.jup_star.specs.declared.faults.StarFault.{StarFault}
 use Rattle.jup_star.specs.declared.faults.StarFault.TheVariants.{NoMemory, NoLink}
 use Rattle.jup_star.specs.declared.calls.Call.TheVariants.{Take, Fetch, Leave}
-use Rattle.jup_star.specs.declared.calls.Reply.TheVariants.{Taken, Fetched, Left}
+use Rattle.jup_star.specs.declared.calls.StarReply.TheVariants.{Taken, Fetched, Left}
 
 pub take_no_link : (i : ℕ) (up : Up BoardBatch) (s : BoardStar) → link_of i s.links ≡ None → Answers (Take i up) s s (Taken (Err NoLink))
 unfolding reply_of star_after

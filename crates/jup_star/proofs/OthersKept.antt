@@ -11,8 +11,8 @@ use Rattle.jup_star.specs.declared.messages.Up.{Up}
 use Rattle.jup_star.specs.declared.messages.Up.TheVariants.{Op, Ack, Ping}
 use Rattle.jup_star.specs.declared.faults.StarFault.{StarFault}
 use Rattle.jup_star.specs.declared.calls.Call.TheVariants.{Take}
-use Rattle.jup_star.specs.declared.calls.Reply.{Reply}
-use Rattle.jup_star.specs.declared.calls.Reply.TheVariants.{Taken}
+use Rattle.jup_star.specs.declared.calls.StarReply.{StarReply}
+use Rattle.jup_star.specs.declared.calls.StarReply.TheVariants.{Taken}
 use Rattle.jup_star.specs.LinkStates.{is_of, link_sent, link_heard, link_acked, link_ponged, operation_at}
 use Rattle.jup_star.specs.StarStates.{link_of, at_link, IsBounded, AreBounded, left, with_links, taken, taken_edit, up_fault, take_fault}
 use Rattle.jup_star.specs.StarCalls.{BoardLink, BoardStar, Answers, after_take, reply_of, star_after, is_refused, IsStar}
@@ -84,7 +84,7 @@ module _ (i : ℕ) (s : BoardStar) (star : IsStar s) (other : ℕ) (far : FarEnd
   after_stays up (Some own) None of_site fault = taken_stays up own of_site fault
   after_stays up (Some own) (Some e) of_site fault = left_stays
 
-  answer_stays : (up : Up BoardBatch) (t : BoardStar) (r : Reply) (b : Bool) (asks : Type 0)
+  answer_stays : (up : Up BoardBatch) (t : BoardStar) (r : StarReply) (b : Bool) (asks : Type 0)
       → MatchBool b ((t ≡ s) × asks) ((r ≡ reply_of (Take i up) s) × (t ≡ star_after (Take i up) s)) → IsThere t
   unfolding star_after
   answer_stays up t r true asks answers = subst IsThere (sym answers.0) (there s l found in_step)

@@ -15,7 +15,7 @@ use Rattle.jup_star.specs.declared.messages.Up.TheVariants.{Op}
 use Rattle.jup_star.specs.declared.faults.StarFault.{StarFault}
 use Rattle.jup_star.specs.declared.faults.StarFault.TheVariants.{NoMemory, BadOp}
 use Rattle.jup_star.specs.declared.calls.Call.TheVariants.{Take}
-use Rattle.jup_star.specs.declared.calls.Reply.TheVariants.{Taken}
+use Rattle.jup_star.specs.declared.calls.StarReply.TheVariants.{Taken}
 use Rattle.jup_star.specs.LinkStates.{operation_at}
 use Rattle.jup_star.specs.StarStates.{link_of, without, IsBounded, AreBounded, early_fault, entry, left, links_after, taken_edit, with_links}
 use Rattle.jup_star.specs.StarCalls.{BoardLink, BoardStar, Answers, IsStar}

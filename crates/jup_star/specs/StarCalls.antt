@@ -14,8 +14,8 @@ use Rattle.jup_star.specs.declared.faults.OpenFault.{OpenFault}
 use Rattle.jup_star.specs.declared.faults.OpenFault.TheVariants.{BadLimit, BadSite}
 use Rattle.jup_star.specs.declared.calls.Call.{Call}
 use Rattle.jup_star.specs.declared.calls.Call.TheVariants.{Join, Take, Fetch, Leave}
-use Rattle.jup_star.specs.declared.calls.Reply.{Reply}
-use Rattle.jup_star.specs.declared.calls.Reply.TheVariants.{Joined as JoinedReply, Taken as TakenReply, Fetched as FetchedReply, Left as LeftReply}
+use Rattle.jup_star.specs.declared.calls.StarReply.{StarReply}
+use Rattle.jup_star.specs.declared.calls.StarReply.TheVariants.{Joined as JoinedReply, Taken as TakenReply, Fetched as FetchedReply, Left as LeftReply}
 use Rattle.jup_window.specs.Sites.{only_site}
 use Rattle.jup_star.specs.FirstFaults.{test, first_fault}
 use Rattle.jup_star.specs.LinkStates.{LinkState}
@@ -82,7 +82,7 @@ after_leave i s None = s
 after_leave i s (Some l) = left i s
 
 -- what a star answers to a call
-unfoldable pub reply_of : Call → BoardStar → Reply
+unfoldable pub reply_of : Call → BoardStar → StarReply
 reply_of Join s = JoinedReply (join_result s (join_fault s))
 reply_of (Take i up) s = TakenReply (take_result s up (take_fault board_batches s up (link_of i s.links)))
 reply_of (Fetch i max) s = FetchedReply (fetch_result max (link_of i s.links))
@@ -130,7 +130,7 @@ abbrev pub lacks_memory : {A : Type 0} → Result A StarFault → Bool
 lacks_memory (Ok x) = false
 lacks_memory (Err e) = is_no_memory e
 
-abbrev pub is_refused : Reply → Bool
+abbrev pub is_refused : StarReply → Bool
 is_refused (JoinedReply r) = lacks_memory r
 is_refused (TakenReply r) = lacks_memory r
 is_refused (FetchedReply r) = lacks_memory r
@@ -138,7 +138,7 @@ is_refused (LeftReply r) = lacks_memory r
 
 -- what a call on the star does. If an allocation fails, it does nothing, and it had come to ask for memory. Otherwise the
 -- reply and the next star are those of the call
-abbrev pub Answers : Call → BoardStar → BoardStar → Reply → Type 0
+abbrev pub Answers : Call → BoardStar → BoardStar → StarReply → Type 0
 Answers call s t r = MatchBool (is_refused r) ((t ≡ s) × (asks_memory call s ≡ true)) ((r ≡ reply_of call s) × (t ≡ star_after call s))
 
 -- why a star is not opened

@@ -21,7 +21,7 @@ mod site;
 mod star;
 mod take;
 
-pub use calls::{Call, Reply};
+pub use calls::{Call, StarReply};
 pub use faults::{OpenFault, SiteFault, StarFault};
 pub use messages::{Down, Entry, Up};
 pub use openings::is_short;

@@ -12,7 +12,7 @@ ghost use Rattle.jup_star.specs.StarCalls.{Answers, bare_joined, lacks_memory, s
 ghost use Rattle.jup_star.specs.TextRelabels.{DownRelabelsNoText};
 ghost use Rattle.jup_star.specs.declared.messages.Up.TheVariants.{Op, Ack, Ping};
 ghost use Rattle.jup_star.specs.declared.calls.Call.TheVariants.{Join, Take, Fetch, Leave};
-ghost use Rattle.jup_star.specs.declared.calls.Reply.TheVariants.{Joined as JoinedReply, Taken, Fetched, Left};
+ghost use Rattle.jup_star.specs.declared.calls.StarReply.TheVariants.{Joined as JoinedReply, Taken, Fetched, Left};
 
 use crate::link::Link;
 use crate::links::{detach, link_at};

@@ -5,7 +5,7 @@ use Rattle.jup_seq.specs.declared.operations.SeqOp.{SeqOp}
 use Rattle.jup_window.specs.declared.widget_operations.WidgetOp.TheVariants as widget
 use Rattle.jup_wire.specs.declared.line.Line.{Line}
 use Rattle.jup_wire.specs.declared.line.Line.TheVariants.{Batch, Do}
-use Rattle.jup_wire.specs.declared.single.Single.{Single}
+use Rattle.jup_wire.specs.declared.single.LoneEdit.{LoneEdit}
 use Rattle.jup_wire.specs.Grammar.{seq_fields, spelling, IsBody, HasSpelling}
 
 -- the bytes are a line with its line feed, and then the rest
@@ -17,7 +17,7 @@ abbrev pub BeginsWithOp : SeqOp ℕ → List ℕ → List ℕ → Type 0
 BeginsWithOp op rest bytes = IsBody (widget.Text op) × (bytes ≡ join_with_byte 32 (seq_fields decimal op) ++ 10 ∷ rest)
 
 -- the lines of such a message
-abbrev pub single_lines : Single → List Line
+abbrev pub single_lines : LoneEdit → List Line
 single_lines single = Batch single.mine single.heard 1 ∷ Do single.op ∷ []
 
 -- the bytes begin with the lines, which are so long

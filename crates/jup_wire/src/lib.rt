@@ -21,6 +21,6 @@ pub use laws::{has_spelling, on_the_way, one_reading, one_spelling};
 pub use line::Line;
 pub use parse::read_line;
 pub use reader::{Fed, Lines, Reader};
-pub use single::{Single, read_single};
+pub use single::{LoneEdit, read_single};
 pub use sink::LineSink;
 pub use writing::{LONGEST, MOST, write, write_reserved};

@@ -14,7 +14,7 @@ use jup_window::{BoardOp, WidgetOp};
 
 /// A message of one operation at the start of some bytes.
 #[derive(Clone, Copy, Debug, PartialEq, Eq)]
-pub struct Single {
+pub struct LoneEdit {
     pub mine: u32,
     pub heard: u32,
     pub op: BoardOp,
@@ -24,13 +24,13 @@ pub struct Single {
 
 /// The message that the bytes begin with, if it is a batch of one operation and all its bytes are there. Any other
 /// message has to be read line by line.
-pub fn read_single(bytes: &[u8]) -> Option<Single>
+pub fn read_single(bytes: &[u8]) -> Option<LoneEdit>
     ensures { IfSome result (λ single. BeginsLines (single_lines single) single.len bytes.now) }
 {
     let (mine, heard, rest) = batch_of_one(bytes)?;
     // Most are insertions into a text or deletions from one.
     match operation_on_text(rest) {
-        Some((op, behind)) => Some(Single {
+        Some((op, behind)) => Some(LoneEdit {
             mine,
             heard,
             op,
@@ -42,13 +42,13 @@ pub fn read_single(bytes: &[u8]) -> Option<Single>
 
 /// The same of any operation, whose line is cut off and then read.
 #[inline(never)]
-fn single_of_any(bytes: &[u8], mine: u32, heard: u32, rest: &[u8]) -> Option<Single>
+fn single_of_any(bytes: &[u8], mine: u32, heard: u32, rest: &[u8]) -> Option<LoneEdit>
     requires { BeginsWith (Batch mine heard 1) rest.now bytes.now }
     ensures { IfSome result (λ single. BeginsLines (single_lines single) single.len bytes.now) }
 {
     let (text, behind) = split_line(rest)?;
     match read_line(text) {
-        Ok(Line::Do(op)) => Some(Single {
+        Ok(Line::Do(op)) => Some(LoneEdit {
             mine,
             heard,
             op,

@@ -16,7 +16,7 @@ use Rattle.jup_star.specs.declared.star.Joined.{Joined as JoinedSite}
 use Rattle.jup_star.specs.declared.faults.StarFault.{StarFault}
 use Rattle.jup_star.specs.declared.faults.SiteFault.{SiteFault}
 use Rattle.jup_star.specs.declared.calls.Call.TheVariants.{Join, Take, Fetch, Leave}
-use Rattle.jup_star.specs.declared.calls.Reply.TheVariants.{Joined as JoinedReply, Taken as TakenReply, Fetched as FetchedReply, Left as LeftReply}
+use Rattle.jup_star.specs.declared.calls.StarReply.TheVariants.{Joined as JoinedReply, Taken as TakenReply, Fetched as FetchedReply, Left as LeftReply}
 use Rattle.jup_star.specs.StarStates.{link_of, join_fault, joined, left, fetched, up_fault, taken, place_taken}
 use Rattle.jup_star.specs.LinkStates.{end_after}
 use Rattle.jup_star.specs.SiteStates.{edit_answer, owed_up, deliver_fault}

@@ -11,7 +11,7 @@ use Rattle.jup_star.specs.SiteStates.{deliver_fault}
 use Rattle.jup_star.specs.declared.messages.Up.{Up}
 use Rattle.jup_star.specs.declared.faults.StarFault.{StarFault}
 use Rattle.jup_star.specs.declared.calls.Call.TheVariants.{Take}
-use Rattle.jup_star.specs.declared.calls.Reply.TheVariants.{Taken}
+use Rattle.jup_star.specs.declared.calls.StarReply.TheVariants.{Taken}
 use Rattle.jup_star.specs.StarCalls.{BoardStar, Answers}
 use Rattle.jup_star.specs.SiteCalls.{BoardSite}
 use Rattle.jup_world.specs.Events.{Happened}

@@ -1,12 +1,12 @@
 //! A pass that counts its calls.
 ghost use Rattle.std.specs.Prelude.{◌≡◌, ◌⊎◌, ◌+◌, IfOk, Ok, Err};
 ghost use Rattle.jup_star.specs.declared.calls.Call.TheVariants.{Join, Take, Fetch};
-ghost use Rattle.jup_star.specs.declared.calls.Reply.TheVariants.{Joined as JoinedReply, Taken, Fetched};
+ghost use Rattle.jup_star.specs.declared.calls.StarReply.TheVariants.{Joined as JoinedReply, Taken, Fetched};
 ghost use Rattle.jup_star.specs.StarCalls.{bare_joined};
 ghost use Rattle.jup_hub.specs.Passes.{view_of, IsPassOf};
 ghost use Rattle.jup_hub.specs.Knowledge.{Called};
 
-use crate::runs::stop::Stop;
+use crate::runs::halt::Halt;
 use jup_hub::{Hub, Pass};
 use jup_session::{Gate, take_edit};
 use jup_star::{Downs, Joined, Up};
@@ -22,12 +22,12 @@ pub(crate) struct Caller {
 
 impl Caller {
     // One more call.
-    fn count(&mut self) -> Result<(), Stop>
+    fn count(&mut self) -> Result<(), Halt>
         ensures pass { self.new.pass ≡ self.old.pass }
         ensures more { IfOk result (λ _. self.new.calls ≡ self.old.calls + 1) }
     {
         if self.calls == u64::MAX {
-            return Err(Stop::RunBroken);
+            return Err(Halt::RunBroken);
         }
         self.calls += 1;
         Ok(())
@@ -39,7 +39,7 @@ impl Caller {
         rt: &R,
         alloc: Global,
         hub: &Hub,
-    ) -> Result<Joined, Stop>
+    ) -> Result<Joined, Halt>
         requires { IsPassOf hub.now self.old.pass }
         ensures pass { IsPassOf hub.now self.new.pass }
         ensures count { IfOk result (λ _. self.new.calls ≡ self.old.calls + 1) }
@@ -58,7 +58,7 @@ impl Caller {
         hub: &Hub,
         site: u32,
         up: &Up,
-    ) -> Result<Option<u32>, Stop>
+    ) -> Result<Option<u32>, Halt>
         requires { IsPassOf hub.now self.old.pass }
         ensures pass { IsPassOf hub.now self.new.pass }
         ensures count { IfOk result (λ _. self.new.calls ≡ self.old.calls + 1) }
@@ -80,16 +80,16 @@ impl Caller {
         site: u32,
         nth: u32,
         up: &Up,
-    ) -> Result<Option<u32>, Stop>
+    ) -> Result<Option<u32>, Halt>
         requires { IsPassOf hub.now self.old.pass }
         ensures pass { IsPassOf hub.now self.new.pass }
         ensures count { IfOk result (λ _. self.new.calls ≡ self.old.calls + 1) }
         ensures called { IfOk result (λ p. Called (Take site up.now) (Taken (Ok p)) (view_of self.old.pass) (view_of self.new.pass)) }
-        ensures told { (result ≡ Err Stop.GateShut) ⊎ G.is_told gate.now site nth }
+        ensures told { (result ≡ Err Halt.GateShut) ⊎ G.is_told gate.now site nth }
     {
         let Some(answer) = take_edit(rt, alloc, hub, &mut self.pass, gate, site, nth, up, || {})
         else {
-            return Err(Stop::GateShut);
+            return Err(Halt::GateShut);
         };
         let place = answer?;
         self.count()?;
@@ -104,7 +104,7 @@ impl Caller {
         hub: &Hub,
         site: u32,
         max: u32,
-    ) -> Result<Downs, Stop>
+    ) -> Result<Downs, Halt>
         requires { IsPassOf hub.now self.old.pass }
         ensures pass { IsPassOf hub.now self.new.pass }
         ensures count { IfOk result (λ _. self.new.calls ≡ self.old.calls + 1) }

@@ -4,8 +4,8 @@ ghost use Rattle.jup_hub.specs.Passes.{view_of, IsPassOf};
 ghost use Rattle.jup_app.specs.Drains.{Drained, EndsQuiet, IsDrained};
 
 use crate::runs::calls::Caller;
+use crate::runs::halt::Halt;
 use crate::runs::receive::receive;
-use crate::runs::stop::Stop;
 use jup_batch::BoardEdits;
 use jup_hub::Hub;
 use jup_star::Site;
@@ -28,7 +28,7 @@ fn drain_once<R: Wait>(
     hub: &Hub,
     caller: &mut Caller,
     ends: &mut [SiteEnd],
-) -> Result<bool, Stop>
+) -> Result<bool, Halt>
     requires { IsPassOf hub.now caller.old.pass }
     ensures pass { IsPassOf hub.now caller.new.pass }
     ensures drained { IfOk result (λ _. Drained (view_of caller.old.pass) (view_of caller.new.pass) caller.old.calls caller.new.calls ends.old ends.new) }
@@ -52,7 +52,7 @@ pub(crate) fn drain<R: Wait>(
     hub: &Hub,
     caller: &mut Caller,
     ends: &mut [SiteEnd],
-) -> Result<(), Stop>
+) -> Result<(), Halt>
     requires { IsPassOf hub.now caller.old.pass }
     ensures pass { IsPassOf hub.now caller.new.pass }
     ensures drained { IfOk result (λ _. IsDrained (view_of caller.old.pass) (view_of caller.new.pass) caller.old.calls caller.new.calls ends.old ends.new) }

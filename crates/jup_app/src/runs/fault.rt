@@ -2,7 +2,7 @@
 ghost use Rattle.std.specs.Prelude.{◌≡◌};
 ghost use Rattle.jup_app.specs.RunFaults.{run_fault_number};
 
-use crate::runs::stop::Stop;
+use crate::runs::halt::Halt;
 use jup_star::OpenFault;
 use thiserror::Error;
 
@@ -56,17 +56,17 @@ impl From<OpenFault> for RunFault {
     }
 }
 
-impl From<Stop> for RunFault {
+impl From<Halt> for RunFault {
     ghost use Rattle.jup_app.specs.RunFaults.{stopped_by};
 
     ghost from_gives = { λ stop made. made ≡ stopped_by stop };
 
-    fn from(stop: Stop) -> RunFault {
+    fn from(stop: Halt) -> RunFault {
         match stop {
-            Stop::NoMemory => RunFault::NoMemory,
-            Stop::LogFull => RunFault::LogFull,
-            Stop::GateShut => RunFault::GateShut,
-            Stop::RunBroken => RunFault::RunBroken,
+            Halt::NoMemory => RunFault::NoMemory,
+            Halt::LogFull => RunFault::LogFull,
+            Halt::GateShut => RunFault::GateShut,
+            Halt::RunBroken => RunFault::RunBroken,
         }
     }
 }

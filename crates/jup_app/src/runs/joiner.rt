@@ -1,23 +1,23 @@
 //! What the first pass of a run does before and after the sites' threads.
 ghost use Rattle.std.specs.Prelude.{◌≡◌, ◌+◌, List, length, IfOk, IfSome, Ok, [], All, vec_len};
 ghost use Rattle.jup_star.specs.declared.calls.Call.TheVariants.{Join};
-ghost use Rattle.jup_star.specs.declared.calls.Reply.TheVariants.{Joined as JoinedReply};
-ghost use Rattle.jup_hub.specs.declared.view.Entry.{Entry};
+ghost use Rattle.jup_star.specs.declared.calls.StarReply.TheVariants.{Joined as JoinedReply};
+ghost use Rattle.jup_hub.specs.declared.view.HubEvent.{HubEvent};
 ghost use Rattle.jup_hub.specs.Knowledge.{Called, joined_with};
 ghost use Rattle.jup_hub.specs.Passes.{view_of, IsPassOf};
 ghost use Rattle.jup_app.specs.Passing.{told_to, IsFresh, HasJoinedAll, HasMet, IsSame, IsSeated, HasTaken, end_of, first_stop};
 
 use crate::runs::calls::Caller;
 use crate::runs::drain::SiteEnd;
+use crate::runs::halt::Halt;
 use crate::runs::player::Player;
-use crate::runs::stop::Stop;
 use jup_hub::Hub;
 use jup_star::Site;
 use std::alloc::Global;
 use std::sync::Wait;
 
 // Joins a site, and opens it with what it gets.
-fn join_one<R: Wait>(rt: &R, alloc: Global, hub: &Hub, caller: &mut Caller) -> Result<Site, Stop>
+fn join_one<R: Wait>(rt: &R, alloc: Global, hub: &Hub, caller: &mut Caller) -> Result<Site, Halt>
     requires pass { IsPassOf hub.now caller.old.pass }
     ensures pass { IsPassOf hub.now caller.new.pass }
     ensures count { IfOk result (λ _. caller.new.calls ≡ caller.old.calls + 1) }
@@ -27,7 +27,7 @@ fn join_one<R: Wait>(rt: &R, alloc: Global, hub: &Hub, caller: &mut Caller) -> R
     let joined = caller.join_site(rt, alloc, hub)?;
     match Site::open(alloc, joined.site, joined.limit, joined.board) {
         Ok(site) => Ok(site),
-        Err(_) => Err(Stop::RunBroken),
+        Err(_) => Err(Halt::RunBroken),
     }
 }
 
@@ -38,7 +38,7 @@ pub(crate) fn join_all<R: Wait>(
     hub: &Hub,
     caller: &mut Caller,
     count: usize,
-) -> Result<Vec<Site>, Stop>
+) -> Result<Vec<Site>, Halt>
     requires pass { IsPassOf hub.now caller.old.pass }
     requires none { HasJoinedAll (view_of caller.old.pass) caller.old.calls [] }
     ensures pass { IsPassOf hub.now caller.new.pass }
@@ -58,7 +58,7 @@ pub(crate) fn seat(alloc: Global, hub: &Hub, caller: &mut Caller, site: Site) ->
     ensures pass { IsPassOf hub.now caller.new.pass }
     ensures same { IsSame (view_of caller.old.pass) (view_of caller.new.pass) }
     ensures calls { caller.new.calls ≡ caller.old.calls }
-    ensures seated { (h : List Entry) → HasMet (view_of caller.old.pass) h → IsSeated hub.now h site result }
+    ensures seated { (h : List HubEvent) → HasMet (view_of caller.old.pass) h → IsSeated hub.now h site result }
 {
     let mut pass = hub.split(&mut caller.pass);
     // So the pass is known to have no call in what was there before.
@@ -73,7 +73,7 @@ pub(crate) fn seat(alloc: Global, hub: &Hub, caller: &mut Caller, site: Site) ->
 }
 
 // Why the first site that was stopped was stopped.
-fn first_stop(results: &[Result<Player, Stop>]) -> Option<Stop>
+fn first_stop(results: &[Result<Player, Halt>]) -> Option<Halt>
     ensures { result ≡ first_stop results.now }
 {
     for played in results {
@@ -89,8 +89,8 @@ pub(crate) fn rejoin_all(
     alloc: Global,
     hub: &Hub,
     caller: &mut Caller,
-    results: Vec<Result<Player, Stop>>,
-) -> Result<Vec<SiteEnd>, Stop>
+    results: Vec<Result<Player, Halt>>,
+) -> Result<Vec<SiteEnd>, Halt>
     requires pass { IsPassOf hub.now caller.old.pass }
     requires passes { All (λ r. IfOk r (λ p. IsPassOf hub.now p.caller.pass)) results.items }
     ensures pass { IsPassOf hub.now caller.new.pass }
@@ -108,7 +108,7 @@ pub(crate) fn rejoin_all(
 }
 
 // Takes in the pass of one player.
-fn rejoin(hub: &Hub, caller: &mut Caller, player: Player) -> Result<SiteEnd, Stop>
+fn rejoin(hub: &Hub, caller: &mut Caller, player: Player) -> Result<SiteEnd, Halt>
     requires one { IsPassOf hub.now caller.old.pass }
     requires two { IsPassOf hub.now player.caller.pass }
     ensures pass { IsPassOf hub.now caller.new.pass }
@@ -125,7 +125,7 @@ fn rejoin(hub: &Hub, caller: &mut Caller, player: Player) -> Result<SiteEnd, Sto
     } = player;
     hub.rejoin(&mut caller.pass, pass);
     let Some(total) = caller.calls.checked_add(calls) else {
-        return Err(Stop::RunBroken);
+        return Err(Halt::RunBroken);
     };
     caller.calls = total;
     Ok(SiteEnd { site, replies })

@@ -5,8 +5,8 @@ ghost use Rattle.jup_hub.specs.Passes.{view_of, IsPassOf};
 ghost use Rattle.jup_app.specs.Plays.{link_with, Handles, CatchesUp, Answered, Played};
 
 use crate::runs::calls::Caller;
+use crate::runs::halt::Halt;
 use crate::runs::receive::receive;
-use crate::runs::stop::Stop;
 use jup_batch::BoardEdits;
 use jup_hub::Hub;
 use jup_session::Gate;
@@ -27,19 +27,19 @@ pub(crate) struct Player {
 }
 
 // A fault that is an answer: all except a failed allocation.
-fn decline(fault: EditFault) -> Result<EditFault, Stop>
+fn decline(fault: EditFault) -> Result<EditFault, Halt>
     ensures answer { IfOk result (λ f. (f ≡ fault) × (is_edit_memory fault ≡ false)) }
-    ensures stop { IfErr result (λ stop. (stop ≡ Stop.NoMemory) × (is_edit_memory fault ≡ true)) }
+    ensures stop { IfErr result (λ stop. (stop ≡ Halt.NoMemory) × (is_edit_memory fault ≡ true)) }
 {
     match fault {
-        EditFault::NoMemory => Err(Stop::NoMemory),
+        EditFault::NoMemory => Err(Halt::NoMemory),
         fault => Ok(fault),
     }
 }
 
 impl Player {
     // Receives if there is news.
-    fn catch_up<R: Wait>(&mut self, rt: &R, alloc: Global, hub: &Hub) -> Result<(), Stop>
+    fn catch_up<R: Wait>(&mut self, rt: &R, alloc: Global, hub: &Hub) -> Result<(), Halt>
         requires { IsPassOf hub.now self.old.caller.pass }
         ensures pass { IsPassOf hub.now self.new.caller.pass }
         ensures same { (self.new.number ≡ self.old.number) × (self.new.replies ≡ self.old.replies) }
@@ -68,7 +68,7 @@ impl Player {
         hub: &Hub,
         gate: &G,
         up: &Up,
-    ) -> Result<(), Stop>
+    ) -> Result<(), Halt>
         requires { IsPassOf hub.now self.old.caller.pass }
         ensures pass { IsPassOf hub.now self.new.caller.pass }
         ensures same { (self.new.number ≡ self.old.number) × (self.new.replies ≡ self.old.replies) × (self.new.site ≡ self.old.site) }
@@ -89,7 +89,7 @@ impl Player {
         hub: &Hub,
         gate: &G,
         command: &Command,
-    ) -> Result<(), Stop>
+    ) -> Result<(), Halt>
         requires { IsPassOf hub.now self.old.caller.pass }
         ensures pass { IsPassOf hub.now self.new.caller.pass }
         ensures number { self.new.number ≡ self.old.number }
@@ -126,7 +126,7 @@ impl Player {
         hub: &Hub,
         gate: &G,
         script: &[Command],
-    ) -> Result<(), Stop>
+    ) -> Result<(), Halt>
         requires pass { IsPassOf hub.now self.old.caller.pass }
         requires fresh { self.old.replies.items ≡ [] }
         ensures pass { IsPassOf hub.now self.new.caller.pass }

@@ -6,7 +6,7 @@ ghost use Rattle.jup_app.specs.Runs.{IsAccepted, AcceptsAll, delivered, all_deli
 ghost use Rattle.jup_app.specs.Plays.{link_with, Handles, Fetches, FoundNothing};
 
 use crate::runs::calls::Caller;
-use crate::runs::stop::Stop;
+use crate::runs::halt::Halt;
 use jup_hub::Hub;
 use jup_rules::MOST_FETCHED;
 use jup_star::{Down, Site, Up};
@@ -14,7 +14,7 @@ use std::alloc::Global;
 use std::sync::Wait;
 
 // Delivers one message. An acknowledgement that is owed is kept.
-fn deliver_one(alloc: Global, site: &mut Site, down: &Down, owed: &mut Vec<Up>) -> Result<(), Stop>
+fn deliver_one(alloc: Global, site: &mut Site, down: &Down, owed: &mut Vec<Up>) -> Result<(), Halt>
     ensures accepted { IfOk result (λ _. IsAccepted down.now (link_with site.old owed.old.items)) }
     ensures link { IfOk result (λ _. delivered down.now (link_with site.old owed.old.items) ≡ link_with site.new owed.new.items) }
 {
@@ -30,7 +30,7 @@ fn deliver_all(
     site: &mut Site,
     downs: &[Down],
     owed: &mut Vec<Up>,
-) -> Result<(), Stop>
+) -> Result<(), Halt>
     ensures accepted { IfOk result (λ _. AcceptsAll downs.now (link_with site.old owed.old.items)) }
     ensures link { IfOk result (λ _. all_delivered downs.now (link_with site.old owed.old.items) ≡ link_with site.new owed.new.items) }
 {
@@ -48,7 +48,7 @@ fn take_all<R: Wait>(
     caller: &mut Caller,
     number: u32,
     owed: &[Up],
-) -> Result<(), Stop>
+) -> Result<(), Halt>
     requires { IsPassOf hub.now caller.old.pass }
     ensures pass { IsPassOf hub.now caller.new.pass }
     ensures took { IfOk result (λ _. (s : BoardSite) → Handles number (view_of caller.old.pass) (view_of caller.new.pass) caller.old.calls caller.new.calls (link_with s owed.now) (link_with s [])) }
@@ -68,7 +68,7 @@ pub(crate) fn receive<R: Wait>(
     caller: &mut Caller,
     site: &mut Site,
     number: u32,
-) -> Result<bool, Stop>
+) -> Result<bool, Halt>
     requires { IsPassOf hub.now caller.old.pass }
     ensures pass { IsPassOf hub.now caller.new.pass }
     ensures handled { IfOk result (λ _. Handles number (view_of caller.old.pass) (view_of caller.new.pass) caller.old.calls caller.new.calls (link_with site.old []) (link_with site.new [])) }

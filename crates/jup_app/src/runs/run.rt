@@ -12,9 +12,9 @@ ghost use Rattle.jup_app.specs.Whole.{IsRun, AllAgree};
 use crate::runs::calls::Caller;
 use crate::runs::drain::{SiteEnd, drain};
 use crate::runs::fault::RunFault;
+use crate::runs::halt::Halt;
 use crate::runs::joiner::{join_all, rejoin_all};
 use crate::runs::seating::seat_all;
-use crate::runs::stop::Stop;
 use crate::runs::threads::play_all;
 use jup_hub::Hub;
 use jup_limits::MOST_ATTACHED;
@@ -85,7 +85,7 @@ pub fn run_many<R: Threads + Wait + Sync, G: Gate + Sync>(
 }
 
 // The scripts as slices.
-fn slices<'s>(alloc: Global, scripts: &'s [Vec<Command>]) -> Result<Vec<&'s [Command]>, Stop>
+fn slices<'s>(alloc: Global, scripts: &'s [Vec<Command>]) -> Result<Vec<&'s [Command]>, Halt>
     ensures { IfOk result (λ v. map (λ s. s.now) v.items ≡ map (λ s. s.items) scripts.now) }
 {
     let mut all = Vec::new(alloc);
@@ -102,7 +102,7 @@ fn run_sites<R: Threads + Wait + Sync, G: Gate + Sync>(
     star: Star,
     scripts: &[&[Command]],
     gate: &G,
-) -> Result<RunEnd, Stop>
+) -> Result<RunEnd, Halt>
     requires new { star ≡ opened_star star.board star.limit }
     requires opening { IsOpening star.board }
     requires limited { star.limit ≤ highest_limit }
@@ -110,7 +110,7 @@ fn run_sites<R: Threads + Wait + Sync, G: Gate + Sync>(
     ensures run { IfOk result (λ end. IsRun star.board star.limit (map (λ s. s.now) scripts.now) end.star end.sites.items) }
 {
     let Ok((hub, pass)) = Hub::open(alloc, star) else {
-        return Err(Stop::NoMemory);
+        return Err(Halt::NoMemory);
     };
     let mut caller = Caller { pass, calls: 0 };
     let sites = join_all(rt, alloc, &hub, &mut caller, scripts.len())?;
@@ -126,6 +126,6 @@ fn run_sites<R: Threads + Wait + Sync, G: Gate + Sync>(
             star: closed.star,
             sites: ends,
         }),
-        _ => Err(Stop::RunBroken),
+        _ => Err(Halt::RunBroken),
     }
 }

@@ -2,8 +2,8 @@
 ghost use Rattle.std.specs.Prelude.{◌≡◌, IfOk, vec_len, All};
 ghost use Rattle.jup_app.specs.Threads.{IsReady, Ran, AllRan};
 
+use crate::runs::halt::Halt;
 use crate::runs::player::Player;
-use crate::runs::stop::Stop;
 use jup_hub::Hub;
 use jup_session::Gate;
 use jup_window::Command;
@@ -26,7 +26,7 @@ fn play<R: Wait, G: Gate>(
     hub: &Hub,
     gate: &G,
     job: Job,
-) -> Result<Player, Stop>
+) -> Result<Player, Halt>
     requires { IsReady hub.now job }
     ensures { IfOk result (λ p. Ran hub.now job.entry p) }
 {
@@ -42,7 +42,7 @@ pub(crate) fn play_all<R: Threads + Wait + Sync, G: Gate + Sync>(
     hub: &Hub,
     gate: &G,
     jobs: Vec<Job>,
-) -> Result<Vec<Result<Player, Stop>>, AllocError>
+) -> Result<Vec<Result<Player, Halt>>, AllocError>
     requires { All (λ job. IsReady hub.now job) jobs.items }
     ensures len { IfOk result (λ v. vec_len v ≡ vec_len jobs.entry) }
     ensures each { IfOk result (λ v. AllRan hub.now jobs.entry.items v.items) }

@@ -4,7 +4,7 @@ ghost use Rattle.jup_rules.specs.declared.faults.SessionFault.TheVariants.{FarBe
 ghost use Rattle.jup_rules.specs.Endings.{ending_of};
 
 use super::due::Due;
-use super::link::Link;
+use super::link::SessionLink;
 use jup_rules::{Admission, Ending, SessionFault, rest_after};
 use jup_star::Up;
 use std::sync::{MutexGuard, Wait};
@@ -24,7 +24,7 @@ pub(crate) struct HeavyTurn<'a> {
 /// Waits until a message may be taken, and answers the turn that it needs unless it is light. Refused if the site is too far behind.
 pub(crate) fn enter<'a, R: Wait + Clock>(
     rt: &R,
-    link: &Link<'a>,
+    link: &SessionLink<'a>,
     up: &Up,
     due: &mut Due,
 ) -> Result<Option<HeavyTurn<'a>>, Ending>
@@ -42,7 +42,7 @@ pub(crate) fn enter<'a, R: Wait + Clock>(
 // when the turn comes.
 fn enter_costly<'a, R: Wait + Clock>(
     rt: &R,
-    link: &Link<'a>,
+    link: &SessionLink<'a>,
     due: &mut Due,
 ) -> Result<Option<HeavyTurn<'a>>, Ending>
     ensures { IfErr result (λ ending. ending ≡ ending_of FarBehind) }
@@ -58,7 +58,7 @@ fn enter_costly<'a, R: Wait + Clock>(
 // Waits until no other session makes a take that is not light.
 fn begin<'a, R: Wait + Clock>(
     rt: &R,
-    link: &Link<'a>,
+    link: &SessionLink<'a>,
     costly: Option<MutexGuard<'a, ()>>,
 ) -> HeavyTurn<'a> {
     HeavyTurn {
@@ -72,7 +72,7 @@ fn begin<'a, R: Wait + Clock>(
 /// it gives up that turn.
 pub(crate) fn leave_turn<R: Wait + Clock>(
     rt: &R,
-    link: &Link<'_>,
+    link: &SessionLink<'_>,
     up: &Up,
     turn: Option<HeavyTurn<'_>>,
     due: &mut Due,

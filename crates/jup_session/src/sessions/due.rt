@@ -2,7 +2,7 @@
 ghost use Rattle.std.specs.Prelude.{◌≡◌, ◌≢◌, ◌⊎◌, ◌↔◌, None, Some};
 ghost use Rattle.jup_rules.specs.declared.ring.Ring.TheVariants.{All};
 
-use super::link::Link;
+use super::link::SessionLink;
 use jup_rules::Ring;
 use std::sync::Wait;
 
@@ -31,7 +31,7 @@ impl Due {
     }
 
     /// Wakes those who are to be woken. Called before the reading half waits for anything, since what it waits for may be for them to do.
-    pub(crate) fn ring<R: Wait>(&mut self, rt: &R, link: &Link<'_>)
+    pub(crate) fn ring<R: Wait>(&mut self, rt: &R, link: &SessionLink<'_>)
         ensures { self.new.ring ≡ None }
     {
         match self.ring.take() {

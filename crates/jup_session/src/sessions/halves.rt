@@ -6,7 +6,7 @@ ghost use Rattle.jup_session.specs.Forwards.{Wrote as HasWritten};
 ghost use Rattle.jup_session.specs.Hearings.{Heard};
 ghost use Rattle.jup_session.specs.Sessions.{HasMadeNone, HasServed};
 
-use super::link::Link;
+use super::link::SessionLink;
 use super::reading::read_half;
 use super::writing::{Wrote, write_half};
 use crate::Gate;
@@ -32,7 +32,7 @@ pub(crate) struct Halves<I: Read + Drop, O: Write + Drop> {
 // What the thread of the writing half promises.
 #[derive(Drop)]
 struct Writing<'a, O: Write + Drop> {
-    link: &'a Link<'a>,
+    link: &'a SessionLink<'a>,
     output: Snapshot<Output<O>>,
     pass: Snapshot<Pass>,
 }
@@ -58,7 +58,7 @@ pub(crate) fn both_halves<
     rt: &R,
     mut source: Source<I>,
     output: Output<O>,
-    link: &Link<'_>,
+    link: &SessionLink<'_>,
     mut pass: Pass,
     theirs: Pass,
     gate: &G,

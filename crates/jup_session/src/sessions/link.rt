@@ -10,7 +10,7 @@ use std::sync::{Mutex, Wait};
 
 /// What both halves of a session share.
 #[derive(Drop)]
-pub(crate) struct Link<'a> {
+pub(crate) struct SessionLink<'a> {
     pub(crate) alloc: Global,
     pub(crate) hub: &'a Hub,
     pub(crate) bell: &'a Bell,
@@ -23,7 +23,7 @@ pub(crate) struct Link<'a> {
     pub(crate) site: u32,
 }
 
-impl<'a> Link<'a> {
+impl<'a> SessionLink<'a> {
     /// Rings at the place where this site waits.
     pub(crate) fn ring<R: Wait>(&self, rt: &R) {
         self.bell.ring_for(rt, self.site);

@@ -5,7 +5,7 @@ ghost use Rattle.jup_session.specs.Hearings.{HearsAll};
 
 use super::costly::{enter, leave_turn};
 use super::due::Due;
-use super::link::Link;
+use super::link::SessionLink;
 use crate::{Gate, take_edit};
 use jup_hub::{HubFault, Pass};
 use jup_rules::{Awaits, Ending, Gatekeeper, Incoming, Next, Ring, SessionFault, ring_after};
@@ -18,7 +18,7 @@ use std::time::Clock;
 pub(crate) fn read_half<R: Wait + Clock, I: Read + Drop, G: Gate>(
     rt: &R,
     source: &mut Source<I>,
-    link: &Link<'_>,
+    link: &SessionLink<'_>,
     pass: &mut Pass,
     gate: &G,
 ) -> Ending
@@ -38,7 +38,7 @@ pub(crate) fn read_half<R: Wait + Clock, I: Read + Drop, G: Gate>(
 fn hear_all<R: Wait + Clock, I: Read + Drop, G: Gate>(
     rt: &R,
     source: &mut Source<I>,
-    link: &Link<'_>,
+    link: &SessionLink<'_>,
     pass: &mut Pass,
     gate: &G,
     due: &mut Due,
@@ -78,7 +78,7 @@ fn hear_all<R: Wait + Clock, I: Read + Drop, G: Gate>(
 #[tactic(auto, using(crate::proofs::SessionCalls::handled_so))]
 fn handle<R: Wait, G: Gate>(
     rt: &R,
-    link: &Link<'_>,
+    link: &SessionLink<'_>,
     pass: &mut Pass,
     gate: &G,
     incoming: &Incoming,
@@ -98,7 +98,7 @@ fn handle<R: Wait, G: Gate>(
 #[tactic(auto, using(crate::proofs::SessionCalls::edit_called, crate::proofs::SessionCalls::ping_left))]
 fn take<R: Wait, G: Gate>(
     rt: &R,
-    link: &Link<'_>,
+    link: &SessionLink<'_>,
     pass: &mut Pass,
     gate: &G,
     incoming: &Incoming,
@@ -129,7 +129,7 @@ fn take<R: Wait, G: Gate>(
 }
 
 // Counts a ping that is to be taken. If too many pongs are owed, it first wakes those that are due, among them the half that writes the pongs.
-fn take_ping<R: Wait>(rt: &R, link: &Link<'_>, due: &mut Due) -> bool {
+fn take_ping<R: Wait>(rt: &R, link: &SessionLink<'_>, due: &mut Due) -> bool {
     if link.try_ping(rt) {
         return true;
     }

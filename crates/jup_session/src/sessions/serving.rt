@@ -12,7 +12,7 @@ use super::Bell;
 use super::ending::tell_untold;
 use super::greeting::begin;
 use super::halves::both_halves;
-use super::link::Link;
+use super::link::SessionLink;
 use super::watch::Watch;
 use super::watched::Watched;
 use crate::Gate;
@@ -183,7 +183,7 @@ fn serve_site<R: Threads + Wait + Clock + Sync, I: Read + Drop, O: Write + Send 
 {
     let is_over = AtomicBool::new(false);
     let pongs = Mutex::new(Pongs::new());
-    let link = Link {
+    let link = SessionLink {
         alloc,
         hub,
         bell,
@@ -200,7 +200,7 @@ fn serve_halves<R: Threads + Wait + Clock + Sync, I: Read + Drop, O: Write + Sen
     rt: &R,
     source: Source<I>,
     output: Output<O>,
-    link: &Link<'_>,
+    link: &SessionLink<'_>,
     mut pass: Pass,
     gate: &G,
 ) -> Served<O>

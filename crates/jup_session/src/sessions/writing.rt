@@ -9,7 +9,7 @@ ghost use Rattle.jup_session.specs.Sessions.{Leaves, HasMadeNone, HasServed};
 
 use super::ending::tell;
 use super::leaving::leave;
-use super::link::Link;
+use super::link::SessionLink;
 use jup_hub::Pass;
 use jup_rules::{
     Ending, MOST_FETCHED, SessionFault, is_last_fetch, pongs_in, put_downs, refused_fetch,
@@ -21,7 +21,7 @@ use std::sync::Wait;
 
 /// What a fetch left.
 #[derive(Clone, Copy, PartialEq, Eq)]
-enum Outbox {
+enum AfterFetch {
     Empty,
     /// The site has no link any more.
     Gone,
@@ -41,7 +41,7 @@ pub(crate) struct Wrote<O: Write + Drop> {
 pub(crate) fn write_half<R: Wait, O: Write + Drop>(
     rt: &R,
     mut output: Output<O>,
-    link: &Link<'_>,
+    link: &SessionLink<'_>,
     mut pass: Pass,
 ) -> Wrote<O>
     requires pass { IsPassOf link.now.hub.now pass }
@@ -63,16 +63,16 @@ pub(crate) fn write_half<R: Wait, O: Write + Drop>(
 }
 
 // Whether the site has no link any more.
-fn is_gone(left: &Result<Outbox, SessionFault>) -> bool
-    ensures { IsTrue result ↔ (left.now ≡ Ok Outbox.Gone) }
+fn is_gone(left: &Result<AfterFetch, SessionFault>) -> bool
+    ensures { IsTrue result ↔ (left.now ≡ Ok AfterFetch.Gone) }
 {
-    matches!(left, Ok(Outbox::Gone))
+    matches!(left, Ok(AfterFetch::Gone))
 }
 
 // Reports a fault to the site, and answers the ending that it reported.
 fn tell_fault<O: Write + Drop>(
     output: &mut Output<O>,
-    left: Result<Outbox, SessionFault>,
+    left: Result<AfterFetch, SessionFault>,
 ) -> Option<Ending>
     requires { IfErr left IsOfWriting }
     ensures put { PutsLines output.old (told_line result) output.new }
@@ -93,15 +93,15 @@ fn tell_fault<O: Write + Drop>(
 fn forward_all<R: Wait, O: Write + Drop>(
     rt: &R,
     output: &mut Output<O>,
-    link: &Link<'_>,
+    link: &SessionLink<'_>,
     pass: &mut Pass,
-) -> Result<Outbox, SessionFault>
+) -> Result<AfterFetch, SessionFault>
     requires pass { IsPassOf link.now.hub.now pass.old }
     requires flushed { IsFlushed output.old }
     ensures pass { IsPassOf link.now.hub.now pass.new }
     ensures forwards { Forwards link.now.site (view_of pass.old) output.old (view_of pass.new) output.new }
     ensures flushed { IsFlushed output.new }
-    ensures gone { result ≡ Ok Outbox.Gone → Leaves link.now.site (view_of pass.old) (view_of pass.new) }
+    ensures gone { result ≡ Ok AfterFetch.Gone → Leaves link.now.site (view_of pass.old) (view_of pass.new) }
     ensures fault { IfErr result IsOfWriting }
 {
     let mut seen = 0;
@@ -125,19 +125,19 @@ fn forward_all<R: Wait, O: Write + Drop>(
 fn forward_last<R: Wait, O: Write + Drop>(
     rt: &R,
     output: &mut Output<O>,
-    link: &Link<'_>,
+    link: &SessionLink<'_>,
     pass: &mut Pass,
-) -> Outbox
+) -> AfterFetch
     requires pass { IsPassOf link.now.hub.now pass.old }
     requires flushed { IsFlushed output.old }
     ensures pass { IsPassOf link.now.hub.now pass.new }
     ensures forwards { Forwards link.now.site (view_of pass.old) output.old (view_of pass.new) output.new }
     ensures flushed { IsFlushed output.new }
-    ensures gone { result ≡ Outbox.Gone → Leaves link.now.site (view_of pass.old) (view_of pass.new) }
+    ensures gone { result ≡ AfterFetch.Gone → Leaves link.now.site (view_of pass.old) (view_of pass.new) }
 {
     match forward(rt, output, link, pass) {
         Ok(outbox) => outbox,
-        Err(_) => Outbox::Empty,
+        Err(_) => AfterFetch::Empty,
     }
 }
 
@@ -145,26 +145,26 @@ fn forward_last<R: Wait, O: Write + Drop>(
 fn forward<R: Wait, O: Write + Drop>(
     rt: &R,
     output: &mut Output<O>,
-    link: &Link<'_>,
+    link: &SessionLink<'_>,
     pass: &mut Pass,
-) -> Result<Outbox, SessionFault>
+) -> Result<AfterFetch, SessionFault>
     requires pass { IsPassOf link.now.hub.now pass.old }
     requires flushed { IsFlushed output.old }
     ensures pass { IsPassOf link.now.hub.now pass.new }
     ensures forwards { Forwards link.now.site (view_of pass.old) output.old (view_of pass.new) output.new }
     ensures flushed { IsFlushed output.new }
-    ensures gone { result ≡ Ok Outbox.Gone → Leaves link.now.site (view_of pass.old) (view_of pass.new) }
+    ensures gone { result ≡ Ok AfterFetch.Gone → Leaves link.now.site (view_of pass.old) (view_of pass.new) }
     ensures fault { IfErr result IsOfWriting }
 {
     for _ in rt.forever() {
         let downs = match fetch(rt, link, pass) {
             Ok(Some(downs)) => downs,
-            Ok(None) => return Ok(Outbox::Gone),
+            Ok(None) => return Ok(AfterFetch::Gone),
             Err(fault) => return Err(fault),
         };
         let messages = downs.as_slice();
         if hand_on(rt, output, link, messages)? {
-            return Ok(Outbox::Empty);
+            return Ok(AfterFetch::Empty);
         }
     }
     unreachable!()
@@ -172,7 +172,11 @@ fn forward<R: Wait, O: Write + Drop>(
 
 // Fetches what the hub has for the site, up to `MOST_FETCHED` messages. `None` if the site has no link any more. Refused if the site is
 // too far behind.
-fn fetch<R: Wait>(rt: &R, link: &Link<'_>, pass: &mut Pass) -> Result<Option<Downs>, SessionFault>
+fn fetch<R: Wait>(
+    rt: &R,
+    link: &SessionLink<'_>,
+    pass: &mut Pass,
+) -> Result<Option<Downs>, SessionFault>
     requires { IsPassOf link.now.hub.now pass.old }
     ensures pass { IsPassOf link.now.hub.now pass.new }
     ensures brings { IfOk result (λ fetched. IfSome fetched (λ downs. Brings link.now.site (view_of pass.old) (view_of pass.new) downs)) }
@@ -199,7 +203,7 @@ fn fetch<R: Wait>(rt: &R, link: &Link<'_>, pass: &mut Pass) -> Result<Option<Dow
 fn hand_on<R: Wait, O: Write + Drop>(
     rt: &R,
     output: &mut Output<O>,
-    link: &Link<'_>,
+    link: &SessionLink<'_>,
     downs: &[Down],
 ) -> Result<bool, SessionFault>
     ensures put { PutsLines output.old (flat_map down_lines downs.now) output.new }

@@ -2,7 +2,7 @@ use Rattle.std.proofs.Common.{rules, arith, refl, sym, ap, ◌∙◌, subst, ◌
 use Rattle.std.specs.Vec.Iter.{into_iter_items}
 use Rattle.jup_hub.specs.Passes.{IsPassOf}
 use Rattle.jup_app.specs.declared.runs.player.Player.{Player}
-use Rattle.jup_app.specs.declared.runs.stop.Stop.{Stop}
+use Rattle.jup_app.specs.declared.runs.halt.Halt.{Halt}
 use Rattle.jup_app.proofs.Passed.{taken_none, taken_more, all_tail}
 use Rattle.jup_app.proofs.runs.joiner.rejoin_all.Goals as goal
 
@@ -13,7 +13,7 @@ loop-result-init c =
       can_next = tt;
       is_finite = tt;
       fits = c.requires.pass;
-      passes = subst (λ xs. All (λ (r : Result Player Stop). IfOk r (λ p. IsPassOf c.args.hub.now p.caller.pass)) xs) (sym gives) c.requires.passes;
+      passes = subst (λ xs. All (λ (r : Result Player Halt). IfOk r (λ p. IsPassOf c.args.hub.now p.caller.pass)) xs) (sym gives) c.requires.passes;
       done = [];
       split = sym gives;
       taken = taken_none _ _ _ c.new-ends.ensures.items;
@@ -27,7 +27,7 @@ loop-result-preserved c =
       can_next = tt;
       is_finite = tt;
       fits = c.in_ok-rejoin.ensures.pass;
-      passes = all_tail (λ (r : Result Player Stop). IfOk r (λ p. IsPassOf c.args.hub.now p.caller.pass)) _ _ _ step all.passes;
+      passes = all_tail (λ (r : Result Player Halt). IfOk r (λ p. IsPassOf c.args.hub.now p.caller.pass)) _ _ _ step all.passes;
       done = all.done ++ c.in-Some-result.result ∷ [];
       split = all.split ∙ ap (λ xs. all.done ++ xs) step ∙ sym (append_assoc all.done (c.in-Some-result.result ∷ []) (into_iter_items c.next.new.self));
       taken = taken_more _ _ _ _ _ _ _ _ _ _ _ _ all.taken c.in_ok-result.was c.in_ok-rejoin.ensures.end c.in_ok-rejoin.ensures.count c.in_ok-rejoin.ensures.view c.in_ok-push.ensures.items;

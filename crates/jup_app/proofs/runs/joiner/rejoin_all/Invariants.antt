@@ -2,7 +2,7 @@ use Rattle.std.proofs.Common.{◌≡◌, List, ◌++◌, Result, All, IfOk}
 use Rattle.std.specs.Vec.Iter.{into_iter_items}
 use Rattle.jup_hub.specs.Passes.{view_of, IsPassOf}
 use Rattle.jup_app.specs.declared.runs.player.Player.{Player}
-use Rattle.jup_app.specs.declared.runs.stop.Stop.{Stop}
+use Rattle.jup_app.specs.declared.runs.halt.Halt.{Halt}
 use Rattle.jup_app.specs.Passing.{HasTaken}
 use Rattle.jup_app.proofs.runs.joiner.rejoin_all.Given as goal
 
@@ -12,7 +12,7 @@ invariant-loop-result l = record {
   is_finite : (goal.iterator-loop-result).is_finite l.result-iterator;
   fits : IsPassOf l.hub l.caller.pass;
   passes : All (λ r. IfOk r (λ p. IsPassOf l.hub p.caller.pass)) (into_iter_items l.result-iterator);
-  done : List (Result Player Stop);
+  done : List (Result Player Halt);
   split : l.fn.results.items ≡ done ++ into_iter_items l.result-iterator;
   taken : HasTaken (view_of l.fn.caller.pass) (view_of l.caller.pass) l.fn.caller.calls l.caller.calls done l.ends.items;
 }

@@ -1,7 +1,7 @@
 use Rattle.std.proofs.Common.{◌≡◌, List, ◌++◌, length}
 use Rattle.std.specs.Vec.Iter.{into_iter_items}
 use Rattle.jup_star.specs.SiteCalls.{BoardSite}
-use Rattle.jup_hub.specs.declared.view.Entry.{Entry}
+use Rattle.jup_hub.specs.declared.view.HubEvent.{HubEvent}
 use Rattle.jup_hub.specs.Passes.{view_of, IsPassOf}
 use Rattle.jup_app.specs.Passing.{HasMet, IsSame}
 use Rattle.jup_app.specs.Seating.{AreJobs}
@@ -17,5 +17,5 @@ invariant-loop-site l = record {
   done : List BoardSite;
   split : l.fn.sites.items ≡ done ++ into_iter_items l.site-iterator;
   long : length l.jobs.items ≡ length done;
-  seated : (h : List Entry) → HasMet (view_of l.fn.caller.pass) h → AreJobs l.hub h l.fn.sites.items l.scripts l.jobs.items;
+  seated : (h : List HubEvent) → HasMet (view_of l.fn.caller.pass) h → AreJobs l.hub h l.fn.sites.items l.scripts l.jobs.items;
 }

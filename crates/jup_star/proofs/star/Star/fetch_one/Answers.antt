@@ -1,6 +1,6 @@
 use Rattle.std.proofs.Common.{ap, ◌∙◌, refl, take, Ok}
 use Rattle.jup_star.specs.declared.link.Link.{Link}
-use Rattle.jup_star.specs.declared.calls.Reply.TheVariants.{Fetched}
+use Rattle.jup_star.specs.declared.calls.StarReply.TheVariants.{Fetched}
 use Rattle.jup_star.specs.LinkStates.{link_fetched}
 use Rattle.jup_star.specs.StarStates.{with_links}
 use Rattle.jup_star.specs.Rooms.{bare_link}

@@ -9,7 +9,7 @@ use Rattle.jup_star.specs.declared.messages.Up.TheVariants.{Op}
 use Rattle.jup_link.specs.declared.Msg.{Msg}
 use Rattle.jup_batch.specs.BatchBoards.{BoardBatch}
 use Rattle.jup_star.specs.Places.{CanHear}
-use Rattle.jup_star.specs.declared.calls.Reply.TheVariants.{Taken}
+use Rattle.jup_star.specs.declared.calls.StarReply.TheVariants.{Taken}
 use Rattle.jup_star.specs.LinkStates.{operation_at}
 use Rattle.jup_star.specs.StarStates.{early_fault, link_of, without, with_links, links_after}
 use Rattle.jup_star.specs.StarCalls.{BoardLink, IsStar}

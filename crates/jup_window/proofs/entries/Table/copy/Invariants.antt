@@ -4,4 +4,4 @@ use Rattle.jup_window.proofs.entries.Table.copy.Given as goal
 
 -- the entries so far are copied
 abbrev pub invariant-loop-id : goal.invariant-loop-id
-invariant-loop-id g l = map_values g.A.Entry.bare l.entries.items ≡ map_values g.A.Entry.bare (take l.id-index l.self)
+invariant-loop-id g l = map_values g.A.TableValue.bare l.entries.items ≡ map_values g.A.TableValue.bare (take l.id-index l.self)

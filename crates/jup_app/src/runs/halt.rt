@@ -8,7 +8,7 @@ use std::alloc::{AllocError, AllocFailed};
 /// What stops a site, or the pass that joins and drains the sites. It is no `RunFault`, so that what is refused before a run begins
 /// cannot come from within the run.
 #[derive(Clone, Copy, Drop)]
-pub(crate) enum Stop {
+pub(crate) enum Halt {
     NoMemory,
     LogFull,
     GateShut,
@@ -16,49 +16,49 @@ pub(crate) enum Stop {
     RunBroken,
 }
 
-impl From<HubFault> for Stop {
+impl From<HubFault> for Halt {
     ghost use Rattle.jup_app.specs.RunFaults.{stop_of_hub};
 
     ghost from_gives = { λ fault made. made ≡ stop_of_hub fault };
 
-    fn from(fault: HubFault) -> Stop {
+    fn from(fault: HubFault) -> Halt {
         match fault {
-            HubFault::Star(StarFault::NoMemory) => Stop::NoMemory,
-            HubFault::Star(StarFault::LogFull) => Stop::LogFull,
-            _ => Stop::RunBroken,
+            HubFault::Star(StarFault::NoMemory) => Halt::NoMemory,
+            HubFault::Star(StarFault::LogFull) => Halt::LogFull,
+            _ => Halt::RunBroken,
         }
     }
 }
 
-impl From<SiteFault> for Stop {
+impl From<SiteFault> for Halt {
     ghost use Rattle.jup_app.specs.RunFaults.{stop_of_site};
 
     ghost from_gives = { λ fault made. made ≡ stop_of_site fault };
 
-    fn from(fault: SiteFault) -> Stop {
+    fn from(fault: SiteFault) -> Halt {
         match fault {
-            SiteFault::NoMemory => Stop::NoMemory,
-            _ => Stop::RunBroken,
+            SiteFault::NoMemory => Halt::NoMemory,
+            _ => Halt::RunBroken,
         }
     }
 }
 
-impl From<AllocError> for Stop {
-    ghost use Rattle.jup_app.specs.declared.runs.stop.Stop.TheVariants.{NoMemory as Lacking};
+impl From<AllocError> for Halt {
+    ghost use Rattle.jup_app.specs.declared.runs.halt.Halt.TheVariants.{NoMemory as Lacking};
 
     ghost from_gives = { λ _ made. made ≡ Lacking };
 
-    fn from(_refused: AllocError) -> Stop {
-        Stop::NoMemory
+    fn from(_refused: AllocError) -> Halt {
+        Halt::NoMemory
     }
 }
 
-impl<T: Drop> From<AllocFailed<T>> for Stop {
-    ghost use Rattle.jup_app.specs.declared.runs.stop.Stop.TheVariants.{NoMemory as Lacking};
+impl<T: Drop> From<AllocFailed<T>> for Halt {
+    ghost use Rattle.jup_app.specs.declared.runs.halt.Halt.TheVariants.{NoMemory as Lacking};
 
     ghost from_gives = { λ _ made. made ≡ Lacking };
 
-    fn from(_refused: AllocFailed<T>) -> Stop {
-        Stop::NoMemory
+    fn from(_refused: AllocFailed<T>) -> Halt {
+        Halt::NoMemory
     }
 }

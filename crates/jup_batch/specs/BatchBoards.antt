@@ -3,7 +3,7 @@ use Rattle.std.proofs.Common.{◌≡◌, ℕ, ◌≤◌, Bool, true, false, List
 use Rattle.std.proofs.lemmas.Bool.{or_parts, eq-eqb, false≢true}
 use Rattle.jup_xform.specs.declared.Transform.{Ghosts}
 use Rattle.jup_xform.specs.Grid.{after_all}
-use Rattle.jup_xform.specs.Batches.{edits, shapes, IsValidBatch, has_batch_room, is_small_batch, batches, batch_meaning, copies_freely_batch, Inserts as BatchInserts}
+use Rattle.jup_xform.specs.Batches.{edits, shapes, IsValidBatch, has_batch_room, is_small_batch, batches, batch_meaning, Inserts as BatchInserts}
 use Rattle.jup_xform.specs.Laws.BatchLaws.{length-grid_rows}
 use Rattle.jup_xform.specs.Laws.BatchKept.{batch_shape_past, batch_room_past}
 use Rattle.jup_window.specs.declared.board_operations.BoardOp.{BoardOp}
@@ -140,10 +140,3 @@ foreign i (e ∷ es) n other (inl has) own =
 foreign i (e ∷ es) n other (inr has) own =
     let parts = or_parts (board_operations.bears_site i e) (one_bears_site board_operations i es) other in
     foreign i es n parts.1 has own
-
--- one operation is copied in place
-
-pub several_operations : (os : BoardBatch) → 1 ≤ length os → (copies_freely_batch boards os → ⊥) → 2 ≤ length os
-several_operations [] some copied = absurd (omega (arith, some))
-several_operations (o ∷ []) some copied = absurd (copied tt)
-several_operations (o ∷ (p ∷ os)) some copied = omega arith

@@ -5,7 +5,7 @@
 #![tactic(auto)]
 
 use jup_window::{BoardOp, Command, Edit};
-use jup_xform::{Batch, Edits, Few};
+use jup_xform::{Batch, Few};
 
 mod edits;
 mod later;
@@ -19,7 +19,7 @@ pub use naming::{MOST_COMMANDS, name_after, name_all};
 pub type BoardBatch = Batch<BoardOp>;
 
 /// The edits of such a batch, in the order of its operations.
-pub type BoardEdits = Edits<Edit>;
+pub type BoardEdits = Few<Edit>;
 
 /// What a user asks for in one gesture: commands in order, each of the board after those before it.
 pub type Commands = Few<Command>;

@@ -373,19 +373,9 @@ fn edit_at(alloc: Global, site: &mut Site, commands: &[Command]) -> Result<Made,
     ensures refused { OnErr result (site.new ≡ site.old) }
     ensures why { IfErr result (λ fault. RefusesAt commands.now site.old fault) }
 {
-    match edit_site(alloc, site, commands) {
+    match site.edit_batch(alloc, commands) {
         Ok(made) => Ok(made),
         Err(fault) => Err(refusal_of(fault)),
-    }
-}
-
-// One command takes no room for others.
-fn edit_site(alloc: Global, site: &mut Site, commands: &[Command]) -> Result<Made, EditFault>
-    ensures { EditAnswers commands.now site.old site.new result }
-{
-    match commands {
-        [one] => site.edit(alloc, one),
-        commands => site.edit_batch(alloc, commands),
     }
 }
 

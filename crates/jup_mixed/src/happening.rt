@@ -54,7 +54,7 @@ fn edit(
     ensures same { OnErr result (option_map bare_attached site.new ≡ option_map bare_attached site.old) }
 {
     match site {
-        Some(home) => home.edit_batch(alloc, commands),
+        Some(home) => home.edit(alloc, commands),
         None => Ok(Reply::Nothing),
     }
 }

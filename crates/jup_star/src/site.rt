@@ -1,18 +1,16 @@
 //! A site.
 ghost use Rattle.std.specs.Prelude.{◌≡◌, ◌≤◌, ◌<◌, true, false, [], ◌∷◌, Ok, Err, length, IfOk, IfErr, OnOk, OnErr, IfSome, IfNone, is_some};
-ghost use Rattle.jup_limits.specs.Limits.{most_operations};
 ghost use Rattle.jup_link.specs.Links.{IsNumber, IsCount, opened, after_count};
-ghost use Rattle.jup_batch.specs.BatchBoards.{bare, after, edit_of, IsValid, HasRoom};
-ghost use Rattle.jup_window.specs.BoardOperations.{board_operations, next_name, numbered};
-ghost use Rattle.jup_batch.specs.Batched.{operations_of};
+ghost use Rattle.jup_batch.specs.BatchBoards.{BoardBatch, bare, after, edit_of, IsValid, HasRoom};
+ghost use Rattle.jup_window.specs.BoardOperations.{next_name};
 ghost use Rattle.jup_batch.specs.BatchBoards.{accepts};
 ghost use Rattle.jup_batch.specs.BoardBatches.{board_batches};
-ghost use Rattle.jup_window.specs.Commands.{shown, map_ok};
+ghost use Rattle.jup_window.specs.Commands.{shown};
 ghost use Rattle.jup_batch.specs.Laws.ShownCommands.{all_shown};
 ghost use Rattle.jup_window.specs.FaultNumbers.{edit_fault_number};
 ghost use Rattle.jup_star.specs.FirstFaults.{fault_of, first_fault};
 ghost use Rattle.jup_star.specs.LinkStates.{operation_at, end_after};
-ghost use Rattle.jup_star.specs.SiteStates.{opened_site, edit_answer, heard_tests, shown_tests};
+ghost use Rattle.jup_star.specs.SiteStates.{opened_site, edit_answer, within_bounds, heard_tests, shown_tests};
 ghost use Rattle.jup_star.specs.SiteCalls.{site_open_fault, EditAnswers, DeliverAnswers, owed_of, shown_after, Bears, is_edit_memory, asks_room};
 ghost use Rattle.jup_star.specs.TextRelabels.{UpRelabelsNoText};
 ghost use Rattle.jup_star.specs.declared.messages.Down.TheVariants.{Op, Ack, Pong};
@@ -31,6 +29,7 @@ use jup_window::{Board, BoardOp, Command, Edit, EditFault, Effect, WidgetOp};
 use jup_xform::{Batch, NoMemory, Side, Transform};
 use std::alloc::Global;
 use std::marker::{Model, PhantomData};
+use std::slice;
 
 // No operation: the place of one that is still to be named.
 const NO_OPERATION: BoardOp = BoardOp {
@@ -148,46 +147,14 @@ impl Site {
         self.end.backlog()
     }
 
-    // The operation that a command makes, or the first refusal.
-    fn name_it(&self, command: &Command) -> Result<BoardOp, EditFault>
-        ensures answer { map_ok (λ op. op ∷ []) (numbered result) ≡ edit_answer board_batches (command.now ∷ []) self.now }
+    // Why no edit can be made now, whatever it is.
+    fn check_bounds(&self) -> Result<(), EditFault>
+        ensures refused { IfErr result (λ fault. (op : BoardBatch)
+            → within_bounds board_batches self.now (Ok op) ≡ Err (edit_fault_number fault)) }
         ensures memory { IfErr result (λ fault. is_edit_memory fault ≡ false) }
-        ensures valid { IfOk result (λ op. IsValid (op ∷ []) self.now.board) }
-        ensures shown { IfOk result (λ op. after (op ∷ []) self.now.board
-            ≡ shown command.now (next_name self.now.number self.now.named) self.now.board) }
-        ensures room { IfOk result (λ op. self.now.made < self.now.limit) }
-    {
-        if self.stopped {
-            return Err(EditFault::Stopped);
-        }
-        let name = Name {
-            site: self.number,
-            number: self.named + 1,
-        };
-        let op = self.board.name_it(command, name)?;
-        if self.end.backlog() >= MOST_UNACKNOWLEDGED {
-            return Err(EditFault::Backlog);
-        }
-        if self.made >= self.limit {
-            return Err(EditFault::Spent);
-        }
-        Ok(op)
-    }
-
-    // Writes the operations that commands make, or answers the first refusal.
-    fn name_batch(&self, commands: &[Command], ops: &mut [BoardOp]) -> Result<(), EditFault>
-        requires running { self.now.stopped ≡ false }
-        requires some { 1 ≤ length commands.now }
-        requires few { length commands.now ≤ most_operations }
-        requires long { length ops.old ≡ length commands.now }
-        ensures refused { IfErr result (λ fault. edit_answer board_batches commands.now self.now ≡ Err (edit_fault_number fault)) }
-        ensures memory { IfErr result (λ fault. is_edit_memory fault ≡ false) }
-        ensures ok { OnOk result (edit_answer board_batches commands.now self.now ≡ Ok ops.new) }
-        ensures named { OnOk result (operations_of board_operations self.now.board commands.now self.now.number self.now.named ≡ Ok ops.new) }
+        ensures ok { OnOk result ((op : BoardBatch) → within_bounds board_batches self.now (Ok op) ≡ Ok op) }
         ensures room { OnOk result (self.now.made < self.now.limit) }
-        ensures same_length { length ops.new ≡ length commands.now }
     {
-        name_all(&self.board, commands, self.number, self.named, ops)?;
         if self.end.backlog() >= MOST_UNACKNOWLEDGED {
             return Err(EditFault::Backlog);
         }
@@ -195,6 +162,38 @@ impl Site {
             return Err(EditFault::Spent);
         }
         Ok(())
+    }
+
+    // The operations that commands make, as one edit, or the first refusal. One alone takes no memory.
+    fn name_batch(&self, alloc: Global, commands: &[Command]) -> Result<BoardBatch, EditFault>
+        ensures ok { IfOk result (λ op. edit_answer board_batches commands.now self.now ≡ Ok op) }
+        ensures refused { IfErr result (λ fault. EditAnswers commands.now self.now self.now (Err fault)) }
+        ensures valid { IfOk result (λ op. IsValid op self.now.board) }
+        ensures shown { IfOk result (λ op. after op self.now.board
+            ≡ all_shown commands.now self.now.number self.now.named self.now.board) }
+        ensures same_length { IfOk result (λ op. length op ≡ length commands.now) }
+        ensures room { OnOk result (self.now.made < self.now.limit) }
+    {
+        if self.stopped {
+            return Err(EditFault::Stopped);
+        }
+        if let [command] = commands {
+            let name = Name {
+                site: self.number,
+                number: self.named + 1,
+            };
+            let op = self.board.name_it(command, name)?;
+            self.check_bounds()?;
+            return Ok(Batch::one(op));
+        }
+        if !(1..=MOST_COMMANDS).contains(&commands.len()) {
+            return Err(EditFault::BadBatch);
+        }
+        let mut all = [NO_OPERATION; MOST_COMMANDS];
+        let ops = &mut all[..commands.len()];
+        name_all(&self.board, commands, self.number, self.named, ops)?;
+        self.check_bounds()?;
+        Ok(Batch::from_slice(alloc, ops)?)
     }
 
     /// Takes a message of the star, and answers an acknowledgement if one is then owed. The site shows an
@@ -291,19 +290,7 @@ impl Site {
         ensures bears { IfOk result (λ made. Bears made.edit made.up) }
         ensures relabels { IfOk result (λ made. UpRelabelsNoText made.up) }
     {
-        let ops = match self.name_it(command) {
-            Err(fault) => return Err(fault),
-            Ok(op) => [op],
-        };
-        let prepared = prepare(alloc, &ops, &mut self.board, &mut self.end)?;
-        prepared.op.apply(&mut self.board);
-        self.made += 1;
-        self.named += all_insertions(&ops);
-        let msg = self.end.send(prepared.op, prepared.kept);
-        Ok(Made {
-            edit: prepared.edits,
-            up: Up::Op(msg),
-        })
+        self.edit_batch(alloc, slice::from_ref(command))
     }
 
     /// Makes one edit of 1 to 32 commands, each judged on the board after those before it. The board shows all
@@ -324,19 +311,11 @@ impl Site {
         ensures bears { IfOk result (λ made. Bears made.edit made.up) }
         ensures relabels { IfOk result (λ made. UpRelabelsNoText made.up) }
     {
-        if self.stopped {
-            return Err(EditFault::Stopped);
-        }
-        if !(1..=MOST_COMMANDS).contains(&commands.len()) {
-            return Err(EditFault::BadBatch);
-        }
-        let mut all = [NO_OPERATION; MOST_COMMANDS];
-        let ops = &mut all[..commands.len()];
-        self.name_batch(commands, ops)?;
-        let prepared = prepare(alloc, ops, &mut self.board, &mut self.end)?;
+        let op = self.name_batch(alloc, commands)?;
+        let prepared = prepare(alloc, op, &mut self.board, &mut self.end)?;
         prepared.op.apply(&mut self.board);
         self.made += 1;
-        self.named += all_insertions(ops);
+        self.named += all_insertions(prepared.op.as_slice());
         let msg = self.end.send(prepared.op, prepared.kept);
         Ok(Made {
             edit: prepared.edits,
@@ -421,21 +400,18 @@ struct Prepared {
 // Makes all room and all copies that an edit of the site needs.
 fn prepare(
     alloc: Global,
-    ops: &[BoardOp],
+    op: BoardBatch,
     board: &mut Board,
     end: &mut End<BoardBatch>,
 ) -> Result<Prepared, NoMemory>
-    requires some { 1 ≤ length ops.now }
-    requires few { length ops.now ≤ most_operations }
     ensures board { bare board.new ≡ bare board.old }
     ensures end { end.new.link ≡ end.old.link }
-    ensures board_room { OnOk result (HasRoom ops.now 0 board.new) }
+    ensures board_room { OnOk result (HasRoom op 0 board.new) }
     ensures end_room { OnOk result (1 ≤ end.new.spare) }
-    ensures op { IfOk result (λ prepared. prepared.op ≡ ops.now) }
-    ensures kept { IfOk result (λ prepared. prepared.kept ≡ ops.now) }
-    ensures edits { IfOk result (λ prepared. prepared.edits ≡ edit_of ops.now) }
+    ensures op { IfOk result (λ prepared. prepared.op ≡ op) }
+    ensures kept { IfOk result (λ prepared. prepared.kept ≡ op) }
+    ensures edits { IfOk result (λ prepared. prepared.edits ≡ edit_of op) }
 {
-    let op = Batch::from_slice(alloc, ops)?;
     let kept = op.copy(alloc)?;
     let edits = edits_of(alloc, &op)?;
     op.reserve(alloc, 0, board)?;

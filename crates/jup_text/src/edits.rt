@@ -10,13 +10,13 @@ use super::quoted::{QuotedChar, QuotedLabel};
 use super::words::switch_word;
 use jup_value::Name;
 use jup_window::{Edit, Effect};
-use jup_xform::{Edits, NoMemory};
+use jup_xform::{Few, NoMemory};
 use std::alloc::Global;
 use std::fmt;
 
 /// Appends the edits of a batch as they are printed, with `; ` between them. An edit that changes nothing has no
 /// spelling; nothing is appended if an allocation fails.
-pub fn write_edit(alloc: Global, edits: &Edits<Edit>, into: &mut Vec<u8>) -> Result<(), NoMemory>
+pub fn write_edit(alloc: Global, edits: &Few<Edit>, into: &mut Vec<u8>) -> Result<(), NoMemory>
     ensures appended { OnOk result (into.new.items ≡ into.old.items ++ edits_text edits.now) }
     ensures same { OnErr result (into.new.items ≡ into.old.items) }
 {

@@ -13,8 +13,8 @@ ghost use Rattle.jup_xform.specs.Laws.BatchMeaning.{batch_effect_one, batch_orde
 ghost use Rattle.jup_xform.specs.Laws.BatchEdits.{batch_meaning_more, batch_edit_client, batch_edit_server};
 ghost use Rattle.jup_xform.specs.Laws.BatchKept.{batch_effect_two, batch_room_less, batch_room_past, batch_shape_past};
 
+use crate::few::Store;
 use crate::row::grid;
-use crate::store::Store;
 use crate::{Few, NoMemory, Transform};
 use jup_limits::MOST_OPERATIONS;
 use std::alloc::Global;
@@ -57,23 +57,19 @@ pub trait Single: Transform {
 /// A list of 1 to 32 operations. One alone takes no memory.
 #[derive(Drop)]
 pub struct Batch<T> {
-    ops: Store<T>,
+    ops: Few<T>,
 }
 
 impl<T> Model for Batch<T> {
     ghost use Rattle.std.specs.Prelude.{◌≤◌, List, length};
     ghost use Rattle.jup_limits.specs.Limits.{most_operations};
-    ghost use Rattle.jup_xform.specs.Stores.{items_of};
 
     ghost Value = { List T };
 
-    ghost view = { λ b. items_of b.ops };
+    ghost view = { λ b. b.ops };
 
-    ghost invariant = { λ b. (1 ≤ length (items_of b.ops)) × (length (items_of b.ops) ≤ most_operations) };
+    ghost invariant = { λ b. (1 ≤ length b.ops) × (length b.ops ≤ most_operations) };
 }
-
-/// The edits of a batch, in the order of its operations.
-pub type Edits<E> = Few<E>;
 
 impl<T> Batch<T> {
     /// A batch of these operations, which are 1 to 32.
@@ -82,18 +78,14 @@ impl<T> Batch<T> {
         requires few { length ops.items ≤ most_operations }
         ensures { result ≡ ops.items }
     {
-        Batch {
-            ops: Store::More(ops),
-        }
+        Batch { ops: Few::of(ops) }
     }
 
     /// A batch of one operation. It takes no memory.
     pub fn one(op: T) -> Batch<T>
         ensures { result ≡ op ∷ [] }
     {
-        Batch {
-            ops: Store::One([op]),
-        }
+        Batch { ops: Few::one(op) }
     }
 
     /// The operations in order. Callers learn here, too, that they are 1 to 32.
@@ -115,8 +107,8 @@ impl<T: Transform> Batch<T> {
         ensures refused { OnErr result (copies_freely_batch T.Transform ops.now → ⊥) }
     {
         let ops = match ops {
-            [op] => Store::One([op.copy(alloc)?]),
-            _ => Store::More(copies_of(alloc, ops)?),
+            [op] => Few::one(op.copy(alloc)?),
+            _ => Few::of(copies_of(alloc, ops)?),
         };
         Ok(Batch { ops })
     }
@@ -238,7 +230,7 @@ fn write_all<T: Transform>(from: &[T], into: &mut [T])
 impl<T: Single> Transform for Batch<T> {
     type State = T::State;
 
-    type Edit = Edits<T::Edit>;
+    type Edit = Few<T::Edit>;
 
     ghost Content = { T.Content };
 
@@ -333,9 +325,9 @@ impl<T: Single> Transform for Batch<T> {
     }
 
     fn transform(c: &mut Batch<T>, s: &mut Batch<T>) {
-        match &mut c.ops {
-            Store::One(one) => cross_store(&mut one[..], &mut s.ops),
-            Store::More(list) => cross_store(list.as_mut_slice(), &mut s.ops),
+        match &mut c.ops.store {
+            Store::One(one) => cross_store(&mut one[..], &mut s.ops.store),
+            Store::More(list) => cross_store(list.as_mut_slice(), &mut s.ops.store),
         }
     }
 
@@ -344,18 +336,17 @@ impl<T: Single> Transform for Batch<T> {
     }
 
     fn write_to(&self, into: &mut Batch<T>) {
-        match &mut into.ops {
+        match &mut into.ops.store {
             Store::One(one) => write_all(self.as_slice(), &mut one[..]),
             Store::More(list) => write_all(self.as_slice(), list.as_mut_slice()),
         }
     }
 
-    fn edit(&self, alloc: Global) -> Result<Edits<T::Edit>, NoMemory> {
-        let edits = match self.as_slice() {
-            [op] => Store::One([op.edit(alloc)?]),
-            ops => Store::More(edits_of(alloc, ops)?),
-        };
-        Ok(Few::of(edits))
+    fn edit(&self, alloc: Global) -> Result<Few<T::Edit>, NoMemory> {
+        Ok(match self.as_slice() {
+            [op] => Few::one(op.edit(alloc)?),
+            ops => Few::of(edits_of(alloc, ops)?),
+        })
     }
 
     ghost square = { batch_square T.Transform.own (lawful T.Transform) (keeps_fresh T.Transform) };

@@ -1,17 +1,23 @@
 //! Lists that take no memory while they have one element.
-ghost use Rattle.std.specs.Prelude.{◌≡◌, ◌⊎◌, ◌≤◌, [], length, IfOk, OnErr};
+ghost use Rattle.std.specs.Prelude.{◌≡◌, ◌⊎◌, ◌≤◌, [], ◌∷◌, length, IfOk, OnErr};
 ghost use Rattle.std.specs.Vec.{vec_capacity};
 ghost use Rattle.jup_xform.specs.Stores.{items_of};
 
 use crate::NoMemory;
-use crate::store::Store;
 use std::alloc::Global;
 use std::marker::Model;
+
+/// One element in the value itself, or a list of any length in memory of its own.
+#[derive(Drop)]
+pub(crate) enum Store<E> {
+    One([E; 1]),
+    More(Vec<E>),
+}
 
 /// A list. One element alone takes no memory. Contracts see the elements.
 #[derive(Drop)]
 pub struct Few<E> {
-    store: Store<E>,
+    pub(crate) store: Store<E>,
 }
 
 impl<E> Model for Few<E> {
@@ -24,18 +30,32 @@ impl<E> Model for Few<E> {
 }
 
 impl<E> Few<E> {
-    // The list that a store is.
-    pub(crate) fn of(store: Store<E>) -> Few<E>
-        ensures { result ≡ items_of store }
+    // One element.
+    pub(crate) fn one(element: E) -> Few<E>
+        ensures { result ≡ element ∷ [] }
     {
-        Few { store }
+        Few {
+            store: Store::One([element]),
+        }
+    }
+
+    // A list in its own memory.
+    pub(crate) fn of(list: Vec<E>) -> Few<E>
+        ensures { result ≡ list.items }
+    {
+        Few {
+            store: Store::More(list),
+        }
     }
 
     /// The elements in order.
     pub fn as_slice(&self) -> &[E]
         ensures { result.now ≡ self.now }
     {
-        self.store.as_slice()
+        match &self.store {
+            Store::One(one) => &one[..],
+            Store::More(list) => list.as_slice(),
+        }
     }
 }
 
@@ -45,15 +65,12 @@ impl<E: Copy> Few<E> {
         ensures elements { IfOk result (λ few. few ≡ elements.now) }
         ensures refused { OnErr result (2 ≤ length elements.now) }
     {
-        let store = match elements {
-            [element] => Store::One([*element]),
-            elements => {
-                let mut list = Vec::new(alloc);
-                list.extend_from_slice(elements).map_err(|_| NoMemory)?;
-                Store::More(list)
-            }
-        };
-        Ok(Few { store })
+        if let [element] = elements {
+            return Ok(Few::one(*element));
+        }
+        let mut list = Vec::new(alloc);
+        list.extend_from_slice(elements).map_err(|_| NoMemory)?;
+        Ok(Few::of(list))
     }
 
     /// A copy, in a list that has room for it; one element alone needs none. It takes no memory.
@@ -62,13 +79,10 @@ impl<E: Copy> Few<E> {
         requires room { length self.now ≤ 1 ⊎ length self.now ≤ vec_capacity list }
         ensures { result ≡ self.now }
     {
-        let store = match self.as_slice() {
-            [element] => Store::One([*element]),
-            elements => {
-                list.extend_from_slice(elements).unwrap();
-                Store::More(list)
-            }
-        };
-        Few { store }
+        if let [element] = self.as_slice() {
+            return Few::one(*element);
+        }
+        list.extend_from_slice(self.as_slice()).unwrap();
+        Few::of(list)
     }
 }

@@ -17,9 +17,8 @@ mod concurrent;
 mod few;
 pub mod laws;
 mod row;
-mod store;
 
-pub use batch::{Batch, Edits, Single};
+pub use batch::{Batch, Single};
 pub use concurrent::meet;
 pub use few::Few;
 pub use jup_limits::NoMemory;

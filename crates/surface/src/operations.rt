@@ -2,7 +2,7 @@
 ghost use Rattle.std.specs.Prelude.{◌≡◌, ◌≤◌, length};
 ghost use Rattle.jup_limits.specs.Limits.{most_operations};
 
-use jup_xform::{Batch, Edits, NoMemory, Side, Single, Transform, across, grid};
+use jup_xform::{Batch, Few, NoMemory, Side, Single, Transform, across, grid};
 use std::alloc::Global;
 
 /// `Transform::valid`, `apart` and `fresh_after`.
@@ -82,7 +82,7 @@ pub fn edit_of_batch<T: Single>(
     batch: &Batch<T>,
     alloc: Global,
     state: &T::State,
-) -> Result<Edits<T::Edit>, NoMemory> {
+) -> Result<Few<T::Edit>, NoMemory> {
     let _valid: bool = batch.valid(state);
     batch.edit(alloc)
 }

@@ -164,29 +164,8 @@ impl Attached {
         }
     }
 
-    /// The site makes the edit of a command, and its message goes last into the up stream.
-    pub fn edit(&mut self, alloc: Global, command: &Command) -> Result<Reply, NoMemory>
-        ensures reply { IfOk result (λ reply. numbered_reply reply
-            ≡ edit_reply board_batches (edit_answer board_batches (command.now ∷ []) self.old.site)) }
-        ensures few { IfOk result (λ reply. MakesFew reply 1) }
-        ensures ok { OnOk result (bare_attached self.new
-            ≡ with_answer (edit_answer board_batches (command.now ∷ []) self.old.site) (bare_attached self.old)) }
-        ensures read { OnOk result (IsRead (lane_of self.old) (length self.old.up.way.read) (length self.old.down.way.read) (lane_of self.new)) }
-        ensures err { OnErr result (bare_attached self.new ≡ bare_attached self.old) }
-        ensures same { OnErr result (lane_of self.new ≡ lane_of self.old) }
-    {
-        self.up.reserve()?;
-        match self.site.edit(alloc, command) {
-            Ok(Made { edit, up }) => {
-                self.up.send(&up);
-                Ok(Reply::Made(edit))
-            }
-            Err(fault) => Ok(Reply::Refused(edit_refusal(fault)?)),
-        }
-    }
-
     /// The site makes one edit of commands, and its message goes last into the up stream.
-    pub fn edit_batch(&mut self, alloc: Global, commands: &[Command]) -> Result<Reply, NoMemory>
+    pub fn edit(&mut self, alloc: Global, commands: &[Command]) -> Result<Reply, NoMemory>
         ensures reply { IfOk result (λ reply. numbered_reply reply
             ≡ edit_reply board_batches (edit_answer board_batches commands.now self.old.site)) }
         ensures few { IfOk result (λ reply. MakesFew reply (length commands.now)) }

@@ -1,5 +1,5 @@
 //! What an event does to a star and its sites.
-ghost use Rattle.std.specs.Prelude.{◌≡◌, [], ◌∷◌, length, map, is_some, IfOk, OnOk, OnErr};
+ghost use Rattle.std.specs.Prelude.{◌≡◌, length, map, is_some, IfOk, OnOk, OnErr};
 ghost use Rattle.jup_star.specs.StarStates.{link_of};
 ghost use Rattle.jup_world.specs.WorldStates.{attached, without_site};
 ghost use Rattle.jup_world.specs.WorldFields.{lane_of, bare_attached};
@@ -16,6 +16,7 @@ use jup_star::{Site, Star};
 use jup_window::Command;
 use jup_xform::NoMemory;
 use std::alloc::Global;
+use std::slice;
 
 /// Plays one event. If an allocation fails, a message may have been fetched into an empty down stream, and
 /// bytes may have been moved on the way that the event moves.
@@ -36,14 +37,10 @@ pub(crate) fn happen(
     match event {
         Event::Join => join(alloc, star, sites),
         Event::Leave(number) => Ok(leave(star, sites, *number)),
-        Event::Edit(number, command) => edit(alloc, star, sites, *number, command),
-        Event::Batch(number, commands) => edit_batch(
-            alloc,
-            star,
-            sites,
-            *number,
-            commands.as_slice(),
-        ),
+        Event::Edit(number, command) => {
+            edit(alloc, star, sites, *number, slice::from_ref(command))
+        }
+        Event::Batch(number, commands) => edit(alloc, star, sites, *number, commands.as_slice()),
         Event::Up(number) => move_up(alloc, star, sites, *number),
         Event::Down(number) => move_down(alloc, star, sites, *number),
         Event::Ping(number, count) => ping(star, sites, *number, *count),
@@ -101,26 +98,6 @@ fn edit(
     star: &Star,
     sites: &mut Vec<Attached>,
     number: u32,
-    command: &Command,
-) -> Result<Reply, NoMemory>
-    requires { AreReady star.now (map bare_attached sites.old.items) }
-    ensures plays { IfOk result (λ reply. LanePlays (Plain (event.Edit number (command.now ∷ []))) star.now (map lane_of sites.old.items)
-        (numbered_reply reply) star.now (map bare_attached sites.new.items)) }
-    ensures few { IfOk result (λ reply. MakesFew reply 1) }
-    ensures read { OnOk result (AreRead (Plain (event.Edit number (command.now ∷ []))) star.now (map lane_of sites.old.items) (map lane_of sites.new.items)) }
-    ensures same { OnErr result (map lane_of sites.new.items ≡ map lane_of sites.old.items) }
-{
-    match place_of(sites, number) {
-        Some(at) => sites[at].edit(alloc, command),
-        None => Ok(Reply::Nothing),
-    }
-}
-
-fn edit_batch(
-    alloc: Global,
-    star: &Star,
-    sites: &mut Vec<Attached>,
-    number: u32,
     commands: &[Command],
 ) -> Result<Reply, NoMemory>
     requires { AreReady star.now (map bare_attached sites.old.items) }
@@ -131,7 +108,7 @@ fn edit_batch(
     ensures same { OnErr result (map lane_of sites.new.items ≡ map lane_of sites.old.items) }
 {
     match place_of(sites, number) {
-        Some(at) => sites[at].edit_batch(alloc, commands),
+        Some(at) => sites[at].edit(alloc, commands),
         None => Ok(Reply::Nothing),
     }
 }

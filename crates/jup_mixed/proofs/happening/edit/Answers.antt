@@ -3,4 +3,4 @@ use Rattle.jup_mixed.proofs.happening.edit.Goals as goal
 
 pub returns-in-Some-clause-plays : goal.returns-in-Some-clause-plays
 returns-in-Some-clause-plays c =
-    edit_plays_at c.args.star.now c.args.site.now c.in-Some.home c.in-Some.is c.requires c.args.commands.now c.edit_batch.result c.edit_batch.new.self c.edit_batch.ensures.reply c.edit_batch.ensures.ok
+    edit_plays_at c.args.star.now c.args.site.now c.in-Some.home c.in-Some.is c.requires c.args.commands.now c.edit.result c.edit.new.self c.edit.ensures.reply c.edit.ensures.ok

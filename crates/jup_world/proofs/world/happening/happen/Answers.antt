@@ -25,4 +25,4 @@ pub returns-in-Edit-clause-plays : goal.returns-in-Edit-clause-plays
 returns-in-Edit-clause-plays c = rw c.in-Edit.is c.edit.ensures.plays
 
 pub returns-in-Batch-clause-plays : goal.returns-in-Batch-clause-plays
-returns-in-Batch-clause-plays c = rw c.in-Batch.is (rw c.as_slice.ensures at c.edit_batch.ensures.plays)
+returns-in-Batch-clause-plays c = rw c.in-Batch.is (rw c.as_slice.ensures at c.edit-2.ensures.plays)

@@ -391,7 +391,7 @@ fn show(board: &mut Board, end: &mut End<BoardBatch>, msg: Msg<BoardBatch>) -> O
 
 /// An edit of the site as it goes into the queue and into its message, and what it means.
 #[derive(Drop)]
-struct Prepared {
+struct ReadyEdit {
     op: BoardBatch,
     kept: BoardBatch,
     edits: BoardEdits,
@@ -403,7 +403,7 @@ fn prepare(
     op: BoardBatch,
     board: &mut Board,
     end: &mut End<BoardBatch>,
-) -> Result<Prepared, NoMemory>
+) -> Result<ReadyEdit, NoMemory>
     ensures board { bare board.new ≡ bare board.old }
     ensures end { end.new.link ≡ end.old.link }
     ensures board_room { OnOk result (HasRoom op 0 board.new) }
@@ -416,5 +416,5 @@ fn prepare(
     let edits = edits_of(alloc, &op)?;
     op.reserve(alloc, 0, board)?;
     end.reserve_one()?;
-    Ok(Prepared { op, kept, edits })
+    Ok(ReadyEdit { op, kept, edits })
 }

@@ -6,8 +6,7 @@ use crate::expect::{expect_eq, expect_that};
 use jup_app::{Gate, Open, RunEnd, RunFault, SiteEnd, run_many, run_two};
 use jup_batch::BoardEdits;
 use jup_star::Entry;
-use jup_value::Label;
-use jup_window::{Board, Command, EditFault, Setting, Value, Widget};
+use jup_window::{Board, Command, EditFault, Setting, Value, Widget, Within};
 use std::alloc::Global;
 use std::marker::PhantomData;
 use std::process::Abort;
@@ -45,8 +44,7 @@ pub(crate) fn insertions(
     value: char,
     count: usize,
 ) -> Vec<Command> {
-    // The checker learns of the types within a command from this.
-    let _within: PhantomData<(Value, Setting, Label)> = PhantomData;
+    let _within: Within = PhantomData;
     let mut script = Vec::new(alloc);
     for _ in 0..count {
         script.push(insertion(value)).expect(rt, "memory");
@@ -227,7 +225,7 @@ fn deletion() -> Command {
 
 // A deletion where nothing is, an insertion, and a deletion of that.
 fn deleting_twice(rt: &impl Abort, alloc: Global) -> Vec<Command> {
-    let _within: PhantomData<(Value, Setting, Label)> = PhantomData;
+    let _within: Within = PhantomData;
     let mut script = Vec::new(alloc);
     script.push(deletion()).expect(rt, "memory");
     script.push(insertion('a')).expect(rt, "memory");

@@ -1,6 +1,6 @@
 //! Commands at random, on a board with a widget of each kind in window 1.
 use jup_value::Label;
-use jup_window::{Board, Command, Setting, Value};
+use jup_window::{Board, Command, Setting, Value, Within};
 use std::alloc::Global;
 use std::marker::PhantomData;
 use std::process::Abort;
@@ -76,8 +76,7 @@ pub(crate) fn commands(
     dice: &mut Dice,
     board: &Board,
 ) -> Vec<Command> {
-    // The checker learns of the types within a command from this.
-    let _within: PhantomData<(Value, Setting, Label)> = PhantomData;
+    let _within: Within = PhantomData;
     let mut all = Vec::new(alloc);
     for _ in 0..=dice.roll(4) {
         let command = if dice.once_in(2) {

@@ -4,10 +4,8 @@ use jup_embed::{Client, EmbedFault};
 use jup_gather::Gather;
 use jup_layout::lines_of;
 use jup_rules::{Said, hear_site, put_downs};
-use jup_seq::SeqOp;
 use jup_star::{Joined, Star};
-use jup_value::Label;
-use jup_window::{Board, BoardOp, Command, WidgetOp};
+use jup_window::{Board, Command, Within};
 use jup_wire::{Line, Lines, Reader, write};
 use jup_xform::Transform;
 use std::alloc::Global;
@@ -31,7 +29,7 @@ pub(crate) struct Seat {
     copy: Board,
     told: u32,
     // The checker learns of the types within an operation from a field that names them.
-    within: PhantomData<(SeqOp<Label>, WidgetOp, BoardOp, Line)>,
+    within: PhantomData<(Within, Line)>,
 }
 
 // Writes lines behind others.

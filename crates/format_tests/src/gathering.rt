@@ -6,8 +6,8 @@ use jup_gather::{Gather, Gathered, lines_of_op};
 use jup_link::Msg;
 use jup_seq::SeqOp;
 use jup_setting::SetOp;
-use jup_value::{Item, Label};
-use jup_window::{BoardOp, WidgetOp};
+use jup_value::Item;
+use jup_window::{BoardOp, WidgetOp, Within};
 use jup_wire::{Line, Reader, write};
 use jup_xform::Batch;
 use std::alloc::Global;
@@ -29,8 +29,7 @@ fn insertion(k: u32) -> BoardOp {
 
 // A message of so many operations.
 pub(crate) fn message(rt: &impl Abort, alloc: Global, count: u32) -> Msg<BoardBatch> {
-    // Types that an operation holds, named so that the borrow checker knows of them.
-    let _of: PhantomData<(SeqOp<Label>, WidgetOp)> = PhantomData;
+    let _of: Within = PhantomData;
     let mut ops = Vec::new(alloc);
     for k in 1..=count {
         ops.push(insertion(k)).expect(rt, "memory");

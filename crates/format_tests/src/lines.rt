@@ -3,7 +3,7 @@ use crate::expect::{expect_eq, expect_that};
 use jup_seq::SeqOp;
 use jup_setting::SetOp;
 use jup_value::{Item, Label, Name};
-use jup_window::{BoardOp, WidgetOp};
+use jup_window::{BoardOp, WidgetOp, Within};
 use jup_wire::{
     Fed, LONGEST, Line, MOST, Reader, WireFault, feed_of, has_spelling, read_line, write,
     write_reserved,
@@ -69,8 +69,7 @@ fn is_read_by_itself(rt: &impl Abort, line: &Line, text: &[u8]) {
 
 // What is wrong with bytes that are no line.
 fn fault_of(text: &[u8]) -> Option<WireFault> {
-    // Types that a line holds, named so that the borrow checker knows of them.
-    let _of: PhantomData<(SeqOp<Label>, WidgetOp, BoardOp)> = PhantomData;
+    let _of: Within = PhantomData;
     match read_line(text) {
         Ok(_) => None,
         Err(fault) => Some(fault),

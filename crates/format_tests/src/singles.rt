@@ -3,16 +3,15 @@ use crate::expect::expect_eq;
 use crate::lines::name;
 use jup_seq::SeqOp;
 use jup_setting::SetOp;
-use jup_value::{Item, Label};
-use jup_window::{BoardOp, WidgetOp};
+use jup_value::Item;
+use jup_window::{BoardOp, WidgetOp, Within};
 use jup_wire::{LoneEdit, read_single};
 use std::marker::PhantomData;
 use std::process::Abort;
 
 // The bytes are read as this message, or as none.
 fn expect_single(rt: &impl Abort, bytes: &[u8], due: Option<LoneEdit>) {
-    // Types that an operation holds, named so that the borrow checker knows of them.
-    let _of: PhantomData<(SeqOp<Label>, WidgetOp, BoardOp)> = PhantomData;
+    let _of: Within = PhantomData;
     expect_eq(rt, read_single(bytes), due);
 }
 

@@ -6,9 +6,8 @@ ghost use Rattle.jup_board.specs.Layouts.{IsLayoutOf};
 use crate::BoardEnd;
 use jup_layout::put_board;
 use jup_limits::LONGEST_INPUT;
-use jup_seq::SeqOp;
-use jup_value::{Label, Name};
-use jup_window::{Board, BoardOp, WidgetOp};
+use jup_value::Name;
+use jup_window::{Board, Within};
 use jup_wire::{Line, LineSink, MOST, write_reserved};
 use jup_xform::NoMemory;
 use std::alloc::Global;
@@ -124,8 +123,7 @@ impl LineSink for LayoutText {
     ghost takes_more = { puts_more };
 
     fn put(&mut self, line: Line) -> Result<(), NoMemory> {
-        // Types that a line holds, named so that the borrow checker knows of them.
-        let _of: PhantomData<(SeqOp<Label>, WidgetOp, BoardOp)> = PhantomData;
+        let _of: Within = PhantomData;
         let line = self.numbered(line)?;
         if self.text.reserve(MOST).is_err() {
             return Err(NoMemory);

@@ -4,10 +4,8 @@ ghost use Rattle.jup_embed.specs.Changes.{kept, operations_in, operations_said};
 
 use jup_batch::{BoardBatch, MOST_COMMANDS};
 use jup_rules::Said;
-use jup_seq::SeqOp;
 use jup_star::Up;
-use jup_value::Label;
-use jup_window::{BoardOp, WidgetOp};
+use jup_window::{BoardOp, Within};
 use jup_xform::NoMemory;
 use std::alloc::Global;
 use std::marker::{Model, PhantomData};
@@ -20,8 +18,7 @@ pub(crate) struct Changes {
     // How many of them the client has told.
     told: usize,
     is_watched: bool,
-    // The checker learns of the types within an operation from a field that names them.
-    within: PhantomData<(SeqOp<Label>, WidgetOp, BoardOp)>,
+    within: Within,
 }
 
 impl Model for Changes {

@@ -17,10 +17,8 @@ use crate::outbox::Outbox;
 use crate::phase::Phase;
 use crate::refusals::EmbedFault;
 use jup_rules::{Answer, Asking, ClientEnd, Heard, Request, Said, SessionFault, Told};
-use jup_seq::SeqOp;
 use jup_star::{Made, Site};
-use jup_value::Label;
-use jup_window::{Board, BoardOp, Command, EditFault, WidgetOp};
+use jup_window::{Board, BoardOp, Command, EditFault, Within};
 use jup_wire::{Line, Reader};
 use jup_xform::NoMemory;
 use std::alloc::Global;
@@ -48,7 +46,7 @@ pub struct Client {
     asking: Asking,
     is_synced: bool,
     // The checker learns of the types within a line from a field that names them.
-    within: PhantomData<(SeqOp<Label>, WidgetOp, BoardOp, Line)>,
+    within: PhantomData<(Within, Line)>,
 }
 
 impl Model for Client {

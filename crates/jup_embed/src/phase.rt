@@ -3,9 +3,7 @@ ghost use Rattle.std.specs.Prelude.{◌≡◌};
 ghost use Rattle.jup_embed.specs.Phases.{PhaseHears, OpeningHears, nothing_heard};
 
 use jup_rules::{ClientEnd, ClientState, Heard, board_line_in, greeting_in};
-use jup_seq::SeqOp;
-use jup_value::Label;
-use jup_window::{BoardOp, WidgetOp};
+use jup_window::Within;
 use jup_wire::{Line, LineSink, Lines};
 use std::alloc::Global;
 use std::marker::PhantomData;
@@ -34,8 +32,7 @@ impl Phase {
     pub(crate) fn hear(&mut self, alloc: Global, line: &Line) -> Result<Heard, ClientEnd>
         ensures { PhaseHears line.now self.old result self.new }
     {
-        // Types that a line holds, named so that the borrow checker knows of them.
-        let _of: PhantomData<(SeqOp<Label>, WidgetOp, BoardOp)> = PhantomData;
+        let _of: Within = PhantomData;
         match self {
             Phase::Greeting => {
                 let (site, limit) = greeting_in(line)?;

@@ -10,9 +10,7 @@ use crate::part::Part;
 use jup_batch::BoardBatch;
 use jup_limits::MOST_OPERATIONS;
 use jup_link::Msg;
-use jup_seq::SeqOp;
-use jup_value::Label;
-use jup_window::{BoardOp, WidgetOp};
+use jup_window::{BoardOp, Within};
 use jup_wire::Line;
 use jup_xform::{Batch, NoMemory};
 use std::alloc::Global;
@@ -101,8 +99,7 @@ pub(crate) fn begin(alloc: Global, line: Line) -> Result<Step, NoMemory>
 fn take(part: Part, op: BoardOp) -> Step
     ensures { Gathers (Some (part_lines part)) (lines.Do op) result.gathered (held result.state) }
 {
-    // Types that an operation holds, named so that the borrow checker knows of them.
-    let _of: PhantomData<(SeqOp<Label>, WidgetOp)> = PhantomData;
+    let _of: Within = PhantomData;
     let Part {
         mine,
         heard,

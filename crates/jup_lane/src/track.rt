@@ -9,9 +9,7 @@ ghost use Rattle.jup_lane.specs.Lanes.{no_bytes, sent, moved, handed_over, IsIdl
 
 use crate::message::{MOST_MESSAGE, Message};
 use crate::stream::Stream;
-use jup_seq::SeqOp;
-use jup_value::Label;
-use jup_window::{BoardOp, WidgetOp};
+use jup_window::Within;
 use jup_wire::{Line, Reader, feed_of, read_line};
 use jup_xform::NoMemory;
 use std::alloc::Global;
@@ -25,7 +23,7 @@ pub(crate) struct Track<M: Message> {
     tray: VecDeque<Line>,
     reader: Reader,
     stream: Stream,
-    within: PhantomData<(M, SeqOp<Label>, WidgetOp, BoardOp)>,
+    within: PhantomData<(M, Within)>,
 }
 
 // Drops the oldest lines of a tray.
@@ -43,8 +41,7 @@ fn push_spelled(tray: &mut VecDeque<Line>, text: &[u8]) -> Result<(), NoMemory>
     ensures ok { OnOk result ((line : Line) × HasSpelling line × (text.now ≡ line_text line) × (tray.new.items ≡ tray.old.items ++ line ∷ [])) }
     ensures err { OnErr result (tray.new.items ≡ tray.old.items) }
 {
-    // Types that a line holds, named so that the borrow checker knows of them.
-    let _of: PhantomData<(SeqOp<Label>, WidgetOp, BoardOp)> = PhantomData;
+    let _of: Within = PhantomData;
     tray.reserve(1).map_err(|_| NoMemory)?;
     match read_line(text) {
         Ok(line) => tray.push_back_reserved(line),

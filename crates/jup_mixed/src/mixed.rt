@@ -24,8 +24,7 @@ use jup_link::Msg;
 use jup_seq::SeqOp;
 use jup_setting::SetOp;
 use jup_star::{OpenFault, Site, Star, Up, is_short};
-use jup_value::Label;
-use jup_window::{Board, BoardOp, Command, Edit, Effect, Setting, Value, WidgetOp};
+use jup_window::{Board, Edit, Value, Within};
 use jup_world::{Attached, Reply, room_for};
 use jup_xform::NoMemory;
 use std::alloc::Global;
@@ -55,22 +54,14 @@ impl Model for Mixed {
 }
 
 // The types within an event.
-type Within = (
+type WithinEvents = (
+    Within,
     SeqOp<char>,
-    SeqOp<Label>,
     SetOp<bool>,
-    WidgetOp,
-    BoardOp,
     BoardBatch,
     Msg<BoardBatch>,
     Up,
-    Command,
     Commands,
-    Value,
-    Setting,
-    Label,
-    Effect,
-    Edit,
     BoardEdits,
 );
 
@@ -104,7 +95,7 @@ fn keep(trace: &mut Vec<MixHappened>, note: Note, reply: &Reply)
         ≡ numbered_mix trace.old.items ++ record { event = note.event; reply = numbered_reply reply.now } ∷ [] }
 {
     // The checker learns of the types within an event from this.
-    let _within: PhantomData<Within> = PhantomData;
+    let _within: PhantomData<WithinEvents> = PhantomData;
     trace.push_reserved(MixHappened {
         event: note.event,
         reply: reply.copy_into(note.edits),
@@ -149,7 +140,7 @@ impl Mixed {
         ensures order { OnOk result (MixOrderIsKept board_batches self.old self.new) }
     {
         // The checker learns of the types within an event from this.
-        let _within: PhantomData<Within> = PhantomData;
+        let _within: PhantomData<WithinEvents> = PhantomData;
         self.trace.reserve(1).map_err(|_| NoMemory)?;
         let note = Note::of(alloc, event)?;
         let reply = happen(alloc, &mut self.star, &mut self.site, event)?;

@@ -12,8 +12,7 @@ use jup_text::{
     BoardReader, PrintedBoard, PrintedEdits, Untaken, is_board_line, read_batch, read_command,
     read_number,
 };
-use jup_value::Label;
-use jup_window::{Board, Command, Setting, Value};
+use jup_window::{Board, Command, Within};
 use jup_world::{Event, Reply, World};
 use jup_xform::{Few, NoMemory};
 use std::alloc::Global;
@@ -168,8 +167,7 @@ fn next_commands(
     ensures rest { length script.new.rest.now ≤ length script.old.rest.now }
     ensures end { IfErr result ComesInPlay }
 {
-    // The checker learns of the types within a command from this.
-    let _within: PhantomData<(Command, Value, Setting, Label)> = PhantomData;
+    let _within: Within = PhantomData;
     let mut commands = Vec::new(alloc);
     for _ in 0..count {
         let command = next_command(script)?;

@@ -8,9 +8,7 @@ ghost use Rattle.jup_star.specs.FirstFaults.{first_fault, fault_of};
 
 use jup_batch::BoardBatch;
 use jup_link::{End, LinkFault, Msg};
-use jup_seq::SeqOp;
-use jup_value::Label;
-use jup_window::{BoardOp, WidgetOp};
+use jup_window::{BoardOp, Within};
 use jup_xform::{Batch, NoMemory, Transform};
 use std::alloc::Global;
 use std::marker::PhantomData;
@@ -30,8 +28,7 @@ pub(crate) fn receive(end: &mut End<BoardBatch>, msg: Msg<BoardBatch>) -> BoardB
     ensures end { end.new.link ≡ end_after board_batches end.old.link msg }
     ensures spare { end.old.spare ≤ end.new.spare }
 {
-    // The checker learns of the types within an operation from this.
-    let _within: PhantomData<(SeqOp<Label>, WidgetOp)> = PhantomData;
+    let _within: Within = PhantomData;
     end.receive(msg)
 }
 

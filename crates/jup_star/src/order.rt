@@ -3,7 +3,7 @@ ghost use Rattle.std.specs.Prelude.{◌≡◌, ◌≤◌, [], ◌∷◌, ◌++�
 
 use crate::Entry;
 use jup_batch::BoardEdits;
-use jup_window::{Edit, Effect};
+use jup_window::Within;
 use jup_xform::NoMemory;
 use std::alloc::Global;
 use std::marker::{Model, PhantomData};
@@ -14,7 +14,7 @@ use std::marker::{Model, PhantomData};
 pub(crate) struct Order {
     entries: Vec<Entry>,
     // The checker learns of the types within an entry from a field that names them.
-    within: PhantomData<(Effect, Edit, BoardEdits)>,
+    within: PhantomData<(Within, BoardEdits)>,
 }
 
 impl Model for Order {

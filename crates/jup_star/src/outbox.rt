@@ -9,9 +9,7 @@ ghost use Rattle.jup_star.specs.TextRelabels.{DownRelabelsNoText};
 use crate::Down;
 use jup_batch::BoardBatch;
 use jup_link::Msg;
-use jup_seq::SeqOp;
-use jup_value::Label;
-use jup_window::{BoardOp, WidgetOp};
+use jup_window::Within;
 use jup_xform::NoMemory;
 use std::alloc::Global;
 use std::collections::VecDeque;
@@ -60,7 +58,7 @@ impl Downs {
 pub(crate) struct Outbox {
     messages: VecDeque<Down>,
     // The checker learns of the types within a message from a field that names them.
-    within: PhantomData<(SeqOp<Label>, WidgetOp, BoardOp, BoardBatch, Msg<BoardBatch>)>,
+    within: PhantomData<(Within, BoardBatch, Msg<BoardBatch>)>,
 }
 
 impl Model for Outbox {

@@ -22,10 +22,9 @@ use crate::{Down, OpenFault, SiteFault, Up};
 use jup_batch::{BoardBatch, BoardEdits, MOST_COMMANDS, all_insertions, name_all, one_bears_site};
 use jup_limits::{HIGHEST_LIMIT, LAST_SITE, MOST_UNACKNOWLEDGED};
 use jup_link::{End, Msg};
-use jup_seq::SeqOp;
 use jup_setting::SetOp;
-use jup_value::{Label, Name};
-use jup_window::{Board, BoardOp, Command, Edit, EditFault, Effect, WidgetOp};
+use jup_value::Name;
+use jup_window::{Board, BoardOp, Command, EditFault, WidgetOp, Within};
 use jup_xform::{Batch, NoMemory, Side, Transform};
 use std::alloc::Global;
 use std::marker::{Model, PhantomData};
@@ -69,18 +68,7 @@ pub struct Site {
     named: u32,
     stopped: bool,
     // The checker learns of the types within operations and edits from a field that names them.
-    within: PhantomData<
-        (
-            SeqOp<Label>,
-            WidgetOp,
-            BoardOp,
-            BoardBatch,
-            Msg<BoardBatch>,
-            Effect,
-            Edit,
-            BoardEdits,
-        ),
-    >,
+    within: PhantomData<(Within, BoardBatch, Msg<BoardBatch>, BoardEdits)>,
 }
 
 impl Model for Site {

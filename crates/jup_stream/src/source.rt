@@ -5,9 +5,7 @@ ghost use Rattle.jup_stream.specs.Sources.{ReadsOn, HandsOn, Stops};
 
 use crate::pieces::{count, end_of, feed_front, line_at, read_once};
 use jup_rules::{SessionFault, Stop};
-use jup_seq::SeqOp;
-use jup_value::Label;
-use jup_window::{BoardOp, WidgetOp};
+use jup_window::Within;
 use jup_wire::{Fed, Line, Reader, WireFault};
 use jup_xform::NoMemory;
 use std::alloc::Global;
@@ -31,7 +29,7 @@ pub struct Source<I: Read + Drop> {
     fed: Option<Fed>,
     given: usize,
     // The checker learns of the types within a line from a field that names them.
-    within: PhantomData<(SeqOp<Label>, WidgetOp, BoardOp, Line)>,
+    within: PhantomData<(Within, Line)>,
 }
 
 impl<I: Read + Drop> Model for Source<I> {

@@ -4,6 +4,10 @@
 //! nothing of widgets. [`laws`] says in plain facts what boards hold and what their edits mean.
 #![tactic(auto)]
 
+use jup_seq::SeqOp;
+use jup_value::Label;
+use std::marker::PhantomData;
+
 mod board_operations;
 mod boards;
 mod commands;
@@ -24,3 +28,19 @@ pub use faults::{BoardFault, EditFault};
 pub use singles::WidgetTrace;
 pub use widget_operations::WidgetOp;
 pub use widgets::Widget;
+
+/// The types within operations, commands and edits of a board. A field or a local of this type names them to the borrow checker, which
+/// learns of a type only where it is named.
+pub type Within = PhantomData<
+    (
+        SeqOp<Label>,
+        Label,
+        WidgetOp,
+        BoardOp,
+        Command,
+        Value,
+        Setting,
+        Effect,
+        Edit,
+    ),
+>;

@@ -12,9 +12,7 @@ use crate::fields::split_line;
 use crate::line::Line;
 use crate::parse::read_line;
 use crate::part::{MOST_PART, Part};
-use jup_seq::SeqOp;
-use jup_value::Label;
-use jup_window::{BoardOp, WidgetOp};
+use jup_window::Within;
 use jup_xform::NoMemory;
 use std::alloc::Global;
 use std::marker::{Model, PhantomData};
@@ -153,8 +151,7 @@ impl Lines {
         ensures ok { OnOk result (self.new ≡ self.old ++ line ∷ []) }
         ensures err { OnErr result (self.new ≡ self.old) }
     {
-        // Types that a line holds, named so that the borrow checker knows of them.
-        let _of: PhantomData<(SeqOp<Label>, WidgetOp, BoardOp)> = PhantomData;
+        let _of: Within = PhantomData;
         match self.items.push(line) {
             Ok(()) => Ok(()),
             Err(_) => Err(NoMemory),

@@ -24,8 +24,7 @@ use self::attached::are_quiet;
 use self::happening::happen;
 use crate::{Event, Happened, Reply, room_for};
 use jup_star::{OpenFault, Site, Star, is_short};
-use jup_value::Label;
-use jup_window::{Board, Command, Edit, Effect, Setting, Value};
+use jup_window::{Board, Command, Edit, Value, Within};
 use jup_xform::NoMemory;
 use std::alloc::Global;
 use std::marker::{Model, PhantomData};
@@ -97,8 +96,7 @@ fn keep(trace: &mut Vec<Happened>, room: Room, event: &Event, reply: &Reply)
     ensures { noted_trace trace.new.items
         ≡ noted_trace trace.old.items ++ record { event = lane_event event.now; reply = numbered_reply reply.now } ∷ [] }
 {
-    // The checker learns of the types within an event from this.
-    let _within: PhantomData<(Value, Setting, Label, Effect, Edit)> = PhantomData;
+    let _within: Within = PhantomData;
     trace.push_reserved(Happened {
         event: event.copy_into(room.commands),
         reply: reply.copy_into(room.edits),

@@ -5,7 +5,7 @@ use super::content::Content;
 use super::ledger::Ledger;
 use crate::expect::{expect_eq, expect_that};
 use jup_value::Label;
-use jup_window::{Board, Command, Setting, Value};
+use jup_window::{Board, Command, Setting, Value, Within};
 use jup_world::{Event, Reply, World};
 use std::alloc::Global;
 use std::marker::PhantomData;
@@ -115,8 +115,7 @@ pub(super) fn commands(
     dice: &mut Dice,
     board: &Board,
 ) -> Vec<Command> {
-    // The checker learns of the types within a command from this.
-    let _within: PhantomData<(Value, Setting, Label)> = PhantomData;
+    let _within: Within = PhantomData;
     let mut all = Vec::new(alloc);
     for _ in 0..=dice.roll(5) {
         all.push(command(rt, dice, board)).expect(rt, "memory");

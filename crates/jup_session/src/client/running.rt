@@ -5,10 +5,8 @@ use jup_rules::{
     Answer, ClientEnd, ClientState, Request, Said, SessionFault, Told, board_line_in, greeting_in,
     put_said, told_text,
 };
-use jup_seq::SeqOp;
 use jup_stream::{Output, Source};
-use jup_value::Label;
-use jup_window::{BoardOp, WidgetOp};
+use jup_window::Within;
 use jup_wire::Line;
 use std::alloc::Global;
 use std::io::{Read, Write};
@@ -145,8 +143,7 @@ fn read_board<F: Read + Drop>(
     alloc: Global,
     source: &mut Source<F>,
 ) -> Result<Vec<Line>, ClientEnd> {
-    // Types that a line holds, named so that the borrow checker knows of them.
-    let _of: PhantomData<(SeqOp<Label>, WidgetOp, BoardOp)> = PhantomData;
+    let _of: Within = PhantomData;
     let mut lines = Vec::new(alloc);
     for _ in 0..u64::MAX {
         let Some(line) = board_line_in(&source.next_line(alloc)?)? else {

@@ -24,10 +24,8 @@ use crate::Reply;
 use jup_batch::{BoardBatch, BoardEdits};
 use jup_lane::{Lane, MOST_MESSAGE};
 use jup_link::Msg;
-use jup_seq::SeqOp;
 use jup_star::{Down, Made, Site, SiteFault, Star, StarFault, Up};
-use jup_value::Label;
-use jup_window::{BoardOp, Command, Edit, Effect, WidgetOp};
+use jup_window::{Command, Within};
 use jup_xform::NoMemory;
 use std::alloc::Global;
 use std::marker::PhantomData;
@@ -40,18 +38,7 @@ pub struct Attached {
     pub up: Lane<Up>,
     pub down: Lane<Down>,
     // The checker learns of the types within messages from a field that names them.
-    within: PhantomData<
-        (
-            SeqOp<Label>,
-            WidgetOp,
-            BoardOp,
-            BoardBatch,
-            Msg<BoardBatch>,
-            Effect,
-            Edit,
-            BoardEdits,
-        ),
-    >,
+    within: PhantomData<(Within, BoardBatch, Msg<BoardBatch>, BoardEdits)>,
 }
 
 // What a message that the star took answers: the place of an edit in the order.

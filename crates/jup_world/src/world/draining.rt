@@ -14,8 +14,7 @@ ghost use Rattle.jup_world.specs.Events.{Nothing};
 
 use super::World;
 use crate::Event;
-use jup_value::Label;
-use jup_window::{Edit, Effect};
+use jup_window::Within;
 use jup_xform::NoMemory;
 use std::alloc::Global;
 use std::marker::PhantomData;
@@ -158,8 +157,7 @@ impl World {
         ensures nothing { IfOk result (λ moved. IsFalse moved → (outcome board_batches (messages_of self.old) (way_event way number)).reply ≡ Nothing) }
         ensures err { OnErr result (IsDeliveredInPart self.old self.new) }
     {
-        // The checker learns of the types within a reply from this.
-        let _within: PhantomData<(Effect, Edit, Label)> = PhantomData;
+        let _within: Within = PhantomData;
         let _opened = &self.trace;
         let reply = self.step(alloc, &way.event(number))?;
         Ok(!reply.is_nothing())

@@ -52,7 +52,7 @@ pub use reads::count_read;
 pub use request::Request;
 pub use ring::{Ring, ring_after};
 pub use said::Said;
-pub use share::{Admission, is_far_behind, rest_after};
+pub use share::{Admission, is_far_behind};
 pub use telling::{report_text, told_text};
 pub use typed::TypedLine;
 pub use words::{DaemonWords, client_words, daemon_words};

@@ -1,14 +1,23 @@
 //! What one message may cost the others who share a server.
 ghost use Rattle.std.specs.Prelude.{◌≡◌, ◌<◌, ◌↔◌, IsTrue};
 ghost use Rattle.jup_limits.specs.Limits.{most_behind};
-ghost use Rattle.jup_rules.specs.Shares.{admission_of, rest_of};
+ghost use Rattle.jup_rules.specs.Shares.{admission_at, admission_of, rest_of};
 
 use jup_limits::MOST_BEHIND;
 
-/// How many transforms one message may cost the server before the session that took it has to rest: some 35 ms of the turn.
-const FREE_TRANSFORMS: u64 = 1_048_576;
+/// How many transforms a message may cost and still be light: some 0.3 ms of the hub's turn.
+const LIGHT_TRANSFORMS: u64 = 8_192;
 
-/// How often as long as a take a session rests after it.
+/// How many one may cost that is heavy and not yet long: some 9 ms.
+const HEAVY_TRANSFORMS: u64 = 262_144;
+
+/// How many one may cost that is long and not yet costly: some 35 ms.
+const LONG_TRANSFORMS: u64 = 1_048_576;
+
+/// Microseconds that a session rests after a long take. Meanwhile those go on who wait for the turn of the hub, which has no queue.
+const REST: u64 = 2_000;
+
+/// How often as long as a costly take a session rests after it.
 const RESTS: u64 = 7;
 
 /// Microseconds that it rests at most.
@@ -18,8 +27,12 @@ const LONGEST_REST: u64 = 2_000_000;
 #[derive(Clone, Copy, Debug, PartialEq, Eq)]
 pub enum Admission {
     /// It is taken immediately.
-    Free,
-    /// It is taken once no other costly one is, and the session rests after it.
+    Light,
+    /// It is taken once no other session makes a take that is not light.
+    Heavy,
+    /// As a heavy one. The session rests after it, and only then another session makes a take that is not light.
+    Long,
+    /// As a heavy one, once no other session makes a costly take or rests after one. The session rests after it.
     Costly,
     /// It is not taken, and the session ends: its site is too far behind.
     FarBehind,
@@ -39,15 +52,33 @@ pub(crate) fn admit(operations: u32, behind: u64) -> Admission
     if is_far_behind(behind) {
         return Admission::FarBehind;
     }
-    if u64::from(operations).saturating_mul(behind) > FREE_TRANSFORMS {
-        return Admission::Costly;
-    }
-    Admission::Free
+    admission_at(u64::from(operations) * behind)
 }
 
-/// How many microseconds a session rests, outside the turn, after a costly take that took so many.
-pub fn rest_after(took: u64) -> u64
-    ensures { result ≡ rest_of took }
+// What becomes of a message that costs so many transforms.
+fn admission_at(cost: u64) -> Admission
+    ensures { result ≡ admission_at cost }
 {
-    took.saturating_mul(RESTS).min(LONGEST_REST)
+    if cost > LONG_TRANSFORMS {
+        Admission::Costly
+    } else if cost > HEAVY_TRANSFORMS {
+        Admission::Long
+    } else if cost > LIGHT_TRANSFORMS {
+        Admission::Heavy
+    } else {
+        Admission::Light
+    }
+}
+
+impl Admission {
+    /// How many microseconds a session rests, outside the turn of the hub, after such a take that took so many.
+    pub fn rest_after(self, took: u64) -> u64
+        ensures { result ≡ rest_of self took }
+    {
+        match self {
+            Admission::Light | Admission::Heavy | Admission::FarBehind => 0,
+            Admission::Long => REST,
+            Admission::Costly => took.saturating_mul(RESTS).min(LONGEST_REST),
+        }
+    }
 }

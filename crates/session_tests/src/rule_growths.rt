@@ -207,12 +207,12 @@ fn lag_fetch(rt: HostRuntime) {
     expect_eq(
         &rt,
         (lag.admit(&Up::Ping(1), 6), lag.behind(6)),
-        (Admission::Free, 1),
+        (Admission::Light, 1),
     );
     expect_eq(
         &rt,
         (lag.admit(&Up::Ack(1), 6), lag.behind(6)),
-        (Admission::Free, 0),
+        (Admission::Light, 0),
     );
 }
 

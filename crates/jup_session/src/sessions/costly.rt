@@ -5,7 +5,7 @@ ghost use Rattle.jup_rules.specs.Endings.{ending_of};
 
 use super::due::Due;
 use super::link::SessionLink;
-use jup_rules::{Admission, Ending, SessionFault, rest_after};
+use jup_rules::{Admission, Ending, SessionFault};
 use jup_star::Up;
 use std::sync::{MutexGuard, Wait};
 use std::thread;
@@ -14,6 +14,7 @@ use std::time::{Clock, Duration, Instant};
 /// The turn of a take that is not light. While a session has it no other session makes one.
 #[derive(Drop)]
 pub(crate) struct HeavyTurn<'a> {
+    admission: Admission,
     heavy: MutexGuard<'a, ()>,
     /// The turn of a costly take, which a rest follows.
     costly: Option<MutexGuard<'a, ()>>,
@@ -32,9 +33,9 @@ pub(crate) fn enter<'a, R: Wait + Clock>(
 {
     match link.watch.admit(rt, up) {
         Admission::FarBehind => Err(SessionFault::FarBehind.into()),
-        Admission::Free if link.watch.is_light(rt, up) => Ok(None),
-        Admission::Free => Ok(Some(begin(rt, link, None))),
+        Admission::Light => Ok(None),
         Admission::Costly => enter_costly(rt, link, due),
+        admission => Ok(Some(begin(rt, link, admission, None))),
     }
 }
 
@@ -52,24 +53,26 @@ fn enter_costly<'a, R: Wait + Clock>(
     if link.watch.is_far_behind(rt) {
         return Err(SessionFault::FarBehind.into());
     }
-    Ok(Some(begin(rt, link, Some(costly))))
+    Ok(Some(begin(rt, link, Admission::Costly, Some(costly))))
 }
 
 // Waits until no other session makes a take that is not light.
 fn begin<'a, R: Wait + Clock>(
     rt: &R,
     link: &SessionLink<'a>,
+    admission: Admission,
     costly: Option<MutexGuard<'a, ()>>,
 ) -> HeavyTurn<'a> {
     HeavyTurn {
+        admission,
         heavy: link.bell.share().wait_for_heavy(rt),
         costly,
         start: Instant::now(rt).ok(),
     }
 }
 
-/// Notes that the hub has taken a message, and gives its turn up. After a costly one the session wakes those who are due and rests, before
-/// it gives up that turn.
+/// Notes that the hub has taken a message, and gives its turn up. After a long or a costly one the session rests first. Before the rest of
+/// a costly one it wakes those who are due, and lets the others make takes that are not costly.
 pub(crate) fn leave_turn<R: Wait + Clock>(
     rt: &R,
     link: &SessionLink<'_>,
@@ -82,15 +85,24 @@ pub(crate) fn leave_turn<R: Wait + Clock>(
         return;
     };
     let HeavyTurn {
+        admission,
         heavy,
         costly,
         start,
     } = turn;
     let took = micros_since(rt, start).unwrap_or(u64::MAX);
-    drop(heavy);
-    if costly.is_some() {
-        due.ring(rt, link);
-        thread::sleep(rt, Duration::from_micros(rest_after(took)));
+    let rest = Duration::from_micros(admission.rest_after(took));
+    match admission {
+        Admission::Long => {
+            thread::sleep(rt, rest);
+            drop(heavy);
+        }
+        Admission::Costly => {
+            drop(heavy);
+            due.ring(rt, link);
+            thread::sleep(rt, rest);
+        }
+        Admission::Light | Admission::Heavy | Admission::FarBehind => drop(heavy),
     }
     drop(costly);
 }

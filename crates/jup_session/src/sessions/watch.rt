@@ -8,9 +8,6 @@ use jup_star::{Down, Up};
 use std::alloc::Global;
 use std::sync::{Mutex, Wait};
 
-/// Transforms that a message may cost and still be light: some 0.3 ms.
-const LIGHT_TRANSFORMS: u64 = 8_192;
-
 /// How far the site of a session is behind. Both halves note what they see of it.
 #[derive(Drop)]
 pub(crate) struct Watch<'a> {
@@ -53,12 +50,6 @@ impl<'a> Watch<'a> {
     /// Decides what becomes of a message of the site.
     pub(crate) fn admit<R: Wait>(&self, rt: &R, up: &Up) -> Admission {
         self.lag.lock(rt).admit(up, self.share.taken())
-    }
-
-    /// Whether a message of the site costs so little that it waits for no other.
-    pub(crate) fn is_light<R: Wait>(&self, rt: &R, up: &Up) -> bool {
-        let behind = self.lag.lock(rt).behind(self.share.taken());
-        u64::from(operations_in(up)).saturating_mul(behind) <= LIGHT_TRANSFORMS
     }
 
     /// Notes a message of the site that the hub has taken. The site knows its own operations before they are counted. Else it would seem

@@ -22,7 +22,7 @@ pub returns-in-PushUp-clause-plays : goal.returns-in-PushUp-clause-plays
 returns-in-PushUp-clause-plays c = rw c.in-PushUp.is c.push_up.ensures.plays
 
 pub returns-in-Edit-clause-plays : goal.returns-in-Edit-clause-plays
-returns-in-Edit-clause-plays c = rw c.in-Edit.is c.edit.ensures.plays
+returns-in-Edit-clause-plays c = rw c.in-Edit.is (rw c.from_ref.ensures.value at c.edit.ensures.plays)
 
 pub returns-in-Batch-clause-plays : goal.returns-in-Batch-clause-plays
-returns-in-Batch-clause-plays c = rw c.in-Batch.is (rw c.as_slice.ensures at c.edit-2.ensures.plays)
+returns-in-Batch-clause-plays c = rw c.in-Batch.is (rw c.as_slice.ensures at c.edit-in-Batch.ensures.plays)

@@ -75,7 +75,7 @@ impl Error for LineFault {}
 /// itself says whether it refuses the id, before it asks for memory.
 pub(crate) fn line_fault(
     alloc: Global,
-    mut board: Board,
+    board: &mut Board,
     window: Option<u16>,
     line: &str,
 ) -> Result<LineFault, NoMemory> {
@@ -137,20 +137,16 @@ fn list_fault(id: u16, value: &str) -> LineFault {
     }
 }
 
-// How many quoted texts begin in a line. A quote begins one or ends it, unless a backslash escapes it.
+// How many quoted texts begin in a line. Every other quote begins one, unless a backslash escapes it.
 fn quoted_texts(value: &[u8]) -> u64 {
-    let mut count = 0u64;
-    let (mut is_open, mut is_escaped) = (false, false);
+    let (mut quotes, mut is_escaped) = (0u64, false);
     for byte in value {
         if *byte == b'"' && !is_escaped {
-            is_open = !is_open;
-            if is_open {
-                count = count.saturating_add(1);
-            }
+            quotes = quotes.saturating_add(1);
         }
         is_escaped = *byte == b'\\' && !is_escaped;
     }
-    count
+    quotes.div_ceil(2)
 }
 
 fn slider_fault(value: &str) -> LineFault {

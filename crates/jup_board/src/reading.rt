@@ -37,12 +37,12 @@ pub fn read_printed(alloc: Global, text: &[u8]) -> Result<Board, BoardEnd>
 // Why the line that was read last is not taken after those before it.
 fn refusal(
     alloc: Global,
-    board: Board,
+    mut board: Board,
     window: Option<u16>,
     line: &str,
     lines: &BoardLines<'_>,
 ) -> BoardEnd {
-    match line_fault(alloc, board, window, line) {
+    match line_fault(alloc, &mut board, window, line) {
         Ok(fault) => lines.bad(fault),
         Err(NoMemory) => BoardEnd::NoMemory,
     }

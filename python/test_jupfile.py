@@ -1,7 +1,7 @@
 """Kills `jupfile` at every step that it makes, starts it again, and sees that each word is there once.
 
-All of it runs in one process, with a clock of its own: `jupfile`, a server, the editor of the file and another client. The server is the plain one of conformance/fakes. The client is the library, if JUP_LIBRARY names it, and else the plain one of conformance/fakes.
-A step is a call that reads or changes a file or the link. A written file is also cut in the middle.
+All of it runs in one process, with a clock of its own: `jupfile`, a server, the editor of the file and another client. The server is the plain one of conformance/fakes. The client is the library if JUP_LIBRARY names it, and else the plain one of conformance/fakes.
+A step is a call that looks at a file or the link, or changes it. A file that is written can also be cut in the middle.
 """
 import builtins
 import collections
@@ -28,8 +28,10 @@ import stars
 WORD = re.compile(r"\S+\s*")
 # How many seconds pass between two looks, and how many looks everything has at the end.
 LOOK, AT_THE_END = 0.25, 60
-# The calls that are steps.
-CALLS = {"stat", "rename", "replace", "link", "unlink", "fsync"}
+# What a step does with a file or the link.
+LOOKS, CHANGES = "looks", "changes"
+# A folder in memory, if there is one, since no step has to wait for a disk.
+FOLDER = "/dev/shm" if os.access("/dev/shm", os.W_OK) else None
 
 
 class Killed(BaseException):
@@ -51,7 +53,7 @@ class Served:
     """The server's end of a link: the lines that it has not read. It reads none while it is held up."""
 
     def __init__(self, star):
-        self.session, self.lines, self.held_up = Quiet(star, None), collections.deque(), 0
+        self.session, self.lines, self.held_up, self.is_over = Quiet(star, None), collections.deque(), 0, False
 
     def come(self, data):
         self.lines.extend(data.decode("latin-1").split("\n")[:-1])
@@ -69,7 +71,7 @@ class Served:
         return text.encode()
 
     def has_something(self):
-        return bool(self.session.seat and self.session.seat.waiting)
+        return self.is_over or bool(self.session.seat and self.session.seat.waiting)
 
 
 class Socket:
@@ -80,18 +82,16 @@ class Socket:
         world.links.append(self.served)
 
     def send(self, data):
-        self.world.step()
+        self.world.step(CHANGES)
         self.served.come(data)
         return len(data)
 
     def recv(self, _):
-        self.world.step()
-        return self.served.going()
+        self.world.step(LOOKS)
+        return b"" if self.served.is_over else self.served.going()
 
-    def setsockopt(self, *_):
+    def close(self):
         pass
-
-    setblocking = close = setsockopt
 
 
 class Half:
@@ -109,7 +109,7 @@ class Half:
     def write(self, data):
         self.file.write(data[: len(data) // 2])
         self.file.flush()
-        self.world.step()
+        self.world.step(CHANGES)
         self.file.write(data[len(data) // 2 :])
 
     def __getattr__(self, name):
@@ -120,52 +120,54 @@ class World:
     """A server whose board has a text, a folder with a file, and what is done at which look."""
 
     def __init__(self, place, text, script, plan):
-        layout = ["window 1", "text 1", *(f"char 0.{at + 1} {ord(it)}" for at, it in enumerate(text))]
-        self.star, self.links, self.now = stars.Star(layout, 1_000_000), [], 0.0
-        self.path, self.script, self.plan = f"{place}/a.txt", collections.deque(script), plan
-        self.steps, self.looks, self.saves, self.read_before = 0, 0, 0, None
+        self.path, self.script, self.plan, self.now = f"{place}/a.txt", collections.deque(script), plan, 0.0
+        self.steps, self.looks, self.saves, self.seen, self.read_before = [], 0, 0, "", None
         self.put, self.deleted, self.first = set(), set(), set(text.split())
-        self.other = Socket(self)
-        self.other.served.come(b"hello 3\n")
-        self.client = jup.Client()
-        self.client.take()
+        self.serve(text)
+
+    def serve(self, text):
+        """A server starts, and another client joins it."""
+        layout = ["window 1", "text 1", *(f"char 0.{at + 1} {ord(it)}" for at, it in enumerate(text))]
+        self.star, self.links = stars.Star(layout, 1_000_000), []
+        self.other, self.client = Socket(self).served, jup.Client()
+        self.other.come(self.client.take())
         self.other_reads()
 
     # What the program calls.
 
-    def step(self):
+    def step(self, kind):
         """A step begins: what is planned for it happens now."""
-        self.steps += 1
-        act = self.plan.get(self.steps)
+        self.steps.append(kind)
+        act = self.plan.get(len(self.steps))
         if act:
+            self.looks = self.looks if self.script else 0
             act(self)
 
-    def called(self, call):
+    def called(self, kind, call):
         def step(*given):
-            self.step()
+            if given[0] == self.path:
+                self.file()
+            self.step(kind)
             return call(*given)
 
         return step
 
-    def open(self, path, mode, **how):
-        self.step()
-        file = builtins.open(path, mode, **how)
-        return Half(self, file) if mode == "wb" and "lock" not in path else file
+    def open(self, path, mode):
+        self.step(CHANGES if mode == "wb" else LOOKS)
+        file = builtins.open(path, mode)
+        return Half(self, file) if mode == "wb" else file
 
     def select(self, reads, writes, _, seconds):
         self.now += seconds
         self.looks += 1
         for it in self.links:
             it.read()
-        self.acts()
-        return [it for it in reads if it.served.has_something()], writes, []
-
-    def acts(self):
-        if self.script and self.script[0][0] <= self.looks:
+        if self.script and self.script[0][0] < self.looks:
             self.looks = 0
             self.script.popleft()[1](self)
         elif not self.script and self.looks > AT_THE_END:
             raise Over
+        return [it for it in reads if it.served.has_something()], writes, []
 
     # What others do.
 
@@ -173,9 +175,10 @@ class World:
         return "".join(chr(value) for _, value in self.star.board.windows[1][1].items)
 
     def file(self):
+        """What the file has, or what it had before there was none."""
         with contextlib.suppress(FileNotFoundError), open(self.path, encoding="utf-8", newline="") as file:
-            return file.read()
-        return ""
+            self.seen = file.read()
+        return self.seen
 
     def save(self, text, by_rename=False):
         """An editor saves. No two saves have one time, as on a machine whose clock ticks often enough."""
@@ -188,22 +191,24 @@ class World:
             os.rename(path, self.path)
 
     def other_reads(self):
-        self.other.served.read()
-        while self.other.served.has_something():
-            self.client.feed(self.other.served.going())
+        self.other.read()
+        while self.other.has_something():
+            self.client.feed(self.other.going())
 
-    def other_edits(self, *commands):
-        self.other_reads()
-        self.client.edit(*commands)
-        self.other.served.come(self.client.take())
-        self.other.served.read()
+    def other_edits(self, commands):
+        """The other client edits, 32 commands at a time."""
+        for at in range(0, len(commands), 32):
+            self.other_reads()
+            self.client.edit(*commands[at : at + 32])
+            self.other.come(self.client.take())
+        self.other.read()
 
 
 # What a script does.
 
 
 def inserts(*words, at=1, by_rename=False, is_stale=False):
-    """The editor reads the file, or has read it before, and saves it with words more."""
+    """The editor saves the file with words more, as it reads it now or has read it before."""
 
     def act(world):
         pieces = WORD.findall(world.read_before if is_stale else world.file())
@@ -215,7 +220,7 @@ def inserts(*words, at=1, by_rename=False, is_stale=False):
 
 
 def reads(world):
-    """The editor reads the file, and will save that later."""
+    """The editor reads the file, and saves that later."""
     world.read_before = world.file()
 
 
@@ -236,7 +241,7 @@ def others_insert(word, at=1):
         world.other_reads()
         place = sum(map(len, WORD.findall(world.client.text(1, 1))[:at]))
         world.put.add(word)
-        world.other_edits(*(jup.insert_char(1, 1, place + more, char) for more, char in enumerate(f"{word}\n")))
+        world.other_edits([jup.insert_char(1, 1, place + more, char) for more, char in enumerate(f"{word}\n")])
 
     return act
 
@@ -246,12 +251,20 @@ def others_delete(word):
 
     def act(world):
         world.other_reads()
-        found = re.search(rf"\b{word}\s", world.client.text(1, 1))
+        found = re.search(rf"(?m)^{word}\s", world.client.text(1, 1))
         world.deleted.add(word)
         if found:
-            world.other_edits(*[jup.delete(1, 1, found.start())] * len(found[0]))
+            world.other_edits([jup.delete(1, 1, found.start())] * len(found[0]))
 
     return act
+
+
+def server_restarts(world):
+    """The server ends after it has read all that came, and starts again with its board."""
+    links, text = world.links, world.text()
+    for it in links:
+        it.is_over = True
+    world.serve(text)
 
 
 # What happens at a step.
@@ -261,15 +274,11 @@ def killed(fate):
     """The program is killed. `fate` says what the server does with what it had sent."""
 
     def act(world):
-        fate(world.links[-1])
+        if len(world.links) > 1:
+            fate(world.links[-1])
         raise Killed
 
     return act
-
-
-def saved(word, by_rename):
-    """The editor saves just then."""
-    return inserts(word, at=2, by_rename=by_rename)
 
 
 def is_read(link):
@@ -290,31 +299,29 @@ def half_is_lost(link):
     link.read()
 
 
+def is_read_soon(link):
+    """The server reads all of it after the next start has joined, and before that has sent anything."""
+    link.held_up = 3
+
+
 def is_read_late(link):
     """The server reads all of it after the next start has sent its own."""
     link.held_up = 16
-
-
-def is_read_soon(link):
-    """The server reads all of it after the next start has joined, and before it has sent anything."""
-    link.held_up = 3
 
 
 FATES = (is_read, is_lost, half_is_lost, is_read_soon, is_read_late)
 
 
 def modules(world):
-    """The modules that the program calls, with the steps of this world."""
-    stepping = types.SimpleNamespace(**{name: world.called(call) if name in CALLS else call for name, call in vars(os).items()})
-    clock = types.SimpleNamespace(monotonic=lambda: world.now, sleep=lambda seconds: world.select([], [], [], seconds))
-    sockets = types.SimpleNamespace(create_connection=lambda *_: Socket(world), IPPROTO_TCP=0, TCP_NODELAY=0, socket=None)
+    """The names in modules of the program that mean something else here."""
+    kinds = {**dict.fromkeys(("rename", "replace", "link", "unlink", "fsync"), CHANGES), "stat": LOOKS}
     return {
-        (local, "os"): stepping,
+        (local, "os"): types.SimpleNamespace(**{**vars(os), **{name: world.called(kind, vars(os)[name]) for name, kind in kinds.items()}}),
         (local, "open"): world.open,
-        (local, "swap"): world.called(local.swap),
+        (local, "swap"): world.called(CHANGES, local.swap),
+        (jupfile, "connected"): lambda _: Socket(world),
         (jupfile, "select"): types.SimpleNamespace(select=world.select),
-        (jupfile, "time"): clock,
-        (jupfile, "socket"): sockets,
+        (jupfile, "time"): types.SimpleNamespace(monotonic=lambda: world.now, sleep=lambda seconds: world.select([], [], [], seconds)),
         (jupfile, "LOOK"): LOOK,
     }
 
@@ -337,13 +344,14 @@ def play(text, script, plan):
     with tempfile.TemporaryDirectory(prefix="jupfile-", dir=FOLDER) as place:
         world = World(place, text, script, plan)
         with replaced(modules(world)), contextlib.redirect_stdout(io.StringIO()) as world.said:
-            while runs(world):
+            while is_killed(world):
                 pass
         world.at_the_end = world.file(), world.text()
+        world.left = sorted(os.listdir(f"{place}/.a.txt.jupfile"))
     return world
 
 
-def runs(world):
+def is_killed(world):
     """Runs the program until it is killed, or all was played. Returns whether it was killed."""
     program = None
     try:
@@ -359,29 +367,101 @@ def runs(world):
     raise AssertionError("the program ended")
 
 
-# A folder in memory, if there is one, since the steps wait for the disk.
-FOLDER = "/dev/shm" if os.access("/dev/shm", os.W_OK) else None
-
-
 def wrong(world):
-    """What is wrong at the end."""
+    """What is wrong at the end. A deleted word may be there, since its insertion may be made again."""
     file, board = world.at_the_end
     counts = collections.Counter(board.split())
     due = (world.put | world.first) - world.deleted
     if file != board:
         yield f"the file has {file!r}, and the board {board!r}"
-    yield from (f"{it} is there {counts[it]} times" for it in due | set(counts) if counts[it] != 1)
+    yield from (f"{it} is there {counts[it]} times" for it in sorted(due | set(counts)) if counts[it] != 1)
+    if leftover := [it for it in world.left if it.startswith("was.")]:
+        yield f"{leftover} are left"
+
+
+TEXT = "alpha\nbeta\ngamma\ndelta\n"
+# Each of these words is sent as an edit of its own.
+LONG_WORDS = ("x" * 20, "y" * 20, "z" * 20)
+# Others edit while the file is saved and sent.
+TYPING = [
+    (8, inserts("one")),
+    (0, others_insert("two")),
+    (3, others_insert("three", at=2)),
+    (3, others_delete("beta")),
+    (3, inserts(*LONG_WORDS, by_rename=True)),
+    (0, deletes("gamma")),
+    (0, others_delete("x" * 20)),
+]
+# The editor saves what it read before others edited.
+STALE = [(8, reads), (0, others_insert("two", at=2)), (3, inserts(*LONG_WORDS, at=3, is_stale=True)), (0, others_insert("three"))]
+# The file is written again and again, and then the editor saves what it had read before.
+OFTEN = [(8, reads), *((0, others_insert(f"often{at}")) for at in range(14)), (1, inserts("stale", at=3, is_stale=True))]
+RESTARTED = [(8, inserts(*LONG_WORDS)), (0, others_insert("two")), (0, server_restarts), (4, inserts("one", at=3)), (4, others_insert("three"))]
+SENT, WRITTEN = [(8, inserts(*LONG_WORDS[:2]))], [(8, others_insert("two"))]
 
 
 class Steps(unittest.TestCase):
-    def check(self, name, world):
-        found = list(wrong(world))
-        self.assertFalse(found, f"{name}: {found}, {world.at_the_end}\n{world.said.getvalue()}")
+    def steps_of(self, script, *kinds, after=0, plan={}):
+        """The numbers of the steps of these kinds after one."""
+        world = play(TEXT, script, plan)
+        self.check(world, "without more")
+        return [at for at, kind in enumerate(world.steps, 1) if kind in kinds and at > after]
 
-    def steps(self, text, script):
-        world = play(text, script, {})
-        self.check("without a kill", world)
-        return world.steps
+    def begun(self, script):
+        """The number of the last step before the script begins."""
+        world = play(TEXT, [(script[0][0], lambda world: world.plan.setdefault("begun", len(world.steps)))], plan := {})
+        return plan["begun"]
+
+    def check(self, world, *what):
+        found = list(wrong(world))
+        self.assertFalse(found, f"{what}: {found}, {world.at_the_end}\n{world.said.getvalue()}")
+
+    def check_kills(self, script, fates, after=0):
+        for step in self.steps_of(script, CHANGES, after=after):
+            for fate in fates:
+                self.check(play(TEXT, script, {step: killed(fate)}), step, fate.__name__)
+
+    def check_saves(self, script, after=0, kills=0):
+        """The editor saves at each step, and the program is killed at one of the steps that come then."""
+        for by_rename in (False, True):
+            save = inserts("saved", at=2, by_rename=by_rename)
+            for step in self.steps_of(script, LOOKS, CHANGES, after=after):
+                self.check(play(TEXT, script, {step: save}), step, by_rename)
+                for kill in self.steps_of(script, CHANGES, after=step, plan={step: save})[:kills]:
+                    self.check(play(TEXT, script, {step: save, kill: killed(is_read)}), step, kill, by_rename)
+
+    def test_killed_at_each_step(self):
+        self.check_kills(TYPING, FATES)
+
+    def test_killed_at_each_step_beside_an_editor_that_read_before(self):
+        self.check_kills(STALE, (is_read, is_read_late))
+
+    def test_killed_after_many_writes(self):
+        steps = self.steps_of(OFTEN, CHANGES)
+        self.check_kills(OFTEN, (is_read,), after=steps[-40])
+
+    def test_killed_at_each_step_while_the_server_starts_again(self):
+        self.check_kills(RESTARTED, (is_read, is_lost))
+
+    def test_killed_twice(self):
+        for first in self.steps_of(SENT, CHANGES, after=self.begun(SENT)):
+            plan = {first: killed(is_read_late)}
+            for second in self.steps_of(SENT, CHANGES, after=first, plan=plan):
+                self.check(play(TEXT, SENT, {**plan, second: killed(is_read_late)}), first, second)
+
+    def test_saved_at_each_step(self):
+        self.check_saves(TYPING)
+
+    def test_saved_and_killed_then(self):
+        self.check_saves(WRITTEN, after=self.begun(WRITTEN), kills=10)
+
+    def test_without_a_swap(self):
+        before, local.SWAP = local.SWAP, None
+        try:
+            self.check_kills(TYPING, (is_read,))
+            self.check_saves(WRITTEN, after=self.begun(WRITTEN), kills=10)
+        finally:
+            local.SWAP = before
 
 
 if __name__ == "__main__":

@@ -85,6 +85,8 @@ class Client:
 
     def __init__(self, watch: bool = False) -> None:
         self.going, self.coming, self.stage, self.plain = b"", b"", Stage.GREETING, Plain(self)
+        # Texts that were asked for, until something changes.
+        self.texts: dict[tuple[int, int], str] = {}
         self.plain.send("hello 3")
 
     def sendall(self, data: bytes) -> None:
@@ -95,6 +97,7 @@ class Client:
         return taken
 
     def feed(self, data: bytes) -> None:
+        self.texts.clear()
         *lines, self.coming = (self.coming + data).split(b"\n")
         for line in lines:
             self.read(line.decode("latin-1"))
@@ -120,6 +123,7 @@ class Client:
         return told
 
     def edit(self, *commands: Command) -> None:
+        self.texts.clear()
         self.plain.told += map(change_of, self.plain.edit(list(commands)))
 
     def ping(self) -> None:
@@ -141,4 +145,6 @@ class Client:
         return [Widget(win, wid, WidgetKind.TEXT) for win, window in self.plain.board.windows.items() for wid in window]
 
     def text(self, win: int, wid: int) -> str:
-        return "".join(chr(value) for _, value in self.plain.board.windows[win][wid].items)
+        if (win, wid) not in self.texts:
+            self.texts[win, wid] = "".join(chr(value) for _, value in self.plain.board.windows[win][wid].items)
+        return self.texts[win, wid]

@@ -1,7 +1,7 @@
 """Kills `jupfile` at every step that it makes, starts it again, and sees that each word is there once.
 
 All of it runs in one process, with a clock of its own: `jupfile`, a server, the editor of the file and another client. The server is the plain one of conformance/fakes. The client is the library if JUP_LIBRARY names it, and else the plain one of conformance/fakes.
-A step is a call that looks at a file or the link, or changes it. A file that is written can also be cut in the middle.
+A step is a call that looks at a file or changes it, or sends, waits or hears. A file that is written can also be cut in the middle.
 """
 import builtins
 import collections
@@ -26,10 +26,10 @@ import local
 import stars
 
 WORD = re.compile(r"\S+\s*")
-# How many seconds pass between two looks, and how many looks everything has at the end.
-LOOK, AT_THE_END = 0.25, 60
-# What a step does with a file or the link.
-LOOKS, CHANGES = "looks", "changes"
+# How many seconds pass between two looks, after how many of them the server reads what came, and how many everything has at the end.
+LOOK, SLOW, AT_THE_END = 0.25, 2, 60
+# What a step does: it looks at a file or changes it, or it sends, waits or hears.
+LOOKS, CHANGES, WAITS = "looks", "changes", "waits"
 # A folder in memory, if there is one, since no step has to wait for a disk.
 FOLDER = "/dev/shm" if os.access("/dev/shm", os.W_OK) else None
 
@@ -50,18 +50,22 @@ class Quiet(stars.Session):
 
 
 class Served:
-    """The server's end of a link: the lines that it has not read. It reads none while it is held up."""
+    """The server's end of a link: the lines that it has not read. It reads all of them some looks after the first came."""
 
     def __init__(self, star):
-        self.session, self.lines, self.held_up, self.is_over = Quiet(star, None), collections.deque(), 0, False
+        self.session, self.lines, self.looks, self.is_over = Quiet(star, None), collections.deque(), 0, False
 
     def come(self, data):
+        self.looks = self.looks if self.lines else SLOW
         self.lines.extend(data.decode("latin-1").split("\n")[:-1])
 
+    def passes(self):
+        """A look passes."""
+        self.looks -= 1
+        if self.looks <= 0:
+            self.read()
+
     def read(self):
-        if self.held_up:
-            self.held_up -= 1
-            return
         while self.lines and self.session.goes_on(self.lines.popleft()):
             pass
 
@@ -82,12 +86,12 @@ class Socket:
         world.links.append(self.served)
 
     def send(self, data):
-        self.world.step(CHANGES)
+        self.world.step(WAITS)
         self.served.come(data)
         return len(data)
 
     def recv(self, _):
-        self.world.step(LOOKS)
+        self.world.step(WAITS)
         return b"" if self.served.is_over else self.served.going()
 
     def close(self):
@@ -137,7 +141,7 @@ class World:
 
     def step(self, kind):
         """A step begins: what is planned for it happens now."""
-        self.steps.append(kind)
+        self.steps.append((kind, bool(self.links[-1].lines)))
         act = self.plan.get(len(self.steps))
         if act:
             self.looks = self.looks if self.script else 0
@@ -158,10 +162,11 @@ class World:
         return Half(self, file) if mode == "wb" else file
 
     def select(self, reads, writes, _, seconds):
+        self.step(WAITS)
         self.now += seconds
         self.looks += 1
         for it in self.links:
-            it.read()
+            it.passes()
         if self.script and self.script[0][0] < self.looks:
             self.looks = 0
             self.script.popleft()[1](self)
@@ -301,12 +306,12 @@ def half_is_lost(link):
 
 def is_read_soon(link):
     """The server reads all of it after the next start has joined, and before that has sent anything."""
-    link.held_up = 3
+    link.looks = 3
 
 
 def is_read_late(link):
     """The server reads all of it after the next start has sent its own."""
-    link.held_up = 16
+    link.looks = 16
 
 
 FATES = (is_read, is_lost, half_is_lost, is_read_soon, is_read_late)
@@ -402,10 +407,10 @@ SENT, WRITTEN = [(8, inserts(*LONG_WORDS[:2]))], [(8, others_insert("two"))]
 
 class Steps(unittest.TestCase):
     def steps_of(self, script, *kinds, after=0, plan={}):
-        """The numbers of the steps of these kinds after one."""
+        """The steps of these kinds after one: their numbers, and whether something was sent then that the server had not read."""
         world = play(TEXT, script, plan)
         self.check(world, "without more")
-        return [at for at, kind in enumerate(world.steps, 1) if kind in kinds and at > after]
+        return {at: is_sent for at, (kind, is_sent) in enumerate(world.steps, 1) if kind in kinds and at > after}
 
     def begun(self, script):
         """The number of the last step before the script begins."""
@@ -417,49 +422,51 @@ class Steps(unittest.TestCase):
         self.assertFalse(found, f"{what}: {found}, {world.at_the_end}\n{world.said.getvalue()}")
 
     def check_kills(self, script, fates, after=0):
-        for step in self.steps_of(script, CHANGES, after=after):
-            for fate in fates:
+        """The program is killed at each step. If nothing was sent then, all fates of that are one."""
+        for step, is_sent in self.steps_of(script, CHANGES, WAITS, after=after).items():
+            for fate in fates if is_sent else fates[:1]:
                 self.check(play(TEXT, script, {step: killed(fate)}), step, fate.__name__)
 
     def check_saves(self, script, after=0, kills=0):
-        """The editor saves at each step, and the program is killed at one of the steps that come then."""
+        """The editor saves at each step, and the program is killed at one of the changes that come then."""
         for by_rename in (False, True):
             save = inserts("saved", at=2, by_rename=by_rename)
             for step in self.steps_of(script, LOOKS, CHANGES, after=after):
                 self.check(play(TEXT, script, {step: save}), step, by_rename)
-                for kill in self.steps_of(script, CHANGES, after=step, plan={step: save})[:kills]:
+                for kill in list(self.steps_of(script, CHANGES, after=step, plan={step: save}))[:kills]:
                     self.check(play(TEXT, script, {step: save, kill: killed(is_read)}), step, kill, by_rename)
 
     def test_killed_at_each_step(self):
         self.check_kills(TYPING, FATES)
 
     def test_killed_at_each_step_beside_an_editor_that_read_before(self):
-        self.check_kills(STALE, (is_read, is_read_late))
+        self.check_kills(STALE, FATES)
 
     def test_killed_after_many_writes(self):
-        steps = self.steps_of(OFTEN, CHANGES)
-        self.check_kills(OFTEN, (is_read,), after=steps[-40])
+        self.check_kills(OFTEN, (is_read,), after=max(self.steps_of(OFTEN, CHANGES)) - 100)
 
     def test_killed_at_each_step_while_the_server_starts_again(self):
         self.check_kills(RESTARTED, (is_read, is_lost))
 
     def test_killed_twice(self):
-        for first in self.steps_of(SENT, CHANGES, after=self.begun(SENT)):
-            plan = {first: killed(is_read_late)}
-            for second in self.steps_of(SENT, CHANGES, after=first, plan=plan):
-                self.check(play(TEXT, SENT, {**plan, second: killed(is_read_late)}), first, second)
+        firsts = self.steps_of(SENT, CHANGES, WAITS, after=self.begun(SENT))
+        for first in [it for it, is_sent in firsts.items() if is_sent]:
+            for fate in (is_read_soon, is_read_late):
+                plan = {first: killed(fate)}
+                for second in self.steps_of(SENT, CHANGES, WAITS, after=first, plan=plan):
+                    self.check(play(TEXT, SENT, {**plan, second: killed(is_read_late)}), first, second, fate.__name__)
 
     def test_saved_at_each_step(self):
         self.check_saves(TYPING)
 
     def test_saved_and_killed_then(self):
-        self.check_saves(WRITTEN, after=self.begun(WRITTEN), kills=10)
+        self.check_saves(WRITTEN, after=self.begun(WRITTEN), kills=8)
 
     def test_without_a_swap(self):
         before, local.SWAP = local.SWAP, None
         try:
             self.check_kills(TYPING, (is_read,))
-            self.check_saves(WRITTEN, after=self.begun(WRITTEN), kills=10)
+            self.check_saves(WRITTEN, after=self.begun(WRITTEN), kills=3)
         finally:
             local.SWAP = before
 

@@ -1,4 +1,4 @@
-"""copies: a text of the board with the names of its characters, and what a new link makes of the edits that an earlier link of the same `jupfile` had sent. All functions are pure.
+"""copies: a text of the board with the names of its characters, and what a new link does about the edits of an earlier link of one `jupfile`. All functions are pure.
 
 A server takes the edits of a link in their order, and may take some after the link has ended, even after the next one has begun. Each inserted character has a name, the number of the site and its own, and none is given twice. So the names show which of the earlier edits the server has taken.
 """
@@ -55,7 +55,7 @@ class Past(NamedTuple):
         return site > self.site and is_same and all(it in before or it in self.gone for it in now.names if it[0] == OPENING_SITE)
 
     def counting(self, now: Iterable[Name]) -> dict[int, int]:
-        """Of each earlier site the last insertion that counts: of the last one, what the server had taken when the new link began. What it takes later is made anew, and so it is unwanted."""
+        """Of each earlier site the last insertion that counts: of the last one, what the server had taken when the new link began. What it takes later is made again, so it is unwanted."""
         seen = (number for site, number in now if site == self.site)
         return {**self.ours, self.site: max(self.taken, *seen, 0)}
 

@@ -1,4 +1,4 @@
-"""jup_model: stands for the module jup in tests where the library is not built. It is the plain client of conformance/fakes, with what `jupfile` calls."""
+"""jup_model: replaces the module jup in tests where the library is not built. It is the plain client of conformance/fakes, with what `jupfile` calls."""
 import enum
 import os
 import sys

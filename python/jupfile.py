@@ -249,7 +249,7 @@ class Sharing:
         self.keep()
 
     def resume(self, state: local.State) -> tuple[str, str]:
-        """What the board has, and what both sides are to have, since others went on while there was no link."""
+        """What the board has, and what both sides are to have, since others may have gone on without this program."""
         past, now = state.past, self.link.copy()
         if past is None:
             return now.text, now.text

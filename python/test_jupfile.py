@@ -7,6 +7,7 @@ import builtins
 import collections
 import contextlib
 import io
+import itertools
 import os
 import re
 import sys
@@ -28,6 +29,8 @@ import stars
 WORD = re.compile(r"\S+\s*")
 # How many seconds pass between two looks, after how many of them the server reads what came, and how many everything has at the end.
 LOOK, SLOW, AT_THE_END = 0.25, 2, 60
+# How many steps from a change a save may make a difference.
+NEAR = 6
 # What a step does: it looks at a file or changes it, or it sends, waits or hears.
 LOOKS, CHANGES, WAITS = "looks", "changes", "waits"
 # A folder in memory, if there is one, since no step has to wait for a disk.
@@ -428,13 +431,13 @@ class Steps(unittest.TestCase):
                 self.check(play(TEXT, script, {step: killed(fate)}), step, fate.__name__)
 
     def check_saves(self, script, after=0, kills=0):
-        """The editor saves at each step, and the program is killed at one of the changes that come then."""
-        for by_rename in (False, True):
+        """The editor saves at each step near a change, and the program is killed at one of the changes that come then."""
+        changes = self.steps_of(script, CHANGES, after=after)
+        near = [it for it in self.steps_of(script, LOOKS, CHANGES, after=after) if any(abs(it - at) <= NEAR for at in changes)]
+        for step, by_rename in itertools.product(near, (False, True)):
             save = inserts("saved", at=2, by_rename=by_rename)
-            for step in self.steps_of(script, LOOKS, CHANGES, after=after):
-                self.check(play(TEXT, script, {step: save}), step, by_rename)
-                for kill in list(self.steps_of(script, CHANGES, after=step, plan={step: save}))[:kills]:
-                    self.check(play(TEXT, script, {step: save, kill: killed(is_read)}), step, kill, by_rename)
+            for kill in list(self.steps_of(script, CHANGES, after=step, plan={step: save}))[:kills]:
+                self.check(play(TEXT, script, {step: save, kill: killed(is_read)}), step, kill, by_rename)
 
     def test_killed_at_each_step(self):
         self.check_kills(TYPING, FATES)

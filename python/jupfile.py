@@ -80,7 +80,7 @@ class Link:
         self.is_settled, self.is_asked, self.is_told_to_wait = True, False, False
         self.open(time.monotonic() + PATIENCE)
         self.win, self.wid = self.text_of(wanted)
-        self.names = copies.names_of(self.opening, self.win, self.wid)
+        self.names, self.opening = copies.names_of(self.opening, self.win, self.wid), b""
         # The edits that the server may not have taken, how many were made at all, and the numbers of the last insertion made, and of the last surely taken.
         self.unsure: collections.deque[Edit] = collections.deque()
         self.made = self.last = self.taken = 0
@@ -307,7 +307,7 @@ class Sharing:
         if before != self.shared.mine:
             tell(f"saved: {counted(before, self.shared.mine)}")
         if self.is_first and any(it.start < it.end for it in texts.difference(text, self.shared.mine)):
-            tell(f"others deleted some of the file meanwhile. {self.kept.keep_copy(text)} has it as it was")
+            tell(f"others deleted some of the file meanwhile. {self.kept.keep_copy(text.encode())} has it as it was")
         self.is_fit, self.is_first = True, False
 
     def take_strays(self, now: float) -> bool:
@@ -317,7 +317,7 @@ class Sharing:
             try:
                 text = texts.read_text(data)
             except texts.Unfit as why:
-                tell(f"not taken from an editor that had the file open while it was written: {why}")
+                tell(f"not taken from an editor that had the file open while it was written: {why}. {self.kept.keep_copy(data)} has it")
                 continue
             before = self.shared.mine
             self.shared.strayed(versions, text)

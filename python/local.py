@@ -5,7 +5,7 @@ The folder .FILE.jupfile beside the file has:
     lock            no other jupfile has the folder meanwhile
     state           what both sides had, and what was sent (State)
     was.I.S.M       a file that this program replaced, while an editor may still save into it. Its name is what the file was when it was read
-    before          the file as it was before a start at which others had deleted some of it
+    before          a copy of what was saved, where others had deleted some of it meanwhile, or it was no text
     new, state.new  what is being written
 """
 import contextlib
@@ -290,8 +290,8 @@ class Kept:
         finally:
             os.close(handle)
 
-    def keep_copy(self, text: str) -> str:
-        """Keeps a copy of the file. Returns its path."""
+    def keep_copy(self, data: bytes) -> str:
+        """Keeps a copy of what somebody saved. Returns its path."""
         path = f"{self.room}/before"
-        write_whole(path, text.encode(), OWN)
+        write_whole(path, data, OWN)
         return path

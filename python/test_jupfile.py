@@ -260,8 +260,8 @@ def others_delete(word):
     def act(world):
         world.other_reads()
         found = re.search(rf"(?m)^{word}\s", world.client.text(1, 1))
-        world.deleted.add(word)
         if found:
+            world.deleted.add(word)
             world.other_edits([jup.delete(1, 1, found.start())] * len(found[0]))
 
     return act
@@ -375,11 +375,13 @@ def is_killed(world):
     raise AssertionError("the program ended")
 
 
-def wrong(world):
-    """What is wrong at the end. A deleted word may be there, since its insertion may be made again."""
+def wrong(world, is_known):
+    """What is wrong at the end. A deleted word may be there if it is not known that the server had taken it."""
     file, board = world.at_the_end
     counts = collections.Counter(board.split())
     due = (world.put | world.first) - world.deleted
+    if is_known and world.deleted & set(counts):
+        yield f"{world.deleted & set(counts)} came back"
     if file != board:
         yield f"the file has {file!r}, and the board {board!r}"
     yield from (f"{it} is there {counts[it]} times" for it in sorted(due | set(counts)) if counts[it] != 1)
@@ -398,7 +400,7 @@ TYPING = [
     (3, others_delete("beta")),
     (3, inserts(*LONG_WORDS, by_rename=True)),
     (0, deletes("gamma")),
-    (0, others_delete("x" * 20)),
+    (5, others_delete("x" * 20)),
 ]
 # The editor saves what it read before others edited.
 STALE = [(8, reads), (0, others_insert("two", at=2)), (3, inserts(*LONG_WORDS, at=3, is_stale=True)), (0, others_insert("three"))]
@@ -420,15 +422,15 @@ class Steps(unittest.TestCase):
         world = play(TEXT, [(script[0][0], lambda world: world.plan.setdefault("begun", len(world.steps)))], plan := {})
         return plan["begun"]
 
-    def check(self, world, *what):
-        found = list(wrong(world))
+    def check(self, world, *what, is_known=False):
+        found = list(wrong(world, is_known))
         self.assertFalse(found, f"{what}: {found}, {world.at_the_end}\n{world.said.getvalue()}")
 
     def check_kills(self, script, fates, after=0):
         """The program is killed at each step. If nothing was sent then, all fates of that are one."""
         for step, is_sent in self.steps_of(script, CHANGES, WAITS, after=after).items():
             for fate in fates if is_sent else fates[:1]:
-                self.check(play(TEXT, script, {step: killed(fate)}), step, fate.__name__)
+                self.check(play(TEXT, script, {step: killed(fate)}), step, fate.__name__, is_known=fate is is_read and script is TYPING)
 
     def check_saves(self, script, after=0, kills=0):
         """The editor saves at each step near a change, and the program is killed at one of the changes that come then."""

@@ -21,6 +21,7 @@ else:
     import jup_model
 
     sys.modules["jup"] = jup_model
+import copies
 import jup
 import jupfile
 import local
@@ -129,7 +130,8 @@ class World:
     def __init__(self, place, text, script, plan):
         self.path, self.script, self.plan, self.now = f"{place}/a.txt", collections.deque(script), plan, 0.0
         self.steps, self.looks, self.saves, self.seen, self.read_before = [], 0, 0, "", None
-        self.put, self.deleted, self.first = set(), set(), set(text.split())
+        # The words that were put in, those that the editor deleted and others did, and those of the opening.
+        self.put, self.gone, self.deleted, self.first = set(), set(), set(), set(text.split())
         self.serve(text)
 
     def serve(self, text):
@@ -236,10 +238,15 @@ def deletes(word):
     """The editor saves the file without a word."""
 
     def act(world):
-        world.deleted.add(word)
+        world.gone.add(word)
         world.save("".join(it for it in WORD.findall(world.file()) if it.strip() != word))
 
     return act
+
+
+def deletes_first(world):
+    """The editor saves the file without its first word."""
+    world.save("".join(WORD.findall(world.file())[1:]))
 
 
 def others_insert(word, at=1):
@@ -379,7 +386,8 @@ def wrong(world, is_known):
     """What is wrong at the end. A deleted word may be there if it is not known that the server had taken it."""
     file, board = world.at_the_end
     counts = collections.Counter(board.split())
-    due = (world.put | world.first) - world.deleted
+    due = (world.put | world.first) - world.deleted - world.gone
+    yield from (f"{it} was deleted, and is there" for it in world.gone & set(counts))
     if is_known and world.deleted & set(counts):
         yield f"{world.deleted & set(counts)} came back"
     if file != board:
@@ -453,6 +461,13 @@ class Steps(unittest.TestCase):
     def test_killed_at_each_step_while_the_server_starts_again(self):
         self.check_kills(RESTARTED, (is_read, is_lost))
 
+    def test_one_of_several_equal_words_is_deleted(self):
+        text, script = "same\n" * 4, [(8, deletes_first)]
+        for step, (_, is_sent) in list(enumerate(play(text, script, {}).steps, 1))[self.begun(script) :]:
+            for fate in FATES if is_sent else FATES[:1]:
+                world = play(text, script, {step: killed(fate)})
+                self.assertEqual(world.at_the_end, ("same\n" * 3,) * 2, (step, fate.__name__))
+
     def test_killed_twice(self):
         firsts = self.steps_of(SENT, CHANGES, WAITS, after=self.begun(SENT))
         for first in [it for it, is_sent in firsts.items() if is_sent]:
@@ -474,6 +489,40 @@ class Steps(unittest.TestCase):
             self.check_saves(WRITTEN, after=self.begun(WRITTEN), kills=3)
         finally:
             local.SWAP = before
+
+
+class Copies(unittest.TestCase):
+    def test_the_names_of_an_opening(self):
+        opening = b"welcome 2 1000\nwindow 1\ntext 1\nchar 0.1 72\nchar 4.7 105\nlist 2\nitem 0.3 char 9.9 1\ntext 3\nchar 1.1 33\nwindow 2\ntext 1\nchar 0.9 97\nready\nbatch 0 0 1\n"
+        self.assertEqual(copies.names_of(opening, 1, 1), [(0, 1), (4, 7)])
+        self.assertEqual(copies.names_of(opening, 1, 3), [(1, 1)])
+        self.assertEqual(copies.names_of(opening, 2, 1), [(0, 9)])
+
+    def test_stretches(self):
+        copy = copies.Copy([(0, 1), (0, 2), (3, 1), (0, 3), (3, 3), (3, 2)], "abcdef")
+        self.assertEqual(copy.runs(), [(0, 1, "ab"), (3, 1, "c"), (0, 3, "d"), (3, 3, "e"), (3, 2, "f")])
+        self.assertEqual(copies.copy_of(copy.runs()), copy)
+
+    def test_a_server_that_was_started_again(self):
+        past = copies.Past(3, 1, copies.copy_of([(0, 1, "ab"), (3, 1, "xy")]), frozenset({(0, 3)}), {})
+        rows = [
+            ("nothing happened", 4, [(0, 1, "ab"), (3, 1, "xy")], True),
+            ("others edited", 9, [(0, 2, "b"), (5, 1, "new")], True),
+            ("a deletion was not taken", 4, [(0, 1, "abc")], True),
+            ("sites begin again", 2, [(0, 1, "ab")], False),
+            ("the board has more of the opening than before", 4, [(0, 1, "abxy")], False),
+            ("a name has another character", 4, [(0, 1, "xa")], False),
+        ]
+        for name, site, runs, due in rows:
+            with self.subTest(name):
+                self.assertEqual(past.is_known_to(site, copies.copy_of(runs)), due)
+
+    def test_what_the_server_had_not_taken(self):
+        past = copies.Past(3, 1, copies.copy_of([(0, 1, "ab"), (3, 1, "xyz"), (0, 3, "c")]), frozenset(), {2: 5})
+        now = copies.copy_of([(0, 1, "a"), (3, 2, "y"), (4, 1, "N"), (0, 3, "c")])
+        self.assertEqual(past.counting(now.names), {2: 5, 3: 2})
+        self.assertEqual(past.restored(now, 2), "ayzNc")
+        self.assertEqual(past.known_text(), "abxc")
 
 
 if __name__ == "__main__":

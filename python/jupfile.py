@@ -5,42 +5,38 @@ It joins the server at ADDR. It sends what an editor saves in FILE to the text I
 It keeps what both last had in the folder .FILE.jupfile beside the file, so that what is typed while it does not run is merged at the next start.
 docs/EMBEDDING.md says what an editor has to do, and what the files may be.
 """
+# It may be killed at any moment, and still each word that was saved is on the board once after the next start. There are four reasons:
+#
+# - Nothing is sent before the folder has it (Sharing.keep): the text with the names of its characters, and the versions of the file whose words are in it.
+#   So no start takes a word of such a version for a new one.
+# - A start finds by the names which edits of the earlier link the server has taken, and makes the others again (Sharing.resume).
+# - The server may take some of these others later, from the earlier link. Their names do not count then, and they are deleted again (Link.undo).
+# - A swap replaces the file, and what it had stays in the folder until all of that is kept (local.put_in_place).
+#
+# One thing nobody can tell: whether the server never took an insertion, or took it and somebody deleted it before this program knew. It is made again.
 import argparse
-import ctypes
-import errno
-import fcntl
-import json
+import collections
 import os
 import select
 import signal
 import socket
 import sys
 import time
-from collections.abc import Iterator
+from collections.abc import Iterable
 from typing import NamedTuple
 
+import copies
 import jup
+import local
 import texts
 
 IO_FAULT, FAULT = 1, 4
 # The numbers of faults that this program tells apart.
 LONG_TEXT, BACKLOG, LINKS_TAKEN, EARLY_END = 6, 7, 30, 43
-# How many seconds pass between two looks at the file, and between two writes of it.
-LOOK, PAUSE = 0.05, 0.2
-# After how many seconds without a change a file counts as saved, and as saved shorter, emptied or deleted, since an editor may not have written all of it yet.
-SETTLED, SHORTER = 0.1, 1.0
-# After how many seconds of changes a file counts as saved although it is shorter.
-LONGEST = 2.0
+# How many seconds pass between two looks at the file.
+LOOK = 0.05
 # How many seconds are waited for a server, for the end of a link, and at first and at most before it is tried again.
 PATIENCE, LAST, SOON, LATE = 10.0, 5.0, 0.5, 15.0
-# How many seconds a file is watched that another has replaced, and how many versions of the file are kept beside it.
-WATCHED, MOST_KEPT = 5.0, 8
-# `renameat2` of Linux swaps two files with this flag. Other systems have no such call.
-SWAP, EXCHANGE, HERE = getattr(ctypes.CDLL(None, use_errno=True), "renameat2", None), 2, -100
-NO_EXCHANGE = (errno.ENOSYS, errno.EINVAL, errno.ENOTSUP)
-# The mode of what is kept, and what the mode of a new file leaves out.
-OWN = 0o600
-os.umask(UMASK := os.umask(0))
 
 
 def tell(words: str) -> None:
@@ -67,219 +63,36 @@ class Ended(Exception):
         self.status = status
 
 
-class Sign(NamedTuple):
-    """What tells one state of a file from another."""
+class Edit(NamedTuple):
+    """An edit that the server may not have taken: the number of the last insertion up to it, and what it deletes."""
 
-    inode: int
-    size: int
-    changed: int
-
-
-def sign_of(state: os.stat_result) -> Sign:
-    return Sign(state.st_ino, state.st_size, state.st_mtime_ns)
-
-
-class Waiting:
-    """Waits until a file is no longer being written. `taken` is the state that was read last, and `quiet` the last moment at which the file had it."""
-
-    def __init__(self, taken: Sign | None, now: float) -> None:
-        self.taken, self.coming, self.since, self.quiet = taken, taken, now, now
-
-    def is_due(self, found: Sign | None, now: float) -> bool:
-        """Whether a state is new, and has been there for long enough."""
-        if found == self.taken:
-            self.quiet = now
-        if found != self.coming:
-            self.coming, self.since = found, now
-        is_shorter = found is None or found.size == 0 or self.taken is not None and found.size < self.taken.size
-        wait = SHORTER if is_shorter and now - self.quiet < LONGEST else SETTLED
-        return found != self.taken and now - self.since >= wait
-
-    def is_quiet(self) -> bool:
-        return self.coming == self.taken
-
-
-class Replaced(NamedTuple):
-    """A file that another has replaced, still open. It is watched until a moment for an editor that had it open too, and may have read one of the versions."""
-
-    handle: int
-    versions: list[str]
-    waiting: Waiting
-    until: float
-
-
-def read_all(handle: int) -> bytes:
-    with open(handle, "rb", closefd=False) as file:
-        file.seek(0)
-        return file.read()
-
-
-def write_whole(path: str, data: bytes, mode: int) -> None:
-    """Writes a file, and waits until the disk has it."""
-    with open(path, "wb") as file:
-        os.fchmod(file.fileno(), mode)
-        file.write(data)
-        file.flush()
-        os.fsync(file.fileno())
-
-
-def swap(one: str, other: str) -> int:
-    """Swaps two files. Returns 0, or the number of the system's error."""
-    if SWAP is None:
-        return errno.ENOSYS
-    failed = SWAP(HERE, os.fsencode(one), HERE, os.fsencode(other), EXCHANGE)
-    return ctypes.get_errno() if failed else 0
-
-
-def put_in_place(new: str, path: str) -> int | None:
-    """Puts a file in the place of another, in one step. Returns the open handle of the other, or None if there was none."""
-    if not os.path.exists(path):
-        os.replace(new, path)
-        return None
-    failed = swap(new, path)
-    if failed in NO_EXCHANGE:
-        handle = os.open(path, os.O_RDONLY)
-        os.replace(new, path)
-        return handle
-    if failed:
-        raise OSError(failed, os.strerror(failed), path)
-    handle = os.open(new, os.O_RDONLY)
-    os.unlink(new)
-    return handle
-
-
-class LocalFile:
-    """The file, as editors save it and this program writes it."""
-
-    def __init__(self, path: str, room: str, now: float) -> None:
-        self.path, self.new = path, f"{room}/new"
-        # At the start it is not known whether somebody is writing the file: each size counts as shorter than this one.
-        self.waiting = Waiting(Sign(0, sys.maxsize, 0), now)
-        self.replaced: list[Replaced] = []
-        self.written = 0.0
-
-    def sign(self) -> Sign | None:
-        try:
-            return sign_of(os.stat(self.path))
-        except FileNotFoundError:
-            return None
-
-    def saved(self, now: float) -> bytes | None:
-        """What somebody has saved since the last look. A file that is not there has nothing."""
-        found = self.sign()
-        if not self.waiting.is_due(found, now):
-            return None
-        data = self.read() if found else b""
-        if self.sign() != found:
-            return None
-        self.waiting.taken = found
-        return data
-
-    def read(self) -> bytes:
-        try:
-            with open(self.path, "rb") as file:
-                return file.read()
-        except FileNotFoundError:
-            return b""
-
-    def is_there(self) -> bool:
-        """Whether the last look found the file."""
-        return self.waiting.taken is not None
-
-    def can_be_written(self, now: float) -> bool:
-        """Whether nobody is writing it, and the last write was some time ago."""
-        return self.waiting.is_quiet() and self.sign() == self.waiting.taken and now - self.written >= PAUSE
-
-    def write(self, text: str, versions: list[str], now: float) -> bool:
-        """Writes the file whole, unless somebody just saved or deleted it. What it had before stays watched for a while. Returns whether it was written."""
-        try:
-            mode = os.stat(self.path).st_mode & 0o7777 if self.is_there() else 0o666 & ~UMASK
-            write_whole(self.new, text.encode(), mode)
-            mine = sign_of(os.stat(self.new))
-            if self.sign() != self.waiting.taken:
-                return False
-            handle = put_in_place(self.new, self.path)
-        except FileNotFoundError:
-            return False
-        if handle is not None:
-            self.replaced.append(Replaced(handle, versions, Waiting(self.waiting.taken, now), now + WATCHED))
-        self.waiting, self.written = Waiting(mine, now), now
-        return True
-
-    def strays(self, now: float) -> Iterator[tuple[list[str], bytes]]:
-        """What somebody saved into a file that was replaced meanwhile, each with the versions that they may have read."""
-        for it in self.replaced:
-            if it.waiting.is_due(sign_of(os.fstat(it.handle)), now):
-                it.waiting.taken = it.waiting.coming
-                yield it.versions, read_all(it.handle)
-        for it in [it for it in self.replaced if it.until < now and it.waiting.is_quiet()]:
-            os.close(it.handle)
-            self.replaced.remove(it)
-
-
-class Kept:
-    """What is kept beside the file: the text that both last had, the versions of the file, and the board and text that they are of. No other program has the folder meanwhile."""
-
-    def __init__(self, path: str, board: str) -> None:
-        folder, name = os.path.split(path)
-        self.room, self.board = f"{folder}/.{name}.jupfile", board
-        os.makedirs(self.room, exist_ok=True)
-        self.lock = open(f"{self.room}/lock", "wb")
-        try:
-            fcntl.flock(self.lock, fcntl.LOCK_EX | fcntl.LOCK_NB)
-        except OSError:
-            raise Ended(f"another jupfile has {path}", IO_FAULT) from None
-        self.base, self.versions = self.read()
-
-    def read(self) -> tuple[str, list[str]]:
-        """What an earlier run kept, or an empty text if there was none with this board."""
-        try:
-            with open(f"{self.room}/kept", encoding="utf-8", newline="") as file:
-                found = json.load(file)
-        except FileNotFoundError:
-            return "", [""]
-        if found["board"] != self.board:
-            tell(f"the file was last shared with {found['board']}, so nothing of it counts as deleted")
-            return "", [""]
-        return found["base"], found["versions"]
-
-    def keep(self, base: str, versions: list[str]) -> None:
-        """Keeps these, unless they are kept already. Of the versions it keeps the last."""
-        versions = versions[-MOST_KEPT:]
-        if (base, versions) == (self.base, self.versions):
-            return
-        data = json.dumps({"board": self.board, "base": base, "versions": versions})
-        write_whole(f"{self.room}/kept.new", data.encode(), OWN)
-        os.replace(f"{self.room}/kept.new", f"{self.room}/kept")
-        self.base, self.versions = base, versions
-
-    def keep_copy(self, text: str) -> str:
-        """Keeps a copy of the file. Returns its path."""
-        path = f"{self.room}/before"
-        write_whole(path, text.encode(), OWN)
-        return path
+    last: int
+    gone: list[copies.Name]
 
 
 class Link:
     """A client and its link. `W.I` names the text, or nothing does, and it is then the first one."""
 
     def __init__(self, address: str, wanted: str | None) -> None:
-        host, _, port = address.rpartition(":")
-        try:
-            self.socket = socket.create_connection((host.strip("[]"), int(port)), PATIENCE)
-        except OSError as wrong:
-            raise Lost(f"cannot connect to {address}: {wrong.strerror or wrong}") from None
-        self.socket.setsockopt(socket.IPPROTO_TCP, socket.TCP_NODELAY, 1)
-        self.socket.setblocking(False)
-        self.client, self.going = jup.Client(), b""
+        self.socket = connected(address)
+        self.client, self.going, self.opening = jup.Client(watch=True), b"", b""
         # Whether the server has all edits, and whether that was asked since the last edit.
         self.is_settled, self.is_asked, self.is_told_to_wait = True, False, False
-        until = time.monotonic() + PATIENCE
+        self.open(time.monotonic() + PATIENCE)
+        self.win, self.wid = self.text_of(wanted)
+        self.names, self.opening = copies.names_of(self.opening, self.win, self.wid), b""
+        # The edits that the server may not have taken, how many were made at all, and the numbers of the last insertion made, and of the last surely taken.
+        self.unsure: collections.deque[Edit] = collections.deque()
+        self.made = self.last = self.taken = 0
+        # What is to be deleted, and of each earlier site of this file the last insertion that counts.
+        self.unwanted: set[copies.Name] = set()
+        self.ours: dict[int, int] = {}
+
+    def open(self, until: float) -> None:
         while self.client.stage != jup.Stage.OPEN:
             if time.monotonic() > until:
                 raise Lost("the server does not send its board")
             self.carry(LOOK)
-        self.win, self.wid = self.text_of(wanted)
 
     def text_of(self, wanted: str | None) -> tuple[int, int]:
         found = [(it.win, it.wid) for it in self.client.widgets() if it.kind == jup.WidgetKind.TEXT]
@@ -306,6 +119,8 @@ class Link:
             self.hear(data)
 
     def hear(self, data: bytes) -> None:
+        if self.client.stage != jup.Stage.OPEN:
+            self.opening += data
         try:
             self.client.feed(data)
         except jup.Fault as fault:
@@ -315,19 +130,67 @@ class Link:
         if self.is_asked and self.client.is_synced:
             self.is_settled, self.is_asked = True, False
 
+    def follow(self) -> list[jup.Change]:
+        """Takes the changes of the text since the last call, and returns them. Forgets the edits that the server has surely taken."""
+        left = 0 if self.is_settled else self.client.site.backlog
+        while len(self.unsure) > left:
+            self.taken = self.unsure.popleft().last
+        changes = [it for it in self.client.changes() if (it.win, it.wid) == (self.win, self.wid) and it.kind != jup.Kind.NOTHING]
+        for it in changes:
+            name = (it.site, it.number)
+            if it.kind == jup.Kind.DELETE:
+                del self.names[it.place]
+                self.unwanted.discard(name)
+            else:
+                self.names.insert(it.place, name)
+                self.unwanted |= {name} if copies.is_late(name, self.ours) else set()
+        return changes
+
+    def copy(self) -> copies.Copy:
+        """The text without what is to be deleted."""
+        self.follow()
+        copy = copies.Copy(list(self.names), self.client.text(self.win, self.wid))
+        return copy.without(self.unwanted) if self.unwanted else copy
+
     def text(self) -> str:
-        return self.client.text(self.win, self.wid)
+        return self.copy().text
+
+    def resume(self, past: copies.Past) -> None:
+        """Goes on where an earlier link ended: what that had deleted is to be deleted, and what the server takes of it from now on."""
+        self.ours = past.counting(self.names)
+        self.unwanted = {it for it in self.names if copies.is_late(it, self.ours) or it in past.gone}
+
+    def past(self) -> copies.Past:
+        """What this link leaves if it ends now."""
+        gone = self.unwanted.union(*(it.gone for it in self.unsure))
+        return copies.Past(self.client.site.number, self.taken, self.copy(), frozenset(gone), self.ours)
+
+    def undo(self) -> None:
+        """Deletes what is to be deleted, as far as that can be done now."""
+        places = [at for at in reversed(range(len(self.names))) if self.names[at] in self.unwanted] if self.unwanted else []
+        steps = [texts.Step(at, None) for at in places]
+        self.make(steps[at : at + texts.MOST_COMMANDS] for at in range(0, len(steps), texts.MOST_COMMANDS))
 
     def become(self, old: str, new: str) -> None:
         """Makes the text `new`, as far as that can be done now."""
-        for steps in texts.edits(old, new):
+        self.make(texts.edits(old, new))
+
+    def make(self, edits: Iterable[list[texts.Step]]) -> None:
+        for steps in edits:
             try:
                 self.client.edit(*map(self.command, steps))
             except jup.Fault as fault:
                 self.wait(fault.number)
                 return
-            self.is_settled = self.is_asked = False
+            self.note(self.follow())
         self.is_told_to_wait = False
+
+    def note(self, changes: list[jup.Change]) -> None:
+        """Notes an edit of this link until the server has surely taken it."""
+        self.last = max([self.last, *(it.number for it in changes if it.kind != jup.Kind.DELETE)])
+        self.unsure.append(Edit(self.last, [(it.site, it.number) for it in changes if it.kind == jup.Kind.DELETE]))
+        self.made += 1
+        self.is_settled = self.is_asked = False
 
     def command(self, step: texts.Step) -> jup.Command:
         if step.char is None:
@@ -364,46 +227,79 @@ class Link:
         self.socket.close()
 
 
+def connected(address: str) -> socket.socket:
+    host, _, port = address.rpartition(":")
+    try:
+        found = socket.create_connection((host.strip("[]"), int(port)), PATIENCE)
+    except OSError as wrong:
+        raise Lost(f"cannot connect to {address}: {wrong.strerror or wrong}") from None
+    found.setsockopt(socket.IPPROTO_TCP, socket.TCP_NODELAY, 1)
+    found.setblocking(False)
+    return found
+
+
 class Sharing:
     """A file and a text of the board, while there is a link."""
 
-    def __init__(self, link: Link, file: LocalFile, kept: Kept) -> None:
+    def __init__(self, link: Link, file: local.LocalFile, kept: local.Kept) -> None:
         self.link, self.file, self.kept = link, file, kept
-        self.shared = texts.Shared(kept.base, kept.versions, time.monotonic())
         # Whether the file has a text that was taken, and whether this is the first of it.
         self.is_fit, self.is_first = False, True
+        self.shared = texts.Shared(*self.resume(kept.state), kept.state.versions, time.monotonic())
+        self.keep()
+
+    def resume(self, state: local.State) -> tuple[str, str]:
+        """What the board has, and what both sides are to have, since others may have gone on without this program."""
+        past, now = state.past, self.link.copy()
+        if past is None:
+            return now.text, now.text
+        if not past.is_known_to(self.link.client.site.number, now):
+            tell("the server was started again, so the texts alone show what was done meanwhile")
+            return now.text, texts.merge(past.known_text(), state.mine, now.text)
+        self.link.resume(past)
+        now = self.link.copy()
+        return now.text, texts.merge(past.copy.text, state.mine, past.restored(now, self.link.ours[past.site]))
 
     def step(self, now: float) -> None:
         """Takes what both sides did, and lets each have what the other did."""
         board = self.link.text()
         if board != self.shared.board:
             self.shared.changed(board)
-        self.take_file(now)
-        self.take_strays(now)
-        if not self.is_fit:
-            return
-        if self.shared.mine != board:
-            self.link.become(board, self.shared.mine)
-            self.shared.board = self.link.text()
-        if self.shared.mine == self.shared.board:
+        is_taken = [self.take_file(now), self.take_strays(now)]
+        if self.edit() or any(is_taken):
+            self.keep()
+        if self.is_fit and self.shared.mine == self.shared.board and not self.link.unwanted:
             self.settle(now)
+        self.file.forget_replaced(now)
 
-    def take_file(self, now: float) -> None:
+    def edit(self) -> bool:
+        """Lets the board have what the file has. Returns whether anything was done."""
+        shared, before = self.shared, self.link.made
+        self.link.undo()
+        if self.is_fit and shared.mine != shared.board and not self.link.unwanted:
+            self.link.become(shared.board, shared.mine)
+            shared.board = self.link.text()
+        return self.link.made != before
+
+    def take_file(self, now: float) -> bool:
+        """Takes what was saved. Returns whether there was something."""
         data = self.file.saved(now)
         if data is None:
-            return
+            return False
         if not self.file.is_there():
             # The file is written again.
             self.is_fit, self.is_first = True, False
-            return
+            return False
         try:
             text = texts.read_text(data)
         except texts.Unfit as why:
             self.is_fit = False
             tell(f"not taken, and left as it is until it is saved again: {why}")
-            return
-        if self.is_first or not self.is_fit or text != self.shared.file:
-            self.take(text)
+            return False
+        if not self.is_first and self.is_fit and text == self.shared.file:
+            return False
+        self.take(text)
+        return True
 
     def take(self, text: str) -> None:
         before = self.shared.mine
@@ -411,42 +307,58 @@ class Sharing:
         if before != self.shared.mine:
             tell(f"saved: {counted(before, self.shared.mine)}")
         if self.is_first and any(it.start < it.end for it in texts.difference(text, self.shared.mine)):
-            tell(f"others deleted some of the file meanwhile. {self.kept.keep_copy(text)} has it as it was")
+            tell(f"others deleted some of the file meanwhile. {self.kept.keep_copy(text.encode())} has it as it was")
         self.is_fit, self.is_first = True, False
 
-    def take_strays(self, now: float) -> None:
+    def take_strays(self, now: float) -> bool:
+        """Takes what was saved into files that were replaced meanwhile. Returns whether there was something."""
+        is_taken = False
         for versions, data in self.file.strays(now):
             try:
                 text = texts.read_text(data)
             except texts.Unfit as why:
-                tell(f"not taken from an editor that had the file open while it was written: {why}")
+                tell(f"not taken from an editor that had the file open while it was written: {why}. {self.kept.keep_copy(data)} has it")
                 continue
             before = self.shared.mine
             self.shared.strayed(versions, text)
-            tell(f"saved while the file was written: {counted(before, self.shared.mine)}")
+            versions.append(text)
+            is_taken = True
+            if before != self.shared.mine:
+                tell(f"saved while the file was written: {counted(before, self.shared.mine)}")
+        return is_taken
 
     def settle(self, now: float) -> None:
-        """Once the server has all edits: keeps what both have, and writes the file if it has something else."""
+        """Once the server has all edits: writes the file if it has something else than the board."""
         self.link.ask()
         if not self.link.is_settled:
             return
         shared = self.shared
         shared.forget_old(self.file.waiting.quiet)
         versions = shared.read_lately()
-        has_all = shared.file == shared.mine and self.file.is_there()
-        if has_all:
-            self.kept.keep(shared.mine, versions)
+        if shared.file == shared.mine and self.file.is_there():
+            if self.signs() != self.kept_signs:
+                self.keep()
         elif self.file.can_be_written(now):
             # The version to come is kept first. So a start after a kill knows the file as it was and as it is.
-            self.kept.keep(shared.mine, [*versions, shared.mine])
+            self.keep(shared.mine)
             words = f"written: {counted(shared.file, shared.mine)}" if self.file.is_there() else "written again"
             if self.file.write(shared.mine, versions, now):
                 tell(words)
                 shared.wrote(now)
 
+    def keep(self, *coming: str) -> None:
+        """Keeps what both sides have and are to have, and the versions of the file, with one that comes."""
+        versions = self.file.versions([*self.shared.read_lately(), *coming])
+        self.kept.keep(local.State(self.link.past(), self.shared.mine, versions))
+        self.kept_signs = self.signs()
+
+    def signs(self) -> tuple:
+        """What shows whether something else is to be kept."""
+        return self.shared.board, self.shared.mine, self.shared.read_lately(), len(self.link.unsure), len(self.link.unwanted)
+
     def is_equal(self) -> bool:
         """Whether the file, the board and what is kept are the same."""
-        return self.link.is_settled and self.is_fit and self.shared.file == self.shared.mine == self.shared.board == self.kept.base
+        return self.link.is_settled and self.is_fit and self.shared.file == self.shared.mine == self.shared.board == self.kept.state.mine
 
 
 class Program:
@@ -454,10 +366,10 @@ class Program:
 
     def __init__(self, address: str, wanted: str | None, path: str) -> None:
         self.address, self.wanted, self.path = address, wanted, os.path.realpath(path)
-        self.kept = Kept(self.path, f"{address} {wanted or 'first'}")
+        self.kept = local.Kept(self.path, f"{address} {wanted or 'first'}")
+        if self.kept.other_board:
+            tell(f"the file was last shared with {self.kept.other_board}, so nothing of it counts as deleted")
         self.is_stopped = False
-        for number in (signal.SIGINT, signal.SIGTERM):
-            signal.signal(number, self.stop)
 
     def stop(self, *_: object) -> None:
         self.is_stopped = True
@@ -475,8 +387,9 @@ class Program:
                 pause = min(2 * pause, LATE)
 
     def share(self, link: Link) -> None:
-        tell(f"joined {self.address} as site {link.client.site.number}: text {link.win}.{link.wid} has {len(link.text())} characters")
-        sharing = Sharing(link, LocalFile(self.path, self.kept.room, time.monotonic()), self.kept)
+        tell(f"joined {self.address} as site {link.client.site.number}: text {link.win}.{link.wid} has {len(link.names)} characters")
+        file = local.LocalFile(self.path, self.kept.room, self.kept.state.versions, time.monotonic())
+        sharing = Sharing(link, file, self.kept)
         until = None
         while until is None or time.monotonic() < until and not sharing.is_equal():
             sharing.step(time.monotonic())
@@ -507,12 +420,15 @@ def main(words: list[str]) -> int:
     parser.add_argument("file", metavar="FILE", help="the file. It is made if it is not there")
     given = parser.parse_args(words)
     try:
-        Program(given.connect, given.text, given.file).run()
+        program = Program(given.connect, given.text, given.file)
+        for number in (signal.SIGINT, signal.SIGTERM):
+            signal.signal(number, program.stop)
+        program.run()
     except Ended as why:
         tell(str(why))
         return why.status
-    except (OSError, ValueError) as why:
-        tell(f"io fault: {why}")
+    except (OSError, ValueError, local.Taken) as why:
+        tell(str(why) if isinstance(why, local.Taken) else f"io fault: {why}")
         return IO_FAULT
     return 0
 

@@ -199,7 +199,7 @@ class Versions(unittest.TestCase):
         self.assertEqual(texts.started_from(["a\n", "a\n"], "b\n"), "a\n")
 
     def test_what_others_did_stays_if_an_editor_had_not_read_it(self):
-        shared = texts.Shared("a\nb\n", ["a\nb\n"], 0.0)
+        shared = texts.Shared("a\nb\n", "a\nb\n", ["a\nb\n"], 0.0)
         shared.changed("a\nb\ntheirs\n")
         shared.wrote(1.0)
         shared.saved("a\nmine\nb\n", 2.0)
@@ -207,14 +207,14 @@ class Versions(unittest.TestCase):
         self.assertEqual(shared.file, "a\nmine\nb\n")
 
     def test_what_others_did_can_be_deleted_later(self):
-        shared = texts.Shared("a\nb\n", ["a\nb\n"], 0.0)
+        shared = texts.Shared("a\nb\n", "a\nb\n", ["a\nb\n"], 0.0)
         shared.changed("a\nb\ntheirs\n")
         shared.wrote(1.0)
         shared.saved("a\nb\n", 1.0 + texts.READ_AGO)
         self.assertEqual(shared.mine, "a\nb\n")
 
     def test_what_was_typed_while_nothing_ran(self):
-        shared = texts.Shared("a\nb\n", ["a\nb\n"], 0.0)
+        shared = texts.Shared("a\nb\n", "a\nb\n", ["a\nb\n"], 0.0)
         shared.saved("a\nmine\nb\n", 0.1)
         shared.changed("b\ntheirs\n")
         self.assertEqual(shared.mine, "mine\nb\ntheirs\n")

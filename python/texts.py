@@ -353,9 +353,9 @@ class Shared:
     `board` is what the board has, and `mine` what both are to have. The last of `versions` is what the file has, and those before it are what an editor may have read that has not saved yet. Each has the moment from which the file had it.
     """
 
-    def __init__(self, base: str, versions: list[str], now: float) -> None:
-        """A start: both last had `base`."""
-        self.board = self.mine = base
+    def __init__(self, board: str, mine: str, versions: list[str], now: float) -> None:
+        """A start: the board had `board`, and both were to have `mine`."""
+        self.board, self.mine = board, mine
         self.versions = [(now, it) for it in versions]
 
     @property
@@ -364,10 +364,12 @@ class Shared:
         return self.versions[-1][1]
 
     def saved(self, text: str, then: float) -> None:
-        """Somebody saved the file after a moment. What they changed of the version that they had read is to be done to both."""
+        """Somebody saved the file after a moment. What they changed of the version that they had read is to be done to both. A version that was there already stays one of several."""
         self.forget_old(then)
-        self.strayed(self.read_lately(), text)
-        self.versions = [(then, text)]
+        lately = self.read_lately()
+        self.strayed(lately, text)
+        others = [it for it in self.versions if it[1] != text] if text in lately else []
+        self.versions = [*others, (then, text)]
 
     def strayed(self, versions: list[str], text: str) -> None:
         """Somebody saved this text, and had read one of these versions."""

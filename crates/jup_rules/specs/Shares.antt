@@ -8,9 +8,9 @@ use Rattle.jup_rules.specs.declared.share.Admission.TheVariants.{Light, Heavy, L
 abbrev pub light_transforms : ℕ
 light_transforms = 8192
 
--- those of a message that is heavy and not yet long: some 9 ms
+-- those of a message that is heavy and not yet long: some 4 ms
 abbrev pub heavy_transforms : ℕ
-heavy_transforms = 262144
+heavy_transforms = 131072
 
 -- those of a message that is long and not yet costly: some 35 ms
 abbrev pub long_transforms : ℕ
@@ -24,10 +24,10 @@ admission_at cost = if nat_lt long_transforms cost then Costly else (if nat_lt h
 abbrev pub admission_of : ℕ → ℕ → Admission
 admission_of operations behind = if nat_lt most_behind behind then FarBehind else admission_at (operations * behind)
 
--- microseconds that a session rests after a take of so many: two milliseconds after a long one, and after a costly one seven times as long as it took, at most two seconds
+-- microseconds that a session rests after a take of so many: half a millisecond after a long one, and after a costly one seven times as long as it took, at most two seconds
 abbrev pub rest_of : Admission → ℕ → ℕ
 rest_of Light took = 0
 rest_of Heavy took = 0
-rest_of Long took = 2000
+rest_of Long took = 500
 rest_of Costly took = min (7 * took) 2000000
 rest_of FarBehind took = 0

@@ -8,14 +8,14 @@ use jup_limits::MOST_BEHIND;
 /// How many transforms a message may cost and still be light: some 0.3 ms of the hub's turn.
 const LIGHT_TRANSFORMS: u64 = 8_192;
 
-/// How many one may cost that is heavy and not yet long: some 9 ms.
-const HEAVY_TRANSFORMS: u64 = 262_144;
+/// How many one may cost that is heavy and not yet long: some 4 ms.
+const HEAVY_TRANSFORMS: u64 = 131_072;
 
 /// How many one may cost that is long and not yet costly: some 35 ms.
 const LONG_TRANSFORMS: u64 = 1_048_576;
 
 /// Microseconds that a session rests after a long take. Meanwhile those go on who wait for the turn of the hub, which has no queue.
-const REST: u64 = 2_000;
+const REST: u64 = 500;
 
 /// How often as long as a costly take a session rests after it.
 const RESTS: u64 = 7;

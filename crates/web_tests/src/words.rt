@@ -4,64 +4,59 @@ use jup_service::{ServiceWords, service_words};
 use std::alloc::Global;
 use std::process::Abort;
 
-fn read(rt: &impl Abort, alloc: Global, words: &[&str]) -> Option<ServiceWords> {
-    let mut texts: Vec<String> = Vec::new(alloc);
+fn texts_of(rt: &impl Abort, alloc: Global, words: &[&str]) -> Vec<String> {
+    let mut texts = Vec::new(alloc);
     for word in words {
         let text = String::from_str(alloc, word).expect(rt, "memory");
         texts.push(text).expect(rt, "memory");
     }
-    match service_words(alloc, &texts) {
-        Ok(told) => Some(told),
-        Err(_) => None,
-    }
+    texts
 }
 
-fn expect_text(rt: &impl Abort, text: Option<&String>, due: Option<&str>) {
-    match (text, due) {
-        (Some(text), Some(due)) => expect_eq(rt, text.as_str().as_bytes(), due.as_bytes()),
-        (text, due) => expect_eq(rt, text.is_some(), due.is_some()),
+fn read<'a>(rt: &impl Abort, alloc: Global, texts: &'a [String]) -> ServiceWords<'a> {
+    match service_words(alloc, texts) {
+        Ok(told) => told,
+        Err(_) => panic!(rt; "the words are refused"),
     }
 }
 
 #[test]
 fn what_is_told_is_read(rt: HostRuntime) {
-    let told = read(
-        &rt,
-        rt.alloc(),
-        &[
-            "--listen",
-            "127.0.0.1:1",
-            "--board",
-            "b",
-            "--limit",
-            "7",
-            "--page",
-            "p",
-            "--captions",
-            "c",
-            "--origin",
-            "https://a.example",
-        ],
-    )
-    .expect(&rt, "words");
+    let words = [
+        "--listen",
+        "127.0.0.1:1",
+        "--board",
+        "b",
+        "--limit",
+        "7",
+        "--page",
+        "p",
+        "--captions",
+        "c",
+        "--origin",
+        "https://a.example",
+    ];
+    let texts = texts_of(&rt, rt.alloc(), &words);
+    let told = read(&rt, rt.alloc(), &texts);
     expect_eq(&rt, told.limit, 7);
-    expect_text(&rt, Some(&told.listen), Some("127.0.0.1:1"));
-    expect_text(&rt, Some(&told.board), Some("b"));
-    expect_text(&rt, told.page.as_ref(), Some("p"));
-    expect_text(&rt, told.captions.as_ref(), Some("c"));
-    expect_text(&rt, told.origin.as_ref(), Some("https://a.example"));
+    expect_eq(&rt, told.listen, "127.0.0.1:1");
+    expect_eq(&rt, told.board, "b");
+    expect_eq(&rt, told.page, Some("p"));
+    expect_eq(&rt, told.captions, Some("c"));
+    expect_eq(&rt, told.origin, Some("https://a.example"));
 }
 
 #[test]
 fn the_limit_is_the_highest_where_none_is_told(rt: HostRuntime) {
-    let told = read(&rt, rt.alloc(), &["--listen", "a", "--board", "b"]).expect(&rt, "words");
+    let texts = texts_of(&rt, rt.alloc(), &["--listen", "a", "--board", "b"]);
+    let told = read(&rt, rt.alloc(), &texts);
     expect_eq(&rt, told.limit, 16_777_216);
-    expect_text(&rt, told.page.as_ref(), None);
-    expect_text(&rt, told.origin.as_ref(), None);
+    expect_eq(&rt, told.page, None);
+    expect_eq(&rt, told.origin, None);
 }
 
 fn is_refused(rt: &impl Abort, alloc: Global, words: &[&str]) -> bool {
-    read(rt, alloc, words).is_none()
+    service_words(alloc, &texts_of(rt, alloc, words)).is_err()
 }
 
 #[test]

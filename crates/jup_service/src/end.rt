@@ -12,7 +12,7 @@ use std::io::ErrorKind;
 use thiserror::Error;
 
 /// What a server tried when a read or a write failed.
-#[derive(Clone, Copy, Debug, PartialEq, Eq, Error)]
+#[derive(Clone, Copy, Debug, Error)]
 pub enum Attempt {
     #[error("open the board")]
     OpenBoard,

@@ -29,7 +29,7 @@ pub fn notice_of(fault: u32) -> Option<Notice>
 }
 
 /// Which notices the server has reported.
-#[derive(Clone, Copy, Debug, PartialEq, Eq)]
+#[derive(Clone, Copy)]
 pub struct Told {
     sites: bool,
     order: bool,

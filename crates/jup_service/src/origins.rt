@@ -8,7 +8,7 @@ use std::alloc::{AllocError, Global};
 const DEFAULT_PORT: u16 = 80;
 
 /// Where a server listens.
-#[derive(Clone, Copy, Debug)]
+#[derive(Clone, Copy)]
 pub struct Address {
     pub port: u16,
     /// Whether only programs on the same machine reach it.

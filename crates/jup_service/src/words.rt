@@ -1,5 +1,5 @@
 //! The command line.
-ghost use Rattle.std.specs.Prelude.{◌≡◌, ◌≤◌, true, IfOk, IfSome, string_bytes};
+ghost use Rattle.std.specs.Prelude.{◌≡◌, ◌≤◌, true, IfOk, IfSome};
 ghost use Rattle.jup_limits.specs.Limits.{highest_limit};
 ghost use Rattle.jup_http.specs.Requests.{is_origin};
 
@@ -26,44 +26,39 @@ const BAD_ORIGIN: &str =
     "an origin is http:// or https:// and a host, with a port or without one, and no path";
 
 /// What the command line asks of the server.
-#[derive(Drop)]
-pub struct ServiceWords {
+#[derive(Clone, Copy)]
+pub struct ServiceWords<'a> {
     /// Where to listen, as given.
-    pub listen: String,
+    pub listen: &'a str,
     /// The file of the board.
-    pub board: String,
+    pub board: &'a str,
     /// Edits that the star takes in its life.
     pub limit: u32,
     /// The file of the page, if not the program's own page is served.
-    pub page: Option<String>,
+    pub page: Option<&'a str>,
     /// The file of the captions.
-    pub captions: Option<String>,
+    pub captions: Option<&'a str>,
     /// A further origin under which browsers reach the server, besides its own address.
-    pub origin: Option<String>,
+    pub origin: Option<&'a str>,
 }
 
 /// Reads the arguments after the program's name.
-pub fn service_words(alloc: Global, words: &[String]) -> Result<ServiceWords, Error>
+pub fn service_words<'a>(alloc: Global, words: &'a [String]) -> Result<ServiceWords<'a>, Error>
     ensures limit { IfOk result (λ w. (1 ≤ w.limit) × (w.limit ≤ highest_limit)) }
-    ensures origin { IfOk result (λ w. IfSome w.origin (λ o. is_origin (string_bytes o) ≡ true)) }
+    ensures origin { IfOk result (λ w. IfSome w.origin (λ o. is_origin o.now ≡ true)) }
 {
     let mut command = command(alloc)?;
-    read_words(alloc, &mut command, words)
+    read_words(&mut command, words)
 }
 
 // Reads the arguments by the program's command line.
-fn read_words<'a>(
-    alloc: Global,
-    command: &mut Command<'a>,
-    words: &'a [String],
-) -> Result<ServiceWords, Error>
+fn read_words<'a>(command: &mut Command<'a>, words: &'a [String]) -> Result<ServiceWords<'a>, Error>
     ensures limit { IfOk result (λ w. (1 ≤ w.limit) × (w.limit ≤ highest_limit)) }
-    ensures origin { IfOk result (λ w. IfSome w.origin (λ o. is_origin (string_bytes o) ≡ true)) }
+    ensures origin { IfOk result (λ w. IfSome w.origin (λ o. is_origin o.now ≡ true)) }
 {
     let matches = command.try_get_matches_from_mut(words)?;
-    match told_by(alloc, &matches) {
+    match told_by(&matches) {
         Ok(told) => Ok(told),
-        Err(Unread::NoMemory) => Err(AllocError.into()),
         Err(Unread::BadLimit) => Err(bad_value(command, BAD_LIMIT)),
         Err(Unread::BadOrigin) => Err(bad_value(command, BAD_ORIGIN)),
     }
@@ -72,15 +67,8 @@ fn read_words<'a>(
 // Why the values of a command line that parses are refused.
 #[derive(Clone, Copy)]
 enum Unread {
-    NoMemory,
     BadLimit,
     BadOrigin,
-}
-
-impl From<AllocError> for Unread {
-    fn from(_error: AllocError) -> Unread {
-        Unread::NoMemory
-    }
 }
 
 // The program's command line.
@@ -131,18 +119,18 @@ fn limit<'a>(alloc: Global) -> Arg<'a> {
 }
 
 // What the parsed command line asks of the server.
-fn told_by(alloc: Global, matches: &ArgMatches<'_>) -> Result<ServiceWords, Unread>
+fn told_by<'a>(matches: &ArgMatches<'a>) -> Result<ServiceWords<'a>, Unread>
     ensures limit { IfOk result (λ w. (1 ≤ w.limit) × (w.limit ≤ highest_limit)) }
-    ensures origin { IfOk result (λ w. IfSome w.origin (λ o. is_origin (string_bytes o) ≡ true)) }
+    ensures origin { IfOk result (λ w. IfSome w.origin (λ o. is_origin o.now ≡ true)) }
 {
     let limit = limit_of(matches.get_one("limit"))?;
-    let origin = origin_of(alloc, matches.get_str("origin"))?;
+    let origin = origin_of(matches.get_str("origin"))?;
     Ok(ServiceWords {
-        listen: String::from_str(alloc, matches.get_str("listen").unwrap_or(""))?,
-        board: String::from_str(alloc, matches.get_str("board").unwrap_or(""))?,
+        listen: matches.get_str("listen").unwrap_or(""),
+        board: matches.get_str("board").unwrap_or(""),
         limit,
-        page: copy(alloc, matches.get_str("page"))?,
-        captions: copy(alloc, matches.get_str("captions"))?,
+        page: matches.get_str("page"),
+        captions: matches.get_str("captions"),
         origin,
     })
 }
@@ -158,22 +146,12 @@ fn limit_of(limit: Option<u32>) -> Result<u32, Unread>
     Ok(limit)
 }
 
-fn origin_of(alloc: Global, origin: Option<&str>) -> Result<Option<String>, Unread>
-    ensures { IfOk result (λ origin. IfSome origin (λ o. is_origin (string_bytes o) ≡ true)) }
+fn origin_of(origin: Option<&str>) -> Result<Option<&str>, Unread>
+    ensures { IfOk result (λ origin. IfSome origin (λ o. is_origin o.now ≡ true)) }
 {
-    let Some(origin) = origin else {
-        return Ok(None);
-    };
-    if !is_origin(origin.as_bytes()) {
-        return Err(Unread::BadOrigin);
-    }
-    Ok(Some(String::from_str(alloc, origin)?))
-}
-
-fn copy(alloc: Global, text: Option<&str>) -> Result<Option<String>, AllocError> {
-    match text {
-        Some(text) => Ok(Some(String::from_str(alloc, text)?)),
-        None => Ok(None),
+    match origin {
+        Some(origin) if !is_origin(origin.as_bytes()) => Err(Unread::BadOrigin),
+        origin => Ok(origin),
     }
 }
 

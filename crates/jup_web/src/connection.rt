@@ -13,6 +13,7 @@ use jup_hub::Pass;
 use jup_intake::is_interrupted;
 use jup_service::{LONGEST_SILENCE, Opening, close_code, head_wait, opening_of};
 use jup_session::{Outgoing, hang_up};
+use std::alloc::AllocError;
 use std::io;
 use std::io::{ErrorKind, Read, Write};
 use std::net::TcpStream;
@@ -161,21 +162,31 @@ fn serve_browser<R: Threads + Wait + Clock + Eprint + Sync>(
     let _ = stream.set_read_timeout(Some(Duration::from_secs(LONGEST_SILENCE)));
     let turn = Mutex::new(());
     let turn = &turn;
-    let from = UntilStopped::new(rt, service.stop, stream);
-    let Ok(bytes) = BrowserBytes::new(service.alloc, from, InTurn::new(rt, turn, stream)) else {
-        return;
-    };
     let Ok(writer) = MessageWriter::new(service.alloc, InTurn::new(rt, turn, stream)) else {
         return;
     };
-    let Ok(mut reader) = MessageReader::new(service.alloc, bytes, InTurn::new(rt, turn, stream))
-    else {
+    let Ok(mut reader) = messages_of(rt, service, stream, turn) else {
         return;
     };
     run_session(rt, service, &mut reader, writer, pass);
     let code = close_code(reader.ending(), service.stop.is_told(rt));
+    let _ = send_close(service, &mut InTurn::new(rt, turn, stream), code);
+}
+
+// The payloads of the messages that a browser sends.
+fn messages_of<'a, R: Wait>(
+    rt: &'a R,
+    service: &Service<'a>,
+    stream: &'a TcpStream,
+    turn: &'a Mutex<()>,
+) -> Result<MessageReader<BrowserBytes<'a, R>, InTurn<'a, R>>, AllocError> {
+    let from = UntilStopped::new(rt, service.stop, stream);
+    let bytes = BrowserBytes::new(service.alloc, from, InTurn::new(rt, turn, stream))?;
+    MessageReader::new(service.alloc, bytes, InTurn::new(rt, turn, stream))
+}
+
+fn send_close<O: Write>(service: &Service<'_>, to: &mut O, code: Option<u16>) -> io::Result<()> {
     let mut frame = Vec::new(service.alloc);
-    if put_close(code, &mut frame).is_ok() {
-        let _ = InTurn::new(rt, turn, stream).write_all(&frame);
-    }
+    put_close(code, &mut frame)?;
+    to.write_all(&frame)
 }

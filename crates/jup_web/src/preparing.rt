@@ -12,13 +12,31 @@ use std::net::{Net, TcpListener, TcpStream};
 /// What a server has before it serves.
 #[derive(Drop)]
 pub(crate) struct Prepared {
+    pub(crate) board: OpenedBoard,
+    pub(crate) bodies: Bodies,
+    pub(crate) door: Door,
+}
+
+/// The file of the board.
+#[derive(Drop)]
+pub(crate) struct OpenedBoard {
     pub(crate) file: KeptFile,
     /// What the file has.
     pub(crate) text: Vec<u8>,
     pub(crate) star: Star,
+}
+
+/// What browsers get of files.
+#[derive(Drop)]
+pub(crate) struct Bodies {
     pub(crate) captions: Vec<u8>,
     /// The page that the command line names, if it names one.
     pub(crate) page: Option<Vec<u8>>,
+}
+
+/// Where browsers come.
+#[derive(Drop)]
+pub(crate) struct Door {
     pub(crate) listener: TcpListener,
     pub(crate) origins: Vec<String>,
 }
@@ -27,36 +45,59 @@ pub(crate) struct Prepared {
 pub(crate) fn prepare<R: Net<Listener = TcpListener, Stream = TcpStream> + Files<File = File>>(
     rt: &R,
     alloc: Global,
-    told: &ServiceWords,
+    told: &ServiceWords<'_>,
 ) -> Result<Prepared, ServiceEnd> {
-    let (file, text) = KeptFile::open(rt, alloc, told.board.as_str())?;
+    let board = open_board(rt, alloc, told)?;
+    let bodies = read_bodies(rt, alloc, told)?;
+    let door = open_door(rt, alloc, told)?;
+    Ok(Prepared {
+        board,
+        bodies,
+        door,
+    })
+}
+
+fn open_board<R: Files<File = File>>(
+    rt: &R,
+    alloc: Global,
+    told: &ServiceWords<'_>,
+) -> Result<OpenedBoard, ServiceEnd> {
+    let (file, text) = KeptFile::open(rt, alloc, told.board)?;
     let star = star_of_printed(alloc, text.as_slice(), told.limit)?;
-    let captions = read_captions(rt, alloc, told.captions.as_ref())?;
-    let page = read_told(rt, alloc, told.page.as_ref(), Attempt::ReadPage)?;
+    Ok(OpenedBoard { file, text, star })
+}
+
+fn read_bodies<R: Files<File = File>>(
+    rt: &R,
+    alloc: Global,
+    told: &ServiceWords<'_>,
+) -> Result<Bodies, ServiceEnd> {
+    let captions = read_captions(rt, alloc, told.captions)?;
+    let page = read_told(rt, alloc, told.page, Attempt::ReadPage)?;
+    Ok(Bodies { captions, page })
+}
+
+fn open_door<R: Net<Listener = TcpListener, Stream = TcpStream>>(
+    rt: &R,
+    alloc: Global,
+    told: &ServiceWords<'_>,
+) -> Result<Door, ServiceEnd> {
     let listener = listen(rt, told)?;
     let origins = origins_of(alloc, told, &listener)?;
-    Ok(Prepared {
-        file,
-        text,
-        star,
-        captions,
-        page,
-        listener,
-        origins,
-    })
+    Ok(Door { listener, origins })
 }
 
 // Reads all of the file that the command line names; `None` if it names none.
 fn read_told<R: Files<File = File>>(
     rt: &R,
     alloc: Global,
-    name: Option<&String>,
+    name: Option<&str>,
     attempt: Attempt,
 ) -> Result<Option<Vec<u8>>, ServiceEnd> {
     let Some(name) = name else {
         return Ok(None);
     };
-    let mut file = match File::open(rt, name.as_str()) {
+    let mut file = match File::open(rt, name) {
         Ok(file) => file,
         Err(error) => return Err(ServiceEnd::of_failure(attempt, &error)),
     };
@@ -71,7 +112,7 @@ fn read_told<R: Files<File = File>>(
 fn read_captions<R: Files<File = File>>(
     rt: &R,
     alloc: Global,
-    name: Option<&String>,
+    name: Option<&str>,
 ) -> Result<Vec<u8>, ServiceEnd> {
     let Some(text) = read_told(rt, alloc, name, Attempt::ReadCaptions)? else {
         return Ok(Vec::new(alloc));
@@ -85,9 +126,9 @@ fn read_captions<R: Files<File = File>>(
 // Listens where the command line says.
 fn listen<R: Net<Listener = TcpListener, Stream = TcpStream>>(
     rt: &R,
-    told: &ServiceWords,
+    told: &ServiceWords<'_>,
 ) -> Result<TcpListener, ServiceEnd> {
-    match TcpListener::bind(rt, told.listen.as_str()) {
+    match TcpListener::bind(rt, told.listen) {
         Ok(listener) => Ok(listener),
         Err(error) => Err(ServiceEnd::of_failure(Attempt::Listen, &error)),
     }
@@ -96,7 +137,7 @@ fn listen<R: Net<Listener = TcpListener, Stream = TcpStream>>(
 // The origins under which browsers reach a server that listens. There has to be one.
 fn origins_of(
     alloc: Global,
-    told: &ServiceWords,
+    told: &ServiceWords<'_>,
     listener: &TcpListener,
 ) -> Result<Vec<String>, ServiceEnd> {
     let at = match listener.local_addr() {
@@ -108,13 +149,8 @@ fn origins_of(
         is_loopback: at.ip().is_loopback(),
         is_wildcard: at.ip().is_unspecified(),
     };
-    let listen = told.listen.as_str();
-    let (host, _) = listen.rsplit_once(':').unwrap_or((listen, ""));
-    let origin = match &told.origin {
-        Some(origin) => Some(origin.as_str()),
-        None => None,
-    };
-    let origins = own_origins(alloc, host, address, origin)?;
+    let (host, _) = told.listen.rsplit_once(':').unwrap_or((told.listen, ""));
+    let origins = own_origins(alloc, host, address, told.origin)?;
     if origins.is_empty() {
         return Err(ServiceEnd::NoOrigin);
     }

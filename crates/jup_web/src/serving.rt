@@ -7,7 +7,7 @@ use crate::connections::Connections;
 use crate::keeping::{KeptBoard, board_text, keep};
 use crate::notices::Notices;
 use crate::operating::operate;
-use crate::preparing::{Prepared, prepare, slices};
+use crate::preparing::{Door, OpenedBoard, Prepared, prepare, slices};
 use crate::session::Service;
 use crate::stop::Stop;
 use crate::telling::tell;
@@ -72,18 +72,16 @@ fn serve<
     I: Read + Send + Drop,
 >(rt: &R, alloc: Global, prepared: Prepared, page: &str, input: I) -> Result<(), ServiceEnd> {
     let Prepared {
-        file,
-        text,
-        star,
-        captions,
-        page: told,
-        listener,
-        origins,
+        board,
+        bodies,
+        door,
     } = prepared;
-    let origins = slices(alloc, origins.as_slice())?;
+    let OpenedBoard { file, text, star } = board;
     let Ok((hub, pass)) = Hub::open(alloc, star) else {
         return Err(ServiceEnd::NoMemory);
     };
+    let Door { listener, origins } = door;
+    let origins = slices(alloc, origins.as_slice())?;
     let stop = match announce(rt, &listener) {
         Ok(stop) => stop,
         Err(error) => return Err(ServiceEnd::of_failure(Attempt::Print, &error)),
@@ -96,12 +94,30 @@ fn serve<
         connections: &Connections::new(),
         notices: &Notices::new(),
         origins: &origins,
-        page: page_of(&told, page),
-        captions: captions.as_slice(),
+        page: page_of(&bodies.page, page),
+        captions: bodies.captions.as_slice(),
     };
     let board = KeptBoard::new(&file, text);
-    let pass = serve_all(rt, rt, &service, listener, input, board, pass)?;
-    save_last(rt, rt, &service, &file, pass)
+    serve_and_save(rt, &service, listener, input, &file, board, pass)
+}
+
+// Serves until a stop, and writes the board at last.
+fn serve_and_save<
+    R: Files<File = File> + Threads + Wait + Clock + Print + Eprint + Sync,
+    I: Read + Send + Drop,
+>(
+    rt: &R,
+    service: &Service<'_>,
+    listener: TcpListener,
+    input: I,
+    file: &KeptFile,
+    board: KeptBoard<'_>,
+    pass: Pass,
+) -> Result<(), ServiceEnd>
+    requires { IsPassOf service.now.hub.now pass }
+{
+    let pass = serve_all(rt, rt, service, listener, input, board, pass)?;
+    save_last(rt, rt, service, file, pass)
 }
 
 // The page that the server serves.

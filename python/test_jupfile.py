@@ -537,6 +537,7 @@ class Copies(unittest.TestCase):
         past = copies.Past(3, 1, copies.copy_of([(0, 1, "ab"), (3, 1, "xyz"), (0, 3, "c")]), {}, {}, {3: 1})
         now = copies.copy_of([(0, 1, "a"), (3, 2, "y"), (4, 1, "N"), (0, 3, "c")])
         self.assertEqual(past.lost(now), {(3, 3): "z"})
+        self.assertEqual(past.lost(copies.copy_of([(0, 1, "ab")])), {(3, 2): "y", (3, 3): "z"})
         self.assertEqual(past.restored(now, past.lost(now)), "ayzNc")
         self.assertEqual(past.known_text(), "abxc")
         self.assertEqual(past.unsaved(now), {})

@@ -3,7 +3,7 @@
 A server takes the edits of a link in their order, and may take some after the link has ended, even after the next one has begun. Each inserted character has a name, the number of the site and its own, and none is given twice. So the names show which of the earlier edits the server has taken.
 """
 import collections
-from collections.abc import Callable, Container, Iterable, Iterator
+from collections.abc import Container, Iterable, Iterator
 from typing import NamedTuple
 
 Name = tuple[int, int]
@@ -36,71 +36,82 @@ def copy_of(runs: Iterable[tuple[int, int, str]]) -> Copy:
     return Copy(names, "".join(text for _, _, text in runs))
 
 
+Chars = dict[Name, str]
+
+
 class Past(NamedTuple):
     """What an earlier link left.
 
-    `copy` has all edits of its `site`, also those that the server may not have taken. Up to the insertion `taken` it is known to have taken them. `gone` are characters that are to be deleted, and perhaps were. `ours` has, of each still earlier site, the last insertion that counts.
+    `copy` has all edits of its `site`, also those that the server may not have taken. Up to the insertion `taken` it is known to have taken them. `gone` are characters that are to be deleted, and perhaps were. `again` are characters of still earlier sites that were made again under other names. `saved` has, of the sites that inserted lately, the last insertion that a server has surely saved if it saves any.
     """
 
     site: int
     taken: int
     copy: Copy
-    gone: frozenset[Name]
-    ours: dict[int, int]
+    gone: Chars
+    again: Chars
+    saved: dict[int, int]
 
     def is_known_to(self, site: int, now: Copy) -> bool:
         """Whether a new link, which has this site and finds this text, can be one to the same server, not started again meanwhile. Such a server counts sites on, and gives no name to another character. It has no more of the characters with which it opened than before."""
-        before = dict(zip(*self.copy))
+        before = dict(zip(*self.copy)) | self.gone
         is_same = all(before.get(name, char) == char for name, char in zip(*now))
-        return site > self.site and is_same and all(it in before or it in self.gone for it in now.names if it[0] == OPENING_SITE)
+        last = max([self.site, *(it for it, _ in self.copy.names)])
+        return site > last and is_same and all(it in before for it in now.names if it[0] == OPENING_SITE)
 
-    def counting(self, now: Iterable[Name]) -> dict[int, int]:
-        """Of each earlier site the last insertion that counts: of the last one, what the server had taken when the new link began. What it takes later is made again, so it is unwanted."""
-        seen = (number for site, number in now if site == self.site)
-        return {**self.ours, self.site: max(self.taken, *seen, 0)}
+    def lost(self, now: Copy) -> Chars:
+        """What the server had not taken when the new link began. It takes the edits of a site in order."""
+        last = max([self.taken, *(number for site, number in now.names if site == self.site)])
+        return {name: char for name, char in zip(*self.copy) if name[0] == self.site and name[1] > last}
 
-    def restored(self, now: Copy, last: int) -> str:
-        """The text that the new link finds, with what the earlier one had inserted after its `last` insertion that counts. Each character comes after the one that it came after."""
-        return _with_lost(now, self.copy, lambda name: name[0] == self.site and name[1] > last)
+    def unsaved(self, now: Copy) -> Chars:
+        """What the server may have lost, if nothing that came after its opening shows that it was not started again."""
+        later = {it for it in self.copy.names if it[0] != OPENING_SITE}
+        return {} if later & set(now.names) else {name: char for name, char in zip(*self.copy) if is_after(name, self.saved)}
+
+    def restored(self, now: Copy, lost: Container[Name]) -> str:
+        """The text that the new link finds, with what got lost. Each character comes after the one that it came after."""
+        return _with_lost(now, self.copy, lost)
 
     def known_text(self) -> str:
-        """What the server is known to have had."""
-        return "".join(char for (site, number), char in zip(*self.copy) if site != self.site or number <= self.taken)
+        """What the server is known to have if it was started again."""
+        return "".join(char for name, char in zip(*self.copy) if not is_after(name, self.saved))
 
 
-def is_late(name: Name, ours: dict[int, int]) -> bool:
-    """Whether an earlier site inserted this after its last insertion that counts."""
+def is_after(name: Name, last: dict[int, int]) -> bool:
+    """Whether a site inserted this after its last insertion of these. Of a site without one all came before."""
     site, number = name
-    return number > ours.get(site, number)
+    return number > last.get(site, number)
 
 
-def names_of(opening: bytes, win: int, wid: int) -> list[Name]:
-    """The names in a text, of the lines up to `ready` with which a server opens a link (docs/WIRE.md)."""
-    found, at = [], (0, 0)
+def opened(opening: bytes, win: int, wid: int) -> Copy:
+    """A text as the server opens a link with it, of the lines up to `ready` (docs/WIRE.md)."""
+    names, chars, at = [], [], (0, 0)
     for line in opening[: opening.index(b"\nready\n")].split(b"\n"):
-        word, _, rest = line.partition(b" ")
+        word, *rest = line.split(b" ")
         if word == b"window":
-            at = (int(rest), 0)
+            at = (int(rest[0]), 0)
         elif word in WIDGETS:
-            at = (at[0], int(rest.split(b" ")[0]))
+            at = (at[0], int(rest[0]))
         elif word == b"char" and at == (win, wid):
-            site, _, number = rest.split(b" ")[0].partition(b".")
-            found.append((int(site), int(number)))
-    return found
+            site, _, number = rest[0].partition(b".")
+            names.append((int(site), int(number)))
+            chars.append(chr(int(rest[1])))
+    return Copy(names, "".join(chars))
 
 
-def _with_lost(now: Copy, before: Copy, is_lost: Callable[[Name], bool]) -> str:
-    there, lost, at = set(now.names), collections.defaultdict(list), None
-    for name, char in zip(before.names, before.text):
+def _with_lost(now: Copy, before: Copy, lost: Container[Name]) -> str:
+    there, after, at = set(now.names), collections.defaultdict(list), None
+    for name, char in zip(*before):
         if name in there:
             at = name
-        elif is_lost(name):
-            lost[at].append(char)
-    return "".join(_in_turn(now, lost))
+        elif name in lost:
+            after[at].append(char)
+    return "".join(_in_turn(now, after))
 
 
-def _in_turn(now: Copy, lost: dict[Name | None, list[str]]) -> Iterator[str]:
-    yield from lost.get(None, [])
-    for name, char in zip(now.names, now.text):
+def _in_turn(now: Copy, after: dict[Name | None, list[str]]) -> Iterator[str]:
+    yield from after.get(None, [])
+    for name, char in zip(*now):
         yield char
-        yield from lost.get(name, [])
+        yield from after.get(name, [])

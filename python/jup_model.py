@@ -42,6 +42,7 @@ class Change(NamedTuple):
     place: int
     site: int
     number: int
+    value: int
 
 
 Command = tuple
@@ -57,7 +58,7 @@ def delete(win: int, wid: int, place: int) -> Command:
 
 def change_of(op: boards.Op) -> Change:
     kind = {"ins": Kind.INSERT_CHAR, "del": Kind.DELETE}.get(op.verb, Kind.NOTHING)
-    return Change(kind, op.win, op.wid, op.place, *(op.name or (0, 0)))
+    return Change(kind, op.win, op.wid, op.place, *(op.name or (0, 0)), op.value or 0)
 
 
 class Plain(sites.Client):

@@ -9,8 +9,8 @@ docs/EMBEDDING.md says what an editor has to do, and what the files may be.
 #
 # - Nothing is sent before the folder has it (Sharing.keep): the text with the names of its characters, and the versions of the file whose words are in it.
 #   So no start takes a word of such a version for a new one.
-# - A start finds by the names which edits of the earlier link the server has taken, and makes the others again (Sharing.resume).
-# - The server may take some of these others later, from the earlier link. Their names do not count then, and they are deleted again (Link.undo).
+# - A start finds by the names which edits of the earlier link the server has taken, and makes the others again (Link.resume).
+# - The server may take some of these others later, from the earlier link. Their names show that they were made again, and so they are deleted (Link.undo).
 # - A swap replaces the file, and what it had stays in the folder until all of that is kept (local.put_in_place).
 #
 # One thing nobody can tell: whether the server never took an insertion, or took it and somebody deleted it before this program knew. It is made again.
@@ -35,6 +35,8 @@ IO_FAULT, FAULT = 1, 4
 LONG_TEXT, BACKLOG, LINKS_TAKEN, EARLY_END = 6, 7, 30, 43
 # How many seconds pass between two looks at the file.
 LOOK = 0.05
+# After how many seconds a server has saved what it took, and a number after all insertions. `jupweb` saves every two seconds.
+SAVED, ALL = 4.0, 2**32
 # How many seconds are waited for a server, for the end of a link, and at first and at most before it is tried again.
 PATIENCE, LAST, SOON, LATE = 10.0, 5.0, 0.5, 15.0
 
@@ -67,7 +69,7 @@ class Edit(NamedTuple):
     """An edit that the server may not have taken: the number of the last insertion up to it, and what it deletes."""
 
     last: int
-    gone: list[copies.Name]
+    gone: copies.Chars
 
 
 class Link:
@@ -80,13 +82,18 @@ class Link:
         self.is_settled, self.is_asked, self.is_told_to_wait = True, False, False
         self.open(time.monotonic() + PATIENCE)
         self.win, self.wid = self.text_of(wanted)
-        self.names, self.opening = copies.names_of(self.opening, self.win, self.wid), b""
+        # The text, with the names of its characters.
+        opened, self.opening = copies.opened(self.opening, self.win, self.wid), b""
+        self.names, self.chars = opened.names, list(opened.text)
         # The edits that the server may not have taken, how many were made at all, and the numbers of the last insertion made, and of the last surely taken.
         self.unsure: collections.deque[Edit] = collections.deque()
         self.made = self.last = self.taken = 0
-        # What is to be deleted, and of each earlier site of this file the last insertion that counts.
-        self.unwanted: set[copies.Name] = set()
-        self.ours: dict[int, int] = {}
+        # Of each site of this file that inserted lately the last insertion that the server has surely saved, and when it has saved more.
+        self.saved: dict[int, int] = {self.client.site.number: 0}
+        self.unsaved: collections.deque[tuple[float, dict[int, int]]] = collections.deque()
+        # What is to be deleted, and what earlier sites of this file may still insert although it was made again.
+        self.unwanted: copies.Chars = {}
+        self.again: copies.Chars = {}
 
     def open(self, until: float) -> None:
         while self.client.stage != jup.Stage.OPEN:
@@ -130,40 +137,57 @@ class Link:
         if self.is_asked and self.client.is_synced:
             self.is_settled, self.is_asked = True, False
 
-    def follow(self) -> list[jup.Change]:
-        """Takes the changes of the text since the last call, and returns them. Forgets the edits that the server has surely taken."""
+    def follow(self) -> Edit:
+        """Takes the changes of the text since the last call, and returns them as an edit. Forgets the edits that the server has surely taken."""
         left = 0 if self.is_settled else self.client.site.backlog
         while len(self.unsure) > left:
             self.taken = self.unsure.popleft().last
-        changes = [it for it in self.client.changes() if (it.win, it.wid) == (self.win, self.wid) and it.kind != jup.Kind.NOTHING]
-        for it in changes:
+            self.unsaved.append((time.monotonic() + SAVED, {self.client.site.number: self.taken}))
+        while self.unsaved and self.unsaved[0][0] < time.monotonic():
+            self.saved |= self.unsaved.popleft()[1]
+        last, gone = self.last, {}
+        for it in self.client.changes():
+            if (it.win, it.wid) != (self.win, self.wid):
+                continue
             name = (it.site, it.number)
             if it.kind == jup.Kind.DELETE:
                 del self.names[it.place]
-                self.unwanted.discard(name)
-            else:
-                self.names.insert(it.place, name)
-                self.unwanted |= {name} if copies.is_late(name, self.ours) else set()
-        return changes
+                gone[name] = self.chars.pop(it.place)
+                self.unwanted.pop(name, None)
+            elif it.kind == jup.Kind.INSERT_CHAR:
+                self.insert(it.place, name, chr(it.value))
+                last = it.number
+        return Edit(last, gone)
+
+    def insert(self, place: int, name: copies.Name, char: str) -> None:
+        self.names.insert(place, name)
+        self.chars.insert(place, char)
+        if self.again.get(name) == char:
+            self.unwanted[name] = char
 
     def copy(self) -> copies.Copy:
         """The text without what is to be deleted."""
         self.follow()
-        copy = copies.Copy(list(self.names), self.client.text(self.win, self.wid))
+        copy = copies.Copy(list(self.names), "".join(self.chars))
         return copy.without(self.unwanted) if self.unwanted else copy
 
     def text(self) -> str:
         return self.copy().text
 
-    def resume(self, past: copies.Past) -> None:
-        """Goes on where an earlier link ended: what that had deleted is to be deleted, and what the server takes of it from now on."""
-        self.ours = past.counting(self.names)
-        self.unwanted = {it for it in self.names if copies.is_late(it, self.ours) or it in past.gone}
+    def resume(self, past: copies.Past) -> str:
+        """Goes on where an earlier link ended. What that had deleted is to be deleted, and what the server takes of it from now on. Returns the text with what got lost."""
+        now = self.copy()
+        lost, wrong = past.lost(now), past.again | past.gone
+        self.again = past.again | lost
+        self.unwanted = {name: char for name, char in zip(*now) if wrong.get(name) == char}
+        self.saved |= past.saved
+        self.unsaved.append((time.monotonic() + SAVED, dict.fromkeys(past.saved, ALL)))
+        return past.restored(self.copy(), lost | past.unsaved(now))
 
     def past(self) -> copies.Past:
         """What this link leaves if it ends now."""
-        gone = self.unwanted.union(*(it.gone for it in self.unsure))
-        return copies.Past(self.client.site.number, self.taken, self.copy(), frozenset(gone), self.ours)
+        gone = {name: char for it in [self.unwanted, *(it.gone for it in self.unsure)] for name, char in it.items()}
+        return copies.Past(self.client.site.number, self.taken, self.copy(), gone, self.again, dict(self.saved))
 
     def undo(self) -> None:
         """Deletes what is to be deleted, as far as that can be done now."""
@@ -185,11 +209,10 @@ class Link:
             self.note(self.follow())
         self.is_told_to_wait = False
 
-    def note(self, changes: list[jup.Change]) -> None:
+    def note(self, edit: Edit) -> None:
         """Notes an edit of this link until the server has surely taken it."""
-        self.last = max([self.last, *(it.number for it in changes if it.kind != jup.Kind.DELETE)])
-        self.unsure.append(Edit(self.last, [(it.site, it.number) for it in changes if it.kind == jup.Kind.DELETE]))
-        self.made += 1
+        self.unsure.append(edit)
+        self.made, self.last = self.made + 1, edit.last
         self.is_settled = self.is_asked = False
 
     def command(self, step: texts.Step) -> jup.Command:
@@ -256,9 +279,8 @@ class Sharing:
         if not past.is_known_to(self.link.client.site.number, now):
             tell("the server was started again, so the texts alone show what was done meanwhile")
             return now.text, texts.merge(past.known_text(), state.mine, now.text)
-        self.link.resume(past)
-        now = self.link.copy()
-        return now.text, texts.merge(past.copy.text, state.mine, past.restored(now, self.link.ours[past.site]))
+        restored = self.link.resume(past)
+        return self.link.text(), texts.merge(past.copy.text, state.mine, restored)
 
     def step(self, now: float) -> None:
         """Takes what both sides did, and lets each have what the other did."""
@@ -354,7 +376,7 @@ class Sharing:
 
     def signs(self) -> tuple:
         """What shows whether something else is to be kept."""
-        return self.shared.board, self.shared.mine, self.shared.read_lately(), len(self.link.unsure), len(self.link.unwanted)
+        return self.shared.board, self.shared.mine, self.shared.read_lately(), len(self.link.unsure), len(self.link.unwanted), dict(self.link.saved)
 
     def is_equal(self) -> bool:
         """Whether the file, the board and what is kept are the same."""

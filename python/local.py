@@ -231,7 +231,7 @@ class State(NamedTuple):
     versions: list[str]
 
     def to_json(self, board: str) -> str:
-        past = self.past and {**self.past._asdict(), "copy": self.past.copy.runs(), "gone": sorted(self.past.gone), "ours": list(self.past.ours.items())}
+        past = self.past and {name: it.runs() if name == "copy" else list(it.items()) if isinstance(it, dict) else it for name, it in self.past._asdict().items()}
         return json.dumps({"board": board, "past": past, "mine": self.mine, "versions": self.versions})
 
 
@@ -241,8 +241,8 @@ NOTHING = State(None, "", [""])
 def past_of(found: dict | None) -> copies.Past | None:
     if found is None:
         return None
-    gone = frozenset((site, number) for site, number in found["gone"])
-    return copies.Past(found["site"], found["taken"], copies.copy_of(found["copy"]), gone, dict(found["ours"]))
+    gone, again = ({tuple(name): char for name, char in found[it]} for it in ("gone", "again"))
+    return copies.Past(found["site"], found["taken"], copies.copy_of(found["copy"]), gone, again, dict(found["saved"]))
 
 
 class Kept:

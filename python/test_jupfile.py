@@ -282,6 +282,18 @@ def server_restarts(world):
     world.serve(text)
 
 
+def server_saves(world):
+    """The server saves its board."""
+    world.on_disk = world.text()
+
+
+def server_is_killed(world):
+    """The server ends, and starts again with the board that it saved last."""
+    for it in world.links:
+        it.is_over = True
+    world.serve(world.on_disk)
+
+
 # What happens at a step.
 
 
@@ -415,6 +427,8 @@ STALE = [(8, reads), (0, others_insert("two", at=2)), (3, inserts(*LONG_WORDS, a
 # The file is written again and again, and then the editor saves what it had read before.
 OFTEN = [(8, reads), *((0, others_insert(f"often{at}")) for at in range(14)), (1, inserts("stale", at=3, is_stale=True))]
 RESTARTED = [(8, inserts(*LONG_WORDS)), (0, others_insert("two")), (0, server_restarts), (4, inserts("one", at=3)), (4, others_insert("three"))]
+LOST = [(8, server_saves), (0, inserts(*LONG_WORDS)), (6, server_is_killed), (4, inserts("one", at=3)), (4, others_insert("two"))]
+DELETED = [(8, others_insert("two")), (2, others_delete("two"))]
 SENT, WRITTEN = [(8, inserts(*LONG_WORDS[:2]))], [(8, others_insert("two"))]
 
 
@@ -434,11 +448,11 @@ class Steps(unittest.TestCase):
         found = list(wrong(world, is_known))
         self.assertFalse(found, f"{what}: {found}, {world.at_the_end}\n{world.said.getvalue()}")
 
-    def check_kills(self, script, fates, after=0):
+    def check_kills(self, script, fates, after=0, is_known=False):
         """The program is killed at each step. If nothing was sent then, all fates of that are one."""
         for step, is_sent in self.steps_of(script, CHANGES, WAITS, after=after).items():
             for fate in fates if is_sent else fates[:1]:
-                self.check(play(TEXT, script, {step: killed(fate)}), step, fate.__name__, is_known=fate is is_read and script is TYPING)
+                self.check(play(TEXT, script, {step: killed(fate)}), step, fate.__name__, is_known=is_known and fate is is_read)
 
     def check_saves(self, script, after=0, kills=0):
         """The editor saves at each step near a change, and the program is killed at one of the changes that come then."""
@@ -450,7 +464,8 @@ class Steps(unittest.TestCase):
                 self.check(play(TEXT, script, {step: save, kill: killed(is_read)}), step, kill, by_rename)
 
     def test_killed_at_each_step(self):
-        self.check_kills(TYPING, FATES)
+        self.check_kills(TYPING, FATES, is_known=True)
+        self.check_kills(DELETED, (is_read,), is_known=True)
 
     def test_killed_at_each_step_beside_an_editor_that_read_before(self):
         self.check_kills(STALE, FATES)
@@ -460,6 +475,7 @@ class Steps(unittest.TestCase):
 
     def test_killed_at_each_step_while_the_server_starts_again(self):
         self.check_kills(RESTARTED, (is_read, is_lost))
+        self.check_kills(LOST, (is_read, is_lost))
 
     def test_one_of_several_equal_words_is_deleted(self):
         text, script = "same\n" * 4, [(8, deletes_first)]
@@ -492,11 +508,11 @@ class Steps(unittest.TestCase):
 
 
 class Copies(unittest.TestCase):
-    def test_the_names_of_an_opening(self):
+    def test_an_opening(self):
         opening = b"welcome 2 1000\nwindow 1\ntext 1\nchar 0.1 72\nchar 4.7 105\nlist 2\nitem 0.3 char 9.9 1\ntext 3\nchar 1.1 33\nwindow 2\ntext 1\nchar 0.9 97\nready\nbatch 0 0 1\n"
-        self.assertEqual(copies.names_of(opening, 1, 1), [(0, 1), (4, 7)])
-        self.assertEqual(copies.names_of(opening, 1, 3), [(1, 1)])
-        self.assertEqual(copies.names_of(opening, 2, 1), [(0, 9)])
+        self.assertEqual(copies.opened(opening, 1, 1), ([(0, 1), (4, 7)], "Hi"))
+        self.assertEqual(copies.opened(opening, 1, 3), ([(1, 1)], "!"))
+        self.assertEqual(copies.opened(opening, 2, 1), ([(0, 9)], "a"))
 
     def test_stretches(self):
         copy = copies.Copy([(0, 1), (0, 2), (3, 1), (0, 3), (3, 3), (3, 2)], "abcdef")
@@ -504,7 +520,7 @@ class Copies(unittest.TestCase):
         self.assertEqual(copies.copy_of(copy.runs()), copy)
 
     def test_a_server_that_was_started_again(self):
-        past = copies.Past(3, 1, copies.copy_of([(0, 1, "ab"), (3, 1, "xy")]), frozenset({(0, 3)}), {})
+        past = copies.Past(3, 1, copies.copy_of([(0, 1, "ab"), (3, 1, "xy")]), {(0, 3): "c"}, {}, {3: 0})
         rows = [
             ("nothing happened", 4, [(0, 1, "ab"), (3, 1, "xy")], True),
             ("others edited", 9, [(0, 2, "b"), (5, 1, "new")], True),
@@ -518,11 +534,14 @@ class Copies(unittest.TestCase):
                 self.assertEqual(past.is_known_to(site, copies.copy_of(runs)), due)
 
     def test_what_the_server_had_not_taken(self):
-        past = copies.Past(3, 1, copies.copy_of([(0, 1, "ab"), (3, 1, "xyz"), (0, 3, "c")]), frozenset(), {2: 5})
+        past = copies.Past(3, 1, copies.copy_of([(0, 1, "ab"), (3, 1, "xyz"), (0, 3, "c")]), {}, {}, {3: 1})
         now = copies.copy_of([(0, 1, "a"), (3, 2, "y"), (4, 1, "N"), (0, 3, "c")])
-        self.assertEqual(past.counting(now.names), {2: 5, 3: 2})
-        self.assertEqual(past.restored(now, 2), "ayzNc")
+        self.assertEqual(past.lost(now), {(3, 3): "z"})
+        self.assertEqual(past.lost(copies.copy_of([(0, 1, "ab")])), {(3, 2): "y", (3, 3): "z"})
+        self.assertEqual(past.restored(now, past.lost(now)), "ayzNc")
         self.assertEqual(past.known_text(), "abxc")
+        self.assertEqual(past.unsaved(now), {})
+        self.assertEqual(past.unsaved(copies.copy_of([(0, 1, "ab")])), {(3, 2): "y", (3, 3): "z"})
 
 
 if __name__ == "__main__":

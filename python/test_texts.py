@@ -213,6 +213,14 @@ class Versions(unittest.TestCase):
         shared.saved("a\nb\n", 1.0 + texts.READ_AGO)
         self.assertEqual(shared.mine, "a\nb\n")
 
+    def test_a_version_that_is_there_again(self):
+        shared = texts.Shared("a\nb\n", "a\nb\n", ["a\n", "a\nb\n"], 0.0)
+        shared.saved("a\nb\n", 0.1)
+        self.assertEqual(shared.read_lately(), ["a\n", "a\nb\n"])
+        shared.saved("a\nmine\n", 0.2)
+        self.assertEqual(shared.mine, "a\nb\nmine\n")
+        self.assertEqual(shared.read_lately(), ["a\nmine\n"])
+
     def test_what_was_typed_while_nothing_ran(self):
         shared = texts.Shared("a\nb\n", "a\nb\n", ["a\nb\n"], 0.0)
         shared.saved("a\nmine\nb\n", 0.1)

@@ -6,8 +6,8 @@ use Rattle.jup_xform.specs.Rows.{row_operation, row_entries}
 use Rattle.jup_xform.specs.Grid.{after_all, AreValid, GridCloses, mirror}
 use Rattle.jup_link.specs.Links.{Link, Message, Operation, Ack, IsCount, IsNumber, after_count, arrived, after_arrival}
 
--- In step is said twice. This form, which the proofs keep, ties each message to the part of the queue that its sender had
--- received. The one in the contract of `ends_agree` is plainer: it follows, and no event's proof could go by it.
+-- There are two definitions of in step. This one, which the proofs keep, ties each message to the part of the queue that its
+-- sender had received. The contract of `ends_agree` has the plainer one, which follows. No proof of an event could go by that.
 
 -- Two ends of a link have a state in common, the base: the one after the operations that both have received. `near_ahead` are the
 -- near end's operations that the far end has not received, and `far_ahead` the far end's that the near end has not received. Each

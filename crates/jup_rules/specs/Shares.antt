@@ -24,7 +24,8 @@ admission_at cost = if nat_lt long_transforms cost then Costly else (if nat_lt h
 abbrev pub admission_of : ℕ → ℕ → Admission
 admission_of operations behind = if nat_lt most_behind behind then FarBehind else admission_at (operations * behind)
 
--- microseconds that a session rests after a take of so many: half a millisecond after a long one, and after a costly one seven times as long as it took, at most two seconds
+-- microseconds that a session rests after a take of so many: half a millisecond after a long one.
+-- After a costly one it rests seven times as long as that took, and at most two seconds
 abbrev pub rest_of : Admission → ℕ → ℕ
 rest_of Light took = 0
 rest_of Heavy took = 0

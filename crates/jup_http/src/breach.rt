@@ -2,28 +2,30 @@
 ghost use Rattle.std.specs.Prelude.{◌≡◌};
 ghost use Rattle.jup_http.specs.Frames.{breach_number};
 
+use thiserror::Error;
+
 /// What a client's frames break of RFC 6455, or of the bounds of this server.
-#[derive(Clone, Copy, Debug, PartialEq, Eq)]
+#[derive(Clone, Copy, Debug, PartialEq, Eq, Error)]
 pub enum Breach {
-    /// A reserved opcode, or a length that is not in its shortest form.
+    #[error("a reserved opcode, or a length that is not in its shortest form")]
     Header,
-    /// A reserved bit is set, and no extension was agreed on.
+    #[error("a reserved bit is set, and no extension was agreed on")]
     ReservedBit,
-    /// A frame that is not masked.
+    #[error("a frame that is not masked")]
     Unmasked,
-    /// A control frame in fragments.
+    #[error("a control frame in fragments")]
     FragmentedControl,
-    /// A control frame with more than 125 bytes.
+    #[error("a control frame with more than 125 bytes")]
     LongControl,
-    /// A continuation, and no message is open.
+    #[error("a continuation, and no message is open")]
     NothingToContinue,
-    /// A new message, and the last one is open.
+    #[error("a new message, and the last one is open")]
     MessageOpen,
-    /// A message with more than 65536 bytes.
+    #[error("a message with more than 65536 bytes")]
     LongMessage,
-    /// A text that is not UTF-8.
+    #[error("a text that is not UTF-8")]
     BadText,
-    /// A close with half a status code, or with one that may not be sent.
+    #[error("a close with half a status code, or with one that may not be sent")]
     BadClose,
 }
 

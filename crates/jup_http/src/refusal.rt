@@ -2,20 +2,22 @@
 ghost use Rattle.std.specs.Prelude.{◌≡◌};
 ghost use Rattle.jup_http.specs.Requests.{status_of};
 
+use thiserror::Error;
+
 /// Why a request is refused.
-#[derive(Clone, Copy, Debug, PartialEq, Eq)]
+#[derive(Clone, Copy, Debug, PartialEq, Eq, Error)]
 pub enum Refusal {
-    /// No head of a request, or one that is too long.
+    #[error("no head of a request, or one that is too long")]
     BadHead,
-    /// A page of another origin asks, or the request names another host.
+    #[error("a page of another origin asks, or the request names another host")]
     Foreign,
-    /// No page is there.
+    #[error("no page is there")]
     NoPage,
-    /// Another method than GET.
+    #[error("another method than GET")]
     BadMethod,
-    /// A link is asked for by no upgrade to a WebSocket.
+    #[error("a link is asked for by no upgrade to a WebSocket")]
     NoUpgrade,
-    /// Another version of WebSockets.
+    #[error("another version of WebSockets")]
     OtherVersion,
 }
 

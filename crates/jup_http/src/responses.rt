@@ -7,7 +7,7 @@ use crate::Refusal;
 use std::alloc::{AllocError, Global};
 
 /// What a body is.
-#[derive(Clone, Copy)]
+#[derive(Clone, Copy, Debug, PartialEq, Eq)]
 pub enum Media {
     Html,
     Plain,

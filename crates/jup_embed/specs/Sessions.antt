@@ -1,5 +1,5 @@
 -- A session as its client sees it, and what each call makes of it.
-use Rattle.std.specs.Prelude.{◌≡◌, ℕ, ◌++◌, ◌∷◌, [], Bool, true, false, ◌||◌, if◌then◌else◌, List, length, Option, Some, None, Result, Ok, Err}
+use Rattle.std.specs.Prelude.{◌≡◌, ◌⊎◌, ℕ, ◌++◌, ◌∷◌, [], Bool, true, false, ◌||◌, if◌then◌else◌, List, length, Option, Some, None, Result, Ok, Err}
 use Rattle.jup_batch.specs.BatchBoards.{Windows}
 use Rattle.jup_window.specs.declared.commands.Command.{Command}
 use Rattle.jup_window.specs.declared.board_operations.BoardOp.{BoardOp}
@@ -7,11 +7,15 @@ use Rattle.jup_window.specs.FaultNumbers.{edit_fault_number}
 use Rattle.jup_star.specs.declared.site.Made.{Made}
 use Rattle.jup_star.specs.SiteCalls.{BoardSite, EditAnswers, edit_reply, is_edit_memory}
 use Rattle.jup_window.specs.declared.faults.EditFault.{EditFault}
+use Rattle.jup_wire.specs.declared.faults.WireFault.{WireFault}
 use Rattle.jup_wire.specs.declared.line.Line.{Line}
 use Rattle.jup_wire.specs.Streams.{Progress, HasRead}
 use Rattle.jup_rules.specs.declared.said.Said.{Said}
 use Rattle.jup_rules.specs.declared.said.Said.TheVariants.{Up as SaysUp}
 use Rattle.jup_rules.specs.declared.client_end.ClientEnd.{ClientEnd}
+use Rattle.jup_rules.specs.declared.client_end.ClientEnd.TheVariants.{NoMemory}
+use Rattle.jup_rules.specs.declared.faults.SessionFault.TheVariants.{Wire}
+use Rattle.jup_rules.specs.ClientEnds.{end_of_fault}
 use Rattle.jup_rules.specs.Numbers.{client_end_number}
 use Rattle.jup_rules.specs.declared.request.Request.{Request}
 use Rattle.jup_rules.specs.declared.request.Request.TheVariants.{Sync}
@@ -80,14 +84,41 @@ abbrev pub HearsLines : List Line → Session → Session → Type 0
 HearsLines [] c d = d ≡ c
 HearsLines (line ∷ lines) c d = (middle : Session) × HearsLine line c middle × HearsLines lines middle d
 
--- Whatever came before: the lines of all the bytes so far are those from before and the lines that were heard, in order
-abbrev pub Feeds : List ℕ → Session → Session → Type 0
-Feeds bytes c d = (lines : List Line) × HearsLines lines (record c { progress = d.progress }) d
-    × ((before : List ℕ) (heard : List Line) → HasRead before heard c.progress → HasRead (before ++ bytes) (heard ++ lines) d.progress)
+-- whatever came before: the lines of all the bytes so far are those from before and these, in order
+abbrev pub ReadsOn : List ℕ → List Line → Progress → Progress → Type 0
+ReadsOn bytes lines p q = (before : List ℕ) (heard : List Line) → HasRead before heard p → HasRead (before ++ bytes) (heard ++ lines) q
 
--- after a refused line: no more bytes wait, and no more operations are kept
+-- the lines that these bytes complete were heard, in order
+abbrev pub Feeds : List ℕ → Session → Session → Type 0
+Feeds bytes c d = (lines : List Line) × HearsLines lines (record c { progress = d.progress }) d × ReadsOn bytes lines c.progress d.progress
+
+-- only how far the session is may be another
 abbrev pub KeepsRest : Session → Session → Type 0
-KeepsRest c d = (d.waiting ≡ c.waiting) × (d.changes ≡ c.changes)
+KeepsRest c d = d ≡ record c { phase = d.phase }
+
+-- a line is refused so: by the session, or since an allocation fails
+abbrev pub RefusesLine : Line → Session → ClientEnd → Type 0
+RefusesLine line c end = (end ≡ NoMemory) ⊎ ((left : Phase) × PhaseHears line c.phase (Err end) left)
+
+-- why these lines were not heard: the first is refused; if there is none, what comes after the lines so far has a fault
+abbrev pub RefusesRest : List Line → Session → ClientEnd → Type 0
+RefusesRest (line ∷ lines) c end = RefusesLine line c end
+RefusesRest [] c end = (fault : WireFault) × (c.progress.fault ≡ Some fault) × (end ≡ end_of_fault (Wire fault))
+
+-- of these lines the first were heard, in order, and the session still has what they changed and said; the rest was not heard, for this reason
+pub record HearsUpTo (lines : List Line) (c : Session) (end : ClientEnd) (d : Session) : Type 0 where
+  pub heard : List Line
+  pub rest : List Line
+  pub parts : lines ≡ heard ++ rest
+  pub middle : Session
+  pub hears : HearsLines heard c middle
+  pub refuses : RefusesRest rest middle end
+  pub after : KeepsRest middle d
+
+-- how bytes are refused: the session was over, and stays so; an allocation fails before a line is heard; or lines are heard up to one
+abbrev pub Ends : List ℕ → Session → ClientEnd → Session → Type 0
+Ends bytes c end d = ((c.phase ≡ phase.Over end) × (d ≡ c)) ⊎ ((end ≡ NoMemory) × KeepsRest c d)
+    ⊎ ((lines : List Line) × HearsUpTo lines (record c { progress = d.progress }) end d × ReadsOn bytes lines c.progress d.progress)
 
 -- an edit of these commands was made at the site of an open session, and nothing else of it changed
 abbrev pub EditedIn : List Command → Phase → Made → Phase → Type 0

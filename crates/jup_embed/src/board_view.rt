@@ -1,5 +1,5 @@
 //! A board as it is read from outside: numbers, and texts that are copied.
-ghost use Rattle.std.specs.Prelude.{◌≡◌, ◌≤◌, ◌-◌, length, get_or, min, take, drop, None, IsNone, IfSome};
+ghost use Rattle.std.specs.Prelude.{◌≡◌, ◌≤◌, ◌-◌, length, get_or, min, take, drop, None, IsNone, IfSome, IsSomeAnd};
 ghost use Rattle.jup_embed.specs.Views.{window_shown, kind_of, widget_shown, values_of, characters_at, label_at};
 
 use jup_value::{Label, Seq};
@@ -63,7 +63,7 @@ fn kind_of(widget: &Widget) -> WidgetKind
 /// Copies characters of a text from a place on, as far as there is room, and returns how many. None if there is no such text.
 pub fn copy_text(board: &Board, win: u16, wid: u16, place: u32, to: &mut [u32]) -> Option<usize>
     ensures none { IsNone result → characters_at (win, wid) board.now ≡ None }
-    ensures count { IfSome result (λ count. IfSome (characters_at (win, wid) board.now) (λ text. count ≡ min (length to.old) (length text - place))) }
+    ensures count { IfSome result (λ count. IsSomeAnd (characters_at (win, wid) board.now) (λ text. count ≡ min (length to.old) (length text - place))) }
     ensures copied { IfSome result (λ count. IfSome (characters_at (win, wid) board.now) (λ text. take count to.new ≡ take count (drop place text))) }
     ensures long { length to.new ≡ length to.old }
 {

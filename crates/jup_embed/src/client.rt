@@ -1,16 +1,17 @@
 //! A client of one session.
-ghost use Rattle.std.specs.Prelude.{◌≡◌, ◌≤◌, ◌||◌, [], ◌∷◌, length, take, drop, None, Some, Ok, IfOk, IfErr, OnOk, OnErr, IfSome, IsNone, MatchOption};
+ghost use Rattle.std.specs.Prelude.{◌≡◌, ◌≤◌, ◌||◌, [], ◌∷◌, length, take, drop, None, Some, Ok, Err, IfOk, IfErr, OnOk, OnErr, IfSome, IsNone, MatchOption};
 ghost use Rattle.jup_wire.specs.Grammar.{line_bytes};
 ghost use Rattle.jup_wire.specs.Streams.{HasRead};
 ghost use Rattle.jup_wire.specs.declared.line.Line.TheVariants.{Hello};
 ghost use Rattle.jup_batch.specs.BatchBoards.{Windows, after, bare};
 ghost use Rattle.jup_star.specs.SiteCalls.{EditAnswers};
+ghost use Rattle.jup_rules.specs.declared.client_end.ClientEnd.{ClientEnd as AnyEnd};
 ghost use Rattle.jup_rules.specs.declared.client_state.Told.TheVariants.{Synced, Bye as SaidBye};
 ghost use Rattle.jup_rules.specs.declared.request.Request.TheVariants.{Sync, Quit};
 ghost use Rattle.jup_rules.specs.declared.said.Said.TheVariants.{Up as SaysUp};
 ghost use Rattle.jup_embed.specs.declared.phase.Phase.TheVariants.{Greeting as InGreeting, Over as IsOver};
 ghost use Rattle.jup_embed.specs.Copies.{LacksUntold, KeepsCopies};
-ghost use Rattle.jup_embed.specs.Sessions.{stage_of, board_in, site_in, still_synced, refusal_of, HearsLine, HearsLines, Feeds, KeepsRest, EditedIn, MakesEdit, RefusesEdit, RefusesAt, AnsweredIn, IsDone, Asks, DoesAsked, Commands};
+ghost use Rattle.jup_embed.specs.Sessions.{stage_of, board_in, site_in, still_synced, refusal_of, HearsLine, HearsLines, Feeds, KeepsRest, RefusesLine, HearsUpTo, Ends, EditedIn, MakesEdit, RefusesEdit, RefusesAt, AnsweredIn, IsDone, Asks, DoesAsked, Commands};
 
 use crate::changes::Changes;
 use crate::outbox::Outbox;
@@ -158,7 +159,9 @@ impl Client {
     pub fn feed(&mut self, alloc: Global, bytes: &[u8]) -> Result<(), ClientEnd>
         ensures fed { OnOk result (Feeds bytes.now self.old self.new) }
         ensures copies { OnOk result (KeepsCopies self.old self.new) }
+        ensures ends { IfErr result (λ end. Ends bytes.now self.old end self.new) }
         ensures over { IfErr result (λ end. self.new.phase ≡ IsOver end) }
+        ensures ended { (end : AnyEnd) → self.old.phase ≡ IsOver end → result ≡ Err end }
     {
         self.take_in(alloc, bytes)
     }
@@ -166,7 +169,9 @@ impl Client {
     // Takes bytes of the server, unless the session is over.
     fn take_in(&mut self, alloc: Global, bytes: &[u8]) -> Result<(), ClientEnd>
         ensures fed { OnOk result (Feeds bytes.now self.old self.new) }
+        ensures ends { IfErr result (λ end. Ends bytes.now self.old end self.new) }
         ensures over { IfErr result (λ end. self.new.phase ≡ IsOver end) }
+        ensures ended { (end : AnyEnd) → self.old.phase ≡ IsOver end → result ≡ Err end }
     {
         if let Phase::Over(end) = &self.phase {
             return Err(*end);
@@ -180,7 +185,8 @@ impl Client {
 
     // Reads lines, and hears them.
     fn read_in(&mut self, alloc: Global, bytes: &[u8]) -> Result<(), ClientEnd>
-        ensures { OnOk result (Feeds bytes.now self.old self.new) }
+        ensures fed { OnOk result (Feeds bytes.now self.old self.new) }
+        ensures ends { IfErr result (λ end. Ends bytes.now self.old end self.new) }
     {
         let fed = self.reader.feed(alloc, bytes)?;
         self.hear_all(alloc, fed.lines.as_slice())?;
@@ -193,7 +199,8 @@ impl Client {
     // Hears lines in order, up to the first that is refused.
     fn hear_all(&mut self, alloc: Global, lines: &[Line]) -> Result<(), ClientEnd>
         ensures heard { OnOk result (HearsLines lines.now self.old self.new) }
-        ensures read { OnOk result (self.new.progress ≡ self.old.progress) }
+        ensures refused { IfErr result (λ end. HearsUpTo lines.now self.old end self.new) }
+        ensures read { self.new.progress ≡ self.old.progress }
     {
         for line in lines {
             self.hear(alloc, line)?;
@@ -204,7 +211,8 @@ impl Client {
     // Hears a line. Room for the client's answer is made before it is heard.
     fn hear(&mut self, alloc: Global, line: &Line) -> Result<(), ClientEnd>
         ensures heard { OnOk result (HearsLine line.now self.old self.new) }
-        ensures refused { OnErr result (KeepsRest self.old self.new) }
+        ensures refused { IfErr result (RefusesLine line.now self.old) }
+        ensures kept { OnErr result (KeepsRest self.old self.new) }
         ensures read { self.new.progress ≡ self.old.progress }
     {
         self.outbox.reserve()?;

@@ -51,15 +51,19 @@ faulty_rest lines a d fault heard is = record {
 ends_over : (bytes : List ℕ) (c m : Session) (end : ClientEnd) → Ends bytes c end m → Ends bytes c end (record m { phase = phase.Over end })
 ends_over bytes c m end (inl was) = inl (was.0, ap (λ (s : Session). record s { phase = phase.Over end }) was.1 ∙ ap (λ p. record c { phase = p }) (sym was.0))
 ends_over bytes c m end (inr (inl none)) = inr (inl (none.0, ap (λ (s : Session). record s { phase = phase.Over end }) none.1))
-ends_over bytes c m end (inr (inr some)) = inr (inr (some.0, record {
-  heard = some.1.heard;
-  rest = some.1.rest;
-  parts = some.1.parts;
-  middle = some.1.middle;
-  hears = some.1.hears;
-  refuses = some.1.refuses;
-  after = ap (λ (s : Session). record s { phase = phase.Over end }) some.1.after;
-}, some.2))
+ends_over bytes c m end (inr (inr some)) = inr (inr (
+  some.0,
+  record {
+    heard = some.1.heard;
+    rest = some.1.rest;
+    parts = some.1.parts;
+    middle = some.1.middle;
+    hears = some.1.hears;
+    refuses = some.1.refuses;
+    after = ap (λ (s : Session). record s { phase = phase.Over end }) some.1.after;
+  },
+  some.2,
+))
 
 -- the session is over then
 pub over_ends : (bytes : List ℕ) (c m d : Session) (end : ClientEnd) → Ends bytes c end m → d ≡ record m { phase = phase.Over end } → Ends bytes c end d

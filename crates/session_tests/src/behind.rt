@@ -22,11 +22,17 @@ const EDIT: &[u8] = b"batch 0 0 1\ndo 1 1 text ins 0 1.1 97\nbye\n";
 
 const PING: &[u8] = b"ping 1\nbye\n";
 
-// One operation costs a site that is MOST behind as much as is free, and two cost more.
+/// Operations that a site may be behind whose message of one operation is not long yet.
+const NOT_LONG: u32 = 131_072;
+
 const ONE: &[u8] = b"batch 0 0 1\ndo 1 1 text ins 0 1.1 97\nping 1\nbye\n";
 
-const TWO: &[u8] =
-    b"batch 0 0 2\ndo 1 1 text ins 0 1.1 97\ndo 1 1 text ins 0 1.2 98\nping 1\nbye\n";
+// A message of four operations is long if its site is MOST behind, and one of five is costly.
+const FOUR: &[u8] =
+    b"batch 0 0 4\ndo 1 1 text ins 0 1.1 97\ndo 1 1 text ins 0 1.2 98\ndo 1 1 text ins 0 1.3 99\ndo 1 1 text ins 0 1.4 97\nping 1\nbye\n";
+
+const FIVE: &[u8] =
+    b"batch 0 0 5\ndo 1 1 text ins 0 1.1 97\ndo 1 1 text ins 0 1.2 98\ndo 1 1 text ins 0 1.3 99\ndo 1 1 text ins 0 1.4 97\ndo 1 1 text ins 0 1.5 98\nping 1\nbye\n";
 
 /// Gives a greeting. Then others make operations, and it gives a text.
 #[derive(Drop)]
@@ -65,7 +71,7 @@ impl<'a, R> Ticking<'a, R> {
         }
     }
 
-    // Milliseconds that it was to sleep in total.
+    // Microseconds that it was to sleep in total.
     fn slept(&self) -> u64 {
         self.slept.load(Ordering::SeqCst)
     }
@@ -86,8 +92,8 @@ impl<'a, R: Clock> Clock for Ticking<'a, R> {
     }
 
     fn sleep(&self, duration: Duration) {
-        let millis = u64::try_from(duration.as_millis()).unwrap_or(u64::MAX);
-        self.slept.fetch_add(millis, Ordering::SeqCst);
+        let micros = u64::try_from(duration.as_micros()).unwrap_or(u64::MAX);
+        self.slept.fetch_add(micros, Ordering::SeqCst);
     }
 }
 
@@ -155,16 +161,21 @@ fn a_site_that_is_not_too_far_behind_stays(rt: HostRuntime) {
     expect_eq(
         &rt,
         (came.ending, came.taken, came.slept),
-        (Ending::Bye, 1, 0),
+        (Ending::Bye, 1, 500),
     );
     expect_answer(&rt, rt.alloc(), &came, "bye\n");
 }
 
 // A take that took ten milliseconds, by a clock that says so of each.
 #[test]
-fn a_session_rests_seven_times_as_long_after_a_costly_take(rt: HostRuntime) {
-    for &(text, slept) in &[(ONE, 0), (TWO, 70)] {
-        let came = session_of(&rt, rt.alloc(), MOST, text);
+fn a_session_rests_after_a_long_take_and_seven_times_as_long_after_a_costly_one(rt: HostRuntime) {
+    for &(behind, text, slept) in &[
+        (NOT_LONG, ONE, 0),
+        (NOT_LONG + 1, ONE, 500),
+        (MOST, FOUR, 500),
+        (MOST, FIVE, 70_000),
+    ] {
+        let came = session_of(&rt, rt.alloc(), behind, text);
         expect_eq(
             &rt,
             (came.ending, came.taken, came.slept),

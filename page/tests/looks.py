@@ -57,7 +57,8 @@ ATTACKS = """(async () => {
   const base = document.createElement('base');
   base.href = 'http://127.0.0.1:9/';
   document.head.append(base);
-  await new Promise((done) => setTimeout(done, 300));
+  // A busy machine is given time to tell of all seven.
+  for (let round = 0; round < 3 || (round < 100 && new Set(stopped).size < 7); round += 1) await new Promise((done) => setTimeout(done, 100));
   button.remove(); form.remove(); script.remove();
   return [window.isBroken ?? false, [...new Set(stopped)].sort()];
 })()"""

@@ -177,6 +177,23 @@ impl Site {
         if !(1..=MOST_COMMANDS).contains(&commands.len()) {
             return Err(EditFault::BadBatch);
         }
+        self.name_several(alloc, commands)
+    }
+
+    // The operations that 1 to 32 commands make. The array of 32 operations is here, since an edit of one command needs none.
+    #[inline(never)]
+    fn name_several(&self, alloc: Global, commands: &[Command]) -> Result<BoardBatch, EditFault>
+        requires running { self.now.stopped ≡ false }
+        requires some { 1 ≤ length commands.now }
+        requires few { length commands.now ≤ 32 }
+        ensures ok { IfOk result (λ op. edit_answer board_batches commands.now self.now ≡ Ok op) }
+        ensures refused { IfErr result (λ fault. EditAnswers commands.now self.now self.now (Err fault)) }
+        ensures valid { IfOk result (λ op. IsValid op self.now.board) }
+        ensures shown { IfOk result (λ op. after op self.now.board
+            ≡ all_shown commands.now self.now.number self.now.named self.now.board) }
+        ensures same_length { IfOk result (λ op. length op ≡ length commands.now) }
+        ensures room { OnOk result (self.now.made < self.now.limit) }
+    {
         let mut all = [NO_OPERATION; MOST_COMMANDS];
         let ops = &mut all[..commands.len()];
         name_all(&self.board, commands, self.number, self.named, ops)?;

@@ -29,7 +29,8 @@ use Rattle.jup_rules.specs.declared.client_state.Heard.{Heard}
 use Rattle.jup_rules.specs.declared.client_state.ClientState.{ClientState}
 use Rattle.jup_rules.specs.declared.request.Request.{Request}
 use Rattle.jup_rules.specs.declared.request.Request.TheVariants.{Edit, Batch, Sync, Show, Quit, Bad}
-use Rattle.jup_rules.specs.Clients.{Hears, HearsDown, Delivers, down_in, heard_answer, AnswersEdit, Answers, edit_answer, sync_answer, saying, telling}
+use Rattle.jup_gather.specs.Ways.{down_in, message_given}
+use Rattle.jup_rules.specs.Clients.{Hears, HearsDown, Delivers, down_heard, heard_answer, AnswersEdit, Answers, edit_answer, sync_answer, saying, telling}
 use Rattle.jup_embed.specs.declared.refusals.EmbedFault.{EmbedFault}
 use Rattle.jup_embed.specs.declared.phase.Phase.{Phase}
 use Rattle.jup_embed.specs.declared.phase.Phase.TheVariants as phase
@@ -53,7 +54,7 @@ shown_is_after (Some ops) b = refl
 -- a line that a client hears makes its board what the operations shown make of it
 heard_shows : (line : Line) (c d : ClientState) (heard : Heard) → Hears line c (Ok heard) d → d.site.board ≡ after (operations_in heard.shown) c.site.board
 heard_shows line c d heard (inl none) = absurd (let no : Ok heard ≡ Err NoMemory = none.0 in cc)
-heard_shows line c d heard (inr h) = by_lines (down_in h.0) h.2
+heard_shows line c d heard (inr h) = by_lines (down_heard (message_given down_in h.0)) h.2
   where
     delivered : (down : Down BoardBatch) (outcome : Result Delivered SiteFault) → Ok heard ≡ heard_answer c.pings down outcome
         → IfOk outcome (λ made. d.site.board ≡ shown_after made.shown c.site.board) → d.site.board ≡ after (operations_in heard.shown) c.site.board

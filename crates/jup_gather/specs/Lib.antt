@@ -1,3 +1,4 @@
 pub mod Gathering
 pub mod Held
 pub mod Pieces
+pub mod Ways

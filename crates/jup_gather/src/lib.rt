@@ -10,8 +10,10 @@ mod laws;
 mod lines;
 mod part;
 mod step;
+mod ways;
 
 pub use gather::Gather;
 pub use gathered::Gathered;
 pub use laws::{message_comes_whole, one_gathering};
 pub use lines::{lines_of_op, put_op};
+pub use ways::{Message, Shape, message_of, put_message};

@@ -6,23 +6,18 @@ use Rattle.std.proofs.lemmas.List.{take-append-le, drop-append-le, drop_all}
 use Rattle.std.proofs.Math.Seq.{take-nil, drop-nil}
 use Rattle.jup_window.specs.declared.board_operations.BoardOp.{BoardOp}
 use Rattle.jup_link.specs.declared.Msg.{Msg}
-use Rattle.jup_batch.specs.BatchBoards.{BoardBatch}
-use Rattle.jup_star.specs.declared.messages.Up.{Up}
-use Rattle.jup_star.specs.declared.messages.Up.TheVariants.{Op as UpOp}
-use Rattle.jup_star.specs.declared.messages.Down.{Down}
-use Rattle.jup_star.specs.declared.messages.Down.TheVariants.{Op as DownOp}
 use Rattle.jup_wire.specs.declared.line.Line.{Line}
 use Rattle.jup_wire.specs.Grammar.{line_text, spelling, HasSpelling}
 use Rattle.jup_wire.specs.Singles.{BeginsLines}
 use Rattle.jup_wire.proofs.Unique.{one}
-use Rattle.jup_gather.specs.declared.gathered.Gathered.TheVariants.{Whole}
-use Rattle.jup_gather.specs.Pieces.{message_lines}
-use Rattle.jup_lane.specs.Codecs.{Codec, IsCodec, IsFirst, IsOldest, bytes_of, bytes_of_all, messages_in}
-use Rattle.jup_lane.specs.Messages.{ups, downs}
+use Rattle.jup_gather.specs.declared.ways.Message.{Ghosts}
+use Rattle.jup_gather.specs.Pieces.{Message, message_lines, piece_lines}
+use Rattle.jup_lane.specs.Codecs.{Codec, IsCodec, IsFirst, IsFirstIn, IsOldest, IsOldestIn, bytes_of, bytes_of_all, messages_in}
+use Rattle.jup_lane.specs.Messages.{codec}
 use Rattle.jup_lane.specs.Lanes.{Way, on_way, sent, moved, handed_over, IsIdle, messages, Carries, IsWholeOf, IsWhole, IsFilled, filled_to, way_of, oldest_length, Stands, IsAhead}
-use Rattle.jup_lane.proofs.Firsts.{up_first, down_first}
+use Rattle.jup_lane.proofs.Firsts.{edit_in}
 use Rattle.jup_lane.proofs.LaneLaws.{same_ways, lines_spelled, bytes_are, carried-handed}
-use Rattle.jup_lane.specs.MessageLines.{ups_laws, downs_laws}
+use Rattle.jup_lane.proofs.MessageLines.{codec_laws}
 
 -- # The oldest message
 
@@ -46,21 +41,17 @@ first_is lines there m (x ∷ ms) len first long = record { later = ms; first = 
 
 -- a message whose lines begin some bytes is the oldest of those that the bytes are
 oldest : {Message : Type 0} (C : Codec Message) → IsCodec C → (m : Message) (len : ℕ) (bytes : List ℕ) → BeginsLines (C.lines m) len bytes
-    → ((ms : List Message) (more : List Line) → AllByRecursion C.IsSpelled ms → C.lines m ++ more ≡ flat_map C.lines ms → IsFirst C.lines (C.lines m) ms (Some m))
-    → (ms : List Message) → AllByRecursion C.IsSpelled ms → bytes ≡ flat_map spelling (flat_map C.lines ms) → IsOldest C.lines m len ms
+    → IsFirstIn C (C.lines m) (Some m) → IsOldestIn C bytes m len
 oldest C laws m len bytes begins first ms all e =
     let later = all_begin (C.lines m) (flat_map C.lines ms) begins.rest begins.spelled (lines_spelled C laws ms all) (sym e ∙ begins.stands) in
     first_is C.lines (C.lines m) m ms len (first ms later.0 all (sym later.1)) begins.long
 
-pub up_oldest : (m : Msg (List BoardOp)) (len : ℕ) (bytes : List ℕ) → BeginsLines (message_lines m) len bytes → (us : List (Up BoardBatch)) → AllByRecursion ups.IsSpelled us → bytes ≡ flat_map spelling (flat_map ups.lines us)
-    → IsOldest ups.lines (UpOp m) len us
-up_oldest m len bytes begins =
-    oldest ups ups_laws (UpOp m) len bytes begins (up_first (message_lines m) (Some (Whole m)) (Some (UpOp m)) (begins.spelled.0.1.1, ([], sym (append-nil (message_lines m)))) refl)
-
-pub down_oldest : (m : Msg (List BoardOp)) (len : ℕ) (bytes : List ℕ) → BeginsLines (message_lines m) len bytes → (ds : List (Down BoardBatch)) → AllByRecursion downs.IsSpelled ds → bytes ≡ flat_map spelling (flat_map downs.lines ds)
-    → IsOldest downs.lines (DownOp m) len ds
-down_oldest m len bytes begins =
-    oldest downs downs_laws (DownOp m) len bytes begins (down_first (message_lines m) (Some (Whole m)) (Some (DownOp m)) (begins.spelled.0.1.1, ([], sym (append-nil (message_lines m)))) refl)
+-- so is an edit that is read where it stands
+pub edit_oldest : {M : Type 0} (t : Ghosts M) (m : M) (msg : Msg (List BoardOp)) (len : ℕ) (bytes : List ℕ) → BeginsLines (message_lines msg) len bytes → t.piece m ≡ Message msg → IsOldestIn (codec t) bytes m len
+edit_oldest t m msg len bytes begins e =
+    let lines : (codec t).lines m ≡ message_lines msg = ap piece_lines e in
+    oldest (codec t) (codec_laws t) m len bytes (subst (λ ls. BeginsLines ls len bytes) (sym lines) begins)
+    (subst (λ ls. IsFirstIn (codec t) ls (Some m)) (sym lines) (edit_in t (message_lines msg) msg m (begins.spelled.0.1.1, ([], sym (append-nil (message_lines msg)))) e))
 
 -- # Bytes that count as moved
 

@@ -1,15 +1,14 @@
 -- What lines begin with, by what they are gathered to.
-use Rattle.std.proofs.Common.{◌≡◌, ℕ, ◌+◌, ◌<◌, ◌≤◌, inl, inr, List, [], ◌∷◌, ◌++◌, length, get_or, Option, Some, None, refl, sym, ap, subst, ◌∙◌, append_assoc, arith, length-append}
+use Rattle.std.proofs.Common.{◌≡◌, ℕ, ◌+◌, ◌<◌, ◌≤◌, inl, inr, List, [], ◌∷◌, ◌++◌, length, get_or, Option, Some, None, Result, refl, sym, ap, subst, ◌∙◌, append_assoc, arith, length-append}
 use Rattle.std.specs.Prelude.{MatchOption}
+use Rattle.std.specs.Option.{ok_or}
+use Rattle.std.specs.Result.{result_ok}
 use Rattle.std.specs.List.{flat_map, AllByRecursion}
 use Rattle.std.proofs.lemmas.Bool.{cases_lt}
 use Rattle.std.proofs.lemmas.List.{append-nil, nil_from_length}
 use Rattle.std.proofs.lemmas.List.Concat.{flat_map-cons}
 use Rattle.jup_batch.specs.BatchBoards.{BoardBatch}
-use Rattle.jup_star.specs.declared.messages.Up.{Up}
-use Rattle.jup_star.specs.declared.messages.Up.TheVariants.{Op as UpOp, Ack as UpAck, Ping as UpPing}
-use Rattle.jup_star.specs.declared.messages.Down.{Down}
-use Rattle.jup_star.specs.declared.messages.Down.TheVariants.{Op as DownOp, Ack as DownAck, Pong as DownPong}
+use Rattle.jup_link.specs.declared.Msg.{Msg}
 use Rattle.jup_window.specs.declared.board_operations.BoardOp.{BoardOp}
 use Rattle.jup_wire.specs.declared.line.Line.{Line}
 use Rattle.jup_wire.specs.declared.line.Line.TheVariants as line
@@ -18,10 +17,12 @@ use Rattle.jup_gather.specs.declared.gathered.Gathered.{Gathered}
 use Rattle.jup_gather.specs.declared.gathered.Gathered.TheVariants.{Whole, Plain, Held, Misplaced}
 use Rattle.jup_gather.specs.Pieces.{Piece, Message, Alone, piece_lines, IsPiece, BeginsNone, IsPart}
 use Rattle.jup_gather.specs.Gathering.{Gathers}
+use Rattle.jup_gather.specs.declared.ways.Message.{Ghosts}
+use Rattle.jup_gather.specs.Ways.{IsSound, message_given}
 use Rattle.jup_gather.proofs.OneGathering.{one_piece, part_begins_none}
-use Rattle.jup_lane.specs.Codecs.{IsFirst}
-use Rattle.jup_lane.specs.Messages.{up_piece, down_piece, ups, downs}
-use Rattle.jup_lane.specs.Firsts.{IsFirstOf, up_from, down_from}
+use Rattle.jup_lane.specs.Codecs.{IsFirst, IsFirstIn}
+use Rattle.jup_lane.specs.Messages.{codec}
+use Rattle.jup_lane.specs.Firsts.{IsFirstOf}
 
 -- ---- lines that are gone over
 
@@ -114,62 +115,48 @@ nothing_there [] more (Some Held) e first = absurd first
 nothing_there [] more (Some Misplaced) e first = absurd (first (line.Bye ∷ []) (Alone line.Bye) [] refl refl)
 nothing_there (l ∷ there) more (Some gathered) e first = absurd cc
 
--- ---- messages up
+-- ---- messages
 
-up_sound : (u : Up BoardBatch) → AllByRecursion HasSpelling (ups.lines u) → IsPiece (up_piece u)
-up_sound (UpOp m) is = is.0.1.1
-up_sound (UpAck n) is = refl
-up_sound (UpPing k) is = refl
+-- the message that lines begin with
+abbrev pub message_from : {M : Type 0} → (Piece → Option M) → Option Gathered → Option M
+message_from back (Some (Whole m)) = back (Message m)
+message_from back (Some (Plain line)) = back (Alone line)
+message_from back other = None
 
-up_is : (u : Up BoardBatch) (us : List (Up BoardBatch)) (there : List Line) (first : Option Gathered) → IsPieceThere (up_piece u) there first → IsFirst ups.lines there (u ∷ us) (up_from first)
-unfolding IsPieceThere
-up_is u us there None is = is
-up_is (UpOp m) us there (Some (Whole n)) is = (let same = is.0 in cc, is.1)
-up_is (UpOp m) us there (Some (Plain plain)) is = absurd (let same = is.0 in cc)
-up_is (UpAck n) us there (Some (Whole m)) is = absurd (let same = is.0 in cc)
-up_is (UpAck n) us there (Some (Plain plain)) is =
-    let same : line.Ack n ≡ plain = (let e = is.0 in cc) in
-    subst (λ l. IsFirst ups.lines there (UpAck n ∷ us) (up_from (Some (Plain l)))) same (refl, is.1)
-up_is (UpPing k) us there (Some (Whole m)) is = absurd (let same = is.0 in cc)
-up_is (UpPing k) us there (Some (Plain plain)) is =
-    let same : line.Ping k ≡ plain = (let e = is.0 in cc) in
-    subst (λ l. IsFirst ups.lines there (UpPing k ∷ us) (up_from (Some (Plain l)))) same (refl, is.1)
-up_is u us there (Some Held) is = absurd is
-up_is u us there (Some Misplaced) is = absurd is
+module _ {M : Type 0} (back : Piece → Option M) where
+  found_or : (found : Option M) (gathered : Gathered) → result_ok (ok_or found gathered) ≡ found
+  found_or (Some m) gathered = refl
+  found_or None gathered = refl
 
-pub up_first : (there : List Line) (first : Option Gathered) (up : Option (Up BoardBatch)) → IsFirstOf there first → up ≡ up_from first
-    → (us : List (Up BoardBatch)) (more : List Line) → AllByRecursion ups.IsSpelled us → there ++ more ≡ flat_map ups.lines us → IsFirst ups.lines there us up
-up_first there first up is same [] more all e = same ∙ ap up_from (nothing_there there more first e is)
-up_first there first up is same (u ∷ us) more all e =
-    subst (IsFirst ups.lines there (u ∷ us)) (sym same)
-    (up_is u us there first (piece_there there more (up_piece u) (flat_map ups.lines us) first (up_sound u all.0) (e ∙ flat_map-cons ups.lines u us) is))
+  given_from : (gathered : Gathered) → result_ok (message_given back gathered) ≡ message_from back (Some gathered)
+  given_from (Whole m) = found_or (back (Message m)) (Whole m)
+  given_from (Plain line) = found_or (back (Alone line)) (Plain line)
+  given_from Held = refl
+  given_from Misplaced = refl
 
--- ---- messages down
+piece_is : (p : Piece) → IsSound p → AllByRecursion HasSpelling (piece_lines p) → IsPiece p
+piece_is (Message m) sound is = is.0.1.1
+piece_is (Alone line) sound is = sound
 
-down_sound : (d : Down BoardBatch) → AllByRecursion HasSpelling (downs.lines d) → IsPiece (down_piece d)
-down_sound (DownOp m) is = is.0.1.1
-down_sound (DownAck n) is = refl
-down_sound (DownPong k) is = refl
+module _ {M : Type 0} (t : Ghosts M) where
+  first_is : (m : M) (ms : List M) (there : List Line) (first : Option Gathered) → IsPieceThere (t.piece m) there first → IsFirst (codec t).lines there (m ∷ ms) (message_from t.of_piece first)
+  unfolding IsPieceThere
+  first_is m ms there None is = is
+  first_is m ms there (Some (Whole n)) is = subst (IsFirst (codec t).lines there (m ∷ ms)) (sym (ap t.of_piece (sym is.0) ∙ (t.way m).again)) (refl, is.1)
+  first_is m ms there (Some (Plain plain)) is = subst (IsFirst (codec t).lines there (m ∷ ms)) (sym (ap t.of_piece (sym is.0) ∙ (t.way m).again)) (refl, is.1)
+  first_is m ms there (Some Held) is = absurd is
+  first_is m ms there (Some Misplaced) is = absurd is
 
-down_is : (d : Down BoardBatch) (ds : List (Down BoardBatch)) (there : List Line) (first : Option Gathered) → IsPieceThere (down_piece d) there first → IsFirst downs.lines there (d ∷ ds) (down_from first)
-unfolding IsPieceThere
-down_is d ds there None is = is
-down_is (DownOp m) ds there (Some (Whole n)) is = (let same = is.0 in cc, is.1)
-down_is (DownOp m) ds there (Some (Plain plain)) is = absurd (let same = is.0 in cc)
-down_is (DownAck n) ds there (Some (Whole m)) is = absurd (let same = is.0 in cc)
-down_is (DownAck n) ds there (Some (Plain plain)) is =
-    let same : line.Ack n ≡ plain = (let e = is.0 in cc) in
-    subst (λ l. IsFirst downs.lines there (DownAck n ∷ ds) (down_from (Some (Plain l)))) same (refl, is.1)
-down_is (DownPong k) ds there (Some (Whole m)) is = absurd (let same = is.0 in cc)
-down_is (DownPong k) ds there (Some (Plain plain)) is =
-    let same : line.Pong k ≡ plain = (let e = is.0 in cc) in
-    subst (λ l. IsFirst downs.lines there (DownPong k ∷ ds) (down_from (Some (Plain l)))) same (refl, is.1)
-down_is d ds there (Some Held) is = absurd is
-down_is d ds there (Some Misplaced) is = absurd is
+  pub first_in : (there : List Line) (first : Option Gathered) (found : Option M) → IsFirstOf there first → found ≡ message_from t.of_piece first → IsFirstIn (codec t) there found
+  first_in there first found is same [] more all e = same ∙ ap (message_from t.of_piece) (nothing_there there more first e is)
+  first_in there first found is same (m ∷ ms) more all e =
+      subst (IsFirst (codec t).lines there (m ∷ ms)) (sym same)
+      (first_is m ms there first (piece_there there more (t.piece m) (flat_map (codec t).lines ms) first (piece_is (t.piece m) (t.way m).sound all.0) (e ∙ flat_map-cons (codec t).lines m ms) is))
 
-pub down_first : (there : List Line) (first : Option Gathered) (down : Option (Down BoardBatch)) → IsFirstOf there first → down ≡ down_from first
-    → (ds : List (Down BoardBatch)) (more : List Line) → AllByRecursion downs.IsSpelled ds → there ++ more ≡ flat_map downs.lines ds → IsFirst downs.lines there ds down
-down_first there first down is same [] more all e = same ∙ ap down_from (nothing_there there more first e is)
-down_first there first down is same (d ∷ ds) more all e =
-    subst (IsFirst downs.lines there (d ∷ ds)) (sym same)
-    (down_is d ds there first (piece_there there more (down_piece d) (flat_map downs.lines ds) first (down_sound d all.0) (e ∙ flat_map-cons downs.lines d ds) is))
+  -- an edit
+  pub edit_in : (there : List Line) (msg : Msg (List BoardOp)) (m : M) → IsFirstOf there (Some (Whole msg)) → t.piece m ≡ Message msg → IsFirstIn (codec t) there (Some m)
+  edit_in there msg m is e = first_in there (Some (Whole msg)) (Some m) is (sym (t.way m).again ∙ ap t.of_piece e)
+
+  -- what lines give
+  pub given_in : (there : List Line) (gathered : Gathered) (given : Result M Gathered) (found : Option M) → IsFirstOf there (Some gathered) → given ≡ message_given t.of_piece gathered → found ≡ result_ok given → IsFirstIn (codec t) there found
+  given_in there gathered given found is e f = first_in there (Some gathered) found is (f ∙ ap result_ok e ∙ given_from t.of_piece gathered)

@@ -1,13 +1,18 @@
 -- The lines of a message, written one after another.
-use Rattle.std.proofs.Common.{◌≡◌, ℕ, zero, suc, ◌+◌, ◌*◌, ◌<◌, ◌≤◌, get_or, List, [], ◌∷◌, ◌++◌, length, sym, ap, ◌∙◌, append-nil, arith, length-append}
+use Rattle.std.proofs.Common.{◌≡◌, ℕ, zero, suc, ◌+◌, ◌*◌, ◌<◌, ◌≤◌, get_or, List, [], ◌∷◌, ◌++◌, length, refl, sym, ap, subst, ◌∙◌, append-nil, arith, length-append}
 use Rattle.std.specs.Prelude.{IsTrue, ◌↔◌, vec_len, vec_capacity}
 use Rattle.std.specs.Global.{Vec}
 use Rattle.std.specs.List.{flat_map, AllByRecursion}
-use Rattle.std.proofs.lemmas.Bool.{cond-true}
+use Rattle.std.proofs.lemmas.Bool.{cond-true, false≢true}
 use Rattle.std.proofs.lemmas.List.{flat_map_more}
+use Rattle.jup_window.specs.declared.board_operations.BoardOp.{BoardOp}
+use Rattle.jup_link.specs.declared.Msg.{Msg}
 use Rattle.jup_wire.specs.declared.line.Line.{Line}
+use Rattle.jup_wire.specs.declared.line.Line.TheVariants.{Batch, Do}
 use Rattle.jup_wire.specs.Grammar.{spelling, HasSpelling, is_spelled, line_bytes}
 use Rattle.jup_wire.proofs.OneMore.{all-append}
+use Rattle.jup_gather.specs.Pieces.{Piece, Message, Alone, message_lines, piece_lines, stands_alone}
+use Rattle.jup_gather.specs.Ways.{IsSound}
 
 -- these lines were appended, and there is room for some more
 pub record HasWritten (old now : Vec ℕ) (lines : List Line) (left : ℕ) : Type 0 where
@@ -17,8 +22,26 @@ pub record HasWritten (old now : Vec ℕ) (lines : List Line) (left : ℕ) : Typ
   pub room : vec_len now + 106 * left ≤ vec_capacity now
 
 -- what was appended for a line that has a spelling
-line_written : (line : Line) (old new : List ℕ) → IsTrue (is_spelled line) → new ≡ old ++ line_bytes line → new ≡ old ++ spelling line
+pub line_written : (line : Line) (old new : List ℕ) → IsTrue (is_spelled line) → new ≡ old ++ line_bytes line → new ≡ old ++ spelling line
 line_written line old new is e = e ∙ ap (λ t. old ++ t) (cond-true (is_spelled line) (spelling line) [] is)
+
+-- a line that stands alone has a spelling
+pub alone_spelled : (line : Line) → IsTrue (stands_alone line) → IsTrue (is_spelled line)
+alone_spelled (Batch mine heard count) alone = absurd (false≢true alone)
+alone_spelled (Do op) alone = absurd (false≢true alone)
+alone_spelled line alone = refl
+
+-- the bytes of a message were appended, whose piece is an edit, or a line alone
+pub edit_written : (p : Piece) (msg : Msg (List BoardOp)) (old new : List ℕ) → Message msg ≡ p → AllByRecursion HasSpelling (message_lines msg) → new ≡ old ++ flat_map spelling (message_lines msg)
+    → AllByRecursion HasSpelling (piece_lines p) × (new ≡ old ++ flat_map spelling (piece_lines p))
+edit_written p msg old new e spelled items = subst (λ q. AllByRecursion HasSpelling (piece_lines q) × (new ≡ old ++ flat_map spelling (piece_lines q))) e (spelled, items)
+
+pub alone_written : (p : Piece) (line : Line) (old new : List ℕ) → Alone line ≡ p → IsSound p → (IsTrue (is_spelled line) ↔ HasSpelling line) → new ≡ old ++ line_bytes line
+    → AllByRecursion HasSpelling (piece_lines p) × (new ≡ old ++ flat_map spelling (piece_lines p))
+alone_written p line old new e sound exact items =
+    let is = alone_spelled line (subst IsSound (sym e) sound) in
+    subst (λ q. AllByRecursion HasSpelling (piece_lines q) × (new ≡ old ++ flat_map spelling (piece_lines q))) e
+    ((exact.0 is, tt), line_written line old new is items ∙ ap (λ t. old ++ t) (sym (append-nil (spelling line))))
 
 -- the first line is short
 pub begun : (old now : Vec ℕ) (line : Line) (left : ℕ) → (IsTrue (is_spelled line) ↔ HasSpelling line) → IsTrue (is_spelled line) → now.items ≡ old.items ++ line_bytes line

@@ -13,7 +13,7 @@ use Rattle.jup_wire.specs.Grammar.{line_text, spelling, HasSpelling}
 use Rattle.jup_wire.specs.Streams.{Progress, HasRead, IsPart, Faults}
 use Rattle.jup_wire.proofs.Splits.{lacks}
 use Rattle.jup_wire.proofs.Unique.{on_the_way}
-use Rattle.jup_lane.specs.Codecs.{Codec, IsCodec, IsFirst, bytes_of, bytes_of_all, lines_behind, lines_in}
+use Rattle.jup_lane.specs.Codecs.{Codec, IsCodec, IsFirst, IsFirstIn, bytes_of, bytes_of_all, lines_behind, lines_in}
 use Rattle.jup_lane.specs.Lanes.{Way, way_of, moved, handed_over, messages, Carries, next_feed, IsWholeOf, IsWhole, IsFilled, oldest_length, IsTowards, IsMovedOn, IsIdle}
 use Rattle.jup_lane.proofs.LinesIn.{lines_first, text_on}
 use Rattle.jup_lane.proofs.LaneLaws.{same_ways, lines_spelled, bytes_are, carried-moved, carried-handed, idle, idle_none}
@@ -119,7 +119,7 @@ module _ {Message : Type 0} (C : Codec Message) (L : IsCodec C) where
 
   -- so what begins its lines is the oldest message, if it has all its bytes
   pub whole_is : (w : Way) (tray : List Line) (p : Progress) (o : Option Message) → Carries C w → p.fault ≡ None → HasRead w.read tray p
-      → ((ms : List Message) (more : List Line) → AllByRecursion C.IsSpelled ms → tray ++ more ≡ flat_map C.lines ms → IsFirst C.lines tray ms o) → IsWhole C w o
+      → IsFirstIn C tray o → IsWhole C w o
   whole_is w tray p o is none read firsts =
       let f = tray_first w tray p is read in
       cases (messages C w) refl o (firsts (messages C w) f.0 is.spelled f.1)
@@ -234,7 +234,7 @@ module _ {Message : Type 0} (C : Codec Message) (L : IsCodec C) where
 
   -- the same of what a call returned
   pub whole_result : {E : Type 0} (w : Way) (tray : List Line) (p : Progress) (r : Result (Option Message) E) → Carries C w → p.fault ≡ None → HasRead w.read tray p
-      → IfOk r (λ o. (ms : List Message) (more : List Line) → AllByRecursion C.IsSpelled ms → tray ++ more ≡ flat_map C.lines ms → IsFirst C.lines tray ms o) → IfOk r (λ o. IsWhole C w o)
+      → IfOk r (λ o. IsFirstIn C tray o) → IfOk r (λ o. IsWhole C w o)
   whole_result w tray p (Ok o) is none read firsts = whole_is w tray p o is none read firsts
   whole_result w tray p (Err e) is none read firsts = firsts
 

@@ -1,21 +1,30 @@
 //! The first message of some bytes or lines.
-ghost use Rattle.std.specs.Prelude.{◌≡◌, IfOk, IfSome, IsTrue};
+ghost use Rattle.std.specs.Prelude.{◌≡◌, length, IfOk, IfSome, IsTrue};
 ghost use Rattle.jup_gather.specs.declared.gathered.Gathered.TheVariants as gathered;
 ghost use Rattle.jup_wire.specs.Singles.{BeginsLines};
 ghost use Rattle.jup_gather.specs.Pieces.{BeginsNone, message_lines};
-ghost use Rattle.jup_lane.specs.Firsts.{IsFirstOf, up_from, down_from};
+ghost use Rattle.jup_lane.specs.Codecs.{IsFirstIn, IsOldestIn};
+ghost use Rattle.jup_lane.specs.Firsts.{IsFirstOf};
+ghost use Rattle.jup_lane.specs.Messages.{codec};
 
 use jup_batch::BoardBatch;
-use jup_gather::{Gather, Gathered};
+use jup_gather::{Gather, Gathered, Message, Shape, message_of};
 use jup_link::Msg;
-use jup_star::{Down, Up};
 use jup_wire::{Line, read_single};
 use jup_xform::{Batch, NoMemory};
 use std::alloc::Global;
 use std::collections::VecDeque;
 
-/// The message of one operation that begins these bytes, if one does, and how many bytes it has.
-pub(crate) fn single_in(bytes: &[u8]) -> Option<(Msg<BoardBatch>, usize)>
+/// The message that begins some bytes, and how many bytes it has; none if that cannot be decided without gathering lines.
+pub(crate) fn read<M: Message>(bytes: &[u8]) -> Option<(M, usize)>
+    ensures { IfSome result (λ x. IsOldestIn (codec M.Message) bytes.now x.0 x.1) }
+{
+    let (msg, len) = single_in(bytes)?;
+    Some((M::edit(msg), len))
+}
+
+// The message of one operation that begins these bytes, if one does, and how many bytes it has.
+fn single_in(bytes: &[u8]) -> Option<(Msg<BoardBatch>, usize)>
     ensures { IfSome result (λ x. BeginsLines (message_lines x.0) x.1 bytes.now) }
 {
     let Some(single) = read_single(bytes) else {
@@ -40,8 +49,25 @@ pub(crate) fn is_short(there: &VecDeque<Line>) -> bool
     }
 }
 
-/// The message of one operation that begins these lines, if one does.
-pub(crate) fn single(there: &VecDeque<Line>) -> Option<Msg<BoardBatch>>
+/// The message that begins some lines; none if not all of its lines are there.
+pub(crate) fn first<M: Message>(
+    alloc: Global,
+    there: &VecDeque<Line>,
+) -> Result<Option<M>, NoMemory>
+    ensures { IfOk result (λ first. IsFirstIn (codec M.Message) there.now.items first) }
+{
+    // Most messages are of one operation, and need no gathering.
+    if let Some(msg) = single(there) {
+        return Ok(Some(M::edit(msg)));
+    }
+    match first_of(alloc, there)? {
+        Some(gathered) => Ok(message_of(gathered).ok()),
+        None => Ok(None),
+    }
+}
+
+// The message of one operation that begins these lines, if one does.
+fn single(there: &VecDeque<Line>) -> Option<Msg<BoardBatch>>
     ensures { IfSome result (λ msg. IsFirstOf there.now.items (Some (gathered.Whole msg))) }
 {
     let Some(
@@ -64,8 +90,8 @@ pub(crate) fn single(there: &VecDeque<Line>) -> Option<Msg<BoardBatch>>
     })
 }
 
-/// What some lines begin with: a message or a line that stands alone, if all its lines are there.
-pub(crate) fn first_of(alloc: Global, there: &VecDeque<Line>) -> Result<Option<Gathered>, NoMemory>
+// What some lines begin with: a message or a line that stands alone, if all its lines are there.
+fn first_of(alloc: Global, there: &VecDeque<Line>) -> Result<Option<Gathered>, NoMemory>
     ensures { IfOk result (λ first. IsFirstOf there.now.items first) }
 {
     let mut gather = Gather::new();
@@ -78,26 +104,12 @@ pub(crate) fn first_of(alloc: Global, there: &VecDeque<Line>) -> Result<Option<G
     Ok(None)
 }
 
-/// The message up that it is.
-pub(crate) fn up_of(first: Option<Gathered>) -> Option<Up>
-    ensures { result ≡ up_from first }
+/// How many lines a message has.
+pub(crate) fn count<M: Message>(message: &M) -> usize
+    ensures { result ≡ length ((codec M.Message).lines message.now) }
 {
-    match first {
-        Some(Gathered::Whole(msg)) => Some(Up::Op(msg)),
-        Some(Gathered::Plain(Line::Ack(count))) => Some(Up::Ack(count)),
-        Some(Gathered::Plain(Line::Ping(number))) => Some(Up::Ping(number)),
-        _ => None,
-    }
-}
-
-/// The message down that it is.
-pub(crate) fn down_of(first: Option<Gathered>) -> Option<Down>
-    ensures { result ≡ down_from first }
-{
-    match first {
-        Some(Gathered::Whole(msg)) => Some(Down::Op(msg)),
-        Some(Gathered::Plain(Line::Ack(count))) => Some(Down::Ack(count)),
-        Some(Gathered::Plain(Line::Pong(number))) => Some(Down::Pong(number)),
-        _ => None,
+    match message.shape() {
+        Shape::Edit(msg) => msg.op.as_slice().len() + 1,
+        Shape::Alone(_) => 1,
     }
 }

@@ -1,11 +1,13 @@
 //! One way of a link: messages on their way, as bytes.
 ghost use Rattle.std.specs.Prelude.{◌≡◌, ◌≤◌, [], ◌∷◌, ◌++◌, length, min, Some, IfOk, IfSome, OnOk, OnErr, IsNone, IsTrue, ◌↔◌};
 ghost use Rattle.jup_lane.specs.Codecs.{bytes_of};
-ghost use Rattle.jup_lane.specs.Carried.{codec};
+ghost use Rattle.jup_lane.specs.Messages.{codec};
 ghost use Rattle.jup_lane.specs.Lanes.{no_bytes, sent, moved, handed_over, IsIdle, messages, IsWhole, IsFilled, IsMovedOn};
 
-use crate::message::{MOST_MESSAGE, Message};
+use crate::edits::MOST_MESSAGE;
+use crate::first::read;
 use crate::track::Track;
+use jup_gather::Message;
 use jup_xform::NoMemory;
 use std::alloc::Global;
 use std::marker::Model;
@@ -23,7 +25,7 @@ pub struct Lane<M: Message> {
 }
 
 impl<M: Message> Model for Lane<M> {
-    ghost use Rattle.jup_lane.specs.Carried.{codec};
+    ghost use Rattle.jup_lane.specs.Messages.{codec};
     ghost use Rattle.jup_lane.specs.Lanes.{LaneState, moved, IsAhead};
 
     ghost Value = { LaneState };
@@ -92,7 +94,7 @@ impl<M: Message> Lane<M> {
         if !self.track.has_read_nothing() {
             return None;
         }
-        let (message, len) = M::read(self.track.as_slice())?;
+        let (message, len) = read(self.track.as_slice())?;
         self.ahead = len;
         Some(message)
     }

@@ -2,7 +2,7 @@
 //!
 //! A [`Lane`] is one way: a queue of messages whose store is bytes. `jup_wire` writes what is sent into its
 //! stream. Bytes are moved from there to its reader, any number at a time. A message is handed over once the
-//! reader has all its bytes. A [`Message`] is one line or several.
+//! reader has all its bytes. A message is one line or several.
 #![tactic(auto)]
 
 ghost use Rattle.jup_lane.specs.Codecs.{IsCodec};
@@ -11,12 +11,11 @@ ghost use Rattle.jup_lane.specs.Messages.{ups, downs};
 mod edits;
 mod first;
 mod lane;
-mod message;
 mod stream;
 mod track;
 
+pub use edits::MOST_MESSAGE;
 pub use lane::Lane;
-pub use message::{MOST_MESSAGE, Message};
 
 /// The messages of a link are lines: each has a line at least, its lines have spellings, and the lines of some
 /// messages are these messages.

@@ -1,9 +1,10 @@
 //! Bytes that are written at one end and dropped at the other.
 ghost use Rattle.std.specs.Prelude.{◌≡◌, ◌↔◌, ◌≤◌, [], ◌++◌, length, drop, IsTrue, OnOk};
 ghost use Rattle.jup_lane.specs.Codecs.{bytes_of};
-ghost use Rattle.jup_lane.specs.Carried.{codec};
+ghost use Rattle.jup_lane.specs.Messages.{codec};
 
-use crate::message::{MOST_MESSAGE, Message};
+use crate::edits::{MOST_MESSAGE, write};
+use jup_gather::Message;
 use jup_xform::NoMemory;
 use std::alloc::Global;
 use std::marker::Model;
@@ -81,7 +82,7 @@ impl Stream {
         ensures spelled { (codec M.Message).IsSpelled message.now }
         ensures bytes { self.new.bytes ≡ self.old.bytes ++ bytes_of (codec M.Message) message.now }
     {
-        message.write(&mut self.bytes);
+        write(message, &mut self.bytes);
     }
 
     /// Drops the oldest bytes.

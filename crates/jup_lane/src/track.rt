@@ -3,12 +3,14 @@ ghost use Rattle.std.specs.Prelude.{◌≡◌, ℕ, ◌≤◌, List, [], ◌∷�
 ghost use Rattle.std.specs.Vec.{vec_capacity};
 ghost use Rattle.jup_wire.specs.declared.line.Line.{Line};
 ghost use Rattle.jup_wire.specs.Grammar.{line_text, HasSpelling};
-ghost use Rattle.jup_lane.specs.Codecs.{bytes_of, IsFirst};
-ghost use Rattle.jup_lane.specs.Carried.{codec};
+ghost use Rattle.jup_lane.specs.Codecs.{bytes_of};
+ghost use Rattle.jup_lane.specs.Messages.{codec};
 ghost use Rattle.jup_lane.specs.Lanes.{no_bytes, sent, moved, handed_over, IsIdle, messages, next_feed, IsWhole, IsFilled, IsTowards, IsMovedOn, Carries, oldest_length};
 
-use crate::message::{MOST_MESSAGE, Message};
+use crate::edits::MOST_MESSAGE;
+use crate::first::{count, first, is_short};
 use crate::stream::Stream;
+use jup_gather::Message;
 use jup_window::Within;
 use jup_wire::{Line, Reader, feed_of, read_line};
 use jup_xform::NoMemory;
@@ -63,7 +65,7 @@ impl<M: Message> Model for Track<M> {
     ghost use Rattle.std.specs.List.{flat_map};
     ghost use Rattle.jup_wire.specs.Grammar.{spelling};
     ghost use Rattle.jup_wire.specs.Streams.{HasRead};
-    ghost use Rattle.jup_lane.specs.Carried.{codec};
+    ghost use Rattle.jup_lane.specs.Messages.{codec};
     ghost use Rattle.jup_lane.specs.Lanes.{LaneState, Carries, way_of};
 
     ghost Value = { LaneState };
@@ -167,7 +169,7 @@ impl<M: Message> Track<M> {
         ensures way { self.new.way ≡ handed_over (length (bytes_of (codec M.Message) message.now)) self.old.way }
         ensures messages { messages (codec M.Message) self.old.way ≡ message.now ∷ messages (codec M.Message) self.new.way }
     {
-        drop_lines(&mut self.tray, message.count());
+        drop_lines(&mut self.tray, count(message));
     }
 
     /// Drops the oldest message, of whose bytes the reader has none.
@@ -199,14 +201,14 @@ impl<M: Message> Track<M> {
     fn is_short(&self) -> bool
         ensures { IsTrue result → IsWhole (codec M.Message) self.now.way None }
     {
-        M::is_short(&self.tray)
+        is_short(&self.tray)
     }
 
     // The oldest message, if the reader has all its bytes.
     fn whole(&self, alloc: Global) -> Result<Option<M>, NoMemory>
         ensures { IfOk result (λ first. IsWhole (codec M.Message) self.now.way first) }
     {
-        M::first(alloc, &self.tray)
+        first(alloc, &self.tray)
     }
 
     // Moves the bytes through the next line feed, if the stream has one.

@@ -17,8 +17,9 @@ use Rattle.jup_star.specs.declared.faults.SiteFault.{SiteFault}
 use Rattle.jup_wire.specs.declared.line.Line.{Line}
 use Rattle.jup_wire.specs.declared.line.Line.TheVariants as line
 use Rattle.jup_gather.specs.declared.gathered.Gathered.{Gathered}
-use Rattle.jup_gather.specs.declared.gathered.Gathered.TheVariants.{Whole, Plain, Held, Misplaced}
+use Rattle.jup_gather.specs.declared.gathered.Gathered.TheVariants.{Plain, Held}
 use Rattle.jup_gather.specs.Gathering.{Gathers}
+use Rattle.jup_gather.specs.Ways.{down_in, message_given}
 use Rattle.jup_rules.specs.declared.said.Said.{Said}
 use Rattle.jup_rules.specs.declared.said.Said.TheVariants.{Up as SaysUp, Bye as SaysBye}
 use Rattle.jup_rules.specs.declared.client_end.ClientEnd.{ClientEnd}
@@ -97,13 +98,11 @@ is_pong pings (DownOp msg) = false
 is_pong pings (DownAck count) = false
 
 -- the message that lines give, and none if they are held; a line that is no message is refused
-abbrev pub down_in : Gathered → Result (Option (Down BoardBatch)) ClientEnd
-down_in (Whole msg) = Ok (Some (DownOp msg))
-down_in (Plain (line.Ack count)) = Ok (Some (DownAck count))
-down_in (Plain (line.Pong count)) = Ok (Some (DownPong count))
-down_in (Plain other) = Err (refusal_of other)
-down_in Held = Ok None
-down_in Misplaced = Err (Fault 44)
+abbrev pub down_heard : Result (Down BoardBatch) Gathered → Result (Option (Down BoardBatch)) ClientEnd
+down_heard (Ok down) = Ok (Some down)
+down_heard (Err Held) = Ok None
+down_heard (Err (Plain line)) = Err (refusal_of line)
+down_heard (Err other) = Err (Fault 44)
 
 -- the client says an acknowledgement that is owed, and returns what its board took
 abbrev pub heard_answer : ℕ → Down BoardBatch → Result Delivered SiteFault → Result Heard ClientEnd
@@ -124,7 +123,7 @@ HearsDown (Err end) c r d = (r ≡ Err end) × (d.site ≡ c.site) × (d.pings �
 -- a line is gathered, and the client hears what it gives; if an allocation fails, it hears nothing
 abbrev pub Hears : Line → ClientState → Result Heard ClientEnd → ClientState → Type 0
 Hears line c r d = ((r ≡ Err NoMemory) × (d ≡ c))
-    ⊎ ((gathered : Gathered) × Gathers c.gather line gathered d.gather × HearsDown (down_in gathered) c r d)
+    ⊎ ((gathered : Gathered) × Gathers c.gather line gathered d.gather × HearsDown (down_heard (message_given down_in gathered)) c r d)
 
 -- a client that a server greeted: its site shows the board of the lines; or the lines are none, or no site is opened so, or an allocation failed
 abbrev pub IsOpened : ℕ → ℕ → List Line → Result ClientState ClientEnd → Type 0

@@ -2,36 +2,24 @@
 use Rattle.std.specs.Prelude.{◌≡◌, ◌≢◌, ◌⊎◌, Bool, true, false, List, [], ◌∷◌, ◌++◌, map, Option, Some, None, Result, Ok, Err}
 use Rattle.jup_batch.specs.BatchBoards.{BoardBatch}
 use Rattle.jup_star.specs.declared.messages.Up.{Up}
-use Rattle.jup_star.specs.declared.messages.Up.TheVariants.{Op as UpOp, Ack as UpAck, Ping as UpPing}
 use Rattle.jup_star.specs.declared.messages.Down.{Down}
 use Rattle.jup_star.specs.declared.messages.Down.TheVariants.{Op as DownOp, Ack as DownAck, Pong as DownPong}
 use Rattle.jup_wire.specs.declared.line.Line.{Line}
 use Rattle.jup_wire.specs.declared.line.Line.TheVariants as line
-use Rattle.jup_gather.specs.Pieces.{Piece, Message, Alone, IsPiece, piece_lines, HasGathered}
+use Rattle.jup_gather.specs.Pieces.{Piece, Alone, IsPiece, piece_lines, HasGathered}
 use Rattle.jup_gather.specs.Gathering.{pieces_of}
+use Rattle.jup_gather.specs.Ways.{up_piece, down_piece}
 use Rattle.jup_gather.specs.declared.gathered.Gathered.{Gathered}
-use Rattle.jup_gather.specs.declared.gathered.Gathered.TheVariants.{Held}
+use Rattle.jup_gather.specs.declared.gathered.Gathered.TheVariants.{Held, Plain}
 use Rattle.jup_rules.specs.declared.said.Said.{Said}
 use Rattle.jup_rules.specs.declared.said.Said.TheVariants.{Up as SaysUp, Bye}
 use Rattle.jup_rules.specs.declared.faults.SessionFault.{SessionFault}
 use Rattle.jup_rules.specs.declared.faults.SessionFault.TheVariants.{NoMemory, Misplaced}
 
--- a message to the star
-abbrev pub up_piece : Up BoardBatch → Piece
-up_piece (UpOp msg) = Message msg
-up_piece (UpAck count) = Alone (line.Ack count)
-up_piece (UpPing number) = Alone (line.Ping number)
-
 -- what a site says
 abbrev pub said_piece : Said → Piece
 said_piece (SaysUp up) = up_piece up
 said_piece Bye = Alone line.Bye
-
--- a message to a site
-abbrev pub down_piece : Down BoardBatch → Piece
-down_piece (DownOp msg) = Message msg
-down_piece (DownAck count) = Alone (line.Ack count)
-down_piece (DownPong number) = Alone (line.Pong number)
 
 -- the lines of a message to a site
 abbrev pub down_lines : Down BoardBatch → List Line
@@ -42,6 +30,13 @@ abbrev pub is_pong : Down BoardBatch → Bool
 is_pong (DownPong number) = true
 is_pong (DownOp msg) = false
 is_pong (DownAck count) = false
+
+-- what a site says by the message up that lines are, or by what they are instead; what else no site says is misplaced
+abbrev pub said_heard : Result (Up BoardBatch) Gathered → Result (Option Said) SessionFault
+said_heard (Ok up) = Ok (Some (SaysUp up))
+said_heard (Err Held) = Ok None
+said_heard (Err (Plain line.Bye)) = Ok (Some Bye)
+said_heard (Err other) = Err Misplaced
 
 -- what lines give is this: a site says nothing yet if they are held, and what else no site says is misplaced
 abbrev pub IsSaidBy : Gathered → Result (Option Said) SessionFault → Type 0

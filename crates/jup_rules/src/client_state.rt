@@ -1,10 +1,10 @@
 //! What a client makes of its user's requests, and of the lines that its server sends.
 ghost use Rattle.std.specs.Prelude.{◌≡◌, IfOk};
-ghost use Rattle.jup_rules.specs.Clients.{greeting_in, board_line_in, refusal_of, edit_answer, sync_answer, after_sync, down_in, IsOpened, Answers, Hears, Delivers};
+ghost use Rattle.jup_rules.specs.Clients.{greeting_in, board_line_in, refusal_of, edit_answer, sync_answer, after_sync, down_heard, IsOpened, Answers, Hears, Delivers};
 
 use crate::{ClientEnd, Request, Said, SessionFault};
 use jup_batch::{BoardBatch, BoardEdits};
-use jup_gather::{Gather, Gathered};
+use jup_gather::{Gather, Gathered, message_of};
 use jup_layout::board_of;
 use jup_star::{Delivered, Down, Made, Site, Up};
 use jup_window::EditFault;
@@ -108,7 +108,7 @@ impl ClientState {
         ensures { Hears line.now self.old result self.new }
     {
         let gathered = self.gather.push(alloc, line)?;
-        match down_in(gathered)? {
+        match down_heard(message_of(gathered))? {
             Some(down) => self.deliver(alloc, &down),
             None => Ok(Heard {
                 said: None,
@@ -132,17 +132,15 @@ impl ClientState {
     }
 }
 
-// The message to a site that lines give; none if they are held.
-fn down_in(gathered: Gathered) -> Result<Option<Down>, ClientEnd>
-    ensures { result ≡ down_in gathered }
+// The message to a site, by what its lines give; none if they are held.
+fn down_heard(heard: Result<Down, Gathered>) -> Result<Option<Down>, ClientEnd>
+    ensures { result ≡ down_heard heard }
 {
-    match gathered {
-        Gathered::Held => Ok(None),
-        Gathered::Whole(msg) => Ok(Some(Down::Op(msg))),
-        Gathered::Plain(Line::Ack(count)) => Ok(Some(Down::Ack(count))),
-        Gathered::Plain(Line::Pong(number)) => Ok(Some(Down::Pong(number))),
-        Gathered::Plain(line) => Err(refusal_of(&line)),
-        Gathered::Misplaced => Err(SessionFault::Misplaced.into()),
+    match heard {
+        Ok(down) => Ok(Some(down)),
+        Err(Gathered::Held) => Ok(None),
+        Err(Gathered::Plain(line)) => Err(refusal_of(&line)),
+        Err(_) => Err(SessionFault::Misplaced.into()),
     }
 }
 

@@ -5,10 +5,10 @@ ghost use Rattle.std.specs.Option.{option_to_list};
 ghost use Rattle.jup_wire.specs.declared.line.Line.{Line};
 ghost use Rattle.jup_gather.specs.Pieces.{piece_lines};
 ghost use Rattle.jup_rules.specs.declared.said.Said.{Said};
-ghost use Rattle.jup_rules.specs.Messages.{said_piece, down_lines, IsSaidBy, HasSaid, IsRefused};
+ghost use Rattle.jup_rules.specs.Messages.{said_piece, said_heard, down_lines, IsSaidBy, HasSaid, IsRefused};
 
 use crate::{Said, SessionFault};
-use jup_gather::{Gather, Gathered, put_op};
+use jup_gather::{Gather, Gathered, message_of, put_message};
 use jup_star::{Down, Up};
 use jup_wire::{Line, LineSink};
 use std::alloc::Global;
@@ -37,13 +37,18 @@ pub fn hear_site(
 fn said_by(gathered: Gathered) -> Result<Option<Said>, SessionFault>
     ensures { IsSaidBy gathered result }
 {
-    match gathered {
-        Gathered::Held => Ok(None),
-        Gathered::Whole(msg) => Ok(Some(Said::Up(Up::Op(msg)))),
-        Gathered::Plain(Line::Ack(count)) => Ok(Some(Said::Up(Up::Ack(count)))),
-        Gathered::Plain(Line::Ping(number)) => Ok(Some(Said::Up(Up::Ping(number)))),
-        Gathered::Plain(Line::Bye) => Ok(Some(Said::Bye)),
-        Gathered::Plain(_) | Gathered::Misplaced => Err(SessionFault::Misplaced),
+    said_heard(message_of(gathered))
+}
+
+// The same, by the message to the star that they are, or by what they are instead.
+fn said_heard(heard: Result<Up, Gathered>) -> Result<Option<Said>, SessionFault>
+    ensures { result ≡ said_heard heard }
+{
+    match heard {
+        Ok(up) => Ok(Some(Said::Up(up))),
+        Err(Gathered::Held) => Ok(None),
+        Err(Gathered::Plain(Line::Bye)) => Ok(Some(Said::Bye)),
+        Err(_) => Err(SessionFault::Misplaced),
     }
 }
 
@@ -52,21 +57,8 @@ pub fn put_said<S: LineSink>(sink: &mut S, said: &Said) -> Result<(), S::Fault>
     ensures { OnOk result (S.takes sink.old (piece_lines (said_piece said.now)) sink.new) }
 {
     match said {
-        Said::Up(Up::Op(msg)) => put_op(sink, msg),
-        Said::Up(Up::Ack(count)) => sink.put(Line::Ack(*count)),
-        Said::Up(Up::Ping(number)) => sink.put(Line::Ping(*number)),
+        Said::Up(up) => put_message(sink, up),
         Said::Bye => sink.put(Line::Bye),
-    }
-}
-
-// Puts the lines of a message to a site.
-fn put_down<S: LineSink>(sink: &mut S, down: &Down) -> Result<(), S::Fault>
-    ensures { OnOk result (S.takes sink.old (down_lines down.now) sink.new) }
-{
-    match down {
-        Down::Op(msg) => put_op(sink, msg),
-        Down::Ack(count) => sink.put(Line::Ack(*count)),
-        Down::Pong(number) => sink.put(Line::Pong(*number)),
     }
 }
 
@@ -75,7 +67,7 @@ pub fn put_downs<S: LineSink>(sink: &mut S, downs: &[Down]) -> Result<(), S::Fau
     ensures { OnOk result (S.takes sink.old (flat_map down_lines downs.now) sink.new) }
 {
     for down in downs {
-        put_down(sink, down)?;
+        put_message(sink, down)?;
     }
     Ok(())
 }

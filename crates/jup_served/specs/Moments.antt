@@ -13,7 +13,7 @@ use Rattle.jup_wire.specs.declared.line.Line.TheVariants.{Hello}
 use Rattle.jup_wire.specs.Grammar.{spelling, HasSpelling}
 use Rattle.jup_wire.specs.Streams.{Progress, HasRead}
 use Rattle.jup_gather.specs.Pieces.{HasGathered}
-use Rattle.jup_rules.specs.Messages.{down_piece}
+use Rattle.jup_gather.specs.Ways.{down_piece}
 use Rattle.jup_session.specs.Sessions.{HasMadeNone}
 use Rattle.jup_session.specs.SessionBytes.{bytes_read, bytes_written}
 use Rattle.jup_world.specs.Openings.{IsOpening}

@@ -5,20 +5,20 @@ use Rattle.std.specs.Io.KnownBytes.{Consumes, Appends}
 use Rattle.std.proofs.KnownBytes.{Consumes-nil, Consumes-trans}
 use Rattle.jup_batch.specs.BatchBoards.{BoardBatch}
 use Rattle.jup_star.specs.declared.messages.Up.{Up}
-use Rattle.jup_star.specs.declared.messages.Up.TheVariants.{Op as UpOp, Ack as UpAck, Ping as UpPing}
 use Rattle.jup_hub.specs.declared.view.View.{View}
 use Rattle.jup_hub.specs.Knowledge.{after_split}
 use Rattle.jup_wire.specs.declared.line.Line.{Line}
-use Rattle.jup_wire.specs.declared.line.Line.TheVariants.{Hello, Ack, Ping}
+use Rattle.jup_wire.specs.declared.line.Line.TheVariants.{Hello}
 use Rattle.jup_wire.specs.Streams.{HasRead, Progress}
 use Rattle.jup_wire.proofs.Unique.{one_read}
-use Rattle.jup_gather.specs.Pieces.{Piece, Message, Alone}
+use Rattle.jup_gather.specs.Pieces.{Piece}
 use Rattle.jup_gather.proofs.OneGathering.{one_gathering}
 use Rattle.jup_rules.specs.declared.ending.Ending.{Ending}
 use Rattle.jup_rules.specs.declared.said.Said.{Said}
 use Rattle.jup_rules.specs.declared.said.Said.TheVariants.{Up as SaysUp, Bye}
 use Rattle.jup_rules.specs.Gates.{HasHeard, counted, says_edit}
 use Rattle.jup_rules.specs.Keepers.{Keeper}
+use Rattle.jup_gather.specs.Ways.{up_in, up_way}
 use Rattle.jup_rules.specs.Messages.{said_piece}
 use Rattle.jup_stream.specs.Sources.{Sourced, HandsOn}
 use Rattle.jup_session.specs.ExactSessions.{IsFresh, IsTurnedAway, NoLine, NoGreeting, NoJoin, EndsEarly, TurnedAway, Unwelcome, IsServed, HasLines, NoRoom, Early, Served, IsExact}
@@ -116,16 +116,15 @@ account_written from old new v x ending failed e held wrote is so = appended old
 
 -- ---- what a site says by lines
 
+abbrev said_up : Option (Up BoardBatch) → Said
+said_up (Some up) = SaysUp up
+said_up None = Bye
+
 abbrev said_by : Piece → Said
-said_by (Message m) = SaysUp (UpOp m)
-said_by (Alone (Ack count)) = SaysUp (UpAck count)
-said_by (Alone (Ping number)) = SaysUp (UpPing number)
-said_by (Alone line) = Bye
+said_by piece = said_up (up_in piece)
 
 said_back : (said : Said) → said_by (said_piece said) ≡ said
-said_back (SaysUp (UpOp m)) = refl
-said_back (SaysUp (UpAck count)) = refl
-said_back (SaysUp (UpPing number)) = refl
+said_back (SaysUp up) = ap said_up (up_way up).again
 said_back Bye = refl
 
 all_back : (saids : List Said) → map said_by (map said_piece saids) ≡ saids

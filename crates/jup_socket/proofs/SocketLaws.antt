@@ -1,5 +1,5 @@
 -- A link whose bytes come in order is reliable.
-use Rattle.std.proofs.Common.{◌≡◌, ◌≤◌, ◌<◌, Bool, true, false, List, [], ◌∷◌, ◌++◌, map, length, Ok, refl, sym, ap, subst, ◌∙◌, append_assoc}
+use Rattle.std.proofs.Common.{◌≡◌, ◌≤◌, ◌<◌, Bool, true, false, List, [], ◌∷◌, ◌++◌, map, length, Some, Ok, refl, sym, ap, subst, ◌∙◌, append_assoc}
 use Rattle.std.specs.List.{AllByRecursion}
 use Rattle.std.proofs.lemmas.List.{map-append}
 use Rattle.std.proofs.lemmas.List.Concat.{flat_map-cons, flat_map-append}
@@ -16,13 +16,14 @@ use Rattle.jup_wire.specs.declared.line.Line.TheVariants as line
 use Rattle.jup_wire.specs.Grammar.{HasSpelling}
 use Rattle.jup_wire.proofs.OneMore.{all-append}
 use Rattle.jup_wire.proofs.Unique.{on_the_way}
-use Rattle.jup_gather.specs.Pieces.{Piece, Alone, piece_lines, all_lines, IsPiece}
+use Rattle.jup_gather.specs.Pieces.{Piece, Message, Alone, piece_lines, all_lines, IsPiece}
 use Rattle.jup_layout.specs.BoardLines.{board_lines, IsBoard}
 use Rattle.jup_layout.specs.Layouts.{board_with}
 use Rattle.jup_layout.proofs.RoundTrip.{round_trip}
 use Rattle.jup_rules.specs.declared.said.Said.{Said}
 use Rattle.jup_rules.specs.declared.said.Said.TheVariants.{Up as SaysUp, Bye as SaysBye}
-use Rattle.jup_rules.specs.Messages.{said_piece, up_piece, down_piece}
+use Rattle.jup_gather.specs.Ways.{up_piece, up_in, up_way, down_piece, down_in, down_way, IsSound}
+use Rattle.jup_rules.specs.Messages.{said_piece}
 use Rattle.jup_world.specs.Openings.{IsOpening}
 use Rattle.jup_honest.specs.Connections.{Step, Connection, after, Begins, IsReliable, IsReliableThrough, IsCausalThrough}
 use Rattle.jup_honest.specs.SiteRuns.{SiteRun, IsHonest, opening, calls, start, now}
@@ -52,13 +53,12 @@ head_of x y xs ys e = cc
 -- # Up
 
 -- what is spelled is a piece
-up_is_piece : (u : Up BoardBatch) (rest : List Line) → AllByRecursion HasSpelling (piece_lines (up_piece u) ++ rest) → IsPiece (up_piece u)
-up_is_piece (UpOp m) rest all = all.0.1.1
-up_is_piece (UpAck n) rest all = refl
-up_is_piece (UpPing k) rest all = refl
+spelled_piece : (p : Piece) (rest : List Line) → IsSound p → AllByRecursion HasSpelling (piece_lines p ++ rest) → IsPiece p
+spelled_piece (Message m) rest sound all = all.0.1.1
+spelled_piece (Alone l) rest sound all = sound
 
 said_is_piece : (s : Said) (rest : List Line) → AllByRecursion HasSpelling (piece_lines (said_piece s) ++ rest) → IsPiece (said_piece s)
-said_is_piece (SaysUp u) rest all = up_is_piece u rest all
+said_is_piece (SaysUp u) rest all = spelled_piece (up_piece u) rest (up_way u).sound all
 said_is_piece SaysBye rest all = refl
 
 saids_are_pieces : (ss : List Said) → AllByRecursion HasSpelling (said_lines ss) → AllByRecursion IsPiece (map said_piece ss)
@@ -69,15 +69,7 @@ saids_are_pieces (s ∷ ss) all =
 
 -- a message up is known by its lines
 same_up : (u v : Up BoardBatch) → up_piece u ≡ up_piece v → u ≡ v
-same_up (UpOp m) (UpOp n) e = (let same : m ≡ n = cc in ap UpOp same)
-same_up (UpOp m) (UpAck n) e = absurd (cc)
-same_up (UpOp m) (UpPing n) e = absurd (cc)
-same_up (UpAck m) (UpOp n) e = absurd (cc)
-same_up (UpAck m) (UpAck n) e = (let same : m ≡ n = cc in ap (λ k. UpAck k) same)
-same_up (UpAck m) (UpPing n) e = absurd (cc)
-same_up (UpPing m) (UpOp n) e = absurd (cc)
-same_up (UpPing m) (UpAck n) e = absurd (cc)
-same_up (UpPing m) (UpPing n) e = (let same : m ≡ n = cc in ap (λ k. UpPing k) same)
+same_up u v e = let same : Some u ≡ Some v = sym (up_way u).again ∙ ap up_in e ∙ (up_way v).again in cc
 
 no_bye : (u : Up BoardBatch) → Alone line.Bye ≡ up_piece u → ⊥
 no_bye (UpOp m) e = cc
@@ -106,16 +98,11 @@ up_reliable a u =
 
 -- # Down
 
-down_is_piece : (d : Down BoardBatch) (rest : List Line) → AllByRecursion HasSpelling (piece_lines (down_piece d) ++ rest) → IsPiece (down_piece d)
-down_is_piece (DownOp m) rest all = all.0.1.1
-down_is_piece (DownAck n) rest all = refl
-down_is_piece (DownPong k) rest all = refl
-
 downs_are_pieces : (ds : List (Down BoardBatch)) → AllByRecursion HasSpelling (messages_down ds) → AllByRecursion IsPiece (map down_piece ds)
 downs_are_pieces [] all = tt
 downs_are_pieces (d ∷ ds) all =
     let split : AllByRecursion HasSpelling (piece_lines (down_piece d) ++ messages_down ds) = subst (AllByRecursion HasSpelling) (flat_map-cons (λ down. piece_lines (down_piece down)) d ds) all in
-    (down_is_piece d (messages_down ds) split, downs_are_pieces ds (all_later HasSpelling (piece_lines (down_piece d)) (messages_down ds) split))
+    (spelled_piece (down_piece d) (messages_down ds) (down_way d).sound split, downs_are_pieces ds (all_later HasSpelling (piece_lines (down_piece d)) (messages_down ds) split))
 
 -- a last line stands alone
 last_is_piece : (l : Line) → IsLast l → IsPiece (Alone l)
@@ -137,16 +124,8 @@ no_last (DownOp m) l is e = cc
 no_last (DownAck n) l is e = (let same : l ≡ line.Ack n = cc in subst IsLast same is)
 no_last (DownPong k) l is e = (let same : l ≡ line.Pong k = cc in subst IsLast same is)
 
-same_down : (d e : Down BoardBatch) → down_piece d ≡ down_piece e → d ≡ e
-same_down (DownOp m) (DownOp n) e = (let same : m ≡ n = cc in ap DownOp same)
-same_down (DownOp m) (DownAck n) e = absurd (cc)
-same_down (DownOp m) (DownPong n) e = absurd (cc)
-same_down (DownAck m) (DownOp n) e = absurd (cc)
-same_down (DownAck m) (DownAck n) e = (let same : m ≡ n = cc in ap (λ k. DownAck k) same)
-same_down (DownAck m) (DownPong n) e = absurd (cc)
-same_down (DownPong m) (DownOp n) e = absurd (cc)
-same_down (DownPong m) (DownAck n) e = absurd (cc)
-same_down (DownPong m) (DownPong n) e = (let same : m ≡ n = cc in ap (λ k. DownPong k) same)
+same_down : (d f : Down BoardBatch) → down_piece d ≡ down_piece f → d ≡ f
+same_down d f e = let same : Some d ≡ Some f = sym (down_way d).again ∙ ap down_in e ∙ (down_way f).again in cc
 
 downs_first : (fetched handed : List (Down BoardBatch)) (last : List Line) (rest : List Piece) → AllByRecursion IsLast last
     → map down_piece fetched ++ map (λ l. Alone l) last ≡ map down_piece handed ++ rest → Begins fetched handed

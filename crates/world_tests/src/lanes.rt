@@ -3,7 +3,8 @@ ghost use Rattle.jup_star.specs.TextRelabels.{RelabelNoText};
 
 use crate::expect::{expect_eq, expect_that};
 use jup_batch::BoardBatch;
-use jup_lane::{Lane, Message};
+use jup_gather::Message;
+use jup_lane::Lane;
 use jup_link::Msg;
 use jup_seq::SeqOp;
 use jup_star::{Down, Up};

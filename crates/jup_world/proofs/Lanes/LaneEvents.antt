@@ -12,7 +12,7 @@ use Rattle.jup_star.specs.SiteStates.{edit_answer}
 use Rattle.jup_star.specs.StarCalls.{BoardStar}
 use Rattle.jup_star.specs.SiteCalls.{BoardSite}
 use Rattle.jup_lane.specs.Lanes.{moved as moved_by, messages, Carries, IsMovedOn, oldest_length}
-use Rattle.jup_lane.specs.MessageLines.{ups_laws}
+use Rattle.jup_lane.proofs.MessageLines.{ups_laws}
 use Rattle.jup_lane.specs.Messages.{ups, downs}
 use Rattle.jup_world.specs.declared.events.Reply.{Reply}
 use Rattle.jup_world.specs.declared.world.attached.Attached.{Attached}

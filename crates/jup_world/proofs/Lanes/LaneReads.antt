@@ -17,7 +17,7 @@ use Rattle.jup_world.specs.LaneSteps.{filled_way, filled_stream}
 use Rattle.jup_world.specs.LaneHappenings.{IsRead, IsMovedDown, IsFilledDown, IsRefilled, RestsDown, filled_messages, with_filled, star_filled}
 use Rattle.jup_world.specs.Happenings.{refilled_from, refilled, fetched_for, refilled_star}
 use Rattle.jup_world.specs.LaneWorlds.{LaneSite}
-use Rattle.jup_lane.specs.MessageLines.{downs_laws}
+use Rattle.jup_lane.proofs.MessageLines.{downs_laws}
 
 -- # Handing over
 

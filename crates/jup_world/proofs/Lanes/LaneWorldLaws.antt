@@ -5,7 +5,7 @@ use Rattle.jup_batch.specs.BoardBatches.{board_batches}
 use Rattle.jup_batch.specs.BatchBoards.{BoardBatch}
 use Rattle.jup_star.specs.declared.messages.Down.{Down}
 use Rattle.jup_star.specs.StarStates.{link_of}
-use Rattle.jup_lane.specs.MessageLines.{ups_laws, downs_laws}
+use Rattle.jup_lane.proofs.MessageLines.{ups_laws, downs_laws}
 use Rattle.jup_lane.specs.Codecs.{Codec, bytes_of_all}
 use Rattle.jup_lane.specs.Messages.{ups, downs}
 use Rattle.jup_lane.specs.Lanes.{Way, messages, Carries}

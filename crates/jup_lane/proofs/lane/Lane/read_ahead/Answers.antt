@@ -1,7 +1,7 @@
 use Rattle.std.proofs.Common.{◌≡◌, Some, true, inr, subst, ◌∙◌, rules}
-use Rattle.jup_lane.specs.Carried.{codec}
+use Rattle.jup_lane.specs.Messages.{codec}
 use Rattle.jup_lane.specs.Lanes.{LaneState, IsFilled, moved, messages}
-use Rattle.jup_lane.proofs.Feeding.{codec_laws}
+use Rattle.jup_lane.proofs.MessageLines.{codec_laws}
 use Rattle.jup_lane.proofs.Ahead.{ReadAhead, read_there, stream_is}
 use Rattle.jup_lane.proofs.lane.Lane.read_ahead.Given as given
 use Rattle.jup_lane.proofs.lane.Lane.read_ahead.Goals as goal
@@ -9,7 +9,7 @@ use Rattle.jup_lane.proofs.lane.Lane.read_ahead.Goals as goal
 fact : (g : given.Over) (c : goal.After-self-1 g) → ReadAhead (codec g.M.Message) c.self.inside.ahead c.self.inside.track.way c.in_ok-message.len c.in_ok-message.message
 fact g c =
     let C = codec g.M.Message in
-    let laws = codec_laws g.M.Message g.M.Message.spelled g.M.Message.some g.M.Message.gathers in
+    let laws = codec_laws g.M.Message in
     let carries = c.as_slice.ensures.carries in
     let nothing : c.has_read_nothing.result ≡ true = search rules in
     let unread = c.has_read_nothing.ensures.0 nothing in

@@ -1,5 +1,5 @@
 use Rattle.std.specs.Prelude.{length}
-use Rattle.jup_lane.specs.Carried.{codec}
+use Rattle.jup_lane.specs.Messages.{codec}
 use Rattle.jup_lane.specs.Lanes.{IsTowards, IsWhole}
 use Rattle.jup_lane.proofs.track.Track.first.Given as goal
 

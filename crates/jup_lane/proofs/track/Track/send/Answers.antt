@@ -1,9 +1,9 @@
 use Rattle.std.proofs.Common.{◌≡◌, [], ◌∷◌, ◌++◌, sym, ap, subst, ◌∙◌}
 use Rattle.jup_lane.specs.Codecs.{bytes_of}
-use Rattle.jup_lane.specs.Carried.{codec}
+use Rattle.jup_lane.specs.Messages.{codec}
 use Rattle.jup_lane.specs.Lanes.{LaneState, way_of, sent, messages, Carries}
 use Rattle.jup_lane.proofs.LaneLaws.{carried-sent}
-use Rattle.jup_lane.proofs.Feeding.{codec_laws}
+use Rattle.jup_lane.proofs.MessageLines.{codec_laws}
 use Rattle.jup_lane.proofs.track.Track.send.Given as given
 use Rattle.jup_lane.proofs.track.Track.send.Goals as goal
 
@@ -17,7 +17,7 @@ carried : (g : given.Over) (c : goal.After-write g)
     → let way = way_of c.self.inside.tray.items c.self.inside.reader.part c.self.inside.stream.bytes in
     (messages (codec g.M.Message) (sent (bytes_of (codec g.M.Message) c.args.message.now) way) ≡ messages (codec g.M.Message) way ++ c.args.message.now ∷ [])
     × Carries (codec g.M.Message) (sent (bytes_of (codec g.M.Message) c.args.message.now) way)
-carried g c = carried-sent (codec g.M.Message) (codec_laws g.M.Message g.M.Message.spelled g.M.Message.some g.M.Message.gathers)
+carried g c = carried-sent (codec g.M.Message) (codec_laws g.M.Message)
     (way_of c.self.inside.tray.items c.self.inside.reader.part c.self.inside.stream.bytes) c.args.message.now c.self.invariant.carries c.write.ensures.spelled
 
 pub invariant_of-self : goal.invariant_of-self

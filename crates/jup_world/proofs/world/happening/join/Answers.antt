@@ -2,7 +2,7 @@ use Rattle.std.proofs.Common.{◌+◌, ◌++◌, ◌∷◌, [], ◌∙◌, List,
 use Rattle.std.proofs.lemmas.List.{map-append}
 use Rattle.jup_lane.specs.Lanes.{Carries}
 use Rattle.jup_lane.specs.Messages.{ups, downs}
-use Rattle.jup_lane.specs.MessageLines.{ups_laws, downs_laws}
+use Rattle.jup_lane.proofs.MessageLines.{ups_laws, downs_laws}
 use Rattle.jup_lane.proofs.LaneLaws.{carried-new}
 use Rattle.jup_world.specs.LaneWorlds.{LaneSite}
 use Rattle.jup_world.specs.WorldFields.{lane_of, bare_attached}

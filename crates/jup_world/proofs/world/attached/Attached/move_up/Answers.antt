@@ -1,7 +1,7 @@
 use Rattle.std.proofs.Common.{Some, refl, subst}
 use Rattle.jup_lane.specs.Lanes.{IsFilled}
 use Rattle.jup_lane.specs.Messages.{ups}
-use Rattle.jup_lane.specs.MessageLines.{ups_laws}
+use Rattle.jup_lane.proofs.MessageLines.{ups_laws}
 use Rattle.jup_world.proofs.Lanes.LaneReads.{taken-read, taken-carries}
 use Rattle.jup_world.proofs.world.attached.Attached.move_up.Goals as goal
 

@@ -1,0 +1,7 @@
+use Rattle.std.proofs.Common.{sym, ap, ◌∙◌}
+use Rattle.std.specs.Option.{ok_or}
+use Rattle.jup_gather.specs.declared.gathered.Gathered.TheVariants.{Whole}
+use Rattle.jup_gather.proofs.ways.message_of.Goals as goal
+
+pub returns-in-Whole : goal.returns-in-Whole
+returns-in-Whole g c = sym (ap (λ o. ok_or o (Whole c.in-Whole.msg)) (ap g.M.Message.of_piece (sym c.edit.ensures) ∙ (g.M.Message.way c.edit.result).again))

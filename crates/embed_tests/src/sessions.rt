@@ -233,7 +233,12 @@ fn lines_of_a_user_are_done(rt: HostRuntime) {
 #[test]
 fn a_fault_ends_the_session(rt: HostRuntime) {
     let alloc = rt.alloc();
-    for &(line, number) in &[("error 30\n", 30), ("ready\n", 44), ("welcom\n", 40)] {
+    for &(line, number) in &[
+        ("error 30\n", 30),
+        ("ready\n", 44),
+        ("welcom\n", 40),
+        ("welcome 1 100\nwindow 0\nready\n", 12),
+    ] {
         let mut client = Client::new(alloc, true).expect(&rt, "memory");
         let end = ClientEnd::Fault(number);
         expect_eq(&rt, client.feed(alloc, line.as_bytes()), Err(end));

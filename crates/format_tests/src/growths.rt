@@ -2,7 +2,7 @@
 //! allocations between the two marks fail. A call that fails leaves all as it was, and gives its answer if it is made again.
 use crate::expect::{expect_eq, expect_that};
 use crate::gathering::{TOGGLED, TWO, message, push};
-use crate::layouts::FOUR_WIDGETS;
+use crate::layouts::{FOUR_WIDGETS, build};
 use jup_gather::{Gather, Gathered, lines_of_op};
 use jup_layout::{LayoutFault, board_of, layout, lines_of};
 use jup_text::{BoardReader, Untaken, read_quoted, write_board, write_edit};
@@ -112,6 +112,19 @@ fn board_of_lines(rt: HostRuntime) {
     end(rt.alloc());
     if matches!(back, Err(LayoutFault { number: 8, .. })) {
         back = board_of(rt.alloc(), lines.as_slice());
+    }
+    expect_that(&rt, back.expect(&rt, "a board's lines").same(&board));
+}
+
+#[test]
+fn builder_take(rt: HostRuntime) {
+    let board = four_widgets(&rt, rt.alloc());
+    let lines = lines_of(rt.alloc(), &board).expect(&rt, "memory");
+    begin(rt.alloc());
+    let mut back = build(rt.alloc(), lines.as_slice());
+    end(rt.alloc());
+    if back.err() == Some(LayoutFault { line: 0, number: 8 }) {
+        back = build(rt.alloc(), lines.as_slice());
     }
     expect_that(&rt, back.expect(&rt, "a board's lines").same(&board));
 }

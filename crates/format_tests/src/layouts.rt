@@ -1,6 +1,6 @@
 //! Layouts written by hand, their refusals with their lines, and boards taken back from their lines.
 use crate::expect::{expect_eq, expect_that};
-use jup_layout::{LayoutFault, board_of, layout, lines_of};
+use jup_layout::{BoardBuilder, LayoutFault, board_of, layout, lines_of};
 use jup_value::Name;
 use jup_window::Board;
 use jup_wire::{Line, write};
@@ -153,6 +153,34 @@ fn board_of_lines_takes_any_names_but_none_twice(rt: HostRuntime) {
     expect_that(&rt, board.has_site(2));
     let twice = [Line::Window(1), Line::Text(1), named(2), named(2)];
     check_fault(&rt, board_of(alloc, &twice), 4, 45);
+}
+
+// Builds a board line by line.
+pub(crate) fn build(alloc: Global, lines: &[Line]) -> Result<Board, LayoutFault> {
+    let mut builder = BoardBuilder::new(alloc);
+    for line in lines {
+        builder = builder.take(alloc, line)?;
+    }
+    builder.finish()
+}
+
+#[test]
+fn a_builder_refuses_a_line_once_it_comes(rt: HostRuntime) {
+    let alloc = rt.alloc();
+    let named = |site| Line::Char(Name { site, number: 1 }, 'a');
+    let apart = [Line::Window(1), Line::Text(1), named(2), named(1)];
+    let board = build(alloc, &apart).expect(&rt, "a board's lines");
+    expect_that(&rt, board.has_site(2));
+    let twice = [
+        Line::Window(1),
+        Line::Text(1),
+        named(2),
+        named(2),
+        Line::Ready,
+    ];
+    check_fault(&rt, build(alloc, &twice), 4, 45);
+    check_fault(&rt, build(alloc, &[Line::Window(1), Line::Ready]), 2, 44);
+    expect_that(&rt, build(alloc, &[]).is_ok());
 }
 
 // A layout of a text with so many items.

@@ -11,5 +11,5 @@ mod refusals;
 
 pub use board_view::{WidgetKind, WidgetView, copy_label, copy_text, widget_view, window_view};
 pub use client::{Client, Stage};
-pub use phase::{Opening, Phase};
+pub use phase::Phase;
 pub use refusals::EmbedFault;

@@ -1,20 +1,12 @@
 //! How far a session is, and what a line of the server makes of that.
 ghost use Rattle.std.specs.Prelude.{◌≡◌};
-ghost use Rattle.jup_embed.specs.Phases.{PhaseHears, OpeningHears, nothing_heard};
+ghost use Rattle.jup_embed.specs.Phases.{PhaseHears, nothing_heard};
 
-use jup_rules::{ClientEnd, ClientState, Heard, board_line_in, greeting_in};
+use jup_rules::{ClientEnd, ClientState, Heard, Opening};
 use jup_window::Within;
-use jup_wire::{Line, LineSink, Lines};
+use jup_wire::Line;
 use std::alloc::Global;
 use std::marker::PhantomData;
-
-/// What a server has told before its line `ready`: the number of the site, the limit, and lines of its board.
-#[derive(Drop)]
-pub struct Opening {
-    pub site: u32,
-    pub limit: u32,
-    pub board: Lines,
-}
 
 /// How far a session is, with what it has.
 #[derive(Drop)]
@@ -35,12 +27,7 @@ impl Phase {
         let _of: Within = PhantomData;
         match self {
             Phase::Greeting => {
-                let (site, limit) = greeting_in(line)?;
-                *self = Phase::Opening(Opening {
-                    site,
-                    limit,
-                    board: Lines::new(alloc),
-                });
+                *self = Phase::Opening(Opening::greeted(alloc, line)?);
                 Ok(nothing_heard())
             }
             Phase::Opening(opening) => {
@@ -51,24 +38,6 @@ impl Phase {
             }
             Phase::Open(state) => state.hear(alloc, line),
             Phase::Over(end) => Err(*end),
-        }
-    }
-}
-
-impl Opening {
-    // Keeps a line of the board, or opens the client after the last of them.
-    fn hear(&mut self, alloc: Global, line: &Line) -> Result<Option<ClientState>, ClientEnd>
-        ensures { OpeningHears line.now self.old result self.new }
-    {
-        match board_line_in(line)? {
-            Some(line) => {
-                self.board.put(line)?;
-                Ok(None)
-            }
-            None => {
-                let state = ClientState::open(alloc, self.site, self.limit, self.board.as_slice())?;
-                Ok(Some(state))
-            }
         }
     }
 }

@@ -57,6 +57,11 @@ pub record Drafted : Type 0 where
   pub last : Option (ℕ × Widget)
   pub naming : Naming
 
+-- what the lines so far describe, and the number of the next line
+pub record Built : Type 0 where
+  pub drafted : Drafted
+  pub next : ℕ
+
 -- nothing is described yet
 abbrev pub blank : Naming → Drafted
 blank naming = record { board = []; window = None; home = None; last = None; naming = naming }

@@ -8,7 +8,7 @@ use Rattle.jup_wire.specs.declared.line.Line.{Line}
 use Rattle.jup_layout.specs.declared.naming.Naming.{Naming}
 use Rattle.jup_layout.specs.declared.naming.Naming.TheVariants.{Distinct, Numbered}
 use Rattle.jup_layout.specs.declared.refusals.Refusal.{Refusal}
-use Rattle.jup_layout.specs.Drafts.{Drafted, blank, whole, taken}
+use Rattle.jup_layout.specs.Drafts.{Drafted, Built, blank, whole, taken}
 use Rattle.jup_wire.specs.FaultNumbers.{wire_fault_number}
 use Rattle.jup_layout.specs.FaultNumbers.{refusal_number}
 use Rattle.jup_wire.specs.Grammar.{HasSpelling, spelling}
@@ -41,6 +41,10 @@ board_with lines = board_from Distinct lines
 
 abbrev pub layout_with : List Line → Result board.Windows LayoutFault
 layout_with lines = board_from (Numbered 0) lines
+
+-- a builder holds what these lines describe, and knows how many they are
+abbrev pub HasTaken : Naming → List Line → Built → Type 0
+HasTaken naming lines b = (lines_taken 1 (blank naming) lines ≡ Ok b.drafted) × (b.next ≡ suc (length lines))
 
 -- a failed allocation
 abbrev pub no_memory : LayoutFault

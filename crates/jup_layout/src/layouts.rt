@@ -9,7 +9,7 @@ ghost use Rattle.jup_layout.specs.FaultNumbers.{refusal_number};
 ghost use Rattle.jup_layout.specs.Said.{AreBoardLines, AreLayoutLines, Shows, IsLayout};
 ghost use Rattle.jup_layout.specs.Layouts.{board_from, board_with, no_memory, layout_with, Makes, Lays, Describes, AreLines};
 
-use crate::drafts::Draft;
+use crate::BoardBuilder;
 use crate::naming::Naming;
 use crate::refusals::Refusal;
 use jup_window::Board;
@@ -29,7 +29,7 @@ pub struct LayoutFault {
 }
 
 impl LayoutFault {
-    fn new(line: u32, refusal: Refusal) -> LayoutFault
+    pub(crate) fn new(line: u32, refusal: Refusal) -> LayoutFault
         ensures none { refusal ≡ refusals.NoMemory → result ≡ no_memory }
         ensures at { (refusal ≡ refusals.NoMemory → ⊥) → result ≡ record { line = line; number = refusal_number refusal } }
     {
@@ -67,22 +67,11 @@ impl LayoutFault {
 fn build(alloc: Global, naming: Naming, lines: &[Line]) -> Result<Board, LayoutFault>
     ensures { Makes result (board_from naming lines.now) }
 {
-    let mut draft = Draft::new(alloc, naming);
-    let mut number = 1;
+    let mut builder = BoardBuilder::with(alloc, naming);
     for line in lines {
-        if number == u32::MAX {
-            return Err(LayoutFault::new(number, Refusal::TooMany));
-        }
-        draft = match draft.take(alloc, line) {
-            Ok(next) => next,
-            Err(refusal) => return Err(LayoutFault::new(number, refusal)),
-        };
-        number += 1;
+        builder = builder.take(alloc, line)?;
     }
-    match draft.whole() {
-        Ok(board) => Ok(board),
-        Err(refusal) => Err(LayoutFault::new(number, refusal)),
-    }
+    builder.finish()
 }
 
 /// The board that lines describe, windows and widgets in any order of ids.

@@ -2,6 +2,7 @@
 #![tactic(auto)]
 
 mod board_lines;
+mod builder;
 mod drafts;
 mod layouts;
 mod names;
@@ -9,4 +10,5 @@ mod naming;
 mod refusals;
 
 pub use board_lines::{lines_of, put_board};
+pub use builder::BoardBuilder;
 pub use layouts::{LayoutFault, board_of, layout};

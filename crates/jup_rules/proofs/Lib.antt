@@ -4,3 +4,4 @@ mod SiteLines
 mod Hearing
 mod Taking
 mod Lagging
+pub mod Welcoming

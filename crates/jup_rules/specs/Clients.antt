@@ -42,23 +42,6 @@ abbrev pub refusal_of : Line → ClientEnd
 refusal_of (line.Error number) = Fault number
 refusal_of _ = Fault 44
 
--- the first line of a server
-abbrev pub greeting_in : Line → Result (ℕ × ℕ) ClientEnd
-greeting_in (line.Welcome site limit) = Ok (site, limit)
-greeting_in other = Err (refusal_of other)
-
--- the lines of its board, up to the line that ends them
-abbrev pub board_line_in : Line → Result (Option Line) ClientEnd
-board_line_in line.Ready = Ok None
-board_line_in (line.Window win) = Ok (Some (line.Window win))
-board_line_in (line.Text wid) = Ok (Some (line.Text wid))
-board_line_in (line.List wid) = Ok (Some (line.List wid))
-board_line_in (line.Toggle wid on) = Ok (Some (line.Toggle wid on))
-board_line_in (line.Slider wid lo hi value) = Ok (Some (line.Slider wid lo hi value))
-board_line_in (line.Char name value) = Ok (Some (line.Char name value))
-board_line_in (line.Item name label) = Ok (Some (line.Item name label))
-board_line_in other = Err (refusal_of other)
-
 -- what the client says to the server and what the user sees, together, and the latter by itself
 abbrev pub saying : Said → Told → Answer
 saying said told = record { said = Some said; told = told }

@@ -16,3 +16,4 @@ pub mod Requests
 pub mod Shares
 pub mod Texts
 pub mod Typed
+pub mod Welcomes

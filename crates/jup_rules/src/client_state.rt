@@ -1,11 +1,10 @@
 //! What a client makes of its user's requests, and of the lines that its server sends.
 ghost use Rattle.std.specs.Prelude.{◌≡◌, IfOk};
-ghost use Rattle.jup_rules.specs.Clients.{greeting_in, board_line_in, refusal_of, edit_answer, sync_answer, after_sync, down_heard, IsOpened, Answers, Hears, Delivers};
+ghost use Rattle.jup_rules.specs.Clients.{refusal_of, edit_answer, sync_answer, after_sync, down_heard, Answers, Hears, Delivers};
 
 use crate::{ClientEnd, Request, Said, SessionFault};
 use jup_batch::{BoardBatch, BoardEdits};
 use jup_gather::{Gather, Gathered, message_of};
-use jup_layout::board_of;
 use jup_star::{Delivered, Down, Made, Site, Up};
 use jup_window::EditFault;
 use jup_wire::Line;
@@ -53,24 +52,6 @@ pub struct ClientState {
 }
 
 impl ClientState {
-    /// The client that a server greeted with a number, a limit and the lines of a board.
-    pub fn open(
-        alloc: Global,
-        site: u32,
-        limit: u32,
-        board: &[Line],
-    ) -> Result<ClientState, ClientEnd>
-        ensures { IsOpened site limit board.now result }
-    {
-        let board = board_of(alloc, board)?;
-        let site = Site::open(alloc, site, limit, board)?;
-        Ok(ClientState {
-            site,
-            gather: Gather::new(),
-            pings: 0,
-        })
-    }
-
     /// Does what its user asks for. A sync is over once [`hear`](ClientState::hear) says so.
     pub fn answer(&mut self, alloc: Global, request: &Request) -> Result<Answer, ClientEnd>
         ensures { Answers request.now self.old result self.new }
@@ -144,38 +125,6 @@ fn down_heard(heard: Result<Down, Gathered>) -> Result<Option<Down>, ClientEnd>
     }
 }
 
-/// The number of the site and the limit that the first line of a server gives.
-pub fn greeting_in(line: &Line) -> Result<(u32, u32), ClientEnd>
-    ensures { result ≡ greeting_in line.now }
-{
-    match line {
-        Line::Welcome { site, limit } => Ok((*site, *limit)),
-        line => Err(refusal_of(line)),
-    }
-}
-
-/// A line of the board that a server greets with; none after its last.
-pub fn board_line_in(line: &Line) -> Result<Option<Line>, ClientEnd>
-    ensures { result ≡ board_line_in line.now }
-{
-    match line {
-        Line::Ready => Ok(None),
-        Line::Window(win) => Ok(Some(Line::Window(*win))),
-        Line::Text(wid) => Ok(Some(Line::Text(*wid))),
-        Line::List(wid) => Ok(Some(Line::List(*wid))),
-        Line::Toggle(wid, on) => Ok(Some(Line::Toggle(*wid, *on))),
-        Line::Slider { wid, lo, hi, value } => Ok(Some(Line::Slider {
-            wid: *wid,
-            lo: *lo,
-            hi: *hi,
-            value: *value,
-        })),
-        Line::Char(name, value) => Ok(Some(Line::Char(*name, *value))),
-        Line::Item(name, label) => Ok(Some(Line::Item(*name, *label))),
-        line => Err(refusal_of(line)),
-    }
-}
-
 // What a client does for an edit, by what its site made of it.
 fn edit_answer(outcome: Result<Made, EditFault>) -> Result<Answer, ClientEnd>
     ensures { result ≡ edit_answer outcome }
@@ -194,7 +143,7 @@ fn edit_answer(outcome: Result<Made, EditFault>) -> Result<Answer, ClientEnd>
 }
 
 // What a line means where it does not belong: the fault that it reports, or one of its own.
-fn refusal_of(line: &Line) -> ClientEnd
+pub(crate) fn refusal_of(line: &Line) -> ClientEnd
     ensures { result ≡ refusal_of line.now }
 {
     match line {

@@ -153,6 +153,11 @@ fn servers_that_greet_wrongly(rt: HostRuntime) {
         ("welcome 1 100\ntext 1\nready\n", 44),
         ("welcome 1 100\nwindow 1\nwindow 1\nready\n", 10),
         ("welcome 1 100\nwindow 0\nready\n", 12),
+        (
+            "welcome 1 100\nwindow 0\nwindow 0\nwindow 1\nwindow 1\nready\n",
+            12,
+        ),
+        ("welcome 1 100\nwindow 0\nerror 8\n", 8),
         ("welcome 1 100\nwindow 1\nslider 4 5 4 5\nready\n", 13),
         ("welcome 1 0\nready\n", 50),
         ("welcome 0 100\nready\n", 51),

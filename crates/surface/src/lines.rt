@@ -3,7 +3,7 @@
 use jup_batch::{BoardBatch, BoardEdits};
 use jup_gather::{Gather, Gathered, lines_of_op};
 use jup_lane::MOST_MESSAGE;
-use jup_layout::{LayoutFault, board_of, layout, lines_of};
+use jup_layout::{BoardBuilder, LayoutFault, board_of, layout, lines_of};
 use jup_link::Msg;
 use jup_window::{Board, Command};
 use jup_wire::{Fed, Line, Lines, MOST, Reader, WireFault, write, write_reserved};
@@ -26,6 +26,10 @@ pub fn boards() {
     let _: fn(Global, &Board) -> Result<Lines, NoMemory> = lines_of;
     let _: fn(Global, &[Line]) -> Result<Board, LayoutFault> = board_of;
     let _: fn(Global, &[u8]) -> Result<Board, LayoutFault> = layout;
+    let _: fn(Global) -> BoardBuilder = BoardBuilder::new;
+    let _: fn(BoardBuilder, Global, &Line) -> Result<BoardBuilder, LayoutFault> =
+        BoardBuilder::take;
+    let _: fn(BoardBuilder) -> Result<Board, LayoutFault> = BoardBuilder::finish;
 }
 
 /// Edits as lines.

@@ -2,8 +2,7 @@
 
 use super::commands::Requests;
 use jup_rules::{
-    Answer, ClientEnd, ClientState, Request, Said, SessionFault, Told, board_line_in, greeting_in,
-    put_said, told_text,
+    Answer, ClientEnd, ClientState, Opening, Request, Said, SessionFault, Told, put_said, told_text,
 };
 use jup_stream::{Output, Source};
 use jup_window::Within;
@@ -125,32 +124,19 @@ pub fn run_client<C: Read + Drop, O: Write, F: Read + Drop, T: Write + Drop>(
     client.run(alloc, &mut requests, out)
 }
 
-// Greets the server, and opens the site that it answers.
+// Greets the server, and hears its welcome.
 fn greet<F: Read + Drop, T: Write + Drop>(
     alloc: Global,
     source: &mut Source<F>,
     output: &mut Output<T>,
 ) -> Result<ClientState, ClientEnd> {
+    let _of: Within = PhantomData;
     output.push(&Line::Hello);
     output.send()?;
-    let (site, limit) = greeting_in(&source.next_line(alloc)?)?;
-    let board = read_board(alloc, source)?;
-    ClientState::open(alloc, site, limit, board.as_slice())
-}
-
-// Reads the lines of the board, up to `ready`.
-fn read_board<F: Read + Drop>(
-    alloc: Global,
-    source: &mut Source<F>,
-) -> Result<Vec<Line>, ClientEnd> {
-    let _of: Within = PhantomData;
-    let mut lines = Vec::new(alloc);
+    let mut opening = Opening::greeted(alloc, &source.next_line(alloc)?)?;
     for _ in 0..u64::MAX {
-        let Some(line) = board_line_in(&source.next_line(alloc)?)? else {
-            return Ok(lines);
-        };
-        if lines.push(line).is_err() {
-            return Err(ClientEnd::NoMemory);
+        if let Some(state) = opening.hear(alloc, &source.next_line(alloc)?)? {
+            return Ok(state);
         }
     }
     Err(SessionFault::ReadsSpent.into())

@@ -1,19 +1,15 @@
-use Rattle.std.proofs.Common.{sym, ◌∙◌, arith}
-use Rattle.jup_layout.proofs.Counting.{taken_grows}
-use Rattle.jup_layout.proofs.LinesTaken.{line_taken}
+use Rattle.std.proofs.Common.{◌≡◌, Err, rules, ◌++◌, ◌∷◌, [], ◌+◌, take, inl, inr, sym}
+use Rattle.jup_wire.proofs.OneMore.{take_more}
+use Rattle.jup_layout.proofs.LinesTaken.{refused_within}
 use Rattle.jup_layout.proofs.layouts.build.Goals as goal
 
-pub loop-line-preserved : goal.loop-line-preserved
-loop-line-preserved c =
-    let l = c.loop-line in
-    let counted = l.invariant.counted in
-    let bounded = l.invariant.bounded in
-    let short = l.invariant.short in
-    let other = c.if-number.false in
-    let grows = taken_grows l.draft c.in-Ok.next c.line-item.result c.in-Ok.ensures in
-    record {
-      same = sym (line_taken l.number l.line-index l.draft c.in-Ok.next c.line-item.result c.args.lines.now c.loop-line-test.true c.line-item.is c.if-number.false c.in-Ok.ensures) ∙ l.invariant.same;
-      counted = omega (arith, counted);
-      bounded = omega (arith, bounded, other);
-      short = omega (arith, grows, short);
-    }
+pub returns-in_err-builder : goal.returns-in_err-builder
+returns-in_err-builder c =
+    let i = c.loop-line.line-index in
+    let lines = c.args.lines.now in
+    let line = c.line-item.result in
+    let is : c.from_residual.result ≡ Err c.in_err-builder.field-0.0 = search rules in
+    rw is (elim (c.in_err-builder.ensures.fault c.args.naming (take i lines) c.loop-line.invariant) [
+      | inl none ↦ inl none
+      | inr refused ↦ inr (refused_within c.args.naming lines (take i lines ++ line ∷ []) (i + 1) c.in_err-builder.field-0.0 (sym (take_more lines i line c.loop-line-test.true c.line-item.is)) refused)
+    ])

@@ -18,17 +18,17 @@ use Rattle.jup_star.specs.declared.faults.SiteFault.{SiteFault}
 use Rattle.jup_star.specs.SiteCalls.{BoardSite, EditAnswers, made_by, made_result, edit_reply, after_edit, site_edited, is_edit_memory, shown_after}
 use Rattle.jup_star.specs.SiteStates.{edit_answer as site_answer}
 use Rattle.jup_wire.specs.declared.line.Line.{Line}
-use Rattle.jup_rules.specs.declared.said.Said.{Said}
-use Rattle.jup_rules.specs.declared.said.Said.TheVariants.{Up as SaysUp, Bye as SaysBye}
-use Rattle.jup_rules.specs.declared.client_end.ClientEnd.{ClientEnd}
-use Rattle.jup_rules.specs.declared.client_end.ClientEnd.TheVariants.{Fault, NoMemory}
-use Rattle.jup_rules.specs.declared.client_state.Told.TheVariants as told
-use Rattle.jup_rules.specs.declared.client_state.Told.{Told}
-use Rattle.jup_rules.specs.declared.client_state.Answer.{Answer}
-use Rattle.jup_rules.specs.declared.client_state.Heard.{Heard}
-use Rattle.jup_rules.specs.declared.client_state.ClientState.{ClientState}
-use Rattle.jup_rules.specs.declared.request.Request.{Request}
-use Rattle.jup_rules.specs.declared.request.Request.TheVariants.{Edit, Batch, Sync, Show, Quit, Bad}
+use Rattle.jup_rules.specs.declared.session.Said.{Said}
+use Rattle.jup_rules.specs.declared.session.Said.TheVariants.{Up as SaysUp, Bye as SaysBye}
+use Rattle.jup_rules.specs.declared.ends.ClientEnd.{ClientEnd}
+use Rattle.jup_rules.specs.declared.ends.ClientEnd.TheVariants.{Fault, NoMemory}
+use Rattle.jup_rules.specs.declared.client.Told.TheVariants as told
+use Rattle.jup_rules.specs.declared.client.Told.{Told}
+use Rattle.jup_rules.specs.declared.client.Answer.{Answer}
+use Rattle.jup_rules.specs.declared.client.Heard.{Heard}
+use Rattle.jup_rules.specs.declared.client.ClientState.{ClientState}
+use Rattle.jup_rules.specs.declared.client.Request.{Request}
+use Rattle.jup_rules.specs.declared.client.Request.TheVariants.{Edit, Batch, Sync, Show, Quit, Bad}
 use Rattle.jup_gather.specs.Ways.{down_in, message_given}
 use Rattle.jup_rules.specs.Clients.{Hears, HearsDown, Delivers, down_heard, heard_answer, AnswersEdit, Answers, edit_answer, sync_answer, saying, telling}
 use Rattle.jup_embed.specs.declared.refusals.EmbedFault.{EmbedFault}

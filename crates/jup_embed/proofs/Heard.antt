@@ -5,16 +5,16 @@ use Rattle.jup_window.specs.declared.commands.Command.{Command}
 use Rattle.jup_star.specs.declared.site.Made.{Made}
 use Rattle.jup_wire.specs.declared.line.Line.{Line}
 use Rattle.jup_wire.proofs.OneMore.{take_more}
-use Rattle.jup_rules.specs.declared.said.Said.TheVariants.{Up as SaysUp, Bye as SaysBye}
+use Rattle.jup_rules.specs.declared.session.Said.TheVariants.{Up as SaysUp, Bye as SaysBye}
 use Rattle.jup_star.specs.declared.messages.Up.TheVariants.{Ping as UpPing}
-use Rattle.jup_rules.specs.declared.request.Request.{Request}
-use Rattle.jup_rules.specs.declared.request.Request.TheVariants.{Sync, Quit}
-use Rattle.jup_rules.specs.declared.client_end.ClientEnd.TheVariants.{Fault}
-use Rattle.jup_rules.specs.declared.client_state.Told.{Told}
-use Rattle.jup_rules.specs.declared.client_state.Told.TheVariants.{Synced, Bye as SaidBye}
+use Rattle.jup_rules.specs.declared.client.Request.{Request}
+use Rattle.jup_rules.specs.declared.client.Request.TheVariants.{Sync, Quit}
+use Rattle.jup_rules.specs.declared.ends.ClientEnd.TheVariants.{Fault}
+use Rattle.jup_rules.specs.declared.client.Told.{Told}
+use Rattle.jup_rules.specs.declared.client.Told.TheVariants.{Synced, Bye as SaidBye}
 use Rattle.jup_rules.specs.Clients.{saying}
-use Rattle.jup_rules.specs.declared.client_state.Answer.{Answer}
-use Rattle.jup_rules.specs.declared.client_state.Heard.{Heard}
+use Rattle.jup_rules.specs.declared.client.Answer.{Answer}
+use Rattle.jup_rules.specs.declared.client.Heard.{Heard}
 use Rattle.jup_rules.specs.Requests.{IsHeld, ComesTo}
 use Rattle.jup_embed.specs.declared.phase.Phase.{Phase}
 use Rattle.jup_embed.specs.declared.phase.Phase.TheVariants as phase

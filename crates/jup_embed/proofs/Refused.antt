@@ -9,14 +9,14 @@ use Rattle.jup_star.specs.declared.messages.Up.TheVariants.{Ping as UpPing}
 use Rattle.jup_star.specs.declared.site.Made.{Made}
 use Rattle.jup_star.specs.SiteCalls.{EditAnswers, edit_reply, site_edited, is_edit_memory}
 use Rattle.jup_star.specs.SiteStates.{edit_answer as site_answer}
-use Rattle.jup_rules.specs.declared.said.Said.TheVariants.{Up as SaysUp}
-use Rattle.jup_rules.specs.declared.client_end.ClientEnd.{ClientEnd}
-use Rattle.jup_rules.specs.declared.client_end.ClientEnd.TheVariants.{Fault, NoMemory}
-use Rattle.jup_rules.specs.declared.client_state.Told.TheVariants as told
-use Rattle.jup_rules.specs.declared.client_state.Answer.{Answer}
-use Rattle.jup_rules.specs.declared.client_state.ClientState.{ClientState}
-use Rattle.jup_rules.specs.declared.request.Request.{Request}
-use Rattle.jup_rules.specs.declared.request.Request.TheVariants.{Edit, Batch, Sync, Show, Quit, Bad}
+use Rattle.jup_rules.specs.declared.session.Said.TheVariants.{Up as SaysUp}
+use Rattle.jup_rules.specs.declared.ends.ClientEnd.{ClientEnd}
+use Rattle.jup_rules.specs.declared.ends.ClientEnd.TheVariants.{Fault, NoMemory}
+use Rattle.jup_rules.specs.declared.client.Told.TheVariants as told
+use Rattle.jup_rules.specs.declared.client.Answer.{Answer}
+use Rattle.jup_rules.specs.declared.client.ClientState.{ClientState}
+use Rattle.jup_rules.specs.declared.client.Request.{Request}
+use Rattle.jup_rules.specs.declared.client.Request.TheVariants.{Edit, Batch, Sync, Show, Quit, Bad}
 use Rattle.jup_rules.specs.Clients.{AnswersEdit, Answers, edit_answer, saying, telling}
 
 refused_edit : (commands : List Command) (c d : ClientState) (end : ClientEnd) → AnswersEdit commands c (Err end) d → d ≡ c

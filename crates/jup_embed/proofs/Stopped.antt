@@ -5,9 +5,9 @@ use Rattle.std.proofs.lemmas.List.{append-nil, take-append-drop, drop_more}
 use Rattle.jup_wire.specs.declared.faults.WireFault.{WireFault}
 use Rattle.jup_wire.specs.declared.line.Line.{Line}
 use Rattle.jup_wire.specs.Streams.{Progress}
-use Rattle.jup_rules.specs.declared.client_end.ClientEnd.{ClientEnd}
-use Rattle.jup_rules.specs.declared.client_end.ClientEnd.TheVariants.{NoMemory}
-use Rattle.jup_rules.specs.declared.faults.SessionFault.TheVariants.{Wire}
+use Rattle.jup_rules.specs.declared.ends.ClientEnd.{ClientEnd}
+use Rattle.jup_rules.specs.declared.ends.ClientEnd.TheVariants.{NoMemory}
+use Rattle.jup_rules.specs.declared.ends.SessionFault.TheVariants.{Wire}
 use Rattle.jup_rules.specs.ClientEnds.{end_of_fault}
 use Rattle.jup_embed.specs.declared.phase.Phase.{Phase}
 use Rattle.jup_embed.specs.declared.phase.Phase.TheVariants as phase

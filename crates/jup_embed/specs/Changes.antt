@@ -3,8 +3,8 @@ use Rattle.std.specs.Prelude.{ℕ, Bool, true, false, List, [], Option, Some, No
 use Rattle.jup_batch.specs.BatchBoards.{BoardBatch}
 use Rattle.jup_window.specs.declared.board_operations.BoardOp.{BoardOp}
 use Rattle.jup_star.specs.declared.messages.Up.TheVariants.{Op as UpOp}
-use Rattle.jup_rules.specs.declared.said.Said.{Said}
-use Rattle.jup_rules.specs.declared.said.Said.TheVariants.{Up as SaysUp}
+use Rattle.jup_rules.specs.declared.session.Said.{Said}
+use Rattle.jup_rules.specs.declared.session.Said.TheVariants.{Up as SaysUp}
 
 -- these operations, whether they are kept at all, and for how many more there is room
 pub record Untold : Type 0 where

@@ -3,7 +3,7 @@ use Rattle.std.specs.Prelude.{ℕ, List, [], Option, Some, None}
 use Rattle.std.specs.List.{flat_map}
 use Rattle.jup_wire.specs.Grammar.{line_bytes}
 use Rattle.jup_gather.specs.Pieces.{piece_lines}
-use Rattle.jup_rules.specs.declared.said.Said.{Said}
+use Rattle.jup_rules.specs.declared.session.Said.{Said}
 use Rattle.jup_rules.specs.Messages.{said_piece}
 
 -- the bytes that wait, and for how many more there is room

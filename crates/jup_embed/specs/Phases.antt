@@ -1,12 +1,11 @@
 -- What a line of the server makes of a session.
 use Rattle.std.specs.Prelude.{◌≡◌, List, false, Option, Some, None, Result, Ok, Err}
 use Rattle.jup_wire.specs.declared.line.Line.{Line}
-use Rattle.jup_rules.specs.declared.client_end.ClientEnd.{ClientEnd}
-use Rattle.jup_rules.specs.declared.client_state.Heard.{Heard}
-use Rattle.jup_rules.specs.declared.client_state.ClientState.{ClientState}
-use Rattle.jup_rules.specs.declared.welcome.Opening.{Opening}
-use Rattle.jup_rules.specs.Clients.{Hears}
-use Rattle.jup_rules.specs.Welcomes.{HasTold, IsGreeted, HearsWelcome}
+use Rattle.jup_rules.specs.declared.ends.ClientEnd.{ClientEnd}
+use Rattle.jup_rules.specs.declared.client.Heard.{Heard}
+use Rattle.jup_rules.specs.declared.client.ClientState.{ClientState}
+use Rattle.jup_rules.specs.declared.client.Opening.{Opening}
+use Rattle.jup_rules.specs.Clients.{Hears, HasTold, IsGreeted, HearsWelcome}
 use Rattle.jup_embed.specs.declared.phase.Phase.{Phase}
 use Rattle.jup_embed.specs.declared.phase.Phase.TheVariants as phase
 

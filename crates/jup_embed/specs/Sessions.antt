@@ -10,22 +10,21 @@ use Rattle.jup_window.specs.declared.faults.EditFault.{EditFault}
 use Rattle.jup_wire.specs.declared.faults.WireFault.{WireFault}
 use Rattle.jup_wire.specs.declared.line.Line.{Line}
 use Rattle.jup_wire.specs.Streams.{Progress, HasRead}
-use Rattle.jup_rules.specs.declared.said.Said.{Said}
-use Rattle.jup_rules.specs.declared.said.Said.TheVariants.{Up as SaysUp}
-use Rattle.jup_rules.specs.declared.client_end.ClientEnd.{ClientEnd}
-use Rattle.jup_rules.specs.declared.client_end.ClientEnd.TheVariants.{NoMemory}
-use Rattle.jup_rules.specs.declared.faults.SessionFault.TheVariants.{Wire}
+use Rattle.jup_rules.specs.declared.session.Said.{Said}
+use Rattle.jup_rules.specs.declared.session.Said.TheVariants.{Up as SaysUp}
+use Rattle.jup_rules.specs.declared.ends.ClientEnd.{ClientEnd}
+use Rattle.jup_rules.specs.declared.ends.ClientEnd.TheVariants.{NoMemory}
+use Rattle.jup_rules.specs.declared.ends.SessionFault.TheVariants.{Wire}
 use Rattle.jup_rules.specs.ClientEnds.{end_of_fault}
 use Rattle.jup_rules.specs.Numbers.{client_end_number}
-use Rattle.jup_rules.specs.declared.request.Request.{Request}
-use Rattle.jup_rules.specs.declared.request.Request.TheVariants.{Sync}
-use Rattle.jup_rules.specs.declared.client_state.Told.{Told}
-use Rattle.jup_rules.specs.declared.client_state.Answer.{Answer}
-use Rattle.jup_rules.specs.declared.client_state.Heard.{Heard}
-use Rattle.jup_rules.specs.declared.client_state.ClientState.{ClientState}
+use Rattle.jup_rules.specs.declared.client.Request.{Request}
+use Rattle.jup_rules.specs.declared.client.Request.TheVariants.{Sync}
+use Rattle.jup_rules.specs.declared.client.Told.{Told}
+use Rattle.jup_rules.specs.declared.client.Answer.{Answer}
+use Rattle.jup_rules.specs.declared.client.Heard.{Heard}
+use Rattle.jup_rules.specs.declared.client.ClientState.{ClientState}
 use Rattle.jup_rules.specs.Clients.{Answers}
-use Rattle.jup_rules.specs.Begun.{Begun}
-use Rattle.jup_rules.specs.Requests.{IsHeld, ComesTo}
+use Rattle.jup_rules.specs.Requests.{Begun, IsHeld, ComesTo}
 use Rattle.jup_embed.specs.declared.phase.Phase.{Phase}
 use Rattle.jup_embed.specs.declared.phase.Phase.TheVariants as phase
 use Rattle.jup_embed.specs.declared.client.Stage.{Stage}

@@ -5,8 +5,8 @@ use Rattle.std.proofs.lemmas.List.{append_assoc, length-append, length-map, map-
 use Rattle.jup_window.specs.declared.commands.Command.{Command}
 use Rattle.jup_text.specs.Commands.{command_text, batch_text, IsCommand, IsBatchCount}
 use Rattle.jup_wire.proofs.OneMore.{all-append}
-use Rattle.jup_rules.specs.declared.request.Request.{Request}
-use Rattle.jup_rules.specs.declared.request.Request.TheVariants.{Edit, Batch, Sync, Show, Quit, Bad}
+use Rattle.jup_rules.specs.declared.client.Request.{Request}
+use Rattle.jup_rules.specs.declared.client.Request.TheVariants.{Edit, Batch, Sync, Show, Quit, Bad}
 use Rattle.jup_rules.specs.Requests.{request_lines, IsRequest, IsRequestOf, IsNoCommand, AreCommands, IsBegunBy}
 
 -- ---- lines of commands

@@ -8,13 +8,12 @@ use Rattle.jup_batch.specs.BatchBoards.{BoardBatch}
 use Rattle.jup_star.specs.declared.messages.Up.{Up}
 use Rattle.jup_star.specs.declared.messages.Up.TheVariants.{Op as UpOp, Ack as UpAck, Ping as UpPing}
 use Rattle.jup_wire.specs.declared.line.Line.{Line}
-use Rattle.jup_rules.specs.declared.said.Said.{Said}
-use Rattle.jup_rules.specs.declared.said.Said.TheVariants.{Up as SaysUp, Bye as SaysBye}
-use Rattle.jup_rules.specs.declared.faults.SessionFault.{SessionFault}
-use Rattle.jup_rules.specs.declared.next.Awaits.TheVariants.{Gate}
+use Rattle.jup_rules.specs.declared.session.Said.{Said}
+use Rattle.jup_rules.specs.declared.session.Said.TheVariants.{Up as SaysUp, Bye as SaysBye}
+use Rattle.jup_rules.specs.declared.ends.SessionFault.{SessionFault}
+use Rattle.jup_rules.specs.declared.session.Awaits.TheVariants.{Gate}
 use Rattle.jup_rules.specs.Messages.{HasSaid, IsRefused}
-use Rattle.jup_rules.specs.Keepers.{Keeper}
-use Rattle.jup_rules.specs.Gates.{says_edit, counted, HasHeard, incoming_of, edits_with, next_of, edits_after, Leads}
+use Rattle.jup_rules.specs.Gates.{Keeper, says_edit, counted, HasHeard, incoming_of, edits_with, next_of, edits_after, Leads}
 
 -- one more edit, if the count may have stopped
 counted_more : (n : ℕ) → counted (counted n + 1) ≡ counted (n + 1)

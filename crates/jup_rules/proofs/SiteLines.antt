@@ -10,9 +10,9 @@ use Rattle.jup_gather.specs.Pieces.{Piece, Alone}
 use Rattle.jup_gather.specs.Gathering.{Gathers}
 use Rattle.jup_gather.specs.Ways.{up_in, message_given}
 use Rattle.jup_gather.proofs.OneGathering.{one_piece}
-use Rattle.jup_rules.specs.declared.said.Said.{Said}
-use Rattle.jup_rules.specs.declared.said.Said.TheVariants.{Up as SaysUp, Bye as SaysBye}
-use Rattle.jup_rules.specs.declared.faults.SessionFault.{SessionFault}
+use Rattle.jup_rules.specs.declared.session.Said.{Said}
+use Rattle.jup_rules.specs.declared.session.Said.TheVariants.{Up as SaysUp, Bye as SaysBye}
+use Rattle.jup_rules.specs.declared.ends.SessionFault.{SessionFault}
 use Rattle.jup_rules.specs.Messages.{said_piece, said_heard, IsSaidBy, IsUnsaid, IsRefused}
 
 -- the lines that a site says alone

@@ -5,8 +5,8 @@ use Rattle.jup_layout.specs.declared.layouts.LayoutFault.{LayoutFault}
 use Rattle.jup_layout.specs.declared.naming.Naming.TheVariants.{Distinct}
 use Rattle.jup_layout.specs.Layouts.{board_with, no_memory}
 use Rattle.jup_layout.proofs.LinesTaken.{refused_early}
-use Rattle.jup_rules.specs.declared.client_end.ClientEnd.{ClientEnd}
-use Rattle.jup_rules.specs.declared.client_end.ClientEnd.TheVariants.{NoMemory}
+use Rattle.jup_rules.specs.declared.ends.ClientEnd.{ClientEnd}
+use Rattle.jup_rules.specs.declared.ends.ClientEnd.TheVariants.{NoMemory}
 use Rattle.jup_rules.specs.ClientEnds.{end_of_layout}
 
 -- after a refused line each other leaves its fault

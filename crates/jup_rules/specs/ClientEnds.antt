@@ -7,12 +7,12 @@ use Rattle.jup_star.specs.declared.faults.OpenFault.{OpenFault}
 use Rattle.jup_hub.specs.declared.fault.HubFault.TheVariants.{Star}
 use Rattle.jup_layout.specs.declared.layouts.LayoutFault.{LayoutFault}
 use Rattle.jup_rules.specs.Numbers.{session_fault_number}
-use Rattle.jup_rules.specs.declared.ending.Stop.{Stop}
-use Rattle.jup_rules.specs.declared.ending.Stop.TheVariants.{End, Fault as StopFault}
-use Rattle.jup_rules.specs.declared.faults.SessionFault.{SessionFault}
-use Rattle.jup_rules.specs.declared.faults.SessionFault.TheVariants.{Hub, NoMemory as SessionNoMemory, ReadFailed as SessionReadFailed, WriteFailed as SessionWriteFailed}
-use Rattle.jup_rules.specs.declared.client_end.ClientEnd.{ClientEnd}
-use Rattle.jup_rules.specs.declared.client_end.ClientEnd.TheVariants.{Fault, NoMemory, ReadFailed, WriteFailed}
+use Rattle.jup_rules.specs.declared.ends.Stop.{Stop}
+use Rattle.jup_rules.specs.declared.ends.Stop.TheVariants.{End, Fault as StopFault}
+use Rattle.jup_rules.specs.declared.ends.SessionFault.{SessionFault}
+use Rattle.jup_rules.specs.declared.ends.SessionFault.TheVariants.{Hub, NoMemory as SessionNoMemory, ReadFailed as SessionReadFailed, WriteFailed as SessionWriteFailed}
+use Rattle.jup_rules.specs.declared.ends.ClientEnd.{ClientEnd}
+use Rattle.jup_rules.specs.declared.ends.ClientEnd.TheVariants.{Fault, NoMemory, ReadFailed, WriteFailed}
 
 -- no memory has a case of its own, as have reads and writes; all else is its number
 abbrev pub end_of_fault : SessionFault → ClientEnd

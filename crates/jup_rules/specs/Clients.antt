@@ -1,41 +1,45 @@
--- What a client sends and prints.
-use Rattle.std.specs.Prelude.{◌≡◌, ◌==◌, ◌⊎◌, ℕ, ◌+◌, Bool, false, if◌then◌else◌, List, Option, Some, None, Result, Ok, Err, IfOk, ◌∷◌, []}
+-- What a client makes of its user's requests and of its server's lines.
 use Rattle.std.specs.Option.{option_map}
-use Rattle.jup_batch.specs.BatchBoards.{BoardBatch}
+use Rattle.std.specs.Prelude.{◌≡◌, ◌==◌, ◌⊎◌, ℕ, ◌+◌, Bool, false, if◌then◌else◌, List, Option, Some, None, Result, Ok, Err, IfOk, ◌∷◌, [], ◌++◌}
+use Rattle.jup_window.specs.Boards.{Windows}
+use Rattle.jup_window.specs.FaultNumbers.{edit_fault_number}
 use Rattle.jup_window.specs.declared.commands.Command.{Command}
 use Rattle.jup_window.specs.declared.faults.EditFault.{EditFault}
-use Rattle.jup_window.specs.FaultNumbers.{edit_fault_number}
+use Rattle.jup_batch.specs.BatchBoards.{BoardBatch}
 use Rattle.jup_star.specs.SiteCalls.{EditAnswers, DeliverAnswers, owed_of, shown_after, is_edit_memory, site_open_fault}
 use Rattle.jup_star.specs.SiteStates.{opened_site}
+use Rattle.jup_star.specs.declared.faults.OpenFault.{OpenFault}
+use Rattle.jup_star.specs.declared.faults.SiteFault.{SiteFault}
 use Rattle.jup_star.specs.declared.messages.Down.{Down}
 use Rattle.jup_star.specs.declared.messages.Down.TheVariants.{Op as DownOp, Ack as DownAck, Pong as DownPong}
 use Rattle.jup_star.specs.declared.messages.Up.{Up}
 use Rattle.jup_star.specs.declared.messages.Up.TheVariants.{Ping as UpPing}
-use Rattle.jup_star.specs.declared.site.Made.{Made}
 use Rattle.jup_star.specs.declared.site.Delivered.{Delivered}
-use Rattle.jup_star.specs.declared.faults.SiteFault.{SiteFault}
+use Rattle.jup_star.specs.declared.site.Made.{Made}
 use Rattle.jup_wire.specs.declared.line.Line.{Line}
 use Rattle.jup_wire.specs.declared.line.Line.TheVariants as line
-use Rattle.jup_gather.specs.declared.gathered.Gathered.{Gathered}
-use Rattle.jup_gather.specs.declared.gathered.Gathered.TheVariants.{Plain, Held}
+use Rattle.jup_layout.specs.Drafts.{Built}
+use Rattle.jup_layout.specs.Layouts.{board_with, HasTaken}
+use Rattle.jup_layout.specs.Said.{Part, SaysNothing, part_of}
+use Rattle.jup_layout.specs.declared.layouts.LayoutFault.{LayoutFault}
+use Rattle.jup_layout.specs.declared.naming.Naming.TheVariants.{Distinct}
 use Rattle.jup_gather.specs.Gathering.{Gathers}
 use Rattle.jup_gather.specs.Ways.{down_in, message_given}
-use Rattle.jup_rules.specs.declared.said.Said.{Said}
-use Rattle.jup_rules.specs.declared.said.Said.TheVariants.{Up as SaysUp, Bye as SaysBye}
-use Rattle.jup_rules.specs.declared.client_end.ClientEnd.{ClientEnd}
-use Rattle.jup_rules.specs.declared.client_end.ClientEnd.TheVariants.{Fault, NoMemory}
-use Rattle.jup_rules.specs.declared.request.Request.{Request}
-use Rattle.jup_rules.specs.declared.request.Request.TheVariants.{Edit, Batch, Sync, Show, Quit, Bad}
-use Rattle.jup_rules.specs.declared.client_state.Told.{Told}
-use Rattle.jup_rules.specs.declared.client_state.Told.TheVariants as told
-use Rattle.jup_rules.specs.declared.client_state.Answer.{Answer}
-use Rattle.jup_rules.specs.declared.client_state.Heard.{Heard}
-use Rattle.jup_rules.specs.declared.client_state.ClientState.{ClientState}
+use Rattle.jup_gather.specs.declared.gathered.Gathered.{Gathered}
+use Rattle.jup_gather.specs.declared.gathered.Gathered.TheVariants.{Plain, Held}
 use Rattle.jup_rules.specs.ClientEnds.{end_of_site, end_of_layout, end_of_open}
-use Rattle.jup_window.specs.Boards.{Windows}
-use Rattle.jup_star.specs.declared.faults.OpenFault.{OpenFault}
-use Rattle.jup_layout.specs.declared.layouts.LayoutFault.{LayoutFault}
-use Rattle.jup_layout.specs.Layouts.{board_with}
+use Rattle.jup_rules.specs.declared.ends.ClientEnd.{ClientEnd}
+use Rattle.jup_rules.specs.declared.ends.ClientEnd.TheVariants.{Fault, NoMemory}
+use Rattle.jup_rules.specs.declared.client.Answer.{Answer}
+use Rattle.jup_rules.specs.declared.client.ClientState.{ClientState}
+use Rattle.jup_rules.specs.declared.client.Heard.{Heard}
+use Rattle.jup_rules.specs.declared.client.Told.{Told}
+use Rattle.jup_rules.specs.declared.client.Told.TheVariants as told
+use Rattle.jup_rules.specs.declared.client.Request.{Request}
+use Rattle.jup_rules.specs.declared.client.Request.TheVariants.{Edit, Batch, Sync, Show, Quit, Bad}
+use Rattle.jup_rules.specs.declared.session.Said.{Said}
+use Rattle.jup_rules.specs.declared.session.Said.TheVariants.{Up as SaysUp, Bye as SaysBye}
+use Rattle.jup_rules.specs.declared.client.Opening.{Opening}
 
 -- a line out of its place: an error bears its own number, and every other is misplaced
 abbrev pub refusal_of : Line → ClientEnd
@@ -113,3 +117,36 @@ abbrev pub IsOpened : ℕ → ℕ → List Line → Result ClientState ClientEnd
 IsOpened site limit lines (Ok c) = (windows : Windows) × (board_with lines ≡ Ok windows) × (site_open_fault site limit windows ≡ None) × (c ≡ record { site = opened_site site limit windows; gather = Some []; pings = 0 })
 IsOpened site limit lines (Err end) = (end ≡ NoMemory) ⊎ ((fault : LayoutFault) × (board_with lines ≡ Err fault) × (end ≡ end_of_layout fault))
     ⊎ ((windows : Windows) × (fault : OpenFault) × (board_with lines ≡ Ok windows) × (site_open_fault site limit windows ≡ Some fault) × (end ≡ end_of_open fault))
+
+-- a server told these lines of its board: what they describe is held, or their first fault
+abbrev pub HasTold : List Line → Result Built LayoutFault → Type 0
+HasTold lines (Ok built) = HasTaken Distinct lines built
+HasTold lines (Err fault) = board_with lines ≡ Err fault
+
+-- the first line tells the number of the site and the limit, and every other is refused
+abbrev pub IsGreeted : Line → Result Opening ClientEnd → Type 0
+IsGreeted (line.Welcome site limit) (Ok opening) = (opening.site ≡ site) × (opening.limit ≡ limit) × HasTold [] opening.board
+IsGreeted (line.Welcome site limit) (Err end) = ⊥
+IsGreeted other r = r ≡ Err (refusal_of other)
+
+-- one more line of the board, after these
+abbrev pub Extends : Line → List Line → Opening → Result (Option ClientState) ClientEnd → Opening → Type 0
+Extends line lines old (Ok None) new = (new.site ≡ old.site) × (new.limit ≡ old.limit) × HasTold (lines ++ line ∷ []) new.board
+Extends line lines old (Ok (Some state)) new = ⊥
+Extends line lines old (Err end) new = end ≡ NoMemory
+
+-- after the last line of the board
+abbrev pub Opens : List Line → Opening → Result (Option ClientState) ClientEnd → Type 0
+Opens lines old (Ok None) = ⊥
+Opens lines old (Ok (Some state)) = IsOpened old.site old.limit lines (Ok state)
+Opens lines old (Err end) = IsOpened old.site old.limit lines (Err end)
+
+-- a line, by what it says of a board
+abbrev pub HearsPart : Part → Line → List Line → Opening → Result (Option ClientState) ClientEnd → Opening → Type 0
+HearsPart SaysNothing line lines old r new = r ≡ Err (refusal_of line)
+HearsPart part line lines old r new = Extends line lines old r new
+
+-- a line after these of the board: `ready` opens the client, and each other is one of the board or is refused
+abbrev pub HearsWelcome : Line → List Line → Opening → Result (Option ClientState) ClientEnd → Opening → Type 0
+HearsWelcome line.Ready lines old r new = Opens lines old r
+HearsWelcome other lines old r new = HearsPart (part_of other) other lines old r new

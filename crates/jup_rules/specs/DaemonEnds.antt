@@ -14,8 +14,8 @@ use Rattle.jup_star.specs.StarStates.{opened_star}
 use Rattle.jup_star.specs.declared.faults.OpenFault.{OpenFault}
 use Rattle.jup_layout.specs.Layouts.{Describes}
 use Rattle.jup_layout.specs.declared.layouts.LayoutFault.{LayoutFault}
-use Rattle.jup_rules.specs.declared.daemon_end.DaemonEnd.{DaemonEnd}
-use Rattle.jup_rules.specs.declared.daemon_end.DaemonEnd.TheVariants.{Words, Layout, NoMemory}
+use Rattle.jup_rules.specs.declared.ends.DaemonEnd.{DaemonEnd}
+use Rattle.jup_rules.specs.declared.ends.DaemonEnd.TheVariants.{Words, Layout, NoMemory}
 
 -- no memory is reported as such; other refusals of the words have their own text
 abbrev pub IsEndOfWords : WordsError → DaemonEnd → Type 0

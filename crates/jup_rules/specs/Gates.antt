@@ -1,28 +1,31 @@
 -- What comes next in a session by what its site says: what each message waits for, and what follows once the star has answered.
-use Rattle.std.specs.Prelude.{◌≡◌, ◌⊎◌, ℕ, ◌+◌, min, Bool, true, false, List, [], ◌∷◌, ◌++◌, Option, Some, None, Result, Ok, Err, count_by}
+use Rattle.std.specs.Prelude.{ℕ, List, Option, ◌≡◌, ◌⊎◌, ◌+◌, min, Bool, true, false, [], ◌∷◌, ◌++◌, Some, None, Result, Ok, Err, count_by}
 use Rattle.jup_batch.specs.BatchBoards.{BoardBatch}
+use Rattle.jup_star.specs.declared.faults.StarFault.TheVariants.{NoLink}
 use Rattle.jup_star.specs.declared.messages.Up.{Up}
 use Rattle.jup_star.specs.declared.messages.Up.TheVariants.{Op as UpOp, Ack as UpAck, Ping as UpPing}
-use Rattle.jup_star.specs.declared.faults.StarFault.TheVariants.{NoLink}
+use Rattle.jup_wire.specs.declared.line.Line.{Line}
 use Rattle.jup_hub.specs.declared.fault.HubFault.{HubFault}
 use Rattle.jup_hub.specs.declared.fault.HubFault.TheVariants.{Star}
-use Rattle.jup_wire.specs.declared.line.Line.{Line}
-use Rattle.jup_rules.specs.declared.said.Said.{Said}
-use Rattle.jup_rules.specs.declared.said.Said.TheVariants.{Up as SaysUp, Bye as SaysBye}
-use Rattle.jup_rules.specs.declared.faults.SessionFault.{SessionFault}
-use Rattle.jup_rules.specs.declared.faults.SessionFault.TheVariants.{Hub, GateShut}
-use Rattle.jup_rules.specs.declared.ending.Ending.{Ending}
-use Rattle.jup_rules.specs.declared.ending.Ending.TheVariants.{Bye, Gone}
-use Rattle.jup_rules.specs.declared.next.Awaits.{Awaits}
-use Rattle.jup_rules.specs.declared.next.Awaits.TheVariants.{Gate, Pongs, Nothing}
-use Rattle.jup_rules.specs.declared.next.Incoming.{Incoming}
-use Rattle.jup_rules.specs.declared.next.Next.{Next}
-use Rattle.jup_rules.specs.declared.next.Next.TheVariants.{Line as NextLine, Take, End}
-use Rattle.jup_rules.specs.declared.ring.Ring.{Ring}
-use Rattle.jup_rules.specs.declared.ring.Ring.TheVariants.{All, Own}
 use Rattle.jup_rules.specs.Endings.{ending_of}
 use Rattle.jup_rules.specs.Messages.{HasSaid, IsRefused}
-use Rattle.jup_rules.specs.Keepers.{Keeper}
+use Rattle.jup_rules.specs.declared.ends.Ending.{Ending}
+use Rattle.jup_rules.specs.declared.ends.Ending.TheVariants.{Bye, Gone}
+use Rattle.jup_rules.specs.declared.ends.SessionFault.{SessionFault}
+use Rattle.jup_rules.specs.declared.ends.SessionFault.TheVariants.{Hub, GateShut}
+use Rattle.jup_rules.specs.declared.session.Awaits.{Awaits}
+use Rattle.jup_rules.specs.declared.session.Awaits.TheVariants.{Gate, Pongs, Nothing}
+use Rattle.jup_rules.specs.declared.session.Incoming.{Incoming}
+use Rattle.jup_rules.specs.declared.session.Next.{Next}
+use Rattle.jup_rules.specs.declared.session.Next.TheVariants.{Line as NextLine, Take, End}
+use Rattle.jup_rules.specs.declared.session.Ring.{Ring}
+use Rattle.jup_rules.specs.declared.session.Ring.TheVariants.{All, Own}
+use Rattle.jup_rules.specs.declared.session.Said.{Said}
+use Rattle.jup_rules.specs.declared.session.Said.TheVariants.{Up as SaysUp, Bye as SaysBye}
+
+-- the lines that are held of a message, unless one was misplaced, and how many edits the site has sent
+abbrev pub Keeper : Type 0
+Keeper = Option (List Line) × ℕ
 
 -- whether a site says an edit
 abbrev pub says_edit : Said → Bool

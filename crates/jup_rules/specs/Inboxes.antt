@@ -1,8 +1,8 @@
 -- What a link has brought, and its reader has not taken.
 use Rattle.std.specs.Prelude.{◌≡◌, ◌≤◌, ℕ, List, [], ◌++◌, length, take, Option, Some, None}
-use Rattle.jup_rules.specs.declared.inbox.LinkEnd.{LinkEnd}
-use Rattle.jup_rules.specs.declared.inbox.Given.{Given}
-use Rattle.jup_rules.specs.declared.inbox.Given.TheVariants.{Bytes, End}
+use Rattle.jup_rules.specs.declared.client.LinkEnd.{LinkEnd}
+use Rattle.jup_rules.specs.declared.client.Given.{Given}
+use Rattle.jup_rules.specs.declared.client.Given.TheVariants.{Bytes, End}
 
 -- the bytes that wait, and how the link ended, if it has
 abbrev pub Arrived : Type 0

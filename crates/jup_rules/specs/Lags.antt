@@ -1,10 +1,13 @@
--- How far a site is behind: the operations of others that it has not acknowledged.
-use Rattle.std.specs.Prelude.{◌≡◌, ℕ, ◌+◌, ◌-◌, min, List, [], ◌∷◌, take, drop, length, sum}
+-- How far a site is behind, the operations of others that it has not acknowledged, and what one message may cost the others.
+use Rattle.std.specs.Prelude.{◌≡◌, ℕ, ◌+◌, ◌-◌, min, List, [], ◌∷◌, take, drop, length, sum, ◌*◌, if◌then◌else◌, nat_lt}
+use Rattle.jup_limits.specs.Limits.{most_behind}
 use Rattle.jup_batch.specs.BatchBoards.{BoardBatch}
-use Rattle.jup_star.specs.declared.messages.Up.{Up}
-use Rattle.jup_star.specs.declared.messages.Up.TheVariants.{Op as UpOp, Ack as UpAck, Ping as UpPing}
 use Rattle.jup_star.specs.declared.messages.Down.{Down}
 use Rattle.jup_star.specs.declared.messages.Down.TheVariants.{Op as DownOp, Ack as DownAck, Pong as DownPong}
+use Rattle.jup_star.specs.declared.messages.Up.{Up}
+use Rattle.jup_star.specs.declared.messages.Up.TheVariants.{Op as UpOp, Ack as UpAck, Ping as UpPing}
+use Rattle.jup_rules.specs.declared.behind.Admission.{Admission}
+use Rattle.jup_rules.specs.declared.behind.Admission.TheVariants.{Light, Heavy, Long, Costly, FarBehind}
 
 -- What is kept of a site: how many operations it knows of those that the server has taken. Some messages were fetched for it, and it has not acknowledged
 -- them: how many operations each has. And how many messages it acknowledged, and how many of these were not fetched yet
@@ -46,3 +49,32 @@ abbrev pub brought_by : Down BoardBatch → List ℕ
 brought_by (DownOp msg) = length msg.op ∷ []
 brought_by (DownAck count) = []
 brought_by (DownPong number) = []
+
+-- transforms that a message may cost and still be light: some 0.3 ms
+abbrev pub light_transforms : ℕ
+light_transforms = 8192
+
+-- those of a message that is heavy and not yet long: some 4 ms
+abbrev pub heavy_transforms : ℕ
+heavy_transforms = 131072
+
+-- those of a message that is long and not yet costly: some 35 ms
+abbrev pub long_transforms : ℕ
+long_transforms = 1048576
+
+-- what becomes of a message that costs so many transforms
+abbrev pub admission_at : ℕ → Admission
+admission_at cost = if nat_lt long_transforms cost then Costly else (if nat_lt heavy_transforms cost then Long else (if nat_lt light_transforms cost then Heavy else Light))
+
+-- what becomes of a message of so many operations whose site is so many behind: it costs a transform for each pair of them
+abbrev pub admission_of : ℕ → ℕ → Admission
+admission_of operations behind = if nat_lt most_behind behind then FarBehind else admission_at (operations * behind)
+
+-- microseconds that a session rests after a take of so many: half a millisecond after a long one.
+-- After a costly one it rests seven times as long as that took, and at most two seconds
+abbrev pub rest_of : Admission → ℕ → ℕ
+rest_of Light took = 0
+rest_of Heavy took = 0
+rest_of Long took = 500
+rest_of Costly took = min (7 * took) 2000000
+rest_of FarBehind took = 0

@@ -1,5 +1,3 @@
-pub mod Batches
-pub mod Begun
 pub mod Bounds
 pub mod Causes
 pub mod ClientEnds
@@ -8,12 +6,8 @@ pub mod DaemonEnds
 pub mod Endings
 pub mod Gates
 pub mod Inboxes
-pub mod Keepers
 pub mod Lags
 pub mod Messages
 pub mod Numbers
 pub mod Requests
-pub mod Shares
 pub mod Texts
-pub mod Typed
-pub mod Welcomes

@@ -11,10 +11,10 @@ use Rattle.jup_gather.specs.Gathering.{pieces_of}
 use Rattle.jup_gather.specs.Ways.{up_piece, down_piece}
 use Rattle.jup_gather.specs.declared.gathered.Gathered.{Gathered}
 use Rattle.jup_gather.specs.declared.gathered.Gathered.TheVariants.{Held, Plain}
-use Rattle.jup_rules.specs.declared.said.Said.{Said}
-use Rattle.jup_rules.specs.declared.said.Said.TheVariants.{Up as SaysUp, Bye}
-use Rattle.jup_rules.specs.declared.faults.SessionFault.{SessionFault}
-use Rattle.jup_rules.specs.declared.faults.SessionFault.TheVariants.{NoMemory, Misplaced}
+use Rattle.jup_rules.specs.declared.session.Said.{Said}
+use Rattle.jup_rules.specs.declared.session.Said.TheVariants.{Up as SaysUp, Bye}
+use Rattle.jup_rules.specs.declared.ends.SessionFault.{SessionFault}
+use Rattle.jup_rules.specs.declared.ends.SessionFault.TheVariants.{NoMemory, Misplaced}
 
 -- what a site says
 abbrev pub said_piece : Said → Piece

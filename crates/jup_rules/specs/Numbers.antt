@@ -2,12 +2,12 @@
 use Rattle.std.specs.Prelude.{ℕ}
 use Rattle.jup_hub.specs.Faults.{hub_fault_number}
 use Rattle.jup_wire.specs.FaultNumbers.{wire_fault_number}
-use Rattle.jup_rules.specs.declared.faults.SessionFault.{SessionFault}
-use Rattle.jup_rules.specs.declared.faults.SessionFault.TheVariants.{Hub, Wire, NoMemory, Misplaced, ReadsSpent, GateShut, ReadFailed, WriteFailed, FarBehind}
-use Rattle.jup_rules.specs.declared.client_end.ClientEnd.{ClientEnd}
-use Rattle.jup_rules.specs.declared.client_end.ClientEnd.TheVariants.{Fault as ClientFault, NoMemory as ClientNoMemory, Unconnected, ReadFailed as ClientReadFailed, WriteFailed as ClientWriteFailed}
-use Rattle.jup_rules.specs.declared.daemon_end.DaemonEnd.{DaemonEnd}
-use Rattle.jup_rules.specs.declared.daemon_end.DaemonEnd.TheVariants.{Words, Layout, LongLayout, Io, NoMemory as DaemonNoMemory, Held}
+use Rattle.jup_rules.specs.declared.ends.SessionFault.{SessionFault}
+use Rattle.jup_rules.specs.declared.ends.SessionFault.TheVariants.{Hub, Wire, NoMemory, Misplaced, ReadsSpent, GateShut, ReadFailed, WriteFailed, FarBehind}
+use Rattle.jup_rules.specs.declared.ends.ClientEnd.{ClientEnd}
+use Rattle.jup_rules.specs.declared.ends.ClientEnd.TheVariants.{Fault as ClientFault, NoMemory as ClientNoMemory, Unconnected, ReadFailed as ClientReadFailed, WriteFailed as ClientWriteFailed}
+use Rattle.jup_rules.specs.declared.ends.DaemonEnd.{DaemonEnd}
+use Rattle.jup_rules.specs.declared.ends.DaemonEnd.TheVariants.{Words, Layout, LongLayout, Io, NoMemory as DaemonNoMemory, Held}
 
 abbrev pub session_fault_number : SessionFault → ℕ
 session_fault_number (Hub fault) = hub_fault_number fault

@@ -1,11 +1,22 @@
 -- What a user asks for: a word or a command is one line, and a batch is a line and one more for each of its commands.
-use Rattle.std.specs.Prelude.{◌≡◌, ◌≢◌, ◌≤◌, ◌+◌, ℕ, ◌⊎◌, List, [], ◌∷◌, ◌++◌, length, map, Option, Some, None, codes}
 use Rattle.std.specs.List.{AllByRecursion}
+use Rattle.std.specs.Prelude.{ℕ, List, Option, if◌then◌else◌, Some, None, ◌≡◌, ◌≢◌, ◌≤◌, ◌+◌, ◌⊎◌, [], ◌∷◌, ◌++◌, length, map, codes}
 use Rattle.jup_window.specs.declared.commands.Command.{Command}
 use Rattle.jup_text.specs.Commands.{command_text, batch_text, IsCommand, IsBatchCount}
-use Rattle.jup_rules.specs.declared.request.Request.{Request}
-use Rattle.jup_rules.specs.declared.request.Request.TheVariants.{Edit, Batch, Sync, Show, Quit, Bad}
-use Rattle.jup_rules.specs.Begun.{Begun}
+use Rattle.jup_rules.specs.declared.batch_part.BatchPart.{BatchPart}
+use Rattle.jup_rules.specs.declared.client.Request.{Request}
+use Rattle.jup_rules.specs.declared.client.Request.TheVariants.{Edit, Batch, Sync, Show, Quit, Bad}
+
+-- how many of its lines are missing, and its commands so far, if each line was one
+abbrev pub Begun : Type 0
+Begun = ℕ × Option (List Command)
+
+abbrev pub begun : BatchPart → Begun
+begun part = (part.missing, if part.is_bad then None else Some part.commands.items)
+
+abbrev pub held : Option BatchPart → Option Begun
+held None = None
+held (Some part) = Some (begun part)
 
 -- the lines of a request
 abbrev pub request_lines : Request → List (List ℕ)

@@ -1,11 +1,22 @@
--- What the programs print.
-use Rattle.std.specs.Prelude.{ℕ, List, [], ◌∷◌, ◌++◌, length, codes, decimal}
+-- What a user types, and what the programs print.
+use Rattle.std.specs.Prelude.{ℕ, nat_lt, List, [], ◌∷◌, ◌++◌, length, Option, Some, None, if◌then◌else◌, codes, decimal}
 use Rattle.jup_window.specs.Boards.{Windows}
 use Rattle.jup_text.specs.Boards.{board_text}
 use Rattle.jup_text.specs.Edits.{edits_text}
 use Rattle.jup_star.specs.StarCalls.{BoardStar}
-use Rattle.jup_rules.specs.declared.client_state.Told.{Told}
-use Rattle.jup_rules.specs.declared.client_state.Told.TheVariants.{Site, Made, Refused, Synced, Board, Bye, BadCommand}
+use Rattle.jup_rules.specs.Bounds.{longest_command}
+use Rattle.jup_rules.specs.declared.client.Told.{Told}
+use Rattle.jup_rules.specs.declared.client.Told.TheVariants.{Site, Made, Refused, Synced, Board, Bye, BadCommand}
+
+-- the line with one more byte: none once it has more than a line of a user may have
+abbrev pub typed_on : Option (List ℕ) → ℕ → Option (List ℕ)
+typed_on None byte = None
+typed_on (Some bytes) byte = if nat_lt (length bytes) longest_command then Some (bytes ++ byte ∷ []) else None
+
+-- what is read of it
+abbrev pub text_of : Option (List ℕ) → List ℕ
+text_of None = []
+text_of (Some bytes) = bytes
 
 -- words, as a line of their own
 abbrev pub line_of : List ℕ → List ℕ

@@ -1,4 +1,4 @@
-//! A batch of commands that has begun.
+//! A batch of commands that has begun. It has a file of its own, since a struct with facts imports each `ghost use` of its file.
 ghost use Rattle.std.specs.Prelude.{◌≤◌, ◌+◌};
 ghost use Rattle.std.specs.Vec.{vec_len, vec_capacity};
 

@@ -1,12 +1,20 @@
-//! The command lines of the daemon and of the client.
-ghost use Rattle.std.specs.Prelude.{◌≤◌, IfOk, IfSome};
+//! Words for people: the command lines of the programs, the lines that a user types, and what the programs print.
+ghost use Rattle.std.specs.Prelude.{◌≤◌, IfOk, IfSome, ◌≡◌, [], Some, OnOk, OnErr, IsTrue, ◌↔◌, ◌++◌, ◌∷◌, decimal};
 ghost use Rattle.jup_limits.specs.Limits.{highest_limit};
 ghost use Rattle.jup_rules.specs.Bounds.{most_sessions};
+ghost use Rattle.jup_rules.specs.Texts as texts;
+ghost use Rattle.jup_rules.specs.Texts.{typed_on, text_of};
 
+use crate::Told;
 use clap::error::ErrorKind;
 use clap::{Arg, ArgAction, ArgMatches, Command, Error, value_parser};
 use jup_limits::HIGHEST_LIMIT;
+use jup_star::Star;
+use jup_text::{write_board, write_edit};
+use jup_window::Board;
+use jup_xform::NoMemory;
 use std::alloc::{AllocError, Global};
+use std::marker::Model;
 
 /// Sessions that a daemon may be asked to serve.
 const MOST_SESSIONS: u32 = 1_024;
@@ -174,5 +182,162 @@ fn within(number: Option<u32>, most: u32) -> Option<u32>
         Some(number)
     } else {
         None
+    }
+}
+
+/// The longest line, without its line feed.
+const LONGEST_TYPED: usize = 4_096;
+
+/// A line of a user, byte by byte. Contracts see its bytes, and nothing once it has more than 4,096.
+#[derive(Drop)]
+pub struct TypedLine {
+    bytes: Vec<u8>,
+    is_long: bool,
+}
+
+impl Model for TypedLine {
+    ghost use Rattle.std.specs.Prelude.{ℕ, List, Option, Some, None, if◌then◌else◌};
+
+    ghost Value = { Option (List ℕ) };
+
+    ghost view = { λ l. if l.is_long then None else Some l.bytes.items };
+}
+
+impl TypedLine {
+    /// An empty line.
+    pub fn new(alloc: Global) -> TypedLine
+        ensures { result ≡ Some [] }
+    {
+        TypedLine {
+            bytes: Vec::new(alloc),
+            is_long: false,
+        }
+    }
+
+    /// Begins a new one.
+    pub fn clear(&mut self)
+        ensures { self.new ≡ Some [] }
+    {
+        self.bytes.clear();
+        self.is_long = false;
+    }
+
+    /// Whether no byte has come.
+    pub fn is_empty(&self) -> bool
+        ensures { IsTrue result ↔ (self.now ≡ Some []) }
+    {
+        !self.is_long && self.bytes.is_empty()
+    }
+
+    /// One more byte.
+    pub fn push(&mut self, byte: u8) -> Result<(), NoMemory>
+        ensures ok { OnOk result (self.new ≡ typed_on self.old byte) }
+        ensures err { OnErr result (self.new ≡ self.old) }
+    {
+        if self.bytes.len() >= LONGEST_TYPED {
+            self.is_long = true;
+            return Ok(());
+        }
+        match self.bytes.push(byte) {
+            Ok(()) => Ok(()),
+            Err(_) => Err(NoMemory),
+        }
+    }
+
+    /// What is read of it: one that is too long is read as an empty one, which is no command either.
+    pub fn text(&self) -> &[u8]
+        ensures { result.now ≡ text_of self.now }
+    {
+        if self.is_long {
+            return &[];
+        }
+        self.bytes.as_slice()
+    }
+}
+
+/// What a client prints for its user, each line with its line feed.
+pub fn told_text(alloc: Global, told: &Told, board: &Board) -> Result<Vec<u8>, NoMemory>
+    ensures { IfOk result (λ text. text.items ≡ texts.told_text told.now board.now) }
+{
+    let mut text = Vec::new(alloc);
+    match told {
+        Told::Site(number) => append_number(alloc, "site", *number as usize, &mut text)?,
+        Told::Made(edits) => {
+            append(b"made ", &mut text)?;
+            write_edit(alloc, edits, &mut text)?;
+            append(b"\n", &mut text)?;
+        }
+        Told::Refused(number) => append_number(alloc, "refused", *number as usize, &mut text)?,
+        Told::Synced => append(b"synced\n", &mut text)?,
+        Told::Board => write_board(alloc, board, &mut text)?,
+        Told::Bye => append(b"bye\n", &mut text)?,
+        Told::BadCommand => append(b"bad command\n", &mut text)?,
+    }
+    Ok(text)
+}
+
+/// What a daemon prints after its last session: how many edits were taken, and the board.
+pub fn report_text(alloc: Global, star: &Star) -> Result<Vec<u8>, NoMemory>
+    ensures { IfOk result (λ text. text.items ≡ texts.report_text star.now) }
+{
+    let mut text = Vec::new(alloc);
+    append_number(alloc, "order", star.order().len(), &mut text)?;
+    write_board(alloc, star.board(), &mut text)?;
+    Ok(text)
+}
+
+fn append(bytes: &[u8], text: &mut Vec<u8>) -> Result<(), NoMemory>
+    ensures { OnOk result (text.new.items ≡ text.old.items ++ bytes.now) }
+{
+    text.extend_from_slice(bytes).map_err(|_| NoMemory)
+}
+
+fn append_number(
+    alloc: Global,
+    word: &str,
+    number: usize,
+    text: &mut Vec<u8>,
+) -> Result<(), NoMemory>
+    ensures { OnOk result (text.new.items ≡ text.old.items ++ (word.now ++ 32 ∷ (decimal number ++ 10 ∷ []))) }
+{
+    let Ok(line) = format!(in alloc; "{word} {number}\n") else {
+        return Err(NoMemory);
+    };
+    append(line.as_bytes(), text)
+}
+
+/// What went wrong if a fault has this number, in the words of its own error type. The numbers 11, 22, 43 and 71 have several faults
+/// each, and their words fit each. A peer gets the number alone.
+pub fn cause_of(number: u32) -> &'static str {
+    match number {
+        8 => "no memory",
+        10 => "the id is taken",
+        11 => "there are too many already",
+        12 => "0 is no id",
+        13 => "the value is not within the bounds",
+        20 => "not the next operation",
+        21 => "not a count that may be acknowledged",
+        22 => "not the next name of the site",
+        23 => "the operation does not fit the board",
+        24 => "the operation is no edit",
+        25 => "the site has stopped",
+        30 => "all links are taken",
+        31 => "all site numbers are spent",
+        32 => "the order is full",
+        33 => "the site has no link",
+        34 => "the count of events is spent",
+        40 => "no line of the protocol",
+        41 => "256 bytes without the end of a line",
+        42 => "a greeting of another version",
+        43 => "the bytes end too early",
+        44 => "a line out of its place",
+        45 => "the item is not named as its place asks",
+        46 => "all reads were made",
+        50 => "the limit is not 1 to 16,777,216",
+        51 => "not a number or a board of this site",
+        60 => "the gate stayed shut",
+        70 => "a read failed",
+        71 => "a write failed, or the site is too far behind",
+        _ => "a fault that is not known here",
     }
 }

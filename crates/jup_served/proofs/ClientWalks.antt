@@ -3,10 +3,10 @@ use Rattle.std.proofs.Common.{◌≡◌, inl, inr, List, [], ◌∷◌, ◌++◌
 use Rattle.std.proofs.lemmas.List.{map-append}
 use Rattle.jup_star.specs.declared.messages.Up.TheVariants.{Ping as UpPing}
 use Rattle.jup_star.specs.SiteCalls.{edit_reply, site_edited, deliver_reply, site_delivered}
-use Rattle.jup_rules.specs.declared.client_end.ClientEnd.TheVariants.{NoMemory}
-use Rattle.jup_rules.specs.declared.client_state.ClientState.{ClientState}
-use Rattle.jup_rules.specs.declared.said.Said.{Said}
-use Rattle.jup_rules.specs.declared.said.Said.TheVariants.{Up as SaysUp}
+use Rattle.jup_rules.specs.declared.ends.ClientEnd.TheVariants.{NoMemory}
+use Rattle.jup_rules.specs.declared.client.ClientState.{ClientState}
+use Rattle.jup_rules.specs.declared.session.Said.{Said}
+use Rattle.jup_rules.specs.declared.session.Said.TheVariants.{Up as SaysUp}
 use Rattle.jup_honest.specs.Connections.{Step, Edit, Deliver, Ping, Called, Connection, sent_as_made, sent_as_handed, after, through}
 use Rattle.jup_honest.specs.SiteRuns.{SiteRun, start, now}
 use Rattle.jup_socket.proofs.ClientSteps.{edit_step, deliver_step}

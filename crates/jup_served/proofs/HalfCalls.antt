@@ -10,8 +10,8 @@ use Rattle.jup_star.specs.declared.calls.StarReply.{StarReply}
 use Rattle.jup_star.specs.declared.calls.StarReply.TheVariants.{Joined as JoinedReply, Taken, Fetched, Left}
 use Rattle.jup_hub.specs.declared.view.HubEvent.{HubEvent}
 use Rattle.jup_hub.specs.Histories.{calls_by}
-use Rattle.jup_rules.specs.declared.said.Said.{Said}
-use Rattle.jup_rules.specs.declared.said.Said.TheVariants.{Up as SaysUp, Bye as SaysBye}
+use Rattle.jup_rules.specs.declared.session.Said.{Said}
+use Rattle.jup_rules.specs.declared.session.Said.TheVariants.{Up as SaysUp, Bye as SaysBye}
 use Rattle.jup_rules.specs.Messages.{down_lines}
 use Rattle.jup_session.specs.Hearings.{AreTakesOf}
 use Rattle.jup_session.specs.Forwards.{brought, lines_brought, IsFetchFor, AreFetchesFor}

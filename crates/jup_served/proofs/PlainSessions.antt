@@ -22,14 +22,13 @@ use Rattle.jup_wire.specs.Streams.{Progress, IsPart, HasRead}
 use Rattle.jup_wire.proofs.OneMore.{all-append}
 use Rattle.jup_gather.specs.Pieces.{IsPiece}
 use Rattle.jup_gather.proofs.Runs.{at_first}
-use Rattle.jup_rules.specs.declared.ending.Ending.TheVariants.{Gone}
-use Rattle.jup_rules.specs.declared.ending.Stop.TheVariants.{End, Fault}
-use Rattle.jup_rules.specs.declared.faults.SessionFault.{SessionFault}
-use Rattle.jup_rules.specs.declared.said.Said.{Said}
-use Rattle.jup_rules.specs.declared.said.Said.TheVariants.{Up as SaysUp}
+use Rattle.jup_rules.specs.declared.ends.Ending.TheVariants.{Gone}
+use Rattle.jup_rules.specs.declared.ends.Stop.TheVariants.{End, Fault}
+use Rattle.jup_rules.specs.declared.ends.SessionFault.{SessionFault}
+use Rattle.jup_rules.specs.declared.session.Said.{Said}
+use Rattle.jup_rules.specs.declared.session.Said.TheVariants.{Up as SaysUp}
 use Rattle.jup_rules.specs.Endings.{last_line}
-use Rattle.jup_rules.specs.Gates.{says_edit, counted, HasHeard}
-use Rattle.jup_rules.specs.Keepers.{Keeper}
+use Rattle.jup_rules.specs.Gates.{says_edit, counted, HasHeard, Keeper}
 use Rattle.jup_rules.specs.Messages.{said_piece}
 use Rattle.jup_stream.specs.Sources.{Sourced, HandsOn, Stops}
 use Rattle.jup_session.specs.ExactSessions.{IsFresh, IsServed, Served}

@@ -16,8 +16,8 @@ use Rattle.jup_wire.specs.declared.line.Line.TheVariants as line
 use Rattle.jup_wire.specs.Grammar.{HasSpelling, line_bytes}
 use Rattle.jup_wire.specs.Streams.{HasRead}
 use Rattle.jup_layout.specs.BoardLines.{board_lines}
-use Rattle.jup_rules.specs.declared.ending.Ending.{Ending}
-use Rattle.jup_rules.specs.declared.ending.Ending.TheVariants.{Bye, Gone, Fault}
+use Rattle.jup_rules.specs.declared.ends.Ending.{Ending}
+use Rattle.jup_rules.specs.declared.ends.Ending.TheVariants.{Bye, Gone, Fault}
 use Rattle.jup_rules.specs.Endings.{last_line}
 use Rattle.jup_session.specs.Sessions.{IsCallFor}
 use Rattle.jup_session.specs.Forwards.{IsFetchFor}

@@ -18,11 +18,11 @@ use Rattle.jup_wire.specs.declared.line.Line.{Line}
 use Rattle.jup_wire.specs.Streams.{Progress, HasRead}
 use Rattle.jup_wire.proofs.OneMore.{all-append}
 use Rattle.jup_gather.proofs.Runs.{at_first}
-use Rattle.jup_rules.specs.declared.ending.Ending.{Ending}
-use Rattle.jup_rules.specs.declared.said.Said.{Said}
-use Rattle.jup_rules.specs.declared.said.Said.TheVariants.{Up as SaysUp}
-use Rattle.jup_rules.specs.declared.next.Incoming.{Incoming}
-use Rattle.jup_rules.specs.Keepers.{Keeper}
+use Rattle.jup_rules.specs.declared.ends.Ending.{Ending}
+use Rattle.jup_rules.specs.declared.session.Said.{Said}
+use Rattle.jup_rules.specs.declared.session.Said.TheVariants.{Up as SaysUp}
+use Rattle.jup_rules.specs.declared.session.Incoming.{Incoming}
+use Rattle.jup_rules.specs.Gates.{Keeper}
 use Rattle.jup_rules.specs.Messages.{HasSaid}
 use Rattle.jup_stream.specs.Sources.{Sourced}
 use Rattle.jup_session.specs.Gates.{HasCalled}

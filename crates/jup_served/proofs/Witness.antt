@@ -30,12 +30,12 @@ use Rattle.jup_session.specs.Forwards.{lines_brought}
 use Rattle.jup_layout.specs.BoardLines.{board_lines}
 use Rattle.jup_batch.specs.BatchBoards.{edit_of}
 use Rattle.jup_star.specs.SiteCalls.{BoardSite, site_edited}
-use Rattle.jup_rules.specs.declared.client_state.Answer.{Answer}
-use Rattle.jup_rules.specs.declared.client_state.Heard.{Heard}
-use Rattle.jup_rules.specs.declared.client_state.Told.TheVariants as told
-use Rattle.jup_rules.specs.declared.client_state.ClientState.{ClientState}
-use Rattle.jup_rules.specs.declared.said.Said.{Said}
-use Rattle.jup_rules.specs.declared.said.Said.TheVariants.{Up as SaysUp}
+use Rattle.jup_rules.specs.declared.client.Answer.{Answer}
+use Rattle.jup_rules.specs.declared.client.Heard.{Heard}
+use Rattle.jup_rules.specs.declared.client.Told.TheVariants as told
+use Rattle.jup_rules.specs.declared.client.ClientState.{ClientState}
+use Rattle.jup_rules.specs.declared.session.Said.{Said}
+use Rattle.jup_rules.specs.declared.session.Said.TheVariants.{Up as SaysUp}
 use Rattle.jup_served.specs.ClientRuns.{IsClientRun}
 use Rattle.jup_served.specs.Ended.{Ended}
 use Rattle.jup_served.specs.Moments.{IsServedRun}

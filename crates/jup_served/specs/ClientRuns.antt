@@ -1,12 +1,12 @@
 -- A client of this product through the run of its site.
 use Rattle.std.specs.Prelude.{◌≡◌, List, [], ◌∷◌, ◌++◌, option_to_list, Ok}
 use Rattle.jup_star.specs.declared.messages.Up.TheVariants.{Ping as UpPing}
-use Rattle.jup_rules.specs.declared.client_state.Answer.{Answer}
-use Rattle.jup_rules.specs.declared.client_state.Heard.{Heard}
-use Rattle.jup_rules.specs.declared.client_state.ClientState.{ClientState}
-use Rattle.jup_rules.specs.declared.request.Request.TheVariants.{Sync}
-use Rattle.jup_rules.specs.declared.said.Said.{Said}
-use Rattle.jup_rules.specs.declared.said.Said.TheVariants.{Up as SaysUp}
+use Rattle.jup_rules.specs.declared.client.Answer.{Answer}
+use Rattle.jup_rules.specs.declared.client.Heard.{Heard}
+use Rattle.jup_rules.specs.declared.client.ClientState.{ClientState}
+use Rattle.jup_rules.specs.declared.client.Request.TheVariants.{Sync}
+use Rattle.jup_rules.specs.declared.session.Said.{Said}
+use Rattle.jup_rules.specs.declared.session.Said.TheVariants.{Up as SaysUp}
 use Rattle.jup_rules.specs.Clients.{AnswersEdit, Answers, Delivers}
 use Rattle.jup_honest.specs.Connections.{Step, Edit, Deliver, Ping, Called}
 

@@ -7,7 +7,7 @@ use Rattle.jup_hub.specs.declared.view.HubEvent.{HubEvent}
 use Rattle.jup_hub.specs.declared.view.View.{View}
 use Rattle.jup_hub.specs.Histories.{is_among}
 use Rattle.jup_hub.specs.Knowledge.{tallies}
-use Rattle.jup_rules.specs.declared.ending.Ending.{Ending}
+use Rattle.jup_rules.specs.declared.ends.Ending.{Ending}
 use Rattle.jup_stream.specs.Sources.{Sourced}
 use Rattle.jup_session.specs.Sessions.{IsCallFor, IsSession}
 use Rattle.jup_session.specs.ExactSessions.{IsFresh, IsServed, Served, IsExact}

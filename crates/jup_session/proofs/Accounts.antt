@@ -13,11 +13,10 @@ use Rattle.jup_wire.specs.Streams.{HasRead, Progress}
 use Rattle.jup_wire.proofs.Unique.{one_read}
 use Rattle.jup_gather.specs.Pieces.{Piece}
 use Rattle.jup_gather.proofs.OneGathering.{one_gathering}
-use Rattle.jup_rules.specs.declared.ending.Ending.{Ending}
-use Rattle.jup_rules.specs.declared.said.Said.{Said}
-use Rattle.jup_rules.specs.declared.said.Said.TheVariants.{Up as SaysUp, Bye}
-use Rattle.jup_rules.specs.Gates.{HasHeard, counted, says_edit}
-use Rattle.jup_rules.specs.Keepers.{Keeper}
+use Rattle.jup_rules.specs.declared.ends.Ending.{Ending}
+use Rattle.jup_rules.specs.declared.session.Said.{Said}
+use Rattle.jup_rules.specs.declared.session.Said.TheVariants.{Up as SaysUp, Bye}
+use Rattle.jup_rules.specs.Gates.{HasHeard, counted, says_edit, Keeper}
 use Rattle.jup_gather.specs.Ways.{up_in, up_way}
 use Rattle.jup_rules.specs.Messages.{said_piece}
 use Rattle.jup_stream.specs.Sources.{Sourced, HandsOn}

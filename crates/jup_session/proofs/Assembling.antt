@@ -10,8 +10,8 @@ use Rattle.jup_hub.specs.Knowledge.{tally, after_split, split_from, joined_with}
 use Rattle.jup_wire.specs.declared.line.Line.{Line}
 use Rattle.jup_wire.specs.declared.line.Line.TheVariants.{Error}
 use Rattle.jup_wire.specs.Grammar.{line_bytes}
-use Rattle.jup_rules.specs.declared.ending.Ending.{Ending}
-use Rattle.jup_rules.specs.declared.faults.SessionFault.TheVariants.{NoMemory}
+use Rattle.jup_rules.specs.declared.ends.Ending.{Ending}
+use Rattle.jup_rules.specs.declared.ends.SessionFault.TheVariants.{NoMemory}
 use Rattle.jup_rules.specs.Endings.{ending_of, last_line, standing}
 use Rattle.jup_stream.specs.Puts.{Put, PutsLines, IsFlushed, WritesFront, fresh_put, puts_more}
 use Rattle.jup_stream.specs.Sources.{Sourced}

@@ -16,9 +16,9 @@ use Rattle.jup_hub.specs.declared.view.View.{View}
 use Rattle.jup_hub.specs.Histories.{entry}
 use Rattle.jup_hub.specs.Knowledge.{Called, ComesToAsk, having_seen}
 use Rattle.jup_hub.specs.Passes.{Made}
-use Rattle.jup_rules.specs.declared.ending.Ending.{Ending}
-use Rattle.jup_rules.specs.declared.faults.SessionFault.{SessionFault}
-use Rattle.jup_rules.specs.declared.faults.SessionFault.TheVariants.{Hub, WriteFailed}
+use Rattle.jup_rules.specs.declared.ends.Ending.{Ending}
+use Rattle.jup_rules.specs.declared.ends.SessionFault.{SessionFault}
+use Rattle.jup_rules.specs.declared.ends.SessionFault.TheVariants.{Hub, WriteFailed}
 use Rattle.jup_rules.specs.Messages.{down_lines}
 use Rattle.jup_stream.specs.Puts.{Put, PutsLines, puts_none, puts_more}
 use Rattle.jup_session.specs.Departures.{Departs}

@@ -10,10 +10,10 @@ use Rattle.jup_hub.specs.declared.view.View.{View}
 use Rattle.jup_hub.specs.Passes.{Made}
 use Rattle.jup_wire.specs.declared.line.Line.{Line}
 use Rattle.jup_wire.specs.declared.line.Line.TheVariants.{Hello}
-use Rattle.jup_rules.specs.declared.ending.Ending.{Ending}
-use Rattle.jup_rules.specs.declared.ending.Stop.{Stop}
-use Rattle.jup_rules.specs.declared.faults.SessionFault.{SessionFault}
-use Rattle.jup_rules.specs.declared.faults.SessionFault.TheVariants.{Hub, Misplaced, WriteFailed}
+use Rattle.jup_rules.specs.declared.ends.Ending.{Ending}
+use Rattle.jup_rules.specs.declared.ends.Stop.{Stop}
+use Rattle.jup_rules.specs.declared.ends.SessionFault.{SessionFault}
+use Rattle.jup_rules.specs.declared.ends.SessionFault.TheVariants.{Hub, Misplaced, WriteFailed}
 use Rattle.jup_rules.specs.Endings.{ending_of, ended_by, last_line}
 use Rattle.jup_stream.specs.Puts.{Put, PutsLines}
 use Rattle.jup_stream.specs.Sources.{Sourced, HandsOn, Stops}

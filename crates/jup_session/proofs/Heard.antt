@@ -14,16 +14,15 @@ use Rattle.jup_hub.specs.declared.view.View.{View}
 use Rattle.jup_hub.specs.Histories.{entry}
 use Rattle.jup_hub.specs.Knowledge.{Called}
 use Rattle.jup_wire.specs.declared.line.Line.{Line}
-use Rattle.jup_rules.specs.declared.said.Said.{Said}
-use Rattle.jup_rules.specs.declared.said.Said.TheVariants.{Up as SaysUp, Bye as SaysBye}
-use Rattle.jup_rules.specs.declared.ending.Ending.{Ending}
-use Rattle.jup_rules.specs.declared.faults.SessionFault.TheVariants.{NoMemory}
+use Rattle.jup_rules.specs.declared.session.Said.{Said}
+use Rattle.jup_rules.specs.declared.session.Said.TheVariants.{Up as SaysUp, Bye as SaysBye}
+use Rattle.jup_rules.specs.declared.ends.Ending.{Ending}
+use Rattle.jup_rules.specs.declared.ends.SessionFault.TheVariants.{NoMemory}
 use Rattle.jup_rules.specs.Endings.{ending_of}
-use Rattle.jup_rules.specs.declared.next.Incoming.{Incoming}
-use Rattle.jup_rules.specs.declared.next.Next.TheVariants.{Line as NextLine, Take as NextTake}
-use Rattle.jup_rules.specs.declared.ring.Ring.{Ring}
-use Rattle.jup_rules.specs.Gates.{HasHeard, Leads, outcome}
-use Rattle.jup_rules.specs.Keepers.{Keeper}
+use Rattle.jup_rules.specs.declared.session.Incoming.{Incoming}
+use Rattle.jup_rules.specs.declared.session.Next.TheVariants.{Line as NextLine, Take as NextTake}
+use Rattle.jup_rules.specs.declared.session.Ring.{Ring}
+use Rattle.jup_rules.specs.Gates.{HasHeard, Leads, outcome, Keeper}
 use Rattle.jup_stream.specs.Sources.{Sourced, HandsOn}
 use Rattle.jup_stream.proofs.HowRead.{hands_none, hands_more}
 use Rattle.jup_session.specs.Gates.{HasCalled, followed_by, IsHandled}

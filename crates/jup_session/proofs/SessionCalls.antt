@@ -21,10 +21,10 @@ use Rattle.jup_hub.specs.Faults.{is_out_of_memory}
 use Rattle.jup_hub.specs.Histories.{entry}
 use Rattle.jup_hub.specs.Knowledge.{tally, tallies, after_split, split_from, joined_with, having_seen, Called, ComesToAsk, IsSpent}
 use Rattle.jup_hub.specs.Passes.{Made}
-use Rattle.jup_rules.specs.declared.ending.Ending.{Ending}
-use Rattle.jup_rules.specs.declared.next.Awaits.TheVariants.{Gate, Pongs}
-use Rattle.jup_rules.specs.declared.next.Incoming.{Incoming}
-use Rattle.jup_rules.specs.declared.ring.Ring.{Ring}
+use Rattle.jup_rules.specs.declared.ends.Ending.{Ending}
+use Rattle.jup_rules.specs.declared.session.Awaits.TheVariants.{Gate, Pongs}
+use Rattle.jup_rules.specs.declared.session.Incoming.{Incoming}
+use Rattle.jup_rules.specs.declared.session.Ring.{Ring}
 use Rattle.jup_session.specs.Gates.{HasAnswered, HasToWait, HasCalled, followed_by, IsHandled}
 use Rattle.jup_session.specs.Sessions.{IsCallFor, AreCallsFor, AreTalliesFor, HasLeft, IsFull, SomeLeft, FollowsJoin, IsSession, Makes, Serves, Leaves, HasMadeNone, HasServed, IsJoinOf, Joins, BothServe}
 

@@ -14,9 +14,9 @@ use Rattle.jup_wire.specs.declared.line.Line.{Line}
 use Rattle.jup_wire.specs.declared.line.Line.TheVariants.{Hello}
 use Rattle.jup_wire.specs.Grammar.{line_bytes}
 use Rattle.jup_wire.specs.Streams.{HasRead}
-use Rattle.jup_rules.specs.declared.ending.Ending.{Ending}
-use Rattle.jup_rules.specs.declared.ending.Stop.{Stop}
-use Rattle.jup_rules.specs.declared.faults.SessionFault.TheVariants.{Hub, NoMemory, Misplaced, WriteFailed}
+use Rattle.jup_rules.specs.declared.ends.Ending.{Ending}
+use Rattle.jup_rules.specs.declared.ends.Stop.{Stop}
+use Rattle.jup_rules.specs.declared.ends.SessionFault.TheVariants.{Hub, NoMemory, Misplaced, WriteFailed}
 use Rattle.jup_rules.specs.Endings.{ending_of, ended_by, last_line, standing}
 use Rattle.jup_stream.specs.Puts.{WritesFront}
 use Rattle.jup_stream.specs.Sources.{Sourced, HandsOn, Stops}

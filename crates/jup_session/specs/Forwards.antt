@@ -10,9 +10,9 @@ use Rattle.jup_star.specs.declared.calls.StarReply.TheVariants.{Fetched}
 use Rattle.jup_hub.specs.declared.view.HubEvent.{HubEvent}
 use Rattle.jup_hub.specs.declared.view.View.{View}
 use Rattle.jup_wire.specs.declared.line.Line.{Line}
-use Rattle.jup_rules.specs.declared.ending.Ending.{Ending}
-use Rattle.jup_rules.specs.declared.faults.SessionFault.{SessionFault}
-use Rattle.jup_rules.specs.declared.faults.SessionFault.TheVariants.{Hub, NoMemory, WriteFailed, FarBehind}
+use Rattle.jup_rules.specs.declared.ends.Ending.{Ending}
+use Rattle.jup_rules.specs.declared.ends.SessionFault.{SessionFault}
+use Rattle.jup_rules.specs.declared.ends.SessionFault.TheVariants.{Hub, NoMemory, WriteFailed, FarBehind}
 use Rattle.jup_rules.specs.Endings.{ending_of, last_line}
 use Rattle.jup_rules.specs.Messages.{down_lines}
 use Rattle.jup_stream.specs.Puts.{Put, PutsLines}

@@ -7,11 +7,11 @@ use Rattle.jup_star.specs.declared.calls.StarReply.TheVariants.{Taken}
 use Rattle.jup_hub.specs.declared.fault.HubFault.{HubFault}
 use Rattle.jup_hub.specs.declared.view.View.{View}
 use Rattle.jup_hub.specs.Passes.{Made}
-use Rattle.jup_rules.specs.declared.ending.Ending.{Ending}
-use Rattle.jup_rules.specs.declared.next.Awaits.{Awaits}
-use Rattle.jup_rules.specs.declared.next.Awaits.TheVariants.{Gate, Pongs, Nothing}
-use Rattle.jup_rules.specs.declared.next.Incoming.{Incoming}
-use Rattle.jup_rules.specs.declared.ring.Ring.{Ring}
+use Rattle.jup_rules.specs.declared.ends.Ending.{Ending}
+use Rattle.jup_rules.specs.declared.session.Awaits.{Awaits}
+use Rattle.jup_rules.specs.declared.session.Awaits.TheVariants.{Gate, Pongs, Nothing}
+use Rattle.jup_rules.specs.declared.session.Incoming.{Incoming}
+use Rattle.jup_rules.specs.declared.session.Ring.{Ring}
 use Rattle.jup_rules.specs.Gates.{outcome, in_vain}
 
 -- the hub was called once, to take this for the site, and that is its answer; or it was not called

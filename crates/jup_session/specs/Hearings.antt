@@ -6,19 +6,18 @@ use Rattle.jup_star.specs.declared.calls.StarReply.TheVariants.{Taken}
 use Rattle.jup_hub.specs.declared.view.HubEvent.{HubEvent}
 use Rattle.jup_hub.specs.declared.view.View.{View}
 use Rattle.jup_wire.specs.declared.line.Line.{Line}
-use Rattle.jup_rules.specs.declared.said.Said.{Said}
-use Rattle.jup_rules.specs.declared.said.Said.TheVariants.{Up as SaysUp, Bye as SaysBye}
-use Rattle.jup_rules.specs.declared.faults.SessionFault.{SessionFault}
-use Rattle.jup_rules.specs.declared.faults.SessionFault.TheVariants.{NoMemory, ReadsSpent, FarBehind}
-use Rattle.jup_rules.specs.declared.ending.Ending.{Ending}
-use Rattle.jup_rules.specs.declared.ending.Ending.TheVariants.{Gone, Fault as EndsByFault}
-use Rattle.jup_rules.specs.declared.ending.Stop.{Stop}
-use Rattle.jup_rules.specs.declared.ending.Stop.TheVariants.{End, Fault}
-use Rattle.jup_rules.specs.declared.next.Incoming.{Incoming}
-use Rattle.jup_rules.specs.declared.next.Next.TheVariants.{Take as NextTake, End as NextEnd}
+use Rattle.jup_rules.specs.declared.session.Said.{Said}
+use Rattle.jup_rules.specs.declared.session.Said.TheVariants.{Up as SaysUp, Bye as SaysBye}
+use Rattle.jup_rules.specs.declared.ends.SessionFault.{SessionFault}
+use Rattle.jup_rules.specs.declared.ends.SessionFault.TheVariants.{NoMemory, ReadsSpent, FarBehind}
+use Rattle.jup_rules.specs.declared.ends.Ending.{Ending}
+use Rattle.jup_rules.specs.declared.ends.Ending.TheVariants.{Gone, Fault as EndsByFault}
+use Rattle.jup_rules.specs.declared.ends.Stop.{Stop}
+use Rattle.jup_rules.specs.declared.ends.Stop.TheVariants.{End, Fault}
+use Rattle.jup_rules.specs.declared.session.Incoming.{Incoming}
+use Rattle.jup_rules.specs.declared.session.Next.TheVariants.{Take as NextTake, End as NextEnd}
 use Rattle.jup_rules.specs.Endings.{ending_of}
-use Rattle.jup_rules.specs.Gates.{HasHeard, Leads}
-use Rattle.jup_rules.specs.Keepers.{Keeper}
+use Rattle.jup_rules.specs.Gates.{HasHeard, Leads, Keeper}
 use Rattle.jup_stream.specs.Sources.{Sourced, HandsOn, Stops}
 use Rattle.jup_session.specs.Gates.{IsHandled}
 

@@ -4,10 +4,9 @@ ghost use Rattle.std.specs.Prelude.{◌≡◌, ℕ, Bool, List, ◌++◌, Option
 ghost use Rattle.jup_hub.specs.declared.view.View.{View};
 ghost use Rattle.jup_wire.specs.declared.line.Line.{Line};
 ghost use Rattle.jup_wire.specs.Streams.{HasRead, Progress};
-ghost use Rattle.jup_rules.specs.declared.ending.Ending.{Ending};
-ghost use Rattle.jup_rules.specs.declared.said.Said.{Said};
-ghost use Rattle.jup_rules.specs.Gates.{HasHeard};
-ghost use Rattle.jup_rules.specs.Keepers.{Keeper};
+ghost use Rattle.jup_rules.specs.declared.ends.Ending.{Ending};
+ghost use Rattle.jup_rules.specs.declared.session.Said.{Said};
+ghost use Rattle.jup_rules.specs.Gates.{HasHeard, Keeper};
 ghost use Rattle.jup_session.specs.ExactSessions.{IsExact};
 ghost use Rattle.jup_session.specs.SessionBytes.{bytes_read, lines_read, bytes_written, BeginWith};
 

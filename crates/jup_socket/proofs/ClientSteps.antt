@@ -11,17 +11,16 @@ use Rattle.jup_star.specs.declared.site.Delivered.{Delivered}
 use Rattle.jup_star.specs.declared.faults.SiteFault.{SiteFault}
 use Rattle.jup_star.specs.declared.faults.SiteFault.TheVariants.{NoMemory as SiteNoMemory, BadCount, BadAck, BadName, BadOp, Stopped}
 use Rattle.jup_star.specs.SiteCalls.{edit_reply, site_edited, is_edit_memory, EditAnswers, deliver_reply, site_delivered, DeliverAnswers, owed_of}
-use Rattle.jup_rules.specs.declared.said.Said.TheVariants.{Up as SaysUp}
-use Rattle.jup_rules.specs.declared.client_end.ClientEnd.{ClientEnd}
-use Rattle.jup_rules.specs.declared.client_end.ClientEnd.TheVariants.{NoMemory}
-use Rattle.jup_rules.specs.declared.client_state.Answer.{Answer}
-use Rattle.jup_rules.specs.declared.client_state.Heard.{Heard}
-use Rattle.jup_rules.specs.declared.client_state.ClientState.{ClientState}
-use Rattle.jup_rules.specs.declared.client_state.Told.TheVariants as told
+use Rattle.jup_rules.specs.declared.session.Said.TheVariants.{Up as SaysUp}
+use Rattle.jup_rules.specs.declared.ends.ClientEnd.{ClientEnd}
+use Rattle.jup_rules.specs.declared.ends.ClientEnd.TheVariants.{NoMemory}
+use Rattle.jup_rules.specs.declared.client.Answer.{Answer}
+use Rattle.jup_rules.specs.declared.client.Heard.{Heard}
+use Rattle.jup_rules.specs.declared.client.ClientState.{ClientState}
+use Rattle.jup_rules.specs.declared.client.Told.TheVariants as told
 use Rattle.jup_star.specs.SiteStates.{edit_answer as site_answer}
 use Rattle.jup_batch.specs.BoardBatches.{board_batches}
-use Rattle.jup_rules.specs.Clients.{telling, edit_answer, AnswersEdit, heard_answer, Delivers}
-use Rattle.jup_rules.specs.Clients.{IsOpened}
+use Rattle.jup_rules.specs.Clients.{telling, edit_answer, AnswersEdit, heard_answer, Delivers, IsOpened}
 use Rattle.jup_star.specs.SiteStates.{opened_site}
 use Rattle.jup_layout.specs.BoardLines.{board_lines, IsBoard}
 use Rattle.jup_layout.specs.Layouts.{board_with}

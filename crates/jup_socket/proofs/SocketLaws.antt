@@ -20,8 +20,8 @@ use Rattle.jup_gather.specs.Pieces.{Piece, Message, Alone, piece_lines, all_line
 use Rattle.jup_layout.specs.BoardLines.{board_lines, IsBoard}
 use Rattle.jup_layout.specs.Layouts.{board_with}
 use Rattle.jup_layout.proofs.RoundTrip.{round_trip}
-use Rattle.jup_rules.specs.declared.said.Said.{Said}
-use Rattle.jup_rules.specs.declared.said.Said.TheVariants.{Up as SaysUp, Bye as SaysBye}
+use Rattle.jup_rules.specs.declared.session.Said.{Said}
+use Rattle.jup_rules.specs.declared.session.Said.TheVariants.{Up as SaysUp, Bye as SaysBye}
 use Rattle.jup_gather.specs.Ways.{up_piece, up_in, up_way, down_piece, down_in, down_way, IsSound}
 use Rattle.jup_rules.specs.Messages.{said_piece}
 use Rattle.jup_world.specs.Openings.{IsOpening}

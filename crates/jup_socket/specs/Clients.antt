@@ -3,13 +3,13 @@ use Rattle.std.specs.Prelude.{◌≡◌, ◌⊎◌, List, [], map, option_to_lis
 use Rattle.jup_batch.specs.BatchBoards.{BoardBatch, Commands}
 use Rattle.jup_star.specs.declared.messages.Down.{Down}
 use Rattle.jup_star.specs.SiteCalls.{edit_reply, site_edited, deliver_reply, site_delivered}
-use Rattle.jup_rules.specs.declared.said.Said.{Said}
-use Rattle.jup_rules.specs.declared.said.Said.TheVariants.{Up as SaysUp}
-use Rattle.jup_rules.specs.declared.client_end.ClientEnd.{ClientEnd}
-use Rattle.jup_rules.specs.declared.client_end.ClientEnd.TheVariants.{NoMemory}
-use Rattle.jup_rules.specs.declared.client_state.Answer.{Answer}
-use Rattle.jup_rules.specs.declared.client_state.Heard.{Heard}
-use Rattle.jup_rules.specs.declared.client_state.ClientState.{ClientState}
+use Rattle.jup_rules.specs.declared.session.Said.{Said}
+use Rattle.jup_rules.specs.declared.session.Said.TheVariants.{Up as SaysUp}
+use Rattle.jup_rules.specs.declared.ends.ClientEnd.{ClientEnd}
+use Rattle.jup_rules.specs.declared.ends.ClientEnd.TheVariants.{NoMemory}
+use Rattle.jup_rules.specs.declared.client.Answer.{Answer}
+use Rattle.jup_rules.specs.declared.client.Heard.{Heard}
+use Rattle.jup_rules.specs.declared.client.ClientState.{ClientState}
 use Rattle.jup_honest.specs.Connections.{sent_as_made, sent_as_handed}
 
 -- what it says to the server

@@ -11,8 +11,8 @@ use Rattle.jup_wire.specs.Grammar.{spelling, HasSpelling}
 use Rattle.jup_wire.specs.Streams.{Progress, HasRead}
 use Rattle.jup_gather.specs.Pieces.{piece_lines, HasGathered}
 use Rattle.jup_layout.specs.BoardLines.{board_lines}
-use Rattle.jup_rules.specs.declared.said.Said.{Said}
-use Rattle.jup_rules.specs.declared.said.Said.TheVariants.{Up as SaysUp, Bye as SaysBye}
+use Rattle.jup_rules.specs.declared.session.Said.{Said}
+use Rattle.jup_rules.specs.declared.session.Said.TheVariants.{Up as SaysUp, Bye as SaysBye}
 use Rattle.jup_gather.specs.Ways.{down_piece}
 use Rattle.jup_rules.specs.Messages.{said_piece, down_lines, HasSaid}
 use Rattle.jup_honest.specs.Connections.{Step, Connection, after}

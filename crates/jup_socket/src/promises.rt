@@ -4,10 +4,10 @@ ghost use Rattle.std.specs.Prelude.{◌≡◌, ◌≤◌, ◌<◌, length, Resul
 ghost use Rattle.jup_limits.specs.Limits.{highest_limit};
 ghost use Rattle.jup_batch.specs.BatchBoards.{BoardBatch, Commands, bare};
 ghost use Rattle.jup_star.specs.declared.messages.Down.{Down};
-ghost use Rattle.jup_rules.specs.declared.client_end.ClientEnd.{ClientEnd};
-ghost use Rattle.jup_rules.specs.declared.client_state.Answer.{Answer};
-ghost use Rattle.jup_rules.specs.declared.client_state.Heard.{Heard};
-ghost use Rattle.jup_rules.specs.declared.client_state.ClientState.{ClientState};
+ghost use Rattle.jup_rules.specs.declared.ends.ClientEnd.{ClientEnd};
+ghost use Rattle.jup_rules.specs.declared.client.Answer.{Answer};
+ghost use Rattle.jup_rules.specs.declared.client.Heard.{Heard};
+ghost use Rattle.jup_rules.specs.declared.client.ClientState.{ClientState};
 ghost use Rattle.jup_rules.specs.Clients.{AnswersEdit, Delivers, IsOpened};
 ghost use Rattle.jup_socket.specs.Clients.{IsEditStep, IsDeliverStep};
 ghost use Rattle.jup_hub.specs.Histories.{IsLegal};

@@ -5,9 +5,9 @@ use Rattle.std.proofs.KnownBytes.{Consumes-nil, Consumes-trans, Consumes-kept}
 use Rattle.jup_wire.specs.declared.line.Line.{Line}
 use Rattle.jup_wire.specs.declared.faults.WireFault.{WireFault}
 use Rattle.jup_wire.specs.Streams.{Progress, HasRead, ending_at}
-use Rattle.jup_rules.specs.declared.ending.Stop.{Stop}
-use Rattle.jup_rules.specs.declared.ending.Stop.TheVariants.{End, Fault}
-use Rattle.jup_rules.specs.declared.faults.SessionFault.TheVariants.{Wire, NoMemory, ReadsSpent, ReadFailed}
+use Rattle.jup_rules.specs.declared.ends.Stop.{Stop}
+use Rattle.jup_rules.specs.declared.ends.Stop.TheVariants.{End, Fault}
+use Rattle.jup_rules.specs.declared.ends.SessionFault.TheVariants.{Wire, NoMemory, ReadsSpent, ReadFailed}
 use Rattle.jup_stream.specs.Sources.{Sourced, sourced, ReadsOn, HandsOn, IsWhy, Stops, stop_of}
 
 pub reads_none : (a : Sourced) → ReadsOn a a

@@ -1,6 +1,6 @@
 //! Takes that cost the others much.
 ghost use Rattle.std.specs.Prelude.{◌≡◌, IfErr};
-ghost use Rattle.jup_rules.specs.declared.faults.SessionFault.TheVariants.{FarBehind};
+ghost use Rattle.jup_rules.specs.declared.ends.SessionFault.TheVariants.{FarBehind};
 ghost use Rattle.jup_rules.specs.Endings.{ending_of};
 
 use super::due::Due;

@@ -1,6 +1,6 @@
 //! Whom a session has still to wake.
 ghost use Rattle.std.specs.Prelude.{◌≡◌, ◌≢◌, ◌⊎◌, ◌↔◌, None, Some};
-ghost use Rattle.jup_rules.specs.declared.ring.Ring.TheVariants.{All};
+ghost use Rattle.jup_rules.specs.declared.session.Ring.TheVariants.{All};
 
 use super::link::SessionLink;
 use jup_rules::Ring;

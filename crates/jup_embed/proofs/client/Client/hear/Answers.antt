@@ -1,5 +1,5 @@
 use Rattle.std.proofs.Common.{◌++◌, refl, ap, ◌∙◌, inl}
-use Rattle.jup_rules.specs.declared.client_end.ClientEnd.TheVariants.{NoMemory}
+use Rattle.jup_rules.specs.declared.ends.ClientEnd.TheVariants.{NoMemory}
 use Rattle.jup_embed.specs.Changes.{kept, operations_in}
 use Rattle.jup_embed.specs.Outboxes.{said_bytes}
 use Rattle.jup_embed.specs.contracts.client.Client.{the_view}

@@ -1,0 +1,15 @@
+use Rattle.std.proofs.Common.{◌≡◌, ◌++◌, ◌∙◌, List, ℕ, length, sym, ap, codes}
+use Rattle.jup_text.specs.Boards.{board_text}
+use Rattle.jup_rules.specs.Texts.{line_of, numbered}
+use Rattle.jup_rules.proofs.BareTexts.{board_text-bare}
+use Rattle.jup_rules.proofs.words.report_text.Goals as goal
+
+pub returns : goal.returns
+returns c =
+    let count : List ℕ = line_of (numbered (codes "order") (length c.order.result.now)) in
+    let is_count : c.append_number.new.text.items ≡ count = c.in_ok-append_number.ensures ∙ ap (λ (l : List ℕ). l ++ count) c.new-text.ensures.items in
+    c.in_ok-write_board.ensures.appended
+    ∙ ap (λ (l : List ℕ). l ++ board_text c.board.result.now) is_count
+    ∙ ap (λ (order : List _). line_of (numbered (codes "order") (length order)) ++ board_text c.board.result.now) c.order.ensures
+    ∙ ap (λ (l : List ℕ). line_of (numbered (codes "order") (length c.args.star.now.order)) ++ l)
+    (sym (board_text-bare c.board.result.now) ∙ ap (λ board. board_text board) c.board.ensures)

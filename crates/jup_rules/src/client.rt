@@ -93,17 +93,17 @@ impl Asking {
 
 /// What is held after a line, or what the line completes.
 #[derive(Drop)]
-struct Step {
+struct Asked {
     part: Option<BatchPart>,
     request: Option<Request>,
 }
 
 // The first line of a request.
-fn begin(alloc: Global, line: &[u8]) -> Result<Step, NoMemory>
-    ensures { IfOk result (λ step. ComesTo (line.now ∷ []) step.request (held step.part)) }
+fn begin(alloc: Global, line: &[u8]) -> Result<Asked, NoMemory>
+    ensures { IfOk result (λ asked. ComesTo (line.now ∷ []) asked.request (held asked.part)) }
 {
     match read_batch(line) {
-        None => Ok(Step {
+        None => Ok(Asked {
             part: None,
             request: Some(request_of(line)),
         }),
@@ -112,20 +112,20 @@ fn begin(alloc: Global, line: &[u8]) -> Result<Step, NoMemory>
 }
 
 // The line of a batch of so many commands.
-fn begin_batch(alloc: Global, count: u32) -> Result<Step, NoMemory>
+fn begin_batch(alloc: Global, count: u32) -> Result<Asked, NoMemory>
     requires { IsBatchCount count }
-    ensures { IfOk result (λ step. ComesTo (batch_text count ∷ []) step.request (held step.part)) }
+    ensures { IfOk result (λ asked. ComesTo (batch_text count ∷ []) asked.request (held asked.part)) }
 {
     let Ok(commands) = Vec::with_capacity(alloc, count as usize) else {
         return Err(NoMemory);
     };
     if count == 0 {
-        return Ok(Step {
+        return Ok(Asked {
             part: None,
             request: Some(Request::Batch(commands)),
         });
     }
-    Ok(Step {
+    Ok(Asked {
         part: Some(BatchPart {
             missing: count,
             commands,
@@ -136,7 +136,7 @@ fn begin_batch(alloc: Global, count: u32) -> Result<Step, NoMemory>
 }
 
 // A line of a batch.
-fn go_on(part: BatchPart, line: &[u8]) -> Step
+fn go_on(part: BatchPart, line: &[u8]) -> Asked
     ensures { (lines : List (List ℕ)) → IsHeld lines (Some (begun part))
         → ComesTo (lines ++ line.now ∷ []) result.request (held result.part) }
 {
@@ -150,7 +150,7 @@ fn go_on(part: BatchPart, line: &[u8]) -> Step
         None => is_bad = true,
     }
     if missing > 1 {
-        return Step {
+        return Asked {
             part: Some(BatchPart {
                 missing: missing - 1,
                 commands,
@@ -164,7 +164,7 @@ fn go_on(part: BatchPart, line: &[u8]) -> Step
     } else {
         Request::Batch(commands)
     };
-    Step {
+    Asked {
         part: None,
         request: Some(request),
     }

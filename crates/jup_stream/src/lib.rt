@@ -8,8 +8,6 @@
 mod output;
 mod pieces;
 mod source;
-mod writes;
 
-pub use output::Output;
+pub use output::{Output, write_bytes};
 pub use source::Source;
-pub use writes::write_bytes;

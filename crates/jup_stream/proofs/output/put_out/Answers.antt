@@ -1,6 +1,6 @@
 use Rattle.jup_stream.specs.Puts.{Put, put_as, Puts}
 use Rattle.jup_stream.proofs.Putting.{puts_dropped, puts_behind}
-use Rattle.jup_stream.proofs.writes.put_out.Goals as goal
+use Rattle.jup_stream.proofs.output.put_out.Goals as goal
 
 pub returns-then-has_failed-clause-puts : goal.returns-then-has_failed-clause-puts
 returns-then-has_failed-clause-puts g c = puts_dropped _ _ _ c.make_room.ensures.puts c.if-has_failed.true

@@ -3,8 +3,8 @@ use Rattle.std.proofs.lemmas.List.{take_rest}
 use Rattle.std.specs.Io.KnownBytes.{Appends}
 use Rattle.std.proofs.KnownBytes.{Appends-trans}
 use Rattle.jup_stream.proofs.Putting.{appends_kept}
-use Rattle.jup_stream.proofs.writes.write_bytes.Goals as goal
-use Rattle.jup_stream.proofs.writes.write_bytes.Goals.{in-Ok, in-Err+else-not-is_interrupted}
+use Rattle.jup_stream.proofs.output.write_bytes.Goals as goal
+use Rattle.jup_stream.proofs.output.write_bytes.Goals.{in-Ok, in-Err+else-not-is_interrupted}
 
 moves_front : (all done rest : List ℕ) (n : ℕ) → all ≡ done ++ rest → all ≡ (done ++ take n rest) ++ take (length rest - n) (drop n rest)
 moves_front all done rest n e =

@@ -3,7 +3,6 @@ use Rattle.std.specs.Prelude.{◌≢◌}
 use Rattle.std.proofs.Common.{◌≡◌, ◌⊎◌, inl, inr, ℕ, Bool, true, false, cond, nat_eq, refl, ap, sym, ◌∙◌, subst, Option, Some, None, eq-eqb, ne_eqb}
 use Rattle.jup_window.specs.Operations.{Operations, AreLawful}
 use Rattle.jup_star.specs.declared.messages.Up.{Up}
-use Rattle.jup_star.specs.declared.messages.Up.TheVariants.{Op as UpOp, Ack as UpAck, Ping as UpPing}
 use Rattle.jup_star.specs.declared.faults.StarFault.{StarFault}
 use Rattle.jup_star.specs.LinkStates.{LinkState}
 use Rattle.jup_star.specs.StarStates.{link_of, up_fault, join_fault}
@@ -12,9 +11,9 @@ use Rattle.jup_world.proofs.EventSteps.{either}
 use Rattle.jup_mixed.specs.declared.events.MixEvent.TheVariants.{Stray, Edit as HomeEdit, Up as HomeUp, Down as HomeDown, JoinStray, LeaveStray}
 use Rattle.jup_mixed.specs.MixStates.{MixOf, MixEventOf}
 use Rattle.jup_mixed.specs.MixSteps.{still, stray_sends, at_link_of, mix_outcome, stray_joins, stray_leaves}
-use Rattle.jup_mixed.specs.MixPromises.{IsRejected, IsAccepted, StrayReplies, LeaveReplies, MixReplies}
-use Rattle.jup_world.proofs.StarTakes.{valid, next}
-use Rattle.jup_world.specs.Replies.{JoinReplies}
+use Rattle.jup_mixed.specs.MixPromises.{StrayReplies, LeaveReplies, MixReplies}
+use Rattle.jup_world.proofs.StarTakes.{accepted}
+use Rattle.jup_world.specs.Replies.{JoinReplies, IsAnswered}
 use Rattle.jup_world.proofs.Sound.ReplyLaws.{join_faults}
 use Rattle.jup_mixed.specs.MixWorlds.{IsHomeWorld}
 use Rattle.jup_mixed.proofs.MixHolds.{home-replies}
@@ -46,20 +45,9 @@ module _ (O : Operations) (L : AreLawful O) where
 module _ (O : Operations) (L : AreLawful O) (most : ℕ) (m : MixOf O) (h : IsHomeWorld O most m) where
   -- a stranger's message at its link
   sent_one : (j : ℕ) (l : LinkState O.Op) → link_of j m.star.links ≡ Some l → (up : Up O.Op)
-      → IsRejected O m j l up (stray_sends O m j l up (up_fault O m.star l up)) ⊎ IsAccepted O m j l up (stray_sends O m j l up (up_fault O m.star l up))
-  sent_one j l fl up = either (up_fault O m.star l up) (λ o. IsRejected O m j l up (stray_sends O m j l up o) ⊎ IsAccepted O m j l up (stray_sends O m j l up o))
-      (λ none. inr (accepted up none)) (λ fault is. inl (record { fault = fault; cause = is; reply = refl; star = refl }))
-    where
-      accepted : (up : Up O.Op) → up_fault O m.star l up ≡ None → IsAccepted O m j l up (stray_sends O m j l up None)
-      accepted (UpOp msg) none = record {
-        reply = refl;
-        order = refl;
-        board = refl;
-        valid = valid O L most (O.t.content m.opening) m.star h.sound.star j l fl msg none;
-        next = next O L most (O.t.content m.opening) m.star h.sound.star j l fl msg none;
-      }
-      accepted (UpAck n) none = record { reply = refl; order = refl; board = refl }
-      accepted (UpPing n) none = record { reply = refl; order = refl; board = refl }
+      → (let o = stray_sends O m j l up (up_fault O m.star l up) in IsAnswered O m.star j l up o.reply o.star)
+  sent_one j l fl up = either (up_fault O m.star l up) (λ f. let o = stray_sends O m j l up f in IsAnswered O m.star j l up o.reply o.star)
+      (λ none. inr (accepted O L most (O.t.content m.opening) m.star h.sound.star j l fl up none)) (λ fault is. inl (record { fault = fault; cause = is; reply = refl; star = refl }))
 
   -- at any number
   pub stray-replies : (j : ℕ) (up : Up O.Op) → StrayReplies O m j up (mix_outcome O m (Stray j up))
@@ -67,7 +55,7 @@ module _ (O : Operations) (L : AreLawful O) (most : ℕ) (m : MixOf O) (h : IsHo
     site = keeps (nat_eq j 1) (link_of j m.star.links);
     absent = λ gone. (ap (λ o. cond (nat_eq j 1) (still O m Nothing) (at_link_of O m (λ l. stray_sends O m j l up (up_fault O m.star l up)) o)) gone ∙ either_way (nat_eq j 1));
     own = λ is. ap (λ b. cond b (still O m Nothing) (at_link_of O m (λ l. stray_sends O m j l up (up_fault O m.star l up)) (link_of j m.star.links))) (eq-eqb j 1 is);
-    present = λ other l fl. (let now = there l other fl in subst (λ o. IsRejected O m j l up o ⊎ IsAccepted O m j l up o) (sym now) (sent_one j l fl up));
+    present = λ other l fl. (let now = there l other fl in subst (λ o. IsAnswered O m.star j l up o.reply o.star) (sym now) (sent_one j l fl up));
   }
     where
       sends : (l : LinkState O.Op) (f : Option StarFault) → (stray_sends O m j l up f).site ≡ m.site

@@ -2,28 +2,26 @@
 use Rattle.std.specs.Prelude.{◌≡◌, ◌≢◌, ◌⊎◌, ℕ, ◌≤◌, false, IsTrue, List, [], ◌∷◌, ◌++◌, length, Some, None, is_some}
 use Rattle.jup_limits.specs.Limits.{highest_limit}
 use Rattle.jup_link.specs.InStep.{InStep}
-use Rattle.jup_link.specs.declared.Msg.{Msg}
 use Rattle.jup_batch.specs.BatchBoards.{Windows}
 use Rattle.jup_window.specs.Operations.{Operations}
 use Rattle.jup_batch.specs.BoardBatches.{board_batches}
 use Rattle.jup_star.specs.declared.messages.Up.{Up}
-use Rattle.jup_star.specs.declared.messages.Up.TheVariants.{Op as UpOp, Ack as UpAck, Ping as UpPing}
 use Rattle.jup_star.specs.declared.faults.StarFault.{StarFault}
 use Rattle.jup_star.specs.declared.faults.StarFault.TheVariants.{LogFull}
-use Rattle.jup_star.specs.LinkStates.{LinkState, operation_at}
-use Rattle.jup_star.specs.StarStates.{link_of, left, up_fault, entry}
+use Rattle.jup_star.specs.LinkStates.{LinkState}
+use Rattle.jup_star.specs.StarStates.{link_of, left}
 use Rattle.jup_star.specs.SiteStates.{edit_answer}
 use Rattle.jup_star.specs.Streams.{ups, downs}
-use Rattle.jup_world.specs.Events.{Left, Taken, Heard, Detached, Nothing}
+use Rattle.jup_world.specs.Events.{Left, Detached, Nothing}
 use Rattle.jup_world.specs.Openings.{IsOpening}
-use Rattle.jup_world.specs.Replies.{JoinReplies, edit_reply, UpReplies, DownReplies}
+use Rattle.jup_world.specs.Replies.{JoinReplies, edit_reply, UpReplies, DownReplies, IsAnswered}
 use Rattle.jup_world.specs.Turns.{turns, own_edits}
 use Rattle.jup_world.specs.WorldStates.{AttachedOf}
 use Rattle.jup_mixed.specs.declared.events.MixEvent.TheVariants.{Edit as HomeEdit, Up as HomeUp, Down as HomeDown, JoinStray, Stray, LeaveStray}
 use Rattle.jup_mixed.specs.MixStates.{MixOf, MixEventOf, opened_mix, IsHomeQuiet}
 use Rattle.jup_mixed.specs.MixSteps.{MixOutcome, still, mix_outcome, mix_run}
 use Rattle.jup_mixed.specs.MixTraces.{mix_made, mix_view}
-use Rattle.jup_world.specs.Sound.{named_in, edits_in}
+use Rattle.jup_world.specs.Sound.{edits_in}
 
 module _ (O : Operations) where
   -- at every moment
@@ -41,39 +39,12 @@ module _ (O : Operations) where
     pub linked : is_some m.site ≡ is_some (link_of 1 m.star.links)
     pub running : (a : AttachedOf O) → m.site ≡ Some a → a.site.stopped ≡ false
 
-  -- a stranger's edit that the star took is one entry of the order, valid there, and bears the link's next names
-  pub record IsEntry (m : MixOf O) (j : ℕ) (l : LinkState O.Op) (msg : Msg O.Op) (o : MixOutcome O) : Type 0 where
-    pub reply : o.reply ≡ Taken (length m.star.order)
-    pub order : o.star.order ≡ m.star.order ++ entry O j msg ∷ []
-    pub board : o.star.board ≡ O.t.after (operation_at O l.end msg) m.star.board
-    pub valid : O.t.is_valid (operation_at O l.end msg) m.star.board
-    pub next : IsTrue (O.bears_next j (named_in O m.star.order j) (O.t.edit_of msg.op))
-
-  -- a stranger's message that is refused, by the first fault that holds, detaches its link, and changes nothing else
-  pub record IsRejected (m : MixOf O) (j : ℕ) (l : LinkState O.Op) (up : Up O.Op) (o : MixOutcome O) : Type 0 where
-    pub fault : StarFault
-    pub cause : up_fault O m.star l up ≡ Some fault
-    pub reply : o.reply ≡ Detached fault
-    pub star : o.star ≡ left j m.star
-
-  -- an acknowledgement or a ping leaves board and order
-  pub record IsHeard (m : MixOf O) (o : MixOutcome O) : Type 0 where
-    pub reply : o.reply ≡ Heard
-    pub order : o.star.order ≡ m.star.order
-    pub board : o.star.board ≡ m.star.board
-
-  -- what becomes of a message that is not refused
-  abbrev pub IsAccepted : MixOf O → ℕ → LinkState O.Op → Up O.Op → MixOutcome O → Type 0
-  IsAccepted m j l (UpOp msg) o = IsEntry m j l msg o
-  IsAccepted m j l (UpAck n) o = IsHeard m o
-  IsAccepted m j l (UpPing k) o = IsHeard m o
-
   -- a stranger's message. Site 1 keeps its board and its streams
   pub record StrayReplies (m : MixOf O) (j : ℕ) (up : Up O.Op) (o : MixOutcome O) : Type 0 where
     pub site : o.site ≡ m.site
     pub absent : link_of j m.star.links ≡ None → o ≡ still O m Nothing
     pub own : j ≡ 1 → o ≡ still O m Nothing
-    pub present : j ≢ 1 → (l : LinkState O.Op) → link_of j m.star.links ≡ Some l → IsRejected m j l up o ⊎ IsAccepted m j l up o
+    pub present : j ≢ 1 → (l : LinkState O.Op) → link_of j m.star.links ≡ Some l → IsAnswered O m.star j l up o.reply o.star
 
   -- a stranger leaves: its link goes, and nothing else
   pub record LeaveReplies (m : MixOf O) (j : ℕ) (o : MixOutcome O) : Type 0 where

@@ -8,17 +8,20 @@ use Rattle.jup_link.specs.Laws.LinkSteps.{small_next}
 use Rattle.jup_link.specs.declared.Msg.{Msg}
 use Rattle.jup_window.specs.Operations.{Operations, AreLawful}
 use Rattle.jup_star.specs.declared.messages.Entry.{Entry}
-use Rattle.jup_star.specs.declared.messages.Up.TheVariants.{Op as UpOp}
+use Rattle.jup_star.specs.declared.messages.Up.{Up}
+use Rattle.jup_star.specs.declared.messages.Up.TheVariants.{Op as UpOp, Ack as UpAck, Ping as UpPing}
 use Rattle.jup_star.specs.declared.faults.StarFault.TheVariants.{BadOp}
 use Rattle.jup_star.specs.FirstFaults.{test}
 use Rattle.jup_star.specs.LinkStates.{LinkState, operation_at, link_heard, link_sent}
-use Rattle.jup_star.specs.StarStates.{StarOf, link_of, early_tests, fits_board, up_fault, taken, links_after, entry}
+use Rattle.jup_star.specs.StarStates.{StarOf, link_of, early_tests, fits_board, up_fault, place_taken, taken, links_after, entry}
 use Rattle.jup_star.proofs.Lookup.{found-map, found-map_other}
 use Rattle.jup_star.proofs.TakenEdits.{link_site, inserted_at, taken_valid}
 use Rattle.jup_star.proofs.TestLists.{AllHold, all_hold}
 use Rattle.jup_world.specs.Each.{Each}
 use Rattle.jup_world.specs.Turns.{Own, Other, turn, turns, edits}
 use Rattle.jup_world.specs.Meanings.{SameMeaning}
+use Rattle.jup_world.specs.Replies.{IsAccepted}
+use Rattle.jup_world.specs.WorldSteps.{place_reply}
 use Rattle.jup_world.specs.Sound.{named_by, IsKnown, ChangesKnown, ChangesHeld, HoldsKnown, named_in, edits_in, IsMoved, IsSoundLink, SoundLinkAt, IsSoundStar}
 use Rattle.jup_world.proofs.Pairs.EditGrid.{meaning_one, same-meaning}
 use Rattle.jup_world.proofs.Sound.TraceLaws.{turns-append}
@@ -264,3 +267,16 @@ module _ (O : Operations) (L : AreLawful O) (most : ℕ) (first : O.t.Content) (
 
   pub none_back : (n : O.t.Name) → IsKnown O (named_in O s.order) n → O.t.holds (O.t.after op s.board) n → O.t.holds s.board n
   none_back n known x = elim (L.keeps.held_before s.board op n valid x) [ inl held ↦ held | inr new ↦ absurd (fresh n new known) ]
+
+module _ (O : Operations) (L : AreLawful O) (most : ℕ) (first : O.t.Content) (s : StarOf O) (h : IsSoundStar O most first s) where
+  -- what the star answers to a message, and becomes
+  pub accepted : (i : ℕ) (l : LinkState O.Op) → link_of i s.links ≡ Some l → (up : Up O.Op) → up_fault O s l up ≡ None → IsAccepted O s i l up (place_reply O (place_taken O s up)) (taken O i up l s)
+  accepted i l fl (UpOp m) none = record {
+    reply = refl;
+    order = refl;
+    board = refl;
+    valid = valid O L most first s h i l fl m none;
+    next = next O L most first s h i l fl m none;
+  }
+  accepted i l fl (UpAck n) none = record { reply = refl; order = refl; board = refl }
+  accepted i l fl (UpPing k) none = record { reply = refl; order = refl; board = refl }

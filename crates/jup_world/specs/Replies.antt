@@ -50,31 +50,35 @@ module _ (O : Operations) where
     pub present : (l : LinkState O.Op) (a : AttachedOf O) → link_of i w.star.links ≡ Some l → attached i w.sites ≡ Some a → P l a
 
   -- A stranger's edit that the star took is one entry of the order, valid there, and bears its link's next names
-  pub record IsEntry (w : WorldOf O) (i : ℕ) (l : LinkState O.Op) (m : Msg O.Op) (o : Outcome O) : Type 0 where
-    pub reply : o.reply ≡ Taken (length w.star.order)
-    pub order : o.star.order ≡ w.star.order ++ entry O i m ∷ []
-    pub board : o.star.board ≡ O.t.after (operation_at O l.end m) w.star.board
-    pub valid : O.t.is_valid (operation_at O l.end m) w.star.board
-    pub next : IsTrue (O.bears_next i (named_in O w.star.order i) (O.t.edit_of m.op))
+  pub record IsEntry (s : StarOf O) (i : ℕ) (l : LinkState O.Op) (m : Msg O.Op) (r : ReplyOf O) (t : StarOf O) : Type 0 where
+    pub reply : r ≡ Taken (length s.order)
+    pub order : t.order ≡ s.order ++ entry O i m ∷ []
+    pub board : t.board ≡ O.t.after (operation_at O l.end m) s.board
+    pub valid : O.t.is_valid (operation_at O l.end m) s.board
+    pub next : IsTrue (O.bears_next i (named_in O s.order i) (O.t.edit_of m.op))
 
   -- a message that is refused, by the first fault that holds, detaches its link, and changes nothing else
-  pub record IsRejected (w : WorldOf O) (i : ℕ) (l : LinkState O.Op) (up : Up O.Op) (o : Outcome O) : Type 0 where
+  pub record IsRejected (s : StarOf O) (i : ℕ) (l : LinkState O.Op) (up : Up O.Op) (r : ReplyOf O) (t : StarOf O) : Type 0 where
     pub fault : StarFault
-    pub cause : up_fault O w.star l up ≡ Some fault
-    pub reply : o.reply ≡ Detached fault
-    pub star : o.star ≡ left i w.star
+    pub cause : up_fault O s l up ≡ Some fault
+    pub reply : r ≡ Detached fault
+    pub star : t ≡ left i s
 
   -- an acknowledgement or a ping leaves board and order
-  pub record IsHeard (w : WorldOf O) (o : Outcome O) : Type 0 where
-    pub reply : o.reply ≡ Heard
-    pub order : o.star.order ≡ w.star.order
-    pub board : o.star.board ≡ w.star.board
+  pub record IsHeard (s : StarOf O) (r : ReplyOf O) (t : StarOf O) : Type 0 where
+    pub reply : r ≡ Heard
+    pub order : t.order ≡ s.order
+    pub board : t.board ≡ s.board
 
   -- what becomes of a message that is not refused
-  abbrev pub IsAccepted : WorldOf O → ℕ → LinkState O.Op → Up O.Op → Outcome O → Type 0
-  IsAccepted w i l (UpOp m) o = IsEntry w i l m o
-  IsAccepted w i l (UpAck n) o = IsHeard w o
-  IsAccepted w i l (UpPing k) o = IsHeard w o
+  abbrev pub IsAccepted : StarOf O → ℕ → LinkState O.Op → Up O.Op → ReplyOf O → StarOf O → Type 0
+  IsAccepted s i l (UpOp m) r t = IsEntry s i l m r t
+  IsAccepted s i l (UpAck n) r t = IsHeard s r t
+  IsAccepted s i l (UpPing k) r t = IsHeard s r t
+
+  -- what a star answers to a stranger's message, and becomes
+  abbrev pub IsAnswered : StarOf O → ℕ → LinkState O.Op → Up O.Op → ReplyOf O → StarOf O → Type 0
+  IsAnswered s i l up r t = IsRejected s i l up r t ⊎ IsAccepted s i l up r t
 
   -- an event of a stranger: nothing if there is no such link, or a site has it. All sites keep their boards and streams
   pub record StrayReplies (w : WorldOf O) (i : ℕ) (o : Outcome O) (P : LinkState O.Op → Type 0) : Type 0 where
@@ -86,7 +90,7 @@ module _ (O : Operations) where
   -- each event of a stranger
   abbrev pub StrayRepliesTo : WorldOf O → EventOf O → Outcome O → Type 0
   StrayRepliesTo w JoinStray o = JoinReplies w.star o.reply × (o.sites ≡ w.sites)
-  StrayRepliesTo w (Stray i up) o = StrayReplies w i o (λ l. IsRejected w i l up o ⊎ IsAccepted w i l up o)
+  StrayRepliesTo w (Stray i up) o = StrayReplies w i o (λ l. IsAnswered w.star i l up o.reply o.star)
   StrayRepliesTo w (LeaveStray i) o = StrayReplies w i o (λ l. o ≡ record { reply = Left; star = left i w.star; sites = w.sites })
   StrayRepliesTo w e o = Unit {0}
 

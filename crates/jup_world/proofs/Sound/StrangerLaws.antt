@@ -12,9 +12,9 @@ use Rattle.jup_world.specs.Events.{Left, Nothing}
 use Rattle.jup_world.specs.WorldStates.{WorldOf, AttachedOf, EventOf, attached}
 use Rattle.jup_world.specs.WorldSteps.{Outcome, unchanged, stray_joins, stray_sends, stray_leaves, at_stray, outcome}
 use Rattle.jup_world.specs.Sound.{IsSound}
-use Rattle.jup_world.specs.Replies.{UpReplies, IsRejected, IsAccepted, StrayReplies, StrayRepliesTo}
+use Rattle.jup_world.specs.Replies.{UpReplies, IsAnswered, StrayReplies, StrayRepliesTo}
 use Rattle.jup_world.specs.Strangers.{SitesHold, OnlyFull}
-use Rattle.jup_world.proofs.StarTakes.{valid, next}
+use Rattle.jup_world.proofs.StarTakes.{accepted}
 use Rattle.jup_world.proofs.EventSteps.{either}
 use Rattle.jup_world.proofs.Sound.WorldTakes.{standing, standing_of}
 use Rattle.jup_world.proofs.Sound.SoundRuns.{shows_view, level, all_taken}
@@ -94,20 +94,9 @@ module _ (O : Operations) (L : AreLawful O) where
 
     -- its message is refused or taken
     sent_one : (i : ℕ) (up : Up O.Op) (l : LinkState O.Op) → link_of i w.star.links ≡ Some l
-        → IsRejected O w i l up (stray_sends O w i l up (up_fault O w.star l up)) ⊎ IsAccepted O w i l up (stray_sends O w i l up (up_fault O w.star l up))
-    sent_one i up l fl = either (up_fault O w.star l up) (λ o. IsRejected O w i l up (stray_sends O w i l up o) ⊎ IsAccepted O w i l up (stray_sends O w i l up o))
-        (λ fits. inr (accepted up fits)) (λ fault is. inl (record { fault = fault; cause = is; reply = refl; star = refl }))
-      where
-        accepted : (up : Up O.Op) → up_fault O w.star l up ≡ None → IsAccepted O w i l up (stray_sends O w i l up None)
-        accepted (UpOp m) fits = record {
-          reply = refl;
-          order = refl;
-          board = refl;
-          valid = valid O L most (O.t.content w.opening) w.star s.star i l fl m fits;
-          next = next O L most (O.t.content w.opening) w.star s.star i l fl m fits;
-        }
-        accepted (UpAck n) fits = record { reply = refl; order = refl; board = refl }
-        accepted (UpPing n) fits = record { reply = refl; order = refl; board = refl }
+        → (let o = stray_sends O w i l up (up_fault O w.star l up) in IsAnswered O w.star i l up o.reply o.star)
+    sent_one i up l fl = either (up_fault O w.star l up) (λ f. let o = stray_sends O w i l up f in IsAnswered O w.star i l up o.reply o.star)
+        (λ fits. inr (accepted O L most (O.t.content w.opening) w.star s.star i l fl up fits)) (λ fault is. inl (record { fault = fault; cause = is; reply = refl; star = refl }))
 
     sends_kept : (i : ℕ) (up : Up O.Op) (l : LinkState O.Op) (f : Option StarFault) → (stray_sends O w i l up f).sites ≡ w.sites
     sends_kept i up l None = refl
@@ -116,6 +105,6 @@ module _ (O : Operations) (L : AreLawful O) where
     -- each event of a stranger
     pub stray-replies : (e : EventOf O) → StrayRepliesTo O w e (outcome O w e)
     stray-replies JoinStray = join_strays
-    stray-replies (Stray i up) = stray_replies i (λ l. stray_sends O w i l up (up_fault O w.star l up)) (λ l o. IsRejected O w i l up o ⊎ IsAccepted O w i l up o) (λ l. sends_kept i up l (up_fault O w.star l up)) (sent_one i up)
+    stray-replies (Stray i up) = stray_replies i (λ l. stray_sends O w i l up (up_fault O w.star l up)) (λ l o. IsAnswered O w.star i l up o.reply o.star) (λ l. sends_kept i up l (up_fault O w.star l up)) (sent_one i up)
     stray-replies (LeaveStray i) = stray_replies i (λ l. stray_leaves O w i) (λ l o. o ≡ record { reply = Left; star = left i w.star; sites = w.sites }) (λ l. refl) (λ l fl. refl)
     stray-replies e = tt

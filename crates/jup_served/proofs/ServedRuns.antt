@@ -152,23 +152,10 @@ module _ (run : SiteRun) (log : List HubEvent) (s : Ended) (is : IsServedRun run
         last = last_line s.ending ∷ [];
         ends = (ending_is_last s.ending, tt);
         spelled = spelled;
-        read = d.read;
+        received = d.received;
         left = d.left ++ s.exact.wrote.1;
-        bytes = sym (append_assoc d.read d.left s.exact.wrote.1) ∙ ap (λ bs. bs ++ s.exact.wrote.1) d.bytes ∙ sym s.exact.wrote.2
+        bytes = sym (append_assoc d.received.read d.left s.exact.wrote.1) ∙ ap (λ bs. bs ++ s.exact.wrote.1) d.bytes ∙ sym s.exact.wrote.2
             ∙ ap (flat_map line_bytes) all_lines_are ∙ lines_spelled (written_down run.answer all_fetched (last_line s.ending ∷ [])) spelled;
-        site = d.site;
-        limit = d.limit;
-        body = d.body;
-        is_body = d.is_body;
-        lines = d.lines;
-        waiting = d.waiting;
-        progress = d.progress;
-        reads = d.reads;
-        downs = d.downs;
-        held = d.held;
-        said = d.said;
-        later = d.later;
-        handed = d.handed;
       })
 
   -- # The history

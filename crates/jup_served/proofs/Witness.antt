@@ -241,22 +241,24 @@ served_one = record {
   spelled = spelled_one;
   up = record { more = []; bye = false; spelled = (tt, is_plain_one.spelled); left = []; bytes = wrote_all plan_one is_plain_one };
   down = record {
-    read = flat_map line_bytes (lines plan_one);
+    received = record {
+      read = flat_map line_bytes (lines plan_one);
+      site = 1;
+      limit = 9;
+      body = board_lines board;
+      is_body = (tt, (tt, tt));
+      lines = lines_brought (fetch_one ∷ []);
+      waiting = Bye ∷ [];
+      progress = clean;
+      reads = read_all plan_one is_plain_one spelled_one;
+      downs = downs_one;
+      held = Some [];
+      said = record { sound = ((lit≤ tt, lit≤ tt), (refl, tt)); rest = (refl, at_first.rest.1) };
+      later = [];
+      handed = refl;
+    };
     left = [];
     bytes = append-nil (flat_map line_bytes (lines plan_one));
-    site = 1;
-    limit = 9;
-    body = board_lines board;
-    is_body = (tt, (tt, tt));
-    lines = lines_brought (fetch_one ∷ []);
-    waiting = Bye ∷ [];
-    progress = clean;
-    reads = read_all plan_one is_plain_one spelled_one;
-    downs = downs_one;
-    held = Some [];
-    said = record { sound = ((lit≤ tt, lit≤ tt), (refl, tt)); rest = (refl, at_first.rest.1) };
-    later = [];
-    handed = refl;
   };
   causal = causal_one;
 }
@@ -278,22 +280,24 @@ served_two = record {
   spelled = spelled_two;
   up = record { more = []; bye = false; spelled = (tt, is_plain_two.spelled); left = []; bytes = wrote_all plan_two is_plain_two };
   down = record {
-    read = flat_map line_bytes (lines plan_two);
+    received = record {
+      read = flat_map line_bytes (lines plan_two);
+      site = 2;
+      limit = 9;
+      body = board_lines board;
+      is_body = (tt, (tt, tt));
+      lines = lines_brought (fetch_two ∷ []);
+      waiting = Bye ∷ [];
+      progress = clean;
+      reads = read_all plan_two is_plain_two spelled_two;
+      downs = downs_two;
+      held = Some [];
+      said = record { sound = ((lit≤ tt, lit≤ tt), tt); rest = (refl, at_first.rest.1) };
+      later = [];
+      handed = refl;
+    };
     left = [];
     bytes = append-nil (flat_map line_bytes (lines plan_two));
-    site = 2;
-    limit = 9;
-    body = board_lines board;
-    is_body = (tt, (tt, tt));
-    lines = lines_brought (fetch_two ∷ []);
-    waiting = Bye ∷ [];
-    progress = clean;
-    reads = read_all plan_two is_plain_two spelled_two;
-    downs = downs_two;
-    held = Some [];
-    said = record { sound = ((lit≤ tt, lit≤ tt), tt); rest = (refl, at_first.rest.1) };
-    later = [];
-    handed = refl;
   };
   causal = causal_two;
 }

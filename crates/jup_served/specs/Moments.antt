@@ -1,25 +1,20 @@
 -- A site that a session serves, at some moment before it begins to leave; and the client at the other end.
-use Rattle.std.specs.Prelude.{◌≡◌, ℕ, ◌≤◌, Bool, List, ◌∷◌, ◌++◌, map, Option}
+use Rattle.std.specs.Prelude.{◌≡◌, ℕ, ◌≤◌, Bool, List, ◌∷◌, ◌++◌}
 use Rattle.std.specs.List.{flat_map, AllByRecursion}
 use Rattle.jup_limits.specs.Limits.{highest_limit}
 use Rattle.jup_batch.specs.BatchBoards.{BoardBatch}
 use Rattle.jup_star.specs.declared.messages.Up.{Up}
-use Rattle.jup_star.specs.declared.messages.Down.{Down}
 use Rattle.jup_hub.specs.declared.view.HubEvent.{HubEvent}
 use Rattle.jup_hub.specs.Histories.{calls_by, BeginsWith}
 use Rattle.jup_hub.specs.Knowledge.{Meets}
-use Rattle.jup_wire.specs.declared.line.Line.{Line}
 use Rattle.jup_wire.specs.declared.line.Line.TheVariants.{Hello}
 use Rattle.jup_wire.specs.Grammar.{spelling, HasSpelling}
-use Rattle.jup_wire.specs.Streams.{Progress, HasRead}
-use Rattle.jup_gather.specs.Pieces.{HasGathered}
-use Rattle.jup_gather.specs.Ways.{down_piece}
 use Rattle.jup_session.specs.Sessions.{HasMadeNone}
 use Rattle.jup_session.specs.SessionBytes.{bytes_read, bytes_written}
 use Rattle.jup_world.specs.Openings.{IsOpening}
 use Rattle.jup_honest.specs.Connections.{IsCausalThrough}
 use Rattle.jup_honest.specs.SiteRuns.{SiteRun, opening, calls, start, now}
-use Rattle.jup_socket.specs.Sockets.{all_said, said_lines, greeting, IsWithinBoard}
+use Rattle.jup_socket.specs.Sockets.{all_said, said_lines, Received}
 use Rattle.jup_served.specs.Ended.{Ended, ServesSite, answer_of, writer_of, fetches_for}
 
 -- The session was given a pass that had made no call. The pass that it gave back meets the history `log`, and the run has the first
@@ -42,25 +37,11 @@ pub record HasWritten (run : SiteRun) (read : List ℕ) : Type 0 where
   pub left : List ℕ
   pub bytes : read ++ left ≡ flat_map spelling (Hello ∷ said_lines (all_said ((now run).sent ++ more) bye))
 
--- The client read the first of the bytes that the session wrote. These are a greeting, then whole lines, some of which may wait, and then a part of
--- one. By the others the server said some messages, and the first of these were delivered to the site so far
+-- The client read the first of the bytes that the session wrote, and delivered to the site what the site received so far
 pub record HasReceived (run : SiteRun) (written : List ℕ) : Type 0 where
-  pub read : List ℕ
+  pub received : Received (now run).handed
   pub left : List ℕ
-  pub bytes : read ++ left ≡ written
-  pub site : ℕ
-  pub limit : ℕ
-  pub body : List Line
-  pub is_body : AllByRecursion IsWithinBoard body
-  pub lines : List Line
-  pub waiting : List Line
-  pub progress : Progress
-  pub reads : HasRead read (greeting site limit body ++ (lines ++ waiting)) progress
-  pub downs : List (Down BoardBatch)
-  pub held : Option (List Line)
-  pub said : HasGathered lines (map down_piece downs) held
-  pub later : List (Down BoardBatch)
-  pub handed : downs ≡ (now run).handed ++ later
+  pub bytes : received.read ++ left ≡ written
 
 -- A session serves the site of this run, over the board and the limit that its hub was opened with. Its client is of this product, and no message
 -- came before it was sent. Each line that the session is to write has a spelling

@@ -140,29 +140,29 @@ downs_first (d ∷ ds) (t ∷ ts) last rest ends e =
 module _ (answer : Joined) (a : Connection) (d : DownSocket answer a) where
   -- what is left of the lines after those that were read
   rest : List Line
-  rest = (on_the_way d.read d.left (greeting d.site d.limit d.body ++ (d.lines ++ d.waiting)) (written_down answer a.fetched d.last) d.progress d.spelled d.reads d.bytes).1.0
+  rest = (on_the_way d.received.read d.left (greeting d.received.site d.received.limit d.received.body ++ (d.received.lines ++ d.received.waiting)) (written_down answer a.fetched d.last) d.received.progress d.spelled d.received.reads d.bytes).1.0
 
-  whole : written_down answer a.fetched d.last ≡ (greeting d.site d.limit d.body ++ (d.lines ++ d.waiting)) ++ rest
+  whole : written_down answer a.fetched d.last ≡ (greeting d.received.site d.received.limit d.received.body ++ (d.received.lines ++ d.received.waiting)) ++ rest
   unfolding rest
-  whole = (on_the_way d.read d.left (greeting d.site d.limit d.body ++ (d.lines ++ d.waiting)) (written_down answer a.fetched d.last) d.progress d.spelled d.reads d.bytes).1.1
+  whole = (on_the_way d.received.read d.left (greeting d.received.site d.received.limit d.received.body ++ (d.received.lines ++ d.received.waiting)) (written_down answer a.fetched d.last) d.received.progress d.spelled d.received.reads d.bytes).1.1
 
   -- after the first line
-  behind : board_lines answer.board ++ line.Ready ∷ (messages_down a.fetched ++ d.last) ≡ d.body ++ line.Ready ∷ ((d.lines ++ d.waiting) ++ rest)
+  behind : board_lines answer.board ++ line.Ready ∷ (messages_down a.fetched ++ d.last) ≡ d.received.body ++ line.Ready ∷ ((d.received.lines ++ d.received.waiting) ++ rest)
   behind =
       sym (append_assoc (board_lines answer.board) (line.Ready ∷ []) (messages_down a.fetched ++ d.last))
-      ∙ tail_of (line.Welcome answer.site answer.limit) (line.Welcome d.site d.limit) _ _ whole
-      ∙ append_assoc (d.body ++ line.Ready ∷ []) (d.lines ++ d.waiting) rest
-      ∙ append_assoc d.body (line.Ready ∷ []) ((d.lines ++ d.waiting) ++ rest)
+      ∙ tail_of (line.Welcome answer.site answer.limit) (line.Welcome d.received.site d.received.limit) _ _ whole
+      ∙ append_assoc (d.received.body ++ line.Ready ∷ []) (d.received.lines ++ d.received.waiting) rest
+      ∙ append_assoc d.received.body (line.Ready ∷ []) ((d.received.lines ++ d.received.waiting) ++ rest)
 
-  parts : (board_lines answer.board ≡ d.body) × (messages_down a.fetched ++ d.last ≡ (d.lines ++ d.waiting) ++ rest)
-  parts = up_to_ready (board_lines answer.board) d.body (messages_down a.fetched ++ d.last) ((d.lines ++ d.waiting) ++ rest) (board_within answer.board) d.is_body behind
+  parts : (board_lines answer.board ≡ d.received.body) × (messages_down a.fetched ++ d.last ≡ (d.received.lines ++ d.received.waiting) ++ rest)
+  parts = up_to_ready (board_lines answer.board) d.received.body (messages_down a.fetched ++ d.last) ((d.received.lines ++ d.received.waiting) ++ rest) (board_within answer.board) d.received.is_body behind
 
-  pub greeted : (d.site ≡ answer.site) × (d.limit ≡ answer.limit) × (d.body ≡ board_lines answer.board)
+  pub greeted : (d.received.site ≡ answer.site) × (d.received.limit ≡ answer.limit) × (d.received.body ≡ board_lines answer.board)
   greeted =
-      let first : line.Welcome answer.site answer.limit ≡ line.Welcome d.site d.limit = head_of _ _ _ _ whole in
+      let first : line.Welcome answer.site answer.limit ≡ line.Welcome d.received.site d.received.limit = head_of _ _ _ _ whole in
       (cc, cc, sym parts.0)
 
-  pub opened : IsBoard answer.board → length (board_lines answer.board) < 4294967295 → board_with d.body ≡ Ok (bare answer.board)
+  pub opened : IsBoard answer.board → length (board_lines answer.board) < 4294967295 → board_with d.received.body ≡ Ok (bare answer.board)
   opened is short = ap (λ ls. board_with ls) (sym parts.0) ∙ round_trip answer.board is short
 
   -- the messages
@@ -170,20 +170,20 @@ module _ (answer : Joined) (a : Connection) (d : DownSocket answer a) where
   spelled_down = all_first HasSpelling (messages_down a.fetched) d.last
       (all_later HasSpelling (greeting answer.site answer.limit (board_lines answer.board)) (messages_down a.fetched ++ d.last) d.spelled)
 
-  all_pieces : all_lines (map down_piece a.fetched ++ map (λ l. Alone l) d.last) ≡ d.lines ++ (d.waiting ++ rest)
+  all_pieces : all_lines (map down_piece a.fetched ++ map (λ l. Alone l) d.last) ≡ d.received.lines ++ (d.received.waiting ++ rest)
   all_pieces =
       flat_map-append piece_lines (map down_piece a.fetched) (map (λ l. Alone l) d.last)
       ∙ ap (λ ls. ls ++ all_lines (map (λ l. Alone l) d.last)) (sym (mapped_lines down_piece a.fetched))
       ∙ ap (λ ls. messages_down a.fetched ++ ls) (lone_lines d.last)
-      ∙ parts.1 ∙ append_assoc d.lines d.waiting rest
+      ∙ parts.1 ∙ append_assoc d.received.lines d.received.waiting rest
 
   pub down_reliable : Begins a.fetched a.handed
   down_reliable =
-      let first = gathered_first d.lines (d.waiting ++ rest) (map down_piece d.downs) (map down_piece a.fetched ++ map (λ l. Alone l) d.last) d.held d.said
+      let first = gathered_first d.received.lines (d.received.waiting ++ rest) (map down_piece d.received.downs) (map down_piece a.fetched ++ map (λ l. Alone l) d.last) d.received.held d.received.said
       (all-append IsPiece (map down_piece a.fetched) (map (λ l. Alone l) d.last) (downs_are_pieces a.fetched spelled_down) (lasts_are_pieces d.last d.ends)) all_pieces in
-      downs_first a.fetched a.handed d.last (map down_piece d.later ++ first.0) d.ends
-      (first.1 ∙ ap (λ ds. map down_piece ds ++ first.0) d.handed ∙ ap (λ ps. ps ++ first.0) (map-append down_piece a.handed d.later)
-      ∙ append_assoc (map down_piece a.handed) (map down_piece d.later) first.0)
+      downs_first a.fetched a.handed d.last (map down_piece d.received.later ++ first.0) d.ends
+      (first.1 ∙ ap (λ ds. map down_piece ds ++ first.0) d.received.handed ∙ ap (λ ps. ps ++ first.0) (map-append down_piece a.handed d.received.later)
+      ∙ append_assoc (map down_piece a.handed) (map down_piece d.received.later) first.0)
 
 -- # Both
 

@@ -76,15 +76,10 @@ messages_down downs = flat_map down_lines downs
 abbrev pub written_down : Joined → List (Down BoardBatch) → List Line → List Line
 written_down answer fetched last = greeting answer.site answer.limit (board_lines answer.board) ++ (messages_down fetched ++ last)
 
--- The bytes that the session wrote, or is to write, are those of that. The client read the first of them: these are a greeting, then whole lines, some of
--- which may wait, and then a part of one. By the others the server said all that, and the first of these messages were delivered to the site
-pub record DownSocket (answer : Joined) (c : Connection) : Type 0 where
-  pub last : List Line
-  pub ends : AllByRecursion IsLast last
-  pub spelled : AllByRecursion HasSpelling (written_down answer c.fetched last)
+-- What a client read: a greeting, then whole lines, some of which may wait, and then a part of one. By the others the server said some messages, and the
+-- first of these were delivered to the site
+pub record Received (delivered : List (Down BoardBatch)) : Type 0 where
   pub read : List ℕ
-  pub left : List ℕ
-  pub bytes : read ++ left ≡ flat_map spelling (written_down answer c.fetched last)
   pub site : ℕ
   pub limit : ℕ
   pub body : List Line
@@ -97,7 +92,16 @@ pub record DownSocket (answer : Joined) (c : Connection) : Type 0 where
   pub held : Option (List Line)
   pub said : HasGathered lines (map down_piece downs) held
   pub later : List (Down BoardBatch)
-  pub handed : downs ≡ c.handed ++ later
+  pub handed : downs ≡ delivered ++ later
+
+-- The bytes that the session wrote, or is to write, are those of that. The client read the first of them
+pub record DownSocket (answer : Joined) (c : Connection) : Type 0 where
+  pub last : List Line
+  pub ends : AllByRecursion IsLast last
+  pub spelled : AllByRecursion HasSpelling (written_down answer c.fetched last)
+  pub received : Received c.handed
+  pub left : List ℕ
+  pub bytes : received.read ++ left ≡ flat_map spelling (written_down answer c.fetched last)
 
 -- # Both
 

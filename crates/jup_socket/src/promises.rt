@@ -35,9 +35,10 @@ pub fn sockets_are_reliable()
         → IsLegal (opening run) (calls run) → IsCausalThrough run.steps (start run) → AtSocket run.answer (now run)
         → IsHonest run }
     ensures greeted { (answer : Joined) (c : Connection) (s : DownSocket answer c)
-        → (s.site ≡ answer.site) × (s.limit ≡ answer.limit) × (s.body ≡ board_lines answer.board) }
+        → (s.received.site ≡ answer.site) × (s.received.limit ≡ answer.limit)
+        × (s.received.body ≡ board_lines answer.board) }
     ensures opened { (answer : Joined) (c : Connection) (s : DownSocket answer c) → IsBoard answer.board
-        → length (board_lines answer.board) < 4294967295 → board_with s.body ≡ Ok (bare answer.board) }
+        → length (board_lines answer.board) < 4294967295 → board_with s.received.body ≡ Ok (bare answer.board) }
 {}
 
 /// What a client of `jup_rules` does for an edit, and for a message that it hears, is a step of its site. It

@@ -1,5 +1,5 @@
 -- What lines begin with, by what they are gathered to.
-use Rattle.std.proofs.Common.{◌≡◌, ℕ, ◌+◌, ◌<◌, ◌≤◌, inl, inr, List, [], ◌∷◌, ◌++◌, length, get_or, Option, Some, None, Result, refl, sym, ap, subst, ◌∙◌, append_assoc, arith, length-append}
+use Rattle.std.proofs.Common.{◌≡◌, ℕ, ◌+◌, ◌<◌, ◌≤◌, inl, inr, List, [], ◌∷◌, ◌++◌, length, drop, get_or, Option, Some, None, Result, refl, sym, ap, subst, ◌∙◌, append_assoc, arith, length-append}
 use Rattle.std.specs.Prelude.{MatchOption}
 use Rattle.std.specs.Option.{ok_or}
 use Rattle.std.specs.Result.{result_ok}
@@ -23,6 +23,7 @@ use Rattle.jup_gather.proofs.OneGathering.{one_piece, part_begins_none}
 use Rattle.jup_lane.specs.Codecs.{IsFirst, IsFirstIn}
 use Rattle.jup_lane.specs.Messages.{codec}
 use Rattle.jup_lane.specs.Firsts.{IsFirstOf}
+use Rattle.jup_lane.proofs.LaneLaws.{begins}
 
 -- ---- lines that are gone over
 
@@ -76,16 +77,6 @@ IsPieceThere piece there (Some (Plain plain)) = (piece ≡ Alone plain) × (leng
 IsPieceThere piece there (Some Held) = ⊥
 IsPieceThere piece there (Some Misplaced) = ⊥
 
--- the shorter of two that begin one list begins the longer
-begins_longer : (xs ys short bs : List Line) → xs ++ ys ≡ short ++ bs → length short ≤ length xs → (more : List Line) × (xs ≡ short ++ more)
-begins_longer xs ys [] bs e le = (xs, refl)
-begins_longer [] ys (a ∷ short) bs e le = absurd (omega (arith, le))
-begins_longer (x ∷ xs) ys (a ∷ short) bs e le =
-    let rest = begins_longer xs ys short bs (cc) (omega (arith, le)) in
-    let first : x ≡ a = cc in
-    let later = rest.1 in
-    (rest.0, cc)
-
 there_is : (there more : List Line) (piece other : Piece) (rest later : List Line) → IsPiece piece → IsPiece other → there ≡ piece_lines other ++ rest → there ++ more ≡ piece_lines piece ++ later
     → (piece ≡ other) × (length (piece_lines piece) ≤ length there)
 there_is there more piece other rest later is is_other e all =
@@ -99,7 +90,7 @@ unfolding IsPieceThere
 piece_there there more piece later None is all none =
     elim (cases_lt (length there) (length (piece_lines piece))) [
       | inl lt ↦ lt
-      | inr le ↦ absurd (let rest = begins_longer there more (piece_lines piece) later all le in none piece rest.0 is rest.1)
+      | inr le ↦ absurd (none piece (drop (length (piece_lines piece)) there) is (begins there more (piece_lines piece) later all le))
     ]
 piece_there there more piece later (Some (Whole m)) is all first = there_is there more piece (Message m) first.1.0 later is first.0 first.1.1 all
 piece_there there more piece later (Some (Plain plain)) is all first = there_is there more piece (Alone plain) first.1.0 later is first.0 first.1.1 all

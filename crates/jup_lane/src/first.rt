@@ -3,12 +3,12 @@ ghost use Rattle.std.specs.Prelude.{◌≡◌, length, IfOk, IfSome, IsTrue};
 ghost use Rattle.jup_gather.specs.declared.gathered.Gathered.TheVariants as gathered;
 ghost use Rattle.jup_wire.specs.Singles.{BeginsLines};
 ghost use Rattle.jup_gather.specs.Pieces.{BeginsNone, message_lines};
-ghost use Rattle.jup_lane.specs.Codecs.{IsFirstIn, IsOldestIn};
+ghost use Rattle.jup_lane.specs.Codecs.{IsOldestIn};
 ghost use Rattle.jup_lane.specs.Firsts.{IsFirstOf};
 ghost use Rattle.jup_lane.specs.Messages.{codec};
 
 use jup_batch::BoardBatch;
-use jup_gather::{Gather, Gathered, Message, Shape, message_of};
+use jup_gather::{Gather, Gathered, Message, Shape};
 use jup_link::Msg;
 use jup_wire::{Line, read_single};
 use jup_xform::{Batch, NoMemory};
@@ -49,25 +49,8 @@ pub(crate) fn is_short(there: &VecDeque<Line>) -> bool
     }
 }
 
-/// The message that begins some lines; none if not all of its lines are there.
-pub(crate) fn first<M: Message>(
-    alloc: Global,
-    there: &VecDeque<Line>,
-) -> Result<Option<M>, NoMemory>
-    ensures { IfOk result (λ first. IsFirstIn (codec M.Message) there.now.items first) }
-{
-    // Most messages are of one operation, and need no gathering.
-    if let Some(msg) = single(there) {
-        return Ok(Some(M::edit(msg)));
-    }
-    match first_of(alloc, there)? {
-        Some(gathered) => Ok(message_of(gathered).ok()),
-        None => Ok(None),
-    }
-}
-
-// The message of one operation that begins these lines, if one does.
-fn single(there: &VecDeque<Line>) -> Option<Msg<BoardBatch>>
+/// The message of one operation that begins these lines, if one does.
+pub(crate) fn single(there: &VecDeque<Line>) -> Option<Msg<BoardBatch>>
     ensures { IfSome result (λ msg. IsFirstOf there.now.items (Some (gathered.Whole msg))) }
 {
     let Some(
@@ -90,8 +73,8 @@ fn single(there: &VecDeque<Line>) -> Option<Msg<BoardBatch>>
     })
 }
 
-// What some lines begin with: a message or a line that stands alone, if all its lines are there.
-fn first_of(alloc: Global, there: &VecDeque<Line>) -> Result<Option<Gathered>, NoMemory>
+/// What some lines begin with: a message or a line that stands alone, if all its lines are there.
+pub(crate) fn first_of(alloc: Global, there: &VecDeque<Line>) -> Result<Option<Gathered>, NoMemory>
     ensures { IfOk result (λ first. IsFirstOf there.now.items first) }
 {
     let mut gather = Gather::new();

@@ -4,13 +4,13 @@ ghost use Rattle.jup_lane.specs.Codecs.{bytes_of};
 ghost use Rattle.jup_lane.specs.Messages.{codec};
 ghost use Rattle.jup_lane.specs.Lanes.{no_bytes, sent, moved, handed_over, IsIdle, messages, IsWhole, IsFilled, IsMovedOn};
 
-use crate::edits::MOST_MESSAGE;
 use crate::first::read;
-use crate::track::Track;
-use jup_gather::Message;
+use crate::stream::Stream;
+use crate::tray::Tray;
+use jup_gather::{MOST_MESSAGE, Message};
 use jup_xform::NoMemory;
 use std::alloc::Global;
-use std::marker::Model;
+use std::marker::{Model, PhantomData};
 
 /// One way of a link, as a queue of messages whose store is bytes.
 ///
@@ -19,23 +19,25 @@ use std::marker::Model;
 /// reader.
 #[derive(Drop)]
 pub struct Lane<M: Message> {
-    track: Track<M>,
+    tray: Tray,
+    stream: Stream,
     // How many bytes of the stream count as given to the reader: none, or those of the oldest message.
     ahead: usize,
+    of: PhantomData<M>,
 }
 
 impl<M: Message> Model for Lane<M> {
     ghost use Rattle.jup_lane.specs.Messages.{codec};
-    ghost use Rattle.jup_lane.specs.Lanes.{LaneState, moved, IsAhead};
+    ghost use Rattle.jup_lane.specs.Lanes.{LaneState, moved, IsLane};
 
     ghost Value = { LaneState };
 
     ghost view = { λ a. record {
-      way = moved a.ahead a.track.way;
-      spare = a.track.spare;
+      way = moved a.ahead (record { read = a.tray; stream = a.stream.bytes });
+      spare = a.stream.spare;
     } };
 
-    ghost invariant = { λ a. IsAhead (codec M.Message) a.ahead a.track.way };
+    ghost invariant = { λ a. IsLane (codec M.Message) a.ahead (record { read = a.tray; stream = a.stream.bytes }) };
 }
 
 impl<M: Message> Lane<M> {
@@ -45,8 +47,10 @@ impl<M: Message> Lane<M> {
         ensures messages { messages (codec M.Message) result.way ≡ [] }
     {
         Lane {
-            track: Track::new(alloc),
+            tray: Tray::new(alloc),
+            stream: Stream::new(alloc),
             ahead: 0,
+            of: PhantomData,
         }
     }
 
@@ -55,7 +59,7 @@ impl<M: Message> Lane<M> {
         ensures way { self.new.way ≡ self.old.way }
         ensures ok { OnOk result (MOST_MESSAGE ≤ self.new.spare) }
     {
-        self.track.reserve()
+        self.stream.reserve(MOST_MESSAGE)
     }
 
     /// Writes a message into the stream. It takes no memory.
@@ -66,7 +70,7 @@ impl<M: Message> Lane<M> {
         ensures way { self.new.way ≡ sent (bytes_of (codec M.Message) message.now) self.old.way }
         ensures messages { messages (codec M.Message) self.new.way ≡ messages (codec M.Message) self.old.way ++ message.now ∷ [] }
     {
-        self.track.send(message);
+        self.stream.write(message);
     }
 
     /// The oldest message. Those of its bytes that the reader has not are moved first; if an allocation
@@ -80,9 +84,19 @@ impl<M: Message> Lane<M> {
         if let Some(message) = self.read_ahead() {
             return Ok(Some(message));
         }
-        self.track.take_in(alloc, self.ahead)?;
+        self.tray
+            .take_in(alloc, &self.stream.as_slice()[..self.ahead])?;
+        self.stream.drop_front(self.ahead);
         self.ahead = 0;
-        self.track.first(alloc)
+        loop {
+            if let Some(message) = self.tray.first(alloc)? {
+                return Ok(Some(message));
+            }
+            match self.tray.take_line(alloc, self.stream.as_slice())? {
+                Some(count) => self.stream.drop_front(count),
+                None => return Ok(None),
+            }
+        }
     }
 
     // The oldest message, if it can be read in place. Its bytes count as given to the reader then.
@@ -91,10 +105,10 @@ impl<M: Message> Lane<M> {
         ensures whole { IfSome result (λ message. IsWhole (codec M.Message) self.new.way (Some message)) }
         ensures none { IsNone result → self.new.way ≡ self.old.way }
     {
-        if !self.track.has_read_nothing() {
+        if !self.tray.is_empty() {
             return None;
         }
-        let (message, len) = read(self.track.as_slice())?;
+        let (message, len) = read(self.stream.as_slice())?;
         self.ahead = len;
         Some(message)
     }
@@ -106,9 +120,9 @@ impl<M: Message> Lane<M> {
         ensures messages { messages (codec M.Message) self.old.way ≡ message.now ∷ messages (codec M.Message) self.new.way }
     {
         if self.ahead == 0 {
-            self.track.drop_first(message);
+            self.tray.drop_first(message);
         } else {
-            self.track.drop_unread(self.ahead);
+            self.stream.drop_front(self.ahead);
             self.ahead = 0;
         }
     }
@@ -120,16 +134,21 @@ impl<M: Message> Lane<M> {
         ensures err { OnErr result (self.new.way ≡ self.old.way) }
         ensures messages { messages (codec M.Message) self.new.way ≡ messages (codec M.Message) self.old.way }
     {
-        self.track.take_in(alloc, self.ahead)?;
+        let most = most as usize;
+        let there = self.stream.as_slice().len() - self.ahead;
+        let count = if most < there { most } else { there };
+        let end = self.ahead + count;
+        self.tray.take_in(alloc, &self.stream.as_slice()[..end])?;
+        self.stream.drop_front(end);
         self.ahead = 0;
-        self.track.push(alloc, most)
+        Ok(count)
     }
 
     /// Whether the stream has no byte. There may still be some that the reader was given.
     pub fn is_stream_empty(&self) -> bool
         ensures { IsTrue result ↔ (self.now.way.stream ≡ []) }
     {
-        self.track.as_slice().len() == self.ahead
+        self.stream.as_slice().len() == self.ahead
     }
 
     /// Whether no byte is on its way, which is so exactly if no message is.
@@ -137,6 +156,6 @@ impl<M: Message> Lane<M> {
         ensures idle { IsTrue result ↔ IsIdle self.now.way }
         ensures messages { IsTrue result ↔ (messages (codec M.Message) self.now.way ≡ []) }
     {
-        self.track.is_idle()
+        self.tray.is_empty() && self.stream.as_slice().is_empty()
     }
 }

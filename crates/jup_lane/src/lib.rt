@@ -8,13 +8,11 @@
 ghost use Rattle.jup_lane.specs.Codecs.{IsCodec};
 ghost use Rattle.jup_lane.specs.Messages.{ups, downs};
 
-mod edits;
 mod first;
 mod lane;
 mod stream;
-mod track;
+mod tray;
 
-pub use edits::MOST_MESSAGE;
 pub use lane::Lane;
 
 /// The messages of a link are lines: each has a line at least, its lines have spellings, and the lines of some

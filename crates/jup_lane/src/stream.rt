@@ -1,10 +1,9 @@
 //! Bytes that are written at one end and dropped at the other.
-ghost use Rattle.std.specs.Prelude.{◌≡◌, ◌↔◌, ◌≤◌, [], ◌++◌, length, drop, IsTrue, OnOk};
+ghost use Rattle.std.specs.Prelude.{◌≡◌, ◌≤◌, [], ◌++◌, length, drop, OnOk};
 ghost use Rattle.jup_lane.specs.Codecs.{bytes_of};
 ghost use Rattle.jup_lane.specs.Messages.{codec};
 
-use crate::edits::{MOST_MESSAGE, write};
-use jup_gather::Message;
+use jup_gather::{MOST_MESSAGE, Message, write_message};
 use jup_xform::NoMemory;
 use std::alloc::Global;
 use std::marker::Model;
@@ -47,12 +46,6 @@ impl Stream {
         &self.bytes[self.start..]
     }
 
-    pub(crate) fn is_empty(&self) -> bool
-        ensures { IsTrue result ↔ (self.now.bytes ≡ []) }
-    {
-        self.as_slice().is_empty()
-    }
-
     /// Makes room for so many more bytes.
     pub(crate) fn reserve(&mut self, more: usize) -> Result<(), NoMemory>
         ensures bytes { self.new.bytes ≡ self.old.bytes }
@@ -82,7 +75,7 @@ impl Stream {
         ensures spelled { (codec M.Message).IsSpelled message.now }
         ensures bytes { self.new.bytes ≡ self.old.bytes ++ bytes_of (codec M.Message) message.now }
     {
-        write(message, &mut self.bytes);
+        write_message(message, &mut self.bytes);
     }
 
     /// Drops the oldest bytes.

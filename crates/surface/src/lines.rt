@@ -1,8 +1,7 @@
-//! `jup_wire`, `jup_layout`, `jup_gather`, `jup_lane` and `jup_text`: lines, messages and printed texts.
+//! `jup_wire`, `jup_layout`, `jup_gather` and `jup_text`: lines, messages and printed texts.
 
 use jup_batch::{BoardBatch, BoardEdits};
-use jup_gather::{Gather, Gathered, lines_of_op};
-use jup_lane::MOST_MESSAGE;
+use jup_gather::{Gather, Gathered, MOST_MESSAGE, lines_of_op};
 use jup_layout::{BoardBuilder, LayoutFault, board_of, layout, lines_of};
 use jup_link::Msg;
 use jup_window::{Board, Command};

@@ -22,7 +22,8 @@ ghost use Rattle.jup_world.specs.Happenings.{with_answer, Rises, IsRefused, refi
 use super::refusals::edit_refusal;
 use crate::Reply;
 use jup_batch::{BoardBatch, BoardEdits};
-use jup_lane::{Lane, MOST_MESSAGE};
+use jup_gather::MOST_MESSAGE;
+use jup_lane::Lane;
 use jup_link::Msg;
 use jup_star::{Down, Made, Site, SiteFault, Star, StarFault, Up};
 use jup_window::{Command, Within};

@@ -13,10 +13,6 @@ use Rattle.jup_value.specs.declared.names.Item.{Item}
 use Rattle.jup_embed.specs.Changes.{kept}
 use Rattle.jup_embed.specs.Views.{values_of}
 
-pub flat_map-map : {A B C : Type 0} (f : B → List C) (g : A → B) (xs : List A) → flat_map f (map g xs) ≡ flat_map (λ x. f (g x)) xs
-flat_map-map f g [] = refl
-flat_map-map f g (x ∷ xs) = ap (λ ys. f (g x) ++ ys) (flat_map-map f g xs)
-
 pub one_line : (line : Line) → flat_map line_bytes (line ∷ []) ≡ line_bytes line
 one_line line = append-nil (line_bytes line)
 

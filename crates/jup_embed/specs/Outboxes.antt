@@ -15,7 +15,3 @@ pub record Waiting : Type 0 where
 abbrev pub said_bytes : Option Said → List ℕ
 said_bytes None = []
 said_bytes (Some said) = flat_map line_bytes (piece_lines (said_piece said))
-
--- room for the most that a client says by one call or one line: 33 lines of at most 128 bytes
-abbrev pub most_said : ℕ
-most_said = 4224

@@ -1,5 +1,5 @@
 -- What the two ways of a link carry: an edit is a message of several lines, and everything else is a line that stands alone.
-use Rattle.std.specs.Prelude.{◌≡◌, IsTrue, Option, Some, None, Result, Ok, Err, refl}
+use Rattle.std.specs.Prelude.{◌≡◌, IsTrue, Option, Some, None, Result, Err, refl}
 use Rattle.std.specs.Option.{ok_or}
 use Rattle.jup_batch.specs.BatchBoards.{BoardBatch}
 use Rattle.jup_star.specs.declared.messages.Up.{Up}

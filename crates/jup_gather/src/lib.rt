@@ -11,9 +11,11 @@ mod lines;
 mod part;
 mod step;
 mod ways;
+mod writing;
 
 pub use gather::Gather;
 pub use gathered::Gathered;
 pub use laws::{message_comes_whole, one_gathering};
 pub use lines::{lines_of_op, put_op};
 pub use ways::{Message, Shape, message_of, put_message};
+pub use writing::{MOST_MESSAGE, write_message};

@@ -42,8 +42,8 @@ pub trait Message: Drop {
         ensures { piece result ≡ pieces.Message msg };
 
     /// The message that a line alone is, if it is one of this way.
-    fn alone(line: Line) -> Option<Self>
-        ensures { result ≡ of_piece (pieces.Alone line) };
+    fn alone(line: &Line) -> Option<Self>
+        ensures { result ≡ of_piece (pieces.Alone line.now) };
 }
 
 impl Message for Up {
@@ -70,10 +70,10 @@ impl Message for Up {
         Up::Op(msg)
     }
 
-    fn alone(line: Line) -> Option<Up> {
+    fn alone(line: &Line) -> Option<Up> {
         match line {
-            Line::Ack(count) => Some(Up::Ack(count)),
-            Line::Ping(number) => Some(Up::Ping(number)),
+            Line::Ack(count) => Some(Up::Ack(*count)),
+            Line::Ping(number) => Some(Up::Ping(*number)),
             _ => None,
         }
     }
@@ -103,10 +103,10 @@ impl Message for Down {
         Down::Op(msg)
     }
 
-    fn alone(line: Line) -> Option<Down> {
+    fn alone(line: &Line) -> Option<Down> {
         match line {
-            Line::Ack(count) => Some(Down::Ack(count)),
-            Line::Pong(number) => Some(Down::Pong(number)),
+            Line::Ack(count) => Some(Down::Ack(*count)),
+            Line::Pong(number) => Some(Down::Pong(*number)),
             _ => None,
         }
     }
@@ -128,7 +128,7 @@ pub fn message_of<M: Message>(gathered: Gathered) -> Result<M, Gathered>
 {
     match gathered {
         Gathered::Whole(msg) => Ok(M::edit(msg)),
-        Gathered::Plain(line) => M::alone(line).ok_or(Gathered::Plain(line)),
+        Gathered::Plain(line) => M::alone(&line).ok_or(Gathered::Plain(line)),
         other => Err(other),
     }
 }

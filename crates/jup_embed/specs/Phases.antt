@@ -1,11 +1,11 @@
 -- What a line of the server makes of a session.
-use Rattle.std.specs.Prelude.{◌≡◌, List, false, Option, Some, None, Result, Ok, Err}
+use Rattle.std.specs.Prelude.{◌≡◌, false, Option, Some, None, Result, Ok, Err}
 use Rattle.jup_wire.specs.declared.line.Line.{Line}
 use Rattle.jup_rules.specs.declared.ends.ClientEnd.{ClientEnd}
 use Rattle.jup_rules.specs.declared.client.Heard.{Heard}
 use Rattle.jup_rules.specs.declared.client.ClientState.{ClientState}
 use Rattle.jup_rules.specs.declared.client.Opening.{Opening}
-use Rattle.jup_rules.specs.Clients.{Hears, HasTold, IsGreeted, HearsWelcome}
+use Rattle.jup_rules.specs.Clients.{Hears, IsGreeted, HearsWelcome}
 use Rattle.jup_embed.specs.declared.phase.Phase.{Phase}
 use Rattle.jup_embed.specs.declared.phase.Phase.TheVariants as phase
 
@@ -18,11 +18,7 @@ abbrev pub Greets : Result Opening ClientEnd → Phase → Result Heard ClientEn
 Greets (Ok opening) old r new = (r ≡ Ok nothing_heard) × (new ≡ phase.Opening opening)
 Greets (Err end) old r new = (r ≡ Err end) × (new ≡ old)
 
--- a later line of the welcome, whatever lines of the board came before
-abbrev pub OpeningHears : Line → Opening → Result (Option ClientState) ClientEnd → Opening → Type 0
-OpeningHears line old r new = (lines : List Line) → HasTold lines old.board → HearsWelcome line lines old r new
-
--- what that makes of the session
+-- what a later line of the welcome makes of the session
 abbrev pub Opens : Opening → Result (Option ClientState) ClientEnd → Result Heard ClientEnd → Phase → Type 0
 Opens opening (Ok None) r new = (r ≡ Ok nothing_heard) × (new ≡ phase.Opening opening)
 Opens opening (Ok (Some state)) r new = (r ≡ Ok nothing_heard) × (new ≡ phase.Open state)
@@ -31,6 +27,6 @@ Opens opening (Err end) r new = r ≡ Err end
 -- the greeting, then the rest of the welcome, then messages, which the client hears
 abbrev pub PhaseHears : Line → Phase → Result Heard ClientEnd → Phase → Type 0
 PhaseHears line phase.Greeting r new = (opened : Result Opening ClientEnd) × IsGreeted line opened × Greets opened phase.Greeting r new
-PhaseHears line (phase.Opening old) r new = (taken : Result (Option ClientState) ClientEnd) × (opening : Opening) × OpeningHears line old taken opening × Opens opening taken r new
+PhaseHears line (phase.Opening old) r new = (taken : Result (Option ClientState) ClientEnd) × (opening : Opening) × HearsWelcome line old taken opening × Opens opening taken r new
 PhaseHears line (phase.Open old) r new = (state : ClientState) × Hears line old r state × (new ≡ phase.Open state)
 PhaseHears line (phase.Over end) r new = (r ≡ Err end) × (new ≡ phase.Over end)

@@ -1,5 +1,5 @@
 -- What is held of the lines of a welcome's board, and how the client is opened.
-use Rattle.std.proofs.Common.{◌≡◌, ◌≢◌, ◌⊎◌, ℕ, List, [], ◌∷◌, ◌++◌, Err, inl, inr, ap, ◌∙◌}
+use Rattle.std.proofs.Common.{◌≡◌, ◌≢◌, ◌⊎◌, List, [], ◌∷◌, ◌++◌, Err, inl, inr, ap, ◌∙◌}
 use Rattle.jup_wire.specs.declared.line.Line.{Line}
 use Rattle.jup_layout.specs.declared.layouts.LayoutFault.{LayoutFault}
 use Rattle.jup_layout.specs.declared.naming.Naming.TheVariants.{Distinct}

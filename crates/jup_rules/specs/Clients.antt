@@ -1,6 +1,6 @@
 -- What a client makes of its user's requests and of its server's lines.
 use Rattle.std.specs.Option.{option_map}
-use Rattle.std.specs.Prelude.{◌≡◌, ◌==◌, ◌⊎◌, ℕ, ◌+◌, Bool, false, if◌then◌else◌, List, Option, Some, None, Result, Ok, Err, IfOk, ◌∷◌, [], ◌++◌}
+use Rattle.std.specs.Prelude.{◌≡◌, ◌≢◌, IsTrue, IsFalse, true, ◌==◌, ◌⊎◌, ℕ, ◌+◌, Bool, false, if◌then◌else◌, List, Option, Some, None, Result, Ok, Err, IfOk, ◌∷◌, [], ◌++◌}
 use Rattle.jup_window.specs.Boards.{Windows}
 use Rattle.jup_window.specs.FaultNumbers.{edit_fault_number}
 use Rattle.jup_window.specs.declared.commands.Command.{Command}
@@ -12,7 +12,6 @@ use Rattle.jup_star.specs.declared.faults.OpenFault.{OpenFault}
 use Rattle.jup_star.specs.declared.faults.SiteFault.{SiteFault}
 use Rattle.jup_star.specs.declared.messages.Down.{Down}
 use Rattle.jup_star.specs.declared.messages.Down.TheVariants.{Op as DownOp, Ack as DownAck, Pong as DownPong}
-use Rattle.jup_star.specs.declared.messages.Up.{Up}
 use Rattle.jup_star.specs.declared.messages.Up.TheVariants.{Ping as UpPing}
 use Rattle.jup_star.specs.declared.site.Delivered.{Delivered}
 use Rattle.jup_star.specs.declared.site.Made.{Made}
@@ -141,12 +140,17 @@ Opens lines old (Ok None) = ⊥
 Opens lines old (Ok (Some state)) = IsOpened old.site old.limit lines (Ok state)
 Opens lines old (Err end) = IsOpened old.site old.limit lines (Err end)
 
--- a line, by what it says of a board
-abbrev pub HearsPart : Part → Line → List Line → Opening → Result (Option ClientState) ClientEnd → Opening → Type 0
-HearsPart SaysNothing line lines old r new = r ≡ Err (refusal_of line)
-HearsPart part line lines old r new = Extends line lines old r new
+-- whether a line says a part of a board
+abbrev pub says_something : Part → Bool
+says_something SaysNothing = false
+says_something part = true
 
--- a line after these of the board: `ready` opens the client, and each other is one of the board or is refused
-abbrev pub HearsWelcome : Line → List Line → Opening → Result (Option ClientState) ClientEnd → Opening → Type 0
-HearsWelcome line.Ready lines old r new = Opens lines old r
-HearsWelcome other lines old r new = HearsPart (part_of other) other lines old r new
+abbrev pub is_of_board : Line → Bool
+is_of_board line = says_something (part_of line)
+
+-- a line of a welcome after the first, whatever lines of the board came before: one of the board, or `ready`, which opens the client, and each other is
+-- refused
+pub record HearsWelcome (next : Line) (old : Opening) (r : Result (Option ClientState) ClientEnd) (new : Opening) : Type 0 where
+  pub ready : next ≡ line.Ready → (lines : List Line) → HasTold lines old.board → Opens lines old r
+  pub part : IsTrue (is_of_board next) → (lines : List Line) → HasTold lines old.board → Extends next lines old r new
+  pub other : next ≢ line.Ready → IsFalse (is_of_board next) → r ≡ Err (refusal_of next)

@@ -2,9 +2,10 @@
 ghost use Rattle.std.specs.Prelude.{◌≡◌, ◌≢◌, ℕ, List, [], ◌∷◌, ◌++◌, None, Some, IfOk, OnErr, ◌-◌, ◌≤◌, length, IsTrue, IsFalse, ◌↔◌};
 ghost use Rattle.jup_text.specs.Commands.{batch_text, IsBatchCount};
 ghost use Rattle.jup_wire.specs.declared.line.Line.{Line};
+ghost use Rattle.jup_wire.specs.declared.line.Line.TheVariants.{Ready};
 ghost use Rattle.jup_rules.specs.Requests.{begun, held, IsRequestOf, IsHeld, ComesTo};
 ghost use Rattle.jup_rules.specs.Bounds.{most_unread};
-ghost use Rattle.jup_rules.specs.Clients.{refusal_of, edit_answer, sync_answer, after_sync, down_heard, Answers, Hears, Delivers, IsOpened, HasTold, IsGreeted, HearsWelcome};
+ghost use Rattle.jup_rules.specs.Clients.{refusal_of, edit_answer, sync_answer, after_sync, down_heard, Answers, Hears, Delivers, IsOpened, HasTold, IsGreeted, Opens, Extends, is_of_board};
 ghost use Rattle.jup_rules.specs.Inboxes.{AreGiven};
 
 use crate::batch_part::BatchPart;
@@ -296,7 +297,7 @@ fn down_heard(heard: Result<Down, Gathered>) -> Result<Option<Down>, ClientEnd>
     match heard {
         Ok(down) => Ok(Some(down)),
         Err(Gathered::Held) => Ok(None),
-        Err(Gathered::Plain(line)) => Err(refusal_of(&line)),
+        Err(Gathered::Plain(Line::Error(number))) => Err(ClientEnd::Fault(number)),
         Err(_) => Err(SessionFault::Misplaced.into()),
     }
 }
@@ -356,25 +357,37 @@ impl Opening {
     /// is reported at `ready`. After a refusal the lines so far are forgotten.
     pub fn hear(&mut self, alloc: Global, line: &Line) -> Result<Option<ClientState>, ClientEnd>
         // Whatever lines of the board came before.
-        ensures { (lines : List Line) → HasTold lines self.old.board
-            → HearsWelcome line.now lines self.old result self.new }
+        ensures ready { line.now ≡ Ready → (lines : List Line) → HasTold lines self.old.board → Opens lines self.old result }
+        ensures part { IsTrue (is_of_board line.now) → (lines : List Line) → HasTold lines self.old.board
+            → Extends line.now lines self.old result self.new }
+        ensures other { line.now ≢ Ready → IsFalse (is_of_board line.now) → result ≡ Err (refusal_of line.now) }
     {
         let board = mem::replace(&mut self.board, Ok(BoardBuilder::new(alloc)));
-        match line {
-            Line::Ready => Ok(Some(opened(alloc, self.site, self.limit, board)?)),
-            Line::Window(_)
+        if let Line::Ready = line {
+            return Ok(Some(opened(alloc, self.site, self.limit, board)?));
+        }
+        if !is_of_board(line) {
+            return Err(refusal_of(line));
+        }
+        self.board = extended(alloc, board, line)?;
+        Ok(None)
+    }
+}
+
+// Whether a line says a part of a board.
+fn is_of_board(line: &Line) -> bool
+    ensures { result ≡ is_of_board line.now }
+{
+    matches!(
+        line,
+        Line::Window(_)
             | Line::Text(_)
             | Line::List(_)
             | Line::Toggle(..)
             | Line::Slider { .. }
             | Line::Char(..)
-            | Line::Item(..) => {
-                self.board = extended(alloc, board, line)?;
-                Ok(None)
-            }
-            line => Err(refusal_of(line)),
-        }
-    }
+            | Line::Item(..)
+    )
 }
 
 // The client whose site shows the board of all lines.

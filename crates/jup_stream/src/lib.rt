@@ -6,7 +6,6 @@
 #![tactic(auto)]
 
 mod output;
-mod pieces;
 mod source;
 
 pub use output::{Output, write_bytes};

@@ -174,12 +174,7 @@ fn make_room<O: Write + Drop>(to: &mut O, text: &mut Vec<u8>, has_failed: &mut b
 }
 
 // Puts a line, unless a write has failed.
-fn put_out<O: Write + Drop>(
-    to: &mut O,
-    text: &mut Vec<u8>,
-    has_failed: &mut bool,
-    line: &Line,
-)
+fn put_out<O: Write + Drop>(to: &mut O, text: &mut Vec<u8>, has_failed: &mut bool, line: &Line)
     requires { 2048 ≤ vec_capacity text.old }
     ensures puts { Puts (put_as (O.contents to.old) text.old.items has_failed.old) (line_bytes line.now) (put_as (O.contents to.new) text.new.items has_failed.new) }
     ensures capacity { vec_capacity text.old ≤ vec_capacity text.new }

@@ -14,11 +14,11 @@ use Rattle.jup_gather.specs.declared.ways.Message.{Ghosts}
 use Rattle.jup_gather.specs.Pieces.{Message, message_lines, piece_lines}
 use Rattle.jup_lane.specs.Codecs.{Codec, IsCodec, IsFirst, IsFirstIn, IsOldest, IsOldestIn, bytes_of, bytes_of_all}
 use Rattle.jup_lane.specs.Messages.{codec}
-use Rattle.jup_lane.specs.Lanes.{Way, sent, moved, handed_over, IsIdle, messages, Carries, IsWholeOf, IsWhole, IsFilled, filled_to, oldest_length, IsLane}
+use Rattle.jup_lane.specs.Lanes.{Way, no_bytes, sent, moved, handed_over, IsIdle, messages, Carries, IsWholeOf, IsWhole, IsFilled, filled_to, oldest_length, IsLane}
 use Rattle.jup_lane.proofs.Firsts.{edit_in}
-use Rattle.jup_lane.proofs.LaneLaws.{same_ways, none_both, begins, lines_spelled, bytes_are, carried-moved, carried-sent, carried-handed, idle, idle_none}
+use Rattle.jup_lane.proofs.LaneLaws.{same_ways, none_both, begins, lines_spelled, bytes_are, carried-new, carried-moved, carried-sent, carried-handed, idle, idle_none}
 use Rattle.jup_lane.proofs.MessageLines.{codec_laws}
-use Rattle.jup_lane.proofs.Whole.{moved-none, moved-twice, length-moved, whole_oldest}
+use Rattle.jup_lane.proofs.Whole.{moved-none, moved-zero, moved-twice, length-moved, whole_oldest}
 
 -- # The oldest message
 
@@ -58,11 +58,15 @@ edit_oldest t m msg len bytes begins e =
 
 module _ {Message : Type 0} (C : Codec Message) (L : IsCodec C) where
   -- none do
-  pub lane_plain : (k : ℕ) (w : Way) → k ≡ 0 → Carries C w → IsLane C k w
+  lane_plain : (k : ℕ) (w : Way) → k ≡ 0 → Carries C w → IsLane C k w
   lane_plain k w zero is = record { carries = is; within = omega (arith, zero); oldest = inl zero }
 
-  pub moved-zero : (k : ℕ) (w : Way) → k ≡ 0 → moved k w ≡ w
-  moved-zero k w zero = ap (λ j. moved j w) zero ∙ moved-none w
+  -- as on a new lane
+  pub new_lane : (w : Way) → w.read ≡ [] → w.stream ≡ [] → IsLane C 0 w × (messages C (moved 0 w) ≡ [])
+  new_lane w read stream =
+      let new = carried-new C L in
+      let none : w ≡ no_bytes = same_ways w no_bytes read stream in
+      (lane_plain 0 w refl (subst (Carries C) (sym none) new.1), ap (messages C) (moved-none w ∙ none) ∙ new.0)
 
   -- they stay so when a message is written
   pub record Sent (k : ℕ) (w : Way) (m : Message) : Type 0 where
@@ -118,8 +122,8 @@ module _ {Message : Type 0} (C : Codec Message) (L : IsCodec C) where
   stream_is w carries none = sym (ap (λ t. t ++ w.stream) none) ∙ carries.bytes ∙ bytes_are C L (messages C w)
 
   -- so many bytes count as moved, and the message of which they are is the oldest
-  pub record ReadAhead (before : ℕ) (w : Way) (len : ℕ) (m : Message) : Type 0 where
-    pub filled : IsFilled C (moved before w) (moved len w) (Some m)
+  pub record ReadAhead (old w : Way) (len : ℕ) (m : Message) : Type 0 where
+    pub filled : IsFilled C old (moved len w) (Some m)
     pub whole : IsWhole C (moved len w) (Some m)
     pub lane : IsLane C len w
 
@@ -130,8 +134,8 @@ module _ {Message : Type 0} (C : Codec Message) (L : IsCodec C) where
       let all : n ≡ k + (n - length (moved k w).read) = omega (arith, read, long, short) in
       ap (λ j. moved j w) all ∙ sym (moved-twice k (n - length (moved k w).read) w)
 
-  pub read_there : (before : ℕ) (w : Way) (len : ℕ) (m : Message) → IsLane C before w → w.read ≡ [] → IsOldest C.lines m len (messages C w) → ReadAhead before w len m
-  read_there before w len m lane none is =
+  pub read_there : (before : ℕ) (w old : Way) (len : ℕ) (m : Message) → IsLane C before w → moved before w ≡ old → w.read ≡ [] → IsOldest C.lines m len (messages C w) → ReadAhead old w len m
+  read_there before w old len m lane view none is =
       let n = length (bytes_of C m) in
       let oldest : oldest_length C (messages C w) ≡ n = ap (oldest_length C) is.first in
       let bytes : w.stream ≡ bytes_of C m ++ bytes_of_all C is.later = sym (ap (λ t. t ++ w.stream) none) ∙ lane.carries.bytes ∙ ap (λ t. bytes_of_all C t) is.first in
@@ -146,7 +150,7 @@ module _ {Message : Type 0} (C : Codec Message) (L : IsCodec C) where
       let same : (k : ℕ) → messages C (moved k w) ≡ m ∷ is.later = λ k. (carried-moved C L k w lane.carries).0 ∙ is.first in
       let long = length-moved len w within in
       record {
-        filled = (is.later, same before, moved_on before len w none lane.within short ∙ ap (λ n. filled_to n (moved before w)) is_long);
+        filled = subst (λ v. IsFilled C v (moved len w) (Some m)) view (is.later, same before, moved_on before len w none lane.within short ∙ ap (λ n. filled_to n (moved before w)) is_long);
         whole = subst (λ ms. IsWholeOf C ms (moved len w).read (Some m)) (sym (same len)) (refl, omega (arith, long, is_long));
         lane = record { carries = lane.carries; within = within; oldest = inr (none, is_long ∙ sym oldest) };
       }
@@ -154,45 +158,48 @@ module _ {Message : Type 0} (C : Codec Message) (L : IsCodec C) where
   -- # Handing over
 
   -- the bytes of the oldest message come first
-  pub front_is : (w : Way) (m : Message) → Carries C w → IsWhole C w (Some m) → (later : List ℕ) × C.IsSpelled m × (w.read ≡ bytes_of C m ++ later)
-  front_is w m is whole =
-      let oldest = whole_oldest C (messages C w) w.read m whole in
-      let all = subst (AllByRecursion C.IsSpelled) oldest.1 is.spelled in
-      (_, all.0, begins w.read w.stream (bytes_of C m) (bytes_of_all C oldest.0) (is.bytes ∙ ap (λ t. bytes_of_all C t) oldest.1) oldest.2)
-
-  -- they go from the reader
-  pub handed_read : (w : Way) (m : Message) (left : List ℕ) → w.read ≡ bytes_of C m ++ left → record { read = left; stream = w.stream } ≡ handed_over (length (bytes_of C m)) w
-  handed_read w m left e =
-      let n = length (bytes_of C m) in
-      let long = ap length e ∙ length-append (bytes_of C m) left in
-      let none : 0 ≡ n - length w.read = omega (arith, long) in
-      same_ways (record { read = left; stream = w.stream }) (handed_over n w) (sym (drop-append_seam (bytes_of C m) left) ∙ ap (drop n) (sym e)) (ap (λ j. drop j w.stream) none)
-
-  -- or from the stream
-  pub handed_there : (k : ℕ) (w : Way) (m : Message) → IsLane C k w → k ≢ 0 → IsWhole C (moved k w) (Some m)
-      → record { read = w.read; stream = drop k w.stream } ≡ handed_over (length (bytes_of C m)) (moved k w)
-  handed_there k w m is some whole =
-      elim is.oldest [
-        | inl zero_k ↦ absurd (some zero_k)
-        | inr there ↦
-            let n = length (bytes_of C m) in
-            let oldest = whole_oldest C (messages C (moved k w)) (moved k w).read m whole in
-            let same : k ≡ n = there.1 ∙ ap (oldest_length C) (sym (carried-moved C L k w is.carries).0 ∙ oldest.1) in
-            let none = ap length there.0 in
-            let long = length-moved k w is.within in
-            let all : 0 ≡ n - length (moved k w).read = omega (arith, none, long, same) in
-            same_ways (record { read = w.read; stream = drop k w.stream }) (handed_over n (moved k w))
-            (there.0 ∙ sym (drop_all n (moved k w).read (omega (arith, none, long, same)))) (ap (λ j. drop j (drop k w.stream)) all)
-      ]
+  pub front_is : (k : ℕ) (w v : Way) (m : Message) → k ≡ 0 → IsLane C k w → moved k w ≡ v → IsWhole C v (Some m) → (later : List ℕ) × C.IsSpelled m × (w.read ≡ bytes_of C m ++ later)
+  front_is k w v m zero is view whole =
+      let oldest = whole_oldest C (messages C w) w.read m (subst (λ u. IsWhole C u (Some m)) (sym view ∙ moved-zero k w zero) whole) in
+      let all = subst (AllByRecursion C.IsSpelled) oldest.1 is.carries.spelled in
+      (_, all.0, begins w.read w.stream (bytes_of C m) (bytes_of_all C oldest.0) (is.carries.bytes ∙ ap (λ t. bytes_of_all C t) oldest.1) oldest.2)
 
   pub record HandedOver (v : Way) (m : Message) (k : ℕ) (w : Way) : Type 0 where
     pub lane : IsLane C k w
     pub is : moved k w ≡ handed_over (length (bytes_of C m)) v
     pub first : messages C v ≡ m ∷ messages C (moved k w)
 
-  pub handed : (v : Way) (m : Message) (k : ℕ) (w : Way) → Carries C v → IsWhole C v (Some m) → k ≡ 0 → w ≡ handed_over (length (bytes_of C m)) v → HandedOver v m k w
-  handed v m k w is whole zero e =
+  handed : (k j : ℕ) (u v : Way) (m : Message) (w : Way) → IsLane C j u → moved j u ≡ v → IsWhole C v (Some m) → k ≡ 0 → w ≡ handed_over (length (bytes_of C m)) v → HandedOver v m k w
+  handed k j u v m w is view whole zero e =
       let oldest = whole_oldest C (messages C v) v.read m whole in
-      let now = carried-handed C L v m oldest.0 is oldest.1 in
+      let now = carried-handed C L v m oldest.0 (subst (Carries C) view (carried-moved C L j u is.carries).1) oldest.1 in
       let here = moved-zero k w zero ∙ e in
       record { lane = lane_plain k w zero (subst (Carries C) (sym e) now.1); is = here; first = oldest.1 ∙ ap (λ ms. m ∷ ms) (sym (ap (messages C) here ∙ now.0)) }
+
+  -- they go from the reader
+  pub handed_read : (k : ℕ) (w v : Way) (m : Message) (left : List ℕ) → k ≡ 0 → IsLane C k w → moved k w ≡ v → IsWhole C v (Some m) → w.read ≡ bytes_of C m ++ left
+      → HandedOver v m k (record { read = left; stream = w.stream })
+  handed_read k w v m left zero is view whole e =
+      let n = length (bytes_of C m) in
+      let long = ap length e ∙ length-append (bytes_of C m) left in
+      let none : 0 ≡ n - length w.read = omega (arith, long) in
+      let now = same_ways (record { read = left; stream = w.stream }) (handed_over n w) (sym (drop-append_seam (bytes_of C m) left) ∙ ap (drop n) (sym e)) (ap (λ j. drop j w.stream) none) in
+      handed k k w v m (record { read = left; stream = w.stream }) is view whole zero (now ∙ ap (handed_over n) (sym (moved-zero k w zero) ∙ view))
+
+  -- or from the stream
+  pub handed_there : (k : ℕ) (w v : Way) (m : Message) (left : List ℕ) → k ≢ 0 → IsLane C k w → moved k w ≡ v → IsWhole C v (Some m) → left ≡ drop k w.stream
+      → HandedOver v m 0 (record { read = w.read; stream = left })
+  handed_there k w v m left some is view whole cut =
+      elim is.oldest [
+        | inl zero_k ↦ absurd (some zero_k)
+        | inr there ↦
+            let n = length (bytes_of C m) in
+            let seen = moved k w in
+            let oldest = whole_oldest C (messages C v) v.read m whole in
+            let same : k ≡ n = there.1 ∙ ap (oldest_length C) (sym (carried-moved C L k w is.carries).0 ∙ ap (messages C) view ∙ oldest.1) in
+            let none = ap length there.0 in
+            let long = length-moved k w is.within in
+            let all : 0 ≡ n - length seen.read = omega (arith, none, long, same) in
+            let now = same_ways (record { read = w.read; stream = left }) (handed_over n seen) (there.0 ∙ sym (drop_all n seen.read (omega (arith, none, long, same)))) (cut ∙ ap (λ j. drop j seen.stream) all) in
+            handed 0 k w v m (record { read = w.read; stream = left }) is view whole refl (now ∙ ap (handed_over n) view)
+      ]

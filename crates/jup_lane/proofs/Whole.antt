@@ -2,7 +2,7 @@
 use Rattle.std.proofs.Common.{◌≡◌, ◌==◌, ◌⊎◌, inl, inr, ℕ, suc, ◌+◌, ◌-◌, ◌<◌, ◌≤◌, List, [], ◌∷◌, ◌++◌, length, take, drop, Option, Some, None, refl, sym, ap, subst, ◌∙◌, append_assoc, append-nil, arith, length-append, length-take, length-drop, take-add, drop-drop, le_refl}
 use Rattle.std.specs.List.{flat_map}
 use Rattle.std.proofs.lemmas.Bool.{cases_Bool}
-use Rattle.std.proofs.lemmas.List.{drop-append-le}
+use Rattle.std.proofs.lemmas.List.{drop-append-le, take_all}
 use Rattle.std.proofs.Math.Seq.{drop-append_seam}
 use Rattle.std.proofs.Math.Numerals.{one-add}
 use Rattle.jup_wire.specs.declared.line.Line.{Line}
@@ -38,6 +38,9 @@ some_ends (l ∷ ls) some = ends l ls
 pub moved-none : (w : Way) → moved 0 w ≡ w
 moved-none w = ap (λ t. record { read = t; stream = w.stream }) (append-nil w.read)
 
+pub moved-zero : (k : ℕ) (w : Way) → k ≡ 0 → moved k w ≡ w
+moved-zero k w zero = ap (λ j. moved j w) zero ∙ moved-none w
+
 pub moved-twice : (a b : ℕ) (w : Way) → moved b (moved a w) ≡ moved (a + b) w
 moved-twice a b w = both _ _ _ _ (append_assoc w.read (take a w.stream) (take b (drop a w.stream)) ∙ ap (λ t. w.read ++ t) (sym (take-add a b w.stream))) (drop-drop b a w.stream)
   where
@@ -64,23 +67,18 @@ module _ {Message : Type 0} (C : Codec Message) where
 
 module _ {Message : Type 0} (C : Codec Message) (L : IsCodec C) where
   -- what is on the way begins the lines of the messages
-  pub leads : (w : Way) (k : ℕ) → Carries C w → Leads (w.read ++ take k w.stream)
-  leads w k is = record {
+  pub leads : (w : Way) (k : ℕ) (stream : List ℕ) → stream ≡ w.stream → Carries C w → Leads (w.read ++ take k stream)
+  leads w k stream e is = record {
     rest = drop k w.stream;
     lines = flat_map C.lines (messages C w);
     spelled = lines_spelled C L (messages C w) is.spelled;
-    is = same_way C L k w ∙ is.bytes ∙ bytes_are C L (messages C w);
+    is = ap (λ s. (w.read ++ take k s) ++ drop k w.stream) e ∙ same_way C L k w ∙ is.bytes ∙ bytes_are C L (messages C w);
   }
 
-  pub leads_all : (w : Way) → Carries C w → Leads (w.read ++ w.stream)
-  leads_all w is = record {
-    rest = [];
-    lines = flat_map C.lines (messages C w);
-    spelled = lines_spelled C L (messages C w) is.spelled;
-    is = append-nil (w.read ++ w.stream) ∙ is.bytes ∙ bytes_are C L (messages C w);
-  }
+  pub leads_all : (w : Way) (stream : List ℕ) → stream ≡ w.stream → Carries C w → Leads (w.read ++ stream)
+  leads_all w stream e is = subst (λ s. Leads (w.read ++ s)) (take_all (length stream) stream (le_refl _)) (leads w (length stream) stream e is)
 
-  pub whole_there : (w : Way) (o : Option Message) → Carries C w → IsFirstRead C w.read o → IsWhole C w o
+  whole_there : (w : Way) (o : Option Message) → Carries C w → IsFirstRead C w.read o → IsWhole C w o
   whole_there w o is first = first (messages C w) w.stream is.spelled is.bytes
 
   -- if some of its bytes are not read, a line feed is ahead, and not after its end
@@ -108,7 +106,7 @@ module _ {Message : Type 0} (C : Codec Message) (L : IsCodec C) where
   towards-start old w is e = record { count = 0; is = e ∙ sym (moved-none old); within = omega arith; short = inl refl; carries = subst (Carries C) (sym e) is; same = ap (messages C) e }
 
   -- bytes through the next line feed
-  pub towards-advance : (old w v : Way) (count : ℕ) → IsTowards C old w → IsWhole C w None → TakesLine w.read w.stream (Some count) v.read → v.stream ≡ drop count w.stream → IsTowards C old v
+  pub towards-advance : (old w v : Way) (count : ℕ) → IsTowards C old w → IsFirstRead C w.read None → TakesLine w.read w.stream (Some count) v.read → v.stream ≡ drop count w.stream → IsTowards C old v
   towards-advance old w v count to part takes left_is =
       let at = next_feed w.stream + 1 in
       let more = takes.0 in
@@ -121,7 +119,7 @@ module _ {Message : Type 0} (C : Codec Message) (L : IsCodec C) where
       let long : length v.read ≡ length w.read + at = ap (λ x. length x.read) next ∙ length-moved at w (omega (arith, more)) in
       let oldest = ap (oldest_length C) same in
       let low : length v.read ≤ oldest_length C (messages C v) =
-      elim (part_ahead w (messages C w) refl to.carries part) [
+      elim (part_ahead w (messages C w) refl to.carries (whole_there w None to.carries part)) [
         | inl none ↦ absurd (let empty = ap length (idle C L w to.carries none).1 in omega (arith, empty, more))
         | inr ahead ↦ (let near = ahead.1 in omega (arith, long, near, oldest))
       ] in
@@ -135,9 +133,9 @@ module _ {Message : Type 0} (C : Codec Message) (L : IsCodec C) where
       }
 
   -- the message is there
-  pub filled-some : (old w : Way) (m : Message) → IsTowards C old w → IsWhole C w (Some m) → IsFilled C old w (Some m)
-  filled-some old w m to whole =
-      let oldest = whole_oldest C (messages C w) w.read m whole in
+  pub filled-some : (old w : Way) (k : ℕ) (m : Message) → k ≡ 0 → IsTowards C old w → IsFirstRead C w.read (Some m) → IsFilled C old (moved k w) (Some m)
+  filled-some old w k m zero to first =
+      let oldest = whole_oldest C (messages C w) w.read m (whole_there w (Some m) to.carries first) in
       let long = ap (λ t. length t.read) to.is ∙ length-moved to.count old to.within in
       let high = oldest.2 in
       let most = ap (oldest_length C) oldest.1 in
@@ -146,18 +144,18 @@ module _ {Message : Type 0} (C : Codec Message) (L : IsCodec C) where
         | inl none ↦ omega (arith, none, high, long)
         | inr short ↦ omega (arith, short, most, high, long)
       ] in
-      (oldest.0, sym to.same ∙ oldest.1, to.is ∙ ap (λ k. moved k old) count)
+      (oldest.0, sym to.same ∙ oldest.1, moved-zero k w zero ∙ to.is ∙ ap (λ n. moved n old) count)
 
   -- there is none
-  pub filled-none : (old w v : Way) → IsTowards C old w → IsWhole C w None → TakesLine w.read w.stream None v.read → v.stream ≡ w.stream → IsFilled C old v None
-  filled-none old w v to part takes stays =
+  pub filled-none : (old w v : Way) (k : ℕ) → k ≡ 0 → IsTowards C old w → IsFirstRead C w.read None → TakesLine w.read w.stream None v.read → v.stream ≡ w.stream → IsFilled C old (moved k v) None
+  filled-none old w v k zero to part takes stays =
       let no_feed = takes.0 in
       let none : messages C w ≡ [] =
-      elim (part_ahead w (messages C w) refl to.carries part) [
+      elim (part_ahead w (messages C w) refl to.carries (whole_there w None to.carries part)) [
         | inl none ↦ none
         | inr ahead ↦ absurd (let more = ahead.0 in omega (arith, more, no_feed))
       ] in
       let long = ap (λ t. length t.read) to.is ∙ length-moved to.count old to.within in
       let empty = ap length (idle C L w to.carries none).0 in
-      let zero : to.count ≡ 0 = omega (arith, long, empty) in
-      (sym to.same ∙ none, same_ways v w takes.1 stays ∙ to.is ∙ ap (λ k. moved k old) zero ∙ moved-none old)
+      let still : to.count ≡ 0 = omega (arith, long, empty) in
+      (sym to.same ∙ none, moved-zero k v zero ∙ same_ways v w takes.1 stays ∙ to.is ∙ moved-zero to.count old still)

@@ -1,17 +1,13 @@
-use Rattle.std.proofs.Common.{◌++◌, ◌+◌, take, sym, ap, subst, ◌∙◌}
+use Rattle.std.proofs.Common.{◌++◌, ◌+◌, take, sym, ap, ◌∙◌}
 use Rattle.jup_lane.specs.Messages.{codec}
 use Rattle.jup_lane.specs.Lanes.{LaneState, Way, moved}
-use Rattle.jup_lane.specs.Trays.{Leads}
 use Rattle.jup_lane.proofs.LaneLaws.{same_ways}
 use Rattle.jup_lane.proofs.MessageLines.{codec_laws}
 use Rattle.jup_lane.proofs.Whole.{leads, moved-none, moved-twice}
 use Rattle.jup_lane.proofs.lane.Lane.push.Goals as goal
 
 pub take_in-requires : goal.take_in-requires
-take_in-requires g c =
-    let here = c.self.inside in
-    let end = here.ahead + c.if-most-there.count in
-    subst (λ t. Leads (here.tray ++ take end t)) (sym c.as_slice-2.ensures) (leads (codec g.M.Message) (codec_laws g.M.Message) (record { read = here.tray; stream = here.stream.bytes }) end c.self.invariant.carries)
+take_in-requires g c = leads (codec g.M.Message) (codec_laws g.M.Message) _ (c.self.inside.ahead + c.if-most-there.count) _ c.as_slice-2.ensures c.self.invariant.carries
 
 pub returns-clause-ok : goal.returns-clause-ok
 returns-clause-ok g c =

@@ -1,13 +1,13 @@
-use Rattle.std.proofs.Common.{◌≡◌, Some, true, subst, ◌∙◌, rules}
+use Rattle.std.proofs.Common.{◌≡◌, true, ap, ◌∙◌, rules}
 use Rattle.jup_lane.specs.Messages.{codec}
-use Rattle.jup_lane.specs.Lanes.{LaneState, Way, IsFilled, moved, messages}
+use Rattle.jup_lane.specs.Lanes.{LaneState, Way, messages}
 use Rattle.jup_lane.proofs.Ahead.{ReadAhead, read_there, stream_is}
 use Rattle.jup_lane.proofs.MessageLines.{codec_laws}
 use Rattle.jup_lane.proofs.lane.Lane.read_ahead.Given as given
 use Rattle.jup_lane.proofs.lane.Lane.read_ahead.Goals as goal
 
 fact : (g : given.Over) (c : goal.After-self-1 g)
-    → ReadAhead (codec g.M.Message) (codec_laws g.M.Message) c.self.inside.ahead (record { read = c.self.inside.tray; stream = c.self.inside.stream.bytes }) c.in_ok-message.len c.in_ok-message.message
+    → ReadAhead (codec g.M.Message) (codec_laws g.M.Message) c.args.self.now.way (record { read = c.self.inside.tray; stream = c.self.inside.stream.bytes }) c.in_ok-message.len c.in_ok-message.message
 fact g c =
     let C = codec g.M.Message in
     let laws = codec_laws g.M.Message in
@@ -15,15 +15,14 @@ fact g c =
     let carries = c.self.invariant.carries in
     let nothing : c.is_empty.result ≡ true = search rules in
     let unread = c.is_empty.ensures.0 nothing in
-    read_there C laws c.self.inside.ahead w c.in_ok-message.len c.in_ok-message.message c.self.invariant unread
+    read_there C laws c.self.inside.ahead w c.args.self.now.way c.in_ok-message.len c.in_ok-message.message c.self.invariant (ap (λ (s : LaneState). s.way) c.self.view_is) unread
     (c.in_ok-message.ensures (messages C w) carries.spelled (c.as_slice.ensures ∙ stream_is C laws w carries unread))
 
 pub invariant_of-self : goal.invariant_of-self
 invariant_of-self g c = (fact g c).lane
 
 pub returns-clause-first : goal.returns-clause-first
-returns-clause-first g c =
-    subst (λ (s : LaneState). IsFilled (codec g.M.Message) s.way (moved c.in_ok-message.len (record { read = c.self.inside.tray; stream = c.self.inside.stream.bytes })) (Some c.in_ok-message.message)) c.self.view_is (fact g c).filled
+returns-clause-first g c = (fact g c).filled
 
 pub returns-clause-whole : goal.returns-clause-whole
 returns-clause-whole g c = (fact g c).whole

@@ -9,7 +9,7 @@ use Rattle.jup_window.specs.declared.commands.Command.TheVariants.{Insert as Ins
 use Rattle.jup_window.specs.declared.commands.Value.TheVariants.{Char, Label}
 use Rattle.jup_window.specs.declared.commands.Setting.TheVariants.{Toggle as ToToggle, Slider as ToSlider}
 use Rattle.jup_window.specs.FaultNumbers.{edit_fault_number}
-use Rattle.jup_rules.specs.declared.client_end.ClientEnd.{ClientEnd}
+use Rattle.jup_rules.specs.declared.ends.ClientEnd.{ClientEnd}
 use Rattle.jup_rules.specs.Numbers.{client_end_number}
 use Rattle.jup_embed.specs.declared.client.Stage.{Stage}
 use Rattle.jup_embed.specs.declared.client.Stage.TheVariants.{Greeting, Opening, Open, Over}

@@ -1,16 +1,18 @@
 -- What a call makes of the client in a handle, by what it makes of the client.
-use Rattle.std.proofs.Common.{◌≡◌, ℕ, sym, ap, ◌∙◌, subst, List, [], drop}
+use Rattle.std.proofs.Common.{◌≡◌, ℕ, sym, ap, ◌∙◌, subst, List, [], ◌∷◌, drop}
 use Rattle.std.specs.Prelude.{Option, Some}
 use Rattle.jup_window.specs.declared.commands.Command.{Command}
+use Rattle.jup_window.specs.declared.board_operations.BoardOp.{BoardOp}
 use Rattle.jup_wire.specs.declared.line.Line.TheVariants.{Hello}
 use Rattle.jup_wire.specs.Grammar.{line_bytes}
 use Rattle.jup_wire.specs.Streams.{HasRead}
 use Rattle.jup_embed.specs.declared.phase.Phase.TheVariants.{Greeting}
 use Rattle.jup_embed.specs.Sessions.{Session, stage_of, Feeds, MakesEdit}
 use Rattle.jup_c.specs.declared.commands.JupCommand.{JupCommand}
+use Rattle.jup_c.specs.declared.changes.JupChange.{JupChange}
 use Rattle.jup_c.specs.Numbers.{stage_number, stage_fault}
-use Rattle.jup_c.specs.InNumbers.{SpellAll}
-use Rattle.jup_c.specs.Insides.{waiting_in, after_taking, IsFresh, FeedsInside, EditsInside, EditsSpelled, stage_inside, fault_inside}
+use Rattle.jup_c.specs.InNumbers.{SpellAll, Shows}
+use Rattle.jup_c.specs.Insides.{waiting_in, after_taking, IsFresh, FeedsInside, EditsInside, EditsSpelled, TellsInside, stage_inside, fault_inside, changes_inside}
 
 pub waits_inside : (old : Option Session) (c : Session) → old ≡ Some c → waiting_in old ≡ c.waiting
 waits_inside old c was = ap waiting_in was
@@ -37,3 +39,10 @@ fault_known old c was = ap fault_inside was
 
 pub edits_spelled : (told : List JupCommand) (commands : List Command) (old new : Option Session) → SpellAll told commands → EditsInside commands old new → EditsSpelled told old new
 edits_spelled told commands old new are edits = (commands, are, edits)
+
+pub nothing_inside : (old : Option Session) (c : Session) → old ≡ Some c → c.changes ≡ [] → changes_inside old ≡ []
+nothing_inside old c was none = ap changes_inside was ∙ none
+
+pub tells_inside : (change : JupChange) (old new : Option Session) (c d : Session) (op : BoardOp) → old ≡ Some c → new ≡ Some d → Shows change op → c ≡ record d { changes = op ∷ d.changes } → TellsInside change old new
+tells_inside change old new c d op was is shows told =
+    subst (λ (o : Option Session). TellsInside change o new) (sym was) (subst (λ (o : Option Session). TellsInside change (Some c) o) (sym is) (op, shows, told))

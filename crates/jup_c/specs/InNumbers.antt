@@ -17,9 +17,11 @@ use Rattle.jup_window.specs.declared.commands.Setting.TheVariants.{Toggle as ToT
 use Rattle.jup_window.specs.Commands.{command_place}
 use Rattle.jup_embed.specs.declared.board_view.WidgetKind.{WidgetKind}
 use Rattle.jup_embed.specs.declared.board_view.WidgetKind.TheVariants as widget
+use Rattle.jup_embed.specs.declared.board_view.WidgetView.{WidgetView}
 use Rattle.jup_c.specs.declared.commands.JupCommand.{JupCommand}
 use Rattle.jup_c.specs.declared.changes.JupChange.{JupChange}
-use Rattle.jup_c.specs.Numbers.{command_kind, bad_label, bad_command}
+use Rattle.jup_c.specs.declared.views.JupWidget.{JupWidget}
+use Rattle.jup_c.specs.Numbers.{command_kind, change_kind, widget_kind, bad_label, bad_command}
 
 -- the bytes that a command has of a label
 abbrev pub label_bytes : JupCommand → List ℕ
@@ -67,7 +69,6 @@ SpellAll [] [] = Unit {0}
 SpellAll (told ∷ rest) (command ∷ commands) = Spells told command × SpellAll rest commands
 SpellAll told commands = ⊥
 
-
 -- of these numbers the first that are no command have this answer
 abbrev pub IsFirstWrong : ℕ → List JupCommand → Type 0
 IsFirstWrong fault [] = ⊥
@@ -108,10 +109,16 @@ change_label (OnList (Insert place item)) = item.value
 change_label (OnList (Relabel place name label)) = label
 change_label other = []
 
--- a change has this label
-pub record ShowsLabel (change : JupChange) (label : List ℕ) : Type 0 where
-  pub length : change.label_len ≡ length label
-  pub bytes : take change.label_len change.label ≡ label
+-- a change shows what this operation did
+pub record Shows (change : JupChange) (op : BoardOp) : Type 0 where
+  pub kind : change.kind ≡ change_kind op.op
+  pub win : change.win ≡ op.win
+  pub wid : change.wid ≡ op.wid
+  pub place : change.place ≡ change_place op.op
+  pub name : (change.site, change.number) ≡ change_name op.op
+  pub value : change.value ≡ change_value op.op
+  pub label_len : change.label_len ≡ length (change_label op.op)
+  pub label : take change.label_len change.label ≡ change_label op.op
 
 -- how many characters or items a widget has
 abbrev pub widget_items : WidgetKind → ℕ
@@ -132,3 +139,13 @@ abbrev pub widget_value : WidgetKind → ℤ
 widget_value (widget.Toggle on) = pos (if on then 1 else 0)
 widget_value (widget.Slider lo hi value) = value
 widget_value other = pos 0
+
+-- a widget in numbers is this widget
+pub record IsWidget (widget : JupWidget) (view : WidgetView) : Type 0 where
+  pub kind : widget.kind ≡ widget_kind view.kind
+  pub win : widget.win ≡ view.win
+  pub wid : widget.wid ≡ view.wid
+  pub items : widget.items ≡ widget_items view.kind
+  pub lo : widget.lo ≡ widget_lo view.kind
+  pub hi : widget.hi ≡ widget_hi view.kind
+  pub value : widget.value ≡ widget_value view.kind

@@ -1,15 +1,17 @@
 -- What a call of C makes of the client in its handle.
-use Rattle.std.specs.Prelude.{◌≡◌, ℕ, List, [], drop, Option, Some, None}
+use Rattle.std.specs.Prelude.{◌≡◌, ℕ, List, [], ◌∷◌, drop, Option, Some, None}
 use Rattle.std.specs.Option.{option_map}
 use Rattle.jup_window.specs.declared.commands.Command.{Command}
+use Rattle.jup_window.specs.declared.board_operations.BoardOp.{BoardOp}
 use Rattle.jup_wire.specs.declared.line.Line.TheVariants.{Hello}
 use Rattle.jup_wire.specs.Grammar.{line_bytes}
 use Rattle.jup_wire.specs.Streams.{HasRead}
 use Rattle.jup_embed.specs.declared.phase.Phase.TheVariants.{Greeting}
 use Rattle.jup_embed.specs.Sessions.{Session, stage_of, Feeds, MakesEdit}
 use Rattle.jup_c.specs.declared.commands.JupCommand.{JupCommand}
+use Rattle.jup_c.specs.declared.changes.JupChange.{JupChange}
 use Rattle.jup_c.specs.Numbers.{stage_number, no_stage, stage_fault}
-use Rattle.jup_c.specs.InNumbers.{SpellAll}
+use Rattle.jup_c.specs.InNumbers.{SpellAll, Shows}
 
 -- the bytes that wait to be sent
 abbrev pub waiting_in : Option Session → List ℕ
@@ -46,3 +48,13 @@ stage_inside (Some c) = stage_number (stage_of c.phase)
 abbrev pub fault_inside : Option Session → ℕ
 fault_inside None = 0
 fault_inside (Some c) = stage_fault (stage_of c.phase)
+
+-- what the client has not told
+abbrev pub changes_inside : Option Session → List BoardOp
+changes_inside None = []
+changes_inside (Some c) = c.changes
+
+-- a client was there, and told the oldest change that it had not told, in these numbers
+abbrev pub TellsInside : JupChange → Option Session → Option Session → Type 0
+TellsInside change (Some c) (Some d) = (op : BoardOp) × Shows change op × (c ≡ record d { changes = op ∷ d.changes })
+TellsInside change old new = ⊥

@@ -9,7 +9,6 @@ use Rattle.jup_window.specs.declared.commands.Command.TheVariants.{Insert as Ins
 use Rattle.jup_window.specs.declared.commands.Value.TheVariants.{Char, Label}
 use Rattle.jup_window.specs.declared.commands.Setting.TheVariants.{Toggle as ToToggle, Slider as ToSlider}
 use Rattle.jup_window.specs.FaultNumbers.{edit_fault_number}
-use Rattle.jup_rules.specs.declared.ends.ClientEnd.{ClientEnd}
 use Rattle.jup_rules.specs.Numbers.{client_end_number}
 use Rattle.jup_embed.specs.declared.client.Stage.{Stage}
 use Rattle.jup_embed.specs.declared.client.Stage.TheVariants.{Greeting, Opening, Open, Over}
@@ -72,19 +71,19 @@ bad_command = 92
 abbrev pub strange : ℕ
 strange = 93
 
--- after the end of a session: its number, unless that is no fault's, since a server can send any
-abbrev pub end_answer : ClientEnd → ℕ
-end_answer end = if client_end_number end == 0 || nat_le closed (client_end_number end) then strange else client_end_number end
+-- after the end of a session with this number: the number, unless it is no fault's, since a server can send any
+abbrev pub end_answer : ℕ → ℕ
+end_answer number = if number == 0 || nat_le closed number then strange else number
 
 -- of a session that is over, and 0 before
 abbrev pub stage_fault : Stage → ℕ
-stage_fault (Over end) = end_answer end
+stage_fault (Over end) = end_answer (client_end_number end)
 stage_fault other = 0
 
 -- of a refused call
 abbrev pub refusal_answer : EmbedFault → ℕ
 refusal_answer NotOpen = not_open
-refusal_answer (WasOver end) = end_answer end
+refusal_answer (WasOver end) = end_answer (client_end_number end)
 refusal_answer (Edit refused) = edit_fault_number refused
 refusal_answer NoMemory = 8
 

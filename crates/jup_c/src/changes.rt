@@ -1,7 +1,6 @@
 //! Changes of a board as C reads them.
-ghost use Rattle.std.specs.Prelude.{◌≡◌, pos};
-ghost use Rattle.jup_c.specs.Numbers.{change_kind};
-ghost use Rattle.jup_c.specs.InNumbers.{bare_change, change_place, change_name, change_value, change_label, ShowsLabel};
+ghost use Rattle.std.specs.Prelude.{◌≡◌, pos, length, take};
+ghost use Rattle.jup_c.specs.InNumbers.{bare_change, Shows};
 
 use crate::kinds::{DELETE, INSERT_CHAR, INSERT_LABEL, NOTHING, RELABEL, SET_SLIDER, SET_TOGGLE};
 use jup_limits::LONGEST_LABEL;
@@ -29,13 +28,7 @@ pub struct JupChange {
 
 /// What an operation changes.
 pub(crate) fn change_of(op: &BoardOp) -> JupChange
-    ensures kind { result.kind ≡ change_kind op.now.op }
-    ensures win { result.win ≡ op.now.win }
-    ensures wid { result.wid ≡ op.now.wid }
-    ensures place { result.place ≡ change_place op.now.op }
-    ensures name { (result.site, result.number) ≡ change_name op.now.op }
-    ensures value { result.value ≡ change_value op.now.op }
-    ensures label { ShowsLabel result (change_label op.now.op) }
+    ensures { Shows result op.now }
 {
     match &op.op {
         WidgetOp::Text(SeqOp::Insert { place, item }) => JupChange {
@@ -93,7 +86,8 @@ fn of_item(op: &BoardOp, kind: u32, place: u32, name: Name) -> JupChange
 
 // The same change, with this label.
 fn with_label(change: JupChange, label: &Label) -> JupChange
-    ensures label { ShowsLabel result label.now }
+    ensures len { result.label_len ≡ length label.now }
+    ensures label { take result.label_len result.label ≡ label.now }
     ensures rest { result ≡ record change { label_len = result.label_len; label = result.label } }
 {
     let text = label.bytes();

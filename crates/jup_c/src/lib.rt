@@ -9,7 +9,7 @@ mod numbers;
 mod views;
 
 ghost use Rattle.std.specs.Prelude.{◌≡◌, ◌≢◌, ◌≤◌, [], length, take, drop, None, Some, IfSome};
-ghost use Rattle.jup_c.specs.Insides.{IsFresh, waiting_in, after_taking, FeedsInside, EditsInside, EditsSpelled, stage_inside, fault_inside};
+ghost use Rattle.jup_c.specs.Insides.{IsFresh, waiting_in, after_taking, FeedsInside, EditsInside, EditsSpelled, TellsInside, stage_inside, fault_inside, changes_inside};
 
 pub use changes::JupChange;
 use changes::change_of;
@@ -247,12 +247,13 @@ fn ask(alloc: Global, client: &mut Client, line: &[u8]) -> (Option<Vec<u8>>, u32
 }
 
 /// The oldest change that was not told: 1, or 0 where there is none.
+#[tactic(auto, using(crate::proofs::Opened::tells_inside, crate::proofs::Opened::nothing_inside))]
 #[unsafe(no_mangle)]
-pub extern "C" fn jup_next_change(
-    alloc: Global,
-    client: &mut JupClient,
-    out: &mut JupChange,
-) -> u32 {
+pub extern "C" fn jup_next_change(alloc: Global, client: &mut JupClient, out: &mut JupChange) -> u32
+    ensures told { result ≡ 1 → TellsInside out.new client.old.inside client.new.inside }
+    ensures none { result ≢ 1 → changes_inside client.old.inside ≡ [] }
+    ensures same { result ≢ 1 → client.new.inside ≡ client.old.inside }
+{
     let Some(mut held) = client.take(alloc) else {
         return 0;
     };

@@ -1,6 +1,7 @@
 //! The numbers that calls answer: 0 after a call that was done, the numbers of faults that all programs share, and from 90 on those of the
 //! library itself.
 ghost use Rattle.std.specs.Prelude.{◌≢◌, ◌≡◌, IsErr, IsOk};
+ghost use Rattle.jup_rules.specs.Numbers.{client_end_number};
 ghost use Rattle.jup_c.specs.Numbers.{stage_number, stage_fault, end_answer, answer};
 
 use jup_embed::{EmbedFault, Stage};
@@ -37,7 +38,7 @@ pub(crate) const UNTOLD: u32 = 94;
 /// The number of the end of a session, which is never 0. A server can end a session with any number. One that is no fault's becomes
 /// [`STRANGE`].
 pub(crate) fn number_of_end(end: ClientEnd) -> u32
-    ensures number { result ≡ end_answer end }
+    ensures number { result ≡ end_answer (client_end_number end) }
     ensures some { result ≢ 0 }
 {
     let number = end.number();

@@ -1,7 +1,6 @@
 //! Widgets and texts as C reads them.
 ghost use Rattle.std.specs.Prelude.{◌≡◌, length, min, take, drop};
-ghost use Rattle.jup_c.specs.Numbers.{widget_kind};
-ghost use Rattle.jup_c.specs.InNumbers.{widget_items, widget_lo, widget_hi, widget_value};
+ghost use Rattle.jup_c.specs.InNumbers.{IsWidget};
 
 use crate::kinds::{LIST, SLIDER, TEXT, TOGGLE};
 use jup_embed::{WidgetKind, WidgetView};
@@ -23,13 +22,7 @@ pub struct JupWidget {
 
 /// A widget as C reads it.
 pub(crate) fn widget_of(view: &WidgetView) -> JupWidget
-    ensures kind { result.kind ≡ widget_kind view.now.kind }
-    ensures win { result.win ≡ view.now.win }
-    ensures wid { result.wid ≡ view.now.wid }
-    ensures items { result.items ≡ widget_items view.now.kind }
-    ensures lo { result.lo ≡ widget_lo view.now.kind }
-    ensures hi { result.hi ≡ widget_hi view.now.kind }
-    ensures value { result.value ≡ widget_value view.now.kind }
+    ensures { IsWidget result view.now }
 {
     let WidgetView { win, wid, kind } = *view;
     let bare = JupWidget {

@@ -10,10 +10,12 @@ import reading
 import sites
 
 Fault = boards.Fault
+# The number of a line out of its place.
+MISPLACED = 44
 
 
 class Stage(enum.IntEnum):
-    GREETING, OPENING, OPEN = range(3)
+    GREETING, OPENING, OPEN, OVER = range(4)
 
 
 class WidgetKind(enum.IntEnum):
@@ -100,13 +102,18 @@ class Client:
     def feed(self, data: bytes) -> None:
         self.texts.clear()
         *lines, self.coming = (self.coming + data).split(b"\n")
-        for line in lines:
-            self.read(line.decode("latin-1"))
+        try:
+            for line in lines:
+                self.read(line.decode("latin-1"))
+        except Fault:
+            self.stage = Stage.OVER
+            raise
 
     def read(self, line: str) -> None:
         word, rest = self.plain.grammar.read(line)
-        if word == "error":
-            raise Fault(rest[0])
+        if word in ("bye", "error"):
+            # The library, too, takes a goodbye of the server for a line out of its place.
+            raise Fault(MISPLACED if word == "bye" else rest[0])
         if self.stage == Stage.OPEN:
             message = self.plain.gathering.take(word, rest)
             if message:

@@ -11,6 +11,7 @@ docs/EMBEDDING.md says what an editor has to do, and what the files may be.
 #   So no start takes a word of such a version for a new one.
 # - A start finds by the names which edits of the earlier link the server has taken, and makes the others again (Link.resume).
 # - The server may take some of these others later, from the earlier link. Their names show that they were made again, and so they are deleted (Link.undo).
+#   A server that was started again gives such names to other people's characters, which stay (Link.see_late).
 # - A swap replaces the file, and what it had stays in the folder until all of that is kept (local.put_in_place).
 #
 # One thing nobody can tell: whether the server never took an insertion, or took it and somebody deleted it before this program knew. It is made again.
@@ -32,11 +33,15 @@ import texts
 
 IO_FAULT, FAULT = 1, 4
 # The numbers of faults that this program tells apart.
-LONG_TEXT, BACKLOG, LINKS_TAKEN, EARLY_END = 6, 7, 30, 43
+LONG_TEXT, BACKLOG, MISPLACED = 6, 7, 44
+# Faults that end a session after which the server may give another: all links are taken, the bytes ended early, a read failed, this end is too far behind.
+PASSING = (30, 43, 70, 71)
+# The end of what a server sends that was stopped between two messages. A client takes this last line for one out of its place.
+GOODBYE = b"\nbye\n"
 # How many seconds pass between two looks at the file.
 LOOK = 0.05
-# After how many seconds a server has saved what it took, and a number after all insertions. `jupweb` saves every two seconds.
-SAVED, ALL = 4.0, 2**32
+# After how many seconds a server has saved what it took. `jupweb` saves every two seconds.
+SAVED = 4.0
 # How many seconds are waited for a server, for the end of a link, and at first and at most before it is tried again.
 PATIENCE, LAST, SOON, LATE = 10.0, 5.0, 0.5, 15.0
 
@@ -77,7 +82,7 @@ class Link:
 
     def __init__(self, address: str, wanted: str | None) -> None:
         self.socket = connected(address)
-        self.client, self.going, self.opening = jup.Client(watch=True), b"", b""
+        self.client, self.going, self.opening, self.end = jup.Client(watch=True), b"", b"", b"\n"
         # Whether the server has all edits, and whether that was asked since the last edit.
         self.is_settled, self.is_asked, self.is_told_to_wait = True, False, False
         self.open(time.monotonic() + PATIENCE)
@@ -91,9 +96,10 @@ class Link:
         # Of each site of this file that inserted lately the last insertion that the server has surely saved, and when it has saved more.
         self.saved: dict[int, int] = {self.client.site.number: 0}
         self.unsaved: collections.deque[tuple[float, dict[int, int]]] = collections.deque()
-        # What is to be deleted, and what earlier sites of this file may still insert although it was made again.
+        # What is to be deleted, and what earlier sites of this file may still insert although it was made again, with the last insertion of each of these edits.
         self.unwanted: copies.Chars = {}
         self.again: copies.Chars = {}
+        self.ends: list[copies.Name] = []
 
     def open(self, until: float) -> None:
         while self.client.stage != jup.Stage.OPEN:
@@ -128,10 +134,13 @@ class Link:
     def hear(self, data: bytes) -> None:
         if self.client.stage != jup.Stage.OPEN:
             self.opening += data
+        self.end = (self.end + data)[-len(GOODBYE) :]
         try:
             self.client.feed(data)
         except jup.Fault as fault:
-            if fault.number in (LINKS_TAKEN, EARLY_END):
+            if fault.number == MISPLACED and self.end == GOODBYE:
+                raise Lost("the server ended the session") from None
+            if fault.number in PASSING:
                 raise Lost(f"the server ended the session: fault {fault.number}") from None
             raise Ended(f"fault {fault.number}", FAULT) from None
         if self.is_asked and self.client.is_synced:
@@ -145,7 +154,7 @@ class Link:
             self.unsaved.append((time.monotonic() + SAVED, {self.client.site.number: self.taken}))
         while self.unsaved and self.unsaved[0][0] < time.monotonic():
             self.saved |= self.unsaved.popleft()[1]
-        last, gone = self.last, {}
+        last, gone, come = self.last, {}, {}
         for it in self.client.changes():
             if (it.win, it.wid) != (self.win, self.wid):
                 continue
@@ -155,15 +164,21 @@ class Link:
                 gone[name] = self.chars.pop(it.place)
                 self.unwanted.pop(name, None)
             elif it.kind == jup.Kind.INSERT_CHAR:
-                self.insert(it.place, name, chr(it.value))
-                last = it.number
+                self.names.insert(it.place, name)
+                self.chars.insert(it.place, chr(it.value))
+                come[name], last = chr(it.value), it.number
+        if self.again:
+            self.see_late(come, gone)
         return Edit(last, gone)
 
-    def insert(self, place: int, name: copies.Name, char: str) -> None:
-        self.names.insert(place, name)
-        self.chars.insert(place, char)
-        if self.again.get(name) == char:
-            self.unwanted[name] = char
+    def see_late(self, come: copies.Chars, gone: copies.Chars) -> None:
+        """Notes that what earlier sites of this file inserted late is to be deleted. If others have the numbers of these sites, the server was started again, and takes nothing late."""
+        sites = {site for site, _ in self.again}
+        late = {name: char for name, char in come.items() if name[0] in sites}
+        if copies.are_late(late, self.again, self.ends):
+            self.unwanted |= {name: char for name, char in late.items() if name not in gone}
+        else:
+            self.again, self.ends = {}, []
 
     def copy(self) -> copies.Copy:
         """The text without what is to be deleted."""
@@ -178,16 +193,18 @@ class Link:
         """Goes on where an earlier link ended. What that had deleted is to be deleted, and what the server takes of it from now on. Returns the text with what got lost."""
         now = self.copy()
         lost, wrong = past.lost(now), past.again | past.gone
-        self.again = past.again | lost
+        self.again, self.ends = past.late(now), past.ends
         self.unwanted = {name: char for name, char in zip(*now) if wrong.get(name) == char}
         self.saved |= past.saved
-        self.unsaved.append((time.monotonic() + SAVED, dict.fromkeys(past.saved, ALL)))
+        self.unsaved.append((time.monotonic() + SAVED, dict.fromkeys(past.saved, copies.ALL)))
         return past.restored(self.copy(), lost | past.unsaved(now))
 
     def past(self) -> copies.Past:
         """What this link leaves if it ends now."""
         gone = {name: char for it in [self.unwanted, *(it.gone for it in self.unsure)] for name, char in it.items()}
-        return copies.Past(self.client.site.number, self.taken, self.copy(), gone, self.again, dict(self.saved))
+        site = self.client.site.number
+        ends = [*self.ends, *dict.fromkeys((site, it.last) for it in self.unsure)]
+        return copies.Past(site, self.taken, self.copy(), gone, self.again, ends, dict(self.saved))
 
     def undo(self) -> None:
         """Deletes what is to be deleted, as far as that can be done now."""

@@ -242,7 +242,8 @@ def past_of(found: dict | None) -> copies.Past | None:
     if found is None:
         return None
     gone, again = ({tuple(name): char for name, char in found[it]} for it in ("gone", "again"))
-    return copies.Past(found["site"], found["taken"], copies.copy_of(found["copy"]), gone, again, dict(found["saved"]))
+    ends = list(map(tuple, found["ends"]))
+    return copies.Past(found["site"], found["taken"], copies.copy_of(found["copy"]), gone, again, ends, dict(found["saved"]))
 
 
 class Kept:

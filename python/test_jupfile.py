@@ -54,10 +54,10 @@ class Quiet(stars.Session):
 
 
 class Served:
-    """The server's end of a link: the lines that it has not read. It reads all of them some looks after the first came."""
+    """The server's end of a link: the lines that it has not read. It reads all of them some looks after the first came. `last` is its last line until that is sent."""
 
     def __init__(self, star):
-        self.session, self.lines, self.looks, self.is_over = Quiet(star, None), collections.deque(), 0, False
+        self.session, self.lines, self.looks, self.is_over, self.last = Quiet(star, None), collections.deque(), 0, False, []
 
     def come(self, data):
         self.looks = self.looks if self.lines else SLOW
@@ -69,17 +69,27 @@ class Served:
         if self.looks <= 0:
             self.read()
 
-    def read(self):
-        while self.lines and self.session.goes_on(self.lines.popleft()):
+    def read(self, left=0):
+        """Reads the lines, except so many of the last."""
+        while len(self.lines) > left and not self.is_over and self.session.goes_on(self.lines.popleft()):
             pass
 
+    def stop(self):
+        """The server stops: it has read half of what came, and says that the bytes have ended."""
+        self.read(len(self.lines) // 2)
+        self.last, self.is_over = ["error 43" if self.session.gathering.left else "bye"], True
+
     def going(self):
-        seat = self.session.seat
-        text, seat.waiting = "".join(f"{it}\n" for it in seat.waiting), []
-        return text.encode()
+        waits = [*self.waiting(), *self.last]
+        self.waiting().clear()
+        self.last = []
+        return "".join(f"{it}\n" for it in waits).encode()
+
+    def waiting(self):
+        return self.session.seat.waiting if self.session.seat else []
 
     def has_something(self):
-        return self.is_over or bool(self.session.seat and self.session.seat.waiting)
+        return self.is_over or bool(self.waiting())
 
 
 class Socket:
@@ -96,7 +106,7 @@ class Socket:
 
     def recv(self, _):
         self.world.step(WAITS)
-        return b"" if self.served.is_over else self.served.going()
+        return self.served.going()
 
     def close(self):
         pass
@@ -134,19 +144,20 @@ class World:
         self.put, self.gone, self.deleted, self.first = set(), set(), set(), set(text.split())
         self.serve(text)
 
-    def serve(self, text):
-        """A server starts, and another client joins it."""
+    def serve(self, text, others=1):
+        """A server starts, and others join it. The last of them will edit. `links` are those of the program."""
         layout = ["window 1", "text 1", *(f"char 0.{at + 1} {ord(it)}" for at, it in enumerate(text))]
         self.star, self.links = stars.Star(layout, 1_000_000), []
-        self.other, self.client = Socket(self).served, jup.Client()
-        self.other.come(self.client.take())
-        self.other_reads()
+        for _ in range(others):
+            self.other, self.client = Served(self.star), jup.Client()
+            self.other.come(self.client.take())
+            self.other_reads()
 
     # What the program calls.
 
     def step(self, kind):
         """A step begins: what is planned for it happens now."""
-        self.steps.append((kind, bool(self.links[-1].lines)))
+        self.steps.append((kind, bool(self.links and self.links[-1].lines)))
         act = self.plan.get(len(self.steps))
         if act:
             self.looks = self.looks if self.script else 0
@@ -274,12 +285,16 @@ def others_delete(word):
     return act
 
 
-def server_restarts(world):
-    """The server ends after it has read all that came, and starts again with its board."""
-    links, text = world.links, world.text()
-    for it in links:
-        it.is_over = True
-    world.serve(text)
+def server_restarts(world, others=1):
+    """The server is stopped, and starts again with its board. Others join it first."""
+    for it in world.links:
+        it.stop()
+    world.serve(world.text(), others)
+
+
+def crowd_comes(world):
+    """The server is stopped and started again, and somebody else gets the number that the program had."""
+    server_restarts(world, others=2)
 
 
 def server_saves(world):
@@ -301,7 +316,7 @@ def killed(fate):
     """The program is killed. `fate` says what the server does with what it had sent."""
 
     def act(world):
-        if len(world.links) > 1:
+        if world.links:
             fate(world.links[-1])
         raise Killed
 
@@ -427,6 +442,7 @@ STALE = [(8, reads), (0, others_insert("two", at=2)), (3, inserts(*LONG_WORDS, a
 # The file is written again and again, and then the editor saves what it had read before.
 OFTEN = [(8, reads), *((0, others_insert(f"often{at}")) for at in range(14)), (1, inserts("stale", at=3, is_stale=True))]
 RESTARTED = [(8, inserts(*LONG_WORDS)), (0, others_insert("two")), (0, server_restarts), (4, inserts("one", at=3)), (4, others_insert("three"))]
+CROWDED = [(8, inserts(*LONG_WORDS)), (0, crowd_comes), (5, others_insert("xa")), (0, inserts("one", at=3)), (4, others_insert("xxb"))]
 LOST = [(8, server_saves), (0, inserts(*LONG_WORDS)), (6, server_is_killed), (4, inserts("one", at=3)), (4, others_insert("two"))]
 DELETED = [(8, others_insert("two")), (2, others_delete("two"))]
 SENT, WRITTEN = [(8, inserts(*LONG_WORDS[:2]))], [(8, others_insert("two"))]
@@ -477,6 +493,20 @@ class Steps(unittest.TestCase):
         self.check_kills(RESTARTED, (is_read, is_lost))
         self.check_kills(LOST, (is_read, is_lost))
 
+    def test_the_server_stops_at_each_look_and_others_join_before_the_program(self):
+        for stop, more in itertools.product(range(10), range(0, 12, 2)):
+            script = [(8, inserts(*LONG_WORDS)), (stop, crowd_comes), (more, others_insert("xa")), (0, others_insert("xxb")), (4, inserts("one", at=3))]
+            self.check(play(TEXT, script, {}), stop, more)
+
+    def test_killed_at_each_step_while_others_join_before_the_program(self):
+        self.check_kills(CROWDED, (is_read, is_lost))
+
+    def test_one_of_several_equal_words_is_deleted_once(self):
+        for stop, restarts in itertools.product(range(10), (server_restarts, crowd_comes)):
+            world = play("same\n" * 4, [(8, deletes_first), (stop, restarts)], {})
+            # What was deleted just before the server stopped may come back.
+            self.assertIn(world.at_the_end, [("same\n" * count,) * 2 for count in (3, 4)], (stop, restarts.__name__))
+
     def test_one_of_several_equal_words_is_deleted(self):
         text, script = "same\n" * 4, [(8, deletes_first)]
         for step, (_, is_sent) in list(enumerate(play(text, script, {}).steps, 1))[self.begun(script) :]:
@@ -520,7 +550,7 @@ class Copies(unittest.TestCase):
         self.assertEqual(copies.copy_of(copy.runs()), copy)
 
     def test_a_server_that_was_started_again(self):
-        past = copies.Past(3, 1, copies.copy_of([(0, 1, "ab"), (3, 1, "xy")]), {(0, 3): "c"}, {}, {3: 0})
+        past = copies.Past(3, 1, copies.copy_of([(0, 1, "ab"), (3, 1, "xy")]), {(0, 3): "c"}, {}, [(3, 2)], {3: 0})
         rows = [
             ("nothing happened", 4, [(0, 1, "ab"), (3, 1, "xy")], True),
             ("others edited", 9, [(0, 2, "b"), (5, 1, "new")], True),
@@ -528,13 +558,18 @@ class Copies(unittest.TestCase):
             ("sites begin again", 2, [(0, 1, "ab")], False),
             ("the board has more of the opening than before", 4, [(0, 1, "abxy")], False),
             ("a name has another character", 4, [(0, 1, "xa")], False),
+            ("the order is another", 4, [(3, 1, "xy"), (0, 1, "ab")], False),
+            ("the site of this file has more than it made", 4, [(0, 1, "ab"), (3, 1, "xyz")], False),
+            ("somebody else has the number of this file", 4, [(0, 1, "ab"), (3, 1, "xz")], False),
+            ("the board has less of the opening, and all else is new", 4, [(0, 1, "a"), (5, 1, "new")], False),
+            ("the last of the opening was deleted", 4, [(0, 1, "a"), (3, 1, "xy")], True),
         ]
         for name, site, runs, due in rows:
             with self.subTest(name):
                 self.assertEqual(past.is_known_to(site, copies.copy_of(runs)), due)
 
     def test_what_the_server_had_not_taken(self):
-        past = copies.Past(3, 1, copies.copy_of([(0, 1, "ab"), (3, 1, "xyz"), (0, 3, "c")]), {}, {}, {3: 1})
+        past = copies.Past(3, 1, copies.copy_of([(0, 1, "ab"), (3, 1, "xyz"), (0, 3, "c")]), {}, {}, [(3, 3)], {3: 1})
         now = copies.copy_of([(0, 1, "a"), (3, 2, "y"), (4, 1, "N"), (0, 3, "c")])
         self.assertEqual(past.lost(now), {(3, 3): "z"})
         self.assertEqual(past.lost(copies.copy_of([(0, 1, "ab")])), {(3, 2): "y", (3, 3): "z"})

@@ -1,3 +1,4 @@
 pub mod SomeFault
 pub mod Opened
 pub mod Words
+pub mod Spelled

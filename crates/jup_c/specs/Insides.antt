@@ -6,7 +6,10 @@ use Rattle.jup_wire.specs.declared.line.Line.TheVariants.{Hello}
 use Rattle.jup_wire.specs.Grammar.{line_bytes}
 use Rattle.jup_wire.specs.Streams.{HasRead}
 use Rattle.jup_embed.specs.declared.phase.Phase.TheVariants.{Greeting}
-use Rattle.jup_embed.specs.Sessions.{Session, Feeds, MakesEdit}
+use Rattle.jup_embed.specs.Sessions.{Session, stage_of, Feeds, MakesEdit}
+use Rattle.jup_c.specs.declared.commands.JupCommand.{JupCommand}
+use Rattle.jup_c.specs.Numbers.{stage_number, no_stage, stage_fault}
+use Rattle.jup_c.specs.InNumbers.{SpellAll}
 
 -- the bytes that wait to be sent
 abbrev pub waiting_in : Option Session → List ℕ
@@ -30,3 +33,16 @@ FeedsInside bytes old new = ⊥
 abbrev pub EditsInside : List Command → Option Session → Option Session → Type 0
 EditsInside commands (Some c) (Some d) = MakesEdit commands c d
 EditsInside commands old new = ⊥
+
+-- a client was there, and made an edit of the commands that these numbers spell
+abbrev pub EditsSpelled : List JupCommand → Option Session → Option Session → Type 0
+EditsSpelled told old new = (commands : List Command) × SpellAll told commands × EditsInside commands old new
+
+-- how far the session is, and the number of the fault that ended it
+abbrev pub stage_inside : Option Session → ℕ
+stage_inside None = no_stage
+stage_inside (Some c) = stage_number (stage_of c.phase)
+
+abbrev pub fault_inside : Option Session → ℕ
+fault_inside None = 0
+fault_inside (Some c) = stage_fault (stage_of c.phase)

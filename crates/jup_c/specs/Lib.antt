@@ -1,2 +1,4 @@
 pub mod Held
 pub mod Insides
+pub mod Numbers
+pub mod InNumbers

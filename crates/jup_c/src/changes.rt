@@ -1,4 +1,7 @@
 //! Changes of a board as C reads them.
+ghost use Rattle.std.specs.Prelude.{◌≡◌, pos};
+ghost use Rattle.jup_c.specs.Numbers.{change_kind};
+ghost use Rattle.jup_c.specs.InNumbers.{bare_change, change_place, change_name, change_value, change_label, ShowsLabel};
 
 use crate::kinds::{DELETE, INSERT_CHAR, INSERT_LABEL, NOTHING, RELABEL, SET_SLIDER, SET_TOGGLE};
 use jup_limits::LONGEST_LABEL;
@@ -25,7 +28,15 @@ pub struct JupChange {
 }
 
 /// What an operation changes.
-pub(crate) fn change_of(op: &BoardOp) -> JupChange {
+pub(crate) fn change_of(op: &BoardOp) -> JupChange
+    ensures kind { result.kind ≡ change_kind op.now.op }
+    ensures win { result.win ≡ op.now.win }
+    ensures wid { result.wid ≡ op.now.wid }
+    ensures place { result.place ≡ change_place op.now.op }
+    ensures name { (result.site, result.number) ≡ change_name op.now.op }
+    ensures value { result.value ≡ change_value op.now.op }
+    ensures label { ShowsLabel result (change_label op.now.op) }
+{
     match &op.op {
         WidgetOp::Text(SeqOp::Insert { place, item }) => JupChange {
             value: scalar_of(item.value),
@@ -52,7 +63,9 @@ pub(crate) fn change_of(op: &BoardOp) -> JupChange {
 }
 
 // A change of this kind, with its widget and nothing else.
-fn of_widget(op: &BoardOp, kind: u32) -> JupChange {
+fn of_widget(op: &BoardOp, kind: u32) -> JupChange
+    ensures { result ≡ bare_change kind op.now }
+{
     JupChange {
         kind,
         win: op.win,
@@ -66,7 +79,10 @@ fn of_widget(op: &BoardOp, kind: u32) -> JupChange {
     }
 }
 
-fn of_item(op: &BoardOp, kind: u32, place: u32, name: Name) -> JupChange {
+// A change of the item that has this name and was at the place.
+fn of_item(op: &BoardOp, kind: u32, place: u32, name: Name) -> JupChange
+    ensures { result ≡ record (bare_change kind op.now) { place = place; site = name.site; number = name.number } }
+{
     JupChange {
         place,
         site: name.site,
@@ -75,19 +91,24 @@ fn of_item(op: &BoardOp, kind: u32, place: u32, name: Name) -> JupChange {
     }
 }
 
-fn with_label(change: JupChange, label: &Label) -> JupChange {
+// The same change, with this label.
+fn with_label(change: JupChange, label: &Label) -> JupChange
+    ensures label { ShowsLabel result label.now }
+    ensures rest { result ≡ record change { label_len = result.label_len; label = result.label } }
+{
     let text = label.bytes();
-    let count = text.len().min(LONGEST_LABEL);
     let mut bytes = [0; LONGEST_LABEL];
-    bytes[..count].copy_from_slice(&text[..count]);
+    bytes[..text.len()].copy_from_slice(text);
     JupChange {
-        label_len: count as u32,
+        label_len: text.len() as u32,
         label: bytes,
         ..change
     }
 }
 
 // A scalar value is at most 0x10FFFF.
-fn scalar_of(value: char) -> i32 {
+fn scalar_of(value: char) -> i32
+    ensures { result ≡ pos value }
+{
     i32::try_from(u32::from(value)).unwrap_or(0)
 }

@@ -1,5 +1,10 @@
 //! Commands as C passes them.
-ghost use Rattle.std.specs.Prelude.{◌≡◌, length};
+ghost use Rattle.std.specs.Prelude.{◌≡◌, ◌≢◌, ◌↔◌, pos, ℕ, List, length, IsOk, IsErr, IfOk, IfErr};
+ghost use Rattle.std.specs.Char.{IsScalar};
+ghost use Rattle.jup_window.specs.declared.commands.Command.{Command as AnyCommand};
+ghost use Rattle.jup_window.specs.declared.commands.Command.TheVariants.{Set as SetValue};
+ghost use Rattle.jup_c.specs.Numbers.{bad_label, bad_command};
+ghost use Rattle.jup_c.specs.InNumbers.{HasLabel, Spells, SpellAll, IsFirstWrong, wrong_part};
 
 use crate::kinds::{DELETE, INSERT_CHAR, INSERT_LABEL, RELABEL, SET_SLIDER, SET_TOGGLE};
 use crate::numbers::{BAD_COMMAND, BAD_LABEL};
@@ -30,7 +35,9 @@ pub(crate) const NO_COMMAND: Command = Command::Delete {
 /// Reads commands in order, and returns 0 or the number of the first fault.
 pub(crate) fn read_commands(from: &[JupCommand], to: &mut [Command]) -> u32
     requires { length to.old ≡ length from.now }
-    ensures { length to.new ≡ length to.old }
+    ensures length { length to.new ≡ length to.old }
+    ensures spelled { result ≡ 0 → SpellAll from.now to.new }
+    ensures refused { result ≢ 0 → IsFirstWrong result from.now }
 {
     for k in 0..from.len() {
         match command_of(&from[k]) {
@@ -42,7 +49,11 @@ pub(crate) fn read_commands(from: &[JupCommand], to: &mut [Command]) -> u32
 }
 
 /// The command that these numbers are, or why they are none.
-pub(crate) fn command_of(told: &JupCommand) -> Result<Command, u32> {
+pub(crate) fn command_of(told: &JupCommand) -> Result<Command, u32>
+    ensures spelled { IfOk result (λ command. Spells told.now command) }
+    ensures none { IsErr result → (command : AnyCommand) → Spells told.now command → ⊥ }
+    ensures fault { IfErr result (λ fault. fault ≡ wrong_part told.now) }
+{
     let JupCommand {
         win,
         wid,
@@ -75,7 +86,9 @@ pub(crate) fn command_of(told: &JupCommand) -> Result<Command, u32> {
     }
 }
 
-fn set(told: &JupCommand, setting: Setting) -> Command {
+fn set(told: &JupCommand, setting: Setting) -> Command
+    ensures { result ≡ SetValue told.now.win told.now.wid setting }
+{
     Command::Set {
         win: told.win,
         wid: told.wid,
@@ -83,14 +96,22 @@ fn set(told: &JupCommand, setting: Setting) -> Command {
     }
 }
 
-fn char_of(value: i32) -> Result<char, u32> {
+fn char_of(value: i32) -> Result<char, u32>
+    ensures char { IfOk result (λ c. (value ≡ pos c) × IsScalar c) }
+    ensures none { IsErr result → (c : ℕ) → IsScalar c → value ≢ pos c }
+    ensures fault { IfErr result (λ fault. fault ≡ bad_command) }
+{
     let Ok(scalar) = u32::try_from(value) else {
         return Err(BAD_COMMAND);
     };
     char::from_u32(scalar).ok_or(BAD_COMMAND)
 }
 
-fn label_of(told: &JupCommand) -> Result<Label, u32> {
+fn label_of(told: &JupCommand) -> Result<Label, u32>
+    ensures label { IfOk result (λ label. HasLabel told.now label) }
+    ensures none { IsErr result → (label : List ℕ) → HasLabel told.now label → ⊥ }
+    ensures fault { IfErr result (λ fault. fault ≡ bad_label) }
+{
     match told.label.get(..told.label_len as usize) {
         Some(text) => Label::read(text).map_err(|_| BAD_LABEL),
         None => Err(BAD_LABEL),

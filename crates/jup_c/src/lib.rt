@@ -9,7 +9,7 @@ mod numbers;
 mod views;
 
 ghost use Rattle.std.specs.Prelude.{◌≡◌, ◌≢◌, ◌≤◌, [], length, take, drop, None, Some, IfSome};
-ghost use Rattle.jup_c.specs.Insides.{IsFresh, waiting_in, after_taking, FeedsInside, EditsInside};
+ghost use Rattle.jup_c.specs.Insides.{IsFresh, waiting_in, after_taking, FeedsInside, EditsInside, EditsSpelled, stage_inside, fault_inside};
 
 pub use changes::JupChange;
 use changes::change_of;
@@ -17,12 +17,12 @@ pub use commands::JupCommand;
 use commands::{NO_COMMAND, command_of, read_commands};
 pub use handle::JupClient;
 use jup_batch::MOST_COMMANDS;
-use jup_embed::{Client, Stage, copy_label, copy_text, widget_view, window_view};
+use jup_embed::{Client, copy_label, copy_text, widget_view, window_view};
 use jup_rules::told_text;
 use jup_window::{Command, EditFault};
 use numbers::{
-    BAD_PLACE, CLOSED, NO_MEMORY, NO_WIDGET, NO_WINDOW, NOT_OPEN, UNTOLD, number_of_edit,
-    number_of_end,
+    BAD_PLACE, CLOSED, NO_MEMORY, NO_STAGE, NO_WIDGET, NO_WINDOW, NOT_OPEN, UNTOLD, fault_of_stage,
+    number_of_edit, number_of_end, number_of_stage,
 };
 use std::alloc::Global;
 pub use views::JupWidget;
@@ -58,25 +58,21 @@ pub extern "C" fn jup_close(alloc: Global, client: &mut JupClient)
 }
 
 /// How far the session is, and the number of its fault where it is over.
+#[tactic(auto, using(crate::proofs::Opened::stage_known, crate::proofs::Opened::fault_known))]
 #[unsafe(no_mangle)]
 pub extern "C" fn jup_stage(alloc: Global, client: &mut JupClient, fault: &mut u32) -> u32
-    ensures { client.new.inside ≡ client.old.inside }
+    ensures stage { result ≡ stage_inside client.old.inside }
+    ensures fault { fault.new ≡ fault_inside client.old.inside }
+    ensures same { client.new.inside ≡ client.old.inside }
 {
-    *fault = 0;
     let Some(held) = client.take(alloc) else {
-        return 4;
+        *fault = 0;
+        return NO_STAGE;
     };
     let stage = held.as_ref().stage();
     client.put(held);
-    match stage {
-        Stage::Greeting => 0,
-        Stage::Opening => 1,
-        Stage::Open => 2,
-        Stage::Over(end) => {
-            *fault = number_of_end(end);
-            3
-        }
-    }
+    *fault = fault_of_stage(stage);
+    number_of_stage(stage)
 }
 
 /// Takes bytes that the server sent. A fault ends the session.
@@ -129,8 +125,10 @@ pub extern "C" fn jup_take(alloc: Global, client: &mut JupClient, to: &mut [u8])
 }
 
 /// Makes one edit of 1 to 32 commands. A refusal changes nothing.
+#[tactic(auto, using(crate::proofs::Opened::edits_spelled))]
 #[unsafe(no_mangle)]
 pub extern "C" fn jup_edit(alloc: Global, client: &mut JupClient, commands: &[JupCommand]) -> u32
+    ensures made { result ≡ 0 → EditsSpelled commands.now client.old.inside client.new.inside }
     ensures refused { result ≢ 0 → client.new.inside ≡ client.old.inside }
 {
     match commands {
@@ -142,7 +140,9 @@ pub extern "C" fn jup_edit(alloc: Global, client: &mut JupClient, commands: &[Ju
     }
 }
 
+#[tactic(auto, using(crate::proofs::Opened::edits_spelled))]
 fn edit_many(alloc: Global, client: &mut JupClient, commands: &[JupCommand]) -> u32
+    ensures made { result ≡ 0 → EditsSpelled commands.now client.old.inside client.new.inside }
     ensures refused { result ≢ 0 → client.new.inside ≡ client.old.inside }
 {
     if commands.len() > MOST_COMMANDS {

@@ -1,5 +1,7 @@
 //! Widgets and texts as C reads them.
-ghost use Rattle.std.specs.Prelude.{◌≡◌, length};
+ghost use Rattle.std.specs.Prelude.{◌≡◌, length, min, take, drop};
+ghost use Rattle.jup_c.specs.Numbers.{widget_kind};
+ghost use Rattle.jup_c.specs.InNumbers.{widget_items, widget_lo, widget_hi, widget_value};
 
 use crate::kinds::{LIST, SLIDER, TEXT, TOGGLE};
 use jup_embed::{WidgetKind, WidgetView};
@@ -20,7 +22,15 @@ pub struct JupWidget {
 }
 
 /// A widget as C reads it.
-pub(crate) fn widget_of(view: &WidgetView) -> JupWidget {
+pub(crate) fn widget_of(view: &WidgetView) -> JupWidget
+    ensures kind { result.kind ≡ widget_kind view.now.kind }
+    ensures win { result.win ≡ view.now.win }
+    ensures wid { result.wid ≡ view.now.wid }
+    ensures items { result.items ≡ widget_items view.now.kind }
+    ensures lo { result.lo ≡ widget_lo view.now.kind }
+    ensures hi { result.hi ≡ widget_hi view.now.kind }
+    ensures value { result.value ≡ widget_value view.now.kind }
+{
     let WidgetView { win, wid, kind } = *view;
     let bare = JupWidget {
         win,
@@ -55,7 +65,9 @@ pub(crate) fn widget_of(view: &WidgetView) -> JupWidget {
 
 /// Copies bytes as far as there is room.
 pub(crate) fn copy_bytes(from: &[u8], to: &mut [u8])
-    ensures { length to.new ≡ length to.old }
+    ensures long { length to.new ≡ length to.old }
+    ensures copied { let count = min (length from.now) (length to.old) in take count to.new ≡ take count from.now }
+    ensures rest { let count = min (length from.now) (length to.old) in drop count to.new ≡ drop count to.old }
 {
     let count = from.len().min(to.len());
     to[..count].copy_from_slice(&from[..count]);

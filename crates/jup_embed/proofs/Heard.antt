@@ -20,7 +20,7 @@ use Rattle.jup_embed.specs.declared.phase.Phase.{Phase}
 use Rattle.jup_embed.specs.declared.phase.Phase.TheVariants as phase
 use Rattle.jup_embed.specs.declared.refusals.EmbedFault.{EmbedFault}
 use Rattle.jup_embed.specs.Changes.{kept, operations_in, operations_said}
-use Rattle.jup_embed.specs.Outboxes.{said_bytes}
+use Rattle.jup_embed.specs.UnsentBytes.{said_bytes}
 use Rattle.jup_embed.specs.Phases.{PhaseHears}
 use Rattle.jup_embed.specs.Sessions.{Session, HearsLine, HearsLines, EditedIn, MakesEdit, AnsweredIn, IsDone, DoesAsked, Commands, still_synced}
 

@@ -1,6 +1,6 @@
 pub mod Changes
-pub mod Phases
-pub mod Outboxes
-pub mod Sessions
 pub mod Copies
+pub mod Phases
+pub mod Sessions
+pub mod UnsentBytes
 pub mod Views

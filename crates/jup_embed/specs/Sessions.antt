@@ -32,7 +32,7 @@ use Rattle.jup_embed.specs.declared.client.Stage.TheVariants as stage
 use Rattle.jup_embed.specs.declared.refusals.EmbedFault.{EmbedFault}
 use Rattle.jup_embed.specs.declared.refusals.EmbedFault.TheVariants as fault
 use Rattle.jup_embed.specs.Changes.{kept, operations_in, operations_said}
-use Rattle.jup_embed.specs.Outboxes.{said_bytes}
+use Rattle.jup_embed.specs.UnsentBytes.{said_bytes}
 use Rattle.jup_embed.specs.Phases.{PhaseHears}
 
 -- How the bytes fed so far were read, and how far the session is. The bytes that wait to be sent. The operations that the board took and that the client

@@ -14,9 +14,9 @@ ghost use Rattle.jup_embed.specs.Copies.{LacksUntold, KeepsCopies};
 ghost use Rattle.jup_embed.specs.Sessions.{stage_of, board_in, site_in, still_synced, refusal_of, HearsLine, HearsLines, Feeds, KeepsRest, RefusesLine, HearsUpTo, Ends, EditedIn, MakesEdit, RefusesEdit, RefusesAt, AnsweredIn, IsDone, Asks, DoesAsked, Commands};
 
 use crate::changes::Changes;
-use crate::outbox::Outbox;
 use crate::phase::Phase;
 use crate::refusals::EmbedFault;
+use crate::unsent::Unsent;
 use jup_rules::{Answer, Asking, ClientEnd, Heard, Request, Said, SessionFault, Told};
 use jup_star::{Made, Site};
 use jup_window::{Board, BoardOp, Command, EditFault, Within};
@@ -42,7 +42,7 @@ pub enum Stage {
 pub struct Client {
     reader: Reader,
     phase: Phase,
-    outbox: Outbox,
+    unsent: Unsent,
     changes: Changes,
     asking: Asking,
     is_synced: bool,
@@ -58,7 +58,7 @@ impl Model for Client {
     ghost view = { λ c. record {
       progress = c.reader;
       phase = c.phase;
-      waiting = c.outbox.bytes;
+      waiting = c.unsent.bytes;
       changes = c.changes.untold;
       watched = c.changes.watched;
       asked = c.asking;
@@ -76,11 +76,11 @@ impl Client {
         ensures changes { IfOk result (λ client. client.changes ≡ []) }
         ensures watched { IfOk result (λ client. client.watched ≡ is_watched) }
     {
-        let outbox = Outbox::new(alloc)?;
+        let unsent = Unsent::new(alloc)?;
         Ok(Client {
             reader: Reader::new(),
             phase: Phase::Greeting,
-            outbox,
+            unsent,
             changes: Changes::new(alloc, is_watched),
             asking: Asking::new(),
             is_synced: false,
@@ -132,7 +132,7 @@ impl Client {
     pub fn waiting(&self) -> usize
         ensures { result ≡ length self.now.waiting }
     {
-        self.outbox.len()
+        self.unsent.len()
     }
 
     /// Moves bytes that wait to be sent, the oldest first, and returns how many. Nothing else changes.
@@ -142,7 +142,7 @@ impl Client {
         ensures left { self.new ≡ record self.old { waiting = drop result self.old.waiting } }
         ensures long { length to.new ≡ length to.old }
     {
-        self.outbox.move_out(to)
+        self.unsent.move_out(to)
     }
 
     /// Tells the oldest operation that the board took and that it has not told. Nothing else changes.
@@ -215,14 +215,14 @@ impl Client {
         ensures kept { OnErr result (KeepsRest self.old self.new) }
         ensures read { self.new.progress ≡ self.old.progress }
     {
-        self.outbox.reserve()?;
+        self.unsent.reserve()?;
         self.changes.reserve()?;
         let Heard {
             said,
             is_synced,
             shown,
         } = self.phase.hear(alloc, line)?;
-        self.outbox.say(said);
+        self.unsent.say(said);
         self.changes.keep_shown(shown);
         self.is_synced = either(self.is_synced, is_synced);
         Ok(())
@@ -246,12 +246,12 @@ impl Client {
         ensures refused { OnErr result (self.new ≡ self.old) }
         ensures why { IfErr result (λ fault. RefusesEdit commands.now self.old.phase fault) }
     {
-        self.outbox.reserve()?;
+        self.unsent.reserve()?;
         self.changes.reserve()?;
         let made = edit_in(alloc, &mut self.phase, commands)?;
         let said = Some(said_of(made));
         self.changes.keep_said(&said);
-        self.outbox.say(said);
+        self.unsent.say(said);
         Ok(())
     }
 
@@ -316,11 +316,11 @@ impl Client {
         ensures asks { Asks request.now self.old result self.new }
         ensures asked { self.new.asked ≡ self.old.asked }
     {
-        self.outbox.reserve()?;
+        self.unsent.reserve()?;
         self.changes.reserve()?;
         let Answer { said, told } = answer_in(alloc, &mut self.phase, request)?;
         self.changes.keep_said(&said);
-        self.outbox.say(said);
+        self.unsent.say(said);
         self.is_synced = still_synced(request, self.is_synced);
         Ok(told)
     }

@@ -5,9 +5,9 @@
 mod board_view;
 mod changes;
 mod client;
-mod outbox;
 mod phase;
 mod refusals;
+mod unsent;
 
 pub use board_view::{WidgetKind, WidgetView, copy_label, copy_text, widget_view, window_view};
 pub use client::{Client, Stage};

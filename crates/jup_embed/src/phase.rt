@@ -1,6 +1,7 @@
 //! How far a session is, and what a line of the server makes of that.
 ghost use Rattle.std.specs.Prelude.{◌≡◌};
 ghost use Rattle.jup_embed.specs.Phases.{PhaseHears, nothing_heard};
+ghost use Rattle.jup_embed.specs.declared.phase.Phase.TheVariants.{Open};
 
 use jup_rules::{ClientEnd, ClientState, Heard, Opening};
 use jup_window::Within;
@@ -32,13 +33,20 @@ impl Phase {
             }
             Phase::Opening(opening) => {
                 if let Some(state) = opening.hear(alloc, line)? {
-                    *self = Phase::Open(state);
+                    self.open(state);
                 }
                 Ok(nothing_heard())
             }
             Phase::Open(state) => state.hear(alloc, line),
             Phase::Over(end) => Err(*end),
         }
+    }
+
+    // The welcome has ended.
+    fn open(&mut self, state: ClientState)
+        ensures { self.new ≡ Open state }
+    {
+        *self = Phase::Open(state);
     }
 }
 

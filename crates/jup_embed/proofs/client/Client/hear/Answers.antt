@@ -1,7 +1,7 @@
 use Rattle.std.proofs.Common.{◌++◌, refl, ap, ◌∙◌, inl}
 use Rattle.jup_rules.specs.declared.ends.ClientEnd.TheVariants.{NoMemory}
 use Rattle.jup_embed.specs.Changes.{kept, operations_in}
-use Rattle.jup_embed.specs.Outboxes.{said_bytes}
+use Rattle.jup_embed.specs.UnsentBytes.{said_bytes}
 use Rattle.jup_embed.specs.contracts.client.Client.{the_view}
 use Rattle.jup_embed.specs.Sessions.{RefusesLine}
 use Rattle.jup_embed.proofs.Heard.{heard_from}

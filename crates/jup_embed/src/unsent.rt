@@ -2,7 +2,7 @@
 ghost use Rattle.std.specs.Prelude.{◌≡◌, ◌≤◌, ◌++◌, length, take, drop, OnOk, IfOk};
 ghost use Rattle.jup_wire.specs.Grammar.{line_bytes};
 ghost use Rattle.jup_wire.specs.declared.line.Line.TheVariants.{Hello};
-ghost use Rattle.jup_embed.specs.Outboxes.{said_bytes};
+ghost use Rattle.jup_embed.specs.UnsentBytes.{said_bytes};
 
 use jup_gather::{MOST_MESSAGE, write_message};
 use jup_rules::Said;
@@ -13,15 +13,15 @@ use std::marker::Model;
 
 /// Bytes for the server, which wait for the caller to send them. Contracts see these, and for how many more there is room.
 #[derive(Drop)]
-pub(crate) struct Outbox {
+pub(crate) struct Unsent {
     text: Vec<u8>,
     // How many of them were taken.
     sent: usize,
 }
 
-impl Model for Outbox {
+impl Model for Unsent {
     ghost use Rattle.std.specs.Prelude.{◌-◌, ◌≤◌, drop, length, vec_len, vec_capacity};
-    ghost use Rattle.jup_embed.specs.Outboxes.{Waiting};
+    ghost use Rattle.jup_embed.specs.UnsentBytes.{Waiting};
 
     ghost Value = { Waiting };
 
@@ -30,18 +30,18 @@ impl Model for Outbox {
     ghost invariant = { λ a. a.sent ≤ length a.text.items };
 }
 
-impl Outbox {
+impl Unsent {
     /// The greeting of a client.
-    pub(crate) fn new(alloc: Global) -> Result<Outbox, NoMemory>
-        ensures { IfOk result (λ outbox. outbox.bytes ≡ line_bytes Hello) }
+    pub(crate) fn new(alloc: Global) -> Result<Unsent, NoMemory>
+        ensures { IfOk result (λ unsent. unsent.bytes ≡ line_bytes Hello) }
     {
-        let mut outbox = Outbox {
+        let mut unsent = Unsent {
             text: Vec::new(alloc),
             sent: 0,
         };
-        outbox.reserve()?;
-        write_reserved(&Line::Hello, &mut outbox.text);
-        Ok(outbox)
+        unsent.reserve()?;
+        write_reserved(&Line::Hello, &mut unsent.text);
+        Ok(unsent)
     }
 
     /// How many bytes wait.

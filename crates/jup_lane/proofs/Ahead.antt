@@ -1,58 +1,16 @@
 -- A message that is read in place, before the reader is given its bytes.
-use Rattle.std.proofs.Common.{◌≡◌, ◌≢◌, ◌⊎◌, ℕ, ◌+◌, ◌-◌, ◌≤◌, inl, inr, Bool, List, [], ◌∷◌, ◌++◌, length, take, drop, Some, refl, sym, ap, subst, ◌∙◌, append_assoc, append-nil, arith, length-drop, length-append, take-append-drop}
+use Rattle.std.proofs.Common.{◌≡◌, ◌≢◌, ◌⊎◌, ℕ, ◌+◌, ◌-◌, ◌≤◌, inl, inr, Bool, List, [], ◌∷◌, ◌++◌, length, take, drop, Some, refl, sym, ap, subst, ◌∙◌, arith, length-drop, length-append, take-append-drop}
 use Rattle.std.specs.Prelude.{IsTrue, ◌↔◌}
-use Rattle.std.specs.List.{flat_map, AllByRecursion}
+use Rattle.std.specs.List.{AllByRecursion}
 use Rattle.std.proofs.lemmas.List.{take-append-le, drop-append-le, drop_all}
 use Rattle.std.proofs.Math.Seq.{take-nil, drop-nil, drop-append_seam}
-use Rattle.jup_window.specs.declared.board_operations.BoardOp.{BoardOp}
-use Rattle.jup_link.specs.declared.Msg.{Msg}
 use Rattle.jup_wire.specs.declared.line.Line.{Line}
-use Rattle.jup_wire.specs.Grammar.{line_text, spelling, HasSpelling}
 use Rattle.jup_wire.specs.Singles.{BeginsLines}
-use Rattle.jup_wire.proofs.Unique.{one}
-use Rattle.jup_gather.specs.declared.ways.Message.{Ghosts}
-use Rattle.jup_gather.specs.Pieces.{Message, message_lines, piece_lines}
-use Rattle.jup_lane.specs.Codecs.{Codec, IsCodec, IsFirst, IsFirstIn, IsOldest, IsOldestIn, bytes_of, bytes_of_all}
-use Rattle.jup_lane.specs.Messages.{codec}
+use Rattle.jup_lane.specs.Codecs.{Codec, IsCodec, bytes_of, bytes_of_all, lines_in, messages_in}
 use Rattle.jup_lane.specs.Lanes.{Way, no_bytes, sent, moved, handed_over, IsIdle, messages, Carries, IsWholeOf, IsWhole, IsFilled, filled_to, oldest_length, IsLane}
-use Rattle.jup_lane.proofs.Firsts.{edit_in}
-use Rattle.jup_lane.proofs.LaneLaws.{same_ways, none_both, begins, lines_spelled, bytes_are, carried-new, carried-moved, carried-sent, carried-handed, idle, idle_none}
-use Rattle.jup_lane.proofs.MessageLines.{codec_laws}
+use Rattle.jup_lane.proofs.LaneLaws.{same_ways, none_both, begins, carried-new, carried-moved, carried-sent, carried-handed, idle, idle_none}
+use Rattle.jup_lane.proofs.LinesIn.{lines_first}
 use Rattle.jup_lane.proofs.Whole.{moved-none, moved-zero, moved-twice, length-moved, whole_oldest}
-
--- # The oldest message
-
--- a line has bytes
-no_line : (text more rest : List ℕ) → [] ≢ ((text ++ 10 ∷ []) ++ more) ++ rest
-no_line [] more rest e = cc
-no_line (b ∷ text) more rest e = cc
-
--- lines whose bytes begin those of other lines begin these lines
-all_begin : (lines all : List Line) (rest : List ℕ) → AllByRecursion HasSpelling lines → AllByRecursion HasSpelling all → flat_map spelling all ≡ flat_map spelling lines ++ rest → (later : List Line) × (all ≡ lines ++ later)
-all_begin [] all rest spelled whole e = (all, refl)
-all_begin (l ∷ lines) [] rest spelled whole e = absurd (no_line (line_text l) (flat_map spelling lines) rest e)
-all_begin (l ∷ lines) (m ∷ all) rest spelled whole e =
-    let o = one (spelling m) (spelling l) (flat_map spelling all) (flat_map spelling lines ++ rest) m l (whole.0, refl) (spelled.0, refl) (e ∙ append_assoc (spelling l) (flat_map spelling lines) rest) in
-    let later = all_begin lines all rest spelled.1 whole.1 o.2 in
-    (later.0, ap (λ t. t ∷ all) o.0 ∙ ap (λ t. l ∷ t) later.1)
-
-first_is : {Message : Type 0} (lines : Message → List Line) (there : List Line) (m : Message) (ms : List Message) (len : ℕ) → IsFirst lines there ms (Some m) → len ≡ length (flat_map spelling (lines m)) → IsOldest lines m len ms
-first_is lines there m [] len first long = absurd cc
-first_is lines there m (x ∷ ms) len first long = record { later = ms; first = ap (λ t. t ∷ ms) (sym first.0); long = long }
-
--- a message whose lines begin some bytes is the oldest of those that the bytes are
-oldest : {Message : Type 0} (C : Codec Message) → IsCodec C → (m : Message) (len : ℕ) (bytes : List ℕ) → BeginsLines (C.lines m) len bytes
-    → IsFirstIn C (C.lines m) (Some m) → IsOldestIn C bytes m len
-oldest C laws m len bytes begins first ms all e =
-    let later = all_begin (C.lines m) (flat_map C.lines ms) begins.rest begins.spelled (lines_spelled C laws ms all) (sym e ∙ begins.stands) in
-    first_is C.lines (C.lines m) m ms len (first ms later.0 all (sym later.1)) begins.long
-
--- so is an edit that is read where it stands
-pub edit_oldest : {M : Type 0} (t : Ghosts M) (m : M) (msg : Msg (List BoardOp)) (len : ℕ) (bytes : List ℕ) → BeginsLines (message_lines msg) len bytes → t.piece m ≡ Message msg → IsOldestIn (codec t) bytes m len
-edit_oldest t m msg len bytes begins e =
-    let lines : (codec t).lines m ≡ message_lines msg = ap piece_lines e in
-    oldest (codec t) (codec_laws t) m len bytes (subst (λ ls. BeginsLines ls len bytes) (sym lines) begins)
-    (subst (λ ls. IsFirstIn (codec t) ls (Some m)) (sym lines) (edit_in t (message_lines msg) msg m (begins.spelled.0.1.1, ([], sym (append-nil (message_lines msg)))) e))
 
 -- # Bytes that count as moved
 
@@ -117,10 +75,6 @@ module _ {Message : Type 0} (C : Codec Message) (L : IsCodec C) where
 
   -- # Reading a message where it stands
 
-  -- a stream of whose lane the reader has no byte is the lines of the messages
-  pub stream_is : (w : Way) → Carries C w → w.read ≡ [] → w.stream ≡ flat_map spelling (flat_map C.lines (messages C w))
-  stream_is w carries none = sym (ap (λ t. t ++ w.stream) none) ∙ carries.bytes ∙ bytes_are C L (messages C w)
-
   -- so many bytes count as moved, and the message of which they are is the oldest
   pub record ReadAhead (old w : Way) (len : ℕ) (m : Message) : Type 0 where
     pub filled : IsFilled C old (moved len w) (Some m)
@@ -134,12 +88,15 @@ module _ {Message : Type 0} (C : Codec Message) (L : IsCodec C) where
       let all : n ≡ k + (n - length (moved k w).read) = omega (arith, read, long, short) in
       ap (λ j. moved j w) all ∙ sym (moved-twice k (n - length (moved k w).read) w)
 
-  pub read_there : (before : ℕ) (w old : Way) (len : ℕ) (m : Message) → IsLane C before w → moved before w ≡ old → w.read ≡ [] → IsOldest C.lines m len (messages C w) → ReadAhead old w len m
-  read_there before w old len m lane view none is =
+  pub read_there : (before : ℕ) (w old : Way) (len : ℕ) (m : Message) → IsLane C before w → moved before w ≡ old → w.read ≡ [] → BeginsLines (C.lines m) len w.stream
+      → ((lines : List Line) → C.gather (C.lines m ++ lines) ≡ m ∷ C.gather lines) → ReadAhead old w len m
+  read_there before w old len m lane view none is front =
       let n = length (bytes_of C m) in
-      let oldest : oldest_length C (messages C w) ≡ n = ap (oldest_length C) is.first in
-      let bytes : w.stream ≡ bytes_of C m ++ bytes_of_all C is.later = sym (ap (λ t. t ++ w.stream) none) ∙ lane.carries.bytes ∙ ap (λ t. bytes_of_all C t) is.first in
-      let all = ap length bytes ∙ length-append (bytes_of C m) (bytes_of_all C is.later) in
+      let later = C.gather (lines_in is.rest) in
+      let first : messages C w ≡ m ∷ later =
+      ap (λ t. messages_in C (t ++ w.stream)) none ∙ ap (messages_in C) is.stands ∙ ap C.gather (lines_first (C.lines m) is.rest is.spelled) ∙ front (lines_in is.rest) in
+      let oldest : oldest_length C (messages C w) ≡ n = ap (oldest_length C) first in
+      let all = ap length is.stands ∙ length-append (bytes_of C m) is.rest in
       let is_long = is.long in
       let within : len ≤ length w.stream = omega (arith, all, is_long) in
       let short : before ≤ len =
@@ -147,10 +104,10 @@ module _ {Message : Type 0} (C : Codec Message) (L : IsCodec C) where
         | inl zero_before ↦ omega (arith, zero_before)
         | inr there ↦ (let e = there.1 in omega (arith, e, oldest, is_long))
       ] in
-      let same : (k : ℕ) → messages C (moved k w) ≡ m ∷ is.later = λ k. (carried-moved C L k w lane.carries).0 ∙ is.first in
+      let same : (k : ℕ) → messages C (moved k w) ≡ m ∷ later = λ k. (carried-moved C L k w lane.carries).0 ∙ first in
       let long = length-moved len w within in
       record {
-        filled = subst (λ v. IsFilled C v (moved len w) (Some m)) view (is.later, same before, moved_on before len w none lane.within short ∙ ap (λ n. filled_to n (moved before w)) is_long);
+        filled = subst (λ v. IsFilled C v (moved len w) (Some m)) view (later, same before, moved_on before len w none lane.within short ∙ ap (λ n. filled_to n (moved before w)) is_long);
         whole = subst (λ ms. IsWholeOf C ms (moved len w).read (Some m)) (sym (same len)) (refl, omega (arith, long, is_long));
         lane = record { carries = lane.carries; within = within; oldest = inr (none, is_long ∙ sym oldest) };
       }

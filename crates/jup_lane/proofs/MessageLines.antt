@@ -41,13 +41,13 @@ some_lines (Message m) = omega arith
 some_lines (Alone line) = le_refl 1
 
 module _ {M : Type 0} (piece : M → Piece) (back : Piece → Option M) (may_go : M → Type 0) (way : (m : M) → IsWay piece back may_go m) where
+  gather_first : (m : M) (lines : List Line) → (codec_of piece back).gather (piece_lines (piece m) ++ lines) ≡ m ∷ (codec_of piece back).gather lines
+  gather_first m lines = ap (flat_map (λ p. option_to_list (back p))) (piece_first (piece m) lines (way m).sound) ∙ ap (λ o. option_to_list o ++ (codec_of piece back).gather lines) (way m).again
+
   gathered : (ms : List M) → (codec_of piece back).gather (flat_map (λ m. piece_lines (piece m)) ms) ≡ ms
   gathered [] = refl
   gathered (m ∷ ms) =
-      ap (codec_of piece back).gather (flat_map-cons (λ x. piece_lines (piece x)) m ms)
-      ∙ ap (flat_map (λ p. option_to_list (back p))) (piece_first (piece m) (flat_map (λ x. piece_lines (piece x)) ms) (way m).sound)
-      ∙ ap (λ o. option_to_list o ++ (codec_of piece back).gather (flat_map (λ x. piece_lines (piece x)) ms)) (way m).again
-      ∙ ap (λ ns. m ∷ ns) (gathered ms)
+      ap (codec_of piece back).gather (flat_map-cons (λ x. piece_lines (piece x)) m ms) ∙ gather_first m (flat_map (λ x. piece_lines (piece x)) ms) ∙ ap (λ ns. m ∷ ns) (gathered ms)
 
   pub codec_is : IsCodec (codec_of piece back)
   codec_is = record { spelled = λ m is. is; some = λ m. some_lines (piece m); gathers = λ ms all. gathered ms }
@@ -61,3 +61,7 @@ downs_laws = codec_is _ _ _ down_way
 
 pub codec_laws : {M : Type 0} (t : Ghosts M) → IsCodec (codec t)
 codec_laws t = codec_is t.piece t.of_piece t.may_go t.way
+
+-- a message whose lines come first is first
+pub message_first : {M : Type 0} (t : Ghosts M) (m : M) (lines : List Line) → (codec t).gather ((codec t).lines m ++ lines) ≡ m ∷ (codec t).gather lines
+message_first t m lines = gather_first t.piece t.of_piece t.may_go t.way m lines

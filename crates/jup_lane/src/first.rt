@@ -3,7 +3,6 @@ ghost use Rattle.std.specs.Prelude.{◌≡◌, length, IfOk, IfSome, IsTrue};
 ghost use Rattle.jup_gather.specs.declared.gathered.Gathered.TheVariants as gathered;
 ghost use Rattle.jup_wire.specs.Singles.{BeginsLines};
 ghost use Rattle.jup_gather.specs.Pieces.{BeginsNone, message_lines};
-ghost use Rattle.jup_lane.specs.Codecs.{IsOldestIn};
 ghost use Rattle.jup_lane.specs.Firsts.{IsFirstOf};
 ghost use Rattle.jup_lane.specs.Messages.{codec};
 
@@ -17,7 +16,7 @@ use std::collections::VecDeque;
 
 /// The message that begins some bytes, and how many bytes it has; none if that cannot be decided without gathering lines.
 pub(crate) fn read<M: Message>(bytes: &[u8]) -> Option<(M, usize)>
-    ensures { IfSome result (λ x. IsOldestIn (codec M.Message) bytes.now x.0 x.1) }
+    ensures { IfSome result (λ x. BeginsLines ((codec M.Message).lines x.0) x.1 bytes.now) }
 {
     let (msg, len) = single_in(bytes)?;
     Some((M::edit(msg), len))

@@ -1,5 +1,7 @@
-use Rattle.jup_lane.proofs.Ahead.{edit_oldest}
+use Rattle.std.proofs.Common.{sym, ap, subst}
+use Rattle.jup_wire.specs.Singles.{BeginsLines}
+use Rattle.jup_gather.specs.Pieces.{piece_lines}
 use Rattle.jup_lane.proofs.first.read.Goals as goal
 
 pub returns : goal.returns
-returns g c = edit_oldest g.M.Message c.edit.result c.in_ok-msg.msg c.in_ok-msg.len c.args.bytes.now c.in_ok-msg.ensures c.edit.ensures
+returns g c = subst (λ ls. BeginsLines ls c.in_ok-msg.len c.args.bytes.now) (sym (ap piece_lines c.edit.ensures)) c.in_ok-msg.ensures

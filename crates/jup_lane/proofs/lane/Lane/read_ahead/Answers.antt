@@ -1,22 +1,20 @@
-use Rattle.std.proofs.Common.{◌≡◌, true, ap, ◌∙◌, rules}
+use Rattle.std.proofs.Common.{◌≡◌, true, ap, subst, rules}
+use Rattle.jup_wire.specs.Singles.{BeginsLines}
 use Rattle.jup_lane.specs.Messages.{codec}
-use Rattle.jup_lane.specs.Lanes.{LaneState, Way, messages}
-use Rattle.jup_lane.proofs.Ahead.{ReadAhead, read_there, stream_is}
-use Rattle.jup_lane.proofs.MessageLines.{codec_laws}
+use Rattle.jup_lane.specs.Lanes.{LaneState, Way}
+use Rattle.jup_lane.proofs.Ahead.{ReadAhead, read_there}
+use Rattle.jup_lane.proofs.MessageLines.{codec_laws, message_first}
 use Rattle.jup_lane.proofs.lane.Lane.read_ahead.Given as given
 use Rattle.jup_lane.proofs.lane.Lane.read_ahead.Goals as goal
 
 fact : (g : given.Over) (c : goal.After-self-1 g)
     → ReadAhead (codec g.M.Message) (codec_laws g.M.Message) c.args.self.now.way (record { read = c.self.inside.tray; stream = c.self.inside.stream.bytes }) c.in_ok-message.len c.in_ok-message.message
 fact g c =
-    let C = codec g.M.Message in
-    let laws = codec_laws g.M.Message in
     let w : Way = record { read = c.self.inside.tray; stream = c.self.inside.stream.bytes } in
-    let carries = c.self.invariant.carries in
+    let m = c.in_ok-message.message in
     let nothing : c.is_empty.result ≡ true = search rules in
-    let unread = c.is_empty.ensures.0 nothing in
-    read_there C laws c.self.inside.ahead w c.args.self.now.way c.in_ok-message.len c.in_ok-message.message c.self.invariant (ap (λ (s : LaneState). s.way) c.self.view_is) unread
-    (c.in_ok-message.ensures (messages C w) carries.spelled (c.as_slice.ensures ∙ stream_is C laws w carries unread))
+    let begins = subst (BeginsLines ((codec g.M.Message).lines m) c.in_ok-message.len) c.as_slice.ensures c.in_ok-message.ensures in
+    read_there (codec g.M.Message) (codec_laws g.M.Message) c.self.inside.ahead w c.args.self.now.way c.in_ok-message.len m c.self.invariant (ap (λ (s : LaneState). s.way) c.self.view_is) (c.is_empty.ensures.0 nothing) begins (message_first g.M.Message m)
 
 pub invariant_of-self : goal.invariant_of-self
 invariant_of-self g c = (fact g c).lane

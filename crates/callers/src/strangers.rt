@@ -8,7 +8,7 @@ ghost use Rattle.jup_world.specs.Events as event;
 ghost use Rattle.jup_world.specs.BoardWorlds.{BoardAttached, BoardLink};
 ghost use Rattle.jup_world.specs.WorldStates.{attached};
 ghost use Rattle.jup_world.specs.WorldSteps.{outcome};
-ghost use Rattle.jup_world.specs.Replies.{IsEntry, IsRejected};
+ghost use Rattle.jup_world.specs.Replies.{IsEntry};
 ghost use Rattle.jup_world.specs.Strangers.{SiteHolds, AllLinked};
 ghost use Rattle.callers.specs.Crowd.{board, after, pair, crowd, turns_on, told, edited};
 
@@ -22,7 +22,8 @@ use jup_world::worlds_agree;
 /// - before the stranger joined, the attached sites were those that had links.
 pub fn meet_a_stranger()
     ensures entry { (l : BoardLink) × (link_of 3 (after 2 crowd).star.links ≡ Some l)
-        × IsEntry board_batches (after 2 crowd) 3 l turns_on (outcome board_batches (after 2 crowd) (event.Stray 3 (up.Op turns_on))) }
+        × (let o = outcome board_batches (after 2 crowd) (event.Stray 3 (up.Op turns_on)) in
+        IsEntry board_batches (after 2 crowd).star 3 l turns_on o.reply o.star) }
     ensures rejected { (outcome board_batches (after 2 crowd) (event.Stray 3 (up.Ack 1))).star ≡ left 3 (after 2 crowd).star }
     ensures first { (l : BoardLink) × (a : BoardAttached) × (attached 1 (after 2 told).sites ≡ Some a)
         × SiteHolds board_batches (after 2 told) 1 l a × (a.site.board ≡ board true) }

@@ -2,6 +2,8 @@
 ghost use Rattle.std.specs.Prelude.{◌≡◌, ◌==◌, ◌<◌, ◌∷◌, ◌++◌, length, position, IfSome, MatchOption};
 ghost use Rattle.jup_board.specs.Printed.{Lacks};
 
+use memchr::memchr;
+
 /// What comes before the first such byte, and what follows it.
 pub(crate) fn cut_at(text: &[u8], byte: u8) -> Option<(&[u8], &[u8])>
     ensures { MatchOption result (Lacks byte text.now)
@@ -16,5 +18,5 @@ fn place_of(text: &[u8], byte: u8) -> Option<usize>
     ensures place { result ≡ position (λ it. it == byte) text.now }
     ensures within { IfSome result (λ at. at < length text.now) }
 {
-    text.iter().position(|it| *it == byte)
+    memchr(byte, text)
 }

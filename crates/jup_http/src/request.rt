@@ -105,9 +105,8 @@ fn judge_upgrade(bytes: &[u8], request: &RequestSpans, spans: &[HeaderSpan]) -> 
 fn upgrade_refusal(error: HandshakeError) -> Refusal
     ensures { result ≡ upgrade_refusal error }
 {
-    if matches!(error, HandshakeError::MissingSecWebSocketVersionHeader) {
-        Refusal::OtherVersion
-    } else {
-        Refusal::NoUpgrade
+    match error {
+        HandshakeError::MissingSecWebSocketVersionHeader => Refusal::OtherVersion,
+        _ => Refusal::NoUpgrade,
     }
 }

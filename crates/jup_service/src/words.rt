@@ -139,11 +139,11 @@ fn told_by<'a>(matches: &ArgMatches<'a>) -> Result<ServiceWords<'a>, Unread>
 fn limit_of(limit: Option<u32>) -> Result<u32, Unread>
     ensures { IfOk result (λ n. (1 ≤ n) × (n ≤ highest_limit)) }
 {
-    let limit = limit.unwrap_or(HIGHEST_LIMIT);
-    if limit < 1 || limit > HIGHEST_LIMIT {
-        return Err(Unread::BadLimit);
+    match limit {
+        None => Ok(HIGHEST_LIMIT),
+        Some(limit @ 1..=HIGHEST_LIMIT) => Ok(limit),
+        Some(_) => Err(Unread::BadLimit),
     }
-    Ok(limit)
 }
 
 fn origin_of(origin: Option<&str>) -> Result<Option<&str>, Unread>

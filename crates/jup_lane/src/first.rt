@@ -22,7 +22,8 @@ pub(crate) fn read<M: Message>(bytes: &[u8]) -> Option<(M, usize)>
     Some((M::edit(msg), len))
 }
 
-// The message of one operation that begins these bytes, if one does, and how many bytes it has.
+// The message of one operation that begins these bytes, if one does, and how many bytes it has. Inlined, so that it is made in its place.
+#[inline(always)]
 fn single_in(bytes: &[u8]) -> Option<(Msg<BoardBatch>, usize)>
     ensures { IfSome result (λ x. BeginsLines (message_lines x.0) x.1 bytes.now) }
 {

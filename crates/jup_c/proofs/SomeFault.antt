@@ -1,5 +1,5 @@
 -- No fault of an edit has the number 0.
-use Rattle.std.proofs.Common.{◌≡◌, ◌≢◌, arith}
+use Rattle.std.proofs.Common.{◌≢◌, arith}
 use Rattle.jup_window.specs.declared.faults.EditFault.{EditFault}
 use Rattle.jup_window.specs.declared.faults.EditFault.TheVariants.{NoWindow, NoWidget, WrongKind, BadPlace, BadValue, LongText, Backlog, NoMemory, Spent, BadBatch, Stopped}
 use Rattle.jup_window.specs.FaultNumbers.{edit_fault_number}

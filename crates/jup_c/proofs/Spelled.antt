@@ -1,5 +1,5 @@
 -- Commands that are read one after the other.
-use Rattle.std.proofs.Common.{◌≡◌, ℕ, zero, suc, ◌+◌, ◌<◌, List, [], ◌∷◌, take, length, slice_index_or, slice_set, arith, inl, inr, subst, sym, add-one}
+use Rattle.std.proofs.Common.{ℕ, zero, suc, ◌+◌, ◌<◌, List, [], ◌∷◌, take, length, slice_index_or, slice_set, arith, inl, inr, subst, sym, add-one}
 use Rattle.jup_window.specs.declared.commands.Command.{Command}
 use Rattle.jup_c.specs.declared.commands.JupCommand.{JupCommand}
 use Rattle.jup_c.specs.InNumbers.{Spells, SpellAll, IsWrong, IsFirstWrong}

@@ -12,7 +12,7 @@ use seplogic.Ra.Ura.{Ura}
 use mir.Syntax.{impl, tnil, dnil, ty_ptr}
 use mir.Raw.{raw as bare}
 use mir.Val.{Val, vstruct, vcons, vnil, of_list, has_ty, WT}
-use base.Logic.{guard, via, snd∗, never_e, guard_i}
+use base.Logic.{via, snd∗, never_e, guard_i}
 use base.Fml.{Fml, ftrue}
 use base.Fraction.{full_share}
 use types.Logic.{Logic, sem}

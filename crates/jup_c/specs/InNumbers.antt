@@ -1,5 +1,5 @@
 -- Commands, changes and widgets as C passes them, in numbers. `Numbers` has the kinds.
-use Rattle.std.specs.Prelude.{◌≡◌, ◌≢◌, ◌↔◌, ◌⊎◌, ℕ, ℤ, pos, ◌≤◌, IsTrue, List, [], ◌∷◌, length, take, replicate, Bool, ◌==◌, ◌||◌, if◌then◌else◌}
+use Rattle.std.specs.Prelude.{◌≡◌, ◌≢◌, ◌↔◌, ◌⊎◌, ℕ, ℤ, pos, ◌≤◌, IsTrue, List, [], ◌∷◌, length, take, replicate, ◌==◌, ◌||◌, if◌then◌else◌}
 use Rattle.std.specs.Char.{IsScalar}
 use Rattle.jup_limits.specs.Limits.{longest_label}
 use Rattle.jup_value.specs.Labels.{IsLabelText}

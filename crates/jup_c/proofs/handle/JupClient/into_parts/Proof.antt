@@ -1,12 +1,12 @@
 -- `into_parts` compares the word with null: at null nothing is owned, and else the pointer takes with it what the handle owns.
-use mathlib.Core.Path.{refl, sym, subst, ap}
+use mathlib.Core.Path.{refl, sym, subst}
 use mathlib.Core.List.{List, [], ◌∷◌, ◌++◌}
 use lib.Dec.{lit<}
-use mir.Val.{Val, vptr, vcons, vnil}
+use mir.Val.{Val, vcons, vnil}
 use base.Logic.{SProp, ent, emp, id⊢}
 use base.Fml.{ftrue, fsep}
 use prog.Wp.{WpFn}
-use types.Kit.{‵, raw, ◌⊛◌, at_ret, ◌$◌, ◌∵◌, !, qed, by, move, keep, drop, use0, use1, join, split, fsplit, fjoin, regoal, suffices, done, prop}
+use types.Kit.{‵, raw, ◌⊛◌, at_ret, ◌$◌, ◌∵◌, !, qed, move, keep, drop, use0, use1, join, split, fsplit, fjoin, regoal, suffices, done, prop}
 use types.Part.{whole, sub, agg}
 use types.Match.{live}
 use types.Run.{stop, fld, lit, bin, of_opd, no_more, and_then, first, branches, exec, returns, enter}
@@ -14,7 +14,7 @@ use types.ByLocal.{alloc_all, pass_all, free_all, look_at, get, get_in, sets, se
 use contract.Running.{tables}
 use denote.Exit.{yes}
 use denote.Param.{layout}
-use denote.RawPtr.{Ptr, block_ptr, null_ptr, tests_null}
+use denote.RawPtr.{block_ptr, null_ptr, tests_null}
 use denote.RattleType.{RattleType}
 use denote.Signature.{type_at}
 use denote.Steps.{nothing}

@@ -2,9 +2,11 @@
 
 Each script takes the path of a built `jupd`. Without it `./run` builds one.
 """
+import contextlib
 import glob
 import os
 import resource
+import secrets
 import socket
 import subprocess
 import sys
@@ -25,9 +27,12 @@ def program(name="jupd"):
 
 
 def free_port():
-    with socket.socket() as probe:
-        probe.bind(("127.0.0.1", 0))
-        return probe.getsockname()[1]
+    """A port that nobody listens at. The system gives connections higher ports, so none takes this one before the program listens."""
+    while True:
+        port = 20_000 + secrets.randbelow(12_000)
+        with socket.socket() as probe, contextlib.suppress(OSError):
+            probe.bind(("127.0.0.1", port))
+            return port
 
 
 class Daemon:

@@ -47,3 +47,13 @@ pub record KeepsFresh {Op State Edit : Type 0} (t : Ghosts Op State Edit) : Type
   pub fresh_server : (s c o : Op) → t.is_fresh s o → t.is_fresh (t.server_past s c) o
   pub fresh_of_client : (c s o : Op) → t.is_fresh o c → t.is_fresh o (t.client_past c s)
   pub fresh_of_server : (s c o : Op) → t.is_fresh o s → t.is_fresh o (t.server_past s c)
+
+-- the laws of `Transform` that are in none of the records above: the effect of two operations, room and shape
+pub record KeepsRest {Op State Edit : Type 0} (t : Ghosts Op State Edit) : Type 0 where
+  pub effect_two : (x : State) (c s : Op) → t.is_distinct x → t.is_small 1 x → t.is_valid c x → t.is_valid s x → t.are_apart c s
+      → t.content (t.after (t.server_past s c) (t.after c x)) ≡ t.meaning (t.content x) (t.edit_of s ∷ t.edit_of c ∷ [])
+  pub room_less : (n : ℕ) (x : State) (c : Op) → t.has_room c (n + 1) x → t.has_room c n x
+  pub room_client : (n : ℕ) (x : State) (c s : Op) → t.has_room c n x → t.has_room (t.client_past c s) n x
+  pub room_server : (n : ℕ) (x : State) (s c : Op) → t.has_room s n x → t.has_room (t.server_past s c) n x
+  pub shape_client : (c s : Op) → t.shape (t.client_past c s) ≡ t.shape c
+  pub shape_server : (s c : Op) → t.shape (t.server_past s c) ≡ t.shape s

@@ -1,4 +1,6 @@
 pub mod Batches
+pub mod Either
+pub mod EitherTraces
 pub mod Grid
 pub mod Lawful
 pub mod Laws

@@ -1,13 +1,15 @@
-//! What a batch is, by its operations: what it is applied to and leaves, when it may be applied, how two are
-//! transformed, and what a list of edits means. The laws of `Transform` use an implementation's own words for these.
-//! These functions say what those words are for operations of any type, and do nothing else.
+//! What a batch is, by its operations, and what an operation of one of two kinds is, by its kind. The laws of
+//! `Transform` use an implementation's own words. These functions say what those words are for operations of any type,
+//! and do nothing else. The words are what an operation is applied to and leaves, when it may be applied, how two are
+//! transformed, and what a list of edits means.
 ghost use Rattle.std.specs.Prelude.{◌≡◌, ℕ, ◌+◌, ◌*◌, ◌<◌, ◌≤◌, ◌⊎◌, ◌↔◌, List, [], ◌∷◌, length, Contains};
 ghost use Rattle.jup_limits.specs.Limits.{most_operations};
 ghost use Rattle.jup_xform.specs.Batches.{joined};
+ghost use Rattle.jup_xform.specs.Either.{firsts, seconds};
 ghost use Rattle.jup_xform.specs.Members.{SomeOf};
 ghost use Rattle.jup_xform.specs.Rows.{grid_rows};
 
-use crate::{Batch, Single, Transform};
+use crate::{Batch, OneOf, Single, Transform};
 
 /// A batch is of what its operations are applied to, and holds nothing besides: content, order and names are theirs.
 pub fn batch_content<T: Single>()
@@ -76,4 +78,47 @@ pub fn premises<T: Single>()
         ↔ ((c s : T) → Contains cs c → Contains ss s → T.are_apart c s) }
     ensures fresh { (later earlier : List T) → ⟦<Batch<T> as Transform>⟧.is_fresh later earlier
         ↔ ((one other : T) → Contains later one → Contains earlier other → T.is_fresh one other) }
+{}
+
+/// When an operation of one of two kinds may be applied, and what it leaves: as its own kind says of a state of that
+/// kind. To a state of the other kind it may not be applied.
+pub fn one_of_validity<A: Transform, B: Transform>()
+    ensures first { (op : A) (x : A.State)
+        → ⟦<OneOf<A, B> as Transform>⟧.is_valid (OneOf.First op) (OneOf.First x) ↔ A.is_valid op x }
+    ensures second { (op : B) (x : B.State)
+        → ⟦<OneOf<A, B> as Transform>⟧.is_valid (OneOf.Second op) (OneOf.Second x) ↔ B.is_valid op x }
+    ensures first_on_second { (op : A) (x : B.State)
+        → ¬ ⟦<OneOf<A, B> as Transform>⟧.is_valid (OneOf.First op) (OneOf.Second x) }
+    ensures second_on_first { (op : B) (x : A.State)
+        → ¬ ⟦<OneOf<A, B> as Transform>⟧.is_valid (OneOf.Second op) (OneOf.First x) }
+    ensures first_leaves { (op : A) (x : A.State)
+        → ⟦<OneOf<A, B> as Transform>⟧.after (OneOf.First op) (OneOf.First x) ≡ OneOf.First (A.after op x) }
+    ensures second_leaves { (op : B) (x : B.State)
+        → ⟦<OneOf<A, B> as Transform>⟧.after (OneOf.Second op) (OneOf.Second x) ≡ OneOf.Second (B.after op x) }
+{}
+
+/// Two operations of one kind past one another become what their kind says. Of two kinds both stay as they are.
+pub fn one_of_transform<A: Transform, B: Transform>()
+    ensures first { (c s : A)
+        → (⟦<OneOf<A, B> as Transform>⟧.client_past (OneOf.First c) (OneOf.First s) ≡ OneOf.First (A.client_past c s))
+        × (⟦<OneOf<A, B> as Transform>⟧.server_past (OneOf.First s) (OneOf.First c) ≡ OneOf.First (A.server_past s c)) }
+    ensures second { (c s : B)
+        → (⟦<OneOf<A, B> as Transform>⟧.client_past (OneOf.Second c) (OneOf.Second s) ≡ OneOf.Second (B.client_past c s))
+        × (⟦<OneOf<A, B> as Transform>⟧.server_past (OneOf.Second s) (OneOf.Second c) ≡ OneOf.Second (B.server_past s c)) }
+    ensures first_past_second { (a : A) (b : B)
+        → (⟦<OneOf<A, B> as Transform>⟧.client_past (OneOf.First a) (OneOf.Second b) ≡ OneOf.First a)
+        × (⟦<OneOf<A, B> as Transform>⟧.server_past (OneOf.First a) (OneOf.Second b) ≡ OneOf.First a) }
+    ensures second_past_first { (a : A) (b : B)
+        → (⟦<OneOf<A, B> as Transform>⟧.client_past (OneOf.Second b) (OneOf.First a) ≡ OneOf.Second b)
+        × (⟦<OneOf<A, B> as Transform>⟧.server_past (OneOf.Second b) (OneOf.First a) ≡ OneOf.Second b) }
+{}
+
+/// An edit is of its operation's kind. A list of edits means to a content what those of its kind mean, in order.
+pub fn one_of_meaning<A: Transform, B: Transform>()
+    ensures first_edit { (op : A) → ⟦<OneOf<A, B> as Transform>⟧.edit_of (OneOf.First op) ≡ OneOf.First (A.edit_of op) }
+    ensures second_edit { (op : B) → ⟦<OneOf<A, B> as Transform>⟧.edit_of (OneOf.Second op) ≡ OneOf.Second (B.edit_of op) }
+    ensures first { (before : A.Content) (edits : List (OneOf A.Edit B.Edit))
+        → ⟦<OneOf<A, B> as Transform>⟧.meaning (OneOf.First before) edits ≡ OneOf.First (A.meaning before (firsts edits)) }
+    ensures second { (before : B.Content) (edits : List (OneOf A.Edit B.Edit))
+        → ⟦<OneOf<A, B> as Transform>⟧.meaning (OneOf.Second before) edits ≡ OneOf.Second (B.meaning before (seconds edits)) }
 {}

@@ -16,12 +16,14 @@ mod comparing;
 mod concurrent;
 mod few;
 pub mod laws;
+mod one_of;
 mod row;
 
 pub use batch::{Batch, Single};
 pub use concurrent::meet;
 pub use few::Few;
 pub use jup_limits::NoMemory;
+pub use one_of::{OneOf, OneTrace};
 pub use row::{Side, across, grid};
 
 /// An operation on a state, which can be transformed past an operation that the other end of a link made at

@@ -1,6 +1,6 @@
 -- The laws that an operation type brings as an implementation of `Transform`, as the records that lemmas take
 use Rattle.jup_xform.specs.contracts.Transform.TheBound.{All}
-use Rattle.jup_xform.specs.Lawful.{IsLawful, KeepsMeaning, KeepsFresh}
+use Rattle.jup_xform.specs.Lawful.{IsLawful, KeepsMeaning, KeepsFresh, KeepsRest}
 
 pub lawful : {Op State Edit : _} {t : _} {dict : _} → All Op State Edit t dict → IsLawful t
 lawful all = record {
@@ -42,4 +42,14 @@ keeps_meaning all = record {
   meaning_more = all.meaning_more;
   edit_client = all.edit_client;
   edit_server = all.edit_server;
+}
+
+pub keeps_rest : {Op State Edit : _} {t : _} {dict : _} → All Op State Edit t dict → KeepsRest t
+keeps_rest all = record {
+  effect_two = all.effect_two;
+  room_less = all.room_less;
+  room_client = all.room_client;
+  room_server = all.room_server;
+  shape_client = all.shape_client;
+  shape_server = all.shape_server;
 }

@@ -2,4 +2,6 @@
 
 pub mod EditLists
 pub mod Effects
+pub mod SequencesAreLawful
 pub mod Squares
+pub mod TextsAreLawful

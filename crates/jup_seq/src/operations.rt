@@ -69,6 +69,18 @@ impl<V: Copy> SeqOp<V> {
         }
     }
 
+    /// What it does, without the place. It takes no memory.
+    pub fn meaning(&self) -> SeqEdit<V>
+        ensures { result ≡ edit_of self.now }
+    {
+        match *self {
+            SeqOp::Insert { item, .. } => SeqEdit::Put(item.name, item.value),
+            SeqOp::Delete { name, .. } => SeqEdit::Deleted(name),
+            SeqOp::Relabel { name, value, .. } => SeqEdit::Relabelled(name, value),
+            SeqOp::Nothing => SeqEdit::Nothing,
+        }
+    }
+
     /// Whether it gives no item another value.
     pub fn is_no_relabel(&self) -> bool
         ensures { result ≡ is_no_relabel self.now }
@@ -302,12 +314,7 @@ impl<V: Copy> Transform for SeqOp<V> {
     fn edit(&self, _alloc: Global) -> Result<SeqEdit<V>, NoMemory>
         ensures { result ≡ Ok (edit_of self.now) }
     {
-        Ok(match *self {
-            SeqOp::Insert { item, .. } => SeqEdit::Put(item.name, item.value),
-            SeqOp::Delete { name, .. } => SeqEdit::Deleted(name),
-            SeqOp::Relabel { name, value, .. } => SeqEdit::Relabelled(name, value),
-            SeqOp::Nothing => SeqEdit::Nothing,
-        })
+        Ok(self.meaning())
     }
 
     ghost square = { squares.square };

@@ -21,6 +21,18 @@ pub enum SettingEdit<V> {
     Nothing,
 }
 
+impl<V: Copy> SetOp<V> {
+    /// What it means. It takes no memory.
+    pub fn meaning(&self) -> SettingEdit<V>
+        ensures { result ≡ set_edit self.now }
+    {
+        match self {
+            SetOp::Set(value) => SettingEdit::Set(*value),
+            SetOp::Nothing => SettingEdit::Nothing,
+        }
+    }
+}
+
 // A setting has no names and no sequences, and needs no room: what the trait asks of these holds always.
 impl<V: SettingValue> Transform for SetOp<V> {
     type State = V::Widget;
@@ -123,10 +135,7 @@ impl<V: SettingValue> Transform for SetOp<V> {
     fn edit(&self, _alloc: Global) -> Result<SettingEdit<V>, NoMemory>
         ensures { result ≡ Ok (set_edit self.now) }
     {
-        Ok(match self {
-            SetOp::Set(value) => SettingEdit::Set(*value),
-            SetOp::Nothing => SettingEdit::Nothing,
-        })
+        Ok(self.meaning())
     }
 
     ghost square = { λ x c s a b valid_c valid_s f. (

@@ -6,7 +6,7 @@ ghost use Rattle.jup_gather.specs.Pieces.{Piece, HasGathered};
 ghost use Rattle.jup_gather.specs.Gathering.{Gathers, AsksMemory, pieces_of};
 
 use crate::gathered::Gathered;
-use crate::step::{State, Step, begin, go_on};
+use crate::taken::{State, Taken, begin, go_on};
 use jup_wire::Line;
 use jup_xform::NoMemory;
 use std::alloc::Global;
@@ -62,12 +62,12 @@ impl Gather {
         ensures err { OnErr result (self.new ≡ self.old) }
         ensures refused { OnErr result (AsksMemory line.now) }
     {
-        let step = match mem::replace(&mut self.state, State::Nothing) {
+        let taken = match mem::replace(&mut self.state, State::Nothing) {
             State::Nothing => begin(alloc, *line)?,
             State::Begun(part) => go_on(part, *line),
-            State::Stopped => Step::stop(),
+            State::Stopped => Taken::stop(),
         };
-        self.state = step.state;
-        Ok(step.gathered)
+        self.state = taken.state;
+        Ok(taken.gathered)
     }
 }

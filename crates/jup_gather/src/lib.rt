@@ -9,7 +9,7 @@ mod gathered;
 mod laws;
 mod lines;
 mod part;
-mod step;
+mod taken;
 mod ways;
 mod writing;
 

@@ -7,8 +7,8 @@ use crate::connections::Connections;
 use crate::keeping::{KeptBoard, board_text, keep};
 use crate::notices::Notices;
 use crate::operating::operate;
-use crate::preparing::{Door, OpenedBoard, Prepared, prepare, slices};
 use crate::session::Service;
+use crate::setup::{Door, OpenedBoard, Setup, prepare, slices};
 use crate::stop::Stop;
 use crate::telling::tell;
 use jup_hub::{Hub, Pass};
@@ -57,7 +57,7 @@ pub fn web_main<
         Err(error) => return tell(rt, &ServiceEnd::from(error)),
     };
     let served = match prepare(rt, alloc, &told) {
-        Ok(prepared) => serve(rt, alloc, prepared, page, input),
+        Ok(setup) => serve(rt, alloc, setup, page, input),
         Err(end) => Err(end),
     };
     match served {
@@ -70,12 +70,12 @@ pub fn web_main<
 fn serve<
     R: Files<File = File> + Threads + Wait + Clock + Print + Eprint + Sync,
     I: Read + Send + Drop,
->(rt: &R, alloc: Global, prepared: Prepared, page: &str, input: I) -> Result<(), ServiceEnd> {
-    let Prepared {
+>(rt: &R, alloc: Global, setup: Setup, page: &str, input: I) -> Result<(), ServiceEnd> {
+    let Setup {
         board,
         bodies,
         door,
-    } = prepared;
+    } = setup;
     let OpenedBoard { file, text, star } = board;
     let Ok((hub, pass)) = Hub::open(alloc, star) else {
         return Err(ServiceEnd::NoMemory);

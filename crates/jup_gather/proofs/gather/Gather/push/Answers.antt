@@ -6,6 +6,6 @@ use Rattle.jup_gather.proofs.gather.Gather.push.Goals as goal
 
 pub returns-clause-gathered : goal.returns-clause-gathered
 returns-clause-gathered c =
-    let step = c.match-replace.step in
-    let comes : Gathers c.args.self.now c.args.line.now step.gathered (held step.state) = search rules in
-    gathers_on c.args.self.now (held step.state) c.args.line.now step.gathered comes
+    let taken = c.match-replace.taken in
+    let comes : Gathers c.args.self.now c.args.line.now taken.gathered (held taken.state) = search rules in
+    gathers_on c.args.self.now (held taken.state) c.args.line.now taken.gathered comes

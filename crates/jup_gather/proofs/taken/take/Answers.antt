@@ -4,7 +4,7 @@ use Rattle.jup_wire.specs.declared.line.Line.TheVariants as lines
 use Rattle.jup_gather.specs.Gathering.{Gathers}
 use Rattle.jup_gather.specs.Held.{held, part_lines}
 use Rattle.jup_gather.proofs.Begun.{step_held, step_whole}
-use Rattle.jup_gather.proofs.step.take.Goals as goal
+use Rattle.jup_gather.proofs.taken.take.Goals as goal
 
 pub returns-then-count-eq1 : goal.returns-then-count-eq1
 returns-then-count-eq1 c =

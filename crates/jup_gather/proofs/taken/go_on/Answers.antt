@@ -2,7 +2,7 @@ use Rattle.std.proofs.Common.{Some, refl, arith, sym, subst}
 use Rattle.jup_gather.specs.Gathering.{Gathers}
 use Rattle.jup_gather.specs.Held.{held, part_lines}
 use Rattle.jup_gather.proofs.Begun.{no_place_begun}
-use Rattle.jup_gather.proofs.step.go_on.Goals as goal
+use Rattle.jup_gather.proofs.taken.go_on.Goals as goal
 
 pub returns-in_default : goal.returns-in_default
 returns-in_default c =

@@ -11,7 +11,7 @@ use std::net::{Net, TcpListener, TcpStream};
 
 /// What a server has before it serves.
 #[derive(Drop)]
-pub(crate) struct Prepared {
+pub(crate) struct Setup {
     pub(crate) board: OpenedBoard,
     pub(crate) bodies: Bodies,
     pub(crate) door: Door,
@@ -46,11 +46,11 @@ pub(crate) fn prepare<R: Net<Listener = TcpListener, Stream = TcpStream> + Files
     rt: &R,
     alloc: Global,
     told: &ServiceWords<'_>,
-) -> Result<Prepared, ServiceEnd> {
+) -> Result<Setup, ServiceEnd> {
     let board = open_board(rt, alloc, told)?;
     let bodies = read_bodies(rt, alloc, told)?;
     let door = open_door(rt, alloc, told)?;
-    Ok(Prepared {
+    Ok(Setup {
         board,
         bodies,
         door,

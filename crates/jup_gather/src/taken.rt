@@ -29,27 +29,27 @@ pub(crate) enum State {
 
 /// What is held after a line, and what the line came to.
 #[derive(Drop)]
-pub(crate) struct Step {
+pub(crate) struct Taken {
     pub(crate) state: State,
     pub(crate) gathered: Gathered,
 }
 
-impl Step {
+impl Taken {
     /// The message is there.
-    fn whole(mine: u32, heard: u32, op: BoardBatch) -> Step
+    fn whole(mine: u32, heard: u32, op: BoardBatch) -> Taken
         ensures { result ≡ record { state = State.Nothing; gathered = Gathered.Whole (record { mine = mine; heard = heard; op = op }) } }
     {
-        Step {
+        Taken {
             state: State::Nothing,
             gathered: Gathered::Whole(Msg { mine, heard, op }),
         }
     }
 
     /// A line has no place.
-    pub(crate) fn stop() -> Step
+    pub(crate) fn stop() -> Taken
         ensures { result ≡ record { state = State.Stopped; gathered = Gathered.Misplaced } }
     {
-        Step {
+        Taken {
             state: State::Stopped,
             gathered: Gathered::Misplaced,
         }
@@ -57,19 +57,19 @@ impl Step {
 }
 
 /// A batch line if nothing is held.
-fn begin_message(alloc: Global, mine: u32, heard: u32, count: u32) -> Result<Step, NoMemory>
+fn begin_message(alloc: Global, mine: u32, heard: u32, count: u32) -> Result<Taken, NoMemory>
     ensures step { IfOk result (λ step. Gathers (Some []) (lines.Batch mine heard count) step.gathered (held step.state)) }
     ensures refused { OnErr result (2 ≤ count) }
 {
     if !(1..=MOST_OPERATIONS).contains(&count) {
-        return Ok(Step::stop());
+        return Ok(Taken::stop());
     }
     // One operation is not put into a list.
     let room = if count == 1 { 0 } else { count as usize };
     let Ok(ops) = Vec::with_capacity(alloc, room) else {
         return Err(NoMemory);
     };
-    Ok(Step {
+    Ok(Taken {
         state: State::Begun(Part {
             mine,
             heard,
@@ -81,14 +81,14 @@ fn begin_message(alloc: Global, mine: u32, heard: u32, count: u32) -> Result<Ste
 }
 
 /// A line if nothing is held.
-pub(crate) fn begin(alloc: Global, line: Line) -> Result<Step, NoMemory>
+pub(crate) fn begin(alloc: Global, line: Line) -> Result<Taken, NoMemory>
     ensures step { IfOk result (λ step. Gathers (Some []) line step.gathered (held step.state)) }
     ensures refused { OnErr result (AsksMemory line) }
 {
     match line {
         Line::Batch { mine, heard, count } => begin_message(alloc, mine, heard, count),
-        Line::Do(_) => Ok(Step::stop()),
-        line => Ok(Step {
+        Line::Do(_) => Ok(Taken::stop()),
+        line => Ok(Taken {
             state: State::Nothing,
             gathered: Gathered::Plain(line),
         }),
@@ -96,7 +96,7 @@ pub(crate) fn begin(alloc: Global, line: Line) -> Result<Step, NoMemory>
 }
 
 /// An operation after a message that has begun.
-fn take(part: Part, op: BoardOp) -> Step
+fn take(part: Part, op: BoardOp) -> Taken
     ensures { Gathers (Some (part_lines part)) (lines.Do op) result.gathered (held result.state) }
 {
     let _of: Within = PhantomData;
@@ -107,13 +107,13 @@ fn take(part: Part, op: BoardOp) -> Step
         mut ops,
     } = part;
     if count == 1 {
-        return Step::whole(mine, heard, Batch::one(op));
+        return Taken::whole(mine, heard, Batch::one(op));
     }
     ops.push_reserved(op);
     if ops.len() == count as usize {
-        return Step::whole(mine, heard, Batch::new(ops));
+        return Taken::whole(mine, heard, Batch::new(ops));
     }
-    Step {
+    Taken {
         state: State::Begun(Part {
             mine,
             heard,
@@ -125,11 +125,11 @@ fn take(part: Part, op: BoardOp) -> Step
 }
 
 /// A line after a message that has begun. It takes no memory.
-pub(crate) fn go_on(part: Part, line: Line) -> Step
+pub(crate) fn go_on(part: Part, line: Line) -> Taken
     ensures { Gathers (Some (part_lines part)) line result.gathered (held result.state) }
 {
     match line {
         Line::Do(op) => take(part, op),
-        _ => Step::stop(),
+        _ => Taken::stop(),
     }
 }

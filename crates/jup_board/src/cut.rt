@@ -5,7 +5,7 @@ ghost use Rattle.jup_board.specs.Printed.{Lacks};
 use memchr::memchr;
 
 /// What comes before the first such byte, and what follows it.
-pub(crate) fn cut_at(text: &[u8], byte: u8) -> Option<(&[u8], &[u8])>
+pub fn cut_at(text: &[u8], byte: u8) -> Option<(&[u8], &[u8])>
     ensures { MatchOption result (Lacks byte text.now)
         (λ cut. Lacks byte cut.0.now × (text.now ≡ cut.0.now ++ byte ∷ cut.1.now)) }
 {

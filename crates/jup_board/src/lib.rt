@@ -12,6 +12,7 @@ mod program;
 mod reading;
 
 pub use converting::{layout_of_printed, printed_of_layout};
+pub use cut::cut_at;
 pub use ending::BoardEnd;
 pub use faults::LineFault;
 pub use layout_text::write_layout;

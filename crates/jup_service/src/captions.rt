@@ -1,7 +1,8 @@
 //! The captions of windows and widgets, a line each.
-ghost use Rattle.std.specs.Prelude.{◌≡◌, ◌∷◌, ◌++◌, OnOk, IfSome, IsTrue};
+ghost use Rattle.std.specs.Prelude.{OnOk, IsTrue};
 ghost use Rattle.jup_service.specs.Captions.{AreCaptions, IsCaption, IsTarget, IsSpelledId};
 
+use jup_board::cut_at;
 use jup_number::read_number;
 use jup_text::read_quoted;
 use jup_xform::NoMemory;
@@ -81,12 +82,4 @@ fn is_id(word: &[u8]) -> bool
         Some(1..=0xFFFF) => true,
         _ => false,
     }
-}
-
-// What comes before the first such byte, and what follows it.
-fn cut_at(text: &[u8], byte: u8) -> Option<(&[u8], &[u8])>
-    ensures { IfSome result (λ cut. text.now ≡ cut.0.now ++ byte ∷ cut.1.now) }
-{
-    let end = text.iter().position(|it| *it == byte)?;
-    Some((&text[..end], &text[end + 1..]))
 }

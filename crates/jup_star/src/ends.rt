@@ -20,7 +20,8 @@ pub(crate) fn check_counts(end: &End<BoardBatch>, msg: &Msg<BoardBatch>) -> Resu
     end.check(msg)
 }
 
-/// Receives an edit, and answers its operation as it is to be applied to the board.
+/// Receives an edit, and answers its operation as it is to be applied to the board. Inlined, so that neither is copied.
+#[inline(always)]
 pub(crate) fn receive(end: &mut End<BoardBatch>, msg: Msg<BoardBatch>) -> BoardBatch
     requires number { IsNumber end.old.link msg.mine }
     requires count { IsCount end.old.link msg.heard }

@@ -23,7 +23,8 @@ pub struct LoneEdit {
 }
 
 /// The message that the bytes begin with, if it is a batch of one operation and all its bytes are there. Any other
-/// message has to be read line by line.
+/// message has to be read line by line. Inlined, so that its parts go straight into a message.
+#[inline(always)]
 pub fn read_single(bytes: &[u8]) -> Option<LoneEdit>
     ensures { IfSome result (λ single. BeginsLines (single_lines single) single.len bytes.now) }
 {

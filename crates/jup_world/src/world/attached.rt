@@ -256,7 +256,8 @@ impl Attached {
         Ok(())
     }
 
-    // Fetches the oldest message of the site's outbox, if the down stream has no byte.
+    // Fetches the oldest message of the site's outbox, if the down stream has no byte. Inlined, so that the message is not copied.
+    #[inline(always)]
     fn fill(&mut self, star: &mut Star) -> Result<(), NoMemory>
         requires { is_some (link_of self.old.site.number star.old.links) ≡ true }
         ensures site { OnOk result ((l : BoardLink) → link_of self.old.site.number star.old.links ≡ Some l

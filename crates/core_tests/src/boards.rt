@@ -4,7 +4,8 @@ use jup_seq::SeqOp;
 use jup_setting::{SetOp, Slider, Toggle};
 use jup_value::{Item, Label, Name, NoMemory, Seq};
 use jup_window::{
-    Board, BoardFault, BoardOp, Command, Edit, EditFault, Effect, Setting, Value, Widget, WidgetOp,
+    Board, BoardEdit, BoardFault, BoardOp, Command, Edit, EditFault, Effect, Setting, Value,
+    Widget, WidgetOp,
 };
 use jup_xform::Transform;
 use std::alloc::Global;
@@ -218,8 +219,8 @@ fn apply(alloc: Global, board: &mut Board, command: Command) -> bool {
 }
 
 // Whether an edit has this effect, and inserts an item of site 1 or none.
-fn makes(edit: &Edit, what: Effect, inserts: bool) -> bool {
-    edit.what == what
+fn makes(edit: &BoardEdit, what: Effect, inserts: bool) -> bool {
+    edit.shown().what == what
         && !edit.is_nothing()
         && edit.bears_next(1, 0)
         && (edit.insertions() == 1) == inserts
@@ -390,7 +391,7 @@ fn text_takes_no_relabel(rt: HostRuntime) {
         wid: 1,
         what: Effect::Nothing,
     };
-    expect_eq(&rt, op.edit(rt.alloc()), Ok(nothing));
+    expect_eq(&rt, op.meaning().shown(), nothing);
 }
 
 #[test]

@@ -5,11 +5,12 @@ use crate::gathering::{TOGGLED, TWO, message, push};
 use crate::layouts::{FOUR_WIDGETS, build};
 use jup_gather::{Gather, Gathered, lines_of_op};
 use jup_layout::{LayoutFault, board_of, layout, lines_of};
+use jup_seq::SeqEdit;
 use jup_text::{BoardReader, Untaken, read_quoted, write_board, write_edit};
 use jup_value::Name;
-use jup_window::{Board, Edit, Effect};
+use jup_window::{Board, BoardEdit, WidgetEdit};
 use jup_wire::{Line, Reader, WireFault, write};
-use jup_xform::{Few, NoMemory};
+use jup_xform::{Few, NoMemory, OneOf};
 use std::alloc::Global;
 use std::process::Abort;
 use test_marks::{begin, end};
@@ -185,16 +186,16 @@ fn text_write_board(rt: HostRuntime) {
 #[test]
 fn text_write_edit(rt: HostRuntime) {
     let name = Name { site: 1, number: 7 };
-    let edit = |what: Effect| -> Edit {
-        Edit {
+    let edit = |what: WidgetEdit| -> BoardEdit {
+        BoardEdit {
             win: 1,
             wid: 1,
             what,
         }
     };
     let edits = [
-        edit(Effect::PutChar(name, 'a')),
-        edit(Effect::Deleted(name)),
+        edit(OneOf::First(SeqEdit::Put(name, 'a'))),
+        edit(OneOf::First(SeqEdit::Deleted(name))),
     ];
     let edits = Few::from_slice(rt.alloc(), &edits).expect(&rt, "memory");
     let mut text = Vec::from_slice(rt.alloc(), b">").expect(&rt, "memory");

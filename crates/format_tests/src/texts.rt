@@ -1,9 +1,10 @@
 use crate::expect::expect_eq;
-use jup_setting::{Slider, Toggle};
+use jup_seq::SeqEdit;
+use jup_setting::{SettingEdit, Slider, Toggle};
 use jup_text::{read_command, write_board, write_edit};
 use jup_value::{Item, Label, Name, Seq};
-use jup_window::{Board, Command, Edit, Effect, Setting, Value, Widget};
-use jup_xform::Few;
+use jup_window::{Board, BoardEdit, Command, Setting, Value, Widget};
+use jup_xform::{Few, OneOf};
 use std::alloc::Global;
 use std::process::Abort;
 
@@ -97,7 +98,7 @@ fn a_command_is_read_from_its_one_spelling(rt: HostRuntime) {
 }
 
 // The edits are printed so, after what was there.
-fn are_printed(rt: &impl Abort, alloc: Global, edits: &[Edit], printed: &[u8]) {
+fn are_printed(rt: &impl Abort, alloc: Global, edits: &[BoardEdit], printed: &[u8]) {
     let edits = Few::from_slice(alloc, edits).expect(rt, "memory");
     let mut text = Vec::from_slice(alloc, b"made ").expect(rt, "memory");
     write_edit(alloc, &edits, &mut text).expect(rt, "memory");
@@ -112,20 +113,33 @@ fn an_edit_is_printed_with_its_name(rt: HostRuntime) {
         number: 12,
     };
     for &(what, printed) in &[
-        (Effect::PutChar(name, '"'), "ins 3 4 1.12 \"\\\"\""),
         (
-            Effect::PutLabel(name, label(&rt, b"red")),
+            OneOf::First(SeqEdit::Put(name, '"')),
+            "ins 3 4 1.12 \"\\\"\"",
+        ),
+        (
+            OneOf::Second(OneOf::First(SeqEdit::Put(name, label(&rt, b"red")))),
             "ins 3 4 1.12 \"red\"",
         ),
-        (Effect::Deleted(name), "del 3 4 1.12"),
+        (OneOf::First(SeqEdit::Deleted(name)), "del 3 4 1.12"),
         (
-            Effect::Relabelled(name, label(&rt, b"\"tea\"")),
+            OneOf::Second(OneOf::First(SeqEdit::Deleted(name))),
+            "del 3 4 1.12",
+        ),
+        (
+            OneOf::Second(OneOf::First(SeqEdit::Relabelled(name, label(&rt, b"\"tea\"")))),
             "rel 3 4 1.12 \"\\\"tea\\\"\"",
         ),
-        (Effect::Toggled(true), "set 3 4 on"),
-        (Effect::Slid(-5), "set 3 4 -5"),
+        (
+            OneOf::Second(OneOf::Second(OneOf::First(SettingEdit::Set(true)))),
+            "set 3 4 on",
+        ),
+        (
+            OneOf::Second(OneOf::Second(OneOf::Second(SettingEdit::Set(-5)))),
+            "set 3 4 -5",
+        ),
     ] {
-        let edit = Edit {
+        let edit = BoardEdit {
             win: 3,
             wid: 4,
             what,
@@ -136,15 +150,15 @@ fn an_edit_is_printed_with_its_name(rt: HostRuntime) {
 
 #[test]
 fn edits_are_printed_with_a_semicolon_between_them(rt: HostRuntime) {
-    let first = Edit {
+    let first = BoardEdit {
         win: 1,
         wid: 1,
-        what: Effect::Slid(7),
+        what: OneOf::Second(OneOf::Second(OneOf::Second(SettingEdit::Set(7)))),
     };
-    let second = Edit {
+    let second = BoardEdit {
         win: 2,
         wid: 3,
-        what: Effect::Toggled(false),
+        what: OneOf::Second(OneOf::Second(OneOf::First(SettingEdit::Set(false)))),
     };
     let printed = b"set 1 1 7; set 2 3 off";
     are_printed(&rt, rt.alloc(), &[first, second], printed);

@@ -1,5 +1,5 @@
 -- What `Boards` says of one operation, for a batch of them: the words of the contracts of stars and sites
-use Rattle.std.proofs.Common.{◌≡◌, ℕ, ◌≤◌, Bool, true, false, List, [], ◌∷◌, length, Option, Some, None, refl, ap, ◌∙◌, sym, inl, inr, arith}
+use Rattle.std.proofs.Common.{◌≡◌, ℕ, ◌≤◌, Bool, false, List, [], ◌∷◌, length, Option, Some, None, refl, ap, ◌∙◌, sym, inl, inr, arith}
 use Rattle.std.proofs.lemmas.Bool.{or_parts, eq-eqb, false≢true}
 use Rattle.jup_xform.specs.declared.Transform.{Ghosts}
 use Rattle.jup_xform.specs.Grid.{after_all}
@@ -8,14 +8,12 @@ use Rattle.jup_xform.specs.Laws.BatchLaws.{length-grid_rows}
 use Rattle.jup_xform.specs.Laws.BatchKept.{batch_shape_past, batch_room_past}
 use Rattle.jup_window.specs.declared.board_operations.BoardOp.{BoardOp}
 use Rattle.jup_window.specs.declared.commands.Command.{Command}
-use Rattle.jup_window.specs.declared.edits.Edit.{Edit}
+use Rattle.jup_window.specs.declared.edits.BoardEdit.{BoardEdit}
 use Rattle.jup_value.specs.declared.names.Name.{Name}
-use Rattle.jup_value.proofs.ItemLists.{name_eq_same}
-use Rattle.jup_window.specs.Entries.{same_place}
-use Rattle.jup_window.specs.Effects.{inserted_name, is_name}
+use Rattle.jup_window.specs.Effects.{inserted_name}
 use Rattle.jup_window.specs.Edits.{count_of, is_of_site}
 use Rattle.jup_window.specs.Boards as board
-use Rattle.jup_window.specs.Laws.BoardNames.{inserts_at_all}
+use Rattle.jup_window.specs.Laws.WidgetNames.{inserts_name}
 use Rattle.jup_window.specs.Laws.BoardLaws.{room_client as one_room_client, room_server as one_room_server}
 use Rattle.jup_window.specs.BoardOperations.{boards, board_operations}
 use Rattle.jup_batch.specs.Batched.{all_insertions, one_bears_site}
@@ -26,7 +24,7 @@ abbrev pub BoardBatch : Type 0
 BoardBatch = List BoardOp
 
 abbrev pub BoardEdits : Type 0
-BoardEdits = List Edit
+BoardEdits = List BoardEdit
 
 abbrev pub Commands : Type 0
 Commands = List Command
@@ -126,17 +124,14 @@ insertions_few (o ∷ os) =
 
 -- an edit that bears no name of a site inserts none
 
-named_by : (i : ℕ) (n : Name) (o : Option Name) → is_name n o ≡ true → n.site ≡ i → is_of_site i o ≡ false → ⊥
-named_by i n None has own other = false≢true has
-named_by i n (Some m) has own other =
-    let same : m ≡ n = name_eq_same m n has in
-    false≢true (sym other ∙ eq-eqb m.site i (ap (λ (k : Name). k.site) same ∙ own))
+named_by : (i : ℕ) (n : Name) (o : Option Name) → o ≡ Some n → n.site ≡ i → is_of_site i o ≡ false → ⊥
+named_by i n o is own other = false≢true (sym other ∙ ap (is_of_site i) is ∙ eq-eqb n.site i own)
 
 pub foreign : (i : ℕ) (es : BoardEdits) (n : Placed) → bears_site i es ≡ false → Inserts es n → n.name.site ≡ i → ⊥
 foreign i [] n other has own = absurd has
 foreign i (e ∷ es) n other (inl has) own =
     let parts = or_parts (board_operations.bears_site i e) (one_bears_site board_operations i es) other in
-    named_by i n.name (inserted_name e.what) (inserts_at_all (same_place (board.edit_place e) n.at) n.name e.what has) own parts.0
+    named_by i n.name (inserted_name e.what) (inserts_name e.what n.name has.1) own parts.0
 foreign i (e ∷ es) n other (inr has) own =
     let parts = or_parts (board_operations.bears_site i e) (one_bears_site board_operations i es) other in
     foreign i es n parts.1 has own

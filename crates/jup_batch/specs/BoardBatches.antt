@@ -1,23 +1,21 @@
 -- Batches of operations on boards, as a star and its sites use them
-use Rattle.std.proofs.Common.{◌≡◌, Bool, true, not, ◌&&◌, Option, Some, None, refl, ap, ◌∙◌, ◌⊎◌, inl, inr, ◌↔◌, IsTrue}
-use Rattle.std.proofs.lemmas.Bool.{and_parts, and_from, not-true, not_from_false, false_from_ne_true, false≢true}
+use Rattle.std.proofs.Common.{◌≡◌, Bool, true, not, ◌&&◌, Option, Some, None, refl, ap, ◌⊎◌, inl, inr, ◌↔◌, IsTrue}
+use Rattle.std.proofs.lemmas.Bool.{and_parts, and_from, not-true, not_from_false, false_from_ne_true}
 use Rattle.jup_value.specs.declared.names.Name.{Name}
 use Rattle.jup_value.specs.Items.{name_eq}
-use Rattle.jup_value.proofs.ItemLists.{name_eq_same, name_eq_refl}
+use Rattle.jup_value.proofs.ItemLists.{name_eq_same}
 use Rattle.jup_xform.specs.Lawful.{KeepsFresh}
 use Rattle.jup_window.specs.declared.board_operations.BoardOp.{BoardOp}
-use Rattle.jup_window.specs.declared.edits.Edit.{Edit}
-use Rattle.jup_window.specs.declared.edits.Effect.{Effect}
-use Rattle.jup_window.specs.declared.edits.Effect.TheVariants.{PutChar, PutLabel, Deleted, Relabelled, Toggled, Slid, Nothing}
-use Rattle.jup_window.specs.Laws.EntryLaws.{same_place-refl}
+use Rattle.jup_xform.specs.declared.one_of.OneOf.TheVariants.{First, Second}
+use Rattle.jup_seq.specs.Names as seq_names
+use Rattle.jup_window.specs.Kinds.{WidgetEdit}
 use Rattle.jup_window.specs.Widgets as widget
-use Rattle.jup_window.specs.Laws.WidgetNames.{inserted_name-effect_of, deleted_name-effect_of}
 use Rattle.jup_window.specs.Effects as effects
 use Rattle.jup_window.specs.Boards as board
 use Rattle.jup_window.specs.Laws.BoardLaws as laws
 use Rattle.jup_window.specs.Operations.{Operations, AreLawful}
 use Rattle.jup_window.specs.BoardOperations.{boards, board_operations}
-use Rattle.jup_window.specs.Laws.BoardsAreLawful.{board_laws, inserts_own}
+use Rattle.jup_window.specs.Laws.BoardsAreLawful.{board_laws, inserts_own, deletes_own}
 use Rattle.jup_batch.specs.Batched.{batched, AreBatchable}
 use Rattle.jup_batch.specs.Laws.BatchedLaws.{batched_laws}
 
@@ -52,20 +50,16 @@ apart_from (Some m) (Some n) h =
 apart_from (Some m) None h = tt
 apart_from None n h = tt
 
--- an edit deletes its name at its own place
-deletes_own : (e : Edit) (m : Name) → effects.deleted_name e.what ≡ Some m → board.Deletes e (record { at = board.edit_place e; name = m })
-deletes_own e m is = rw (same_place-refl (board.edit_place e), is) (name_eq_refl m)
-
 fresh_from_names : (o e : BoardOp)
     → ((m n : board.Placed) → board.Inserts (board.edit_of o) m → board.Inserts (board.edit_of e) n ⊎ board.Deletes (board.edit_of e) n → m.name.site ≡ n.name.site → m.name.number ≡ n.name.number → ⊥)
     → board.IsFresh o e
 fresh_from_names o e h = (
   apart_from (widget.inserted o.op) (widget.inserted e.op) (λ j k first second.
       h (record { at = board.place o; name = j }) (record { at = board.place e; name = k })
-      (inserts_own (board.edit_of o) j (inserted_name-effect_of o.op ∙ first)) (inl (inserts_own (board.edit_of e) k (inserted_name-effect_of e.op ∙ second)))),
+      (inserts_own (board.edit_of o) j first) (inl (inserts_own (board.edit_of e) k second))),
   apart_from (widget.inserted o.op) (widget.deleted e.op) (λ j k first second.
       h (record { at = board.place o; name = j }) (record { at = board.place e; name = k })
-      (inserts_own (board.edit_of o) j (inserted_name-effect_of o.op ∙ first)) (inr (deletes_own (board.edit_of e) k (deleted_name-effect_of e.op ∙ second)))),
+      (inserts_own (board.edit_of o) j first) (inr (deletes_own (board.edit_of e) k second))),
 )
 
 fresh_decides : (o e : BoardOp) → IsTrue (is_fresh o e) ↔ board.IsFresh o e
@@ -86,21 +80,17 @@ boards_keep_fresh = record {
 }
 
 -- what deletes a name changes it
-changed_if_deleted : (n : Name) (e : Effect) → effects.deletes n e ≡ true → effects.changes n e ≡ true
-changed_if_deleted n (Deleted m) gone = gone
-changed_if_deleted n (PutChar m v) gone = absurd (false≢true gone)
-changed_if_deleted n (PutLabel m v) gone = absurd (false≢true gone)
-changed_if_deleted n (Relabelled m v) gone = absurd (false≢true gone)
-changed_if_deleted n (Toggled v) gone = absurd (false≢true gone)
-changed_if_deleted n (Slid v) gone = absurd (false≢true gone)
-changed_if_deleted n Nothing gone = absurd (false≢true gone)
+deletes_changes : (e : WidgetEdit) (n : Name) → effects.DeletesName e n → effects.ChangesName e n
+deletes_changes (First e) n gone = gone
+deletes_changes (Second (First e)) n gone = seq_names.deletes_changes e n gone
+deletes_changes (Second (Second e)) n gone = gone
 
 pub boards_are_batchable : AreBatchable board_operations is_fresh
 boards_are_batchable = record {
   kept = boards_keep_fresh;
   fresh_decides = fresh_decides;
   fresh_from_names = fresh_from_names;
-  deletes_changes = λ e n gone. changed_if_deleted n.name (board.effect_at n.at e) gone;
+  deletes_changes = λ e n gone. (gone.0, deletes_changes e.what n.name gone.1);
 }
 
 -- batches of operations on boards have every law that a star and its sites rest on

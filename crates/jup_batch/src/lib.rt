@@ -4,7 +4,7 @@
 //! list, and that it has every law that they rest on.
 #![tactic(auto)]
 
-use jup_window::{BoardOp, Command, Edit};
+use jup_window::{BoardEdit, BoardOp, Command};
 use jup_xform::{Batch, Few};
 
 mod edits;
@@ -19,7 +19,7 @@ pub use naming::{MOST_COMMANDS, name_after, name_all};
 pub type BoardBatch = Batch<BoardOp>;
 
 /// The edits of such a batch, in the order of its operations.
-pub type BoardEdits = Few<Edit>;
+pub type BoardEdits = Few<BoardEdit>;
 
 /// What a user asks for in one gesture: commands in order, each of the board after those before it.
 pub type Commands = Few<Command>;

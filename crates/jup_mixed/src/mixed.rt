@@ -24,7 +24,7 @@ use jup_link::Msg;
 use jup_seq::SeqOp;
 use jup_setting::SetOp;
 use jup_star::{OpenFault, Site, Star, Up, is_short};
-use jup_window::{Board, Edit, Value, Within};
+use jup_window::{Board, BoardEdit, Value, Within};
 use jup_world::{Attached, Reply, room_for};
 use jup_xform::NoMemory;
 use std::alloc::Global;
@@ -70,7 +70,7 @@ type WithinEvents = (
 #[derive(Drop)]
 struct Note {
     event: MixEvent,
-    edits: Vec<Edit>,
+    edits: Vec<BoardEdit>,
 }
 
 impl Note {

@@ -3,7 +3,7 @@ ghost use Rattle.std.specs.Prelude.{◌≡◌, IfOk};
 ghost use Rattle.jup_batch.specs.BatchBoards as board;
 
 use jup_batch::{BoardBatch, BoardEdits};
-use jup_window::Effect;
+use jup_window::WidgetEdit;
 use jup_xform::{NoMemory, Transform};
 use std::alloc::Global;
 use std::marker::PhantomData;
@@ -13,6 +13,6 @@ pub(crate) fn edits_of(alloc: Global, op: &BoardBatch) -> Result<BoardEdits, NoM
     ensures { IfOk result (λ edits. edits ≡ board.edit_of op.now) }
 {
     // The checker learns of the type within an edit from this.
-    let _within: PhantomData<Effect> = PhantomData;
+    let _within: PhantomData<WidgetEdit> = PhantomData;
     op.edit(alloc)
 }

@@ -2,9 +2,11 @@
 use Rattle.std.specs.Prelude.{ℕ, List, [], ◌∷◌, ◌++◌, codes, decimal}
 use Rattle.std.specs.Fmt.{signed_decimal}
 use Rattle.std.specs.List.{flat_map, join_with_byte}
+use Rattle.jup_window.specs.declared.edits.BoardEdit.{BoardEdit}
 use Rattle.jup_window.specs.declared.edits.Edit.{Edit}
 use Rattle.jup_window.specs.declared.edits.Effect.{Effect}
 use Rattle.jup_window.specs.declared.edits.Effect.TheVariants.{PutChar, PutLabel, Deleted, Relabelled, Toggled, Slid, Nothing}
+use Rattle.jup_window.specs.Edits.{shown_edit}
 use Rattle.jup_text.specs.Quotes.{quoted}
 use Rattle.jup_text.specs.Words.{switch_text, name_text}
 
@@ -23,10 +25,10 @@ abbrev pub edit_text : Edit → List ℕ
 edit_text edit = join_with_byte 32 (effect_words edit.win edit.wid edit.what)
 
 -- an edit after another, with a semicolon and a space between them
-abbrev pub other_text : Edit → List ℕ
-other_text edit = codes "; " ++ edit_text edit
+abbrev pub other_text : BoardEdit → List ℕ
+other_text edit = codes "; " ++ edit_text (shown_edit edit)
 
 -- edits as they are printed
-abbrev pub edits_text : List Edit → List ℕ
+abbrev pub edits_text : List BoardEdit → List ℕ
 edits_text [] = []
-edits_text (e ∷ es) = edit_text e ++ flat_map other_text es
+edits_text (e ∷ es) = edit_text (shown_edit e) ++ flat_map other_text es

@@ -9,14 +9,14 @@ use super::boards::append;
 use super::quoted::{QuotedChar, QuotedLabel};
 use super::words::switch_word;
 use jup_value::Name;
-use jup_window::{Edit, Effect};
+use jup_window::{BoardEdit, Edit, Effect};
 use jup_xform::{Few, NoMemory};
 use std::alloc::Global;
 use std::fmt;
 
 /// Appends the edits of a batch as they are printed, with `; ` between them. An edit that changes nothing has no
 /// spelling; nothing is appended if an allocation fails.
-pub fn write_edit(alloc: Global, edits: &Few<Edit>, into: &mut Vec<u8>) -> Result<(), NoMemory>
+pub fn write_edit(alloc: Global, edits: &Few<BoardEdit>, into: &mut Vec<u8>) -> Result<(), NoMemory>
     ensures appended { OnOk result (into.new.items ≡ into.old.items ++ edits_text edits.now) }
     ensures same { OnErr result (into.new.items ≡ into.old.items) }
 {
@@ -25,7 +25,7 @@ pub fn write_edit(alloc: Global, edits: &Few<Edit>, into: &mut Vec<u8>) -> Resul
 
 /// Edits as they are printed.
 #[derive(Drop)]
-pub struct PrintedEdits<'a>(pub &'a [Edit]);
+pub struct PrintedEdits<'a>(pub &'a [BoardEdit]);
 
 impl fmt::Display for PrintedEdits<'_> {
     ghost output = { λ edits. Some (edits_text edits.0.now) };
@@ -34,18 +34,18 @@ impl fmt::Display for PrintedEdits<'_> {
         let Some((first, others)) = self.0.split_first() else {
             return Ok(());
         };
-        let first = PrintedEdit(first);
+        let first = PrintedEdit(first.shown());
         write!(f, "{first}")?;
         write_others(f, others)
     }
 }
 
 // Writes each edit after `; `.
-fn write_others<W: fmt::Write>(f: &mut fmt::Formatter<W>, edits: &[Edit]) -> fmt::Result
+fn write_others<W: fmt::Write>(f: &mut fmt::Formatter<W>, edits: &[BoardEdit]) -> fmt::Result
     ensures { DisplaysOnOk W.Write.write_str_gives f.old result (Some (flat_map other_text edits.now)) f.new }
 {
     for edit in edits {
-        let edit = PrintedEdit(edit);
+        let edit = PrintedEdit(edit.shown());
         write!(f, "; {edit}")?;
     }
     Ok(())
@@ -53,10 +53,10 @@ fn write_others<W: fmt::Write>(f: &mut fmt::Formatter<W>, edits: &[Edit]) -> fmt
 
 /// An edit as it is printed.
 #[derive(Drop)]
-struct PrintedEdit<'a>(&'a Edit);
+struct PrintedEdit(Edit);
 
-impl fmt::Display for PrintedEdit<'_> {
-    ghost output = { λ edit. Some (edit_text edit.0.now) };
+impl fmt::Display for PrintedEdit {
+    ghost output = { λ edit. Some (edit_text edit.0) };
 
     fn fmt<W: fmt::Write>(&self, f: &mut fmt::Formatter<W>) -> fmt::Result {
         let win = self.0.win;

@@ -6,8 +6,6 @@ pub mod BoardLaws
 pub mod BoardNames
 pub mod BoardTests
 pub mod BoardsAreLawful
-pub mod EffectLists
-pub mod EffectPairs
 pub mod EntryLaws
 pub mod NamedCommands
 pub mod WidgetLaws

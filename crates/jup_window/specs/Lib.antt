@@ -9,6 +9,7 @@ pub mod Effects
 pub mod Entries
 pub mod EntriesLent
 pub mod FaultNumbers
+pub mod Kinds
 pub mod Laws
 pub mod Operations
 pub mod Sites

@@ -19,7 +19,7 @@ use Rattle.jup_window.specs.declared.singles.WidgetTrace.TheVariants.{Sequence, 
 use Rattle.jup_window.specs.declared.board_operations.BoardOp.{BoardOp}
 use Rattle.jup_window.specs.Entries.{same_place, widget_at}
 use Rattle.jup_window.specs.Laws.EntryLaws.{same_place-true, widget_at-change}
-use Rattle.jup_window.specs.Laws.WidgetLaws.{of_valid}
+use Rattle.jup_window.specs.Laws.WidgetLaws.{of_valid, toggle_valid}
 use Rattle.jup_window.specs.Widgets as widget
 use Rattle.jup_seq.specs.Operations.{is_no_relabel}
 use Rattle.jup_window.specs.Boards as board
@@ -131,7 +131,7 @@ widget_told (Sequence r) (OnText o) (Text x) is =
     let told = seq_traces.told o x r is in
     ((λ allowed. (allowed.0, told.0 allowed.1)), (λ valid. (valid.0, told.1 valid.1)))
 widget_told (Sequence r) (OnList o) (Labels x) is = seq_traces.told o x r is
-widget_told (Setting taken) (OnToggle o) (Toggle x) is = ((λ yes. tt), (λ valid. is))
+widget_told (Setting taken) (OnToggle o) (Toggle x) is = ((λ yes. toggle_valid o x), (λ valid. is))
 widget_told (Setting taken) (OnSlider o) (Slider x) is = is
 widget_told Misfit (OnText o) (Text x) is = absurd (is tt)
 widget_told Misfit (OnList o) (Labels x) is = absurd (is tt)

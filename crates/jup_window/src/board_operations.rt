@@ -7,7 +7,7 @@ ghost use Rattle.jup_window.specs.Laws.BoardNames as board_names;
 ghost use Rattle.jup_window.specs.Laws.BoardEdits as board_edits;
 
 use crate::boards::Board;
-use crate::edits::Edit;
+use crate::edits::BoardEdit;
 use crate::widget_operations::WidgetOp;
 use jup_xform::{NoMemory, Transform};
 use std::alloc::Global;
@@ -21,14 +21,15 @@ pub struct BoardOp {
 }
 
 impl BoardOp {
-    /// What the operation means. It takes no memory.
-    pub fn meaning(&self) -> Edit
+    /// What the operation means. It takes no memory. Inlined, since most callers ask for one part of it.
+    #[inline]
+    pub fn meaning(&self) -> BoardEdit
         ensures { result ≡ board.edit_of self.now }
     {
-        Edit {
+        BoardEdit {
             win: self.win,
             wid: self.wid,
-            what: self.op.effect(),
+            what: self.op.meaning(),
         }
     }
 
@@ -43,7 +44,7 @@ impl BoardOp {
 impl Transform for BoardOp {
     type State = Board;
 
-    type Edit = Edit;
+    type Edit = BoardEdit;
 
     ghost Content = { board.Content };
 
@@ -141,7 +142,7 @@ impl Transform for BoardOp {
     }
 
     /// It takes no memory and is never refused.
-    fn edit(&self, _alloc: Global) -> Result<Edit, NoMemory>
+    fn edit(&self, _alloc: Global) -> Result<BoardEdit, NoMemory>
         ensures { result ≡ Ok (board.edit_of self.now) }
     {
         Ok(self.meaning())

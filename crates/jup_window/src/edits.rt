@@ -1,11 +1,29 @@
 //! What operations do to the content of a board.
 ghost use Rattle.std.specs.Prelude.{◌≡◌};
-ghost use Rattle.jup_window.specs.Effects.{inserted_name};
-ghost use Rattle.jup_window.specs.Edits.{insertions, bears_next, bears_site, is_nothing};
+ghost use Rattle.jup_window.specs.Effects.{effect, inserted_name};
+ghost use Rattle.jup_window.specs.Edits.{insertions, bears_next, bears_site, is_nothing, shown_edit};
 
+use jup_seq::SeqEdit;
+use jup_setting::SettingEdit;
 use jup_value::{Label, Name};
+use jup_xform::OneOf;
 
-/// What an operation does to the content of a widget. No place is in it.
+/// What an operation does to the content of a widget, by the widget's kind: of a text, a list, a toggle or a slider.
+/// No place is in it.
+pub type WidgetEdit = OneOf<
+    SeqEdit<char>,
+    OneOf<SeqEdit<Label>, OneOf<SettingEdit<bool>, SettingEdit<i32>>>,
+>;
+
+/// What an operation does to the content of a board: an edit of the widget with some ids.
+#[derive(Clone, Copy, Debug, PartialEq, Eq)]
+pub struct BoardEdit {
+    pub win: u16,
+    pub wid: u16,
+    pub what: WidgetEdit,
+}
+
+/// What an edit of a widget is shown as, whatever the kind.
 #[derive(Clone, Copy, Debug, PartialEq, Eq)]
 pub enum Effect {
     /// A character is put into a text under a name.
@@ -24,7 +42,7 @@ pub enum Effect {
     Nothing,
 }
 
-/// What an operation does to the content of a board: an effect on the widget with some ids.
+/// An edit as it is shown: an effect on the widget with some ids.
 #[derive(Clone, Copy, Debug, PartialEq, Eq)]
 pub struct Edit {
     pub win: u16,
@@ -32,34 +50,59 @@ pub struct Edit {
     pub what: Effect,
 }
 
-impl Effect {
-    fn inserted_name(&self) -> Option<Name>
-        ensures { result ≡ inserted_name self.now }
-    {
-        match *self {
-            Effect::PutChar(name, _) | Effect::PutLabel(name, _) => Some(name),
-            Effect::Deleted(_)
-            | Effect::Relabelled(..)
-            | Effect::Toggled(_)
-            | Effect::Slid(_)
-            | Effect::Nothing => None,
+// An edit without its kind. No text takes a relabel.
+fn effect_of(edit: &WidgetEdit) -> Effect
+    ensures { result ≡ effect edit.now }
+{
+    match *edit {
+        OneOf::First(SeqEdit::Put(name, value)) => Effect::PutChar(name, value),
+        OneOf::First(SeqEdit::Deleted(name)) => Effect::Deleted(name),
+        OneOf::Second(OneOf::First(SeqEdit::Put(name, value))) => Effect::PutLabel(name, value),
+        OneOf::Second(OneOf::First(SeqEdit::Deleted(name))) => Effect::Deleted(name),
+        OneOf::Second(OneOf::First(SeqEdit::Relabelled(name, value))) => {
+            Effect::Relabelled(name, value)
         }
+        OneOf::Second(OneOf::Second(OneOf::First(SettingEdit::Set(on)))) => Effect::Toggled(on),
+        OneOf::Second(OneOf::Second(OneOf::Second(SettingEdit::Set(value)))) => Effect::Slid(value),
+        _ => Effect::Nothing,
     }
 }
 
-impl Edit {
+// The name that an edit inserts.
+fn inserted_by(edit: &WidgetEdit) -> Option<Name>
+    ensures { result ≡ inserted_name edit.now }
+{
+    match *edit {
+        OneOf::First(SeqEdit::Put(name, _)) => Some(name),
+        OneOf::Second(OneOf::First(SeqEdit::Put(name, _))) => Some(name),
+        _ => None,
+    }
+}
+
+impl BoardEdit {
+    /// The edit as it is shown.
+    pub fn shown(&self) -> Edit
+        ensures { result ≡ shown_edit self.now }
+    {
+        Edit {
+            win: self.win,
+            wid: self.wid,
+            what: effect_of(&self.what),
+        }
+    }
+
     /// Whether it changes nothing.
     pub fn is_nothing(&self) -> bool
         ensures { result ≡ is_nothing self.now }
     {
-        matches!(&self.what, Effect::Nothing)
+        matches!(&effect_of(&self.what), Effect::Nothing)
     }
 
     /// How many items it inserts.
     pub fn insertions(&self) -> u32
         ensures { result ≡ insertions self.now }
     {
-        match self.what.inserted_name() {
+        match inserted_by(&self.what) {
             Some(_) => 1,
             None => 0,
         }
@@ -70,7 +113,7 @@ impl Edit {
     pub fn bears_next(&self, site: u32, count: u32) -> bool
         ensures { result ≡ bears_next site count self.now }
     {
-        match self.what.inserted_name() {
+        match inserted_by(&self.what) {
             Some(name) => name.site == site && name.number as u64 == count as u64 + 1,
             None => true,
         }
@@ -80,7 +123,7 @@ impl Edit {
     pub fn bears_site(&self, site: u32) -> bool
         ensures { result ≡ bears_site site self.now }
     {
-        match self.what.inserted_name() {
+        match inserted_by(&self.what) {
             Some(name) => name.site == site,
             None => false,
         }

@@ -8,22 +8,24 @@ ghost use Rattle.jup_setting.specs.declared.toggle.Toggle.{Toggle};
 ghost use Rattle.jup_setting.specs.Sliders.{SliderState};
 ghost use Rattle.jup_seq.specs.Edits.{Content as SeqContent};
 ghost use Rattle.jup_seq.specs.declared.operations.SeqOp.{SeqOp};
+ghost use Rattle.jup_seq.specs.declared.operations.SeqEdit.{SeqEdit};
 ghost use Rattle.jup_setting.specs.declared.operation.SetOp.{SetOp};
+ghost use Rattle.jup_setting.specs.declared.operation.SettingEdit.{SettingEdit};
 ghost use Rattle.jup_window.specs.declared.widgets.Widget.{Widget};
 ghost use Rattle.jup_window.specs.declared.board_operations.BoardOp.{BoardOp};
-ghost use Rattle.jup_window.specs.declared.edits.Edit.{Edit};
+ghost use Rattle.jup_window.specs.declared.edits.BoardEdit.{BoardEdit};
 ghost use Rattle.jup_window.specs.Entries.{Place, EachWidget, widget_at};
 ghost use Rattle.jup_seq.specs.Operations.{is_no_relabel};
 ghost use Rattle.jup_window.specs.Widgets.{InSequences, AreOfOneKind, AreOperationsOfOneKind};
-ghost use Rattle.jup_window.specs.Effects.{Chars, Labelled, On, At};
 ghost use Rattle.jup_window.specs.Boards.{Windows, Content, Placed, place, edit_place};
-ghost use Rattle.jup_window.specs.Contents.{op_at, edit_at, character, label};
+ghost use Rattle.jup_window.specs.Contents.{Chars, Labelled, On, At, of_text, of_list, of_toggle, of_slider, op_at, edit_at, shown_at, character, label};
+ghost use Rattle.jup_window.specs.Edits.{shown_edit};
 ghost use Rattle.jup_window.specs.Operations.{AreLawful};
 ghost use Rattle.jup_window.specs.BoardOperations.{board_operations};
 
 use crate::{BoardOp, Effect, Widget, WidgetOp};
-use jup_seq::SeqOp;
-use jup_setting::SetOp;
+use jup_seq::{SeqEdit, SeqOp};
+use jup_setting::{SetOp, SettingEdit};
 use jup_value::Label;
 use jup_xform::Transform;
 
@@ -149,46 +151,66 @@ pub fn board_order()
         → ⟦<SeqOp<Label> as Transform>⟧.keeps_order v w }
 {}
 
-/// An insertion puts its value under its name, and a deletion deletes its name. A relabel of a list gives its
-/// name its label, whatever the place in the sequence. A setting sets its value. Each acts on the widget that
-/// the operation's ids name. A relabel of a text has no edit.
+/// The edit of an operation is what it means on a text, a list, a toggle or a slider, of the widget that its ids
+/// name. A relabel of a text has no edit.
 pub fn operation_edits()
-    ensures character { (p : Place) (at : ℕ) (item : Item ℕ)
-        → ⟦<BoardOp as Transform>⟧.edit_of (op_at p (WidgetOp.Text (SeqOp.Insert at item)))
-        ≡ edit_at p (Effect.PutChar item.name item.value) }
-    ensures label { (p : Place) (at : ℕ) (item : Item (List ℕ))
-        → ⟦<BoardOp as Transform>⟧.edit_of (op_at p (WidgetOp.List (SeqOp.Insert at item)))
-        ≡ edit_at p (Effect.PutLabel item.name item.value) }
-    ensures deletion_in_text { (p : Place) (at : ℕ) (name : Name)
-        → ⟦<BoardOp as Transform>⟧.edit_of (op_at p (WidgetOp.Text (SeqOp.Delete at name)))
-        ≡ edit_at p (Effect.Deleted name) }
-    ensures deletion_in_list { (p : Place) (at : ℕ) (name : Name)
-        → ⟦<BoardOp as Transform>⟧.edit_of (op_at p (WidgetOp.List (SeqOp.Delete at name)))
-        ≡ edit_at p (Effect.Deleted name) }
-    ensures relabel_in_list { (p : Place) (at : ℕ) (name : Name) (value : List ℕ)
-        → ⟦<BoardOp as Transform>⟧.edit_of (op_at p (WidgetOp.List (SeqOp.Relabel at name value)))
-        ≡ edit_at p (Effect.Relabelled name value) }
-    ensures relabel_in_text { (p : Place) (at : ℕ) (name : Name) (value : ℕ)
+    ensures text { (p : Place) (op : SeqOp ℕ) → IsTrue (is_no_relabel op)
+        → ⟦<BoardOp as Transform>⟧.edit_of (op_at p (WidgetOp.Text op))
+        ≡ edit_at p (of_text (⟦<SeqOp<char> as Transform>⟧.edit_of op)) }
+    ensures relabel_of_text { (p : Place) (at : ℕ) (name : Name) (value : ℕ)
         → ⟦<BoardOp as Transform>⟧.edit_of (op_at p (WidgetOp.Text (SeqOp.Relabel at name value)))
-        ≡ edit_at p Effect.Nothing }
+        ≡ edit_at p (of_text SeqEdit.Nothing) }
+    ensures list { (p : Place) (op : SeqOp (List ℕ))
+        → ⟦<BoardOp as Transform>⟧.edit_of (op_at p (WidgetOp.List op))
+        ≡ edit_at p (of_list (⟦<SeqOp<Label> as Transform>⟧.edit_of op)) }
+    ensures toggle { (p : Place) (op : SetOp Bool)
+        → ⟦<BoardOp as Transform>⟧.edit_of (op_at p (WidgetOp.Toggle op))
+        ≡ edit_at p (of_toggle (⟦<SetOp<bool> as Transform>⟧.edit_of op)) }
+    ensures slider { (p : Place) (op : SetOp ℤ)
+        → ⟦<BoardOp as Transform>⟧.edit_of (op_at p (WidgetOp.Slider op))
+        ≡ edit_at p (of_slider (⟦<SetOp<i32> as Transform>⟧.edit_of op)) }
+{}
+
+/// How edits are shown. An insertion puts its value under its name, and a deletion deletes its name. A relabel of a
+/// list gives its name its label, whatever the place in the sequence. A setting sets its value. Each acts on the
+/// widget that the operation's ids name.
+pub fn shown_edits()
+    ensures character { (p : Place) (at : ℕ) (item : Item ℕ)
+        → shown_edit (⟦<BoardOp as Transform>⟧.edit_of (op_at p (WidgetOp.Text (SeqOp.Insert at item))))
+        ≡ shown_at p (Effect.PutChar item.name item.value) }
+    ensures label { (p : Place) (at : ℕ) (item : Item (List ℕ))
+        → shown_edit (⟦<BoardOp as Transform>⟧.edit_of (op_at p (WidgetOp.List (SeqOp.Insert at item))))
+        ≡ shown_at p (Effect.PutLabel item.name item.value) }
+    ensures deletion_in_text { (p : Place) (at : ℕ) (name : Name)
+        → shown_edit (⟦<BoardOp as Transform>⟧.edit_of (op_at p (WidgetOp.Text (SeqOp.Delete at name))))
+        ≡ shown_at p (Effect.Deleted name) }
+    ensures deletion_in_list { (p : Place) (at : ℕ) (name : Name)
+        → shown_edit (⟦<BoardOp as Transform>⟧.edit_of (op_at p (WidgetOp.List (SeqOp.Delete at name))))
+        ≡ shown_at p (Effect.Deleted name) }
+    ensures relabel_in_list { (p : Place) (at : ℕ) (name : Name) (value : List ℕ)
+        → shown_edit (⟦<BoardOp as Transform>⟧.edit_of (op_at p (WidgetOp.List (SeqOp.Relabel at name value))))
+        ≡ shown_at p (Effect.Relabelled name value) }
+    ensures relabel_in_text { (p : Place) (at : ℕ) (name : Name) (value : ℕ)
+        → shown_edit (⟦<BoardOp as Transform>⟧.edit_of (op_at p (WidgetOp.Text (SeqOp.Relabel at name value))))
+        ≡ shown_at p Effect.Nothing }
     ensures toggle { (p : Place) (on : Bool)
-        → ⟦<BoardOp as Transform>⟧.edit_of (op_at p (WidgetOp.Toggle (SetOp.Set on)))
-        ≡ edit_at p (Effect.Toggled on) }
+        → shown_edit (⟦<BoardOp as Transform>⟧.edit_of (op_at p (WidgetOp.Toggle (SetOp.Set on))))
+        ≡ shown_at p (Effect.Toggled on) }
     ensures slider { (p : Place) (value : ℤ)
-        → ⟦<BoardOp as Transform>⟧.edit_of (op_at p (WidgetOp.Slider (SetOp.Set value)))
-        ≡ edit_at p (Effect.Slid value) }
+        → shown_edit (⟦<BoardOp as Transform>⟧.edit_of (op_at p (WidgetOp.Slider (SetOp.Set value))))
+        ≡ shown_at p (Effect.Slid value) }
     ensures nothing_in_text { (p : Place)
-        → ⟦<BoardOp as Transform>⟧.edit_of (op_at p (WidgetOp.Text SeqOp.Nothing))
-        ≡ edit_at p Effect.Nothing }
+        → shown_edit (⟦<BoardOp as Transform>⟧.edit_of (op_at p (WidgetOp.Text SeqOp.Nothing)))
+        ≡ shown_at p Effect.Nothing }
     ensures nothing_in_list { (p : Place)
-        → ⟦<BoardOp as Transform>⟧.edit_of (op_at p (WidgetOp.List SeqOp.Nothing))
-        ≡ edit_at p Effect.Nothing }
+        → shown_edit (⟦<BoardOp as Transform>⟧.edit_of (op_at p (WidgetOp.List SeqOp.Nothing)))
+        ≡ shown_at p Effect.Nothing }
     ensures nothing_on_toggle { (p : Place)
-        → ⟦<BoardOp as Transform>⟧.edit_of (op_at p (WidgetOp.Toggle SetOp.Nothing))
-        ≡ edit_at p Effect.Nothing }
+        → shown_edit (⟦<BoardOp as Transform>⟧.edit_of (op_at p (WidgetOp.Toggle SetOp.Nothing)))
+        ≡ shown_at p Effect.Nothing }
     ensures nothing_on_slider { (p : Place)
-        → ⟦<BoardOp as Transform>⟧.edit_of (op_at p (WidgetOp.Slider SetOp.Nothing))
-        ≡ edit_at p Effect.Nothing }
+        → shown_edit (⟦<BoardOp as Transform>⟧.edit_of (op_at p (WidgetOp.Slider SetOp.Nothing)))
+        ≡ shown_at p Effect.Nothing }
 {}
 
 /// The premises of the laws:
@@ -216,46 +238,54 @@ pub fn premises()
 /// the edit's ids. It changes those that it deletes or gives another label.
 pub fn edited_names()
     ensures character { (p : Place) (name : Name) (value : ℕ) (n : Placed)
-        → ⟦<BoardOp as Transform>⟧.inserts (edit_at p (Effect.PutChar name value)) n
+        → ⟦<BoardOp as Transform>⟧.inserts (edit_at p (of_text (SeqEdit.Put name value))) n
         ↔ (n ≡ record { at = p; name = name }) }
     ensures label { (p : Place) (name : Name) (value : List ℕ) (n : Placed)
-        → ⟦<BoardOp as Transform>⟧.inserts (edit_at p (Effect.PutLabel name value)) n
+        → ⟦<BoardOp as Transform>⟧.inserts (edit_at p (of_list (SeqEdit.Put name value))) n
         ↔ (n ≡ record { at = p; name = name }) }
-    ensures deletion { (p : Place) (name : Name) (n : Placed)
-        → ⟦<BoardOp as Transform>⟧.deletes (edit_at p (Effect.Deleted name)) n
+    ensures deletion_in_text { (p : Place) (name : Name) (n : Placed)
+        → ⟦<BoardOp as Transform>⟧.deletes (edit_at p (of_text (SeqEdit.Deleted name))) n
         ↔ (n ≡ record { at = p; name = name }) }
-    ensures nothing_inserted { (edit : Edit) (n : Placed)
-        → ((value : ℕ) → edit.what ≢ Effect.PutChar n.name value)
-        → ((value : List ℕ) → edit.what ≢ Effect.PutLabel n.name value)
+    ensures deletion_in_list { (p : Place) (name : Name) (n : Placed)
+        → ⟦<BoardOp as Transform>⟧.deletes (edit_at p (of_list (SeqEdit.Deleted name))) n
+        ↔ (n ≡ record { at = p; name = name }) }
+    ensures nothing_inserted { (edit : BoardEdit) (n : Placed)
+        → ((value : ℕ) → edit.what ≢ of_text (SeqEdit.Put n.name value))
+        → ((value : List ℕ) → edit.what ≢ of_list (SeqEdit.Put n.name value))
         → ¬ ⟦<BoardOp as Transform>⟧.inserts edit n }
-    ensures nothing_deleted { (edit : Edit) (n : Placed) → edit.what ≢ Effect.Deleted n.name
+    ensures nothing_deleted { (edit : BoardEdit) (n : Placed)
+        → edit.what ≢ of_text (SeqEdit.Deleted n.name) → edit.what ≢ of_list (SeqEdit.Deleted n.name)
         → ¬ ⟦<BoardOp as Transform>⟧.deletes edit n }
-    ensures changed_by_deletion { (p : Place) (name : Name) (n : Placed)
-        → ⟦<BoardOp as Transform>⟧.changes (edit_at p (Effect.Deleted name)) n
+    ensures changed_by_deletion_in_text { (p : Place) (name : Name) (n : Placed)
+        → ⟦<BoardOp as Transform>⟧.changes (edit_at p (of_text (SeqEdit.Deleted name))) n
+        ↔ (n ≡ record { at = p; name = name }) }
+    ensures changed_by_deletion_in_list { (p : Place) (name : Name) (n : Placed)
+        → ⟦<BoardOp as Transform>⟧.changes (edit_at p (of_list (SeqEdit.Deleted name))) n
         ↔ (n ≡ record { at = p; name = name }) }
     ensures changed_by_relabel { (p : Place) (name : Name) (value : List ℕ) (n : Placed)
-        → ⟦<BoardOp as Transform>⟧.changes (edit_at p (Effect.Relabelled name value)) n
+        → ⟦<BoardOp as Transform>⟧.changes (edit_at p (of_list (SeqEdit.Relabelled name value))) n
         ↔ (n ≡ record { at = p; name = name }) }
-    ensures nothing_changed { (edit : Edit) (n : Placed) → edit.what ≢ Effect.Deleted n.name
-        → ((value : List ℕ) → edit.what ≢ Effect.Relabelled n.name value)
+    ensures nothing_changed { (edit : BoardEdit) (n : Placed)
+        → edit.what ≢ of_text (SeqEdit.Deleted n.name) → edit.what ≢ of_list (SeqEdit.Deleted n.name)
+        → ((value : List ℕ) → edit.what ≢ of_list (SeqEdit.Relabelled n.name value))
         → ¬ ⟦<BoardOp as Transform>⟧.changes edit n }
 {}
 
 /// What a list of edits makes of a text. It has the names that it had and those that are inserted, less those
 /// that are deleted anywhere in the list. Each has the character of its last insertion, else its own.
 pub fn text_meaning()
-    ensures deleted { (before : Content) (edits : List Edit) (p : Place) (name : Name)
-        → Contains edits (edit_at p (Effect.Deleted name))
+    ensures deleted { (before : Content) (edits : List BoardEdit) (p : Place) (name : Name)
+        → Contains edits (edit_at p (of_text (SeqEdit.Deleted name)))
         → character name (⟦<BoardOp as Transform>⟧.meaning before edits p) ≡ None }
-    ensures inserted { (before : Content) (earlier later : List Edit) (p : Place) (name : Name)
-        (value : ℕ) (text : SeqContent ℕ) → before p ≡ Some (Chars text)
-        → let edits = earlier ++ edit_at p (Effect.PutChar name value) ∷ later in
-        ¬ Contains edits (edit_at p (Effect.Deleted name))
-        → ((other : ℕ) → ¬ Contains later (edit_at p (Effect.PutChar name other)))
+    ensures inserted { (before : Content) (earlier later : List BoardEdit) (p : Place) (name : Name)
+        (value : ℕ) (had : SeqContent ℕ) → before p ≡ Some (Chars had)
+        → let edits = earlier ++ edit_at p (of_text (SeqEdit.Put name value)) ∷ later in
+        ¬ Contains edits (edit_at p (of_text (SeqEdit.Deleted name)))
+        → ((other : ℕ) → ¬ Contains later (edit_at p (of_text (SeqEdit.Put name other))))
         → character name (⟦<BoardOp as Transform>⟧.meaning before edits p) ≡ Some value }
-    ensures kept { (before : Content) (edits : List Edit) (p : Place) (name : Name)
-        → ¬ Contains edits (edit_at p (Effect.Deleted name))
-        → ((other : ℕ) → ¬ Contains edits (edit_at p (Effect.PutChar name other)))
+    ensures kept { (before : Content) (edits : List BoardEdit) (p : Place) (name : Name)
+        → ¬ Contains edits (edit_at p (of_text (SeqEdit.Deleted name)))
+        → ((other : ℕ) → ¬ Contains edits (edit_at p (of_text (SeqEdit.Put name other))))
         → character name (⟦<BoardOp as Transform>⟧.meaning before edits p)
         ≡ character name (before p) }
 {}
@@ -264,53 +294,53 @@ pub fn text_meaning()
 /// less those that are deleted anywhere in the list. Each has the label of its last relabel, else of its last
 /// insertion, else its own.
 pub fn list_meaning()
-    ensures deleted { (before : Content) (edits : List Edit) (p : Place) (name : Name)
-        → Contains edits (edit_at p (Effect.Deleted name))
+    ensures deleted { (before : Content) (edits : List BoardEdit) (p : Place) (name : Name)
+        → Contains edits (edit_at p (of_list (SeqEdit.Deleted name)))
         → label name (⟦<BoardOp as Transform>⟧.meaning before edits p) ≡ None }
-    ensures relabelled { (before : Content) (earlier later : List Edit) (p : Place) (name : Name)
-        (value other : List ℕ) (list : SeqContent (List ℕ)) → before p ≡ Some (Labelled list)
-        → let edits = earlier ++ edit_at p (Effect.Relabelled name value) ∷ later in
-        ¬ Contains edits (edit_at p (Effect.Deleted name))
-        → ((next : List ℕ) → ¬ Contains later (edit_at p (Effect.Relabelled name next)))
-        → (list name ≡ Some other) ⊎ Contains edits (edit_at p (Effect.PutLabel name other))
+    ensures relabelled { (before : Content) (earlier later : List BoardEdit) (p : Place) (name : Name)
+        (value other : List ℕ) (had : SeqContent (List ℕ)) → before p ≡ Some (Labelled had)
+        → let edits = earlier ++ edit_at p (of_list (SeqEdit.Relabelled name value)) ∷ later in
+        ¬ Contains edits (edit_at p (of_list (SeqEdit.Deleted name)))
+        → ((next : List ℕ) → ¬ Contains later (edit_at p (of_list (SeqEdit.Relabelled name next))))
+        → (had name ≡ Some other) ⊎ Contains edits (edit_at p (of_list (SeqEdit.Put name other)))
         → label name (⟦<BoardOp as Transform>⟧.meaning before edits p) ≡ Some value }
-    ensures inserted { (before : Content) (earlier later : List Edit) (p : Place) (name : Name)
-        (value : List ℕ) (list : SeqContent (List ℕ)) → before p ≡ Some (Labelled list)
-        → let edits = earlier ++ edit_at p (Effect.PutLabel name value) ∷ later in
-        ¬ Contains edits (edit_at p (Effect.Deleted name))
-        → ((other : List ℕ) → ¬ Contains edits (edit_at p (Effect.Relabelled name other)))
-        → ((other : List ℕ) → ¬ Contains later (edit_at p (Effect.PutLabel name other)))
+    ensures inserted { (before : Content) (earlier later : List BoardEdit) (p : Place) (name : Name)
+        (value : List ℕ) (had : SeqContent (List ℕ)) → before p ≡ Some (Labelled had)
+        → let edits = earlier ++ edit_at p (of_list (SeqEdit.Put name value)) ∷ later in
+        ¬ Contains edits (edit_at p (of_list (SeqEdit.Deleted name)))
+        → ((other : List ℕ) → ¬ Contains edits (edit_at p (of_list (SeqEdit.Relabelled name other))))
+        → ((other : List ℕ) → ¬ Contains later (edit_at p (of_list (SeqEdit.Put name other))))
         → label name (⟦<BoardOp as Transform>⟧.meaning before edits p) ≡ Some value }
-    ensures kept { (before : Content) (edits : List Edit) (p : Place) (name : Name)
-        → ¬ Contains edits (edit_at p (Effect.Deleted name))
-        → ((other : List ℕ) → ¬ Contains edits (edit_at p (Effect.Relabelled name other)))
-        → ((other : List ℕ) → ¬ Contains edits (edit_at p (Effect.PutLabel name other)))
+    ensures kept { (before : Content) (edits : List BoardEdit) (p : Place) (name : Name)
+        → ¬ Contains edits (edit_at p (of_list (SeqEdit.Deleted name)))
+        → ((other : List ℕ) → ¬ Contains edits (edit_at p (of_list (SeqEdit.Relabelled name other))))
+        → ((other : List ℕ) → ¬ Contains edits (edit_at p (of_list (SeqEdit.Put name other))))
         → label name (⟦<BoardOp as Transform>⟧.meaning before edits p) ≡ label name (before p) }
-    ensures absent { (before : Content) (edits : List Edit) (p : Place) (name : Name)
+    ensures absent { (before : Content) (edits : List BoardEdit) (p : Place) (name : Name)
         → label name (before p) ≡ None
-        → ((other : List ℕ) → ¬ Contains edits (edit_at p (Effect.PutLabel name other)))
+        → ((other : List ℕ) → ¬ Contains edits (edit_at p (of_list (SeqEdit.Put name other))))
         → label name (⟦<BoardOp as Transform>⟧.meaning before edits p) ≡ None }
 {}
 
 /// What a list of edits makes of a toggle or a slider: its last setting, and if it has none, what was there
 /// before.
 pub fn setting_meaning()
-    ensures toggle { (before : Content) (edits : List Edit) (p : Place) (had on : Bool)
+    ensures toggle { (before : Content) (edits : List BoardEdit) (p : Place) (had on : Bool)
         → before p ≡ Some (On had)
-        → ⟦<BoardOp as Transform>⟧.meaning before (edits ++ edit_at p (Effect.Toggled on) ∷ []) p
+        → ⟦<BoardOp as Transform>⟧.meaning before (edits ++ edit_at p (of_toggle (SettingEdit.Set on)) ∷ []) p
         ≡ Some (On on) }
-    ensures slider { (before : Content) (edits : List Edit) (p : Place) (had value : ℤ)
+    ensures slider { (before : Content) (edits : List BoardEdit) (p : Place) (had value : ℤ)
         → before p ≡ Some (At had)
-        → ⟦<BoardOp as Transform>⟧.meaning before (edits ++ edit_at p (Effect.Slid value) ∷ []) p
+        → ⟦<BoardOp as Transform>⟧.meaning before (edits ++ edit_at p (of_slider (SettingEdit.Set value)) ∷ []) p
         ≡ Some (At value) }
-    ensures toggle_kept { (before : Content) (edits : List Edit) (edit : Edit) (p : Place)
+    ensures toggle_kept { (before : Content) (edits : List BoardEdit) (edit : BoardEdit) (p : Place)
         (had : Bool) → before p ≡ Some (On had)
-        → ((on : Bool) → edit ≢ edit_at p (Effect.Toggled on))
+        → ((on : Bool) → edit ≢ edit_at p (of_toggle (SettingEdit.Set on)))
         → ⟦<BoardOp as Transform>⟧.meaning before (edits ++ edit ∷ []) p
         ≡ ⟦<BoardOp as Transform>⟧.meaning before edits p }
-    ensures slider_kept { (before : Content) (edits : List Edit) (edit : Edit) (p : Place)
+    ensures slider_kept { (before : Content) (edits : List BoardEdit) (edit : BoardEdit) (p : Place)
         (had : ℤ) → before p ≡ Some (At had)
-        → ((value : ℤ) → edit ≢ edit_at p (Effect.Slid value))
+        → ((value : ℤ) → edit ≢ edit_at p (of_slider (SettingEdit.Set value)))
         → ⟦<BoardOp as Transform>⟧.meaning before (edits ++ edit ∷ []) p
         ≡ ⟦<BoardOp as Transform>⟧.meaning before edits p }
 {}
@@ -318,9 +348,9 @@ pub fn setting_meaning()
 /// No edit changes nothing, no edit makes a widget, and an edit of another widget changes nothing.
 pub fn other_meaning()
     ensures none { (before : Content) → ⟦<BoardOp as Transform>⟧.meaning before [] ≡ before }
-    ensures absent { (before : Content) (edits : List Edit) (p : Place)
+    ensures absent { (before : Content) (edits : List BoardEdit) (p : Place)
         → before p ≡ None → ⟦<BoardOp as Transform>⟧.meaning before edits p ≡ None }
-    ensures elsewhere { (before : Content) (edits : List Edit) (edit : Edit) (p : Place)
+    ensures elsewhere { (before : Content) (edits : List BoardEdit) (edit : BoardEdit) (p : Place)
         → edit_place edit ≢ p
         → ⟦<BoardOp as Transform>⟧.meaning before (edits ++ edit ∷ []) p
         ≡ ⟦<BoardOp as Transform>⟧.meaning before edits p }

@@ -4,7 +4,7 @@
 //! nothing of widgets. [`laws`] says in plain facts what boards hold and what their edits mean.
 #![tactic(auto)]
 
-use jup_seq::SeqOp;
+use jup_seq::{SeqEdit, SeqOp};
 use jup_value::Label;
 use std::marker::PhantomData;
 
@@ -23,7 +23,7 @@ mod widgets;
 pub use board_operations::BoardOp;
 pub use boards::{Board, Window};
 pub use commands::{Command, Setting, Value};
-pub use edits::{Edit, Effect};
+pub use edits::{BoardEdit, Edit, Effect, WidgetEdit};
 pub use faults::{BoardFault, EditFault};
 pub use singles::WidgetTrace;
 pub use widget_operations::WidgetOp;
@@ -40,6 +40,9 @@ pub type Within = PhantomData<
         Command,
         Value,
         Setting,
+        SeqEdit<Label>,
+        WidgetEdit,
+        BoardEdit,
         Effect,
         Edit,
     ),

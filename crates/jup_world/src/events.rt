@@ -6,7 +6,7 @@ ghost use Rattle.jup_world.specs.declared.events.Reply.TheVariants.{Nothing as n
 
 use jup_batch::{BoardEdits, Commands};
 use jup_star::StarFault;
-use jup_window::{Command, Edit, EditFault};
+use jup_window::{BoardEdit, Command, EditFault};
 use jup_xform::NoMemory;
 use std::alloc::Global;
 
@@ -114,7 +114,7 @@ pub fn room_for<T: Drop>(alloc: Global, most: usize) -> Result<Vec<T>, NoMemory>
 impl Reply {
     /// A copy of the reply, whose edits go into a list that has room for them; one alone needs none. It takes
     /// no memory.
-    pub fn copy_into(&self, list: Vec<Edit>) -> Reply
+    pub fn copy_into(&self, list: Vec<BoardEdit>) -> Reply
         requires empty { list.items ≡ [] }
         requires room { MakesFew self.now (vec_capacity list) }
         ensures { numbered_reply result ≡ numbered_reply self.now }

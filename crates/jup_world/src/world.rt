@@ -24,7 +24,7 @@ use self::attached::are_quiet;
 use self::happening::happen;
 use crate::{Event, Happened, Reply, room_for};
 use jup_star::{OpenFault, Site, Star, is_short};
-use jup_window::{Board, Command, Edit, Value, Within};
+use jup_window::{Board, BoardEdit, Command, Value, Within};
 use jup_xform::NoMemory;
 use std::alloc::Global;
 use std::marker::{Model, PhantomData};
@@ -68,7 +68,7 @@ impl Model for World {
 #[derive(Drop)]
 struct Room {
     commands: Vec<Command>,
-    edits: Vec<Edit>,
+    edits: Vec<BoardEdit>,
 }
 
 impl Room {

@@ -1,7 +1,7 @@
 //! `jup_window`: boards, their operations, and commands.
 
 use jup_value::Name;
-use jup_window::{Board, BoardFault, BoardOp, Command, Edit, EditFault, Widget, Window};
+use jup_window::{Board, BoardEdit, BoardFault, BoardOp, Command, Edit, EditFault, Widget, Window};
 use jup_xform::{NoMemory, Transform};
 use std::alloc::Global;
 
@@ -35,7 +35,12 @@ pub fn widget(board: &Board, win: u16, wid: u16) -> Option<&Widget> {
 }
 
 /// An operation on boards.
-pub fn edited(op: &BoardOp, alloc: Global, state: &Board) -> Result<Edit, NoMemory> {
+pub fn edited(op: &BoardOp, alloc: Global, state: &Board) -> Result<BoardEdit, NoMemory> {
     let _valid: bool = op.valid(state);
     op.edit(alloc)
+}
+
+/// `BoardEdit::shown`.
+pub fn shown(edit: &BoardEdit) -> Edit {
+    edit.shown()
 }

@@ -1,5 +1,5 @@
 -- Batches that insert nothing need no room
-use Rattle.std.proofs.Common.{◌≡◌, ℕ, ◌≤◌, [], ◌∷◌, length, Option, Some, None, sym, ap, ◌∙◌, arith}
+use Rattle.std.proofs.Common.{◌≡◌, ℕ, ◌≤◌, [], ◌∷◌, length, Option, Some, None, arith}
 use Rattle.std.specs.Prelude.{IfSome, ◌≢◌, ◌+◌, ◌-◌, ◌*◌}
 use Rattle.jup_limits.specs.Limits.{most_operations}
 use Rattle.jup_xform.specs.Batches.{HaveRoom}
@@ -7,6 +7,7 @@ use Rattle.jup_value.specs.Items.{Items}
 use Rattle.jup_seq.specs.declared.operations.SeqOp.{SeqOp}
 use Rattle.jup_seq.specs.declared.operations.SeqOp.TheVariants.{Insert, Delete, Relabel, Nothing as NoSeqOp}
 use Rattle.jup_seq.specs.Operations as seq
+use Rattle.jup_seq.specs.Laws.TextsAreLawful.{put_name-text}
 use Rattle.jup_window.specs.declared.board_operations.BoardOp.{BoardOp}
 use Rattle.jup_window.specs.declared.widgets.Widget.{Widget}
 use Rattle.jup_window.specs.declared.widgets.Widget.TheVariants.{Text, List as Labels, Toggle, Slider}
@@ -14,7 +15,6 @@ use Rattle.jup_window.specs.declared.widget_operations.WidgetOp.{WidgetOp}
 use Rattle.jup_window.specs.declared.widget_operations.WidgetOp.TheVariants.{Text as OnText, List as OnList, Toggle as OnToggle, Slider as OnSlider}
 use Rattle.jup_window.specs.Entries.{widget_at}
 use Rattle.jup_window.specs.Widgets as widget
-use Rattle.jup_window.specs.Laws.WidgetNames.{inserted_name-effect_of}
 use Rattle.jup_window.specs.Edits.{count_of}
 use Rattle.jup_window.specs.Boards as one
 use Rattle.jup_window.specs.BoardOperations.{boards, board_operations}
@@ -27,23 +27,18 @@ of_sequence (Relabel p m v) n x none = tt
 of_sequence NoSeqOp n x none = tt
 
 of_widget : (o : WidgetOp) (n : ℕ) (w : Widget) → count_of (widget.inserted o) ≡ 0 → widget.HasRoom o n w
-of_widget (OnText o) n (Text x) none = of_sequence o n x none
-of_widget (OnText o) n (Labels x) none = tt
-of_widget (OnText o) n (Toggle x) none = tt
-of_widget (OnText o) n (Slider x) none = tt
-of_widget (OnList o) n (Text x) none = tt
+of_widget (OnText o) n (Text x) none = of_sequence o n x (rw (put_name-text o) at none)
 of_widget (OnList o) n (Labels x) none = of_sequence o n x none
-of_widget (OnList o) n (Toggle x) none = tt
-of_widget (OnList o) n (Slider x) none = tt
-of_widget (OnToggle o) n w none = tt
-of_widget (OnSlider o) n w none = tt
+of_widget (OnToggle o) n (Toggle x) none = tt
+of_widget (OnSlider o) n (Slider x) none = tt
+of_widget o n w none = tt
 
 if_there : (o : WidgetOp) (n : ℕ) (w : Option Widget) → count_of (widget.inserted o) ≡ 0 → IfSome w (widget.HasRoom o n)
 if_there o n (Some w) none = of_widget o n w none
 if_there o n None none = tt
 
 of_board : (o : BoardOp) (n : ℕ) (b : one.Windows) → board_operations.insertions (one.edit_of o) ≡ 0 → one.HasRoom o n b
-of_board o n b none = if_there o.op n (widget_at (one.place o) b) (ap count_of (sym (inserted_name-effect_of o.op)) ∙ none)
+of_board o n b none = if_there o.op n (widget_at (one.place o) b) none
 
 of_all : (os : board.BoardBatch) (n : ℕ) (b : board.Windows) → board.insertions (board.edit_of os) ≡ 0 → HaveRoom boards os n b
 of_all [] n b none = tt

@@ -1,5 +1,5 @@
 -- What a board shows of commands that are made one after another, and that their operations leave it so
-use Rattle.std.proofs.Common.{◌≡◌, ℕ, ◌+◌, List, [], ◌∷◌, Result, Ok, Err, refl, ap, sym, ◌∙◌, subst}
+use Rattle.std.proofs.Common.{◌≡◌, ℕ, ◌+◌, List, [], ◌∷◌, Result, Ok, Err, refl, ap, ◌∙◌}
 use Rattle.jup_value.specs.declared.names.Name.{Name}
 use Rattle.jup_window.specs.declared.board_operations.BoardOp.{BoardOp}
 use Rattle.jup_window.specs.declared.commands.Command.{Command}
@@ -8,12 +8,11 @@ use Rattle.jup_window.specs.declared.faults.EditFault.{EditFault}
 use Rattle.jup_window.specs.declared.widget_operations.WidgetOp.{WidgetOp}
 use Rattle.jup_window.specs.declared.widgets.Widget.{Widget}
 use Rattle.jup_window.specs.Boards as board
-use Rattle.jup_window.specs.Commands.{named, on_widget, shown, map_ok, and_then_ok}
+use Rattle.jup_window.specs.Commands.{named, on_widget, shown}
 use Rattle.jup_window.specs.Edits.{insertions, count_of}
-use Rattle.jup_window.specs.Laws.NamedCommands.{Named, named_from, named_shown, of_named}
-use Rattle.jup_window.specs.BoardOperations.{boards, board_operations, next_name, numbered}
+use Rattle.jup_window.specs.Laws.NamedCommands.{named_from, named_shown, of_named}
+use Rattle.jup_window.specs.BoardOperations.{board_operations, next_name, numbered}
 use Rattle.jup_window.specs.Widgets.{inserted}
-use Rattle.jup_window.specs.Laws.WidgetNames.{inserted_name-effect_of}
 use Rattle.jup_window.specs.Laws.BoardsAreLawful.{board_laws}
 use Rattle.jup_batch.specs.Batched.{operations_of}
 use Rattle.jup_batch.specs.Laws.BatchedLaws.{stepped, none_stepped}
@@ -41,7 +40,7 @@ inserted_on c n w op e =
 named_inserts : (c : Command) (n : Name) (b : board.Windows) (op : BoardOp) → named c n b ≡ Ok op → insertions (board.edit_of op) ≡ items_inserted c
 named_inserts c n b op e =
     let found = named_from c n b op e in
-    ap count_of (inserted_name-effect_of op.op) ∙ inserted_on c n found.widget op.op found.is
+    inserted_on c n found.widget op.op found.is
 
 -- an accepted command is named
 named_of : (r : Result BoardOp EditFault) (op : BoardOp) → numbered r ≡ Ok op → r ≡ Ok op

@@ -9,12 +9,11 @@ use Rattle.jup_window.specs.declared.board_operations.BoardOp.{BoardOp}
 use Rattle.jup_window.specs.Entries.{Place, same_place, Each, widget_at, change_widget}
 use Rattle.jup_window.specs.Laws.EntryLaws.{same_place-true, same_place-comm, widget_at-same, widget_at-other, widget_at-change, change_widget-same, change_widget-other, change_widget-agree, change_widget-each, change_widget-back, widget_at-each, each-implies}
 use Rattle.jup_window.specs.Widgets as widget
-use Rattle.jup_window.specs.Effects as effects
+use Rattle.jup_window.specs.Kinds as kind
+use Rattle.jup_window.specs.Kinds.{kinds_keep_meaning}
 use Rattle.jup_window.specs.Laws.WidgetNames as widget_names
 use Rattle.jup_window.specs.Laws.WidgetLaws as widget_laws
-use Rattle.jup_window.specs.declared.edits.Effect.TheVariants.{Nothing}
-use Rattle.jup_window.specs.Laws.EffectLists.{meaning-same, meaning-none, same-nothing}
-use Rattle.jup_window.specs.Boards.{Windows, place, IsValid, after, HasRoom, HasDistinctNames, IsSmall, AreApart, IsFresh, client_past, server_past, held_in, stands_in, KeepsOrder, content, edit_of, meaning}
+use Rattle.jup_window.specs.Boards.{Windows, place, IsValid, after, HasRoom, HasDistinctNames, IsSmall, AreApart, IsFresh, client_past, server_past, held_in, stands_in, KeepsOrder, content, edit_of, with_if, meaning}
 
 -- what holds of a widget that is there
 
@@ -160,19 +159,18 @@ order b c distinct vc = λ p m n hm hn gm gn.
     rw moved (order_in (same_place (place c) p) c.op (widget_at p b) m n (widget_at-each widget.HasDistinctNames p b distinct) (valid_at c p b vc)
     hm hn (rw moved at gm) (rw moved at gn))
 
--- an operation has its effect on a widget that may be absent
+-- an operation has the effect of its edit on a widget that may be absent
 effect_one_in : (here : Bool) (c : WidgetOp) (o : Option Widget) → IfSome o widget.HasDistinctNames → (here ≡ true → IsSomeAnd o (widget.IsValid c))
-    → option_map effects.content (option_map (λ w. if here then widget.after c w else w) o)
-    ≡ option_map (λ had. effects.meaning had ((if here then effects.effect_of c else Nothing) ∷ [])) (option_map effects.content o)
+    → option_map kind.content (option_map (λ w. if here then widget.after c w else w) o)
+    ≡ option_map (λ had. kind.meaning had (with_if here (kind.edit_of c) [])) (option_map kind.content o)
 effect_one_in here c None distinct valid = refl
 effect_one_in true c (Some w) distinct valid = ap (λ y. Some y) (widget_laws.effect_one w c distinct (valid refl))
-effect_one_in false c (Some w) distinct valid =
-    ap (λ y. Some y) (sym (meaning-same (effects.content w) [] (Nothing ∷ []) [] [] same-nothing ∙ meaning-none (effects.content w)))
+effect_one_in false c (Some w) distinct valid = ap (λ y. Some y) (sym (kinds_keep_meaning.meaning_none (kind.content w)))
 
 -- so it has at a place
 effect_one_at : (b : Windows) (c : BoardOp) (p : Place) → HasDistinctNames b → IsValid c b → content (after c b) p ≡ meaning (content b) (edit_of c ∷ []) p
 effect_one_at b c p distinct vc =
-    ap (λ o. option_map effects.content o) (widget_at-change (place c) p (widget.after c.op) b)
+    ap (λ o. option_map kind.content o) (widget_at-change (place c) p (widget.after c.op) b)
     ∙ effect_one_in (same_place (place c) p) c.op (widget_at p b) (widget_at-each widget.HasDistinctNames p b distinct) (valid_at c p b vc)
 
 -- and on a board
@@ -182,24 +180,20 @@ effect_one b c distinct vc = λ i p. effect_one_at b c p distinct vc i
 -- two concurrent operations: at the places of both, of one, of none
 abbrev TwoIn : Bool → Bool → Bool → WidgetOp → WidgetOp → Option Widget → Type 0
 TwoIn same at_c at_s c s o =
-    option_map effects.content (option_map (λ w. if at_s then widget.after (if same then widget.server_past s c else s) w else w) (option_map (λ w. if at_c then widget.after c w else w) o))
-    ≡ option_map (λ had. effects.meaning had ((if at_s then effects.effect_of s else Nothing) ∷ (if at_c then effects.effect_of c else Nothing) ∷ [])) (option_map effects.content o)
+    option_map kind.content (option_map (λ w. if at_s then widget.after (if same then widget.server_past s c else s) w else w) (option_map (λ w. if at_c then widget.after c w else w) o))
+    ≡ option_map (λ had. kind.meaning had (with_if at_s (kind.edit_of s) (with_if at_c (kind.edit_of c) []))) (option_map kind.content o)
 
 -- two concurrent operations, on a widget that may be absent
 effect_two_in : (same at_c at_s : Bool) (c s : WidgetOp) (o : Option Widget) → (at_c ≡ true → same ≡ at_s) → (at_s ≡ true → same ≡ at_c)
     → IfSome o (λ w. widget.HasDistinctNames w × widget.IsSmall 1 w) → (at_c ≡ true → IsSomeAnd o (widget.IsValid c)) → (at_s ≡ true → IsSomeAnd o (widget.IsValid s)) → widget.AreApart c s
     → TwoIn same at_c at_s c s o
 effect_two_in same at_c at_s c s None hc hs small vc vs apart = refl
-effect_two_in true true true c s (Some w) hc hs small vc vs apart =
-    ap (λ y. Some y) (widget_laws.effect_two w c s small.0 small.1 (vc refl) (vs refl) apart)
+effect_two_in true true true c s (Some w) hc hs small vc vs apart = ap (λ y. Some y) (widget_laws.effect_two w c s small.0 small.1 (vc refl) (vs refl) apart)
 effect_two_in false true true c s (Some w) hc hs small vc vs apart = absurd (false≢true (hc refl))
-effect_two_in same true false c s (Some w) hc hs small vc vs apart =
-    ap (λ y. Some y) (widget_laws.effect_one w c small.0 (vc refl) ∙ sym (meaning-same (effects.content w) [] (Nothing ∷ []) [] (effects.effect_of c ∷ []) same-nothing))
+effect_two_in same true false c s (Some w) hc hs small vc vs apart = ap (λ y. Some y) (widget_laws.effect_one w c small.0 (vc refl))
 effect_two_in true false true c s (Some w) hc hs small vc vs apart = absurd (false≢true (sym (hs refl)))
-effect_two_in false false true c s (Some w) hc hs small vc vs apart =
-    ap (λ y. Some y) (widget_laws.effect_one w s small.0 (vs refl) ∙ sym (meaning-same (effects.content w) (effects.effect_of s ∷ []) (Nothing ∷ []) [] [] same-nothing))
-effect_two_in same false false c s (Some w) hc hs small vc vs apart =
-    ap (λ y. Some y) (sym (meaning-same (effects.content w) [] (Nothing ∷ []) [] (Nothing ∷ []) same-nothing ∙ meaning-same (effects.content w) [] (Nothing ∷ []) [] [] same-nothing ∙ meaning-none (effects.content w)))
+effect_two_in false false true c s (Some w) hc hs small vc vs apart = ap (λ y. Some y) (widget_laws.effect_one w s small.0 (vs refl))
+effect_two_in same false false c s (Some w) hc hs small vc vs apart = ap (λ y. Some y) (sym (kinds_keep_meaning.meaning_none (kind.content w)))
 
 -- two facts of a widget if it is there
 both_if : {A : Type 0} (P Q : A → Type 0) (o : Option A) → IfSome o P → IfSome o Q → IfSome o (λ a. P a × Q a)
@@ -211,7 +205,7 @@ effect_two_at : (b : Windows) (c s : BoardOp) (p : Place) → HasDistinctNames b
     → content (after (server_past s c) (after c b)) p ≡ meaning (content b) (edit_of s ∷ edit_of c ∷ []) p
 effect_two_at b c s p distinct small vc vs apart =
     let past_s : WidgetOp = if same_place (place c) (place s) then widget.server_past s.op c.op else s.op in
-    ap (λ o. option_map effects.content o) (widget_at-change (place s) p (widget.after past_s) (after c b)
+    ap (λ o. option_map kind.content o) (widget_at-change (place s) p (widget.after past_s) (after c b)
     ∙ ap (λ o. option_map (λ w. if same_place (place s) p then widget.after past_s w else w) o) (widget_at-change (place c) p (widget.after c.op) b))
     ∙ effect_two_in (same_place (place c) (place s)) (same_place (place c) p) (same_place (place s) p) c.op s.op (widget_at p b)
     (λ at_c. ap (λ q. same_place q (place s)) (same_place-true (place c) p at_c) ∙ same_place-comm p (place s))

@@ -24,11 +24,10 @@ use Rattle.jup_window.specs.Entries.{widget_at}
 use Rattle.jup_window.specs.Widgets as widget
 use Rattle.jup_seq.specs.Operations.{is_no_relabel}
 use Rattle.jup_window.specs.Widgets.{relabels_no_text}
-use Rattle.jup_window.specs.Laws.WidgetLaws.{of_valid}
-use Rattle.jup_window.specs.Effects.{is_name}
+use Rattle.jup_window.specs.Laws.WidgetLaws as widget_laws
 use Rattle.jup_window.specs.Boards as board
 use Rattle.jup_window.specs.Commands.{is_outside}
-use Rattle.jup_window.specs.BoardOperations.{seq_accepts, slider_accepts, widget_accepts, accepts_in, accepts}
+use Rattle.jup_window.specs.BoardOperations.{is_name, seq_accepts, slider_accepts, widget_accepts, accepts_in, accepts}
 
 -- the test of validity
 
@@ -83,7 +82,7 @@ slider-accepts NoSetOp x h = refl
 widget-valid : (o : WidgetOp) (w : Widget) → widget_accepts o w ≡ true → widget.IsValid o w
 widget-valid (OnText o) (Text x) h = let parts = and_parts (is_no_relabel o) (seq_accepts o x) h in (parts.0, seq-valid o x parts.1)
 widget-valid (OnList o) (Labels x) h = seq-valid o x h
-widget-valid (OnToggle o) (Toggle x) h = tt
+widget-valid (OnToggle o) (Toggle x) h = widget_laws.toggle_valid o x
 widget-valid (OnSlider o) (Slider x) h = slider-valid o x h
 widget-valid o w h = absurd (false≢true h)
 
@@ -120,7 +119,7 @@ decides o b = (valid-accepts o b, accepts-valid o b)
 -- what is valid on a widget that may be absent relabels no text
 relabels_none : (o : WidgetOp) (w : Option Widget) → IsSomeAnd w (widget.IsValid o) → IsTrue (relabels_no_text o)
 relabels_none o None h = absurd h
-relabels_none o (Some w) h = of_valid (λ o w. IsTrue (relabels_no_text o)) (λ o x h. h.0) (λ o x h. refl) (λ o x. refl) (λ o x h. refl) o w h
+relabels_none o (Some w) h = widget_laws.valid-relabels_no_text o w h
 
 -- and what is valid on a board
 pub valid-relabels_no_text : (o : BoardOp) (b : board.Windows) → board.IsValid o b → IsTrue (relabels_no_text o.op)

@@ -1,20 +1,19 @@
 -- Operations on boards meet all that a star asks of a kind of operations.
-use Rattle.std.proofs.Common.{◌≡◌, ℕ, suc, ◌+◌, ◌<◌, ◌≤◌, true, false, ◌==◌, Option, Some, None, refl, ap, ◌∙◌, Ok, Err, arith}
+use Rattle.std.proofs.Common.{◌≡◌, ℕ, suc, ◌+◌, ◌<◌, ◌≤◌, true, false, ◌==◌, Option, Some, None, refl, ap, Ok, Err, arith}
 use Rattle.std.specs.Prelude.{Result}
-use Rattle.std.proofs.lemmas.Bool.{and_parts, false_from_ne_true, false≢true, eqb-true}
+use Rattle.std.proofs.lemmas.Bool.{and_parts, false_from_ne_true, eqb-true}
 use Rattle.jup_value.specs.declared.names.Name.{Name}
 use Rattle.jup_value.specs.Items.{name_eq}
-use Rattle.jup_value.proofs.ItemLists.{name_eq_same, name_eq_refl}
+use Rattle.jup_value.proofs.ItemLists.{name_eq_same}
 use Rattle.jup_xform.specs.Lawful.{IsLawful, KeepsMeaning}
 use Rattle.jup_window.specs.declared.board_operations.BoardOp.{BoardOp}
-use Rattle.jup_window.specs.declared.edits.Edit.{Edit}
+use Rattle.jup_window.specs.declared.edits.BoardEdit.{BoardEdit}
 use Rattle.jup_window.specs.declared.faults.EditFault.{EditFault}
 use Rattle.jup_window.specs.declared.commands.Command.{Command}
 use Rattle.jup_window.specs.declared.commands.Command.TheVariants.{Insert as InsertAt, Delete as DeleteAt, Relabel as RelabelAt, Set as SetValue}
-use Rattle.jup_window.specs.Entries.{same_place}
 use Rattle.jup_window.specs.Laws.EntryLaws.{same_place-refl}
 use Rattle.jup_window.specs.Widgets as widget
-use Rattle.jup_window.specs.Laws.WidgetNames.{inserted_name-effect_of}
+use Rattle.jup_window.specs.Laws.WidgetNames.{inserts_name, name_inserts, name_deletes}
 use Rattle.jup_window.specs.Effects as effects
 use Rattle.jup_window.specs.Boards as board
 use Rattle.jup_window.specs.Laws.BoardLaws as laws
@@ -68,21 +67,12 @@ boards_keep = record {
 -- names of sites
 
 -- an edit inserts its name at its own place
-pub inserts_own : (e : Edit) (m : Name) → effects.inserted_name e.what ≡ Some m → board.Inserts e (record { at = board.edit_place e; name = m })
-inserts_own e m is = rw (same_place-refl (board.edit_place e), is) (name_eq_refl m)
+pub inserts_own : (e : BoardEdit) (m : Name) → effects.inserted_name e.what ≡ Some m → board.Inserts e (record { at = board.edit_place e; name = m })
+inserts_own e m is = (same_place-refl (board.edit_place e), name_inserts e.what m is)
 
 -- an edit deletes its name in its widget
-pub deletes_own : (e : Edit) (m : Name) → effects.deleted_name e.what ≡ Some m → board.Deletes e (record { at = board.edit_place e; name = m })
-deletes_own e m is = rw (same_place-refl (board.edit_place e), is) (name_eq_refl m)
-
--- and no other
-inserted_is : (o : Option Name) (n : Name) → effects.is_name n o ≡ true → o ≡ Some n
-inserted_is None n h = absurd (false≢true h)
-inserted_is (Some m) n h = ap (λ k. Some k) (name_eq_same m n h)
-
--- what an edit inserts at a place is its name
-inserts_is : (e : Edit) (n : board.Placed) → board.Inserts e n → effects.inserted_name e.what ≡ Some n.name
-inserts_is e n h = inserted_is (effects.inserted_name e.what) n.name (names.inserts_at_all (same_place (board.edit_place e) n.at) n.name e.what h)
+pub deletes_own : (e : BoardEdit) (m : Name) → effects.deleted_name e.what ≡ Some m → board.Deletes e (record { at = board.edit_place e; name = m })
+deletes_own e m is = (same_place-refl (board.edit_place e), name_deletes e.what m is)
 
 -- names of different sites are apart
 apart_sites : (m n : Option Name) → ((j k : Name) → m ≡ Some j → n ≡ Some k → j.site ≡ k.site → ⊥) → widget.AreApartNames m n
@@ -96,7 +86,7 @@ apart_from_sites : (c s : BoardOp)
 apart_from_sites c s h =
     apart_sites (widget.inserted c.op) (widget.inserted s.op) (λ j k first second.
     h (record { at = board.place c; name = j }) (record { at = board.place s; name = k })
-    (inserts_own (board.edit_of c) j (inserted_name-effect_of c.op ∙ first)) (inserts_own (board.edit_of s) k (inserted_name-effect_of s.op ∙ second)))
+    (inserts_own (board.edit_of c) j first) (inserts_own (board.edit_of s) k second))
 
 -- a next name that is there is of the site, has the next number and is one insertion
 next_parts : (i k : ℕ) (o : Option Name) (n : Name) → is_next_if_there i k o ≡ true → o ≡ Some n → (n.site ≡ i) × (n.number ≡ suc k) × (count_of o ≡ 1)
@@ -106,15 +96,15 @@ next_parts i k o n next is =
     (eqb-true n.site i parts.0, eqb-true n.number (suc k) parts.1, ap (λ m. count_of m) is)
 
 -- so is a name that such an edit inserts
-next_of : (i k : ℕ) (e : Edit) (n : board.Placed) → bears_next i k e ≡ true → board.Inserts e n → (n.name.site ≡ i) × (n.name.number ≡ suc k) × (insertions e ≡ 1)
-next_of i k e n next put = next_parts i k (effects.inserted_name e.what) n.name next (inserts_is e n put)
+next_of : (i k : ℕ) (e : BoardEdit) (n : board.Placed) → bears_next i k e ≡ true → board.Inserts e n → (n.name.site ≡ i) × (n.name.number ≡ suc k) × (insertions e ≡ 1)
+next_of i k e n next put = next_parts i k (effects.inserted_name e.what) n.name next (inserts_name e.what n.name put.1)
 
 -- its number is above the count
-next_above : (i k : ℕ) (e : Edit) (n : board.Placed) → bears_next i k e ≡ true → board.Inserts e n → k < n.name.number
+next_above : (i k : ℕ) (e : BoardEdit) (n : board.Placed) → bears_next i k e ≡ true → board.Inserts e n → k < n.name.number
 next_above i k e n next put = let number = (next_of i k e n next put).1 in omega (arith, number)
 
 -- and within the count and the edit's insertions
-next_within : (i k : ℕ) (e : Edit) (n : board.Placed) → bears_next i k e ≡ true → board.Inserts e n → n.name.number ≤ k + insertions e
+next_within : (i k : ℕ) (e : BoardEdit) (n : board.Placed) → bears_next i k e ≡ true → board.Inserts e n → n.name.number ≤ k + insertions e
 next_within i k e n next put =
     let parts = next_of i k e n next put in
     let number = parts.1 in
@@ -127,7 +117,7 @@ no_site i None h = refl
 no_site i (Some m) h = false_from_ne_true (m.site == i) (λ same. h m refl (eqb-true m.site i same))
 
 -- an edit that inserts no name of the site
-not_of_site : (i : ℕ) (e : Edit) → ((n : board.Placed) → board.Inserts e n → n.name.site ≡ i → ⊥) → bears_site i e ≡ false
+not_of_site : (i : ℕ) (e : BoardEdit) → ((n : board.Placed) → board.Inserts e n → n.name.site ≡ i → ⊥) → bears_site i e ≡ false
 not_of_site i e h = no_site i (effects.inserted_name e.what) (λ m is. h (record { at = board.edit_place e; name = m }) (inserts_own e m is))
 
 -- commands

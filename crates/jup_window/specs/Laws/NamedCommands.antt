@@ -17,7 +17,7 @@ use Rattle.jup_window.specs.declared.widgets.Widget.TheVariants.{Text, List as L
 use Rattle.jup_window.specs.declared.widget_operations.WidgetOp.{WidgetOp}
 use Rattle.jup_window.specs.declared.widget_operations.WidgetOp.TheVariants.{Text as OnText, List as OnList, Toggle as OnToggle, Slider as OnSlider}
 use Rattle.jup_window.specs.declared.board_operations.BoardOp.{BoardOp}
-use Rattle.jup_window.specs.declared.edits.Edit.{Edit}
+use Rattle.jup_window.specs.declared.edits.BoardEdit.{BoardEdit}
 use Rattle.jup_window.specs.declared.faults.EditFault.{EditFault}
 use Rattle.jup_window.specs.declared.commands.Command.{Command}
 use Rattle.jup_window.specs.declared.commands.Command.TheVariants.{Insert as InsertAt, Delete as DeleteAt, Relabel as RelabelAt, Set as SetValue}
@@ -28,7 +28,7 @@ use Rattle.jup_window.specs.Laws.EntryLaws.{change_widget-agree, at_id-map}
 use Rattle.jup_window.specs.Widgets as widget
 use Rattle.jup_window.specs.Boards as board
 use Rattle.jup_window.specs.Commands.{named, on_widget, insertion, deletion, relabel, is_outside, map_ok, and_then_ok, named_widget, in_window, found_widget, command_place, IsFresh, shown_on, shown}
-use Rattle.jup_window.specs.Effects.{effect_of}
+use Rattle.jup_window.specs.Kinds.{edit_of}
 use Rattle.jup_window.specs.Edits.{is_next, bears_next, is_nothing}
 use Rattle.jup_window.specs.BoardOperations.{next_name}
 use Rattle.jup_window.specs.Laws.BoardTests.{slider-valid}
@@ -202,8 +202,8 @@ next_of : (i k : ℕ) → is_next i k (next_name i k) ≡ true
 next_of i k = and_from (i == i) (suc k == suc k) (eq-eqb i i refl) (eq-eqb (suc k) (suc k) refl)
 
 -- the edit of an operation on a widget, whatever its ids
-abbrev edit_in : WidgetOp → Edit
-edit_in o = record { win = 0; wid = 0; what = effect_of o }
+abbrev edit_in : WidgetOp → BoardEdit
+edit_in o = record { win = 0; wid = 0; what = edit_of o }
 
 -- an insertion of a command bears the name that it was given
 pub named_next : (c : Command) (i k : ℕ) (b : board.Windows) (op : BoardOp) → named c (next_name i k) b ≡ Ok op → bears_next i k (board.edit_of op) ≡ true

@@ -13,6 +13,7 @@ use Rattle.jup_window.specs.declared.widget_operations.WidgetOp.TheVariants.{Tex
 use Rattle.jup_window.specs.declared.board_operations.BoardOp.{BoardOp}
 use Rattle.jup_window.specs.Entries.{change_at}
 use Rattle.jup_window.specs.Widgets as widget
+use Rattle.jup_window.specs.Kinds as kind
 use Rattle.jup_window.specs.Effects as effects
 use Rattle.jup_window.specs.Boards as board
 use Rattle.jup_batch.specs.BatchBoards as batch
@@ -57,7 +58,7 @@ name_eq_self : (n : Name) → name_eq n n ≡ true
 name_eq_self n = and_from (n.site == n.site) (n.number == n.number) (eq-eqb n.site n.site refl) (eq-eqb n.number n.number refl)
 
 -- an operation that inserts no name of a site leaves none if there was none
-widget_none : (i : ℕ) (o : WidgetOp) (w : Widget) → ((n : Name) → effects.inserts n (effects.effect_of o) ≡ true → n.site ≡ i → ⊥) → some_in_widget i w ≡ false → some_in_widget i (widget.after o w) ≡ false
+widget_none : (i : ℕ) (o : WidgetOp) (w : Widget) → ((n : Name) → effects.InsertsName (kind.edit_of o) n → n.site ≡ i → ⊥) → some_in_widget i w ≡ false → some_in_widget i (widget.after o w) ≡ false
 widget_none i (OnText (Insert p y)) (Text x) other none = none_insert (λ z. z.name.site == i) x.items p y none (ne_eqb y.name.site i (other y.name (name_eq_self y.name)))
 widget_none i (OnText (Delete p n)) (Text x) other none = none_remove (λ z. z.name.site == i) x.items p none
 widget_none i (OnText (Relabel p n v)) (Text x) other none = none_relabel (λ m. m.site == i) x.items p v none
@@ -68,18 +69,7 @@ widget_none i (OnList (Relabel p n v)) (Labels x) other none = none_relabel (λ 
 widget_none i (OnList NoSeqOp) (Labels x) other none = none
 widget_none i (OnToggle o) (Toggle x) other none = none
 widget_none i (OnSlider o) (Slider x) other none = none
-widget_none i (OnText o) (Labels x) other none = none
-widget_none i (OnText o) (Toggle x) other none = none
-widget_none i (OnText o) (Slider x) other none = none
-widget_none i (OnList o) (Text x) other none = none
-widget_none i (OnList o) (Toggle x) other none = none
-widget_none i (OnList o) (Slider x) other none = none
-widget_none i (OnToggle o) (Text x) other none = none
-widget_none i (OnToggle o) (Labels x) other none = none
-widget_none i (OnToggle o) (Slider x) other none = none
-widget_none i (OnSlider o) (Text x) other none = none
-widget_none i (OnSlider o) (Labels x) other none = none
-widget_none i (OnSlider o) (Toggle x) other none = none
+widget_none i o w other none = none
 
 -- what an id has is changed
 none_change : {A : Type 0} (p : A → Bool) (f : A → A) (k : ℕ) → ((a : A) → p a ≡ false → p (f a) ≡ false) → (es : List (ℕ × A)) → list_any (λ e. p e.1) es ≡ false → list_any (λ e. p e.1) (change_at k f es) ≡ false
@@ -98,8 +88,8 @@ board_none i o b other none =
     here : ((o.win == o.win) && (o.wid == o.wid)) ≡ true
     here = and_from (o.win == o.win) (o.wid == o.wid) (eq-eqb o.win o.win refl) (eq-eqb o.wid o.wid refl)
 
-    inserted : (n : Name) → effects.inserts n (effects.effect_of o.op) ≡ true → n.site ≡ i → ⊥
-    inserted n put is = other (record { at = (o.win, o.wid); name = n }) (rw here put) is
+    inserted : (n : Name) → effects.InsertsName (kind.edit_of o.op) n → n.site ≡ i → ⊥
+    inserted n put is = other (record { at = (o.win, o.wid); name = n }) (here, put) is
 
 -- and so do those of a batch
 pub batch_none : (i : ℕ) (os : BoardBatch) (b : board.Windows) → ((n : board.Placed) → batch.Inserts (batch.edit_of os) n → n.name.site ≡ i → ⊥) → has_site i b ≡ false

@@ -1,39 +1,56 @@
-use Rattle.std.proofs.Common.{◌≡◌, ◌≢◌, ℕ, true, List, ap}
-use Rattle.std.proofs.lemmas.Bool.{false≢true}
+use Rattle.std.proofs.Common.{◌≢◌, ℕ, List, ap}
 use Rattle.jup_value.specs.declared.names.Name.{Name}
 use Rattle.jup_value.proofs.ItemLists.{name_eq_same}
-use Rattle.jup_window.specs.declared.edits.Effect.{Effect}
-use Rattle.jup_window.specs.declared.edits.Effect.TheVariants.{PutChar, PutLabel, Deleted, Relabelled, Toggled, Slid, Nothing}
-use Rattle.jup_window.specs.Entries.{same_place}
-use Rattle.jup_window.specs.Effects as effects
-use Rattle.jup_window.specs.Boards as board
-use Rattle.jup_window.specs.Laws.BoardNames.{inserts_at_all, changes_at_all}
+use Rattle.jup_xform.specs.declared.one_of.OneOf.TheVariants.{First, Second}
+use Rattle.jup_seq.specs.declared.operations.SeqEdit.{SeqEdit}
+use Rattle.jup_seq.specs.declared.operations.SeqEdit.TheVariants.{Put, Deleted, Relabelled, Nothing}
+use Rattle.jup_seq.specs.Names as seq_names
+use Rattle.jup_window.specs.Kinds.{WidgetEdit}
+use Rattle.jup_window.specs.Effects.{InsertsName, DeletesName, ChangesName}
+use Rattle.jup_window.specs.Contents.{of_text, of_list}
 use Rattle.jup_window.proofs.laws.edited_names.Goals as goal
 
--- an effect that puts nothing under a name does not insert it
-puts_nothing : (e : Effect) (n : Name) → ((v : ℕ) → e ≢ PutChar n v) → ((v : List ℕ) → e ≢ PutLabel n v) → effects.inserts n e ≡ true → ⊥
-puts_nothing (PutChar m v) n no_char no_label put = no_char v (ap (λ k. PutChar k v) (name_eq_same m n put))
-puts_nothing (PutLabel m v) n no_char no_label put = no_label v (ap (λ k. PutLabel k v) (name_eq_same m n put))
-puts_nothing (Deleted m) n no_char no_label put = false≢true put
-puts_nothing (Relabelled m v) n no_char no_label put = false≢true put
-puts_nothing (Toggled v) n no_char no_label put = false≢true put
-puts_nothing (Slid v) n no_char no_label put = false≢true put
-puts_nothing Nothing n no_char no_label put = false≢true put
+-- an edit of a sequence that puts nothing under a name does not insert it
+puts_nothing : {V : Type 0} (of : SeqEdit V → WidgetEdit) (e : SeqEdit V) (n : Name) → ((v : V) → of e ≢ of (Put n v)) → seq_names.InsertsName e n → ⊥
+puts_nothing of (Put m v) n none put = none v (ap (λ k. of (Put k v)) (name_eq_same m n put))
+puts_nothing of (Deleted m) n none put = put
+puts_nothing of (Relabelled m v) n none put = put
+puts_nothing of Nothing n none put = put
+
+inserts_nothing : (e : WidgetEdit) (n : Name) → ((v : ℕ) → e ≢ of_text (Put n v)) → ((v : List ℕ) → e ≢ of_list (Put n v)) → InsertsName e n → ⊥
+inserts_nothing (First e) n no_char no_label put = puts_nothing of_text e n no_char put
+inserts_nothing (Second (First e)) n no_char no_label put = puts_nothing of_list e n no_label put
+inserts_nothing (Second (Second e)) n no_char no_label put = put
 
 pub returns-clause-nothing_inserted : goal.returns-clause-nothing_inserted
-returns-clause-nothing_inserted c = λ edit n no_char no_label put.
-    puts_nothing edit.what n.name no_char no_label (inserts_at_all (same_place (board.edit_place edit) n.at) n.name edit.what put)
+returns-clause-nothing_inserted c = λ edit n no_char no_label put. inserts_nothing edit.what n.name no_char no_label put.1
 
--- an effect that neither deletes a name nor gives it another label does not change it
-changes_nothing : (e : Effect) (n : Name) → e ≢ Deleted n → ((v : List ℕ) → e ≢ Relabelled n v) → effects.changes n e ≡ true → ⊥
-changes_nothing (PutChar m v) n no_deletion no_relabel change = false≢true change
-changes_nothing (PutLabel m v) n no_deletion no_relabel change = false≢true change
-changes_nothing (Deleted m) n no_deletion no_relabel change = no_deletion (ap Deleted (name_eq_same m n change))
-changes_nothing (Relabelled m v) n no_deletion no_relabel change = no_relabel v (ap (λ k. Relabelled k v) (name_eq_same m n change))
-changes_nothing (Toggled v) n no_deletion no_relabel change = false≢true change
-changes_nothing (Slid v) n no_deletion no_relabel change = false≢true change
-changes_nothing Nothing n no_deletion no_relabel change = false≢true change
+-- one that does not delete a name
+deletes_none : {V : Type 0} (of : SeqEdit V → WidgetEdit) (e : SeqEdit V) (n : Name) → of e ≢ of (Deleted n) → seq_names.DeletesName e n → ⊥
+deletes_none of (Put m v) n none gone = gone
+deletes_none of (Deleted m) n none gone = none (ap (λ k. of (Deleted k)) (name_eq_same m n gone))
+deletes_none of (Relabelled m v) n none gone = gone
+deletes_none of Nothing n none gone = gone
+
+deletes_nothing : (e : WidgetEdit) (n : Name) → e ≢ of_text (Deleted n) → e ≢ of_list (Deleted n) → DeletesName e n → ⊥
+deletes_nothing (First e) n no_text no_list gone = deletes_none of_text e n no_text gone
+deletes_nothing (Second (First e)) n no_text no_list gone = deletes_none of_list e n no_list gone
+deletes_nothing (Second (Second e)) n no_text no_list gone = gone
+
+pub returns-clause-nothing_deleted : goal.returns-clause-nothing_deleted
+returns-clause-nothing_deleted c = λ edit n no_text no_list gone. deletes_nothing edit.what n.name no_text no_list gone.1
+
+-- and one that neither deletes it nor gives it another value
+changes_none : {V : Type 0} (of : SeqEdit V → WidgetEdit) (e : SeqEdit V) (n : Name) → of e ≢ of (Deleted n) → ((v : V) → of e ≢ of (Relabelled n v)) → seq_names.ChangesName e n → ⊥
+changes_none of (Put m v) n no_deletion no_relabel change = change
+changes_none of (Deleted m) n no_deletion no_relabel change = no_deletion (ap (λ k. of (Deleted k)) (name_eq_same m n change))
+changes_none of (Relabelled m v) n no_deletion no_relabel change = no_relabel v (ap (λ k. of (Relabelled k v)) (name_eq_same m n change))
+changes_none of Nothing n no_deletion no_relabel change = change
+
+changes_nothing : (e : WidgetEdit) (n : Name) → e ≢ of_text (Deleted n) → e ≢ of_list (Deleted n) → ((v : List ℕ) → e ≢ of_list (Relabelled n v)) → ChangesName e n → ⊥
+changes_nothing (First e) n no_text no_list no_label change = deletes_none of_text e n no_text change
+changes_nothing (Second (First e)) n no_text no_list no_label change = changes_none of_list e n no_list no_label change
+changes_nothing (Second (Second e)) n no_text no_list no_label change = change
 
 pub returns-clause-nothing_changed : goal.returns-clause-nothing_changed
-returns-clause-nothing_changed c = λ edit n no_deletion no_relabel change.
-    changes_nothing edit.what n.name no_deletion no_relabel (changes_at_all (same_place (board.edit_place edit) n.at) n.name edit.what change)
+returns-clause-nothing_changed c = λ edit n no_text no_list no_label change. changes_nothing edit.what n.name no_text no_list no_label change.1

@@ -1,12 +1,11 @@
-use Rattle.std.proofs.Common.{◌≡◌, Option, Some, None, refl, ap, ◌∙◌, inl, inr}
+use Rattle.std.proofs.Common.{◌≡◌, Option, Some, None, refl, ap, sym, ◌∙◌, inl, inr}
 use Rattle.std.proofs.lemmas.Bool.{false_from_ne_true}
 use Rattle.jup_value.specs.declared.names.Name.{Name}
 use Rattle.jup_value.specs.Items.{name_eq}
 use Rattle.jup_value.proofs.ItemLists.{name_eq_same}
 use Rattle.jup_window.specs.Widgets.{inserted, deleted, AreApartNames}
-use Rattle.jup_window.specs.Effects.{is_name}
 use Rattle.jup_window.specs.Boards.{place, edit_of}
-use Rattle.jup_window.specs.Laws.WidgetNames.{inserted_name-effect_of, deleted_name-effect_of, apart_is}
+use Rattle.jup_window.specs.Laws.WidgetNames.{apart_is}
 use Rattle.jup_window.specs.Laws.BoardNames.{inserted_there, deleted_there}
 use Rattle.jup_window.specs.Laws.BoardsAreLawful.{inserts_own, deletes_own}
 use Rattle.jup_window.proofs.laws.premises.Goals as goal
@@ -21,26 +20,26 @@ pub returns-clause-apart : goal.returns-clause-apart
 returns-clause-apart c = λ one other. (
   λ apart m n first second same.
       apart_is (inserted one.op) (inserted other.op) m.name apart (inserted_there one m first)
-      (ap (λ k. is_name k (inserted other.op)) same ∙ inserted_there other n second),
+      (inserted_there other n second ∙ ap Some (sym same)),
   λ differ. apart_from (inserted one.op) (inserted other.op) (λ m n first second.
       differ (record { at = place one; name = m }) (record { at = place other; name = n })
-      (inserts_own (edit_of one) m (inserted_name-effect_of one.op ∙ first)) (inserts_own (edit_of other) n (inserted_name-effect_of other.op ∙ second))),
+      (inserts_own (edit_of one) m first) (inserts_own (edit_of other) n second)),
 )
 
 pub returns-clause-fresh : goal.returns-clause-fresh
 returns-clause-fresh c = λ later earlier. (
   λ fresh m n first second same. elim second [
     | inl again ↦ apart_is (inserted later.op) (inserted earlier.op) m.name fresh.0 (inserted_there later m first)
-        (ap (λ k. is_name k (inserted earlier.op)) same ∙ inserted_there earlier n again)
+        (inserted_there earlier n again ∙ ap Some (sym same))
     | inr gone ↦ apart_is (inserted later.op) (deleted earlier.op) m.name fresh.1 (inserted_there later m first)
-        (ap (λ k. is_name k (deleted earlier.op)) same ∙ deleted_there earlier n gone)
+        (deleted_there earlier n gone ∙ ap Some (sym same))
   ],
   λ differ. (
     apart_from (inserted later.op) (inserted earlier.op) (λ m n first second.
         differ (record { at = place later; name = m }) (record { at = place earlier; name = n })
-        (inserts_own (edit_of later) m (inserted_name-effect_of later.op ∙ first)) (inl (inserts_own (edit_of earlier) n (inserted_name-effect_of earlier.op ∙ second)))),
+        (inserts_own (edit_of later) m first) (inl (inserts_own (edit_of earlier) n second))),
     apart_from (inserted later.op) (deleted earlier.op) (λ m n first second.
         differ (record { at = place later; name = m }) (record { at = place earlier; name = n })
-        (inserts_own (edit_of later) m (inserted_name-effect_of later.op ∙ first)) (inr (deletes_own (edit_of earlier) n (deleted_name-effect_of earlier.op ∙ second)))),
+        (inserts_own (edit_of later) m first) (inr (deletes_own (edit_of earlier) n second))),
   ),
 )

@@ -46,7 +46,8 @@ impl Stream {
         &self.bytes[self.start..]
     }
 
-    /// Makes room for so many more bytes.
+    /// Makes room for so many more bytes. Inlined, since usually there is room.
+    #[inline(always)]
     pub(crate) fn reserve(&mut self, more: usize) -> Result<(), NoMemory>
         ensures bytes { self.new.bytes ≡ self.old.bytes }
         ensures ok { OnOk result (more ≤ self.new.spare) }

@@ -1,4 +1,4 @@
--- The kinds of widgets as one kind of operations: what is said and proved of each kind is so of all.
+-- The kinds of widgets as one kind of operations: what holds of each kind holds of all.
 use Rattle.std.specs.Prelude.{◌≡◌, ℕ, ℤ, Bool, List, refl}
 use Rattle.jup_value.specs.Items.{Items}
 use Rattle.jup_xform.specs.declared.Transform.{Ghosts}

@@ -2,21 +2,21 @@
 use crate::events::{joins, mixed_over, plays, read, strays, types};
 use crate::expect::{expect_eq, expect_that};
 use jup_mixed::{MixEvent, Mixed};
-use jup_seq::SeqOp;
+use jup_seq::{SeqEdit, SeqOp};
 use jup_star::{OpenFault, StarFault, Up};
 use jup_value::{Item, Name};
-use jup_window::{Edit, Effect};
+use jup_window::BoardEdit;
 use jup_world::Reply;
-use jup_xform::Few;
+use jup_xform::{Few, OneOf};
 use std::alloc::Global;
 use std::process::Abort;
 use test_boards::board_of;
 
 fn reply_of(alloc: Global, number: u32, value: char) -> Reply {
-    let put = Edit {
+    let put = BoardEdit {
         win: 1,
         wid: 1,
-        what: Effect::PutChar(Name { site: 1, number }, value),
+        what: OneOf::First(SeqEdit::Put(Name { site: 1, number }, value)),
     };
     Reply::Made(Few::from_slice(alloc, &[put]).unwrap())
 }

@@ -4,13 +4,13 @@ use crate::events::{insert, mixed_over, strays};
 use crate::expect::{expect_eq, expect_that};
 use jup_batch::BoardEdits;
 use jup_mixed::{MixEvent, MixHappened, Mixed};
-use jup_seq::SeqOp;
+use jup_seq::{SeqEdit, SeqOp};
 use jup_star::{OpenFault, StarFault, Up};
 use jup_text::write_board;
 use jup_value::{Item, Name};
-use jup_window::{Command, Edit, Effect};
+use jup_window::{BoardEdit, Command};
 use jup_world::Reply;
-use jup_xform::Few;
+use jup_xform::{Few, OneOf};
 use std::alloc::Global;
 use std::process::Abort;
 use test_boards::{board_of, reads};
@@ -110,11 +110,11 @@ fn first_stray(alloc: Global) -> MixEvent {
 fn type_xy(rt: &impl Abort, alloc: Global) -> (MixEvent, Reply) {
     let commands: [Command; 2] = [insert(0, 'x'), insert(1, 'y')];
     let commands = Few::from_slice(alloc, &commands).expect(rt, "memory");
-    let put = |number: u32, value: char| -> Edit {
-        Edit {
+    let put = |number: u32, value: char| -> BoardEdit {
+        BoardEdit {
             win: 1,
             wid: 1,
-            what: Effect::PutChar(Name { site: 1, number }, value),
+            what: OneOf::First(SeqEdit::Put(Name { site: 1, number }, value)),
         }
     };
     let edits: BoardEdits = Few::from_slice(alloc, &[put(1, 'x'), put(2, 'y')]).expect(
@@ -218,10 +218,10 @@ fn stray_deletion(alloc: Global) -> MixEvent {
 // One command of the site, and what it makes.
 fn type_one(rt: &impl Abort, alloc: Global, place: u32, number: u32, value: char) -> MixHappened {
     let commands = Few::from_slice(alloc, &[insert(place, value)]).expect(rt, "memory");
-    let put = Edit {
+    let put = BoardEdit {
         win: 1,
         wid: 1,
-        what: Effect::PutChar(Name { site: 1, number }, value),
+        what: OneOf::First(SeqEdit::Put(Name { site: 1, number }, value)),
     };
     let edits: BoardEdits = Few::from_slice(alloc, &[put]).expect(rt, "memory");
     MixHappened {

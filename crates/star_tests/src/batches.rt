@@ -7,12 +7,12 @@ use crate::expect::{expect_eq, expect_that};
 use crate::stars::{edit_number, first_of, hears_one, insert, insertion, refusal_of_two, takes};
 use jup_batch::BoardBatch;
 use jup_link::Msg;
-use jup_seq::{SeqOp, TextOp};
+use jup_seq::{SeqEdit, SeqOp, TextOp};
 use jup_star::{Down, Entry, Made, Site, SiteFault, Star, StarFault, Up};
 use jup_text::write_board;
 use jup_value::{Item, Label, Name};
-use jup_window::{Board, BoardOp, Command, Edit, EditFault, Effect, Setting, Value, WidgetOp};
-use jup_xform::Batch;
+use jup_window::{Board, BoardEdit, BoardOp, Command, EditFault, Setting, Value, WidgetOp};
+use jup_xform::{Batch, OneOf};
 use std::alloc::Global;
 use std::process::Abort;
 use test_boards::{alone, board_of, reads};
@@ -96,11 +96,11 @@ pub(crate) fn cut(place: u32, number: u32) -> BoardOp {
 }
 
 // An edit of text 1.
-fn edit(what: Effect) -> Edit {
-    Edit {
+fn edit(what: SeqEdit<char>) -> BoardEdit {
+    BoardEdit {
         win: 1,
         wid: 1,
-        what,
+        what: OneOf::First(what),
     }
 }
 
@@ -159,10 +159,7 @@ fn a_batch_that_undoes_itself_is_one_edit(rt: HostRuntime) {
     let mut pair = pair_over(&rt, alloc, "");
     let made = makes(&rt, alloc, &mut pair.one, &[insert(0, 'a'), delete(0)]);
     let name = first_of(1);
-    let wanted = [
-        edit(Effect::PutChar(name, 'a')),
-        edit(Effect::Deleted(name)),
-    ];
+    let wanted = [edit(SeqEdit::Put(name, 'a')), edit(SeqEdit::Deleted(name))];
     expect_eq(&rt, made.edit.as_slice(), wanted.as_slice());
     let entry = takes(&rt, alloc, &mut pair.star, 1, made, 0);
     hears_one(&rt, alloc, &mut pair.star, &mut pair.two);

@@ -1,6 +1,6 @@
 //! What a board holds, without its order, and what edits make of that. It is computed here, from the documented meaning of each edit.
 use jup_value::{Item, Name, Seq};
-use jup_window::{Board, Edit, Effect, Widget};
+use jup_window::{Board, BoardEdit, Effect, Widget};
 use std::alloc::Global;
 use std::process::Abort;
 
@@ -52,8 +52,8 @@ impl Content {
             && self.on == other.on
     }
 
-    fn take(&mut self, rt: &impl Abort, alloc: Global, edit: &Edit) {
-        match edit.what {
+    fn take(&mut self, rt: &impl Abort, alloc: Global, edit: &BoardEdit) {
+        match edit.shown().what {
             Effect::PutChar(name, value) => self
                 .text
                 .push(Item { name, value })
@@ -65,7 +65,7 @@ impl Content {
     }
 
     /// An edit takes effect.
-    pub(crate) fn take_all(&mut self, rt: &impl Abort, alloc: Global, edits: &[Edit]) {
+    pub(crate) fn take_all(&mut self, rt: &impl Abort, alloc: Global, edits: &[BoardEdit]) {
         for edit in edits {
             self.take(rt, alloc, edit);
         }

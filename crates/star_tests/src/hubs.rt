@@ -7,11 +7,11 @@ ghost use Rattle.jup_hub.specs.Passes.{IsPassOf};
 use crate::expect::{expect_eq, expect_that};
 use jup_hub::{Closed, Hub, HubFault, Pass};
 use jup_link::Msg;
-use jup_seq::SeqOp;
+use jup_seq::{SeqEdit, SeqOp};
 use jup_star::{Down, Downs, Entry, Star, StarFault, Up};
 use jup_value::{Item, Name};
-use jup_window::{Board, BoardOp, Edit, Effect, WidgetOp};
-use jup_xform::Few;
+use jup_window::{Board, BoardEdit, BoardOp, WidgetOp};
+use jup_xform::{Few, OneOf};
 use std::alloc::Global;
 use std::process::Abort;
 use std::sync::Wait;
@@ -59,10 +59,10 @@ pub(crate) fn told_of(alloc: Global, site: u32) -> Up {
 // The entry of the edit in the order.
 fn entry_of(alloc: Global, site: u32) -> Entry {
     let name = Name { site, number: 1 };
-    let put = Edit {
+    let put = BoardEdit {
         win: 1,
         wid: 1,
-        what: Effect::PutChar(name, 'a'),
+        what: OneOf::First(SeqEdit::Put(name, 'a')),
     };
     let edit = Few::from_slice(alloc, &[put]).unwrap();
     Entry { site, edit }

@@ -5,37 +5,39 @@ use super::boards::{
 };
 use super::worlds::{put, took};
 use crate::expect::expect_that;
+use jup_seq::SeqEdit;
 use jup_value::Name;
-use jup_window::{Command, EditFault, Effect};
+use jup_window::{Command, EditFault, WidgetEdit};
 use jup_world::{Event, Reply, World};
+use jup_xform::OneOf;
 use std::alloc::Global;
 use std::process::Abort;
 
 // An item of the layout is gone.
-fn deletion_of(number: u32) -> Effect {
-    Effect::Deleted(Name { site: 0, number })
+fn deletion_of(number: u32) -> WidgetEdit {
+    OneOf::First(SeqEdit::Deleted(Name { site: 0, number }))
 }
 
-// The site makes one edit of these commands, with these effects on text 1.
+// The site makes one edit of these commands, which are these edits of text 1.
 fn makes(
     rt: &impl Abort,
     alloc: Global,
     world: &mut World,
     site: u32,
     commands: &[Command],
-    effects: &[Effect],
+    made: &[WidgetEdit],
 ) {
     let event = batch(rt, alloc, site, commands);
-    let reply = Reply::Made(edits(rt, alloc, effects));
+    let reply = Reply::Made(edits(rt, alloc, made));
     gives(rt, alloc, world, event, reply);
 }
 
 // What site 1 types after the first letter of "pqr", and what site 2 deletes after it.
-fn effects() -> [Effect; 2] {
+fn typed() -> [WidgetEdit; 2] {
     [put(1, 1, 'X'), put(1, 2, 'Y')]
 }
 
-fn cut() -> [Effect; 2] {
+fn cut() -> [WidgetEdit; 2] {
     [deletion_of(2), deletion_of(3)]
 }
 
@@ -43,7 +45,7 @@ fn cut() -> [Effect; 2] {
 fn apart(rt: &impl Abort, alloc: Global) -> World {
     let mut world = world_of(rt, alloc, LIMIT, "text 1 \"pqr\"", 3);
     let typing = [insert(1, 'X'), insert(2, 'Y')];
-    makes(rt, alloc, &mut world, 1, &typing, &effects());
+    makes(rt, alloc, &mut world, 1, &typing, &typed());
     makes(rt, alloc, &mut world, 2, &[delete(1), delete(1)], &cut());
     world
 }
@@ -54,7 +56,7 @@ fn takes(rt: &impl Abort, alloc: Global, world: &mut World, site: u32, place: u3
 }
 
 // The star takes both edits in this order, and then all show both.
-fn meet(rt: &impl Abort, alloc: Global, sites: [u32; 2], order: &[(u32, &[Effect])]) {
+fn meet(rt: &impl Abort, alloc: Global, sites: [u32; 2], order: &[(u32, &[WidgetEdit])]) {
     let [first, second] = sites;
     let mut world = apart(rt, alloc);
     takes(rt, alloc, &mut world, first, 0);
@@ -67,8 +69,8 @@ fn meet(rt: &impl Abort, alloc: Global, sites: [u32; 2], order: &[(u32, &[Effect
 #[test]
 fn batches_of_two_sites_meet_in_either_order(rt: HostRuntime) {
     let alloc = rt.alloc();
-    meet(&rt, alloc, [1, 2], &[(1, &effects()), (2, &cut())]);
-    meet(&rt, alloc, [2, 1], &[(2, &cut()), (1, &effects())]);
+    meet(&rt, alloc, [1, 2], &[(1, &typed()), (2, &cut())]);
+    meet(&rt, alloc, [2, 1], &[(2, &cut()), (1, &typed())]);
 }
 
 #[test]
@@ -76,13 +78,13 @@ fn a_batch_that_undoes_itself_is_one_entry(rt: HostRuntime) {
     let alloc = rt.alloc();
     let mut world = world_of(&rt, alloc, LIMIT, "text 1 \"\"", 2);
     let name = Name { site: 1, number: 1 };
-    let effects = [put(1, 1, 'a'), Effect::Deleted(name)];
+    let made = [put(1, 1, 'a'), OneOf::First(SeqEdit::Deleted(name))];
     let commands = [insert(0, 'a'), delete(0)];
-    makes(&rt, alloc, &mut world, 1, &commands, &effects);
+    makes(&rt, alloc, &mut world, 1, &commands, &made);
     takes(&rt, alloc, &mut world, 1, 0);
     drain(&rt, alloc, &mut world);
     all_show(&rt, alloc, &world, 2, "window 1\ntext 1 \"\"\n");
-    took(&rt, alloc, &world, &[(1, &effects)]);
+    took(&rt, alloc, &world, &[(1, &made)]);
 }
 
 // The site's commands are refused, and then nothing is shown, and nothing is on its way.
@@ -121,8 +123,8 @@ const BYTES: u32 = 62;
 // Site 1 types two letters as one edit.
 fn types_two(rt: &impl Abort, alloc: Global, world: &mut World) {
     let commands = [insert(0, 'a'), insert(1, 'b')];
-    let effects = [put(1, 1, 'a'), put(1, 2, 'b')];
-    makes(rt, alloc, world, 1, &commands, &effects);
+    let made = [put(1, 1, 'a'), put(1, 2, 'b')];
+    makes(rt, alloc, world, 1, &commands, &made);
 }
 
 #[test]

@@ -3,7 +3,7 @@
 use crate::expect::{expect_eq, expect_that};
 use jup_batch::BoardEdits;
 use jup_text::write_board;
-use jup_window::{Board, Command, Edit, Effect, Setting, Value};
+use jup_window::{Board, BoardEdit, Command, Setting, Value, WidgetEdit};
 use jup_world::{Event, Happened, Reply, World};
 use jup_xform::Few;
 use std::alloc::Global;
@@ -76,11 +76,11 @@ pub(crate) fn sets(site: u32, setting: Setting) -> Event {
     )
 }
 
-// The edits with these effects on widget 1.
-pub(crate) fn edits(rt: &impl Abort, alloc: Global, effects: &[Effect]) -> BoardEdits {
+// These edits of widget 1.
+pub(crate) fn edits(rt: &impl Abort, alloc: Global, all: &[WidgetEdit]) -> BoardEdits {
     let mut list = Vec::new(alloc);
-    for what in effects {
-        let edit = Edit {
+    for what in all {
+        let edit = BoardEdit {
             win: 1,
             wid: 1,
             what: *what,
@@ -90,8 +90,8 @@ pub(crate) fn edits(rt: &impl Abort, alloc: Global, effects: &[Effect]) -> Board
     Few::from_slice(alloc, list.as_slice()).expect(rt, "memory")
 }
 
-// The site made an edit with this effect on widget 1.
-pub(crate) fn reply_of(rt: &impl Abort, alloc: Global, what: Effect) -> Reply {
+// The site made this edit of widget 1.
+pub(crate) fn reply_of(rt: &impl Abort, alloc: Global, what: WidgetEdit) -> Reply {
     Reply::Made(edits(rt, alloc, &[what]))
 }
 

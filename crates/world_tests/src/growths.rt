@@ -124,14 +124,14 @@ fn kind_of(event: &Event) -> Kind {
 // Site 1 types "a" and pings, site 2 makes one edit of "xy" at the same place. The bytes of a message are moved in parts.
 fn first_part(rt: &impl Abort, alloc: Global) -> [(Event, Reply); 9] {
     let both = [insert(0, 'x'), insert(1, 'y')];
-    let effects = [put(2, 1, 'x'), put(2, 2, 'y')];
+    let made = [put(2, 1, 'x'), put(2, 2, 'y')];
     [
         (Event::Join, Reply::Joined(1)),
         (Event::Join, Reply::Joined(2)),
         (types(1, 0, 'a'), reply_of(rt, alloc, put(1, 1, 'a'))),
         (
             batch(rt, alloc, 2, &both),
-            Reply::Made(edits(rt, alloc, &effects)),
+            Reply::Made(edits(rt, alloc, &made)),
         ),
         (Event::Ping(1, 7), Reply::Asked),
         // Of 37 bytes: "batch 0 0 1" and "do 1 1 text ins 0 1.1 97".

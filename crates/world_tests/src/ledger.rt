@@ -1,6 +1,6 @@
 //! What a trace records: which edits were made, in which order the star took them, and which of them have reached each site.
 use super::content::Content;
-use jup_window::{Board, Edit};
+use jup_window::{Board, BoardEdit};
 use jup_world::{Event, Happened, Reply};
 use std::alloc::Global;
 use std::process::Abort;
@@ -16,7 +16,7 @@ struct Turn {
 #[derive(Clone, Copy, Drop)]
 struct Part {
     turn: Turn,
-    edit: Edit,
+    edit: BoardEdit,
 }
 
 // All that happened in a world.
@@ -69,7 +69,7 @@ impl Ledger {
     }
 
     // A site made an edit.
-    fn note_made(&mut self, rt: &impl Abort, site: u32, edits: &[Edit]) {
+    fn note_made(&mut self, rt: &impl Abort, site: u32, edits: &[BoardEdit]) {
         let turn = Turn {
             site,
             nth: count_of(&self.made, site),

@@ -1,8 +1,7 @@
 //! Messages whose bytes are pushed. More such runs are scripts of `examples/`.
 use super::boards::{LIMIT, all_show, gives, is_quiet, reads, reply_of, types, world_of};
+use super::worlds::put;
 use crate::expect::expect_that;
-use jup_value::Name;
-use jup_window::Effect;
 use jup_world::{Event, Reply, World};
 use std::alloc::Global;
 use std::process::Abort;
@@ -19,8 +18,7 @@ fn pushes(rt: &impl Abort, alloc: Global, world: &mut World, most: u32, reply: R
 fn a_message_is_taken_once_its_last_byte_was_pushed(rt: HostRuntime) {
     let alloc = rt.alloc();
     let mut world = world_of(&rt, alloc, LIMIT, "text 1 \"\"", 1);
-    let first = Name { site: 1, number: 1 };
-    let typed = reply_of(&rt, alloc, Effect::PutChar(first, 'a'));
+    let typed = reply_of(&rt, alloc, put(1, 1, 'a'));
     gives(&rt, alloc, &mut world, types(1, 0, 'a'), typed);
     pushes(&rt, alloc, &mut world, 36, Reply::Moved(36));
     pushes(&rt, alloc, &mut world, 5, Reply::Moved(1));

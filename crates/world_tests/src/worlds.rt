@@ -4,19 +4,24 @@ use super::boards::{
     LIMIT, all_show, deletes, drain, edits, gives, is_quiet, reply_of, sets, types, world_of,
 };
 use crate::expect::{expect_eq, expect_that};
+use jup_seq::SeqEdit;
+use jup_setting::SettingEdit;
 use jup_star::{Entry, OpenFault, StarFault};
 use jup_value::Name;
-use jup_window::{Board, EditFault, Effect, Setting, Widget};
+use jup_window::{Board, EditFault, Setting, Widget, WidgetEdit};
 use jup_world::{Event, Reply, World};
+use jup_xform::OneOf;
 use std::alloc::Global;
 use std::process::Abort;
 use test_boards::board_of;
 
-pub(crate) fn put(site: u32, number: u32, value: char) -> Effect {
-    Effect::PutChar(Name { site, number }, value)
+pub(crate) fn put(site: u32, number: u32, value: char) -> WidgetEdit {
+    OneOf::First(SeqEdit::Put(Name { site, number }, value))
 }
 
-const FIRST: Effect = Effect::Deleted(Name { site: 0, number: 1 });
+const FIRST: WidgetEdit = OneOf::First(SeqEdit::Deleted(Name { site: 0, number: 1 }));
+
+const TOGGLED: WidgetEdit = OneOf::Second(OneOf::Second(OneOf::First(SettingEdit::Set(true))));
 
 const ON: Setting = Setting::Toggle(true);
 
@@ -24,16 +29,16 @@ const OFF: Setting = Setting::Toggle(false);
 
 // Site 1 sets widget 1 on.
 fn switches_on(rt: &impl Abort, alloc: Global, world: &mut World) {
-    let switched = reply_of(rt, alloc, Effect::Toggled(true));
+    let switched = reply_of(rt, alloc, TOGGLED);
     gives(rt, alloc, world, sets(1, ON), switched);
 }
 
-// The star has taken an edit of each of these sites, with these effects on widget 1.
-pub(crate) fn took(rt: &impl Abort, alloc: Global, world: &World, all: &[(u32, &[Effect])]) {
+// The star has taken these edits of widget 1, each of its site.
+pub(crate) fn took(rt: &impl Abort, alloc: Global, world: &World, all: &[(u32, &[WidgetEdit])]) {
     let order = world.star().order();
     expect_eq(rt, order.len(), all.len());
-    for (entry, (site, effects)) in order.iter().zip(all) {
-        let edit = edits(rt, alloc, effects);
+    for (entry, (site, made)) in order.iter().zip(all) {
+        let edit = edits(rt, alloc, made);
         expect_eq(rt, entry, &Entry { site: *site, edit });
     }
 }
@@ -53,7 +58,7 @@ fn two_sites_type_at_one_place(rt: HostRuntime) {
     expect_that(&rt, !is_quiet(&world));
     drain(&rt, alloc, &mut world);
     all_show(&rt, alloc, &world, 2, "window 1\ntext 1 \"xa\"\n");
-    let order: [(u32, &[Effect]); 2] = [(1, &[put(1, 1, 'a')]), (2, &[put(2, 1, 'x')])];
+    let order: [(u32, &[WidgetEdit]); 2] = [(1, &[put(1, 1, 'a')]), (2, &[put(2, 1, 'x')])];
     took(&rt, alloc, &world, &order);
 }
 

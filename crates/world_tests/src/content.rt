@@ -1,6 +1,6 @@
 //! What a board holds, without its order, and what edits make of that. It is computed here, from the documented meaning of each edit.
 use jup_value::{Item, Label, Name, Seq};
-use jup_window::{Board, BoardEdit, Effect, Widget};
+use jup_window::{Board, Edit, Effect, Widget};
 use std::alloc::Global;
 use std::process::Abort;
 
@@ -88,8 +88,8 @@ impl Content {
     }
 
     // An edit takes effect.
-    pub(crate) fn take(&mut self, rt: &impl Abort, alloc: Global, edit: &BoardEdit) {
-        match edit.shown().what {
+    pub(crate) fn take(&mut self, rt: &impl Abort, alloc: Global, edit: &Edit) {
+        match edit.what {
             Effect::PutChar(name, value) => self
                 .text
                 .push(Item { name, value })

@@ -173,7 +173,7 @@ impl Ledger {
     fn take(&self, rt: &impl Abort, alloc: Global, turn: Turn, content: &mut Content) {
         for part in &self.parts {
             if part.turn == turn {
-                content.take(rt, alloc, &part.edit);
+                content.take(rt, alloc, &part.edit.shown());
             }
         }
     }

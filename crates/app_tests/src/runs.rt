@@ -1,6 +1,6 @@
 //! Runs of few and of many sites, and their refusals.
 ghost use Rattle.jup_window.specs.Entries.{EachWidget};
-ghost use Rattle.jup_star.specs.Openings.{IsShort};
+ghost use Rattle.jup_star.specs.Stars.{IsShort};
 
 use crate::expect::{expect_eq, expect_that};
 use jup_app::{Gate, Open, RunEnd, RunFault, SiteEnd, run_many, run_two};

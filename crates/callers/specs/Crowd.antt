@@ -1,18 +1,13 @@
 -- Two sites and a stranger at one star, over a board of one toggle.
 use Rattle.std.specs.Prelude.{ℕ, Bool, false, true, List, [], ◌∷◌, ◌++◌}
-use Rattle.jup_setting.specs.declared.operation.SetOp.TheVariants.{Set as SetTo}
-use Rattle.jup_window.specs.declared.widgets.Widget.TheVariants.{Toggle}
-use Rattle.jup_window.specs.declared.widget_operations.WidgetOp.TheVariants.{Toggle as OnToggle}
-use Rattle.jup_window.specs.declared.commands.Command.TheVariants.{Set as SetValue}
-use Rattle.jup_window.specs.declared.commands.Setting.TheVariants.{Toggle as ToToggle}
-use Rattle.jup_batch.specs.BatchBoards.{BoardBatch, Windows}
-use Rattle.jup_batch.specs.BoardBatches.{board_batches}
-use Rattle.jup_link.specs.declared.Msg.{Msg}
-use Rattle.jup_star.specs.declared.messages.Up.TheVariants.{Op as UpOp}
 use Rattle.jup_world.specs.Events.{Join, Edit, Down, JoinStray, Stray}
-use Rattle.jup_world.specs.BoardWorlds.{BoardWorld, BoardEvent}
-use Rattle.jup_world.specs.WorldStates.{opened_world}
-use Rattle.jup_world.specs.WorldSteps.{run}
+use Rattle.jup_world.specs.Boards.{BoardWorld, BoardEvent}
+use Rattle.jup_world.specs.Worlds.{opened_world, run}
+use Rattle.jup_world.specs.Prelude.{BoardBatch, Windows, board_batches, Msg, UpOp}
+use Rattle.jup_star.specs.Prelude.{Toggle}
+use Rattle.jup_batch.specs.Prelude.{OnToggle, SetValue}
+use Rattle.jup_window.specs.Prelude.{SetTo}
+use Rattle.jup_window.specs.declared.commands.Setting.TheVariants.{Toggle as ToToggle}
 
 -- window 1 has toggle 1
 abbrev pub board : Bool → Windows

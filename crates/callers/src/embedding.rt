@@ -1,6 +1,6 @@
 //! A client in a program that has its own sockets.
 ghost use Rattle.std.specs.Prelude.{◌≡◌, ◌≤◌, length, IfOk, OnOk, OnErr};
-ghost use Rattle.jup_embed.specs.Copies.{KeepsCopies};
+ghost use Rattle.jup_embed.specs.Sessions.{KeepsCopies};
 
 use jup_embed::{Client, EmbedFault};
 use jup_window::Command;

@@ -1,7 +1,7 @@
 //! Lines as bytes, and back.
 ghost use Rattle.std.specs.Prelude.{◌≡◌, ◌++◌, ℕ, List, [], true, Some, IfOk};
 ghost use Rattle.jup_wire.specs.declared.line.Line.{Line};
-ghost use Rattle.jup_wire.specs.Grammar.{is_spelled};
+ghost use Rattle.jup_wire.specs.Lines.{is_spelled};
 ghost use Rattle.jup_wire.specs.Streams.{Progress, HasRead};
 
 use jup_wire::{Fed, LONGEST, Line, Reader, one_reading, read_line, write_reserved};

@@ -1,6 +1,6 @@
 //! A star and a site: a join, an edit and a departure.
 ghost use Rattle.std.specs.Prelude.{◌≡◌, ◌+◌, None, IfOk, OnOk, OnErr};
-ghost use Rattle.jup_star.specs.StarStates.{link_of};
+ghost use Rattle.jup_star.specs.Stars.{link_of};
 
 use jup_star::{Made, Site, Star};
 use jup_window::{Command, EditFault};

@@ -1,15 +1,14 @@
 //! Two sites and a stranger.
 ghost use Rattle.std.specs.Prelude.{◌≡◌, ◌≤◌, true, length, Some, None};
-ghost use Rattle.jup_batch.specs.BoardBatches.{board_batches};
-ghost use Rattle.jup_star.specs.StarStates.{link_of, left};
+ghost use Rattle.jup_batch.specs.Boards.{board_batches};
+ghost use Rattle.jup_star.specs.Stars.{link_of, left};
 ghost use Rattle.jup_star.specs.declared.messages.Up.TheVariants as up;
 ghost use Rattle.jup_star.specs.declared.faults.StarFault.TheVariants as fault;
 ghost use Rattle.jup_world.specs.Events as event;
-ghost use Rattle.jup_world.specs.BoardWorlds.{BoardAttached, BoardLink};
-ghost use Rattle.jup_world.specs.WorldStates.{attached};
-ghost use Rattle.jup_world.specs.WorldSteps.{outcome};
-ghost use Rattle.jup_world.specs.Replies.{IsEntry};
-ghost use Rattle.jup_world.specs.Strangers.{SiteHolds, AllLinked};
+ghost use Rattle.jup_world.specs.declared.events.Reply.TheVariants as answer;
+ghost use Rattle.jup_world.specs.Boards.{BoardAttached, BoardLink};
+ghost use Rattle.jup_world.specs.Worlds.{attached, outcome};
+ghost use Rattle.jup_world.specs.Sound.{IsEntry, SiteHolds, AllLinked};
 ghost use Rattle.callers.specs.Crowd.{board, after, pair, crowd, turns_on, told, edited};
 
 use jup_world::worlds_agree;
@@ -29,7 +28,7 @@ pub fn meet_a_stranger()
         × SiteHolds board_batches (after 2 told) 1 l a × (a.site.board ≡ board true) }
     ensures second { (l : BoardLink) × (a : BoardAttached) × (attached 2 (after 2 told).sites ≡ Some a)
         × SiteHolds board_batches (after 2 told) 2 l a × (a.site.board ≡ board true) }
-    ensures full { (outcome board_batches (after 1 edited) (event.Up 1)).reply ≡ event.Detached fault.LogFull }
+    ensures full { (outcome board_batches (after 1 edited) (event.Up 1)).reply ≡ answer.Detached fault.LogFull }
     ensures limit { (after 1 edited).star.limit ≤ length (after 1 edited).star.order }
     ensures plain { AllLinked board_batches (after 2 pair) }
 {

@@ -1,7 +1,7 @@
 //! A world: whatever happens, and then quiet.
 ghost use Rattle.std.specs.Prelude.{◌≡◌, true, IfOk, OnOk};
-ghost use Rattle.jup_world.specs.Headline.{AllAgree};
-ghost use Rattle.jup_world.specs.LaneWorlds.{messages_of};
+ghost use Rattle.jup_world.specs.Boards.{AllAgree};
+ghost use Rattle.jup_world.specs.Lanes.{messages_of};
 
 use jup_world::{Event, World};
 use jup_xform::NoMemory;

@@ -3,32 +3,18 @@ use Rattle.std.proofs.Common.{◌≡◌, ℕ, zero, suc, ◌+◌, ◌<◌, ◌�
 use Rattle.std.proofs.Math.Dec.{eqb}
 use Rattle.std.proofs.lemmas.Bool.{eq-eqb, eqb-true, eqb-false}
 use Rattle.std.proofs.lemmas.Bool.Decides.{eqb_tells}
-use Rattle.jup_batch.specs.BatchBoards.{BoardBatch, BoardEdits, Commands}
-use Rattle.jup_batch.specs.BoardBatches.{board_batches}
-use Rattle.jup_batch.specs.BoardBatches.{batch_laws}
+use Rattle.jup_app.specs.Prelude.{BoardBatch, BoardEdits, Commands, board_batches, batch_laws, StarFault, Call, Join, Take, Fetch, Leave, StarReply, edit_answer, deliver_fault, HubEvent, Each, Happened, BoardWorld, BoardAttached, BoardEvent, BoardReply, IsReached, attached, opened_world, Outcome, outcome, happens, run, one_taken, one_handed, with_edit, EditFault}
 use Rattle.jup_star.specs.declared.messages.Down.TheVariants as down
-use Rattle.jup_star.specs.declared.faults.StarFault.{StarFault}
-use Rattle.jup_star.specs.declared.calls.Call.{Call}
-use Rattle.jup_star.specs.declared.calls.Call.TheVariants.{Join, Take, Fetch, Leave}
-use Rattle.jup_star.specs.declared.calls.StarReply.{StarReply}
 use Rattle.jup_star.specs.declared.calls.StarReply.TheVariants as reply
-use Rattle.jup_star.specs.StarStates.{link_of, fetched, taken, up_fault, most_batches}
-use Rattle.jup_star.specs.SiteStates.{edit_answer, deliver_fault}
-use Rattle.jup_star.specs.StarCalls.{BoardStar, BoardLink, reply_of, star_after}
-use Rattle.jup_star.proofs.Lookup.{found-map, found-map_other}
-use Rattle.jup_hub.specs.declared.view.HubEvent.{HubEvent}
+use Rattle.jup_star.specs.Stars.{BoardLink, reply_of, star_after}
 use Rattle.jup_hub.specs.Histories.{IsLegal, star_through}
-use Rattle.jup_world.specs.Each.{Each}
 use Rattle.jup_world.specs.Events as event
-use Rattle.jup_world.specs.Events.{Happened}
-use Rattle.jup_world.specs.BoardWorlds.{BoardWorld, BoardAttached, BoardEvent, BoardReply, IsReached}
-use Rattle.jup_world.specs.WorldStates.{attached, at_site, opened_world}
-use Rattle.jup_world.specs.WorldSteps.{Outcome, outcome, happens, run, at_linked, at_attached, edit_outcome, first_up, up_outcome, one_taken, first_down, down_outcome, one_handed, with_edit}
-use Rattle.jup_world.proofs.Sound.WorldTakes.{standing_of}
-use Rattle.jup_world.proofs.Sound.BoardWorldLaws.{reached_sound}
+use Rattle.jup_world.specs.Worlds.{at_site, at_linked, at_attached, edit_outcome, first_up, up_outcome, first_down, down_outcome}
+use Rattle.jup_world.proofs.Sound.Traces.{standing_of}
+use Rattle.jup_world.proofs.Worlds.{reached_sound}
 use Rattle.jup_app.specs.Runs.{BoardUp, BoardDown, EditAnswer, Made, made, Step, Edited, Took, Got, calls_of, edits_of, IsPlayed, IsAccepted, edited, answer_to, edit_by, answer_by, delivered, all_delivered, AcceptsAll, site_of, made_at, deliveries, through_call, past_call, with_log, left_over, assembled, IsSite, edit_at, edits_at}
-use Rattle.jup_app.proofs.StarLaws.{IsTidy, tidy_after, Takes, take_gives, InParts, fetch_in_parts, fetch_nothing}
-use Rattle.jup_app.proofs.SiteLaws.{delivered_number}
+use Rattle.jup_app.proofs.Stars.{IsTidy, tidy_after, Takes, take_gives, InParts, fetch_in_parts, fetch_nothing, delivered_number}
+use Rattle.jup_world.specs.Prelude.{link_of, fetched, taken, up_fault, most_batches, BoardStar, found-map, found-map_other}
 
 eqb_self : (i : ℕ) → eqb i i ≡ true
 eqb_self i = eq-eqb i i refl
@@ -77,7 +63,7 @@ leads_append {w} {es} {fs} {i} {s} {t} {l} {m} {rs} {qs} a b =
       silent = λ j ne. ap (λ (x : BoardWorld). edits_at j x.trace) same ∙ b.silent j ne ∙ a.silent j ne;
     }
 
-pub edits_at_last : (i : ℕ) (hs : List (Happened Commands BoardBatch BoardEdits ℕ)) (h : Happened Commands BoardBatch BoardEdits ℕ) → edits_at i (hs ++ h ∷ []) ≡ edits_at i hs ++ edit_at i h.event h.reply
+pub edits_at_last : (i : ℕ) (hs : List (Happened Commands BoardBatch BoardEdits EditFault)) (h : Happened Commands BoardBatch BoardEdits EditFault) → edits_at i (hs ++ h ∷ []) ≡ edits_at i hs ++ edit_at i h.event h.reply
 edits_at_last i [] h = append-nil (edit_at i h.event h.reply)
 edits_at_last i (k ∷ hs) h = ap (λ es. edit_at i k.event k.reply ++ es) (edits_at_last i hs h) ∙ sym (append_assoc (edit_at i k.event k.reply) (edits_at i hs) (edit_at i h.event h.reply))
 
@@ -124,7 +110,7 @@ edit_leads w i c l k is link = leads_one {o = edit_outcome board_batches w i (ed
     ∙ ap (λ (o : Option BoardAttached). at_attached board_batches w k (λ l a. edit_outcome board_batches w i (edit_answer board_batches c a.site)) o) is)
     (go (edit_answer board_batches c l.site))
   where
-    go : (r : Result BoardBatch ℕ) → Does w (event.Edit i c) (edit_outcome board_batches w i r) i w.star (edit_by r l) ((c, answer_by r) ∷ [])
+    go : (r : Result BoardBatch EditFault) → Does w (event.Edit i c) (edit_outcome board_batches w i r) i w.star (edit_by r l) ((c, answer_by r) ∷ [])
     go (Ok op) = record {
       star = refl;
       here = changed_here i (with_edit board_batches op) (λ a. refl) w.sites l is;
@@ -205,7 +191,7 @@ downs_lead (d ∷ ds) w i m l tidy is idle fine replied =
 edited_down : (c : Commands) (l : BoardAttached) → (edited c l).down ≡ l.down
 edited_down c l = go (edit_answer board_batches c l.site)
   where
-    go : (r : Result BoardBatch ℕ) → (edit_by r l).down ≡ l.down
+    go : (r : Result BoardBatch EditFault) → (edit_by r l).down ≡ l.down
     go (Ok op) = refl
     go (Err n) = refl
 

@@ -1,8 +1,3 @@
-pub mod Drains
-pub mod Passing
-pub mod Plays
+pub mod Prelude
 pub mod RunFaults
 pub mod Runs
-pub mod Seating
-pub mod Threads
-pub mod Whole

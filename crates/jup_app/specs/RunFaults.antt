@@ -1,20 +1,16 @@
 -- The faults of runs.
 use Rattle.std.specs.Prelude.{◌≡◌, ℕ, ◌&&◌, nat_le, Option, Some, None, Result, Ok, Err, IfErr, if◌then◌else◌}
 use Rattle.std.specs.Option.{option_map}
-use Rattle.jup_limits.specs.Limits.{most_attached}
-use Rattle.jup_batch.specs.BatchBoards.{Windows}
-use Rattle.jup_star.specs.StarCalls.{star_open_fault}
-use Rattle.jup_star.specs.declared.faults.OpenFault.{OpenFault}
+use Rattle.jup_app.specs.Prelude.{Windows, OpenFault, SiteFault, HubFault, Halt}
+use Rattle.jup_star.specs.Stars.{star_open_fault}
 use Rattle.jup_star.specs.declared.faults.OpenFault.TheVariants as refusal
 use Rattle.jup_star.specs.declared.faults.StarFault.TheVariants as star
-use Rattle.jup_star.specs.declared.faults.SiteFault.{SiteFault}
 use Rattle.jup_star.specs.declared.faults.SiteFault.TheVariants as site
-use Rattle.jup_hub.specs.declared.fault.HubFault.{HubFault}
 use Rattle.jup_hub.specs.declared.fault.HubFault.TheVariants as hub
-use Rattle.jup_app.specs.declared.runs.halt.Halt.{Halt}
 use Rattle.jup_app.specs.declared.runs.halt.Halt.TheVariants as stop
 use Rattle.jup_app.specs.declared.runs.fault.RunFault.{RunFault}
 use Rattle.jup_app.specs.declared.runs.fault.RunFault.TheVariants.{NoMemory, LogFull, BadLimit, BadSite, GateShut, BadSites, RunBroken}
+use Rattle.jup_star.specs.Prelude.{most_attached}
 
 -- their numbers in messages and printed texts
 abbrev pub run_fault_number : RunFault → ℕ

@@ -1,36 +1,184 @@
--- The operation that a command becomes after others is computed without applying them
-use Rattle.std.proofs.Common.{◌≡◌, ℕ, zero, suc, inl, inr, ◌<◌, ◌≤◌, Bool, true, false, List, [], ◌∷◌, length, Option, Some, None, refl, ap, sym, subst, ◌∙◌, Ok, Err, arith}
-use Rattle.std.specs.Prelude.{Result, nat_lt, is_some, if◌then◌else◌, ◌==◌}
-use Rattle.std.specs.Option.{option_map, option_and_then}
+-- What the commands of a batch become, one after another.
+use Rattle.std.proofs.Common.{◌≡◌, ℕ, ◌<◌, ◌≤◌, Bool, true, false, List, [], ◌∷◌, length, Option, Some, None, refl, ap, sym, subst, ◌∙◌, arith, if◌then◌else◌, reverse, zero, suc, inl, inr, Ok, Err, Result, nat_lt, is_some, ◌==◌, ◌+◌, ◌++◌, append_assoc, append-nil}
+use Rattle.std.specs.List.{fold}
+use Rattle.std.specs.Option.{IsSomeAnd, option_map, option_and_then}
+use Rattle.std.proofs.lemmas.Grind.{reverse_onto, fold-append}
 use Rattle.std.proofs.lemmas.Bool.{cases_Bool, eqb-true, ltb-true, ltb-false}
-use Rattle.jup_value.specs.declared.names.Name.{Name}
-use Rattle.jup_value.specs.declared.names.Item.{Item}
-use Rattle.jup_value.specs.Items.{name_at}
-use Rattle.jup_xform.specs.Grid.{after_all, AreValid}
-use Rattle.jup_seq.specs.declared.sources.Source.{Source}
-use Rattle.jup_seq.specs.declared.sources.Source.TheVariants.{Inserted, Place}
-use Rattle.jup_window.specs.declared.widgets.Widget.{Widget}
-use Rattle.jup_window.specs.declared.widgets.Widget.TheVariants.{Text, List as Labels, Toggle, Slider}
-use Rattle.jup_window.specs.declared.board_operations.BoardOp.{BoardOp}
-use Rattle.jup_window.specs.declared.faults.EditFault.{EditFault}
+use Rattle.jup_batch.specs.Prelude.{after_all, AreValid, Name, SeqOp, Insert, Delete, Relabel, Nothing, Source, Inserted, Place, Widget, Text, Labels, Toggle, Slider, WidgetOp, OnText, OnList, OnToggle, OnSlider, BoardOp, EditFault, Command, InsertAt, DeleteAt, RelabelAt, SetValue, item_count, item_name, boards, board_operations, next_name, and_then_ok, told_on, on_widget, item_place, command_place, named_widget, named, map_ok, insertions}
+use Rattle.jup_xform.specs.Laws.Grids.{after_all-append, AreValid-append}
+use Rattle.jup_seq.specs.Traces.{length_after, length_is}
+use Rattle.jup_seq.specs.Traces as sources
 use Rattle.jup_window.specs.declared.faults.EditFault.TheVariants.{NoWindow}
-use Rattle.jup_window.specs.declared.commands.Command.{Command}
-use Rattle.jup_window.specs.declared.commands.Command.TheVariants.{Insert as InsertAt, Delete as DeleteAt, Relabel as RelabelAt, Set as SetValue}
 use Rattle.jup_window.specs.declared.commands.Value.{Value}
-use Rattle.jup_window.specs.declared.commands.Value.TheVariants.{Char, Label}
 use Rattle.jup_window.specs.declared.commands.Setting.{Setting}
-use Rattle.jup_window.specs.declared.commands.Setting.TheVariants.{Toggle as ToToggle, Slider as ToSlider}
-use Rattle.jup_window.specs.Entries.{at_id, change_at, widget_at}
-use Rattle.jup_window.specs.Laws.EntryLaws.{at_id-same, at_id-other, at_id-map}
+use Rattle.jup_window.specs.Entries.{Place as Ids, widget_at, at_id, change_at}
+use Rattle.jup_window.specs.Laws.Entries.{same_place-true, widget_at-change, at_id-same, at_id-other, at_id-map, widget_at-bare}
+use Rattle.jup_window.specs.Laws.Widgets.{of_valid}
+use Rattle.jup_window.specs.Commands.{insertion_on, deletion_on, relabel_on, setting_on, found_widget, in_window}
+use Rattle.jup_window.specs.Laws.Operations.{named-bare, board_laws}
 use Rattle.jup_window.specs.Widgets as widget
-use Rattle.jup_window.specs.Widgets.{item_count, item_name}
 use Rattle.jup_window.specs.Boards as board
-use Rattle.jup_window.specs.Laws.BareBoards.{widget_at-bare}
-use Rattle.jup_window.specs.BoardOperations.{boards}
-use Rattle.jup_window.specs.Commands.{and_then_ok, insertion_on, deletion_on, relabel_on, setting_on, told_on, on_widget, item_place, command_place, found_widget, in_window, named_widget, named}
-use Rattle.jup_window.specs.Laws.NamedCommands.{named-bare}
-use Rattle.jup_batch.specs.Later.{count_after, source_before, source_in, held_after, placed, told_after}
-use Rattle.jup_batch.proofs.LaterWidgets.{IsAlike, later, absent_later}
+use Rattle.jup_batch.specs.Boards.{is_on, widget_count, widget_source, count_past, source_past, count_after, source_before, source_in, held_after, placed, told_after}
+use Rattle.jup_batch.specs.Batched.{AreKnown, operations_of}
+use Rattle.jup_batch.specs.Laws.BatchedLaws.{known_after}
+use Rattle.jup_window.specs.Prelude.{Item, Items, name_at}
+use Rattle.jup_window.specs.declared.commands.Value.TheVariants.{Char, Label}
+use Rattle.jup_window.specs.declared.commands.Setting.TheVariants.{Toggle as ToToggle, Slider as ToSlider}
+
+-- A widget of a board after operations is of its kind, and its items are as many, and have the names, that are computed
+
+-- widgets of one kind, and with the same bounds
+abbrev pub IsAlike : Widget → Widget → Type 0
+IsAlike (Text x) (Text y) = Unit {0}
+IsAlike (Labels x) (Labels y) = Unit {0}
+IsAlike (Toggle x) (Toggle y) = Unit {0}
+IsAlike (Slider x) (Slider y) = (y.lo ≡ x.lo) × (y.hi ≡ x.hi)
+IsAlike w v = ⊥
+
+IsAlike-self : (w : Widget) → IsAlike w w
+IsAlike-self (Text x) = tt
+IsAlike-self (Labels x) = tt
+IsAlike-self (Toggle x) = tt
+IsAlike-self (Slider x) = (refl, refl)
+
+IsAlike-then : (u v w : Widget) → IsAlike u v → IsAlike v w → IsAlike u w
+IsAlike-then (Text x) (Text y) w a b = b
+IsAlike-then (Labels x) (Labels y) w a b = b
+IsAlike-then (Toggle x) (Toggle y) w a b = b
+IsAlike-then (Slider x) (Slider y) (Slider z) a b = (b.0 ∙ a.0, b.1 ∙ a.1)
+IsAlike-then (Slider x) (Slider y) (Text z) a b = absurd b
+IsAlike-then (Slider x) (Slider y) (Labels z) a b = absurd b
+IsAlike-then (Slider x) (Slider y) (Toggle z) a b = absurd b
+IsAlike-then u v w a b = absurd a
+
+-- the place of a source is one of the widget
+abbrev pub IsWithin : Source → Widget → Type 0
+IsWithin (Inserted n) w = Unit {0}
+IsWithin (Place p) w = p < item_count w
+
+-- an item of this name came from the source
+abbrev pub CameFrom : Source → Widget → Option Name → Type 0
+CameFrom s w m = (m ≡ source_in s w) × IsWithin s w
+
+-- one operation
+
+-- what one operation does to what is computed from a widget
+record Stepped (e : WidgetOp) (w : Widget) : Type 0 where
+  alike : IsAlike w (widget.after e w)
+  count : item_count (widget.after e w) ≡ widget_count (item_count w) e
+  named : item_count w ≤ 4294967295 → (p : ℕ) → p < item_count (widget.after e w) → CameFrom (widget_source (Place p) e) w (item_name p (widget.after e w))
+
+-- what is computed from a text, and from a list
+text_source : (s : Source) (x : Items ℕ) (m : Option Name) → (m ≡ sources.source_name s x) × sources.IsWithin s x → CameFrom s (Text x) m
+text_source (Inserted n) x m is = is
+text_source (Place p) x m is = is
+
+list_source : (s : Source) (x : Items (List ℕ)) (m : Option Name) → (m ≡ sources.source_name s x) × sources.IsWithin s x → CameFrom s (Labels x) m
+list_source (Inserted n) x m is = is
+list_source (Place p) x m is = is
+
+stepped : (e : WidgetOp) (w : Widget) → widget.IsValid e w → Stepped e w
+stepped e w valid =
+    of_valid (λ e w. Stepped e w)
+    (λ e x valid. record {
+      alike = tt;
+      count = length_is (length x.items) e x valid.1 refl;
+      named = λ few p l. text_source (sources.source p e) x _ (sources.sourced p e x few valid.1 l);
+    })
+    (λ e x valid. record {
+      alike = tt;
+      count = length_is (length x.items) e x valid refl;
+      named = λ few p l. list_source (sources.source p e) x _ (sources.sourced p e x few valid l);
+    })
+    (λ e x. record { alike = tt; count = refl; named = λ few p l. absurd (omega (arith, l)) })
+    (λ e x valid. record { alike = (refl, refl); count = refl; named = λ few p l. absurd (omega (arith, l)) })
+    e w valid
+
+-- no widget has more items than can be counted
+length_few : {V : Type 0} (k : ℕ) (e : SeqOp V) → k ≤ 4294967295 → length_after k e ≤ 4294967295
+length_few k (Insert p y) few = omega (arith, few)
+length_few k (Delete p n) few = omega (arith, few)
+length_few k (Relabel p n v) few = few
+length_few k Nothing few = few
+
+count_few : (k : ℕ) (e : WidgetOp) → k ≤ 4294967295 → widget_count k e ≤ 4294967295
+count_few k (OnText e) few = length_few k e few
+count_few k (OnList e) few = length_few k e few
+count_few k (OnToggle e) few = few
+count_few k (OnSlider e) few = few
+
+-- several operations
+
+-- the widget of some ids after operations, and what is computed from it
+pub record Later (ids : Ids) (b : board.Windows) (w : Widget) (es : List BoardOp) : Type 0 where
+  pub widget : Widget
+  pub there : widget_at ids (after_all boards es b) ≡ Some widget
+  pub alike : IsAlike w widget
+  pub count : item_count widget ≡ count_after ids (item_count w) es
+  pub named : (p : ℕ) → p < item_count widget → CameFrom (source_before ids (Place p) es) w (item_name p widget)
+
+-- the first operation is the last that a source goes back over
+source_before-first : (ids : Ids) (s : Source) (e : BoardOp) (es : List BoardOp) → source_before ids s (e ∷ es) ≡ source_past ids (source_before ids s es) e
+source_before-first ids s e es = ap (λ xs. fold (source_past ids) s xs) (reverse_onto es e []) ∙ fold-append (source_past ids) s (reverse es) (e ∷ [])
+
+-- back over one operation on the widget
+came_past : (e : WidgetOp) (w : Widget) (s : Source) (m : Option Name) → Stepped e w → item_count w ≤ 4294967295 → CameFrom s (widget.after e w) m → CameFrom (widget_source s e) w m
+came_past e w (Inserted n) m step few is = is
+came_past e w (Place p) m step few is = let here = step.named few p is.1 in (is.0 ∙ here.0, here.1)
+
+-- the widget after an operation on the board, if it is the one that it is on
+abbrev past : Ids → BoardOp → Widget → Widget
+past ids e w = if is_on ids e then widget.after e.op w else w
+
+-- what one operation on the board does to what is computed from a widget
+record Passed (ids : Ids) (b : board.Windows) (w : Widget) (e : BoardOp) : Type 0 where
+  there : widget_at ids (board.after e b) ≡ Some (past ids e w)
+  alike : IsAlike w (past ids e w)
+  count : item_count (past ids e w) ≡ count_past ids (item_count w) e
+  few : item_count (past ids e w) ≤ 4294967295
+  named : (s : Source) (m : Option Name) → CameFrom s (past ids e w) m → CameFrom (source_past ids s e) w m
+
+passed_if : (here : Bool) (ids : Ids) (b : board.Windows) (w : Widget) (e : BoardOp) → is_on ids e ≡ here → board.IsValid e b → widget_at ids b ≡ Some w
+    → item_count w ≤ 4294967295 → Passed ids b w e
+passed_if true ids b w e is valid there few =
+    let at_ids : IsSomeAnd (widget_at ids b) (widget.IsValid e.op) = subst (λ p. IsSomeAnd (widget_at p b) (widget.IsValid e.op)) (same_place-true (board.place e) ids is) valid in
+    let here : widget.IsValid e.op w = rw there at at_ids in
+    let step = stepped e.op w here in
+    let fewer : item_count (widget.after e.op w) ≤ 4294967295 = (let counted = step.count in let bound = count_few (item_count w) e.op few in omega (arith, counted, bound)) in
+    record {
+      there = widget_at-change (board.place e) ids (widget.after e.op) b ∙ rw (is, there) refl;
+      alike = rw is step.alike;
+      count = rw is step.count;
+      few = rw is fewer;
+      named = λ s m from. rw is (came_past e.op w s m step few (rw is at from));
+    }
+passed_if false ids b w e is valid there few = record {
+  there = widget_at-change (board.place e) ids (widget.after e.op) b ∙ rw (is, there) refl;
+  alike = rw is (IsAlike-self w);
+  count = rw is refl;
+  few = rw is few;
+  named = λ s m from. rw is (rw is at from);
+}
+
+pub later : (ids : Ids) (b : board.Windows) (w : Widget) (es : List BoardOp) → AreValid boards es b → widget_at ids b ≡ Some w → item_count w ≤ 4294967295 → Later ids b w es
+later ids b w [] valid there few = record { widget = w; there = there; alike = IsAlike-self w; count = refl; named = λ p l. (refl, l) }
+later ids b w (e ∷ es) valid there few =
+    let step = passed_if (is_on ids e) ids b w e refl valid.0 there few in
+    let rest = later ids (board.after e b) (past ids e w) es valid.1 step.there step.few in
+    record {
+      widget = rest.widget;
+      there = rest.there;
+      alike = IsAlike-then w (past ids e w) rest.widget step.alike rest.alike;
+      count = rest.count ∙ ap (λ k. count_after ids k es) step.count;
+      named = λ p l. subst (λ s. CameFrom s w (item_name p rest.widget)) (sym (source_before-first ids (Place p) e es)) (step.named (source_before ids (Place p) es) (item_name p rest.widget) (rest.named p l));
+    }
+
+-- a widget that is not there is not there later
+pub absent_later : (ids : Ids) (b : board.Windows) (es : List BoardOp) → widget_at ids b ≡ None → widget_at ids (after_all boards es b) ≡ None
+absent_later ids b [] none = none
+absent_later ids b (e ∷ es) none = absent_later ids (board.after e b) es (widget_at-change (board.place e) ids (widget.after e.op) b ∙ rw none refl)
+
+-- The operation that a command becomes after others is computed without applying them
 
 -- the operation that is computed is the same on widgets of one kind and with the same bounds
 
@@ -209,3 +357,60 @@ unnamed_after c n b es f found =
     let ids = command_place c in
     let none : widget_at ids (board.bare b) ≡ None = widget_at-bare ids b ∙ ap (λ o. option_map widget.bare o) (none_in ids.1 (at_id ids.0 b) f found) in
     absent_named c n (board.bare b) es none ∙ named-bare c n b ∙ ap (λ r. placed c (and_then_ok (on_widget c n) r)) found
+
+-- The operations of commands, one after another
+
+-- operations before those that are still to be named
+abbrev prepended : List BoardOp → Result (List BoardOp) EditFault → Result (List BoardOp) EditFault
+prepended es r = map_ok (λ os. es ++ os) r
+
+-- of these commands the first have become these operations, and the rest, after so many insertions, gives what all of them give
+pub record AreNamed (commands : List Command) (site count : ℕ) (b : board.Windows) (es : List BoardOp) (rest : List Command) (next : ℕ) : Type 0 where
+  pub valid : AreValid boards es b
+  pub known : AreKnown board_operations (after_all boards es b) site next
+  pub whole : operations_of board_operations b commands site count ≡ prepended es (operations_of board_operations (after_all boards es b) rest site next)
+
+none_prepended : (r : Result (List BoardOp) EditFault) → r ≡ prepended [] r
+none_prepended (Ok os) = refl
+none_prepended (Err n) = refl
+
+-- none of them yet
+pub none_named : (commands : List Command) (site count : ℕ) (b : board.Windows) → AreKnown board_operations b site count → AreNamed commands site count b [] commands count
+none_named commands site count b known = record { valid = tt; known = known; whole = none_prepended (operations_of board_operations b commands site count) }
+
+prepended_more : (es : List BoardOp) (op : BoardOp) (r : Result (List BoardOp) EditFault) → prepended es (map_ok (λ os. op ∷ os) r) ≡ prepended (es ++ op ∷ []) r
+prepended_more es op (Ok os) = ap (λ xs. Ok xs) (sym (append_assoc es (op ∷ []) os))
+prepended_more es op (Err n) = refl
+
+-- what the rest gives, if its first command gives an operation or a refusal
+abbrev rest_of : List Command → ℕ → ℕ → board.Windows → Result BoardOp EditFault → Result (List BoardOp) EditFault
+rest_of rest site next y r = and_then_ok (λ o. map_ok (λ os. o ∷ os) (operations_of board_operations (board.after o y) rest site (next + insertions (board.edit_of o)))) r
+
+-- one more command
+pub one_named : (commands : List Command) (site count : ℕ) (b : board.Windows) (es : List BoardOp) (c : Command) (rest : List Command) (next : ℕ) (op : BoardOp)
+    → AreNamed commands site count b es (c ∷ rest) next → named c (next_name site next) (after_all boards es b) ≡ Ok op
+    → AreNamed commands site count b (es ++ op ∷ []) rest (next + insertions (board.edit_of op))
+one_named commands site count b es c rest next op h is =
+    let y = after_all boards es b in
+    let made : board_operations.operation_of y c site next ≡ Ok op = is in
+    let valid = board_laws.command_accepted y c site next op h.known made in
+    let later : after_all boards (es ++ op ∷ []) b ≡ board.after op y = after_all-append boards es (op ∷ []) b in
+    record {
+      valid = AreValid-append boards es (op ∷ []) b h.valid (valid, tt);
+      known = rw later (known_after board_operations board_laws y site next op h.known valid (board_laws.command_next y c site next op made));
+      whole = h.whole ∙ ap (λ r. prepended es (rest_of rest site next y r)) made
+          ∙ prepended_more es op (operations_of board_operations (board.after op y) rest site (next + insertions (board.edit_of op)))
+          ∙ ap (λ z. prepended (es ++ op ∷ []) (operations_of board_operations z rest site (next + insertions (board.edit_of op)))) (sym later);
+    }
+
+-- one that is refused
+pub one_refused : (commands : List Command) (site count : ℕ) (b : board.Windows) (es : List BoardOp) (c : Command) (rest : List Command) (next : ℕ) (fault : EditFault)
+    → AreNamed commands site count b es (c ∷ rest) next → named c (next_name site next) (after_all boards es b) ≡ Err fault
+    → operations_of board_operations b commands site count ≡ Err fault
+one_refused commands site count b es c rest next fault h is =
+    h.whole ∙ ap (λ r. prepended es (rest_of rest site next (after_all boards es b) r)) is
+
+-- all of them
+pub all_named : (commands : List Command) (site count : ℕ) (b : board.Windows) (es : List BoardOp) (next : ℕ) → AreNamed commands site count b es [] next
+    → operations_of board_operations b commands site count ≡ Ok es
+all_named commands site count b es next h = h.whole ∙ ap (λ xs. Ok xs) (append-nil es)

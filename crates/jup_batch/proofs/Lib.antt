@@ -1,3 +1,1 @@
 pub mod LaterCommands
-pub mod LaterWidgets
-pub mod NamedAll

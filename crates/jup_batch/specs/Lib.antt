@@ -1,5 +1,4 @@
-pub mod BatchBoards
 pub mod Batched
-pub mod BoardBatches
-pub mod Later
+pub mod Boards
 pub mod Laws
+pub mod Prelude

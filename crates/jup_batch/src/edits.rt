@@ -1,7 +1,7 @@
 //! What a batch of operations on boards means, without a list of its edits.
 ghost use Rattle.std.specs.Prelude.{◌≡◌, ◌+◌, ◌<◌, ◌≤◌, length};
 ghost use Rattle.jup_xform.specs.Batches.{edits};
-ghost use Rattle.jup_window.specs.BoardOperations.{boards, board_operations};
+ghost use Rattle.jup_window.specs.Operations.{boards, board_operations};
 ghost use Rattle.jup_batch.specs.Batched as batched;
 
 use jup_window::BoardOp;

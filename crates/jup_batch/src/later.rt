@@ -1,7 +1,7 @@
 //! What can be found out of a widget of a board as it is after operations. No operation is applied, and no memory is taken.
 ghost use Rattle.std.specs.Prelude.{◌≡◌, ◌≤◌};
 ghost use Rattle.jup_window.specs.Widgets.{item_count};
-ghost use Rattle.jup_batch.specs.Later as later;
+ghost use Rattle.jup_batch.specs.Boards as later;
 
 use jup_seq::Source;
 use jup_value::Name;

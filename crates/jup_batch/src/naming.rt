@@ -1,10 +1,9 @@
 //! The operations that commands become one after another. The board stays as it is, and no memory is taken.
 ghost use Rattle.std.specs.Prelude.{◌≡◌, ◌+◌, ◌<◌, ◌≤◌, length, Ok, Err, IfErr, OnOk};
-ghost use Rattle.jup_xform.specs.Grid.{after_all, AreValid};
+ghost use Rattle.jup_xform.specs.Grids.{after_all, AreValid};
 ghost use Rattle.jup_window.specs.Boards.{bare};
-ghost use Rattle.jup_window.specs.BoardOperations.{boards, board_operations};
-ghost use Rattle.jup_window.specs.Commands.{named};
-ghost use Rattle.jup_window.specs.FaultNumbers.{edit_fault_number};
+ghost use Rattle.jup_window.specs.Operations.{boards, board_operations};
+ghost use Rattle.jup_window.specs.Commands.{named, edit_fault_number};
 ghost use Rattle.jup_batch.specs.Batched.{AreKnown, operations_of};
 
 use crate::later::told_after;
@@ -50,8 +49,7 @@ pub fn name_all(
     ensures ok { OnOk result
         (operations_of board_operations (bare board.now) commands.now site count ≡ Ok ops.new) }
     ensures refused { IfErr result
-        (λ fault. operations_of board_operations (bare board.now) commands.now site count
-        ≡ Err (edit_fault_number fault)) }
+        (λ fault. operations_of board_operations (bare board.now) commands.now site count ≡ Err fault) }
     ensures low { IfErr result (λ fault. edit_fault_number fault ≤ 6) }
 {
     let mut next = count;

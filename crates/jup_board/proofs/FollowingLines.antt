@@ -1,32 +1,25 @@
--- The lines of a printed board may come one after another.
-use Rattle.std.proofs.Common.{◌≡◌, ◌≢◌, ℕ, ◌+◌, ◌^◌, ◌<◌, ◌≤◌, suc, List, [], ◌∷◌, ◌++◌, map, length, Some, None, refl, sym, ap, subst, ◌∙◌, append_assoc, arith, inl, inr}
-use Rattle.std.specs.Prelude.{codes, decimal}
+-- The lines of a printed board.
+use Rattle.std.proofs.Common.{◌≡◌, ◌≢◌, ℕ, ◌+◌, ◌^◌, ◌<◌, ◌≤◌, suc, List, [], ◌∷◌, ◌++◌, map, length, Some, None, refl, sym, ap, subst, ◌∙◌, append_assoc, arith, inl, inr, codes, decimal, ◌⊎◌, append-nil}
 use Rattle.std.specs.Option.{option_map}
 use Rattle.std.specs.List.{flat_map, AllByRecursion, join_with_byte}
 use Rattle.std.proofs.lemmas.List.{length-append, append_cancel_left}
 use Rattle.std.proofs.lemmas.Option.{same_Some}
-use Rattle.jup_limits.specs.Limits.{most_entries}
-use Rattle.jup_value.specs.declared.names.Item.{Item}
-use Rattle.jup_window.specs.declared.widgets.Widget.{Widget}
-use Rattle.jup_window.specs.declared.widgets.Widget.TheVariants.{Text, List as Labels, Toggle, Slider}
-use Rattle.jup_window.specs.Additions.{fault_in, widget_fault}
-use Rattle.jup_window.specs.Boards.{Windows}
-use Rattle.jup_window.specs.Entries.{at_id, change_at, with_entry}
-use Rattle.jup_window.specs.Laws.EntryLaws.{at_id-same}
+use Rattle.std.specs.Str.{IsUtf8}
+use Rattle.std.proofs.lemmas.List.Concat.{flat_map-append}
+use Rattle.jup_board.specs.Prelude.{most_entries, Item, Widget, Text, Labels, Toggle, Slider, Windows, IsId}
+use Rattle.jup_window.specs.Entries.{fault_in, widget_fault, at_id, change_at, with_entry}
+use Rattle.jup_window.specs.Laws.Entries.{at_id-same}
 use Rattle.jup_window.specs.Widgets.{item_count}
-use Rattle.jup_layout.proofs.PutEntries.{put-same, put-other, put-length, changed-absent, changed-length}
+use Rattle.jup_text.specs.Boards.{widget_words, widget_line, board_text, Draft, TakesWindow, TakesWidget, IsTaken, AreValues, IsHeld, IsNextWindow, IsNextWidget, IsNext, IsLineOf, IsNumbered}
+use Rattle.jup_text.specs.Words.{quoted_char, quoted}
+use Rattle.jup_text.proofs.BoardLines.{first_of, same_fronts, window_first, window_word, number_of, join_spaced}
+use Rattle.jup_text.proofs.Quotes.{same_parts}
+use Rattle.jup_layout.proofs.Drafting.{put-same, put-other, put-length, changed-absent, changed-length}
 use Rattle.jup_layout.proofs.Saying.{none_due}
-use Rattle.jup_text.specs.Boards.{widget_words, widget_line, board_text}
-use Rattle.jup_text.specs.Commands.{IsId}
-use Rattle.jup_text.specs.Drafts.{Draft, TakesWindow, TakesWidget, IsTaken}
-use Rattle.jup_text.specs.NextLines.{AreValues, IsHeld, IsNextWindow, IsNextWidget, IsNext}
-use Rattle.jup_text.specs.Quotes.{quoted_char, quoted}
-use Rattle.jup_text.specs.WidgetLines.{IsLineOf, IsNumbered}
-use Rattle.jup_text.proofs.NextLines.{first_of, same_fronts, window_first, window_word, number_of}
-use Rattle.jup_text.proofs.Printing.{join_spaced}
-use Rattle.jup_text.proofs.Splits.{same_parts}
-use Rattle.jup_board.specs.Printed.{lines_text, blank, HaveOwnIds, IsPrintableWindow, ArePrintable}
-use Rattle.jup_board.proofs.PlainBytes.{ArePlain, decimal_word, small_decimal, widget_plain, window_plain, flat_long, char_long}
+use Rattle.jup_board.specs.Boards.{lines_text, blank, HaveOwnIds, IsPrintableWindow, ArePrintable, Lacks, AreTaken, IsPrinted, IsReadTo}
+use Rattle.jup_board.proofs.Texts.{ArePlain, decimal_word, small_decimal, widget_plain, window_plain, flat_long, char_long, lacks_behind, plain_line, plain_text}
+
+-- The lines of a printed board may come one after another.
 
 -- whatever is made of each line, the next may come
 abbrev pub MayFollow : Draft → List (List ℕ) → Type 0
@@ -279,3 +272,57 @@ board_goes_on windows text printable is short =
     absent : (ws : Windows) → AllByRecursion (λ entry. at_id {A = List (ℕ × Widget)} entry.0 [] ≡ None) ws
     absent [] = tt
     absent (w ∷ ws) = (refl, absent ws)
+
+-- Lines of a board that are taken one after another.
+
+taken_more : (old middle new : Draft) (lines : List (List ℕ)) (line : List ℕ) → AreTaken old lines middle → IsTaken middle line new → AreTaken old (lines ++ line ∷ []) new
+taken_more old middle new [] line taken more = (new, subst (λ (d : Draft). IsTaken d line new) (sym taken) more, refl)
+taken_more old middle new (x ∷ xs) line (next, first, taken) more = (next, first, taken_more next middle new xs line taken more)
+
+-- what was read of a text, and what is left
+pub record Reads (text lines rest : List ℕ) (draft : Draft) : Type 0 where
+  pub read : IsReadTo lines rest draft
+  pub left : length text < 2 ^ 32 → IsPrinted text → GoesOn draft rest
+
+pub read_none : (text : List ℕ) → IsReadTo text text blank
+read_none text = record { lines = []; spelled = refl; taken = refl }
+
+pub read_more : (text rest line later : List ℕ) (old new : Draft) → IsReadTo text rest old → rest ≡ (line ++ 10 ∷ []) ++ later → IsTaken old line new → IsReadTo text later new
+read_more text rest line later old new read next more =
+    let one : lines_text (read.lines ++ line ∷ []) ≡ lines_text read.lines ++ (line ++ 10 ∷ []) =
+    flat_map-append (λ (it : List ℕ). it ++ 10 ∷ []) read.lines (line ∷ []) ∙ ap (λ (t : List ℕ). lines_text read.lines ++ t) (append-nil (line ++ 10 ∷ [])) in
+    record {
+      lines = read.lines ++ line ∷ [];
+      spelled = read.spelled ∙ ap (λ (t : List ℕ). lines_text read.lines ++ t) next ∙ sym (append_assoc (lines_text read.lines) (line ++ 10 ∷ []) later) ∙ ap (λ (t : List ℕ). t ++ later) (sym one);
+      taken = taken_more blank old new read.lines line read.taken more;
+    }
+
+-- ---- lines of a text
+
+pub uncut_none : (text line rest : List ℕ) → Lacks 10 text → text ≢ line ++ 10 ∷ rest
+uncut_none text line rest lacks is = (lacks_behind 10 line (10 ∷ rest) (subst (λ (t : List ℕ). Lacks 10 t) is lacks)).0 refl
+
+pub same_line : (text x y r s : List ℕ) → text ≡ x ++ 10 ∷ r → Lacks 10 x → Lacks 10 y → text ≡ y ++ 10 ∷ s → x ≡ y
+same_line text x y r s x_is x_lacks y_lacks y_is = (same_parts 10 x y r s x_lacks y_lacks (sym x_is ∙ y_is)).0
+
+-- ---- if the text is a printed board
+
+-- no line of the text is left, or one that is a text of one line
+pub line_left : (draft : Draft) (rest : List ℕ) → GoesOn draft rest → (rest ≡ []) ⊎ ((line later : List ℕ) × Lacks 10 line × IsUtf8 line × (rest ≡ line ++ 10 ∷ later))
+line_left draft rest on = go on.lines on.spelled on.follow
+  where
+    go : (lines : List (List ℕ)) → rest ≡ lines_text lines → MayFollow draft lines → (rest ≡ []) ⊎ ((line later : List ℕ) × Lacks 10 line × IsUtf8 line × (rest ≡ line ++ 10 ∷ later))
+    go [] spelled follow = inl spelled
+    go (x ∷ xs) spelled follow = inr (x, lines_text xs, plain_line x follow.0, plain_text x follow.0, spelled ∙ append_assoc x (10 ∷ []) (lines_text xs))
+
+-- the line that was read may come next, and then the others
+pub next_left : (draft : Draft) (rest line later : List ℕ) → GoesOn draft rest → rest ≡ (line ++ 10 ∷ []) ++ later → Lacks 10 line → IsNext draft line × ((next : Draft) → IsTaken draft line next → GoesOn next later)
+next_left draft rest line later on is lacks = go on.lines on.spelled on.follow
+  where
+    go : (lines : List (List ℕ)) → rest ≡ lines_text lines → MayFollow draft lines → IsNext draft line × ((next : Draft) → IsTaken draft line next → GoesOn next later)
+    go [] spelled follow = absurd (omega (arith, ap (λ (t : List ℕ). length t) (sym is ∙ spelled), length-append (line ++ 10 ∷ []) later, length-append line (10 ∷ [])))
+    go (x ∷ xs) spelled follow =
+        let same = same_parts 10 x line (lines_text xs) later (plain_line x follow.0) lacks (sym (append_assoc x (10 ∷ []) (lines_text xs)) ∙ sym spelled ∙ is ∙ append_assoc line (10 ∷ []) later) in (
+          subst (λ (t : List ℕ). IsNext draft t) same.0 follow.1.0,
+          λ next taken. record { lines = xs; spelled = sym same.1; follow = follow.1.1 next (subst (λ (t : List ℕ). IsTaken draft t next) (sym same.0) taken) },
+        )

@@ -1,5 +1,2 @@
 mod FollowingLines
-mod Headings
-mod Laid
-mod PlainBytes
-mod Readings
+mod Texts

@@ -1,6 +1,2 @@
-pub mod Ends
-pub mod Headings
-pub mod Layouts
-pub mod Numbered
-pub mod Printed
-pub mod Puts
+pub mod Boards
+pub mod Prelude

@@ -1,8 +1,8 @@
 //! Printed boards as layouts, and layouts as printed boards.
 ghost use Rattle.std.specs.Prelude.{◌≡◌, ◌⊎◌, ◌≤◌, length, Err, IfOk, IfErr};
 ghost use Rattle.jup_limits.specs.Limits.{longest_input};
-ghost use Rattle.jup_layout.specs.Layouts.{Describes, no_memory};
-ghost use Rattle.jup_board.specs.Layouts.{IsLayoutOfPrinted, IsPrintOfLayout};
+ghost use Rattle.jup_layout.specs.Drafts.{Describes, no_memory};
+ghost use Rattle.jup_board.specs.Boards.{IsLayoutOfPrinted, IsPrintOfLayout};
 
 use crate::{BoardEnd, read_printed, write_layout};
 use jup_layout::{LayoutFault, layout};

@@ -1,6 +1,6 @@
 //! Texts that are cut at a byte.
 ghost use Rattle.std.specs.Prelude.{◌≡◌, ◌==◌, ◌<◌, ◌∷◌, ◌++◌, length, position, IfSome, MatchOption};
-ghost use Rattle.jup_board.specs.Printed.{Lacks};
+ghost use Rattle.jup_board.specs.Boards.{Lacks};
 
 use memchr::memchr;
 

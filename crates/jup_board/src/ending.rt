@@ -1,6 +1,6 @@
 //! Why the program ends early.
 ghost use Rattle.std.specs.Prelude.{◌≡◌, ◌≤◌};
-ghost use Rattle.jup_board.specs.Ends.{board_end_status};
+ghost use Rattle.jup_board.specs.Boards.{board_end_status};
 
 use crate::LineFault;
 use jup_layout::LayoutFault;

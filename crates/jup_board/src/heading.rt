@@ -2,8 +2,7 @@
 ghost use Rattle.std.specs.Prelude.{◌≡◌, ◌≤◌, ◌++◌, ℕ, List, MatchOption};
 ghost use Rattle.jup_window.specs.Boards.{Windows};
 ghost use Rattle.jup_text.specs.Boards.{board_text};
-ghost use Rattle.jup_board.specs.Headings.{BeginsOtherwise, Follows, PassesOver};
-ghost use Rattle.jup_board.specs.Printed.{IsHeading, IsListening, IsOrder};
+ghost use Rattle.jup_board.specs.Boards.{BeginsOtherwise, Follows, PassesOver, IsHeading, IsListening, IsOrder};
 
 use crate::cut::cut_at;
 use jup_number::read_number;

@@ -1,7 +1,7 @@
 //! The bytes of a board's layout.
 ghost use Rattle.std.specs.Prelude.{◌≡◌, ◌≤◌, [], length, vec_len, IfOk};
 ghost use Rattle.jup_limits.specs.Limits.{longest_input};
-ghost use Rattle.jup_board.specs.Layouts.{IsLayoutOf};
+ghost use Rattle.jup_board.specs.Boards.{IsLayoutOf};
 
 use crate::BoardEnd;
 use jup_layout::put_board;
@@ -37,7 +37,7 @@ struct LayoutText {
 }
 
 impl Model for LayoutText {
-    ghost use Rattle.jup_board.specs.Numbered.{Gathered};
+    ghost use Rattle.jup_board.specs.Boards.{Gathered};
 
     ghost Value = { Gathered };
 
@@ -46,7 +46,7 @@ impl Model for LayoutText {
 
 impl LayoutText {
     ghost use Rattle.std.specs.Prelude.{◌+◌, OnOk};
-    ghost use Rattle.jup_board.specs.Numbered.{item_name, numbered_line, number_after};
+    ghost use Rattle.jup_board.specs.Boards.{item_name, numbered_line, number_after};
 
     // No line yet. It takes no memory.
     fn new(alloc: Global) -> LayoutText
@@ -111,8 +111,7 @@ impl LayoutText {
 }
 
 impl LineSink for LayoutText {
-    ghost use Rattle.jup_board.specs.Numbered.{PutsNumbered};
-    ghost use Rattle.jup_board.specs.Puts.{puts_none, puts_more};
+    ghost use Rattle.jup_board.specs.Boards.{PutsNumbered, puts_none, puts_more};
 
     type Fault = NoMemory;
 

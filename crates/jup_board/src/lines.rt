@@ -12,7 +12,7 @@ pub(crate) struct BoardLines<'a> {
 
 impl<'a> BoardLines<'a> {
     ghost use Rattle.std.specs.Prelude.{◌≡◌, ◌<◌, ◌∷◌, ◌++◌, ℕ, List, [], length, IsOk, IsSome, IsUtf8, MatchOption, IfOk, IfSome};
-    ghost use Rattle.jup_board.specs.Printed.{Lacks};
+    ghost use Rattle.jup_board.specs.Boards.{Lacks};
 
     /// The lines of a text, of which so many came before.
     pub(crate) fn new(rest: &'a [u8], line: u32) -> BoardLines<'a>

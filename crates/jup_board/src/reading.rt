@@ -1,7 +1,7 @@
 //! A board from the text that it is printed as.
 ghost use Rattle.std.specs.Prelude.{◌<◌, ◌^◌, length, IfOk, IsOkUnless};
 ghost use Rattle.jup_board.specs.declared.ending.BoardEnd.TheVariants as ends;
-ghost use Rattle.jup_board.specs.Printed.{IsPrinted, IsPrintOf};
+ghost use Rattle.jup_board.specs.Boards.{IsPrinted, IsPrintOf};
 
 use crate::BoardEnd;
 use crate::faults::{line_fault, window_of};

@@ -1,4 +1,2 @@
-pub mod SomeFault
-pub mod Opened
+pub mod Calls
 pub mod Words
-pub mod Spelled

@@ -34,12 +34,12 @@ use Rattle.std_heap.specs.contracts.Global as Heap
 use Rattle.std_heap.specs.contracts.GlobalAllocator.TheImpl.{ghosts, dict}
 use Rattle.std_heap.proofs.Global.TheLaws as heap
 use Rattle.std.proofs.GlobalToken.{dealloc_token-Testable}
-use Rattle.jup_embed.specs.Sessions.{Session}
+use Rattle.jup_c.specs.Prelude.{Session}
 use Rattle.jup_embed.specs.contracts.client.Client.{the_row as R}
 use Rattle.jup_embed.proofs.client.Client.TheLaws as laws
 use Rattle.jup_c.specs.contracts.handle.JupClient as Handle
 use Rattle.jup_c.specs.contracts.handle.parts.Parts as Parts
-use Rattle.jup_c.specs.Held.{held}
+use Rattle.jup_c.specs.Handles.{held}
 
 abbrev pub E : Bx
 E = record { row = R; laws = laws.the_row_laws; al = record { row = Heap.the_row; laws = heap.the_row_laws; g = ghosts; d = dict; drops = impl [] tnil dnil } }

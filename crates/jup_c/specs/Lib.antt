@@ -1,4 +1,3 @@
-pub mod Held
-pub mod Insides
+pub mod Handles
 pub mod Numbers
-pub mod InNumbers
+pub mod Prelude

@@ -1,21 +1,31 @@
--- The numbers of c/jup.h: of each kind of commands, of changes and of widgets, of each stage, and of each answer.
-use Rattle.std.specs.Prelude.{ℕ, ◌==◌, ◌||◌, nat_le, if◌then◌else◌, Result, Ok, Err}
-use Rattle.jup_seq.specs.declared.operations.SeqOp.TheVariants.{Insert, Delete, Relabel}
-use Rattle.jup_setting.specs.declared.operation.SetOp.TheVariants.{Set as SetTo}
-use Rattle.jup_window.specs.declared.widget_operations.WidgetOp.{WidgetOp}
-use Rattle.jup_window.specs.declared.widget_operations.WidgetOp.TheVariants.{Text as OnText, List as OnList, Toggle as OnToggle, Slider as OnSlider}
-use Rattle.jup_window.specs.declared.commands.Command.{Command}
-use Rattle.jup_window.specs.declared.commands.Command.TheVariants.{Insert as InsertAt, Delete as DeleteAt, Relabel as RelabelAt, Set as SetValue}
-use Rattle.jup_window.specs.declared.commands.Value.TheVariants.{Char, Label}
-use Rattle.jup_window.specs.declared.commands.Setting.TheVariants.{Toggle as ToToggle, Slider as ToSlider}
-use Rattle.jup_window.specs.FaultNumbers.{edit_fault_number}
-use Rattle.jup_rules.specs.Numbers.{client_end_number}
+-- The numbers of c/jup.h, and what is passed in numbers.
+use Rattle.std.specs.Prelude.{ℕ, ◌==◌, ◌||◌, nat_le, if◌then◌else◌, Result, Ok, Err, ◌≡◌, ◌≢◌, ◌↔◌, ◌⊎◌, ℤ, pos, ◌≤◌, IsTrue, List, [], ◌∷◌, length, take, replicate}
+use Rattle.std.specs.Char.{IsScalar}
+use Rattle.jup_limits.specs.Limits.{longest_label}
+use Rattle.jup_value.specs.Labels.{IsLabelText}
+use Rattle.jup_c.specs.Prelude.{Command, BoardOp, JupCommand, JupChange}
+use Rattle.jup_window.specs.declared.commands.Value.{Value}
+use Rattle.jup_window.specs.declared.commands.Setting.{Setting}
+use Rattle.jup_window.specs.Commands.{command_place}
+use Rattle.jup_rules.specs.Ends.{client_end_number}
 use Rattle.jup_embed.specs.declared.client.Stage.{Stage}
 use Rattle.jup_embed.specs.declared.client.Stage.TheVariants.{Greeting, Opening, Open, Over}
 use Rattle.jup_embed.specs.declared.board_view.WidgetKind.{WidgetKind}
 use Rattle.jup_embed.specs.declared.board_view.WidgetKind.TheVariants.{Text, List as Labels, Toggle, Slider}
-use Rattle.jup_embed.specs.declared.refusals.EmbedFault.{EmbedFault}
 use Rattle.jup_embed.specs.declared.refusals.EmbedFault.TheVariants.{NotOpen, Over as WasOver, Edit, NoMemory}
+use Rattle.jup_embed.specs.declared.board_view.WidgetView.{WidgetView}
+use Rattle.jup_embed.specs.declared.board_view.WidgetKind.TheVariants as widget
+use Rattle.jup_c.specs.declared.views.JupWidget.{JupWidget}
+use Rattle.jup_embed.specs.Prelude.{edit_fault_number}
+use Rattle.jup_window.specs.Prelude.{SetTo, Insert, Delete, Relabel}
+use Rattle.jup_embed.specs.declared.refusals.EmbedFault.{EmbedFault}
+use Rattle.jup_window.specs.declared.widget_operations.WidgetOp.{WidgetOp}
+use Rattle.jup_window.specs.declared.widget_operations.WidgetOp.TheVariants.{Text as OnText, List as OnList, Toggle as OnToggle, Slider as OnSlider}
+use Rattle.jup_window.specs.declared.commands.Command.TheVariants.{Insert as InsertAt, Delete as DeleteAt, Relabel as RelabelAt, Set as SetValue}
+use Rattle.jup_window.specs.declared.commands.Value.TheVariants.{Char, Label}
+use Rattle.jup_window.specs.declared.commands.Setting.TheVariants.{Toggle as ToToggle, Slider as ToSlider}
+
+-- The numbers of c/jup.h: of each kind of commands, of changes and of widgets, of each stage, and of each answer.
 
 -- what a command asks for
 abbrev pub command_kind : Command → ℕ
@@ -91,3 +101,132 @@ refusal_answer NoMemory = 8
 abbrev pub answer : Result (Unit {0}) EmbedFault → ℕ
 answer (Ok done) = 0
 answer (Err refused) = refusal_answer refused
+
+-- Commands, changes and widgets as C passes them, in numbers.
+
+-- the bytes that a command has of a label
+abbrev pub label_bytes : JupCommand → List ℕ
+label_bytes told = take told.label_len told.label
+
+-- a command has this label
+pub record HasLabel (told : JupCommand) (label : List ℕ) : Type 0 where
+  pub fits : told.label_len ≤ length told.label
+  pub bytes : label_bytes told ≡ label
+  pub text : IsLabelText label
+
+abbrev pub HasValue : JupCommand → Value → Type 0
+HasValue told (Char value) = (told.value ≡ pos value) × IsScalar value
+HasValue told (Label label) = HasLabel told label
+
+abbrev pub HasSetting : JupCommand → Setting → Type 0
+HasSetting told (ToToggle on) = IsTrue on ↔ (told.value ≢ pos 0)
+HasSetting told (ToSlider value) = told.value ≡ value
+
+-- the fields that the kind of the command uses beside the ids
+abbrev pub HasFields : JupCommand → Command → Type 0
+HasFields told (InsertAt win wid place value) = (told.place ≡ place) × HasValue told value
+HasFields told (DeleteAt win wid place) = told.place ≡ place
+HasFields told (RelabelAt win wid place label) = (told.place ≡ place) × HasLabel told label
+HasFields told (SetValue win wid setting) = HasSetting told setting
+
+-- these numbers spell the command
+pub record Spells (told : JupCommand) (command : Command) : Type 0 where
+  pub kind : told.kind ≡ command_kind command
+  pub ids : (told.win, told.wid) ≡ command_place command
+  pub fields : HasFields told command
+
+-- the answer for numbers that are no command: what is wrong is the label, if their kind has one
+abbrev pub wrong_part : JupCommand → ℕ
+wrong_part told = if told.kind == 2 || told.kind == 4 then bad_label else bad_command
+
+-- these numbers are no command, and this is the answer
+pub record IsWrong (fault : ℕ) (told : JupCommand) : Type 0 where
+  pub none : (command : Command) → Spells told command → ⊥
+  pub answer : fault ≡ wrong_part told
+
+-- these numbers spell the commands, one after the other
+abbrev pub SpellAll : List JupCommand → List Command → Type 0
+SpellAll [] [] = Unit {0}
+SpellAll (told ∷ rest) (command ∷ commands) = Spells told command × SpellAll rest commands
+SpellAll told commands = ⊥
+
+-- of these numbers the first that are no command have this answer
+abbrev pub IsFirstWrong : ℕ → List JupCommand → Type 0
+IsFirstWrong fault [] = ⊥
+IsFirstWrong fault (told ∷ rest) = IsWrong fault told ⊎ ((command : Command) × Spells told command × IsFirstWrong fault rest)
+
+-- a change of which only the kind and the ids of the widget are known
+abbrev pub bare_change : ℕ → BoardOp → JupChange
+bare_change kind op = record { kind = kind; win = op.win; wid = op.wid; place = 0; site = 0; number = 0; value = pos 0; label_len = 0; label = replicate longest_label 0 }
+
+-- where it was in the text or the list, and 0 in other widgets
+abbrev pub change_place : WidgetOp → ℕ
+change_place (OnText (Insert place item)) = place
+change_place (OnList (Insert place item)) = place
+change_place (OnText (Delete place name)) = place
+change_place (OnList (Delete place name)) = place
+change_place (OnList (Relabel place name label)) = place
+change_place other = 0
+
+-- the site and the number of the item, and zeros if it was of none
+abbrev pub change_name : WidgetOp → ℕ × ℕ
+change_name (OnText (Insert place item)) = (item.name.site, item.name.number)
+change_name (OnList (Insert place item)) = (item.name.site, item.name.number)
+change_name (OnText (Delete place name)) = (name.site, name.number)
+change_name (OnList (Delete place name)) = (name.site, name.number)
+change_name (OnList (Relabel place name label)) = (name.site, name.number)
+change_name other = (0, 0)
+
+-- the character that was inserted, or the value that was set, and 0 if there was none
+abbrev pub change_value : WidgetOp → ℤ
+change_value (OnText (Insert place item)) = pos item.value
+change_value (OnToggle (SetTo on)) = pos (if on then 1 else 0)
+change_value (OnSlider (SetTo value)) = value
+change_value other = pos 0
+
+-- the label that was inserted or given, and no byte if there was none
+abbrev pub change_label : WidgetOp → List ℕ
+change_label (OnList (Insert place item)) = item.value
+change_label (OnList (Relabel place name label)) = label
+change_label other = []
+
+-- a change shows what this operation did
+pub record Shows (change : JupChange) (op : BoardOp) : Type 0 where
+  pub kind : change.kind ≡ change_kind op.op
+  pub win : change.win ≡ op.win
+  pub wid : change.wid ≡ op.wid
+  pub place : change.place ≡ change_place op.op
+  pub name : (change.site, change.number) ≡ change_name op.op
+  pub value : change.value ≡ change_value op.op
+  pub label_len : change.label_len ≡ length (change_label op.op)
+  pub label : take change.label_len change.label ≡ change_label op.op
+
+-- how many characters or items a widget has
+abbrev pub widget_items : WidgetKind → ℕ
+widget_items (widget.Text count) = count
+widget_items (widget.List count) = count
+widget_items other = 0
+
+-- the bounds of a slider, and what a toggle or a slider shows
+abbrev pub widget_lo : WidgetKind → ℤ
+widget_lo (widget.Slider lo hi value) = lo
+widget_lo other = pos 0
+
+abbrev pub widget_hi : WidgetKind → ℤ
+widget_hi (widget.Slider lo hi value) = hi
+widget_hi other = pos 0
+
+abbrev pub widget_value : WidgetKind → ℤ
+widget_value (widget.Toggle on) = pos (if on then 1 else 0)
+widget_value (widget.Slider lo hi value) = value
+widget_value other = pos 0
+
+-- a widget in numbers is this widget
+pub record IsWidget (widget : JupWidget) (view : WidgetView) : Type 0 where
+  pub kind : widget.kind ≡ widget_kind view.kind
+  pub win : widget.win ≡ view.win
+  pub wid : widget.wid ≡ view.wid
+  pub items : widget.items ≡ widget_items view.kind
+  pub lo : widget.lo ≡ widget_lo view.kind
+  pub hi : widget.hi ≡ widget_hi view.kind
+  pub value : widget.value ≡ widget_value view.kind

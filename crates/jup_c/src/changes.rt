@@ -1,6 +1,6 @@
 //! Changes of a board as C reads them.
 ghost use Rattle.std.specs.Prelude.{◌≡◌, pos, length, take};
-ghost use Rattle.jup_c.specs.InNumbers.{bare_change, Shows};
+ghost use Rattle.jup_c.specs.Numbers.{bare_change, Shows};
 
 use crate::kinds::{DELETE, INSERT_CHAR, INSERT_LABEL, NOTHING, RELABEL, SET_SLIDER, SET_TOGGLE};
 use jup_limits::LONGEST_LABEL;

@@ -3,8 +3,7 @@ ghost use Rattle.std.specs.Prelude.{◌≡◌, ◌≢◌, ◌↔◌, pos, ℕ, L
 ghost use Rattle.std.specs.Char.{IsScalar};
 ghost use Rattle.jup_window.specs.declared.commands.Command.{Command as AnyCommand};
 ghost use Rattle.jup_window.specs.declared.commands.Command.TheVariants.{Set as SetValue};
-ghost use Rattle.jup_c.specs.Numbers.{bad_label, bad_command};
-ghost use Rattle.jup_c.specs.InNumbers.{HasLabel, Spells, SpellAll, IsFirstWrong, wrong_part};
+ghost use Rattle.jup_c.specs.Numbers.{bad_label, bad_command, HasLabel, Spells, SpellAll, IsFirstWrong, wrong_part};
 
 use crate::kinds::{DELETE, INSERT_CHAR, INSERT_LABEL, RELABEL, SET_SLIDER, SET_TOGGLE};
 use crate::numbers::{BAD_COMMAND, BAD_LABEL};

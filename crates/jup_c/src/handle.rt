@@ -1,7 +1,7 @@
 //! The one word that C keeps of a client.
 ghost use Rattle.std.specs.Prelude.{◌≡◌, Option, None, Some, MatchOption};
 ghost use Rattle.jup_embed.specs.Sessions.{Session};
-ghost use Rattle.jup_c.specs.Held.{held, inside_coded};
+ghost use Rattle.jup_c.specs.Handles.{held, inside_coded};
 
 mod parts;
 

@@ -9,7 +9,7 @@ mod numbers;
 mod views;
 
 ghost use Rattle.std.specs.Prelude.{◌≡◌, ◌≢◌, ◌≤◌, [], length, take, drop, None, Some, IfSome};
-ghost use Rattle.jup_c.specs.Insides.{IsFresh, waiting_in, after_taking, FeedsInside, EditsInside, EditsSpelled, TellsInside, stage_inside, fault_inside, changes_inside};
+ghost use Rattle.jup_c.specs.Handles.{IsFresh, waiting_in, after_taking, FeedsInside, EditsInside, EditsSpelled, TellsInside, stage_inside, fault_inside, changes_inside};
 
 pub use changes::JupChange;
 use changes::change_of;
@@ -30,7 +30,7 @@ use views::{copy_bytes, widget_of};
 
 /// Opens a client, in the place of the one that was there. Where `watch` is not 0, the changes of its board are kept until they are
 /// asked for.
-#[tactic(auto, using(crate::proofs::Opened::fresh_inside))]
+#[tactic(auto, using(crate::proofs::Calls::fresh_inside))]
 #[unsafe(no_mangle)]
 pub extern "C" fn jup_open(alloc: Global, client: &mut JupClient, watch: u32) -> u32
     ensures opened { result ≡ 0 → IsFresh client.new.inside }
@@ -58,7 +58,7 @@ pub extern "C" fn jup_close(alloc: Global, client: &mut JupClient)
 }
 
 /// How far the session is, and the number of its fault where it is over.
-#[tactic(auto, using(crate::proofs::Opened::stage_known, crate::proofs::Opened::fault_known))]
+#[tactic(auto, using(crate::proofs::Calls::stage_known, crate::proofs::Calls::fault_known))]
 #[unsafe(no_mangle)]
 pub extern "C" fn jup_stage(alloc: Global, client: &mut JupClient, fault: &mut u32) -> u32
     ensures stage { result ≡ stage_inside client.old.inside }
@@ -76,7 +76,7 @@ pub extern "C" fn jup_stage(alloc: Global, client: &mut JupClient, fault: &mut u
 }
 
 /// Takes bytes that the server sent. A fault ends the session.
-#[tactic(auto, using(crate::proofs::Opened::feeds_inside))]
+#[tactic(auto, using(crate::proofs::Calls::feeds_inside))]
 #[unsafe(no_mangle)]
 pub extern "C" fn jup_feed(alloc: Global, client: &mut JupClient, bytes: &[u8]) -> u32
     ensures { result ≡ 0 → FeedsInside bytes.now client.old.inside client.new.inside }
@@ -93,7 +93,7 @@ pub extern "C" fn jup_feed(alloc: Global, client: &mut JupClient, bytes: &[u8]) 
 }
 
 /// How many bytes wait to be sent.
-#[tactic(auto, using(crate::proofs::Opened::waits_inside))]
+#[tactic(auto, using(crate::proofs::Calls::waits_inside))]
 #[unsafe(no_mangle)]
 pub extern "C" fn jup_waiting(alloc: Global, client: &mut JupClient) -> usize
     ensures count { result ≡ length (waiting_in client.old.inside) }
@@ -108,7 +108,7 @@ pub extern "C" fn jup_waiting(alloc: Global, client: &mut JupClient) -> usize
 }
 
 /// Moves bytes out that wait to be sent, the oldest first, and returns how many.
-#[tactic(auto, using(crate::proofs::Opened::waits_inside, crate::proofs::Opened::taken_inside))]
+#[tactic(auto, using(crate::proofs::Calls::waits_inside, crate::proofs::Calls::taken_inside))]
 #[unsafe(no_mangle)]
 pub extern "C" fn jup_take(alloc: Global, client: &mut JupClient, to: &mut [u8]) -> usize
     ensures fits { result ≤ length to.old }
@@ -125,7 +125,7 @@ pub extern "C" fn jup_take(alloc: Global, client: &mut JupClient, to: &mut [u8])
 }
 
 /// Makes one edit of 1 to 32 commands. A refusal changes nothing.
-#[tactic(auto, using(crate::proofs::Opened::edits_spelled))]
+#[tactic(auto, using(crate::proofs::Calls::edits_spelled))]
 #[unsafe(no_mangle)]
 pub extern "C" fn jup_edit(alloc: Global, client: &mut JupClient, commands: &[JupCommand]) -> u32
     ensures made { result ≡ 0 → EditsSpelled commands.now client.old.inside client.new.inside }
@@ -140,7 +140,7 @@ pub extern "C" fn jup_edit(alloc: Global, client: &mut JupClient, commands: &[Ju
     }
 }
 
-#[tactic(auto, using(crate::proofs::Opened::edits_spelled))]
+#[tactic(auto, using(crate::proofs::Calls::edits_spelled))]
 fn edit_many(alloc: Global, client: &mut JupClient, commands: &[JupCommand]) -> u32
     ensures made { result ≡ 0 → EditsSpelled commands.now client.old.inside client.new.inside }
     ensures refused { result ≢ 0 → client.new.inside ≡ client.old.inside }
@@ -157,7 +157,7 @@ fn edit_many(alloc: Global, client: &mut JupClient, commands: &[JupCommand]) -> 
     edit(alloc, client, read)
 }
 
-#[tactic(auto, using(crate::proofs::Opened::edits_inside))]
+#[tactic(auto, using(crate::proofs::Calls::edits_inside))]
 fn edit(alloc: Global, client: &mut JupClient, commands: &[Command]) -> u32
     ensures made { result ≡ 0 → EditsInside commands.now client.old.inside client.new.inside }
     ensures refused { result ≢ 0 → client.new.inside ≡ client.old.inside }
@@ -247,7 +247,7 @@ fn ask(alloc: Global, client: &mut Client, line: &[u8]) -> (Option<Vec<u8>>, u32
 }
 
 /// The oldest change that was not told: 1, or 0 where there is none.
-#[tactic(auto, using(crate::proofs::Opened::tells_inside, crate::proofs::Opened::nothing_inside))]
+#[tactic(auto, using(crate::proofs::Calls::tells_inside, crate::proofs::Calls::nothing_inside))]
 #[unsafe(no_mangle)]
 pub extern "C" fn jup_next_change(alloc: Global, client: &mut JupClient, out: &mut JupChange) -> u32
     ensures told { result ≡ 1 → TellsInside out.new client.old.inside client.new.inside }

@@ -1,7 +1,7 @@
 //! The numbers that calls answer: 0 after a call that was done, the numbers of faults that all programs share, and from 90 on those of the
 //! library itself.
 ghost use Rattle.std.specs.Prelude.{◌≢◌, ◌≡◌, IsErr, IsOk};
-ghost use Rattle.jup_rules.specs.Numbers.{client_end_number};
+ghost use Rattle.jup_rules.specs.Ends.{client_end_number};
 ghost use Rattle.jup_c.specs.Numbers.{stage_number, stage_fault, end_answer, answer};
 
 use jup_embed::{EmbedFault, Stage};
@@ -50,7 +50,7 @@ pub(crate) fn number_of_end(end: ClientEnd) -> u32
 }
 
 /// 0, or the number of the fault.
-#[tactic(auto, using(crate::proofs::SomeFault::some_fault))]
+#[tactic(auto, using(crate::proofs::Calls::some_fault))]
 pub(crate) fn number_of_edit(outcome: Result<(), EmbedFault>) -> u32
     ensures answer { result ≡ answer outcome }
     ensures refused { result ≢ 0 → IsErr outcome }

@@ -1,6 +1,6 @@
 //! Widgets and texts as C reads them.
 ghost use Rattle.std.specs.Prelude.{◌≡◌, length, min, take, drop};
-ghost use Rattle.jup_c.specs.InNumbers.{IsWidget};
+ghost use Rattle.jup_c.specs.Numbers.{IsWidget};
 
 use crate::kinds::{LIST, SLIDER, TEXT, TOGGLE};
 use jup_embed::{WidgetKind, WidgetView};

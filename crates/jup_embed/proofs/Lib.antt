@@ -1,5 +1,1 @@
-pub mod Joined
-pub mod Heard
-pub mod Copies
-pub mod Refused
-pub mod Stopped
+pub mod Sessions

@@ -1,6 +1,3 @@
-pub mod Changes
-pub mod Copies
-pub mod Phases
+pub mod Prelude
 pub mod Sessions
-pub mod UnsentBytes
 pub mod Views

@@ -1,39 +1,83 @@
--- A session as its client sees it, and what each call makes of it.
-use Rattle.std.specs.Prelude.{◌≡◌, ◌⊎◌, ℕ, ◌++◌, ◌∷◌, [], Bool, true, false, ◌||◌, if◌then◌else◌, List, length, Option, Some, None, Result, Ok, Err}
-use Rattle.jup_batch.specs.BatchBoards.{Windows}
-use Rattle.jup_window.specs.declared.commands.Command.{Command}
-use Rattle.jup_window.specs.declared.board_operations.BoardOp.{BoardOp}
-use Rattle.jup_window.specs.FaultNumbers.{edit_fault_number}
-use Rattle.jup_star.specs.declared.site.Made.{Made}
-use Rattle.jup_star.specs.SiteCalls.{BoardSite, EditAnswers, edit_reply, is_edit_memory}
-use Rattle.jup_window.specs.declared.faults.EditFault.{EditFault}
-use Rattle.jup_wire.specs.declared.faults.WireFault.{WireFault}
-use Rattle.jup_wire.specs.declared.line.Line.{Line}
+-- A session as its client sees it.
+use Rattle.std.specs.Prelude.{ℕ, Bool, true, false, List, [], Option, Some, None, ◌≡◌, Result, Ok, Err, ◌⊎◌, ◌++◌, ◌∷◌, ◌||◌, if◌then◌else◌, length}
+use Rattle.std.specs.List.{flat_map}
+use Rattle.jup_embed.specs.Prelude.{BoardOp, Command, EditFault, edit_fault_number, Made, Line, WireFault, line_bytes, Said, ClientEnd, Heard, ClientState, NoMemory, Wire, Request, Told, Answer, end_of_fault, Phase, EmbedFault}
+use Rattle.jup_batch.specs.Boards.{Windows, after}
+use Rattle.jup_star.specs.Sites.{BoardSite, EditAnswers, edit_reply, is_edit_memory}
 use Rattle.jup_wire.specs.Streams.{Progress, HasRead}
-use Rattle.jup_rules.specs.declared.session.Said.{Said}
-use Rattle.jup_rules.specs.declared.session.Said.TheVariants.{Up as SaysUp}
-use Rattle.jup_rules.specs.declared.ends.ClientEnd.{ClientEnd}
-use Rattle.jup_rules.specs.declared.ends.ClientEnd.TheVariants.{NoMemory}
-use Rattle.jup_rules.specs.declared.ends.SessionFault.TheVariants.{Wire}
-use Rattle.jup_rules.specs.ClientEnds.{end_of_fault}
-use Rattle.jup_rules.specs.Numbers.{client_end_number}
-use Rattle.jup_rules.specs.declared.client.Request.{Request}
-use Rattle.jup_rules.specs.declared.client.Request.TheVariants.{Sync}
-use Rattle.jup_rules.specs.declared.client.Told.{Told}
-use Rattle.jup_rules.specs.declared.client.Answer.{Answer}
-use Rattle.jup_rules.specs.declared.client.Heard.{Heard}
-use Rattle.jup_rules.specs.declared.client.ClientState.{ClientState}
-use Rattle.jup_rules.specs.Clients.{Answers}
-use Rattle.jup_rules.specs.Requests.{Begun, IsHeld, ComesTo}
-use Rattle.jup_embed.specs.declared.phase.Phase.{Phase}
-use Rattle.jup_embed.specs.declared.phase.Phase.TheVariants as phase
+use Rattle.jup_gather.specs.Gathering.{piece_lines}
+use Rattle.jup_rules.specs.declared.client.Opening.{Opening}
+use Rattle.jup_rules.specs.Clients.{Hears, IsGreeted, HearsWelcome, Answers, Begun, IsHeld, ComesTo}
+use Rattle.jup_rules.specs.Sessions.{said_piece}
+use Rattle.jup_rules.specs.Ends.{client_end_number}
 use Rattle.jup_embed.specs.declared.client.Stage.{Stage}
+use Rattle.jup_embed.specs.declared.phase.Phase.TheVariants as phase
 use Rattle.jup_embed.specs.declared.client.Stage.TheVariants as stage
-use Rattle.jup_embed.specs.declared.refusals.EmbedFault.{EmbedFault}
 use Rattle.jup_embed.specs.declared.refusals.EmbedFault.TheVariants as fault
-use Rattle.jup_embed.specs.Changes.{kept, operations_in, operations_said}
-use Rattle.jup_embed.specs.UnsentBytes.{said_bytes}
-use Rattle.jup_embed.specs.Phases.{PhaseHears}
+use Rattle.jup_rules.specs.Prelude.{BoardBatch, UpOp}
+use Rattle.jup_rules.specs.declared.session.Said.TheVariants.{Up as SaysUp}
+use Rattle.jup_rules.specs.declared.client.Request.TheVariants.{Sync}
+
+-- The operations that a board took and that the client has not told its user.
+
+-- these operations, whether they are kept at all, and for how many more there is room
+pub record Untold : Type 0 where
+  pub untold : List BoardOp
+  pub watched : Bool
+  pub room : ℕ
+
+-- what is kept of the operations of an edit
+abbrev pub kept : Bool → List BoardOp → List BoardOp
+kept true ops = ops
+kept false ops = []
+
+-- the operations of another site's edit that a board took
+abbrev pub operations_in : Option BoardBatch → List BoardOp
+operations_in None = []
+operations_in (Some ops) = ops
+
+-- those of an edit that the client says to the server
+abbrev pub operations_said : Option Said → List BoardOp
+operations_said (Some (SaysUp (UpOp msg))) = msg.op
+operations_said other = []
+
+-- What a line of the server makes of a session.
+
+-- what a line does that the client does not answer, and of which its user sees nothing
+abbrev pub nothing_heard : Heard
+nothing_heard = record { said = None; is_synced = false; shown = None }
+
+-- what the first line makes of the session
+abbrev pub Greets : Result Opening ClientEnd → Phase → Result Heard ClientEnd → Phase → Type 0
+Greets (Ok opening) old r new = (r ≡ Ok nothing_heard) × (new ≡ phase.Opening opening)
+Greets (Err end) old r new = (r ≡ Err end) × (new ≡ old)
+
+-- what a later line of the welcome makes of the session
+abbrev pub Opens : Opening → Result (Option ClientState) ClientEnd → Result Heard ClientEnd → Phase → Type 0
+Opens opening (Ok None) r new = (r ≡ Ok nothing_heard) × (new ≡ phase.Opening opening)
+Opens opening (Ok (Some state)) r new = (r ≡ Ok nothing_heard) × (new ≡ phase.Open state)
+Opens opening (Err end) r new = r ≡ Err end
+
+-- the greeting, then the rest of the welcome, then messages, which the client hears
+abbrev pub PhaseHears : Line → Phase → Result Heard ClientEnd → Phase → Type 0
+PhaseHears line phase.Greeting r new = (opened : Result Opening ClientEnd) × IsGreeted line opened × Greets opened phase.Greeting r new
+PhaseHears line (phase.Opening old) r new = (taken : Result (Option ClientState) ClientEnd) × (opening : Opening) × HearsWelcome line old taken opening × Opens opening taken r new
+PhaseHears line (phase.Open old) r new = (state : ClientState) × Hears line old r state × (new ≡ phase.Open state)
+PhaseHears line (phase.Over end) r new = (r ≡ Err end) × (new ≡ phase.Over end)
+
+-- Bytes for the server, which wait to be sent.
+
+-- the bytes that wait, and for how many more there is room
+pub record Waiting : Type 0 where
+  pub bytes : List ℕ
+  pub room : ℕ
+
+-- the lines of what a client says, as bytes
+abbrev pub said_bytes : Option Said → List ℕ
+said_bytes None = []
+said_bytes (Some said) = flat_map line_bytes (piece_lines (said_piece said))
+
+-- A session as its client sees it, and what each call makes of it.
 
 -- How the bytes fed so far were read, and how far the session is. The bytes that wait to be sent. The operations that the board took and that the client
 -- has not told, and whether it keeps them. The lines of a batch of commands that has begun. Whether the server answered the last ping.
@@ -141,11 +185,11 @@ refusal_of refused = if is_edit_memory refused then fault.NoMemory else fault.Ed
 -- a site refuses these commands so
 abbrev pub RefusesAt : List Command → BoardSite → EmbedFault → Type 0
 RefusesAt commands site fault.NoMemory = Unit {0}
-RefusesAt commands site (fault.Edit refused) = Err (edit_fault_number refused) ≡ edit_reply commands site
+RefusesAt commands site (fault.Edit refused) = Err refused ≡ edit_reply commands site
 RefusesAt commands site other = ⊥
 
 abbrev pub RefusedIn : List Command → EditFault → Phase → Type 0
-RefusedIn commands refused (phase.Open state) = Err (edit_fault_number refused) ≡ edit_reply commands state.site
+RefusedIn commands refused (phase.Open state) = Err refused ≡ edit_reply commands state.site
 RefusedIn commands refused other = ⊥
 
 -- why an edit is refused: an allocation fails, or the session is not open, or its site refuses the commands
@@ -193,3 +237,13 @@ abbrev pub Commands : Result (Option Told) EmbedFault → List ℕ → Session �
 Commands (Ok told) line c d = (asked : Option Request) × ((lines : List (List ℕ)) → IsHeld lines c.asked → ComesTo (lines ++ line ∷ []) asked d.asked)
     × DoesAsked (Ok told) asked (record c { asked = d.asked }) d
 Commands (Err refused) line c d = d ≡ record c { asked = d.asked }
+
+-- Copies of the board of an open session. A copy takes each operation that the client tells.
+
+-- what a copy lacks of the board is what the client has not told
+abbrev pub LacksUntold : Windows → Session → Type 0
+LacksUntold copy c = board_in c.phase ≡ Some (after c.changes copy)
+
+-- a copy that lacked just that before a call lacks just that after it
+abbrev pub KeepsCopies : Session → Session → Type 0
+KeepsCopies c d = (copy : Windows) → c.watched ≡ true → LacksUntold copy c → LacksUntold copy d

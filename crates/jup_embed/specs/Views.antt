@@ -1,14 +1,14 @@
 -- What is read of a board from outside.
 use Rattle.std.specs.Prelude.{ℕ, List, length, map, slice_get, Option, Some, None}
 use Rattle.std.specs.Option.{option_map, option_and_then}
-use Rattle.jup_value.specs.declared.names.Item.{Item}
+use Rattle.jup_embed.specs.Prelude.{Item}
 use Rattle.jup_window.specs.Boards.{Windows}
 use Rattle.jup_window.specs.Entries.{Place, widget_at}
-use Rattle.jup_window.specs.declared.widgets.Widget.{Widget}
-use Rattle.jup_window.specs.declared.widgets.Widget.TheVariants.{Text, List as Labels, Toggle, Slider}
 use Rattle.jup_embed.specs.declared.board_view.WidgetKind.{WidgetKind}
 use Rattle.jup_embed.specs.declared.board_view.WidgetKind.TheVariants as kind
 use Rattle.jup_embed.specs.declared.board_view.WidgetView.{WidgetView}
+use Rattle.jup_window.specs.declared.widgets.Widget.{Widget}
+use Rattle.jup_window.specs.declared.widgets.Widget.TheVariants.{Text, List as Labels, Toggle, Slider}
 
 -- the id of the window at an index, and how many widgets it has
 abbrev pub window_shown : ℕ → Windows → Option (ℕ × ℕ)

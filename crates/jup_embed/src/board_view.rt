@@ -74,7 +74,7 @@ pub fn copy_text(board: &Board, win: u16, wid: u16, place: u32, to: &mut [u32]) 
 }
 
 // Copies characters from a place on, as far as there is room.
-#[tactic(auto, using(crate::proofs::Joined::copied_value))]
+#[tactic(auto, using(crate::proofs::Sessions::copied_value))]
 fn copy_chars(text: &Seq<char>, place: u32, to: &mut [u32]) -> usize
     ensures count { result ≡ min (length to.old) (length text.now.items - place) }
     ensures copied { take result to.new ≡ take result (drop place (values_of text.now.items)) }
@@ -89,7 +89,7 @@ fn copy_chars(text: &Seq<char>, place: u32, to: &mut [u32]) -> usize
 }
 
 // The character at a place, or 0 if there is none.
-#[tactic(auto, using(crate::proofs::Joined::value_within, crate::proofs::Joined::value_past))]
+#[tactic(auto, using(crate::proofs::Sessions::value_within, crate::proofs::Sessions::value_past))]
 fn scalar_at(text: &Seq<char>, place: u32) -> u32
     ensures { result ≡ get_or (values_of text.now.items) place 0 }
 {

@@ -1,6 +1,6 @@
 //! The operations that a board took and that the client has not told its user.
 ghost use Rattle.std.specs.Prelude.{◌≡◌, ◌≤◌, ◌+◌, ◌++◌, ◌∷◌, [], length, vec_len, vec_capacity, IsTrue, OnOk, MatchOption};
-ghost use Rattle.jup_embed.specs.Changes.{kept, operations_in, operations_said};
+ghost use Rattle.jup_embed.specs.Sessions.{kept, operations_in, operations_said};
 
 use jup_batch::{BoardBatch, MOST_COMMANDS};
 use jup_rules::Said;
@@ -23,7 +23,7 @@ pub(crate) struct Changes {
 
 impl Model for Changes {
     ghost use Rattle.std.specs.Prelude.{◌-◌, ◌≤◌, drop, length, vec_len, vec_capacity};
-    ghost use Rattle.jup_embed.specs.Changes.{Untold};
+    ghost use Rattle.jup_embed.specs.Sessions.{Untold};
 
     ghost Value = { Untold };
 
@@ -47,7 +47,7 @@ impl Changes {
     }
 
     /// Tells the oldest.
-    #[tactic(auto, using(crate::proofs::Joined::one_left, crate::proofs::Joined::none_left))]
+    #[tactic(auto, using(crate::proofs::Sessions::one_left, crate::proofs::Sessions::none_left))]
     pub(crate) fn next(&mut self) -> Option<BoardOp>
         ensures told { MatchOption result ((self.old.untold ≡ []) × (self.new.untold ≡ [])) (λ op. self.old.untold ≡ op ∷ self.new.untold) }
         ensures watched { self.new.watched ≡ self.old.watched }
@@ -75,7 +75,7 @@ impl Changes {
     }
 
     /// Keeps the operations of another site's edit, if somebody watches. There is room for them.
-    #[tactic(auto, using(crate::proofs::Joined::none_more, crate::proofs::Joined::none_kept))]
+    #[tactic(auto, using(crate::proofs::Sessions::none_more, crate::proofs::Sessions::none_kept))]
     pub(crate) fn keep_shown(&mut self, shown: Option<BoardBatch>)
         requires { IsTrue self.old.watched → 32 ≤ self.old.room }
         ensures untold { self.new.untold ≡ self.old.untold ++ kept self.old.watched (operations_in shown) }
@@ -87,7 +87,7 @@ impl Changes {
     }
 
     /// Keeps the operations of what the client says, if that is an edit and somebody watches. There is room for them.
-    #[tactic(auto, using(crate::proofs::Joined::none_more, crate::proofs::Joined::none_kept))]
+    #[tactic(auto, using(crate::proofs::Sessions::none_more, crate::proofs::Sessions::none_kept))]
     pub(crate) fn keep_said(&mut self, said: &Option<Said>)
         requires { IsTrue self.old.watched → 32 ≤ self.old.room }
         ensures untold { self.new.untold ≡ self.old.untold ++ kept self.old.watched (operations_said said.now) }
@@ -99,7 +99,7 @@ impl Changes {
     }
 
     // Keeps operations, if somebody watches.
-    #[tactic(auto, using(crate::proofs::Joined::none_more))]
+    #[tactic(auto, using(crate::proofs::Sessions::none_more))]
     fn keep(&mut self, ops: &[BoardOp])
         requires few { length ops.now ≤ 32 }
         requires room { IsTrue self.old.watched → 32 ≤ self.old.room }

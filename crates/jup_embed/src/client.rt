@@ -1,17 +1,16 @@
 //! A client of one session.
 ghost use Rattle.std.specs.Prelude.{◌≡◌, ◌≤◌, ◌||◌, [], ◌∷◌, length, take, drop, None, Some, Ok, Err, IfOk, IfErr, OnOk, OnErr, IfSome, IsNone, MatchOption};
-ghost use Rattle.jup_wire.specs.Grammar.{line_bytes};
+ghost use Rattle.jup_wire.specs.Lines.{line_bytes};
 ghost use Rattle.jup_wire.specs.Streams.{HasRead};
 ghost use Rattle.jup_wire.specs.declared.line.Line.TheVariants.{Hello};
-ghost use Rattle.jup_batch.specs.BatchBoards.{Windows, after, bare};
-ghost use Rattle.jup_star.specs.SiteCalls.{EditAnswers};
+ghost use Rattle.jup_batch.specs.Boards.{Windows, after, bare};
+ghost use Rattle.jup_star.specs.Sites.{EditAnswers};
 ghost use Rattle.jup_rules.specs.declared.ends.ClientEnd.{ClientEnd as AnyEnd};
 ghost use Rattle.jup_rules.specs.declared.client.Told.TheVariants.{Synced, Bye as SaidBye};
 ghost use Rattle.jup_rules.specs.declared.client.Request.TheVariants.{Sync, Quit};
 ghost use Rattle.jup_rules.specs.declared.session.Said.TheVariants.{Up as SaysUp};
 ghost use Rattle.jup_embed.specs.declared.phase.Phase.TheVariants.{Greeting as InGreeting, Over as IsOver};
-ghost use Rattle.jup_embed.specs.Copies.{LacksUntold, KeepsCopies};
-ghost use Rattle.jup_embed.specs.Sessions.{stage_of, board_in, site_in, still_synced, refusal_of, HearsLine, HearsLines, Feeds, KeepsRest, RefusesLine, HearsUpTo, Ends, EditedIn, MakesEdit, RefusesEdit, RefusesAt, AnsweredIn, IsDone, Asks, DoesAsked, Commands};
+ghost use Rattle.jup_embed.specs.Sessions.{LacksUntold, KeepsCopies, stage_of, board_in, site_in, still_synced, refusal_of, HearsLine, HearsLines, Feeds, KeepsRest, RefusesLine, HearsUpTo, Ends, EditedIn, MakesEdit, RefusesEdit, RefusesAt, AnsweredIn, IsDone, Asks, DoesAsked, Commands};
 
 use crate::changes::Changes;
 use crate::phase::Phase;
@@ -155,7 +154,7 @@ impl Client {
     }
 
     /// Takes bytes that the server sent, cut anywhere, and hears the lines of all bytes so far in order. A fault ends the session.
-    #[tactic(auto, using(crate::proofs::Copies::fed_keeps))]
+    #[tactic(auto, using(crate::proofs::Sessions::fed_keeps))]
     pub fn feed(&mut self, alloc: Global, bytes: &[u8]) -> Result<(), ClientEnd>
         ensures fed { OnOk result (Feeds bytes.now self.old self.new) }
         ensures copies { OnOk result (KeepsCopies self.old self.new) }
@@ -230,7 +229,7 @@ impl Client {
 
     /// Makes one edit of 1 to 32 commands, each of the board after those before it. The board shows it immediately, and its message waits
     /// to be sent. A refusal changes nothing.
-    #[tactic(auto, using(crate::proofs::Copies::made_keeps))]
+    #[tactic(auto, using(crate::proofs::Sessions::made_keeps))]
     pub fn edit(&mut self, alloc: Global, commands: &[Command]) -> Result<(), EmbedFault>
         ensures made { OnOk result (MakesEdit commands.now self.old self.new) }
         ensures copies { OnOk result (KeepsCopies self.old self.new) }
@@ -256,7 +255,7 @@ impl Client {
     }
 
     /// Asks the server for all that it has. Once that has come, the client is synced. A refusal changes nothing.
-    #[tactic(auto, using(crate::proofs::Heard::pinged_so, crate::proofs::Copies::request_keeps))]
+    #[tactic(auto, using(crate::proofs::Sessions::pinged_so, crate::proofs::Sessions::request_keeps))]
     pub fn ping(&mut self, alloc: Global) -> Result<(), EmbedFault>
         ensures pinged { OnOk result (IsDone Sync self.old Synced self.new) }
         ensures copies { OnOk result (KeepsCopies self.old self.new) }
@@ -267,7 +266,7 @@ impl Client {
     }
 
     /// Says goodbye. The server then ends the session. A refusal changes nothing.
-    #[tactic(auto, using(crate::proofs::Heard::left_so, crate::proofs::Copies::request_keeps))]
+    #[tactic(auto, using(crate::proofs::Sessions::left_so, crate::proofs::Sessions::request_keeps))]
     pub fn bye(&mut self, alloc: Global) -> Result<(), EmbedFault>
         ensures said { OnOk result (IsDone Quit self.old SaidBye self.new) }
         ensures copies { OnOk result (KeepsCopies self.old self.new) }
@@ -279,7 +278,7 @@ impl Client {
 
     /// Does what a line asks for, as the program `jup` takes it, and returns what that tells its user. A line that begins a batch or
     /// goes on with it tells nothing. A sync is over once the client is synced.
-    #[tactic(auto, using(crate::proofs::Copies::commands_keep))]
+    #[tactic(auto, using(crate::proofs::Sessions::commands_keep))]
     pub fn command(&mut self, alloc: Global, line: &[u8]) -> Result<Option<Told>, EmbedFault>
         ensures does { Commands result line.now self.old self.new }
         ensures copies { KeepsCopies self.old self.new }
@@ -288,7 +287,7 @@ impl Client {
     }
 
     // Does what a line asks for, if it completes a request.
-    #[tactic(auto, using(crate::proofs::Heard::commanded_so))]
+    #[tactic(auto, using(crate::proofs::Sessions::commanded_so))]
     fn obey(&mut self, alloc: Global, line: &[u8]) -> Result<Option<Told>, EmbedFault>
         ensures { Commands result line.now self.old self.new }
     {
@@ -344,7 +343,7 @@ fn still_synced(request: &Request, is_synced: bool) -> bool
 }
 
 // The answer of an open session.
-#[tactic(auto, using(crate::proofs::Refused::refused_so))]
+#[tactic(auto, using(crate::proofs::Sessions::refused_so))]
 fn answer_in(alloc: Global, phase: &mut Phase, request: &Request) -> Result<Answer, EmbedFault>
     ensures answered { IfOk result (λ answer. AnsweredIn request.now phase.old answer phase.new) }
     ensures refused { OnErr result (phase.new ≡ phase.old) }

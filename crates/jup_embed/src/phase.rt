@@ -1,6 +1,6 @@
 //! How far a session is, and what a line of the server makes of that.
 ghost use Rattle.std.specs.Prelude.{◌≡◌};
-ghost use Rattle.jup_embed.specs.Phases.{PhaseHears, nothing_heard};
+ghost use Rattle.jup_embed.specs.Sessions.{PhaseHears, nothing_heard};
 ghost use Rattle.jup_embed.specs.declared.phase.Phase.TheVariants.{Open};
 
 use jup_rules::{ClientEnd, ClientState, Heard, Opening};

@@ -1,8 +1,8 @@
 //! Bytes for the server.
 ghost use Rattle.std.specs.Prelude.{◌≡◌, ◌≤◌, ◌++◌, length, take, drop, OnOk, IfOk};
-ghost use Rattle.jup_wire.specs.Grammar.{line_bytes};
+ghost use Rattle.jup_wire.specs.Lines.{line_bytes};
 ghost use Rattle.jup_wire.specs.declared.line.Line.TheVariants.{Hello};
-ghost use Rattle.jup_embed.specs.UnsentBytes.{said_bytes};
+ghost use Rattle.jup_embed.specs.Sessions.{said_bytes};
 
 use jup_gather::{MOST_MESSAGE, write_message};
 use jup_rules::Said;
@@ -21,7 +21,7 @@ pub(crate) struct Unsent {
 
 impl Model for Unsent {
     ghost use Rattle.std.specs.Prelude.{◌-◌, ◌≤◌, drop, length, vec_len, vec_capacity};
-    ghost use Rattle.jup_embed.specs.UnsentBytes.{Waiting};
+    ghost use Rattle.jup_embed.specs.Sessions.{Waiting};
 
     ghost Value = { Waiting };
 
@@ -78,7 +78,7 @@ impl Unsent {
     }
 
     /// Puts the lines of what the client says, if anything. There is room for them.
-    #[tactic(auto, using(crate::proofs::Joined::none_more, crate::proofs::Joined::one_line))]
+    #[tactic(auto, using(crate::proofs::Sessions::none_more, crate::proofs::Sessions::one_line))]
     pub(crate) fn say(&mut self, said: Option<Said>)
         requires { MOST_MESSAGE ≤ self.old.room }
         ensures { self.new.bytes ≡ self.old.bytes ++ said_bytes said }

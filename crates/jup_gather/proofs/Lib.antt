@@ -1,5 +1,1 @@
-pub mod Begun
-pub mod OneGathering
-pub mod Runs
-pub mod WholeMessages
-pub mod LinesWritten
+pub mod Gathering

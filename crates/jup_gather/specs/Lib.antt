@@ -1,4 +1,2 @@
 pub mod Gathering
-pub mod Held
-pub mod Pieces
-pub mod Ways
+pub mod Prelude

@@ -2,8 +2,7 @@
 
 ghost use Rattle.std.specs.Prelude.{◌≡◌, ◌≢◌, ◌↔◌, List, [], ◌∷◌, ◌++◌, Some, IfOk, OnErr, IsTrue, IsSomeAnd};
 ghost use Rattle.jup_wire.specs.declared.line.Line.{Line};
-ghost use Rattle.jup_gather.specs.Pieces.{Piece, HasGathered};
-ghost use Rattle.jup_gather.specs.Gathering.{Gathers, AsksMemory, pieces_of};
+ghost use Rattle.jup_gather.specs.Gathering.{Piece, HasGathered, Gathers, AsksMemory, pieces_of};
 
 use crate::gathered::Gathered;
 use crate::taken::{State, Taken, begin, go_on};
@@ -24,7 +23,7 @@ pub struct Gather {
 impl Model for Gather {
     ghost use Rattle.std.specs.Prelude.{List, Option};
     ghost use Rattle.jup_wire.specs.declared.line.Line.{Line};
-    ghost use Rattle.jup_gather.specs.Held.{held};
+    ghost use Rattle.jup_gather.specs.Gathering.{held};
 
     ghost Value = { Option (List Line) };
 

@@ -6,8 +6,7 @@ ghost use Rattle.jup_window.specs.declared.board_operations.BoardOp.{BoardOp};
 ghost use Rattle.jup_wire.specs.declared.line.Line.{Line};
 ghost use Rattle.jup_gather.specs.declared.gathered.Gathered.{Gathered};
 ghost use Rattle.jup_gather.specs.declared.gathered.Gathered.TheVariants.{Held, Whole};
-ghost use Rattle.jup_gather.specs.Pieces.{Piece, Message, message_lines, IsPiece, HasGathered};
-ghost use Rattle.jup_gather.specs.Gathering.{GathersAll};
+ghost use Rattle.jup_gather.specs.Gathering.{Piece, Message, message_lines, IsPiece, HasGathered, GathersAll};
 
 /// Lines are gathered in one way: what they say and what is held after them is determined.
 pub fn one_gathering()

@@ -1,7 +1,7 @@
 //! The lines of a message.
 
 ghost use Rattle.std.specs.Prelude.{◌≡◌, OnOk, IfOk};
-ghost use Rattle.jup_gather.specs.Pieces.{message_lines};
+ghost use Rattle.jup_gather.specs.Gathering.{message_lines};
 
 use jup_batch::BoardBatch;
 use jup_link::Msg;

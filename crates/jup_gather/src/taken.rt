@@ -2,8 +2,7 @@
 
 ghost use Rattle.std.specs.Prelude.{◌≡◌, [], ◌∷◌, Some, IfOk, OnErr, ◌≤◌};
 ghost use Rattle.jup_wire.specs.declared.line.Line.TheVariants as lines;
-ghost use Rattle.jup_gather.specs.Gathering.{Gathers, AsksMemory};
-ghost use Rattle.jup_gather.specs.Held.{held, part_lines};
+ghost use Rattle.jup_gather.specs.Gathering.{Gathers, AsksMemory, held, part_lines};
 
 use crate::gathered::Gathered;
 use crate::part::Part;

@@ -1,8 +1,7 @@
 //! What the two ways of a link carry.
 ghost use Rattle.std.specs.Prelude.{◌≡◌, Option, OnOk};
-ghost use Rattle.jup_gather.specs.Pieces.{Piece, piece_lines};
-ghost use Rattle.jup_gather.specs.Pieces as pieces;
-ghost use Rattle.jup_gather.specs.Ways.{up_piece, up_in, down_piece, down_in, shape_piece, message_given, IsWay};
+ghost use Rattle.jup_gather.specs.Gathering.{Piece, piece_lines, up_piece, up_in, down_piece, down_in, shape_piece, message_given, IsWay};
+ghost use Rattle.jup_gather.specs.Gathering as pieces;
 
 use crate::gathered::Gathered;
 use crate::lines::put_op;
@@ -47,8 +46,8 @@ pub trait Message: Drop {
 }
 
 impl Message for Up {
-    ghost use Rattle.jup_star.specs.TextRelabels.{UpRelabelsNoText};
-    ghost use Rattle.jup_gather.specs.Ways.{up_way};
+    ghost use Rattle.jup_star.specs.Messages.{UpRelabelsNoText};
+    ghost use Rattle.jup_gather.specs.Gathering.{up_way};
 
     ghost piece = { up_piece };
 
@@ -80,8 +79,8 @@ impl Message for Up {
 }
 
 impl Message for Down {
-    ghost use Rattle.jup_star.specs.TextRelabels.{DownRelabelsNoText};
-    ghost use Rattle.jup_gather.specs.Ways.{down_way};
+    ghost use Rattle.jup_star.specs.Messages.{DownRelabelsNoText};
+    ghost use Rattle.jup_gather.specs.Gathering.{down_way};
 
     ghost piece = { down_piece };
 

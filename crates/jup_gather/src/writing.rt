@@ -2,10 +2,10 @@
 ghost use Rattle.std.specs.Prelude.{◌≡◌, ◌≤◌, ◌++◌};
 ghost use Rattle.std.specs.List.{flat_map, AllByRecursion};
 ghost use Rattle.std.specs.Vec.{vec_capacity};
-ghost use Rattle.jup_star.specs.TextRelabels.{RelabelNoText};
-ghost use Rattle.jup_wire.specs.Grammar.{line_bytes, IsLine};
-ghost use Rattle.jup_wire.specs.Rooms.{HasRoom};
-ghost use Rattle.jup_gather.specs.Pieces.{message_lines, piece_lines};
+ghost use Rattle.jup_star.specs.Messages.{RelabelNoText};
+ghost use Rattle.jup_wire.specs.Lines.{line_bytes, IsLine};
+ghost use Rattle.jup_wire.specs.Streams.{HasRoom};
+ghost use Rattle.jup_gather.specs.Gathering.{message_lines, piece_lines};
 
 use crate::ways::{Message, Shape};
 use jup_batch::BoardBatch;

@@ -1,25 +1,13 @@
 -- A run: site 1 joins, and then a stranger, 2; each sets the toggle once; the site pings and is answered.
 use Rattle.std.proofs.Common.{◌≡◌, ℕ, Bool, true, false, List, [], ◌∷◌, length, Some, None, Ok, refl, lit≤}
-use Rattle.jup_setting.specs.declared.operation.SetOp.TheVariants.{Set as SetTo, Nothing as SetNothing}
-use Rattle.jup_batch.specs.BatchBoards.{BoardBatch, Windows, Commands}
-use Rattle.jup_link.specs.declared.Msg.{Msg}
-use Rattle.jup_xform.specs.declared.row.Side.TheVariants.{Server}
-use Rattle.jup_window.specs.declared.widgets.Widget.TheVariants.{Toggle as ToggleWidget}
+use Rattle.jup_honest.specs.Prelude.{BoardBatch, Windows, Commands, Msg, Up, UpOp, UpPing, Down, DownOp, DownPong, Join, Take, Fetch, JoinedReply, Taken, Fetched, entry, IsLegal, IsOpening}
+use Rattle.jup_star.specs.Stars.{BoardLink, reply_of, star_after}
+use Rattle.jup_honest.specs.Sites.{Step, Edit, Deliver, Ping, Called, IsReliableThrough, SiteRun, IsHonest, now, start, opening, calls, IsAttached, IsDrained}
+use Rattle.jup_star.specs.Prelude.{Server, Toggle as ToggleWidget}
+use Rattle.jup_window.specs.Prelude.{SetTo, NoSetOp as SetNothing}
 use Rattle.jup_window.specs.declared.widget_operations.WidgetOp.TheVariants.{Toggle as ToggleOp}
 use Rattle.jup_window.specs.declared.commands.Command.TheVariants.{Set as SetCommand}
 use Rattle.jup_window.specs.declared.commands.Setting.TheVariants.{Toggle as ToggleSetting}
-use Rattle.jup_star.specs.declared.messages.Up.{Up}
-use Rattle.jup_star.specs.declared.messages.Up.TheVariants.{Op as UpOp, Ping as UpPing}
-use Rattle.jup_star.specs.declared.messages.Down.{Down}
-use Rattle.jup_star.specs.declared.messages.Down.TheVariants.{Op as DownOp, Pong as DownPong}
-use Rattle.jup_star.specs.declared.calls.Call.TheVariants.{Join, Take, Fetch}
-use Rattle.jup_star.specs.declared.calls.StarReply.TheVariants.{Joined as JoinedReply, Taken, Fetched}
-use Rattle.jup_star.specs.StarCalls.{BoardLink, reply_of, star_after}
-use Rattle.jup_hub.specs.Histories.{entry, IsLegal}
-use Rattle.jup_world.specs.Openings.{IsOpening}
-use Rattle.jup_honest.specs.Connections.{Step, Edit, Deliver, Ping, Called, IsReliableThrough}
-use Rattle.jup_honest.specs.SiteRuns.{SiteRun, IsHonest, now, start, opening, calls}
-use Rattle.jup_honest.specs.Promises.{IsAttached, IsDrained}
 
 -- one window with one toggle
 abbrev board : Windows

@@ -1,12 +1,10 @@
 //! What an honest site of a running hub relies on, whatever all others send.
 
 ghost use Rattle.std.specs.Prelude.{◌≡◌, ◌≤◌, None, length, List, ◌∷◌, []};
-ghost use Rattle.jup_star.specs.SiteCalls.{site_open_fault};
-ghost use Rattle.jup_star.specs.StarCalls.{BoardLink};
+ghost use Rattle.jup_star.specs.Sites.{site_open_fault};
+ghost use Rattle.jup_star.specs.Stars.{BoardLink};
 ghost use Rattle.jup_hub.specs.declared.view.HubEvent.{HubEvent};
-ghost use Rattle.jup_honest.specs.Connections.{Step, Called, Connection, through, IsReliable, IsReliableThrough, IsCausalThrough};
-ghost use Rattle.jup_honest.specs.SiteRuns.{SiteRun, IsHonest, IsOfHistory, start, now, longer};
-ghost use Rattle.jup_honest.specs.Promises.{IsDrained, IsBacklogShort, SitePromises, LinkPromises, StarShows, IsAttached, Remains, KeepsOrder, AllGoesWell, AreDrained};
+ghost use Rattle.jup_honest.specs.Sites.{Step, Called, Connection, through, IsReliable, IsReliableThrough, IsCausalThrough, SiteRun, IsHonest, IsOfHistory, start, now, longer, IsDrained, IsBacklogShort, SitePromises, LinkPromises, StarShows, IsAttached, Remains, KeepsOrder, AllGoesWell, AreDrained};
 
 /// Take any legal history of a hub: any number of passes, any calls, strangers among them. A site joined in it
 /// at any time and was opened from the answer. The hub's takes for its number bring its messages, in order,

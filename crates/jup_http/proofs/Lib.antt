@@ -1,6 +1,3 @@
-pub mod StreamLemmas
-pub mod ReaderLemmas
-pub mod ArrivalLemmas
-pub mod RequestLemmas
+pub mod Frames
+pub mod Heads
 pub mod TextLemmas
-pub mod ResponseLemmas

@@ -5,9 +5,9 @@ use Rattle.std.proofs.lemmas.Bool.Decides.{nat_tests, leb_tells}
 use lib.Utf8.{scalar, scalars, encode, scalar_cases}
 use Rattle.websocket.proofs.TextLemmas.{and_true}
 use Rattle.websocket.proofs.DecodeLemmas.{ltb_true, ltb_false}
-use Rattle.jup_http.specs.declared.texts.CharPart.{CharPart}
+use Rattle.jup_http.specs.Prelude.{CharPart}
 use Rattle.jup_http.specs.declared.texts.CharPart.TheVariants.{Whole, LacksOne, LacksTwo, LacksThree, AfterE0, AfterED, AfterF0, AfterF4}
-use Rattle.jup_http.specs.Texts.{within, after_first, after_byte, after_bytes}
+use Rattle.jup_http.specs.Frames.{within, after_first, after_byte, after_bytes}
 
 nothing_after : (bs : List ℕ) → after_bytes None bs ≡ None
 nothing_after [] = refl

@@ -1,26 +1,84 @@
--- The frames of a client, RFC 6455, sections 5.2 to 5.6 and 7.4.
-use Rattle.std.specs.Prelude.{◌≡◌, ◌≤◌, ℕ, ◌+◌, Bool, true, false, cond, not, ◌||◌, ◌==◌, nat_lt, List, length, take, drop, Option, None, Some, Result, Ok, Err}
-use Rattle.std.specs.Int.{w16, from_be_bytes}
+-- The frames of a WebSocket.
+use Rattle.std.specs.Prelude.{ℕ, cond, ◌==◌, List, [], ◌∷◌, Option, None, Some, ◌≡◌, ◌≤◌, ◌+◌, Bool, true, false, not, ◌||◌, nat_lt, length, take, drop, Result, Ok, Err}
+use Rattle.std.specs.Int.{is_in_range, w16, from_be_bytes, to_be_bytes}
 use Rattle.websocket.specs.CloseCode.{close_code_of, is_allowed}
 use Rattle.websocket.specs.Text.{is_utf8}
 use Rattle.websocket.specs.declared.protocol.frame.coding.OpCode.{OpCode}
-use Rattle.websocket.specs.declared.protocol.frame.coding.OpCode.TheVariants as Op
 use Rattle.websocket.specs.declared.protocol.frame.coding.Data.{Data}
-use Rattle.websocket.specs.declared.protocol.frame.coding.Data.TheVariants as DataCode
 use Rattle.websocket.specs.declared.protocol.frame.coding.Control.{Control}
 use Rattle.websocket.specs.declared.protocol.frame.header.FrameHeader.{FrameHeader}
-use Rattle.jup_http.specs.Limits.{longest_message, longest_control}
-use Rattle.jup_http.specs.Texts.{after_byte}
-use Rattle.jup_http.specs.declared.texts.CharPart.{CharPart}
+use Rattle.websocket.specs.Connection.{whole_header}
+use Rattle.websocket.specs.Frame.{encode_frame}
+use Rattle.websocket.specs.declared.protocol.frame.coding.OpCode.TheVariants as Op
+use Rattle.websocket.specs.declared.protocol.frame.coding.Data.TheVariants as DataCode
+use Rattle.websocket.specs.declared.protocol.frame.coding.Control.TheVariants as ControlCode
+use Rattle.jup_http.specs.Prelude.{CharPart, Breach, Header, ReservedBit, LongControl, BadText, Kind, Message, Frame}
 use Rattle.jup_http.specs.declared.texts.CharPart.TheVariants.{Whole, LacksOne, LacksTwo, LacksThree, AfterE0, AfterED, AfterF0, AfterF4}
 use Rattle.jup_http.specs.declared.held.Held.{Held}
-use Rattle.jup_http.specs.declared.breach.Breach.{Breach}
-use Rattle.jup_http.specs.declared.breach.Breach.TheVariants.{Header, ReservedBit, Unmasked, FragmentedControl, LongControl, NothingToContinue, MessageOpen, LongMessage, BadText, BadClose}
-use Rattle.jup_http.specs.declared.frame.Kind.{Kind}
+use Rattle.jup_http.specs.declared.breach.Breach.TheVariants.{Unmasked, FragmentedControl, NothingToContinue, MessageOpen, LongMessage, BadClose}
+use Rattle.jup_http.specs.declared.ending.Ending.{Ending}
+use Rattle.jup_http.specs.declared.ending.Ending.TheVariants.{Closed, Broken}
 use Rattle.jup_http.specs.declared.frame.Kind.TheVariants as Kinds
-use Rattle.jup_http.specs.declared.frame.Message.{Message}
-use Rattle.jup_http.specs.declared.frame.Frame.{Frame}
 use Rattle.jup_http.specs.declared.frame.Frame.TheVariants as Frames
+
+-- What is bounded of what a browser sends.
+
+-- bytes of the head of a request
+abbrev pub longest_head : ℕ
+longest_head = 8192
+
+-- header lines of a head
+abbrev pub most_fields : ℕ
+most_fields = 64
+
+-- bytes of a message of data, in one frame or in several
+abbrev pub longest_message : ℕ
+longest_message = 65536
+
+-- bytes of the payload of a control frame (RFC 6455, section 5.5)
+abbrev pub longest_control : ℕ
+longest_control = 125
+
+-- bytes of a message that is sent
+abbrev pub longest_sent : ℕ
+longest_sent = 2048
+
+-- UTF-8, byte by byte: the table of RFC 3629, section 4, read from the left.
+
+-- a byte of this range leads on
+abbrev pub within : (low high : ℕ) → CharPart → ℕ → Option CharPart
+within low high next byte = cond (is_in_range low high byte) (Some next) None
+
+-- the first byte of a character: UTF8-1, UTF8-2, and those of UTF8-3 and UTF8-4 by what may follow
+abbrev pub after_first : ℕ → Option CharPart
+after_first byte =
+    cond (is_in_range 0x00 0x7F byte) (Some Whole)
+    (cond (is_in_range 0xC2 0xDF byte) (Some LacksOne)
+    (cond (byte == 0xE0) (Some AfterE0)
+    (cond (byte == 0xED) (Some AfterED)
+    (cond (is_in_range 0xE1 0xEF byte) (Some LacksTwo)
+    (cond (byte == 0xF0) (Some AfterF0)
+    (cond (is_in_range 0xF1 0xF3 byte) (Some LacksThree)
+    (cond (byte == 0xF4) (Some AfterF4) None)))))))
+
+-- how far the last character has come with one more byte, if a text may go on with it
+abbrev pub after_byte : CharPart → ℕ → Option CharPart
+after_byte Whole byte = after_first byte
+after_byte LacksOne byte = within 0x80 0xBF Whole byte
+after_byte LacksTwo byte = within 0x80 0xBF LacksOne byte
+after_byte LacksThree byte = within 0x80 0xBF LacksTwo byte
+after_byte AfterE0 byte = within 0xA0 0xBF LacksOne byte
+after_byte AfterED byte = within 0x80 0x9F LacksOne byte
+after_byte AfterF0 byte = within 0x90 0xBF LacksTwo byte
+after_byte AfterF4 byte = within 0x80 0x8F LacksTwo byte
+
+-- with all of these bytes added
+abbrev pub after_bytes : Option CharPart → List ℕ → Option CharPart
+after_bytes part [] = part
+after_bytes None (b ∷ bs) = None
+after_bytes (Some part) (b ∷ bs) = after_bytes (after_byte part b) bs
+
+-- The frames of a client, RFC 6455, sections 5.2 to 5.6 and 7.4.
 
 -- the bytes that are held of a frame
 abbrev pub held_bytes : Held → List ℕ
@@ -117,3 +175,29 @@ closed_of payload =
 abbrev pub IsNew : Frame → Type 0
 IsNew (Frames.Data f) = f.at ≡ 0
 IsNew (Frames.Control f) = f.len ≤ longest_control
+
+-- Frames that a server sends: each is whole, and none is masked.
+
+-- a text message of these bytes
+abbrev pub text_frame : List ℕ → List ℕ
+text_frame payload = encode_frame (whole_header (Op.Data DataCode.Text) None) payload
+
+-- a ping, and the pong that answers one: it has the ping's payload (RFC 6455, section 5.5.3)
+abbrev pub ping_frame : List ℕ → List ℕ
+ping_frame payload = encode_frame (whole_header (Op.Control ControlCode.Ping) None) payload
+
+abbrev pub pong_frame : List ℕ → List ℕ
+pong_frame payload = encode_frame (whole_header (Op.Control ControlCode.Pong) None) payload
+
+abbrev pub close_payload : Option ℕ → List ℕ
+close_payload None = []
+close_payload (Some code) = to_be_bytes w16 code
+
+-- a close with this status code, or with none
+abbrev pub close_frame : Option ℕ → List ℕ
+close_frame code = encode_frame (whole_header (Op.Control ControlCode.Close) None) (close_payload code)
+
+-- a close is answered with its own status code, and a breach with its number
+abbrev pub answer_code : Ending → Option ℕ
+answer_code (Closed code) = code
+answer_code (Broken b) = Some (breach_number b)

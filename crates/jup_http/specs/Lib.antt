@@ -1,10 +1,6 @@
-pub mod Limits
-pub mod Requests
-pub mod Texts
-pub mod Frames
-pub mod Streams
 pub mod Events
-pub mod Sending
+pub mod Frames
+pub mod Heads
+pub mod Prelude
 pub mod Readers
-pub mod Responses
-pub mod Arrivals
+pub mod Streams

@@ -5,8 +5,7 @@ use Rattle.std.specs.Io.KnownBytes.{Appends}
 use Rattle.jup_http.specs.declared.held.Held.{Held}
 use Rattle.jup_http.specs.declared.reader.MessageReader.{MessageReader}
 use Rattle.jup_http.specs.Events.{standing}
-use Rattle.jup_http.specs.Frames.{held_bytes}
-use Rattle.jup_http.specs.Sending.{pong_frame}
+use Rattle.jup_http.specs.Frames.{held_bytes, pong_frame}
 use Rattle.jup_http.specs.Streams.{Told, brought, ping, closed, broken, tells, brings, data_of}
 
 -- the bytes that were read and not taken

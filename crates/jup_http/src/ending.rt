@@ -1,6 +1,6 @@
 //! How the frames of a client end.
 ghost use Rattle.std.specs.Prelude.{◌≡◌};
-ghost use Rattle.jup_http.specs.Sending.{answer_code};
+ghost use Rattle.jup_http.specs.Frames.{answer_code};
 
 use crate::Breach;
 

@@ -5,12 +5,9 @@ ghost use Rattle.websocket.specs.FrameHeader.{IsHeader, IsBytes, encode_header};
 ghost use Rattle.websocket.specs.declared.protocol.frame.header.FrameHeader.{FrameHeader};
 ghost use Rattle.jup_http.specs.declared.breach.Breach.{Breach};
 ghost use Rattle.jup_http.specs.declared.frame.Message.{Message};
-ghost use Rattle.jup_http.specs.Limits.{longest_head, most_fields, longest_message, longest_sent};
+ghost use Rattle.jup_http.specs.Frames.{longest_head, most_fields, longest_message, longest_sent, after_bytes, frame_of};
 ghost use Rattle.jup_http.specs.declared.texts.CharPart.TheVariants as CharPart;
-ghost use Rattle.jup_http.specs.Texts.{after_bytes};
-ghost use Rattle.jup_http.specs.Frames.{frame_of};
-ghost use Rattle.jup_http.specs.Streams.{Told, broken, between, tells};
-ghost use Rattle.jup_http.specs.Arrivals.{Sent, wire, AreTaken};
+ghost use Rattle.jup_http.specs.Streams.{Told, broken, between, tells, Sent, wire, AreTaken};
 
 use crate::{LONGEST_HEAD, LONGEST_MESSAGE, LONGEST_SENT, MOST_FIELDS};
 

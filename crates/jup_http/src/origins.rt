@@ -3,7 +3,7 @@ ghost use Rattle.std.specs.Prelude.{◌≡◌, ◌+◌, ◌≤◌, All, length, 
 ghost use Rattle.std.specs.List.{list_all};
 ghost use Rattle.httparse.specs.Spans.{IsHeaderWithin};
 ghost use Rattle.websocket.specs.Headers.{fields_of, eq_ignore_case};
-ghost use Rattle.jup_http.specs.Requests.{has_host, is_host_byte, is_host, is_origin, is_own_host, is_own_origin, is_named, each_value, is_own};
+ghost use Rattle.jup_http.specs.Heads.{has_host, is_host_byte, is_host, is_origin, is_own_host, is_own_origin, is_named, each_value, is_own};
 
 use httparse::spans::HeaderSpan;
 

@@ -1,6 +1,6 @@
 //! Why a request is refused.
 ghost use Rattle.std.specs.Prelude.{◌≡◌};
-ghost use Rattle.jup_http.specs.Requests.{status_of};
+ghost use Rattle.jup_http.specs.Heads.{status_of};
 
 use thiserror::Error;
 

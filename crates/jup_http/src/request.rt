@@ -4,8 +4,8 @@ ghost use Rattle.httparse.specs.Grammar.{RequestHead, ReadsRequest, MayBecomeReq
 ghost use Rattle.httparse.specs.Spans.{span_bytes, name_and_value, IsRequestWithin};
 ghost use Rattle.websocket.specs.Headers.{fields_of};
 ghost use Rattle.websocket.specs.Handshake.{requested_key};
-ghost use Rattle.jup_http.specs.Limits.{longest_head, most_fields};
-ghost use Rattle.jup_http.specs.Requests.{Asks, AsksTarget, AsksLink, upgrade_refusal};
+ghost use Rattle.jup_http.specs.Frames.{longest_head, most_fields};
+ghost use Rattle.jup_http.specs.Heads.{Asks, AsksTarget, AsksLink, upgrade_refusal};
 
 use crate::Refusal;
 use crate::origins::is_own;

@@ -1,7 +1,7 @@
 //! The heads of answers.
 ghost use Rattle.std.specs.Prelude.{◌≡◌, ◌++◌, IfOk, codes, string_bytes};
 ghost use Rattle.websocket.specs.Headers.{crlf};
-ghost use Rattle.jup_http.specs.Responses.{head_of, reason_of, refusal_fields, media_type, guard_lines, body_fields};
+ghost use Rattle.jup_http.specs.Heads.{head_of, reason_of, refusal_fields, media_type, guard_lines, body_fields};
 
 use crate::Refusal;
 use std::alloc::{AllocError, Global};

@@ -3,7 +3,7 @@ ghost use Rattle.std.specs.Prelude.{◌≡◌, ◌++◌, ℕ, List, None, OnOk, 
 ghost use Rattle.std.specs.Io.KnownBytes.{Appends};
 ghost use Rattle.websocket.specs.Connection.{whole_header};
 ghost use Rattle.websocket.specs.Frame.{encode_frame};
-ghost use Rattle.jup_http.specs.Sending.{text_frame, ping_frame, pong_frame, close_frame};
+ghost use Rattle.jup_http.specs.Frames.{text_frame, ping_frame, pong_frame, close_frame};
 
 use std::alloc::AllocError;
 use std::io;

@@ -1,6 +1,6 @@
 //! Whether bytes that come one by one are UTF-8 (RFC 3629, section 4).
 ghost use Rattle.std.specs.Prelude.{◌≡◌};
-ghost use Rattle.jup_http.specs.Texts.{within, after_first, after_byte};
+ghost use Rattle.jup_http.specs.Frames.{within, after_first, after_byte};
 
 /// How far the last character of a text has come.
 #[derive(Clone, Copy)]

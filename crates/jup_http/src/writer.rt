@@ -2,8 +2,7 @@
 ghost use Rattle.std.specs.Prelude.{◌≡◌, ◌<◌, min, length, take, IfOk};
 ghost use Rattle.std.specs.Io.{WritesAtMost};
 ghost use Rattle.std.specs.Io.KnownBytes.{Appends};
-ghost use Rattle.jup_http.specs.Limits.{longest_sent};
-ghost use Rattle.jup_http.specs.Sending.{text_frame};
+ghost use Rattle.jup_http.specs.Frames.{longest_sent, text_frame};
 
 use crate::put_text;
 use std::alloc::{AllocError, Global};

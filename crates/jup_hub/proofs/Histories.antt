@@ -1,13 +1,14 @@
--- A history with one more call, and lists of histories and of tallies.
-use Rattle.std.proofs.Common.{◌≡◌, ◌≢◌, ℕ, suc, Bool, true, false, cond, ◌⊎◌, List, [], ◌∷◌, ◌++◌, bytes_eq, sym, refl, ap, ◌∙◌, inl, inr, true≢false, append_assoc, append-nil, max, length, length-append, arith, ◌≤◌}
+-- Histories with more calls, and what calls say.
+use Rattle.std.proofs.Common.{◌≡◌, ◌≢◌, ℕ, suc, Bool, true, false, cond, ◌⊎◌, List, [], ◌∷◌, ◌++◌, bytes_eq, sym, refl, ap, ◌∙◌, inl, inr, true≢false, append_assoc, append-nil, max, length, length-append, arith, ◌≤◌, ◌+◌, Option, Result, Ok, Err, Some, None, MatchBool, subst, not, ◌||◌}
 use Rattle.std.proofs.lemmas.Slice.Eq.{bytes_eq-Decides}
 use Rattle.std.proofs.lemmas.List.Elements.{filter-append}
-use Rattle.jup_star.specs.StarCalls.{BoardStar, reply_of, star_after}
-use Rattle.jup_hub.specs.declared.view.HubEvent.{HubEvent}
-use Rattle.jup_hub.specs.declared.view.Tally.{Tally}
-use Rattle.jup_hub.specs.Histories.{star_through, IsLegal, calls_by, BeginsWith, BeginsWithAll, AllTallied, IsNew, AllApart}
-use Rattle.jup_hub.specs.Knowledge.{longest}
-use Rattle.jup_hub.specs.Turns.{AllOwned}
+use Rattle.jup_hub.specs.Prelude.{StarFault, Call, StarReply, Leave, BoardStar, is_no_memory, lacks_memory, HubEvent, Tally, View, HubFault, Star, Spent, Desk}
+use Rattle.jup_star.specs.Stars.{reply_of, star_after, asks_memory, is_refused, Answers}
+use Rattle.jup_hub.specs.Histories.{star_through, IsLegal, calls_by, BeginsWith, BeginsWithAll, AllTallied, IsNew, AllApart, longest, entry, at_turn, with_call, having_called, Meets, Called, ComesToAsk, told, is_out_of_memory, is_among, calls_of_others, calls_in}
+use Rattle.jup_hub.specs.Turns.{AllOwned, SeatState, desk_after, whole, star_now}
+use Rattle.jup_hub.specs.Passes.{Made}
+
+-- A history with one more call, and lists of histories and of tallies.
 
 -- two numbers are one or not
 pub same_or_not : (m n : List ℕ) → (m ≡ n) ⊎ (¬ (m ≡ n))
@@ -98,3 +99,148 @@ AllOwned-append owner seat (t ∷ ts) us a b = (a.0, AllOwned-append owner seat 
 pub AllOwned-moves : (owner owner' : List ℕ → ℕ) (seat seat' : ℕ) (ts : List Tally) → ((n : List ℕ) → owner n ≡ suc seat → owner' n ≡ suc seat') → AllOwned owner seat ts → AllOwned owner' seat' ts
 AllOwned-moves owner owner' seat seat' [] moves own = tt
 AllOwned-moves owner owner' seat seat' (t ∷ ts) moves own = (moves t.number own.0, AllOwned-moves owner owner' seat seat' ts moves own.1)
+
+-- What a call of the hub says.
+
+-- the call with its reply follows the history that was met
+pub calls : (v : View) (log : List HubEvent) (call : Call) (reply : StarReply) → Meets v log → reply ≡ reply_of call (star_through v.opening log) → Called call reply v (having_called log call reply v)
+calls v log call reply m right = let e : HubEvent = entry v.number call reply in record {
+  before = log;
+  begins = m.begins;
+  view = refl;
+  meets = record {
+    legal = IsLegal-more v.opening log e m.legal right;
+    begins = BeginsWithAll-whole (log ++ e ∷ []);
+    tallied = (calls_by-more v.number log e refl ∙ ap (λ (l : List HubEvent). l ++ e ∷ []) m.tallied.0, AllTallied-other log e v.kept m.apart.0 m.tallied.1);
+    apart = m.apart;
+  };
+}
+
+-- the pass once the turn is given up with no call
+pub idle_again : (v : View) (log : List HubEvent) (m m' : SeatState) → v.turn ≡ None → m ≡ (at_turn (Some log) v, (0, None) ∷ []) → m' ≡ (at_turn None m.0, []) → m'.0 ≡ v
+idle_again v log m m' none_is took gave = ap (λ (x : SeatState). x.0) gave ∙ (ap (λ (x : SeatState). at_turn None x.0) took ∙ (λ i. at_turn (sym none_is i) v))
+
+-- and with one
+pub called_again : (v : View) (log : List HubEvent) (call : Call) (reply : StarReply) (m m' : SeatState) → v.turn ≡ None → m ≡ (at_turn (Some log) v, (0, None) ∷ [])
+    → m' ≡ (at_turn None (having_called (whole m.0) call reply m.0), []) → m'.0 ≡ having_called log call reply v
+called_again v log call reply m m' none_is took settled =
+    ap (λ (x : SeatState). x.0) settled ∙ (ap (λ (x : SeatState). at_turn None (having_called (whole x.0) call reply x.0)) took ∙ (λ i. at_turn (sym none_is i) (having_called log call reply v)))
+
+-- an answer is a call, unless it is that an allocation failed
+pub makes : {A : Type 0} (reply : Result A StarFault → StarReply) (call : Call) (v w : View) (r : Result A StarFault) → lacks_memory r ≡ false → Called call (reply r) v w → Made reply call v w (told r)
+makes reply call v w (Ok x) has h = h
+makes reply call v w (Err e) has h = subst (λ b. MatchBool b ((w ≡ v) × ComesToAsk call v) (Called call (reply (Err e)) v w)) (sym has) h
+
+-- an allocation that failed is none
+pub makes_none : {A : Type 0} (reply : Result A StarFault → StarReply) (call : Call) (v w : View) (r : Result A StarFault) → lacks_memory r ≡ true → (w ≡ v) × ComesToAsk call v → Made reply call v w (told r)
+makes_none reply call v w (Ok x) lacks h = absurd (true≢false (sym lacks))
+makes_none reply call v w (Err e) lacks h = subst (λ b. MatchBool b ((w ≡ v) × ComesToAsk call v) (Called call (reply (Err e)) v w)) (sym lacks) h
+
+-- what an answered call did to the star
+pub answered : (call : Call) (s t : BoardStar) (r : StarReply) → is_refused r ≡ false → Answers call s t r → (r ≡ reply_of call s) × (t ≡ star_after call s)
+answered call s t r not_refused h = subst (λ b. MatchBool b ((t ≡ s) × (asks_memory call s ≡ true)) ((r ≡ reply_of call s) × (t ≡ star_after call s))) not_refused h
+
+-- and if an allocation failed
+pub refused : (call : Call) (s t : BoardStar) (r : StarReply) → is_refused r ≡ true → Answers call s t r → (t ≡ s) × (asks_memory call s ≡ true)
+refused call s t r is h = subst (λ b. MatchBool b ((t ≡ s) × (asks_memory call s ≡ true)) ((r ≡ reply_of call s) × (t ≡ star_after call s))) is h
+
+-- the desk after one more call
+pub desk_again : (v : View) (star : BoardStar) (count : ℕ) (call : Call) (reply : StarReply) (m : SeatState) (cs : List (ℕ × Option Desk)) → m ≡ (at_turn (Some (with_call (whole v) v call reply)) (having_called (whole v) call reply v), cs)
+    → star ≡ star_after call (star_now v) → count ≡ length (whole v) → record { star = star; count = count + 1 } ≡ desk_after m.0.opening (whole m.0)
+desk_again v star count call reply m cs decided star_is count_is =
+    let log = whole v in
+    let e : HubEvent = entry v.number call reply in
+    let s : star ≡ star_through v.opening (log ++ e ∷ []) = star_is ∙ sym (star_through-more v.opening log e) in
+    let n : count + 1 ≡ length (log ++ e ∷ []) = omega (arith, length-append log (e ∷ [])) in
+    let same : record { star = star; count = count + 1 } ≡ desk_after v.opening (log ++ e ∷ []) = (λ i. record { star = s i; count = n i }) in
+    same ∙ sym (ap (λ (x : SeatState). desk_after x.0.opening (whole x.0)) decided)
+
+-- a call that never asks for memory never lacks it
+pub never_lacks : {A : Type 0} (reply : Result A StarFault → StarReply) (call : Call) (v w : View) (r : Result A HubFault) → ((s : BoardStar) → asks_memory call s ≡ false) → Made reply call v w r → is_out_of_memory r ≡ false
+never_lacks reply call v w (Ok x) never made = refl
+never_lacks reply call v w (Err Spent) never made = refl
+never_lacks reply call v w (Err (Star e)) never made = go (is_no_memory e) made
+  where
+    go : (b : Bool) → MatchBool b ((w ≡ v) × ComesToAsk call v) (Called call (reply (Err e)) v w) → b ≡ false
+    go true h = absurd (true≢false (sym h.1.2 ∙ never (star_through v.opening h.1.0)))
+    go false h = refl
+
+-- as leaving
+pub leaving_asks_nothing : (site : ℕ) (s : BoardStar) → asks_memory (Leave site) s ≡ false
+unfolding asks_memory
+leaving_asks_nothing site s = refl
+
+-- A history as long as some tallies together has no other calls.
+
+count_in : List Tally → List HubEvent → ℕ
+count_in [] log = 0
+count_in (t ∷ ts) log = length (calls_by t.number log) + count_in ts log
+
+-- a new number is not among the tallies
+not_among : (n : List ℕ) (ts : List Tally) → IsNew n ts → is_among n ts ≡ false
+not_among n [] new = refl
+not_among n (t ∷ ts) new = go (bytes_eq n t.number) refl (not_among n ts new.1)
+  where
+    go : (b : Bool) → bytes_eq n t.number ≡ b → is_among n ts ≡ false → (bytes_eq n t.number || is_among n ts) ≡ false
+    go true e rest = absurd (new.0 ((bytes_eq-Decides n t.number).0 e))
+    go false e rest = ap (λ b. b || is_among n ts) e ∙ rest
+
+abbrev one_if : Bool → ℕ
+one_if b = cond b 1 0
+
+counts_one : (e : HubEvent) (log : List HubEvent) (n : List ℕ) → length (calls_by n (e ∷ log)) ≡ one_if (bytes_eq e.by n) + length (calls_by n log)
+counts_one e log n = go (bytes_eq e.by n) refl
+  where
+    go : (b : Bool) → bytes_eq e.by n ≡ b → length (cond (bytes_eq e.by n) (e ∷ calls_by n log) (calls_by n log)) ≡ one_if (bytes_eq e.by n) + length (calls_by n log)
+    go true is = ap (λ b. length (cond b (e ∷ calls_by n log) (calls_by n log))) is ∙ (let one : suc (length (calls_by n log)) ≡ 1 + length (calls_by n log) = omega arith in one ∙ sym (ap (λ b. one_if b + length (calls_by n log)) is))
+    go false is = ap (λ b. length (cond b (e ∷ calls_by n log) (calls_by n log))) is ∙ (let one : length (calls_by n log) ≡ 0 + length (calls_by n log) = omega arith in one ∙ sym (ap (λ b. one_if b + length (calls_by n log)) is))
+
+-- one more entry counts once if its number is among the tallies
+counts_more : (ts : List Tally) (e : HubEvent) (log : List HubEvent) → AllApart ts → count_in ts (e ∷ log) ≡ one_if (is_among e.by ts) + count_in ts log
+unfolding count_in
+counts_more [] e log apart = omega arith
+counts_more (t ∷ ts) e log apart = go (bytes_eq e.by t.number) refl (counts_more ts e log apart.1)
+  where
+    go : (b : Bool) → bytes_eq e.by t.number ≡ b → count_in ts (e ∷ log) ≡ one_if (is_among e.by ts) + count_in ts log → length (calls_by t.number (e ∷ log)) + count_in ts (e ∷ log) ≡ one_if (bytes_eq e.by t.number || is_among e.by ts) + (length (calls_by t.number log) + count_in ts log)
+    go true is rest = let same : e.by ≡ t.number = (bytes_eq-Decides e.by t.number).0 is in
+        let none : one_if (is_among e.by ts) ≡ 0 = ap one_if (not_among e.by ts (subst (λ n. IsNew n ts) (sym same) apart.0)) in
+        let here : one_if (bytes_eq e.by t.number) ≡ 1 = ap one_if is in
+        let both : one_if (bytes_eq e.by t.number || is_among e.by ts) ≡ 1 = ap (λ b. one_if (b || is_among e.by ts)) is in
+        omega (arith, counts_one e log t.number)
+    go false is rest = let here : one_if (bytes_eq e.by t.number) ≡ 0 = ap one_if is in
+        let both : one_if (bytes_eq e.by t.number || is_among e.by ts) ≡ one_if (is_among e.by ts) = ap (λ b. one_if (b || is_among e.by ts)) is in
+        omega (arith, counts_one e log t.number)
+
+none_in : (ts : List Tally) → count_in ts [] ≡ 0
+unfolding count_in
+none_in [] = refl
+none_in (t ∷ ts) = omega (arith, none_in ts)
+
+counts : (ts : List Tally) (log : List HubEvent) → AllApart ts → length log ≡ count_in ts log + length (calls_of_others ts log)
+counts ts [] apart = omega (arith, none_in ts)
+counts ts (e ∷ log) apart = go (is_among e.by ts) refl (counts ts log apart)
+  where
+    go : (b : Bool) → is_among e.by ts ≡ b → length log ≡ count_in ts log + length (calls_of_others ts log) → suc (length log) ≡ count_in ts (e ∷ log) + length (calls_of_others ts (e ∷ log))
+    go true is rest = let one : one_if (is_among e.by ts) ≡ 1 = ap one_if is in
+        let same : length (calls_of_others ts (e ∷ log)) ≡ length (calls_of_others ts log) = ap (λ b. length (cond (not b) (e ∷ calls_of_others ts log) (calls_of_others ts log))) is in
+        omega (arith, counts_more ts e log apart)
+    go false is rest = let one : one_if (is_among e.by ts) ≡ 0 = ap one_if is in
+        let same : length (calls_of_others ts (e ∷ log)) ≡ suc (length (calls_of_others ts log)) = ap (λ b. length (cond (not b) (e ∷ calls_of_others ts log) (calls_of_others ts log))) is in
+        omega (arith, counts_more ts e log apart)
+
+count_in-tallied : (ts : List Tally) (log : List HubEvent) → AllTallied log ts → count_in ts log ≡ calls_in ts
+unfolding count_in
+count_in-tallied [] log a = refl
+count_in-tallied (t ∷ ts) log a = omega (arith, ap length a.0, count_in-tallied ts log a.1)
+
+-- the entries of a history are those of its tallies, and the others
+pub length-tallied : (ts : List Tally) (log : List HubEvent) → AllApart ts → AllTallied log ts → length log ≡ calls_in ts + length (calls_of_others ts log)
+length-tallied ts log apart tallied = omega (arith, counts ts log apart, count_in-tallied ts log tallied)
+
+-- so if it is no longer than the tallies, it has no others
+pub no_others : (ts : List Tally) (log : List HubEvent) → AllApart ts → AllTallied log ts → length log ≡ calls_in ts → calls_of_others ts log ≡ []
+no_others ts log apart tallied long = none (calls_of_others ts log) (omega (arith, length-tallied ts log apart tallied))
+  where
+    none : (l : List HubEvent) → length l ≡ 0 → l ≡ []
+    none [] e = refl
+    none (x ∷ xs) e = absurd (omega arith)

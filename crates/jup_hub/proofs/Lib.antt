@@ -1,4 +1,2 @@
-pub mod Calling
-pub mod Counting
 pub mod Histories
 pub mod TurnsKept

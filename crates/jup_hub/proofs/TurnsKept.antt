@@ -9,14 +9,9 @@ use lib.Seq.{set-get_or}
 use prog.Atomic.{either}
 use Rattle.atomic_table.specs.Table.{State, step, rest, Act, keeps, takes, gives, stepped, Allows, Splits, Joins, opening}
 use Rattle.atomic_table.proofs.Lists.{at_set, set_else}
-use Rattle.jup_star.specs.StarCalls.{BoardStar, reply_of}
-use Rattle.jup_star.specs.declared.calls.Call.{Call}
-use Rattle.jup_star.specs.declared.calls.StarReply.{StarReply}
-use Rattle.jup_hub.specs.declared.desk.Desk.{Desk}
-use Rattle.jup_hub.specs.declared.view.HubEvent.{HubEvent}
-use Rattle.jup_hub.specs.declared.view.View.{View}
-use Rattle.jup_hub.specs.Histories.{entry, star_through, IsLegal}
-use Rattle.jup_hub.specs.Knowledge.{tallies, newcomer, spent, after_split, split_from, joined_with, at_turn, having_seen, with_call, having_called, Meets}
+use Rattle.jup_hub.specs.Prelude.{BoardStar, Call, StarReply, Desk, HubEvent, View}
+use Rattle.jup_star.specs.Stars.{reply_of}
+use Rattle.jup_hub.specs.Histories.{entry, star_through, IsLegal, tallies, newcomer, spent, after_split, split_from, joined_with, at_turn, having_seen, with_call, having_called, Meets}
 use Rattle.jup_hub.specs.Turns.{desk_after, HasTurn, Fits, Kept, SeatState, tried, decided, gave, looked, learned}
 use Rattle.jup_hub.proofs.Histories.{same_or_not, same_test, other_test, IsLegal-more, calls_by-more, calls_by-other, BeginsWithAll-more, BeginsWithAll-whole, BeginsWithAll-append, AllTallied-append, AllTallied-other, IsNew-owned, AllApart-append, AllOwned-append, AllOwned-moves}
 

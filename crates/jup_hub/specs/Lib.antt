@@ -1,6 +1,4 @@
-pub mod Faults
 pub mod Histories
-pub mod Joining
-pub mod Knowledge
 pub mod Passes
+pub mod Prelude
 pub mod Turns

@@ -1,15 +1,9 @@
 -- What the clauses of the hub's calls say of a hub and its passes.
 use Rattle.std.specs.Prelude.{◌≡◌, Result, Ok, Err, MatchBool}
-use Rattle.jup_star.specs.StarCalls.{BoardStar, is_no_memory}
-use Rattle.jup_star.specs.declared.faults.StarFault.{StarFault}
-use Rattle.jup_star.specs.declared.calls.Call.{Call}
-use Rattle.jup_star.specs.declared.calls.StarReply.{StarReply}
-use Rattle.jup_hub.specs.declared.fault.HubFault.{HubFault}
-use Rattle.jup_hub.specs.declared.fault.HubFault.TheVariants.{Star, Spent}
+use Rattle.jup_hub.specs.Prelude.{BoardStar, is_no_memory, StarFault, Call, StarReply, HubFault, Star, Spent, View}
 use Rattle.jup_hub.specs.declared.hub.Hub.{Hub}
 use Rattle.jup_hub.specs.declared.hub.Pass.{Pass}
-use Rattle.jup_hub.specs.declared.view.View.{View}
-use Rattle.jup_hub.specs.Knowledge.{Called, ComesToAsk, IsSpent}
+use Rattle.jup_hub.specs.Histories.{Called, ComesToAsk, IsSpent}
 
 -- the star that the hub was opened with
 abbrev pub opening_of : Hub → BoardStar

@@ -5,15 +5,8 @@ use mathlib.Core.Option as maybe
 use lib.ListN.{get_elem?}
 use Rattle.atomic_table.specs.Table.{State, Me, Step}
 use Rattle.atomic_table.specs.Seated.{TableId}
-use Rattle.jup_star.specs.StarCalls.{BoardStar}
-use Rattle.jup_star.specs.declared.calls.Call.{Call}
-use Rattle.jup_star.specs.declared.calls.StarReply.{StarReply}
-use Rattle.jup_hub.specs.declared.desk.Desk.{Desk}
-use Rattle.jup_hub.specs.declared.view.HubEvent.{HubEvent}
-use Rattle.jup_hub.specs.declared.view.Tally.{Tally}
-use Rattle.jup_hub.specs.declared.view.View.{View}
-use Rattle.jup_hub.specs.Histories.{star_through, IsLegal, calls_by, BeginsWithAll, AllTallied, AllApart}
-use Rattle.jup_hub.specs.Knowledge.{tallies, at_turn, having_seen, having_called, with_call, Meets}
+use Rattle.jup_hub.specs.Prelude.{BoardStar, Call, StarReply, Desk, HubEvent, Tally, View}
+use Rattle.jup_hub.specs.Histories.{star_through, IsLegal, calls_by, BeginsWithAll, AllTallied, AllApart, tallies, at_turn, having_seen, having_called, with_call, Meets}
 
 -- what is in the slot after a history: the star after it, and how long it is
 abbrev pub desk_after : BoardStar → List HubEvent → Desk

@@ -1,6 +1,6 @@
 //! The four calls on a star, as values.
 ghost use Rattle.std.specs.Prelude.{◌≡◌, Result};
-ghost use Rattle.jup_star.specs.StarCalls.{Answers, is_refused, lacks_memory};
+ghost use Rattle.jup_star.specs.Stars.{Answers, is_refused, lacks_memory};
 ghost use Rattle.jup_star.specs.declared.faults.StarFault.{StarFault as TheStarFault};
 ghost use Rattle.jup_star.specs.declared.calls.Call.{Call};
 ghost use Rattle.jup_star.specs.declared.calls.StarReply.{StarReply};

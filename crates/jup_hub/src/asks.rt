@@ -1,9 +1,9 @@
 //! Joining, taking, fetching and leaving.
 ghost use Rattle.std.specs.Prelude.{refl};
-ghost use Rattle.jup_star.specs.StarCalls.{bare_joined};
+ghost use Rattle.jup_star.specs.Stars.{bare_joined};
 ghost use Rattle.jup_star.specs.declared.calls.Call.TheVariants.{Join, Take, Fetch, Leave};
 ghost use Rattle.jup_star.specs.declared.calls.StarReply.TheVariants.{Joined as JoinedReply, Taken, Fetched, Left};
-ghost use Rattle.jup_hub.specs.Joining.{lacks_memory-bare_joined};
+ghost use Rattle.jup_hub.specs.Histories.{lacks_memory-bare_joined};
 
 use crate::ask::Ask;
 use jup_star::{Downs, Joined, Star, StarFault, Up};

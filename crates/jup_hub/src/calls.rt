@@ -2,12 +2,10 @@
 ghost use Rattle.std.specs.Prelude.{◌≡◌, ◌<◌, ◌↔◌, true, false, List, length, IfOk, IfErr, IsTrue};
 ghost use Rattle.jup_star.specs.declared.calls.Call.TheVariants.{Join, Take, Fetch, Leave};
 ghost use Rattle.jup_star.specs.declared.calls.StarReply.TheVariants.{Joined as JoinedReply, Taken, Fetched, Left};
-ghost use Rattle.jup_batch.specs.BatchBoards.{bare};
-ghost use Rattle.jup_star.specs.StarCalls.{bare_joined};
+ghost use Rattle.jup_batch.specs.Boards.{bare};
+ghost use Rattle.jup_star.specs.Stars.{bare_joined};
 ghost use Rattle.jup_hub.specs.declared.view.HubEvent.{HubEvent};
-ghost use Rattle.jup_hub.specs.Histories.{star_through, AllApart};
-ghost use Rattle.jup_hub.specs.Knowledge.{newcomer, after_split, split_from, joined_with, having_seen, longest, tallies, Meets, MeetsBoard};
-ghost use Rattle.jup_hub.specs.Faults.{is_out_of_memory};
+ghost use Rattle.jup_hub.specs.Histories.{star_through, AllApart, newcomer, after_split, split_from, joined_with, having_seen, longest, tallies, Meets, MeetsBoard, is_out_of_memory};
 ghost use Rattle.jup_hub.specs.Passes.{opening_of, view_of, IsPassOf, Made};
 
 use crate::ask::Ask;

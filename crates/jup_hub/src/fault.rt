@@ -1,7 +1,7 @@
 //! Why a call of the hub is refused.
 ghost use Rattle.std.specs.Prelude.{◌≡◌};
-ghost use Rattle.jup_star.specs.StarCalls.{lacks_memory};
-ghost use Rattle.jup_hub.specs.Faults.{told, hub_fault_number};
+ghost use Rattle.jup_star.specs.Stars.{lacks_memory};
+ghost use Rattle.jup_hub.specs.Histories.{told, hub_fault_number};
 
 use jup_star::StarFault;
 use thiserror::Error;

@@ -1,6 +1,6 @@
 //! The hub and its passes.
 ghost use Rattle.std.specs.Prelude.{◌≡◌, [], None, true};
-ghost use Rattle.jup_hub.specs.Knowledge.{longest};
+ghost use Rattle.jup_hub.specs.Histories.{longest};
 
 use crate::desk::Desk;
 use crate::rule::Turns;

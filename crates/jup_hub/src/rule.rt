@@ -3,7 +3,7 @@
 //! Word 0 is the count of events, and word 1 the turn, which is 0 if it is free. The slot has the star with a
 //! copy of the count. The pass that has the turn takes the star out, calls it, stores the count and puts the
 //! star back. The store of the count is the step at which the call becomes one of the history.
-ghost use Rattle.jup_hub.specs.Knowledge.{newcomer, spent, after_split, split_from, joined_with};
+ghost use Rattle.jup_hub.specs.Histories.{newcomer, spent, after_split, split_from, joined_with};
 ghost use Rattle.jup_hub.specs.Turns.{Kept, tried, decided, gave, looked, learned};
 
 use crate::desk::Desk;

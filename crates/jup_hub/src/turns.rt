@@ -1,7 +1,7 @@
 //! The steps of a turn: to win it, to decide a call, to give it up.
 ghost use Rattle.std.specs.Prelude.{◌≡◌, ◌+◌, ◌<◌, ◌^◌, [], Some, None, length, MatchOption};
-ghost use Rattle.jup_star.specs.StarCalls.{reply_of, star_after};
-ghost use Rattle.jup_hub.specs.Knowledge.{at_turn, having_called, with_call};
+ghost use Rattle.jup_star.specs.Stars.{reply_of, star_after};
+ghost use Rattle.jup_hub.specs.Histories.{at_turn, having_called, with_call};
 ghost use Rattle.jup_hub.specs.Turns.{desk_after, whole, star_now, IsIdle, IsAtTurn, IsHubTable, Takes};
 
 use crate::ask::Ask;

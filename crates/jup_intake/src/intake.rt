@@ -1,6 +1,6 @@
 //! What two threads share of a link: one puts what the link brings, and the other takes it.
 ghost use Rattle.std.specs.Prelude.{◌≡◌, ◌≤◌, length, IfSome};
-ghost use Rattle.jup_rules.specs.Inboxes.{count_in};
+ghost use Rattle.jup_rules.specs.Clients.{count_in};
 
 use jup_rules::{Given, Inbox, LinkEnd};
 use std::sync::{Condvar, Mutex, Wait};

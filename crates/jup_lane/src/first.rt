@@ -1,10 +1,9 @@
 //! The first message of some bytes or lines.
 ghost use Rattle.std.specs.Prelude.{◌≡◌, length, IfOk, IfSome, IsTrue};
 ghost use Rattle.jup_gather.specs.declared.gathered.Gathered.TheVariants as gathered;
-ghost use Rattle.jup_wire.specs.Singles.{BeginsLines};
-ghost use Rattle.jup_gather.specs.Pieces.{BeginsNone, message_lines};
-ghost use Rattle.jup_lane.specs.Firsts.{IsFirstOf};
-ghost use Rattle.jup_lane.specs.Messages.{codec};
+ghost use Rattle.jup_wire.specs.Lines.{BeginsLines};
+ghost use Rattle.jup_gather.specs.Gathering.{BeginsNone, message_lines};
+ghost use Rattle.jup_lane.specs.Lanes.{IsFirstOf, codec};
 
 use jup_batch::BoardBatch;
 use jup_gather::{Gather, Gathered, Message, Shape};

@@ -1,8 +1,6 @@
 //! One way of a link: messages on their way, as bytes.
 ghost use Rattle.std.specs.Prelude.{◌≡◌, ◌≤◌, [], ◌∷◌, ◌++◌, length, min, Some, IfOk, IfSome, OnOk, OnErr, IsNone, IsTrue, ◌↔◌};
-ghost use Rattle.jup_lane.specs.Codecs.{bytes_of};
-ghost use Rattle.jup_lane.specs.Messages.{codec};
-ghost use Rattle.jup_lane.specs.Lanes.{no_bytes, sent, moved, handed_over, IsIdle, messages, IsWhole, IsFilled, IsMovedOn};
+ghost use Rattle.jup_lane.specs.Lanes.{bytes_of, codec, no_bytes, sent, moved, handed_over, IsIdle, messages, IsWhole, IsFilled, IsMovedOn};
 
 use crate::first::read;
 use crate::stream::Stream;
@@ -27,8 +25,7 @@ pub struct Lane<M: Message> {
 }
 
 impl<M: Message> Model for Lane<M> {
-    ghost use Rattle.jup_lane.specs.Messages.{codec};
-    ghost use Rattle.jup_lane.specs.Lanes.{LaneState, moved, IsLane};
+    ghost use Rattle.jup_lane.specs.Lanes.{codec, LaneState, moved, IsLane};
 
     ghost Value = { LaneState };
 

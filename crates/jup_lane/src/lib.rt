@@ -5,8 +5,7 @@
 //! reader has all its bytes. A message is one line or several.
 #![tactic(auto)]
 
-ghost use Rattle.jup_lane.specs.Codecs.{IsCodec};
-ghost use Rattle.jup_lane.specs.Messages.{ups, downs};
+ghost use Rattle.jup_lane.specs.Lanes.{IsCodec, ups, downs};
 
 mod first;
 mod lane;

@@ -1,7 +1,6 @@
 //! Bytes that are written at one end and dropped at the other.
 ghost use Rattle.std.specs.Prelude.{◌≡◌, ◌≤◌, [], ◌++◌, length, drop, OnOk};
-ghost use Rattle.jup_lane.specs.Codecs.{bytes_of};
-ghost use Rattle.jup_lane.specs.Messages.{codec};
+ghost use Rattle.jup_lane.specs.Lanes.{bytes_of, codec};
 
 use jup_gather::{MOST_MESSAGE, Message, write_message};
 use jup_xform::NoMemory;

@@ -1,11 +1,8 @@
 //! What a reader was given.
 ghost use Rattle.std.specs.Prelude.{◌≡◌, ◌++◌, ◌∷◌, [], List, ℕ, length, drop, IfOk, OnOk, OnErr, IsTrue, ◌↔◌};
 ghost use Rattle.jup_wire.specs.declared.line.Line.{Line};
-ghost use Rattle.jup_wire.specs.Grammar.{line_text, HasSpelling};
-ghost use Rattle.jup_lane.specs.Codecs.{bytes_of};
-ghost use Rattle.jup_lane.specs.Lanes.{IsFirstRead};
-ghost use Rattle.jup_lane.specs.Messages.{codec};
-ghost use Rattle.jup_lane.specs.Trays.{Leads, TakesLine};
+ghost use Rattle.jup_wire.specs.Lines.{line_text, HasSpelling};
+ghost use Rattle.jup_lane.specs.Lanes.{bytes_of, IsFirstRead, codec, Leads, TakesLine};
 
 use crate::first::{count, first_of, is_short, single};
 use jup_gather::{Message, message_of};
@@ -50,7 +47,7 @@ fn push_spelled(lines: &mut VecDeque<Line>, text: &[u8]) -> Result<(), NoMemory>
 
 impl Model for Tray {
     ghost use Rattle.std.specs.Prelude.{ℕ, List};
-    ghost use Rattle.jup_lane.specs.Trays.{tray_bytes, IsTray};
+    ghost use Rattle.jup_lane.specs.Lanes.{tray_bytes, IsTray};
 
     ghost Value = { List ℕ };
 

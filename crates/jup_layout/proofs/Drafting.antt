@@ -1,21 +1,24 @@
--- What a draft's calls give, apart from the room of its sequences.
-use Rattle.std.proofs.Common.{◌≡◌, ℕ, zero, suc, false, cond, ◌==◌, nat_lt, List, [], ◌∷◌, length, Option, Some, None, Result, Ok, Err, refl, sym, ap, subst, ◌∙◌, inl, inr}
-use Rattle.std.specs.Prelude.{insert, nat_le, IsTrue}
+-- A board as its lines make it, one by one.
+use Rattle.std.proofs.Common.{◌≡◌, ℕ, zero, suc, false, cond, ◌==◌, nat_lt, List, [], ◌∷◌, length, Option, Some, None, Result, Ok, Err, refl, sym, ap, subst, ◌∙◌, inl, inr, insert, nat_le, IsTrue, ◌+◌, ◌≤◌, Bool, true, ◌++◌, arith, ◌≢◌, ◌||◌}
 use Rattle.std.specs.Option.{option_map, is_none}
-use Rattle.std.proofs.lemmas.Bool.{cases_Bool, eqb-true}
+use Rattle.std.proofs.lemmas.Bool.{cases_Bool, eqb-true, eq-eqb, ne_eqb}
 use Rattle.std.proofs.lemmas.List.Sums.{take_while-cons}
-use Rattle.jup_limits.specs.Limits.{most_entries}
-use Rattle.jup_window.specs.declared.faults.BoardFault.{BoardFault}
+use Rattle.std.proofs.lemmas.List.{length-append}
+use Rattle.std.proofs.lemmas.Option.{none-some}
+use Rattle.std.proofs.lemmas.List.Edits.{length-insert, insert_end}
+use Rattle.std.specs.Ordering.{nat_cmp, ordering_then, is_eq}
+use Rattle.std.specs.Cmp.{both_tied, unsigned_ties}
+use Rattle.jup_layout.specs.Prelude.{most_entries, Item, Name, Items, has_name, name_eq, BoardFault, Widget, Text, Labels, Toggle, Slider, Line, Refusal, NoMemory, DoubleId, TooMany, BadId, BadBounds, Misplaced, BadItemName, Distinct}
 use Rattle.jup_window.specs.declared.faults.BoardFault.TheVariants as fault
-use Rattle.jup_window.specs.declared.widgets.Widget.{Widget}
-use Rattle.jup_window.specs.Additions.{double_fault, entry_fault, fault_in, widget_fault, RefusesBy}
-use Rattle.jup_window.specs.Entries.{at_id, change_at, slot_of, with_entry, map_values}
-use Rattle.jup_window.specs.Laws.EntryLaws.{at_id-map, at_id-same, at_id-other}
+use Rattle.jup_window.specs.Entries.{double_fault, entry_fault, fault_in, widget_fault, RefusesBy, at_id, change_at, slot_of, with_entry, map_values}
+use Rattle.jup_window.specs.Laws.Entries.{at_id-map, at_id-same, at_id-other}
 use Rattle.jup_window.specs.Boards as board
 use Rattle.jup_window.specs.Widgets as widget
-use Rattle.jup_layout.specs.declared.refusals.Refusal.{Refusal}
-use Rattle.jup_layout.specs.declared.refusals.Refusal.TheVariants.{NoMemory, DoubleId, TooMany, BadId, BadBounds, Misplaced, BadItemName}
-use Rattle.jup_layout.specs.Drafts.{refusal_of, Drafted, put_into, whole, unless, with_window, with_widget_in, bare_last, is_free, Follows}
+use Rattle.jup_window.proofs.BoardChanges.{slot_of-within}
+use Rattle.jup_wire.specs.declared.line.Line.TheVariants as line
+use Rattle.jup_layout.specs.Drafts.{refusal_of, Drafted, put_into, whole, unless, with_window, with_widget_in, bare_last, is_free, Follows, with_slider_in, with_char_in, with_label_in, taken, items_in_last, naming_refusal, next_naming, first_refusal, with_item, ◌>>?◌, at_line, lines_taken, AddsName}
+
+-- What a draft's calls give, apart from the room of its sequences.
 
 -- # A board without its room
 
@@ -247,3 +250,230 @@ pub whole-bare : (win wid : ℕ) (w : Widget) (home : Option ℕ) (last : Option
     → put_into home (bare_last last) (board.bare b) ≡ board.bare (change_at win (with_entry wid w) b)
 whole-bare win wid w home last b here is =
     ap (λ o. put_into o (bare_last last) (board.bare b)) here ∙ ap (λ o. put_into (Some win) (bare_last o) (board.bare b)) is ∙ sym (put-bare win wid w b)
+
+-- A line adds at most one item to the last widget.
+
+pub unless_ok : {A : Type 0} (due : Option Refusal) (a b : A) → unless due a ≡ Ok b → a ≡ b
+unless_ok None a b e = same_Ok a b e
+unless_ok (Some refusal) a b e = absurd cc
+
+in_widget : (o : Option ℕ) (wid : ℕ) (w : Widget) (d next : Drafted) (n : ℕ) → items_in_last (Some (wid, w)) ≡ 0 → with_widget_in o wid w d ≡ Ok next → items_in_last next.last ≤ n + 1
+in_widget None wid w d next n empty e = absurd cc
+in_widget (Some win) wid w d next n empty e =
+    subst (λ x. items_in_last x.last ≤ n + 1) (unless_ok _ _ next e) (omega (arith, empty))
+
+in_slider : (o : Option ℕ) (b : Bool) (wid : ℕ) (w : Widget) (d next : Drafted) (n : ℕ) → items_in_last (Some (wid, w)) ≡ 0 → with_slider_in o b wid w d ≡ Ok next → items_in_last next.last ≤ n + 1
+in_slider None b wid w d next n empty e = absurd cc
+in_slider (Some win) true wid w d next n empty e = in_widget d.window wid w d next n empty e
+in_slider (Some win) false wid w d next n empty e = absurd cc
+
+one_more : {V : Type 0} (items : List (Item V)) (item : Item V) → length (items ++ item ∷ []) ≤ length items + 1
+one_more items item = omega (arith, length-append items (item ∷ []))
+
+in_text : (o : Option (ℕ × Widget)) (item : Item ℕ) (d next : Drafted) → with_char_in o item d ≡ Ok next → items_in_last next.last ≤ items_in_last o + 1
+in_text None item d next e = absurd cc
+in_text (Some (wid, Text x)) item d next e = subst (λ y. items_in_last y.last ≤ length x.items + 1) (unless_ok _ _ next e) (one_more x.items item)
+in_text (Some (wid, Labels x)) item d next e = absurd cc
+in_text (Some (wid, Toggle x)) item d next e = absurd cc
+in_text (Some (wid, Slider x)) item d next e = absurd cc
+
+in_list : (o : Option (ℕ × Widget)) (item : Item (List ℕ)) (d next : Drafted) → with_label_in o item d ≡ Ok next → items_in_last next.last ≤ items_in_last o + 1
+in_list None item d next e = absurd cc
+in_list (Some (wid, Text x)) item d next e = absurd cc
+in_list (Some (wid, Labels x)) item d next e = subst (λ y. items_in_last y.last ≤ length x.items + 1) (unless_ok _ _ next e) (one_more x.items item)
+in_list (Some (wid, Toggle x)) item d next e = absurd cc
+in_list (Some (wid, Slider x)) item d next e = absurd cc
+
+pub taken_grows : (d next : Drafted) (l : Line) → taken d l ≡ Ok next → items_in_last next.last ≤ items_in_last d.last + 1
+taken_grows d next (line.Window win) e = subst (λ x. items_in_last x.last ≤ items_in_last d.last + 1) (unless_ok _ _ next e) (omega arith)
+taken_grows d next (line.Text wid) e = in_widget d.window wid _ d next (items_in_last d.last) refl e
+taken_grows d next (line.List wid) e = in_widget d.window wid _ d next (items_in_last d.last) refl e
+taken_grows d next (line.Toggle wid on) e = in_widget d.window wid _ d next (items_in_last d.last) refl e
+taken_grows d next (line.Slider wid lo hi value) e = in_slider d.window _ wid _ d next (items_in_last d.last) refl e
+taken_grows d next (line.Char name value) e = in_text d.last _ d next e
+taken_grows d next (line.Item name value) e = in_list d.last _ d next e
+taken_grows d next line.Hello e = absurd cc
+taken_grows d next (line.Welcome site limit) e = absurd cc
+taken_grows d next line.Ready e = absurd cc
+taken_grows d next (line.Batch mine heard count) e = absurd cc
+taken_grows d next (line.Do op) e = absurd cc
+taken_grows d next (line.Ack n) e = absurd cc
+taken_grows d next (line.Ping n) e = absurd cc
+taken_grows d next (line.Pong n) e = absurd cc
+taken_grows d next line.Bye e = absurd cc
+taken_grows d next (line.Error n) e = absurd cc
+
+-- Entries under ids, after one more was put among them or one was changed.
+
+first_absent : {A : Type 0} (here : Bool) (a : A) (rest : Option A) → cond here (Some a) rest ≡ None → (here ≡ false) × (rest ≡ None)
+first_absent true a rest e = absurd (none-some a (sym e))
+first_absent false a rest e = (refl, e)
+
+-- ---- one more
+
+insert-same : {A : Type 0} (k i : ℕ) (a : A) (es : List (ℕ × A)) → i ≤ length es → at_id k es ≡ None → at_id k (insert es i (k, a)) ≡ Some a
+insert-same k zero a es within absent = rw (eq-eqb k k refl) refl
+insert-same k (suc i) a [] within absent = absurd (omega (arith, within))
+insert-same k (suc i) a (e ∷ es) within absent =
+    let none = first_absent (e.0 == k) e.1 (at_id k es) absent in
+    rw none.0 (insert-same k i a es (omega (arith, within)) none.1)
+
+pub put-same : {A : Type 0} (k : ℕ) (a : A) (es : List (ℕ × A)) → at_id k es ≡ None → at_id k (with_entry k a es) ≡ Some a
+put-same k a es absent = insert-same k (slot_of k es) a es (slot_of-within k es) absent
+
+pub put-kept : {A : Type 0} (j k : ℕ) (a : A) (es : List (ℕ × A)) → j ≢ k → at_id k (with_entry j a es) ≡ at_id k es
+put-kept j k a es other = at_id-insert k es (slot_of j es) (j, a) (ne_eqb j k other)
+
+pub put-other : {A : Type 0} (j k : ℕ) (a : A) (es : List (ℕ × A)) → k ≢ j → at_id k es ≡ None → at_id k (with_entry j a es) ≡ None
+put-other j k a es other absent = put-kept j k a es (λ e. other (sym e)) ∙ absent
+
+-- another value of it leaves the same ids
+insert-again : {A : Type 0} (j k i : ℕ) (a b : A) (es : List (ℕ × A)) → at_id k (insert es i (j, a)) ≡ None → at_id k (insert es i (j, b)) ≡ None
+insert-again j k zero a b es gone = let none = first_absent (j == k) a (at_id k es) gone in rw none.0 none.1
+insert-again j k (suc i) a b [] gone = let none = first_absent (j == k) a None gone in rw none.0 refl
+insert-again j k (suc i) a b (e ∷ es) gone =
+    let none = first_absent (e.0 == k) e.1 (at_id k (insert es i (j, a))) gone in
+    rw none.0 (insert-again j k i a b es none.1)
+
+pub put-again : {A : Type 0} (j k : ℕ) (a b : A) (es : List (ℕ × A)) → at_id k (with_entry j a es) ≡ None → at_id k (with_entry j b es) ≡ None
+put-again j k a b es gone = insert-again j k (slot_of j es) a b es gone
+
+pub put-length : {A : Type 0} (k : ℕ) (a : A) (es : List (ℕ × A)) → length (with_entry k a es) ≡ length es + 1
+put-length k a es = length-insert es (slot_of k es) (k, a) (slot_of-within k es)
+
+-- ---- a change
+
+changed_none : {A : Type 0} (f : A → A) (o : Option A) → o ≡ None → option_map f o ≡ None
+changed_none f None e = refl
+changed_none f (Some a) e = absurd (none-some a (sym e))
+
+pub changed-absent : {A : Type 0} (j k : ℕ) (f : A → A) (es : List (ℕ × A)) → at_id k es ≡ None → at_id k (change_at j f es) ≡ None
+changed-absent j k f es absent =
+    elim (cases_Bool (j == k)) [
+      | inl here ↦ ap (λ i. at_id k (change_at i f es)) (eqb-true j k here) ∙ at_id-same k f es ∙ changed_none f (at_id k es) absent
+      | inr there ↦ at_id-other j k f es there ∙ absent
+    ]
+
+none_changed : {A : Type 0} (f : A → A) (o : Option A) → option_map f o ≡ None → o ≡ None
+none_changed f None e = refl
+none_changed f (Some a) e = absurd (none-some (f a) (sym e))
+
+pub changed-back : {A : Type 0} (j k : ℕ) (f : A → A) (es : List (ℕ × A)) → at_id k (change_at j f es) ≡ None → at_id k es ≡ None
+changed-back j k f es gone =
+    elim (cases_Bool (j == k)) [
+      | inl here ↦ none_changed f (at_id k es) (sym (at_id-same k f es) ∙ ap (λ i. at_id k (change_at i f es)) (sym (eqb-true j k here)) ∙ gone)
+      | inr there ↦ sym (at_id-other j k f es there) ∙ gone
+    ]
+
+pub changed-length : {A : Type 0} (j : ℕ) (f : A → A) (es : List (ℕ × A)) → length (change_at j f es) ≡ length es
+changed-length j f [] = refl
+changed-length j f (e ∷ es) =
+    elim (cases_Bool (e.0 == j)) [
+      | inl here ↦ rw here refl
+      | inr there ↦ rw there (ap suc (changed-length j f es))
+    ]
+
+-- What is taken if names are numbered is taken if they are distinct, with the same answer.
+
+-- the same lines, if the names have only to be distinct
+abbrev pub plain : Drafted → Drafted
+plain d = record d { naming = Distinct }
+
+unless_plain : (due : Option Refusal) (a next : Drafted) → unless due a ≡ Ok next → unless due (plain a) ≡ Ok (plain next)
+unless_plain None a next e = ap (λ x. Ok (plain x)) (same_Ok a next e)
+unless_plain (Some refusal) a next e = absurd cc
+
+first_plain : (due : Option Refusal) (held : Bool) (a next : Drafted) → unless (first_refusal due held) a ≡ Ok next → unless (first_refusal None held) (plain a) ≡ Ok (plain next)
+first_plain None held a next e = unless_plain (first_refusal None held) a next e
+first_plain (Some refusal) held a next e = absurd cc
+
+item_plain : {V : Type 0} (make : Items V → Widget) (wid : ℕ) (x : Items V) (item : Item V) (d next : Drafted) → with_item make wid x item d ≡ Ok next → with_item make wid x item (plain d) ≡ Ok (plain next)
+item_plain make wid x item d next e =
+    first_plain (naming_refusal d.naming item.name (length x.items)) (has_name item.name x.items)
+    (record d { last = Some (wid, make (record x { items = x.items ++ item ∷ [] })); naming = next_naming d.naming }) next e
+
+widget_plain : (o : Option ℕ) (wid : ℕ) (w : Widget) (d next : Drafted) → with_widget_in o wid w d ≡ Ok next → with_widget_in o wid w (plain d) ≡ Ok (plain next)
+widget_plain None wid w d next e = absurd cc
+widget_plain (Some win) wid w d next e = unless_plain _ (record { board = whole d; window = Some win; home = Some win; last = Some (wid, w); naming = d.naming }) next e
+
+slider_plain : (o : Option ℕ) (b : Bool) (wid : ℕ) (w : Widget) (d next : Drafted) → with_slider_in o b wid w d ≡ Ok next → with_slider_in o b wid w (plain d) ≡ Ok (plain next)
+slider_plain None b wid w d next e = absurd cc
+slider_plain (Some win) true wid w d next e = widget_plain d.window wid w d next e
+slider_plain (Some win) false wid w d next e = absurd cc
+
+char_plain : (o : Option (ℕ × Widget)) (item : Item ℕ) (d next : Drafted) → with_char_in o item d ≡ Ok next → with_char_in o item (plain d) ≡ Ok (plain next)
+char_plain None item d next e = absurd cc
+char_plain (Some (wid, Text x)) item d next e = item_plain Text wid x item d next e
+char_plain (Some (wid, Labels x)) item d next e = absurd cc
+char_plain (Some (wid, Toggle x)) item d next e = absurd cc
+char_plain (Some (wid, Slider x)) item d next e = absurd cc
+
+label_plain : (o : Option (ℕ × Widget)) (item : Item (List ℕ)) (d next : Drafted) → with_label_in o item d ≡ Ok next → with_label_in o item (plain d) ≡ Ok (plain next)
+label_plain None item d next e = absurd cc
+label_plain (Some (wid, Text x)) item d next e = absurd cc
+label_plain (Some (wid, Labels x)) item d next e = item_plain Labels wid x item d next e
+label_plain (Some (wid, Toggle x)) item d next e = absurd cc
+label_plain (Some (wid, Slider x)) item d next e = absurd cc
+
+taken_plain : (d next : Drafted) (l : Line) → taken d l ≡ Ok next → taken (plain d) l ≡ Ok (plain next)
+taken_plain d next (line.Window win) e = unless_plain _ _ next e
+taken_plain d next (line.Text wid) e = widget_plain d.window wid _ d next e
+taken_plain d next (line.List wid) e = widget_plain d.window wid _ d next e
+taken_plain d next (line.Toggle wid on) e = widget_plain d.window wid _ d next e
+taken_plain d next (line.Slider wid lo hi value) e = slider_plain d.window _ wid _ d next e
+taken_plain d next (line.Char name value) e = char_plain d.last _ d next e
+taken_plain d next (line.Item name value) e = label_plain d.last _ d next e
+taken_plain d next line.Hello e = absurd cc
+taken_plain d next (line.Welcome site limit) e = absurd cc
+taken_plain d next line.Ready e = absurd cc
+taken_plain d next (line.Batch mine heard count) e = absurd cc
+taken_plain d next (line.Do op) e = absurd cc
+taken_plain d next (line.Ack n) e = absurd cc
+taken_plain d next (line.Ping n) e = absurd cc
+taken_plain d next (line.Pong n) e = absurd cc
+taken_plain d next line.Bye e = absurd cc
+taken_plain d next (line.Error n) e = absurd cc
+
+goes_on : (number : ℕ) (d end : Drafted) (l : Line) (ls : List Line)
+    → ((next : Drafted) → lines_taken (suc number) next ls ≡ Ok end → lines_taken (suc number) (plain next) ls ≡ Ok (plain end))
+    → (r : Result Drafted Refusal) → taken d l ≡ r → (at_line number r >>? λ next. lines_taken (suc number) next ls) ≡ Ok end
+    → (at_line number (taken (plain d) l) >>? λ next. lines_taken (suc number) next ls) ≡ Ok (plain end)
+goes_on number d end l ls rest (Ok next) is e =
+    ap (λ r. at_line number r >>? λ x. lines_taken (suc number) x ls) (taken_plain d next l is) ∙ rest next e
+goes_on number d end l ls rest (Err refusal) is e = absurd cc
+
+pub lines_plain : (lines : List Line) (number : ℕ) (d end : Drafted) → lines_taken number d lines ≡ Ok end → lines_taken number (plain d) lines ≡ Ok (plain end)
+lines_plain [] number d end e = ap (λ x. Ok (plain x)) (same_Ok d end e)
+lines_plain (l ∷ ls) number d end e =
+    elim (cases_Bool (number == 4294967295)) [
+      | inl last ↦ absurd (let no : Err (record { line = number; number = 11 }) ≡ Ok end = rw last at e in cc)
+      | inr other ↦ rw other (goes_on number d end l ls (λ next h. lines_plain ls (suc number) next end h) (taken d l) refl (rw other at e))
+    ]
+
+-- The names of a sequence's items as a set.
+
+-- two names are one if they compare equal
+pub same_name : (a b : Name) → is_eq (ordering_then (nat_cmp a.site b.site) (nat_cmp a.number b.number)) ≡ name_eq a b
+same_name a b = sym (both_tied (a.site == b.site) (a.number == b.number) (nat_cmp a.site b.site) (nat_cmp a.number b.number) (unsigned_ties a.site b.site) (unsigned_ties a.number b.number))
+
+-- what is held after a name was added
+pub or_cond : (e m h : Bool) → e ≡ m → cond e true h ≡ (m || h)
+or_cond e m h same = ap (λ (b : Bool). cond b true h) same ∙ by m
+  where
+    by : (b : Bool) → cond b true h ≡ (b || h)
+    by true = refl
+    by false = refl
+
+regroup : (a b c : Bool) → (a || (b || c)) ≡ (b || (a || c))
+regroup true true c = refl
+regroup true false c = refl
+regroup false b c = refl
+
+-- an item at the end adds its name
+pub adds_last : {V : Type 0} (items : List (Item V)) (item : Item V) → AddsName item.name items (items ++ item ∷ [])
+adds_last [] item other = refl
+adds_last (x ∷ items) item other = ap (λ (b : Bool). name_eq x.name other || b) (adds_last items item other) ∙ regroup (name_eq x.name other) (name_eq item.name other) (has_name other items)
+
+pub adds_at_end : {V : Type 0} (before mid after : List (Item V)) (item : Item V) (at : ℕ) → mid ≡ before → at ≡ length mid → after ≡ insert mid at item → AddsName item.name before after
+adds_at_end {V} before mid after item at same end inserted =
+    subst (λ (xs : List (Item V)). AddsName item.name before xs) (sym (inserted ∙ ap (λ (i : ℕ). insert mid i item) end ∙ insert_end mid item ∙ ap (λ (xs : List (Item V)). xs ++ item ∷ []) same)) (adds_last before item)

@@ -1,12 +1,4 @@
+pub mod Boards
 pub mod Drafting
-pub mod HeldNames
-pub mod Counting
-pub mod LinesTaken
-pub mod RoundTrip
-pub mod BoardsBack
-pub mod Counts
-pub mod Stricter
-pub mod LayoutTexts
-pub mod PutEntries
 pub mod Saying
-pub mod SaidTexts
+pub mod Texts

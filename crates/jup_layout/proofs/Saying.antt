@@ -4,33 +4,15 @@ use Rattle.std.specs.Prelude.{T, IsTrue, ℤ, ◌≤ℤ◌, nat_le, int_le, if�
 use Rattle.std.specs.Option.{option_map, option_and_then, is_none, IsSome}
 use Rattle.std.proofs.lemmas.Bool.{cases_Bool, eqb-true, eqb-false, eq-eqb, ne_eqb, lt-leb, leb-false, and_parts, and_from}
 use Rattle.std.proofs.lemmas.Option.{none-some, same_Some}
-use Rattle.jup_limits.specs.Limits.{longest_sequence, most_entries}
-use Rattle.jup_value.specs.declared.names.Name.{Name}
-use Rattle.jup_value.specs.declared.names.Item.{Item}
-use Rattle.jup_value.specs.Items.{Items, name_eq, has_name}
-use Rattle.jup_value.proofs.ItemLists.{name_eq_refl, name_eq_same}
-use Rattle.jup_setting.specs.Sliders.{SliderState}
-use Rattle.jup_window.specs.declared.faults.BoardFault.{BoardFault}
+use Rattle.jup_layout.specs.Prelude.{longest_sequence, most_entries, Name, Item, Items, name_eq, has_name, BoardFault, Widget, Text, Labels, Toggle, Slider, Windows, Naming, Distinct, Numbered, Refusal, Misplaced, BadBounds, BadItemName, TooMany, Line, LayoutFault}
 use Rattle.jup_window.specs.declared.faults.BoardFault.TheVariants as fault
-use Rattle.jup_window.specs.declared.widgets.Widget.{Widget}
-use Rattle.jup_window.specs.declared.widgets.Widget.TheVariants.{Text, List as Labels, Toggle, Slider}
-use Rattle.jup_window.specs.Additions.{double_fault, entry_fault, fault_in, widget_fault}
-use Rattle.jup_window.specs.Entries.{at_id, change_at, with_entry, Place, same_place, widget_at}
-use Rattle.jup_window.specs.Laws.EntryLaws.{at_id-same, at_id-other}
-use Rattle.jup_window.specs.Boards.{Windows}
-use Rattle.jup_layout.specs.declared.naming.Naming.{Naming}
-use Rattle.jup_layout.specs.declared.naming.Naming.TheVariants.{Distinct, Numbered}
-use Rattle.jup_layout.specs.declared.refusals.Refusal.{Refusal}
-use Rattle.jup_layout.specs.declared.refusals.Refusal.TheVariants.{Misplaced, BadBounds, BadItemName, TooMany}
-use Rattle.jup_wire.specs.declared.line.Line.{Line}
+use Rattle.jup_window.specs.Entries.{double_fault, entry_fault, fault_in, widget_fault, at_id, change_at, with_entry, Place, same_place, widget_at}
+use Rattle.jup_window.specs.Laws.Entries.{at_id-same, at_id-other}
 use Rattle.jup_wire.specs.declared.line.Line.TheVariants as line
-use Rattle.jup_layout.specs.declared.layouts.LayoutFault.{LayoutFault}
-use Rattle.jup_layout.specs.FaultNumbers.{refusal_number}
-use Rattle.jup_layout.specs.Layouts.{◌>>?◌, at_line, lines_taken, board_from}
-use Rattle.jup_layout.specs.Drafts.{refusal_of, next_naming, first_refusal, naming_refusal, item_refusal, Drafted, blank, whole, unless, with_window, with_widget_in, with_slider_in, with_char_in, with_label_in, taken, is_free}
+use Rattle.jup_layout.specs.Drafts.{refusal_number, ◌>>?◌, at_line, lines_taken, board_from, refusal_of, next_naming, first_refusal, naming_refusal, item_refusal, Drafted, blank, whole, unless, with_window, with_widget_in, with_slider_in, with_char_in, with_label_in, taken, is_free}
 use Rattle.jup_layout.specs.Said.{Part, SaysWindow, SaysWidget, SaysChar, SaysLabel, last_window, last_place, window_ids, widget_ids, named_by, is_place, widget_said, with_char, with_label, IsFreeId, IsNamed, IsNextItem, IsBounded, MayCome, MayFollow, AreIdsOf, Shows, history, part_of, no_items}
-use Rattle.jup_layout.proofs.Drafting.{same_Ok, fresh-id, entry_fault-whole, free-more, whole-more}
-use Rattle.jup_layout.proofs.PutEntries.{put-same, put-other, put-kept, put-length, put-again, changed-absent, changed-back, changed-length}
+use Rattle.jup_layout.proofs.Drafting.{same_Ok, fresh-id, entry_fault-whole, free-more, whole-more, put-same, put-other, put-kept, put-length, put-again, changed-absent, changed-back, changed-length}
+use Rattle.jup_window.specs.Prelude.{name_eq_refl, name_eq_same, SliderState}
 
 -- # Ids
 

@@ -1,26 +1,22 @@
--- Lines as a board, line by line.
-use Rattle.std.specs.Prelude.{◌≡◌, ℕ, suc, Bool, true, ◌&&◌, if◌then◌else◌, nat_le, List, [], ◌∷◌, ◌++◌, length, Option, Some, None, is_none, Result, Ok, Err, int_le}
+-- Lines as boards, and boards as lines.
+use Rattle.std.specs.Prelude.{◌≡◌, ℕ, suc, Bool, true, ◌&&◌, if◌then◌else◌, nat_le, List, [], ◌∷◌, ◌++◌, length, Option, Some, None, is_none, Result, Ok, Err, int_le, ◌==◌, ◌⊎◌, map, ◌||◌}
 use Rattle.std.specs.Option.{option_map}
-use Rattle.jup_limits.specs.Limits.{longest_sequence}
-use Rattle.jup_value.specs.declared.names.Name.{Name}
-use Rattle.jup_value.specs.declared.names.Item.{Item}
-use Rattle.jup_value.specs.Items.{Items, has_name, name_eq}
-use Rattle.jup_window.specs.declared.faults.BoardFault.{BoardFault}
+use Rattle.std.specs.List.{flat_map, AllByRecursion}
+use Rattle.std.specs.Ordering.{nat_cmp, ordering_then}
+use Rattle.std.specs.BTreeSet.{contains}
+use Rattle.jup_layout.specs.Prelude.{longest_sequence, IsWithin, Name, Item, Items, has_name, name_eq, AreDistinct, BoardFault, Widget, Text, Labels, Toggle, Slider, Windows, Line, WireFault, Refusal, NoMemory, DoubleId, TooMany, BadId, BadBounds, Misplaced, BadItemName, Naming, Distinct, Numbered, LayoutFault}
 use Rattle.jup_window.specs.declared.faults.BoardFault.TheVariants as fault
-use Rattle.jup_window.specs.declared.widgets.Widget.{Widget}
-use Rattle.jup_window.specs.declared.widgets.Widget.TheVariants.{Text, List as Labels, Toggle, Slider}
-use Rattle.jup_window.specs.Additions.{entry_fault, widget_fault}
-use Rattle.jup_window.specs.Entries.{change_at, with_entry}
+use Rattle.jup_window.specs.Entries.{entry_fault, widget_fault, change_at, with_entry, IsTable}
 use Rattle.jup_window.specs.Boards as board
 use Rattle.jup_window.specs.Widgets as widget
-use Rattle.jup_wire.specs.declared.line.Line.{Line}
 use Rattle.jup_wire.specs.declared.line.Line.TheVariants as line
+use Rattle.jup_wire.specs.Lines.{wire_fault_number, HasSpelling, spelling}
+use Rattle.jup_wire.specs.Streams.{Progress, HasRead, ending_at}
 use Rattle.jup_layout.specs.declared.drafts.Added.{Added}
 use Rattle.jup_layout.specs.declared.drafts.Added.TheVariants.{Char as AddedChar, Label as AddedLabel}
-use Rattle.jup_layout.specs.declared.refusals.Refusal.{Refusal}
-use Rattle.jup_layout.specs.declared.refusals.Refusal.TheVariants.{NoMemory, DoubleId, TooMany, BadId, BadBounds, Misplaced, BadItemName}
-use Rattle.jup_layout.specs.declared.naming.Naming.{Naming}
-use Rattle.jup_layout.specs.declared.naming.Naming.TheVariants.{Distinct, Numbered}
+use Rattle.jup_layout.specs.declared.names.Names.{Names}
+
+-- Lines as a board, line by line.
 
 -- the refusal of a window or a widget, as one of its line
 abbrev pub refusal_of : BoardFault → Refusal
@@ -183,3 +179,145 @@ Appended naming before item (Ok after) =
     (item_refusal naming item.name before.items ≡ None) × (after.0.items ≡ before.items ++ item ∷ []) × (after.1 ≡ next_naming naming)
 Appended naming before item (Err NoMemory) = LacksRoom naming before.spare
 Appended naming before item (Err refusal) = item_refusal naming item.name before.items ≡ Some refusal
+
+-- The numbers of the refusals of layouts.
+
+-- the number of each, as messages and printed texts give it
+abbrev pub refusal_number : Refusal → ℕ
+refusal_number NoMemory = 8
+refusal_number DoubleId = 10
+refusal_number TooMany = 11
+refusal_number BadId = 12
+refusal_number BadBounds = 13
+refusal_number Misplaced = 44
+refusal_number BadItemName = 45
+
+-- Whole lists of lines as boards.
+
+-- a result, and what is made of it unless it is a fault
+infixl 10 ◌>>?◌
+abbrev pub ◌>>?◌ : {A B : Type 0} → Result A LayoutFault → (A → Result B LayoutFault) → Result B LayoutFault
+(Ok a) >>? f = f a
+(Err fault) >>? f = Err fault
+
+-- a refusal as a fault of the line with this number
+abbrev pub at_line : {A : Type 0} → ℕ → Result A Refusal → Result A LayoutFault
+at_line number (Ok a) = Ok a
+at_line number (Err refusal) = Err (record { line = number; number = refusal_number refusal })
+
+-- after lines, the first of which has this number; there are at most 4,294,967,294
+abbrev pub lines_taken : ℕ → Drafted → List Line → Result Drafted LayoutFault
+lines_taken number d [] = Ok d
+lines_taken number d (line ∷ lines) =
+    if number == 4294967295 then Err (record { line = number; number = 11 }) else (at_line number (taken d line) >>? λ next. lines_taken (suc number) next lines)
+
+-- the board that lines describe, or the first line that cannot come after those before it
+abbrev pub board_from : Naming → List Line → Result board.Windows LayoutFault
+board_from naming lines = lines_taken 1 (blank naming) lines >>? λ d. Ok (whole d)
+
+-- if the names are distinct in each sequence, and if they are numbered as in a layout
+abbrev pub board_with : List Line → Result board.Windows LayoutFault
+board_with lines = board_from Distinct lines
+
+abbrev pub layout_with : List Line → Result board.Windows LayoutFault
+layout_with lines = board_from (Numbered 0) lines
+
+-- a builder holds what these lines describe, and knows how many they are
+abbrev pub HasTaken : Naming → List Line → Built → Type 0
+HasTaken naming lines b = (lines_taken 1 (blank naming) lines ≡ Ok b.drafted) × (b.next ≡ suc (length lines))
+
+-- a failed allocation
+abbrev pub no_memory : LayoutFault
+no_memory = record { line = 0; number = 8 }
+
+-- the board that is due apart from its room, or the fault that is due, or a failed allocation
+abbrev pub Makes : Result board.Windows LayoutFault → Result board.Windows LayoutFault → Type 0
+Makes (Ok windows) due = due ≡ Ok (board.bare windows)
+Makes (Err fault) due = (fault ≡ no_memory) ⊎ (due ≡ Err fault)
+
+-- after the lines of a text: the end of its bytes is a fault of the line after them, or none
+abbrev pub ended : ℕ → Result (Unit {0}) WireFault → board.Windows → Result board.Windows LayoutFault
+ended count (Ok done) windows = Ok windows
+ended count (Err fault) windows = Err (record { line = suc count; number = wire_fault_number fault })
+
+-- the layout of a text that was read so
+abbrev pub layout_read : List Line → Progress → Result board.Windows LayoutFault
+layout_read lines reader = layout_with lines >>? λ windows. ended (length lines) (ending_at reader.fault reader.part) windows
+
+-- the layout that a text describes, or its first fault
+pub record Describes (text : List ℕ) (due : Result board.Windows LayoutFault) : Type 0 where
+  pub lines : List Line
+  pub reader : Progress
+  pub read : HasRead text lines reader
+  pub is : due ≡ layout_read lines reader
+
+-- these bytes are just these lines
+pub record AreLines (text : List ℕ) (lines : List Line) : Type 0 where
+  pub spelled : AllByRecursion HasSpelling lines
+  pub whole : text ≡ flat_map spelling lines
+
+-- the layout that a text describes apart from its room, or its first fault, or a failed allocation
+abbrev pub Lays : List ℕ → Result board.Windows LayoutFault → Type 0
+Lays text (Ok windows) = Describes text (Ok (board.bare windows))
+Lays text (Err fault) = (fault ≡ no_memory) ⊎ Describes text (Err fault)
+
+-- Boards as lines.
+
+-- the lines of items, each by its name and its value
+abbrev pub item_lines : {V : Type 0} → (Name → V → Line) → List (Item V) → List Line
+item_lines line_of items = map (λ item. line_of item.name item.value) items
+
+-- a widget's line, and the items of a text or a list in order
+abbrev pub widget_lines : ℕ × Widget → List Line
+widget_lines (wid, Text x) = line.Text wid ∷ item_lines line.Char x.items
+widget_lines (wid, Labels x) = line.List wid ∷ item_lines line.Item x.items
+widget_lines (wid, Toggle x) = line.Toggle wid x.on ∷ []
+widget_lines (wid, Slider x) = line.Slider wid x.lo x.hi x.value ∷ []
+
+-- a window's line, and those of its widgets
+abbrev pub window_lines : ℕ × List (ℕ × Widget) → List Line
+window_lines window = line.Window window.0 ∷ flat_map widget_lines window.1
+
+abbrev pub board_lines : Windows → List Line
+board_lines windows = flat_map window_lines windows
+
+-- what holds of each widget: distinct names, and a value within its bounds
+abbrev pub IsWidget : ℕ × Widget → Type 0
+IsWidget (wid, Text x) = AreDistinct x.items
+IsWidget (wid, Labels x) = AreDistinct x.items
+IsWidget (wid, Toggle x) = Unit {0}
+IsWidget (wid, Slider x) = IsWithin x x.value
+
+-- what holds of each window, and of each board
+abbrev pub IsWindow : ℕ × List (ℕ × Widget) → Type 0
+IsWindow window = IsTable window.1 × AllByRecursion IsWidget window.1
+
+abbrev pub IsBoard : Windows → Type 0
+IsBoard windows = IsTable windows × AllByRecursion IsWindow windows
+
+-- The names that a sequence's items have, as a set.
+
+-- whether the name is one of these
+abbrev pub is_held : Name → Names → Bool
+is_held name names = contains (λ x y. ordering_then (nat_cmp x.0 y.0) (nat_cmp x.1 y.1)) names.held (name.site, name.number)
+
+-- these are the names of the items
+abbrev pub AreNamesOf : {V : Type 0} → List (Item V) → Names → Type 0
+AreNamesOf items names = (name : Name) → is_held name names ≡ has_name name items
+
+-- items have one more name
+abbrev pub AddsName : {V : Type 0} → Name → List (Item V) → List (Item V) → Type 0
+AddsName name before after = (other : Name) → has_name other after ≡ (name_eq name other || has_name other before)
+
+-- or, if they are numbered, none are kept
+abbrev pub AreKept : {V : Type 0} → Naming → List (Item V) → Names → Type 0
+AreKept Distinct items names = AreNamesOf items names
+AreKept (Numbered count) items names = Unit {0}
+
+-- and of the last widget's items, if it has any
+abbrev pub AreKeptIn : Naming → Option (ℕ × Widget) → Names → Type 0
+AreKeptIn naming None names = Unit {0}
+AreKeptIn naming (Some (wid, Text x)) names = AreKept naming x.items names
+AreKeptIn naming (Some (wid, Labels x)) names = AreKept naming x.items names
+AreKeptIn naming (Some (wid, Toggle x)) names = Unit {0}
+AreKeptIn naming (Some (wid, Slider x)) names = Unit {0}

@@ -1,6 +1,3 @@
-pub mod BoardLines
 pub mod Drafts
-pub mod FaultNumbers
-pub mod Layouts
-pub mod Names
+pub mod Prelude
 pub mod Said

@@ -2,21 +2,10 @@
 use Rattle.std.specs.Prelude.{◌≡◌, ◌≢◌, ℕ, suc, ◌<◌, Bool, false, List, [], ◌∷◌, ◌++◌, length, Option, Some, None, if◌then◌else◌}
 use Rattle.std.specs.List.{AllByRecursion}
 use Rattle.std.specs.Option.{option_map, IsSome}
-use Rattle.jup_limits.specs.Limits.{longest_sequence, most_entries}
-use Rattle.jup_value.specs.declared.names.Name.{Name}
-use Rattle.jup_value.specs.declared.names.Item.{Item}
-use Rattle.jup_value.specs.Items.{Items, has_name}
-use Rattle.jup_setting.specs.Sliders.{IsWithin}
-use Rattle.jup_window.specs.declared.widgets.Widget.{Widget}
-use Rattle.jup_window.specs.declared.widgets.Widget.TheVariants.{Text, List as Labels, Toggle, Slider}
+use Rattle.jup_layout.specs.Prelude.{longest_sequence, most_entries, Name, Item, Items, has_name, IsWithin, Widget, Text, Labels, Toggle, Slider, Windows, Line, Naming, Distinct, Numbered}
 use Rattle.jup_window.specs.Entries.{Place, same_place, widget_at, at_id}
-use Rattle.jup_window.specs.Boards.{Windows}
-use Rattle.jup_wire.specs.declared.line.Line.{Line}
 use Rattle.jup_wire.specs.declared.line.Line.TheVariants as line
-use Rattle.jup_layout.specs.declared.naming.Naming.{Naming}
-use Rattle.jup_layout.specs.declared.naming.Naming.TheVariants.{Distinct, Numbered}
-use Rattle.jup_layout.specs.Drafts.{next_naming}
-use Rattle.jup_layout.specs.Layouts.{AreLines}
+use Rattle.jup_layout.specs.Drafts.{next_naming, AreLines}
 
 -- what a line says of a board: a window, a widget as it is before its items, or an item; or nothing
 pub data Part : Type 0 where

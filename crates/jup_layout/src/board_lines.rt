@@ -1,7 +1,7 @@
 //! Boards as lines.
 ghost use Rattle.std.specs.Prelude.{◌≡◌, OnOk, IfOk};
 ghost use Rattle.jup_value.specs.Items.{AreDistinct};
-ghost use Rattle.jup_layout.specs.BoardLines.{item_lines, widget_lines, window_lines, board_lines, IsWidget, IsWindow, IsBoard};
+ghost use Rattle.jup_layout.specs.Drafts.{item_lines, widget_lines, window_lines, board_lines, IsWidget, IsWindow, IsBoard};
 
 use jup_value::{Label, Name, Seq};
 use jup_window::{Board, Widget, Window};

@@ -4,8 +4,7 @@ ghost use Rattle.jup_window.specs.Boards as board;
 ghost use Rattle.jup_wire.specs.declared.line.Line.{Line};
 ghost use Rattle.jup_layout.specs.declared.naming.Naming.{Naming};
 ghost use Rattle.jup_layout.specs.declared.naming.Naming.TheVariants.{Distinct};
-ghost use Rattle.jup_layout.specs.Drafts.{blank};
-ghost use Rattle.jup_layout.specs.Layouts.{HasTaken, board_from, no_memory};
+ghost use Rattle.jup_layout.specs.Drafts.{blank, HasTaken, board_from, no_memory};
 ghost use Rattle.jup_layout.specs.Said.{AreBoardLines, Shows};
 
 use crate::LayoutFault;

@@ -1,14 +1,12 @@
 //! The board that lines describe, line by line.
 ghost use Rattle.std.specs.Prelude.{◌≡◌, ◌<◌, List, length, not, Ok, Some, IsNone, None, IfOk, OnOk, OnErr};
-ghost use Rattle.jup_window.specs.Additions.{widget_fault};
-ghost use Rattle.jup_window.specs.Entries.{change_at, with_entry};
+ghost use Rattle.jup_window.specs.Entries.{widget_fault, change_at, with_entry};
 ghost use Rattle.jup_window.specs.Boards as boards;
 ghost use Rattle.jup_window.specs.Widgets as widgets;
 ghost use Rattle.jup_wire.specs.declared.line.Line.TheVariants as lines;
 ghost use Rattle.jup_value.specs.declared.names.Item.{Item};
 ghost use Rattle.jup_value.specs.Items.{has_name};
-ghost use Rattle.jup_layout.specs.Names.{AreKept, AddsName};
-ghost use Rattle.jup_layout.specs.Drafts.{blank, whole, with_window, with_widget, with_added, taken, items_in_last, Follows, Appended};
+ghost use Rattle.jup_layout.specs.Drafts.{AreKept, AddsName, blank, whole, with_window, with_widget, with_added, taken, items_in_last, Follows, Appended};
 
 use crate::names::Names;
 use crate::naming::Naming;
@@ -39,8 +37,7 @@ pub(crate) struct Draft {
 impl Model for Draft {
     ghost use Rattle.std.specs.Prelude.{IsTrue};
     ghost use Rattle.jup_window.specs.Boards as boards;
-    ghost use Rattle.jup_layout.specs.Drafts.{Drafted, bare_last, is_free};
-    ghost use Rattle.jup_layout.specs.Names.{AreKeptIn};
+    ghost use Rattle.jup_layout.specs.Drafts.{Drafted, bare_last, is_free, AreKeptIn};
 
     ghost Value = { Drafted };
 

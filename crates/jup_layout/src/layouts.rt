@@ -2,12 +2,10 @@
 ghost use Rattle.std.specs.Prelude.{◌≡◌, ◌⊎◌, ◌<◌, ◌≤◌, length, Ok, Err, IfOk, IfErr, IsOkUnless, MatchResult, List};
 ghost use Rattle.jup_limits.specs.Limits.{longest_input};
 ghost use Rattle.jup_window.specs.Boards as board;
-ghost use Rattle.jup_layout.specs.BoardLines.{board_lines, IsBoard};
+ghost use Rattle.jup_layout.specs.Drafts.{board_lines, IsBoard, refusal_number, board_from, board_with, no_memory, layout_with, Makes, Lays, Describes, AreLines};
 ghost use Rattle.jup_wire.specs.declared.line.Line.{Line};
 ghost use Rattle.jup_layout.specs.declared.refusals.Refusal.TheVariants as refusals;
-ghost use Rattle.jup_layout.specs.FaultNumbers.{refusal_number};
 ghost use Rattle.jup_layout.specs.Said.{AreBoardLines, AreLayoutLines, Shows, IsLayout};
-ghost use Rattle.jup_layout.specs.Layouts.{board_from, board_with, no_memory, layout_with, Makes, Lays, Describes, AreLines};
 
 use crate::BoardBuilder;
 use crate::naming::Naming;

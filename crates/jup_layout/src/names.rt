@@ -2,7 +2,7 @@
 ghost use Rattle.std.specs.Prelude.{◌≡◌, ◌||◌, false, not, IfOk, OnOk};
 ghost use Rattle.jup_value.specs.declared.names.Name.{Name};
 ghost use Rattle.jup_value.specs.Items.{name_eq};
-ghost use Rattle.jup_layout.specs.Names.{is_held};
+ghost use Rattle.jup_layout.specs.Drafts.{is_held};
 
 use jup_value::Name;
 use jup_xform::NoMemory;

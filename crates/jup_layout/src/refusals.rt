@@ -1,7 +1,6 @@
 //! Why lines are no board.
 ghost use Rattle.std.specs.Prelude.{◌≡◌};
-ghost use Rattle.jup_layout.specs.FaultNumbers.{refusal_number};
-ghost use Rattle.jup_layout.specs.Drafts.{refusal_of};
+ghost use Rattle.jup_layout.specs.Drafts.{refusal_number, refusal_of};
 
 use jup_window::BoardFault;
 

@@ -1,12 +1,9 @@
 use Rattle.std.specs.Prelude.{◌≡◌, List, [], ◌∷◌, refl}
 use Rattle.jup_xform.specs.declared.Transform.{Ghosts}
-use Rattle.jup_xform.specs.Grid.{mirror}
-use Rattle.jup_xform.specs.Lawful.{IsLawful}
-use Rattle.jup_link.specs.Links.{Link, Message, Operation, Ack}
-use Rattle.jup_link.specs.InStep.{InStepAt}
-use Rattle.jup_link.specs.Laws.InStepLaws.{InStepAt-room, InStepAt-edit, QueueMeets-in_turn}
-use Rattle.jup_link.specs.Laws.LinkSteps.{InStepAt-opened, InStepAt-up, InStepAt-down, InStepAt-edit_near, client_acks, server_acks, client_counts, server_counts, quiet_equal}
-use Rattle.jup_link.specs.Pairs.{Pair, PairEvent, ClientEdits, ServerEdits, ClientAcks, ServerAcks, MovesUp, MovesDown, opened_pair, moved_up, moved_down, pair_after, pair_after_all, IsAllowed, AreAllowed, AcceptsNext, IsInStep, Agrees}
+use Rattle.jup_xform.specs.Grids.{mirror, IsLawful}
+use Rattle.jup_link.specs.Links.{Link, Message, Operation, Ack, InStepAt, Pair, PairEvent, ClientEdits, ServerEdits, ClientAcks, ServerAcks, MovesUp, MovesDown, opened_pair, moved_up, moved_down, pair_after, pair_after_all, IsAllowed, AreAllowed, AcceptsNext, IsInStep, Agrees}
+use Rattle.jup_link.specs.Laws.InStep.{InStepAt-room, InStepAt-edit, QueueMeets-in_turn}
+use Rattle.jup_link.specs.Laws.Steps.{InStepAt-opened, InStepAt-up, InStepAt-down, InStepAt-edit_near, client_acks, server_acks, client_counts, server_counts, quiet_equal}
 
 -- the pair of these parts
 abbrev pub pair_of : {Op State : Type 0} → State → State → Link Op → Link Op → List (Message Op) → List (Message Op) → State → List Op → List Op → Pair Op State

@@ -1,6 +1,4 @@
 -- What follows from the definitions beside this folder.
 
-pub mod ComesLaws
-pub mod InStepEvents
-pub mod InStepLaws
-pub mod LinkSteps
+pub mod InStep
+pub mod Steps

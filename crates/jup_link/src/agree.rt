@@ -1,7 +1,7 @@
 //! What two ends keep over every list of edits and deliveries.
 
 ghost use Rattle.std.specs.Prelude.{List};
-ghost use Rattle.jup_link.specs.Pairs.{PairEvent, opened_pair, pair_after_all, AreAllowed, Agrees};
+ghost use Rattle.jup_link.specs.Links.{PairEvent, opened_pair, pair_after_all, AreAllowed, Agrees};
 
 use jup_xform::Transform;
 

@@ -3,8 +3,7 @@
 ghost use Rattle.std.specs.Prelude.{◌≡◌, ◌+◌, ◌<◌, ◌≤◌, ◌↔◌, length, drop, IsTrue, IsOk, OnOk, OnErr, IfOk, IsErrOf};
 ghost use Rattle.std.specs.VecDeque.{deque_capacity};
 ghost use Rattle.jup_limits.specs.Limits.{answer_after};
-ghost use Rattle.jup_link.specs.Links.{IsCount, IsNumber, opened, generated, after_count, after_send, after_ack, received_operation, after_receive, message};
-ghost use Rattle.jup_link.specs.Messages.{sent};
+ghost use Rattle.jup_link.specs.Links.{IsCount, IsNumber, opened, generated, after_count, after_send, after_ack, received_operation, after_receive, message, sent};
 
 use crate::{LinkFault, Msg};
 use jup_limits::ANSWER_AFTER;
@@ -30,7 +29,7 @@ pub struct End<T> {
 impl<T> Model for End<T> {
     ghost use Rattle.std.specs.Prelude.{ℕ, ◌≡◌, ◌+◌, ◌-◌, ◌≤◌, length};
     ghost use Rattle.std.specs.VecDeque.{deque_len, deque_capacity};
-    ghost use Rattle.jup_link.specs.Ends.{EndState};
+    ghost use Rattle.jup_link.specs.Links.{EndState};
 
     ghost Value = { EndState T };
 

@@ -1,6 +1,2 @@
-pub mod MixHolds
-pub mod MixPlaying
-pub mod MixProgram
-pub mod MixReached
-pub mod MixStrays
-pub mod MixViews
+pub mod Programs
+pub mod Worlds

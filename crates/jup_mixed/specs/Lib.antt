@@ -1,8 +1,2 @@
-pub mod MixEvents
-pub mod MixFields
-pub mod MixInside
-pub mod MixPromises
-pub mod MixStates
-pub mod MixSteps
-pub mod MixTraces
-pub mod MixWorlds
+pub mod Mixed
+pub mod Prelude

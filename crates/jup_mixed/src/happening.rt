@@ -1,10 +1,9 @@
 //! What each event does to the star and the site.
 ghost use Rattle.std.specs.Prelude.{◌≡◌, length, IfOk, OnErr};
 ghost use Rattle.std.specs.Option.{option_map};
-ghost use Rattle.jup_world.specs.WorldFields.{bare_attached};
-ghost use Rattle.jup_world.specs.NumberedReplies.{numbered_reply, MakesFew};
+ghost use Rattle.jup_world.specs.Insides.{bare_attached, MakesFew};
 ghost use Rattle.jup_mixed.specs.declared.events.MixEvent.TheVariants as event;
-ghost use Rattle.jup_mixed.specs.MixFields.{most_edits, MixPlays, MixSpares, IsReady};
+ghost use Rattle.jup_mixed.specs.Mixed.{most_edits, MixPlays, MixSpares, IsReady};
 
 use crate::MixEvent;
 use jup_link::Msg;
@@ -26,7 +25,7 @@ pub(crate) fn happen(
 ) -> Result<Reply, NoMemory>
     requires { IsReady star.old (option_map bare_attached site.old) }
     ensures plays { IfOk result (λ reply. MixPlays event.now star.old (option_map bare_attached site.old)
-        (numbered_reply reply) star.new (option_map bare_attached site.new)) }
+        reply star.new (option_map bare_attached site.new)) }
     ensures few { IfOk result (λ reply. MakesFew reply (most_edits event.now)) }
     ensures spared { OnErr result (MixSpares event.now star.old (option_map bare_attached site.old)
         star.new (option_map bare_attached site.new)) }
@@ -49,7 +48,7 @@ fn edit(
 ) -> Result<Reply, NoMemory>
     requires { IsReady star.now (option_map bare_attached site.old) }
     ensures plays { IfOk result (λ reply. MixPlays (event.Edit commands.now) star.now (option_map bare_attached site.old)
-        (numbered_reply reply) star.now (option_map bare_attached site.new)) }
+        reply star.now (option_map bare_attached site.new)) }
     ensures few { IfOk result (λ reply. MakesFew reply (length commands.now)) }
     ensures same { OnErr result (option_map bare_attached site.new ≡ option_map bare_attached site.old) }
 {
@@ -64,7 +63,7 @@ fn move_up(alloc: Global, star: &mut Star, site: &mut Option<Attached>) -> Resul
     requires { IsReady star.old (option_map bare_attached site.old) }
     ensures few { IfOk result (λ reply. MakesFew reply 0) }
     ensures plays { IfOk result (λ reply. MixPlays event.Up star.old (option_map bare_attached site.old)
-        (numbered_reply reply) star.new (option_map bare_attached site.new)) }
+        reply star.new (option_map bare_attached site.new)) }
     ensures same_star { OnErr result (star.new ≡ star.old) }
     ensures same_site { OnErr result (option_map bare_attached site.new ≡ option_map bare_attached site.old) }
 {
@@ -86,7 +85,7 @@ fn move_down(alloc: Global, star: &mut Star, site: &mut Option<Attached>) -> Res
     requires { IsReady star.old (option_map bare_attached site.old) }
     ensures few { IfOk result (λ reply. MakesFew reply 0) }
     ensures plays { IfOk result (λ reply. MixPlays event.Down star.old (option_map bare_attached site.old)
-        (numbered_reply reply) star.new (option_map bare_attached site.new)) }
+        reply star.new (option_map bare_attached site.new)) }
     ensures spared { OnErr result (MixSpares event.Down star.old (option_map bare_attached site.old)
         star.new (option_map bare_attached site.new)) }
 {
@@ -99,7 +98,7 @@ fn move_down(alloc: Global, star: &mut Star, site: &mut Option<Attached>) -> Res
 fn join_stray(alloc: Global, star: &mut Star, site: &Option<Attached>) -> Result<Reply, NoMemory>
     ensures few { IfOk result (λ reply. MakesFew reply 0) }
     ensures plays { IfOk result (λ reply. MixPlays event.JoinStray star.old (option_map bare_attached site.now)
-        (numbered_reply reply) star.new (option_map bare_attached site.now)) }
+        reply star.new (option_map bare_attached site.now)) }
     ensures same { OnErr result (star.new ≡ star.old) }
 {
     match star.join(alloc) {
@@ -118,7 +117,7 @@ fn take_stray(
 ) -> Result<Reply, NoMemory>
     ensures few { IfOk result (λ reply. MakesFew reply 0) }
     ensures plays { IfOk result (λ reply. MixPlays (event.Stray link up.now) star.old (option_map bare_attached site.now)
-        (numbered_reply reply) star.new (option_map bare_attached site.now)) }
+        reply star.new (option_map bare_attached site.now)) }
     ensures same { OnErr result (star.new ≡ star.old) }
 {
     if link == HOME || star.waiting(link).is_none() {
@@ -133,7 +132,7 @@ fn take_stray(
 
 fn leave_stray(star: &mut Star, site: &Option<Attached>, link: u32) -> Reply
     ensures plays { MixPlays (event.LeaveStray link) star.old (option_map bare_attached site.now)
-        (numbered_reply result) star.new (option_map bare_attached site.now) }
+        result star.new (option_map bare_attached site.now) }
     ensures few { MakesFew result 0 }
 {
     if link == HOME {

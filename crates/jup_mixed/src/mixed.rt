@@ -3,19 +3,12 @@ ghost use Rattle.std.specs.Prelude.{◌≡◌, ◌⊎◌, ◌↔◌, ◌+◌, �
 ghost use Rattle.std.specs.Vec.{vec_capacity};
 ghost use Rattle.std.specs.Option.{option_map, option_copied};
 ghost use Rattle.jup_window.specs.Entries.{EachWidget};
-ghost use Rattle.jup_batch.specs.BatchBoards.{bare, content, meaning};
-ghost use Rattle.jup_batch.specs.BoardBatches.{board_batches};
-ghost use Rattle.jup_star.specs.StarStates.{link_of};
-ghost use Rattle.jup_star.specs.StarCalls.{star_open_fault};
+ghost use Rattle.jup_batch.specs.Boards.{bare, content, meaning, board_batches};
+ghost use Rattle.jup_star.specs.Stars.{link_of, star_open_fault, IsShort};
 ghost use Rattle.jup_star.specs.declared.faults.OpenFault.TheVariants as open_fault;
-ghost use Rattle.jup_star.specs.Openings.{IsShort};
-ghost use Rattle.jup_world.specs.NumberedReplies.{numbered_reply, MakesFew};
-ghost use Rattle.jup_mixed.specs.MixStates.{opened_mix, IsHomeQuiet};
-ghost use Rattle.jup_mixed.specs.MixSteps.{mix_outcome, mix_happens};
-ghost use Rattle.jup_mixed.specs.MixTraces.{mix_made, mix_view};
+ghost use Rattle.jup_world.specs.Insides.{MakesFew};
+ghost use Rattle.jup_mixed.specs.Mixed.{opened_mix, IsHomeQuiet, mix_outcome, mix_happens, mix_made, mix_view, MixReplies, MixOrderIsKept, most_edits, IsMixSpared, HomeAgrees};
 ghost use Rattle.jup_world.specs.Sound.{edits_in};
-ghost use Rattle.jup_mixed.specs.MixPromises.{MixReplies, MixOrderIsKept};
-ghost use Rattle.jup_mixed.specs.MixFields.{numbered_mix, most_edits, IsMixSpared, HomeAgrees};
 
 use crate::happening::{copy_event, happen, most_edits};
 use crate::{MixEvent, MixHappened};
@@ -41,12 +34,11 @@ pub struct Mixed {
 }
 
 impl Model for Mixed {
-    ghost use Rattle.jup_mixed.specs.MixFields.{IsMix};
-    ghost use Rattle.jup_mixed.specs.MixPromises.{BoardMix};
+    ghost use Rattle.jup_mixed.specs.Mixed.{IsMix, BoardMix};
 
     ghost Value = { BoardMix };
 
-    ghost use Rattle.jup_mixed.specs.MixInside.{bare_mix};
+    ghost use Rattle.jup_mixed.specs.Mixed.{bare_mix};
 
     ghost view = { bare_mix };
 
@@ -91,8 +83,7 @@ fn keep(trace: &mut Vec<MixHappened>, note: Note, reply: &Reply)
     requires room { vec_len trace.old < vec_capacity trace.old }
     requires empty { note.edits.items ≡ [] }
     requires edits { MakesFew reply.now (vec_capacity note.edits) }
-    ensures { numbered_mix trace.new.items
-        ≡ numbered_mix trace.old.items ++ record { event = note.event; reply = numbered_reply reply.now } ∷ [] }
+    ensures { trace.new.items ≡ trace.old.items ++ record { event = note.event; reply = reply.now } ∷ [] }
 {
     // The checker learns of the types within an event from this.
     let _within: PhantomData<WithinEvents> = PhantomData;
@@ -133,7 +124,7 @@ impl Mixed {
     /// it was, except that `Down` may have fetched the oldest message of the site's outbox into its down
     /// stream.
     pub fn step(&mut self, alloc: Global, event: &MixEvent) -> Result<Reply, NoMemory>
-        ensures reply { IfOk result (λ reply. numbered_reply reply ≡ (mix_outcome board_batches self.old event.now).reply) }
+        ensures reply { IfOk result (λ reply. reply ≡ (mix_outcome board_batches self.old event.now).reply) }
         ensures withheld { OnOk result (MixReplies board_batches self.old event.now (mix_outcome board_batches self.old event.now)) }
         ensures ok { OnOk result (self.new ≡ mix_happens board_batches self.old event.now) }
         ensures err { OnErr result (IsMixSpared self.old event.now self.new) }
@@ -165,7 +156,7 @@ impl Mixed {
 
     /// What has happened, oldest first.
     pub fn trace(&self) -> &[MixHappened]
-        ensures { numbered_mix result.now ≡ self.now.trace }
+        ensures { result.now ≡ self.now.trace }
     {
         &self.trace
     }

@@ -1,9 +1,8 @@
 //! What every star with one site and strangers keeps, whatever they send.
 
 ghost use Rattle.std.specs.Prelude.{List};
-ghost use Rattle.jup_batch.specs.BoardBatches.{board_batches};
-ghost use Rattle.jup_mixed.specs.MixSteps.{mix_outcome, mix_run};
-ghost use Rattle.jup_mixed.specs.MixPromises.{MixPromises, MixReplies, OnlyFull, MixOrderIsKept, MixOrdersAgree, BoardMix, BoardMixEvent, IsMixed};
+ghost use Rattle.jup_batch.specs.Boards.{board_batches};
+ghost use Rattle.jup_mixed.specs.Mixed.{mix_outcome, mix_run, MixPromises, MixReplies, OnlyFull, MixOrderIsKept, MixOrdersAgree, BoardMix, BoardMixEvent, IsMixed};
 
 /// After any list of edits of site 1, deliveries to it and from it, and joins, messages and departures of
 /// strangers:

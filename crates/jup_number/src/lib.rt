@@ -7,8 +7,7 @@ ghost use Rattle.std.specs.Char.{digit_value};
 ghost use Rattle.std.specs.Fmt.{signed_decimal};
 ghost use Rattle.std.specs.Option.{SomeIff};
 ghost use Rattle.std.specs.Str.Parse.{AllDigits, digits_value};
-ghost use Rattle.jup_number.specs.Numbers.{IsU32, IsInt};
-ghost use Rattle.jup_number.specs.Spelled.{IsReadingOf};
+ghost use Rattle.jup_number.specs.Numbers.{IsU32, IsInt, IsReadingOf};
 
 /// The number that the bytes spell.
 pub fn read_number(digits: &[u8]) -> Option<u32>

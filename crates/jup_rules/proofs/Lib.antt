@@ -1,7 +1,3 @@
-mod Asked
-mod BareTexts
-mod SiteLines
-mod Hearing
-mod Taking
+pub mod Clients
 mod Lagging
-pub mod Welcoming
+mod Sessions

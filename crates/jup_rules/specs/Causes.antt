@@ -1,11 +1,8 @@
 -- Which ends have a second line, which explains them to people.
 use Rattle.std.specs.Prelude.{Bool, true, false}
-use Rattle.jup_rules.specs.declared.ends.ClientEnd.{ClientEnd}
-use Rattle.jup_rules.specs.declared.ends.ClientEnd.TheVariants.{Fault as ClientFault, NoMemory as ClientNoMemory, Unconnected, ReadFailed, WriteFailed}
+use Rattle.jup_rules.specs.Prelude.{ClientEnd, ClientFault, NoMemory as ClientNoMemory, Unconnected, ReadFailed, WriteFailed, DaemonEnd, Words, Layout, LongLayout, Io, DaemonNoMemory, Held}
 use Rattle.jup_rules.specs.declared.ends.Attempt.{Attempt}
 use Rattle.jup_rules.specs.declared.ends.Attempt.TheVariants.{ReadLayout, Listen, Accept, Print}
-use Rattle.jup_rules.specs.declared.ends.DaemonEnd.{DaemonEnd}
-use Rattle.jup_rules.specs.declared.ends.DaemonEnd.TheVariants.{Words, Layout, LongLayout, Io, NoMemory as DaemonNoMemory, Held}
 
 -- a fault, and a failed read or write. `NoMemory` has its own text, and the caller knows the address to which no link could be made
 abbrev pub client_end_is_explained : ClientEnd → Bool

@@ -1,18 +1,10 @@
 -- Why a client ends, by what was refused.
 use Rattle.std.specs.Prelude.{ℕ, ◌==◌, if◌then◌else◌}
-use Rattle.jup_star.specs.FaultNumbers.{site_fault_number, open_fault_number}
-use Rattle.jup_star.specs.declared.faults.StarFault.TheVariants.{NoMemory as StarNoMemory}
-use Rattle.jup_star.specs.declared.faults.SiteFault.{SiteFault}
-use Rattle.jup_star.specs.declared.faults.OpenFault.{OpenFault}
-use Rattle.jup_hub.specs.declared.fault.HubFault.TheVariants.{Star}
-use Rattle.jup_layout.specs.declared.layouts.LayoutFault.{LayoutFault}
-use Rattle.jup_rules.specs.Numbers.{session_fault_number}
-use Rattle.jup_rules.specs.declared.ends.Stop.{Stop}
-use Rattle.jup_rules.specs.declared.ends.Stop.TheVariants.{End, Fault as StopFault}
-use Rattle.jup_rules.specs.declared.ends.SessionFault.{SessionFault}
+use Rattle.jup_star.specs.Faults.{site_fault_number, open_fault_number}
+use Rattle.jup_rules.specs.Prelude.{SiteFault, OpenFault, Star, LayoutFault, Stop, End, StopFault, SessionFault, ClientEnd, ClientFault as Fault, NoMemory, ReadFailed, WriteFailed}
+use Rattle.jup_rules.specs.Ends.{session_fault_number}
 use Rattle.jup_rules.specs.declared.ends.SessionFault.TheVariants.{Hub, NoMemory as SessionNoMemory, ReadFailed as SessionReadFailed, WriteFailed as SessionWriteFailed}
-use Rattle.jup_rules.specs.declared.ends.ClientEnd.{ClientEnd}
-use Rattle.jup_rules.specs.declared.ends.ClientEnd.TheVariants.{Fault, NoMemory, ReadFailed, WriteFailed}
+use Rattle.jup_star.specs.declared.faults.StarFault.TheVariants.{NoMemory as StarNoMemory}
 
 -- no memory has a case of its own, as have reads and writes; all else is its number
 abbrev pub end_of_fault : SessionFault → ClientEnd

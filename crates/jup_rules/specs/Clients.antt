@@ -1,44 +1,179 @@
--- What a client makes of its user's requests and of its server's lines.
+-- What a user asks a client for, and what it does.
+use Rattle.std.specs.Prelude.{ℕ, ◌*◌, List, Option, if◌then◌else◌, Some, None, ◌≡◌, ◌≢◌, ◌≤◌, ◌+◌, ◌⊎◌, [], ◌∷◌, ◌++◌, length, map, codes, nat_lt, decimal, take, IsTrue, IsFalse, true, ◌==◌, Bool, false, Result, Ok, Err, IfOk}
+use Rattle.std.specs.List.{AllByRecursion}
 use Rattle.std.specs.Option.{option_map}
-use Rattle.std.specs.Prelude.{◌≡◌, ◌≢◌, IsTrue, IsFalse, true, ◌==◌, ◌⊎◌, ℕ, ◌+◌, Bool, false, if◌then◌else◌, List, Option, Some, None, Result, Ok, Err, IfOk, ◌∷◌, [], ◌++◌}
+use Rattle.jup_rules.specs.Prelude.{Command, BoardBatch, OpenFault, SiteFault, Down, DownOp, DownAck, DownPong, UpPing, Line, LayoutFault, Distinct, Gathered, Request, Edit, Batch, Sync, Show, Quit, Bad, ClientEnd, ClientFault as Fault, NoMemory, Said, SaysUp, SaysBye, UpAck}
 use Rattle.jup_window.specs.Boards.{Windows}
-use Rattle.jup_window.specs.FaultNumbers.{edit_fault_number}
-use Rattle.jup_window.specs.declared.commands.Command.{Command}
-use Rattle.jup_window.specs.declared.faults.EditFault.{EditFault}
-use Rattle.jup_batch.specs.BatchBoards.{BoardBatch}
-use Rattle.jup_star.specs.SiteCalls.{EditAnswers, DeliverAnswers, owed_of, shown_after, is_edit_memory, site_open_fault}
-use Rattle.jup_star.specs.SiteStates.{opened_site}
-use Rattle.jup_star.specs.declared.faults.OpenFault.{OpenFault}
-use Rattle.jup_star.specs.declared.faults.SiteFault.{SiteFault}
-use Rattle.jup_star.specs.declared.messages.Down.{Down}
-use Rattle.jup_star.specs.declared.messages.Down.TheVariants.{Op as DownOp, Ack as DownAck, Pong as DownPong}
-use Rattle.jup_star.specs.declared.messages.Up.TheVariants.{Ping as UpPing}
+use Rattle.jup_window.specs.Commands.{edit_fault_number}
+use Rattle.jup_text.specs.Commands.{command_text, batch_text, IsCommand, IsBatchCount, edits_text}
+use Rattle.jup_text.specs.Boards.{board_text}
 use Rattle.jup_star.specs.declared.site.Delivered.{Delivered}
-use Rattle.jup_star.specs.declared.site.Made.{Made}
-use Rattle.jup_wire.specs.declared.line.Line.{Line}
+use Rattle.jup_star.specs.declared.site.Made.{Made as MadeEdit}
+use Rattle.jup_star.specs.Stars.{BoardStar}
+use Rattle.jup_star.specs.Sites.{EditAnswers, DeliverAnswers, owed_of, shown_after, is_edit_memory, site_open_fault, opened_site}
 use Rattle.jup_wire.specs.declared.line.Line.TheVariants as line
-use Rattle.jup_layout.specs.Drafts.{Built}
-use Rattle.jup_layout.specs.Layouts.{board_with, HasTaken}
+use Rattle.jup_layout.specs.Drafts.{Built, board_with, HasTaken}
 use Rattle.jup_layout.specs.Said.{Part, SaysNothing, part_of}
-use Rattle.jup_layout.specs.declared.layouts.LayoutFault.{LayoutFault}
-use Rattle.jup_layout.specs.declared.naming.Naming.TheVariants.{Distinct}
-use Rattle.jup_gather.specs.Gathering.{Gathers}
-use Rattle.jup_gather.specs.Ways.{down_in, message_given}
-use Rattle.jup_gather.specs.declared.gathered.Gathered.{Gathered}
-use Rattle.jup_gather.specs.declared.gathered.Gathered.TheVariants.{Plain, Held}
-use Rattle.jup_rules.specs.ClientEnds.{end_of_site, end_of_layout, end_of_open}
-use Rattle.jup_rules.specs.declared.ends.ClientEnd.{ClientEnd}
-use Rattle.jup_rules.specs.declared.ends.ClientEnd.TheVariants.{Fault, NoMemory}
+use Rattle.jup_gather.specs.Gathering.{Gathers, down_in, message_given}
+use Rattle.jup_rules.specs.declared.batch_part.BatchPart.{BatchPart}
+use Rattle.jup_rules.specs.declared.client.Told.{Told}
+use Rattle.jup_rules.specs.declared.client.Told.TheVariants.{Site, Made, Refused, Synced, Board, Bye, BadCommand}
+use Rattle.jup_rules.specs.declared.client.LinkEnd.{LinkEnd}
+use Rattle.jup_rules.specs.declared.client.Given.{Given}
+use Rattle.jup_rules.specs.declared.client.Given.TheVariants.{Bytes, End}
 use Rattle.jup_rules.specs.declared.client.Answer.{Answer}
 use Rattle.jup_rules.specs.declared.client.ClientState.{ClientState}
 use Rattle.jup_rules.specs.declared.client.Heard.{Heard}
-use Rattle.jup_rules.specs.declared.client.Told.{Told}
-use Rattle.jup_rules.specs.declared.client.Told.TheVariants as told
-use Rattle.jup_rules.specs.declared.client.Request.{Request}
-use Rattle.jup_rules.specs.declared.client.Request.TheVariants.{Edit, Batch, Sync, Show, Quit, Bad}
-use Rattle.jup_rules.specs.declared.session.Said.{Said}
-use Rattle.jup_rules.specs.declared.session.Said.TheVariants.{Up as SaysUp, Bye as SaysBye}
 use Rattle.jup_rules.specs.declared.client.Opening.{Opening}
+use Rattle.jup_rules.specs.declared.client.Told.TheVariants as told
+use Rattle.jup_rules.specs.ClientEnds.{end_of_site, end_of_layout, end_of_open}
+use Rattle.jup_gather.specs.declared.gathered.Gathered.TheVariants.{Plain, Held}
+use Rattle.jup_window.specs.declared.faults.EditFault.{EditFault}
+
+-- What sessions and programs bound by themselves. No message and no state depends on it.
+
+-- messages that one fetch asks for
+abbrev pub most_fetched : ℕ
+most_fetched = 64
+
+-- pongs that a site may be owed
+abbrev pub most_pongs : ℕ
+most_pongs = 1024
+
+-- sessions that a daemon may be asked to serve
+abbrev pub most_sessions : ℕ
+most_sessions = 1024
+
+-- reads of a link, or of a user's commands
+abbrev pub most_reads : ℕ
+most_reads = 4294967295
+
+-- bytes of a line of a user
+abbrev pub longest_command : ℕ
+longest_command = 4096
+
+-- bytes of a server that a client has not taken: 32 MiB
+abbrev pub most_unread : ℕ
+most_unread = 32 * 1048576
+
+-- What a user asks for: a word or a command is one line, and a batch is a line and one more for each of its commands.
+
+-- how many of its lines are missing, and its commands so far, if each line was one
+abbrev pub Begun : Type 0
+Begun = ℕ × Option (List Command)
+
+abbrev pub begun : BatchPart → Begun
+begun part = (part.missing, if part.is_bad then None else Some part.commands.items)
+
+abbrev pub held : Option BatchPart → Option Begun
+held None = None
+held (Some part) = Some (begun part)
+
+-- the lines of a request
+abbrev pub request_lines : Request → List (List ℕ)
+request_lines (Edit command) = command_text command ∷ []
+request_lines (Batch commands) = batch_text (length commands.items) ∷ map command_text commands.items
+request_lines Sync = codes "sync" ∷ []
+request_lines Show = codes "show" ∷ []
+request_lines Quit = codes "quit" ∷ []
+request_lines Bad = []
+
+-- what may be asked for
+abbrev pub IsRequest : Request → Type 0
+IsRequest (Edit command) = IsCommand command
+IsRequest (Batch commands) = IsBatchCount (length commands.items) × AllByRecursion IsCommand commands.items
+IsRequest Sync = Unit {0}
+IsRequest Show = Unit {0}
+IsRequest Quit = Unit {0}
+IsRequest Bad = ⊥
+
+-- these are the lines of that request, with nothing before or after them; or it is bad, and they are those of none
+abbrev pub IsRequestOf : List (List ℕ) → Request → Type 0
+IsRequestOf lines request = (IsRequest request × (lines ≡ request_lines request))
+    ⊎ ((request ≡ Bad) × ((other : Request) → IsRequest other → lines ≢ request_lines other))
+
+-- the text of no command
+abbrev pub IsNoCommand : List ℕ → Type 0
+IsNoCommand line = (command : Command) → IsCommand command → line ≢ command_text command
+
+-- the commands that these lines are; or one of the lines is none
+abbrev pub AreCommands : List (List ℕ) → Option (List Command) → Type 0
+AreCommands lines (Some commands) = (lines ≡ map command_text commands) × AllByRecursion IsCommand commands
+AreCommands lines None = (before : List (List ℕ)) × (line : List ℕ) × (behind : List (List ℕ)) × (lines ≡ before ++ line ∷ behind) × IsNoCommand line
+
+-- the lines of a batch up to here
+pub record IsBegunBy (lines : List (List ℕ)) (begun : Begun) : Type 0 where
+  pub count : ℕ
+  pub others : List (List ℕ)
+  pub may : IsBatchCount count
+  pub come : lines ≡ batch_text count ∷ others
+  pub commands : AreCommands others begun.1
+  pub missing : length others + begun.0 ≡ count
+  pub some : 1 ≤ begun.0
+
+-- these lines are held: those of a batch of which some are missing, or none
+abbrev pub IsHeld : List (List ℕ) → Option Begun → Type 0
+IsHeld lines None = lines ≡ []
+IsHeld lines (Some begun) = IsBegunBy lines begun
+
+-- what lines give: they are held if some are missing; else they are a request
+abbrev pub ComesTo : List (List ℕ) → Option Request → Option Begun → Type 0
+ComesTo lines None held = IsHeld lines held
+ComesTo lines (Some request) held = IsRequestOf lines request × (held ≡ None)
+
+-- What a user types, and what the programs print.
+
+-- the line with one more byte: none once it has more than a line of a user may have
+abbrev pub typed_on : Option (List ℕ) → ℕ → Option (List ℕ)
+typed_on None byte = None
+typed_on (Some bytes) byte = if nat_lt (length bytes) longest_command then Some (bytes ++ byte ∷ []) else None
+
+-- what is read of it
+abbrev pub text_of : Option (List ℕ) → List ℕ
+text_of None = []
+text_of (Some bytes) = bytes
+
+-- words, as a line of their own
+abbrev pub line_of : List ℕ → List ℕ
+line_of words = words ++ 10 ∷ []
+
+-- a word and a number
+abbrev pub numbered : List ℕ → ℕ → List ℕ
+numbered word number = word ++ 32 ∷ decimal number
+
+-- what a client prints for its user, and the board if it was asked for
+abbrev pub told_text : Told → Windows → List ℕ
+told_text (Site number) board = line_of (numbered (codes "site") number)
+told_text (Made edits) board = codes "made " ++ line_of (edits_text edits)
+told_text (Refused fault) board = line_of (numbered (codes "refused") (edit_fault_number fault))
+told_text Synced board = line_of (codes "synced")
+told_text Board board = board_text board
+told_text Bye board = line_of (codes "bye")
+told_text BadCommand board = line_of (codes "bad command")
+
+-- how many edits were taken, and then the board
+abbrev pub report_text : BoardStar → List ℕ
+report_text star = line_of (numbered (codes "order") (length star.order)) ++ board_text star.board
+
+-- What a link has brought, and its reader has not taken.
+
+-- the bytes that wait, and how the link ended, if it has
+abbrev pub Arrived : Type 0
+Arrived = List ℕ × Option LinkEnd
+
+-- What a reader is given: first the bytes that wait, at least one of them, in the order in which they came. Once there are none, it is
+-- given how the link ended. It is given nothing only before the link has ended
+abbrev pub AreGiven : Arrived → Arrived → List ℕ → Option Given → Type 0
+AreGiven before behind buf (Some (Bytes len)) = (1 ≤ len) × (len ≤ length buf) × (before.0 ≡ take len buf ++ behind.0) × (behind.1 ≡ before.1)
+AreGiven before behind buf (Some (End end)) = (before ≡ ([], Some end)) × (behind ≡ before)
+AreGiven before behind buf None = (before ≡ ([], None)) × (behind ≡ before)
+
+-- how many bytes these are
+abbrev pub count_in : Given → ℕ
+count_in (Bytes len) = len
+count_in (End end) = 0
+
+-- What a client makes of its user's requests and of its server's lines.
 
 -- a line out of its place: an error bears its own number, and every other is misplaced
 abbrev pub refusal_of : Line → ClientEnd
@@ -53,9 +188,9 @@ abbrev pub telling : Told → Answer
 telling told = record { said = None; told = told }
 
 -- the client sends an edit that was made, and shows it to the user. It shows a refusal by its number, but a failed allocation ends the client
-abbrev pub edit_answer : Result Made EditFault → Result Answer ClientEnd
+abbrev pub edit_answer : Result MadeEdit EditFault → Result Answer ClientEnd
 edit_answer (Ok made) = Ok (saying (SaysUp made.up) (told.Made made.edit))
-edit_answer (Err fault) = if is_edit_memory fault then Err NoMemory else Ok (telling (told.Refused (edit_fault_number fault)))
+edit_answer (Err fault) = if is_edit_memory fault then Err NoMemory else Ok (telling (told.Refused fault))
 
 -- pings are numbered from 1, and if no number is left the client ends
 abbrev pub sync_answer : ℕ → Result Answer ClientEnd
@@ -66,7 +201,7 @@ after_sync c = record c { pings = (if c.pings == 4294967295 then c.pings else c.
 
 -- an edit of these commands is the site's
 abbrev pub AnswersEdit : List Command → ClientState → Result Answer ClientEnd → ClientState → Type 0
-AnswersEdit commands c r d = (outcome : Result Made EditFault) × EditAnswers commands c.site d.site outcome × (r ≡ edit_answer outcome) × (d.gather ≡ c.gather) × (d.pings ≡ c.pings)
+AnswersEdit commands c r d = (outcome : Result MadeEdit EditFault) × EditAnswers commands c.site d.site outcome × (r ≡ edit_answer outcome) × (d.gather ≡ c.gather) × (d.pings ≡ c.pings)
 
 -- what a client does for a request: an edit is its site's, and all others leave the site as it is
 abbrev pub Answers : Request → ClientState → Result Answer ClientEnd → ClientState → Type 0
@@ -92,7 +227,7 @@ down_heard (Err other) = Err (Fault 44)
 
 -- the client says an acknowledgement that is owed, and returns what its board took
 abbrev pub heard_answer : ℕ → Down BoardBatch → Result Delivered SiteFault → Result Heard ClientEnd
-heard_answer pings down (Ok delivered) = Ok (record { said = option_map (λ up. SaysUp up) delivered.owed; is_synced = is_pong pings down; shown = delivered.shown })
+heard_answer pings down (Ok delivered) = Ok (record { said = option_map (λ up. SaysUp up) (option_map UpAck delivered.owed); is_synced = is_pong pings down; shown = delivered.shown })
 heard_answer pings down (Err fault) = Err (end_of_site fault)
 
 -- a message is delivered to the site

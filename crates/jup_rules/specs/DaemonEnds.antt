@@ -5,17 +5,12 @@ use Rattle.clap.specs.declared.error.Error.{Error as WordsError}
 use Rattle.clap.specs.declared.error.kind.ErrorKind.TheVariants as words
 use Rattle.jup_window.specs.Boards.{Windows, bare}
 use Rattle.jup_window.specs.Entries.{EachWidget}
-use Rattle.jup_window.specs.FaultNumbers.{board_fault_number}
+use Rattle.jup_window.specs.Commands.{board_fault_number}
 use Rattle.jup_window.specs.declared.faults.BoardFault.TheVariants.{TooMany}
-use Rattle.jup_star.specs.FaultNumbers.{open_fault_number}
-use Rattle.jup_star.specs.Openings.{IsShort}
-use Rattle.jup_star.specs.StarCalls.{BoardStar, star_open_fault}
-use Rattle.jup_star.specs.StarStates.{opened_star}
-use Rattle.jup_star.specs.declared.faults.OpenFault.{OpenFault}
-use Rattle.jup_layout.specs.Layouts.{Describes}
-use Rattle.jup_layout.specs.declared.layouts.LayoutFault.{LayoutFault}
-use Rattle.jup_rules.specs.declared.ends.DaemonEnd.{DaemonEnd}
-use Rattle.jup_rules.specs.declared.ends.DaemonEnd.TheVariants.{Words, Layout, NoMemory}
+use Rattle.jup_star.specs.Faults.{open_fault_number}
+use Rattle.jup_star.specs.Stars.{IsShort, BoardStar, star_open_fault, opened_star}
+use Rattle.jup_rules.specs.Prelude.{OpenFault, LayoutFault, DaemonEnd, Words, Layout, DaemonNoMemory as NoMemory}
+use Rattle.jup_layout.specs.Drafts.{Describes}
 
 -- no memory is reported as such; other refusals of the words have their own text
 abbrev pub IsEndOfWords : WordsError → DaemonEnd → Type 0

@@ -1,11 +1,7 @@
 -- How far a site is behind, the operations of others that it has not acknowledged, and what one message may cost the others.
 use Rattle.std.specs.Prelude.{◌≡◌, ℕ, ◌+◌, ◌-◌, min, List, [], ◌∷◌, take, drop, length, sum, ◌*◌, if◌then◌else◌, nat_lt}
 use Rattle.jup_limits.specs.Limits.{most_behind}
-use Rattle.jup_batch.specs.BatchBoards.{BoardBatch}
-use Rattle.jup_star.specs.declared.messages.Down.{Down}
-use Rattle.jup_star.specs.declared.messages.Down.TheVariants.{Op as DownOp, Ack as DownAck, Pong as DownPong}
-use Rattle.jup_star.specs.declared.messages.Up.{Up}
-use Rattle.jup_star.specs.declared.messages.Up.TheVariants.{Op as UpOp, Ack as UpAck, Ping as UpPing}
+use Rattle.jup_rules.specs.Prelude.{BoardBatch, Down, DownOp, DownAck, DownPong, Up, UpOp, UpAck, UpPing}
 use Rattle.jup_rules.specs.declared.behind.Admission.{Admission}
 use Rattle.jup_rules.specs.declared.behind.Admission.TheVariants.{Light, Heavy, Long, Costly, FarBehind}
 

@@ -1,13 +1,8 @@
-pub mod Bounds
 pub mod Causes
 pub mod ClientEnds
 pub mod Clients
 pub mod DaemonEnds
-pub mod Endings
-pub mod Gates
-pub mod Inboxes
+pub mod Ends
 pub mod Lags
-pub mod Messages
-pub mod Numbers
-pub mod Requests
-pub mod Texts
+pub mod Prelude
+pub mod Sessions

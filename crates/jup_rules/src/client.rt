@@ -3,10 +3,7 @@ ghost use Rattle.std.specs.Prelude.{◌≡◌, ◌≢◌, ℕ, List, [], ◌∷�
 ghost use Rattle.jup_text.specs.Commands.{batch_text, IsBatchCount};
 ghost use Rattle.jup_wire.specs.declared.line.Line.{Line};
 ghost use Rattle.jup_wire.specs.declared.line.Line.TheVariants.{Ready};
-ghost use Rattle.jup_rules.specs.Requests.{begun, held, IsRequestOf, IsHeld, ComesTo};
-ghost use Rattle.jup_rules.specs.Bounds.{most_unread};
-ghost use Rattle.jup_rules.specs.Clients.{refusal_of, edit_answer, sync_answer, after_sync, down_heard, Answers, Hears, Delivers, IsOpened, HasTold, IsGreeted, Opens, Extends, is_of_board};
-ghost use Rattle.jup_rules.specs.Inboxes.{AreGiven};
+ghost use Rattle.jup_rules.specs.Clients.{begun, held, IsRequestOf, IsHeld, ComesTo, most_unread, refusal_of, edit_answer, sync_answer, after_sync, down_heard, Answers, Hears, Delivers, IsOpened, HasTold, IsGreeted, Opens, Extends, is_of_board, AreGiven};
 
 use crate::batch_part::BatchPart;
 use crate::{ClientEnd, Said, SessionFault};
@@ -49,7 +46,7 @@ pub struct Asking {
 
 impl Model for Asking {
     ghost use Rattle.std.specs.Prelude.{Option};
-    ghost use Rattle.jup_rules.specs.Requests.{Begun, held};
+    ghost use Rattle.jup_rules.specs.Clients.{Begun, held};
 
     ghost Value = { Option Begun };
 
@@ -194,8 +191,8 @@ pub enum Told {
     Site(u32),
     /// What was made of an edit.
     Made(BoardEdits),
-    /// The number of the fault that an edit was refused for.
-    Refused(u32),
+    /// Why an edit was refused.
+    Refused(EditFault),
     Synced,
     /// The board that it shows.
     Board,
@@ -283,7 +280,7 @@ impl ClientState {
     {
         let Delivered { owed, shown } = self.site.deliver_shown(alloc, down)?;
         Ok(Heard {
-            said: owed.map(Said::Up),
+            said: owed.map(Up::Ack).map(Said::Up),
             is_synced: matches!(down, Down::Pong(count) if *count == self.pings),
             shown,
         })
@@ -314,7 +311,7 @@ fn edit_answer(outcome: Result<Made, EditFault>) -> Result<Answer, ClientEnd>
         Err(EditFault::NoMemory) => Err(ClientEnd::NoMemory),
         Err(fault) => Ok(Answer {
             said: None,
-            told: Told::Refused(fault.number()),
+            told: Told::Refused(fault),
         }),
     }
 }
@@ -455,8 +452,7 @@ pub struct Inbox {
 
 impl Model for Inbox {
     ghost use Rattle.std.specs.Prelude.{◌≤◌, length};
-    ghost use Rattle.jup_rules.specs.Bounds.{most_unread};
-    ghost use Rattle.jup_rules.specs.Inboxes.{Arrived};
+    ghost use Rattle.jup_rules.specs.Clients.{most_unread, Arrived};
 
     ghost Value = { Arrived };
 

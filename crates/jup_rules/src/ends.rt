@@ -4,8 +4,7 @@ ghost use Rattle.std.specs.Prelude.{◌≡◌, ◌≢◌, [], Some, IsSomeAnd, �
 ghost use Rattle.jup_limits.specs.Limits.{longest_input};
 ghost use Rattle.jup_rules.specs.Causes.{client_end_is_explained, attempt_is_explained, daemon_end_is_explained};
 ghost use Rattle.jup_rules.specs.DaemonEnds.{IsStarOf, IsRefusalOf};
-ghost use Rattle.jup_rules.specs.Endings.{last_line, standing, ending_of, ended_by};
-ghost use Rattle.jup_rules.specs.Numbers.{session_fault_number, client_end_number, client_end_status, daemon_end_status};
+ghost use Rattle.jup_rules.specs.Ends.{last_line, standing, ending_of, ended_by, session_fault_number, client_end_number, client_end_status, daemon_end_status};
 ghost use Rattle.jup_rules.specs.declared.ends.SessionFault.{SessionFault};
 
 use crate::cause_of;

@@ -6,12 +6,11 @@ ghost use Rattle.std.specs.Prelude.{◌≡◌, ◌≢◌, IsOk, List, [], ◌∷
 ghost use Rattle.jup_star.specs.declared.faults.StarFault.TheVariants.{NoLink};
 ghost use Rattle.jup_wire.specs.declared.line.Line.{Line};
 ghost use Rattle.jup_wire.specs.declared.line.Line.TheVariants.{Hello};
-ghost use Rattle.jup_gather.specs.Pieces.{piece_lines};
+ghost use Rattle.jup_gather.specs.Gathering.{piece_lines};
 ghost use Rattle.jup_hub.specs.declared.fault.HubFault.TheVariants.{Star};
-ghost use Rattle.jup_rules.specs.Bounds.{most_fetched, most_pongs, most_reads};
-ghost use Rattle.jup_rules.specs.Endings.{ending_of};
-ghost use Rattle.jup_rules.specs.Gates.{HasHeard, Leads, incoming_of, edits_with, next_of, edits_after, outcome};
-ghost use Rattle.jup_rules.specs.Messages.{said_piece, said_heard, down_lines, IsSaidBy, HasSaid, IsRefused, is_pong};
+ghost use Rattle.jup_rules.specs.Clients.{most_fetched, most_pongs, most_reads};
+ghost use Rattle.jup_rules.specs.Ends.{ending_of};
+ghost use Rattle.jup_rules.specs.Sessions.{HasHeard, Leads, incoming_of, edits_with, next_of, edits_after, outcome, said_piece, said_heard, down_lines, IsSaidBy, HasSaid, IsRefused, is_pong};
 ghost use Rattle.jup_rules.specs.declared.ends.SessionFault.{SessionFault};
 ghost use Rattle.jup_rules.specs.declared.ends.SessionFault.TheVariants.{Misplaced};
 ghost use Rattle.jup_rules.specs.declared.session.Said.{Said};
@@ -114,7 +113,7 @@ pub enum Awaits {
 }
 
 impl Awaits {
-    ghost use Rattle.jup_rules.specs.Gates.{in_vain};
+    ghost use Rattle.jup_rules.specs.Sessions.{in_vain};
 
     /// How a session ends whose message waits in vain: the gate stayed shut, or the session has ended.
     pub fn in_vain(self) -> Ending
@@ -156,7 +155,7 @@ pub struct Gatekeeper {
 }
 
 impl Model for Gatekeeper {
-    ghost use Rattle.jup_rules.specs.Gates.{Keeper};
+    ghost use Rattle.jup_rules.specs.Sessions.{Keeper};
 
     ghost Value = { Keeper };
 
@@ -280,7 +279,7 @@ pub struct Pongs {
 
 impl Model for Pongs {
     ghost use Rattle.std.specs.Prelude.{ℕ, ◌≤◌};
-    ghost use Rattle.jup_rules.specs.Bounds.{most_pongs};
+    ghost use Rattle.jup_rules.specs.Clients.{most_pongs};
 
     ghost Value = { ℕ };
 

@@ -1,9 +1,8 @@
 //! Words for people: the command lines of the programs, the lines that a user types, and what the programs print.
 ghost use Rattle.std.specs.Prelude.{◌≤◌, IfOk, IfSome, ◌≡◌, [], Some, OnOk, OnErr, IsTrue, ◌↔◌, ◌++◌, ◌∷◌, decimal};
 ghost use Rattle.jup_limits.specs.Limits.{highest_limit};
-ghost use Rattle.jup_rules.specs.Bounds.{most_sessions};
-ghost use Rattle.jup_rules.specs.Texts as texts;
-ghost use Rattle.jup_rules.specs.Texts.{typed_on, text_of};
+ghost use Rattle.jup_rules.specs.Clients.{most_sessions, typed_on, text_of};
+ghost use Rattle.jup_rules.specs.Clients as texts;
 
 use crate::Told;
 use clap::error::ErrorKind;
@@ -267,7 +266,12 @@ pub fn told_text(alloc: Global, told: &Told, board: &Board) -> Result<Vec<u8>, N
             write_edit(alloc, edits, &mut text)?;
             append(b"\n", &mut text)?;
         }
-        Told::Refused(number) => append_number(alloc, "refused", *number as usize, &mut text)?,
+        Told::Refused(fault) => append_number(
+            alloc,
+            "refused",
+            fault.number() as usize,
+            &mut text,
+        )?,
         Told::Synced => append(b"synced\n", &mut text)?,
         Told::Board => write_board(alloc, board, &mut text)?,
         Told::Bye => append(b"bye\n", &mut text)?,

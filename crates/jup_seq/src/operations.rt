@@ -3,13 +3,11 @@ ghost use Rattle.std.specs.Prelude.{◌≡◌, ℕ, ◌↔◌, ◌+◌, ◌<◌,
 ghost use Rattle.jup_value.specs.Items.{has_name, name_at};
 ghost use Rattle.jup_value.specs.declared.names.Name.{Name as ItemName};
 ghost use Rattle.jup_seq.specs.declared.operations.SeqOp.TheVariants.{Relabel};
-ghost use Rattle.jup_seq.specs.Operations.{bare, IsSmall, HasDistinctNames, KeepsOrder, IsValid, after, HasRoom, AreApart, is_no_relabel, inserted_by, deleted_by, client_past, server_past};
-ghost use Rattle.jup_seq.specs.Edits.{Content, content, meaning, edit_of};
+ghost use Rattle.jup_seq.specs.Operations.{bare, IsSmall, HasDistinctNames, KeepsOrder, IsValid, after, HasRoom, AreApart, is_no_relabel, inserted_by, deleted_by, client_past, server_past, Content, content, meaning, edit_of};
 ghost use Rattle.jup_seq.specs.Names.{Holds, InsertsName, DeletesName, ChangesName, IsFresh};
-ghost use Rattle.jup_seq.specs.Laws.Squares as squares;
+ghost use Rattle.jup_seq.specs.Laws.Squares as laws;
 ghost use Rattle.jup_seq.specs.Laws.EditLists as edit_lists;
 ghost use Rattle.jup_seq.specs.Names as names;
-ghost use Rattle.jup_seq.specs.Laws.Effects as effects;
 
 use jup_limits::SMALL_LENGTH;
 use jup_value::{Item, Label, Name, Seq};
@@ -317,27 +315,27 @@ impl<V: Copy> Transform for SeqOp<V> {
         Ok(self.meaning())
     }
 
-    ghost square = { squares.square };
+    ghost square = { laws.square };
 
-    ghost effect_one = { effects.effect_one };
+    ghost effect_one = { laws.effect_one };
 
-    ghost effect_two = { effects.effect_two };
+    ghost effect_two = { laws.effect_two };
 
-    ghost order = { effects.order };
+    ghost order = { laws.order };
 
-    ghost distinct_after = { effects.distinct_after };
+    ghost distinct_after = { laws.distinct_after };
 
-    ghost small_after = { effects.small_after };
+    ghost small_after = { laws.small_after };
 
-    ghost small_below = { effects.small_below };
+    ghost small_below = { laws.small_below };
 
-    ghost small_before = { effects.small_before };
+    ghost small_before = { laws.small_before };
 
-    ghost apart_swap = { effects.apart_swap };
+    ghost apart_swap = { laws.apart_swap };
 
-    ghost apart_client = { effects.apart_client };
+    ghost apart_client = { laws.apart_client };
 
-    ghost apart_server = { effects.apart_server };
+    ghost apart_server = { laws.apart_server };
 
     ghost fresh_client = { names.fresh_client };
 
@@ -347,11 +345,11 @@ impl<V: Copy> Transform for SeqOp<V> {
 
     ghost fresh_of_server = { names.fresh_of_server };
 
-    ghost room_less = { effects.room_less };
+    ghost room_less = { laws.room_less };
 
-    ghost room_client = { effects.room_client };
+    ghost room_client = { laws.room_client };
 
-    ghost room_server = { effects.room_server };
+    ghost room_server = { laws.room_server };
 
     ghost shape_client = { λ c s. refl };
 
@@ -379,7 +377,7 @@ impl<V: Copy> Transform for SeqOp<V> {
 
     ghost order_self = { λ x m n hm hn gm gn. refl };
 
-    ghost order_chain = { effects.order_chain };
+    ghost order_chain = { laws.order_chain };
 
     ghost meaning_none = { λ k. refl };
 

@@ -3,8 +3,7 @@
 ghost use Rattle.std.specs.Prelude.{◌≡◌, length};
 ghost use Rattle.jup_value.specs.Items.{Items};
 ghost use Rattle.jup_seq.specs.Operations.{IsValid, after};
-ghost use Rattle.jup_seq.specs.Traces.{length_after};
-ghost use Rattle.jup_seq.specs.Sources.{source, IsSource};
+ghost use Rattle.jup_seq.specs.Traces.{length_after, source, IsSource};
 
 use crate::operations::SeqOp;
 use jup_value::Name;

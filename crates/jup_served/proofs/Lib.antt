@@ -1,12 +1,4 @@
-mod Members
-mod Joins
-mod Owned
-mod HalfCalls
-mod LineBytes
-mod Took
-mod Shapes
-mod ServedRuns
-mod HubRuns
-mod PlainSessions
+mod Calls
+mod Hubs
+mod Runs
 mod Witness
-mod ClientWalks

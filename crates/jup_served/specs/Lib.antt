@@ -1,4 +1,2 @@
-pub mod Ended
-pub mod Moments
-pub mod SessionHubs
-pub mod ClientRuns
+pub mod Prelude
+pub mod Sessions

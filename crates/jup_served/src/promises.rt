@@ -3,23 +3,18 @@
 ghost use Rattle.std.specs.Prelude.{◌≡◌, ◌≤◌, ℕ, length, map, List, []};
 ghost use Rattle.std.specs.List.{AllByRecursion};
 ghost use Rattle.jup_limits.specs.Limits.{highest_limit};
-ghost use Rattle.jup_batch.specs.BatchBoards.{Windows};
-ghost use Rattle.jup_star.specs.StarStates.{opened_star};
+ghost use Rattle.jup_batch.specs.Boards.{Windows};
+ghost use Rattle.jup_star.specs.Stars.{opened_star};
 ghost use Rattle.jup_hub.specs.declared.view.HubEvent.{HubEvent};
 ghost use Rattle.jup_hub.specs.declared.view.View.{View};
-ghost use Rattle.jup_hub.specs.Histories.{calls_in};
-ghost use Rattle.jup_hub.specs.Knowledge.{Meets};
+ghost use Rattle.jup_hub.specs.Histories.{calls_in, Meets};
 ghost use Rattle.jup_rules.specs.declared.client.ClientState.{ClientState};
 ghost use Rattle.jup_rules.specs.declared.session.Said.{Said};
 ghost use Rattle.jup_rules.specs.declared.session.Said.TheVariants.{Up as SaysUp};
-ghost use Rattle.jup_world.specs.Openings.{IsOpening};
+ghost use Rattle.jup_world.specs.Worlds.{IsOpening};
 ghost use Rattle.jup_session.specs.Sessions.{HasMadeNone};
-ghost use Rattle.jup_honest.specs.SiteRuns.{SiteRun, IsHonest, calls, start, now};
-ghost use Rattle.jup_honest.specs.Promises.{AreDrained};
-ghost use Rattle.jup_served.specs.ClientRuns.{IsClientRun};
-ghost use Rattle.jup_served.specs.Ended.{Ended, ServesSite, answer_of, IsOwnedBy};
-ghost use Rattle.jup_served.specs.Moments.{IsServedRun};
-ghost use Rattle.jup_served.specs.SessionHubs.{all_tallies, IsOneOf, IsSessionHub};
+ghost use Rattle.jup_honest.specs.Sites.{SiteRun, IsHonest, calls, start, now, AreDrained};
+ghost use Rattle.jup_served.specs.Sessions.{IsClientRun, Ended, ServesSite, answer_of, IsOwnedBy, IsServedRun, all_tallies, IsOneOf, IsSessionHub};
 
 /// A session serves the site of a run, at some moment before the site begins to leave. Its client is of this
 /// product: it wrote the messages of its site, in order, and the site received the first messages that the client

@@ -2,7 +2,7 @@
 use Rattle.std.proofs.Common.{◌≡◌, ◌∙◌, refl, sym, ap, ℕ, List, [], ◌∷◌, ◌++◌, append_assoc, append-nil}
 use Rattle.std.specs.List.{flat_map, AllByRecursion}
 use Rattle.std.proofs.lemmas.List.Concat.{flat_map-append}
-use Rattle.jup_service.specs.Captions.{IsCaption, AreCaptionsTo}
+use Rattle.jup_service.specs.Servers.{IsCaption, AreCaptionsTo}
 
 all_more : (lines : List (List ℕ)) (line : List ℕ) → AllByRecursion IsCaption lines → IsCaption line → AllByRecursion IsCaption (lines ++ line ∷ [])
 all_more [] line each more = (more, tt)

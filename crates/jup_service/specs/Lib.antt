@@ -1,7 +1,1 @@
-pub mod Captions
-pub mod Closings
-pub mod Ends
-pub mod Notices
-pub mod Openings
-pub mod Origins
-pub mod Stars
+pub mod Servers

@@ -1,6 +1,6 @@
 //! The captions of windows and widgets, a line each.
 ghost use Rattle.std.specs.Prelude.{OnOk, IsTrue};
-ghost use Rattle.jup_service.specs.Captions.{AreCaptions, IsCaption, IsTarget, IsSpelledId};
+ghost use Rattle.jup_service.specs.Servers.{AreCaptions, IsCaption, IsTarget, IsSpelledId};
 
 use jup_board::cut_at;
 use jup_number::read_number;

@@ -1,6 +1,6 @@
 //! The close that ends a WebSocket.
 ghost use Rattle.std.specs.Prelude.{◌≡◌};
-ghost use Rattle.jup_service.specs.Closings.{close_code};
+ghost use Rattle.jup_service.specs.Servers.{close_code};
 
 use jup_http::Ending;
 

@@ -1,7 +1,7 @@
 //! Why a server of browsers ends early.
 ghost use Rattle.std.specs.Prelude.{◌≡◌, ◌≢◌, ◌≤◌};
 ghost use Rattle.std.specs.IoError.{error_kind};
-ghost use Rattle.jup_service.specs.Ends.{service_end_status};
+ghost use Rattle.jup_service.specs.Servers.{service_end_status};
 
 use crate::{CaptionFault, KeptFileFault};
 use clap::error::ErrorKind as WordsKind;

@@ -1,6 +1,6 @@
 //! What a server reports to its operator, each notice once.
 ghost use Rattle.std.specs.Prelude.{◌≡◌, not, true, false};
-ghost use Rattle.jup_service.specs.Notices.{notice_of, is_told, with_told};
+ghost use Rattle.jup_service.specs.Servers.{notice_of, is_told, with_told};
 
 use thiserror::Error;
 

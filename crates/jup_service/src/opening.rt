@@ -1,7 +1,7 @@
 //! What the first bytes of a connection begin.
 ghost use Rattle.std.specs.Prelude.{◌≡◌, ◌↔◌, ◌<◌, length, Some, IsNone};
 ghost use Rattle.std.specs.Io.{StartsWith};
-ghost use Rattle.jup_service.specs.Openings.{method};
+ghost use Rattle.jup_service.specs.Servers.{method};
 
 /// How each request of HTTP begins that is taken for one.
 const METHOD: &[u8] = b"GET ";

@@ -1,6 +1,6 @@
 //! The origins under which a server's own pages send requests.
 ghost use Rattle.std.specs.Prelude.{◌≡◌, IfOk, All, option_map, string_bytes};
-ghost use Rattle.jup_service.specs.Origins.{origin_of, IsOwnOrigin};
+ghost use Rattle.jup_service.specs.Servers.{origin_of, IsOwnOrigin};
 
 use std::alloc::{AllocError, Global};
 

@@ -1,6 +1,6 @@
 //! The star of a board that a file keeps.
 ghost use Rattle.std.specs.Prelude.{◌≡◌, IfOk};
-ghost use Rattle.jup_service.specs.Stars.{IsStarOf};
+ghost use Rattle.jup_service.specs.Servers.{IsStarOf};
 
 use crate::ServiceEnd;
 use jup_board::read_printed;

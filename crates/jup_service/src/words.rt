@@ -1,7 +1,7 @@
 //! The command line.
 ghost use Rattle.std.specs.Prelude.{◌≡◌, ◌≤◌, true, IfOk, IfSome};
 ghost use Rattle.jup_limits.specs.Limits.{highest_limit};
-ghost use Rattle.jup_http.specs.Requests.{is_origin};
+ghost use Rattle.jup_http.specs.Heads.{is_origin};
 
 use clap::error::ErrorKind;
 use clap::{Arg, ArgAction, ArgMatches, Command, Error, value_parser};

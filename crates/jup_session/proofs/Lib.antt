@@ -1,8 +1,2 @@
 pub mod Accounts
-pub mod Assembling
-pub mod Departing
-pub mod Forwarding
-pub mod Greeted
-pub mod Heard
-pub mod SessionCalls
-mod Layouts
+pub mod Calls

@@ -1,29 +1,12 @@
--- What a session reads, takes and writes, byte for byte.
-use Rattle.std.specs.Prelude.{◌≡◌, ◌≢◌, ℕ, Bool, true, not, List, [], ◌∷◌, ◌++◌, Option, Ok, Err, IsTrue}
+-- What a session does, byte for byte.
+use Rattle.std.proofs.Common.{◌≡◌, ◌≢◌, ℕ, Bool, true, not, List, [], ◌∷◌, ◌++◌, Option, Ok, Err, IsTrue, inl, inr}
 use Rattle.std.specs.List.{flat_map, AllByRecursion}
-use Rattle.jup_star.specs.StarCalls.{bare_joined}
-use Rattle.jup_star.specs.declared.star.Joined.{Joined}
-use Rattle.jup_star.specs.declared.calls.Call.TheVariants.{Join}
-use Rattle.jup_star.specs.declared.calls.StarReply.TheVariants.{Joined as JoinedReply}
-use Rattle.jup_hub.specs.declared.fault.HubFault.{HubFault}
-use Rattle.jup_hub.specs.declared.view.HubEvent.{HubEvent}
-use Rattle.jup_hub.specs.declared.view.View.{View}
-use Rattle.jup_hub.specs.Knowledge.{tally, after_split, Called}
-use Rattle.jup_hub.specs.Passes.{Made}
-use Rattle.jup_wire.specs.declared.line.Line.{Line}
-use Rattle.jup_wire.specs.declared.line.Line.TheVariants.{Hello}
-use Rattle.jup_wire.specs.Grammar.{line_bytes}
+use Rattle.jup_session.specs.Prelude.{Joined, Join, JoinedReply, bare_joined, Line, Hello, line_bytes, HubFault, HubEvent, View, Made, Ending, Stop, Hub, NoMemory, Misplaced, WriteFailed, Said, ending_of, ended_by, last_line, standing, Keeper, WritesFront, Sourced, HandsOn, Stops}
 use Rattle.jup_wire.specs.Streams.{HasRead}
-use Rattle.jup_rules.specs.declared.ends.Ending.{Ending}
-use Rattle.jup_rules.specs.declared.ends.Stop.{Stop}
-use Rattle.jup_rules.specs.declared.ends.SessionFault.TheVariants.{Hub, NoMemory, Misplaced, WriteFailed}
-use Rattle.jup_rules.specs.Endings.{ending_of, ended_by, last_line, standing}
-use Rattle.jup_stream.specs.Puts.{WritesFront}
-use Rattle.jup_stream.specs.Sources.{Sourced, HandsOn, Stops}
-use Rattle.jup_session.specs.Departures.{GivesBack, IsLeaveOf, Departs}
-use Rattle.jup_session.specs.Forwards.{lines_brought, AreFetchesFor, TellsFault}
-use Rattle.jup_session.specs.Greetings.{welcome_lines}
-use Rattle.jup_session.specs.Hearings.{Heard}
+use Rattle.jup_hub.specs.Histories.{tally, after_split, Called}
+use Rattle.jup_session.specs.Sessions.{GivesBack, IsLeaveOf, Departs, lines_brought, AreFetchesFor, TellsFault, welcome_lines, Heard, Over, Stopped, ByLine, Untaken, Spent, Behind}
+
+-- What a session reads, takes and writes, byte for byte.
 
 -- a source before its first read, of a reader with these bytes
 pub record IsFresh (from : Option (List ℕ)) (start : Sourced) : Type 0 where
@@ -109,3 +92,79 @@ pub record IsExact (from old new : Option (List ℕ)) (v x : View) (ending : End
   pub lines : List Line
   pub has_lines : HasLines from v x ending failed lines
   pub wrote : WritesFront old new (flat_map line_bytes lines) (not failed)
+
+-- The bytes that a session read and wrote, and the lines and messages of those that it read.
+
+module _ {a b : Sourced} {v w : View} {ending : Ending} where
+  abbrev pub bytes_away : IsTurnedAway a v b w ending → List ℕ
+  bytes_away (NoLine stop stops same is) = stops.reads.bytes
+  bytes_away (NoGreeting line handed other same is) = handed.bytes
+  bytes_away (NoJoin fault handed made is) = handed.bytes
+
+  abbrev pub lines_away : IsTurnedAway a v b w ending → List Line
+  lines_away (NoLine stop stops same is) = []
+  lines_away (NoGreeting line handed other same is) = line ∷ []
+  lines_away (NoJoin fault handed made is) = Hello ∷ []
+
+module _ {a b : Sourced} {v w : View} {ending : Ending} {failed : Bool} {lines : List Line} where
+  abbrev pub bytes_early : EndsEarly a v b w ending failed lines → List ℕ
+  bytes_early (TurnedAway away is) = bytes_away away
+  bytes_early (Unwelcome un) = un.welcomed.hello.bytes
+
+  abbrev pub lines_early : EndsEarly a v b w ending failed lines → List Line
+  lines_early (TurnedAway away is) = lines_away away
+  lines_early (Unwelcome un) = Hello ∷ []
+
+module _ {site : ℕ} {b c : Sourced} {w x : View} {keeper : Keeper} {ending : Ending} where
+  -- the bytes after those of the messages that were taken
+  abbrev pub bytes_over : Over site b c w x keeper ending → List ℕ
+  bytes_over (Stopped stop stops same ends) = stops.reads.bytes
+  bytes_over (ByLine line later handed same leads) = handed.bytes
+  bytes_over (Untaken line later incoming handed leads handled) = handed.bytes
+  bytes_over (Spent at same is) = []
+  bytes_over (Behind line later incoming handed leads same is) = handed.bytes
+
+  -- the line that ended the session
+  abbrev pub lines_over : Over site b c w x keeper ending → List Line
+  lines_over (Stopped stop stops same ends) = []
+  lines_over (ByLine line later handed same leads) = line ∷ []
+  lines_over (Untaken line later incoming handed leads handled) = line ∷ []
+  lines_over (Spent at same is) = []
+  lines_over (Behind line later incoming handed leads same is) = line ∷ []
+
+module _ {site : ℕ} {a c : Sourced} {v x : View} {ending : Ending} where
+  abbrev pub bytes_heard : Heard site a v c x ending → List ℕ
+  bytes_heard (inl h) = h.hears.handed.bytes ++ bytes_over h.over
+  bytes_heard (inr h) = []
+
+  abbrev pub lines_heard : Heard site a v c x ending → List Line
+  lines_heard (inl h) = h.hears.lines ++ lines_over h.over
+  lines_heard (inr h) = []
+
+module _ {from : Option (List ℕ)} {v x : View} {ending : Ending} {failed : Bool} {lines : List Line} where
+  abbrev pub bytes_of : HasLines from v x ending failed lines → List ℕ
+  bytes_of (NoRoom same is are) = []
+  bytes_of (Early start last fresh ends) = bytes_early ends
+  bytes_of (Served start fresh served) = served.welcomed.hello.bytes ++ bytes_heard served.halves.hears
+
+  abbrev pub lines_of : HasLines from v x ending failed lines → List Line
+  lines_of (NoRoom same is are) = []
+  lines_of (Early start last fresh ends) = lines_early ends
+  lines_of (Served start fresh served) = Hello ∷ lines_heard served.halves.hears
+
+module _ {from old new : Option (List ℕ)} {v x : View} {ending : Ending} {failed : Bool} where
+  -- the bytes that the session read, except a piece that a failed allocation lost
+  abbrev pub bytes_read : IsExact from old new v x ending failed → List ℕ
+  bytes_read e = bytes_of e.has_lines
+
+  -- the lines of them that it looked at
+  abbrev pub lines_read : IsExact from old new v x ending failed → List Line
+  lines_read e = lines_of e.has_lines
+
+  -- the bytes that its writer took
+  abbrev pub bytes_written : IsExact from old new v x ending failed → List ℕ
+  bytes_written e = e.wrote.0
+
+-- these begin with those
+abbrev pub BeginWith : {A : Type 0} → List A → List A → Type 0
+BeginWith {A = A} all some = (rest : List A) × (all ≡ some ++ rest)

@@ -1,8 +1,3 @@
-pub mod Departures
 pub mod ExactSessions
-pub mod Forwards
-pub mod Gates
-pub mod Greetings
-pub mod Hearings
-pub mod SessionBytes
+pub mod Prelude
 pub mod Sessions

@@ -1,17 +1,19 @@
+-- What a session hears, writes and asks of its hub.
+use Rattle.std.specs.Prelude.{◌≡◌, ℕ, ◌⊎◌, List, [], ◌∷◌, ◌++◌, length, Ok, Err, Option, Some, None, Result, ◌≢◌, IsSomeAnd}
+use Rattle.std.specs.List.{AllByRecursion, flat_map}
+use Rattle.jup_session.specs.Prelude.{BoardBatch, NoLink, Call, Join, Take, Fetch, Leave, StarReply, JoinedReply, Fetched, Taken, Joined, Down, Up, BoardStar, Line, board_lines, HubEvent, Tally, View, HubFault, Made, Ending, SessionFault, Hub, NoMemory, WriteFailed, Incoming, Ring, Said, SaysUp, SaysBye, Stop, ending_of, last_line, down_lines, outcome, HasHeard, Leads, Keeper, Put, PutsLines, Sourced, HandsOn, Stops}
+use Rattle.jup_wire.specs.declared.line.Line.TheVariants as line
+use Rattle.jup_hub.specs.Histories.{IsLegal, calls_by, tally}
+use Rattle.jup_rules.specs.declared.ends.SessionFault.TheVariants.{FarBehind, ReadsSpent}
+use Rattle.jup_rules.specs.declared.session.Awaits.{Awaits}
+use Rattle.jup_rules.specs.declared.session.Awaits.TheVariants.{Gate, Pongs, Nothing}
+use Rattle.jup_rules.specs.declared.ends.Ending.TheVariants.{Gone, Fault as EndsByFault}
+use Rattle.jup_rules.specs.declared.session.Next.TheVariants.{Take as NextTake, End as NextEnd}
+use Rattle.jup_rules.specs.Sessions.{in_vain}
+use Rattle.jup_rules.specs.Prelude.{UpAck as Ack}
+use Rattle.jup_rules.specs.declared.ends.Stop.TheVariants.{End, Fault}
+
 -- What a session calls of its hub.
-use Rattle.std.specs.Prelude.{◌≡◌, ℕ, ◌⊎◌, List, [], ◌∷◌, ◌++◌, length, Ok, Err}
-use Rattle.std.specs.List.{AllByRecursion}
-use Rattle.jup_star.specs.StarCalls.{BoardStar}
-use Rattle.jup_star.specs.declared.faults.StarFault.TheVariants.{NoLink}
-use Rattle.jup_star.specs.declared.calls.Call.{Call}
-use Rattle.jup_star.specs.declared.calls.Call.TheVariants.{Join, Take, Fetch, Leave}
-use Rattle.jup_star.specs.declared.calls.StarReply.{StarReply}
-use Rattle.jup_star.specs.declared.calls.StarReply.TheVariants.{Joined, Fetched}
-use Rattle.jup_hub.specs.declared.view.HubEvent.{HubEvent}
-use Rattle.jup_hub.specs.declared.view.Tally.{Tally}
-use Rattle.jup_hub.specs.declared.view.View.{View}
-use Rattle.jup_hub.specs.Histories.{IsLegal, calls_by}
-use Rattle.jup_hub.specs.Knowledge.{tally}
 
 -- a call for this site
 abbrev pub IsCallFor : ℕ → Call → Type 0
@@ -52,10 +54,10 @@ SomeLeft opening (t ∷ ts) = HasLeft t.calls ⊎ IsFull opening t ⊎ SomeLeft 
 -- what follows a join, where w is the pass at the end. If the join was refused, nothing follows; otherwise calls for the site that joined alone. That it has left is
 -- claimed only up to `IsFull`
 abbrev pub FollowsJoin : View → Call → StarReply → List HubEvent → List Tally → Type 0
-FollowsJoin w Join (Joined (Ok joined)) later others =
+FollowsJoin w Join (JoinedReply (Ok joined)) later others =
     AreCallsFor joined.site later × AreTalliesFor joined.site others
     × (HasLeft later ⊎ IsFull w.opening (tally w.number w.made) ⊎ SomeLeft w.opening others)
-FollowsJoin w Join (Joined (Err fault)) later others = (later ≡ []) × (others ≡ [])
+FollowsJoin w Join (JoinedReply (Err fault)) later others = (later ≡ []) × (others ≡ [])
 FollowsJoin w call reply later others = ⊥
 
 -- the first call of a session is a join
@@ -106,7 +108,7 @@ pub record HasServed (site : ℕ) (v : View) : Type 0 where
 
 -- the join of a site
 abbrev pub IsJoinOf : ℕ → Call → StarReply → Type 0
-IsJoinOf site Join (Joined (Ok joined)) = joined.site ≡ site
+IsJoinOf site Join (JoinedReply (Ok joined)) = joined.site ≡ site
 IsJoinOf site call reply = ⊥
 
 -- the pass has joined a site
@@ -127,3 +129,192 @@ pub record BothServe (site : ℕ) (v w : View) : Type 0 where
   pub alone : AreCallsFor site calls
   pub other_alone : AreCallsFor site other.calls
   pub left : HasLeft other.calls ⊎ IsFull w.opening other
+
+-- How a site leaves its hub.
+
+-- messages that wait for the site are fetched, of which nothing is written, and acknowledged in its place
+abbrev pub GivesBack : ℕ → Call → Type 0
+GivesBack site (Fetch i max) = i ≡ site
+GivesBack site (Take i (Ack count)) = i ≡ site
+GivesBack site call = ⊥
+
+-- the site leaves
+abbrev pub IsLeaveOf : ℕ → Call → Type 0
+IsLeaveOf site (Leave i) = i ≡ site
+IsLeaveOf site call = ⊥
+
+-- what waits for the site is given back, and then the site leaves
+pub record Departs (site : ℕ) (v w : View) : Type 0 where
+  pub between : View
+  pub back : Makes (GivesBack site) v between
+  pub leaves : Makes (IsLeaveOf site) between w
+
+-- What the server writes to a site that has joined.
+
+-- its number and the limit of the order, its board, and that this is all
+abbrev pub welcome_lines : Joined → List Line
+welcome_lines joined = line.Welcome joined.site joined.limit ∷ (board_lines joined.board ++ line.Ready ∷ [])
+
+-- The calls that the writing half of a session makes of its hub, and what it writes for them.
+
+-- the messages that a reply brings
+abbrev pub brought : StarReply → List (Down BoardBatch)
+brought (Fetched (Ok downs)) = downs
+brought reply = []
+
+-- the lines of the messages that calls brought, one message after the other, in the order of the calls
+abbrev pub lines_brought : List HubEvent → List Line
+lines_brought calls = flat_map (λ e. flat_map down_lines (brought e.reply)) calls
+
+-- a fetch for this site
+abbrev pub IsFetchFor : ℕ → Call → Type 0
+IsFetchFor site (Fetch i max) = i ≡ site
+IsFetchFor site call = ⊥
+
+abbrev pub AreFetchesFor : ℕ → List HubEvent → Type 0
+AreFetchesFor site calls = AllByRecursion (λ e. IsFetchFor site e.call) calls
+
+-- The pass made fetches for the site and no other call. The session put the lines of the messages that these brought, in order, and nothing else
+pub record Forwards (site : ℕ) (v : View) (a : Put) (w : View) (b : Put) : Type 0 where
+  pub calls : List HubEvent
+  pub number : w.number ≡ v.number
+  pub made : w.made ≡ v.made ++ calls
+  pub kept : w.kept ≡ v.kept
+  pub alone : AreFetchesFor site calls
+  pub put : PutsLines a (lines_brought calls) b
+
+-- one fetch brought these messages, or none if it was refused or not made
+pub record Brings (site : ℕ) (v w : View) (downs : List (Down BoardBatch)) : Type 0 where
+  pub calls : List HubEvent
+  pub number : w.number ≡ v.number
+  pub made : w.made ≡ v.made ++ calls
+  pub kept : w.kept ≡ v.kept
+  pub alone : AreFetchesFor site calls
+  pub lines : lines_brought calls ≡ flat_map down_lines downs
+
+-- By which faults the writing half ends a session. A fetch was refused, or there was no memory to note what it brought. Or a write failed, or the site is too
+-- far behind
+abbrev pub IsOfWriting : SessionFault → Type 0
+IsOfWriting (Hub fault) = Unit {0}
+IsOfWriting NoMemory = Unit {0}
+IsOfWriting WriteFailed = Unit {0}
+IsOfWriting FarBehind = Unit {0}
+IsOfWriting fault = ⊥
+
+-- the ending that the writing half reports to the site itself is that of such a fault
+abbrev pub TellsFault : Option Ending → Type 0
+TellsFault None = Unit {0}
+TellsFault (Some ending) = (fault : SessionFault) × IsOfWriting fault × (ending ≡ ending_of fault)
+
+-- the last line, if the writing half writes it
+abbrev pub told_line : Option Ending → List Line
+told_line None = []
+told_line (Some ending) = last_line ending ∷ []
+
+-- the last line, if the writing half has not written it
+abbrev pub untold_line : Option Ending → Ending → List Line
+untold_line None ending = last_line ending ∷ []
+untold_line (Some told) ending = []
+
+-- the writing half: it forwarded, departed, and reported a fault of its own
+pub record Wrote (site : ℕ) (v : View) (a : Put) (w : View) (b : Put) (told : Option Ending) : Type 0 where
+  pub between : View
+  pub middle : Put
+  pub forwards : Forwards site v a between middle
+  pub departs : Departs site between w
+  pub fault : TellsFault told
+  pub put : PutsLines middle (told_line told) b
+
+-- What comes of a message of a site: whether the hub was called for it, and what follows from its answer.
+
+-- the hub was called once, to take this for the site, and that is its answer; or it was not called
+abbrev pub HasAnswered : ℕ → Up BoardBatch → View → View → Option (Result (Option ℕ) HubFault) → Type 0
+HasAnswered site up v w (Some answer) = Made (λ r. Taken r) (Take site up) v w answer
+HasAnswered site up v w None = w ≡ v
+
+-- whether a message has to wait before it is taken
+abbrev pub HasToWait : Awaits → Type 0
+HasToWait (Gate nth) = Unit {0}
+HasToWait Pongs = Unit {0}
+HasToWait Nothing = ⊥
+
+-- the hub was called for a message, unless the message waited in vain
+abbrev pub HasCalled : ℕ → Incoming → View → View → Option (Result (Option ℕ) HubFault) → Type 0
+HasCalled site incoming v w (Some answer) = HasAnswered site incoming.up v w (Some answer)
+HasCalled site incoming v w None = HasAnswered site incoming.up v w None × HasToWait incoming.awaits
+
+-- what follows from the answer, or from waiting in vain
+abbrev pub followed_by : Incoming → Option (Result (Option ℕ) HubFault) → Result Ring Ending
+followed_by incoming (Some answer) = outcome incoming.up answer
+followed_by incoming None = Err (in_vain incoming.awaits)
+
+-- what came of a message: the hub was called for it once, or not at all, and that is what follows
+pub record IsHandled (site : ℕ) (incoming : Incoming) (v w : View) (followed : Result Ring Ending) : Type 0 where
+  pub answer : Option (Result (Option ℕ) HubFault)
+  pub called : HasCalled site incoming v w answer
+  pub follows : followed ≡ followed_by incoming answer
+
+-- What the reading half of a session hears, and the calls that it makes of its hub for that.
+
+-- the star took it
+abbrev pub IsTaken : StarReply → Type 0
+IsTaken (Taken (Ok place)) = Unit {0}
+IsTaken reply = ⊥
+
+-- the calls are takes of just these messages for the site, in order, and the star took each
+abbrev pub AreTakesOf : ℕ → List Said → List HubEvent → Type 0
+AreTakesOf site [] [] = Unit {0}
+AreTakesOf site [] (e ∷ es) = ⊥
+AreTakesOf site (SaysUp up ∷ saids) [] = ⊥
+AreTakesOf site (SaysUp up ∷ saids) (e ∷ es) = (e.call ≡ Take site up) × IsTaken e.reply × AreTakesOf site saids es
+AreTakesOf site (SaysBye ∷ saids) calls = ⊥
+
+-- These lines were handed on. By them the site said all these messages, and the star took each of them, in order. The pass made no other call
+pub record Hears (site : ℕ) (a : Sourced) (v : View) (b : Sourced) (w : View) (keeper : Keeper) : Type 0 where
+  pub lines : List Line
+  pub saids : List Said
+  pub calls : List HubEvent
+  pub handed : HandsOn a lines b
+  pub heard : HasHeard lines saids keeper
+  pub number : w.number ≡ v.number
+  pub made : w.made ≡ v.made ++ calls
+  pub kept : w.kept ≡ v.kept
+  pub takes : AreTakesOf site saids calls
+
+-- how a session ends if no further line comes: the site is gone if its bytes end between messages, and within one they end early
+pub record EndsBehind (keeper : Keeper) (stop : Stop) (ending : Ending) : Type 0 where
+  pub early : stop ≡ End → IsSomeAnd keeper.0 (λ part. part ≢ []) → ending ≡ EndsByFault 43
+  pub gone : stop ≡ End → keeper.0 ≡ Some [] → ending ≡ Gone
+  pub fault : (fault : SessionFault) → stop ≡ Fault fault → ending ≡ ending_of fault
+
+-- Why a session ends after these messages. No further line comes, or the next line ends it, which is a bye or is refused. Or the message that this line
+-- completes was not taken, by the star's answer or since it waited in vain. Or there were as many lines as a session can have. Or the hub was not called for the
+-- message that this line completes, since the site is too far behind
+pub data Over (site : ℕ) (b c : Sourced) (w x : View) (keeper : Keeper) (ending : Ending) : Type 0 where
+  Stopped : (stop : Stop) → Stops b stop c → x ≡ w → EndsBehind keeper stop ending → Over site b c w x keeper ending
+  ByLine : (line : Line) (later : Keeper) → HandsOn b (line ∷ []) c → x ≡ w
+      → ((lines : List Line) (saids : List Said) → HasHeard lines saids keeper → Leads lines saids keeper line (NextEnd ending) later) → Over site b c w x keeper ending
+  Untaken : (line : Line) (later : Keeper) (incoming : Incoming) → HandsOn b (line ∷ []) c
+      → ((lines : List Line) (saids : List Said) → HasHeard lines saids keeper → Leads lines saids keeper line (NextTake incoming) later)
+      → IsHandled site incoming w x (Err ending) → Over site b c w x keeper ending
+  Spent : c ≡ b → x ≡ w → ending ≡ ending_of ReadsSpent → Over site b c w x keeper ending
+  Behind : (line : Line) (later : Keeper) (incoming : Incoming) → HandsOn b (line ∷ []) c
+      → ((lines : List Line) (saids : List Said) → HasHeard lines saids keeper → Leads lines saids keeper line (NextTake incoming) later)
+      → x ≡ w → ending ≡ ending_of FarBehind → Over site b c w x keeper ending
+
+-- all that the session heard and took, and why that ended
+pub record HearsAll (site : ℕ) (a : Sourced) (v : View) (c : Sourced) (x : View) (ending : Ending) : Type 0 where
+  pub before : Sourced
+  pub pass : View
+  pub keeper : Keeper
+  pub hears : Hears site a v before pass keeper
+  pub over : Over site before c pass x keeper ending
+
+-- the session could not start a thread, so it read nothing and took nothing
+pub record HearsNothing (a : Sourced) (v : View) (c : Sourced) (x : View) (ending : Ending) : Type 0 where
+  pub source : c ≡ a
+  pub pass : x ≡ v
+  pub memory : ending ≡ ending_of NoMemory
+
+abbrev pub Heard : ℕ → Sourced → View → Sourced → View → Ending → Type 0
+Heard site a v c x ending = HearsAll site a v c x ending ⊎ HearsNothing a v c x ending

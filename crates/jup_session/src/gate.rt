@@ -1,7 +1,7 @@
 //! When an edit may be taken.
 ghost use Rattle.std.specs.Prelude.{◌≡◌, IsTrue, IsFalse, IsSome, IsNone};
 ghost use Rattle.jup_hub.specs.Passes.{view_of, IsPassOf};
-ghost use Rattle.jup_session.specs.Gates.{HasAnswered};
+ghost use Rattle.jup_session.specs.Sessions.{HasAnswered};
 
 use jup_hub::{Hub, HubFault, Pass};
 use jup_star::Up;

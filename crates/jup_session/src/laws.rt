@@ -6,9 +6,8 @@ ghost use Rattle.jup_wire.specs.declared.line.Line.{Line};
 ghost use Rattle.jup_wire.specs.Streams.{HasRead, Progress};
 ghost use Rattle.jup_rules.specs.declared.ends.Ending.{Ending};
 ghost use Rattle.jup_rules.specs.declared.session.Said.{Said};
-ghost use Rattle.jup_rules.specs.Gates.{HasHeard, Keeper};
-ghost use Rattle.jup_session.specs.ExactSessions.{IsExact};
-ghost use Rattle.jup_session.specs.SessionBytes.{bytes_read, lines_read, bytes_written, BeginWith};
+ghost use Rattle.jup_rules.specs.Sessions.{HasHeard, Keeper};
+ghost use Rattle.jup_session.specs.ExactSessions.{IsExact, bytes_read, lines_read, bytes_written, BeginWith};
 
 /// The bytes of a reader begin with those that a session read. The writer holds what it had, and after that the bytes that the session
 /// wrote. In whatever way the bytes read are lines, these begin with the lines that the session looked at. By the lines a site says

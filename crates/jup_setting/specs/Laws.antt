@@ -1,4 +1,3 @@
 -- What follows from the definitions beside this folder.
 
-pub mod SettingLaws
-pub mod SettingsAreLawful
+pub mod Settings

@@ -1,7 +1,7 @@
 //! The operation that sets a value, and its edit.
 ghost use Rattle.std.specs.Prelude.{◌≡◌, ℕ, IsOk, Ok, refl};
 ghost use Rattle.jup_setting.specs.Settings.{set_server_past, set_client_past, set_edit, last_setting, setting_after, IsValidSetting};
-ghost use Rattle.jup_setting.specs.Laws.SettingLaws.{setting_square, setting_effect_one, setting_effect_two, valid_later, valid_server, last_setting-append, set_edit_server};
+ghost use Rattle.jup_setting.specs.Laws.Settings.{setting_square, setting_effect_one, setting_effect_two, valid_later, valid_server, last_setting-append, set_edit_server};
 
 use crate::SettingValue;
 use jup_xform::{NoMemory, Transform};

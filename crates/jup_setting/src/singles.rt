@@ -1,7 +1,7 @@
 //! Whether a setting may be applied after other settings, without applying them.
 ghost use Rattle.std.specs.Prelude.{◌↔◌, IsTrue};
 ghost use Rattle.jup_setting.specs.Settings.{IsValidSetting};
-ghost use Rattle.jup_setting.specs.Laws.SettingLaws.{still_told};
+ghost use Rattle.jup_setting.specs.Laws.Settings.{still_told};
 
 use crate::{SetOp, SettingValue};
 use jup_xform::{Single, Transform};

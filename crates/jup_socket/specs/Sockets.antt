@@ -1,21 +1,18 @@
--- The two ways of a link as the bytes that its ends wrote and read.
-use Rattle.std.specs.Prelude.{◌≡◌, ℕ, Bool, true, false, List, [], ◌∷◌, ◌++◌, map, Option}
+-- A link as the bytes of its ends, and what its client says.
+use Rattle.std.specs.Prelude.{◌≡◌, ℕ, Bool, true, false, List, [], ◌∷◌, ◌++◌, map, Option, ◌⊎◌, option_to_list, Result, Ok, Err}
 use Rattle.std.specs.List.{flat_map, AllByRecursion}
-use Rattle.jup_batch.specs.BatchBoards.{BoardBatch}
-use Rattle.jup_star.specs.declared.messages.Up.{Up}
-use Rattle.jup_star.specs.declared.messages.Down.{Down}
-use Rattle.jup_star.specs.declared.star.Joined.{Joined}
-use Rattle.jup_wire.specs.declared.line.Line.{Line}
+use Rattle.jup_batch.specs.Boards.{BoardBatch, Commands}
+use Rattle.jup_socket.specs.Prelude.{Up, Down, Joined, Line, Said, SaysUp, SaysBye, ClientEnd, NoMemory, Answer, Heard, ClientState}
+use Rattle.jup_star.specs.Sites.{edit_reply, site_edited, deliver_reply, site_delivered}
 use Rattle.jup_wire.specs.declared.line.Line.TheVariants.{Hello, Welcome, Ready, Bye, Error}
-use Rattle.jup_wire.specs.Grammar.{spelling, HasSpelling}
+use Rattle.jup_wire.specs.Lines.{spelling, HasSpelling}
 use Rattle.jup_wire.specs.Streams.{Progress, HasRead}
-use Rattle.jup_gather.specs.Pieces.{piece_lines, HasGathered}
-use Rattle.jup_layout.specs.BoardLines.{board_lines}
-use Rattle.jup_rules.specs.declared.session.Said.{Said}
-use Rattle.jup_rules.specs.declared.session.Said.TheVariants.{Up as SaysUp, Bye as SaysBye}
-use Rattle.jup_gather.specs.Ways.{down_piece}
-use Rattle.jup_rules.specs.Messages.{said_piece, down_lines, HasSaid}
-use Rattle.jup_honest.specs.Connections.{Step, Connection, after}
+use Rattle.jup_layout.specs.Drafts.{board_lines}
+use Rattle.jup_gather.specs.Gathering.{piece_lines, HasGathered, down_piece}
+use Rattle.jup_honest.specs.Sites.{Step, Connection, after, sent_as_made, sent_as_handed}
+use Rattle.jup_rules.specs.Sessions.{said_piece, down_lines, HasSaid}
+
+-- The two ways of a link as the bytes that its ends wrote and read.
 
 -- # Up
 
@@ -114,3 +111,24 @@ pub record AtSocket (answer : Joined) (c : Connection) : Type 0 where
 abbrev pub AtSocketThrough : Joined → List Step → Connection → Type 0
 AtSocketThrough answer [] c = AtSocket answer c
 AtSocketThrough answer (step ∷ steps) c = AtSocket answer c × AtSocketThrough answer steps (after step c)
+
+-- What a client of this product says at its steps.
+
+-- what it says to the server
+abbrev pub said_of_answer : Result Answer ClientEnd → List Said
+said_of_answer (Ok answer) = option_to_list answer.said
+said_of_answer (Err end) = []
+
+abbrev pub said_of_heard : Result Heard ClientEnd → List Said
+said_of_heard (Ok heard) = option_to_list heard.said
+said_of_heard (Err end) = []
+
+-- if an allocation fails, the client ends, with its site as it was; otherwise the site has made the edit, and the client says its message
+abbrev pub IsEditStep : Commands → ClientState → Result Answer ClientEnd → ClientState → Type 0
+IsEditStep commands old r new = ((r ≡ Err NoMemory) × (new.site ≡ old.site))
+    ⊎ ((new.site ≡ site_edited commands old.site) × (said_of_answer r ≡ map (λ up. SaysUp up) (sent_as_made (edit_reply commands old.site))))
+
+-- the same of a message that it receives
+abbrev pub IsDeliverStep : Down BoardBatch → ClientState → Result Heard ClientEnd → ClientState → Type 0
+IsDeliverStep down old r new = ((r ≡ Err NoMemory) × (new.site ≡ old.site))
+    ⊎ ((new.site ≡ site_delivered down old.site) × (said_of_heard r ≡ map (λ up. SaysUp up) (sent_as_handed (deliver_reply down old.site))))

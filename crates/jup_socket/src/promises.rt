@@ -2,22 +2,19 @@
 
 ghost use Rattle.std.specs.Prelude.{◌≡◌, ◌≤◌, ◌<◌, length, Result, Ok};
 ghost use Rattle.jup_limits.specs.Limits.{highest_limit};
-ghost use Rattle.jup_batch.specs.BatchBoards.{BoardBatch, Commands, bare};
+ghost use Rattle.jup_batch.specs.Boards.{BoardBatch, Commands, bare};
 ghost use Rattle.jup_star.specs.declared.messages.Down.{Down};
 ghost use Rattle.jup_rules.specs.declared.ends.ClientEnd.{ClientEnd};
 ghost use Rattle.jup_rules.specs.declared.client.Answer.{Answer};
 ghost use Rattle.jup_rules.specs.declared.client.Heard.{Heard};
 ghost use Rattle.jup_rules.specs.declared.client.ClientState.{ClientState};
 ghost use Rattle.jup_rules.specs.Clients.{AnswersEdit, Delivers, IsOpened};
-ghost use Rattle.jup_socket.specs.Clients.{IsEditStep, IsDeliverStep};
+ghost use Rattle.jup_socket.specs.Sockets.{IsEditStep, IsDeliverStep, AtSocket, AtSocketThrough, DownSocket};
 ghost use Rattle.jup_hub.specs.Histories.{IsLegal};
-ghost use Rattle.jup_layout.specs.BoardLines.{board_lines, IsBoard};
-ghost use Rattle.jup_layout.specs.Layouts.{board_with};
+ghost use Rattle.jup_layout.specs.Drafts.{board_lines, IsBoard, board_with};
 ghost use Rattle.jup_star.specs.declared.star.Joined.{Joined};
-ghost use Rattle.jup_world.specs.Openings.{IsOpening};
-ghost use Rattle.jup_honest.specs.Connections.{Connection, IsReliable, IsCausalThrough};
-ghost use Rattle.jup_honest.specs.SiteRuns.{SiteRun, IsHonest, opening, calls, start, now};
-ghost use Rattle.jup_socket.specs.Sockets.{AtSocket, AtSocketThrough, DownSocket};
+ghost use Rattle.jup_world.specs.Worlds.{IsOpening};
+ghost use Rattle.jup_honest.specs.Sites.{Connection, IsReliable, IsCausalThrough, SiteRun, IsHonest, opening, calls, start, now};
 
 /// The session has read the first of the bytes that the client wrote, and the star was brought the first of the
 /// messages that their lines say. The client has read the first of the bytes that the session wrote, and its

@@ -1,6 +1,6 @@
 //! The edits of operations.
 ghost use Rattle.std.specs.Prelude.{◌≡◌, IfOk};
-ghost use Rattle.jup_batch.specs.BatchBoards as board;
+ghost use Rattle.jup_batch.specs.Boards as board;
 
 use jup_batch::{BoardBatch, BoardEdits};
 use jup_window::WidgetEdit;

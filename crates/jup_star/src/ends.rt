@@ -1,10 +1,9 @@
 //! What the star and a site do alike at their ends of a link.
 ghost use Rattle.std.specs.Prelude.{◌≡◌, ◌≤◌, [], ◌∷◌, length, MatchOption, IfOk, OnErr, if◌then◌else◌};
 ghost use Rattle.jup_link.specs.Links.{owes, IsNumber, IsCount, answered};
-ghost use Rattle.jup_batch.specs.BoardBatches.{board_batches};
-ghost use Rattle.jup_star.specs.LinkStates.{operation_at, end_after};
-ghost use Rattle.jup_star.specs.Counts.{count_tests};
-ghost use Rattle.jup_star.specs.FirstFaults.{first_fault, fault_of};
+ghost use Rattle.jup_batch.specs.Boards.{board_batches};
+ghost use Rattle.jup_star.specs.Stars.{operation_at, end_after};
+ghost use Rattle.jup_star.specs.Faults.{count_tests, first_fault, fault_of};
 
 use jup_batch::BoardBatch;
 use jup_link::{End, LinkFault, Msg};

@@ -5,7 +5,7 @@
 //! [`Star`] is the server's core: it has a link to each attached site. It puts the edits that come up into
 //! one order, and sends each on to all other sites. Messages between the two must come in order, none lost
 //! and none twice.
-#![tactic(auto, unfolding(crate::specs::StarCalls::reply_of, crate::specs::StarCalls::star_after, crate::specs::StarCalls::asks_memory))]
+#![tactic(auto, unfolding(crate::specs::Stars::reply_of, crate::specs::Stars::star_after, crate::specs::Stars::asks_memory))]
 
 mod calls;
 mod edits;

@@ -1,15 +1,13 @@
 //! The star's end of a link to a site.
 ghost use Rattle.std.specs.Prelude.{◌≡◌, ◌≤◌, ◌<◌, length, take, IsTrue, IfSome, OnOk, OnErr, IfOk};
 ghost use Rattle.jup_link.specs.Links.{IsNumber, IsCount, generated};
-ghost use Rattle.jup_batch.specs.BatchBoards as board;
-ghost use Rattle.jup_batch.specs.BoardBatches.{board_batches};
-ghost use Rattle.jup_star.specs.FirstFaults.{first_fault, fault_of};
+ghost use Rattle.jup_batch.specs.Boards as board;
+ghost use Rattle.jup_batch.specs.Boards.{board_batches};
+ghost use Rattle.jup_star.specs.Faults.{first_fault, fault_of};
 ghost use Rattle.std.specs.Option.{option_to_list, IsSomeAnd};
 ghost use Rattle.jup_limits.specs.Limits.{most_ordered};
-ghost use Rattle.jup_star.specs.LinkStates.{opened_link, link_acked, link_ponged, link_fetched, link_sent, link_heard, operation_at};
-ghost use Rattle.jup_star.specs.StarStates.{early_fault, edit_tests, ack_tests, log_tests};
-ghost use Rattle.jup_star.specs.Rooms.{bare_link, HasRoom};
-ghost use Rattle.jup_star.specs.TextRelabels.{RelabelNoText, DownRelabelsNoText};
+ghost use Rattle.jup_star.specs.Stars.{opened_link, link_acked, link_ponged, link_fetched, link_sent, link_heard, operation_at, early_fault, edit_tests, ack_tests, log_tests, bare_link, HasRoom};
+ghost use Rattle.jup_star.specs.Messages.{RelabelNoText, DownRelabelsNoText};
 
 use crate::ends::{acknowledge, check_counts, lone, receive};
 use crate::outbox::Outbox;
@@ -84,7 +82,7 @@ impl Link {
     }
 
     // Makes room for one message and one operation, and the copies that this needs.
-    #[tactic(auto, using(crate::proofs::Copies::length_shape))]
+    #[tactic(auto, using(crate::proofs::Relabels::length_shape))]
     pub(crate) fn reserve(&mut self, alloc: Global, op: &BoardBatch) -> Result<(), NoMemory>
         ensures room { OnOk result (HasRoom (board.shape op.now) self.new) }
         ensures same { bare_link self.new ≡ bare_link self.old }
@@ -165,7 +163,7 @@ impl Link {
     }
 
     // Sends an operation to the site.
-    #[tactic(auto, using(crate::proofs::Copies::copies_made))]
+    #[tactic(auto, using(crate::proofs::Relabels::copies_made))]
     pub(crate) fn send(&mut self, op: &BoardBatch)
         requires relabels { RelabelNoText op.now }
         requires room { HasRoom (board.shape op.now) self.old }

@@ -1,11 +1,8 @@
 //! The links of a star.
 ghost use Rattle.std.specs.Prelude.{◌≡◌, ◌<◌, not, nat_eq, map, filter, position, length, MatchOption, IsTrue, IfSome, OnOk, if◌then◌else◌};
-ghost use Rattle.jup_batch.specs.BatchBoards as board;
-ghost use Rattle.jup_star.specs.TextRelabels.{RelabelNoText};
-ghost use Rattle.jup_star.specs.LinkStates.{is_of, link_sent};
-ghost use Rattle.jup_star.specs.StarStates.{IsNew, AreApart};
-ghost use Rattle.jup_star.specs.Places.{IsPlace};
-ghost use Rattle.jup_star.specs.Rooms.{bare_link, AllHaveRoom, OthersHaveRoom, AllCount};
+ghost use Rattle.jup_batch.specs.Boards as board;
+ghost use Rattle.jup_star.specs.Messages.{RelabelNoText};
+ghost use Rattle.jup_star.specs.Stars.{is_of, link_sent, IsNew, AreApart, IsPlace, bare_link, AllHaveRoom, OthersHaveRoom, AllCount};
 
 use crate::link::Link;
 use jup_batch::BoardBatch;

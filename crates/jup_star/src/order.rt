@@ -20,8 +20,8 @@ pub(crate) struct Order {
 impl Model for Order {
     ghost use Rattle.std.specs.Prelude.{◌-◌, vec_len};
     ghost use Rattle.std.specs.Vec.{vec_capacity};
-    ghost use Rattle.jup_batch.specs.BatchBoards.{BoardEdits};
-    ghost use Rattle.jup_star.specs.Queues.{OrderState};
+    ghost use Rattle.jup_batch.specs.Boards.{BoardEdits};
+    ghost use Rattle.jup_star.specs.Messages.{OrderState};
 
     ghost Value = { OrderState BoardEdits };
 

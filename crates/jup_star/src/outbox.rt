@@ -1,10 +1,9 @@
 //! Messages that wait to be fetched.
-ghost use Rattle.std.specs.Prelude.{◌≡◌, ℕ, ◌+◌, ◌≤◌, [], ◌∷◌, ◌++◌, length, take, drop, All, IfSome, OnOk, OnErr, IfOk};
+ghost use Rattle.std.specs.Prelude.{◌≡◌, ℕ, ◌+◌, ◌≤◌, [], ◌∷◌, ◌++◌, length, take, drop, All, IfSome, OnOk, OnErr, IfOk, vec_len};
 ghost use Rattle.std.specs.VecDeque.{deque_len, deque_capacity};
-ghost use Rattle.std.specs.Prelude.{vec_len};
 ghost use Rattle.std.specs.Vec.{vec_capacity};
 ghost use Rattle.std.specs.Option.{option_to_list};
-ghost use Rattle.jup_star.specs.TextRelabels.{DownRelabelsNoText};
+ghost use Rattle.jup_star.specs.Messages.{DownRelabelsNoText};
 
 use crate::Down;
 use jup_batch::BoardBatch;
@@ -23,9 +22,9 @@ pub struct Downs {
 
 impl Model for Downs {
     ghost use Rattle.std.specs.Prelude.{List, All};
-    ghost use Rattle.jup_batch.specs.BatchBoards.{BoardBatch};
+    ghost use Rattle.jup_batch.specs.Boards.{BoardBatch};
     ghost use Rattle.jup_star.specs.declared.messages.Down.{Down};
-    ghost use Rattle.jup_star.specs.TextRelabels.{DownRelabelsNoText};
+    ghost use Rattle.jup_star.specs.Messages.{DownRelabelsNoText};
 
     ghost Value = { List (Down BoardBatch) };
 
@@ -64,9 +63,8 @@ pub(crate) struct Outbox {
 impl Model for Outbox {
     ghost use Rattle.std.specs.Prelude.{◌-◌, All};
     ghost use Rattle.std.specs.VecDeque.{deque_len, deque_capacity};
-    ghost use Rattle.jup_batch.specs.BatchBoards.{BoardBatch};
-    ghost use Rattle.jup_star.specs.Queues.{OutboxState};
-    ghost use Rattle.jup_star.specs.TextRelabels.{DownRelabelsNoText};
+    ghost use Rattle.jup_batch.specs.Boards.{BoardBatch};
+    ghost use Rattle.jup_star.specs.Messages.{OutboxState, DownRelabelsNoText};
 
     ghost Value = { OutboxState BoardBatch };
 

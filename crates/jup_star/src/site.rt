@@ -1,18 +1,14 @@
 //! A site.
 ghost use Rattle.std.specs.Prelude.{◌≡◌, ◌≤◌, ◌<◌, true, false, [], ◌∷◌, Ok, Err, length, IfOk, IfErr, OnOk, OnErr, IfSome, IfNone, is_some};
 ghost use Rattle.jup_link.specs.Links.{IsNumber, IsCount, opened, after_count};
-ghost use Rattle.jup_batch.specs.BatchBoards.{BoardBatch, bare, after, edit_of, IsValid, HasRoom};
-ghost use Rattle.jup_window.specs.BoardOperations.{next_name};
-ghost use Rattle.jup_batch.specs.BatchBoards.{accepts};
-ghost use Rattle.jup_batch.specs.BoardBatches.{board_batches};
+ghost use Rattle.jup_batch.specs.Boards.{BoardBatch, bare, after, edit_of, IsValid, HasRoom, accepts, board_batches};
+ghost use Rattle.jup_window.specs.Operations.{next_name};
 ghost use Rattle.jup_window.specs.Commands.{shown};
-ghost use Rattle.jup_batch.specs.Laws.ShownCommands.{all_shown};
-ghost use Rattle.jup_window.specs.FaultNumbers.{edit_fault_number};
-ghost use Rattle.jup_star.specs.FirstFaults.{fault_of, first_fault};
-ghost use Rattle.jup_star.specs.LinkStates.{operation_at, end_after};
-ghost use Rattle.jup_star.specs.SiteStates.{opened_site, edit_answer, within_bounds, heard_tests, shown_tests};
-ghost use Rattle.jup_star.specs.SiteCalls.{site_open_fault, EditAnswers, DeliverAnswers, owed_of, shown_after, Bears, is_edit_memory, asks_room};
-ghost use Rattle.jup_star.specs.TextRelabels.{UpRelabelsNoText};
+ghost use Rattle.jup_batch.specs.Laws.Boards.{all_shown};
+ghost use Rattle.jup_star.specs.Faults.{fault_of, first_fault};
+ghost use Rattle.jup_star.specs.Stars.{operation_at, end_after};
+ghost use Rattle.jup_star.specs.Sites.{opened_site, edit_answer, within_bounds, heard_tests, shown_tests, site_open_fault, EditAnswers, DeliverAnswers, owed_of, shown_after, Bears, is_edit_memory, asks_room};
+ghost use Rattle.jup_star.specs.Messages.{UpRelabelsNoText};
 ghost use Rattle.jup_star.specs.declared.messages.Down.TheVariants.{Op, Ack, Pong};
 
 use crate::edits::edits_of;
@@ -47,8 +43,8 @@ pub struct Made {
 /// What a site did for a message of the star.
 #[derive(Drop)]
 pub struct Delivered {
-    /// The acknowledgement that the site now owes.
-    pub owed: Option<Up>,
+    /// How many messages the site now acknowledges, if it owes that.
+    pub owed: Option<u32>,
     /// The operations of another site's edit as this site applied them: transformed past its own edits on their way.
     pub shown: Option<BoardBatch>,
 }
@@ -72,13 +68,12 @@ pub struct Site {
 }
 
 impl Model for Site {
-    ghost use Rattle.jup_batch.specs.BoardBatches.{board_batches};
-    ghost use Rattle.jup_star.specs.SiteStates.{IsSite};
-    ghost use Rattle.jup_star.specs.SiteCalls.{BoardSite};
+    ghost use Rattle.jup_batch.specs.Boards.{board_batches};
+    ghost use Rattle.jup_star.specs.Sites.{IsSite, BoardSite};
 
     ghost Value = { BoardSite };
 
-    ghost use Rattle.jup_star.specs.SiteInside.{bare_site};
+    ghost use Rattle.jup_star.specs.Sites.{bare_site};
 
     ghost view = { bare_site };
 
@@ -137,8 +132,7 @@ impl Site {
 
     // Why no edit can be made now, whatever it is.
     fn check_bounds(&self) -> Result<(), EditFault>
-        ensures refused { IfErr result (λ fault. (op : BoardBatch)
-            → within_bounds board_batches self.now (Ok op) ≡ Err (edit_fault_number fault)) }
+        ensures refused { IfErr result (λ fault. (op : BoardBatch) → within_bounds board_batches self.now (Ok op) ≡ Err fault) }
         ensures memory { IfErr result (λ fault. is_edit_memory fault ≡ false) }
         ensures ok { OnOk result ((op : BoardBatch) → within_bounds board_batches self.now (Ok op) ≡ Ok op) }
         ensures room { OnOk result (self.now.made < self.now.limit) }
@@ -217,7 +211,7 @@ impl Site {
         ensures { DeliverAnswers down.now self.old self.new result }
     {
         match self.deliver_shown(alloc, down) {
-            Ok(delivered) => Ok(delivered.owed),
+            Ok(delivered) => Ok(delivered.owed.map(Up::Ack)),
             Err(fault) => Err(fault),
         }
     }
@@ -260,7 +254,7 @@ impl Site {
             return Err(SiteFault::BadOp);
         };
         Ok(Delivered {
-            owed: acknowledge(&mut self.end).map(Up::Ack),
+            owed: acknowledge(&mut self.end),
             shown: Some(op),
         })
     }

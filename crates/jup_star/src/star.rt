@@ -1,15 +1,12 @@
 //! The star.
 ghost use Rattle.std.specs.Prelude.{◌≡◌, ◌≤◌, ◌<◌, false, length, IfOk, IfSome};
 ghost use Rattle.std.specs.Option.{option_map, option_to_list};
-ghost use Rattle.jup_batch.specs.BatchBoards.{bare};
+ghost use Rattle.jup_batch.specs.Boards.{bare};
 ghost use Rattle.jup_window.specs.Entries.{EachWidget};
-ghost use Rattle.jup_star.specs.FirstFaults.{fault_of};
+ghost use Rattle.jup_star.specs.Faults.{fault_of};
 ghost use Rattle.jup_window.specs.Commands.{map_ok};
-ghost use Rattle.jup_star.specs.Openings.{IsShort};
-ghost use Rattle.jup_star.specs.OtherLinks.{OthersStayInStep};
-ghost use Rattle.jup_star.specs.StarStates.{link_of, opened_star};
-ghost use Rattle.jup_star.specs.StarCalls.{Answers, bare_joined, lacks_memory, star_open_fault};
-ghost use Rattle.jup_star.specs.TextRelabels.{DownRelabelsNoText};
+ghost use Rattle.jup_star.specs.Stars.{IsShort, OthersStayInStep, link_of, opened_star, Answers, bare_joined, lacks_memory, star_open_fault};
+ghost use Rattle.jup_star.specs.Messages.{DownRelabelsNoText};
 ghost use Rattle.jup_star.specs.declared.messages.Up.TheVariants.{Op, Ack, Ping};
 ghost use Rattle.jup_star.specs.declared.calls.Call.TheVariants.{Join, Take, Fetch, Leave};
 ghost use Rattle.jup_star.specs.declared.calls.StarReply.TheVariants.{Joined as JoinedReply, Taken, Fetched, Left};
@@ -50,11 +47,11 @@ pub struct Star {
 }
 
 impl Model for Star {
-    ghost use Rattle.jup_star.specs.StarCalls.{BoardStar, IsStar};
+    ghost use Rattle.jup_star.specs.Stars.{BoardStar, IsStar};
 
     ghost Value = { BoardStar };
 
-    ghost use Rattle.jup_star.specs.StarInside.{bare_star};
+    ghost use Rattle.jup_star.specs.Stars.{bare_star};
 
     ghost view = { bare_star };
 

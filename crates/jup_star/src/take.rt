@@ -1,13 +1,7 @@
 //! How a star takes an edit.
 ghost use Rattle.std.specs.Prelude.{◌≡◌, ◌≤◌, ◌<◌, true, false, [], ◌∷◌, ◌++◌, map, slice_set, vec_len, OnOk, IfOk};
-ghost use Rattle.jup_batch.specs.BatchBoards.{bare, after, edit_of, shape, HasRoom};
-ghost use Rattle.jup_batch.specs.BoardBatches.{board_batches};
-ghost use Rattle.jup_batch.specs.BatchBoards.{accepts};
-ghost use Rattle.jup_star.specs.LinkStates.{operation_at, link_heard};
-ghost use Rattle.jup_star.specs.StarStates.{without, link_of, AreApart, links_after};
-ghost use Rattle.jup_star.specs.StarCalls.{BoardLink};
-ghost use Rattle.jup_star.specs.Places.{IsPlace, IsHeardBy};
-ghost use Rattle.jup_star.specs.Rooms.{bare_link, AllHaveRoom, OthersHaveRoom, AllCount};
+ghost use Rattle.jup_batch.specs.Boards.{bare, after, edit_of, shape, HasRoom, board_batches, accepts};
+ghost use Rattle.jup_star.specs.Stars.{operation_at, link_heard, without, link_of, AreApart, links_after, BoardLink, IsPlace, IsHeardBy, bare_link, AllHaveRoom, OthersHaveRoom, AllCount};
 
 use crate::Entry;
 use crate::edits::edits_of;

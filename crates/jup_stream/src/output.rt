@@ -1,8 +1,8 @@
 //! Lines and bytes on their way to a writer.
 ghost use Rattle.std.specs.Prelude.{◌≡◌, ◌≤◌, [], ◌∷◌, vec_capacity, IsTrue, IsFalse, IsOk, IsErr, IfOk, IfErr};
-ghost use Rattle.jup_wire.specs.Grammar.{line_bytes};
-ghost use Rattle.jup_wire.specs.Rooms.{HasRoom};
-ghost use Rattle.jup_stream.specs.Puts.{put_as, Puts, PutsLines, IsFlushed, WritesFront, fresh_put};
+ghost use Rattle.jup_wire.specs.Lines.{line_bytes};
+ghost use Rattle.jup_wire.specs.Streams.{HasRoom};
+ghost use Rattle.jup_stream.specs.Streams.{put_as, Puts, PutsLines, IsFlushed, WritesFront, fresh_put};
 
 use jup_intake::is_interrupted;
 use jup_rules::SessionFault;
@@ -28,7 +28,7 @@ pub struct Output<O: Write + Drop> {
 }
 
 impl<O: Write + Drop> Model for Output<O> {
-    ghost use Rattle.jup_stream.specs.Puts.{Put, put_as};
+    ghost use Rattle.jup_stream.specs.Streams.{Put, put_as};
 
     ghost Value = { Put };
 
@@ -90,7 +90,7 @@ impl<O: Write + Drop> Output<O> {
 }
 
 impl<O: Write + Drop> LineSink for Output<O> {
-    ghost use Rattle.jup_stream.specs.Puts.{PutsLines, puts_none, puts_more};
+    ghost use Rattle.jup_stream.specs.Streams.{PutsLines, puts_none, puts_more};
 
     type Fault = Infallible;
 
@@ -130,7 +130,7 @@ pub fn write_bytes<O: Write + Drop>(to: &mut O, bytes: &[u8]) -> bool
 }
 
 // Writes what is gathered, unless a write has failed.
-#[tactic(auto, using(crate::proofs::Putting::puts_out, crate::specs::Puts::puts_none))]
+#[tactic(auto, using(crate::proofs::Streams::puts_out, crate::specs::Streams::puts_none))]
 fn write_out<O: Write + Drop>(to: &mut O, text: &mut Vec<u8>, has_failed: &mut bool)
     ensures puts { Puts (put_as (O.contents to.old) text.old.items has_failed.old) [] (put_as (O.contents to.new) text.new.items has_failed.new) }
     ensures empty { IsFalse has_failed.new → text.new.items ≡ [] }
@@ -145,7 +145,7 @@ fn write_out<O: Write + Drop>(to: &mut O, text: &mut Vec<u8>, has_failed: &mut b
 }
 
 // The same, and has the writer pass it on.
-#[tactic(auto, using(crate::proofs::Putting::puts_on, crate::specs::Puts::puts_none))]
+#[tactic(auto, using(crate::proofs::Streams::puts_on, crate::specs::Streams::puts_none))]
 fn send_out<O: Write + Drop>(to: &mut O, text: &mut Vec<u8>, has_failed: &mut bool)
     ensures puts { Puts (put_as (O.contents to.old) text.old.items has_failed.old) [] (put_as (O.contents to.new) text.new.items has_failed.new) }
     ensures empty { IsFalse has_failed.new → text.new.items ≡ [] }
@@ -161,7 +161,7 @@ fn send_out<O: Write + Drop>(to: &mut O, text: &mut Vec<u8>, has_failed: &mut bo
 }
 
 // Writes what is gathered if a line may not fit after it.
-#[tactic(auto, using(crate::specs::Puts::puts_none))]
+#[tactic(auto, using(crate::specs::Streams::puts_none))]
 fn make_room<O: Write + Drop>(to: &mut O, text: &mut Vec<u8>, has_failed: &mut bool)
     requires { 2048 ≤ vec_capacity text.old }
     ensures puts { Puts (put_as (O.contents to.old) text.old.items has_failed.old) [] (put_as (O.contents to.new) text.new.items has_failed.new) }

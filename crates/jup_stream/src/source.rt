@@ -3,8 +3,8 @@ ghost use Rattle.std.specs.Prelude.{◌≡◌, ◌≤◌, ◌+◌, ℕ, List, []
 ghost use Rattle.std.specs.Io.KnownBytes.{Consumes, Keeps, IsAtEnd};
 ghost use Rattle.jup_wire.specs.declared.line.Line.{Line};
 ghost use Rattle.jup_wire.specs.Streams.{HasRead, ending_at};
-ghost use Rattle.jup_rules.specs.Bounds.{most_reads};
-ghost use Rattle.jup_stream.specs.Sources.{ReadsOn, HandsOn, Stops, stop_of};
+ghost use Rattle.jup_rules.specs.Clients.{most_reads};
+ghost use Rattle.jup_stream.specs.Streams.{ReadsOn, HandsOn, Stops, stop_of};
 
 use jup_intake::is_interrupted;
 use jup_rules::{SessionFault, Stop, count_read};
@@ -37,7 +37,7 @@ pub struct Source<I: Read + Drop> {
 
 impl<I: Read + Drop> Model for Source<I> {
     ghost use Rattle.std.specs.Prelude.{◌≡◌};
-    ghost use Rattle.jup_stream.specs.Sources.{Sourced, sourced, waiting_of, fault_of};
+    ghost use Rattle.jup_stream.specs.Streams.{Sourced, sourced, waiting_of, fault_of};
 
     ghost Value = { Sourced };
 
@@ -64,7 +64,7 @@ impl<I: Read + Drop> Source<I> {
     }
 
     /// The next line: those of the last piece, then its fault, then those of further pieces.
-    #[tactic(auto, using(crate::proofs::HowRead::hands_after, crate::proofs::HowRead::stops_after, crate::proofs::HowRead::stops_spent))]
+    #[tactic(auto, using(crate::proofs::Streams::hands_after, crate::proofs::Streams::stops_after, crate::proofs::Streams::stops_spent))]
     pub fn next_line(&mut self, alloc: Global) -> Result<Line, Stop>
         ensures line { IfOk result (λ line. HandsOn self.old (line ∷ []) self.new) }
         ensures stop { IfErr result (λ stop. Stops self.old stop self.new) }
@@ -108,7 +108,7 @@ impl<I: Read + Drop> Source<I> {
     }
 
     // Hands on a line that waits.
-    #[tactic(auto, using(crate::proofs::HowRead::hands_first))]
+    #[tactic(auto, using(crate::proofs::Streams::hands_first))]
     fn hand_on(&mut self) -> Option<Line>
         ensures some { IfSome result (λ line. HandsOn self.old (line ∷ []) self.new) }
         ensures none { IsNone result → (self.old.waiting ≡ []) × (self.new ≡ self.old) }
@@ -124,7 +124,7 @@ impl<I: Read + Drop> Source<I> {
     }
 
     // Reads until there is a line to give.
-    #[tactic(auto, using(crate::proofs::HowRead::reads_both, crate::proofs::HowRead::stops_after, crate::proofs::HowRead::stops_spent, crate::proofs::HowRead::stops_fault))]
+    #[tactic(auto, using(crate::proofs::Streams::reads_both, crate::proofs::Streams::stops_after, crate::proofs::Streams::stops_spent, crate::proofs::Streams::stops_fault))]
     fn fill(&mut self, alloc: Global) -> Result<(), Stop>
         ensures on { OnOk result (ReadsOn self.old self.new) }
         ensures stop { IfErr result (λ stop. Stops self.old stop self.new) }
@@ -221,7 +221,7 @@ fn feed_front(reader: &mut Reader, alloc: Global, piece: &[u8], len: usize) -> R
 }
 
 // The line at a place.
-#[tactic(auto, using(crate::proofs::HowRead::drop_get))]
+#[tactic(auto, using(crate::proofs::Streams::drop_get))]
 fn line_at(lines: &[Line], at: usize) -> Option<Line>
     ensures some { IfSome result (λ line. drop at lines.now ≡ line ∷ drop (at + 1) lines.now) }
     ensures room { IsSome result → at + 1 ≤ 18446744073709551615 }

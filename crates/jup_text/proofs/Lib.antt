@@ -1,10 +1,3 @@
-pub mod Numbering
-pub mod Splits
-pub mod Hexadecimals
-pub mod Quoting
-pub mod LabelQuotes
+pub mod BoardLines
 pub mod CommandWords
-pub mod OneCommand
-pub mod Printing
-pub mod Drafting
-pub mod NextLines
+pub mod Quotes

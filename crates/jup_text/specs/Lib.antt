@@ -1,9 +1,4 @@
 pub mod Boards
 pub mod Commands
-pub mod Drafts
-pub mod Edits
-pub mod NextLines
-pub mod Numbering
-pub mod Quotes
-pub mod WidgetLines
+pub mod Prelude
 pub mod Words

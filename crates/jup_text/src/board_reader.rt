@@ -1,11 +1,9 @@
 //! Boards that are read line by line, as they are printed. The items are named 0.1, 0.2 and so on, through
 //! the whole board in the order of its lines.
 ghost use Rattle.std.specs.Prelude.{◌≡◌, ℕ, List, [], ◌++◌, Some, None, OnOk, OnErr, IsOkUnless, codes};
-ghost use Rattle.jup_window.specs.Additions.{widget_fault};
+ghost use Rattle.jup_window.specs.Entries.{widget_fault};
 ghost use Rattle.jup_text.specs.declared.board_reader.Untaken.TheVariants as untaken;
-ghost use Rattle.jup_text.specs.Drafts.{IsTaken, TakesWindow, TakesWidget};
-ghost use Rattle.jup_text.specs.NextLines.{IsNext, IsNextWindow};
-ghost use Rattle.jup_text.specs.WidgetLines.{IsWidgetLine};
+ghost use Rattle.jup_text.specs.Boards.{IsTaken, TakesWindow, TakesWidget, IsNext, IsNextWindow, IsWidgetLine};
 
 use self::widget_lines::{WidgetLine, read_widget};
 use super::words::{id_of, next_word};
@@ -56,7 +54,7 @@ pub struct BoardReader {
 }
 
 impl Model for BoardReader {
-    ghost use Rattle.jup_text.specs.Drafts.{Draft};
+    ghost use Rattle.jup_text.specs.Boards.{Draft};
 
     ghost Value = { Draft };
 

@@ -3,7 +3,7 @@ ghost use Rattle.std.specs.Prelude.{◌≡◌, ◌∷◌, ◌++◌, Some, OnOk, 
 ghost use Rattle.std.specs.Fmt.{AppendsText, DisplaysOnOk};
 ghost use Rattle.std.specs.List.{flat_map};
 ghost use Rattle.jup_text.specs.Boards.{board_text, window_lines, widget_line};
-ghost use Rattle.jup_text.specs.Quotes.{quoted};
+ghost use Rattle.jup_text.specs.Words.{quoted};
 
 use super::quoted::{Quoted, QuotedLabel};
 use super::words::switch_word;

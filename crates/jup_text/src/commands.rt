@@ -1,12 +1,11 @@
 //! Commands: `ins W I PLACE char Q`, `ins W I PLACE item Q`, `del W I PLACE`, `rel W I PLACE Q`, `set W I on`,
 //! `set W I off` and `set W I NUMBER`; and `batch K`, which K lines of commands follow.
 ghost use Rattle.std.specs.Prelude.{◌≡◌, ◌≢◌, ◌<◌, ◌^◌, ◌∷◌, ◌++◌, ℕ, List, decimal, Some, IfSome, IfNone};
-ghost use Rattle.jup_number.specs.Numbers.{IsU32};
-ghost use Rattle.jup_number.specs.Spelled.{IsReadingOf};
+ghost use Rattle.jup_number.specs.Numbers.{IsU32, IsReadingOf};
 ghost use Rattle.jup_value.specs.Labels.{IsLabelText};
 ghost use Rattle.jup_window.specs.declared.commands.Command.{Command};
 ghost use Rattle.jup_text.specs.Commands.{command_text, batch_text, value_text, setting_word, IsCommand, IsBatchCount, IsId, IsValue, IsSetting};
-ghost use Rattle.jup_text.specs.Quotes.{quoted};
+ghost use Rattle.jup_text.specs.Words.{quoted};
 
 use super::quoted::{char_of, label_of};
 use super::words::{next_id, next_word, switch_of};

@@ -2,7 +2,7 @@
 ghost use Rattle.std.specs.Prelude.{◌≡◌, ◌++◌, Some, OnOk, OnErr};
 ghost use Rattle.std.specs.Fmt.{DisplaysOnOk};
 ghost use Rattle.std.specs.List.{flat_map};
-ghost use Rattle.jup_text.specs.Edits.{edit_text, other_text, edits_text};
+ghost use Rattle.jup_text.specs.Commands.{edit_text, other_text, edits_text};
 ghost use Rattle.jup_text.specs.Words.{name_text};
 
 use super::boards::append;

@@ -5,9 +5,9 @@ ghost use Rattle.std.specs.Prelude.{false, Some, map, position, ◌==◌, ◌≡
 ghost use Rattle.std.specs.Char.{IsScalar};
 ghost use Rattle.std.specs.Fmt.{digit_glyph, DisplaysOnOk};
 ghost use Rattle.std.specs.Option.{option_map};
-ghost use Rattle.jup_number.specs.Spelled.{IsReadingOf};
+ghost use Rattle.jup_number.specs.Numbers.{IsReadingOf};
 ghost use Rattle.jup_value.specs.Labels.{IsLabelText};
-ghost use Rattle.jup_text.specs.Quotes.{hexadecimal, quoted_char, quoted, AreScalars};
+ghost use Rattle.jup_text.specs.Words.{hexadecimal, quoted_char, quoted, AreScalars};
 
 use jup_limits::LONGEST_LABEL;
 use jup_value::{Label, Seq};

@@ -1,8 +1,7 @@
 //! Switches, numbers, and the words of a line.
 ghost use Rattle.std.specs.Prelude.{◌≡◌, ◌≢◌, ◌⊎◌, ◌==◌, ◌<◌, ◌^◌, [], ◌∷◌, ◌++◌, ℕ, ℤ, List, length, position, decimal, IfSome, IfNone};
 ghost use Rattle.std.specs.Fmt.{signed_decimal};
-ghost use Rattle.jup_number.specs.Numbers.{IsU32, IsInt};
-ghost use Rattle.jup_number.specs.Spelled.{IsReadingOf};
+ghost use Rattle.jup_number.specs.Numbers.{IsU32, IsInt, IsReadingOf};
 ghost use Rattle.jup_text.specs.Commands.{IsId};
 ghost use Rattle.jup_text.specs.Words.{IsWord, switch_text};
 

@@ -1,15 +1,38 @@
-use Rattle.std.proofs.Common.{◌≡◌, ℕ, zero, suc, ◌+◌, ◌-◌, ◌*◌, ◌<◌, ◌≤◌, List, [], ◌∷◌, ◌++◌, length, get_or, set, take, drop, map, sum, refl, sym, ap, ◌∙◌, append_assoc, append-nil, add-one, zero-add, Bool, true, false, cond, Option, Some, None, inl, inr, arith, length-append}
-use Rattle.std.specs.Prelude.{insert, remove, slice_get, nat_le}
+-- Items in blocks.
+use Rattle.std.proofs.Common.{◌≡◌, ℕ, zero, suc, ◌+◌, ◌-◌, ◌≤◌, List, [], ◌∷◌, take, drop, sum, refl, arith, ◌*◌, ◌<◌, ◌++◌, length, get_or, set, map, sym, ap, ◌∙◌, append_assoc, append-nil, add-one, zero-add, Bool, true, false, cond, Option, Some, None, inl, inr, length-append, insert, remove, slice_get, nat_le}
+use Rattle.std.proofs.lemmas.List.Sums.{sum_by-cons, sum_by_more}
 use Rattle.std.proofs.lemmas.Bool.{cases_Bool, leb-true, leb-false, lt-ltb, le-ltb, le-leb, lt-leb}
 use Rattle.std.proofs.lemmas.List.{take-append-drop, length-take-le, length-drop, length-map, take-map, get_or-map, nil_from_length, drop_more}
+use Rattle.std.specs.List.{position_from}
+use Rattle.std.proofs.lemmas.List.Edits.{length-insert, length-remove, insert-append_left, insert-append_right, remove-append_left, remove-append_right}
 use Rattle.jup_value.specs.declared.names.Name.{Name}
 use Rattle.jup_value.specs.declared.names.Item.{Item}
-use Rattle.std.specs.List.{position_from}
-use Rattle.jup_value.specs.Items.{name_eq, with_value}
-use Rattle.jup_value.proofs.ItemLists.{length-with_value}
-use Rattle.std.proofs.lemmas.List.Edits.{length-insert, length-remove, insert-append_left, insert-append_right, remove-append_left, remove-append_right}
-use Rattle.std.proofs.lemmas.List.Sums.{sum_by-cons, sum_by_more}
-use Rattle.jup_value.specs.Layout.{joined, put_in, left_half, right_half, split_with, take_in, with_item_at, without_item_at, AreBlocks}
+use Rattle.jup_value.specs.Items.{name_eq, with_value, joined, put_in, left_half, right_half, split_with, take_in, with_item_at, without_item_at, AreBlocks}
+use Rattle.jup_value.proofs.Items.{length-with_value}
+
+-- Sums over the table of the blocks' lengths.
+
+sum_none : (k : ℕ) → sum (take k []) ≡ 0
+sum_none zero = refl
+sum_none (suc k) = refl
+
+-- the sum before a place, and that between it and a later one
+pub sum_between : (ns : List ℕ) (i j : ℕ) → i ≤ j → sum (take j ns) ≡ sum (take i ns) + sum (take (j - i) (drop i ns))
+sum_between ns zero j l = let all : j - 0 ≡ j = omega arith in rw all (omega arith)
+sum_between [] (suc i) j l = omega (arith, sum_none j, sum_none (j - suc i))
+sum_between (n ∷ ns) (suc i) zero l = absurd (omega arith)
+sum_between (n ∷ ns) (suc i) (suc j) l =
+    let width : suc j - suc i ≡ j - i = omega arith in
+    rw width (omega (arith, sum_by-cons (λ m. m) n (take j ns), sum_by-cons (λ m. m) n (take i ns), sum_between ns i j (omega arith)))
+
+-- a part of the table has no greater sum
+pub sum_front : (ns : List ℕ) (i : ℕ) → sum (take i ns) ≤ sum ns
+sum_front [] zero = omega arith
+sum_front [] (suc i) = omega arith
+sum_front (n ∷ ns) zero = omega arith
+sum_front (n ∷ ns) (suc i) = omega (arith, sum_by-cons (λ m. m) n (take i ns), sum_by-cons (λ m. m) n ns, sum_front ns i)
+
+-- Items in blocks, and the table of their lengths.
 
 pub set-put_in : {X : Type 0} → (bs : List (List X)) (i p : ℕ) (y : X) (b : List X) → b ≡ get_or bs i b → set bs i (insert b p y) ≡ put_in bs i p y
 set-put_in [] i p y b h = refl

@@ -4,9 +4,8 @@ use Rattle.std.proofs.lemmas.Bool.{eqb-true, eq-eqb, cases_Bool, and_parts, or_p
 use Rattle.std.specs.List.{position_from}
 use Rattle.jup_value.specs.declared.names.Name.{Name}
 use Rattle.jup_value.specs.declared.names.Item.{Item}
-use Rattle.jup_value.specs.Items.{name_eq, has_name, place_of, with_value}
-use Rattle.jup_value.specs.Marks.{is_marked, AreMarked, marks_below, raised, AreAbove, AreAscending}
-use Rattle.jup_value.proofs.ItemLists.{name_eq_same}
+use Rattle.jup_value.specs.Items.{name_eq, has_name, place_of, with_value, is_marked, AreMarked, marks_below, raised, AreAbove, AreAscending}
+use Rattle.jup_value.proofs.Items.{name_eq_same}
 
 -- a name that is not marked is none of the items'
 pub unmarked_absent : {V : Type 0} → (n : Name) (ms : List Name) (xs : List (Item V)) → AreMarked ms xs → is_marked n ms ≡ false → has_name n xs ≡ false

@@ -1,10 +1,12 @@
--- Names and items of sequences.
-use Rattle.std.specs.Prelude.{◌≡◌, ℕ, zero, suc, Bool, false, ◌&&◌, ◌||◌, ◌==◌, List, [], ◌∷◌, Option, Some, None, if◌then◌else◌, refl, slice_get}
+-- Items of sequences: their names, blocks and marks.
+use Rattle.std.specs.Prelude.{◌≡◌, ℕ, zero, suc, Bool, false, ◌&&◌, ◌||◌, ◌==◌, List, [], ◌∷◌, Option, Some, None, if◌then◌else◌, refl, slice_get, ◌-◌, ◌<◌, ◌≤◌, nat_lt, nat_le, length, map, ◌++◌, insert, remove, take, drop, true}
 use Rattle.std.specs.Option.{option_map}
-use Rattle.std.specs.List.{position_from}
+use Rattle.std.specs.List.{position_from, flat_map, list_any}
 use Rattle.std.specs.Coded.{Coded, code_by, coded×, coded_ℕ, coded_list}
 use Rattle.jup_value.specs.declared.names.Name.{Name}
 use Rattle.jup_value.specs.declared.names.Item.{Item}
+
+-- Names and items of sequences.
 
 -- whether two names are the same
 abbrev pub name_eq : Name → Name → Bool
@@ -60,3 +62,94 @@ item_code {V} code = code_by (Name × V) (coded× name_code code) (λ x. (x.name
 -- a sequence by its items and its room
 abbrev pub items_code : {V : Type 0} → Coded V → Coded (Items V)
 items_code {V} code = code_by (List (Item V) × ℕ) (coded× (coded_list (item_code code)) coded_ℕ) (λ s. (s.items, s.spare)) (λ p. record { items = p.0; spare = p.1 }) (λ _. refl)
+
+-- Items in blocks: what an insertion and a removal make of the blocks, and the table of their lengths.
+
+-- the items of the blocks, in order
+abbrev pub joined : {X : Type 0} → List (List X) → List X
+joined bs = flat_map (λ b. b) bs
+
+-- how many items come before a block
+abbrev pub items_before : {X : Type 0} → List (List X) → ℕ → ℕ
+items_before bs i = length (joined (take i bs))
+
+-- one more item in the block at a place
+abbrev pub put_in : {X : Type 0} → List (List X) → ℕ → ℕ → X → List (List X)
+put_in [] i p y = []
+put_in (b ∷ bs) zero p y = insert b p y ∷ bs
+put_in (b ∷ bs) (suc i) p y = b ∷ put_in bs i p y
+
+-- the block at a place with one item fewer
+abbrev pub take_in : {X : Type 0} → List (List X) → ℕ → ℕ → List (List X)
+take_in [] i p = []
+take_in (b ∷ bs) zero p = remove b p ∷ bs
+take_in (b ∷ bs) (suc i) p = b ∷ take_in bs i p
+
+-- a full block in two halves of 64, and one more item: up to 64 it goes into the left half
+abbrev pub left_half : {X : Type 0} → List X → ℕ → X → List X
+left_half b p y = if nat_le p 64 then insert (take 64 b) p y else take 64 b
+
+abbrev pub right_half : {X : Type 0} → List X → ℕ → X → List X
+right_half b p y = if nat_le p 64 then drop 64 b else insert (drop 64 b) (p - 64) y
+
+-- the block at a place in its halves
+abbrev pub split_with : {X : Type 0} → List (List X) → ℕ → ℕ → X → List (List X)
+split_with [] i p y = []
+split_with (b ∷ bs) zero p y = left_half b p y ∷ right_half b p y ∷ bs
+split_with (b ∷ bs) (suc i) p y = b ∷ split_with bs i p y
+
+-- one more item in a block, which is first split in two if it is full
+abbrev pub with_item : {X : Type 0} → List X → ℕ → X → List (List X)
+with_item b p y = if nat_lt (length b) 128 then insert b p y ∷ [] else left_half b p y ∷ right_half b p y ∷ []
+
+-- one more item among all: it goes into the first block that ends at its place or after it, or into a new one if there is no block
+abbrev pub with_item_at : {X : Type 0} → List (List X) → ℕ → X → List (List X)
+with_item_at [] p y = (y ∷ []) ∷ []
+with_item_at (b ∷ bs) p y = if nat_le p (length b) then with_item b p y ++ bs else b ∷ with_item_at bs (p - length b) y
+
+-- one item fewer among all: a block that loses its last item is taken out, and no other block changes
+abbrev pub without_item_at : {X : Type 0} → List (List X) → ℕ → List (List X)
+without_item_at [] p = []
+without_item_at (b ∷ bs) p = if nat_lt p (length b) then (if nat_lt 1 (length b) then remove b p ∷ bs else bs) else b ∷ without_item_at bs (p - length b)
+
+-- no block is empty, and none has more than 128 items
+abbrev pub AreBlocks : {X : Type 0} → List (List X) → Type 0
+AreBlocks [] = Unit {0}
+AreBlocks (b ∷ bs) = (0 < length b) × (length b ≤ 128) × AreBlocks bs
+
+-- blocks, and the table of their lengths
+abbrev pub IsLaidOut : {X : Type 0} → List (List X) → List ℕ → Type 0
+IsLaidOut blocks lengths = AreBlocks blocks × (lengths ≡ map length blocks)
+
+-- The highest number that the items of each site had in a sequence, which distinguishes a new name from one that may be held.
+
+-- a mark is a name: a site, and the highest number that its items had
+
+-- whether the mark of the name's site is at or above its number
+abbrev pub is_marked : Name → List Name → Bool
+is_marked n ms = list_any (λ m. (m.site == n.site) && nat_le n.number m.number) ms
+
+-- every item's name is marked
+abbrev pub AreMarked : {V : Type 0} → List Name → List (Item V) → Type 0
+AreMarked ms [] = Unit {0}
+AreMarked ms (x ∷ xs) = (is_marked x.name ms ≡ true) × AreMarked ms xs
+
+-- how many marks come before that of a site
+abbrev pub marks_below : ℕ → List Name → ℕ
+marks_below site [] = 0
+marks_below site (m ∷ ms) = if nat_lt m.site site then suc (marks_below site ms) else 0
+
+-- the marks, that of the name's site raised to its number
+abbrev pub raised : Name → List Name → List Name
+raised n [] = n ∷ []
+raised n (m ∷ ms) = if nat_lt m.site n.site then m ∷ raised n ms else (if m.site == n.site then (if nat_lt m.number n.number then n ∷ ms else m ∷ ms) else n ∷ m ∷ ms)
+
+-- the first mark is of a later site
+abbrev pub AreAbove : ℕ → List Name → Type 0
+AreAbove site [] = Unit {0}
+AreAbove site (m ∷ ms) = site < m.site
+
+-- the marks ascend by their sites, each of which has one
+abbrev pub AreAscending : List Name → Type 0
+AreAscending [] = Unit {0}
+AreAscending (m ∷ ms) = AreAbove m.site ms × AreAscending ms

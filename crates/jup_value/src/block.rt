@@ -1,8 +1,7 @@
 //! A block: a list of at most 128 items, and the room that it moves into as it grows.
 ghost use Rattle.std.specs.Prelude.{◌≡◌, ◌+◌, ◌<◌, ◌≤◌, [], ◌∷◌, length, insert, remove, slice_get, vec_len, vec_capacity, IfOk, IfSome};
 ghost use Rattle.std.specs.Option.{option_copied};
-ghost use Rattle.jup_value.specs.Items.{place_of, with_value};
-ghost use Rattle.jup_value.specs.Layout.{left_half, right_half};
+ghost use Rattle.jup_value.specs.Items.{place_of, with_value, left_half, right_half};
 
 use crate::{Item, Name, NoMemory};
 use std::alloc::Global;

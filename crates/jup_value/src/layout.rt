@@ -1,7 +1,6 @@
 //! Blocks beside the table of their lengths.
 ghost use Rattle.std.specs.Prelude.{◌≡◌, ◌+◌, ◌<◌, ◌≤◌, IfOk, OnOk, OnErr, Some, slice_get, remove, length, map, slice_index_or, insert, [], ◌∷◌, vec_len, vec_capacity};
-ghost use Rattle.jup_value.specs.Items.{place_of};
-ghost use Rattle.jup_value.specs.Layout.{joined, items_before, put_in, split_with, with_item_at, without_item_at, AreBlocks};
+ghost use Rattle.jup_value.specs.Items.{place_of, joined, items_before, put_in, split_with, with_item_at, without_item_at, AreBlocks};
 
 use crate::block::{Block, LARGEST, Room};
 use crate::table::find_gap;

@@ -1,6 +1,6 @@
 //! The highest number that the items of each site had, which identifies a new name without a search.
 ghost use Rattle.std.specs.Prelude.{◌≡◌, ◌+◌, ◌<◌, ◌≤◌, length, IsTrue, slice_get, vec_len, vec_capacity};
-ghost use Rattle.jup_value.specs.Marks.{is_marked, marks_below, raised, AreAscending};
+ghost use Rattle.jup_value.specs.Items.{is_marked, marks_below, raised, AreAscending};
 
 use crate::Name;
 

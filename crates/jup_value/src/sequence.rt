@@ -33,9 +33,7 @@ pub struct Seq<V> {
 
 impl<V> Model for Seq<V> {
     ghost use Rattle.std.specs.Prelude.{◌≡◌, ◌≤◌, ◌-◌, min, length, vec_len, vec_capacity};
-    ghost use Rattle.jup_value.specs.Items.{AreDistinct, Items, items_code};
-    ghost use Rattle.jup_value.specs.Layout.{joined, IsLaidOut};
-    ghost use Rattle.jup_value.specs.Marks.{AreMarked, AreAscending};
+    ghost use Rattle.jup_value.specs.Items.{AreDistinct, Items, items_code, joined, IsLaidOut, AreMarked, AreAscending};
 
     ghost Value = { Items V };
 

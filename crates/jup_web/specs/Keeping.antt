@@ -2,7 +2,7 @@
 use Rattle.std.specs.Prelude.{◌≡◌, ℕ, List}
 use Rattle.jup_window.specs.Boards.{Windows, bare}
 use Rattle.jup_text.specs.Boards.{board_text}
-use Rattle.jup_hub.specs.Knowledge.{MeetsBoard}
+use Rattle.jup_hub.specs.Histories.{MeetsBoard}
 use Rattle.jup_hub.specs.declared.view.View.{View}
 
 -- the text prints a board of the star, after a history that begins with all that the pass has seen

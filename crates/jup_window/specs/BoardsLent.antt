@@ -1,7 +1,7 @@
 -- What a board ends as, once a `&mut` to one of its widgets has ended.
 use Rattle.std.specs.Prelude.{Option}
 use Rattle.std.specs.Borrow.{LendsIf, Fml, MutBor}
-use Rattle.jup_window.specs.declared.widgets.Widget.{Widget}
+use Rattle.jup_window.specs.Prelude.{Widget}
 use Rattle.jup_window.specs.Entries.{Place, change_widget}
 use Rattle.jup_window.specs.Boards.{Windows}
 use Rattle.jup_window.specs.contracts.boards.Board.{the_row}

@@ -1,12 +1,6 @@
 -- What follows from the definitions beside this folder.
 
-pub mod BareBoards
-pub mod BoardEdits
-pub mod BoardLaws
-pub mod BoardNames
-pub mod BoardTests
-pub mod BoardsAreLawful
-pub mod EntryLaws
-pub mod NamedCommands
-pub mod WidgetLaws
-pub mod WidgetNames
+pub mod Boards
+pub mod Entries
+pub mod Operations
+pub mod Widgets

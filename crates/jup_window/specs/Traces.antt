@@ -1,27 +1,18 @@
 -- What determines whether an operation on a board may be applied after others
 use Rattle.std.proofs.Common.{◌≡◌, ℕ, ℤ, List, Bool, true, false, Option, Some, None, refl, subst, ◌↔◌, IsTrue, if◌then◌else◌}
 use Rattle.std.specs.Option.{option_map, IsSomeAnd}
-use Rattle.jup_value.specs.Items.{Items}
-use Rattle.jup_seq.specs.declared.operations.SeqOp.{SeqOp}
+use Rattle.jup_window.specs.Prelude.{Items, SeqOp, SetOp, ToggleState, SliderState, IsValidSlide, Widget, Text, Labels, Toggle, Slider, WidgetOp, OnText, OnList, OnToggle, OnSlider, BoardOp, is_no_relabel}
 use Rattle.jup_seq.specs.Operations as seq
 use Rattle.jup_seq.specs.Traces as seq_traces
-use Rattle.jup_setting.specs.declared.operation.SetOp.{SetOp}
-use Rattle.jup_setting.specs.declared.toggle.Toggle.{Toggle as ToggleState}
-use Rattle.jup_setting.specs.Sliders.{SliderState, IsWithin}
-use Rattle.jup_setting.specs.Laws.SettingLaws.{still_told}
-use Rattle.jup_setting.specs.Widgets.{slider_at, slider_after, IsValidSlide}
-use Rattle.jup_window.specs.declared.widgets.Widget.{Widget}
-use Rattle.jup_window.specs.declared.widgets.Widget.TheVariants.{Text, List as Labels, Toggle, Slider}
-use Rattle.jup_window.specs.declared.widget_operations.WidgetOp.{WidgetOp}
-use Rattle.jup_window.specs.declared.widget_operations.WidgetOp.TheVariants.{Text as OnText, List as OnList, Toggle as OnToggle, Slider as OnSlider}
+use Rattle.jup_setting.specs.Sliders.{IsWithin}
+use Rattle.jup_setting.specs.Laws.Settings.{still_told}
+use Rattle.jup_setting.specs.Settings.{slider_at, slider_after}
 use Rattle.jup_window.specs.declared.singles.WidgetTrace.{WidgetTrace}
 use Rattle.jup_window.specs.declared.singles.WidgetTrace.TheVariants.{Sequence, Setting, Misfit}
-use Rattle.jup_window.specs.declared.board_operations.BoardOp.{BoardOp}
 use Rattle.jup_window.specs.Entries.{same_place, widget_at}
-use Rattle.jup_window.specs.Laws.EntryLaws.{same_place-true, widget_at-change}
-use Rattle.jup_window.specs.Laws.WidgetLaws.{of_valid, toggle_valid}
+use Rattle.jup_window.specs.Laws.Entries.{same_place-true, widget_at-change}
+use Rattle.jup_window.specs.Laws.Widgets.{of_valid, toggle_valid}
 use Rattle.jup_window.specs.Widgets as widget
-use Rattle.jup_seq.specs.Operations.{is_no_relabel}
 use Rattle.jup_window.specs.Boards as board
 
 -- a trace of an operation on a widget

@@ -2,9 +2,7 @@
 ghost use Rattle.std.specs.Prelude.{◌≡◌, ◌<◌, Ok, OnOk, OnErr, refl};
 ghost use Rattle.jup_window.specs.Entries.{same_place};
 ghost use Rattle.jup_window.specs.Boards as board;
-ghost use Rattle.jup_window.specs.Laws.BoardLaws as board_laws;
-ghost use Rattle.jup_window.specs.Laws.BoardNames as board_names;
-ghost use Rattle.jup_window.specs.Laws.BoardEdits as board_edits;
+ghost use Rattle.jup_window.specs.Laws.Boards as board_laws;
 
 use crate::boards::Board;
 use crate::edits::BoardEdit;
@@ -188,35 +186,35 @@ impl Transform for BoardOp {
 
     ghost shape_server = { λ s c. refl };
 
-    ghost inserts_client = { board_names.inserts_client };
+    ghost inserts_client = { board_laws.inserts_client };
 
-    ghost inserts_server = { board_names.inserts_server };
+    ghost inserts_server = { board_laws.inserts_server };
 
-    ghost changes_client = { board_names.changes_client };
+    ghost changes_client = { board_laws.changes_client };
 
-    ghost changes_server = { board_names.changes_server };
+    ghost changes_server = { board_laws.changes_server };
 
-    ghost apart_names = { board_names.apart_names };
+    ghost apart_names = { board_laws.apart_names };
 
-    ghost fresh_names = { board_names.fresh_names };
+    ghost fresh_names = { board_laws.fresh_names };
 
-    ghost inserts_new = { board_names.inserts_new };
+    ghost inserts_new = { board_laws.inserts_new };
 
-    ghost changes_held = { board_names.changes_held };
+    ghost changes_held = { board_laws.changes_held };
 
-    ghost held_before = { board_names.held_before };
+    ghost held_before = { board_laws.held_before };
 
-    ghost held_after = { board_names.held_after };
+    ghost held_after = { board_laws.held_after };
 
-    ghost order_self = { board_names.order_self };
+    ghost order_self = { board_laws.order_self };
 
-    ghost order_chain = { board_names.order_chain };
+    ghost order_chain = { board_laws.order_chain };
 
-    ghost meaning_none = { board_edits.meaning_none };
+    ghost meaning_none = { board_laws.meaning_none };
 
-    ghost meaning_more = { board_edits.meaning_more };
+    ghost meaning_more = { board_laws.meaning_more };
 
-    ghost edit_client = { board_edits.edit_client };
+    ghost edit_client = { board_laws.edit_client };
 
-    ghost edit_server = { board_edits.edit_server };
+    ghost edit_server = { board_laws.edit_server };
 }

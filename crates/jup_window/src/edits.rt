@@ -1,7 +1,6 @@
 //! What operations do to the content of a board.
 ghost use Rattle.std.specs.Prelude.{◌≡◌};
-ghost use Rattle.jup_window.specs.Effects.{effect, inserted_name};
-ghost use Rattle.jup_window.specs.Edits.{insertions, bears_next, bears_site, is_nothing, shown_edit};
+ghost use Rattle.jup_window.specs.Kinds.{effect, inserted_name, insertions, bears_next, bears_site, is_nothing, shown_edit};
 
 use jup_seq::SeqEdit;
 use jup_setting::SettingEdit;

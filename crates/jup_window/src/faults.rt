@@ -1,6 +1,6 @@
 //! Why a board or a command is refused.
 ghost use Rattle.std.specs.Prelude.{◌≡◌};
-ghost use Rattle.jup_window.specs.FaultNumbers.{board_fault_number, edit_fault_number};
+ghost use Rattle.jup_window.specs.Commands.{board_fault_number, edit_fault_number};
 
 use jup_limits::NoMemory;
 use thiserror::Error;

@@ -1,10 +1,12 @@
--- Streams of bytes that come in pieces.
-use Rattle.std.specs.Prelude.{◌≡◌, ◌≢◌, ℕ, ◌<◌, List, [], ◌∷◌, ◌++◌, length, All, Option, Some, None, MatchOption, Result, Ok, Err}
+-- Bytes that come in pieces.
+use Rattle.std.specs.Prelude.{◌≡◌, ◌≢◌, ℕ, ◌<◌, List, [], ◌∷◌, ◌++◌, length, All, Option, Some, None, MatchOption, Result, Ok, Err, take, ◌+◌, ◌≤◌, vec_len, vec_capacity}
 use Rattle.std.specs.List.{flat_map, AllByRecursion}
-use Rattle.jup_wire.specs.declared.faults.WireFault.{WireFault}
-use Rattle.jup_wire.specs.declared.faults.WireFault.TheVariants.{BadLine, LongLine, BadVersion, EarlyEnd}
-use Rattle.jup_wire.specs.declared.line.Line.{Line}
-use Rattle.jup_wire.specs.Grammar.{line_text, spelling, HasSpelling, IsBad}
+use Rattle.std.specs.Global.{Vec}
+use Rattle.jup_wire.specs.Prelude.{WireFault, BadLine, LongLine, BadVersion, EarlyEnd, Line}
+use Rattle.jup_wire.specs.declared.part.Part.{Part}
+use Rattle.jup_wire.specs.Lines.{line_text, spelling, HasSpelling, IsBad}
+
+-- Streams of bytes that come in pieces.
 
 -- lines, one after another, and what comes after them
 abbrev pub stream_of : List Line → List ℕ → List ℕ
@@ -65,3 +67,20 @@ ReadsTo bytes lines (Some fault) rest = AllByRecursion HasSpelling lines × Faul
 -- after these bytes, which began with a part of a line, these are the lines, and a part or a fault is left
 abbrev pub Reads : List ℕ → List Line → Option WireFault → List ℕ → Type 0
 Reads bytes lines fault part = HasRead bytes lines (record { part = part; fault = fault })
+
+-- The bytes that a part of a line holds.
+
+abbrev pub part_bytes : Part → List ℕ
+part_bytes part = take part.len part.bytes
+
+-- Appending to a vector that has room.
+
+-- room for so many more bytes
+abbrev pub HasRoom : Vec ℕ → ℕ → Type 0
+HasRoom out room = vec_len out + room ≤ vec_capacity out
+
+-- new is old with the text at its end, which took at most so much room
+pub record Appends (old new : Vec ℕ) (text : List ℕ) (most : ℕ) : Type 0 where
+  pub items : new.items ≡ old.items ++ text
+  pub len : vec_len new ≤ vec_len old + most
+  pub capacity : vec_capacity old ≤ vec_capacity new

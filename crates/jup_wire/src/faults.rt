@@ -1,6 +1,6 @@
 //! What can be wrong with the bytes of a link.
 ghost use Rattle.std.specs.Prelude.{◌≡◌};
-ghost use Rattle.jup_wire.specs.FaultNumbers.{wire_fault_number};
+ghost use Rattle.jup_wire.specs.Lines.{wire_fault_number};
 
 use thiserror::Error;
 

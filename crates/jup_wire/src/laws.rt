@@ -5,7 +5,7 @@ ghost use Rattle.std.specs.List.{flat_map, AllByRecursion};
 ghost use Rattle.jup_wire.specs.declared.line.Line.{Line};
 ghost use Rattle.jup_wire.specs.declared.line.Line.TheVariants.{Batch, Do};
 ghost use Rattle.jup_window.specs.Widgets.{relabels_no_text};
-ghost use Rattle.jup_wire.specs.Grammar.{HasSpelling, IsLine, IsName, is_count, is_spelled, spelling};
+ghost use Rattle.jup_wire.specs.Lines.{HasSpelling, IsLine, IsName, is_count, is_spelled, spelling};
 ghost use Rattle.jup_wire.specs.Streams.{HasRead, Progress};
 
 use crate::fields::is_count;

@@ -2,8 +2,7 @@
 
 ghost use Rattle.std.specs.Prelude.{◌≡◌, Ok, IfOk, IfErr};
 ghost use Rattle.jup_wire.specs.declared.line.Line.{Line};
-ghost use Rattle.jup_wire.specs.Grammar.{HasSpelling, line_text, IsBad};
-ghost use Rattle.jup_wire.specs.Reading.{insert_of, delete_of, relabel_of, seq_of, text_of, set_of, body_of, welcome_of, hello_of, toggle_of, slider_of, char_of, item_of, batch_of, do_of, headed_of, line_of, version_of, refusal_of};
+ghost use Rattle.jup_wire.specs.Lines.{HasSpelling, line_text, IsBad, insert_of, delete_of, relabel_of, seq_of, text_of, set_of, body_of, welcome_of, hello_of, toggle_of, slider_of, char_of, item_of, batch_of, do_of, headed_of, line_of, version_of, refusal_of};
 
 use crate::faults::WireFault;
 use crate::fields::{FieldValue, behind, count, field, id_before, number, number_before, split};
@@ -40,7 +39,7 @@ fn refusal(version: Option<u32>) -> WireFault
 }
 
 /// The version that a greeting names.
-#[tactic(auto, unfolding(crate::specs::Reading::version_of))]
+#[tactic(auto, unfolding(crate::specs::Lines::version_of))]
 fn version(bytes: &[u8]) -> Option<u32>
     ensures { result ≡ version_of bytes.now }
 {
@@ -66,7 +65,7 @@ fn line(bytes: &[u8]) -> Option<Line>
 }
 
 #[inline(never)]
-#[tactic(auto, unfolding(crate::specs::Reading::line_of))]
+#[tactic(auto, unfolding(crate::specs::Lines::line_of))]
 fn any_line(bytes: &[u8]) -> Option<Line>
     ensures { result ≡ line_of bytes.now }
 {
@@ -81,7 +80,7 @@ fn any_line(bytes: &[u8]) -> Option<Line>
 }
 
 /// A line of several fields, by the first of them.
-#[tactic(auto, unfolding(crate::specs::Reading::headed_of))]
+#[tactic(auto, unfolding(crate::specs::Lines::headed_of))]
 fn line_by_word(word: &[u8], rest: &[u8]) -> Option<Line>
     ensures { result ≡ headed_of word.now rest.now }
 {
@@ -133,7 +132,7 @@ fn line_by_word(word: &[u8], rest: &[u8]) -> Option<Line>
     None
 }
 
-#[tactic(auto, unfolding(crate::specs::Reading::hello_of))]
+#[tactic(auto, unfolding(crate::specs::Lines::hello_of))]
 fn hello(rest: &[u8]) -> Option<Line>
     ensures { result ≡ hello_of rest.now }
 {
@@ -144,7 +143,7 @@ fn hello(rest: &[u8]) -> Option<Line>
     }
 }
 
-#[tactic(auto, unfolding(crate::specs::Reading::welcome_of))]
+#[tactic(auto, unfolding(crate::specs::Lines::welcome_of))]
 fn welcome(rest: &[u8]) -> Option<Line>
     ensures { result ≡ welcome_of rest.now }
 {
@@ -153,7 +152,7 @@ fn welcome(rest: &[u8]) -> Option<Line>
     Some(Line::Welcome { site, limit })
 }
 
-#[tactic(auto, unfolding(crate::specs::Reading::toggle_of))]
+#[tactic(auto, unfolding(crate::specs::Lines::toggle_of))]
 fn toggle(rest: &[u8]) -> Option<Line>
     ensures { result ≡ toggle_of rest.now }
 {
@@ -162,7 +161,7 @@ fn toggle(rest: &[u8]) -> Option<Line>
     Some(Line::Toggle(wid, on))
 }
 
-#[tactic(auto, unfolding(crate::specs::Reading::slider_of))]
+#[tactic(auto, unfolding(crate::specs::Lines::slider_of))]
 fn slider(rest: &[u8]) -> Option<Line>
     ensures { result ≡ slider_of rest.now }
 {
@@ -173,7 +172,7 @@ fn slider(rest: &[u8]) -> Option<Line>
     Some(Line::Slider { wid, lo, hi, value })
 }
 
-#[tactic(auto, unfolding(crate::specs::Reading::char_of))]
+#[tactic(auto, unfolding(crate::specs::Lines::char_of))]
 fn char_line(rest: &[u8]) -> Option<Line>
     ensures { result ≡ char_of rest.now }
 {
@@ -182,7 +181,7 @@ fn char_line(rest: &[u8]) -> Option<Line>
     Some(Line::Char(name, value))
 }
 
-#[tactic(auto, unfolding(crate::specs::Reading::item_of))]
+#[tactic(auto, unfolding(crate::specs::Lines::item_of))]
 fn item(rest: &[u8]) -> Option<Line>
     ensures { result ≡ item_of rest.now }
 {
@@ -191,7 +190,7 @@ fn item(rest: &[u8]) -> Option<Line>
     Some(Line::Item(name, label))
 }
 
-#[tactic(auto, unfolding(crate::specs::Reading::batch_of))]
+#[tactic(auto, unfolding(crate::specs::Lines::batch_of))]
 fn batch(rest: &[u8]) -> Option<Line>
     ensures { result ≡ batch_of rest.now }
 {
@@ -201,7 +200,7 @@ fn batch(rest: &[u8]) -> Option<Line>
     Some(Line::Batch { mine, heard, count })
 }
 
-#[tactic(auto, unfolding(crate::specs::Reading::do_of))]
+#[tactic(auto, unfolding(crate::specs::Lines::do_of))]
 fn operation(rest: &[u8]) -> Option<Line>
     ensures { result ≡ do_of rest.now }
 {
@@ -212,7 +211,7 @@ fn operation(rest: &[u8]) -> Option<Line>
 }
 
 /// An operation on a widget, by the widget's kind.
-#[tactic(auto, unfolding(crate::specs::Reading::body_of))]
+#[tactic(auto, unfolding(crate::specs::Lines::body_of))]
 fn body(bytes: &[u8]) -> Option<WidgetOp>
     ensures { result ≡ body_of bytes.now }
 {
@@ -232,7 +231,7 @@ fn body(bytes: &[u8]) -> Option<WidgetOp>
     None
 }
 
-#[tactic(auto, unfolding(crate::specs::Reading::seq_of))]
+#[tactic(auto, unfolding(crate::specs::Lines::seq_of))]
 fn seq_op<V: FieldValue>(bytes: &[u8]) -> Option<SeqOp<V>>
     ensures { result ≡ seq_of V.read_of bytes.now }
 {
@@ -267,7 +266,7 @@ fn text_op(bytes: &[u8]) -> Option<TextOp>
 }
 
 #[inline(never)]
-#[tactic(auto, unfolding(crate::specs::Reading::text_of))]
+#[tactic(auto, unfolding(crate::specs::Lines::text_of))]
 fn any_text_op(bytes: &[u8]) -> Option<TextOp>
     ensures { result ≡ text_of bytes.now }
 {
@@ -277,7 +276,7 @@ fn any_text_op(bytes: &[u8]) -> Option<TextOp>
     }
 }
 
-#[tactic(auto, unfolding(crate::specs::Reading::insert_of))]
+#[tactic(auto, unfolding(crate::specs::Lines::insert_of))]
 fn insertion<V: FieldValue>(bytes: &[u8]) -> Option<SeqOp<V>>
     ensures { result ≡ insert_of V.read_of bytes.now }
 {
@@ -290,7 +289,7 @@ fn insertion<V: FieldValue>(bytes: &[u8]) -> Option<SeqOp<V>>
     })
 }
 
-#[tactic(auto, unfolding(crate::specs::Reading::delete_of))]
+#[tactic(auto, unfolding(crate::specs::Lines::delete_of))]
 fn deletion<V>(bytes: &[u8]) -> Option<SeqOp<V>>
     ensures { result ≡ delete_of bytes.now }
 {
@@ -299,7 +298,7 @@ fn deletion<V>(bytes: &[u8]) -> Option<SeqOp<V>>
     Some(SeqOp::Delete { place, name })
 }
 
-#[tactic(auto, unfolding(crate::specs::Reading::relabel_of))]
+#[tactic(auto, unfolding(crate::specs::Lines::relabel_of))]
 fn relabel<V: FieldValue>(bytes: &[u8]) -> Option<SeqOp<V>>
     ensures { result ≡ relabel_of V.read_of bytes.now }
 {
@@ -309,7 +308,7 @@ fn relabel<V: FieldValue>(bytes: &[u8]) -> Option<SeqOp<V>>
     Some(SeqOp::Relabel { place, name, value })
 }
 
-#[tactic(auto, unfolding(crate::specs::Reading::set_of))]
+#[tactic(auto, unfolding(crate::specs::Lines::set_of))]
 fn set_op<V: FieldValue>(bytes: &[u8]) -> Option<SetOp<V>>
     ensures { result ≡ set_of V.read_of bytes.now }
 {

@@ -2,9 +2,8 @@
 
 ghost use Rattle.std.specs.Prelude.{◌≡◌, ◌≢◌, ℕ, List, [], ◌∷◌, ◌++◌, All, IfOk, IsOk, OnOk, OnErr, IsSome};
 ghost use Rattle.std.specs.List.{flat_map, AllByRecursion};
-ghost use Rattle.jup_wire.specs.Grammar.{spelling, HasSpelling};
-ghost use Rattle.jup_wire.specs.Parts.{part_bytes};
-ghost use Rattle.jup_wire.specs.Streams.{IsPart, Ends, ReadsTo, Reads, HasRead, ending_at};
+ghost use Rattle.jup_wire.specs.Lines.{spelling, HasSpelling};
+ghost use Rattle.jup_wire.specs.Streams.{part_bytes, IsPart, Ends, ReadsTo, Reads, HasRead, ending_at};
 ghost use Rattle.jup_wire.specs.declared.line.Line.{Line};
 
 use crate::faults::WireFault;
@@ -189,8 +188,7 @@ pub struct Reader {
 
 impl Model for Reader {
     ghost use Rattle.std.specs.Prelude.{None, ◌≡◌};
-    ghost use Rattle.jup_wire.specs.Parts.{part_bytes};
-    ghost use Rattle.jup_wire.specs.Streams.{Progress, IsPart};
+    ghost use Rattle.jup_wire.specs.Streams.{part_bytes, Progress, IsPart};
 
     ghost Value = { Progress };
 

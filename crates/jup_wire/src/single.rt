@@ -2,8 +2,7 @@
 
 ghost use Rattle.std.specs.Prelude.{◌≡◌, ◌∷◌, ◌++◌, IfSome, codes};
 ghost use Rattle.jup_wire.specs.declared.line.Line.TheVariants.{Batch, Do};
-ghost use Rattle.jup_wire.specs.Grammar.{IsName, name_text};
-ghost use Rattle.jup_wire.specs.Singles.{BeginsWith, BeginsWithOp, BeginsLines, single_lines};
+ghost use Rattle.jup_wire.specs.Lines.{IsName, name_text, BeginsWith, BeginsWithOp, BeginsLines, single_lines};
 
 use crate::fields::{behind, id_before, number_before, split_line};
 use crate::line::Line;

@@ -1,10 +1,10 @@
 //! Writing fields at the end of a vector that has room for them.
-#![tactic(auto, using(crate::proofs::Written::decimals))]
+#![tactic(auto, using(crate::proofs::Readings::decimals))]
 
 ghost use Rattle.std.specs.Prelude.{ℕ, ◌+◌, ◌<◌, List, [], ◌∷◌, decimal, length};
 ghost use Rattle.std.specs.Fmt.{signed_decimal};
-ghost use Rattle.jup_wire.specs.Grammar.{name_text, switch_text};
-ghost use Rattle.jup_wire.specs.Rooms.{HasRoom, Appends};
+ghost use Rattle.jup_wire.specs.Lines.{name_text, switch_text};
+ghost use Rattle.jup_wire.specs.Streams.{HasRoom, Appends};
 
 use jup_value::{Label, Name};
 

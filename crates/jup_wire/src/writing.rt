@@ -1,9 +1,8 @@
 //! Writing lines.
 
 ghost use Rattle.std.specs.Prelude.{◌≡◌, ◌↔◌, ◌+◌, ◌≤◌, ◌∷◌, ◌++◌, length, IsTrue, IsOk, OnOk, OnErr, vec_capacity};
-ghost use Rattle.jup_wire.specs.Grammar.{HasSpelling, is_spelled, line_bytes, seq_fields, set_fields, body_fields, line_text};
-ghost use Rattle.jup_wire.specs.Rooms.{HasRoom, Appends};
-ghost use Rattle.jup_wire.specs.Spellings.{after_spaces};
+ghost use Rattle.jup_wire.specs.Lines.{HasSpelling, is_spelled, line_bytes, seq_fields, set_fields, body_fields, line_text, after_spaces};
+ghost use Rattle.jup_wire.specs.Streams.{HasRoom, Appends};
 
 use crate::laws::has_spelling;
 use crate::line::Line;
@@ -49,7 +48,7 @@ pub fn write_reserved(line: &Line, out: &mut Vec<u8>)
 }
 
 /// Appends a line without its line feed.
-#[tactic(auto, using(crate::proofs::Written::joined))]
+#[tactic(auto, using(crate::proofs::Readings::joined))]
 fn push_line(out: &mut Vec<u8>, line: &Line)
     requires { HasRoom out.old 105 }
     ensures { Appends out.old out.new (line_text line.now) 105 }

@@ -1,16 +1,32 @@
+-- What sites and the star answer.
+use Rattle.std.proofs.Common.{◌≡◌, ℕ, Bool, true, false, cond, length, nat_le, refl, Result, Ok, Err, ◌≤◌, ◌<◌, ◌⊎◌, not, ◌&&◌, List, [], ◌∷◌, ◌++◌, nat_lt, ap, inl, inr, ◌∙◌, IsTrue, Some, None, eq-eqb, le-leb, lt-ltb, sym, take, Option, is_some, eqb, option_map, OnErr}
+use Rattle.std.proofs.lemmas.Bool.{ltb-true, ltb-false}
+use Rattle.std.specs.Option.{option_eq}
+use Rattle.jup_world.specs.Prelude.{most_unacknowledged, Msg, Link, IsCount, IsNumber, generated, accepts_count, received_operation, EditFault, Operations, AreLawful, BoardBatch, Commands, board_batches, UpOp, UpAck, DownOp, DownAck, DownPong, LogFull, BadOp, SiteBadOp, Up, Down, JoinedSite, StarFault, SiteOf, edit_answer, running_test, heard_tests, deliver_tests, fits_shown, deliver_fault, BoardSite, test, first_fault, LinkState, StarOf, fits_board, up_fault, link_of, join_fault, joined, left, fetched, taken, place_taken, BoardStar, Answers, is_no_memory, joining, bare_joined}
+use Rattle.jup_star.specs.declared.site.Made.{Made}
+use Rattle.jup_star.specs.declared.calls.Call.TheVariants.{Join, Take, Fetch, Leave}
+use Rattle.jup_star.specs.declared.calls.StarReply.TheVariants.{Joined as JoinedReply, Taken as TakenReply, Fetched as FetchedReply, Left as LeftReply}
+use Rattle.jup_star.specs.Sites.{within_bounds, EditAnswers, made_result, made_by, after_edit, is_edit_memory}
+use Rattle.jup_star.specs.Faults.{Test, count_tests}
+use Rattle.jup_star.specs.Stars.{ack_tests, edit_tests, log_tests, BoardLink, reply_of, star_after, take_result, after_take, fetch_result}
+use Rattle.jup_star.proofs.FaultTests.{AllHold, fault_after}
+use Rattle.jup_world.specs.declared.events.Reply.TheVariants.{Made as MadeReply, Refused}
+use Rattle.jup_world.specs.Sound.{edit_reply}
+use Rattle.jup_world.specs.Boards.{BoardAttached, BoardReply}
+use Rattle.jup_world.specs.Happenings.{with_answer, refilled_from, refilled, fetched_for, refilled_star}
+use Rattle.jup_star.specs.Prelude.{accepts_number}
+use Rattle.jup_window.specs.declared.faults.EditFault.TheVariants.{Backlog, Spent, Stopped}
+use Rattle.jup_star.specs.declared.faults.StarFault.TheVariants.{BadCount, BadAck}
+
 -- What a command that is not refused says of its site.
-use Rattle.std.proofs.Common.{◌≡◌, ℕ, Bool, true, false, cond, length, nat_le, refl, Result, Ok, Err}
-use Rattle.jup_limits.specs.Limits.{most_unacknowledged}
-use Rattle.jup_window.specs.Operations.{Operations}
-use Rattle.jup_star.specs.SiteStates.{SiteOf, within_bounds, edit_answer}
 
 module _ (O : Operations) where
   -- a command within its site's bounds
-  bounded_ok : (site : SiteOf O) (r : Result O.Op ℕ) (op : O.Op) → within_bounds O site r ≡ Ok op → (r ≡ Ok op) × (nat_le most_unacknowledged (length site.end.outgoing) ≡ false)
+  bounded_ok : (site : SiteOf O) (r : Result O.Op EditFault) (op : O.Op) → within_bounds O site r ≡ Ok op → (r ≡ Ok op) × (nat_le most_unacknowledged (length site.end.outgoing) ≡ false)
   bounded_ok site (Err n) op h = absurd (cc)
   bounded_ok site (Ok o) op h = cases (nat_le most_unacknowledged (length site.end.outgoing)) (nat_le site.limit site.made) h
     where
-      cases : (b c : Bool) → cond {A = Result O.Op ℕ} b (Err 7) (cond {A = Result O.Op ℕ} c (Err 9) (Ok o)) ≡ Ok op → (◌≡◌ {A = Result O.Op ℕ} (Ok o) (Ok op)) × (b ≡ false)
+      cases : (b c : Bool) → cond {A = Result O.Op EditFault} b (Err Backlog) (cond {A = Result O.Op EditFault} c (Err Spent) (Ok o)) ≡ Ok op → (◌≡◌ {A = Result O.Op EditFault} (Ok o) (Ok op)) × (b ≡ false)
       cases true c k = absurd (cc)
       cases false true k = absurd (cc)
       cases false false k = (k, refl)
@@ -20,7 +36,243 @@ module _ (O : Operations) where
       → (O.operation_of site.board command site.number site.named ≡ Ok op) × (nat_le most_unacknowledged (length site.end.outgoing) ≡ false)
   answer_ok site command op h = cases site.stopped h
     where
-      cases : (b : Bool) → cond {A = Result O.Op ℕ} b (Err 25) (within_bounds O site (O.operation_of site.board command site.number site.named)) ≡ Ok op
+      cases : (b : Bool) → cond {A = Result O.Op EditFault} b (Err Stopped) (within_bounds O site (O.operation_of site.board command site.number site.named)) ≡ Ok op
           → (O.operation_of site.board command site.number site.named ≡ Ok op) × (nat_le most_unacknowledged (length site.end.outgoing) ≡ false)
       cases true k = absurd (cc)
       cases false k = bounded_ok site _ op k
+
+-- Nothing refuses a message that fits, except a star with a full order, which refuses an edit.
+
+-- tests that all pass name no fault
+pub no_fault : {Fault : Type 0} → (ts : List (Test Fault)) → AllHold ts → first_fault ts ≡ None
+no_fault [] h = refl
+no_fault (t ∷ ts) h = rw h.0 (no_fault ts h.1)
+
+-- the first that fails names its fault
+pub first_to_fail : {Fault : Type 0} → (ts : List (Test Fault)) (t : Test Fault) (us : List (Test Fault)) → AllHold ts → t.holds ≡ false → first_fault (ts ++ t ∷ us) ≡ Some t.fault
+first_to_fail ts t us h fails = fault_after ts (t ∷ us) (no_fault ts h) ∙ rw fails refl
+
+-- two tests that pass
+both : (b c : Bool) → b ≡ true → c ≡ true → b && c ≡ true
+both true c h k = k
+both false c h k = absurd (cc)
+
+-- a count, and a number, that may be sent
+pub count_fits : {Op : Type 0} → (l : Link Op) (n : ℕ) → IsCount l n → accepts_count l n ≡ true
+count_fits l n h = both _ _ (le-leb l.acknowledged n h.low) (le-leb n (generated l) h.high)
+
+-- a number that comes next passes its test
+pub number_fits : {Op : Type 0} → (l : Link Op) (n : ℕ) → IsNumber l n → accepts_number l n ≡ true
+number_fits l n h = both _ _ (eq-eqb n l.received h.next) (lt-ltb l.received 4294967295 h.counted)
+
+module _ (O : Operations) (L : AreLawful O) where
+  -- a site that goes on accepts an edit that fits
+  pub deliver_fits : (site : SiteOf O) (m : Msg O.Op) → site.stopped ≡ false → IsNumber site.end m.mine → IsCount site.end m.heard → O.bears_site site.number (O.t.edit_of m.op) ≡ false
+      → O.t.is_valid (received_operation O.t site.end m.heard m.op) site.board → deliver_fault O (DownOp m) site ≡ None
+  deliver_fits site m runs number count foreign valid =
+      no_fault (deliver_tests O site m ++ test (fits_shown O site m) SiteBadOp ∷ [])
+      (ap not runs, (number_fits site.end m.mine number, (count_fits site.end m.heard count, (ap not foreign, ((L.decides _ site.board).1 valid, tt)))))
+
+  -- and an acknowledgement
+  pub deliver_ack : (site : SiteOf O) (n : ℕ) → site.stopped ≡ false → IsCount site.end n → deliver_fault O (DownAck n) site ≡ None
+  deliver_ack site n runs count = no_fault (running_test site ∷ heard_tests site.end n) (ap not runs, (count_fits site.end n count, tt))
+
+  -- and a pong
+  pub deliver_pong : (site : SiteOf O) (k : ℕ) → site.stopped ≡ false → deliver_fault O (DownPong k) site ≡ None
+  deliver_pong site k runs = no_fault (running_test site ∷ []) (ap not runs, tt)
+
+  -- the star takes an edit that fits, or its order is full
+  pub take_fits : (star : StarOf O) (l : LinkState O.Op) (m : Msg O.Op) → IsNumber l.end m.mine → IsCount l.end m.heard → O.is_nothing (O.t.edit_of m.op) ≡ false
+      → IsTrue (O.bears_next l.site l.named (O.t.edit_of m.op)) → O.t.is_valid (received_operation O.t l.end m.heard m.op) star.board
+      → ((up_fault O star l (UpOp m) ≡ None) × (length star.order < star.limit)) ⊎ ((up_fault O star l (UpOp m) ≡ Some LogFull) × (star.limit ≤ length star.order))
+  take_fits star l m number count something next valid = cases (nat_lt (length star.order) star.limit) refl
+    where
+      before : AllHold (count_tests BadCount BadAck l.end m ++ edit_tests O l (O.t.edit_of m.op))
+      before = (number_fits l.end m.mine number, (count_fits l.end m.heard count, (ap not something, (next, tt))))
+
+      cases : (b : Bool) → nat_lt (length star.order) star.limit ≡ b
+          → ((up_fault O star l (UpOp m) ≡ None) × (length star.order < star.limit)) ⊎ ((up_fault O star l (UpOp m) ≡ Some LogFull) × (star.limit ≤ length star.order))
+      cases true room = inl (
+        no_fault (count_tests BadCount BadAck l.end m ++ (edit_tests O l (O.t.edit_of m.op) ++ (log_tests star.limit (length star.order) ++ test (fits_board O star.board l m) BadOp ∷ [])))
+            (before.0, (before.1.0, (before.1.1.0, (before.1.1.1.0, (room, ((L.decides _ star.board).1 valid, tt)))))),
+        ltb-true _ _ room,
+      )
+      cases false full = inr (first_to_fail (count_tests BadCount BadAck l.end m ++ edit_tests O l (O.t.edit_of m.op)) (test (nat_lt (length star.order) star.limit) LogFull) (test (fits_board O star.board l m) BadOp ∷ []) before full, ltb-false _ _ full)
+
+  -- the star takes an acknowledgement that fits
+  pub take_ack : (star : StarOf O) (l : LinkState O.Op) (n : ℕ) → IsCount l.end n → up_fault O star l (UpAck n) ≡ None
+  take_ack star l n count = no_fault (ack_tests l.end n) (count_fits l.end n count, tt)
+
+-- What the answers of a site and of the star say.
+
+-- # A site's edit
+
+made_same : (r : Result BoardBatch EditFault) (s : BoardSite) (made : Made) → ◌≡◌ {A = Result Made EditFault} (Ok made) (made_result s r) → ◌≡◌ {A = BoardReply} (MadeReply made.edit) (edit_reply board_batches r)
+made_same (Ok op) s made e = ap (λ (m : Made). MadeReply m.edit) (let same : made ≡ made_by op s = cc in same)
+made_same (Err n) s made e = absurd (cc)
+
+pub edit_made : (command : Commands) (s t : BoardSite) (made : Made) → EditAnswers command s t (Ok made) → ◌≡◌ {A = BoardReply} (MadeReply made.edit) (edit_reply board_batches (edit_answer board_batches command s))
+edit_made command s t made answers = made_same (edit_answer board_batches command s) s made answers.0
+
+sent_same : (r : Result BoardBatch EditFault) (a : BoardAttached) (t : BoardSite) (ups : List (Up BoardBatch)) (made : Made) → ◌≡◌ {A = Result Made EditFault} (Ok made) (made_result a.site r) → t ≡ after_edit a.site r → ups ≡ a.up ++ made.up ∷ []
+    → ◌≡◌ {A = BoardAttached} (record { site = t; up = ups; down = a.down }) (with_answer r a)
+sent_same (Ok op) a t ups made e f g =
+    let same : made ≡ made_by op a.site = cc in
+    let all = g ∙ ap (λ (m : Made). a.up ++ m.up ∷ []) same in
+    λ i. record { site = f i; up = all i; down = a.down }
+sent_same (Err n) a t ups made e f g = absurd (cc)
+
+pub edit_sent : (command : Commands) (a : BoardAttached) (t : BoardSite) (ups : List (Up BoardBatch)) (made : Made) → EditAnswers command a.site t (Ok made) → ups ≡ a.up ++ made.up ∷ []
+    → ◌≡◌ {A = BoardAttached} (record { site = t; up = ups; down = a.down }) (with_answer (edit_answer board_batches command a.site) a)
+edit_sent command a t ups made answers g = sent_same (edit_answer board_batches command a.site) a t ups made answers.0 answers.1 g
+
+refused_reply : (r : Result BoardBatch EditFault) (s : BoardSite) (n : EditFault) → ◌≡◌ {A = Result Made EditFault} (Err n) (made_result s r) → ◌≡◌ {A = BoardReply} (Refused n) (edit_reply board_batches r)
+refused_reply (Ok op) s n e = absurd (cc)
+refused_reply (Err m) s n e = ap (λ (k : EditFault). Refused k) (let same : n ≡ m = cc in same)
+
+refused_same : (r : Result BoardBatch EditFault) (a : BoardAttached) (t : BoardSite) (n : EditFault) → ◌≡◌ {A = Result Made EditFault} (Err n) (made_result a.site r) → t ≡ after_edit a.site r → ◌≡◌ {A = BoardAttached} (record a { site = t }) (with_answer r a)
+refused_same (Ok op) a t n e f = absurd (cc)
+refused_same (Err m) a t n e f = λ i. record { site = f i; up = a.up; down = a.down }
+
+pub edit_refused : (command : Commands) (s t : BoardSite) (fault refusal : EditFault) → is_edit_memory fault ≡ false → refusal ≡ fault → EditAnswers command s t (Err fault)
+    → ◌≡◌ {A = BoardReply} (Refused refusal) (edit_reply board_batches (edit_answer board_batches command s))
+edit_refused command s t fault refusal other same answers =
+    let call = rw other at answers in
+    ap (λ (f : EditFault). Refused f) same ∙ refused_reply (edit_answer board_batches command s) s fault call.0
+
+pub edit_stays : (command : Commands) (a : BoardAttached) (t : BoardSite) (ups : List (Up BoardBatch)) (fault : EditFault) → is_edit_memory fault ≡ false → EditAnswers command a.site t (Err fault) → ups ≡ a.up
+    → ◌≡◌ {A = BoardAttached} (record { site = t; up = ups; down = a.down }) (with_answer (edit_answer board_batches command a.site) a)
+edit_stays command a t ups fault other answers same =
+    let call = rw other at answers in
+    (λ i. record { site = t; up = same i; down = a.down }) ∙ refused_same (edit_answer board_batches command a.site) a t fault call.0 call.1
+
+pub edit_wanted : (command : Commands) (s t : BoardSite) (fault : EditFault) → is_edit_memory fault ≡ true → EditAnswers command s t (Err fault) → t ≡ s
+edit_wanted command s t fault memory answers = let call = rw memory at answers in call.0
+
+-- # The star's answers
+
+pub leave_left : (i : ℕ) (s t : BoardStar) → Answers (Leave i) s t (LeftReply (Ok tt)) → (t ≡ left i s) × (is_some (link_of i s.links) ≡ true)
+unfolding reply_of star_after
+leave_left i s t answers = cases (link_of i s.links) refl
+  where
+    cases : (o : Option BoardLink) → link_of i s.links ≡ o → (t ≡ left i s) × (is_some (link_of i s.links) ≡ true)
+    cases None e = let call = rw e at answers.0 in absurd (cc)
+    cases (Some l) e = let call = rw e at answers.1 in (call, ap is_some e)
+
+pub leave_none : (i : ℕ) (s t : BoardStar) (fault : StarFault) → is_no_memory fault ≡ false → Answers (Leave i) s t (LeftReply (Err fault)) → (t ≡ s) × (link_of i s.links ≡ None)
+unfolding reply_of star_after
+leave_none i s t fault other answers = cases (link_of i s.links) refl
+  where
+    call : (LeftReply (Err fault) ≡ reply_of (Leave i) s) × (t ≡ star_after (Leave i) s)
+    call = rw other at answers
+
+    cases : (o : Option BoardLink) → link_of i s.links ≡ o → (t ≡ s) × (link_of i s.links ≡ None)
+    cases None e = (rw e at call.1, e)
+    cases (Some l) e = let reply = rw e at call.0 in absurd (cc)
+
+pub take_taken : (i : ℕ) (up : Up BoardBatch) (s t : BoardStar) (l : BoardLink) (place : Option ℕ) → link_of i s.links ≡ Some l → Answers (Take i up) s t (TakenReply (Ok place))
+    → (up_fault board_batches s l up ≡ None) × (place ≡ place_taken board_batches s up) × (t ≡ taken board_batches i up l s)
+unfolding reply_of star_after
+take_taken i up s t l place found answers = cases (up_fault board_batches s l up) refl
+  where
+    reply : TakenReply (Ok place) ≡ TakenReply (take_result s up (up_fault board_batches s l up))
+    reply = rw found at answers.0
+
+    after : t ≡ after_take i up s (Some l) (up_fault board_batches s l up)
+    after = rw found at answers.1
+
+    cases : (o : Option StarFault) → up_fault board_batches s l up ≡ o → (up_fault board_batches s l up ≡ None) × (place ≡ place_taken board_batches s up) × (t ≡ taken board_batches i up l s)
+    cases None e = (e, (let told = rw e at reply in cc), rw e at after)
+    cases (Some fault) e = let told = rw e at reply in absurd (cc)
+
+pub take_refused : (i : ℕ) (up : Up BoardBatch) (s t : BoardStar) (l : BoardLink) (fault : StarFault) → is_no_memory fault ≡ false → link_of i s.links ≡ Some l → Answers (Take i up) s t (TakenReply (Err fault))
+    → (up_fault board_batches s l up ≡ Some fault) × (t ≡ left i s)
+unfolding reply_of star_after
+take_refused i up s t l fault other found answers = cases (up_fault board_batches s l up) refl
+  where
+    call : (TakenReply (Err fault) ≡ reply_of (Take i up) s) × (t ≡ star_after (Take i up) s)
+    call = rw other at answers
+
+    reply : TakenReply (Err fault) ≡ TakenReply (take_result s up (up_fault board_batches s l up))
+    reply = rw found at call.0
+
+    after : t ≡ after_take i up s (Some l) (up_fault board_batches s l up)
+    after = rw found at call.1
+
+    cases : (o : Option StarFault) → up_fault board_batches s l up ≡ o → (up_fault board_batches s l up ≡ Some fault) × (t ≡ left i s)
+    cases None e = let told = rw e at reply in absurd (cc)
+    cases (Some found_fault) e = let told = rw e at reply in (e ∙ cc, rw e at after)
+
+pub take_wanted : (i : ℕ) (up : Up BoardBatch) (s t : BoardStar) (fault : StarFault) → is_no_memory fault ≡ true → Answers (Take i up) s t (TakenReply (Err fault)) → t ≡ s
+take_wanted i up s t fault memory answers = let call = rw memory at answers in call.0
+
+pub join_joined : (s t : BoardStar) (j : JoinedSite) → Answers Join s t (JoinedReply (bare_joined (Ok j))) → (join_fault s ≡ None) × (bare_joined (Ok j) ≡ Ok (joining s)) × (t ≡ joined s)
+unfolding reply_of star_after
+join_joined s t j answers = cases (join_fault s) refl
+  where
+    cases : (o : Option StarFault) → join_fault s ≡ o → (join_fault s ≡ None) × (bare_joined (Ok j) ≡ Ok (joining s)) × (t ≡ joined s)
+    cases None e = (e, (let told = rw e at answers.0 in cc), rw e at answers.1)
+    cases (Some fault) e = let told = rw e at answers.0 in absurd (cc)
+
+pub join_refused : (s t : BoardStar) (fault : StarFault) → is_no_memory fault ≡ false → Answers Join s t (JoinedReply (bare_joined (Err fault))) → (join_fault s ≡ Some fault) × (t ≡ s)
+unfolding reply_of star_after
+join_refused s t fault other answers = cases (join_fault s) refl
+  where
+    call : (JoinedReply (Err fault) ≡ reply_of Join s) × (t ≡ star_after Join s)
+    call = rw other at answers
+
+    cases : (o : Option StarFault) → join_fault s ≡ o → (join_fault s ≡ Some fault) × (t ≡ s)
+    cases None e = let told = rw e at call.0 in absurd (cc)
+    cases (Some found_fault) e = let told = rw e at call.0 in (e ∙ cc, rw e at call.1)
+
+pub join_wanted : (s t : BoardStar) (fault : StarFault) → is_no_memory fault ≡ true → Answers Join s t (JoinedReply (bare_joined (Err fault))) → t ≡ s
+join_wanted s t fault memory answers = let call = rw memory at answers in call.0
+
+pub fetch_fetched : (i : ℕ) (s t : BoardStar) (l : BoardLink) (downs : List (Down BoardBatch)) → link_of i s.links ≡ Some l → Answers (Fetch i 1) s t (FetchedReply (Ok downs))
+    → (downs ≡ take 1 l.outbox) × (t ≡ fetched i 1 s)
+unfolding reply_of star_after
+fetch_fetched i s t l downs found answers = ((let told = rw found at answers.0 in cc), rw found at answers.1)
+
+pub fetch_linked : (i : ℕ) (s t : BoardStar) (fault : StarFault) → is_some (link_of i s.links) ≡ true → is_no_memory fault ≡ false
+    → Answers (Fetch i 1) s t (FetchedReply (Err fault)) → ⊥
+unfolding reply_of star_after
+fetch_linked i s t fault linked memory answers = let call = rw memory at answers in none (link_of i s.links) linked call.0
+  where
+    none : (o : Option BoardLink) → is_some o ≡ true → FetchedReply (Err fault) ≡ FetchedReply (fetch_result 1 o) → ⊥
+    none None some told = absurd (cc)
+    none (Some l) some told = absurd (cc)
+
+-- # A down stream that was empty
+
+pub filled : (a : BoardAttached) (l : BoardLink) (downs : List (Down BoardBatch)) → a.down ≡ [] → downs ≡ take 1 l.outbox
+    → ◌≡◌ {A = BoardAttached} (record { site = a.site; up = a.up; down = downs }) (refilled l a)
+filled a l downs empty e =
+    let all = e ∙ ap (λ (ds : List (Down BoardBatch)). refilled_from ds l.outbox) (sym empty) in
+    λ i. record { site = a.site; up = a.up; down = all i }
+
+pub filled_star : (a : BoardAttached) (l : BoardLink) (s t : BoardStar) → a.down ≡ [] → (l.outbox ≡ [] → ⊥) → t ≡ fetched a.site.number 1 s → t ≡ refilled_star l a s
+filled_star a l s t empty waits e = e ∙ there l.outbox waits ∙ ap (λ (ds : List (Down BoardBatch)). fetched_for a.site.number ds l.outbox s) (sym empty)
+  where
+    there : (os : List (Down BoardBatch)) → (os ≡ [] → ⊥) → fetched a.site.number 1 s ≡ fetched_for a.site.number [] os s
+    there [] not_empty = absurd (not_empty refl)
+    there (d ∷ os) not_empty = refl
+
+-- how many messages wait
+pub some_wait : (i : ℕ) (s : BoardStar) (l : BoardLink) (n : Option ℕ) → link_of i s.links ≡ Some l → n ≡ option_map (λ k. length k.outbox) (link_of i s.links) → not (option_eq eqb n (Some 0)) ≡ true
+    → l.outbox ≡ [] → ⊥
+some_wait i s l n found is test empty =
+    let zero : n ≡ Some 0 = is ∙ ap (option_map (λ k. length k.outbox)) found ∙ ap (λ os. Some (length os)) empty in
+    let wrong : false ≡ true = sym (ap (λ m. not (option_eq eqb m (Some 0))) zero) ∙ test in
+    absurd cc
+
+-- # Links that are there
+
+pub some_link : (o : Option BoardLink) → is_some o ≡ true → (l : BoardLink) × (o ≡ Some l)
+some_link None there = absurd (cc)
+some_link (Some l) there = (l, refl)
+
+-- # Answers that are errors
+
+pub on_err : {T E : Type 0} {A : Type 0} (r : Result T E) → A → OnErr r A
+on_err (Ok x) holds = tt
+on_err (Err e) holds = holds

@@ -1,20 +1,92 @@
--- What an event does: nothing, or one of few steps of a link and of the site under its number. This module alone has the case analysis.
-use Rattle.std.proofs.Common.{◌≡◌, ℕ, ◌++◌, List, [], ◌∷◌, drop, refl, ap, sym, ◌∙◌, subst, Option, Some, None, Result, Ok, Err}
-use Rattle.jup_window.specs.Operations.{Operations}
-use Rattle.jup_star.specs.declared.messages.Entry.{Entry}
-use Rattle.jup_star.specs.declared.messages.Up.{Up}
-use Rattle.jup_star.specs.declared.messages.Down.{Down}
-use Rattle.jup_star.specs.declared.messages.Down.TheVariants.{Op as DownOp, Ack as DownAck, Pong as DownPong}
-use Rattle.jup_star.specs.declared.faults.StarFault.{StarFault}
-use Rattle.jup_star.specs.LinkStates.{LinkState}
-use Rattle.jup_star.specs.StarStates.{link_of, join_fault, up_fault, left, taken, place_taken}
-use Rattle.jup_star.specs.SiteStates.{edit_answer, deliver_fault}
+-- What each event does.
+use Rattle.std.proofs.Common.{◌≡◌, ℕ, Bool, true, false, cond, not, List, [], ◌∷◌, map, filter, nat_eq, refl, ap, sym, ◌∙◌, subst, Option, Some, None, option_map, eqb-true, ◌++◌, drop, Result, Ok, Err}
+use Rattle.jup_world.specs.Prelude.{Operations, Entry, Up, Down, DownOp, DownAck, DownPong, StarFault, LinkState, link_of, join_fault, up_fault, left, taken, place_taken, edit_answer, deliver_fault, found, found-map, found-map_other, found-without, found-without_other, EditFault}
+use Rattle.jup_world.specs.declared.events.Reply.TheVariants.{NoJoin, Left, Refused, Heard, Detached, Asked, Nothing}
 use Rattle.jup_world.specs.Events.{Join, Leave, Edit as MakeEdit, Up as MoveUp, Down as MoveDown, Ping as SendPing, JoinStray, Stray, LeaveStray}
-use Rattle.jup_world.specs.Events.{NoJoin, Left, Refused, Heard, Detached, Asked, Nothing}
-use Rattle.jup_world.specs.WorldStates.{WorldOf, AttachedOf, EventOf, ReplyOf, HappenedOf, attached, without_site}
-use Rattle.jup_world.specs.WorldSteps.{Outcome, unchanged, join_outcome, edit_outcome, place_reply, one_taken, up_outcome, first_up, down_outcome, first_down, one_handed, ping_outcome, stray_joins, stray_sends, at_stray, at_attached, at_linked, at_number, outcome}
+use Rattle.jup_world.specs.Worlds.{WorldOf, AttachedOf, EventOf, ReplyOf, HappenedOf, attached, without_site, Outcome, unchanged, join_outcome, edit_outcome, place_reply, one_taken, up_outcome, first_up, down_outcome, first_down, one_handed, ping_outcome, stray_joins, stray_sends, at_stray, at_attached, at_linked, at_number, outcome}
 use Rattle.jup_world.specs.Traces.{edit_made, entry_taken, join_seen, was_shown}
-use Rattle.jup_world.proofs.Numbered.{map_absent, filter_absent}
+
+-- What holds under each number of two lists, after a change of both.
+
+-- nothing is changed
+pub option_map-self : {A : Type 0} → (o : Option A) → option_map (λ x. x) o ≡ o
+option_map-self None = refl
+option_map-self (Some x) = refl
+
+-- a list of which one element is changed into itself
+pub map_kept : {A : Type 0} (key : A → ℕ) (i : ℕ) → (xs : List A) → map (λ z. cond (nat_eq (key z) i) z z) xs ≡ xs
+map_kept key i [] = refl
+map_kept {A = A} key i (x ∷ xs) = both (cond (nat_eq (key x) i) x x) (itself (nat_eq (key x) i)) (map_kept key i xs)
+  where
+    itself : (b : Bool) → cond b x x ≡ x
+    itself true = refl
+    itself false = refl
+
+    both : (y : A) → y ≡ x → {ys : List A} → ys ≡ xs → y ∷ ys ≡ x ∷ xs
+    both y p q = cc
+
+-- a list of which no element has the number, if that one is changed or taken away
+module _ {A : Type 0} (key : A → ℕ) (i : ℕ) where
+  found_here : (x : A) (xs : List A) (b : Bool) → nat_eq (key x) i ≡ b → found key i (x ∷ xs) ≡ None → (nat_eq (key x) i ≡ false) × (found key i xs ≡ None)
+  found_here x xs true e none = absurd (let some : found key i (x ∷ xs) ≡ Some x = ap (λ b. cond b (Some x) (found key i xs)) e in cc)
+  found_here x xs false e none = (e, sym (ap (λ b. cond b (Some x) (found key i xs)) e) ∙ none)
+
+  pub map_absent : (g : A → A) (xs : List A) → found key i xs ≡ None → map (λ z. cond (nat_eq (key z) i) (g z) z) xs ≡ xs
+  map_absent g [] none = refl
+  map_absent g (x ∷ xs) none =
+      let apart = found_here x xs (nat_eq (key x) i) refl none in
+      ap (λ b. cond b (g x) x ∷ map (λ z. cond (nat_eq (key z) i) (g z) z) xs) apart.0 ∙ ap (λ ys. x ∷ ys) (map_absent g xs apart.1)
+
+  pub filter_absent : (xs : List A) → found key i xs ≡ None → filter (λ z. not (nat_eq (key z) i)) xs ≡ xs
+  filter_absent [] none = refl
+  filter_absent (x ∷ xs) none =
+      let apart = found_here x xs (nat_eq (key x) i) refl none in
+      ap (λ b. cond (not b) (x ∷ filter (λ z. not (nat_eq (key z) i)) xs) (filter (λ z. not (nat_eq (key z) i)) xs)) apart.0 ∙ ap (λ ys. x ∷ ys) (filter_absent xs apart.1)
+
+-- what holds at each number of two lists, after a change
+module _ {A B : Type 0} (ka : A → ℕ) (kb : B → ℕ) (S : ℕ → Option A → Option B → Type 0) where
+  -- at one number, and at all others
+  pub by_number : (i : ℕ) (P : ℕ → Type 0) → P i → ((j : ℕ) → nat_eq i j ≡ false → P j) → (j : ℕ) → P j
+  by_number i P here there j = cases (nat_eq i j) refl
+    where
+      cases : (b : Bool) → nat_eq i j ≡ b → P j
+      cases true e = subst P (eqb-true i j e) here
+      cases false e = there j e
+
+  -- one element of the first list is changed one way and all others another way, one of the second is changed
+  pub at_each : (i : ℕ) (f h : A → A) (g : B → B) → ((x : A) → ka (f x) ≡ ka x) → ((x : A) → ka (h x) ≡ ka x) → ((y : B) → kb (g y) ≡ kb y) → (xs : List A) (ys : List B)
+      → S i (option_map f (found ka i xs)) (option_map g (found kb i ys)) → ((j : ℕ) → nat_eq i j ≡ false → S j (option_map h (found ka j xs)) (found kb j ys))
+      → (j : ℕ) → S j (found ka j (map (λ z. cond (nat_eq (ka z) i) (f z) (h z)) xs)) (found kb j (map (λ z. cond (nat_eq (kb z) i) (g z) z) ys))
+  at_each i f h g kf kh kg xs ys here there =
+      by_number i (λ j. S j (found ka j (map (λ z. cond (nat_eq (ka z) i) (f z) (h z)) xs)) (found kb j (map (λ z. cond (nat_eq (kb z) i) (g z) z) ys)))
+      (subst (λ o. S i o (found kb i (map (λ z. cond (nat_eq (kb z) i) (g z) z) ys))) (sym (found-map ka i f h kf kh xs))
+      (subst (λ o. S i (option_map f (found ka i xs)) o) (sym (found-map kb i g (λ z. z) kg (λ z. refl) ys)) here))
+      (λ j e. subst (λ o. S j o (found kb j (map (λ z. cond (nat_eq (kb z) i) (g z) z) ys))) (sym (found-map_other ka i j f h kf kh xs e))
+      (subst (λ o. S j (option_map h (found ka j xs)) o) (sym (found-map_other kb i j g (λ z. z) kg (λ z. refl) ys e ∙ option_map-self (found kb j ys))) (there j e)))
+
+  -- an element of the first list is there, and one of the second or none
+  pub at_all : (i : ℕ) (f h : A → A) (g : B → B) → ((x : A) → ka (f x) ≡ ka x) → ((x : A) → ka (h x) ≡ ka x) → ((y : B) → kb (g y) ≡ kb y) → (xs : List A) (ys : List B) (x : A) (oy : Option B)
+      → found ka i xs ≡ Some x → found kb i ys ≡ oy → S i (Some (f x)) (option_map g oy) → ((j : ℕ) → nat_eq i j ≡ false → S j (option_map h (found ka j xs)) (found kb j ys))
+      → (j : ℕ) → S j (found ka j (map (λ z. cond (nat_eq (ka z) i) (f z) (h z)) xs)) (found kb j (map (λ z. cond (nat_eq (kb z) i) (g z) z) ys))
+  at_all i f h g kf kh kg xs ys x oy fx fy here there =
+      at_each i f h g kf kh kg xs ys (subst (λ o. S i (option_map f o) (option_map g (found kb i ys))) (sym fx) (subst (λ o. S i (Some (f x)) (option_map g o)) (sym fy) here)) there
+
+  -- all others stay
+  pub at_one : (i : ℕ) (f : A → A) (g : B → B) → ((x : A) → ka (f x) ≡ ka x) → ((y : B) → kb (g y) ≡ kb y) → (xs : List A) (ys : List B) (x : A) (oy : Option B)
+      → found ka i xs ≡ Some x → found kb i ys ≡ oy → S i (Some (f x)) (option_map g oy) → ((j : ℕ) → nat_eq i j ≡ false → S j (found ka j xs) (found kb j ys))
+      → (j : ℕ) → S j (found ka j (map (λ z. cond (nat_eq (ka z) i) (f z) z) xs)) (found kb j (map (λ z. cond (nat_eq (kb z) i) (g z) z) ys))
+  at_one i f g kf kg xs ys x oy fx fy here there =
+      at_all i f (λ z. z) g kf (λ z. refl) kg xs ys x oy fx fy here (λ j e. subst (λ o. S j o (found kb j ys)) (sym (option_map-self (found ka j xs))) (there j e))
+
+  -- one element of each is taken away
+  pub at_removal : (i : ℕ) (xs : List A) (ys : List B) → S i None None → ((j : ℕ) → nat_eq i j ≡ false → S j (found ka j xs) (found kb j ys))
+      → (j : ℕ) → S j (found ka j (filter (λ z. not (nat_eq (ka z) i)) xs)) (found kb j (filter (λ z. not (nat_eq (kb z) i)) ys))
+  at_removal i xs ys here there =
+      by_number i (λ j. S j (found ka j (filter (λ z. not (nat_eq (ka z) i)) xs)) (found kb j (filter (λ z. not (nat_eq (kb z) i)) ys)))
+      (subst (λ o. S i o (found kb i (filter (λ z. not (nat_eq (kb z) i)) ys))) (sym (found-without ka i xs)) (subst (λ o. S i None o) (sym (found-without kb i ys)) here))
+      (λ j e. subst (λ o. S j o (found kb j (filter (λ z. not (nat_eq (kb z) i)) ys))) (sym (found-without_other ka i j xs e)) (subst (λ o. S j (found ka j xs) o) (sym (found-without_other kb i j ys e)) (there j e)))
+
+-- What an event does: nothing, or one of few steps of a link and of the site under its number. No other file has the case analysis.
 
 -- the two cases of what may be absent, each with its equation
 pub either : {A : Type 0} → (o : Option A) (P : Option A → Type 0) → (o ≡ None → P None) → ((x : A) → o ≡ Some x → P (Some x)) → P o
@@ -65,7 +137,7 @@ module _ (O : Operations) where
       Finds : (e : EventOf O) → WhyStill e Nothing
       NotJoined : (fault : StarFault) → WhyStill Join (NoJoin fault)
       NoStray : (fault : StarFault) → WhyStill JoinStray (NoJoin fault)
-      NotMade : (i : ℕ) (command : O.Command) (number : ℕ) → WhyStill (MakeEdit i command) (Refused number)
+      NotMade : (i : ℕ) (command : O.Command) (fault : EditFault) → WhyStill (MakeEdit i command) (Refused fault)
 
     -- why a link goes, with its site if it has one: that leaves, or a message is refused
     pub data WhyGone (i : ℕ) (l : LinkState O.Op) : Option (AttachedOf O) → EventOf O → ReplyOf O → Type 0 where
@@ -101,7 +173,7 @@ module _ (O : Operations) where
     still_silent (Finds e) = nothing_silent e
     still_silent (NotJoined fault) = record { no_edit = λ j. refl; no_join = λ j n k. refl; no_shown = λ j. refl; no_entry = λ p o. refl }
     still_silent (NoStray fault) = record { no_edit = λ j. refl; no_join = λ j n k. refl; no_shown = λ j. refl; no_entry = λ p o. refl }
-    still_silent (NotMade i command number) = record { no_edit = λ j. refl; no_join = λ j n k. refl; no_shown = λ j. refl; no_entry = λ p o. refl }
+    still_silent (NotMade i command fault) = record { no_edit = λ j. refl; no_join = λ j n k. refl; no_shown = λ j. refl; no_entry = λ p o. refl }
 
     pub gone_silent : {i : ℕ} {l : LinkState O.Op} {oa : Option (AttachedOf O)} {e : EventOf O} {r : ReplyOf O} → WhyGone i l oa e r → IsSilent e r
     gone_silent (Leaves a) = record { no_edit = λ j. refl; no_join = λ j n k. refl; no_shown = λ j. refl; no_entry = λ p o. refl }
@@ -170,7 +242,7 @@ module _ (O : Operations) where
     step_of (Leave i) = at_place (Leave i) i _ (λ l a fl fa. Goes i l (Some a) fl fa (Leaves a))
     step_of (MakeEdit i command) = at_place (MakeEdit i command) i _ (λ l a fl fa. result_cases (edit_answer O command a.site) (λ r. StepOf (MakeEdit i command) (edit_outcome O w i r))
         (λ op ok. Makes i command l a op fl fa ok)
-        (λ number e. Still (NotMade i command number)))
+        (λ fault e. Still (NotMade i command fault)))
     step_of (MoveUp i) = at_place (MoveUp i) i _ (λ l a fl fa. up_step i l a fl fa a.up refl)
     step_of (MoveDown i) = at_place (MoveDown i) i _ (λ l a fl fa. down_step i l a fl fa a.down l.outbox refl refl)
     step_of (SendPing i k) = at_place (SendPing i k) i _ (λ l a fl fa. Asks i k l a fl fa)

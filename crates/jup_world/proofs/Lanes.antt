@@ -1,8 +1,5 @@
 -- Worlds whose links carry bytes.
 
 pub mod LaneEvents
-pub mod LaneOrder
-pub mod LaneReads
-pub mod LaneRuns
-pub mod LaneSites
-pub mod LaneWorldLaws
+pub mod Sites
+pub mod Worlds

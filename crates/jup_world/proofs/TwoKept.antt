@@ -2,35 +2,16 @@ use Rattle.std.proofs.Common.{◌≡◌, ℕ, ◌+◌, ◌-◌, ◌<◌, ◌≤�
 use Rattle.std.specs.Prelude.{Option, Some, None, Result, Ok, Err, OnOk, OnErr, option_map, if◌then◌else◌}
 use Rattle.std.proofs.lemmas.Bool.{ltb-false, leb-false, false_from_ne_true, false≢true}
 use Rattle.std.proofs.lemmas.List.{length_push}
-use Rattle.jup_limits.specs.Limits.{highest_limit, longest_sequence, most_of_two}
-use Rattle.jup_xform.specs.declared.row.Side.{Side}
-use Rattle.jup_xform.specs.declared.row.Side.TheVariants.{Client as ClientSide, Server as ServerSide}
-use Rattle.jup_value.specs.declared.names.Name.{Name}
-use Rattle.jup_value.specs.declared.names.Item.{Item}
-use Rattle.jup_value.specs.Items.{Items, name_eq, has_name}
-use Rattle.jup_value.proofs.ItemLists.{name_eq_refl, name_eq_same}
-use Rattle.jup_seq.specs.declared.operations.SeqOp.{SeqOp}
-use Rattle.jup_seq.specs.declared.operations.SeqOp.TheVariants.{Insert as InsertOp, Delete as DeleteOp, Relabel as RelabelOp, Nothing as NoOp}
-use Rattle.jup_seq.specs.Operations.{after, IsValid, AreApart}
-use Rattle.jup_seq.specs.Edits.{edit_of}
+use Rattle.jup_world.specs.Prelude.{highest_limit, longest_sequence, most_of_two, Side, Client as ClientSide, Server as ServerSide, Name, Item, Items, name_eq, has_name, SeqOp, InsertOp, DeleteOp, RelabelOp, NoOp, Link, Message, Operation, Ack, generated, after_ack, after_count, after_receive, received_operation, link_after, state_after, message, owes, AllMessages, EditFault, TwoEdit, Insert, Delete, TwoEvent}
+use Rattle.jup_value.proofs.Items.{name_eq_refl, name_eq_same}
+use Rattle.jup_seq.specs.Operations.{after, IsValid, AreApart, edit_of}
 use Rattle.jup_seq.specs.Names.{InsertsName, held_before}
-use Rattle.jup_link.specs.Links.{Link, Message, Operation, Ack, AcceptsMessage, generated, after_ack, after_count, after_receive, received_operation, link_after, state_after, message, owes}
-use Rattle.jup_link.specs.Pairs.{AcceptsNext}
-use Rattle.jup_link.specs.Streams.{AllMessages, MessagesApart}
-use Rattle.jup_link.specs.Laws.ComesLaws.{MessagesApart-from}
-use Rattle.jup_link.specs.Laws.LinkSteps.{generated-after_count, generated-after_receive}
-use Rattle.jup_link.specs.Laws.InStepEvents.{InStep-opened, InStep-client_edit, InStep-server_edit, InStep-takes_up, InStep-takes_down, InStep-server_answers, InStep-client_answers}
-use Rattle.jup_window.specs.declared.faults.EditFault.{EditFault}
-use Rattle.jup_world.specs.declared.two.TwoEdit.{TwoEdit}
-use Rattle.jup_world.specs.declared.two.TwoEdit.TheVariants.{Insert, Delete}
-use Rattle.jup_world.specs.declared.two.TwoEvent.{TwoEvent}
+use Rattle.jup_link.specs.Links.{AcceptsMessage, AcceptsNext, MessagesApart}
+use Rattle.jup_link.specs.Laws.InStep.{MessagesApart-from}
+use Rattle.jup_link.specs.Laws.Steps.{generated-after_count, generated-after_receive, InStep-opened, InStep-client_edit, InStep-server_edit, InStep-takes_up, InStep-takes_down, InStep-server_answers, InStep-client_answers}
 use Rattle.jup_world.specs.declared.two.TwoEvent.TheVariants.{Client, Server, Up, Down}
-use Rattle.jup_world.specs.Texts.{texts, texts_lawful}
-use Rattle.jup_world.proofs.NamedTexts.{length-named_from, AreDistinct-named_from}
-use Rattle.jup_world.proofs.Received.{received_names}
-use Rattle.jup_world.specs.Twos.{TwoEnd, TwoState, named_from, opened_end, opened_two, two_operation, deletion, insertions, made_by, edited, sent_by, delivered, left_of, sent_back, two_after, HoldsWithin, InsertsUnder, IsTwoEnd, IsTwo}
-use Rattle.jup_world.proofs.NamedTexts.{length-named_from, AreDistinct-named_from}
-use Rattle.jup_world.proofs.Received.{received_names}
+use Rattle.jup_world.specs.Twos.{texts, texts_lawful, TwoEnd, TwoState, named_from, opened_end, opened_two, two_operation, deletion, insertions, made_by, edited, sent_by, delivered, left_of, sent_back, two_after, HoldsWithin, InsertsUnder, IsTwoEnd, IsTwo}
+use Rattle.jup_world.proofs.Known.{length-named_from, AreDistinct-named_from, received_names}
 
 -- # Names
 

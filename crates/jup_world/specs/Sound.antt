@@ -1,21 +1,54 @@
+-- What every world keeps, and what each event answers.
+use Rattle.std.specs.Prelude.{◌≡◌, List, [], ◌∷◌, ◌++◌, ℕ, ◌+◌, ◌≤◌, ◌<◌, ◌⊎◌, false, cond, length, take, drop, nat_eq, IsTrue, Option, Some, None, Bool, true, is_some, Result, Ok, Err}
+use Rattle.jup_world.specs.Prelude.{most_unacknowledged, most_beyond, last_site, most_attached, Client, Server, row_operation, row_entries, Msg, Message, Operation, Ack, generated, InStepAt, InStep, Operations, Entry, StarFault, LogFull, Full, SitesSpent, Up, UpOp, UpAck, UpPing, Down, DownOp, DownAck, DownPong, LinkState, StarOf, link_of, operation_at, left, up_fault, entry, ups, downs, edit_answer, EditFault}
+use Rattle.jup_world.specs.Traces.{Turn, Own, Other, own_edits, Each, turns, edits, others, through_others, order_of, made, joined_at, shown_count, view, is_stray}
+use Rattle.jup_world.specs.Worlds.{WorldOf, AttachedOf, attached, EventOf, outcome, ReplyOf, Outcome, unchanged}
+use Rattle.jup_world.specs.declared.events.Reply.TheVariants.{Detached, Joined, NoJoin, Left, Made, Refused, Taken, Heard, Shown, Asked, Nothing}
+use Rattle.jup_world.specs.Events.{Up as MoveUp, JoinStray, Stray, LeaveStray, Join, Leave, Edit as MakeEdit, Down as MoveDown, Ping as SendPing}
+
+-- What lists of edits mean, wherever they are, and what that says of the operations on their way over a link.
+
+module _ (O : Operations) where
+  -- two lists of edits have the same meaning, whatever comes before and after them
+  unfoldable pub SameMeaning : List O.Edit → List O.Edit → Type 0
+  SameMeaning one two = (x : O.t.Content) (before later : List O.Edit) → O.t.meaning x (before ++ (one ++ later)) ≡ O.t.meaning x (before ++ (two ++ later))
+
+  -- after these edits, whatever else comes between, the first edit means what the second does
+  unfoldable pub StandsFor : O.Edit → O.Edit → List O.Edit → Type 0
+  StandsFor made meant after = (between : List O.Edit) → SameMeaning ((after ++ between) ++ made ∷ []) ((after ++ between) ++ meant ∷ [])
+
+  -- a star's operation past a site's list, and that list past it
+  abbrev pub server_past_all : O.Op → List O.Op → O.Op
+  server_past_all s cs = row_operation O.t.server_past s cs
+
+  abbrev pub clients_past : List O.Op → O.Op → List O.Op
+  clients_past cs s = row_entries O.t.server_past O.t.client_past s cs
+
+  -- a site's operation past a star's list, and that list past it
+  abbrev pub client_past_all : O.Op → List O.Op → O.Op
+  client_past_all c ss = row_operation O.t.client_past c ss
+
+  abbrev pub servers_past : List O.Op → O.Op → List O.Op
+  servers_past ss c = row_entries O.t.client_past O.t.server_past c ss
+
+  -- each operation that the star has still to take represents the edit that its site made, after those before it
+  abbrev pub RowStands : List O.Edit → List O.Op → List O.Edit → Type 0
+  RowStands after [] [] = Unit {0}
+  RowStands after [] (e ∷ es) = ⊥
+  RowStands after (c ∷ cs) [] = ⊥
+  RowStands after (c ∷ cs) (e ∷ es) = StandsFor (O.t.edit_of c) e after × RowStands (after ++ e ∷ []) cs es
+
+  -- each operation that a site has still to receive means its entry of the order, before the site's own entries that follow it
+  abbrev pub Shows : List O.Edit → List (Turn O.Edit) → List O.Op → Type 0
+  Shows told [] bs = bs ≡ []
+  Shows told (Own e ∷ ts) bs = Shows (told ++ e ∷ []) ts bs
+  Shows told (Other j e ∷ ts) [] = ⊥
+  Shows told (Other j e ∷ ts) (b ∷ bs) =
+      SameMeaning ((told ++ own_edits ts) ++ O.t.edit_of b ∷ []) ((told ++ e ∷ []) ++ own_edits ts)
+      × Shows (told ++ e ∷ []) ts bs
+
 -- What holds of every star, no matter who sends to it; and of every world. The two ends of each link are in step, and the operations on their way mean what their sites
 -- made.
-use Rattle.std.specs.Prelude.{◌≡◌, ℕ, ◌+◌, ◌≤◌, ◌<◌, ◌⊎◌, false, cond, List, [], ◌∷◌, ◌++◌, length, take, drop, nat_eq, IsTrue, Option, Some, None}
-use Rattle.jup_limits.specs.Limits.{most_unacknowledged, most_beyond}
-use Rattle.jup_xform.specs.Rows.{row_operation}
-use Rattle.jup_xform.specs.declared.row.Side.TheVariants.{Client, Server}
-use Rattle.jup_link.specs.Links.{Message, Operation, Ack, generated}
-use Rattle.jup_link.specs.InStep.{InStepAt}
-use Rattle.jup_window.specs.Operations.{Operations}
-use Rattle.jup_star.specs.declared.messages.Entry.{Entry}
-use Rattle.jup_star.specs.LinkStates.{LinkState}
-use Rattle.jup_star.specs.StarStates.{StarOf, link_of}
-use Rattle.jup_star.specs.Streams.{ups, downs}
-use Rattle.jup_world.specs.Each.{Each}
-use Rattle.jup_world.specs.Turns.{Turn, Own, Other, turns, edits, own_edits, others, through_others}
-use Rattle.jup_world.specs.Meanings.{SameMeaning, RowStands, Shows}
-use Rattle.jup_world.specs.WorldStates.{WorldOf, AttachedOf, attached}
-use Rattle.jup_world.specs.Traces.{order_of, made, joined_at, shown_count}
 
 module _ (O : Operations) where
   -- the edits of the operations in a stream, as they were sent
@@ -188,3 +221,144 @@ module _ (O : Operations) where
     pub no_edit : (i : ℕ) → w.star.given < i → made i w.trace ≡ []
     pub no_shown : (i : ℕ) → w.star.given < i → shown_count i w.trace ≡ 0
     pub no_entry : (i : ℕ) → w.star.given < i → own_edits (turns i w.star.order) ≡ []
+
+-- What holds of each site of this product, however many strangers there are beside it and whatever they send. A stranger has no
+-- state: what it sends is part of the event, and its link has no site. So one theorem serves runs with strangers and without.
+
+module _ (O : Operations) where
+  -- no message is on its way from a site or to it
+  abbrev pub IsIdle : LinkState O.Op → AttachedOf O → Type 0
+  IsIdle l a = (a.up ≡ []) × (a.down ≡ []) × (l.outbox ≡ [])
+
+  -- a site and its link: the site shows the meaning of what has reached it and of what it made, and the two ends are in step.
+  -- If no message is on its way between them, its board is the star's, and the order has each of its edits once, in its order
+  pub record SiteHolds (w : WorldOf O) (i : ℕ) (l : LinkState O.Op) (a : AttachedOf O) : Type 0 where
+    pub content : O.t.content a.site.board ≡ O.t.meaning (O.t.content w.opening) (view O i w.trace)
+    pub in_step : InStep O.t 0 a.site.board w.star.board a.site.end l.end (ups a.up) (downs (a.down ++ l.outbox))
+    pub running : a.site.stopped ≡ false
+    pub equal : IsIdle l a → a.site.board ≡ w.star.board
+    pub whole : IsIdle l a → own_edits (turns i (order_of O w.trace)) ≡ made i w.trace
+
+  -- so of each
+  abbrev pub SitesHold : WorldOf O → Type 0
+  SitesHold w = (i : ℕ) (l : LinkState O.Op) (a : AttachedOf O) → link_of i w.star.links ≡ Some l → attached i w.sites ≡ Some a → SiteHolds w i l a
+
+  -- a site is detached by a full order alone
+  abbrev pub OnlyFull : WorldOf O → Type 0
+  OnlyFull w = (i : ℕ) (a : AttachedOf O) (fault : StarFault) → attached i w.sites ≡ Some a → (outcome O w (MoveUp i)).reply ≡ Detached fault → (fault ≡ LogFull) × (w.star.limit ≤ length w.star.order)
+
+  -- what a number has: a link without a site is one of a stranger
+  abbrev pub LinkedAt : Bool → Option (LinkState O.Op) → Option (AttachedOf O) → Type 0
+  LinkedAt stray None None = Unit {0}
+  LinkedAt stray None (Some a) = ⊥
+  LinkedAt stray (Some l) None = stray ≡ true
+  LinkedAt stray (Some l) (Some a) = stray ≡ false
+
+  -- the trace says which links are strangers'
+  pub record KnowsStrays (w : WorldOf O) : Type 0 where
+    pub links : (i : ℕ) → LinkedAt (is_stray i w.trace) (link_of i w.star.links) (attached i w.sites)
+    pub new : (i : ℕ) → w.star.given < i → is_stray i w.trace ≡ false
+
+  -- an event that is none of a stranger
+  abbrev pub IsPlain : EventOf O → Type 0
+  IsPlain JoinStray = ⊥
+  IsPlain (Stray i up) = ⊥
+  IsPlain (LeaveStray i) = ⊥
+  IsPlain e = Unit {0}
+
+  -- so each of a list
+  abbrev pub ArePlain : List (EventOf O) → Type 0
+  ArePlain [] = Unit {0}
+  ArePlain (e ∷ es) = IsPlain e × ArePlain es
+
+  -- the attached sites are those that have links
+  abbrev pub AllLinked : WorldOf O → Type 0
+  AllLinked w = (i : ℕ) → is_some (attached i w.sites) ≡ is_some (link_of i w.star.links)
+
+-- What each event of a world answers.
+
+module _ (O : Operations) where
+  -- a join answers the number after those given, unless there are 64 links, or else 65,535 numbers were given
+  pub record JoinReplies (s : StarOf O) (r : ReplyOf O) : Type 0 where
+    pub full : most_attached ≤ length s.links → r ≡ NoJoin Full
+    pub spent : length s.links < most_attached → last_site ≤ s.given → r ≡ NoJoin SitesSpent
+    pub joined : length s.links < most_attached → s.given < last_site → r ≡ Joined (s.given + 1)
+
+  -- an edit: that of its operation, or its refusal
+  abbrev pub edit_reply : Result O.Op EditFault → ReplyOf O
+  edit_reply (Ok op) = Made (O.t.edit_of op)
+  edit_reply (Err fault) = Refused fault
+
+  -- the oldest message up: an edit gets its place in the order, and only a full order refuses it
+  abbrev pub UpReplies : StarOf O → List (Up O.Op) → ReplyOf O → Type 0
+  UpReplies s [] r = r ≡ Nothing
+  UpReplies s (UpOp m ∷ us) r = (length s.order < s.limit → r ≡ Taken (length s.order)) × (s.limit ≤ length s.order → r ≡ Detached LogFull)
+  UpReplies s (UpAck n ∷ us) r = r ≡ Heard
+  UpReplies s (UpPing k ∷ us) r = r ≡ Heard
+
+  -- the oldest message down
+  abbrev pub DownReplies : List (Down O.Op) → ReplyOf O → Type 0
+  DownReplies [] r = r ≡ Nothing
+  DownReplies (DownOp m ∷ ds) r = r ≡ Shown
+  DownReplies (DownAck n ∷ ds) r = r ≡ Heard
+  DownReplies (DownPong k ∷ ds) r = r ≡ Heard
+
+  -- an event at a site: nothing if it is not attached
+  pub record SiteReplies (w : WorldOf O) (i : ℕ) (r : ReplyOf O) (P : LinkState O.Op → AttachedOf O → Type 0) : Type 0 where
+    pub absent : attached i w.sites ≡ None → r ≡ Nothing
+    pub present : (l : LinkState O.Op) (a : AttachedOf O) → link_of i w.star.links ≡ Some l → attached i w.sites ≡ Some a → P l a
+
+  -- A stranger's edit that the star took is one entry of the order, valid there, and bears its link's next names
+  pub record IsEntry (s : StarOf O) (i : ℕ) (l : LinkState O.Op) (m : Msg O.Op) (r : ReplyOf O) (t : StarOf O) : Type 0 where
+    pub reply : r ≡ Taken (length s.order)
+    pub order : t.order ≡ s.order ++ entry O i m ∷ []
+    pub board : t.board ≡ O.t.after (operation_at O l.end m) s.board
+    pub valid : O.t.is_valid (operation_at O l.end m) s.board
+    pub next : IsTrue (O.bears_next i (named_in O s.order i) (O.t.edit_of m.op))
+
+  -- a message that is refused, by the first fault that holds, detaches its link, and changes nothing else
+  pub record IsRejected (s : StarOf O) (i : ℕ) (l : LinkState O.Op) (up : Up O.Op) (r : ReplyOf O) (t : StarOf O) : Type 0 where
+    pub fault : StarFault
+    pub cause : up_fault O s l up ≡ Some fault
+    pub reply : r ≡ Detached fault
+    pub star : t ≡ left i s
+
+  -- an acknowledgement or a ping leaves board and order
+  pub record IsHeard (s : StarOf O) (r : ReplyOf O) (t : StarOf O) : Type 0 where
+    pub reply : r ≡ Heard
+    pub order : t.order ≡ s.order
+    pub board : t.board ≡ s.board
+
+  -- what becomes of a message that is not refused
+  abbrev pub IsAccepted : StarOf O → ℕ → LinkState O.Op → Up O.Op → ReplyOf O → StarOf O → Type 0
+  IsAccepted s i l (UpOp m) r t = IsEntry s i l m r t
+  IsAccepted s i l (UpAck n) r t = IsHeard s r t
+  IsAccepted s i l (UpPing k) r t = IsHeard s r t
+
+  -- what a star answers to a stranger's message, and becomes
+  abbrev pub IsAnswered : StarOf O → ℕ → LinkState O.Op → Up O.Op → ReplyOf O → StarOf O → Type 0
+  IsAnswered s i l up r t = IsRejected s i l up r t ⊎ IsAccepted s i l up r t
+
+  -- an event of a stranger: nothing if there is no such link, or a site has it. All sites keep their boards and streams
+  pub record StrayReplies (w : WorldOf O) (i : ℕ) (o : Outcome O) (P : LinkState O.Op → Type 0) : Type 0 where
+    pub sites : o.sites ≡ w.sites
+    pub absent : link_of i w.star.links ≡ None → o ≡ unchanged O w Nothing
+    pub own : (a : AttachedOf O) → attached i w.sites ≡ Some a → o ≡ unchanged O w Nothing
+    pub present : (l : LinkState O.Op) → link_of i w.star.links ≡ Some l → attached i w.sites ≡ None → P l
+
+  -- each event of a stranger
+  abbrev pub StrayRepliesTo : WorldOf O → EventOf O → Outcome O → Type 0
+  StrayRepliesTo w JoinStray o = JoinReplies w.star o.reply × (o.sites ≡ w.sites)
+  StrayRepliesTo w (Stray i up) o = StrayReplies w i o (λ l. IsAnswered w.star i l up o.reply o.star)
+  StrayRepliesTo w (LeaveStray i) o = StrayReplies w i o (λ l. o ≡ record { reply = Left; star = left i w.star; sites = w.sites })
+  StrayRepliesTo w e o = Unit {0}
+
+  -- each event
+  abbrev pub RepliesTo : WorldOf O → EventOf O → ReplyOf O → Type 0
+  RepliesTo w Join r = JoinReplies w.star r
+  RepliesTo w (Leave i) r = SiteReplies w i r (λ l a. r ≡ Left)
+  RepliesTo w (MakeEdit i command) r = SiteReplies w i r (λ l a. r ≡ edit_reply (edit_answer O command a.site))
+  RepliesTo w (MoveUp i) r = SiteReplies w i r (λ l a. UpReplies w.star a.up r)
+  RepliesTo w (MoveDown i) r = SiteReplies w i r (λ l a. DownReplies (a.down ++ l.outbox) r)
+  RepliesTo w (SendPing i k) r = SiteReplies w i r (λ l a. r ≡ Asked)
+  RepliesTo w e r = Unit {0}

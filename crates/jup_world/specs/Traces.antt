@@ -1,17 +1,53 @@
+-- What is read off a trace, and what it says of sites.
+use Rattle.std.specs.Prelude.{ℕ, zero, suc, cond, List, [], ◌∷◌, nat_eq, ◌+◌, Bool, false, ◌||◌, ◌++◌, length, take, drop, ◌≡◌, ◌⊎◌, Some, ◌<◌, ◌≤◌, Option, None, ◌&&◌, not, is_some}
+use Rattle.jup_world.specs.Prelude.{answer_after, most_unacknowledged, generated, Operations, Entry, Up, UpOp, UpAck, UpPing, Down, DownOp, DownAck, DownPong, entry, LinkState, link_of, EditFault}
+use Rattle.jup_world.specs.declared.events.Reply.{Reply}
+use Rattle.jup_world.specs.declared.events.Reply.TheVariants.{Joined, Made, Taken, Shown}
+use Rattle.jup_world.specs.Events.{Event, Join, Edit as MakeEdit, Up as MoveUp, Down as MoveDown, JoinStray, Stray, Happened}
+use Rattle.jup_world.specs.Worlds.{EventOf, ReplyOf, HappenedOf, WorldOf, AttachedOf, attached, IsQuiet}
+
+-- The star's order as one site sees it.
+
+-- an entry is the site's own, or another's
+pub data Turn (Edit : Type 0) : Type 0 where
+  Own : Edit → Turn Edit
+  Other : ℕ → Edit → Turn Edit
+
+-- as a site sees one entry
+abbrev pub turn : {Edit : Type 0} → ℕ → Entry Edit → Turn Edit
+turn i r = cond (nat_eq r.site i) (Own r.edit) (Other r.site r.edit)
+
+-- and a list of entries
+abbrev pub turns : {Edit : Type 0} → ℕ → List (Entry Edit) → List (Turn Edit)
+turns i [] = []
+turns i (r ∷ rs) = turn i r ∷ turns i rs
+
+-- the edits of all entries
+abbrev pub edits : {Edit : Type 0} → List (Turn Edit) → List Edit
+edits [] = []
+edits (Own e ∷ ts) = e ∷ edits ts
+edits (Other j e ∷ ts) = e ∷ edits ts
+
+-- those of the site's own
+abbrev pub own_edits : {Edit : Type 0} → List (Turn Edit) → List Edit
+own_edits [] = []
+own_edits (Own e ∷ ts) = e ∷ own_edits ts
+own_edits (Other j e ∷ ts) = own_edits ts
+
+-- and those of other sites
+abbrev pub others : {Edit : Type 0} → List (Turn Edit) → List Edit
+others [] = []
+others (Own e ∷ ts) = others ts
+others (Other j e ∷ ts) = e ∷ others ts
+
+-- how many entries reach through the n-th entry of another site
+abbrev pub through_others : {Edit : Type 0} → ℕ → List (Turn Edit) → ℕ
+through_others zero ts = 0
+through_others (suc n) [] = 0
+through_others (suc n) (Own e ∷ ts) = suc (through_others (suc n) ts)
+through_others (suc n) (Other j e ∷ ts) = suc (through_others n ts)
+
 -- What is read off a trace alone: the star's order, what each site made, what has reached it, and what it should show.
-use Rattle.std.specs.Prelude.{ℕ, ◌+◌, Bool, false, ◌||◌, cond, List, [], ◌∷◌, ◌++◌, length, take, drop, nat_eq}
-use Rattle.jup_window.specs.Operations.{Operations}
-use Rattle.jup_star.specs.declared.messages.Entry.{Entry}
-use Rattle.jup_star.specs.declared.messages.Up.{Up}
-use Rattle.jup_star.specs.declared.messages.Up.TheVariants.{Op as UpOp, Ack as UpAck, Ping as UpPing}
-use Rattle.jup_star.specs.StarStates.{entry}
-use Rattle.jup_world.specs.Events.{Event}
-use Rattle.jup_world.specs.Events.{Join, Edit as MakeEdit, Up as MoveUp, Down as MoveDown, JoinStray, Stray}
-use Rattle.jup_world.specs.Events.{Reply}
-use Rattle.jup_world.specs.Events.{Joined, Made, Taken, Shown}
-use Rattle.jup_world.specs.Events.{Happened}
-use Rattle.jup_world.specs.Turns.{turns, edits, own_edits, through_others}
-use Rattle.jup_world.specs.WorldStates.{EventOf, ReplyOf, HappenedOf}
 
 -- the first of a site's edits, as an entry
 abbrev pub first_of_site : {Edit : Type 0} → ℕ → List Edit → List (Entry Edit)
@@ -96,3 +132,111 @@ module _ (O : Operations) where
   -- the view of a site
   abbrev pub view : ℕ → List (HappenedOf O) → List O.Edit
   view i trace = told_entries i trace ++ drop (length (own_told i trace)) (made i trace)
+
+-- Lists of which each element has a property.
+
+-- each element has the property
+abbrev pub Each : {A : Type 0} → (A → Type 0) → List A → Type 0
+Each P [] = Unit {0}
+Each P (x ∷ xs) = P x × Each P xs
+
+-- an element is in the list
+abbrev pub IsIn : {A : Type 0} → A → List A → Type 0
+IsIn x [] = ⊥
+IsIn x (y ∷ ys) = (x ≡ y) ⊎ IsIn x ys
+
+-- What a trace says of the numbers that the star gave, and of the edits that each site made.
+
+-- how many numbers a reply gives
+abbrev pub gives : {Edit Fault : Type 0} → Reply Edit Fault → ℕ
+gives (Joined i) = 1
+gives reply = 0
+
+-- over a trace
+abbrev pub numbers_given : {Command Operation Edit Fault : Type 0} → List (Happened Command Operation Edit Fault) → ℕ
+numbers_given [] = 0
+numbers_given (h ∷ hs) = gives h.reply + numbers_given hs
+
+module _ (O : Operations) where
+  -- a site counts as many edits as the trace says that it made
+  abbrev pub CountsItsEdits : List (Happened O.Command O.Op O.Edit EditFault) → AttachedOf O → Type 0
+  CountsItsEdits trace a = a.site.made ≡ length (made a.site.number trace)
+
+  -- the star has given the numbers that the trace records, and each of its sites made the edits
+  pub record IsTallied (w : WorldOf O) : Type 0 where
+    pub given : w.star.given ≡ numbers_given w.trace
+    pub made : Each (CountsItsEdits w.trace) w.sites
+
+  -- the same of each attached site
+  pub record Tallies (w : WorldOf O) : Type 0 where
+    pub given : w.star.given ≡ numbers_given w.trace
+    pub made : (i : ℕ) (a : AttachedOf O) → attached i w.sites ≡ Some a → a.site.made ≡ length (made i w.trace)
+
+-- How many of a site's edits are not known to be received, which is its backlog.
+
+-- the last count that a site knows once these messages are delivered to it
+abbrev pub told_count : {Operation : Type 0} → ℕ → List (Down Operation) → ℕ
+told_count n [] = n
+told_count n (DownOp m ∷ ds) = told_count m.heard ds
+told_count n (DownAck k ∷ ds) = told_count k ds
+told_count n (DownPong k ∷ ds) = told_count n ds
+
+module _ (O : Operations) where
+  -- of a site's edits that the star received, it acknowledged all but fewer than `answer_after`, the unanswered ones of its end; and each
+  -- edit that the site made was sent
+  pub record Counts (l : LinkState O.Op) (a : AttachedOf O) : Type 0 where
+    pub short : l.end.unanswered < answer_after
+    pub told : told_count a.site.end.acknowledged (a.down ++ l.outbox) + l.end.unanswered ≡ l.end.received
+    pub sent : a.site.made ≡ generated a.site.end
+
+  -- the same under a number
+  abbrev pub CountsAt : Option (LinkState O.Op) → Option (AttachedOf O) → Type 0
+  CountsAt (Some l) (Some a) = Counts l a
+  CountsAt (Some l) None = Unit {0}
+  CountsAt None (Some a) = Unit {0}
+  CountsAt None None = Unit {0}
+
+  -- and under each
+  abbrev pub AllCount : WorldOf O → Type 0
+  AllCount w = (i : ℕ) → CountsAt (link_of i w.star.links) (attached i w.sites)
+
+  -- a site's backlog is the edits that it made less those of which it knows that the star received them. If no message is on its
+  -- way, the backlog is below `answer_after`.
+  pub record BacklogIsShort (w : WorldOf O) : Type 0 where
+    pub backlog : (i : ℕ) (a : AttachedOf O) → attached i w.sites ≡ Some a → a.site.made ≡ a.site.end.acknowledged + length a.site.end.outgoing
+    pub bounded : (i : ℕ) (a : AttachedOf O) → attached i w.sites ≡ Some a → length a.site.end.outgoing ≤ most_unacknowledged
+    pub quiet : IsQuiet O w → (i : ℕ) (a : AttachedOf O) → attached i w.sites ≡ Some a → length a.site.end.outgoing < answer_after
+
+-- What every world keeps, whatever happens in it.
+
+module _ (O : Operations) where
+  -- the attached sites are those that have links and are no strangers
+  abbrev pub AreLinked : WorldOf O → Type 0
+  AreLinked w = (i : ℕ) → is_some (attached i w.sites) ≡ (is_some (link_of i w.star.links) && not (is_stray i w.trace))
+
+  -- at every moment
+  pub record Promises (w : WorldOf O) : Type 0 where
+    -- the star's order is the one that the trace gives
+    pub order : w.star.order ≡ order_of O w.trace
+    -- the star's content is the meaning of that order, and a site's is the meaning of what has reached it and of what it made
+    pub star_content : O.t.content w.star.board ≡ O.t.meaning (O.t.content w.opening) (edits (turns 0 (order_of O w.trace)))
+    pub site_content : (i : ℕ) (a : AttachedOf O) → attached i w.sites ≡ Some a → O.t.content a.site.board ≡ O.t.meaning (O.t.content w.opening) (view O i w.trace)
+    -- if no message is on its way, all boards are equal, and the order has every edit of each attached site once, in its order
+    pub equal : IsQuiet O w → (i : ℕ) (a : AttachedOf O) → attached i w.sites ≡ Some a → a.site.board ≡ w.star.board
+    pub whole : IsQuiet O w → (i : ℕ) (a : AttachedOf O) → attached i w.sites ≡ Some a → own_edits (turns i (order_of O w.trace)) ≡ made i w.trace
+    -- the attached sites are those that have links and are no strangers, and none has stopped
+    pub linked : AreLinked w
+    pub running : (i : ℕ) (a : AttachedOf O) → attached i w.sites ≡ Some a → a.site.stopped ≡ false
+
+  -- from one moment to a later one: the star keeps the order of its items, and so does each site that is attached at both
+  pub record OrderIsKept (w v : WorldOf O) : Type 0 where
+    pub star : O.t.keeps_order w.star.board v.star.board
+    pub sites : (i : ℕ) (a b : AttachedOf O) → attached i w.sites ≡ Some a → attached i v.sites ≡ Some b → O.t.keeps_order a.site.board b.site.board
+
+  -- a copy of the board: the star's, or that of a site that is attached
+  abbrev pub IsCopy : WorldOf O → O.State → Type 0
+  IsCopy w x = (x ≡ w.star.board) ⊎ ((i : ℕ) × (a : AttachedOf O) × (attached i w.sites ≡ Some a) × (x ≡ a.site.board))
+
+  -- any copy at one moment, and any at the same or a later one: the items that both show are in the same order in both
+  abbrev pub OrdersAgree : WorldOf O → WorldOf O → Type 0
+  OrdersAgree w v = (x y : O.State) → IsCopy w x → IsCopy v y → O.t.keeps_order x y

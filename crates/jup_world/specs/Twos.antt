@@ -1,28 +1,65 @@
--- Two ends of one link over one text: what each event does, and what it answers.
-use Rattle.std.specs.Prelude.{◌≡◌, ℕ, ◌+◌, ◌-◌, ◌≤◌, nat_lt, nat_le, true, length, slice_get, List, [], ◌∷◌, ◌++◌, Option, Some, None, Result, Ok, Err, if◌then◌else◌}
-use Rattle.jup_limits.specs.Limits.{highest_limit, longest_sequence, most_of_two}
-use Rattle.jup_xform.specs.declared.row.Side.{Side}
-use Rattle.jup_xform.specs.declared.row.Side.TheVariants.{Client as ClientSide, Server as ServerSide}
-use Rattle.jup_value.specs.declared.names.Name.{Name}
-use Rattle.jup_value.specs.declared.names.Item.{Item}
-use Rattle.jup_value.specs.Items.{Items, has_name}
-use Rattle.jup_seq.specs.declared.operations.SeqOp.{SeqOp}
-use Rattle.jup_seq.specs.declared.operations.SeqOp.TheVariants.{Insert as InsertOp, Delete as DeleteOp, Relabel as RelabelOp, Nothing as NoOp}
-use Rattle.jup_seq.specs.Operations.{after}
-use Rattle.jup_seq.specs.Edits.{edit_of}
-use Rattle.jup_seq.specs.Names.{InsertsName}
-use Rattle.jup_link.specs.Links.{Link, Message, opened, generated, after_send, link_after, state_after, message, owed, answered}
-use Rattle.jup_link.specs.Streams.{AllMessages}
-use Rattle.jup_link.specs.InStep.{InStep}
-use Rattle.jup_window.specs.declared.faults.EditFault.{EditFault}
+-- Two ends of one link over one text.
+use Rattle.std.specs.Prelude.{ℕ, ◌<◌, ◌≡◌, ◌+◌, ◌-◌, ◌≤◌, nat_lt, nat_le, true, length, slice_get, List, [], ◌∷◌, ◌++◌, Option, Some, None, Result, Ok, Err, if◌then◌else◌, map}
+use Rattle.jup_world.specs.Prelude.{highest_limit, longest_sequence, most_of_two, Ghosts, Side, Client as ClientSide, Server as ServerSide, Name, Item, Items, has_name, SeqOp, InsertOp, DeleteOp, RelabelOp, NoOp, Link, Message, generated, after_send, link_after, state_after, message, answered, AllMessages, InStep, Ack, sent, EditFault, TwoEdit, Insert, Delete, TwoEvent}
+use Rattle.jup_seq.specs.Operations.{bare, IsSmall, HasDistinctNames, KeepsOrder, IsValid, after, HasRoom, AreApart, client_past, server_past, Content, content, meaning, edit_of}
+use Rattle.jup_seq.specs.Names.{Holds, InsertsName, DeletesName, ChangesName, IsFresh}
+use Rattle.jup_seq.specs.Laws.Squares.{square, distinct_after, small_after, small_below, small_before, apart_swap, apart_client, apart_server}
+use Rattle.jup_link.specs.Links.{opened, owed}
 use Rattle.jup_window.specs.declared.faults.EditFault.TheVariants.{BadPlace, LongText, Spent}
-use Rattle.jup_world.specs.declared.two.TwoEdit.{TwoEdit}
-use Rattle.jup_world.specs.declared.two.TwoEdit.TheVariants.{Insert, Delete}
-use Rattle.jup_world.specs.declared.two.TwoEvent.{TwoEvent}
 use Rattle.jup_world.specs.declared.two.TwoEvent.TheVariants.{Client, Server, Up, Down}
 use Rattle.jup_world.specs.declared.two.TwoReply.{TwoReply}
 use Rattle.jup_world.specs.declared.two.TwoReply.TheVariants.{Made, Refused, Moved, Nothing}
-use Rattle.jup_world.specs.Texts.{texts}
+use Rattle.jup_world.specs.declared.two.TextEnd.{TextEnd}
+use Rattle.jup_world.specs.declared.two.Travelling.{Travelling}
+use Rattle.jup_world.specs.declared.two.Travelling.TheVariants.{Op as TravellingOp, Ack as TravellingAck}
+use Rattle.jup_world.specs.declared.two.Two.TheInside.{Inside}
+use Rattle.jup_window.specs.Prelude.{IsLawful, SeqEdit}
+
+-- Operations on texts alone, as the two ends of one link use them.
+
+-- what `Transform` says of operations on texts
+abbrev pub texts : Ghosts (SeqOp ℕ) (Items ℕ) (SeqEdit ℕ)
+texts = record {
+  Content = Content ℕ;
+  content = content;
+  meaning = meaning;
+  edit_of = edit_of;
+  bare = bare;
+  is_valid = IsValid;
+  after = after;
+  has_room = HasRoom;
+  can_reserve = λ beside. beside < 4294967295;
+  is_distinct = HasDistinctNames;
+  is_small = IsSmall;
+  keeps_order = KeepsOrder;
+  are_apart = AreApart;
+  is_fresh = IsFresh;
+  Name = Name;
+  holds = Holds;
+  inserts = InsertsName;
+  deletes = DeletesName;
+  changes = ChangesName;
+  client_past = client_past;
+  server_past = server_past;
+  Shape = Unit {0};
+  shape = λ o. tt;
+  copies_freely = λ o. Unit {0};
+}
+
+-- the laws that a link needs of them
+pub texts_lawful : IsLawful texts
+texts_lawful = record {
+  square = square;
+  distinct_after = distinct_after;
+  small_after = small_after;
+  small_below = small_below;
+  small_before = small_before;
+  apart_swap = apart_swap;
+  apart_client = apart_client;
+  apart_server = apart_server;
+}
+
+-- Two ends of one link over one text: what each event does, and what it answers.
 
 -- an end with its text, and how many edits, and insertions among them, it has made
 pub record TwoEnd : Type 0 where
@@ -170,3 +207,29 @@ pub record IsTwo (s : TwoState) : Type 0 where
   pub in_step : AreInStep s
   pub client_end : IsTwoEnd 1 s.client s.up
   pub server_end : IsTwoEnd 2 s.server s.down
+
+-- What contracts see of the two ends of one link.
+
+-- an end of the program without the room that it keeps
+abbrev pub plain : TextEnd → TwoEnd
+plain e = record { text = bare e.text; link = e.link.link; made = e.made; inserted = e.inserted }
+
+-- a message of the program as what travels
+abbrev pub carried : Travelling → Message (SeqOp ℕ)
+carried (TravellingOp msg) = sent msg
+carried (TravellingAck heard) = Ack heard
+
+-- a text has room for the operation of a message, and for that of the oldest of a stream
+abbrev pub HasRoomFor : Travelling → Items ℕ → Type 0
+HasRoomFor (TravellingOp msg) x = HasRoom msg.op 0 x
+HasRoomFor (TravellingAck heard) x = Unit {0}
+
+abbrev pub HasRoomForNext : List Travelling → Items ℕ → Type 0
+HasRoomForNext [] x = Unit {0}
+HasRoomForNext (message ∷ later) x = HasRoomFor message x
+
+-- Two ends of the program as contracts see them.
+
+-- both ends and the messages on their way, without the room that they keep
+abbrev pub bare_two : Inside → TwoState
+bare_two t = record { client = plain t.client; server = plain t.server; up = map carried t.up.items; down = map carried t.down.items }

@@ -1,7 +1,7 @@
 //! What may happen in a world, and what each event answers.
 ghost use Rattle.std.specs.Prelude.{◌≡◌, ◌↔◌, ◌⊎◌, ◌≤◌, [], IsTrue, IfOk};
 ghost use Rattle.std.specs.Vec.{vec_capacity};
-ghost use Rattle.jup_world.specs.NumberedReplies.{lane_event, numbered_reply, most_edits, MakesFew};
+ghost use Rattle.jup_world.specs.Insides.{lane_event, most_edits, MakesFew};
 ghost use Rattle.jup_world.specs.declared.events.Reply.TheVariants.{Nothing as nothing};
 
 use jup_batch::{BoardEdits, Commands};
@@ -117,7 +117,7 @@ impl Reply {
     pub fn copy_into(&self, list: Vec<BoardEdit>) -> Reply
         requires empty { list.items ≡ [] }
         requires room { MakesFew self.now (vec_capacity list) }
-        ensures { numbered_reply result ≡ numbered_reply self.now }
+        ensures { result ≡ self.now }
     {
         match self {
             Reply::Joined(number) => Reply::Joined(*number),

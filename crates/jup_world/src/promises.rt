@@ -2,22 +2,14 @@
 
 ghost use Rattle.std.specs.Prelude.{◌≡◌, ◌≤◌, ℕ, List, length};
 ghost use Rattle.jup_limits.specs.Limits.{highest_limit};
-ghost use Rattle.jup_batch.specs.BatchBoards.{Windows};
-ghost use Rattle.jup_batch.specs.BoardBatches.{board_batches};
-ghost use Rattle.jup_world.specs.Openings.{IsOpening};
-ghost use Rattle.jup_world.specs.BoardWorlds.{BoardWorld, BoardEvent, IsReached};
-ghost use Rattle.jup_world.specs.WorldSteps.{outcome, run};
-ghost use Rattle.jup_world.specs.Promises.{Promises, OrderIsKept, OrdersAgree};
-ghost use Rattle.jup_world.specs.Replies.{RepliesTo, StrayRepliesTo};
-ghost use Rattle.jup_world.specs.Strangers.{SitesHold, OnlyFull, ArePlain, AllLinked};
-ghost use Rattle.jup_world.specs.Backlogs.{BacklogIsShort};
-ghost use Rattle.jup_world.specs.Tallies.{Tallies};
-ghost use Rattle.jup_world.specs.Headline.{AllAgree};
-ghost use Rattle.jup_world.specs.LaneWorlds.{LaneEvent, LaneWorld, IsStill, messages_of, opened_lanes};
-ghost use Rattle.jup_world.specs.LaneSteps.{AllSteps, AllTried};
-ghost use Rattle.jup_world.specs.LaneHappenings.{IsLaneWorld};
-ghost use Rattle.jup_lane.specs.Lanes.{Way, Carries, messages};
-ghost use Rattle.jup_lane.specs.Messages.{ups, downs};
+ghost use Rattle.jup_batch.specs.Boards.{Windows, board_batches};
+ghost use Rattle.jup_world.specs.Worlds.{IsOpening, outcome, run};
+ghost use Rattle.jup_world.specs.Boards.{BoardWorld, BoardEvent, IsReached, AllAgree};
+ghost use Rattle.jup_world.specs.Traces.{Promises, OrderIsKept, OrdersAgree, BacklogIsShort, Tallies};
+ghost use Rattle.jup_world.specs.Sound.{RepliesTo, StrayRepliesTo, SitesHold, OnlyFull, ArePlain, AllLinked};
+ghost use Rattle.jup_world.specs.Lanes.{LaneEvent, LaneWorld, IsStill, messages_of, opened_lanes, AllSteps, AllTried};
+ghost use Rattle.jup_world.specs.Happenings.{IsLaneWorld};
+ghost use Rattle.jup_lane.specs.Lanes.{Way, Carries, messages, ups, downs};
 
 /// After any list of joins, departures, edits, pings and deliveries, and of joins, messages and departures of
 /// strangers, of whom nothing is known:

@@ -4,11 +4,8 @@ ghost use Rattle.std.specs.VecDeque.{deque_len, deque_capacity};
 ghost use Rattle.jup_limits.specs.Limits.{highest_limit, longest_input};
 ghost use Rattle.jup_value.specs.Items.{has_name};
 ghost use Rattle.jup_seq.specs.Operations.{HasRoom};
-ghost use Rattle.jup_link.specs.Links.{generated, link_after, state_after, owed, answered, AcceptsMessage};
-ghost use Rattle.jup_link.specs.Pairs.{AcceptsNext};
-ghost use Rattle.jup_world.specs.Texts.{texts};
-ghost use Rattle.jup_world.specs.TwoFields.{plain, carried, HasRoomFor, HasRoomForNext};
-ghost use Rattle.jup_world.specs.Twos.{two_operation, edit_reply, edited, sent_by, move_reply, delivered, left_of, sent_back, two_reply, two_after, named_from, opened_end, opened_two, insertions, AreInStep};
+ghost use Rattle.jup_link.specs.Links.{generated, link_after, state_after, owed, answered, AcceptsMessage, AcceptsNext};
+ghost use Rattle.jup_world.specs.Twos.{texts, plain, carried, HasRoomFor, HasRoomForNext, two_operation, edit_reply, edited, sent_by, move_reply, delivered, left_of, sent_back, two_reply, two_after, named_from, opened_end, opened_two, insertions, AreInStep};
 
 use jup_limits::{HIGHEST_LIMIT, LONGEST_SEQUENCE};
 use jup_link::{End, Msg};
@@ -292,7 +289,7 @@ impl Model for Two {
 
     ghost Value = { TwoState };
 
-    ghost use Rattle.jup_world.specs.TwoInside.{bare_two};
+    ghost use Rattle.jup_world.specs.Twos.{bare_two};
 
     ghost view = { bare_two };
 

@@ -3,22 +3,13 @@ ghost use Rattle.std.specs.Prelude.{◌≡◌, ◌⊎◌, ◌↔◌, ◌+◌, �
 ghost use Rattle.std.specs.Vec.{vec_capacity};
 ghost use Rattle.std.specs.Option.{option_copied, option_map};
 ghost use Rattle.jup_window.specs.Entries.{EachWidget};
-ghost use Rattle.jup_batch.specs.BatchBoards.{bare, content, meaning};
-ghost use Rattle.jup_batch.specs.BoardBatches.{board_batches};
-ghost use Rattle.jup_star.specs.StarStates.{link_of};
-ghost use Rattle.jup_star.specs.StarCalls.{star_open_fault};
+ghost use Rattle.jup_batch.specs.Boards.{bare, content, meaning, board_batches};
+ghost use Rattle.jup_star.specs.Stars.{link_of, star_open_fault, IsShort};
 ghost use Rattle.jup_star.specs.declared.faults.OpenFault.TheVariants as open_fault;
-ghost use Rattle.jup_star.specs.Openings.{IsShort};
-ghost use Rattle.jup_world.specs.Turns.{turns, edits};
-ghost use Rattle.jup_world.specs.Traces.{made};
-ghost use Rattle.jup_world.specs.BoardTraces.{order_of, view};
-ghost use Rattle.jup_world.specs.Tallies.{numbers_given};
-ghost use Rattle.jup_world.specs.NumberedReplies.{lane_event, numbered_reply, noted_trace, most_edits, MakesFew};
-ghost use Rattle.jup_world.specs.Promises.{OrderIsKept};
-ghost use Rattle.jup_world.specs.Headline.{AllAgree};
-ghost use Rattle.jup_world.specs.WorldFields.{lane_of};
-ghost use Rattle.jup_world.specs.LaneWorlds.{messages_of, plain_trace, lane_site, opened_lanes, IsStill};
-ghost use Rattle.jup_world.specs.LaneSteps.{lane_outcome, Steps, AnswersTo, IsSparedBy};
+ghost use Rattle.jup_world.specs.Traces.{turns, edits, made, numbers_given, OrderIsKept};
+ghost use Rattle.jup_world.specs.Boards.{order_of, view, AllAgree};
+ghost use Rattle.jup_world.specs.Insides.{lane_event, noted_trace, most_edits, MakesFew, lane_of};
+ghost use Rattle.jup_world.specs.Lanes.{messages_of, plain_trace, lane_site, opened_lanes, IsStill, lane_outcome, Steps, AnswersTo, IsSparedBy};
 
 use self::attached::are_quiet;
 use self::happening::happen;
@@ -51,12 +42,12 @@ pub struct World {
 }
 
 impl Model for World {
-    ghost use Rattle.jup_world.specs.LaneWorlds.{LaneWorld};
-    ghost use Rattle.jup_world.specs.LaneHappenings.{IsLaneWorld};
+    ghost use Rattle.jup_world.specs.Lanes.{LaneWorld};
+    ghost use Rattle.jup_world.specs.Happenings.{IsLaneWorld};
 
     ghost Value = { LaneWorld };
 
-    ghost use Rattle.jup_world.specs.WorldInside.{bare_world};
+    ghost use Rattle.jup_world.specs.Insides.{bare_world};
 
     ghost view = { bare_world };
 
@@ -94,7 +85,7 @@ fn keep(trace: &mut Vec<Happened>, room: Room, event: &Event, reply: &Reply)
     requires commands { (most_edits event.now ≤ 1) ⊎ (most_edits event.now ≤ vec_capacity room.commands) }
     requires edits { MakesFew reply.now (vec_capacity room.edits) }
     ensures { noted_trace trace.new.items
-        ≡ noted_trace trace.old.items ++ record { event = lane_event event.now; reply = numbered_reply reply.now } ∷ [] }
+        ≡ noted_trace trace.old.items ++ record { event = lane_event event.now; reply = reply.now } ∷ [] }
 {
     let _within: Within = PhantomData;
     trace.push_reserved(Happened {
@@ -134,8 +125,8 @@ impl World {
     /// their own way of that link from the stream to the reader. The latter two may have filled its down stream
     /// from its outbox.
     pub fn step(&mut self, alloc: Global, event: &Event) -> Result<Reply, NoMemory>
-        ensures reply { IfOk result (λ reply. numbered_reply reply ≡ (lane_outcome self.old (lane_event event.now)).reply) }
-        ensures withheld { IfOk result (λ reply. AnswersTo self.old (lane_event event.now) (numbered_reply reply)) }
+        ensures reply { IfOk result (λ reply. reply ≡ (lane_outcome self.old (lane_event event.now)).reply) }
+        ensures withheld { IfOk result (λ reply. AnswersTo self.old (lane_event event.now) reply) }
         ensures ok { OnOk result (Steps self.old (lane_event event.now) self.new) }
         ensures err { OnErr result (IsSparedBy self.old (lane_event event.now) self.new) }
         ensures order { OrderIsKept board_batches (messages_of self.old) (messages_of self.new) }

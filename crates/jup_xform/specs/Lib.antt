@@ -1,10 +1,5 @@
 pub mod Batches
 pub mod Either
-pub mod EitherTraces
-pub mod Grid
-pub mod Lawful
+pub mod Grids
 pub mod Laws
-pub mod Members
 pub mod Rows
-pub mod Sides
-pub mod Stores

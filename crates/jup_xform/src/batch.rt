@@ -3,15 +3,11 @@
 
 ghost use Rattle.std.specs.Prelude.{◌≡◌, ℕ, ◌+◌, ◌-◌, ◌*◌, ◌≤◌, ◌↔◌, IsTrue, List, [], ◌∷◌, length, OnOk, OnErr, IfOk};
 ghost use Rattle.jup_limits.specs.Limits.{most_operations};
-ghost use Rattle.jup_xform.specs.Grid.{after_all, AreValid};
-ghost use Rattle.jup_xform.specs.Batches.{EachTo, EachPair, edits, shapes, Inserts, Deletes, Changes, batch_meaning, IsValidBatch, is_small_batch, has_batch_room, can_reserve_batch, batch_client_past, batch_server_past, copies_freely_batch};
-ghost use Rattle.jup_xform.specs.Stores.{items_of};
-ghost use Rattle.jup_xform.specs.Laws.GridLaws.{distinct_after_all};
+ghost use Rattle.jup_xform.specs.Grids.{after_all, AreValid};
+ghost use Rattle.jup_xform.specs.Batches.{EachTo, EachPair, edits, shapes, Inserts, Deletes, Changes, batch_meaning, IsValidBatch, is_small_batch, has_batch_room, can_reserve_batch, batch_client_past, batch_server_past, copies_freely_batch, items_of};
+ghost use Rattle.jup_xform.specs.Laws.Grids.{distinct_after_all};
 ghost use Rattle.jup_xform.specs.Laws.BoundLaws.{lawful, keeps_meaning, keeps_fresh};
-ghost use Rattle.jup_xform.specs.Laws.BatchLaws.{batch_square, batch_small_after, batch_small_below, batch_small_before, EachPair-swap, EachPair-left, EachPair-right};
-ghost use Rattle.jup_xform.specs.Laws.BatchMeaning.{batch_effect_one, batch_order, batch_inserts_client, batch_inserts_server, batch_changes_client, batch_changes_server, batch_apart_names, batch_fresh_names, batch_inserts_new, batch_changes_held, batch_held_before, batch_held_after};
-ghost use Rattle.jup_xform.specs.Laws.BatchEdits.{batch_meaning_more, batch_edit_client, batch_edit_server};
-ghost use Rattle.jup_xform.specs.Laws.BatchKept.{batch_effect_two, batch_room_less, batch_room_past, batch_shape_past};
+ghost use Rattle.jup_xform.specs.Laws.Batches.{batch_square, batch_small_after, batch_small_below, batch_small_before, EachPair-swap, EachPair-left, EachPair-right, batch_effect_one, batch_order, batch_inserts_client, batch_inserts_server, batch_changes_client, batch_changes_server, batch_apart_names, batch_fresh_names, batch_inserts_new, batch_changes_held, batch_held_before, batch_held_after, batch_meaning_more, batch_edit_client, batch_edit_server, batch_effect_two, batch_room_less, batch_room_past, batch_shape_past};
 
 use crate::few::Store;
 use crate::row::grid;

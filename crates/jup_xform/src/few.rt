@@ -1,7 +1,7 @@
 //! Lists that take no memory while they have one element.
 ghost use Rattle.std.specs.Prelude.{◌≡◌, ◌⊎◌, ◌≤◌, [], ◌∷◌, length, IfOk, OnErr};
 ghost use Rattle.std.specs.Vec.{vec_capacity};
-ghost use Rattle.jup_xform.specs.Stores.{items_of};
+ghost use Rattle.jup_xform.specs.Batches.{items_of};
 
 use crate::NoMemory;
 use std::alloc::Global;
@@ -22,7 +22,7 @@ pub struct Few<E> {
 
 impl<E> Model for Few<E> {
     ghost use Rattle.std.specs.Prelude.{List};
-    ghost use Rattle.jup_xform.specs.Stores.{items_of};
+    ghost use Rattle.jup_xform.specs.Batches.{items_of};
 
     ghost Value = { List E };
 

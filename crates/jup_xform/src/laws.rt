@@ -6,8 +6,7 @@ ghost use Rattle.std.specs.Prelude.{◌≡◌, ℕ, ◌+◌, ◌*◌, ◌<◌, �
 ghost use Rattle.jup_limits.specs.Limits.{most_operations};
 ghost use Rattle.jup_xform.specs.Batches.{joined};
 ghost use Rattle.jup_xform.specs.Either.{firsts, seconds};
-ghost use Rattle.jup_xform.specs.Members.{SomeOf};
-ghost use Rattle.jup_xform.specs.Rows.{grid_rows};
+ghost use Rattle.jup_xform.specs.Rows.{SomeOf, grid_rows};
 
 use crate::{Batch, OneOf, Single, Transform};
 

@@ -6,8 +6,7 @@
 #![tactic(auto)]
 
 ghost use Rattle.std.specs.Prelude.{◌≡◌, ℕ, ◌+◌, ◌↔◌, ◌⊎◌, IsTrue, List, [], ◌∷◌, ◌++◌, OnOk, OnErr, IfOk};
-ghost use Rattle.jup_xform.specs.Rows.{row_operation};
-ghost use Rattle.jup_xform.specs.Members.{SomeOf};
+ghost use Rattle.jup_xform.specs.Rows.{row_operation, SomeOf};
 
 use std::alloc::Global;
 

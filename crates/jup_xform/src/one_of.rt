@@ -2,12 +2,9 @@
 //! two of different kinds pass each other unchanged, and a content passes over the edits of the other kind. A kind
 //! may itself be one of two, so a few kinds are a chain of these.
 ghost use Rattle.std.specs.Prelude.{◌≡◌, ◌↔◌, IsTrue};
-ghost use Rattle.jup_xform.specs.Either.{either, of_each};
-ghost use Rattle.jup_xform.specs.EitherTraces.{TraceOf, past_of, AllowsOf, traced, told};
+ghost use Rattle.jup_xform.specs.Either.{either, of_each, TraceOf, past_of, AllowsOf, traced, told};
 ghost use Rattle.jup_xform.specs.Laws.BoundLaws.{lawful, keeps_meaning, keeps_fresh, keeps_rest};
-ghost use Rattle.jup_xform.specs.Laws.EitherIsLawful.{either_is_lawful, either_keeps_fresh};
-ghost use Rattle.jup_xform.specs.Laws.EitherMeaning.{either_keeps_meaning};
-ghost use Rattle.jup_xform.specs.Laws.EitherNames.{either_keeps_rest};
+ghost use Rattle.jup_xform.specs.Laws.Either.{either_is_lawful, either_keeps_fresh, either_keeps_meaning, either_keeps_rest};
 
 use crate::{NoMemory, Single, Transform};
 use std::alloc::Global;

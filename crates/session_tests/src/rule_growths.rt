@@ -10,7 +10,7 @@ use jup_rules::{
     TypedLine, client_words, hear_site, report_text, star_of_layout, told_text,
 };
 use jup_star::{Down, Star, Up};
-use jup_window::Board;
+use jup_window::{Board, EditFault};
 use jup_wire::Line;
 use std::alloc::Global;
 use std::process::Abort;
@@ -70,7 +70,7 @@ fn client_told(rt: HostRuntime) {
     for (what, due) in &[
         (Told::Site(7), "site 7\n"),
         (Told::Board, "window 1\ntext 1 \"za\"\n"),
-        (Told::Refused(4), "refused 4\n"),
+        (Told::Refused(EditFault::BadPlace), "refused 4\n"),
     ] {
         let text = tell(&rt, rt.alloc(), what, star.board());
         expect_text(&rt, text.as_slice(), due);

@@ -1,7 +1,7 @@
 //! Edits of several commands: a site makes them in one gesture, and a star takes each as one.
 ghost use Rattle.std.specs.Prelude.{◌≤◌, length};
 ghost use Rattle.jup_window.specs.Entries.{EachWidget};
-ghost use Rattle.jup_star.specs.Openings.{IsShort};
+ghost use Rattle.jup_star.specs.Stars.{IsShort};
 
 use crate::expect::{expect_eq, expect_that};
 use crate::stars::{edit_number, first_of, hears_one, insert, insertion, refusal_of_two, takes};

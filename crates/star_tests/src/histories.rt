@@ -1,6 +1,6 @@
 //! Random histories of one hub, which three honest sites and two strangers call. The clauses of `honest_sites_agree` are checked after each step.
 ghost use Rattle.jup_window.specs.Entries.{EachWidget};
-ghost use Rattle.jup_star.specs.Openings.{IsShort};
+ghost use Rattle.jup_star.specs.Stars.{IsShort};
 
 use crate::contents::{Content, is_one_order, names_on};
 use crate::expect::{expect_eq, expect_that};

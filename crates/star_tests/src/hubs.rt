@@ -1,7 +1,7 @@
 //! Each call once when it succeeds, and calls of two threads.
 ghost use Rattle.std.specs.Prelude.{All};
 ghost use Rattle.jup_window.specs.Entries.{EachWidget};
-ghost use Rattle.jup_star.specs.Openings.{IsShort};
+ghost use Rattle.jup_star.specs.Stars.{IsShort};
 ghost use Rattle.jup_hub.specs.Passes.{IsPassOf};
 
 use crate::expect::{expect_eq, expect_that};

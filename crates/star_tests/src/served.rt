@@ -19,7 +19,7 @@ pub(crate) struct Served {
 
 impl Model for Served {
     ghost use Rattle.jup_hub.specs.Passes.{IsPassOf};
-    ghost use Rattle.jup_star.specs.StarCalls.{BoardStar};
+    ghost use Rattle.jup_star.specs.Stars.{BoardStar};
 
     ghost Value = { BoardStar };
 

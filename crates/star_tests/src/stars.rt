@@ -1,6 +1,6 @@
 //! Refusals in their order, and each call once when it succeeds.
 ghost use Rattle.jup_window.specs.Entries.{EachWidget};
-ghost use Rattle.jup_star.specs.Openings.{IsShort};
+ghost use Rattle.jup_star.specs.Stars.{IsShort};
 
 use crate::expect::{expect_eq, expect_that};
 use jup_batch::BoardBatch;

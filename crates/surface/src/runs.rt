@@ -1,5 +1,5 @@
 //! `jup_app`: whole runs in threads.
-ghost use Rattle.jup_star.specs.Openings.{IsShort};
+ghost use Rattle.jup_star.specs.Stars.{IsShort};
 ghost use Rattle.jup_window.specs.Entries.{EachWidget};
 
 use jup_app::{Gate, RunEnd, RunFault, SiteEnd, run_many, run_two};

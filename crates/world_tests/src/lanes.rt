@@ -1,5 +1,5 @@
 //! One way of a link, byte by byte.
-ghost use Rattle.jup_star.specs.TextRelabels.{RelabelNoText};
+ghost use Rattle.jup_star.specs.Messages.{RelabelNoText};
 
 use crate::expect::{expect_eq, expect_that};
 use jup_batch::BoardBatch;

@@ -2,9 +2,9 @@
 ghost use Rattle.std.specs.Prelude.{◌≡◌, ◌⊎◌, ◌+◌, IfOk, Ok, Err};
 ghost use Rattle.jup_star.specs.declared.calls.Call.TheVariants.{Join, Take, Fetch};
 ghost use Rattle.jup_star.specs.declared.calls.StarReply.TheVariants.{Joined as JoinedReply, Taken, Fetched};
-ghost use Rattle.jup_star.specs.StarCalls.{bare_joined};
+ghost use Rattle.jup_star.specs.Stars.{bare_joined};
 ghost use Rattle.jup_hub.specs.Passes.{view_of, IsPassOf};
-ghost use Rattle.jup_hub.specs.Knowledge.{Called};
+ghost use Rattle.jup_hub.specs.Histories.{Called};
 
 use crate::runs::halt::Halt;
 use jup_hub::{Hub, Pass};

@@ -1,7 +1,7 @@
 //! All sites are drained.
 ghost use Rattle.std.specs.Prelude.{◌≡◌, length, IfOk, IsFalse};
 ghost use Rattle.jup_hub.specs.Passes.{view_of, IsPassOf};
-ghost use Rattle.jup_app.specs.Drains.{Drained, EndsQuiet, IsDrained};
+ghost use Rattle.jup_app.specs.Runs.{Drained, EndsQuiet, IsDrained};
 
 use crate::runs::calls::Caller;
 use crate::runs::halt::Halt;

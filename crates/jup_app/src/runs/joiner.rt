@@ -3,9 +3,9 @@ ghost use Rattle.std.specs.Prelude.{◌≡◌, ◌+◌, List, length, IfOk, IfSo
 ghost use Rattle.jup_star.specs.declared.calls.Call.TheVariants.{Join};
 ghost use Rattle.jup_star.specs.declared.calls.StarReply.TheVariants.{Joined as JoinedReply};
 ghost use Rattle.jup_hub.specs.declared.view.HubEvent.{HubEvent};
-ghost use Rattle.jup_hub.specs.Knowledge.{Called, joined_with};
+ghost use Rattle.jup_hub.specs.Histories.{Called, joined_with};
 ghost use Rattle.jup_hub.specs.Passes.{view_of, IsPassOf};
-ghost use Rattle.jup_app.specs.Passing.{told_to, IsFresh, HasJoinedAll, HasMet, IsSame, IsSeated, HasTaken, end_of, first_stop};
+ghost use Rattle.jup_app.specs.Runs.{told_to, IsFresh, HasJoinedAll, HasMet, IsSame, IsSeated, HasTaken, end_of, first_stop};
 
 use crate::runs::calls::Caller;
 use crate::runs::drain::SiteEnd;

@@ -1,8 +1,8 @@
 //! What a site's thread does.
 ghost use Rattle.std.specs.Prelude.{◌≡◌, true, false, IfOk, IfErr, [], ◌∷◌};
-ghost use Rattle.jup_star.specs.SiteCalls.{is_edit_memory};
+ghost use Rattle.jup_star.specs.Sites.{is_edit_memory};
 ghost use Rattle.jup_hub.specs.Passes.{view_of, IsPassOf};
-ghost use Rattle.jup_app.specs.Plays.{link_with, Handles, CatchesUp, Answered, Played};
+ghost use Rattle.jup_app.specs.Runs.{link_with, Handles, CatchesUp, Answered, Played};
 
 use crate::runs::calls::Caller;
 use crate::runs::halt::Halt;

@@ -1,9 +1,8 @@
 //! What a site does with the messages that the hub has for it.
 ghost use Rattle.std.specs.Prelude.{◌≡◌, IfOk, [], IsFalse};
-ghost use Rattle.jup_star.specs.SiteCalls.{BoardSite};
+ghost use Rattle.jup_star.specs.Sites.{BoardSite};
 ghost use Rattle.jup_hub.specs.Passes.{view_of, IsPassOf};
-ghost use Rattle.jup_app.specs.Runs.{IsAccepted, AcceptsAll, delivered, all_delivered};
-ghost use Rattle.jup_app.specs.Plays.{link_with, Handles, Fetches, FoundNothing};
+ghost use Rattle.jup_app.specs.Runs.{IsAccepted, AcceptsAll, delivered, all_delivered, link_with, Handles, Fetches, FoundNothing};
 
 use crate::runs::calls::Caller;
 use crate::runs::halt::Halt;

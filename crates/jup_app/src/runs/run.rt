@@ -1,13 +1,12 @@
 //! Whole runs.
 ghost use Rattle.std.specs.Prelude.{◌≡◌, ◌≤◌, [], ◌∷◌, length, map, IfOk};
 ghost use Rattle.jup_limits.specs.Limits.{highest_limit};
-ghost use Rattle.jup_batch.specs.BatchBoards.{bare};
+ghost use Rattle.jup_batch.specs.Boards.{bare};
 ghost use Rattle.jup_window.specs.Entries.{EachWidget};
-ghost use Rattle.jup_star.specs.StarStates.{opened_star};
-ghost use Rattle.jup_star.specs.Openings.{IsShort};
-ghost use Rattle.jup_world.specs.Openings.{IsOpening};
+ghost use Rattle.jup_star.specs.Stars.{opened_star, IsShort};
+ghost use Rattle.jup_world.specs.Worlds.{IsOpening};
 ghost use Rattle.jup_app.specs.RunFaults.{opening_refusal, many_refusal, RefusedFirst};
-ghost use Rattle.jup_app.specs.Whole.{IsRun, AllAgree};
+ghost use Rattle.jup_app.specs.Runs.{IsRun, AllAgree};
 
 use crate::runs::calls::Caller;
 use crate::runs::drain::{SiteEnd, drain};

@@ -2,8 +2,7 @@
 ghost use Rattle.std.specs.Prelude.{◌≡◌, List, length, IfOk, vec_len};
 ghost use Rattle.jup_hub.specs.declared.view.HubEvent.{HubEvent};
 ghost use Rattle.jup_hub.specs.Passes.{view_of, IsPassOf};
-ghost use Rattle.jup_app.specs.Passing.{HasMet, IsSame};
-ghost use Rattle.jup_app.specs.Seating.{AreJobs};
+ghost use Rattle.jup_app.specs.Runs.{HasMet, IsSame, AreJobs};
 
 use crate::runs::calls::Caller;
 use crate::runs::halt::Halt;

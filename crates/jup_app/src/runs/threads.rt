@@ -1,6 +1,6 @@
 //! Each site in a thread of its own.
 ghost use Rattle.std.specs.Prelude.{◌≡◌, IfOk, vec_len, All};
-ghost use Rattle.jup_app.specs.Threads.{IsReady, Ran, AllRan};
+ghost use Rattle.jup_app.specs.Runs.{IsReady, Ran, AllRan};
 
 use crate::runs::halt::Halt;
 use crate::runs::player::Player;

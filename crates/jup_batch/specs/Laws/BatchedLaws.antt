@@ -2,13 +2,11 @@
 use Rattle.std.proofs.Common.{◌≡◌, ℕ, suc, ◌+◌, ◌<◌, ◌≤◌, Bool, true, false, ◌&&◌, List, [], ◌∷◌, length, refl, ap, sym, ◌∙◌, ◌⊎◌, inl, inr, Ok, Err, arith}
 use Rattle.std.specs.Prelude.{Result, nat_le, if◌then◌else◌}
 use Rattle.std.proofs.lemmas.Bool.{and_parts, and_from, or_from, leb-true, le-leb}
-use Rattle.jup_limits.specs.Limits.{most_operations}
-use Rattle.jup_xform.specs.Grid.{AreValid}
-use Rattle.jup_xform.specs.Batches.{EachTo, EachPair, EachLater, edits, Inserts, Deletes, Changes, IsValidBatch}
-use Rattle.jup_xform.specs.Laws.BatchesAreLawful.{batches_are_lawful, batches_keep_meaning}
-use Rattle.jup_window.specs.Commands.{map_ok, and_then_ok}
-use Rattle.jup_window.specs.Operations.{Operations, AreLawful}
+use Rattle.jup_batch.specs.Prelude.{most_operations, AreValid, edits, BatchInserts as Inserts, IsValidBatch, map_ok, and_then_ok, Operations, AreLawful, EditFault}
+use Rattle.jup_xform.specs.Batches.{EachTo, EachPair, EachLater, Deletes, Changes}
+use Rattle.jup_xform.specs.Laws.Batches.{batches_are_lawful, batches_keep_meaning}
 use Rattle.jup_batch.specs.Batched.{AreKnown, all_insertions, bear_next, one_bears_site, one_is_nothing, operations_of, is_batch, batch_of, each_accepted, all_fresh, each_fresh, batch_accepts, batched, AreBatchable}
+use Rattle.jup_window.specs.declared.faults.EditFault.TheVariants.{BadBatch}
 
 module _ (O : Operations) (L : AreLawful O) where
   -- what the tests decide
@@ -76,14 +74,14 @@ module _ (O : Operations) (L : AreLawful O) where
     pub first : O.operation_of x c i k ≡ Ok op
     pub more : operations_of O (O.t.after op x) cs i (k + O.insertions (O.t.edit_of op)) ≡ Ok rest
 
-  rest_stepped : (x : O.State) (c : O.Command) (cs : List O.Command) (i k : ℕ) (ops : List O.Op) (op : O.Op) (r : Result (List O.Op) ℕ)
+  rest_stepped : (x : O.State) (c : O.Command) (cs : List O.Command) (i k : ℕ) (ops : List O.Op) (op : O.Op) (r : Result (List O.Op) EditFault)
       → O.operation_of x c i k ≡ Ok op → operations_of O (O.t.after op x) cs i (k + O.insertions (O.t.edit_of op)) ≡ r
       → map_ok (λ os. op ∷ os) r ≡ Ok ops → Stepped x c cs i k ops
   rest_stepped x c cs i k ops op (Err n) first more e = absurd cc
   rest_stepped x c cs i k ops op (Ok rest) first more e =
       let is : op ∷ rest ≡ ops = cc in record { op = op; rest = rest; is = sym is; first = first; more = more }
 
-  first_stepped : (x : O.State) (c : O.Command) (cs : List O.Command) (i k : ℕ) (ops : List O.Op) (r : Result O.Op ℕ) → O.operation_of x c i k ≡ r
+  first_stepped : (x : O.State) (c : O.Command) (cs : List O.Command) (i k : ℕ) (ops : List O.Op) (r : Result O.Op EditFault) → O.operation_of x c i k ≡ r
       → and_then_ok (λ op. map_ok (λ os. op ∷ os) (operations_of O (O.t.after op x) cs i (k + O.insertions (O.t.edit_of op)))) r ≡ Ok ops → Stepped x c cs i k ops
   first_stepped x c cs i k ops (Err n) first e = absurd cc
   first_stepped x c cs i k ops (Ok op) first e =
@@ -92,7 +90,7 @@ module _ (O : Operations) (L : AreLawful O) where
   pub stepped : (x : O.State) (c : O.Command) (cs : List O.Command) (i k : ℕ) (ops : List O.Op) → operations_of O x (c ∷ cs) i k ≡ Ok ops → Stepped x c cs i k ops
   stepped x c cs i k ops e = first_stepped x c cs i k ops (O.operation_of x c i k) refl e
 
-  pub none_stepped : (ops : List O.Op) → ◌≡◌ {A = Result (List O.Op) ℕ} (Ok []) (Ok ops) → ops ≡ []
+  pub none_stepped : (ops : List O.Op) → ◌≡◌ {A = Result (List O.Op) EditFault} (Ok []) (Ok ops) → ops ≡ []
   none_stepped ops e = let is : [] ≡ ops = cc in sym is
 
   -- as many operations as commands
@@ -224,7 +222,7 @@ module _ (O : Operations) (L : AreLawful O) (fresh : O.Op → O.Op → Bool) (B 
 
   -- a batch that is not refused
   of_batch : (x : O.State) (cs : List O.Command) (i k : ℕ) (ops : List O.Op) (b : Bool) → is_batch O (length cs) ≡ b
-      → (if b then operations_of O x cs i k else Err 15) ≡ Ok ops → (is_batch O (length cs) ≡ true) × (operations_of O x cs i k ≡ Ok ops)
+      → (if b then operations_of O x cs i k else Err BadBatch) ≡ Ok ops → (is_batch O (length cs) ≡ true) × (operations_of O x cs i k ≡ Ok ops)
   of_batch x cs i k ops true is e = (is, e)
   of_batch x cs i k ops false is e = absurd cc
 

@@ -1,8 +1,7 @@
 use Rattle.std.proofs.Common.{◌≢◌, ◌<◌, ℕ, List, None, Some, length, get_or, drop, subst, rules}
 use Rattle.std.specs.Prelude.{decimal}
-use Rattle.jup_number.specs.Numbers.{IsU32}
-use Rattle.jup_number.specs.Spelled.{IsReadingOf}
-use Rattle.jup_number.proofs.Integers.{read_from_zero, none_below_zero, read_below_zero, range_from}
+use Rattle.jup_number.specs.Numbers.{IsU32, IsReadingOf}
+use Rattle.jup_number.proofs.Numbers.{read_from_zero, none_below_zero, read_below_zero, range_from}
 use Rattle.jup_number.proofs.read_integer.Goals as goal
 use Rattle.jup_number.proofs.read_integer.Goals.{then-is_empty-via-then-is_empty, then-is_empty-via-else-is_empty+then-bytes-ne45}
 

@@ -1,7 +1,7 @@
 //! Takes that cost the others much.
 ghost use Rattle.std.specs.Prelude.{◌≡◌, IfErr};
 ghost use Rattle.jup_rules.specs.declared.ends.SessionFault.TheVariants.{FarBehind};
-ghost use Rattle.jup_rules.specs.Endings.{ending_of};
+ghost use Rattle.jup_rules.specs.Ends.{ending_of};
 
 use super::due::Due;
 use super::link::SessionLink;

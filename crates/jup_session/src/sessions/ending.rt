@@ -1,8 +1,8 @@
 //! The last line of a session.
 ghost use Rattle.std.specs.Prelude.{◌≡◌, [], ◌∷◌};
-ghost use Rattle.jup_rules.specs.Endings.{last_line, standing};
-ghost use Rattle.jup_stream.specs.Puts.{PutsLines, IsFlushed};
-ghost use Rattle.jup_session.specs.Forwards.{untold_line};
+ghost use Rattle.jup_rules.specs.Ends.{last_line, standing};
+ghost use Rattle.jup_stream.specs.Streams.{PutsLines, IsFlushed};
+ghost use Rattle.jup_session.specs.Sessions.{untold_line};
 
 use jup_rules::Ending;
 use jup_stream::Output;

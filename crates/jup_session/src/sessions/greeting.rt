@@ -4,11 +4,9 @@ ghost use Rattle.jup_hub.specs.declared.view.View.{View};
 ghost use Rattle.jup_hub.specs.Passes.{view_of, IsPassOf};
 ghost use Rattle.jup_wire.specs.declared.line.Line.{Line};
 ghost use Rattle.jup_wire.specs.declared.line.Line.TheVariants.{Hello};
-ghost use Rattle.jup_stream.specs.Puts.{PutsLines, IsFlushed};
-ghost use Rattle.jup_stream.specs.Sources.{HandsOn};
+ghost use Rattle.jup_stream.specs.Streams.{PutsLines, IsFlushed, HandsOn};
 ghost use Rattle.jup_session.specs.ExactSessions.{EndsEarly, Enters, IsTurnedAway, IsWelcomed};
-ghost use Rattle.jup_session.specs.Greetings.{welcome_lines};
-ghost use Rattle.jup_session.specs.Sessions.{Joins, IsSession};
+ghost use Rattle.jup_session.specs.Sessions.{welcome_lines, Joins, IsSession};
 
 use super::ending::tell;
 use super::leaving::leave;

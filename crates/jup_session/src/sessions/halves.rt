@@ -1,10 +1,8 @@
 //! Both halves of a session, each in its thread.
 ghost use Rattle.std.specs.Prelude.{◌≡◌};
 ghost use Rattle.jup_hub.specs.Passes.{view_of, IsPassOf};
-ghost use Rattle.jup_stream.specs.Puts.{IsFlushed};
-ghost use Rattle.jup_session.specs.Forwards.{Wrote as HasWritten};
-ghost use Rattle.jup_session.specs.Hearings.{Heard};
-ghost use Rattle.jup_session.specs.Sessions.{HasMadeNone, HasServed};
+ghost use Rattle.jup_stream.specs.Streams.{IsFlushed};
+ghost use Rattle.jup_session.specs.Sessions.{Wrote as HasWritten, Heard, HasMadeNone, HasServed};
 
 use super::link::SessionLink;
 use super::reading::read_half;
@@ -39,9 +37,8 @@ struct Writing<'a, O: Write + Drop> {
 
 impl<'a, O: Write + Drop> Promise<Wrote<O>> for Writing<'a, O> {
     ghost use Rattle.jup_hub.specs.Passes.{view_of, IsPassOf};
-    ghost use Rattle.jup_stream.specs.Puts.{IsFlushed};
-    ghost use Rattle.jup_session.specs.Forwards.{Wrote as HasWritten};
-    ghost use Rattle.jup_session.specs.Sessions.{HasServed};
+    ghost use Rattle.jup_stream.specs.Streams.{IsFlushed};
+    ghost use Rattle.jup_session.specs.Sessions.{Wrote as HasWritten, HasServed};
 
     ghost kept_by = { λ p r. IsPassOf p.link.now.hub.now r.pass × HasServed p.link.now.site (view_of r.pass)
         × HasWritten p.link.now.site (view_of p.pass.value) p.output.value (view_of r.pass) r.output r.told × IsFlushed r.output };

@@ -1,7 +1,6 @@
 //! How a site leaves for which much may wait.
 ghost use Rattle.jup_hub.specs.Passes.{view_of, IsPassOf};
-ghost use Rattle.jup_session.specs.Departures.{GivesBack, Departs};
-ghost use Rattle.jup_session.specs.Sessions.{Makes, Leaves};
+ghost use Rattle.jup_session.specs.Sessions.{GivesBack, Departs, Makes, Leaves};
 
 use jup_hub::{Hub, Pass};
 use jup_rules::{MOST_FETCHED, is_last_fetch};

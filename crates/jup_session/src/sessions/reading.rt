@@ -1,7 +1,6 @@
 //! The half of a session that reads and takes.
 ghost use Rattle.jup_hub.specs.Passes.{view_of, IsPassOf};
-ghost use Rattle.jup_session.specs.Gates.{HasCalled, IsHandled};
-ghost use Rattle.jup_session.specs.Hearings.{HearsAll};
+ghost use Rattle.jup_session.specs.Sessions.{HasCalled, IsHandled, HearsAll};
 
 use super::costly::{enter, leave_turn};
 use super::due::Due;
@@ -75,7 +74,7 @@ fn hear_all<R: Wait + Clock, I: Read + Drop, G: Gate>(
 }
 
 // What comes of a message: whom it rings, or how the session ends.
-#[tactic(auto, using(crate::proofs::SessionCalls::handled_so))]
+#[tactic(auto, using(crate::proofs::Calls::handled_so))]
 fn handle<R: Wait, G: Gate>(
     rt: &R,
     link: &SessionLink<'_>,
@@ -95,7 +94,7 @@ fn handle<R: Wait, G: Gate>(
 }
 
 // Has the hub take a message, once what it waits for has come. `None` if that does not come.
-#[tactic(auto, using(crate::proofs::SessionCalls::edit_called, crate::proofs::SessionCalls::ping_left))]
+#[tactic(auto, using(crate::proofs::Calls::edit_called, crate::proofs::Calls::ping_left))]
 fn take<R: Wait, G: Gate>(
     rt: &R,
     link: &SessionLink<'_>,

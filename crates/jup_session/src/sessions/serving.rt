@@ -3,8 +3,8 @@ ghost use Rattle.std.specs.Prelude.{◌≡◌, not, List};
 ghost use Rattle.jup_hub.specs.Passes.{view_of, IsPassOf};
 ghost use Rattle.jup_wire.specs.declared.line.Line.{Line};
 ghost use Rattle.jup_wire.specs.declared.line.Line.TheVariants.{Error};
-ghost use Rattle.jup_wire.specs.Grammar.{line_bytes};
-ghost use Rattle.jup_stream.specs.Puts.{PutsLines, IsFlushed, WritesFront};
+ghost use Rattle.jup_wire.specs.Lines.{line_bytes};
+ghost use Rattle.jup_stream.specs.Streams.{PutsLines, IsFlushed, WritesFront};
 ghost use Rattle.jup_session.specs.ExactSessions.{BothHalves, HasLines, IsExact};
 ghost use Rattle.jup_session.specs.Sessions.{BothServe, IsSession};
 

@@ -2,10 +2,9 @@
 ghost use Rattle.std.specs.Prelude.{◌≡◌, ◌↔◌, [], IsTrue, IfOk, IfErr, IfSome, OnErr, IfNone};
 ghost use Rattle.std.specs.List.{flat_map};
 ghost use Rattle.jup_hub.specs.Passes.{view_of, IsPassOf};
-ghost use Rattle.jup_rules.specs.Messages.{down_lines};
-ghost use Rattle.jup_stream.specs.Puts.{PutsLines, IsFlushed};
-ghost use Rattle.jup_session.specs.Forwards.{Brings, Forwards, IsOfWriting, TellsFault, Wrote as HasWritten, told_line};
-ghost use Rattle.jup_session.specs.Sessions.{Leaves, HasMadeNone, HasServed};
+ghost use Rattle.jup_rules.specs.Sessions.{down_lines};
+ghost use Rattle.jup_stream.specs.Streams.{PutsLines, IsFlushed};
+ghost use Rattle.jup_session.specs.Sessions.{Brings, Forwards, IsOfWriting, TellsFault, Wrote as HasWritten, told_line, Leaves, HasMadeNone, HasServed};
 
 use super::ending::tell;
 use super::leaving::leave;
@@ -218,7 +217,7 @@ fn hand_on<R: Wait, O: Write + Drop>(
 }
 
 // Writes messages, in order.
-#[tactic(auto, using(jup_stream::specs::Puts::puts_sent, jup_stream::specs::Puts::puts_none))]
+#[tactic(auto, using(jup_stream::specs::Streams::puts_sent, jup_stream::specs::Streams::puts_none))]
 fn write_downs<O: Write + Drop>(output: &mut Output<O>, downs: &[Down]) -> Result<(), SessionFault>
     ensures put { PutsLines output.old (flat_map down_lines downs.now) output.new }
     ensures flushed { IsFlushed output.old → IsFlushed output.new }

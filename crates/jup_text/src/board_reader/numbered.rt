@@ -2,7 +2,7 @@
 ghost use Rattle.std.specs.Prelude.{◌≡◌, ◌+◌, ◌<◌, ◌^◌, [], ◌∷◌, ◌++◌, length, OnOk, IsOkUnless};
 ghost use Rattle.jup_limits.specs.Limits.{longest_sequence};
 ghost use Rattle.jup_text.specs.declared.board_reader.Untaken.TheVariants as untaken;
-ghost use Rattle.jup_text.specs.Numbering.{IsNumberedTo};
+ghost use Rattle.jup_text.specs.Boards.{IsNumberedTo};
 
 use super::Untaken;
 use jup_limits::LONGEST_SEQUENCE;

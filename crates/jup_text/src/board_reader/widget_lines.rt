@@ -6,10 +6,8 @@ ghost use Rattle.jup_value.specs.Labels.{IsLabelText};
 ghost use Rattle.jup_window.specs.declared.widgets.Widget.{Widget};
 ghost use Rattle.jup_text.specs.declared.board_reader.Untaken.TheVariants as untaken;
 ghost use Rattle.jup_text.specs.Commands.{IsId};
-ghost use Rattle.jup_text.specs.NextLines.{AreValues, IsHeld, IsToggleText, IsSliderText};
-ghost use Rattle.jup_text.specs.Quotes.{quoted};
-ghost use Rattle.jup_text.specs.Words.{IsWord};
-ghost use Rattle.jup_text.specs.WidgetLines.{AreNumbered, IsLineOf, IsNumbered, IsWidgetLine};
+ghost use Rattle.jup_text.specs.Boards.{AreValues, IsHeld, IsToggleText, IsSliderText, AreNumbered, IsLineOf, IsNumbered, IsWidgetLine};
+ghost use Rattle.jup_text.specs.Words.{quoted, IsWord};
 
 use super::Untaken;
 use super::numbered::Numbered;
@@ -72,7 +70,7 @@ fn read_text(alloc: Global, last: u32, rest: &[u8]) -> Result<WidgetLine, Untake
 }
 
 // What follows the word `list`.
-#[tactic(auto, using(crate::proofs::Drafting::list_line))]
+#[tactic(auto, using(crate::proofs::BoardLines::list_line))]
 fn read_list(alloc: Global, last: u32, rest: &[u8]) -> Result<WidgetLine, Untaken>
     ensures line { IfOk result (λ r. IsWidgetLine last (codes "list " ++ rest.now) r.wid r.widget r.last) }
     ensures id { IfOk result (λ r. IsId r.wid) }

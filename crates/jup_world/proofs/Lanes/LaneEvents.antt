@@ -1,37 +1,19 @@
 -- What the program does at an attached site, for the bytes of its link.
 use Rattle.std.proofs.Common.{◌≡◌, ◌⊎◌, refl, sym, ◌∙◌, ap, subst, inl, inr, ℕ, zero, suc, ◌+◌, ◌-◌, min, Bool, true, false, List, [], ◌∷◌, ◌++◌, length, map, get_or, nat_eq, Option, Some, None, option_map, Result, Ok, Err, IfOk, OnOk, OnErr, arith, eq-eqb, eqb-true}
 use Rattle.std.proofs.Math.ListN.{set}
-use Rattle.jup_limits.specs.declared.NoMemory.{NoMemory}
-use Rattle.jup_window.specs.declared.faults.EditFault.{EditFault}
-use Rattle.jup_batch.specs.BoardBatches.{board_batches}
-use Rattle.jup_batch.specs.BatchBoards.{BoardBatch, BoardEdits, Commands}
-use Rattle.jup_star.specs.declared.messages.Down.{Down}
-use Rattle.jup_star.specs.declared.messages.Down.TheVariants.{Op as DownOp, Ack as DownAck, Pong as DownPong}
-use Rattle.jup_star.specs.StarStates.{link_of, fetched}
-use Rattle.jup_star.specs.SiteStates.{edit_answer}
-use Rattle.jup_star.specs.StarCalls.{BoardStar}
-use Rattle.jup_star.specs.SiteCalls.{BoardSite}
-use Rattle.jup_lane.specs.Lanes.{moved as moved_by, messages, Carries, IsMovedOn, oldest_length}
-use Rattle.jup_lane.proofs.MessageLines.{ups_laws}
-use Rattle.jup_lane.specs.Messages.{ups, downs}
-use Rattle.jup_world.specs.declared.events.Reply.{Reply}
-use Rattle.jup_world.specs.declared.world.attached.Attached.{Attached}
-use Rattle.jup_world.specs.Events.{Nothing, Join, Edit as MakeEdit, Up as MoveUp, Down as MoveDown}
-use Rattle.jup_world.specs.WorldStates.{attached, at_site}
-use Rattle.jup_world.specs.WorldSteps.{outcome, unchanged as unchanged_world, one_taken, with_fetched}
-use Rattle.jup_world.specs.NumberedReplies.{numbered_reply}
-use Rattle.jup_world.specs.SiteNumbers.{IsSiteAt}
-use Rattle.jup_world.specs.BoardWorlds.{BoardWorld, BoardLink, BoardAttached, BoardEvent, BoardReply}
-use Rattle.jup_world.specs.WorldFields.{lane_of, bare_attached}
-use Rattle.jup_world.specs.Happenings.{Plays, Spares, AreReady, with_answer, refilled, handed_first, handed, SparesAt}
-use Rattle.jup_world.specs.LaneWorlds.{LaneEvent, Plain, PushUp, PushDown, LaneSite, messages_at, plain_trace, messages_of, lane_site, without_lane}
-use Rattle.jup_world.specs.LaneSteps.{push_reply, there_up, filled_stream, there_down, filled_from, filled_for, filled_way, up_read, down_read, TouchesDown}
-use Rattle.jup_world.specs.LaneHappenings.{IsRead, IsMovedUp, RestsDown, FillsAt, filled_messages, with_filled, star_filled, LanePlays, AreRead, SitesRest}
-use Rattle.jup_world.proofs.HappeningSteps.{linked, number, changed, unchanged, down_spared}
-use Rattle.jup_world.proofs.CallFacts.{some_link}
-use Rattle.jup_world.proofs.Lanes.LaneWorldLaws.{messages_found}
-use Rattle.jup_world.proofs.Lanes.LaneReads.{moved-carries}
-use Rattle.jup_world.proofs.Lanes.LaneSites.{messages_map, set_found, end_found, carry_set, carry_end, set_read, same_read, same_lanes}
+use Rattle.jup_world.specs.Prelude.{NoMemory, EditFault, board_batches, BoardBatch, BoardEdits, Commands, Down, DownOp, DownAck, DownPong, link_of, fetched, BoardStar, edit_answer, BoardSite, ups_laws, Reply, Attached}
+use Rattle.jup_lane.specs.Lanes.{moved as moved_by, messages, Carries, IsMovedOn, oldest_length, ups, downs}
+use Rattle.jup_world.specs.declared.events.Reply.TheVariants.{Nothing}
+use Rattle.jup_world.specs.Events.{Join, Edit as MakeEdit, Up as MoveUp, Down as MoveDown}
+use Rattle.jup_world.specs.Worlds.{attached, at_site, outcome, unchanged as unchanged_world, one_taken, with_fetched, IsSiteAt}
+use Rattle.jup_world.specs.Insides.{lane_of, bare_attached}
+use Rattle.jup_world.specs.Boards.{BoardWorld, BoardLink, BoardAttached, BoardEvent, BoardReply}
+use Rattle.jup_world.specs.Happenings.{Plays, Spares, AreReady, with_answer, refilled, handed_first, handed, SparesAt, IsRead, IsMovedUp, RestsDown, FillsAt, filled_messages, with_filled, star_filled, LanePlays, AreRead, SitesRest}
+use Rattle.jup_world.specs.Lanes.{LaneEvent, Plain, PushUp, PushDown, LaneSite, messages_at, plain_trace, messages_of, lane_site, without_lane, push_reply, there_up, filled_stream, there_down, filled_from, filled_for, filled_way, up_read, down_read, TouchesDown}
+use Rattle.jup_world.proofs.Happenings.{linked, number, changed, unchanged, down_spared}
+use Rattle.jup_world.proofs.Answers.{some_link}
+use Rattle.jup_world.proofs.Lanes.Worlds.{messages_found}
+use Rattle.jup_world.proofs.Lanes.Sites.{moved-carries, messages_map, set_found, end_found, carry_set, carry_end, set_read, same_read, same_lanes}
 
 -- # Events of messages
 
@@ -42,9 +24,9 @@ plain_plays e star t sites next reply plays opening trace =
     ap (λ (xs : List BoardAttached). outcome board_batches (record { opening = opening; star = star; sites = xs; trace = plain_trace trace }) e) (messages_map sites) ∙ plays opening (plain_trace trace)
 
 pub plain_result : (e : BoardEvent) (star t : BoardStar) (sites next : List Attached) (r : Result (Reply BoardEdits EditFault) NoMemory)
-    → IfOk r (λ reply. Plays e star (map bare_attached sites) (numbered_reply reply) t (map bare_attached next))
-    → IfOk r (λ reply. LanePlays (Plain e) star (map lane_of sites) (numbered_reply reply) t (map bare_attached next))
-plain_result e star t sites next (Ok reply) plays = plain_plays e star t sites next (numbered_reply reply) plays
+    → IfOk r (λ reply. Plays e star (map bare_attached sites) reply t (map bare_attached next))
+    → IfOk r (λ reply. LanePlays (Plain e) star (map lane_of sites) reply t (map bare_attached next))
+plain_result e star t sites next (Ok reply) plays = plain_plays e star t sites next reply plays
 plain_result e star t sites next (Err fault) plays = plays
 
 -- # The site of a number
@@ -135,7 +117,7 @@ without_set i (a ∷ later) zero new place is = rw (is, place) refl
 without_set i (a ∷ later) (suc at) new place is = rw place.0 (ap (λ (xs : List LaneSite). lane_of a ∷ xs) (without_set i later at new place.1 is))
 
 -- a site keeps its number
-answer_number : (r : Result BoardBatch ℕ) (a : BoardAttached) → (with_answer r a).site.number ≡ a.site.number
+answer_number : (r : Result BoardBatch EditFault) (a : BoardAttached) → (with_answer r a).site.number ≡ a.site.number
 answer_number (Ok op) a = refl
 answer_number (Err n) a = refl
 
@@ -332,10 +314,10 @@ module _ (s : BoardStar) (sites : List Attached) (ready : AreReady s (map bare_a
   down_result t (Err fault) new spared moved =
       down_rests (Plain (MoveDown i)) t link.0 new refl link.1 (down_spared s sites ready i at e place value t (Err fault) new link.0 link.1 spared) (moved link.0 link_there)
 
-  pub push_up_result : (n : ℕ) (r : Result (Reply BoardEdits EditFault) NoMemory) (new : Attached) → IfOk r (λ reply. numbered_reply reply ≡ push_reply (min n (length e.up.way.stream)))
-      → OnOk r (bare_attached new ≡ bare_attached e) → IfOk r (λ reply. LanePlays (PushUp i n) s (map lane_of sites) (numbered_reply reply) s (map bare_attached (set sites at new)))
+  pub push_up_result : (n : ℕ) (r : Result (Reply BoardEdits EditFault) NoMemory) (new : Attached) → IfOk r (λ reply. reply ≡ push_reply (min n (length e.up.way.stream)))
+      → OnOk r (bare_attached new ≡ bare_attached e) → IfOk r (λ reply. LanePlays (PushUp i n) s (map lane_of sites) reply s (map bare_attached (set sites at new)))
   push_up_result n (Err fault) new is made = tt
-  push_up_result n (Ok reply) new is made = push_up_plays n (numbered_reply reply) new is made
+  push_up_result n (Ok reply) new is made = push_up_plays n reply new is made
 
   pub push_up_read_at : (n : ℕ) (r : Result (Reply BoardEdits EditFault) NoMemory) (new : Attached) → OnOk r (bare_attached new ≡ bare_attached e)
       → OnOk r (IsRead (lane_of e) (length e.up.way.read + min n (length e.up.way.stream)) (length e.down.way.read) (lane_of new))
@@ -344,13 +326,13 @@ module _ (s : BoardStar) (sites : List Attached) (ready : AreReady s (map bare_a
   push_up_read_at n (Ok reply) new made is = site_read (PushUp i n) new _ _ (ap (λ (a : BoardAttached). a.site.number) made) is (rw (same_number i) refl) (λ l there. refl) (push_up_reads i n)
 
   pub push_down_result : (n : ℕ) (t : BoardStar) (r : Result (Reply BoardEdits EditFault) NoMemory) (new : Attached)
-      → IfOk r (λ reply. (l : BoardLink) → link_of e.site.number s.links ≡ Some l → numbered_reply reply ≡ push_reply (min n (length (filled_stream e.down.way.stream l.outbox))))
+      → IfOk r (λ reply. (l : BoardLink) → link_of e.site.number s.links ≡ Some l → reply ≡ push_reply (min n (length (filled_stream e.down.way.stream l.outbox))))
       → OnOk r ((l : BoardLink) → link_of e.site.number s.links ≡ Some l → bare_attached new ≡ with_filled e.down.way.stream l (bare_attached e))
       → OnOk r ((l : BoardLink) → link_of e.site.number s.links ≡ Some l → t ≡ star_filled e.site.number e.down.way.stream l.outbox s)
-      → IfOk r (λ reply. LanePlays (PushDown i n) s (map lane_of sites) (numbered_reply reply) t (map bare_attached (set sites at new)))
+      → IfOk r (λ reply. LanePlays (PushDown i n) s (map lane_of sites) reply t (map bare_attached (set sites at new)))
   push_down_result n t (Err fault) new is made star = tt
   push_down_result n t (Ok reply) new is made star =
-      push_down_plays n t (numbered_reply reply) new link.0 link.1 (is link.0 link_there) (made link.0 link_there)
+      push_down_plays n t reply new link.0 link.1 (is link.0 link_there) (made link.0 link_there)
       (star link.0 link_there ∙ ap (λ k. star_filled k e.down.way.stream link.0.outbox s) (number s sites ready i at e place value))
 
   pub push_down_read_at : (n : ℕ) (r : Result (Reply BoardEdits EditFault) NoMemory) (new : Attached)

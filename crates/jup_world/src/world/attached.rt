@@ -1,23 +1,17 @@
 //! An attached site with its streams.
 ghost use Rattle.std.specs.Prelude.{◌≡◌, ◌↔◌, ◌<◌, ◌≤◌, ◌+◌, ◌-◌, ◌^◌, ◌++◌, true, false, ℕ, [], ◌∷◌, map, min, length, Some, None, is_some, nat_eq, position, MatchOption, IsTrue, IfSome, IfOk, IfErr, OnOk, OnErr};
-ghost use Rattle.std.specs.Option.{option_to_list};
-ghost use Rattle.jup_batch.specs.BoardBatches.{board_batches};
-ghost use Rattle.jup_star.specs.StarStates.{link_of};
-ghost use Rattle.jup_star.specs.SiteStates.{edit_answer};
-ghost use Rattle.jup_star.specs.StarCalls.{BoardLink, is_no_memory};
-ghost use Rattle.jup_star.specs.TextRelabels.{UpRelabelsNoText, DownRelabelsNoText};
-ghost use Rattle.jup_lane.specs.Codecs.{bytes_of_all};
-ghost use Rattle.jup_lane.specs.Lanes.{no_bytes, messages, sent, oldest_length, Carries};
-ghost use Rattle.jup_lane.specs.Messages.{ups, downs};
-ghost use Rattle.jup_world.specs.WorldStates.{attached};
-ghost use Rattle.jup_world.specs.WorldSteps.{one_taken, place_reply, pinged};
-ghost use Rattle.jup_world.specs.Replies.{edit_reply};
-ghost use Rattle.jup_world.specs.NumberedReplies.{numbered_reply, MakesFew};
-ghost use Rattle.jup_world.specs.SiteNumbers.{AreAscending, IsSiteAt};
-ghost use Rattle.jup_world.specs.WorldFields.{lane_of, bare_attached};
-ghost use Rattle.jup_world.specs.LaneSteps.{push_reply, filled_stream};
-ghost use Rattle.jup_world.specs.LaneHappenings.{IsRead, IsMovedUp, IsMovedDown, IsRefilled, IsFilledDown, RestsDown, FillsAt, with_filled, star_filled};
-ghost use Rattle.jup_world.specs.Happenings.{with_answer, Rises, IsRefused, refilled, refilled_star, first_reply, handed, FirstFits, SparesAt, IsQuietAt, AllQuiet};
+ghost use Rattle.std.specs.Option.{option_to_list, option_map};
+ghost use Rattle.jup_batch.specs.Boards.{board_batches};
+ghost use Rattle.jup_star.specs.Stars.{link_of, BoardLink, is_no_memory};
+ghost use Rattle.jup_star.specs.Sites.{edit_answer};
+ghost use Rattle.jup_star.specs.Messages.{DownRelabelsNoText};
+ghost use Rattle.jup_star.specs.declared.messages.Up.TheVariants.{Ack};
+ghost use Rattle.jup_lane.specs.Lanes.{bytes_of_all, no_bytes, messages, sent, oldest_length, Carries, ups, downs};
+ghost use Rattle.jup_world.specs.Worlds.{attached, one_taken, place_reply, pinged, AreAscending, IsSiteAt};
+ghost use Rattle.jup_world.specs.Sound.{edit_reply};
+ghost use Rattle.jup_world.specs.Insides.{MakesFew, lane_of, bare_attached};
+ghost use Rattle.jup_world.specs.Lanes.{push_reply, filled_stream};
+ghost use Rattle.jup_world.specs.Happenings.{IsRead, IsMovedUp, IsMovedDown, IsRefilled, IsFilledDown, RestsDown, FillsAt, with_filled, star_filled, with_answer, Rises, IsRefused, refilled, refilled_star, first_reply, handed, FirstFits, SparesAt, IsQuietAt, AllQuiet};
 
 use super::refusals::edit_refusal;
 use crate::Reply;
@@ -44,7 +38,7 @@ pub struct Attached {
 
 // What a message that the star took answers: the place of an edit in the order.
 fn reply_to_take(place: Option<u32>) -> Reply
-    ensures reply { numbered_reply result ≡ place_reply board_batches place }
+    ensures reply { result ≡ place_reply board_batches place }
     ensures few { MakesFew result 0 }
 {
     match place {
@@ -104,7 +98,7 @@ pub(crate) fn are_quiet(sites: &[Attached], star: &Star) -> bool
 // What a push of so many bytes answers.
 fn reply_to_push(count: usize) -> Reply
     requires { count < 2 ^ 32 }
-    ensures { numbered_reply result ≡ push_reply count }
+    ensures { result ≡ push_reply count }
 {
     match count {
         0 => Reply::Nothing,
@@ -125,16 +119,15 @@ fn send_one(lane: &mut Lane<Down>, fetched: &Option<Down>)
     }
 }
 
-// Writes a message that a site sends back, if it does.
-fn send_back(lane: &mut Lane<Up>, back: &Option<Up>)
-    requires relabels { IfSome back.now UpRelabelsNoText }
-    requires room { MOST_MESSAGE ≤ lane.old.spare }
+// Writes the acknowledgement that a site owes, if it does.
+fn acknowledge(lane: &mut Lane<Up>, owed: Option<u32>)
+    requires { MOST_MESSAGE ≤ lane.old.spare }
     ensures read { length lane.new.way.read ≡ length lane.old.way.read }
-    ensures messages { messages ups lane.new.way ≡ messages ups lane.old.way ++ option_to_list back.now }
+    ensures messages { messages ups lane.new.way ≡ messages ups lane.old.way ++ option_to_list (option_map Ack owed) }
     ensures carry { Carries ups lane.old.way → Carries ups lane.new.way }
 {
-    if let Some(up) = back {
-        lane.send(up);
+    if let Some(count) = owed {
+        lane.send(&Up::Ack(count));
     }
 }
 
@@ -154,7 +147,7 @@ impl Attached {
 
     /// The site makes one edit of commands, and its message goes last into the up stream.
     pub fn edit(&mut self, alloc: Global, commands: &[Command]) -> Result<Reply, NoMemory>
-        ensures reply { IfOk result (λ reply. numbered_reply reply
+        ensures reply { IfOk result (λ reply. reply
             ≡ edit_reply board_batches (edit_answer board_batches commands.now self.old.site)) }
         ensures few { IfOk result (λ reply. MakesFew reply (length commands.now)) }
         ensures ok { OnOk result (bare_attached self.new
@@ -188,7 +181,7 @@ impl Attached {
     /// Moves the oldest message up: the star takes it, or refuses it.
     pub fn move_up(&mut self, alloc: Global, star: &mut Star) -> Result<Reply, StarFault>
         ensures few { IfOk result (λ reply. MakesFew reply 0) }
-        ensures taken { IfOk result (λ reply. Rises self.old.site.number (messages ups self.old.up.way) star.old star.new (numbered_reply reply)) }
+        ensures taken { IfOk result (λ reply. Rises self.old.site.number (messages ups self.old.up.way) star.old star.new reply) }
         ensures refused { IfErr result (λ fault. is_no_memory fault ≡ false
             → IsRefused self.old.site.number (messages ups self.old.up.way) star.old star.new fault) }
         ensures memory { IfErr result (λ fault. is_no_memory fault ≡ true → star.new ≡ star.old) }
@@ -221,7 +214,7 @@ impl Attached {
             → FirstFits (refilled l (bare_attached self.old)) }
         ensures few { IfOk result (λ reply. MakesFew reply 0) }
         ensures reply { IfOk result (λ reply. (l : BoardLink) → link_of self.old.site.number star.old.links ≡ Some l
-            → numbered_reply reply ≡ first_reply (refilled l (bare_attached self.old))) }
+            → reply ≡ first_reply (refilled l (bare_attached self.old))) }
         ensures site { OnOk result ((l : BoardLink) → link_of self.old.site.number star.old.links ≡ Some l
             → bare_attached self.new ≡ handed (refilled l (bare_attached self.old))) }
         ensures star { OnOk result ((l : BoardLink) → link_of self.old.site.number star.old.links ≡ Some l
@@ -285,7 +278,7 @@ impl Attached {
     fn hand(&mut self, alloc: Global) -> Result<Reply, NoMemory>
         requires { FirstFits (bare_attached self.old) }
         ensures few { IfOk result (λ reply. MakesFew reply 0) }
-        ensures reply { IfOk result (λ reply. numbered_reply reply ≡ first_reply (bare_attached self.old)) }
+        ensures reply { IfOk result (λ reply. reply ≡ first_reply (bare_attached self.old)) }
         ensures ok { OnOk result (bare_attached self.new ≡ handed (bare_attached self.old)) }
         ensures read { OnOk result (IsRead (lane_of self.old) (length self.old.up.way.read)
             (length self.old.down.way.read - oldest_length downs (messages downs self.old.down.way)) (lane_of self.new)) }
@@ -300,12 +293,12 @@ impl Attached {
             Down::Op(_) => Reply::Shown,
             Down::Ack(_) | Down::Pong(_) => Reply::Heard,
         };
-        let back = match self.site.deliver(alloc, &down) {
-            Ok(back) => back,
+        let owed = match self.site.deliver_shown(alloc, &down) {
+            Ok(delivered) => delivered.owed,
             Err(SiteFault::NoMemory) => return Err(NoMemory),
             Err(_) => unreachable!(),
         };
-        send_back(&mut self.up, &back);
+        acknowledge(&mut self.up, owed);
         self.down.drop_first(&down);
         Ok(reply)
     }
@@ -313,7 +306,7 @@ impl Attached {
     /// Moves up to so many bytes of the up stream to the star's reader.
     pub(crate) fn push_up(&mut self, alloc: Global, most: u32) -> Result<Reply, NoMemory>
         ensures few { IfOk result (λ reply. MakesFew reply 0) }
-        ensures reply { IfOk result (λ reply. numbered_reply reply ≡ push_reply (min most (length self.old.up.way.stream))) }
+        ensures reply { IfOk result (λ reply. reply ≡ push_reply (min most (length self.old.up.way.stream))) }
         ensures ok { OnOk result (bare_attached self.new ≡ bare_attached self.old) }
         ensures read { OnOk result (IsRead (lane_of self.old)
             (length self.old.up.way.read + min most (length self.old.up.way.stream)) (length self.old.down.way.read) (lane_of self.new)) }
@@ -334,7 +327,7 @@ impl Attached {
         requires { is_some (link_of self.old.site.number star.old.links) ≡ true }
         ensures few { IfOk result (λ reply. MakesFew reply 0) }
         ensures reply { IfOk result (λ reply. (l : BoardLink) → link_of self.old.site.number star.old.links ≡ Some l
-            → numbered_reply reply ≡ push_reply (min most (length (filled_stream self.old.down.way.stream l.outbox)))) }
+            → reply ≡ push_reply (min most (length (filled_stream self.old.down.way.stream l.outbox)))) }
         ensures site { OnOk result ((l : BoardLink) → link_of self.old.site.number star.old.links ≡ Some l
             → bare_attached self.new ≡ with_filled self.old.down.way.stream l (bare_attached self.old)) }
         ensures star { OnOk result ((l : BoardLink) → link_of self.old.site.number star.old.links ≡ Some l

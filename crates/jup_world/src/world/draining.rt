@@ -1,16 +1,12 @@
 //! Runs of a world, and its draining.
 ghost use Rattle.std.specs.Prelude.{◌≡◌, ℕ, ◌<◌, ◌≤◌, length, map, Some, IsFalse, OnOk, OnErr, IfOk, IfErr};
-ghost use Rattle.jup_batch.specs.BoardBatches.{board_batches};
-ghost use Rattle.jup_world.specs.WorldStates.{IsQuiet};
-ghost use Rattle.jup_world.specs.NumberedReplies.{lane_event};
-ghost use Rattle.jup_world.specs.WorldSteps.{outcome};
-ghost use Rattle.jup_world.specs.Promises.{OrderIsKept};
-ghost use Rattle.jup_world.specs.LaneWorlds.{Plain, LaneSite, messages_of, lane_site, IsStill};
-ghost use Rattle.jup_world.specs.LaneSteps.{AllSteps, IsHalted};
-ghost use Rattle.jup_world.specs.Runs.{IsDelivered, IsDeliveredInPart};
-ghost use Rattle.jup_world.specs.Rounds.{IsDrained, IsRound, Sweeps, Visits, Delivers};
-ghost use Rattle.jup_world.specs.Drains.{way_event, Settles, MovesNothing, NothingMoves};
-ghost use Rattle.jup_world.specs.Events.{Nothing};
+ghost use Rattle.jup_batch.specs.Boards.{board_batches};
+ghost use Rattle.jup_world.specs.Worlds.{IsQuiet, outcome};
+ghost use Rattle.jup_world.specs.Insides.{lane_event};
+ghost use Rattle.jup_world.specs.Traces.{OrderIsKept};
+ghost use Rattle.jup_world.specs.Lanes.{Plain, LaneSite, messages_of, lane_site, IsStill, AllSteps, IsHalted, IsDelivered, IsDeliveredInPart};
+ghost use Rattle.jup_world.specs.Drains.{IsDrained, IsRound, Sweeps, Visits, Delivers, way_event, Settles, MovesNothing, NothingMoves};
+ghost use Rattle.jup_world.specs.declared.events.Reply.TheVariants.{Nothing};
 
 use super::World;
 use crate::Event;

@@ -1,12 +1,10 @@
 //! What an event does to a star and its sites.
 ghost use Rattle.std.specs.Prelude.{◌≡◌, length, map, is_some, IfOk, OnOk, OnErr};
-ghost use Rattle.jup_star.specs.StarStates.{link_of};
-ghost use Rattle.jup_world.specs.WorldStates.{attached, without_site};
-ghost use Rattle.jup_world.specs.WorldFields.{lane_of, bare_attached};
-ghost use Rattle.jup_world.specs.NumberedReplies.{lane_event, numbered_reply, most_edits, MakesFew};
-ghost use Rattle.jup_world.specs.Happenings.{Plays, AreReady};
-ghost use Rattle.jup_world.specs.LaneWorlds.{Plain, PushUp, PushDown, without_lane};
-ghost use Rattle.jup_world.specs.LaneHappenings.{LanePlays, AreRead, SitesRest, LaneSpares};
+ghost use Rattle.jup_star.specs.Stars.{link_of};
+ghost use Rattle.jup_world.specs.Worlds.{attached, without_site};
+ghost use Rattle.jup_world.specs.Insides.{lane_of, bare_attached, lane_event, most_edits, MakesFew};
+ghost use Rattle.jup_world.specs.Happenings.{Plays, AreReady, LanePlays, AreRead, SitesRest, LaneSpares};
+ghost use Rattle.jup_world.specs.Lanes.{Plain, PushUp, PushDown, without_lane};
 ghost use Rattle.jup_world.specs.Events as event;
 
 use super::attached::{Attached, place_of};
@@ -28,7 +26,7 @@ pub(crate) fn happen(
 ) -> Result<Reply, NoMemory>
     requires { AreReady star.old (map bare_attached sites.old.items) }
     ensures plays { IfOk result (λ reply. LanePlays (lane_event event.now) star.old (map lane_of sites.old.items)
-        (numbered_reply reply) star.new (map bare_attached sites.new.items)) }
+        reply star.new (map bare_attached sites.new.items)) }
     ensures few { IfOk result (λ reply. MakesFew reply (most_edits event.now)) }
     ensures read { OnOk result (AreRead (lane_event event.now) star.old (map lane_of sites.old.items) (map lane_of sites.new.items)) }
     ensures spared { OnErr result (LaneSpares (lane_event event.now) star.old (map lane_of sites.old.items)
@@ -53,7 +51,7 @@ fn join(alloc: Global, star: &mut Star, sites: &mut Vec<Attached>) -> Result<Rep
     requires { AreReady star.old (map bare_attached sites.old.items) }
     ensures few { IfOk result (λ reply. MakesFew reply 0) }
     ensures plays { IfOk result (λ reply. Plays event.Join star.old (map bare_attached sites.old.items)
-        (numbered_reply reply) star.new (map bare_attached sites.new.items)) }
+        reply star.new (map bare_attached sites.new.items)) }
     ensures read { OnOk result (AreRead (Plain (event.Join)) star.old (map lane_of sites.old.items) (map lane_of sites.new.items)) }
     ensures same_star { OnErr result (star.new ≡ star.old) }
     ensures same_sites { OnErr result (map lane_of sites.new.items ≡ map lane_of sites.old.items) }
@@ -81,7 +79,7 @@ fn leave(star: &mut Star, sites: &mut Vec<Attached>, number: u32) -> Reply
     requires { is_some (attached number (map bare_attached sites.old.items)) ≡ is_some (link_of number star.old.links) }
     ensures few { MakesFew result 0 }
     ensures plays { Plays (event.Leave number) star.old (map bare_attached sites.old.items)
-        (numbered_reply result) star.new (map bare_attached sites.new.items) }
+        result star.new (map bare_attached sites.new.items) }
     ensures read { AreRead (Plain (event.Leave number)) star.old (map lane_of sites.old.items) (map lane_of sites.new.items) }
 {
     match star.leave(number) {
@@ -102,7 +100,7 @@ fn edit(
 ) -> Result<Reply, NoMemory>
     requires { AreReady star.now (map bare_attached sites.old.items) }
     ensures plays { IfOk result (λ reply. LanePlays (Plain (event.Edit number commands.now)) star.now (map lane_of sites.old.items)
-        (numbered_reply reply) star.now (map bare_attached sites.new.items)) }
+        reply star.now (map bare_attached sites.new.items)) }
     ensures few { IfOk result (λ reply. MakesFew reply (length commands.now)) }
     ensures read { OnOk result (AreRead (Plain (event.Edit number commands.now)) star.now (map lane_of sites.old.items) (map lane_of sites.new.items)) }
     ensures same { OnErr result (map lane_of sites.new.items ≡ map lane_of sites.old.items) }
@@ -117,7 +115,7 @@ fn ping(star: &Star, sites: &mut Vec<Attached>, number: u32, count: u32) -> Resu
     requires { AreReady star.now (map bare_attached sites.old.items) }
     ensures few { IfOk result (λ reply. MakesFew reply 0) }
     ensures plays { IfOk result (λ reply. Plays (event.Ping number count) star.now (map bare_attached sites.old.items)
-        (numbered_reply reply) star.now (map bare_attached sites.new.items)) }
+        reply star.now (map bare_attached sites.new.items)) }
     ensures read { OnOk result (AreRead (Plain (event.Ping number count)) star.now (map lane_of sites.old.items) (map lane_of sites.new.items)) }
     ensures same { OnErr result (map lane_of sites.new.items ≡ map lane_of sites.old.items) }
 {
@@ -138,7 +136,7 @@ fn move_up(
     requires { AreReady star.old (map bare_attached sites.old.items) }
     ensures few { IfOk result (λ reply. MakesFew reply 0) }
     ensures plays { IfOk result (λ reply. Plays (event.Up number) star.old (map bare_attached sites.old.items)
-        (numbered_reply reply) star.new (map bare_attached sites.new.items)) }
+        reply star.new (map bare_attached sites.new.items)) }
     ensures read { OnOk result (AreRead (Plain (event.Up number)) star.old (map lane_of sites.old.items) (map lane_of sites.new.items)) }
     ensures spared { OnErr result (SitesRest (Plain (event.Up number)) star.old (map lane_of sites.old.items) star.new (map lane_of sites.new.items)) }
 {
@@ -165,7 +163,7 @@ fn move_down(
     requires { AreReady star.old (map bare_attached sites.old.items) }
     ensures few { IfOk result (λ reply. MakesFew reply 0) }
     ensures plays { IfOk result (λ reply. Plays (event.Down number) star.old (map bare_attached sites.old.items)
-        (numbered_reply reply) star.new (map bare_attached sites.new.items)) }
+        reply star.new (map bare_attached sites.new.items)) }
     ensures read { OnOk result (AreRead (Plain (event.Down number)) star.old (map lane_of sites.old.items) (map lane_of sites.new.items)) }
     ensures spared { OnErr result (SitesRest (Plain (event.Down number)) star.old (map lane_of sites.old.items) star.new (map lane_of sites.new.items)) }
 {
@@ -186,7 +184,7 @@ fn push_up(
     requires { AreReady star.now (map bare_attached sites.old.items) }
     ensures few { IfOk result (λ reply. MakesFew reply 0) }
     ensures plays { IfOk result (λ reply. LanePlays (PushUp number most) star.now (map lane_of sites.old.items)
-        (numbered_reply reply) star.now (map bare_attached sites.new.items)) }
+        reply star.now (map bare_attached sites.new.items)) }
     ensures read { OnOk result (AreRead (PushUp number most) star.now (map lane_of sites.old.items) (map lane_of sites.new.items)) }
     ensures same { OnErr result (map lane_of sites.new.items ≡ map lane_of sites.old.items) }
 {
@@ -207,7 +205,7 @@ fn push_down(
     requires { AreReady star.old (map bare_attached sites.old.items) }
     ensures few { IfOk result (λ reply. MakesFew reply 0) }
     ensures plays { IfOk result (λ reply. LanePlays (PushDown number most) star.old (map lane_of sites.old.items)
-        (numbered_reply reply) star.new (map bare_attached sites.new.items)) }
+        reply star.new (map bare_attached sites.new.items)) }
     ensures read { OnOk result (AreRead (PushDown number most) star.old (map lane_of sites.old.items) (map lane_of sites.new.items)) }
     ensures spared { OnErr result (SitesRest (PushDown number most) star.old (map lane_of sites.old.items) star.new (map lane_of sites.new.items)) }
 {

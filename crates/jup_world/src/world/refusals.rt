@@ -1,7 +1,7 @@
 //! Refusals other than those because an allocation failed.
 ghost use Rattle.std.specs.Prelude.{◌≡◌, true, false, IfOk, OnErr};
-ghost use Rattle.jup_star.specs.StarCalls.{is_no_memory};
-ghost use Rattle.jup_star.specs.SiteCalls.{is_edit_memory};
+ghost use Rattle.jup_star.specs.Stars.{is_no_memory};
+ghost use Rattle.jup_star.specs.Sites.{is_edit_memory};
 
 use jup_star::StarFault;
 use jup_window::EditFault;

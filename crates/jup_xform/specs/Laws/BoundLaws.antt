@@ -1,6 +1,6 @@
 -- The laws that an operation type brings as an implementation of `Transform`, as the records that lemmas take
 use Rattle.jup_xform.specs.contracts.Transform.TheBound.{All}
-use Rattle.jup_xform.specs.Lawful.{IsLawful, KeepsMeaning, KeepsFresh, KeepsRest}
+use Rattle.jup_xform.specs.Grids.{IsLawful, KeepsMeaning, KeepsFresh, KeepsRest}
 
 pub lawful : {Op State Edit : _} {t : _} {dict : _} → All Op State Edit t dict → IsLawful t
 lawful all = record {

@@ -1,16 +1,13 @@
 use Rattle.std.proofs.Common.{◌≡◌, ◌∙◌, ◌+◌, ◌<◌, ◌⊎◌, ℕ, List, Option, Some, None, [], ◌∷◌, ◌++◌, length, take, subst, sym, ap, inl, inr, replicate}
 use Rattle.std.proofs.lemmas.List.{take_more, take_all}
-use Rattle.jup_link.specs.declared.Msg.{Msg}
-use Rattle.jup_window.specs.declared.board_operations.BoardOp.{BoardOp}
-use Rattle.jup_wire.specs.declared.line.Line.{Line}
-use Rattle.jup_wire.specs.Grammar.{IsCount}
-use Rattle.jup_gather.specs.declared.gathered.Gathered.{Gathered}
-use Rattle.jup_gather.specs.declared.gathered.Gathered.TheVariants.{Plain, Held, Misplaced}
-use Rattle.jup_gather.specs.Pieces.{message_lines}
-use Rattle.jup_gather.specs.Gathering.{GathersAll}
-use Rattle.callers.proofs.Sent.{HasSent, one_more_sent, message_of, sent_whole}
+use Rattle.jup_wire.specs.Lines.{IsCount}
+use Rattle.jup_gather.specs.Gathering.{message_lines, GathersAll}
+use Rattle.callers.proofs.Calls.{HasSent, one_more_sent, message_of, sent_whole}
 use Rattle.callers.proofs.edits_sent.send_edit.Goals as goal
 use Rattle.callers.proofs.edits_sent.send_edit.Goals.{in-Whole, in-Plain}
+use Rattle.jup_gather.specs.Prelude.{Msg, BoardOp, Line}
+use Rattle.jup_gather.specs.declared.gathered.Gathered.{Gathered}
+use Rattle.jup_gather.specs.declared.gathered.Gathered.TheVariants.{Plain, Held, Misplaced}
 
 -- a line that ends no message
 ends_none : (g : Gathered) → ((line : Line) × (g ≡ Plain line)) ⊎ ((g ≡ Held) ⊎ (g ≡ Misplaced)) → message_of g ≡ None

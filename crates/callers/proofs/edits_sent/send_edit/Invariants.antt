@@ -1,5 +1,5 @@
 use Rattle.std.proofs.Common.{take}
-use Rattle.callers.proofs.Sent.{HasSent}
+use Rattle.callers.proofs.Calls.{HasSent}
 use Rattle.callers.proofs.edits_sent.send_edit.Given as goal
 
 -- the lines so far, and the message that the last of them ended

@@ -1,6 +1,6 @@
 use Rattle.std.proofs.Common.{ap, ◌∙◌}
-use Rattle.jup_star.specs.SiteCalls.{BoardSite}
-use Rattle.callers.proofs.Joins.{joined_as}
+use Rattle.jup_star.specs.Sites.{BoardSite}
+use Rattle.callers.proofs.Calls.{joined_as}
 use Rattle.callers.proofs.sites.attach.Goals as goal
 
 pub returns-clause-board : goal.returns-clause-board

@@ -1,4 +1,4 @@
-use Rattle.callers.proofs.Joins.{left_none}
+use Rattle.callers.proofs.Calls.{left_none}
 use Rattle.callers.proofs.sites.detach.Goals as goal
 
 pub returns : goal.returns

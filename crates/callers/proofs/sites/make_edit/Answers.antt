@@ -1,5 +1,5 @@
 use Rattle.std.proofs.Common.{[], ◌∷◌}
-use Rattle.callers.proofs.Made.{kept}
+use Rattle.callers.proofs.Calls.{kept}
 use Rattle.callers.proofs.sites.make_edit.Goals as goal
 
 pub returns-clause-same : goal.returns-clause-same

@@ -1,15 +1,12 @@
 use Rattle.std.proofs.Common.{◌≡◌, ◌∙◌, ◌≤◌, refl, inl, inr, ℕ, false, List, None, arith}
-use Rattle.jup_limits.specs.Limits.{highest_limit}
-use Rattle.jup_batch.specs.BoardBatches.{board_batches}
-use Rattle.jup_star.specs.LinkStates.{opened_link}
-use Rattle.jup_star.specs.StarStates.{up_fault}
-use Rattle.jup_star.specs.declared.messages.Up.TheVariants.{Op as UpOp, Ack as UpAck}
-use Rattle.jup_star.specs.declared.faults.StarFault.TheVariants.{BadAck, LogFull}
-use Rattle.jup_world.specs.Events.{Stray, Detached}
-use Rattle.jup_world.specs.BoardWorlds.{BoardEvent, IsReached}
-use Rattle.jup_world.specs.WorldSteps.{outcome}
+use Rattle.jup_world.specs.declared.events.Reply.TheVariants.{Detached}
+use Rattle.jup_world.specs.Events.{Stray}
+use Rattle.jup_world.specs.Boards.{BoardEvent, IsReached}
+use Rattle.jup_world.specs.Worlds.{outcome}
 use Rattle.callers.specs.Crowd.{board, after, pair, crowd, turns_on, told, edited}
 use Rattle.callers.proofs.strangers.meet_a_stranger.Goals as goal
+use Rattle.jup_world.specs.Prelude.{highest_limit, board_batches, opened_link, up_fault, UpOp, UpAck, LogFull}
+use Rattle.jup_star.specs.declared.faults.StarFault.TheVariants.{BadAck}
 
 -- each of these worlds is one that events made
 abbrev reached : (limit : ℕ) (events : List BoardEvent) → limit ≤ highest_limit → IsReached (after limit events)

@@ -1,7 +1,7 @@
 use Rattle.std.proofs.Common.{◌∙◌, sym}
 use Rattle.jup_window.specs.Boards.{bare}
-use Rattle.jup_window.specs.Laws.BareBoards.{has_site-bare}
-use Rattle.jup_window.specs.Laws.NamedCommands.{IsFresh-no_site}
+use Rattle.jup_window.specs.Laws.Entries.{has_site-bare}
+use Rattle.jup_window.specs.Laws.Operations.{IsFresh-no_site}
 use Rattle.core_tests.proofs.boards.named_as.Goals as goal
 
 pub name_it-requires : goal.name_it-requires

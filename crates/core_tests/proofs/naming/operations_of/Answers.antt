@@ -1,6 +1,6 @@
 use Rattle.std.proofs.Common.{◌∙◌, sym}
 use Rattle.jup_window.specs.Boards.{bare}
-use Rattle.jup_window.specs.Laws.BareBoards.{has_site-bare, has_site-held}
+use Rattle.jup_window.specs.Laws.Entries.{has_site-bare, has_site-held}
 use Rattle.core_tests.proofs.naming.operations_of.Goals as goal
 
 pub name_all-requires-clause-known : goal.name_all-requires-clause-known

@@ -1,6 +1,5 @@
 use Rattle.std.proofs.Common.{◌≡◌, ◌+◌, ◌≤◌, drop}
-use Rattle.jup_xform.specs.Batches.{edits}
-use Rattle.jup_window.specs.BoardOperations.{boards, board_operations}
+use Rattle.jup_batch.specs.Prelude.{edits, boards, board_operations}
 use Rattle.jup_batch.specs.Batched.{all_insertions}
 use Rattle.jup_batch.proofs.edits.all_insertions.Given as goal
 

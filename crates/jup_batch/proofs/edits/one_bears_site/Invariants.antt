@@ -1,6 +1,5 @@
 use Rattle.std.proofs.Common.{◌≡◌, drop}
-use Rattle.jup_xform.specs.Batches.{edits}
-use Rattle.jup_window.specs.BoardOperations.{boards, board_operations}
+use Rattle.jup_batch.specs.Prelude.{edits, boards, board_operations}
 use Rattle.jup_batch.specs.Batched.{one_bears_site}
 use Rattle.jup_batch.proofs.edits.one_bears_site.Given as goal
 

@@ -1,6 +1,5 @@
 use Rattle.std.proofs.Common.{◌≡◌, drop}
-use Rattle.jup_xform.specs.Batches.{edits}
-use Rattle.jup_window.specs.BoardOperations.{boards, board_operations}
+use Rattle.jup_batch.specs.Prelude.{edits, boards, board_operations}
 use Rattle.jup_batch.specs.Batched.{one_is_nothing}
 use Rattle.jup_batch.proofs.edits.one_is_nothing.Given as goal
 

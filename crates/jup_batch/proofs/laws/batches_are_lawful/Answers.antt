@@ -1,4 +1,4 @@
-use Rattle.jup_batch.specs.BoardBatches.{batch_laws}
+use Rattle.jup_batch.specs.Boards.{batch_laws}
 use Rattle.jup_batch.proofs.laws.batches_are_lawful.Goals as goal
 
 pub returns : goal.returns

@@ -1,5 +1,5 @@
 use Rattle.std.proofs.Common.{rules, ◌≡◌, Ok, Err, ap, sym, ◌∙◌}
-use Rattle.jup_window.specs.Commands.{map_ok, named_widget, command_place}
+use Rattle.jup_batch.specs.Prelude.{map_ok, named_widget, command_place}
 use Rattle.jup_batch.proofs.LaterCommands.{named_after, unnamed_after}
 use Rattle.jup_batch.proofs.naming.name_after.Goals as goal
 

@@ -1,11 +1,8 @@
 use Rattle.std.proofs.Common.{rules, arith, suc, ◌≡◌, ◌<◌, ◌≤◌, ◌+◌, ◌∷◌, Ok, length, take, drop, sym, ap, ◌∙◌}
 use Rattle.std.proofs.lemmas.List.{drop_more, take_more_set}
-use Rattle.jup_xform.specs.Grid.{after_all}
+use Rattle.jup_batch.specs.Prelude.{after_all, insertions, named, boards, next_name}
 use Rattle.jup_window.specs.Boards.{bare, edit_of}
-use Rattle.jup_window.specs.Edits.{insertions}
-use Rattle.jup_window.specs.Commands.{named}
-use Rattle.jup_window.specs.BoardOperations.{boards, next_name}
-use Rattle.jup_batch.proofs.NamedAll.{AreNamed, one_named}
+use Rattle.jup_batch.proofs.LaterCommands.{AreNamed, one_named}
 use Rattle.jup_batch.proofs.naming.name_all.Goals as goal
 
 pub loop-at-preserved : goal.loop-at-preserved

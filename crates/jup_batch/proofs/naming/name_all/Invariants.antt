@@ -1,6 +1,6 @@
 use Rattle.std.proofs.Common.{◌≡◌, ◌+◌, ◌≤◌, take, drop, length}
 use Rattle.jup_window.specs.Boards.{bare}
-use Rattle.jup_batch.proofs.NamedAll.{AreNamed}
+use Rattle.jup_batch.proofs.LaterCommands.{AreNamed}
 use Rattle.jup_batch.proofs.naming.name_all.Given as goal
 
 -- the commands so far became the operations so far

@@ -1,6 +1,6 @@
 use Rattle.std.proofs.Common.{◌∷◌, ◌++◌, ◌+◌, List, ℕ, take, sym, ap, ◌∙◌}
-use Rattle.jup_number.proofs.Integers.{range_from}
-use Rattle.jup_text.proofs.Splits.{lacks_all, byte_here, lacks_before}
+use Rattle.jup_number.proofs.Numbers.{range_from}
+use Rattle.jup_text.proofs.Quotes.{lacks_all, byte_here, lacks_before}
 use Rattle.jup_board.proofs.cut.cut_at.Goals as goal
 
 pub returns-in_err-end : goal.returns-in_err-end

@@ -1,4 +1,4 @@
-use Rattle.jup_board.proofs.Headings.{heading, heading_passed}
+use Rattle.jup_board.proofs.Texts.{heading, heading_passed}
 use Rattle.jup_board.proofs.heading.behind_heading.Goals as goal
 
 pub returns-clause-rest : goal.returns-clause-rest

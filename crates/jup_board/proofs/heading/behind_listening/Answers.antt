@@ -1,6 +1,6 @@
 use Rattle.std.proofs.Common.{◌≡◌, ◌≢◌, rules}
 use Rattle.std.specs.Prelude.{codes}
-use Rattle.jup_board.proofs.Headings.{listening, uncut_listening, unspaced_listening, other_word}
+use Rattle.jup_board.proofs.Texts.{listening, uncut_listening, unspaced_listening, other_word}
 use Rattle.jup_board.proofs.heading.behind_listening.Goals as goal
 
 pub returns-in_err-line : goal.returns-in_err-line

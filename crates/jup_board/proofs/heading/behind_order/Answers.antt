@@ -1,6 +1,6 @@
 use Rattle.std.proofs.Common.{◌≡◌, ◌≢◌, rules}
 use Rattle.std.specs.Prelude.{codes}
-use Rattle.jup_board.proofs.Headings.{order, uncut_order, unspaced_order, no_number, other_order}
+use Rattle.jup_board.proofs.Texts.{order, uncut_order, unspaced_order, no_number, other_order}
 use Rattle.jup_board.proofs.heading.behind_order.Goals as goal
 
 pub returns-in_err-line : goal.returns-in_err-line

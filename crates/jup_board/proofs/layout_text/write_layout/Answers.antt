@@ -1,7 +1,7 @@
 use Rattle.std.proofs.Common.{subst, rules}
-use Rattle.jup_layout.specs.BoardLines.{board_lines}
-use Rattle.jup_board.specs.Numbered.{Gathered, PutsNumbered}
-use Rattle.jup_board.proofs.Laid.{laid_whole}
+use Rattle.jup_layout.specs.Drafts.{board_lines}
+use Rattle.jup_board.specs.Boards.{Gathered, PutsNumbered}
+use Rattle.jup_board.proofs.Texts.{laid_whole}
 use Rattle.jup_board.proofs.layout_text.write_layout.Goals as goal
 
 pub returns-clause-layout : goal.returns-clause-layout

@@ -1,10 +1,9 @@
 use Rattle.std.proofs.Common.{◌≡◌, true, false, inl, inr, [], ◌∷◌, ◌++◌, List, ℕ, length, sym, ap, subst, ◌∙◌, arith, rules}
 use Rattle.std.proofs.lemmas.List.{length-append}
 use Rattle.jup_text.specs.declared.board_reader.Untaken.TheVariants.{BadLine, NoMemory}
-use Rattle.jup_text.specs.Drafts.{Draft}
-use Rattle.jup_board.specs.Printed.{Lacks, IsReadTo, blank}
-use Rattle.jup_board.proofs.FollowingLines.{GoesOn, board_goes_on}
-use Rattle.jup_board.proofs.Readings.{read_none, read_more, line_left, next_left}
+use Rattle.jup_text.specs.Boards.{Draft}
+use Rattle.jup_board.specs.Boards.{Lacks, IsReadTo, blank}
+use Rattle.jup_board.proofs.FollowingLines.{GoesOn, board_goes_on, read_none, read_more, line_left, next_left}
 use Rattle.jup_board.proofs.reading.read_printed.Goals as goal
 
 pub loop-reader-init : goal.loop-reader-init

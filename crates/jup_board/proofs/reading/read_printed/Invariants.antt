@@ -1,5 +1,5 @@
 use Rattle.std.proofs.Common.{length}
-use Rattle.jup_board.proofs.Readings.{Reads}
+use Rattle.jup_board.proofs.FollowingLines.{Reads}
 use Rattle.jup_board.proofs.reading.read_printed.Given as goal
 
 -- the lines that were taken, and what is left

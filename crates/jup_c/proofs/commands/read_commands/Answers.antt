@@ -1,5 +1,5 @@
 use Rattle.std.proofs.Common.{arith, refl}
-use Rattle.jup_c.proofs.Spelled.{one_more, first_wrong}
+use Rattle.jup_c.proofs.Calls.{one_more, first_wrong}
 use Rattle.jup_c.proofs.commands.read_commands.Goals as goal
 
 pub returns-in-Err-clause-refused : goal.returns-in-Err-clause-refused

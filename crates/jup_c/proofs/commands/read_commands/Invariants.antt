@@ -1,5 +1,5 @@
 use Rattle.std.proofs.Common.{take}
-use Rattle.jup_c.specs.InNumbers.{SpellAll}
+use Rattle.jup_c.specs.Numbers.{SpellAll}
 use Rattle.jup_c.proofs.commands.read_commands.Given as goal
 
 abbrev pub invariant-loop-k : goal.invariant-loop-k

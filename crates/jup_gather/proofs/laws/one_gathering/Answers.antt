@@ -1,4 +1,4 @@
-use Rattle.jup_gather.proofs.OneGathering.{one_gathering}
+use Rattle.jup_gather.proofs.Gathering.{one_gathering}
 use Rattle.jup_gather.proofs.laws.one_gathering.Goals as goal
 
 pub returns : goal.returns

@@ -1,6 +1,6 @@
 use Rattle.std.proofs.Common.{◌∷◌, length, take}
 use Rattle.std.specs.Prelude.{map}
-use Rattle.jup_wire.specs.declared.line.Line.TheVariants.{Batch, Do}
+use Rattle.jup_gather.specs.Prelude.{Batch, Do}
 use Rattle.jup_gather.proofs.lines.put_op.Given as goal
 
 abbrev pub invariant-loop-op : goal.invariant-loop-op

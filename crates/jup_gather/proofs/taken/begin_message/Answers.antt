@@ -1,7 +1,7 @@
 use Rattle.std.proofs.Common.{ap, arith, ◌∷◌, [], Some, List}
-use Rattle.jup_window.specs.declared.board_operations.BoardOp.{BoardOp}
+use Rattle.jup_gather.specs.Prelude.{BoardOp}
 use Rattle.jup_wire.specs.declared.line.Line.TheVariants as lines
-use Rattle.jup_gather.proofs.Begun.{part_is, dos}
+use Rattle.jup_gather.proofs.Gathering.{part_is, dos}
 use Rattle.jup_gather.proofs.taken.begin_message.Goals as goal
 
 pub returns-clause-step : goal.returns-clause-step

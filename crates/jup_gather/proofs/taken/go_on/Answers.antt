@@ -1,7 +1,6 @@
 use Rattle.std.proofs.Common.{Some, refl, arith, sym, subst}
-use Rattle.jup_gather.specs.Gathering.{Gathers}
-use Rattle.jup_gather.specs.Held.{held, part_lines}
-use Rattle.jup_gather.proofs.Begun.{no_place_begun}
+use Rattle.jup_gather.specs.Gathering.{Gathers, held, part_lines}
+use Rattle.jup_gather.proofs.Gathering.{no_place_begun}
 use Rattle.jup_gather.proofs.taken.go_on.Goals as goal
 
 pub returns-in_default : goal.returns-in_default

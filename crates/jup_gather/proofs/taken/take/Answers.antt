@@ -1,9 +1,8 @@
 use Rattle.std.proofs.Common.{◌≡◌, Some, [], ◌∷◌, ◌++◌, refl, arith, ap, sym, subst, ◌∙◌, length}
 use Rattle.std.proofs.lemmas.List.{nil_from_length}
 use Rattle.jup_wire.specs.declared.line.Line.TheVariants as lines
-use Rattle.jup_gather.specs.Gathering.{Gathers}
-use Rattle.jup_gather.specs.Held.{held, part_lines}
-use Rattle.jup_gather.proofs.Begun.{step_held, step_whole}
+use Rattle.jup_gather.specs.Gathering.{Gathers, held, part_lines}
+use Rattle.jup_gather.proofs.Gathering.{step_held, step_whole}
 use Rattle.jup_gather.proofs.taken.take.Goals as goal
 
 pub returns-then-count-eq1 : goal.returns-then-count-eq1

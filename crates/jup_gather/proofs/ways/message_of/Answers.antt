@@ -1,7 +1,7 @@
 use Rattle.std.proofs.Common.{sym, ap, ◌∙◌}
 use Rattle.std.specs.Option.{ok_or}
-use Rattle.jup_gather.specs.declared.gathered.Gathered.TheVariants.{Whole}
-use Rattle.jup_gather.specs.Ways.{message_given}
+use Rattle.jup_gather.specs.Prelude.{Whole}
+use Rattle.jup_gather.specs.Gathering.{message_given}
 use Rattle.jup_gather.proofs.ways.message_of.Goals as goal
 
 pub returns-in-Whole : goal.returns-in-Whole

@@ -1,7 +1,6 @@
 use Rattle.std.proofs.Common.{sym, ap, subst, ◌∙◌}
 use Rattle.std.specs.Prelude.{OnOk}
-use Rattle.jup_gather.specs.Pieces.{Piece, piece_lines}
-use Rattle.jup_gather.specs.Ways.{shape_piece}
+use Rattle.jup_gather.specs.Gathering.{Piece, piece_lines, shape_piece}
 use Rattle.jup_gather.proofs.ways.put_message.Goals as goal
 
 pub returns-in-Edit : goal.returns-in-Edit

@@ -1,6 +1,6 @@
 use Rattle.std.proofs.Common.{sym, ap, subst, ◌∙◌}
-use Rattle.jup_gather.specs.Ways.{shape_piece, IsSound}
-use Rattle.jup_gather.proofs.LinesWritten.{IsPieceWritten, alone_written}
+use Rattle.jup_gather.specs.Gathering.{shape_piece, IsSound}
+use Rattle.jup_gather.proofs.Gathering.{IsPieceWritten, alone_written}
 use Rattle.jup_gather.proofs.writing.write_message.Goals as goal
 
 pub returns-in-Edit : goal.returns-in-Edit

@@ -1,13 +1,11 @@
 use Rattle.std.proofs.Common.{◌≡◌, ◌+◌, ◌*◌, ◌-◌, ◌∷◌, [], ◌++◌, length, take, sym, ap, subst, ◌∙◌, append-nil, arith, le_refl}
 use Rattle.std.proofs.lemmas.Bool.{cond-true}
 use Rattle.std.proofs.lemmas.List.{map-append, take_all}
-use Rattle.jup_wire.specs.declared.line.Line.TheVariants.{Batch, Do}
-use Rattle.jup_wire.specs.Grammar.{is_spelled, spelling, line_bytes}
-use Rattle.jup_wire.proofs.OneMore.{take_more}
-use Rattle.jup_wire.proofs.WholeLines.{batch_short}
-use Rattle.jup_gather.specs.Pieces.{Message}
-use Rattle.jup_gather.proofs.Begun.{dos}
-use Rattle.jup_gather.proofs.LinesWritten.{HasWritten, written, IsPieceWritten, batch_fits, edit_written}
+use Rattle.jup_gather.specs.Prelude.{Batch, Do, take_one_more}
+use Rattle.jup_wire.specs.Lines.{is_spelled, spelling, line_bytes}
+use Rattle.jup_wire.proofs.Readings.{batch_short}
+use Rattle.jup_gather.specs.Gathering.{Message}
+use Rattle.jup_gather.proofs.Gathering.{dos, HasWritten, written, IsPieceWritten, batch_fits, edit_written}
 use Rattle.jup_gather.proofs.writing.write_op.Goals as goal
 
 pub loop-op-init : goal.loop-op-init
@@ -31,7 +29,7 @@ loop-op-preserved c =
     let op = c.op-item.result in
     let batch = Batch c.args.msg.now.mine c.args.msg.now.heard (length ops) in
     let out = c.write_reserved-in-loop-op in
-    let grown : dos (take (at + 1) ops) ≡ dos (take at ops) ++ Do op ∷ [] = ap dos (take_more ops at op c.loop-op-test.true c.op-item.is) ∙ map-append (λ o. Do o) (take at ops) (op ∷ []) in
+    let grown : dos (take (at + 1) ops) ≡ dos (take at ops) ++ Do op ∷ [] = ap dos (take_one_more ops at op c.loop-op-test.true c.op-item.is) ∙ map-append (λ o. Do o) (take at ops) (op ∷ []) in
     subst (λ lines. HasWritten c.args.out.now out.new.out (batch ∷ lines) (106 * (length ops - (at + 1)))) (sym grown)
     (written c.args.out.now c.loop-op.out out.new.out (batch ∷ dos (take at ops)) (Do op) (106 * (length ops - at)) 106 (106 * (length ops - (at + 1)))
     c.loop-op.invariant (omega arith) out.ensures.line out.ensures.items out.ensures.short out.ensures.capacity)

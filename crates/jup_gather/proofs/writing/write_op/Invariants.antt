@@ -1,7 +1,6 @@
 use Rattle.std.proofs.Common.{◌-◌, ◌*◌, ◌∷◌, length, take}
-use Rattle.jup_wire.specs.declared.line.Line.TheVariants.{Batch}
-use Rattle.jup_gather.proofs.Begun.{dos}
-use Rattle.jup_gather.proofs.LinesWritten.{HasWritten}
+use Rattle.jup_gather.specs.Prelude.{Batch}
+use Rattle.jup_gather.proofs.Gathering.{dos, HasWritten}
 use Rattle.jup_gather.proofs.writing.write_op.Given as goal
 
 -- the batch line and the operations so far, and room for the others

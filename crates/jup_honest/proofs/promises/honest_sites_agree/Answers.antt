@@ -1,9 +1,6 @@
-use Rattle.jup_honest.proofs.HonestBacklogs.{run-backlog}
-use Rattle.jup_honest.proofs.HonestCauses.{causal_through}
-use Rattle.jup_honest.proofs.HonestKept.{run-history, run-shows, run-well, run-site, run-link, runs-agree}
-use Rattle.jup_honest.proofs.HonestOpens.{run-opens}
-use Rattle.jup_honest.proofs.HonestOrder.{run-order}
-use Rattle.jup_honest.proofs.HonestRemains.{run-remains}
+use Rattle.jup_honest.proofs.Backlogs.{run-backlog, causal_through, run-opens}
+use Rattle.jup_honest.proofs.Runs.{run-history, run-shows, run-well, run-site, run-link, runs-agree}
+use Rattle.jup_honest.proofs.Orders.{run-order, run-remains}
 use Rattle.jup_honest.proofs.promises.honest_sites_agree.Goals as goal
 
 pub returns-clause-history : goal.returns-clause-history

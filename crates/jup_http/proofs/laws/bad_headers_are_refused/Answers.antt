@@ -1,4 +1,4 @@
-use Rattle.jup_http.proofs.ArrivalLemmas.{bad_header}
+use Rattle.jup_http.proofs.Frames.{bad_header}
 use Rattle.jup_http.proofs.laws.bad_headers_are_refused.Goals as goal
 
 pub returns : goal.returns

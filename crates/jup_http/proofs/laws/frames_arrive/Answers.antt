@@ -1,4 +1,4 @@
-use Rattle.jup_http.proofs.ArrivalLemmas.{frames_arrive}
+use Rattle.jup_http.proofs.Frames.{frames_arrive}
 use Rattle.jup_http.proofs.laws.frames_arrive.Goals as goal
 
 pub returns : goal.returns

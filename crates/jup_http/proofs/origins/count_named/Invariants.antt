@@ -1,7 +1,7 @@
 use Rattle.std.proofs.Common.{◌≡◌, ◌+◌, ◌≤◌, drop}
 use Rattle.std.specs.Prelude.{count_by}
 use Rattle.websocket.specs.Headers.{fields_of}
-use Rattle.jup_http.specs.Requests.{is_named}
+use Rattle.jup_http.specs.Heads.{is_named}
 use Rattle.jup_http.proofs.origins.count_named.Given as goal
 
 abbrev pub invariant-loop-span : goal.invariant-loop-span

@@ -1,5 +1,5 @@
 use Rattle.std.proofs.Common.{ℕ, ◌-◌, drop, arith, length-take, length-drop}
-use Rattle.jup_http.proofs.ReaderLemmas.{untaken_after}
+use Rattle.jup_http.proofs.Frames.{untaken_after}
 use Rattle.jup_http.proofs.reader.unframe_part.Goals as goal
 
 pub returns-clause-told : goal.returns-clause-told

@@ -1,4 +1,4 @@
-use Rattle.jup_http.proofs.RequestLemmas.{no_upgrade}
+use Rattle.jup_http.proofs.Heads.{no_upgrade}
 use Rattle.jup_http.proofs.request.judge_upgrade.Goals as goal
 
 pub returns-in-Err : goal.returns-in-Err

@@ -1,6 +1,6 @@
 use Rattle.std.specs.Prelude.{decimal}
-use Rattle.jup_http.specs.Responses.{media_type, guard_lines}
-use Rattle.jup_http.proofs.ResponseLemmas.{same_text, lines_in_order}
+use Rattle.jup_http.specs.Heads.{media_type, guard_lines}
+use Rattle.jup_http.proofs.Heads.{same_text, lines_in_order}
 use Rattle.jup_http.proofs.responses.body_head.Goals as goal
 
 pub returns : goal.returns

@@ -2,7 +2,7 @@ use Rattle.std.proofs.Common.{◌≡◌, ℕ, List, ◌++◌, sym, ap, ◌∙◌
 use Rattle.std.proofs.lemmas.List.{take_rest}
 use Rattle.std.specs.Io.KnownBytes.{Appends}
 use Rattle.std.proofs.KnownBytes.{Appends-trans}
-use Rattle.jup_http.proofs.ReaderLemmas.{appends_kept}
+use Rattle.jup_http.proofs.Frames.{appends_kept}
 use Rattle.jup_http.proofs.sending.write_whole.Goals as goal
 use Rattle.jup_http.proofs.sending.write_whole.Goals.{in-Ok, in-Err+else-ne}
 

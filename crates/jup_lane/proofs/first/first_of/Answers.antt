@@ -1,6 +1,6 @@
 use Rattle.std.proofs.Common.{◌++◌, ap, ◌∙◌}
-use Rattle.jup_gather.proofs.Begun.{no_part}
-use Rattle.jup_lane.proofs.Firsts.{held_first, held_more, first_found, none_found}
+use Rattle.jup_gather.proofs.Gathering.{no_part}
+use Rattle.jup_lane.proofs.Trays.{held_first, held_more, first_found, none_found}
 use Rattle.jup_lane.proofs.first.first_of.Goals as goal
 
 pub loop-line-init : goal.loop-line-init

@@ -1,5 +1,5 @@
 use Rattle.std.proofs.Common.{◌++◌}
-use Rattle.jup_lane.proofs.Firsts.{IsHeld}
+use Rattle.jup_lane.proofs.Trays.{IsHeld}
 use Rattle.jup_lane.proofs.first.first_of.Given as goal
 
 -- the lines so far are a part of a message, which is held

@@ -1,8 +1,7 @@
 use Rattle.std.proofs.Common.{sym, subst, arith}
 use Rattle.std.proofs.lemmas.List.{nil_from_length}
-use Rattle.jup_gather.specs.Pieces.{BeginsNone}
-use Rattle.jup_gather.proofs.Begun.{no_part}
-use Rattle.jup_gather.proofs.OneGathering.{part_begins_none}
+use Rattle.jup_gather.specs.Gathering.{BeginsNone}
+use Rattle.jup_gather.proofs.Gathering.{no_part, part_begins_none}
 use Rattle.jup_lane.proofs.first.is_short.Goals as goal
 
 pub returns-in-None : goal.returns-in-None

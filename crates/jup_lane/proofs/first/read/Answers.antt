@@ -1,6 +1,6 @@
 use Rattle.std.proofs.Common.{sym, ap, subst}
-use Rattle.jup_wire.specs.Singles.{BeginsLines}
-use Rattle.jup_gather.specs.Pieces.{piece_lines}
+use Rattle.jup_wire.specs.Lines.{BeginsLines}
+use Rattle.jup_gather.specs.Gathering.{piece_lines}
 use Rattle.jup_lane.proofs.first.read.Goals as goal
 
 pub returns : goal.returns

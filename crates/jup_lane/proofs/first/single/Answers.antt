@@ -1,4 +1,4 @@
-use Rattle.jup_lane.proofs.Firsts.{single_there}
+use Rattle.jup_lane.proofs.Trays.{single_there}
 use Rattle.jup_lane.proofs.first.single.Goals as goal
 
 pub returns : goal.returns

@@ -1,6 +1,6 @@
 use Rattle.std.proofs.Common.{◌≡◌, ◌<◌, arith, subst, sym, length, get_or}
-use Rattle.jup_layout.specs.BoardLines.{window_lines, IsWindow}
-use Rattle.jup_wire.proofs.OneMore.{flat_map_more, all_more}
+use Rattle.jup_layout.specs.Drafts.{window_lines, IsWindow}
+use Rattle.jup_wire.proofs.Streams.{flat_map_more, all_more}
 use Rattle.jup_layout.proofs.board_lines.put_board.Goals as goal
 
 pub loop-win-preserved : goal.loop-win-preserved

@@ -1,6 +1,6 @@
 use Rattle.std.proofs.Common.{take}
 use Rattle.std.specs.List.{flat_map, AllByRecursion}
-use Rattle.jup_layout.specs.BoardLines.{window_lines, IsWindow}
+use Rattle.jup_layout.specs.Drafts.{window_lines, IsWindow}
 use Rattle.jup_layout.proofs.board_lines.put_board.Given as goal
 
 abbrev pub invariant-loop-win : goal.invariant-loop-win

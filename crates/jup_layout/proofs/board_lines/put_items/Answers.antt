@@ -1,5 +1,5 @@
 use Rattle.std.proofs.Common.{[], ◌∷◌, sym, subst}
-use Rattle.jup_layout.specs.BoardLines.{item_lines}
+use Rattle.jup_layout.specs.Drafts.{item_lines}
 use Rattle.jup_layout.proofs.board_lines.put_items.Goals as goal
 
 pub loop-item-preserved : goal.loop-item-preserved

@@ -1,4 +1,4 @@
-use Rattle.jup_layout.specs.BoardLines.{item_lines}
+use Rattle.jup_layout.specs.Drafts.{item_lines}
 use Rattle.jup_layout.proofs.board_lines.put_items.Given as goal
 
 -- what takes the lines of the items that are left has taken all

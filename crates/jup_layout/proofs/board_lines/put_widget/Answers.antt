@@ -1,6 +1,6 @@
 use Rattle.std.proofs.Common.{sym, subst}
 use Rattle.std.proofs.lemmas.Result.{on_ok_weaker}
-use Rattle.jup_layout.specs.BoardLines.{widget_lines}
+use Rattle.jup_layout.specs.Drafts.{widget_lines}
 use Rattle.jup_layout.proofs.board_lines.put_widget.Goals as goal
 
 pub returns-in_ok-put-in-Text-clause-lines : goal.returns-in_ok-put-in-Text-clause-lines

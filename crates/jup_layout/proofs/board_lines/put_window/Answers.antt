@@ -1,7 +1,7 @@
 use Rattle.std.proofs.Common.{◌≡◌, ◌<◌, arith, subst, sym, ◌∷◌, length, get_or}
 use Rattle.jup_wire.specs.declared.line.Line.TheVariants as line
-use Rattle.jup_layout.specs.BoardLines.{widget_lines, IsWidget}
-use Rattle.jup_wire.proofs.OneMore.{flat_map_more, all_more}
+use Rattle.jup_layout.specs.Drafts.{widget_lines, IsWidget}
+use Rattle.jup_wire.proofs.Streams.{flat_map_more, all_more}
 use Rattle.jup_layout.proofs.board_lines.put_window.Goals as goal
 
 pub loop-wid-preserved : goal.loop-wid-preserved

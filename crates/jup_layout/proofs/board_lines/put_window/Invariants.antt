@@ -1,7 +1,7 @@
 use Rattle.std.proofs.Common.{take, ◌∷◌}
 use Rattle.std.specs.List.{flat_map, AllByRecursion}
 use Rattle.jup_wire.specs.declared.line.Line.TheVariants as line
-use Rattle.jup_layout.specs.BoardLines.{widget_lines, IsWidget}
+use Rattle.jup_layout.specs.Drafts.{widget_lines, IsWidget}
 use Rattle.jup_layout.proofs.board_lines.put_window.Given as goal
 
 abbrev pub invariant-loop-wid : goal.invariant-loop-wid

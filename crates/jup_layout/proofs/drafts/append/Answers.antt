@@ -1,4 +1,4 @@
-use Rattle.jup_layout.proofs.HeldNames.{adds_at_end}
+use Rattle.jup_layout.proofs.Drafting.{adds_at_end}
 use Rattle.jup_layout.proofs.drafts.append.Goals as goal
 
 pub returns-in_default-is_new-clause-appended : goal.returns-in_default-is_new-clause-appended

@@ -1,6 +1,6 @@
-use Rattle.jup_layout.specs.declared.naming.Naming.TheVariants.{Distinct}
-use Rattle.jup_layout.proofs.BoardsBack.{back}
-use Rattle.jup_layout.proofs.SaidTexts.{made_said, made_every}
+use Rattle.jup_layout.specs.Prelude.{Distinct}
+use Rattle.jup_layout.proofs.Boards.{back}
+use Rattle.jup_layout.proofs.Texts.{made_said, made_every}
 use Rattle.jup_layout.proofs.layouts.board_of.Goals as goal
 
 pub returns-clause-said : goal.returns-clause-said

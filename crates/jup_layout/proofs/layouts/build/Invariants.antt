@@ -1,5 +1,5 @@
 use Rattle.std.proofs.Common.{take}
-use Rattle.jup_layout.specs.Layouts.{HasTaken}
+use Rattle.jup_layout.specs.Drafts.{HasTaken}
 use Rattle.jup_layout.proofs.layouts.build.Given as goal
 
 -- it holds what the lines so far describe

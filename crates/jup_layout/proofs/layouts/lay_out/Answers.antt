@@ -1,5 +1,5 @@
 use Rattle.std.proofs.Common.{[], length, ap, arith}
-use Rattle.jup_layout.proofs.Counts.{lines_fit}
+use Rattle.jup_layout.proofs.Texts.{lines_fit}
 use Rattle.jup_layout.proofs.layouts.lay_out.Goals as goal
 
 pub overflow_cast-result : goal.overflow_cast-result

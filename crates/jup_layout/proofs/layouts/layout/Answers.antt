@@ -1,5 +1,4 @@
-use Rattle.jup_layout.proofs.LayoutTexts.{accepts, as_lines}
-use Rattle.jup_layout.proofs.SaidTexts.{text_said, text_every}
+use Rattle.jup_layout.proofs.Texts.{accepts, as_lines, text_said, text_every}
 use Rattle.jup_layout.proofs.layouts.layout.Goals as goal
 
 pub returns-clause-said : goal.returns-clause-said

@@ -1,4 +1,4 @@
-use Rattle.jup_xform.specs.Lawful.{IsLawful}
+use Rattle.jup_xform.specs.Grids.{IsLawful}
 use Rattle.jup_link.proofs.PairLaws.{ends_agree_lem}
 use Rattle.jup_link.proofs.agree.ends_agree.Goals as goal
 

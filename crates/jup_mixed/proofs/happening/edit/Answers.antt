@@ -1,4 +1,4 @@
-use Rattle.jup_mixed.proofs.MixPlaying.{edit_plays_at}
+use Rattle.jup_mixed.proofs.Programs.{edit_plays_at}
 use Rattle.jup_mixed.proofs.happening.edit.Goals as goal
 
 pub returns-in-Some-clause-plays : goal.returns-in-Some-clause-plays

@@ -1,7 +1,7 @@
 use Rattle.std.proofs.Common.{◌∙◌, ap, sym, Some}
-use Rattle.jup_world.proofs.CallFacts.{join_joined, join_refused}
-use Rattle.jup_world.proofs.EventPlays.{number_is}
-use Rattle.jup_mixed.proofs.MixPlaying.{plays_joined, plays_no_join}
+use Rattle.jup_world.proofs.Answers.{join_joined, join_refused}
+use Rattle.jup_world.proofs.Happenings.{number_is}
+use Rattle.jup_mixed.proofs.Programs.{plays_joined, plays_no_join}
 use Rattle.jup_mixed.proofs.happening.join_stray.Goals as goal
 
 pub returns-in-Ok-clause-plays : goal.returns-in-Ok-clause-plays

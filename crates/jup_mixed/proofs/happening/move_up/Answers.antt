@@ -1,4 +1,4 @@
-use Rattle.jup_mixed.proofs.MixPlaying.{up_plays_at, refused_plays_at}
+use Rattle.jup_mixed.proofs.Programs.{up_plays_at, refused_plays_at}
 use Rattle.jup_mixed.proofs.happening.move_up.Goals as goal
 
 pub returns-in-Ok-clause-plays : goal.returns-in-Ok-clause-plays

@@ -1,9 +1,8 @@
 use Rattle.std.proofs.Common.{◌∙◌, ap, sym, not, ne_eqb}
-use Rattle.jup_batch.specs.BoardBatches.{board_batches}
-use Rattle.jup_star.specs.StarStates.{link_of}
-use Rattle.jup_world.specs.WorldSteps.{place_reply}
-use Rattle.jup_world.proofs.CallFacts.{take_taken, take_refused}
-use Rattle.jup_mixed.proofs.MixPlaying.{waits_there, plays_stray, plays_stray_refused}
+use Rattle.jup_mixed.specs.Prelude.{board_batches, link_of}
+use Rattle.jup_world.specs.Worlds.{place_reply}
+use Rattle.jup_world.proofs.Answers.{take_taken, take_refused}
+use Rattle.jup_mixed.proofs.Programs.{waits_there, plays_stray, plays_stray_refused}
 use Rattle.jup_mixed.proofs.happening.take_stray.Goals as goal
 
 pub returns-in-Ok-Some-clause-plays : goal.returns-in-Ok-Some-clause-plays

@@ -1,10 +1,5 @@
-use Rattle.jup_batch.specs.BoardBatches.{board_batches}
-use Rattle.jup_batch.specs.BoardBatches.{batch_laws}
-use Rattle.jup_star.specs.StarStates.{most_batches}
-use Rattle.jup_world.proofs.Copies.BoardOrders.{order_symmetric}
-use Rattle.jup_mixed.proofs.MixHolds.{home-promises, home-full, home-order, home-copies}
-use Rattle.jup_mixed.proofs.MixStrays.{all-replies}
-use Rattle.jup_mixed.proofs.MixReached.{home-reached, past-reached}
+use Rattle.jup_mixed.specs.Prelude.{board_batches, batch_laws, most_batches, order_symmetric}
+use Rattle.jup_mixed.proofs.Worlds.{home-promises, home-full, home-order, home-copies, all-replies, home-reached, past-reached}
 use Rattle.jup_mixed.proofs.promises.mixed_agree.Goals as goal
 
 pub returns-clause-kept : goal.returns-clause-kept

@@ -1,6 +1,6 @@
 use Rattle.std.proofs.Common.{subst}
 use Rattle.jup_rules.specs.Clients.{HasTold}
-use Rattle.jup_rules.proofs.Welcoming.{refused_still}
+use Rattle.jup_rules.proofs.Clients.{refused_still}
 use Rattle.jup_rules.proofs.client.extended.Goals as goal
 
 pub returns-in-Err : goal.returns-in-Err

@@ -1,7 +1,7 @@
 use Rattle.std.proofs.Common.{refl, ap, sym, subst, ◌∙◌, ◌++◌, ◌∷◌, [], None, Some, if◌then◌else◌}
-use Rattle.jup_rules.specs.declared.client.Request.{Request}
-use Rattle.jup_rules.specs.Requests.{IsRequestOf, begun}
-use Rattle.jup_rules.proofs.Asked.{IsNext, some_next, none_next, goes_on, ends_whole, ends_bad}
+use Rattle.jup_rules.specs.Prelude.{Request}
+use Rattle.jup_rules.specs.Clients.{IsRequestOf, begun}
+use Rattle.jup_rules.proofs.Clients.{IsNext, some_next, none_next, goes_on, ends_whole, ends_bad}
 use Rattle.jup_rules.proofs.client.go_on.Goals.{in-Some, in-None, then-is_bad, else-is_bad}
 use Rattle.jup_rules.proofs.client.go_on.Goals as goal
 

@@ -1,4 +1,4 @@
-use Rattle.jup_rules.proofs.SiteLines.{refused_unsaid}
+use Rattle.jup_rules.proofs.Sessions.{refused_unsaid}
 use Rattle.jup_rules.proofs.session.hear_site.Goals as goal
 
 pub returns-in-Ok-clause-refused : goal.returns-in-Ok-clause-refused

@@ -1,6 +1,6 @@
 use Rattle.std.proofs.Common.{arith, subst, sym}
-use Rattle.jup_wire.proofs.OneMore.{flat_map_more}
-use Rattle.jup_rules.specs.Messages.{down_lines}
+use Rattle.jup_wire.proofs.Streams.{flat_map_more}
+use Rattle.jup_rules.specs.Sessions.{down_lines}
 use Rattle.jup_rules.proofs.session.put_downs.Goals as goal
 
 pub loop-down-preserved : goal.loop-down-preserved

@@ -1,6 +1,6 @@
 use Rattle.std.proofs.Common.{take}
 use Rattle.std.specs.List.{flat_map}
-use Rattle.jup_rules.specs.Messages.{down_lines}
+use Rattle.jup_rules.specs.Sessions.{down_lines}
 use Rattle.jup_rules.proofs.session.put_downs.Given as goal
 
 abbrev pub invariant-loop-down : goal.invariant-loop-down

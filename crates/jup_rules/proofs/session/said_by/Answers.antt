@@ -1,6 +1,6 @@
 use Rattle.std.proofs.Common.{sym, ap, subst, ◌∙◌}
-use Rattle.jup_rules.specs.Messages.{said_heard, IsSaidBy}
-use Rattle.jup_rules.proofs.SiteLines.{is_said}
+use Rattle.jup_rules.specs.Sessions.{said_heard, IsSaidBy}
+use Rattle.jup_rules.proofs.Sessions.{is_said}
 use Rattle.jup_rules.proofs.session.said_by.Goals as goal
 
 pub returns : goal.returns

@@ -1,7 +1,7 @@
 use Rattle.std.proofs.Common.{◌≡◌, ◌++◌, ◌∙◌, List, ℕ, length, sym, ap, codes}
 use Rattle.jup_text.specs.Boards.{board_text}
-use Rattle.jup_rules.specs.Texts.{line_of, numbered}
-use Rattle.jup_rules.proofs.BareTexts.{board_text-bare}
+use Rattle.jup_rules.specs.Clients.{line_of, numbered}
+use Rattle.jup_rules.proofs.Clients.{board_text-bare}
 use Rattle.jup_rules.proofs.words.report_text.Goals as goal
 
 pub returns : goal.returns

@@ -1,4 +1,4 @@
-use Rattle.jup_served.proofs.ClientWalks.{client_shows}
+use Rattle.jup_served.proofs.Runs.{client_shows}
 use Rattle.jup_served.proofs.promises.clients_show_their_sites.Goals as goal
 
 pub returns : goal.returns

@@ -1,5 +1,5 @@
 use Rattle.std.proofs.Common.{inl, inr, refl, ◌∷◌, []}
-use Rattle.jup_served.proofs.HubRuns.{hub_honest}
+use Rattle.jup_served.proofs.Runs.{hub_honest}
 use Rattle.jup_served.proofs.Witness.{board, run_one, run_two, session_one, session_two, log, hub, served_one, served_two, drained, two_entries, said_two, client_first, client_last, walk_two}
 use Rattle.jup_served.proofs.promises.served_runs_exist.Goals as goal
 

@@ -1,7 +1,6 @@
-use Rattle.jup_honest.proofs.HonestKept.{runs-agree}
-use Rattle.jup_served.proofs.Owned.{owned, closed}
-use Rattle.jup_served.proofs.ServedRuns.{served_honest}
-use Rattle.jup_served.proofs.HubRuns.{hub_honest}
+use Rattle.jup_honest.proofs.Runs.{runs-agree}
+use Rattle.jup_served.proofs.Hubs.{owned, closed}
+use Rattle.jup_served.proofs.Runs.{served_honest, hub_honest}
 use Rattle.jup_served.proofs.promises.served_sites_are_honest.Goals as goal
 
 pub returns-clause-honest : goal.returns-clause-honest

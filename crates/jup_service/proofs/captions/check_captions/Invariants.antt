@@ -1,5 +1,5 @@
 use Rattle.std.proofs.Common.{length}
-use Rattle.jup_service.specs.Captions.{AreCaptionsTo}
+use Rattle.jup_service.specs.Servers.{AreCaptionsTo}
 use Rattle.jup_service.proofs.captions.check_captions.Given as goal
 
 -- the lines that were read are captions

@@ -1,4 +1,4 @@
-use Rattle.jup_socket.proofs.ClientSteps.{edit_step, deliver_step, opened_client}
+use Rattle.jup_socket.proofs.Sockets.{edit_step, deliver_step, opened_client}
 use Rattle.jup_socket.proofs.promises.clients_are_honest.Goals as goal
 
 pub returns-clause-edit : goal.returns-clause-edit

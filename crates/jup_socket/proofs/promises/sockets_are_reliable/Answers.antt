@@ -1,4 +1,4 @@
-use Rattle.jup_socket.proofs.SocketLaws.{at_reliable, socket_run, causal_run, greeted, opened}
+use Rattle.jup_socket.proofs.Sockets.{at_reliable, socket_run, causal_run, greeted, opened}
 use Rattle.jup_socket.proofs.promises.sockets_are_reliable.Goals as goal
 
 pub returns-clause-reliable : goal.returns-clause-reliable

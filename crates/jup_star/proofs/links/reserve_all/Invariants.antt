@@ -1,6 +1,6 @@
 use Rattle.std.proofs.Common.{◌≡◌, map, take}
-use Rattle.jup_batch.specs.BatchBoards.{shape}
-use Rattle.jup_star.specs.Rooms.{bare_link, AllHaveRoom}
+use Rattle.jup_star.specs.Prelude.{shape}
+use Rattle.jup_star.specs.Stars.{bare_link, AllHaveRoom}
 use Rattle.jup_star.proofs.links.reserve_all.Given as goal
 
 abbrev pub invariant-loop-link : goal.invariant-loop-link

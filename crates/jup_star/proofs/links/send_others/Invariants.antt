@@ -1,7 +1,6 @@
 use Rattle.std.proofs.Common.{◌≡◌, ◌++◌, map, take, drop, cond}
-use Rattle.jup_star.specs.LinkStates.{is_of, link_sent}
-use Rattle.jup_batch.specs.BatchBoards.{shape}
-use Rattle.jup_star.specs.Rooms.{bare_link, OthersHaveRoom, AllCount}
+use Rattle.jup_star.specs.Stars.{is_of, link_sent, bare_link, OthersHaveRoom, AllCount}
+use Rattle.jup_star.specs.Prelude.{shape}
 use Rattle.jup_star.proofs.links.send_others.Given as goal
 
 abbrev pub invariant-loop-link : goal.invariant-loop-link

@@ -1,7 +1,7 @@
 use Rattle.std.proofs.Common.{◌<◌, ◌∙◌, ap, sym, length, arith}
 use Rattle.std.proofs.lemmas.Grind.{common_steps}
 use Rattle.jup_star.specs.declared.link.Link.{Link}
-use Rattle.jup_star.proofs.Lists.LinkPlaces.{apart_place}
+use Rattle.jup_star.proofs.LinkChanges.{apart_place}
 use Rattle.jup_star.proofs.links.stands_at.Goals as goal
 
 pub returns-in-Some : goal.returns-in-Some

@@ -1,9 +1,9 @@
 use Rattle.std.proofs.Common.{rules, ◌≡◌, true, refl}
 use Rattle.std.specs.Prelude.{nat_le}
 use Rattle.std.proofs.lemmas.Bool.{le-leb}
-use Rattle.jup_batch.specs.BatchBoards as board
-use Rattle.jup_batch.specs.Laws.BatchRooms.{inserts_where_room_lacks}
-use Rattle.jup_star.specs.SiteCalls.{asks_room}
+use Rattle.jup_batch.specs.Boards as board
+use Rattle.jup_batch.specs.Laws.Boards.{inserts_where_room_lacks}
+use Rattle.jup_star.specs.Sites.{asks_room}
 use Rattle.jup_star.proofs.site.reserve_shown.Goals as goal
 
 pub returns-in_err-reserve-clause-asks : goal.returns-in_err-reserve-clause-asks

@@ -1,8 +1,7 @@
 use Rattle.std.proofs.Common.{subst, sym, ◌∙◌, arith}
-use Rattle.jup_batch.specs.BatchBoards.{BoardBatch}
-use Rattle.jup_batch.specs.BatchBoards as board
-use Rattle.jup_batch.specs.BoardBatches.{batch_laws}
-use Rattle.jup_star.proofs.Carrying.{room_operation}
+use Rattle.jup_star.specs.Prelude.{BoardBatch, batch_laws}
+use Rattle.jup_batch.specs.Boards as board
+use Rattle.jup_star.proofs.Stars.{room_operation}
 use Rattle.jup_star.proofs.site.show.Goals as goal
 
 pub apply-requires : goal.apply-requires

@@ -1,14 +1,9 @@
 use Rattle.std.proofs.Common.{◌≡◌, ap, ◌∙◌, sym, map, subst, length, arith, List, cond}
-use Rattle.jup_batch.specs.BatchBoards.{BoardBatch}
-use Rattle.jup_batch.specs.BatchBoards as board
-use Rattle.jup_batch.specs.BoardBatches.{batch_laws, board_batches}
-use Rattle.jup_star.specs.LinkStates.{is_of, link_sent}
-use Rattle.jup_star.specs.StarStates.{without, links_after}
-use Rattle.jup_star.specs.StarCalls.{BoardLink}
-use Rattle.jup_star.specs.Rooms.{bare_link, AllCount}
-use Rattle.jup_star.proofs.LinkChanges.{found_some, without_set}
-use Rattle.jup_star.proofs.Lists.LinkLists.{lent_back}
-use Rattle.jup_star.proofs.Carrying.{room_operation, shape_operation, found_of, counted_heard, all_after}
+use Rattle.jup_star.specs.Prelude.{BoardBatch, batch_laws, board_batches}
+use Rattle.jup_batch.specs.Boards as board
+use Rattle.jup_star.specs.Stars.{is_of, link_sent, without, links_after, BoardLink, bare_link, AllCount}
+use Rattle.jup_star.proofs.LinkChanges.{found_some, without_set, lent_back}
+use Rattle.jup_star.proofs.Stars.{room_operation, shape_operation, found_of, counted_heard, all_after}
 use Rattle.jup_star.proofs.Relabels.{accepted_relabels}
 use Rattle.jup_star.proofs.take.carry_out.Goals as goal
 

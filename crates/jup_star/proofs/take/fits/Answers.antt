@@ -1,6 +1,6 @@
-use Rattle.jup_batch.specs.BatchBoards as board
-use Rattle.jup_batch.specs.BoardBatches.{batch_laws}
-use Rattle.jup_star.proofs.SameTests.{same_test}
+use Rattle.jup_batch.specs.Boards as board
+use Rattle.jup_star.specs.Prelude.{batch_laws}
+use Rattle.jup_star.proofs.FaultTests.{same_test}
 use Rattle.jup_star.proofs.take.fits.Goals as goal
 
 pub returns : goal.returns

@@ -1,13 +1,10 @@
 use Rattle.std.proofs.Common.{ap, ◌∙◌, sym, map, subst, slice_set, ◌≤◌}
 use Rattle.std.proofs.lemmas.List.{map-set}
-use Rattle.jup_batch.specs.BoardBatches.{board_batches}
-use Rattle.jup_batch.specs.BatchBoards.{shape}
+use Rattle.jup_star.specs.Prelude.{board_batches, shape}
 use Rattle.jup_star.specs.declared.link.Link.{Link}
-use Rattle.jup_star.specs.LinkStates.{is_of, operation_at, link_heard}
-use Rattle.jup_star.specs.StarCalls.{BoardLink}
-use Rattle.jup_star.specs.Rooms.{bare_link}
-use Rattle.jup_star.proofs.Lists.LinkSteps.{place_below, can_hear, found_is, place_of_site}
-use Rattle.jup_star.proofs.Lists.LinkLists.{others_set, has_room_at}
+use Rattle.jup_star.specs.Stars.{is_of, operation_at, link_heard, BoardLink, bare_link}
+use Rattle.jup_star.proofs.Stars.{place_below, can_hear, found_is, place_of_site}
+use Rattle.jup_star.proofs.LinkChanges.{others_set, has_room_at}
 use Rattle.jup_star.proofs.take.hear_at.Goals as goal
 
 pub hear-requires-clause-number : goal.hear-requires-clause-number

@@ -1,5 +1,5 @@
-use Rattle.jup_stream.specs.Puts.{Put, put_as, Puts}
-use Rattle.jup_stream.proofs.Putting.{puts_dropped, puts_behind}
+use Rattle.jup_stream.specs.Streams.{Put, put_as, Puts}
+use Rattle.jup_stream.proofs.Streams.{puts_dropped, puts_behind}
 use Rattle.jup_stream.proofs.output.put_out.Goals as goal
 
 pub returns-then-has_failed-clause-puts : goal.returns-then-has_failed-clause-puts

@@ -2,7 +2,7 @@ use Rattle.std.proofs.Common.{◌≡◌, ℕ, ◌-◌, List, [], ◌++◌, IsTru
 use Rattle.std.proofs.lemmas.List.{take_rest}
 use Rattle.std.specs.Io.KnownBytes.{Appends}
 use Rattle.std.proofs.KnownBytes.{Appends-trans}
-use Rattle.jup_stream.proofs.Putting.{appends_kept}
+use Rattle.jup_stream.proofs.Streams.{appends_kept}
 use Rattle.jup_stream.proofs.output.write_bytes.Goals as goal
 use Rattle.jup_stream.proofs.output.write_bytes.Goals.{in-Ok, in-Err+else-not-is_interrupted}
 

@@ -1,8 +1,8 @@
 use Rattle.std.proofs.Common.{ℕ, List, [], ◌∷◌, ◌++◌, sym, ap, ◌∙◌, append_assoc, rules}
 use Rattle.std.proofs.Output.{has_written_append, has_written_of_eq}
 use Rattle.std.proofs.lemmas.List.{flat_map_more}
-use Rattle.jup_value.specs.declared.names.Item.{Item}
-use Rattle.jup_text.specs.Quotes.{quoted}
+use Rattle.jup_text.specs.Prelude.{Item}
+use Rattle.jup_text.specs.Words.{quoted}
 use Rattle.jup_text.proofs.boards.write_labels.Goals as goal
 
 pub loop-item-preserved : goal.loop-item-preserved

@@ -1,8 +1,8 @@
 use Rattle.std.proofs.Common.{◌≡◌, ◌∷◌, ◌++◌, List, ℕ}
 use Rattle.std.specs.Fmt.{HasWritten, IsPlainFormatter}
 use Rattle.std.specs.List.{flat_map}
-use Rattle.jup_value.specs.declared.names.Item.{Item}
-use Rattle.jup_text.specs.Quotes.{quoted}
+use Rattle.jup_text.specs.Prelude.{Item}
+use Rattle.jup_text.specs.Words.{quoted}
 use Rattle.jup_text.proofs.boards.write_labels.Given as goal
 
 -- the labels so far are written, and the items that are left

@@ -4,9 +4,9 @@ use Rattle.std.specs.Fmt.{HasWritten}
 use Rattle.std.specs.List.{flat_map}
 use Rattle.std.proofs.Output.{has_written_of_eq}
 use Rattle.std.proofs.lemmas.Grind.{put_three}
-use Rattle.jup_value.specs.declared.names.Item.{Item}
-use Rattle.jup_text.specs.Quotes.{quoted}
-use Rattle.jup_text.proofs.Printing.{labels_line, slider_line}
+use Rattle.jup_text.specs.Prelude.{Item}
+use Rattle.jup_text.specs.Words.{quoted}
+use Rattle.jup_text.proofs.BoardLines.{labels_line, slider_line}
 use Rattle.jup_text.proofs.boards.write_widget.Goals as goal
 
 pub returns-in-Slider : goal.returns-in-Slider

@@ -1,4 +1,4 @@
-use Rattle.jup_text.proofs.OneCommand.{read_again}
+use Rattle.jup_text.proofs.CommandWords.{read_again}
 use Rattle.jup_text.proofs.commands.read_command.Goals as goal
 
 pub returns-clause-every : goal.returns-clause-every

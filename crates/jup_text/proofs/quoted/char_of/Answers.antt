@@ -1,5 +1,5 @@
 use Rattle.std.proofs.Common.{◌≢◌, ◌∷◌, [], rules}
-use Rattle.jup_text.proofs.Quoting.{more_than_a_char}
+use Rattle.jup_text.proofs.Quotes.{more_than_a_char}
 use Rattle.jup_text.proofs.quoted.char_of.Goals as goal
 
 pub returns-else-is_end : goal.returns-else-is_end

@@ -1,5 +1,5 @@
 use Rattle.std.proofs.Common.{inl, inr, refl, rules}
-use Rattle.jup_text.proofs.Quoting.{mark_read, unescaped}
+use Rattle.jup_text.proofs.Quotes.{mark_read, unescaped}
 use Rattle.jup_text.proofs.quoted.escaped_char.Goals as goal
 use Rattle.jup_text.proofs.quoted.escaped_char.Goals.{then-text-lt2+in-92-1, else-text-lt2+in-92-1, then-text-lt2+in-34-1, else-text-lt2+in-34-1, in_default-via-then-text-lt1, in_default-via-else-text-lt1+then-text-lt2+in_default-1, in_default-via-else-text-lt1+else-text-lt2+in-117+in_default-1, in_default-via-else-text-lt1+else-text-lt2+in_default-1}
 

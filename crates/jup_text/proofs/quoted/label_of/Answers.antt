@@ -1,6 +1,6 @@
 use Rattle.std.proofs.Common.{◌≢◌, [], sym, ◌∙◌, append-nil, rules}
-use Rattle.jup_text.specs.Quotes.{quoted}
-use Rattle.jup_text.proofs.LabelQuotes.{one_label}
+use Rattle.jup_text.specs.Words.{quoted}
+use Rattle.jup_text.proofs.Quotes.{one_label}
 use Rattle.jup_text.proofs.quoted.label_of.Goals as goal
 
 pub returns-else-is_empty : goal.returns-else-is_empty

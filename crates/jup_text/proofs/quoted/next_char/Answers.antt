@@ -1,5 +1,5 @@
 use Rattle.std.proofs.Common.{inl, inr, arith, rules}
-use Rattle.jup_text.proofs.Quoting.{quote_not_read, plain_read, plain_scalar, front_not_read}
+use Rattle.jup_text.proofs.Quotes.{quote_not_read, plain_read, plain_scalar, front_not_read}
 use Rattle.jup_text.proofs.quoted.next_char.Goals as goal
 use Rattle.jup_text.proofs.quoted.next_char.Goals.{in_default-via-then-text-lt1, in_default-via-else-text-lt1+in_default+then-text-lt32, in_default-via-else-text-lt1+in_default+else-text-lt32+else-text-lt127}
 

@@ -2,8 +2,7 @@ use Rattle.std.proofs.Common.{◌≡◌, ◌+◌, ◌≤◌, ℕ, List, length, 
 use Rattle.std.proofs.lemmas.Grind.{take-set_at}
 use Rattle.std.proofs.lemmas.List.{length-take-le, length-set}
 use Rattle.jup_limits.specs.Limits.{longest_label}
-use Rattle.jup_text.proofs.Quoting.{HasRead, none_read, more_read}
-use Rattle.jup_text.proofs.LabelQuotes.{no_more_label, no_label_read}
+use Rattle.jup_text.proofs.Quotes.{HasRead, none_read, more_read, no_more_label, no_label_read}
 use Rattle.jup_text.proofs.quoted.next_quoted_label.Goals as goal
 
 pub loop-value-init : goal.loop-value-init

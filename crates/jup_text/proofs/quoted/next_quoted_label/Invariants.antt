@@ -1,6 +1,6 @@
 use Rattle.std.proofs.Common.{◌≡◌, ◌<◌, ◌≤◌, length, take}
 use Rattle.jup_limits.specs.Limits.{longest_label}
-use Rattle.jup_text.proofs.Quoting.{HasRead}
+use Rattle.jup_text.proofs.Quotes.{HasRead}
 use Rattle.jup_text.proofs.quoted.next_quoted_label.Given as goal
 
 -- the bytes so far have room, and are what was read

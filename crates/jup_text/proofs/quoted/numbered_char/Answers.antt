@@ -1,8 +1,8 @@
 use Rattle.std.proofs.Common.{◌≡◌, ◌+◌, ℕ, List, inl, inr, subst, sym, ap, ◌∙◌, arith, take, ◌++◌}
 use Rattle.std.specs.Char.{IsScalar}
-use Rattle.jup_text.specs.Quotes.{quoted_char, hexadecimal}
-use Rattle.jup_number.proofs.Integers.{range_from}
-use Rattle.jup_text.proofs.Quoting.{unnumbered, unbraced, numbered_none, numbered_same, numbered_read, IsNumbered}
+use Rattle.jup_text.specs.Words.{quoted_char, hexadecimal}
+use Rattle.jup_number.proofs.Numbers.{range_from}
+use Rattle.jup_text.proofs.Quotes.{unnumbered, unbraced, numbered_none, numbered_same, numbered_read, IsNumbered}
 use Rattle.jup_text.proofs.quoted.numbered_char.Goals as goal
 use Rattle.jup_text.proofs.quoted.numbered_char.Goals.{in_default-via-then-value-lt32, in_default-via-else-value-lt32+else-this-lt127}
 

@@ -1,5 +1,5 @@
 use Rattle.std.proofs.Common.{◌≡◌, ◌<◌, ◌≤◌, inl, inr, arith, rules, length, lit<}
-use Rattle.jup_text.proofs.Hexadecimals.{one_more, no_more, all_read, zero_read, zeros_not_read, length_not_read, sum_small}
+use Rattle.jup_text.proofs.Quotes.{one_more, no_more, all_read, zero_read, zeros_not_read, length_not_read, sum_small}
 use Rattle.jup_text.proofs.quoted.read_hexadecimal.Goals as goal
 use Rattle.jup_text.proofs.quoted.read_hexadecimal.Goals.{then-is_empty-via-then-is_empty, then-is_empty-via-else-is_empty+then-digits-gt6}
 

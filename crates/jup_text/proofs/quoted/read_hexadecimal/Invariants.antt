@@ -1,4 +1,4 @@
-use Rattle.jup_text.proofs.Hexadecimals.{IsHexOf}
+use Rattle.jup_text.proofs.Quotes.{IsHexOf}
 use Rattle.jup_text.proofs.quoted.read_hexadecimal.Given as goal
 
 abbrev pub invariant-loop-digit : goal.invariant-loop-digit

@@ -1,5 +1,5 @@
 use Rattle.std.proofs.Common.{◌≡◌, ◌≢◌, ◌++◌, ◌∷◌, [], List, ℕ, length, sym, ap, ◌∙◌, subst, arith, rules}
-use Rattle.jup_text.proofs.Quoting.{HasRead, none_read, more_read, text_read, no_text_read}
+use Rattle.jup_text.proofs.Quotes.{HasRead, none_read, more_read, text_read, no_text_read}
 use Rattle.jup_text.proofs.quoted.read_quoted.Goals as goal
 
 pub loop-value-init : goal.loop-value-init

@@ -1,5 +1,5 @@
 use Rattle.std.proofs.Common.{◌+◌, ◌≤◌, length, vec_len}
-use Rattle.jup_text.proofs.Quoting.{HasRead}
+use Rattle.jup_text.proofs.Quotes.{HasRead}
 use Rattle.jup_text.proofs.quoted.read_quoted.Given as goal
 
 -- the characters so far, each of a byte at least, and what follows them

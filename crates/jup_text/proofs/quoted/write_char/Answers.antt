@@ -2,8 +2,8 @@ use Rattle.std.proofs.Common.{◌≡◌, ◌≤◌, ◌++◌, ◌∷◌, [], inl
 use Rattle.std.specs.Prelude.{encode_utf8}
 use Rattle.std.proofs.Output.{has_written_of_eq}
 use Rattle.std.proofs.lemmas.Str.{encode_ascii}
-use Rattle.jup_text.specs.Quotes.{quoted_char, hexadecimal}
-use Rattle.jup_text.proofs.Quoting.{quoted_mark, quoted_plain, quoted_number, outside}
+use Rattle.jup_text.specs.Words.{quoted_char, hexadecimal}
+use Rattle.jup_text.proofs.Quotes.{quoted_mark, quoted_plain, quoted_number, outside}
 use Rattle.jup_text.proofs.quoted.write_char.Goals as goal
 
 pub returns-then-value-eq34 : goal.returns-then-value-eq34

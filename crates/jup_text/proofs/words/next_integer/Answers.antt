@@ -1,8 +1,8 @@
 use Rattle.std.specs.Prelude.{ℤ}
 use Rattle.std.specs.Fmt.{signed_decimal}
-use Rattle.jup_number.specs.Numbers.{IsInt}
+use Rattle.jup_text.specs.Prelude.{IsInt}
 use Rattle.jup_text.proofs.CommandWords.{no_first}
-use Rattle.jup_text.proofs.NextLines.{integer_word}
+use Rattle.jup_text.proofs.BoardLines.{integer_word}
 use Rattle.jup_text.proofs.words.next_integer.Goals as goal
 
 pub returns-in_err-word-clause-none : goal.returns-in_err-word-clause-none

@@ -1,6 +1,6 @@
 use Rattle.std.proofs.Common.{◌∷◌, ◌++◌, ◌+◌, List, ℕ, take, sym, ap, ◌∙◌}
-use Rattle.jup_number.proofs.Integers.{range_from}
-use Rattle.jup_text.proofs.Splits.{no_byte, byte_here, lacks_before}
+use Rattle.jup_number.proofs.Numbers.{range_from}
+use Rattle.jup_text.proofs.Quotes.{no_byte, byte_here, lacks_before}
 use Rattle.jup_text.proofs.words.next_word.Goals as goal
 
 pub returns-in_err-at-clause-none : goal.returns-in_err-at-clause-none

@@ -1,7 +1,7 @@
 use Rattle.std.proofs.Common.{◌≡◌, List, ℕ, ◌∷◌, ◌+◌, length, take, drop, inr, sym, subst, ◌∙◌, arith}
 use Rattle.std.proofs.lemmas.List.{append_cancel_left, take_all, take-append-drop}
 use Rattle.jup_text.specs.Words.{IsWord}
-use Rattle.jup_text.proofs.Splits.{lacks_before, lacks_all, byte_here}
+use Rattle.jup_text.proofs.Quotes.{lacks_before, lacks_all, byte_here}
 use Rattle.jup_text.proofs.words.split_word.Goals as goal
 
 pub returns-in-Some-clause-word : goal.returns-in-Some-clause-word

@@ -1,6 +1,6 @@
 use Rattle.std.proofs.Common.{◌<◌, ◌≤◌, length, sum, get_or, [], ap, sym, ◌∙◌, arith}
 use Rattle.std.proofs.lemmas.Grind.{common_steps}
-use Rattle.jup_value.specs.Layout.{joined}
+use Rattle.jup_value.specs.Items.{joined}
 use Rattle.jup_value.proofs.Layouts.{sum_lengths, place_in_table, found, joined-put_in, AreBlocks-put_in, AreBlocks-at, count_in_blocks, put_in_rule, split_rule}
 use Rattle.jup_value.proofs.layout.insert_item.Goals as goal
 

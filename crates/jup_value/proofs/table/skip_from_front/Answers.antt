@@ -1,5 +1,5 @@
 use Rattle.std.proofs.Common.{◌+◌, arith}
-use Rattle.jup_value.proofs.Tables.{sum_between, sum_front}
+use Rattle.jup_value.proofs.Layouts.{sum_between, sum_front}
 use Rattle.jup_value.proofs.table.skip_from_front.Goals as goal
 
 pub group_sum-count-requires : goal.group_sum-count-requires

@@ -1,13 +1,7 @@
 use Rattle.std.proofs.Common.{◌≢◌, ℕ, List, ap}
-use Rattle.jup_value.specs.declared.names.Name.{Name}
-use Rattle.jup_value.proofs.ItemLists.{name_eq_same}
-use Rattle.jup_xform.specs.declared.one_of.OneOf.TheVariants.{First, Second}
-use Rattle.jup_seq.specs.declared.operations.SeqEdit.{SeqEdit}
-use Rattle.jup_seq.specs.declared.operations.SeqEdit.TheVariants.{Put, Deleted, Relabelled, Nothing}
+use Rattle.jup_window.specs.Prelude.{Name, name_eq_same, First, Second, SeqEdit, Put, Deleted, Relabelled, NoEdit as Nothing}
 use Rattle.jup_seq.specs.Names as seq_names
-use Rattle.jup_window.specs.Kinds.{WidgetEdit}
-use Rattle.jup_window.specs.Effects.{InsertsName, DeletesName, ChangesName}
-use Rattle.jup_window.specs.Contents.{of_text, of_list}
+use Rattle.jup_window.specs.Kinds.{WidgetEdit, InsertsName, DeletesName, ChangesName, of_text, of_list}
 use Rattle.jup_window.proofs.laws.edited_names.Goals as goal
 
 -- an edit of a sequence that puts nothing under a name does not insert it

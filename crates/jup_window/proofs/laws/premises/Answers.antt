@@ -1,13 +1,11 @@
 use Rattle.std.proofs.Common.{◌≡◌, Option, Some, None, refl, ap, sym, ◌∙◌, inl, inr}
 use Rattle.std.proofs.lemmas.Bool.{false_from_ne_true}
-use Rattle.jup_value.specs.declared.names.Name.{Name}
-use Rattle.jup_value.specs.Items.{name_eq}
-use Rattle.jup_value.proofs.ItemLists.{name_eq_same}
+use Rattle.jup_window.specs.Prelude.{Name, name_eq, name_eq_same}
 use Rattle.jup_window.specs.Widgets.{inserted, deleted, AreApartNames}
 use Rattle.jup_window.specs.Boards.{place, edit_of}
-use Rattle.jup_window.specs.Laws.WidgetNames.{apart_is}
-use Rattle.jup_window.specs.Laws.BoardNames.{inserted_there, deleted_there}
-use Rattle.jup_window.specs.Laws.BoardsAreLawful.{inserts_own, deletes_own}
+use Rattle.jup_window.specs.Laws.Widgets.{apart_is}
+use Rattle.jup_window.specs.Laws.Boards.{inserted_there, deleted_there}
+use Rattle.jup_window.specs.Laws.Operations.{inserts_own, deletes_own}
 use Rattle.jup_window.proofs.laws.premises.Goals as goal
 
 -- two names that may be there are apart if they are not one name

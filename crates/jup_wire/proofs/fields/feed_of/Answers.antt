@@ -1,4 +1,4 @@
-use Rattle.jup_wire.proofs.Splits.{found_place}
+use Rattle.jup_wire.proofs.Spellings.{found_place}
 use Rattle.jup_wire.proofs.fields.feed_of.Goals as goal
 
 pub returns-clause-place : goal.returns-clause-place

@@ -1,5 +1,5 @@
 use Rattle.std.proofs.Common.{arith}
-use Rattle.jup_wire.proofs.Leading.{id_none, id_some, id_large}
+use Rattle.jup_wire.proofs.Streams.{id_none, id_some, id_large}
 use Rattle.jup_wire.proofs.fields.id_before.Goals as goal
 
 pub returns-in_err-number : goal.returns-in_err-number

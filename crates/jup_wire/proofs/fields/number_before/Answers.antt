@@ -1,8 +1,8 @@
 use Rattle.std.proofs.Common.{sym, ap, ◌∙◌}
 use Rattle.std.proofs.lemmas.List.{take_all}
 use Rattle.jup_number.proofs.Numbers.{value_more}
-use Rattle.jup_wire.proofs.Splits.{lacks}
-use Rattle.jup_wire.proofs.Leading.{field_at, field_none, field_ends, lacks_more}
+use Rattle.jup_wire.proofs.Spellings.{lacks}
+use Rattle.jup_wire.proofs.Streams.{field_at, field_none, field_ends, lacks_more}
 use Rattle.jup_wire.proofs.fields.number_before.Goals as goal
 
 pub returns-in_err-value : goal.returns-in_err-value

@@ -1,6 +1,6 @@
 use Rattle.std.proofs.Common.{◌≡◌, true, take}
 use Rattle.jup_number.proofs.Numbers.{IsValueOf}
-use Rattle.jup_wire.proofs.Splits.{lacks}
+use Rattle.jup_wire.proofs.Spellings.{lacks}
 use Rattle.jup_wire.proofs.fields.number_before.Given as goal
 
 -- the digits so far, none of which is the separator, and what they write

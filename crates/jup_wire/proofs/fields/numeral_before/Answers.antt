@@ -1,7 +1,7 @@
 use Rattle.std.proofs.Common.{◌≡◌, ◌+◌, ◌^◌, ◌<◌, List, ℕ, get_or, drop, Some, sym, ap, ◌∙◌, arith}
-use Rattle.jup_wire.specs.Reading.{with_rest}
-use Rattle.jup_wire.proofs.Splits.{range_from}
-use Rattle.jup_wire.proofs.Leading.{numeral_none, numeral_zeros, numeral_is}
+use Rattle.jup_wire.specs.Lines.{with_rest}
+use Rattle.jup_wire.proofs.Spellings.{range_from}
+use Rattle.jup_wire.proofs.Streams.{numeral_none, numeral_zeros, numeral_is}
 use Rattle.jup_wire.proofs.fields.numeral_before.Goals as goal
 use Rattle.jup_wire.proofs.fields.numeral_before.Goals.{else-bytes-eq48-via-then-bytes-eq48+else-at-gt1, else-bytes-eq48-via-else-bytes-eq48}
 

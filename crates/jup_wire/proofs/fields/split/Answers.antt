@@ -1,5 +1,5 @@
 use Rattle.std.proofs.Common.{◌+◌, List, ℕ, Some, take, sym, ap, ◌∙◌}
-use Rattle.jup_wire.proofs.Splits.{split_at, range_from}
+use Rattle.jup_wire.proofs.Spellings.{split_at, range_from}
 use Rattle.jup_wire.proofs.fields.split.Goals as goal
 
 pub returns-in_err-at : goal.returns-in_err-at

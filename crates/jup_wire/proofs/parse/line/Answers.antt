@@ -1,4 +1,4 @@
-use Rattle.jup_wire.proofs.Heads.{do_headed, batch_headed}
+use Rattle.jup_wire.proofs.Readings.{do_headed, batch_headed}
 use Rattle.jup_wire.proofs.parse.line.Goals as goal
 
 pub returns-in-Some : goal.returns-in-Some

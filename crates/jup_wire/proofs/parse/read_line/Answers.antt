@@ -1,5 +1,5 @@
 use Rattle.std.proofs.Common.{Ok, sym, ap}
-use Rattle.jup_wire.proofs.BadLines.{line_found, line_same, line_missed, refused}
+use Rattle.jup_wire.proofs.Readings.{line_found, line_same, line_missed, refused}
 use Rattle.jup_wire.proofs.parse.read_line.Goals as goal
 
 pub returns-in-Some-clause-line : goal.returns-in-Some-clause-line

@@ -1,4 +1,4 @@
-use Rattle.jup_wire.proofs.Heads.{insertion_headed, deletion_headed}
+use Rattle.jup_wire.proofs.Readings.{insertion_headed, deletion_headed}
 use Rattle.jup_wire.proofs.parse.text_op.Goals as goal
 
 pub returns-in-Some : goal.returns-in-Some

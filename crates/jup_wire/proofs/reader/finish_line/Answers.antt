@@ -1,5 +1,5 @@
 use Rattle.std.proofs.Common.{◌∷◌, arith}
-use Rattle.jup_wire.proofs.Streaming.{long_text, ends_is}
+use Rattle.jup_wire.proofs.Streams.{long_text, ends_is}
 use Rattle.jup_wire.proofs.reader.finish_line.Goals as goal
 
 pub returns-then-text-gt-MOST_PART : goal.returns-then-text-gt-MOST_PART

@@ -1,6 +1,6 @@
 use Rattle.std.proofs.Common.{◌∷◌, ◌++◌, ◌∙◌, arith, length-append}
-use Rattle.jup_wire.specs.Parts.{part_bytes}
-use Rattle.jup_wire.proofs.Streaming.{long_text, ends_there, both_open}
+use Rattle.jup_wire.specs.Streams.{part_bytes}
+use Rattle.jup_wire.proofs.Streams.{long_text, ends_there, both_open}
 use Rattle.jup_wire.proofs.reader.finish_line_behind.Goals as goal
 
 pub returns-then-text-held-clause-ended : goal.returns-then-text-held-clause-ended

@@ -1,8 +1,7 @@
 use Rattle.std.proofs.Common.{List, ℕ, [], ◌++◌, subst, append-nil, arith, length-append}
-use Rattle.jup_wire.specs.declared.faults.WireFault.TheVariants.{LongLine}
-use Rattle.jup_wire.specs.Parts.{part_bytes}
-use Rattle.jup_wire.specs.Streams.{Faults}
-use Rattle.jup_wire.proofs.Streaming.{long_text, both_open}
+use Rattle.jup_wire.specs.Prelude.{LongLine}
+use Rattle.jup_wire.specs.Streams.{part_bytes, Faults}
+use Rattle.jup_wire.proofs.Streams.{long_text, both_open}
 use Rattle.jup_wire.proofs.reader.hold.Goals as goal
 
 pub returns-then-bytes-len : goal.returns-then-bytes-len

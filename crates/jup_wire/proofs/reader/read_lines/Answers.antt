@@ -1,9 +1,9 @@
 use Rattle.std.proofs.Common.{◌∷◌, ◌++◌, [], List, length, sym, ap, subst, ◌∙◌, arith, length-append}
 use Rattle.std.specs.List.{flat_map, AllByRecursion}
-use Rattle.jup_wire.specs.declared.line.Line.{Line}
-use Rattle.jup_wire.specs.Grammar.{spelling, HasSpelling}
-use Rattle.jup_wire.proofs.Splits.{split_parts}
-use Rattle.jup_wire.proofs.Streaming.{open_text, lacks_all, spelled-append, one_line_more, fault_behind}
+use Rattle.jup_wire.specs.Prelude.{Line}
+use Rattle.jup_wire.specs.Lines.{spelling, HasSpelling}
+use Rattle.jup_wire.proofs.Spellings.{split_parts}
+use Rattle.jup_wire.proofs.Streams.{open_text, lacks_all, spelled-append, one_line_more, fault_behind}
 use Rattle.jup_wire.proofs.reader.read_lines.Goals as goal
 
 pub finish_line-requires : goal.finish_line-requires

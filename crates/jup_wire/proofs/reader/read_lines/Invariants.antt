@@ -1,6 +1,6 @@
 use Rattle.std.proofs.Common.{◌≡◌, ◌++◌, length}
 use Rattle.std.specs.List.{flat_map, AllByRecursion}
-use Rattle.jup_wire.specs.Grammar.{spelling, HasSpelling}
+use Rattle.jup_wire.specs.Lines.{spelling, HasSpelling}
 use Rattle.jup_wire.proofs.reader.read_lines.Given as goal
 
 -- the lines so far, and what is left after them

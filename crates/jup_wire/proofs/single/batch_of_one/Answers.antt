@@ -1,4 +1,4 @@
-use Rattle.jup_wire.proofs.Singles.{number_there, batch_there}
+use Rattle.jup_wire.proofs.Readings.{number_there, batch_there}
 use Rattle.jup_wire.proofs.single.batch_of_one.Goals as goal
 
 pub returns : goal.returns

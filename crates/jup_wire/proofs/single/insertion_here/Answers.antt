@@ -1,8 +1,8 @@
 use Rattle.std.proofs.Common.{◌≡◌, ◌++◌, ◌∷◌, refl, sym, ap, subst, ◌∙◌}
 use Rattle.std.specs.Prelude.{codes, decimal}
 use Rattle.std.specs.Char.{IsScalar}
-use Rattle.jup_wire.specs.Grammar.{name_text}
-use Rattle.jup_wire.proofs.Singles.{number_there, two_fields}
+use Rattle.jup_wire.specs.Lines.{name_text}
+use Rattle.jup_wire.proofs.Readings.{number_there, two_fields}
 use Rattle.jup_wire.proofs.single.insertion_here.Goals as goal
 
 pub returns : goal.returns

@@ -1,5 +1,5 @@
 use Rattle.std.specs.Prelude.{decimal}
-use Rattle.jup_wire.proofs.Singles.{number_there, two_fields}
+use Rattle.jup_wire.proofs.Readings.{number_there, two_fields}
 use Rattle.jup_wire.proofs.single.name_before.Goals as goal
 
 pub returns : goal.returns

@@ -1,4 +1,4 @@
-use Rattle.jup_wire.proofs.Singles.{id_there, operation_there}
+use Rattle.jup_wire.proofs.Readings.{id_there, operation_there}
 use Rattle.jup_wire.proofs.single.operation_on_text.Goals as goal
 
 pub returns : goal.returns

@@ -1,6 +1,6 @@
 use Rattle.std.proofs.Common.{refl}
 use Rattle.jup_wire.specs.declared.line.Line.TheVariants.{Batch, Do}
-use Rattle.jup_wire.proofs.Singles.{both_lines}
+use Rattle.jup_wire.proofs.Readings.{both_lines}
 use Rattle.jup_wire.proofs.single.read_single.Goals as goal
 
 pub returns-in-Some : goal.returns-in-Some

@@ -1,6 +1,6 @@
 use Rattle.std.proofs.Common.{refl}
 use Rattle.jup_wire.specs.declared.line.Line.TheVariants.{Batch, Do}
-use Rattle.jup_wire.proofs.Singles.{line_there, both_lines, left_within}
+use Rattle.jup_wire.proofs.Readings.{line_there, both_lines, left_within}
 use Rattle.jup_wire.proofs.single.single_of_any.Goals as goal
 
 pub overflow_sub-result : goal.overflow_sub-result

@@ -1,8 +1,7 @@
-use Rattle.jup_lane.specs.Messages.{ups, downs}
-use Rattle.jup_world.specs.LaneWorlds.{messages_of}
-use Rattle.jup_world.proofs.Drains.QuietWorlds.{all_agree}
-use Rattle.jup_world.proofs.Lanes.LaneWorldLaws.{ways_determined, still_quiet, steps_keep}
-use Rattle.jup_world.proofs.Lanes.LaneOrder.{steps_order}
+use Rattle.jup_lane.specs.Lanes.{ups, downs}
+use Rattle.jup_world.specs.Lanes.{messages_of}
+use Rattle.jup_world.proofs.Drains.Deliveries.{all_agree}
+use Rattle.jup_world.proofs.Lanes.Worlds.{ways_determined, still_quiet, steps_keep, steps_order}
 use Rattle.jup_world.proofs.promises.bytes_agree.Goals as goal
 
 pub returns-clause-agree : goal.returns-clause-agree

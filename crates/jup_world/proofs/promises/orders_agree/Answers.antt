@@ -1,20 +1,14 @@
 use Rattle.std.proofs.Common.{sym, subst}
-use Rattle.jup_batch.specs.BoardBatches.{board_batches}
-use Rattle.jup_batch.specs.BoardBatches.{batch_laws}
-use Rattle.jup_star.specs.StarStates.{most_batches}
-use Rattle.jup_world.specs.WorldStates.{opened_world}
-use Rattle.jup_world.specs.WorldSteps.{run}
-use Rattle.jup_world.specs.BoardWorlds.{BoardWorld}
-use Rattle.jup_world.specs.Promises.{OrdersAgree}
-use Rattle.jup_world.specs.LaneWorlds.{opened_lanes}
-use Rattle.jup_world.specs.LaneHappenings.{IsLaneWorld}
-use Rattle.jup_world.proofs.WorldKept.{world_new}
-use Rattle.jup_world.proofs.Lanes.LaneOrder.{tried_keeps}
-use Rattle.jup_world.proofs.Copies.LaneCopies.{lane_past_stars, tried_copies}
-use Rattle.jup_world.proofs.Sound.BoardWorldLaws.{opened_sound, run_sound}
-use Rattle.jup_world.proofs.Copies.BoardOrders.{order_symmetric}
-use Rattle.jup_world.proofs.Copies.PastCopies.{past_stars_opened, past_stars_run}
-use Rattle.jup_world.proofs.Copies.TwoCopies.{run_copies}
+use Rattle.jup_world.specs.Prelude.{board_batches, batch_laws, most_batches}
+use Rattle.jup_world.specs.Worlds.{opened_world, run}
+use Rattle.jup_world.specs.Boards.{BoardWorld}
+use Rattle.jup_world.specs.Traces.{OrdersAgree}
+use Rattle.jup_world.specs.Lanes.{opened_lanes}
+use Rattle.jup_world.specs.Happenings.{IsLaneWorld}
+use Rattle.jup_world.proofs.Worlds.{world_new, opened_sound, run_sound}
+use Rattle.jup_world.proofs.Lanes.Worlds.{tried_keeps}
+use Rattle.jup_world.proofs.Copies.Sites.{lane_past_stars, tried_copies, past_stars_opened, past_stars_run, run_copies}
+use Rattle.jup_world.proofs.Copies.Boards.{order_symmetric}
 use Rattle.jup_world.proofs.promises.orders_agree.Goals as goal
 
 pub returns-clause-copies : goal.returns-clause-copies

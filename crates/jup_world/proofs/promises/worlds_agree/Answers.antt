@@ -1,19 +1,12 @@
 use Rattle.std.proofs.Common.{◌≡◌, ℕ, false, refl, sym, subst}
-use Rattle.jup_world.specs.BoardWorlds.{BoardWorld}
-use Rattle.jup_world.specs.WorldStates.{opened_world}
+use Rattle.jup_world.specs.Boards.{BoardWorld}
+use Rattle.jup_world.specs.Worlds.{opened_world}
 use Rattle.jup_world.specs.Traces.{is_stray}
-use Rattle.jup_batch.specs.BoardBatches.{board_batches}
-use Rattle.jup_batch.specs.BoardBatches.{batch_laws}
-use Rattle.jup_star.specs.StarStates.{most_batches}
-use Rattle.jup_world.proofs.Sound.SoundRuns.{sound-promises}
-use Rattle.jup_world.proofs.Sound.ReplyLaws.{replies}
-use Rattle.jup_world.proofs.Sound.BacklogLaws.{counts-backlog}
-use Rattle.jup_world.proofs.Sound.TallyLaws.{tallies}
-use Rattle.jup_world.proofs.Sound.StrayLinks.{are_linked, plain_run, plain_linked}
-use Rattle.jup_world.proofs.Sound.StrangerLaws.{sites-hold, only-full, stray-replies}
-use Rattle.jup_world.proofs.Orders.StarRuns.{run-follows}
-use Rattle.jup_world.proofs.Orders.SiteRuns.{run_follows}
-use Rattle.jup_world.proofs.Sound.BoardWorldLaws.{reached_sound}
+use Rattle.jup_world.specs.Prelude.{board_batches, batch_laws, most_batches}
+use Rattle.jup_world.proofs.Sound.Runs.{sound-promises, replies, sites-hold, only-full, stray-replies}
+use Rattle.jup_world.proofs.Sound.Tallies.{counts-backlog, tallies}
+use Rattle.jup_world.proofs.Worlds.{are_linked, plain_run, plain_linked, reached_sound}
+use Rattle.jup_world.proofs.Orders.{run-follows, run_follows}
 use Rattle.jup_world.proofs.promises.worlds_agree.Goals as goal
 
 pub returns-clause-kept : goal.returns-clause-kept

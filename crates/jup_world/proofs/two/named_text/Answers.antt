@@ -1,5 +1,5 @@
 use Rattle.std.proofs.Common.{arith, ◌∙◌}
-use Rattle.jup_world.proofs.NamedTexts.{length_so_far, new_so_far, pushed_item}
+use Rattle.jup_world.proofs.Known.{length_so_far, new_so_far, pushed_item}
 use Rattle.jup_world.proofs.two.named_text.Goals as goal
 
 pub insert-requires-clause-place : goal.insert-requires-clause-place

@@ -1,4 +1,4 @@
-use Rattle.jup_world.proofs.Received.{received_room}
+use Rattle.jup_world.proofs.Known.{received_room}
 use Rattle.jup_world.proofs.two.take.Goals as goal
 
 -- there was room for the operation as it was sent

@@ -1,5 +1,5 @@
 use Rattle.std.proofs.Common.{◌∙◌}
-use Rattle.jup_xform.specs.Laws.RowLaws.{grid_columns-mirror}
+use Rattle.jup_xform.specs.Laws.Grids.{grid_columns-mirror}
 use Rattle.jup_xform.proofs.batch.cross.Goals as goal
 
 pub returns-clause-server : goal.returns-clause-server

@@ -1,5 +1,5 @@
 use Rattle.std.proofs.Common.{arith}
-use Rattle.jup_xform.proofs.Pairs.{each_of, of_each}
+use Rattle.jup_xform.proofs.Batches.{each_of, of_each}
 use Rattle.jup_xform.proofs.laws.batch_validity.Goals as goal
 
 pub returns-clause-more : goal.returns-clause-more

@@ -1,4 +1,4 @@
-use Rattle.jup_xform.proofs.Pairs.{each_pair, of_each_pair}
+use Rattle.jup_xform.proofs.Batches.{each_pair, of_each_pair}
 use Rattle.jup_xform.proofs.laws.premises.Goals as goal
 
 pub returns-clause-apart : goal.returns-clause-apart

@@ -1,5 +1,5 @@
-use Rattle.jup_hub.specs.Passes.{view_of, IsPassOf}
-use Rattle.jup_app.specs.Drains.{Drained}
+use Rattle.jup_app.specs.Prelude.{view_of, IsPassOf}
+use Rattle.jup_app.specs.Runs.{Drained}
 use Rattle.jup_app.proofs.runs.drain.drain.Given as goal
 
 abbrev pub invariant-loop : goal.invariant-loop

@@ -1,9 +1,8 @@
 use Rattle.std.proofs.Common.{arith, true≢false, sym, ◌∙◌, ap, ◌≡◌, false, true, get_or, length, ◌<◌, ◌+◌, suc}
 use Rattle.std.proofs.lemmas.List.{get_or_default}
-use Rattle.jup_hub.specs.Passes.{view_of}
-use Rattle.jup_app.specs.Drains.{EndsQuiet}
-use Rattle.jup_app.proofs.Draining.{drained_none, drained_more, quiet_none, quiet_more, number_at}
-use Rattle.jup_app.proofs.Worked.{handles_for}
+use Rattle.jup_app.specs.Prelude.{view_of}
+use Rattle.jup_app.specs.Runs.{EndsQuiet}
+use Rattle.jup_app.proofs.Passes.{drained_none, drained_more, quiet_none, quiet_more, number_at, handles_for}
 use Rattle.jup_app.proofs.runs.drain.drain_once.Goals as goal
 use Rattle.jup_app.proofs.runs.drain.drain_once.Goals.{then-branch, else-branch}
 

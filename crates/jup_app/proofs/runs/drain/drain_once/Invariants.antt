@@ -1,6 +1,6 @@
 use Rattle.std.proofs.Common.{◌≡◌, false}
-use Rattle.jup_hub.specs.Passes.{view_of, IsPassOf}
-use Rattle.jup_app.specs.Drains.{Drained, EndsQuiet}
+use Rattle.jup_app.specs.Prelude.{view_of, IsPassOf}
+use Rattle.jup_app.specs.Runs.{Drained, EndsQuiet}
 use Rattle.jup_app.proofs.runs.drain.drain_once.Given as goal
 
 abbrev pub invariant-loop-k : goal.invariant-loop-k

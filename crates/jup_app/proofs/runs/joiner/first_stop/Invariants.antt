@@ -1,5 +1,5 @@
 use Rattle.std.proofs.Common.{◌≡◌, drop}
-use Rattle.jup_app.specs.Passing.{first_stop}
+use Rattle.jup_app.specs.Runs.{first_stop}
 use Rattle.jup_app.proofs.runs.joiner.first_stop.Given as goal
 
 abbrev pub invariant-loop-played : goal.invariant-loop-played

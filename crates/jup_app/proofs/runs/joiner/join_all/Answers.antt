@@ -1,5 +1,5 @@
 use Rattle.std.proofs.Common.{rules, arith}
-use Rattle.jup_app.proofs.Passed.{joined_none, joined_more}
+use Rattle.jup_app.proofs.Calls.{joined_none, joined_more}
 use Rattle.jup_app.proofs.runs.joiner.join_all.Goals as goal
 
 pub loop-k-init : goal.loop-k-init

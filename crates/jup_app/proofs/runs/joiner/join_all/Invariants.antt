@@ -1,6 +1,6 @@
 use Rattle.std.proofs.Common.{◌≡◌, vec_len}
-use Rattle.jup_hub.specs.Passes.{view_of, IsPassOf}
-use Rattle.jup_app.specs.Passing.{HasJoinedAll}
+use Rattle.jup_app.specs.Prelude.{view_of, IsPassOf}
+use Rattle.jup_app.specs.Runs.{HasJoinedAll}
 use Rattle.jup_app.proofs.runs.joiner.join_all.Given as goal
 
 abbrev pub invariant-loop-k : goal.invariant-loop-k

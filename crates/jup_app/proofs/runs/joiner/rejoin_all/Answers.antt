@@ -1,9 +1,7 @@
 use Rattle.std.proofs.Common.{rules, arith, refl, sym, ap, ◌∙◌, subst, ◌≡◌, List, [], ◌∷◌, ◌++◌, append_assoc, All, Result, IfOk}
 use Rattle.std.specs.Vec.Iter.{into_iter_items}
-use Rattle.jup_hub.specs.Passes.{IsPassOf}
-use Rattle.jup_app.specs.declared.runs.player.Player.{Player}
-use Rattle.jup_app.specs.declared.runs.halt.Halt.{Halt}
-use Rattle.jup_app.proofs.Passed.{taken_none, taken_more, all_tail}
+use Rattle.jup_app.specs.Prelude.{IsPassOf, Player, Halt}
+use Rattle.jup_app.proofs.Calls.{taken_none, taken_more, all_tail}
 use Rattle.jup_app.proofs.runs.joiner.rejoin_all.Goals as goal
 
 pub loop-result-init : goal.loop-result-init

@@ -1,9 +1,7 @@
 use Rattle.std.proofs.Common.{◌≡◌, List, ◌++◌, Result, All, IfOk}
 use Rattle.std.specs.Vec.Iter.{into_iter_items}
-use Rattle.jup_hub.specs.Passes.{view_of, IsPassOf}
-use Rattle.jup_app.specs.declared.runs.player.Player.{Player}
-use Rattle.jup_app.specs.declared.runs.halt.Halt.{Halt}
-use Rattle.jup_app.specs.Passing.{HasTaken}
+use Rattle.jup_app.specs.Prelude.{view_of, IsPassOf, Player, Halt}
+use Rattle.jup_app.specs.Runs.{HasTaken}
 use Rattle.jup_app.proofs.runs.joiner.rejoin_all.Given as goal
 
 abbrev pub invariant-loop-result : goal.invariant-loop-result

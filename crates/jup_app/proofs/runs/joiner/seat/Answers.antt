@@ -1,6 +1,6 @@
 use Rattle.std.proofs.Common.{refl}
-use Rattle.jup_hub.specs.Passes.{view_of}
-use Rattle.jup_app.proofs.Passed.{not_yet_made, seated_made}
+use Rattle.jup_app.specs.Prelude.{view_of}
+use Rattle.jup_app.proofs.Calls.{not_yet_made, seated_made}
 use Rattle.jup_app.proofs.runs.joiner.seat.Goals as goal
 
 pub returns-clause-seated : goal.returns-clause-seated

@@ -1,4 +1,4 @@
-use Rattle.jup_app.specs.Plays.{link_with, IsDelivering}
+use Rattle.jup_app.specs.Runs.{link_with, IsDelivering}
 use Rattle.jup_app.proofs.runs.receive.deliver_all.Given as goal
 
 abbrev pub invariant-loop-down : goal.invariant-loop-down

@@ -1,8 +1,8 @@
 use Rattle.std.proofs.Common.{[], arith, lit<, sym, ◌∙◌}
 use Rattle.std.proofs.lemmas.List.{append-nil}
-use Rattle.jup_rules.specs.Bounds.{most_fetched}
-use Rattle.jup_app.proofs.Handled.{got_nothing, got_through, handles_both, no_elements}
-use Rattle.jup_app.proofs.Fetched.{fetches_first}
+use Rattle.jup_app.specs.Prelude.{most_fetched}
+use Rattle.jup_app.proofs.Passes.{got_nothing, got_through, handles_both, no_elements}
+use Rattle.jup_app.proofs.Calls.{fetches_first}
 use Rattle.jup_app.proofs.runs.receive.receive.Goals as goal
 
 pub returns-then-is_empty-clause-handled : goal.returns-then-is_empty-clause-handled

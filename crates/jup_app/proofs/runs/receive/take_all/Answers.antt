@@ -1,5 +1,5 @@
 use Rattle.std.proofs.Common.{arith}
-use Rattle.jup_app.proofs.Handled.{handles_none, took_next, took_last}
+use Rattle.jup_app.proofs.Passes.{handles_none, took_next, took_last}
 use Rattle.jup_app.proofs.runs.receive.take_all.Goals as goal
 
 pub loop-up-init : goal.loop-up-init

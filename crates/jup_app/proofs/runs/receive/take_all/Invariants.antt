@@ -1,7 +1,6 @@
 use Rattle.std.proofs.Common.{drop}
-use Rattle.jup_star.specs.SiteCalls.{BoardSite}
-use Rattle.jup_hub.specs.Passes.{view_of, IsPassOf}
-use Rattle.jup_app.specs.Plays.{link_with, Handles}
+use Rattle.jup_app.specs.Prelude.{BoardSite, view_of, IsPassOf}
+use Rattle.jup_app.specs.Runs.{link_with, Handles}
 use Rattle.jup_app.proofs.runs.receive.take_all.Given as goal
 
 abbrev pub invariant-loop-up : goal.invariant-loop-up

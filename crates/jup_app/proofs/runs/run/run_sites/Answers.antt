@@ -1,16 +1,9 @@
 use Rattle.std.proofs.Common.{arith, refl, sym, ap, ◌∙◌, subst, ◌≡◌, ◌<◌, ℕ, List, [], ◌∷◌, length, get_or, map}
 use Rattle.std.specs.Borrow.{Bor}
-use Rattle.jup_window.specs.declared.commands.Command.{Command}
-use Rattle.jup_hub.specs.declared.view.View.{View}
-use Rattle.jup_hub.specs.Passes.{view_of}
-use Rattle.jup_app.specs.Passing.{HasTaken}
-use Rattle.jup_app.specs.declared.runs.drain.SiteEnd.{SiteEnd}
-use Rattle.jup_app.specs.Drains.{IsDrained}
-use Rattle.jup_app.specs.Seating.{IsJob}
-use Rattle.jup_app.specs.Whole.{IsRun}
-use Rattle.jup_app.proofs.Assembly.{ran_passes, take_whole, get_or_map, map_length}
-use Rattle.jup_app.proofs.Agreeing.{agrees}
-use Rattle.jup_app.proofs.RunEnding.{run_ends}
+use Rattle.jup_app.specs.Prelude.{Command, View, view_of, SiteEnd}
+use Rattle.jup_app.specs.Runs.{HasTaken, IsDrained, IsJob, IsRun}
+use Rattle.jup_app.proofs.Endings.{ran_passes, take_whole, get_or_map, map_length, run_ends}
+use Rattle.jup_app.proofs.WholeRuns.{agrees}
 use Rattle.jup_app.proofs.runs.run.run_sites.Goals as goal
 
 pub play_all-requires-after_bounds : goal.play_all-requires-after_bounds

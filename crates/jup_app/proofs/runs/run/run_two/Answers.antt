@@ -1,4 +1,4 @@
-use Rattle.jup_app.proofs.Openings.{opens}
+use Rattle.jup_app.proofs.Calls.{opens}
 use Rattle.jup_app.proofs.runs.run.run_two.Goals as goal
 
 pub run_sites-requires-clause-opening : goal.run_sites-requires-clause-opening

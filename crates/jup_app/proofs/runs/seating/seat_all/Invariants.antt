@@ -1,10 +1,7 @@
 use Rattle.std.proofs.Common.{◌≡◌, List, ◌++◌, length}
 use Rattle.std.specs.Vec.Iter.{into_iter_items}
-use Rattle.jup_star.specs.SiteCalls.{BoardSite}
-use Rattle.jup_hub.specs.declared.view.HubEvent.{HubEvent}
-use Rattle.jup_hub.specs.Passes.{view_of, IsPassOf}
-use Rattle.jup_app.specs.Passing.{HasMet, IsSame}
-use Rattle.jup_app.specs.Seating.{AreJobs}
+use Rattle.jup_app.specs.Prelude.{BoardSite, HubEvent, view_of, IsPassOf}
+use Rattle.jup_app.specs.Runs.{HasMet, IsSame, AreJobs}
 use Rattle.jup_app.proofs.runs.seating.seat_all.Given as goal
 
 abbrev pub invariant-loop-site : goal.invariant-loop-site

@@ -1,6 +1,6 @@
 use Rattle.std.proofs.Common.{ℕ, List, sym, subst}
 use Rattle.std.specs.Str.{IsUtf8}
-use Rattle.jup_board.proofs.Readings.{uncut_none, same_line}
+use Rattle.jup_board.proofs.FollowingLines.{uncut_none, same_line}
 use Rattle.jup_board.proofs.lines.BoardLines.next_line.Goals as goal
 
 pub returns-in_default-clause-every : goal.returns-in_default-clause-every

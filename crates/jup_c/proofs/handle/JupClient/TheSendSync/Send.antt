@@ -11,10 +11,10 @@ use Rattle.std.specs.declared.alloc.Global.{Global}
 use Rattle.std.proofs.Crossing as heap
 use Rattle.std_alloc.proofs.SendSync.{quiet, lies}
 use Rattle.std_heap.proofs.Global.TheSendSync as allocator
-use Rattle.jup_embed.specs.Sessions.{Session}
+use Rattle.jup_c.specs.Prelude.{Session}
 use Rattle.jup_embed.specs.contracts.client.Client as Client
 use Rattle.jup_embed.proofs.client.Client.TheSendSync.{the_send as client}
-use Rattle.jup_c.specs.Held.{held}
+use Rattle.jup_c.specs.Handles.{held}
 use Rattle.jup_c.specs.contracts.handle.JupClient.{the_row, the_type}
 
 -- what a handle owns is bound to no thread

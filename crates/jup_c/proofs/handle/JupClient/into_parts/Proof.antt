@@ -29,7 +29,7 @@ use Rattle.std_heap.specs.contracts.Global as Heap
 use Rattle.std_heap.specs.contracts.GlobalAllocator.TheImpl.{ghosts}
 use Rattle.jup_embed.specs.contracts.client.Client.{the_row as R}
 use Rattle.jup_c.specs.contracts.handle.parts.Parts as Parts
-use Rattle.jup_c.specs.Held.{held}
+use Rattle.jup_c.specs.Handles.{held}
 use Rattle.jup_c.proofs.Words.{FromHandle as From, Words, word, word_typed, ptr_typed, words_in, words_out, either_held}
 use Rattle.jup_c.specs.contracts.handle.JupClient.into_parts as F
 use Rattle.jup_c.specs.contracts.handle.JupClient.into_parts.Key.{name as #self}

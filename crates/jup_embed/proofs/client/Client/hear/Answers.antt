@@ -1,11 +1,8 @@
 use Rattle.std.proofs.Common.{◌++◌, refl, ap, ◌∙◌, inl}
-use Rattle.jup_rules.specs.declared.ends.ClientEnd.TheVariants.{NoMemory}
-use Rattle.jup_embed.specs.Changes.{kept, operations_in}
-use Rattle.jup_embed.specs.UnsentBytes.{said_bytes}
+use Rattle.jup_embed.specs.Prelude.{NoMemory}
+use Rattle.jup_embed.specs.Sessions.{kept, operations_in, said_bytes, RefusesLine}
 use Rattle.jup_embed.specs.contracts.client.Client.{the_view}
-use Rattle.jup_embed.specs.Sessions.{RefusesLine}
-use Rattle.jup_embed.proofs.Heard.{heard_from}
-use Rattle.jup_embed.proofs.Stopped.{handed_on, refuses_from}
+use Rattle.jup_embed.proofs.Sessions.{heard_from, handed_on, refuses_from}
 use Rattle.jup_embed.proofs.client.Client.hear.Goals as goal
 
 pub returns-clause-heard : goal.returns-clause-heard

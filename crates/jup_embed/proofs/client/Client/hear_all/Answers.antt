@@ -1,7 +1,6 @@
 use Rattle.std.proofs.Common.{arith, ◌∙◌}
 use Rattle.jup_embed.specs.Sessions.{HearsUpTo}
-use Rattle.jup_embed.proofs.Heard.{hears_more}
-use Rattle.jup_embed.proofs.Stopped.{handed_on, refused_at}
+use Rattle.jup_embed.proofs.Sessions.{hears_more, handed_on, refused_at}
 use Rattle.jup_embed.proofs.client.Client.hear_all.Goals as goal
 
 pub returns-in_err-hear-clause-refused : goal.returns-in_err-hear-clause-refused

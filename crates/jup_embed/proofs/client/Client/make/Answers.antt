@@ -1,8 +1,7 @@
 use Rattle.std.proofs.Common.{Some, ◌++◌, refl, ap, ◌∙◌}
-use Rattle.jup_embed.specs.Changes.{kept, operations_said}
-use Rattle.jup_embed.specs.UnsentBytes.{said_bytes}
+use Rattle.jup_embed.specs.Sessions.{kept, operations_said, said_bytes}
 use Rattle.jup_embed.specs.contracts.client.Client.{the_view}
-use Rattle.jup_embed.proofs.Heard.{edited_from}
+use Rattle.jup_embed.proofs.Sessions.{edited_from}
 use Rattle.jup_embed.proofs.client.Client.make.Goals as goal
 
 pub returns-clause-made : goal.returns-clause-made

@@ -1,7 +1,7 @@
 use Rattle.std.proofs.Common.{refl, sym, ◌∙◌}
 use Rattle.jup_embed.specs.Sessions.{Ends}
 use Rattle.jup_embed.specs.contracts.client.Client.{the_view}
-use Rattle.jup_embed.proofs.Stopped.{handed_on, read_ends, faulty_ends}
+use Rattle.jup_embed.proofs.Sessions.{handed_on, read_ends, faulty_ends}
 use Rattle.jup_embed.proofs.client.Client.read_in.Goals as goal
 
 pub returns-in_err-hear_all-clause-ends : goal.returns-in_err-hear_all-clause-ends

@@ -1,8 +1,7 @@
 use Rattle.std.proofs.Common.{◌++◌, refl, ap, ◌∙◌}
-use Rattle.jup_embed.specs.Changes.{kept, operations_said}
-use Rattle.jup_embed.specs.UnsentBytes.{said_bytes}
+use Rattle.jup_embed.specs.Sessions.{kept, operations_said, said_bytes}
 use Rattle.jup_embed.specs.contracts.client.Client.{the_view}
-use Rattle.jup_embed.proofs.Heard.{asked_from}
+use Rattle.jup_embed.proofs.Sessions.{asked_from}
 use Rattle.jup_embed.proofs.client.Client.request.Goals as goal
 
 pub returns-clause-asks : goal.returns-clause-asks

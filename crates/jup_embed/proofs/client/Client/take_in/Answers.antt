@@ -1,5 +1,5 @@
 use Rattle.jup_embed.specs.contracts.client.Client.{the_view}
-use Rattle.jup_embed.proofs.Stopped.{over_from}
+use Rattle.jup_embed.proofs.Sessions.{over_from}
 use Rattle.jup_embed.proofs.client.Client.take_in.Goals.{in-Opening+in-Err-1, in-Opening+in-Ok-1, in-Open+in-Begun-1, in-Open+in-Nothing-1, in-Greeting-1}
 use Rattle.jup_embed.proofs.client.Client.take_in.Goals as goal
 

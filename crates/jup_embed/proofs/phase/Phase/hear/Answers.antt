@@ -1,5 +1,5 @@
 use Rattle.std.proofs.Common.{Ok, sym, subst, rules}
-use Rattle.jup_embed.specs.Phases.{Opens, PhaseHears}
+use Rattle.jup_embed.specs.Sessions.{Opens, PhaseHears}
 use Rattle.jup_embed.proofs.phase.Phase.hear.Goals.{in-Some, in_default}
 use Rattle.jup_embed.proofs.phase.Phase.hear.Goals as goal
 

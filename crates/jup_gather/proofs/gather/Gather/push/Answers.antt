@@ -1,7 +1,6 @@
 use Rattle.std.proofs.Common.{rules}
-use Rattle.jup_gather.specs.Gathering.{Gathers}
-use Rattle.jup_gather.specs.Held.{held}
-use Rattle.jup_gather.proofs.Runs.{gathers_on}
+use Rattle.jup_gather.specs.Gathering.{Gathers, held}
+use Rattle.jup_gather.proofs.Gathering.{gathers_on}
 use Rattle.jup_gather.proofs.gather.Gather.push.Goals as goal
 
 pub returns-clause-gathered : goal.returns-clause-gathered

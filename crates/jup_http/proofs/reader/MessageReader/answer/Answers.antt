@@ -1,7 +1,6 @@
 use Rattle.std.proofs.Common.{rules, ◌≡◌, ◌∙◌, refl, Some}
-use Rattle.jup_http.specs.Frames.{held_bytes}
-use Rattle.jup_http.specs.Sending.{pong_frame}
-use Rattle.jup_http.proofs.ReaderLemmas.{answered, answered_in_part, not_answered}
+use Rattle.jup_http.specs.Frames.{held_bytes, pong_frame}
+use Rattle.jup_http.proofs.Frames.{answered, answered_in_part, not_answered}
 use Rattle.jup_http.proofs.reader.MessageReader.answer.Goals as goal
 
 pub returns-in_err-put_pong-clause-err : goal.returns-in_err-put_pong-clause-err

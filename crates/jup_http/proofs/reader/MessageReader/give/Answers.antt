@@ -1,6 +1,6 @@
 use Rattle.std.proofs.Common.{rules, ◌≡◌, refl, Some, None}
 use Rattle.jup_http.specs.declared.stream.Event.TheVariants.{Ping, Closed, Broken}
-use Rattle.jup_http.proofs.ReaderLemmas.{gives_ping, gives_other}
+use Rattle.jup_http.proofs.Frames.{gives_ping, gives_other}
 use Rattle.jup_http.proofs.reader.MessageReader.give.Goals as goal
 
 pub returns-in-Some-Ping-clause-heard : goal.returns-in-Some-Ping-clause-heard

@@ -1,4 +1,4 @@
-use Rattle.jup_http.proofs.ReaderLemmas.{over_is_end}
+use Rattle.jup_http.proofs.Frames.{over_is_end}
 use Rattle.jup_http.proofs.reader.MessageReader.is_over.Goals as goal
 
 pub returns-in-None : goal.returns-in-None

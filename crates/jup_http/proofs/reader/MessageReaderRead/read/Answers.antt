@@ -1,7 +1,7 @@
 use Rattle.std.proofs.Common.{rules, arith}
 use Rattle.std.proofs.lemmas.Grind.{common_steps}
 use Rattle.jup_http.specs.Readers.{told_left, IsDealtWith}
-use Rattle.jup_http.proofs.ReaderLemmas.{hears_both, hears_then_fails, hears_whole, hears_nothing, gave_none, reader_gave, reader_kept, reader_ended, read_ended, if_none, if_failed}
+use Rattle.jup_http.proofs.Frames.{hears_both, hears_then_fails, hears_whole, hears_nothing, gave_none, reader_gave, reader_kept, reader_ended, read_ended, if_none, if_failed}
 use Rattle.jup_http.proofs.reader.MessageReaderRead.read.Goals as goal
 
 pub returns-in_err-answer-clause-bytes : goal.returns-in_err-answer-clause-bytes

@@ -1,5 +1,5 @@
 use Rattle.std.proofs.Common.{Ok, ap, ◌∙◌}
-use Rattle.jup_http.proofs.StreamLemmas.{fits_head, cut_short}
+use Rattle.jup_http.proofs.Frames.{fits_head, cut_short}
 use Rattle.jup_http.proofs.stream.FrameStream.take_head.Goals as goal
 
 pub hold-requires : goal.hold-requires

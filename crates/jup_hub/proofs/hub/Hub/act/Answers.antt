@@ -1,12 +1,9 @@
 use Rattle.std.proofs.Common.{◌≡◌, true, false, Result, sym, ap, ◌∙◌, subst}
-use Rattle.jup_star.specs.StarCalls.{reply_of, asks_memory, lacks_memory}
-use Rattle.jup_hub.specs.declared.desk.Desk.{Desk}
-use Rattle.jup_hub.specs.declared.fault.HubFault.{HubFault}
-use Rattle.jup_hub.specs.declared.view.View.{View}
-use Rattle.jup_hub.specs.Histories.{star_through}
-use Rattle.jup_hub.specs.Knowledge.{Called}
+use Rattle.jup_hub.specs.Prelude.{lacks_memory, Desk, HubFault, View}
+use Rattle.jup_star.specs.Stars.{reply_of, asks_memory}
+use Rattle.jup_hub.specs.Histories.{star_through, Called}
 use Rattle.jup_hub.specs.Passes.{view_of, Made}
-use Rattle.jup_hub.proofs.Calling.{calls, idle_again, called_again, makes, makes_none, answered, refused}
+use Rattle.jup_hub.proofs.Histories.{calls, idle_again, called_again, makes, makes_none, answered, refused}
 use Rattle.jup_hub.proofs.hub.Hub.act.Goals as goal
 use Rattle.jup_hub.proofs.hub.Hub.act.Goals.{then-lacks_memory, else-lacks_memory}
 

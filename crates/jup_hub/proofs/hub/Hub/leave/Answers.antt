@@ -1,7 +1,7 @@
-use Rattle.jup_star.specs.declared.calls.Call.TheVariants.{Leave}
+use Rattle.jup_hub.specs.Prelude.{Leave}
 use Rattle.jup_star.specs.declared.calls.StarReply.TheVariants.{Left}
 use Rattle.jup_hub.specs.Passes.{view_of}
-use Rattle.jup_hub.proofs.Calling.{never_lacks, leaving_asks_nothing}
+use Rattle.jup_hub.proofs.Histories.{never_lacks, leaving_asks_nothing}
 use Rattle.jup_hub.proofs.hub.Hub.leave.Goals as goal
 
 pub returns-clause-memory : goal.returns-clause-memory

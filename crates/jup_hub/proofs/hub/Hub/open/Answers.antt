@@ -1,8 +1,7 @@
 use Rattle.std.proofs.Common.{◌≡◌, List, [], ◌∷◌, ◌++◌, Option, Some, ap, sym, ◌∙◌, subst}
 use Rattle.atomic_table.specs.Table.{opening}
-use Rattle.jup_star.specs.StarCalls.{BoardStar}
-use Rattle.jup_hub.specs.declared.desk.Desk.{Desk}
-use Rattle.jup_hub.specs.Knowledge.{newcomer}
+use Rattle.jup_hub.specs.Prelude.{BoardStar, Desk}
+use Rattle.jup_hub.specs.Histories.{newcomer}
 use Rattle.jup_hub.specs.Turns.{Kept}
 use Rattle.jup_hub.proofs.TurnsKept.{opens}
 use Rattle.jup_hub.proofs.hub.Hub.open.Goals as goal

@@ -1,6 +1,5 @@
 use Rattle.std.proofs.Common.{rules, max, ap, ap₂, sym, ◌∙◌, subst}
-use Rattle.jup_hub.specs.Knowledge.{longest, tallies}
-use Rattle.jup_hub.specs.Histories.{AllApart}
+use Rattle.jup_hub.specs.Histories.{longest, tallies, AllApart}
 use Rattle.jup_hub.specs.Turns.{SeatState}
 use Rattle.jup_hub.proofs.TurnsKept.{joins, learns}
 use Rattle.jup_hub.proofs.Histories.{longest-append}

@@ -1,9 +1,7 @@
 use Rattle.std.proofs.Common.{◌++◌, ◌+◌, take, sym, ap, ◌∙◌}
-use Rattle.jup_lane.specs.Messages.{codec}
-use Rattle.jup_lane.specs.Lanes.{LaneState, Way, moved}
-use Rattle.jup_lane.proofs.LaneLaws.{same_ways}
-use Rattle.jup_lane.proofs.MessageLines.{codec_laws}
-use Rattle.jup_lane.proofs.Whole.{leads, moved-none, moved-twice}
+use Rattle.jup_lane.specs.Lanes.{codec, LaneState, Way, moved}
+use Rattle.jup_lane.proofs.Lanes.{same_ways, leads, moved-none, moved-twice}
+use Rattle.jup_lane.proofs.Trays.{codec_laws}
 use Rattle.jup_lane.proofs.lane.Lane.push.Goals as goal
 
 pub take_in-requires : goal.take_in-requires

@@ -1,9 +1,8 @@
 use Rattle.std.proofs.Common.{◌≡◌, true, ap, subst, rules}
-use Rattle.jup_wire.specs.Singles.{BeginsLines}
-use Rattle.jup_lane.specs.Messages.{codec}
-use Rattle.jup_lane.specs.Lanes.{LaneState, Way}
-use Rattle.jup_lane.proofs.Ahead.{ReadAhead, read_there}
-use Rattle.jup_lane.proofs.MessageLines.{codec_laws, message_first}
+use Rattle.jup_wire.specs.Lines.{BeginsLines}
+use Rattle.jup_lane.specs.Lanes.{codec, LaneState, Way}
+use Rattle.jup_lane.proofs.Lanes.{ReadAhead, read_there}
+use Rattle.jup_lane.proofs.Trays.{codec_laws, message_first}
 use Rattle.jup_lane.proofs.lane.Lane.read_ahead.Given as given
 use Rattle.jup_lane.proofs.lane.Lane.read_ahead.Goals as goal
 

@@ -1,10 +1,8 @@
 use Rattle.std.proofs.Common.{◌++◌, drop, ap, ◌∙◌, arith}
 use Rattle.std.proofs.lemmas.List.{drop-append-le}
-use Rattle.jup_gather.specs.Pieces.{piece_lines}
-use Rattle.jup_lane.specs.Codecs.{bytes_of}
-use Rattle.jup_lane.specs.Lanes.{StreamState}
-use Rattle.jup_lane.specs.Messages.{codec}
-use Rattle.jup_lane.proofs.LinesIn.{lines_written}
+use Rattle.jup_gather.specs.Gathering.{piece_lines}
+use Rattle.jup_lane.specs.Lanes.{bytes_of, StreamState, codec}
+use Rattle.jup_lane.proofs.Lanes.{lines_written}
 use Rattle.jup_lane.proofs.stream.Stream.write.Goals as goal
 
 pub returns-clause-bytes : goal.returns-clause-bytes

@@ -1,7 +1,6 @@
 use Rattle.std.proofs.Common.{drop, sym, ap, ◌∙◌}
-use Rattle.jup_lane.specs.Messages.{codec}
-use Rattle.jup_lane.proofs.MessageLines.{codec_laws}
-use Rattle.jup_lane.proofs.Trays.{dropped}
+use Rattle.jup_lane.specs.Lanes.{codec}
+use Rattle.jup_lane.proofs.Trays.{codec_laws, dropped}
 use Rattle.jup_lane.proofs.tray.Tray.drop_first.Goals as goal
 
 pub returns : goal.returns

@@ -1,9 +1,6 @@
 use Rattle.std.proofs.Common.{◌≡◌, Some, None, true, refl, subst, rules}
-use Rattle.jup_lane.specs.Firsts.{IsFirstOf}
-use Rattle.jup_lane.specs.Messages.{codec}
-use Rattle.jup_lane.proofs.Firsts.{first_in, edit_in, given_in}
-use Rattle.jup_lane.proofs.MessageLines.{codec_laws}
-use Rattle.jup_lane.proofs.Trays.{first_read}
+use Rattle.jup_lane.specs.Lanes.{IsFirstOf, codec}
+use Rattle.jup_lane.proofs.Trays.{first_in, edit_in, given_in, codec_laws, first_read}
 use Rattle.jup_lane.proofs.tray.Tray.first.Goals as goal
 
 pub returns-then-is_short : goal.returns-then-is_short

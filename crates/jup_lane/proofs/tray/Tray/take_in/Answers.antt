@@ -1,5 +1,5 @@
 use Rattle.std.proofs.Common.{◌≡◌, ◌++◌, sym, ap, subst, ◌∙◌, rules}
-use Rattle.jup_lane.specs.Trays.{tray_bytes, IsTray, Leads}
+use Rattle.jup_lane.specs.Lanes.{tray_bytes, IsTray, Leads}
 use Rattle.jup_lane.proofs.Trays.{taken_in}
 use Rattle.jup_lane.proofs.tray.Tray.take_in.Goals as goal
 

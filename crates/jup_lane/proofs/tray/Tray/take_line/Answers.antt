@@ -1,5 +1,5 @@
 use Rattle.std.proofs.Common.{◌+◌, ◌++◌, Some, take, sym, ap, subst, ◌∙◌, arith}
-use Rattle.jup_lane.specs.Trays.{tray_bytes, Leads}
+use Rattle.jup_lane.specs.Lanes.{tray_bytes, Leads}
 use Rattle.jup_lane.proofs.Trays.{no_part, leads_less, feed_found, line_ahead, line_taken}
 use Rattle.jup_lane.proofs.tray.Tray.take_line.Goals as goal
 

@@ -1,10 +1,9 @@
 use Rattle.std.proofs.Common.{Ok, sym, subst, ap, ◌∙◌}
 use Rattle.jup_window.specs.Boards as board
-use Rattle.jup_layout.specs.declared.naming.Naming.TheVariants.{Distinct}
-use Rattle.jup_layout.specs.Drafts.{Built}
-use Rattle.jup_layout.specs.Layouts.{HasTaken}
+use Rattle.jup_layout.specs.Prelude.{Distinct}
+use Rattle.jup_layout.specs.Drafts.{Built, HasTaken}
 use Rattle.jup_layout.proofs.Drafting.{same_Ok}
-use Rattle.jup_layout.proofs.LinesTaken.{held_whole}
+use Rattle.jup_layout.proofs.Texts.{held_whole}
 use Rattle.jup_layout.proofs.Saying.{board_said}
 use Rattle.jup_layout.proofs.builder.BoardBuilder.finish.Goals as goal
 

@@ -1,10 +1,8 @@
 use Rattle.std.proofs.Common.{◌++◌, ◌∷◌, [], inr, Err, sym, subst, ap, ◌∙◌, arith, length-append}
-use Rattle.jup_layout.specs.declared.naming.Naming.TheVariants.{Distinct}
-use Rattle.jup_layout.specs.Drafts.{Built}
-use Rattle.jup_layout.specs.Layouts.{HasTaken}
-use Rattle.jup_layout.proofs.Counting.{taken_grows}
-use Rattle.jup_layout.proofs.LinesTaken.{line_taken, refused_line, too_many}
-use Rattle.jup_layout.proofs.SaidTexts.{made_every}
+use Rattle.jup_layout.specs.Prelude.{Distinct}
+use Rattle.jup_layout.specs.Drafts.{Built, HasTaken}
+use Rattle.jup_layout.proofs.Drafting.{taken_grows}
+use Rattle.jup_layout.proofs.Texts.{line_taken, refused_line, too_many, made_every}
 use Rattle.jup_layout.proofs.builder.BoardBuilder.take.Goals as goal
 
 pub returns-then-number-clause-fault : goal.returns-then-number-clause-fault

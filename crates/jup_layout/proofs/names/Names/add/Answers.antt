@@ -1,5 +1,5 @@
 use Rattle.std.proofs.Common.{◌∙◌}
-use Rattle.jup_layout.proofs.HeldNames.{same_name, or_cond}
+use Rattle.jup_layout.proofs.Drafting.{same_name, or_cond}
 use Rattle.jup_layout.proofs.names.Names.add.Goals as goal
 
 pub returns-in-Ok-clause-held : goal.returns-in-Ok-clause-held

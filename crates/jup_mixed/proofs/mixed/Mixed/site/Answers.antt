@@ -1,13 +1,9 @@
 use Rattle.std.proofs.Common.{◌∙◌, ap, sym}
 use Rattle.std.specs.Prelude.{Option, is_some}
 use Rattle.std.specs.Option.{option_map}
-use Rattle.jup_batch.specs.BoardBatches.{board_batches}
-use Rattle.jup_batch.specs.BoardBatches.{batch_laws}
-use Rattle.jup_star.specs.StarStates.{most_batches}
-use Rattle.jup_world.specs.declared.world.attached.Attached.{Attached}
-use Rattle.jup_world.specs.WorldFields.{bare_attached}
+use Rattle.jup_mixed.specs.Prelude.{board_batches, batch_laws, most_batches, Attached, bare_attached}
 use Rattle.jup_mixed.specs.contracts.mixed.Mixed.{the_view}
-use Rattle.jup_mixed.proofs.MixHolds.{home-promises, home-made, home-backlog}
+use Rattle.jup_mixed.proofs.Worlds.{home-promises, home-made, home-backlog}
 use Rattle.jup_mixed.proofs.mixed.Mixed.site.Goals as goal
 
 pub returns-in-Some-clause-content : goal.returns-in-Some-clause-content

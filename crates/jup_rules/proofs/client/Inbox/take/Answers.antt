@@ -1,6 +1,6 @@
 use Rattle.std.proofs.Common.{◌≡◌, length-append, drop, arith, sym, ap, ◌∙◌}
-use Rattle.jup_rules.specs.Inboxes.{Arrived}
-use Rattle.jup_rules.proofs.Taking.{taken_front}
+use Rattle.jup_rules.specs.Clients.{Arrived}
+use Rattle.jup_rules.proofs.Clients.{taken_front}
 use Rattle.jup_rules.proofs.client.Inbox.take.Goals as goal
 
 pub returns : goal.returns

@@ -1,7 +1,7 @@
 use Rattle.std.proofs.Common.{sym, subst}
 use Rattle.jup_rules.specs.declared.session.Next.{Next}
-use Rattle.jup_rules.specs.Gates.{Keeper, HasHeard, Leads, next_of}
-use Rattle.jup_rules.proofs.Hearing.{leads}
+use Rattle.jup_rules.specs.Sessions.{Keeper, HasHeard, Leads, next_of}
+use Rattle.jup_rules.proofs.Sessions.{leads}
 use Rattle.jup_rules.proofs.session.Gatekeeper.hear.Goals as goal
 
 pub returns : goal.returns

@@ -1,6 +1,6 @@
 use Rattle.std.proofs.Common.{rules, ◌≡◌, subst}
 use Rattle.jup_seq.specs.declared.sources.Source.TheVariants.{Place}
-use Rattle.jup_seq.specs.Sources.{source, sourced, IsSource}
+use Rattle.jup_seq.specs.Traces.{source, sourced, IsSource}
 use Rattle.jup_seq.proofs.operations.SeqOp.source.Goals as goal
 
 pub returns-in_default-3-clause-told : goal.returns-in_default-3-clause-told

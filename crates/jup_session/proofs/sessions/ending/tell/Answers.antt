@@ -1,5 +1,5 @@
 use Rattle.std.proofs.Common.{subst, [], ◌∷◌}
-use Rattle.jup_stream.specs.Puts.{PutsLines, puts_sent}
+use Rattle.jup_session.specs.Prelude.{PutsLines, puts_sent}
 use Rattle.jup_session.proofs.sessions.ending.tell.Goals as goal
 
 pub returns-clause-put : goal.returns-clause-put

@@ -1,7 +1,6 @@
 use Rattle.std.proofs.Common.{refl}
-use Rattle.jup_hub.specs.Passes.{view_of}
-use Rattle.jup_session.proofs.SessionCalls.{session_left}
-use Rattle.jup_session.proofs.Greeted.{joins_so, away_session, away_early, welcomed_so, unwelcome_early}
+use Rattle.jup_session.specs.Prelude.{view_of}
+use Rattle.jup_session.proofs.Calls.{session_left, joins_so, away_session, away_early, welcomed_so, unwelcome_early}
 use Rattle.jup_session.proofs.sessions.greeting.begin.Goals as goal
 
 pub returns-in-Err-clause-over : goal.returns-in-Err-clause-over

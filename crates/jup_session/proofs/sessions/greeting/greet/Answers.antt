@@ -1,4 +1,4 @@
-use Rattle.jup_hub.specs.Passes.{view_of}
+use Rattle.jup_session.specs.Prelude.{view_of}
 use Rattle.jup_session.specs.ExactSessions.{NoJoin}
 use Rattle.jup_session.proofs.sessions.greeting.greet.Goals as goal
 

@@ -1,5 +1,5 @@
 use Rattle.std.proofs.Common.{rules}
-use Rattle.jup_session.proofs.Greeted.{away_line, away_greeting}
+use Rattle.jup_session.proofs.Calls.{away_line, away_greeting}
 use Rattle.jup_session.proofs.sessions.greeting.read_greeting.Goals as goal
 
 pub returns-in-Err-clause-away : goal.returns-in-Err-clause-away

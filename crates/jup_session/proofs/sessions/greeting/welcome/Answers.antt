@@ -1,8 +1,7 @@
 use Rattle.std.proofs.Common.{[], ◌∷◌, ◌++◌}
-use Rattle.jup_layout.specs.BoardLines.{board_lines}
+use Rattle.jup_session.specs.Prelude.{board_lines, puts_more, puts_sent}
 use Rattle.jup_wire.specs.declared.line.Line.TheVariants.{Welcome, Ready}
-use Rattle.jup_session.specs.Greetings.{welcome_lines}
-use Rattle.jup_stream.specs.Puts.{puts_more, puts_sent}
+use Rattle.jup_session.specs.Sessions.{welcome_lines}
 use Rattle.jup_session.proofs.sessions.greeting.welcome.Goals as goal
 
 pub returns-clause-lines : goal.returns-clause-lines

@@ -1,6 +1,5 @@
-use Rattle.jup_hub.specs.Passes.{view_of, IsPassOf}
-use Rattle.jup_session.specs.Departures.{GivesBack}
-use Rattle.jup_session.specs.Sessions.{Makes}
+use Rattle.jup_session.specs.Prelude.{view_of, IsPassOf}
+use Rattle.jup_session.specs.Sessions.{GivesBack, Makes}
 use Rattle.jup_session.proofs.sessions.leaving.give_back.Given as goal
 
 abbrev pub invariant-loop : goal.invariant-loop

@@ -1,6 +1,5 @@
-use Rattle.jup_hub.specs.Passes.{view_of}
-use Rattle.jup_session.proofs.SessionCalls.{leaves_by_leaving}
-use Rattle.jup_session.proofs.Departing.{departs_so, leaves_so}
+use Rattle.jup_session.specs.Prelude.{view_of}
+use Rattle.jup_session.proofs.Calls.{leaves_by_leaving, departs_so, leaves_so}
 use Rattle.jup_session.proofs.sessions.leaving.leave.Goals as goal
 
 pub returns-clause-leaves : goal.returns-clause-leaves

@@ -1,7 +1,7 @@
 use Rattle.std.proofs.Common.{refl}
-use Rattle.jup_hub.specs.Passes.{view_of}
-use Rattle.jup_session.specs.Hearings.{Stopped, ByLine, Untaken, Spent, Behind}
-use Rattle.jup_session.proofs.Heard.{hears_none, hears_line, hears_take}
+use Rattle.jup_session.specs.Prelude.{view_of}
+use Rattle.jup_session.specs.Sessions.{Stopped, ByLine, Untaken, Spent, Behind}
+use Rattle.jup_session.proofs.Calls.{hears_none, hears_line, hears_take}
 use Rattle.jup_session.proofs.sessions.reading.hear_all.Goals as goal
 
 pub loop-init : goal.loop-init

@@ -1,5 +1,5 @@
-use Rattle.jup_hub.specs.Passes.{view_of, IsPassOf}
-use Rattle.jup_session.specs.Hearings.{Hears}
+use Rattle.jup_session.specs.Prelude.{view_of, IsPassOf}
+use Rattle.jup_session.specs.Sessions.{Hears}
 use Rattle.jup_session.proofs.sessions.reading.hear_all.Given as goal
 
 abbrev pub invariant-loop : goal.invariant-loop

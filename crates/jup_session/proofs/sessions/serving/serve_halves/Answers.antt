@@ -1,9 +1,8 @@
-use Rattle.jup_hub.specs.Passes.{view_of}
+use Rattle.jup_session.specs.Prelude.{view_of}
 use Rattle.std.proofs.Common.{◌∙◌, sym}
 use Rattle.jup_session.specs.Sessions.{IsCallFor}
-use Rattle.jup_session.proofs.Assembling.{both_halves_so}
-use Rattle.jup_session.proofs.Heard.{heard_serves}
-use Rattle.jup_session.proofs.SessionCalls.{makes_both, makes_split, both_serve}
+use Rattle.jup_session.proofs.Accounts.{both_halves_so}
+use Rattle.jup_session.proofs.Calls.{heard_serves, makes_both, makes_split, both_serve}
 use Rattle.jup_session.proofs.sessions.serving.serve_halves.Goals as goal
 
 pub returns-clause-halves : goal.returns-clause-halves

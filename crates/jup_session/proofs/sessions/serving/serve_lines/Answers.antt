@@ -1,6 +1,6 @@
-use Rattle.jup_hub.specs.Passes.{view_of}
-use Rattle.jup_session.proofs.Assembling.{served_so, early_so}
-use Rattle.jup_session.proofs.SessionCalls.{session_served}
+use Rattle.jup_session.specs.Prelude.{view_of}
+use Rattle.jup_session.proofs.Accounts.{served_so, early_so}
+use Rattle.jup_session.proofs.Calls.{session_served}
 use Rattle.jup_session.proofs.sessions.serving.serve_lines.Goals as goal
 
 pub returns-in-Ok-clause-lines : goal.returns-in-Ok-clause-lines

@@ -1,9 +1,6 @@
 use Rattle.std.proofs.Common.{◌∙◌, ap, not, subst}
-use Rattle.jup_hub.specs.Passes.{view_of}
-use Rattle.jup_wire.specs.declared.line.Line.TheVariants.{Error}
-use Rattle.jup_wire.specs.Grammar.{line_bytes}
-use Rattle.jup_stream.specs.Puts.{WritesFront, fresh_put}
-use Rattle.jup_session.proofs.Assembling.{exact_so, no_room_so}
+use Rattle.jup_session.specs.Prelude.{view_of, Error, line_bytes, WritesFront, fresh_put}
+use Rattle.jup_session.proofs.Accounts.{exact_so, no_room_so}
 use Rattle.jup_session.proofs.sessions.serving.serve_session.Goals as goal
 
 pub returns-in-Ok-clause-exact : goal.returns-in-Ok-clause-exact

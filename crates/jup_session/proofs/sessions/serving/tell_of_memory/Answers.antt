@@ -1,8 +1,6 @@
 use Rattle.std.proofs.Common.{not, true, sym, subst, true≢false}
-use Rattle.jup_wire.specs.declared.line.Line.TheVariants.{Error}
-use Rattle.jup_wire.specs.Grammar.{line_bytes}
-use Rattle.jup_stream.specs.Puts.{WritesFront}
-use Rattle.jup_session.proofs.Assembling.{error_8, not_twice, passed_on}
+use Rattle.jup_session.specs.Prelude.{Error, line_bytes, WritesFront}
+use Rattle.jup_session.proofs.Accounts.{error_8, not_twice, passed_on}
 use Rattle.jup_session.proofs.sessions.serving.tell_of_memory.Goals as goal
 
 pub returns-then-is_err : goal.returns-then-is_err

@@ -1,10 +1,7 @@
 use Rattle.std.proofs.Common.{[], subst, flat_map, IfNone, IfSome}
-use Rattle.jup_hub.specs.Passes.{view_of}
-use Rattle.jup_rules.specs.Messages.{down_lines}
-use Rattle.jup_stream.specs.Puts.{PutsLines}
-use Rattle.jup_session.specs.Forwards.{Brings}
-use Rattle.jup_session.proofs.SessionCalls.{leaves_after}
-use Rattle.jup_session.proofs.Forwarding.{forwards_none, forwards_more, forwards_in_vain, forwards_serves}
+use Rattle.jup_session.specs.Prelude.{view_of, down_lines, PutsLines}
+use Rattle.jup_session.specs.Sessions.{Brings}
+use Rattle.jup_session.proofs.Calls.{leaves_after, forwards_none, forwards_more, forwards_in_vain, forwards_serves}
 use Rattle.jup_session.proofs.sessions.writing.forward.Goals as goal
 
 pub loop-init : goal.loop-init

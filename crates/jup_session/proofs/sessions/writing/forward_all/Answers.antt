@@ -1,6 +1,5 @@
-use Rattle.jup_hub.specs.Passes.{view_of}
-use Rattle.jup_session.proofs.SessionCalls.{leaves_after}
-use Rattle.jup_session.proofs.Forwarding.{forwards_none, forwards_news, forwards_both, forwards_serves}
+use Rattle.jup_session.specs.Prelude.{view_of}
+use Rattle.jup_session.proofs.Calls.{leaves_after, forwards_none, forwards_news, forwards_both, forwards_serves}
 use Rattle.jup_session.proofs.sessions.writing.forward_all.Goals as goal
 
 pub loop-init : goal.loop-init

@@ -1,6 +1,5 @@
-use Rattle.jup_hub.specs.Passes.{view_of, IsPassOf}
-use Rattle.jup_stream.specs.Puts.{IsFlushed}
-use Rattle.jup_session.specs.Forwards.{Forwards}
+use Rattle.jup_session.specs.Prelude.{view_of, IsPassOf, IsFlushed}
+use Rattle.jup_session.specs.Sessions.{Forwards}
 use Rattle.jup_session.proofs.sessions.writing.forward_all.Given as goal
 
 abbrev pub invariant-loop : goal.invariant-loop

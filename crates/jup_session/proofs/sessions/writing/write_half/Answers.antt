@@ -1,11 +1,8 @@
 use Rattle.std.proofs.Common.{sym, subst}
-use Rattle.jup_hub.specs.Passes.{view_of}
+use Rattle.jup_session.specs.Prelude.{view_of}
 use Rattle.jup_hub.specs.declared.hub.Pass.{Pass}
-use Rattle.jup_session.specs.Departures.{Departs}
-use Rattle.jup_session.specs.Sessions.{HasServed}
-use Rattle.jup_session.proofs.SessionCalls.{served_alone, leaves_after}
-use Rattle.jup_session.proofs.Departing.{departs_none}
-use Rattle.jup_session.proofs.Forwarding.{forwards_serves, wrote_so}
+use Rattle.jup_session.specs.Sessions.{Departs, HasServed}
+use Rattle.jup_session.proofs.Calls.{served_alone, leaves_after, departs_none, forwards_serves, wrote_so}
 use Rattle.jup_session.proofs.sessions.writing.write_half.Goals as goal
 use Rattle.jup_session.proofs.sessions.writing.write_half.Goals.{then-not-is_gone, else-not-is_gone}
 

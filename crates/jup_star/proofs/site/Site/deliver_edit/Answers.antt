@@ -1,15 +1,11 @@
 use Rattle.std.proofs.Common.{◌≡◌, None, IfSome, is_some, ◌∙◌, sym, ap, subst}
-use Rattle.jup_link.specs.Links.{answered}
-use Rattle.jup_batch.specs.BatchBoards as board
-use Rattle.jup_batch.specs.BoardBatches.{board_batches}
-use Rattle.jup_batch.specs.BatchBoards.{accepts}
-use Rattle.jup_batch.specs.BoardBatches.{batch_laws}
-use Rattle.jup_star.specs.FirstFaults.{first_fault}
-use Rattle.jup_star.specs.LinkStates.{operation_at}
-use Rattle.jup_star.specs.SiteStates.{IsSite, shown_tests}
-use Rattle.jup_star.specs.SiteCalls.{BoardSite}
+use Rattle.jup_star.specs.Prelude.{answered, board_batches, accepts, batch_laws}
+use Rattle.jup_batch.specs.Boards as board
+use Rattle.jup_star.specs.Faults.{first_fault}
+use Rattle.jup_star.specs.Stars.{operation_at}
+use Rattle.jup_star.specs.Sites.{IsSite, shown_tests, BoardSite}
 use Rattle.jup_star.specs.contracts.site.Site.{the_view}
-use Rattle.jup_star.proofs.SiteKeeps.{shown_foreign, shown_count, shown_site, shown_with}
+use Rattle.jup_star.proofs.Sites.{shown_foreign, shown_count, shown_site, shown_with}
 use Rattle.jup_star.proofs.site.Site.deliver_edit.Goals as goal
 
 pub invariant_of-self-2 : goal.invariant_of-self-2

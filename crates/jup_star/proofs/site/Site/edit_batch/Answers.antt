@@ -1,14 +1,11 @@
 use Rattle.std.proofs.Common.{rules, ◌≡◌, ◌∙◌, length, sym, ap, subst, Ok, ◌<◌}
-use Rattle.jup_link.specs.Links.{after_send}
-use Rattle.jup_batch.specs.BatchBoards as board
-use Rattle.jup_batch.specs.BatchBoards.{BoardBatch}
-use Rattle.jup_batch.specs.BoardBatches.{board_batches}
-use Rattle.jup_star.specs.SiteStates.{IsSite, edit_answer}
-use Rattle.jup_star.specs.SiteCalls.{BoardSite}
+use Rattle.jup_star.specs.Prelude.{after_send, BoardBatch, board_batches}
+use Rattle.jup_batch.specs.Boards as board
+use Rattle.jup_star.specs.Sites.{IsSite, edit_answer, BoardSite}
 use Rattle.jup_star.specs.contracts.site.Site.{the_view}
-use Rattle.jup_star.specs.TextRelabels.{RelabelNoText}
+use Rattle.jup_star.specs.Messages.{RelabelNoText}
 use Rattle.jup_star.proofs.Relabels.{valid_relabels}
-use Rattle.jup_star.proofs.SiteKeeps.{length_edits, edited_site, edited_with}
+use Rattle.jup_star.proofs.Sites.{length_edits, edited_site, edited_with}
 use Rattle.jup_star.proofs.site.Site.edit_batch.Goals as goal
 
 pub invariant_of-self-2 : goal.invariant_of-self-2

@@ -1,6 +1,6 @@
 use Rattle.std.proofs.Common.{rules, arith, ◌≡◌, ◌≤◌, ◌<◌, List, [], ◌∷◌, length, get_or, sym, ap}
-use Rattle.jup_batch.specs.BatchBoards as board
-use Rattle.jup_star.proofs.SiteNames.{fresh_next}
+use Rattle.jup_batch.specs.Boards as board
+use Rattle.jup_star.proofs.Sites.{fresh_next}
 use Rattle.jup_star.proofs.site.Site.name_batch.Goals as goal
 
 -- a list of one element

@@ -1,12 +1,10 @@
 use Rattle.std.proofs.Common.{rules, ◌≡◌, ◌∙◌, Ok, sym, ap, subst}
-use Rattle.jup_batch.specs.BatchBoards as board
-use Rattle.jup_batch.specs.BatchBoards.{BoardBatch}
-use Rattle.jup_batch.specs.BoardBatches.{batch_laws, board_batches}
-use Rattle.jup_batch.specs.Laws.ShownCommands.{operations_shown}
-use Rattle.jup_star.specs.SiteStates.{edit_answer}
-use Rattle.jup_star.specs.SiteCalls.{BoardSite}
+use Rattle.jup_batch.specs.Boards as board
+use Rattle.jup_star.specs.Prelude.{BoardBatch, batch_laws, board_batches}
+use Rattle.jup_batch.specs.Laws.Boards.{operations_shown}
+use Rattle.jup_star.specs.Sites.{edit_answer, BoardSite}
 use Rattle.jup_star.specs.contracts.site.Site.{the_view}
-use Rattle.jup_star.proofs.SiteKeeps.{answer_operation}
+use Rattle.jup_star.proofs.Sites.{answer_operation}
 use Rattle.jup_star.proofs.site.Site.name_several.Goals as goal
 
 pub returns-clause-valid : goal.returns-clause-valid

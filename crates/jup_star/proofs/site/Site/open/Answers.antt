@@ -1,9 +1,9 @@
 use Rattle.std.proofs.Common.{◌≡◌, ◌∙◌, sym, arith}
 use Rattle.std.specs.Prelude.{false}
-use Rattle.jup_batch.specs.BatchBoards as board
-use Rattle.jup_window.specs.Sites.{has_site}
-use Rattle.jup_window.specs.Laws.BareBoards.{has_site-bare, has_site-held}
-use Rattle.jup_star.proofs.OpenSteps.{site_fault_item, site_fault_none}
+use Rattle.jup_batch.specs.Boards as board
+use Rattle.jup_star.specs.Prelude.{has_site}
+use Rattle.jup_window.specs.Laws.Entries.{has_site-bare, has_site-held}
+use Rattle.jup_star.proofs.FaultTests.{site_fault_item, site_fault_none}
 use Rattle.jup_star.proofs.site.Site.open.Goals as goal
 
 pub returns-then-has_site-clause-refusal : goal.returns-then-has_site-clause-refusal

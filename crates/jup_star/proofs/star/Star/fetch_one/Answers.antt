@@ -1,13 +1,10 @@
 use Rattle.std.proofs.Common.{ap, ◌∙◌, refl, take, Ok}
 use Rattle.jup_star.specs.declared.link.Link.{Link}
 use Rattle.jup_star.specs.declared.calls.StarReply.TheVariants.{Fetched}
-use Rattle.jup_star.specs.LinkStates.{link_fetched}
-use Rattle.jup_star.specs.StarStates.{with_links}
-use Rattle.jup_star.specs.Rooms.{bare_link}
+use Rattle.jup_star.specs.Stars.{link_fetched, with_links, bare_link}
 use Rattle.jup_star.specs.contracts.star.Star.{the_view}
 use Rattle.jup_star.proofs.LinkChanges.{found_new}
-use Rattle.jup_star.proofs.Lists.LinkSteps.{changed, changed_star, fetched_bounded, place_found}
-use Rattle.jup_star.proofs.CallSteps.{fetch_no_link, fetch_fetched}
+use Rattle.jup_star.proofs.Stars.{changed, changed_star, fetched_bounded, place_found, fetch_no_link, fetch_fetched}
 use Rattle.jup_star.proofs.star.Star.fetch_one.Goals as goal
 
 pub returns-in_default-clause-call : goal.returns-in_default-clause-call

@@ -1,25 +1,11 @@
-use Rattle.jup_star.specs.declared.faults.StarFault.TheVariants.{NoMemory}
+use Rattle.jup_star.specs.Prelude.{NoMemory, BoardEdits, board_batches, accepts, BoardBatch, Entry, Op, Msg}
 use Rattle.std.proofs.Common.{rules, arith, ◌≡◌, ap, ◌∙◌, sym, map, subst, List, length, Some, None, Ok, ◌++◌, ◌∷◌, [], Err}
-use Rattle.jup_batch.specs.BatchBoards.{BoardEdits}
-use Rattle.jup_batch.specs.BatchBoards as board
-use Rattle.jup_batch.specs.BoardBatches.{board_batches}
-use Rattle.jup_batch.specs.BatchBoards.{accepts}
-use Rattle.jup_star.specs.declared.messages.Entry.{Entry}
-use Rattle.jup_star.specs.declared.messages.Up.TheVariants.{Op}
-use Rattle.jup_link.specs.declared.Msg.{Msg}
-use Rattle.jup_batch.specs.BatchBoards.{BoardBatch}
-use Rattle.jup_star.specs.Places.{CanHear}
+use Rattle.jup_batch.specs.Boards as board
+use Rattle.jup_star.specs.Stars.{CanHear, operation_at, early_fault, link_of, without, with_links, links_after, BoardLink, IsStar, bare_link, AllCount}
 use Rattle.jup_star.specs.declared.calls.StarReply.TheVariants.{Taken}
-use Rattle.jup_star.specs.LinkStates.{operation_at}
-use Rattle.jup_star.specs.StarStates.{early_fault, link_of, without, with_links, links_after}
-use Rattle.jup_star.specs.StarCalls.{BoardLink, IsStar}
-use Rattle.jup_star.specs.Rooms.{bare_link, AllCount}
 use Rattle.jup_star.specs.contracts.star.Star.{the_view}
-use Rattle.jup_star.proofs.Lists.LinkPlaces.{detached}
-use Rattle.jup_star.proofs.LinkChanges.{found_new, found_some}
-use Rattle.jup_star.proofs.StarKeeps.{left_star}
-use Rattle.jup_star.proofs.CallSteps.{take_no_link}
-use Rattle.jup_star.proofs.TakeSteps.{checked, edit_detached, edit_waits, waits_star, edit_misfits, misfits_star, edit_taken, edit_star, heard_by, all_count, named_few}
+use Rattle.jup_star.proofs.LinkChanges.{detached, found_new, found_some}
+use Rattle.jup_star.proofs.Stars.{left_star, take_no_link, checked, edit_detached, edit_waits, waits_star, edit_misfits, misfits_star, edit_taken, edit_star, heard_by, all_count, named_few}
 use Rattle.jup_star.proofs.star.Star.take_edit.Goals as goal
 
 pub returns-in_default : goal.returns-in_default

@@ -1,4 +1,4 @@
-use Rattle.jup_stream.proofs.HowRead.{stops_after}
+use Rattle.jup_stream.proofs.Streams.{stops_after}
 use Rattle.jup_stream.proofs.source.Source.fill.Goals as goal
 
 pub returns-in-Err-clause-stop : goal.returns-in-Err-clause-stop

@@ -1,4 +1,4 @@
-use Rattle.jup_stream.specs.Sources.{ReadsOn}
+use Rattle.jup_stream.specs.Streams.{ReadsOn}
 use Rattle.jup_stream.proofs.source.Source.fill.Given as goal
 
 abbrev pub invariant-loop : goal.invariant-loop

@@ -1,6 +1,6 @@
 use Rattle.std.proofs.Common.{ap, ◌∙◌, rules}
 use Rattle.jup_window.specs.Entries.{change_at, with_entry}
-use Rattle.jup_text.specs.Drafts.{Draft}
+use Rattle.jup_text.specs.Boards.{Draft}
 use Rattle.jup_text.proofs.board_reader.BoardReader.put.Goals as goal
 
 pub returns-clause-ok : goal.returns-clause-ok

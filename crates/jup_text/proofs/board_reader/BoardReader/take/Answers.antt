@@ -1,10 +1,9 @@
 use Rattle.std.proofs.Common.{◌≢◌, ℕ, ◌∷◌, ◌++◌, sym, ap, subst, ◌∙◌, rules}
 use Rattle.std.specs.Prelude.{codes}
-use Rattle.jup_window.specs.Additions.{widget_fault}
+use Rattle.jup_window.specs.Entries.{widget_fault}
 use Rattle.jup_text.specs.Commands.{IsId}
-use Rattle.jup_text.specs.Drafts.{Draft}
-use Rattle.jup_text.specs.NextLines.{IsHeld}
-use Rattle.jup_text.proofs.NextLines.{next_has_word, next_widget, same_id}
+use Rattle.jup_text.specs.Boards.{Draft, IsHeld}
+use Rattle.jup_text.proofs.BoardLines.{next_has_word, next_widget, same_id}
 use Rattle.jup_text.proofs.board_reader.BoardReader.take.Goals as goal
 
 pub returns-in_default-clause-every : goal.returns-in_default-clause-every

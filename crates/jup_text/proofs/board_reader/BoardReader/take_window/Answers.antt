@@ -2,9 +2,9 @@ use Rattle.std.proofs.Common.{◌≡◌, ℕ, None, sym, ap, ◌∙◌, arith, r
 use Rattle.std.specs.Prelude.{codes, decimal, ◌++◌}
 use Rattle.std.proofs.lemmas.Fmt.{decimal_injective}
 use Rattle.std.proofs.lemmas.List.{append_cancel_left}
-use Rattle.jup_window.specs.Additions.{entry_fault}
-use Rattle.jup_text.specs.Drafts.{Draft}
-use Rattle.jup_text.proofs.NextLines.{window_first}
+use Rattle.jup_window.specs.Entries.{entry_fault}
+use Rattle.jup_text.specs.Boards.{Draft}
+use Rattle.jup_text.proofs.BoardLines.{window_first}
 use Rattle.jup_text.proofs.board_reader.BoardReader.take_window.Goals as goal
 
 pub returns-in_err-add_window-clause-every : goal.returns-in_err-add_window-clause-every

@@ -1,10 +1,9 @@
 use Rattle.std.proofs.Common.{◌≢◌, ℕ, List, [], ◌∷◌, ◌++◌, map, sym, subst, arith, rules}
 use Rattle.std.specs.List.{flat_map}
 use Rattle.std.proofs.lemmas.List.{length-map}
-use Rattle.jup_text.specs.Quotes.{quoted_char}
-use Rattle.jup_text.proofs.Quoting.{HasRead, more_read, no_text_read}
-use Rattle.jup_text.proofs.Drafting.{values_next, numbered_next}
-use Rattle.jup_text.proofs.NextLines.{more_chars, number_of}
+use Rattle.jup_text.specs.Words.{quoted_char}
+use Rattle.jup_text.proofs.Quotes.{HasRead, more_read, no_text_read}
+use Rattle.jup_text.proofs.BoardLines.{values_next, numbered_next, more_chars, number_of}
 use Rattle.jup_text.proofs.board_reader.widget_lines.read_chars.Goals as goal
 
 pub loop-value-preserved : goal.loop-value-preserved

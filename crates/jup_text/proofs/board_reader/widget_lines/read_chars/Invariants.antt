@@ -1,6 +1,6 @@
 use Rattle.std.proofs.Common.{length, map}
-use Rattle.jup_text.specs.WidgetLines.{AreNumbered}
-use Rattle.jup_text.proofs.Quoting.{HasRead}
+use Rattle.jup_text.specs.Boards.{AreNumbered}
+use Rattle.jup_text.proofs.Quotes.{HasRead}
 use Rattle.jup_text.proofs.board_reader.widget_lines.read_chars.Given as goal
 
 -- the characters so far, and what follows them

@@ -1,8 +1,8 @@
 use Rattle.std.proofs.Common.{◌≡◌, ◌∷◌, ◌++◌, length}
 use Rattle.std.specs.List.{flat_map, AllByRecursion}
-use Rattle.jup_value.specs.Labels.{IsLabelText}
-use Rattle.jup_text.specs.Quotes.{quoted}
-use Rattle.jup_text.specs.WidgetLines.{AreNumbered}
+use Rattle.jup_text.specs.Prelude.{IsLabelText}
+use Rattle.jup_text.specs.Words.{quoted}
+use Rattle.jup_text.specs.Boards.{AreNumbered}
 use Rattle.jup_text.proofs.board_reader.widget_lines.read_labels.Given as goal
 
 -- the labels so far, and what follows them

@@ -1,7 +1,7 @@
 use Rattle.std.proofs.Common.{sym, ◌∙◌}
 use Rattle.std.specs.Int.{w32}
 use Rattle.std.proofs.lemmas.Int.{to_z-of_z}
-use Rattle.jup_text.proofs.NextLines.{behind_id, behind_integer, same_integer, same_within}
+use Rattle.jup_text.proofs.BoardLines.{behind_id, behind_integer, same_integer, same_within}
 use Rattle.jup_text.proofs.board_reader.widget_lines.read_slider.Goals as goal
 
 pub returns-in_err-lo-clause-every : goal.returns-in_err-lo-clause-every

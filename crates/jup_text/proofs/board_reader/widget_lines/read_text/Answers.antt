@@ -1,6 +1,6 @@
 use Rattle.std.proofs.Common.{rules}
-use Rattle.jup_text.specs.Quotes.{quoted}
-use Rattle.jup_text.proofs.NextLines.{behind_id}
+use Rattle.jup_text.specs.Words.{quoted}
+use Rattle.jup_text.proofs.BoardLines.{behind_id}
 use Rattle.jup_text.proofs.board_reader.widget_lines.read_text.Goals as goal
 
 pub returns-in_default-clause-every : goal.returns-in_default-clause-every

@@ -1,5 +1,5 @@
 use Rattle.jup_text.specs.Words.{switch_text}
-use Rattle.jup_text.proofs.NextLines.{behind_id}
+use Rattle.jup_text.proofs.BoardLines.{behind_id}
 use Rattle.jup_text.proofs.board_reader.widget_lines.read_toggle.Goals as goal
 
 pub returns-in_err-on-clause-every : goal.returns-in_err-on-clause-every

@@ -1,6 +1,6 @@
 use Rattle.std.proofs.Common.{◌≡◌, ◌≢◌, ℕ, List, get_or, sym, ap, ◌∙◌, arith, rules}
 use Rattle.std.specs.Prelude.{codes}
-use Rattle.jup_text.proofs.NextLines.{by_kind}
+use Rattle.jup_text.proofs.BoardLines.{by_kind}
 use Rattle.jup_text.proofs.board_reader.widget_lines.read_widget.Goals as goal
 
 pub returns-then-eq-clause-every : goal.returns-then-eq-clause-every

@@ -1,4 +1,4 @@
-use Rattle.jup_value.proofs.ItemLists.{set-with_value}
+use Rattle.jup_value.proofs.Items.{set-with_value}
 use Rattle.jup_value.proofs.block.Block.set_value.Goals as goal
 
 pub returns : goal.returns

@@ -1,8 +1,7 @@
 use Rattle.std.proofs.Common.{◌<◌, length, set, [], sum, map, ap, sym, ◌∙◌, arith}
 use Rattle.std.proofs.lemmas.List.{get_or_default}
-use Rattle.jup_value.specs.Items.{with_value}
-use Rattle.jup_value.specs.Layout.{joined}
-use Rattle.jup_value.proofs.ItemLists.{AreDistinct-with_value, length-with_value}
+use Rattle.jup_value.specs.Items.{with_value, joined}
+use Rattle.jup_value.proofs.Items.{AreDistinct-with_value, length-with_value}
 use Rattle.jup_value.proofs.MarkLists.{AreMarked-with_value}
 use Rattle.jup_value.proofs.Layouts.{sum_lengths, place_in_blocks, count_in_blocks, table_length, joined-set_value, table-set_value, AreBlocks-set_value}
 use Rattle.jup_value.proofs.sequence.Seq.set_value.Goals as goal

@@ -1,6 +1,6 @@
 use Rattle.std.proofs.Common.{ap, sym, ◌∙◌, refl}
 use Rattle.std.specs.Option.{option_copied}
-use Rattle.jup_window.specs.Additions.{entry_fault}
+use Rattle.jup_window.specs.Entries.{entry_fault}
 use Rattle.jup_window.proofs.boards.Board.refusal_of_widget.Goals as goal
 
 pub returns-in-Some : goal.returns-in-Some

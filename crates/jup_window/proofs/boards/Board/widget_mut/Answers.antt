@@ -1,9 +1,9 @@
 use borrow.Follows.Closed.{read_of}
 use Rattle.std.proofs.Common.{◌≡◌, Some, refl, ap, ◌∙◌}
 use Rattle.std.specs.Option.{ghost_name_of, option_and_then}
-use Rattle.jup_window.specs.declared.widgets.Widget.{Widget}
+use Rattle.jup_window.specs.Prelude.{Widget}
 use Rattle.jup_window.specs.Entries.{at_id, change_at}
-use Rattle.jup_window.proofs.Changes.{put-changed, put-same}
+use Rattle.jup_window.proofs.BoardChanges.{put-changed, put-same}
 use Rattle.jup_window.proofs.boards.Board.widget_mut.Goals as goal
 
 pub returns-in_err-window : goal.returns-in_err-window

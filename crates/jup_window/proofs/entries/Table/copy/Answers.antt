@@ -3,7 +3,7 @@ use Rattle.std.specs.Result.{is_ok}
 use Rattle.std.proofs.lemmas.Grind.{common_steps}
 use Rattle.std.proofs.lemmas.List.{take_all}
 use Rattle.jup_window.specs.Entries.{map_values}
-use Rattle.jup_window.proofs.Tables.{IsTable-same, copied_more}
+use Rattle.jup_window.proofs.BoardChanges.{IsTable-same, copied_more}
 use Rattle.jup_window.proofs.entries.Table.copy.Goals as goal
 
 pub loop-id-preserved : goal.loop-id-preserved

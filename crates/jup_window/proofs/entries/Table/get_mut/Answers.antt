@@ -1,6 +1,6 @@
 use Rattle.std.proofs.Common.{◌≡◌, ◌==◌, Some, None, refl, sym, ◌∙◌, inl}
 use Rattle.std.specs.List.{position}
-use Rattle.jup_window.proofs.Tables.{none_found, found-is, found-changed}
+use Rattle.jup_window.proofs.BoardChanges.{none_found, found-is, found-changed}
 use Rattle.jup_window.proofs.entries.Table.get_mut.Goals as goal
 
 pub returns-in_err-at : goal.returns-in_err-at

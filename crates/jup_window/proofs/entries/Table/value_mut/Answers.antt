@@ -1,5 +1,5 @@
 use Rattle.std.proofs.Common.{refl}
-use Rattle.jup_window.proofs.Tables.{IsTable-set, value-at, value-set}
+use Rattle.jup_window.proofs.BoardChanges.{IsTable-set, value-at, value-set}
 use Rattle.jup_window.proofs.entries.Table.value_mut.Goals as goal
 
 pub invariant_of-self-lent : goal.invariant_of-self-lent

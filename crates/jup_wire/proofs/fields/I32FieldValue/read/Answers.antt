@@ -1,4 +1,4 @@
-use Rattle.jup_wire.proofs.Leaves.{int_is}
+use Rattle.jup_wire.proofs.Spellings.{int_is}
 use Rattle.jup_wire.proofs.fields.I32FieldValue.read.Goals as goal
 
 pub returns : goal.returns

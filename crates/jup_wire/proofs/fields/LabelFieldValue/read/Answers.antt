@@ -1,5 +1,5 @@
 use Rattle.std.proofs.Common.{◌∙◌}
-use Rattle.jup_wire.proofs.Leaves.{label_from_read}
+use Rattle.jup_wire.proofs.Spellings.{label_from_read}
 use Rattle.jup_wire.proofs.fields.LabelFieldValue.read.Goals as goal
 
 pub returns : goal.returns

@@ -1,7 +1,7 @@
 use Rattle.std.proofs.Common.{sym}
-use Rattle.jup_wire.specs.Parts.{part_bytes}
-use Rattle.jup_wire.proofs.Options.{none_is}
-use Rattle.jup_wire.proofs.Streaming.{stands, reads_on}
+use Rattle.jup_wire.specs.Streams.{part_bytes}
+use Rattle.jup_wire.proofs.Spellings.{none_is}
+use Rattle.jup_wire.proofs.Streams.{stands, reads_on}
 use Rattle.jup_wire.proofs.reader.Reader.feed.Goals as goal
 
 pub returns-then-is_some-clause-read : goal.returns-then-is_some-clause-read

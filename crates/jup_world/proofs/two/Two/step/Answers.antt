@@ -1,5 +1,5 @@
 use Rattle.std.proofs.Common.{map}
-use Rattle.jup_world.specs.TwoFields.{plain, carried}
+use Rattle.jup_world.specs.Twos.{plain, carried}
 use Rattle.jup_world.specs.contracts.two.Two.{the_view}
 use Rattle.jup_world.proofs.TwoKept.{client_step, server_step, up_step, down_step, next_up_accepted, next_down_accepted}
 use Rattle.jup_world.proofs.two.Two.step.Goals as goal

@@ -1,6 +1,6 @@
 use Rattle.std.proofs.Common.{subst}
-use Rattle.jup_world.specs.LaneHappenings.{IsLaneWorld}
-use Rattle.jup_world.proofs.Drains.DrainSteps.{order_drained, still_drained}
+use Rattle.jup_world.specs.Happenings.{IsLaneWorld}
+use Rattle.jup_world.proofs.Drains.Rounds.{order_drained, still_drained}
 use Rattle.jup_world.proofs.world.World.drain.Goals as goal
 
 pub returns-clause-order : goal.returns-clause-order

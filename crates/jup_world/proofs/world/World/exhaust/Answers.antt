@@ -1,9 +1,8 @@
 use Rattle.std.proofs.Common.{◌≡◌, ◌∙◌, sym, ap, ℕ, not, Option, is_some, option_map, Bor}
-use Rattle.jup_star.specs.SiteCalls.{BoardSite}
-use Rattle.jup_world.specs.LaneWorlds.{LaneWorld, lane_site}
-use Rattle.jup_world.proofs.CallFacts.{on_err}
-use Rattle.jup_world.proofs.Drains.DrainSteps.{part_both, settles_then, settles_last, map_some, absent_moves}
-use Rattle.jup_world.proofs.Drains.RoundLaws.{moves_more, visit_ends, visit_absent}
+use Rattle.jup_world.specs.Prelude.{BoardSite}
+use Rattle.jup_world.specs.Lanes.{LaneWorld, lane_site}
+use Rattle.jup_world.proofs.Answers.{on_err}
+use Rattle.jup_world.proofs.Drains.Rounds.{part_both, settles_then, settles_last, map_some, absent_moves, moves_more, visit_ends, visit_absent}
 use Rattle.jup_world.proofs.world.World.exhaust.Goals as goal
 
 pub returns-in_err-move_one-clause-err : goal.returns-in_err-move_one-clause-err

@@ -1,8 +1,7 @@
 use Rattle.std.proofs.Common.{◌≡◌, IsFalse}
-use Rattle.jup_world.specs.Drains.{Settles}
-use Rattle.jup_world.specs.Weights.{weight}
-use Rattle.jup_world.specs.LaneWorlds.{messages_of}
-use Rattle.jup_world.proofs.Drains.RoundLaws.{Moves}
+use Rattle.jup_world.specs.Drains.{Settles, weight}
+use Rattle.jup_world.specs.Lanes.{messages_of}
+use Rattle.jup_world.proofs.Drains.Rounds.{Moves}
 use Rattle.jup_world.proofs.world.World.exhaust.Given as goal
 
 -- messages were delivered, each by a delivery at the site, or all is as it was

@@ -1,10 +1,10 @@
 use Rattle.std.proofs.Common.{◌≡◌, ◌≤◌, ℕ, List, sym, subst, map, Some}
-use Rattle.jup_world.specs.BoardWorlds.{BoardAttached}
-use Rattle.jup_world.specs.WorldFields.{lane_of}
-use Rattle.jup_world.specs.SiteNumbers.{AreAscending}
-use Rattle.jup_world.specs.LaneWorlds.{LaneSite, lane_site}
-use Rattle.jup_world.proofs.Lanes.LaneSites.{messages_map}
-use Rattle.jup_world.proofs.Drains.DrainSteps.{within_lanes}
+use Rattle.jup_world.specs.Boards.{BoardAttached}
+use Rattle.jup_world.specs.Insides.{lane_of}
+use Rattle.jup_world.specs.Worlds.{AreAscending}
+use Rattle.jup_world.specs.Lanes.{LaneSite, lane_site}
+use Rattle.jup_world.proofs.Lanes.Sites.{messages_map}
+use Rattle.jup_world.proofs.Drains.Rounds.{within_lanes}
 use Rattle.jup_world.proofs.world.World.last_number.Goals as goal
 
 pub returns-in-Some : goal.returns-in-Some

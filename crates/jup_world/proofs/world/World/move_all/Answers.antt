@@ -1,7 +1,6 @@
 use Rattle.std.proofs.Common.{arith}
-use Rattle.jup_world.proofs.CallFacts.{on_err}
-use Rattle.jup_world.proofs.Drains.DrainSteps.{part_both, settles_both, next_none, none_moves}
-use Rattle.jup_world.proofs.Drains.RoundLaws.{pass_more}
+use Rattle.jup_world.proofs.Answers.{on_err}
+use Rattle.jup_world.proofs.Drains.Rounds.{part_both, settles_both, next_none, none_moves, pass_more}
 use Rattle.jup_world.proofs.world.World.move_all.Goals as goal
 
 pub returns-in_err-moved-clause-err : goal.returns-in_err-moved-clause-err

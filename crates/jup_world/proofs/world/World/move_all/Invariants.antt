@@ -1,7 +1,6 @@
 use Rattle.std.proofs.Common.{ℕ, ◌≤◌, IsFalse}
-use Rattle.jup_world.specs.Drains.{Settles, MovesNothing}
-use Rattle.jup_world.specs.Rounds.{Passes}
-use Rattle.jup_world.specs.LaneWorlds.{messages_of}
+use Rattle.jup_world.specs.Drains.{Settles, MovesNothing, Passes}
+use Rattle.jup_world.specs.Lanes.{messages_of}
 use Rattle.jup_world.proofs.world.World.move_all.Given as goal
 
 -- messages were delivered, at the sites so far, or none could be there

@@ -1,9 +1,8 @@
 use Rattle.std.proofs.Common.{subst}
 use Rattle.jup_world.specs.Drains.{way_event}
-use Rattle.jup_world.specs.LaneHappenings.{IsLaneWorld}
-use Rattle.jup_world.proofs.CallFacts.{on_err}
-use Rattle.jup_world.proofs.Drains.DrainSteps.{way_delivers, settles_one, part_one}
-use Rattle.jup_world.proofs.Drains.RoundLaws.{delivery_told}
+use Rattle.jup_world.specs.Happenings.{IsLaneWorld}
+use Rattle.jup_world.proofs.Answers.{on_err}
+use Rattle.jup_world.proofs.Drains.Rounds.{way_delivers, settles_one, part_one, delivery_told}
 use Rattle.jup_world.proofs.world.World.move_one.Goals as goal
 
 pub returns-in_err-reply-clause-err : goal.returns-in_err-reply-clause-err

@@ -1,8 +1,7 @@
 use Rattle.std.proofs.Common.{◌∙◌, sym, ap, subst, map}
-use Rattle.jup_world.specs.WorldFields.{lane_of}
-use Rattle.jup_world.specs.NumberedReplies.{noted_trace}
-use Rattle.jup_world.specs.LaneHappenings.{IsLaneWorld}
-use Rattle.jup_world.proofs.WorldKept.{world_opened}
+use Rattle.jup_world.specs.Insides.{lane_of, noted_trace}
+use Rattle.jup_world.specs.Happenings.{IsLaneWorld}
+use Rattle.jup_world.proofs.Worlds.{world_opened}
 use Rattle.jup_world.proofs.world.World.open.Goals as goal
 
 pub invariant_of-result : goal.invariant_of-result

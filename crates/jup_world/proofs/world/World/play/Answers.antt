@@ -1,6 +1,6 @@
 use Rattle.std.proofs.Common.{arith}
-use Rattle.jup_world.specs.NumberedReplies.{lane_event}
-use Rattle.jup_world.proofs.Lanes.LaneRuns.{steps_next, halted}
+use Rattle.jup_world.specs.Insides.{lane_event}
+use Rattle.jup_world.proofs.Lanes.Worlds.{steps_next, halted}
 use Rattle.jup_world.proofs.world.World.play.Goals as goal
 
 pub loop-done-preserved : goal.loop-done-preserved

@@ -1,6 +1,6 @@
 use Rattle.std.proofs.Common.{map, take}
-use Rattle.jup_world.specs.NumberedReplies.{lane_event}
-use Rattle.jup_world.specs.LaneSteps.{AllSteps}
+use Rattle.jup_world.specs.Insides.{lane_event}
+use Rattle.jup_world.specs.Lanes.{AllSteps}
 use Rattle.jup_world.proofs.world.World.play.Given as goal
 
 -- the events so far have happened

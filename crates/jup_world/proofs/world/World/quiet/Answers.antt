@@ -1,12 +1,12 @@
 use Rattle.std.proofs.Common.{◌↔◌, List, IsTrue, map, sym, subst}
 use Rattle.jup_world.specs.contracts.world.World.{the_view}
-use Rattle.jup_world.specs.BoardWorlds.{BoardAttached}
-use Rattle.jup_world.specs.WorldFields.{bare_attached}
+use Rattle.jup_world.specs.Boards.{BoardAttached}
+use Rattle.jup_world.specs.Insides.{bare_attached}
 use Rattle.jup_world.specs.Happenings.{AllQuiet}
-use Rattle.jup_world.specs.LaneWorlds.{messages_of}
-use Rattle.jup_world.proofs.Drains.QuietWorlds.{quiet_world, all_agree}
-use Rattle.jup_world.proofs.Lanes.LaneSites.{messages_map}
-use Rattle.jup_world.proofs.Lanes.LaneWorldLaws.{still_quiet}
+use Rattle.jup_world.specs.Lanes.{messages_of}
+use Rattle.jup_world.proofs.Drains.Deliveries.{quiet_world, all_agree}
+use Rattle.jup_world.proofs.Lanes.Sites.{messages_map}
+use Rattle.jup_world.proofs.Lanes.Worlds.{still_quiet}
 use Rattle.jup_world.proofs.world.World.quiet.Goals as goal
 
 -- the test answers whether no message is on its way

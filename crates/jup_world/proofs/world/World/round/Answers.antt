@@ -1,9 +1,9 @@
 use Rattle.std.proofs.Common.{refl, subst}
 use Rattle.std.proofs.lemmas.Bool.{or_parts}
-use Rattle.jup_world.specs.LaneHappenings.{IsLaneWorld}
+use Rattle.jup_world.specs.Happenings.{IsLaneWorld}
 use Rattle.jup_world.specs.Drains.{Settles}
-use Rattle.jup_world.proofs.CallFacts.{on_err}
-use Rattle.jup_world.proofs.Drains.DrainSteps.{part_both, settles_both, round_quiet}
+use Rattle.jup_world.proofs.Answers.{on_err}
+use Rattle.jup_world.proofs.Drains.Rounds.{part_both, settles_both, round_quiet}
 use Rattle.jup_world.proofs.world.World.round.Goals as goal
 
 pub returns-in_err-down-clause-err : goal.returns-in_err-down-clause-err

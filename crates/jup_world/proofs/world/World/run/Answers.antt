@@ -1,7 +1,7 @@
 use Rattle.std.proofs.Common.{map, subst}
-use Rattle.jup_world.specs.NumberedReplies.{lane_event}
-use Rattle.jup_world.specs.LaneHappenings.{IsLaneWorld}
-use Rattle.jup_world.proofs.Drains.DrainSteps.{order_played}
+use Rattle.jup_world.specs.Insides.{lane_event}
+use Rattle.jup_world.specs.Happenings.{IsLaneWorld}
+use Rattle.jup_world.proofs.Drains.Rounds.{order_played}
 use Rattle.jup_world.proofs.world.World.run.Goals as goal
 
 pub returns-clause-order : goal.returns-clause-order

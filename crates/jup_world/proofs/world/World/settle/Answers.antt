@@ -1,8 +1,7 @@
 use Rattle.std.proofs.Common.{subst}
-use Rattle.jup_world.specs.Rounds.{IsRound}
-use Rattle.jup_world.proofs.CallFacts.{on_err}
-use Rattle.jup_world.proofs.Drains.DrainSteps.{delivered_both, part_both}
-use Rattle.jup_world.proofs.Drains.RoundLaws.{rounds_more}
+use Rattle.jup_world.specs.Drains.{IsRound}
+use Rattle.jup_world.proofs.Answers.{on_err}
+use Rattle.jup_world.proofs.Drains.Rounds.{delivered_both, part_both, rounds_more}
 use Rattle.jup_world.proofs.world.World.settle.Goals as goal
 
 pub returns-in_err-round-clause-err : goal.returns-in_err-round-clause-err

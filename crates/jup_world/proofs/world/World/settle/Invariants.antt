@@ -1,7 +1,6 @@
-use Rattle.jup_world.specs.Runs.{IsDelivered}
-use Rattle.jup_world.specs.Weights.{weight}
-use Rattle.jup_world.specs.LaneWorlds.{messages_of}
-use Rattle.jup_world.proofs.Drains.RoundLaws.{Rounds}
+use Rattle.jup_world.specs.Lanes.{IsDelivered, messages_of}
+use Rattle.jup_world.specs.Drains.{weight}
+use Rattle.jup_world.proofs.Drains.Rounds.{Rounds}
 use Rattle.jup_world.proofs.world.World.settle.Given as goal
 
 -- messages were delivered, in rounds

@@ -1,20 +1,16 @@
 use Rattle.std.proofs.Common.{◌≡◌, ◌∙◌, List, sym, ap, subst, map, Some, None, is_some, false, rules}
 use Rattle.std.specs.Option.{option_map}
-use Rattle.jup_batch.specs.BoardBatches.{board_batches}
-use Rattle.jup_batch.specs.BoardBatches.{batch_laws}
+use Rattle.jup_world.specs.Prelude.{board_batches, batch_laws, Attached}
 use Rattle.jup_world.specs.contracts.world.World.{the_view}
-use Rattle.jup_world.specs.WorldStates.{attached}
-use Rattle.jup_world.specs.BoardWorlds.{BoardAttached}
-use Rattle.jup_world.specs.WorldFields.{lane_of, bare_attached}
-use Rattle.jup_world.specs.SiteNumbers.{AreAscending}
-use Rattle.jup_world.specs.declared.world.attached.Attached.{Attached}
-use Rattle.jup_world.specs.LaneWorlds.{lane_site, messages_of}
-use Rattle.jup_world.proofs.PlayedTraces.{none_stray}
-use Rattle.jup_world.proofs.SitePlaces.{found_at, number_at}
-use Rattle.jup_world.proofs.Sound.StrayLinks.{plain_linked}
-use Rattle.jup_world.proofs.Lanes.LaneSites.{messages_map}
+use Rattle.jup_world.specs.Worlds.{attached, AreAscending}
+use Rattle.jup_world.specs.Boards.{BoardAttached}
+use Rattle.jup_world.specs.Insides.{lane_of, bare_attached}
+use Rattle.jup_world.specs.Lanes.{lane_site, messages_of}
+use Rattle.jup_world.proofs.Worlds.{none_stray, plain_linked}
+use Rattle.jup_world.proofs.Happenings.{found_at, number_at}
+use Rattle.jup_world.proofs.Lanes.Sites.{messages_map}
 use Rattle.jup_world.proofs.Lanes.LaneEvents.{lane_found, lane_none}
-use Rattle.jup_world.proofs.Drains.QuietWorlds.{promises, backlogs, tallies_of}
+use Rattle.jup_world.proofs.Drains.Deliveries.{promises, backlogs, tallies_of}
 use Rattle.jup_world.proofs.world.World.site.Goals as goal
 
 pub place_of-requires : goal.place_of-requires
@@ -28,19 +24,20 @@ returns-clause-site c =
     let found = lane_found c.args.number c.self.inside.sites.items c.in_ok-at.at c.index.result.now place ∙ ap (λ a. Some (lane_of a)) (sym c.index.ensures) in
     rw (← c.self.view_is) (sym (ap (option_map (λ a. a.site)) found))
 
+-- the site at its place is the attached site of its number
+found : (c : goal.After-index) → attached c.args.number (messages_of (the_view c.self.inside)).sites ≡ Some (bare_attached c.index.result.now)
+found c =
+    let place = rw c.deref.ensures.value at c.in_ok-at.ensures.place in
+    ap (attached c.args.number) (messages_map c.self.inside.sites.items)
+    ∙ found_at c.args.number c.self.inside.sites.items c.in_ok-at.at c.index.result.now place ∙ ap (λ a. Some (bare_attached a)) (sym c.index.ensures)
+
 pub returns-clause-content : goal.returns-clause-content
 returns-clause-content c =
-    let place = rw c.deref.ensures.value at c.in_ok-at.ensures.place in
-    let found = ap (attached c.args.number) (messages_map c.self.inside.sites.items)
-    ∙ found_at c.args.number c.self.inside.sites.items c.in_ok-at.at c.index.result.now place ∙ ap (λ a. Some (bare_attached a)) (sym c.index.ensures) in
-    rw (← c.self.view_is) ((promises (messages_of (the_view c.self.inside)) c.self.invariant.world).site_content c.args.number (bare_attached c.index.result.now) found)
+    rw (← c.self.view_is) ((promises (messages_of (the_view c.self.inside)) c.self.invariant.world).site_content c.args.number (bare_attached c.index.result.now) (found c))
 
 pub returns-clause-attached : goal.returns-clause-attached
 returns-clause-attached c =
-    let place = rw c.deref.ensures.value at c.in_ok-at.ensures.place in
-    let found = ap (attached c.args.number) (messages_map c.self.inside.sites.items)
-    ∙ found_at c.args.number c.self.inside.sites.items c.in_ok-at.at c.index.result.now place ∙ ap (λ a. Some (bare_attached a)) (sym c.index.ensures) in
-    rw (← c.self.view_is) (sym (ap is_some found) ∙ plain_linked board_batches batch_laws (messages_of (the_view c.self.inside)) c.self.invariant.world.board.strays (none_stray c.self.inside.trace.items) c.args.number)
+    rw (← c.self.view_is) (sym (ap is_some (found c)) ∙ plain_linked board_batches batch_laws (messages_of (the_view c.self.inside)) c.self.invariant.world.board.strays (none_stray c.self.inside.trace.items) c.args.number)
 
 pub returns-clause-number : goal.returns-clause-number
 returns-clause-number c =
@@ -49,24 +46,15 @@ returns-clause-number c =
 
 pub returns-clause-running : goal.returns-clause-running
 returns-clause-running c =
-    let place = rw c.deref.ensures.value at c.in_ok-at.ensures.place in
-    let found = ap (attached c.args.number) (messages_map c.self.inside.sites.items)
-    ∙ found_at c.args.number c.self.inside.sites.items c.in_ok-at.at c.index.result.now place ∙ ap (λ a. Some (bare_attached a)) (sym c.index.ensures) in
-    (promises (messages_of (the_view c.self.inside)) c.self.invariant.world).running c.args.number (bare_attached c.index.result.now) found
+    (promises (messages_of (the_view c.self.inside)) c.self.invariant.world).running c.args.number (bare_attached c.index.result.now) (found c)
 
 pub returns-clause-made : goal.returns-clause-made
 returns-clause-made c =
-    let place = rw c.deref.ensures.value at c.in_ok-at.ensures.place in
-    let found = ap (attached c.args.number) (messages_map c.self.inside.sites.items)
-    ∙ found_at c.args.number c.self.inside.sites.items c.in_ok-at.at c.index.result.now place ∙ ap (λ a. Some (bare_attached a)) (sym c.index.ensures) in
-    rw (← c.self.view_is) ((tallies_of (messages_of (the_view c.self.inside)) c.self.invariant.world).made c.args.number (bare_attached c.index.result.now) found)
+    rw (← c.self.view_is) ((tallies_of (messages_of (the_view c.self.inside)) c.self.invariant.world).made c.args.number (bare_attached c.index.result.now) (found c))
 
 pub returns-clause-backlog : goal.returns-clause-backlog
 returns-clause-backlog c =
-    let place = rw c.deref.ensures.value at c.in_ok-at.ensures.place in
-    let found = ap (attached c.args.number) (messages_map c.self.inside.sites.items)
-    ∙ found_at c.args.number c.self.inside.sites.items c.in_ok-at.at c.index.result.now place ∙ ap (λ a. Some (bare_attached a)) (sym c.index.ensures) in
-    (backlogs (messages_of (the_view c.self.inside)) c.self.invariant.world).backlog c.args.number (bare_attached c.index.result.now) found
+    (backlogs (messages_of (the_view c.self.inside)) c.self.invariant.world).backlog c.args.number (bare_attached c.index.result.now) (found c)
 
 pub returns-in_err-at-clause-site : goal.returns-in_err-at-clause-site
 returns-in_err-at-clause-site c =

@@ -1,18 +1,13 @@
 use Rattle.std.proofs.Common.{◌∙◌, ◌++◌, ◌∷◌, [], List, refl, ap, subst, map}
 use Rattle.jup_world.specs.contracts.world.World.{the_view}
-use Rattle.jup_world.specs.BoardWorlds.{BoardAttached}
-use Rattle.jup_world.specs.WorldFields.{lane_of}
-use Rattle.jup_world.specs.NumberedReplies.{lane_event, numbered_reply, noted_trace}
+use Rattle.jup_world.specs.Boards.{BoardAttached}
+use Rattle.jup_world.specs.Insides.{lane_of, lane_event, noted_trace}
 use Rattle.jup_world.specs.Happenings.{AreReady}
-use Rattle.jup_world.specs.LaneWorlds.{messages_of}
-use Rattle.jup_world.specs.LaneSteps.{Steps}
-use Rattle.jup_world.proofs.CallFacts.{on_err}
-use Rattle.jup_world.proofs.WorldKept.{world_ready}
-use Rattle.jup_world.proofs.PlayedTraces.{none_stray}
-use Rattle.jup_world.proofs.Lanes.LaneSites.{messages_map}
-use Rattle.jup_world.proofs.Lanes.LaneWorldLaws.{step_keeps, spared_keeps}
-use Rattle.jup_world.proofs.Lanes.LaneOrder.{step_order, spared_order}
-use Rattle.jup_world.proofs.Lanes.LaneRuns.{played_lanes, played_answers, spared_lanes}
+use Rattle.jup_world.specs.Lanes.{messages_of, Steps}
+use Rattle.jup_world.proofs.Answers.{on_err}
+use Rattle.jup_world.proofs.Worlds.{world_ready, none_stray}
+use Rattle.jup_world.proofs.Lanes.Sites.{messages_map}
+use Rattle.jup_world.proofs.Lanes.Worlds.{step_keeps, spared_keeps, step_order, spared_order, played_lanes, played_answers, spared_lanes}
 use Rattle.jup_world.proofs.world.World.step.Goals as goal
 
 pub happen-requires : goal.happen-requires
@@ -37,8 +32,8 @@ returns-in_err-reply-clause-order c =
 made : (c : goal.After-keep) → Steps (the_view c.self.inside) (lane_event c.args.event.now)
     (record { opening = (the_view c.self.inside).opening; star = c.happen.new.star; sites = map lane_of c.happen.new.sites.items; trace = noted_trace c.keep.new.trace.items })
 made c =
-    played_lanes (the_view c.self.inside) (lane_event c.args.event.now) (numbered_reply c.in_ok-reply.reply) c.happen.new.star c.happen.new.sites.items _ c.in_ok-reply.ensures.plays c.in_ok-reply.ensures.read
-    (c.keep.ensures ∙ ap (λ h. h ++ record { event = lane_event c.args.event.now; reply = numbered_reply c.in_ok-reply.reply } ∷ []) (ap noted_trace c.reserve.ensures.items))
+    played_lanes (the_view c.self.inside) (lane_event c.args.event.now) c.in_ok-reply.reply c.happen.new.star c.happen.new.sites.items _ c.in_ok-reply.ensures.plays c.in_ok-reply.ensures.read
+    (c.keep.ensures ∙ ap (λ h. h ++ record { event = lane_event c.args.event.now; reply = c.in_ok-reply.reply } ∷ []) (ap noted_trace c.reserve.ensures.items))
     c.self.invariant.carry
 
 pub invariant_of-self-2 : goal.invariant_of-self-2
@@ -49,7 +44,7 @@ returns-clause-ok c = rw (← c.self.view_is) (made c)
 
 pub returns-clause-withheld : goal.returns-clause-withheld
 returns-clause-withheld c =
-    rw (← c.self.view_is) (played_answers (the_view c.self.inside) (lane_event c.args.event.now) (numbered_reply c.in_ok-reply.reply) c.happen.new.star c.happen.new.sites.items c.self.invariant c.in_ok-reply.ensures.plays)
+    rw (← c.self.view_is) (played_answers (the_view c.self.inside) (lane_event c.args.event.now) c.in_ok-reply.reply c.happen.new.star c.happen.new.sites.items c.self.invariant c.in_ok-reply.ensures.plays)
 
 pub returns-clause-order : goal.returns-clause-order
 returns-clause-order c = rw (← c.self.view_is) (step_order (the_view c.self.inside) (lane_event c.args.event.now) _ c.self.invariant (made c))

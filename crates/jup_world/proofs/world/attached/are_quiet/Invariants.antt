@@ -1,5 +1,5 @@
 use Rattle.std.proofs.Common.{◌↔◌, map, drop}
-use Rattle.jup_world.specs.WorldFields.{bare_attached}
+use Rattle.jup_world.specs.Insides.{bare_attached}
 use Rattle.jup_world.specs.Happenings.{AllQuiet}
 use Rattle.jup_world.proofs.world.attached.are_quiet.Given as goal
 

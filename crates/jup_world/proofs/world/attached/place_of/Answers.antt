@@ -1,4 +1,4 @@
-use Rattle.jup_world.proofs.SitePlaces.{placed, below_at}
+use Rattle.jup_world.proofs.Happenings.{placed, below_at}
 use Rattle.jup_world.proofs.world.attached.place_of.Goals as goal
 
 pub returns-then-stands_at-clause-below : goal.returns-then-stands_at-clause-below

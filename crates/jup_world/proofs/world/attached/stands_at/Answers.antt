@@ -1,7 +1,7 @@
 use Rattle.std.proofs.Common.{◌<◌, ◌∙◌, ap, sym, length, arith}
 use Rattle.std.proofs.lemmas.Grind.{common_steps}
-use Rattle.jup_world.specs.declared.world.attached.Attached.{Attached}
-use Rattle.jup_world.proofs.SitePlaces.{ascending_place}
+use Rattle.jup_world.specs.Prelude.{Attached}
+use Rattle.jup_world.proofs.Happenings.{ascending_place}
 use Rattle.jup_world.proofs.world.attached.stands_at.Goals as goal
 
 pub returns-in-Some : goal.returns-in-Some

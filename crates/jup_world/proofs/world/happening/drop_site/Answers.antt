@@ -1,8 +1,8 @@
 use Rattle.std.proofs.Common.{◌∙◌, ap, map, rules}
 use Rattle.std.proofs.lemmas.Fn.{filter_same}
-use Rattle.jup_world.specs.WorldFields.{lane_of, bare_attached}
-use Rattle.jup_world.proofs.SitePlaces.{dropped}
-use Rattle.jup_world.proofs.Lanes.LaneSites.{dropped_lanes}
+use Rattle.jup_world.specs.Insides.{lane_of, bare_attached}
+use Rattle.jup_world.proofs.Happenings.{dropped}
+use Rattle.jup_world.proofs.Lanes.Sites.{dropped_lanes}
 use Rattle.jup_world.proofs.world.happening.drop_site.Goals as goal
 
 pub returns-clause-messages : goal.returns-clause-messages

@@ -1,8 +1,9 @@
 use Rattle.std.proofs.Common.{refl, map, rules}
-use Rattle.jup_world.specs.Events.{Edit as MakeEdit, Nothing}
+use Rattle.jup_world.specs.declared.events.Reply.TheVariants.{Nothing}
+use Rattle.jup_world.specs.Events.{Edit as MakeEdit}
 use Rattle.jup_world.specs.Happenings.{Plays}
-use Rattle.jup_world.specs.WorldFields.{bare_attached}
-use Rattle.jup_world.proofs.HappeningSteps.{edit_plays}
+use Rattle.jup_world.specs.Insides.{bare_attached}
+use Rattle.jup_world.proofs.Happenings.{edit_plays}
 use Rattle.jup_world.proofs.Lanes.LaneEvents.{plain_plays, plain_result, none_read_at, edit_read, same_result}
 use Rattle.jup_world.proofs.world.happening.edit.Goals as goal
 

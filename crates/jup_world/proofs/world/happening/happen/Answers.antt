@@ -1,5 +1,4 @@
 use Rattle.jup_world.specs.Events.{Join, Leave, Up as MoveUp, Down as MoveDown, Ping as SendPing}
-use Rattle.jup_world.specs.NumberedReplies.{numbered_reply}
 use Rattle.jup_world.proofs.Lanes.LaneEvents.{plain_plays, plain_result}
 use Rattle.jup_world.proofs.world.happening.happen.Goals as goal
 
@@ -7,7 +6,7 @@ pub returns-in-Join-clause-plays : goal.returns-in-Join-clause-plays
 returns-in-Join-clause-plays c = rw c.in-Join.is (plain_result Join c.args.star.now c.join.new.star c.args.sites.now.items c.join.new.sites.items c.join.result c.join.ensures.plays)
 
 pub returns-in-Leave-clause-plays : goal.returns-in-Leave-clause-plays
-returns-in-Leave-clause-plays c = rw c.in-Leave.is (plain_plays (Leave c.in-Leave.number) c.args.star.now c.leave.new.star c.args.sites.now.items c.leave.new.sites.items (numbered_reply c.leave.result) c.leave.ensures.plays)
+returns-in-Leave-clause-plays c = rw c.in-Leave.is (plain_plays (Leave c.in-Leave.number) c.args.star.now c.leave.new.star c.args.sites.now.items c.leave.new.sites.items c.leave.result c.leave.ensures.plays)
 
 pub returns-in-Up-clause-plays : goal.returns-in-Up-clause-plays
 returns-in-Up-clause-plays c = rw c.in-Up.is (plain_result (MoveUp c.in-Up.number) c.args.star.now c.move_up.new.star c.args.sites.now.items c.move_up.new.sites.items c.move_up.result c.move_up.ensures.plays)

@@ -1,15 +1,13 @@
 use Rattle.std.proofs.Common.{◌+◌, ◌++◌, ◌∷◌, [], ◌∙◌, List, refl, sym, ap, subst, map, Some, arith}
 use Rattle.std.proofs.lemmas.List.{map-append}
-use Rattle.jup_lane.specs.Lanes.{Carries}
-use Rattle.jup_lane.specs.Messages.{ups, downs}
-use Rattle.jup_lane.proofs.MessageLines.{ups_laws, downs_laws}
-use Rattle.jup_lane.proofs.LaneLaws.{carried-new}
-use Rattle.jup_world.specs.LaneWorlds.{LaneSite}
-use Rattle.jup_world.specs.WorldFields.{lane_of, bare_attached}
-use Rattle.jup_star.specs.SiteCalls.{BoardSite}
-use Rattle.jup_world.specs.BoardWorlds.{BoardAttached}
-use Rattle.jup_world.proofs.CallFacts.{join_joined, join_refused}
-use Rattle.jup_world.proofs.EventPlays.{plays_joined, plays_no_join, site_opens, site_is, number_is, with_nothing}
+use Rattle.jup_lane.specs.Lanes.{Carries, ups, downs}
+use Rattle.jup_world.specs.Prelude.{ups_laws, downs_laws, BoardSite}
+use Rattle.jup_lane.proofs.Lanes.{carried-new}
+use Rattle.jup_world.specs.Lanes.{LaneSite}
+use Rattle.jup_world.specs.Insides.{lane_of, bare_attached}
+use Rattle.jup_world.specs.Boards.{BoardAttached}
+use Rattle.jup_world.proofs.Answers.{join_joined, join_refused}
+use Rattle.jup_world.proofs.Happenings.{plays_joined, plays_no_join, site_opens, site_is, number_is, with_nothing}
 use Rattle.jup_world.proofs.Lanes.LaneEvents.{none_read_at, end_read}
 use Rattle.jup_world.proofs.world.happening.join.Goals as goal
 

@@ -1,7 +1,7 @@
 use Rattle.std.proofs.Common.{refl}
-use Rattle.jup_world.proofs.CallFacts.{leave_left, leave_none}
-use Rattle.jup_world.proofs.EventPlays.{plays_left, plays_no_link}
-use Rattle.jup_world.proofs.Lanes.LaneSites.{without_read}
+use Rattle.jup_world.proofs.Answers.{leave_left, leave_none}
+use Rattle.jup_world.proofs.Happenings.{plays_left, plays_no_link}
+use Rattle.jup_world.proofs.Lanes.Sites.{without_read}
 use Rattle.jup_world.proofs.Lanes.LaneEvents.{none_read_at}
 use Rattle.jup_world.proofs.world.happening.leave.Goals as goal
 

@@ -1,4 +1,4 @@
-use Rattle.jup_world.proofs.HappeningSteps.{linked_there, oldest_fits, down_plays}
+use Rattle.jup_world.proofs.Happenings.{linked_there, oldest_fits, down_plays}
 use Rattle.jup_world.proofs.Lanes.LaneEvents.{down_reads, absent_read, down_read_at, down_result}
 use Rattle.jup_world.proofs.world.happening.move_down.Goals as goal
 

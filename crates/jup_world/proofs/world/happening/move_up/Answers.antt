@@ -1,8 +1,8 @@
 use Rattle.std.proofs.Common.{ap, ◌∙◌, eq-eqb, map}
-use Rattle.jup_world.specs.WorldFields.{lane_of}
-use Rattle.jup_world.proofs.CallFacts.{on_err}
-use Rattle.jup_world.proofs.HappeningSteps.{number, up_plays, refused_plays}
-use Rattle.jup_world.proofs.Lanes.LaneSites.{without_read}
+use Rattle.jup_world.specs.Insides.{lane_of}
+use Rattle.jup_world.proofs.Answers.{on_err}
+use Rattle.jup_world.proofs.Happenings.{number, up_plays, refused_plays}
+use Rattle.jup_world.proofs.Lanes.Sites.{without_read}
 use Rattle.jup_world.proofs.Lanes.LaneEvents.{up_reads, absent_read, up_read_at, up_rests, without_set}
 use Rattle.jup_world.proofs.world.happening.move_up.Goals as goal
 

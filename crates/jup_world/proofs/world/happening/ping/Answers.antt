@@ -1,6 +1,6 @@
 use Rattle.std.proofs.Common.{refl, ap}
-use Rattle.jup_world.proofs.CallFacts.{on_err}
-use Rattle.jup_world.proofs.HappeningSteps.{ping_plays}
+use Rattle.jup_world.proofs.Answers.{on_err}
+use Rattle.jup_world.proofs.Happenings.{ping_plays}
 use Rattle.jup_world.proofs.Lanes.LaneEvents.{site_read, site_same}
 use Rattle.jup_world.proofs.world.happening.ping.Goals as goal
 

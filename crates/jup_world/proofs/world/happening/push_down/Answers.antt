@@ -1,4 +1,4 @@
-use Rattle.jup_world.proofs.HappeningSteps.{linked_there}
+use Rattle.jup_world.proofs.Happenings.{linked_there}
 use Rattle.jup_world.proofs.Lanes.LaneEvents.{push_down_reads, absent_read, push_down_none, push_down_result, push_down_read_at, push_down_spared}
 use Rattle.jup_world.proofs.world.happening.push_down.Goals as goal
 

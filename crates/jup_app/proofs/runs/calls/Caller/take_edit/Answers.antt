@@ -1,5 +1,5 @@
-use Rattle.jup_hub.specs.Passes.{view_of}
-use Rattle.jup_app.proofs.Handled.{edit_answered}
+use Rattle.jup_app.specs.Prelude.{view_of}
+use Rattle.jup_app.proofs.Passes.{edit_answered}
 use Rattle.jup_app.proofs.runs.calls.Caller.take_edit.Goals as goal
 
 pub returns-clause-called : goal.returns-clause-called

@@ -1,6 +1,6 @@
 use Rattle.std.proofs.Common.{◌∙◌, sym, ap, Ok, Err, [], ◌∷◌, ◌++◌}
-use Rattle.jup_app.proofs.Worked.{works_made, declined_answer, handles_for}
-use Rattle.jup_app.proofs.Fetched.{caught_handles}
+use Rattle.jup_app.proofs.Passes.{works_made, declined_answer, handles_for}
+use Rattle.jup_app.proofs.Calls.{caught_handles}
 use Rattle.jup_app.proofs.runs.player.Player.answer.Goals as goal
 
 pub returns-in_ok-receive-in-Ok-clause-answered : goal.returns-in_ok-receive-in-Ok-clause-answered

@@ -1,7 +1,6 @@
 use Rattle.std.proofs.Common.{sym, ◌∙◌, true≢false}
-use Rattle.jup_app.proofs.Handled.{handles_both}
-use Rattle.jup_app.proofs.Worked.{handles_news}
-use Rattle.jup_app.proofs.Fetched.{caught, caught_none}
+use Rattle.jup_app.proofs.Passes.{handles_both, handles_news}
+use Rattle.jup_app.proofs.Calls.{caught, caught_none}
 use Rattle.jup_app.proofs.runs.player.Player.catch_up.Goals as goal
 
 pub returns-in_ok-receive-clause-handled : goal.returns-in_ok-receive-clause-handled

@@ -1,5 +1,5 @@
 use Rattle.std.proofs.Common.{arith, refl, ◌∙◌}
-use Rattle.jup_app.proofs.Worked.{played_none, played_more, played_all, answered_for}
+use Rattle.jup_app.proofs.Passes.{played_none, played_more, played_all, answered_for}
 use Rattle.jup_app.proofs.runs.player.Player.play.Goals as goal
 
 pub loop-command-init : goal.loop-command-init

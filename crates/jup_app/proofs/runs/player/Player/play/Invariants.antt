@@ -1,6 +1,6 @@
 use Rattle.std.proofs.Common.{◌≡◌, take}
-use Rattle.jup_hub.specs.Passes.{view_of, IsPassOf}
-use Rattle.jup_app.specs.Plays.{Played}
+use Rattle.jup_app.specs.Prelude.{view_of, IsPassOf}
+use Rattle.jup_app.specs.Runs.{Played}
 use Rattle.jup_app.proofs.runs.player.Player.play.Given as goal
 
 abbrev pub invariant-loop-command : goal.invariant-loop-command

@@ -1,4 +1,4 @@
-use Rattle.jup_app.proofs.Handled.{took_one}
+use Rattle.jup_app.proofs.Passes.{took_one}
 use Rattle.jup_app.proofs.runs.player.Player.send.Goals as goal
 
 pub returns-clause-handled : goal.returns-clause-handled

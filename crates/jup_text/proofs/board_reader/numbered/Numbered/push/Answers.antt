@@ -1,5 +1,5 @@
 use Rattle.std.proofs.Common.{◌+◌, arith}
-use Rattle.jup_text.proofs.Numbering.{IsNumberedTo-insert}
+use Rattle.jup_text.proofs.BoardLines.{IsNumberedTo-insert}
 use Rattle.jup_text.proofs.board_reader.numbered.Numbered.push.Goals as goal
 
 -- the last number grows by one

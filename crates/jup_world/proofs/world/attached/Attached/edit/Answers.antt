@@ -1,6 +1,6 @@
 use Rattle.std.proofs.Common.{rules}
-use Rattle.jup_world.specs.WorldFields.{bare_attached}
-use Rattle.jup_world.proofs.CallFacts.{edit_made, edit_sent, edit_refused, edit_stays}
+use Rattle.jup_world.specs.Insides.{bare_attached}
+use Rattle.jup_world.proofs.Answers.{edit_made, edit_sent, edit_refused, edit_stays}
 use Rattle.jup_world.proofs.world.attached.Attached.edit.Goals as goal
 
 pub returns-in-Ok-clause-reply : goal.returns-in-Ok-clause-reply

@@ -1,14 +1,10 @@
 use Rattle.std.proofs.Common.{◌≡◌, ◌++◌, ◌∙◌, List, [], refl, sym, ap, subst, is_some}
 use Rattle.std.specs.Option.{option_to_list}
-use Rattle.jup_batch.specs.BatchBoards.{BoardBatch}
-use Rattle.jup_star.specs.declared.messages.Down.{Down}
-use Rattle.jup_star.specs.StarStates.{link_of, fetched}
-use Rattle.jup_lane.specs.Codecs.{bytes_of_all}
-use Rattle.jup_lane.specs.Lanes.{Way, messages, sent, Carries}
-use Rattle.jup_lane.specs.Messages.{downs}
-use Rattle.jup_world.specs.WorldFields.{bare_attached}
-use Rattle.jup_world.proofs.CallFacts.{fetch_fetched, fetch_linked, some_wait}
-use Rattle.jup_world.proofs.Lanes.LaneReads.{fetched_site, fetched_star, fetched_way}
+use Rattle.jup_world.specs.Prelude.{BoardBatch, Down, link_of, fetched}
+use Rattle.jup_lane.specs.Lanes.{bytes_of_all, Way, messages, sent, Carries, downs}
+use Rattle.jup_world.specs.Insides.{bare_attached}
+use Rattle.jup_world.proofs.Answers.{fetch_fetched, fetch_linked, some_wait}
+use Rattle.jup_world.proofs.Lanes.Sites.{fetched_site, fetched_star, fetched_way}
 use Rattle.jup_world.proofs.world.attached.Attached.fill.Goals as goal
 
 pub unreachable-requires : goal.unreachable-requires

@@ -1,11 +1,11 @@
 use Rattle.std.proofs.Common.{sym, ap, subst}
 use Rattle.std.proofs.lemmas.Result.{on_ok_weaker, on_err_weaker}
-use Rattle.jup_star.specs.StarStates.{link_of}
+use Rattle.jup_world.specs.Prelude.{link_of}
 use Rattle.jup_world.specs.Happenings.{FirstFits}
-use Rattle.jup_world.specs.BoardWorlds.{BoardAttached}
-use Rattle.jup_world.specs.WorldFields.{lane_of}
-use Rattle.jup_world.proofs.CallFacts.{some_link}
-use Rattle.jup_world.proofs.Lanes.LaneReads.{refilled-read, rests_down}
+use Rattle.jup_world.specs.Boards.{BoardAttached}
+use Rattle.jup_world.specs.Insides.{lane_of}
+use Rattle.jup_world.proofs.Answers.{some_link}
+use Rattle.jup_world.proofs.Lanes.Sites.{refilled-read, rests_down}
 use Rattle.jup_world.proofs.world.attached.Attached.move_down.Goals as goal
 
 pub hand-requires : goal.hand-requires

@@ -1,8 +1,7 @@
 use Rattle.std.proofs.Common.{Some, refl, subst}
-use Rattle.jup_lane.specs.Lanes.{IsFilled}
-use Rattle.jup_lane.specs.Messages.{ups}
-use Rattle.jup_lane.proofs.MessageLines.{ups_laws}
-use Rattle.jup_world.proofs.Lanes.LaneReads.{taken-read, taken-carries}
+use Rattle.jup_lane.specs.Lanes.{IsFilled, ups}
+use Rattle.jup_world.specs.Prelude.{ups_laws}
+use Rattle.jup_world.proofs.Lanes.Sites.{taken-read, taken-carries}
 use Rattle.jup_world.proofs.world.attached.Attached.move_up.Goals as goal
 
 pub returns-clause-read : goal.returns-clause-read

@@ -1,9 +1,9 @@
 use Rattle.std.proofs.Common.{◌∙◌, refl, ap, min, length}
-use Rattle.jup_world.specs.WorldFields.{lane_of}
-use Rattle.jup_world.specs.LaneSteps.{push_reply}
+use Rattle.jup_world.specs.Insides.{lane_of}
+use Rattle.jup_world.specs.Lanes.{push_reply}
 use Rattle.jup_lane.specs.Lanes.{Way}
-use Rattle.jup_world.proofs.CallFacts.{on_err}
-use Rattle.jup_world.proofs.Lanes.LaneReads.{pushed-site, filled_stream-is, rests_filled}
+use Rattle.jup_world.proofs.Answers.{on_err}
+use Rattle.jup_world.proofs.Lanes.Sites.{pushed-site, filled_stream-is, rests_filled}
 use Rattle.jup_world.proofs.world.attached.Attached.push_down.Goals as goal
 
 pub returns-in_err-count-clause-moved : goal.returns-in_err-count-clause-moved

@@ -1,5 +1,5 @@
-use Rattle.jup_world.specs.WorldFields.{lane_of, bare_attached}
-use Rattle.jup_world.proofs.Lanes.LaneReads.{refilled_idle, refilled_idle_star, refilled_way}
+use Rattle.jup_world.specs.Insides.{lane_of, bare_attached}
+use Rattle.jup_world.proofs.Lanes.Sites.{refilled_idle, refilled_idle_star, refilled_way}
 use Rattle.jup_world.proofs.world.attached.Attached.refill.Goals as goal
 
 pub returns-in_ok-fill-clause-site : goal.returns-in_ok-fill-clause-site

@@ -1,4 +1,4 @@
-use Rattle.jup_hub.specs.Passes.{IsPassOf}
+use Rattle.jup_session.specs.Prelude.{IsPassOf}
 use Rattle.jup_session.proofs.daemon.serving.fn.serve_all.scope.Given as goal
 
 abbrev pub invariant-loop : goal.invariant-loop

@@ -1,0 +1,22 @@
+-- What files of this crate cite most: names of the crates below, and types of this crate. Declares nothing.
+pub use Rattle.jup_value.specs.declared.names.Item.{Item}
+pub use Rattle.jup_window.specs.declared.board_operations.BoardOp.{BoardOp}
+pub use Rattle.jup_window.specs.declared.commands.Command.{Command}
+pub use Rattle.jup_window.specs.declared.faults.EditFault.{EditFault}
+pub use Rattle.jup_window.specs.Commands.{edit_fault_number}
+pub use Rattle.jup_star.specs.declared.site.Made.{Made}
+pub use Rattle.jup_wire.specs.declared.faults.WireFault.{WireFault}
+pub use Rattle.jup_wire.specs.declared.line.Line.{Line}
+pub use Rattle.jup_wire.specs.Lines.{line_bytes}
+pub use Rattle.jup_rules.specs.declared.client.Answer.{Answer}
+pub use Rattle.jup_rules.specs.declared.client.ClientState.{ClientState}
+pub use Rattle.jup_rules.specs.declared.client.Heard.{Heard}
+pub use Rattle.jup_rules.specs.declared.client.Request.{Request}
+pub use Rattle.jup_rules.specs.declared.client.Told.{Told}
+pub use Rattle.jup_rules.specs.declared.ends.ClientEnd.{ClientEnd}
+pub use Rattle.jup_rules.specs.declared.ends.ClientEnd.TheVariants.{NoMemory}
+pub use Rattle.jup_rules.specs.declared.ends.SessionFault.TheVariants.{Wire}
+pub use Rattle.jup_rules.specs.declared.session.Said.{Said}
+pub use Rattle.jup_rules.specs.ClientEnds.{end_of_fault}
+pub use Rattle.jup_embed.specs.declared.phase.Phase.{Phase}
+pub use Rattle.jup_embed.specs.declared.refusals.EmbedFault.{EmbedFault}

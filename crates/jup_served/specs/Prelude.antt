@@ -1,0 +1,27 @@
+-- What files of this crate cite most: names of the crates below, and types of this crate. Declares nothing.
+pub use Rattle.jup_limits.specs.Limits.{highest_limit}
+pub use Rattle.jup_batch.specs.Boards.{BoardBatch, Windows, bare}
+pub use Rattle.jup_star.specs.declared.calls.Call.{Call}
+pub use Rattle.jup_star.specs.declared.calls.Call.TheVariants.{Fetch, Join, Leave, Take}
+pub use Rattle.jup_star.specs.declared.calls.StarReply.{StarReply}
+pub use Rattle.jup_star.specs.declared.calls.StarReply.TheVariants.{Fetched, Joined as JoinedReply, Left, Taken}
+pub use Rattle.jup_star.specs.declared.messages.Down.{Down}
+pub use Rattle.jup_star.specs.declared.messages.Up.{Up}
+pub use Rattle.jup_star.specs.declared.messages.Up.TheVariants.{Ping as UpPing}
+pub use Rattle.jup_star.specs.declared.star.Joined.{Joined}
+pub use Rattle.jup_wire.specs.declared.line.Line.{Line}
+pub use Rattle.jup_wire.specs.Streams.{HasRead, Progress}
+pub use Rattle.jup_wire.proofs.Streams.{all-append}
+pub use Rattle.jup_gather.proofs.Gathering.{at_first}
+pub use Rattle.jup_world.specs.Worlds.{IsOpening}
+pub use Rattle.jup_hub.specs.declared.view.HubEvent.{HubEvent}
+pub use Rattle.jup_hub.specs.declared.view.Tally.{Tally}
+pub use Rattle.jup_hub.specs.declared.view.View.{View}
+pub use Rattle.jup_rules.specs.declared.client.Answer.{Answer}
+pub use Rattle.jup_rules.specs.declared.client.ClientState.{ClientState}
+pub use Rattle.jup_rules.specs.declared.client.Heard.{Heard as ClientHeard}
+pub use Rattle.jup_rules.specs.declared.ends.Ending.{Ending}
+pub use Rattle.jup_rules.specs.declared.session.Said.{Said}
+pub use Rattle.jup_rules.specs.declared.session.Said.TheVariants.{Up as SaysUp}
+pub use Rattle.jup_rules.specs.Ends.{last_line}
+pub use Rattle.jup_stream.specs.Streams.{Sourced}

@@ -1,0 +1,113 @@
+-- What a server of browsers decides.
+use Rattle.std.specs.Prelude.{◌≡◌, ◌⊎◌, ℕ, List, [], ◌∷◌, ◌++◌, decimal, Bool, true, false, Option, None, Some, ◌==◌, if◌then◌else◌, codes}
+use Rattle.std.specs.List.{flat_map, AllByRecursion}
+use Rattle.jup_window.specs.Boards.{Windows, bare}
+use Rattle.jup_text.specs.Commands.{IsId}
+use Rattle.jup_text.specs.Words.{quoted, AreScalars}
+use Rattle.jup_star.specs.Stars.{BoardStar, opened_star}
+use Rattle.jup_board.specs.Boards.{IsPrintOf}
+use Rattle.jup_http.specs.declared.ending.Ending.{Ending}
+use Rattle.jup_http.specs.Frames.{answer_code}
+use Rattle.jup_service.specs.declared.end.ServiceEnd.{ServiceEnd}
+use Rattle.jup_service.specs.declared.end.ServiceEnd.TheVariants.{Words, NoOrigin, Io, BoardTaken, NoMemory, BadBoard, LongBoard, BadCaptions}
+use Rattle.jup_service.specs.declared.notices.Notice.{Notice}
+use Rattle.jup_service.specs.declared.notices.Notice.TheVariants.{SitesSpent, OrderFull, CannotAccept, CannotWrite}
+use Rattle.jup_service.specs.declared.notices.Told.{Told}
+use Rattle.jup_service.specs.declared.origins.Address.{Address}
+
+-- Captions of windows and widgets, a line each.
+
+-- an id as it is spelled
+abbrev pub IsSpelledId : List ℕ → Type 0
+IsSpelledId word = (id : ℕ) × IsId id × (word ≡ decimal id)
+
+-- the window, or the widget of a window, that a caption is for
+abbrev pub IsTarget : List ℕ → Type 0
+IsTarget target =
+    IsSpelledId target ⊎ ((win : List ℕ) × (wid : List ℕ) × IsSpelledId win × IsSpelledId wid × (target ≡ win ++ 46 ∷ wid))
+
+-- a line, without its line feed
+pub record IsCaption (line : List ℕ) : Type 0 where
+  pub target : List ℕ
+  pub chars : List ℕ
+  pub named : IsTarget target
+  pub scalars : AreScalars chars
+  pub whole : line ≡ target ++ 32 ∷ quoted chars
+
+-- the lines before the rest are captions
+pub record AreCaptionsTo (text rest : List ℕ) : Type 0 where
+  pub lines : List (List ℕ)
+  pub spelled : text ≡ flat_map (λ line. line ++ 10 ∷ []) lines ++ rest
+  pub each : AllByRecursion IsCaption lines
+
+-- a text of captions, each with its line feed
+abbrev pub AreCaptions : List ℕ → Type 0
+AreCaptions text = AreCaptionsTo text []
+
+-- The close that ends a WebSocket (RFC 6455, sections 5.5.1 and 7.4.1).
+
+-- the server answers a browser's close or breach; else it goes away, or closes normally
+abbrev pub close_code : Option Ending → Bool → Option ℕ
+close_code (Some ending) stops = answer_code ending
+close_code None true = Some 1001
+close_code None false = Some 1000
+
+-- The exit statuses of a server of browsers.
+
+abbrev pub service_end_status : ServiceEnd → ℕ
+service_end_status (Io _) = 1
+service_end_status BoardTaken = 1
+service_end_status (Words _) = 2
+service_end_status NoOrigin = 2
+service_end_status NoMemory = 3
+service_end_status (BadBoard _ _) = 5
+service_end_status LongBoard = 5
+service_end_status (BadCaptions _ _) = 5
+
+-- Which notices a server has reported.
+
+-- the notice for a fault that ends a session, if the fault concerns all later sessions too
+abbrev pub notice_of : ℕ → Option Notice
+notice_of fault = if fault == 31 then Some SitesSpent else (if fault == 32 then Some OrderFull else None)
+
+abbrev pub is_told : Told → Notice → Bool
+is_told t SitesSpent = t.sites
+is_told t OrderFull = t.order
+is_told t CannotAccept = t.accept
+is_told t CannotWrite = t.write
+
+-- the same except for this notice
+abbrev pub with_told : Told → Notice → Bool → Told
+with_told t SitesSpent b = record t { sites = b }
+with_told t OrderFull b = record t { order = b }
+with_told t CannotAccept b = record t { accept = b }
+with_told t CannotWrite b = record t { write = b }
+
+-- What the first bytes of a connection begin.
+
+-- how each request begins
+abbrev pub method : List ℕ
+method = codes "GET "
+
+-- The origins under which a server's own pages send requests.
+
+-- the origin of a host with a port, as a browser writes it: it leaves out the port 80
+abbrev pub origin_of : List ℕ → ℕ → List ℕ
+origin_of host port = if port == 80 then codes "http://" ++ host else (codes "http://" ++ (host ++ (codes ":" ++ decimal port)))
+
+-- the origin of the host that the server listens at, or on a loopback address that of `localhost`; a server at every address has none of these
+abbrev pub IsOriginAt : List ℕ → Address → List ℕ → Type 0
+IsOriginAt host at origin =
+    (at.is_wildcard ≡ false) × ((origin ≡ origin_of host at.port) ⊎ ((at.is_loopback ≡ true) × (origin ≡ origin_of (codes "localhost") at.port)))
+
+-- one of these, or the origin that the command line names
+abbrev pub IsOwnOrigin : List ℕ → Address → Option (List ℕ) → List ℕ → Type 0
+IsOwnOrigin host at told origin = (told ≡ Some origin) ⊎ IsOriginAt host at origin
+
+-- The star of a board that a file keeps.
+
+-- a star without sites over the board that the text prints, with this limit
+pub record IsStarOf (text : List ℕ) (limit : ℕ) (star : BoardStar) : Type 0 where
+  pub windows : Windows
+  pub printed : IsPrintOf windows text
+  pub is : star ≡ opened_star (bare windows) limit

@@ -1,0 +1,526 @@
+-- The calls of a session, part by part.
+use Rattle.std.proofs.Common.{◌≡◌, ℕ, ◌⊎◌, inl, inr, Bool, true, false, List, [], ◌∷◌, ◌++◌, Option, Some, None, Result, Ok, Err, MatchBool, refl, sym, ap, ◌∙◌, subst, append_assoc, append-nil, flat_map, IfErr, true≢false, IsTrue, ◌≢◌, IsOk, is_ok}
+use Rattle.std.specs.List.{AllByRecursion}
+use Rattle.std.proofs.lemmas.List.Concat.{flat_map-append}
+use Rattle.jup_session.specs.Prelude.{BoardBatch, Up, Joined as JoinedSite, NoLink, Call, Join, Take, Fetch, Leave, StarReply, JoinedReply, Taken, Fetched, Down, BoardStar, bare_joined, Line, Hello, HubFault, HubEvent, Tally, View, Made, Ending, Incoming, Ring, SessionFault, Hub, WriteFailed, Misplaced, NoMemory, Stop, Said, SaysUp, SaysBye, down_lines, HasHeard, Leads, outcome, Keeper, ending_of, ended_by, last_line, Put, PutsLines, puts_more, Sourced, HandsOn, Stops}
+use Rattle.jup_star.specs.declared.calls.StarReply.TheVariants.{Left}
+use Rattle.jup_hub.specs.Histories.{is_out_of_memory, entry, tally, tallies, after_split, split_from, joined_with, having_seen, Called, ComesToAsk, IsSpent}
+use Rattle.jup_rules.specs.declared.session.Awaits.TheVariants.{Gate, Pongs}
+use Rattle.jup_rules.specs.declared.session.Next.TheVariants.{Line as NextLine, Take as NextTake}
+use Rattle.jup_stream.specs.Streams.{puts_none}
+use Rattle.jup_stream.proofs.Streams.{hands_none, hands_more}
+use Rattle.jup_session.specs.Sessions.{HasAnswered, HasToWait, HasCalled, followed_by, IsHandled, IsCallFor, AreCallsFor, AreTalliesFor, HasLeft, IsFull, SomeLeft, FollowsJoin, IsSession, Makes, Serves, Leaves, HasMadeNone, HasServed, IsJoinOf, Joins, BothServe, GivesBack, IsLeaveOf, Departs, brought, lines_brought, IsFetchFor, AreFetchesFor, Forwards, Brings, IsOfWriting, TellsFault, told_line, Wrote, welcome_lines, IsTaken, AreTakesOf, Hears, Over, Stopped, ByLine, Untaken, Spent, Behind, HearsAll, HearsNothing, Heard}
+use Rattle.jup_session.specs.ExactSessions.{Enters, IsTurnedAway, NoLine, NoGreeting, NoJoin, IsWelcomed, EndsEarly, TurnedAway, Unwelcome}
+use Rattle.jup_hub.specs.Prelude.{StarFault, is_no_memory}
+use Rattle.jup_hub.specs.declared.fault.HubFault.TheVariants.{Star, Spent as HubSpent}
+use Rattle.jup_star.specs.declared.messages.Up.TheVariants.{Op, Ack, Ping}
+
+-- What the calls of a session make up.
+
+-- calls of one kind, and more of them
+pub more_calls : (IsOne : Call → Type 0) (xs ys : List HubEvent) → AllByRecursion (λ e. IsOne e.call) xs → AllByRecursion (λ e. IsOne e.call) ys → AllByRecursion (λ e. IsOne e.call) (xs ++ ys)
+more_calls IsOne [] ys one two = two
+more_calls IsOne (x ∷ xs) ys one two = (one.0, more_calls IsOne xs ys one.1 two)
+
+-- that are of another kind too
+pub calls_too : (IsOne Is : Call → Type 0) (xs : List HubEvent) → ((call : Call) → IsOne call → Is call) → AllByRecursion (λ e. IsOne e.call) xs → AllByRecursion (λ e. Is e.call) xs
+calls_too IsOne Is [] too all = tt
+calls_too IsOne Is (x ∷ xs) too all = (too x.call all.0, calls_too IsOne Is xs too all.1)
+
+left_later : (xs ys : List HubEvent) → HasLeft ys → HasLeft (xs ++ ys)
+left_later [] ys h = h
+left_later (x ∷ xs) ys h = inr (left_later xs ys h)
+
+-- a pass that is as it was
+pub makes_none : (IsOne : Call → Type 0) (v : View) → Makes IsOne v v
+makes_none IsOne v = record { calls = []; number = refl; made = sym (append-nil v.made); kept = refl; alone = tt }
+
+pub makes_same : (IsOne : Call → Type 0) (v w : View) → w ≡ v → Makes IsOne v w
+makes_same IsOne v w e = subst (λ (x : View). Makes IsOne v x) (sym e) (makes_none IsOne v)
+
+-- one that has seen more
+pub makes_news : (IsOne : Call → Type 0) (v w : View) (log : List HubEvent) → w ≡ having_seen log v → Makes IsOne v w
+makes_news IsOne v w log e = subst (λ (x : View). Makes IsOne v x) (sym e) (record { calls = []; number = refl; made = sym (append-nil v.made); kept = refl; alone = tt })
+
+-- one that another was split from
+pub makes_split : (IsOne : Call → Type 0) (v w : View) → w ≡ after_split v → Makes IsOne v w
+makes_split IsOne v w e = subst (λ (x : View). Makes IsOne v x) (sym e) (record { calls = []; number = refl; made = sym (append-nil v.made); kept = refl; alone = tt })
+
+-- and the one that was split off
+pub split_makes_none : (v w : View) → w ≡ split_from v → HasMadeNone w
+split_makes_none v w e = subst HasMadeNone (sym e) (refl, refl)
+
+-- first some calls, then others
+pub makes_both : (IsOne : Call → Type 0) (u v w : View) → Makes IsOne u v → Makes IsOne v w → Makes IsOne u w
+makes_both IsOne u v w one two = record {
+  calls = one.calls ++ two.calls;
+  number = two.number ∙ one.number;
+  made = two.made ∙ ap (λ (l : List HubEvent). l ++ two.calls) one.made ∙ append_assoc u.made one.calls two.calls;
+  kept = two.kept ∙ one.kept;
+  alone = more_calls IsOne one.calls two.calls one.alone two.alone;
+}
+
+-- calls that are of another kind too
+pub makes_too : (IsOne Is : Call → Type 0) (v w : View) → ((call : Call) → IsOne call → Is call) → Makes IsOne v w → Makes Is v w
+makes_too IsOne Is v w too m = record { calls = m.calls; number = m.number; made = m.made; kept = m.kept; alone = calls_too IsOne Is m.calls too m.alone }
+
+pub leaves_after : (site : ℕ) (u v w : View) → Serves site u v → Leaves site v w → Leaves site u w
+leaves_after site u v w one two = record {
+  calls = one.calls ++ two.calls;
+  number = two.number ∙ one.number;
+  made = two.made ∙ ap (λ (l : List HubEvent). l ++ two.calls) one.made ∙ append_assoc u.made one.calls two.calls;
+  kept = two.kept ∙ one.kept;
+  alone = more_calls (IsCallFor site) one.calls two.calls one.alone two.alone;
+  left = elim two.left [ inl h ↦ inl (left_later one.calls two.calls h) | inr h ↦ inr h ];
+}
+
+-- one call
+makes_one : (IsOne : Call → Type 0) (call : Call) (reply : StarReply) (v w : View) → IsOne call → Called call reply v w → Makes IsOne v w
+makes_one IsOne call reply v w is c = record {
+  calls = entry v.number call reply ∷ [];
+  number = ap (λ (x : View). x.number) c.view;
+  made = ap (λ (x : View). x.made) c.view;
+  kept = ap (λ (x : View). x.kept) c.view;
+  alone = (is, tt);
+}
+
+called : (site : ℕ) (call : Call) (reply : StarReply) (v w : View) → IsCallFor site call → Called call reply v w → Serves site v w
+called site call reply v w is c = makes_one (IsCallFor site) call reply v w is c
+
+-- whatever the hub answers
+pub makes_call : {A : Type 0} (IsOne : Call → Type 0) (reply : Result A StarFault → StarReply) (call : Call) (v w : View) (r : Result A HubFault) → IsOne call → Made reply call v w r → Makes IsOne v w
+makes_call IsOne reply call v w (Ok x) is m = makes_one IsOne call (reply (Ok x)) v w is m
+makes_call IsOne reply call v w (Err HubSpent) is m = makes_same IsOne v w m.0
+makes_call IsOne reply call v w (Err (Star e)) is m = go (is_no_memory e) m
+  where
+    go : (b : Bool) → MatchBool b ((w ≡ v) × ComesToAsk call v) (Called call (reply (Err e)) v w) → Makes IsOne v w
+    go true h = makes_same IsOne v w h.0
+    go false h = makes_one IsOne call (reply (Err e)) v w is h
+
+-- a message that the hub was called for, or not
+pub serves_answered : (site : ℕ) (up : Up BoardBatch) (v w : View) (answer : Option (Result (Option ℕ) HubFault)) → HasAnswered site up v w answer → Serves site v w
+serves_answered site up v w (Some answer) made = makes_call (IsCallFor site) (λ r. Taken r) (Take site up) v w answer refl made
+serves_answered site up v w None same = makes_same (IsCallFor site) v w same
+
+-- what was called for a message
+pub serves_handled : (site : ℕ) (incoming : Incoming) (v w : View) (followed : Result Ring Ending) → IsHandled site incoming v w followed → Serves site v w
+serves_handled site incoming v w followed h = go h.answer h.called
+  where
+    go : (answer : Option (Result (Option ℕ) HubFault)) → HasCalled site incoming v w answer → Serves site v w
+    go (Some answer) c = serves_answered site incoming.up v w (Some answer) c
+    go None c = serves_answered site incoming.up v w None c.0
+
+-- what came of an edit
+pub edit_called : (site nth : ℕ) (incoming : Incoming) (v w : View) (answer : Option (Result (Option ℕ) HubFault)) → incoming.awaits ≡ Gate nth → HasAnswered site incoming.up v w answer
+    → HasCalled site incoming v w answer
+edit_called site nth incoming v w (Some answer) gate answered = answered
+edit_called site nth incoming v w None gate answered = (answered, subst HasToWait (sym gate) tt)
+
+-- of a ping that waited in vain
+pub ping_left : (site : ℕ) (incoming : Incoming) (v : View) → incoming.awaits ≡ Pongs → HasCalled site incoming v v None
+ping_left site incoming v pongs = (refl, subst HasToWait (sym pongs) tt)
+
+-- and of any message
+pub handled_so : (site : ℕ) (incoming : Incoming) (v w : View) (answer : Option (Result (Option ℕ) HubFault)) (followed : Result Ring Ending) → HasCalled site incoming v w answer
+    → followed ≡ followed_by incoming answer → IsHandled site incoming v w followed
+handled_so site incoming v w answer followed called is = record { answer = answer; called = called; follows = is }
+
+full : (v w : View) → w ≡ v → IsSpent v → IsFull w.opening (tally w.number w.made)
+full v w e h = subst (λ (x : View). IsFull x.opening (tally x.number x.made)) (sym e) (h.0, h.1.legal, h.1.tallied.0, h.2)
+
+-- a departure
+pub leaves_by_leaving : (site : ℕ) (v w : View) (r : Result (Unit {0}) HubFault) → Made (λ a. Left a) (Leave site) v w r → is_out_of_memory r ≡ false → Leaves site v w
+leaves_by_leaving site v w (Ok x) m never = gone m
+  where
+    gone : Called (Leave site) (Left (Ok x)) v w → Leaves site v w
+    gone c = let s : Serves site v w = called site (Leave site) (Left (Ok x)) v w refl c in record {
+      calls = entry v.number (Leave site) (Left (Ok x)) ∷ [];
+      number = s.number;
+      made = ap (λ (y : View). y.made) c.view;
+      kept = s.kept;
+      alone = (refl, tt);
+      left = inl (inl tt);
+    }
+leaves_by_leaving site v w (Err HubSpent) m never = let s : Serves site v w = makes_same (IsCallFor site) v w m.0 in record {
+  calls = s.calls;
+  number = s.number;
+  made = s.made;
+  kept = s.kept;
+  alone = s.alone;
+  left = inr (full v w m.0 m.1);
+}
+leaves_by_leaving site v w (Err (Star e)) m never = gone (subst (λ b. MatchBool b ((w ≡ v) × ComesToAsk (Leave site) v) (Called (Leave site) (Left (Err e)) v w)) never m)
+  where
+    gone : Called (Leave site) (Left (Err e)) v w → Leaves site v w
+    gone c = let s : Serves site v w = called site (Leave site) (Left (Err e)) v w refl c in record {
+      calls = entry v.number (Leave site) (Left (Err e)) ∷ [];
+      number = s.number;
+      made = ap (λ (y : View). y.made) c.view;
+      kept = s.kept;
+      alone = (refl, tt);
+      left = inl (inl tt);
+    }
+
+-- a fetch that finds no link
+pub leaves_by_fetching : (site max : ℕ) (v w : View) (fault : HubFault) → fault ≡ Star NoLink → Made (λ a. Fetched a) (Fetch site max) v w (Err fault) → Leaves site v w
+leaves_by_fetching site max v w fault is made = let c : Called (Fetch site max) (Fetched (Err NoLink)) v w = subst (λ (e : HubFault). Made (λ a. Fetched a) (Fetch site max) v w (Err e)) is made in let s : Serves site v w = called site (Fetch site max) (Fetched (Err NoLink)) v w refl c in record {
+  calls = entry v.number (Fetch site max) (Fetched (Err NoLink)) ∷ [];
+  number = s.number;
+  made = ap (λ (y : View). y.made) c.view;
+  kept = s.kept;
+  alone = (refl, tt);
+  left = inl (inl tt);
+}
+
+-- a pass that had made nothing
+pub served_alone : (site : ℕ) (v w : View) → HasMadeNone v → Leaves site v w → HasServed site w
+served_alone site v w none l =
+    let made : w.made ≡ l.calls = l.made ∙ ap (λ (x : List HubEvent). x ++ l.calls) none.0 in record {
+      alone = subst (λ (x : List HubEvent). AreCallsFor site x) (sym made) l.alone;
+      kept = l.kept ∙ none.1;
+      left = elim l.left [ inl h ↦ inl (subst HasLeft (sym made) h) | inr h ↦ inr h ];
+    }
+
+-- the other is taken in
+pub both_serve : (site : ℕ) (v u h w : View) → Serves site v u → HasServed site h → h.opening ≡ u.opening → w ≡ joined_with u h → BothServe site v w
+both_serve site v u h w one two same e = subst (λ (x : View). BothServe site v x) (sym e) (record {
+  calls = one.calls;
+  other = tally h.number h.made;
+  number = one.number;
+  made = one.made;
+  kept = ap (λ (l : List Tally). l ++ tallies h) one.kept ∙ ap (λ (l : List Tally). v.kept ++ (tally h.number h.made) ∷ l) two.kept;
+  alone = one.alone;
+  other_alone = two.alone;
+  left = elim two.left [ inl q ↦ inl q | inr q ↦ inr (subst (λ (o : BoardStar). IsFull o (tally h.number h.made)) same q) ];
+})
+
+-- a session that made no call
+pub session_none : (v : View) → IsSession v v
+session_none v = record { calls = []; others = []; number = refl; made = sym (append-nil v.made); kept = sym (append-nil v.kept); one_site = refl }
+
+pub session_same : (v w : View) → w ≡ v → IsSession v w
+session_same v w e = subst (λ (x : View). IsSession v x) (sym e) (session_none v)
+
+-- the join of a site
+pub joins : (v w : View) (j : JoinedSite) → Called Join (JoinedReply (bare_joined (Ok j))) v w → Joins j.site v w
+joins v w j c = record {
+  join = entry v.number Join (JoinedReply (bare_joined (Ok j)));
+  number = ap (λ (x : View). x.number) c.view;
+  made = ap (λ (x : View). x.made) c.view;
+  kept = ap (λ (x : View). x.kept) c.view;
+  is_join = refl;
+}
+
+-- one that is refused is all of the session
+pub session_refused : (v w : View) (fault : HubFault) → Made (λ r. JoinedReply (bare_joined r)) Join v w (Err fault) → IsSession v w
+session_refused v w HubSpent m = session_same v w m.0
+session_refused v w (Star e) m = go (is_no_memory e) m
+  where
+    go : (b : Bool) → MatchBool b ((w ≡ v) × ComesToAsk Join v) (Called Join (JoinedReply (Err e)) v w) → IsSession v w
+    go true h = session_same v w h.0
+    go false c = record {
+      calls = entry v.number Join (JoinedReply (Err e)) ∷ [];
+      others = [];
+      number = ap (λ (x : View). x.number) c.view;
+      made = ap (λ (x : View). x.made) c.view;
+      kept = ap (λ (x : View). x.kept) c.view ∙ sym (append-nil v.kept);
+      one_site = (refl, refl);
+    }
+
+follows : (site : ℕ) (w : View) (call : Call) (reply : StarReply) (later : List HubEvent) (others : List Tally) → IsJoinOf site call reply → AreCallsFor site later → AreTalliesFor site others
+    → HasLeft later ⊎ IsFull w.opening (tally w.number w.made) ⊎ SomeLeft w.opening others → FollowsJoin w call reply later others
+follows site w Join (JoinedReply (Ok j)) later others is one two left =
+    (subst (λ (s : ℕ). AreCallsFor s later) (sym is) one, subst (λ (s : ℕ). AreTalliesFor s others) (sym is) two, left)
+follows site w call reply later others is one two left = absurd is
+
+-- a site that joined and left with no call between
+pub session_left : (site : ℕ) (v u w : View) → Joins site v u → Leaves site u w → IsSession v w
+session_left site v u w j l = record {
+  calls = j.join ∷ l.calls;
+  others = [];
+  number = l.number ∙ j.number;
+  made = l.made ∙ ap (λ (x : List HubEvent). x ++ l.calls) j.made ∙ append_assoc v.made (j.join ∷ []) l.calls;
+  kept = l.kept ∙ j.kept ∙ sym (append-nil v.kept);
+  one_site = follows site w j.join.call j.join.reply l.calls [] j.is_join l.alone tt (elim l.left [ inl h ↦ inl h | inr h ↦ inr (inl h) ]);
+}
+
+-- and one that both halves served
+pub session_served : (site : ℕ) (v u w : View) → Joins site v u → BothServe site u w → IsSession v w
+session_served site v u w j b = record {
+  calls = j.join ∷ b.calls;
+  others = b.other ∷ [];
+  number = b.number ∙ j.number;
+  made = b.made ∙ ap (λ (x : List HubEvent). x ++ b.calls) j.made ∙ append_assoc v.made (j.join ∷ []) b.calls;
+  kept = b.kept ∙ ap (λ (x : List Tally). x ++ b.other ∷ []) j.kept;
+  one_site = follows site w j.join.call j.join.reply b.calls (b.other ∷ []) j.is_join b.alone (b.other_alone, tt)
+      (inr (inr (elim b.left [ inl h ↦ inl h | inr h ↦ inr (inl h) ])));
+}
+
+-- How a site leaves.
+
+gives_for : (site : ℕ) (call : Call) → GivesBack site call → IsCallFor site call
+gives_for site Join is = absurd is
+gives_for site (Take i (Op msg)) is = absurd is
+gives_for site (Take i (Ack count)) is = is
+gives_for site (Take i (Ping number)) is = absurd is
+gives_for site (Fetch i max) is = is
+gives_for site (Leave i) is = absurd is
+
+-- the session fetches messages and drops them
+pub gives_fetched : (site max : ℕ) (v w : View) (r : Result (List (Down BoardBatch)) HubFault) → Made (λ a. Fetched a) (Fetch site max) v w r → Makes (GivesBack site) v w
+gives_fetched site max v w r m = makes_call (GivesBack site) (λ a. Fetched a) (Fetch site max) v w r refl m
+
+-- and acknowledges them
+pub gives_acknowledged : (site count : ℕ) (v w : View) (r : Result (Option ℕ) HubFault) → Made (λ a. Taken a) (Take site (Ack count)) v w r → Makes (GivesBack site) v w
+gives_acknowledged site count v w r m = makes_call (GivesBack site) (λ a. Taken a) (Take site (Ack count)) v w r refl m
+
+-- the site leaves after that
+pub departs_so : (site : ℕ) (u v w : View) (r : Result (Unit {0}) HubFault) → Makes (GivesBack site) u v → Made (λ a. Left a) (Leave site) v w r → Departs site u w
+departs_so site u v w r back m = record { between = v; back = back; leaves = makes_call (IsLeaveOf site) (λ a. Left a) (Leave site) v w r refl m }
+
+pub leaves_so : (site : ℕ) (u v w : View) → Makes (GivesBack site) u v → Leaves site v w → Leaves site u w
+leaves_so site u v w back l = leaves_after site u v w (makes_too (GivesBack site) (IsCallFor site) u v (gives_for site) back) l
+
+-- a site that had left already
+pub departs_none : (site : ℕ) (v : View) → Departs site v v
+departs_none site v = record { between = v; back = makes_none (GivesBack site) v; leaves = makes_none (IsLeaveOf site) v }
+
+-- What fetches bring, and what is put for that.
+
+-- nothing was called, and nothing put
+pub forwards_none : (site : ℕ) (v : View) (a : Put) → Forwards site v a v a
+forwards_none site v a = record { calls = []; number = refl; made = sym (append-nil v.made); kept = refl; alone = tt; put = puts_none a }
+
+-- the pass has seen more
+pub forwards_news : (site : ℕ) (u v w : View) (a b : Put) (log : List HubEvent) → Forwards site u a v b → w ≡ having_seen log v → Forwards site u a w b
+forwards_news site u v w a b log f e = subst (λ (x : View). Forwards site u a x b) (sym e)
+    (record { calls = f.calls; number = f.number; made = f.made; kept = f.kept; alone = f.alone; put = f.put })
+
+-- first this, then that
+pub forwards_both : (site : ℕ) (u v w : View) (a b c : Put) → Forwards site u a v b → Forwards site v b w c → Forwards site u a w c
+forwards_both site u v w a b c one two = record {
+  calls = one.calls ++ two.calls;
+  number = two.number ∙ one.number;
+  made = two.made ∙ ap (λ (l : List HubEvent). l ++ two.calls) one.made ∙ append_assoc u.made one.calls two.calls;
+  kept = two.kept ∙ one.kept;
+  alone = more_calls (IsFetchFor site) one.calls two.calls one.alone two.alone;
+  put = subst (λ lines. PutsLines a lines c) (sym (flat_map-append (λ (e : HubEvent). flat_map down_lines (brought e.reply)) one.calls two.calls))
+      (puts_more a b c (lines_brought one.calls) (lines_brought two.calls) one.put two.put);
+}
+
+-- a fetch, and what it brought is put
+pub forwards_more : (site : ℕ) (u v w : View) (a b c : Put) (downs : List (Down BoardBatch)) → Forwards site u a v b → Brings site v w downs → PutsLines b (flat_map down_lines downs) c
+    → Forwards site u a w c
+forwards_more site u v w a b c downs before brings put = forwards_both site u v w a b c before (record {
+  calls = brings.calls;
+  number = brings.number;
+  made = brings.made;
+  kept = brings.kept;
+  alone = brings.alone;
+  put = subst (λ lines. PutsLines b lines c) (sym brings.lines) put;
+})
+
+-- one that brought nothing
+pub forwards_in_vain : (site : ℕ) (u v w : View) (a b : Put) → Forwards site u a v b → Brings site v w [] → Forwards site u a w b
+forwards_in_vain site u v w a b before brings = forwards_more site u v w a b b [] before brings (puts_none b)
+
+fetched : (site max : ℕ) (reply : StarReply) (v w : View) → Called (Fetch site max) reply v w → Brings site v w (brought reply)
+fetched site max reply v w c = record {
+  calls = entry v.number (Fetch site max) reply ∷ [];
+  number = ap (λ (x : View). x.number) c.view;
+  made = ap (λ (x : View). x.made) c.view;
+  kept = ap (λ (x : View). x.kept) c.view;
+  alone = (refl, tt);
+  lines = append-nil (flat_map down_lines (brought reply));
+}
+
+-- no fetch was made
+pub brings_none : (site : ℕ) (v w : View) → w ≡ v → Brings site v w []
+brings_none site v w e = subst (λ (x : View). Brings site v x []) (sym e) (record { calls = []; number = refl; made = sym (append-nil v.made); kept = refl; alone = tt; lines = refl })
+
+-- a fetch that was answered
+pub brings_downs : (site max : ℕ) (v w : View) (downs : List (Down BoardBatch)) → Made (λ r. Fetched r) (Fetch site max) v w (Ok downs) → Brings site v w downs
+brings_downs site max v w downs m = fetched site max (Fetched (Ok downs)) v w m
+
+-- one that was refused
+pub brings_nothing : (site max : ℕ) (v w : View) (fault : HubFault) → Made (λ r. Fetched r) (Fetch site max) v w (Err fault) → Brings site v w []
+brings_nothing site max v w HubSpent m = brings_none site v w m.0
+brings_nothing site max v w (Star e) m = go (is_no_memory e) m
+  where
+    go : (b : Bool) → MatchBool b ((w ≡ v) × ComesToAsk (Fetch site max) v) (Called (Fetch site max) (Fetched (Err e)) v w) → Brings site v w []
+    go true h = brings_none site v w h.0
+    go false h = fetched site max (Fetched (Err e)) v w h
+
+fetches_for : (site : ℕ) (call : Call) → IsFetchFor site call → IsCallFor site call
+fetches_for site Join is = absurd is
+fetches_for site (Take i up) is = absurd is
+fetches_for site (Fetch i max) is = is
+fetches_for site (Leave i) is = absurd is
+
+-- all that was called for a site
+pub forwards_serves : (site : ℕ) (v w : View) (a b : Put) → Forwards site v a w b → Serves site v w
+forwards_serves site v w a b f = makes_too (IsFetchFor site) (IsCallFor site) v w (fetches_for site) (record { calls = f.calls; number = f.number; made = f.made; kept = f.kept; alone = f.alone })
+
+-- the whole half
+pub wrote_so : (site : ℕ) (u v w : View) (a b c : Put) (told : Option Ending) → Forwards site u a v b → Departs site v w → TellsFault told → PutsLines b (told_line told) c
+    → Wrote site u a w c told
+wrote_so site u v w a b c told forwards departs fault put = record { between = v; middle = b; forwards = forwards; departs = departs; fault = fault; put = put }
+
+-- faults of the writing half
+pub of_hub : (fault : SessionFault) (hub : HubFault) → fault ≡ Hub hub → IsOfWriting fault
+of_hub fault hub is = subst IsOfWriting (sym is) tt
+
+pub of_write : (r : Result (Unit {0}) SessionFault) → IfErr r (λ fault. fault ≡ WriteFailed) → IfErr r IsOfWriting
+of_write (Ok u) is = tt
+of_write (Err fault) is = subst IsOfWriting (sym is) tt
+
+-- How a session begins, and how it may end there.
+
+-- there is no first line
+pub away_line : (a b : Sourced) (v : View) (stop : Stop) (ending : Ending) → Stops a stop b → ending ≡ ended_by stop → IsTurnedAway a v b v ending
+away_line a b v stop ending stops is = NoLine stop stops refl is
+
+-- the first line is no greeting
+pub away_greeting : (a b : Sourced) (v : View) (line : Line) (fault : SessionFault) (r : Result (Unit {0}) SessionFault) (ending : Ending) → HandsOn a (line ∷ []) b → r ≡ Err fault
+    → (line ≡ Hello → IsOk r) → (line ≢ Hello → r ≡ Err Misplaced) → ending ≡ ending_of fault → IsTurnedAway a v b v ending
+away_greeting a b v line fault r ending handed err hello other is =
+    let not_hello : line ≢ Hello = λ e. absurd (true≢false (sym (hello e) ∙ ap (λ x. is_ok x) err)) in
+    let at : fault ≡ Misplaced = (let same : Err fault ≡ Err Misplaced = sym err ∙ other not_hello in cc) in
+    NoGreeting line handed not_hello refl (is ∙ ap ending_of at)
+
+pub away_session : (a b : Sourced) (v w : View) (ending : Ending) → IsTurnedAway a v b w ending → IsSession v w
+away_session a b v w ending (NoLine stop stops same is) = session_same v w same
+away_session a b v w ending (NoGreeting line handed other same is) = session_same v w same
+away_session a b v w ending (NoJoin fault handed made is) = session_refused v w fault made
+
+-- if the site does not join, the session writes the last line
+pub away_early : (a b : Sourced) (v w : View) (p q : Put) (ending : Ending) → IsTurnedAway a v b w ending → PutsLines p (last_line ending ∷ []) q
+    → (lines : List Line) × EndsEarly a v b w ending q.failed lines × PutsLines p lines q
+away_early a b v w p q ending away put = (last_line ending ∷ [], TurnedAway away refl, put)
+
+pub joins_so : (v w : View) (joined : JoinedSite) → Enters joined v w → Joins joined.site v w
+joins_so v w joined enters = joins v w joined enters
+
+pub welcomed_so : (a b : Sourced) (v w : View) (p q : Put) (joined : JoinedSite) → HandsOn a (Hello ∷ []) b → Enters joined v w → PutsLines p (welcome_lines joined) q
+    → (lines : List Line) × IsWelcomed joined.site a v b w lines × PutsLines p lines q
+welcomed_so a b v w p q joined hello enters put = (welcome_lines joined, record { hello = hello; joined = joined; site_is = refl; enters = enters; lines_are = refl }, put)
+
+-- if the welcome is cut off, the site leaves
+pub unwelcome_early : (a b : Sourced) (v u w : View) (p q : Put) (joined : JoinedSite) (fault : SessionFault) (ending : Ending) → HandsOn a (Hello ∷ []) b → Enters joined v u → Departs joined.site u w
+    → IsTrue q.failed → fault ≡ WriteFailed → ending ≡ ending_of fault → PutsLines p (welcome_lines joined) q → (lines : List Line) × EndsEarly a v b w ending q.failed lines × PutsLines p lines q
+unwelcome_early a b v u w p q joined fault ending hello enters departs failed at is put = (
+  welcome_lines joined,
+  Unwelcome (record {
+    site = joined.site;
+    behind = u;
+    welcomed = record { hello = hello; joined = joined; site_is = refl; enters = enters; lines_are = refl };
+    departs = departs;
+    failed_is = failed;
+    ending_is = is ∙ ap ending_of at;
+  }),
+  put,
+)
+
+-- How messages are heard and taken.
+
+takes_more : (site : ℕ) (saids : List Said) (calls : List HubEvent) (up : Up BoardBatch) (e : HubEvent) → AreTakesOf site saids calls → e.call ≡ Take site up → IsTaken e.reply
+    → AreTakesOf site (saids ++ SaysUp up ∷ []) (calls ++ e ∷ [])
+takes_more site [] [] up e h is taken = (is, taken, tt)
+takes_more site [] (x ∷ es) up e h is taken = absurd h
+takes_more site (SaysUp u ∷ saids) [] up e h is taken = absurd h
+takes_more site (SaysUp u ∷ saids) (x ∷ es) up e h is taken = (h.0, h.1, takes_more site saids es up e h.2 is taken)
+takes_more site (SaysBye ∷ saids) calls up e h is taken = absurd h
+
+-- no line was handed on yet
+pub hears_none : (site : ℕ) (a : Sourced) (v : View) (keeper : Keeper) → HasHeard [] [] keeper → Hears site a v a v keeper
+hears_none site a v keeper heard = record {
+  lines = [];
+  saids = [];
+  calls = [];
+  handed = hands_none a;
+  heard = heard;
+  number = refl;
+  made = sym (append-nil v.made);
+  kept = refl;
+  takes = tt;
+}
+
+-- one line more, by which the site says nothing yet
+pub hears_line : (site : ℕ) (a b c : Sourced) (v w : View) (before after : Keeper) (line : Line) → Hears site a v b w before → HandsOn b (line ∷ []) c
+    → ((lines : List Line) (saids : List Said) → HasHeard lines saids before → Leads lines saids before line NextLine after) → Hears site a v c w after
+hears_line site a b c v w before after line h handed leads = record {
+  lines = h.lines ++ line ∷ [];
+  saids = h.saids;
+  calls = h.calls;
+  handed = hands_more a b c h.lines line h.handed handed;
+  heard = leads h.lines h.saids h.heard;
+  number = h.number;
+  made = h.made;
+  kept = h.kept;
+  takes = h.takes;
+}
+
+refuses : (up : Up BoardBatch) (fault : HubFault) → (ending : Ending) × (outcome up (Err fault) ≡ Err ending)
+refuses up HubSpent = (_, refl)
+refuses up (Star NoLink) = (_, refl)
+refuses up (Star e) = (_, refl)
+
+-- a message after which the session goes on was taken
+handled_well : (site : ℕ) (incoming : Incoming) (v w : View) (ring : Ring) → IsHandled site incoming v w (Ok ring) → (place : Option ℕ) × Called (Take site incoming.up) (Taken (Ok place)) v w
+handled_well site incoming v w ring h = go h.answer h.called h.follows
+  where
+    go : (answer : Option (Result (Option ℕ) HubFault)) → HasCalled site incoming v w answer → Ok ring ≡ followed_by incoming answer
+        → (place : Option ℕ) × Called (Take site incoming.up) (Taken (Ok place)) v w
+    go None called is = absurd cc
+    go (Some (Ok place)) called is = (place, called)
+    go (Some (Err fault)) called is = let r = refuses incoming.up fault in let no : Ok ring ≡ Err r.0 = is ∙ r.1 in absurd cc
+
+-- and one by which it says a message, which was taken
+pub hears_take : (site : ℕ) (a b c : Sourced) (v w x : View) (before after : Keeper) (line : Line) (incoming : Incoming) (ring : Ring) → Hears site a v b w before → HandsOn b (line ∷ []) c
+    → ((lines : List Line) (saids : List Said) → HasHeard lines saids before → Leads lines saids before line (NextTake incoming) after)
+    → IsHandled site incoming w x (Ok ring) → Hears site a v c x after
+hears_take site a b c v w x before after line incoming ring h handed leads handled =
+    let taken = handled_well site incoming w x ring handled in
+    let e : HubEvent = entry w.number (Take site incoming.up) (Taken (Ok taken.0)) in
+    let view = taken.1.view in record {
+      lines = h.lines ++ line ∷ [];
+      saids = h.saids ++ SaysUp incoming.up ∷ [];
+      calls = h.calls ++ e ∷ [];
+      handed = hands_more a b c h.lines line h.handed handed;
+      heard = (leads h.lines h.saids h.heard).0;
+      number = ap (λ (y : View). y.number) view ∙ h.number;
+      made = ap (λ (y : View). y.made) view ∙ ap (λ (l : List HubEvent). l ++ e ∷ []) h.made ∙ append_assoc v.made h.calls (e ∷ []);
+      kept = ap (λ (y : View). y.kept) view ∙ h.kept;
+      takes = takes_more site h.saids h.calls incoming.up e h.takes refl tt;
+    }
+
+-- ---- all that was called for a site
+
+takes_for : (site : ℕ) (saids : List Said) (calls : List HubEvent) → AreTakesOf site saids calls → AllByRecursion (λ e. IsCallFor site e.call) calls
+takes_for site [] [] h = tt
+takes_for site [] (x ∷ es) h = absurd h
+takes_for site (SaysUp up ∷ saids) [] h = absurd h
+takes_for site (SaysUp up ∷ saids) (x ∷ es) h = (subst (IsCallFor site) (sym h.0) refl, takes_for site saids es h.2)
+takes_for site (SaysBye ∷ saids) calls h = absurd h
+
+over_serves : (site : ℕ) (b c : Sourced) (w x : View) (keeper : Keeper) (ending : Ending) → Over site b c w x keeper ending → Serves site w x
+over_serves site b c w x keeper ending (Stopped stop stops same ends) = makes_same (IsCallFor site) w x same
+over_serves site b c w x keeper ending (ByLine line later handed same leads) = makes_same (IsCallFor site) w x same
+over_serves site b c w x keeper ending (Untaken line later incoming handed leads handled) = serves_handled site incoming w x (Err ending) handled
+over_serves site b c w x keeper ending (Spent at same is) = makes_same (IsCallFor site) w x same
+over_serves site b c w x keeper ending (Behind line later incoming handed leads same is) = makes_same (IsCallFor site) w x same
+
+pub heard_serves : (site : ℕ) (a c : Sourced) (v x : View) (ending : Ending) → Heard site a v c x ending → Serves site v x
+heard_serves site a c v x ending (inl h) =
+    makes_both (IsCallFor site) v h.pass x
+    (record { calls = h.hears.calls; number = h.hears.number; made = h.hears.made; kept = h.hears.kept; alone = takes_for site h.hears.saids h.hears.calls h.hears.takes })
+    (over_serves site h.before c h.pass x h.keeper ending h.over)
+heard_serves site a c v x ending (inr h) = makes_same (IsCallFor site) v x h.pass
+
+-- ---- both ways in which the reading half ends
+
+pub heard_all : (site : ℕ) (a c : Sourced) (v x : View) (ending : Ending) → HearsAll site a v c x ending → Heard site a v c x ending
+heard_all site a c v x ending h = inl h
+
+pub heard_nothing : (site : ℕ) (a : Sourced) (v : View) (ending : Ending) → ending ≡ ending_of NoMemory → Heard site a v a v ending
+heard_nothing site a v ending is = inr (record { source = refl; pass = refl; memory = is })

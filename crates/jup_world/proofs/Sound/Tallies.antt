@@ -1,0 +1,390 @@
+-- The counts of links and of traces.
+use Rattle.std.proofs.Common.{◌≡◌, ℕ, ◌+◌, Bool, true, false, List, [], ◌∷◌, ◌++◌, drop, refl, ap, sym, ◌∙◌, None, arith, length-append, append_assoc, leb-true, leb-false, if◌then◌else◌, ◌<◌, length, subst, Option, Some, option_map, take, take-append-drop, eq-eqb, cond, not, map, filter, nat_eq, append-nil, eqb-true}
+use Rattle.std.proofs.lemmas.Bool.{and_parts}
+use Rattle.jup_world.specs.Prelude.{answer_after, Ghosts, Msg, Link, IsCount, generated, accepts_count, after_ack, answered, owes, next_message, Comes, InStepAt, Operations, AreLawful, Down, DownOp, DownAck, DownPong, SiteBadOp as BadOp, UpOp, UpAck, UpPing, test, LinkState, link_acked, link_ponged, link_fetched, link_sent, link_heard, end_after, without, opened_link, operation_at, link_of, at_link, joined, running_test, heard_tests, deliver_tests, fits_shown, deliver_fault, ups, downs, found-end, found-end_other, EditFault}
+use Rattle.jup_link.specs.Laws.Steps.{generated-after_count, generated-after_receive, client_generated}
+use Rattle.jup_star.proofs.FaultTests.{all_hold}
+use Rattle.jup_world.specs.Worlds.{AttachedOf, with_edit, one_taken, one_handed, pinged, WorldOf, EventOf, attached, at_site, without_site, Outcome, new_site, with_fetched, only_fetched, outcome, happens, run, ReplyOf, is_number, unchanged}
+use Rattle.jup_world.specs.Traces.{made, told_count, Counts, turns, joined_at, shown_count, CountsAt, AllCount, BacklogIsShort, Each, edit_made, gives, numbers_given, CountsItsEdits, IsTallied, Tallies}
+use Rattle.jup_world.specs.Sound.{Standing, IsSound}
+use Rattle.jup_world.specs.declared.events.Reply.TheVariants.{Joined, Made}
+use Rattle.jup_world.specs.Events.{Join, Edit as MakeEdit, Down as MoveDown, Ping as SendPing, JoinStray, Happened}
+use Rattle.jup_world.proofs.EventSteps.{map_kept, by_number, at_one, at_all, at_removal, StepOf, Still, Enters, EntersStray, Goes, Makes, Asks, Takes, Hands, handed_number, step_of, WhyStill, Finds, NotJoined, NoStray, NotMade, WhyGone, Leaves, StrayLeaves, IsDropped, still_silent, gone_silent, brought_made}
+use Rattle.jup_world.proofs.Sound.Runs.{sound-happens}
+use Rattle.jup_world.proofs.Sound.Steps.{no_site}
+use Rattle.jup_world.proofs.Sound.Traces.{standing_of, made-end}
+
+-- What each step of a link and its site does to their counts.
+
+-- counts received one list after another
+pub told_count-append : {Op : Type 0} → (n : ℕ) (ds es : List (Down Op)) → told_count n (ds ++ es) ≡ told_count (told_count n ds) es
+told_count-append n [] es = refl
+told_count-append n (DownOp m ∷ ds) es = told_count-append m.heard ds es
+told_count-append n (DownAck k ∷ ds) es = told_count-append k ds es
+told_count-append n (DownPong k ∷ ds) es = told_count-append n ds es
+
+-- one more message at the end of an outbox
+pub told_last : {Op : Type 0} → (n : ℕ) (ds os es : List (Down Op)) → told_count n (ds ++ (os ++ es)) ≡ told_count (told_count n (ds ++ os)) es
+told_last n ds os es = ap (told_count n) (sym (append_assoc ds os es)) ∙ told_count-append n (ds ++ os) es
+
+-- a stream without messages brings no operation
+pub no_operations : {Op State Edit : Type 0} → (t : Ghosts Op State Edit) (n k : ℕ) (before ahead : List Op) → Comes t n k before [] ahead → ahead ≡ []
+no_operations t n k before [] comes = refl
+no_operations t n k before (o ∷ os) comes = absurd comes
+
+-- a count that a test accepts
+pub count_of : {Op : Type 0} → (l : Link Op) (n : ℕ) → accepts_count l n ≡ true → IsCount l n
+count_of l n test = let two = and_parts _ _ test in record { low = leb-true _ _ two.0; high = leb-true _ _ two.1 }
+
+module _ (O : Operations) (L : AreLawful O) where
+  -- a site that edits
+  pub edit_counts : (l : LinkState O.Op) (a : AttachedOf O) (op : O.Op) → Counts O l a → Counts O l (with_edit O op a)
+  edit_counts l a op c = record { short = c.short; told = c.told; sent = omega (arith, c.sent, length-append a.site.end.outgoing (op ∷ [])) }
+
+  -- a link to which another site's edit is sent: its message bears the count
+  pub sent_counts : (l : LinkState O.Op) (a : AttachedOf O) (op : O.Op) → Counts O l a → Counts O (link_sent op l) a
+  sent_counts l a op c = record {
+    short = omega arith;
+    told = omega (arith, told_last a.site.end.acknowledged a.down l.outbox (DownOp (next_message l.end op) ∷ []));
+    sent = c.sent;
+  }
+
+  -- a link that hears its site's edit: it acknowledges if `answer_after` are unanswered
+  pub heard_counts : (l : LinkState O.Op) (a : AttachedOf O) (m : Msg O.Op) → Counts O l a → Counts O (link_heard O m l) (one_taken O a)
+  heard_counts l a m c = cases (owes (l.end.unanswered + 1)) refl
+    where
+      cases : (b : Bool) → owes (l.end.unanswered + 1) ≡ b
+          → Counts O (record { site = l.site; end = if b then after_ack (end_after O l.end m) else end_after O l.end m; outbox = l.outbox ++ (if b then DownAck (l.end.received + 1) ∷ [] else []); named = l.named + O.insertions (O.t.edit_of m.op) }) (one_taken O a)
+      cases true due = record { short = omega arith; told = omega (arith, told_last a.site.end.acknowledged a.down l.outbox (DownAck (l.end.received + 1) ∷ [])); sent = c.sent }
+      cases false paid = record {
+        short = let few = leb-false answer_after (l.end.unanswered + 1) paid in omega (arith, few);
+        told = omega (arith, told_last a.site.end.acknowledged a.down l.outbox [], c.told);
+        sent = c.sent;
+      }
+
+  -- a ping that is answered
+  pub ponged_counts : (l : LinkState O.Op) (a : AttachedOf O) (k : ℕ) → Counts O l a → Counts O (link_ponged k l) (one_taken O a)
+  ponged_counts l a k c = record { short = c.short; told = omega (arith, told_last a.site.end.acknowledged a.down l.outbox (DownPong k ∷ []), c.told); sent = c.sent }
+
+  -- an acknowledgement that is taken
+  pub acked_counts : (l : LinkState O.Op) (a : AttachedOf O) (n : ℕ) → Counts O l a → Counts O (link_acked n l) (one_taken O a)
+  acked_counts l a n c = record { short = c.short; told = c.told; sent = c.sent }
+
+  -- a site that sends a ping
+  pub pinged_counts : (l : LinkState O.Op) (a : AttachedOf O) (k : ℕ) → Counts O l a → Counts O l (pinged O k a)
+  pinged_counts l a k c = record { short = c.short; told = c.told; sent = c.sent }
+
+  -- an end that answers has acknowledged and generated what it had
+  pub same_answered : (P : Link O.Op → Type 0) (e : Link O.Op) → P (after_ack e) → P e → P (answered e)
+  same_answered P e paid unpaid = cases (owes e.unanswered)
+    where
+      cases : (b : Bool) → P (if b then after_ack e else e)
+      cases true = paid
+      cases false = unpaid
+
+  -- a site that receives its oldest message
+  pub handed_counts : (l : LinkState O.Op) (a : AttachedOf O) (gone : ℕ) (d : Down O.Op) (ds : List (Down O.Op)) → a.down ++ l.outbox ≡ d ∷ (ds ++ drop gone l.outbox) → deliver_fault O d a.site ≡ None
+      → Counts O l a → Counts O (link_fetched gone l) (one_handed O d ds a)
+  handed_counts l a gone (DownOp m) ds e none c = record {
+    short = c.short;
+    told = same_answered (λ x. told_count x.acknowledged (ds ++ drop gone l.outbox) + l.end.unanswered ≡ l.end.received) (end_after O a.site.end m) told told;
+    sent = same_answered (λ x. a.site.made ≡ generated x) (end_after O a.site.end m) sent sent;
+  }
+    where
+      told : told_count m.heard (ds ++ drop gone l.outbox) + l.end.unanswered ≡ l.end.received
+      told = sym (ap (λ x. told_count a.site.end.acknowledged x + l.end.unanswered) e) ∙ c.told
+
+      sent : a.site.made ≡ generated (end_after O a.site.end m)
+      sent = c.sent ∙ sym (generated-after_receive O.t a.site.end m.heard m.op
+          (count_of a.site.end m.heard (all_hold (deliver_tests O a.site m ++ test (fits_shown O a.site m) BadOp ∷ []) none).1.1.0))
+  handed_counts l a gone (DownAck n) ds e none c = record {
+    short = c.short;
+    told = sym (ap (λ x. told_count a.site.end.acknowledged x + l.end.unanswered) e) ∙ c.told;
+    sent = c.sent ∙ sym (generated-after_count O.t a.site.end n (count_of a.site.end n (all_hold (running_test a.site ∷ heard_tests a.site.end n) none).1.0));
+  }
+  handed_counts l a gone (DownPong k) ds e none c = record {
+    short = c.short;
+    told = sym (ap (λ x. told_count a.site.end.acknowledged x + l.end.unanswered) e) ∙ c.told;
+    sent = c.sent;
+  }
+
+-- Each event keeps the counts of every link.
+
+module _ (O : Operations) (L : AreLawful O) where
+  -- links and sites under one number
+
+  -- a site that joins
+  opened_counts : (w : WorldOf O) (i : ℕ) → Counts O (opened_link i) (new_site O w i)
+  opened_counts w i = record { short = omega arith; told = refl; sent = refl }
+
+  -- all numbers
+
+  module _ (w : WorldOf O) (all : AllCount O w) where
+    -- the link and the site of one number are changed
+    with_one : (i : ℕ) (f : LinkState O.Op → LinkState O.Op) (g : AttachedOf O → AttachedOf O) (l : LinkState O.Op) (a : AttachedOf O)
+        → ((k : LinkState O.Op) → (f k).site ≡ k.site) → ((b : AttachedOf O) → (g b).site.number ≡ b.site.number)
+        → link_of i w.star.links ≡ Some l → attached i w.sites ≡ Some a → Counts O (f l) (g a) → (j : ℕ) → CountsAt O (link_of j (at_link i f w.star.links)) (attached j (at_site i g w.sites))
+    with_one i f g l a kf kg fl fa here = at_one (λ k. k.site) (λ b. b.site.number) (λ j ol oa. CountsAt O ol oa) i f g kf kg w.star.links w.sites l (Some a) fl fa here (λ j e. all j)
+
+    -- those of one number are dropped
+    without_one : (i : ℕ) (j : ℕ) → CountsAt O (link_of j (without i w.star.links)) (attached j (without_site i w.sites))
+    without_one i = at_removal (λ k. k.site) (λ b. b.site.number) (λ j ol oa. CountsAt O ol oa) i w.star.links w.sites tt (λ j e. all j)
+
+    -- those of one number count
+    here_of : (i : ℕ) (l : LinkState O.Op) (a : AttachedOf O) → link_of i w.star.links ≡ Some l → attached i w.sites ≡ Some a → Counts O l a
+    here_of i l a fl fa = subst (λ o. CountsAt O (Some l) o) fa (subst (λ o. CountsAt O o (attached i w.sites)) fl (all i))
+
+    -- an edit is sent to each other link
+    sent_on : (op : O.Op) (ol : Option (LinkState O.Op)) (oa : Option (AttachedOf O)) → CountsAt O ol oa → CountsAt O (option_map (link_sent op) ol) oa
+    sent_on op (Some l) (Some a) c = sent_counts O L l a op c
+    sent_on op (Some l) None c = tt
+    sent_on op None (Some a) c = tt
+    sent_on op None None c = tt
+
+    -- a site alone is changed
+    site_only : (i : ℕ) (g : AttachedOf O → AttachedOf O) (l : LinkState O.Op) (a : AttachedOf O) → ((b : AttachedOf O) → (g b).site.number ≡ b.site.number)
+        → link_of i w.star.links ≡ Some l → attached i w.sites ≡ Some a → Counts O l (g a) → (j : ℕ) → CountsAt O (link_of j w.star.links) (attached j (at_site i g w.sites))
+    site_only i g l a kg fl fa here j = subst (λ ls. CountsAt O (link_of j ls) (attached j (at_site i g w.sites))) (map_kept (λ k. k.site) i w.star.links)
+        (with_one i (λ k. k) g l a (λ k. refl) kg fl fa here j)
+
+  -- nothing is counted of a link without a site
+  no_counts : (ol : Option (LinkState O.Op)) → CountsAt O ol None
+  no_counts None = tt
+  no_counts (Some l) = tt
+
+  -- a link of which the star took a message, and its site if it has one
+  taken_counts : (w : WorldOf O) → AllCount O w → (i : ℕ) (l : LinkState O.Op) (oa : Option (AttachedOf O)) → link_of i w.star.links ≡ Some l → attached i w.sites ≡ oa
+      → (k : LinkState O.Op) → ((a : AttachedOf O) → Counts O l a → Counts O k (one_taken O a)) → CountsAt O (Some k) (option_map (one_taken O) oa)
+  taken_counts w all i l None fl fa k counts = tt
+  taken_counts w all i l (Some a) fl fa k counts = counts a (here_of w all i l a fl fa)
+
+  -- a site joins
+  enter_counts : (most : ℕ) (w : WorldOf O) → IsSound O most w → AllCount O w → (j : ℕ) → CountsAt O (link_of j (joined w.star).links) (attached j (w.sites ++ new_site O w (w.star.given + 1) ∷ []))
+  enter_counts most w s all = by_number (λ k. k.site) (λ b. b.site.number) (λ j ol oa. CountsAt O ol oa) (w.star.given + 1)
+      (λ j. CountsAt O (link_of j (w.star.links ++ opened_link (w.star.given + 1) ∷ [])) (attached j (w.sites ++ new_site O w (w.star.given + 1) ∷ [])))
+      (subst (λ o. CountsAt O o (attached (w.star.given + 1) (w.sites ++ new_site O w (w.star.given + 1) ∷ [])))
+      (sym (found-end (λ k. k.site) (w.star.given + 1) w.star.links (opened_link (w.star.given + 1)) (s.star.no_link (w.star.given + 1) (omega arith)) (eq-eqb (w.star.given + 1) (w.star.given + 1) refl)))
+      (subst (λ o. CountsAt O (Some (opened_link (w.star.given + 1))) o)
+      (sym (found-end (λ b. b.site.number) (w.star.given + 1) w.sites (new_site O w (w.star.given + 1)) (no_site O L most w s (w.star.given + 1) refl) (eq-eqb (w.star.given + 1) (w.star.given + 1) refl)))
+      (opened_counts w (w.star.given + 1))))
+      (λ j e. subst (λ o. CountsAt O o (attached j (w.sites ++ new_site O w (w.star.given + 1) ∷ []))) (sym (found-end_other (λ k. k.site) j w.star.links (opened_link (w.star.given + 1)) e))
+      (subst (λ o. CountsAt O (link_of j w.star.links) o) (sym (found-end_other (λ b. b.site.number) j w.sites (new_site O w (w.star.given + 1)) e)) (all j)))
+
+  -- an event, by its outcome
+  counts-step : (most : ℕ) (w : WorldOf O) → IsSound O most w → AllCount O w → (e : EventOf O) (o : Outcome O) → StepOf O w e o → (j : ℕ) → CountsAt O (link_of j o.star.links) (attached j o.sites)
+  counts-step most w s all e o (Still why) = all
+  counts-step most w s all e o (Enters none) = enter_counts most w s all
+  counts-step most w s all e o (EntersStray none) = by_number (λ k. k.site) (λ b. b.site.number) (λ j ol oa. CountsAt O ol oa) (w.star.given + 1)
+      (λ j. CountsAt O (link_of j (w.star.links ++ opened_link (w.star.given + 1) ∷ [])) (attached j w.sites))
+      (subst (λ o. CountsAt O (link_of (w.star.given + 1) (w.star.links ++ opened_link (w.star.given + 1) ∷ [])) o) (sym (no_site O L most w s (w.star.given + 1) refl)) (no_counts (link_of (w.star.given + 1) (w.star.links ++ opened_link (w.star.given + 1) ∷ []))))
+      (λ j e. subst (λ o. CountsAt O o (attached j w.sites)) (sym (found-end_other (λ k. k.site) j w.star.links (opened_link (w.star.given + 1)) e)) (all j))
+  counts-step most w s all e o (Goes i l oa fl fa why) = without_one w all i
+  counts-step most w s all e o (Makes i command l a op fl fa ok) = site_only w all i (with_edit O op) l a (λ b. refl) fl fa (edit_counts O L l a op (here_of w all i l a fl fa))
+  counts-step most w s all e o (Asks i k l a fl fa) = site_only w all i (pinged O k) l a (λ b. refl) fl fa (pinged_counts O L l a k (here_of w all i l a fl fa))
+  counts-step most w s all e o (Takes i l oa (UpOp m) fl fa brought none) =
+      at_all (λ k. k.site) (λ b. b.site.number) (λ j ol oa. CountsAt O ol oa) i (link_heard O m) (link_sent (operation_at O l.end m)) (one_taken O)
+      (λ k. refl) (λ k. refl) (λ b. refl) w.star.links w.sites l oa fl fa (taken_counts w all i l oa fl fa (link_heard O m l) (λ a c. heard_counts O L l a m c))
+      (λ j e. sent_on w all (operation_at O l.end m) (link_of j w.star.links) (attached j w.sites) (all j))
+  counts-step most w s all e o (Takes i l oa (UpAck n) fl fa brought none) =
+      at_one (λ k. k.site) (λ b. b.site.number) (λ j ol oa. CountsAt O ol oa) i (link_acked n) (one_taken O) (λ k. refl) (λ b. refl) w.star.links w.sites l oa fl fa
+      (taken_counts w all i l oa fl fa (link_acked n l) (λ a c. acked_counts O L l a n c)) (λ j e. all j)
+  counts-step most w s all e o (Takes i l oa (UpPing k) fl fa brought none) =
+      at_one (λ k. k.site) (λ b. b.site.number) (λ j ol oa. CountsAt O ol oa) i (link_ponged k) (one_taken O) (λ k. refl) (λ b. refl) w.star.links w.sites l oa fl fa
+      (taken_counts w all i l oa fl fa (link_ponged k l) (λ a c. ponged_counts O L l a k c)) (λ j e. all j)
+  counts-step most w s all e o (Hands i gone l a d ds fl fa falls none) = with_one w all i (link_fetched gone) (one_handed O d ds) l a (λ k. refl) (handed_number O d ds) fl fa (handed_counts O L l a gone d ds falls none (here_of w all i l a fl fa))
+
+  -- each event keeps the counts
+  pub counts-happens : (most : ℕ) (w : WorldOf O) → IsSound O most w → AllCount O w → (e : EventOf O) → AllCount O (happens O w e)
+  counts-happens most w s all e = counts-step most w s all e (outcome O w e) (step_of O w e)
+
+  -- and so does every run
+  pub counts-run : (es : List (EventOf O)) (most : ℕ) (w : WorldOf O) → IsSound O most w → AllCount O w → AllCount O (run O w es)
+  counts-run [] most w s all = all
+  counts-run (e ∷ es) most w s all = counts-run es most (happens O w e) (sound-happens O L most w e s) (counts-happens most w s all e)
+
+  -- a failed allocation
+  pub counts-fetched : (w : WorldOf O) (all : AllCount O w) (i n : ℕ) (l : LinkState O.Op) (a : AttachedOf O) → link_of i w.star.links ≡ Some l → attached i w.sites ≡ Some a → AllCount O (only_fetched O w i n l)
+  counts-fetched w all i n l a fl fa = with_one w all i (link_fetched n) (with_fetched O n l) l a (λ k. refl) (λ b. refl) fl fa (record {
+    short = (here_of w all i l a fl fa).short;
+    told = ap (λ x. told_count a.site.end.acknowledged x + l.end.unanswered) (append_assoc a.down (take n l.outbox) (drop n l.outbox) ∙ ap (λ x. a.down ++ x) (take-append-drop n l.outbox)) ∙ (here_of w all i l a fl fa).told;
+    sent = (here_of w all i l a fl fa).sent;
+  })
+
+  -- what the counts say of a backlog
+  pub counts-backlog : (most : ℕ) (w : WorldOf O) → IsSound O most w → AllCount O w → BacklogIsShort O w
+  counts-backlog most w s all = record {
+    backlog = λ i a fa. (let st = standing_of O L most w s i a fa in (here_of w all i st.0 a st.2 fa).sent);
+    bounded = λ i a fa. (standing_of O L most w s i a fa).1.pair.backlog;
+    quiet = λ q i a fa. (let st = standing_of O L most w s i a fa in level i a st.0 st.1 (here_of w all i st.0 a st.2 fa) (q i st.0 a st.2 fa));
+  }
+    where
+      level : (i : ℕ) (a : AttachedOf O) (l : LinkState O.Op) → Standing O most (O.t.content w.opening) (turns i w.star.order) w.star.board (made i w.trace) (joined_at O i w.trace) (shown_count i w.trace) i l a
+          → Counts O l a → (a.up ≡ []) × (a.down ≡ []) × (l.outbox ≡ []) → length a.site.end.outgoing < answer_after
+      level i a l st c q =
+          let step = subst (λ r. InStepAt O.t 0 st.pair.from st.pair.site_ahead st.pair.star_ahead a.site.board w.star.board a.site.end l.end r (downs (a.down ++ l.outbox))) (ap ups q.0) st.pair.in_step in
+          let none : st.pair.site_ahead ≡ [] = no_operations O.t l.end.received l.end.acknowledged step.far_queue.before st.pair.site_ahead step.far_queue.comes in
+          let told : a.site.end.acknowledged + l.end.unanswered ≡ l.end.received = sym (ap (λ x. told_count a.site.end.acknowledged x + l.end.unanswered) (ap (λ x. x ++ l.outbox) q.1 ∙ q.2)) ∙ c.told in
+          omega (arith, told, c.short, client_generated O.t st.pair.in_step, ap length none)
+
+-- Each event keeps the tallies of the trace.
+
+-- # Each of a list
+
+-- with each element changed
+each-mapped : {A : Type 0} (P Q : A → Type 0) (f : A → A) → ((a : A) → P a → Q (f a)) → (xs : List A) → Each P xs → Each Q (map f xs)
+each-mapped P Q f h [] each = tt
+each-mapped P Q f h (x ∷ xs) each = (h x each.0, each-mapped P Q f h xs each.1)
+
+-- as it is
+each-implied : {A : Type 0} (P Q : A → Type 0) → ((a : A) → P a → Q a) → (xs : List A) → Each P xs → Each Q xs
+each-implied P Q h [] each = tt
+each-implied P Q h (x ∷ xs) each = (h x each.0, each-implied P Q h xs each.1)
+
+-- some of them
+each-some : {A : Type 0} (P Q : A → Type 0) (keep : A → Bool) → ((a : A) → P a → Q a) → (xs : List A) → Each P xs → Each Q (filter keep xs)
+each-some P Q keep h [] each = tt
+each-some {A = A} P Q keep h (x ∷ xs) each = kept (keep x) (h x each.0) (each-some P Q keep h xs each.1)
+  where
+    kept : (b : Bool) → Q x → Each Q (filter keep xs) → Each Q (cond b (x ∷ filter keep xs) (filter keep xs))
+    kept true here rest = (here, rest)
+    kept false here rest = rest
+
+-- and one more
+each-more : {A : Type 0} (P Q : A → Type 0) (y : A) → ((a : A) → P a → Q a) → (xs : List A) → Each P xs → Q y → Each Q (xs ++ y ∷ [])
+each-more P Q y h [] each last = (last, tt)
+each-more P Q y h (x ∷ xs) each last = (h x each.0, each-more P Q y h xs each.1 last)
+
+-- one more event gives its numbers
+pub given-end : {Command Operation Edit Fault : Type 0} (hs : List (Happened Command Operation Edit Fault)) (h : Happened Command Operation Edit Fault) → numbers_given (hs ++ h ∷ []) ≡ numbers_given hs + gives h.reply
+given-end [] h = omega arith
+given-end (g ∷ hs) h = omega (arith, given-end hs h)
+
+module _ (O : Operations) where
+  -- the trace with one more event
+  abbrev noted : WorldOf O → EventOf O → ReplyOf O → List (Happened O.Command O.Op O.Edit EditFault)
+  noted w e r = w.trace ++ record { event = e; reply = r } ∷ []
+
+  -- what an outcome leaves
+  abbrev IsTallyOf : WorldOf O → EventOf O → Outcome O → Type 0
+  IsTallyOf w e o = (o.star.given ≡ w.star.given + gives o.reply) × Each (CountsItsEdits O (noted w e o.reply)) o.sites
+
+  -- a site that made no edit at an event
+  quiet_site : (w : WorldOf O) (e : EventOf O) (r : ReplyOf O) (a b : AttachedOf O) → edit_made a.site.number e r ≡ [] → b.site.number ≡ a.site.number → b.site.made ≡ a.site.made
+      → CountsItsEdits O w.trace a → CountsItsEdits O (noted w e r) b
+  quiet_site w e r a b none number same counts =
+      let more : made b.site.number (noted w e r) ≡ made a.site.number w.trace =
+      ap (λ j. made j (noted w e r)) number ∙ made-end a.site.number w.trace (record { event = e; reply = r }) ∙ ap (λ es. made a.site.number w.trace ++ es) none ∙ append-nil _ in
+      same ∙ counts ∙ sym (ap (λ es. length es) more)
+
+  -- a site that made one
+  edited_site : (w : WorldOf O) (i : ℕ) (command : O.Command) (op : O.Op) (a : AttachedOf O) → is_number i a ≡ true → CountsItsEdits O w.trace a
+      → CountsItsEdits O (noted w (MakeEdit i command) (Made (O.t.edit_of op))) (with_edit O op a)
+  edited_site w i command op a is counts =
+      let same : nat_eq i a.site.number ≡ true = eq-eqb i a.site.number (sym (eqb-true a.site.number i is)) in
+      let one : edit_made {Operation = O.Op} {Fault = EditFault} a.site.number (MakeEdit i command) (Made (O.t.edit_of op)) ≡ O.t.edit_of op ∷ [] = ap (λ b. cond b (O.t.edit_of op ∷ []) []) same in
+      let more : made a.site.number (noted w (MakeEdit i command) (Made (O.t.edit_of op))) ≡ made a.site.number w.trace ++ O.t.edit_of op ∷ [] =
+      made-end a.site.number w.trace (record { event = MakeEdit i command; reply = Made (O.t.edit_of op) }) ∙ ap (λ es. made a.site.number w.trace ++ es) one in
+      ap (λ n. n + 1) counts ∙ sym (ap (λ es. length es) more ∙ length-append (made a.site.number w.trace) (O.t.edit_of op ∷ []))
+
+  -- nor did another
+  other_site : (w : WorldOf O) (i : ℕ) (command : O.Command) (op : O.Op) (a : AttachedOf O) → is_number i a ≡ false → CountsItsEdits O w.trace a
+      → CountsItsEdits O (noted w (MakeEdit i command) (Made (O.t.edit_of op))) a
+  other_site w i command op a is =
+      quiet_site w (MakeEdit i command) (Made (O.t.edit_of op)) a a (ap (λ b. cond b (O.t.edit_of op ∷ []) []) (apart (nat_eq i a.site.number) refl)) refl refl
+    where
+      apart : (b : Bool) → nat_eq i a.site.number ≡ b → nat_eq i a.site.number ≡ false
+      apart false e = e
+      apart true e = absurd (let same = eqb-true i a.site.number e in let not_same : nat_eq a.site.number i ≡ true = eq-eqb a.site.number i (sym same) in cc)
+
+  -- nothing changes
+  same_tally : (w : WorldOf O) (e : EventOf O) (r : ReplyOf O) → ((j : ℕ) → edit_made j e r ≡ []) → gives r ≡ 0 → Each (CountsItsEdits O w.trace) w.sites → IsTallyOf w e (unchanged O w r)
+  same_tally w e r none zero all = (omega (arith, zero), each-implied (CountsItsEdits O w.trace) (CountsItsEdits O (noted w e r)) (λ a. quiet_site w e r a a (none a.site.number) refl refl) w.sites all)
+
+  -- one site changed, and made no edit
+  one_changed : (w : WorldOf O) (e : EventOf O) (r : ReplyOf O) (i : ℕ) (f : AttachedOf O → AttachedOf O) → ((j : ℕ) → edit_made j e r ≡ [])
+      → ((a : AttachedOf O) → (f a).site.number ≡ a.site.number) → ((a : AttachedOf O) → (f a).site.made ≡ a.site.made)
+      → Each (CountsItsEdits O w.trace) w.sites → Each (CountsItsEdits O (noted w e r)) (at_site i f w.sites)
+  one_changed w e r i f none number same = each-mapped (CountsItsEdits O w.trace) (CountsItsEdits O (noted w e r)) (λ a. if is_number i a then f a else a) (λ a. chosen a (is_number i a)) w.sites
+    where
+      chosen : (a : AttachedOf O) (b : Bool) → CountsItsEdits O w.trace a → CountsItsEdits O (noted w e r) (if b then f a else a)
+      chosen a true = quiet_site w e r a (f a) (none a.site.number) (number a) (same a)
+      chosen a false = quiet_site w e r a a (none a.site.number) refl refl
+
+  -- one site dropped
+  one_dropped : (w : WorldOf O) (e : EventOf O) (r : ReplyOf O) (i : ℕ) → ((j : ℕ) → edit_made j e r ≡ []) → Each (CountsItsEdits O w.trace) w.sites
+      → Each (CountsItsEdits O (noted w e r)) (without_site i w.sites)
+  one_dropped w e r i none = each-some (CountsItsEdits O w.trace) (CountsItsEdits O (noted w e r)) (λ a. not (is_number i a)) (λ a. quiet_site w e r a a (none a.site.number) refl refl) w.sites
+
+  -- what changes nothing, or lets a link go, gives no number
+  still_gives : (w : WorldOf O) {e : EventOf O} {r : ReplyOf O} → WhyStill O w e r → gives r ≡ 0
+  still_gives w (Finds e) = refl
+  still_gives w (NotJoined fault) = refl
+  still_gives w (NoStray fault) = refl
+  still_gives w (NotMade i command fault) = refl
+
+  gone_gives : (w : WorldOf O) {i : ℕ} {l : LinkState O.Op} {oa : Option (AttachedOf O)} {e : EventOf O} {r : ReplyOf O} → WhyGone O w i l oa e r → gives r ≡ 0
+  gone_gives w (Leaves a) = refl
+  gone_gives w StrayLeaves = refl
+  gone_gives w (IsDropped up fault brought f) = refl
+
+  -- an event, by its outcome
+  step_tally : (w : WorldOf O) → Each (CountsItsEdits O w.trace) w.sites → made (w.star.given + 1) w.trace ≡ [] → (e : EventOf O) (o : Outcome O) → StepOf O w e o → IsTallyOf w e o
+  step_tally w all new e o (Still why) = same_tally w e _ (still_silent O w why).no_edit (still_gives w why) all
+  step_tally w all new e o (Enters none) = (
+    refl,
+    each-more (CountsItsEdits O w.trace) (CountsItsEdits O (noted w Join (Joined (w.star.given + 1)))) (new_site O w (w.star.given + 1))
+        (λ a. quiet_site w Join (Joined (w.star.given + 1)) a a refl refl refl) w.sites all
+        (quiet_site w Join (Joined (w.star.given + 1)) (new_site O w (w.star.given + 1)) (new_site O w (w.star.given + 1)) refl refl refl (sym (ap (λ es. length es) new))),
+  )
+  step_tally w all new e o (EntersStray none) = (refl, each-implied (CountsItsEdits O w.trace) (CountsItsEdits O (noted w JoinStray (Joined (w.star.given + 1)))) (λ a. quiet_site w JoinStray (Joined (w.star.given + 1)) a a refl refl refl) w.sites all)
+  step_tally w all new e o (Goes i l oa fl fa why) = (omega (arith, gone_gives w why), one_dropped w e _ i (gone_silent O w why).no_edit all)
+  step_tally w all new e o (Makes i command l a op fl fa ok) = (
+    omega arith,
+    each-mapped (CountsItsEdits O w.trace) (CountsItsEdits O (noted w (MakeEdit i command) (Made (O.t.edit_of op))))
+        (λ b. if is_number i b then with_edit O op b else b) (λ b. chosen b (is_number i b) refl) w.sites all,
+  )
+    where
+      chosen : (b : AttachedOf O) (is : Bool) → is_number i b ≡ is → CountsItsEdits O w.trace b → CountsItsEdits O (noted w (MakeEdit i command) (Made (O.t.edit_of op))) (if is then with_edit O op b else b)
+      chosen b true is = edited_site w i command op b is
+      chosen b false is = other_site w i command op b is
+  step_tally w all new e o (Asks i k l a fl fa) = (omega arith, one_changed w (SendPing i k) _ i (pinged O k) (λ j. refl) (λ b. refl) (λ b. refl) all)
+  step_tally w all new e o (Takes i l oa (UpOp m) fl fa brought none) = (omega arith, one_changed w e _ i (one_taken O) (brought_made O w brought _) (λ b. refl) (λ b. refl) all)
+  step_tally w all new e o (Takes i l oa (UpAck n) fl fa brought none) = (omega arith, one_changed w e _ i (one_taken O) (brought_made O w brought _) (λ b. refl) (λ b. refl) all)
+  step_tally w all new e o (Takes i l oa (UpPing k) fl fa brought none) = (omega arith, one_changed w e _ i (one_taken O) (brought_made O w brought _) (λ b. refl) (λ b. refl) all)
+  step_tally w all new e o (Hands i gone l a (DownOp m) ds fl fa falls none) = (omega arith, one_changed w (MoveDown i) _ i (one_handed O (DownOp m) ds) (λ j. refl) (λ b. refl) (λ b. refl) all)
+  step_tally w all new e o (Hands i gone l a (DownAck n) ds fl fa falls none) = (omega arith, one_changed w (MoveDown i) _ i (one_handed O (DownAck n) ds) (λ j. refl) (λ b. refl) (λ b. refl) all)
+  step_tally w all new e o (Hands i gone l a (DownPong k) ds fl fa falls none) = (omega arith, one_changed w (MoveDown i) _ i (one_handed O (DownPong k) ds) (λ j. refl) (λ b. refl) (λ b. refl) all)
+
+  pub tallied-happens : (w : WorldOf O) → IsTallied O w → made (w.star.given + 1) w.trace ≡ [] → (e : EventOf O) → IsTallied O (happens O w e)
+  tallied-happens w is none e =
+      let tally = step_tally w is.made none e (outcome O w e) (step_of O w e) in
+      record {
+        given = tally.0 ∙ ap (λ n. n + gives (outcome O w e).reply) is.given ∙ sym (given-end w.trace (record { event = e; reply = (outcome O w e).reply }));
+        made = tally.1;
+      }
+
+  -- a failed allocation
+  pub tallied-fetched : (w : WorldOf O) → IsTallied O w → (i n : ℕ) (l : LinkState O.Op) → IsTallied O (only_fetched O w i n l)
+  tallied-fetched w is i n l = record {
+    given = is.given;
+    made = each-mapped (CountsItsEdits O w.trace) (CountsItsEdits O w.trace) (λ a. if is_number i a then with_fetched O n l a else a) (λ a. chosen a (is_number i a)) w.sites is.made;
+  }
+    where
+      chosen : (a : AttachedOf O) (b : Bool) → CountsItsEdits O w.trace a → CountsItsEdits O w.trace (if b then with_fetched O n l a else a)
+      chosen a true counts = counts
+      chosen a false counts = counts
+
+  -- the tally of the site of a number
+  pub tallies : (w : WorldOf O) → IsTallied O w → Tallies O w
+  tallies w is = record { given = is.given; made = λ i a found. one i a w.sites found is.made }
+    where
+      one : (i : ℕ) (a : AttachedOf O) (sites : List (AttachedOf O)) → attached i sites ≡ Some a → Each (CountsItsEdits O w.trace) sites → a.site.made ≡ length (made i w.trace)
+      one i a [] found all = absurd cc
+      one i a (x ∷ later) found all = step (is_number i x) refl (λ h. one i a later h all.1) found
+        where
+          step : (b : Bool) → is_number i x ≡ b → (attached i later ≡ Some a → a.site.made ≡ length (made i w.trace)) → cond b (Some x) (attached i later) ≡ Some a → a.site.made ≡ length (made i w.trace)
+          step true e rest h =
+              let same : x ≡ a = cc in
+              let number : x.site.number ≡ i = eqb-true _ _ e in
+              sym (ap (λ (y : AttachedOf O). y.site.made) same) ∙ all.0 ∙ ap (λ j. length (made j w.trace)) number
+          step false e rest h = rest h

@@ -1,0 +1,160 @@
+-- What an event adds to the trace.
+use Rattle.std.proofs.Common.{◌≡◌, ℕ, zero, suc, ◌+◌, ◌≤◌, Bool, true, false, ◌||◌, cond, List, [], ◌∷◌, ◌++◌, length, drop, nat_eq, refl, ap, sym, ◌∙◌, arith, append_assoc, append-nil, subst, Option, Some, None, eqb-true, take-append-drop}
+use Rattle.std.proofs.Math.Seq.{drop-append_seam}
+use Rattle.jup_world.specs.Prelude.{most_beyond, Msg, Operations, AreLawful, Entry, Up, UpOp, ups, LinkState, link_of, entry}
+use Rattle.jup_world.specs.Traces.{Turn, Own, Other, turn, turns, edits, through_others, others, over_trace, edit_made, made, entry_taken, order_of, join_seen, joined_at, was_shown, shown_count, stray_seen, is_stray, own_edits, first_of_site}
+use Rattle.jup_world.specs.declared.events.Reply.TheVariants.{Taken}
+use Rattle.jup_world.specs.Events.{Happened, Up as MoveUp}
+use Rattle.jup_world.specs.Worlds.{HappenedOf, attached, WorldOf, AttachedOf}
+use Rattle.jup_world.specs.Sound.{edits_sent, named_by, told_of, Standing, StandsAt, IsSound}
+
+-- What one more event adds to what is read off a trace.
+
+or-false : (b : Bool) → (b || false) ≡ b
+or-false true = refl
+or-false false = refl
+
+or-among : (a b c : Bool) → (a || (b || c)) ≡ ((a || b) || c)
+or-among true b c = refl
+or-among false b c = refl
+
+module _ {Command Operation Edit Fault : Type 0} where
+  -- one more event
+  pub over-end : {A : Type 0} (next : List (Happened Command Operation Edit Fault) → A → Happened Command Operation Edit Fault → A) → (a : A) (past hs : List (Happened Command Operation Edit Fault)) (h : Happened Command Operation Edit Fault)
+      → over_trace next a past (hs ++ h ∷ []) ≡ next (past ++ hs) (over_trace next a past hs) h
+  over-end next a past [] h = ap (λ p. next p a h) (sym (append-nil past))
+  over-end next a past (g ∷ hs) h = over-end next (next past a g) (past ++ g ∷ []) hs h ∙ ap (λ p. next p (over_trace next (next past a g) (past ++ g ∷ []) hs) h) (append_assoc past (g ∷ []) hs)
+
+  -- adds the edit that was made
+  pub made-end : (i : ℕ) (hs : List (Happened Command Operation Edit Fault)) (h : Happened Command Operation Edit Fault) → made i (hs ++ h ∷ []) ≡ made i hs ++ edit_made i h.event h.reply
+  made-end i [] h = append-nil (edit_made i h.event h.reply)
+  made-end i (g ∷ hs) h = ap (λ es. edit_made i g.event g.reply ++ es) (made-end i hs h) ∙ sym (append_assoc (edit_made i g.event g.reply) (made i hs) (edit_made i h.event h.reply))
+
+  -- and the edit that was delivered
+  pub shown-end : (i : ℕ) (hs : List (Happened Command Operation Edit Fault)) (h : Happened Command Operation Edit Fault) → shown_count i (hs ++ h ∷ []) ≡ shown_count i hs + was_shown i h.event h.reply
+  shown-end i [] h = omega arith
+  shown-end i (g ∷ hs) h = omega (arith, shown-end i hs h)
+
+  -- and a stranger's number
+  pub stray-end : (i : ℕ) (hs : List (Happened Command Operation Edit Fault)) (h : Happened Command Operation Edit Fault) → is_stray i (hs ++ h ∷ []) ≡ (is_stray i hs || stray_seen i h.event h.reply)
+  stray-end i [] h = or-false (stray_seen i h.event h.reply)
+  stray-end i (g ∷ hs) h = ap (λ b. stray_seen i g.event g.reply || b) (stray-end i hs h) ∙ or-among (stray_seen i g.event g.reply) (is_stray i hs) (stray_seen i h.event h.reply)
+
+module _ (O : Operations) where
+  -- the entry that was taken
+  pub order-end : (hs : List (HappenedOf O)) (h : HappenedOf O) → order_of O (hs ++ h ∷ []) ≡ order_of O hs ++ entry_taken O hs (order_of O hs) h.event h.reply
+  order-end hs h = over-end (λ past order g. order ++ entry_taken O past order g.event g.reply) [] [] hs h
+
+  -- the place of a join
+  pub joined-end : (i : ℕ) (hs : List (HappenedOf O)) (h : HappenedOf O) → joined_at O i (hs ++ h ∷ []) ≡ join_seen i (length (order_of O hs)) (joined_at O i hs) h.event h.reply
+  joined-end i hs h = over-end (λ past at g. join_seen i (length (order_of O past)) at g.event g.reply) 0 [] hs h
+
+-- two lists of entries
+pub turns-append : {Edit : Type 0} → (i : ℕ) (rs qs : List (Entry Edit)) → turns i (rs ++ qs) ≡ turns i rs ++ turns i qs
+turns-append i [] qs = refl
+turns-append i (r ∷ rs) qs = ap (λ ts. turn i r ∷ ts) (turns-append i rs qs)
+
+-- a list of entries
+pub length-turns : {Edit : Type 0} → (i : ℕ) (rs : List (Entry Edit)) → length (turns i rs) ≡ length rs
+length-turns i [] = refl
+length-turns i (r ∷ rs) = ap suc (length-turns i rs)
+
+-- all see the same edits
+pub edits-turns : {Edit : Type 0} → (i j : ℕ) (rs : List (Entry Edit)) → edits (turns i rs) ≡ edits (turns j rs)
+edits-turns i j [] = refl
+edits-turns i j (r ∷ rs) = both (nat_eq r.site i) (nat_eq r.site j) (edits-turns i j rs)
+  where
+    both : (b c : Bool) → edits (turns i rs) ≡ edits (turns j rs) → edits (cond b (Own r.edit) (Other r.site r.edit) ∷ turns i rs) ≡ edits (cond c (Own r.edit) (Other r.site r.edit) ∷ turns j rs)
+    both true true ih = ap (λ es. r.edit ∷ es) ih
+    both true false ih = ap (λ es. r.edit ∷ es) ih
+    both false true ih = ap (λ es. r.edit ∷ es) ih
+    both false false ih = ap (λ es. r.edit ∷ es) ih
+
+-- further entries do not change what has reached a site
+pub through-append : {Edit : Type 0} → (n : ℕ) (ts us : List (Turn Edit)) → n ≤ length (others ts) → through_others n (ts ++ us) ≡ through_others n ts
+through-append zero ts us h = refl
+through-append (suc n) [] us h = absurd (omega arith)
+through-append (suc n) (Own e ∷ ts) us h = ap suc (through-append (suc n) ts us h)
+through-append (suc n) (Other j e ∷ ts) us h = ap suc (through-append n ts us (omega arith))
+
+-- one entry of another further
+pub through-next : {Edit : Type 0} → (n : ℕ) (ts : List (Turn Edit)) → suc n ≤ length (others ts)
+    → through_others (suc n) ts ≡ through_others n ts + through_others 1 (drop (through_others n ts) ts)
+through-next zero ts h = omega arith
+through-next (suc n) [] h = absurd (omega arith)
+through-next (suc n) (Own e ∷ ts) h = omega (arith, through-next (suc n) ts h)
+through-next (suc n) (Other j e ∷ ts) h = omega (arith, through-next n ts (omega arith))
+
+-- the entries of others that are left
+pub others-left : {Edit : Type 0} → (n : ℕ) (ts : List (Turn Edit)) → n ≤ length (others ts) → length (others (drop (through_others n ts) ts)) + n ≡ length (others ts)
+others-left zero ts h = omega arith
+others-left (suc n) [] h = absurd (omega arith)
+others-left (suc n) (Own e ∷ ts) h = others-left (suc n) ts h
+others-left (suc n) (Other j e ∷ ts) h = omega (arith, others-left n ts (omega arith))
+
+-- they are within the list
+pub through-within : {Edit : Type 0} → (n : ℕ) (ts : List (Turn Edit)) → n ≤ length (others ts) → through_others n ts ≤ length ts
+through-within zero ts h = omega arith
+through-within (suc n) [] h = absurd (omega arith)
+through-within (suc n) (Own e ∷ ts) h = omega (arith, through-within (suc n) ts h)
+through-within (suc n) (Other j e ∷ ts) h = omega (arith, through-within n ts (omega arith))
+
+-- Where a site of a world is, and the order that the trace gives once the star took its edit.
+
+module _ (O : Operations) (L : AreLawful O) where
+  -- how many insertions of a site are in the order does not depend on who looks
+  pub named-turns : (i j k : ℕ) (rs : List (Entry O.Edit)) → named_by O i k (turns i rs) ≡ named_by O j k (turns j rs)
+  named-turns i j k [] = refl
+  named-turns i j k (r ∷ rs) = both (nat_eq r.site i) refl (nat_eq r.site j) refl (named-turns i j k rs)
+    where
+      one : (m : ℕ) → nat_eq r.site m ≡ true → cond (nat_eq m k) (O.insertions r.edit) 0 ≡ cond (nat_eq r.site k) (O.insertions r.edit) 0
+      one m e = ap (λ s. cond (nat_eq s k) (O.insertions r.edit) 0) (sym (eqb-true r.site m e))
+
+      both : (b : Bool) → nat_eq r.site i ≡ b → (c : Bool) → nat_eq r.site j ≡ c → named_by O i k (turns i rs) ≡ named_by O j k (turns j rs)
+          → named_by O i k (cond b (Own r.edit) (Other r.site r.edit) ∷ turns i rs) ≡ named_by O j k (cond c (Own r.edit) (Other r.site r.edit) ∷ turns j rs)
+      both true e true f ih = omega (arith, one i e, one j f, ih)
+      both true e false f ih = omega (arith, one i e, ih)
+      both false e true f ih = omega (arith, one j f, ih)
+      both false e false f ih = omega (arith, ih)
+
+  -- an operation's link and site are found
+  module _ (most : ℕ) (w : WorldOf O) (s : IsSound O most w) (i : ℕ) (l : LinkState O.Op) (a : AttachedOf O) (fl : link_of i w.star.links ≡ Some l) (fa : attached i w.sites ≡ Some a) where
+    -- the site at its place of the order
+    pub standing : Standing O most (O.t.content w.opening) (turns i w.star.order) w.star.board (made i w.trace) (joined_at O i w.trace) (shown_count i w.trace) i l a
+    standing = subst (λ o. StandsAt O most (O.t.content w.opening) (turns i w.star.order) w.star.board (made i w.trace) (joined_at O i w.trace) (shown_count i w.trace) i (Some l) o) fa
+        (subst (λ o. StandsAt O most (O.t.content w.opening) (turns i w.star.order) w.star.board (made i w.trace) (joined_at O i w.trace) (shown_count i w.trace) i o (attached i w.sites)) fl (s.stand i))
+
+    -- there is room for what may still come
+    pub order_fits : length (turns i w.star.order) + most_beyond ≤ most
+    order_fits = omega (arith, length-turns i w.star.order, s.star.few, s.star.limited)
+
+  -- an attached site has a link
+  pub standing_of : (most : ℕ) (w : WorldOf O) → IsSound O most w → (i : ℕ) (a : AttachedOf O) → attached i w.sites ≡ Some a
+      → (l : LinkState O.Op) × Standing O most (O.t.content w.opening) (turns i w.star.order) w.star.board (made i w.trace) (joined_at O i w.trace) (shown_count i w.trace) i l a × (link_of i w.star.links ≡ Some l)
+  standing_of most w s i a fa = linked (link_of i w.star.links) refl (subst (λ o. StandsAt O most (O.t.content w.opening) (turns i w.star.order) w.star.board (made i w.trace) (joined_at O i w.trace) (shown_count i w.trace) i (link_of i w.star.links) o) fa (s.stand i))
+    where
+      linked : (o : Option (LinkState O.Op)) → link_of i w.star.links ≡ o → StandsAt O most (O.t.content w.opening) (turns i w.star.order) w.star.board (made i w.trace) (joined_at O i w.trace) (shown_count i w.trace) i o (Some a)
+          → (l : LinkState O.Op) × Standing O most (O.t.content w.opening) (turns i w.star.order) w.star.board (made i w.trace) (joined_at O i w.trace) (shown_count i w.trace) i l a × (link_of i w.star.links ≡ Some l)
+      linked None e h = absurd h
+      linked (Some l) e h = (l, h, e)
+
+  -- the order that the trace gives once the star took an edit of a site
+  module _ (most : ℕ) (w : WorldOf O) (s : IsSound O most w) (i : ℕ) (l : LinkState O.Op) (a : AttachedOf O) (fl : link_of i w.star.links ≡ Some l) (fa : attached i w.sites ≡ Some a)
+      (m : Msg O.Op) (us : List (Up O.Op)) (rising : a.up ≡ UpOp m ∷ us) where
+    pub order_told : order_of O (w.trace ++ record { event = MoveUp i; reply = Taken (length w.star.order) } ∷ []) ≡ w.star.order ++ entry O i m ∷ []
+    order_told =
+        order-end O w.trace (record { event = MoveUp i; reply = Taken (length w.star.order) })
+        ∙ ap (λ es. es ++ first_of_site i (drop (length (own_edits (turns i es))) (made i w.trace))) s.order_is
+        ∙ ap (λ es. w.star.order ++ first_of_site i es) next_is
+      where
+        st : Standing O most (O.t.content w.opening) (turns i w.star.order) w.star.board (made i w.trace) (joined_at O i w.trace) (shown_count i w.trace) i l a
+        st = standing most w s i l a fl fa
+
+        mine_is : made i w.trace ≡ own_edits (turns i w.star.order) ++ (O.t.edit_of m.op ∷ edits_sent O (ups us))
+        mine_is =
+            st.pair.all_made
+            ∙ ap (λ ts. own_edits ts ++ st.pair.raw) (take-append-drop (told_of O (joined_at O i w.trace) (shown_count i w.trace) (turns i w.star.order)) (turns i w.star.order))
+            ∙ ap (λ es. own_edits (turns i w.star.order) ++ es) (sym st.pair.raw_sent ∙ ap (λ r. edits_sent O (ups r)) rising)
+
+        next_is : drop (length (own_edits (turns i w.star.order))) (made i w.trace) ≡ O.t.edit_of m.op ∷ edits_sent O (ups us)
+        next_is = ap (drop (length (own_edits (turns i w.star.order)))) mine_is ∙ drop-append_seam (own_edits (turns i w.star.order)) (O.t.edit_of m.op ∷ edits_sent O (ups us))

@@ -1,0 +1,466 @@
+-- What holds of every world of the program.
+use Rattle.std.proofs.Common.{is_some, ◌&&◌, ◌≡◌, ℕ, ◌+◌, ◌≤◌, Bool, true, false, cond, not, ◌||◌, List, [], ◌∷◌, ◌++◌, map, nat_eq, refl, ap, sym, ◌∙◌, subst, Option, Some, None, option_map, arith, eq-eqb, ne_eqb, zero, suc, ◌<◌, ◌==◌, take, drop, insert, remove, eqb-true, inl, inr, length, nat_le, leb-false, append-nil, drop_of_length-le, le_refl}
+use Rattle.std.specs.List.{list_any, list_all}
+use Rattle.std.proofs.lemmas.Bool.{or_parts, or_from, and_from, and_parts, leb-true}
+use Rattle.jup_world.specs.Prelude.{highest_limit, Name, Item, name_eq, InsertOp as Insert, DeleteOp as Delete, RelabelOp as Relabel, NoOp as NoSeqOp, Command, EditFault, Operations, AreLawful, has_site, only_site, BoardBatch, Windows, board_batches, batch_laws, BoardEdits, Commands, Up, UpOp, UpAck, UpPing, Down, LinkState, opened_link, link_acked, link_ponged, link_fetched, link_heard, link_sent, operation_at, link_of, most_batches, BoardStar, IsShort, test, first_fault, downs, found-end, found-end_other, Played, Kept}
+use Rattle.jup_value.specs.Items.{with_value}
+use Rattle.jup_window.specs.Entries.{change_at, EachWidget}
+use Rattle.jup_window.specs.Boards.{some_in_widget, every_in_widget, some_in_window, every_in_window}
+use Rattle.jup_window.specs.Laws.Entries.{only_site-held}
+use Rattle.jup_window.specs.Widgets as widget
+use Rattle.jup_window.specs.Kinds as kind
+use Rattle.jup_window.specs.Boards as board
+use Rattle.jup_batch.specs.Boards as batch
+use Rattle.jup_star.specs.Stars.{star_open_fault}
+use Rattle.jup_star.proofs.Stars.{board_small, short_bare, distinct_bare}
+use Rattle.jup_star.proofs.FaultTests.{link_site, taken_site}
+use Rattle.jup_world.specs.declared.events.Event.TheVariants as played
+use Rattle.jup_world.specs.declared.events.Reply.TheVariants.{Joined, Nothing}
+use Rattle.jup_world.specs.Events.{JoinStray, Happened}
+use Rattle.jup_world.specs.Worlds.{WorldOf, AttachedOf, EventOf, ReplyOf, attached, at_site, Outcome, new_site, with_edit, one_taken, one_handed, pinged, with_fetched, only_fetched, outcome, with_outcome, happens, run, IsOpening, opened_world, AreAscending, is_number}
+use Rattle.jup_world.specs.Traces.{stray_seen, is_stray, AreLinked}
+use Rattle.jup_world.specs.Sound.{IsSound, LinkedAt, KnowsStrays, IsPlain, ArePlain, AllLinked}
+use Rattle.jup_world.specs.Boards.{BoardWorld, BoardLink, BoardAttached, BoardEvent, IsBoardWorld, IsReached, BoardReply}
+use Rattle.jup_world.specs.Happenings.{AreNumbered, AreReady, OldestFits, IsWorld, IsSpared}
+use Rattle.jup_world.specs.Lanes.{plain_happened, plain_trace}
+use Rattle.jup_world.specs.Insides.{lane_event, noted_trace}
+use Rattle.jup_world.proofs.EventSteps.{Brings, Rises, Strays, WhyStill, Finds, NotJoined, NoStray, NotMade, WhyGone, Leaves, StrayLeaves, IsDropped, StepOf, Still, Enters, EntersStray, Goes, Makes, Asks, Takes, Hands, handed_number, step_of, option_map-self, map_kept, by_number, at_each, at_removal}
+use Rattle.jup_world.proofs.Sound.Traces.{stray-end}
+use Rattle.jup_world.proofs.Sound.Steps.{no_site}
+use Rattle.jup_world.proofs.Sound.Runs.{sound-opened, sound-happens, sound-fetched, fall_fits}
+use Rattle.jup_world.proofs.Sound.Tallies.{counts-happens, counts-fetched, tallied-happens, tallied-fetched}
+use Rattle.jup_world.proofs.Happenings.{ascending_without, ascending_at, ascending_end}
+use Rattle.jup_star.specs.Prelude.{Widget, Text, Labels, Toggle, Slider}
+use Rattle.jup_batch.specs.Prelude.{WidgetOp, OnText, OnList, OnToggle, OnSlider, BoardOp}
+use Rattle.jup_star.specs.declared.faults.OpenFault.TheVariants.{BadLimit, BadSite}
+
+-- The links without a site are those of strangers, by the trace.
+
+pub or_false : (a b : Bool) → b ≡ false → (a || b) ≡ a
+or_false true b e = refl
+or_false false b e = e
+
+or_true : (a b : Bool) → b ≡ true → (a || b) ≡ true
+or_true true b e = refl
+or_true false b e = e
+
+module _ (O : Operations) (L : AreLawful O) where
+  -- what is changed under a number stays what it was, a site's or a stranger's
+  kept_at : (b : Bool) (f : LinkState O.Op → LinkState O.Op) (g : AttachedOf O → AttachedOf O) (ol : Option (LinkState O.Op)) (oa : Option (AttachedOf O)) → LinkedAt O b ol oa → LinkedAt O b (option_map f ol) (option_map g oa)
+  kept_at b f g None None k = tt
+  kept_at b f g None (Some a) k = k
+  kept_at b f g (Some l) None k = k
+  kept_at b f g (Some l) (Some a) k = k
+
+  -- an event that gives no number to a stranger
+  nothing_unseen : (j : ℕ) (e : EventOf O) → stray_seen {Edit = O.Edit} {Fault = EditFault} j e Nothing ≡ false
+  nothing_unseen j JoinStray = refl
+  nothing_unseen j e = refl
+
+  still_unseen : (w : WorldOf O) (j : ℕ) (e : EventOf O) (r : ReplyOf O) → WhyStill O w e r → stray_seen j e r ≡ false
+  still_unseen w j e r (Finds event) = nothing_unseen j event
+  still_unseen w j e r (NotJoined fault) = refl
+  still_unseen w j e r (NoStray fault) = refl
+  still_unseen w j e r (NotMade i command fault) = refl
+
+  brought_unseen : (w : WorldOf O) {i : ℕ} {up : Up O.Op} {oa : Option (AttachedOf O)} {e : EventOf O} → Brings O w i up oa e → (r : ReplyOf O) (j : ℕ) → stray_seen j e r ≡ false
+  brought_unseen w (Rises a us rising) r j = refl
+  brought_unseen w Strays r j = refl
+
+  gone_unseen : (w : WorldOf O) (j i : ℕ) (l : LinkState O.Op) (oa : Option (AttachedOf O)) (e : EventOf O) (r : ReplyOf O) → WhyGone O w i l oa e r → stray_seen j e r ≡ false
+  gone_unseen w j i l oa e r (Leaves a) = refl
+  gone_unseen w j i l oa e r StrayLeaves = refl
+  gone_unseen w j i l oa e r (IsDropped up fault brought f) = brought_unseen w brought r j
+
+  module _ (most : ℕ) (w : WorldOf O) (s : IsSound O most w) (k : KnowsStrays O w) where
+    -- an event that gives no number to a stranger
+    unseen : (e : EventOf O) (o : Outcome O) → ((j : ℕ) → stray_seen j e o.reply ≡ false) → w.star.given ≤ o.star.given
+        → ((j : ℕ) → LinkedAt O (is_stray j w.trace) (link_of j o.star.links) (attached j o.sites)) → KnowsStrays O (with_outcome O w e o)
+    unseen e o none more links = record {
+      links = λ j. subst (λ b. LinkedAt O b (link_of j o.star.links) (attached j o.sites)) (sym (same j)) (links j);
+      new = λ j above. (same j ∙ k.new j (omega arith));
+    }
+      where
+        same : (j : ℕ) → is_stray j (w.trace ++ record { event = e; reply = o.reply } ∷ []) ≡ is_stray j w.trace
+        same j = stray-end j w.trace (record { event = e; reply = o.reply }) ∙ or_false (is_stray j w.trace) (stray_seen j e o.reply) (none j)
+
+    -- one link and its site are changed, and all other links
+    changed : (i : ℕ) (f h : LinkState O.Op → LinkState O.Op) (g : AttachedOf O → AttachedOf O) → ((x : LinkState O.Op) → (f x).site ≡ x.site) → ((x : LinkState O.Op) → (h x).site ≡ x.site)
+        → ((y : AttachedOf O) → (g y).site.number ≡ y.site.number)
+        → (j : ℕ) → LinkedAt O (is_stray j w.trace) (link_of j (map (λ z. cond (nat_eq z.site i) (f z) (h z)) w.star.links)) (attached j (map (λ z. cond (nat_eq z.site.number i) (g z) z) w.sites))
+    changed i f h g kf kh kg = at_each (λ x. x.site) (λ y. y.site.number) (λ j ol oa. LinkedAt O (is_stray j w.trace) ol oa) i f h g kf kh kg w.star.links w.sites
+        (kept_at (is_stray i w.trace) f g (link_of i w.star.links) (attached i w.sites) (k.links i))
+        (λ j e. subst (λ oa. LinkedAt O (is_stray j w.trace) (option_map h (link_of j w.star.links)) oa) (option_map-self (attached j w.sites)) (kept_at (is_stray j w.trace) h (λ y. y) (link_of j w.star.links) (attached j w.sites) (k.links j)))
+
+    -- a site alone
+    site_changed : (i : ℕ) (g : AttachedOf O → AttachedOf O) → ((y : AttachedOf O) → (g y).site.number ≡ y.site.number) → (j : ℕ) → LinkedAt O (is_stray j w.trace) (link_of j w.star.links) (attached j (at_site i g w.sites))
+    site_changed i g kg j = subst (λ ls. LinkedAt O (is_stray j w.trace) (link_of j ls) (attached j (at_site i g w.sites))) (map_kept (λ x. x.site) i w.star.links)
+        (changed i (λ x. x) (λ x. x) g (λ x. refl) (λ x. refl) kg j)
+
+    -- a site that joins
+    entered : (j : ℕ) → LinkedAt O (is_stray j w.trace) (link_of j (w.star.links ++ opened_link (w.star.given + 1) ∷ [])) (attached j (w.sites ++ new_site O w (w.star.given + 1) ∷ []))
+    entered = by_number (λ x. x.site) (λ y. y.site.number) (λ j ol oa. LinkedAt O (is_stray j w.trace) ol oa) (w.star.given + 1)
+        (λ j. LinkedAt O (is_stray j w.trace) (link_of j (w.star.links ++ opened_link (w.star.given + 1) ∷ [])) (attached j (w.sites ++ new_site O w (w.star.given + 1) ∷ [])))
+        (subst (λ o. LinkedAt O (is_stray (w.star.given + 1) w.trace) o (attached (w.star.given + 1) (w.sites ++ new_site O w (w.star.given + 1) ∷ [])))
+        (sym (found-end (λ x. x.site) (w.star.given + 1) w.star.links (opened_link (w.star.given + 1)) (s.star.no_link (w.star.given + 1) (omega arith)) (eq-eqb (w.star.given + 1) (w.star.given + 1) refl)))
+        (subst (λ o. LinkedAt O (is_stray (w.star.given + 1) w.trace) (Some (opened_link (w.star.given + 1))) o)
+        (sym (found-end (λ y. y.site.number) (w.star.given + 1) w.sites (new_site O w (w.star.given + 1)) (no_site O L most w s (w.star.given + 1) refl) (eq-eqb (w.star.given + 1) (w.star.given + 1) refl)))
+        (k.new (w.star.given + 1) (omega arith))))
+        (λ j e. subst (λ o. LinkedAt O (is_stray j w.trace) o (attached j (w.sites ++ new_site O w (w.star.given + 1) ∷ []))) (sym (found-end_other (λ x. x.site) j w.star.links (opened_link (w.star.given + 1)) e))
+        (subst (λ o. LinkedAt O (is_stray j w.trace) (link_of j w.star.links) o) (sym (found-end_other (λ y. y.site.number) j w.sites (new_site O w (w.star.given + 1)) e)) (k.links j)))
+
+    -- or a stranger
+    entered_stray : (j : ℕ) → LinkedAt O (is_stray j w.trace || nat_eq (w.star.given + 1) j) (link_of j (w.star.links ++ opened_link (w.star.given + 1) ∷ [])) (attached j w.sites)
+    entered_stray = by_number (λ x. x.site) (λ y. y.site.number) (λ j ol oa. LinkedAt O (is_stray j w.trace) ol oa) (w.star.given + 1)
+        (λ j. LinkedAt O (is_stray j w.trace || nat_eq (w.star.given + 1) j) (link_of j (w.star.links ++ opened_link (w.star.given + 1) ∷ [])) (attached j w.sites))
+        (subst (λ o. LinkedAt O (is_stray (w.star.given + 1) w.trace || nat_eq (w.star.given + 1) (w.star.given + 1)) o (attached (w.star.given + 1) w.sites))
+        (sym (found-end (λ x. x.site) (w.star.given + 1) w.star.links (opened_link (w.star.given + 1)) (s.star.no_link (w.star.given + 1) (omega arith)) (eq-eqb (w.star.given + 1) (w.star.given + 1) refl)))
+        (subst (λ o. LinkedAt O (is_stray (w.star.given + 1) w.trace || nat_eq (w.star.given + 1) (w.star.given + 1)) (Some (opened_link (w.star.given + 1))) o) (sym (no_site O L most w s (w.star.given + 1) refl))
+        (or_true (is_stray (w.star.given + 1) w.trace) (nat_eq (w.star.given + 1) (w.star.given + 1)) (eq-eqb (w.star.given + 1) (w.star.given + 1) refl))))
+        (λ j e. subst (λ o. LinkedAt O (is_stray j w.trace || nat_eq (w.star.given + 1) j) o (attached j w.sites)) (sym (found-end_other (λ x. x.site) j w.star.links (opened_link (w.star.given + 1)) e))
+        (subst (λ b. LinkedAt O b (link_of j w.star.links) (attached j w.sites)) (sym (or_false (is_stray j w.trace) (nat_eq (w.star.given + 1) j) e)) (k.links j)))
+
+    -- an event, by its outcome
+    strays-step : (e : EventOf O) (o : Outcome O) → StepOf O w e o → KnowsStrays O (with_outcome O w e o)
+    strays-step e o (Still why) = unseen e o (λ j. still_unseen w j e _ why) (omega arith) k.links
+    strays-step e o (Enters none) = unseen e o (λ j. refl) (omega arith) entered
+    strays-step e o (EntersStray none) = record {
+      links = λ j. subst (λ b. LinkedAt O b (link_of j (w.star.links ++ opened_link (w.star.given + 1) ∷ [])) (attached j w.sites)) (sym (stray-end j w.trace (record { event = JoinStray; reply = Joined (w.star.given + 1) }))) (entered_stray j);
+      new = λ j above. (stray-end j w.trace (record { event = JoinStray; reply = Joined (w.star.given + 1) })
+          ∙ or_false (is_stray j w.trace) (nat_eq (w.star.given + 1) j) (ne_eqb (w.star.given + 1) j (λ e. absurd (omega arith))) ∙ k.new j (omega arith));
+    }
+    strays-step e o (Goes i l oa fl fa why) = unseen e o (λ j. gone_unseen w j i l oa e _ why) (omega arith)
+        (at_removal (λ x. x.site) (λ y. y.site.number) (λ j ol oa. LinkedAt O (is_stray j w.trace) ol oa) i w.star.links w.sites tt (λ j e. k.links j))
+    strays-step e o (Makes i command l a op fl fa ok) = unseen e o (λ j. refl) (omega arith) (site_changed i (with_edit O op) (λ b. refl))
+    strays-step e o (Asks i m l a fl fa) = unseen e o (λ j. refl) (omega arith) (site_changed i (pinged O m) (λ b. refl))
+    strays-step e o (Takes i l oa (UpOp m) fl fa brought none) = unseen e o (brought_unseen w brought _) (omega arith)
+        (changed i (link_heard O m) (link_sent (operation_at O l.end m)) (one_taken O) (λ x. refl) (λ x. refl) (λ b. refl))
+    strays-step e o (Takes i l oa (UpAck m) fl fa brought none) = unseen e o (brought_unseen w brought _) (omega arith) (changed i (link_acked m) (λ x. x) (one_taken O) (λ x. refl) (λ x. refl) (λ b. refl))
+    strays-step e o (Takes i l oa (UpPing m) fl fa brought none) = unseen e o (brought_unseen w brought _) (omega arith) (changed i (link_ponged m) (λ x. x) (one_taken O) (λ x. refl) (λ x. refl) (λ b. refl))
+    strays-step e o (Hands i gone l a d ds fl fa falls none) = unseen e o (λ j. refl) (omega arith) (changed i (link_fetched gone) (λ x. x) (one_handed O d ds) (λ x. refl) (λ x. refl) (handed_number O d ds))
+
+    -- each event
+    pub strays-happens : (e : EventOf O) → KnowsStrays O (happens O w e)
+    strays-happens e = strays-step e (outcome O w e) (step_of O w e)
+
+    -- a failed allocation
+    pub strays-fetched : (i m : ℕ) (l : LinkState O.Op) → KnowsStrays O (only_fetched O w i m l)
+    strays-fetched i m l = record { links = changed i (link_fetched m) (λ x. x) (with_fetched O m l) (λ x. refl) (λ x. refl) (λ b. refl); new = k.new }
+
+  -- so an attached site is one that has a link and is no stranger
+  pub are_linked : (w : WorldOf O) → KnowsStrays O w → AreLinked O w
+  are_linked w k i = cases (is_stray i w.trace) (link_of i w.star.links) (attached i w.sites) (k.links i)
+    where
+      cases : (b : Bool) (ol : Option (LinkState O.Op)) (oa : Option (AttachedOf O)) → LinkedAt O b ol oa → is_some oa ≡ (is_some ol && not b)
+      cases b None None k = refl
+      cases b None (Some a) k = absurd k
+      cases b (Some l) None k = sym (ap not k)
+      cases b (Some l) (Some a) k = sym (ap not k)
+
+  -- if no event was one of a stranger, no number is a stranger's
+  plain_unseen : (j : ℕ) (e : EventOf O) (r : ReplyOf O) → IsPlain O e → stray_seen j e r ≡ false
+  plain_unseen j JoinStray r plain = absurd plain
+  plain_unseen j e r plain = refl
+
+  pub plain_run : (es : List (EventOf O)) (w : WorldOf O) → ArePlain O es → ((i : ℕ) → is_stray i w.trace ≡ false) → (i : ℕ) → is_stray i (run O w es).trace ≡ false
+  plain_run [] w plain none = none
+  plain_run (e ∷ es) w plain none = plain_run es (happens O w e) plain.1 (λ i. stray-end i w.trace (record { event = e; reply = (outcome O w e).reply })
+      ∙ or_false (is_stray i w.trace) (stray_seen i e (outcome O w e).reply) (plain_unseen i e (outcome O w e).reply plain.0) ∙ none i)
+
+  -- and the attached sites are those that have links
+  pub plain_linked : (w : WorldOf O) → KnowsStrays O w → ((i : ℕ) → is_stray i w.trace ≡ false) → AllLinked O w
+  plain_linked w k none i = are_linked w k i ∙ ap (λ b. is_some (link_of i w.star.links) && not b) (none i) ∙ same (is_some (link_of i w.star.links))
+    where
+      same : (b : Bool) → (b && true) ≡ b
+      same true = refl
+      same false = refl
+
+-- No item of the star's board has the number of a site that was not given one.
+
+-- # Items
+
+none_take : {X : Type 0} (p : X → Bool) (xs : List X) (n : ℕ) → list_any p xs ≡ false → list_any p (take n xs) ≡ false
+none_take p [] zero none = refl
+none_take p [] (suc n) none = refl
+none_take p (x ∷ xs) zero none = refl
+none_take p (x ∷ xs) (suc n) none = let both = or_parts (p x) (list_any p xs) none in or_from (p x) (list_any p (take n xs)) both.0 (none_take p xs n both.1)
+
+none_drop : {X : Type 0} (p : X → Bool) (xs : List X) (n : ℕ) → list_any p xs ≡ false → list_any p (drop n xs) ≡ false
+none_drop p [] zero none = refl
+none_drop p [] (suc n) none = refl
+none_drop p (x ∷ xs) zero none = none
+none_drop p (x ∷ xs) (suc n) none = none_drop p xs n (or_parts (p x) (list_any p xs) none).1
+
+none_append : {X : Type 0} (p : X → Bool) (xs ys : List X) → list_any p xs ≡ false → list_any p ys ≡ false → list_any p (xs ++ ys) ≡ false
+none_append p [] ys one two = two
+none_append p (x ∷ xs) ys one two = let both = or_parts (p x) (list_any p xs) one in or_from (p x) (list_any p (xs ++ ys)) both.0 (none_append p xs ys both.1 two)
+
+none_insert : {X : Type 0} (p : X → Bool) (xs : List X) (n : ℕ) (y : X) → list_any p xs ≡ false → p y ≡ false → list_any p (insert xs n y) ≡ false
+none_insert p xs n y none new = none_append p (take n xs) (y ∷ drop n xs) (none_take p xs n none) (or_from (p y) (list_any p (drop n xs)) new (none_drop p xs n none))
+
+none_remove : {X : Type 0} (p : X → Bool) (xs : List X) (n : ℕ) → list_any p xs ≡ false → list_any p (remove xs n) ≡ false
+none_remove p xs n none = none_append p (take n xs) (drop (suc n) xs) (none_take p xs n none) (none_drop p xs (suc n) none)
+
+-- names stay as they are if a value is changed
+none_relabel : {V : Type 0} (p : Name → Bool) (xs : List (Item V)) (n : ℕ) (v : V) → list_any (λ z. p z.name) xs ≡ false → list_any (λ z. p z.name) (with_value xs n v) ≡ false
+none_relabel p [] n v none = none
+none_relabel p (x ∷ xs) zero v none = none
+none_relabel p (x ∷ xs) (suc n) v none =
+    let both = or_parts (p x.name) (list_any (λ z. p z.name) xs) none in
+    or_from (p x.name) (list_any (λ z. p z.name) (with_value xs n v)) both.0 (none_relabel p xs n v both.1)
+
+-- # Widgets and boards
+
+name_eq_self : (n : Name) → name_eq n n ≡ true
+name_eq_self n = and_from (n.site == n.site) (n.number == n.number) (eq-eqb n.site n.site refl) (eq-eqb n.number n.number refl)
+
+-- an operation that inserts no name of a site leaves none if there was none
+widget_none : (i : ℕ) (o : WidgetOp) (w : Widget) → ((n : Name) → kind.InsertsName (kind.edit_of o) n → n.site ≡ i → ⊥) → some_in_widget i w ≡ false → some_in_widget i (widget.after o w) ≡ false
+widget_none i (OnText (Insert p y)) (Text x) other none = none_insert (λ z. z.name.site == i) x.items p y none (ne_eqb y.name.site i (other y.name (name_eq_self y.name)))
+widget_none i (OnText (Delete p n)) (Text x) other none = none_remove (λ z. z.name.site == i) x.items p none
+widget_none i (OnText (Relabel p n v)) (Text x) other none = none_relabel (λ m. m.site == i) x.items p v none
+widget_none i (OnText NoSeqOp) (Text x) other none = none
+widget_none i (OnList (Insert p y)) (Labels x) other none = none_insert (λ z. z.name.site == i) x.items p y none (ne_eqb y.name.site i (other y.name (name_eq_self y.name)))
+widget_none i (OnList (Delete p n)) (Labels x) other none = none_remove (λ z. z.name.site == i) x.items p none
+widget_none i (OnList (Relabel p n v)) (Labels x) other none = none_relabel (λ m. m.site == i) x.items p v none
+widget_none i (OnList NoSeqOp) (Labels x) other none = none
+widget_none i (OnToggle o) (Toggle x) other none = none
+widget_none i (OnSlider o) (Slider x) other none = none
+widget_none i o w other none = none
+
+-- what an id has is changed
+none_change : {A : Type 0} (p : A → Bool) (f : A → A) (k : ℕ) → ((a : A) → p a ≡ false → p (f a) ≡ false) → (es : List (ℕ × A)) → list_any (λ e. p e.1) es ≡ false → list_any (λ e. p e.1) (change_at k f es) ≡ false
+none_change p f k keeps [] none = refl
+none_change {A = A} p f k keeps (e ∷ es) none = step (e.0 == k) (or_parts (p e.1) (list_any (λ x. p x.1) es) none) (none_change p f k keeps es (or_parts (p e.1) (list_any (λ x. p x.1) es) none).1)
+  where
+    step : (b : Bool) → (p e.1 ≡ false) × (list_any (λ x. p x.1) es ≡ false) → list_any (λ x. p x.1) (change_at k f es) ≡ false
+        → list_any (λ x. p x.1) (cond {A = List (ℕ × A)} b ((e.0, f e.1) ∷ es) (e ∷ change_at k f es)) ≡ false
+    step true both rest = or_from (p (f e.1)) (list_any (λ x. p x.1) es) (keeps e.1 both.0) both.1
+    step false both rest = or_from (p e.1) (list_any (λ x. p x.1) (change_at k f es)) both.0 rest
+
+board_none : (i : ℕ) (o : BoardOp) (b : board.Windows) → ((n : board.Placed) → board.Inserts (board.edit_of o) n → n.name.site ≡ i → ⊥) → has_site i b ≡ false → has_site i (board.after o b) ≡ false
+board_none i o b other none =
+    none_change (some_in_window i) (λ ws. change_at o.wid (widget.after o.op) ws) o.win (λ ws. none_change (some_in_widget i) (widget.after o.op) o.wid (λ w. widget_none i o.op w inserted) ws) b none
+  where
+    here : ((o.win == o.win) && (o.wid == o.wid)) ≡ true
+    here = and_from (o.win == o.win) (o.wid == o.wid) (eq-eqb o.win o.win refl) (eq-eqb o.wid o.wid refl)
+
+    inserted : (n : Name) → kind.InsertsName (kind.edit_of o.op) n → n.site ≡ i → ⊥
+    inserted n put is = other (record { at = (o.win, o.wid); name = n }) (here, put) is
+
+-- and so do those of a batch
+pub batch_none : (i : ℕ) (os : BoardBatch) (b : board.Windows) → ((n : board.Placed) → batch.Inserts (batch.edit_of os) n → n.name.site ≡ i → ⊥) → has_site i b ≡ false
+    → has_site i (batch.after os b) ≡ false
+batch_none i [] b other none = none
+batch_none i (o ∷ os) b other none =
+    batch_none i os (board.after o b) (λ n put own. other n (inr put) own) (board_none i o b (λ n put own. other n (inl put) own) none)
+
+-- # Layouts
+
+-- if each element passes one test, and what passes it fails the other
+all_none : {X : Type 0} (p q : X → Bool) → ((x : X) → p x ≡ true → q x ≡ false) → (xs : List X) → list_all p xs ≡ true → list_any q xs ≡ false
+all_none p q fails [] all = refl
+all_none p q fails (x ∷ xs) all = let both = and_parts (p x) (list_all p xs) all in or_from (q x) (list_any q xs) (fails x both.0) (all_none p q fails xs both.1)
+
+-- a site of 0 is no other
+other_site : {V : Type 0} (i : ℕ) → 0 < i → (x : Item V) → (x.name.site == 0) ≡ true → (x.name.site == i) ≡ false
+other_site i above x is = ne_eqb x.name.site i (λ same. let none : x.name.site ≡ 0 = eqb-true x.name.site 0 is in absurd (omega arith))
+
+other_widget : (i : ℕ) → 0 < i → (w : Widget) → every_in_widget 0 w ≡ true → some_in_widget i w ≡ false
+other_widget i above (Text x) all = all_none (λ y. y.name.site == 0) (λ y. y.name.site == i) (other_site i above) x.items all
+other_widget i above (Labels x) all = all_none (λ y. y.name.site == 0) (λ y. y.name.site == i) (other_site i above) x.items all
+other_widget i above (Toggle x) all = refl
+other_widget i above (Slider x) all = refl
+
+pub layout_none : (i : ℕ) (b : board.Windows) → 0 < i → only_site 0 b ≡ true → has_site i b ≡ false
+layout_none i b above all =
+    all_none (λ e. every_in_window 0 e.1) (λ e. some_in_window i e.1)
+    (λ ws each. all_none (λ e. every_in_widget 0 e.1) (λ e. some_in_widget i e.1) (λ e one. other_widget i above e.1 one) ws.1 each) b all
+
+-- Worlds of boards are sound: as they are opened, after each event, and after a failed allocation.
+
+-- a world of boards that is opened
+pub opened_sound : (b : Windows) (limit : ℕ) → IsOpening b → limit ≤ highest_limit → IsBoardWorld (opened_world board_batches b limit)
+opened_sound b limit opening low = record {
+  sound = sound-opened board_batches batch_laws most_batches limit b opening.distinct (board_small b opening.short) (omega arith) (omega arith)
+      (λ n held. only_site-held 0 b n opening.unsigned held);
+  counts = λ i. tt;
+  tallied = record { given = refl; made = tt };
+  strays = record { links = λ i. tt; new = λ i above. refl };
+}
+
+-- events keep it so
+pub happens_sound : (w : BoardWorld) (event : BoardEvent) → IsBoardWorld w → IsBoardWorld (happens board_batches w event)
+happens_sound w event is = record {
+  sound = sound-happens board_batches batch_laws most_batches w event is.sound;
+  counts = counts-happens board_batches batch_laws most_batches w is.sound is.counts event;
+  tallied = tallied-happens board_batches w is.tallied (is.sound.no_edit (w.star.given + 1) (omega arith)) event;
+  strays = strays-happens board_batches batch_laws most_batches w is.sound is.strays event;
+}
+
+-- any events
+pub run_sound : (events : List BoardEvent) (w : BoardWorld) → IsBoardWorld w → IsBoardWorld (run board_batches w events)
+run_sound [] w is = is
+run_sound (e ∷ es) w is = run_sound es (happens board_batches w e) (happens_sound w e is)
+
+-- and so does a failed allocation
+pub fetched_sound : (w : BoardWorld) (i n : ℕ) (l : BoardLink) (a : BoardAttached) → link_of i w.star.links ≡ Some l → attached i w.sites ≡ Some a
+    → IsBoardWorld w → IsBoardWorld (only_fetched board_batches w i n l)
+fetched_sound w i n l a fl fa is = record {
+  sound = sound-fetched board_batches batch_laws most_batches w is.sound i n l a fl fa;
+  counts = counts-fetched board_batches batch_laws w is.counts i n l a fl fa;
+  tallied = tallied-fetched board_batches w is.tallied i n l;
+  strays = strays-fetched board_batches batch_laws most_batches w is.sound is.strays i n l;
+}
+
+-- a world that is reached is sound
+pub reached_sound : (w : BoardWorld) → IsReached w → IsBoardWorld w
+reached_sound w r = subst IsBoardWorld (sym r.is) (run_sound r.events (opened_world board_batches r.board r.limit) (opened_sound r.board r.limit r.opening r.limited))
+
+-- What holds of every world of the program: as it is opened, after each event, and after a failed allocation.
+
+-- # Numbers
+
+-- what an outcome leaves
+abbrev KeepsNumbers : Outcome board_batches → Type 0
+KeepsNumbers o = AreNumbered o.star o.sites
+
+-- the star stays, and the sites keep their numbers
+sites_numbered : (s t : BoardStar) (xs ys : List BoardAttached) → AreNumbered s xs → t.given ≡ s.given → t.limit ≡ s.limit → t.board ≡ s.board → AreAscending 0 t.given ys → AreNumbered t ys
+sites_numbered s t xs ys is given limit same up = record {
+  ascending = up;
+  positive = let low = is.positive in omega arith;
+  limited = let high = is.limited in omega arith;
+  named = λ i above. ap (has_site i) same ∙ is.named i (omega arith);
+}
+
+-- a link that is there has a number that was given
+pub link_given : (w : BoardWorld) → IsSound board_batches most_batches w → (i : ℕ) (l : BoardLink) → link_of i w.star.links ≡ Some l → i ≤ w.star.given
+link_given w s i l found = cases (nat_le i w.star.given) refl
+  where
+    cases : (b : Bool) → nat_le i w.star.given ≡ b → i ≤ w.star.given
+    cases true e = leb-true i w.star.given e
+    cases false e = absurd (let none = s.star.no_link i (leb-false i w.star.given e) in cc)
+
+-- numbers may be given beyond those of the sites
+ascending_above : (least most more : ℕ) (xs : List BoardAttached) → most ≤ more → AreAscending least most xs → AreAscending least more xs
+ascending_above least most more [] h up = omega arith
+ascending_above least most more (a ∷ xs) h up = (up.0, ascending_above a.site.number most more xs h up.1)
+
+-- an event, by its outcome
+step_numbered : (w : BoardWorld) → IsSound board_batches most_batches w → AreNumbered w.star w.sites → (e : BoardEvent) (o : Outcome board_batches) → StepOf board_batches w e o → KeepsNumbers o
+step_numbered w s is e o (Still why) = is
+step_numbered w s is e o (Enters none) = record {
+  ascending = ascending_end 0 w.star.given _ w.sites refl is.ascending;
+  positive = is.positive;
+  limited = is.limited;
+  named = λ i above. is.named i (omega arith);
+}
+step_numbered w s is e o (EntersStray none) = record {
+  ascending = ascending_above 0 w.star.given (w.star.given + 1) w.sites (omega arith) is.ascending;
+  positive = is.positive;
+  limited = is.limited;
+  named = λ i above. is.named i (omega arith);
+}
+step_numbered w s is e o (Goes i l oa fl fa why) = sites_numbered w.star _ w.sites _ is refl refl refl (ascending_without i 0 w.star.given w.sites is.ascending)
+step_numbered w s is e o (Makes i command l a op fl fa ok) = sites_numbered w.star w.star w.sites _ is refl refl refl (ascending_at (with_edit board_batches op) i 0 w.star.given (λ b. refl) w.sites is.ascending)
+step_numbered w s is e o (Asks i k l a fl fa) = sites_numbered w.star _ w.sites _ is refl refl refl (ascending_at (pinged board_batches k) i 0 w.star.given (λ b. refl) w.sites is.ascending)
+step_numbered w s is e o (Takes i l oa (UpOp m) fl fa brought none) = record {
+  ascending = ascending_at (one_taken board_batches) i 0 w.star.given (λ b. refl) w.sites is.ascending;
+  positive = is.positive;
+  limited = is.limited;
+  named = λ j above. batch_none j (operation_at board_batches l.end m) w.star.board
+      (λ n put same. let site = taken_site board_batches batch_laws w.star l m n none put in let number = link_site i l w.star.links fl in let given = link_given w s i l fl in absurd (omega arith)) (is.named j above);
+}
+step_numbered w s is e o (Takes i l oa (UpAck k) fl fa brought none) = sites_numbered w.star _ w.sites _ is refl refl refl (ascending_at (one_taken board_batches) i 0 w.star.given (λ b. refl) w.sites is.ascending)
+step_numbered w s is e o (Takes i l oa (UpPing k) fl fa brought none) = sites_numbered w.star _ w.sites _ is refl refl refl (ascending_at (one_taken board_batches) i 0 w.star.given (λ b. refl) w.sites is.ascending)
+step_numbered w s is e o (Hands i gone l a d ds fl fa falls none) = sites_numbered w.star _ w.sites _ is refl refl refl (ascending_at (one_handed board_batches d ds) i 0 w.star.given (handed_number board_batches d ds) w.sites is.ascending)
+
+-- each event
+pub numbered_outcome : (w : BoardWorld) (e : BoardEvent) → IsSound board_batches most_batches w → AreNumbered w.star w.sites → KeepsNumbers (outcome board_batches w e)
+numbered_outcome w e s is = step_numbered w s is e (outcome board_batches w e) (step_of board_batches w e)
+
+-- # Worlds
+
+pub open_held : (a b c : Bool) → first_fault (test (a && b) BadLimit ∷ test c BadSite ∷ []) ≡ None → (a ≡ true) × (b ≡ true) × (c ≡ true)
+open_held true true true none = (refl, refl, refl)
+open_held true true false none = absurd (cc)
+open_held true false c none = absurd (cc)
+open_held false b c none = absurd (cc)
+
+-- a new world over a board that it may be opened with
+pub world_new : (b : batch.Windows) (limit : ℕ) → IsOpening b → 1 ≤ limit → limit ≤ highest_limit → IsWorld (opened_world board_batches b limit)
+world_new b limit opening some limited = record {
+  board = opened_sound b limit opening limited;
+  numbered = record {
+    ascending = omega arith;
+    positive = some;
+    limited = limited;
+    named = λ i above. layout_none i b above opening.unsigned;
+  };
+}
+
+-- and so it is if a star refuses neither the limit nor the board
+pub world_opened : (b : batch.Windows) (limit : ℕ) → star_open_fault (batch.bare b) limit ≡ None → batch.HasDistinctNames b → EachWidget IsShort b → IsWorld (opened_world board_batches (batch.bare b) limit)
+world_opened b limit none distinct short =
+    let held = open_held (nat_le 1 limit) (nat_le limit highest_limit) (only_site 0 (batch.bare b)) none in
+    world_new (batch.bare b) limit (record { distinct = distinct_bare b distinct; unsigned = held.2; short = short_bare b short }) (leb-true 1 limit held.0) (leb-true limit highest_limit held.1)
+
+pub world_happens : (w : BoardWorld) (e : BoardEvent) → IsWorld w → IsWorld (happens board_batches w e)
+world_happens w e is = record { board = happens_sound w e is.board; numbered = numbered_outcome w e is.board.sound is.numbered }
+
+pub world_spared : (w v : BoardWorld) → IsWorld w → IsSpared w v → IsWorld v
+world_spared w v is (inl same) = subst IsWorld (sym same) is
+world_spared w v is (inr fetched) = subst IsWorld (sym fetched.5) (still fetched.0 fetched.1 fetched.2 fetched.3 fetched.4)
+  where
+    still : (i : ℕ) (l : BoardLink) (a : BoardAttached) → link_of i w.star.links ≡ Some l → attached i w.sites ≡ Some a → IsWorld (only_fetched board_batches w i 1 l)
+    still i l a fl fa = record {
+      board = fetched_sound w i 1 l a fl fa is.board;
+      numbered = sites_numbered w.star _ w.sites _ is.numbered refl refl refl (ascending_at (with_fetched board_batches 1 l) i 0 w.star.given (λ b. refl) w.sites is.numbered.ascending);
+    }
+
+-- # What an event asks
+
+oldest_fits : (w : BoardWorld) → IsSound board_batches most_batches w → OldestFits w.star w.sites
+oldest_fits w s i l a down rest fl fa e =
+    let all : rest ++ drop (length l.outbox) l.outbox ≡ rest = ap (λ (ds : List (Down BoardBatch)). rest ++ ds) (drop_of_length-le l.outbox (le_refl _)) ∙ append-nil rest in
+    fall_fits board_batches batch_laws most_batches w s i l a fl fa down (length l.outbox) rest (ap downs (e ∙ ap (λ (ds : List (Down BoardBatch)). down ∷ ds) (sym all)))
+
+pub world_ready : (w : BoardWorld) → IsWorld w → ((i : ℕ) → is_stray i w.trace ≡ false) → AreReady w.star w.sites
+world_ready w is plain = record {
+  numbered = is.numbered;
+  linked = plain_linked board_batches batch_laws w is.board.strays plain;
+  fits = oldest_fits w is.board.sound;
+}
+
+-- A change of a list of sites that keeps each site itself.
+
+-- a site that is found after a change that keeps each site is found before it
+pub kept_site : (f : BoardAttached → BoardAttached) → ((a : BoardAttached) → (f a).site ≡ a.site) → (j : ℕ) (b : BoardAttached) (sites : List BoardAttached) → attached j (map f sites) ≡ Some b
+    → (a : BoardAttached) × (attached j sites ≡ Some a) × (b.site ≡ a.site)
+kept_site f same j b [] found = absurd (cc)
+kept_site f same j b (x ∷ later) found = step (is_number j x) (ap (λ s. nat_eq s.number j) (same x)) (kept_site f same j b later) found
+  where
+    step : (c : Bool) → is_number j (f x) ≡ c → (attached j (map f later) ≡ Some b → (a : BoardAttached) × (attached j later ≡ Some a) × (b.site ≡ a.site))
+        → cond (is_number j (f x)) (Some (f x)) (attached j (map f later)) ≡ Some b → (a : BoardAttached) × (cond c (Some x) (attached j later) ≡ Some a) × (b.site ≡ a.site)
+    step true e rest h = let here : f x ≡ b = (let now = rw e at h in cc) in (x, refl, sym (ap (λ (a : BoardAttached). a.site) here) ∙ same x)
+    step false e rest h = rest (rw e at h)
+
+-- The program plays no stranger, so its trace has none.
+
+-- one event
+none_played : (i : ℕ) (event : Played Command) (reply : BoardReply) (later : List (Happened Commands BoardBatch BoardEdits EditFault)) → is_stray i (plain_happened (lane_event event) reply ++ later) ≡ is_stray i later
+none_played i played.Join reply later = refl
+none_played i (played.Leave j) reply later = refl
+none_played i (played.Edit j command) reply later = refl
+none_played i (played.Batch j commands) reply later = refl
+none_played i (played.Up j) reply later = refl
+none_played i (played.Down j) reply later = refl
+none_played i (played.Ping j k) reply later = refl
+none_played i (played.PushUp j n) reply later = refl
+none_played i (played.PushDown j n) reply later = refl
+
+-- a trace
+pub none_stray : (trace : List (Kept Command BoardEdits EditFault)) (i : ℕ) → is_stray i (plain_trace (noted_trace trace)) ≡ false
+none_stray [] i = refl
+none_stray (h ∷ hs) i = none_played i h.event h.reply (plain_trace (noted_trace hs)) ∙ none_stray hs i

@@ -40,46 +40,52 @@ fn text_after(rt: &impl Abort, alloc: Global, batch: &Batch<TextOp>) -> Seq<char
     held
 }
 
-// A batch that is applied on a text makes it read so.
-fn ends(rt: &impl Abort, alloc: Global, mut held: Seq<char>, batch: &Batch<TextOp>, letters: &str) {
-    expect_that(rt, attempt(alloc, batch, &mut held));
+// A batch of these operations and then another batch make the text "pqr" read so.
+fn ends(rt: &impl Abort, alloc: Global, first: [TextOp; 2], second: &Batch<TextOp>, letters: &str) {
+    let mut held = text_after(rt, alloc, &batch(rt, alloc, first));
+    expect_that(rt, attempt(alloc, second, &mut held));
     expect_that(rt, reads(&held, letters));
 }
 
 #[test]
 fn batches_meet(rt: HostRuntime) {
     let alloc = rt.alloc();
-    let mut typed = batch(&rt, alloc, [insert(1, 1, 'X'), insert_next(2, 1, 'Y')]);
-    let mut cut = batch(&rt, alloc, [delete(1, 2), delete(1, 3)]);
-    let client = text_after(&rt, alloc, &typed);
-    let server = text_after(&rt, alloc, &cut);
+    let (one, two) = (
+        [insert(1, 1, 'X'), insert_next(2, 1, 'Y')],
+        [delete(1, 2), delete(1, 3)],
+    );
+    let mut typed = batch(&rt, alloc, one);
+    let mut cut = batch(&rt, alloc, two);
     Transform::transform(&mut typed, &mut cut);
-    ends(&rt, alloc, client, &cut, "pXY");
-    ends(&rt, alloc, server, &typed, "pXY");
+    ends(&rt, alloc, one, &cut, "pXY");
+    ends(&rt, alloc, two, &typed, "pXY");
+}
+
+// Whether a batch of these operations is valid on an empty text.
+fn is_valid_first(rt: &impl Abort, alloc: Global, ops: [TextOp; 2]) -> bool {
+    batch(rt, alloc, ops).valid(&text(alloc, ""))
 }
 
 // A batch is refused by a text of one insertion, which its first operation deletes.
-fn is_refused_after(rt: &impl Abort, alloc: Global, back: &TextOp, turned: &Batch<TextOp>) {
+fn is_refused_after(rt: &impl Abort, alloc: Global, put: &TextOp, back: &TextOp) {
     let mut held = text(alloc, "");
-    expect_that(rt, attempt(alloc, &insert(0, 1, 'a'), &mut held));
+    expect_that(rt, attempt(alloc, put, &mut held));
     expect_that(rt, back.valid(&held));
-    expect_that(rt, !turned.valid(&held));
+    expect_that(rt, !batch(rt, alloc, [*back, *put]).valid(&held));
 }
 
 #[test]
 fn each_operation_is_judged_after_those_before_it(rt: HostRuntime) {
     let alloc = rt.alloc();
-    let gone = Name { site: 1, number: 1 };
+    let put = insert(0, 1, 'a');
     let back = SeqOp::Delete {
         place: 0,
-        name: gone,
+        name: Name { site: 1, number: 1 },
     };
-    let both = batch(&rt, alloc, [insert(0, 1, 'a'), back]);
-    expect_that(&rt, both.valid(&text(alloc, "")));
-    let turned = batch(&rt, alloc, [back, insert(0, 1, 'a')]);
-    expect_that(&rt, !turned.valid(&text(alloc, "")));
+    expect_that(&rt, is_valid_first(&rt, alloc, [put, back]));
+    expect_that(&rt, !is_valid_first(&rt, alloc, [back, put]));
     // What a batch deleted it does not insert again.
-    is_refused_after(&rt, alloc, &back, &turned);
+    is_refused_after(&rt, alloc, &put, &back);
 }
 
 // Window 1 has an empty text 1 and a toggle 2 that is off.
@@ -114,19 +120,27 @@ fn board_reads(board: &Board, letters: &str) -> bool {
     }
 }
 
-#[test]
-fn a_batch_edits_several_widgets(rt: HostRuntime) {
-    let alloc = rt.alloc();
+// Two insertions into the text, and between them the toggle is set.
+fn on_both_widgets() -> [BoardOp; 3] {
     let op = WidgetOp::Toggle(SetOp::Set(true));
     let switched = BoardOp { win: 1, wid: 2, op };
-    let ops = [
+    [
         on_text(insert(0, 1, 'a')),
         switched,
         on_text(insert_next(1, 1, 'b')),
-    ];
-    let ops = Batch::from_slice(alloc, &ops).expect(&rt, "memory");
-    let mut board = text_and_toggle(&rt, alloc);
-    expect_that(&rt, attempt(alloc, &ops, &mut board));
+    ]
+}
+
+// A batch of operations is applied on a board.
+fn applies(rt: &impl Abort, alloc: Global, board: &mut Board, ops: &[BoardOp; 3]) {
+    let ops = Batch::from_slice(alloc, ops).expect(rt, "memory");
+    expect_that(rt, attempt(alloc, &ops, board));
+}
+
+#[test]
+fn a_batch_edits_several_widgets(rt: HostRuntime) {
+    let mut board = text_and_toggle(&rt, rt.alloc());
+    applies(&rt, rt.alloc(), &mut board, &on_both_widgets());
     expect_that(&rt, is_on(&board));
     expect_that(&rt, board_reads(&board, "ab"));
 }

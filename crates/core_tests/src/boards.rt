@@ -5,10 +5,11 @@ use jup_setting::{SetOp, Slider, Toggle};
 use jup_value::{Item, Label, Name, NoMemory, Seq};
 use jup_window::{
     Board, BoardEdit, BoardFault, BoardOp, Command, Edit, EditFault, Effect, Setting, Value,
-    Widget, WidgetOp,
+    Widget, WidgetOp, Window, Within,
 };
 use jup_xform::Transform;
 use std::alloc::Global;
+use std::marker::PhantomData;
 use std::process::Abort;
 
 const NAME: Name = Name { site: 1, number: 1 };
@@ -99,63 +100,63 @@ pub(crate) fn windows(rt: &impl Abort, alloc: Global, count: u16) -> Board {
 #[test]
 fn windows_are_refused_in_order(rt: HostRuntime) {
     let mut board = windows(&rt, rt.alloc(), 64);
-    expect_eq(&rt, board.add_window(rt.alloc(), 0), Err(BoardFault::BadId));
-    expect_eq(
-        &rt,
-        board.add_window(rt.alloc(), 64),
-        Err(BoardFault::DoubleId),
-    );
-    expect_eq(
-        &rt,
-        board.add_window(rt.alloc(), 65),
-        Err(BoardFault::TooMany),
-    );
+    for &(win, fault) in &[
+        (0, BoardFault::BadId),
+        (64, BoardFault::DoubleId),
+        (65, BoardFault::TooMany),
+    ] {
+        expect_eq(&rt, board.add_window(rt.alloc(), win), Err(fault));
+    }
     expect_eq(&rt, BoardFault::TooMany.number(), 11);
+}
+
+// A toggle is refused.
+fn toggle_is_refused(rt: &impl Abort, board: &mut Board, win: u16, wid: u16, fault: BoardFault) {
+    expect_eq(rt, board.add_widget(win, wid, toggle()), Err(fault));
 }
 
 #[test]
 fn widgets_are_refused_in_order(rt: HostRuntime) {
     let mut board = windows(&rt, rt.alloc(), 1);
-    expect_eq(
-        &rt,
-        board.add_widget(2, 0, toggle()),
-        Err(BoardFault::NoWindow),
-    );
-    expect_eq(
-        &rt,
-        board.add_widget(1, 0, toggle()),
-        Err(BoardFault::BadId),
-    );
+    toggle_is_refused(&rt, &mut board, 2, 0, BoardFault::NoWindow);
+    toggle_is_refused(&rt, &mut board, 1, 0, BoardFault::BadId);
     for wid in 1..65 {
-        board.add_widget(1, wid, toggle()).expect(&rt, "it is new");
+        add(&rt, &mut board, wid, toggle());
     }
-    expect_eq(
-        &rt,
-        board.add_widget(1, 64, toggle()),
-        Err(BoardFault::DoubleId),
-    );
-    expect_eq(
-        &rt,
-        board.add_widget(1, 65, toggle()),
-        Err(BoardFault::TooMany),
-    );
+    toggle_is_refused(&rt, &mut board, 1, 64, BoardFault::DoubleId);
+    toggle_is_refused(&rt, &mut board, 1, 65, BoardFault::TooMany);
+}
+
+// A window with the widgets 2 and 1, put in in this order.
+fn add_two(rt: &impl Abort, alloc: Global, board: &mut Board, win: u16) {
+    board.add_window(alloc, win).expect(rt, "it is new");
+    board.add_widget(win, 2, toggle()).expect(rt, "it is new");
+    board.add_widget(win, 1, toggle()).expect(rt, "it is new");
+}
+
+// The ids of a board's windows.
+fn windows_are(rt: &impl Abort, alloc: Global, board: &Board, due: &[u16]) {
+    let wins = board.windows().iter().map(|entry| entry.0);
+    let wins = wins.collect::<Vec<u16>>(alloc).expect(rt, "memory");
+    expect_that(rt, wins.as_slice() == due);
+}
+
+// The ids of a window's widgets.
+fn widgets_are(rt: &impl Abort, alloc: Global, window: &Window, due: &[u16]) {
+    let wids = window.widgets().iter().map(|entry| entry.0);
+    let wids = wids.collect::<Vec<u16>>(alloc).expect(rt, "memory");
+    expect_that(rt, wids.as_slice() == due);
 }
 
 #[test]
 fn ids_ascend(rt: HostRuntime) {
     let mut board = Board::new(rt.alloc());
     for &win in &[7, 3, 65_535] {
-        board.add_window(rt.alloc(), win).expect(&rt, "it is new");
-        board.add_widget(win, 2, toggle()).expect(&rt, "it is new");
-        board.add_widget(win, 1, toggle()).expect(&rt, "it is new");
+        add_two(&rt, rt.alloc(), &mut board, win);
     }
-    let wins = board.windows().iter().map(|entry| entry.0);
-    let wins = wins.collect::<Vec<u16>>(rt.alloc()).expect(&rt, "memory");
-    expect_that(&rt, wins.as_slice() == [3, 7, 65_535].as_slice());
+    windows_are(&rt, rt.alloc(), &board, &[3, 7, 65_535]);
     for entry in board.windows() {
-        let wids = entry.1.widgets().iter().map(|entry| entry.0);
-        let wids = wids.collect::<Vec<u16>>(rt.alloc()).expect(&rt, "memory");
-        expect_that(&rt, wids.as_slice() == [1, 2].as_slice());
+        widgets_are(&rt, rt.alloc(), &entry.1, &[1, 2]);
     }
 }
 
@@ -238,15 +239,18 @@ fn is_made(alloc: Global, board: &Board, command: &Command, what: Effect, insert
     }
 }
 
+// Whether the board has an item of site 1, which is its only one.
+fn bears_site_one(rt: &impl Abort, board: &Board, bears: bool) {
+    expect_that(rt, board.has_site(1) == bears);
+    expect_that(rt, board.only_site(2) != bears);
+}
+
 // The command changes four widgets, by an operation of this effect.
 fn has_effect(rt: &impl Abort, alloc: Global, command: Command, what: Effect, inserts: bool) {
     let mut board = four_widgets(rt, alloc);
     expect_that(rt, is_made(alloc, &board, &command, what, inserts));
     expect_that(rt, apply(alloc, &mut board, command));
-    expect_that(
-        rt,
-        board.has_site(1) == inserts && board.only_site(2) != inserts,
-    );
+    bears_site_one(rt, &board, inserts);
     expect_that(rt, !board.same(&four_widgets(rt, alloc)));
 }
 
@@ -314,6 +318,12 @@ fn relabels_are_refused_in_order(rt: HostRuntime) {
     }
 }
 
+// A command is applied. Whether the board is then as `one_label` makes it.
+fn is_one_label_after(rt: &impl Abort, alloc: Global, board: &mut Board, command: Command) -> bool {
+    expect_that(rt, apply(alloc, board, command));
+    board.same(&one_label(rt, alloc))
+}
+
 #[test]
 fn item_is_relabelled(rt: HostRuntime) {
     let mut board = one_label(&rt, rt.alloc());
@@ -321,11 +331,16 @@ fn item_is_relabelled(rt: HostRuntime) {
     let command = relabel(1, 2, 0, label);
     let what = Effect::Relabelled(Name { site: 0, number: 1 }, label);
     expect_that(&rt, is_made(rt.alloc(), &board, &command, what, false));
-    expect_that(&rt, apply(rt.alloc(), &mut board, command));
-    expect_that(&rt, !board.same(&one_label(&rt, rt.alloc())));
+    expect_that(
+        &rt,
+        !is_one_label_after(&rt, rt.alloc(), &mut board, command),
+    );
     let back = Label::read(b"red").expect(&rt, "a label");
-    expect_that(&rt, apply(rt.alloc(), &mut board, relabel(1, 2, 0, back)));
-    expect_that(&rt, board.same(&one_label(&rt, rt.alloc())));
+    let command = relabel(1, 2, 0, back);
+    expect_that(
+        &rt,
+        is_one_label_after(&rt, rt.alloc(), &mut board, command),
+    );
 }
 
 // An operation on the text.
@@ -334,6 +349,14 @@ fn on_text(op: SeqOp<char>) -> BoardOp {
         win: 1,
         wid: 1,
         op: WidgetOp::Text(op),
+    }
+}
+
+// Whether a copy of a board is the same.
+fn has_its_copy(alloc: Global, board: &Board) -> bool {
+    match board.copy(alloc) {
+        Ok(copied) => copied.same(board),
+        Err(_) => false,
     }
 }
 
@@ -353,25 +376,35 @@ fn item_is_put_in_and_taken_out(rt: HostRuntime) {
     let mut board = four_widgets(&rt, rt.alloc());
     expect_that(&rt, attempt(rt.alloc(), &put, &mut board));
     expect_that(&rt, !attempt(rt.alloc(), &put, &mut board));
-    let copied = board.copy(rt.alloc());
-    expect_that(&rt, copied.map_or(false, |copied| copied.same(&board)));
+    expect_that(&rt, has_its_copy(rt.alloc(), &board));
     expect_that(&rt, attempt(rt.alloc(), &gone, &mut board));
     expect_that(&rt, board.same(&four_widgets(&rt, rt.alloc())));
 }
 
-#[test]
-fn settings_are_moved_on_one_widget_alone(rt: HostRuntime) {
-    let on = |wid| BoardOp {
+// A toggle is set.
+fn switched_on(wid: u16) -> BoardOp {
+    BoardOp {
         win: 1,
         wid,
         op: WidgetOp::Toggle(SetOp::Set(true)),
-    };
-    for (wid, server) in [(3, SetOp::Nothing), (5, SetOp::Set(true))] {
-        let mut c = on(3);
-        let mut s = on(wid);
-        BoardOp::transform(&mut c, &mut s);
-        assert_eq!(rt; c, on(3));
-        assert_eq!(rt; s.op, WidgetOp::Toggle(server), "widget {wid}");
+    }
+}
+
+// A client's setting of toggle 3 stays as it is past the server's of another, which becomes this.
+fn is_moved(rt: &impl Abort, wid: u16, server: SetOp<bool>) {
+    // The checker has to know the types within what is moved here.
+    let _of: Within = PhantomData;
+    let mut c = switched_on(3);
+    let mut s = switched_on(wid);
+    BoardOp::transform(&mut c, &mut s);
+    expect_eq(rt, c, switched_on(3));
+    expect_eq(rt, (wid, s.op), (wid, WidgetOp::Toggle(server)));
+}
+
+#[test]
+fn settings_are_moved_on_one_widget_alone(rt: HostRuntime) {
+    for &(wid, server) in &[(3, SetOp::Nothing), (5, SetOp::Set(true))] {
+        is_moved(&rt, wid, server);
     }
 }
 
@@ -394,29 +427,32 @@ fn text_takes_no_relabel(rt: HostRuntime) {
     expect_eq(&rt, op.meaning().shown(), nothing);
 }
 
-#[test]
-fn command_is_judged_by_what_is_given_of_items(rt: HostRuntime) {
-    let board = one_label(&rt, rt.alloc());
-    let list = board.named_widget(1, 2).expect(&rt, "it is there");
-    expect_eq(&rt, list.item_count(), 1);
-    expect_eq(&rt, list.name_at(0), Some(Name { site: 0, number: 1 }));
-    expect_eq(&rt, list.name_at(1), None);
-    let command = delete(2, 7);
-    expect_eq(&rt, (command.ids(), command.place()), ((1, 2), 7));
+// The list of `one_label` has one item.
+fn has_one_item(rt: &impl Abort, list: &Widget) {
+    expect_eq(rt, list.item_count(), 1);
+    expect_eq(rt, list.name_at(0), Some(Name { site: 0, number: 1 }));
+    expect_eq(rt, list.name_at(1), None);
+}
+
+// A deletion at place 7 is judged by the count of items and the name that it is given.
+fn is_judged(rt: &impl Abort, list: &Widget, command: &Command) {
+    expect_eq(rt, (command.ids(), command.place()), ((1, 2), 7));
     let last = SeqOp::Delete {
         place: 7,
         name: NAME,
     };
-    expect_eq(
-        &rt,
-        command.on_widget(list, NAME, 8, Some(NAME)),
-        Ok(WidgetOp::List(last)),
-    );
-    expect_eq(
-        &rt,
-        command.on_widget(list, NAME, 1, None),
-        Err(EditFault::BadPlace),
-    );
+    let made = command.on_widget(list, NAME, 8, Some(NAME));
+    expect_eq(rt, made, Ok(WidgetOp::List(last)));
+    let refused = command.on_widget(list, NAME, 1, None);
+    expect_eq(rt, refused, Err(EditFault::BadPlace));
+}
+
+#[test]
+fn command_is_judged_by_what_is_given_of_items(rt: HostRuntime) {
+    let board = one_label(&rt, rt.alloc());
+    let list = board.named_widget(1, 2).expect(&rt, "it is there");
+    has_one_item(&rt, list);
+    is_judged(&rt, list, &delete(2, 7));
     expect_that(
         &rt,
         matches!(board.named_widget(1, 9), Err(EditFault::NoWidget)),

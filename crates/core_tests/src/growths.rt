@@ -5,7 +5,7 @@ use crate::blocks::{counts, sequence_of};
 use crate::boards::toggle;
 use crate::expect::{expect_eq, expect_that};
 use crate::sequences::{attempt, insert, reads, text};
-use jup_seq::TextOp;
+use jup_seq::{SeqEdit, TextOp};
 use jup_value::{NoMemory, Seq};
 use jup_window::{Board, BoardFault, BoardOp, Widget};
 use jup_xform::{Batch, Few, Transform};
@@ -61,13 +61,15 @@ fn seq_reserve_one(rt: HostRuntime) {
 fn seq_copy(rt: HostRuntime) {
     let seq = sequence_of(rt.alloc(), 300, true).expect(&rt, "memory");
     begin(rt.alloc());
-    let mut copied = seq.copy(rt.alloc());
+    let copied = seq.copy(rt.alloc());
     end(rt.alloc());
-    if copied.is_err() {
-        expect_that(&rt, counts(&seq, 0, 300));
-        copied = seq.copy(rt.alloc());
-    }
-    let copied = copied.expect(&rt, "memory");
+    let copied = match copied {
+        Ok(copied) => copied,
+        Err(_) => {
+            expect_that(&rt, counts(&seq, 0, 300));
+            seq.copy(rt.alloc()).expect(&rt, "memory")
+        }
+    };
     expect_that(&rt, counts(&copied, 0, 300));
 }
 
@@ -112,12 +114,12 @@ fn batch_reserve(rt: HostRuntime) {
 fn batch_from_slice(rt: HostRuntime) {
     let ops = two_insertions();
     begin(rt.alloc());
-    let mut both = Batch::from_slice(rt.alloc(), &ops);
+    let both = Batch::from_slice(rt.alloc(), &ops);
     end(rt.alloc());
-    if both.is_err() {
-        both = Batch::from_slice(rt.alloc(), &ops);
-    }
-    let both = both.expect(&rt, "memory");
+    let both = match both {
+        Ok(both) => both,
+        Err(_) => Batch::from_slice(rt.alloc(), &ops).expect(&rt, "memory"),
+    };
     expect_eq(&rt, both.as_slice(), ops.as_slice());
 }
 
@@ -125,39 +127,45 @@ fn batch_from_slice(rt: HostRuntime) {
 fn batch_copy(rt: HostRuntime) {
     let both = Batch::from_slice(rt.alloc(), &two_insertions()).expect(&rt, "memory");
     begin(rt.alloc());
-    let mut copied = both.copy(rt.alloc());
+    let copied = both.copy(rt.alloc());
     end(rt.alloc());
-    if copied.is_err() {
-        copied = both.copy(rt.alloc());
+    let copied = match copied {
+        Ok(copied) => copied,
+        Err(_) => both.copy(rt.alloc()).expect(&rt, "memory"),
+    };
+    expect_that(&rt, copied == both);
+}
+
+// The edits are those of the two insertions.
+fn are_insertions(rt: &impl Abort, alloc: Global, edits: &[SeqEdit<char>]) {
+    for (op, edit) in two_insertions().iter().zip(edits) {
+        expect_that(rt, op.edit(alloc) == Ok(*edit));
     }
-    expect_that(&rt, copied.expect(&rt, "memory") == both);
+    expect_eq(rt, edits.len(), 2);
 }
 
 #[test]
 fn batch_edit(rt: HostRuntime) {
     let both = Batch::from_slice(rt.alloc(), &two_insertions()).expect(&rt, "memory");
     begin(rt.alloc());
-    let mut edits = both.edit(rt.alloc());
+    let edits = both.edit(rt.alloc());
     end(rt.alloc());
-    if edits.is_err() {
-        edits = both.edit(rt.alloc());
-    }
-    let edits = edits.expect(&rt, "memory");
-    for (op, edit) in two_insertions().iter().zip(edits.as_slice()) {
-        expect_that(&rt, op.edit(rt.alloc()) == Ok(*edit));
-    }
-    expect_eq(&rt, edits.as_slice().len(), 2);
+    let edits = match edits {
+        Ok(edits) => edits,
+        Err(_) => both.edit(rt.alloc()).expect(&rt, "memory"),
+    };
+    are_insertions(&rt, rt.alloc(), edits.as_slice());
 }
 
 #[test]
 fn few_from_slice(rt: HostRuntime) {
     begin(rt.alloc());
-    let mut few = Few::from_slice(rt.alloc(), &[1u32, 2]);
+    let few = Few::from_slice(rt.alloc(), &[1u32, 2]);
     end(rt.alloc());
-    if few.is_err() {
-        few = Few::from_slice(rt.alloc(), &[1u32, 2]);
-    }
-    let few = few.expect(&rt, "memory");
+    let few = match few {
+        Ok(few) => few,
+        Err(_) => Few::from_slice(rt.alloc(), &[1u32, 2]).expect(&rt, "memory"),
+    };
     expect_eq(&rt, few.as_slice(), [1u32, 2].as_slice());
 }
 
@@ -166,18 +174,23 @@ fn is_blank(rt: &impl Abort, alloc: Global, board: &Board) {
     expect_that(rt, board.same(&text_and_toggle(rt, alloc)));
 }
 
+// Room for an operation is made. If an allocation failed first, the board was blank.
+fn has_room_for(rt: &impl Abort, alloc: Global, board: &mut Board, op: &BoardOp) {
+    begin(alloc);
+    let mut made = op.reserve(alloc, 0, board);
+    end(alloc);
+    if made.is_err() {
+        is_blank(rt, alloc, board);
+        made = op.reserve(alloc, 0, board);
+    }
+    expect_that(rt, made.is_ok());
+}
+
 #[test]
 fn board_reserve(rt: HostRuntime) {
     let op: BoardOp = on_text(insert(0, 1, 'X'));
     let mut board = text_and_toggle(&rt, rt.alloc());
-    begin(rt.alloc());
-    let mut made = op.reserve(rt.alloc(), 0, &mut board);
-    end(rt.alloc());
-    if made.is_err() {
-        is_blank(&rt, rt.alloc(), &board);
-        made = op.reserve(rt.alloc(), 0, &mut board);
-    }
-    expect_that(&rt, made.is_ok());
+    has_room_for(&rt, rt.alloc(), &mut board, &op);
     is_blank(&rt, rt.alloc(), &board);
     expect_that(
         &rt,
@@ -193,12 +206,13 @@ fn board_copy(rt: HostRuntime) {
         attempt(rt.alloc(), &on_text(insert(0, 1, 'X')), &mut board),
     );
     begin(rt.alloc());
-    let mut copied = board.copy(rt.alloc());
+    let copied = board.copy(rt.alloc());
     end(rt.alloc());
-    if copied.is_err() {
-        copied = board.copy(rt.alloc());
-    }
-    expect_that(&rt, copied.expect(&rt, "memory").same(&board));
+    let copied = match copied {
+        Ok(copied) => copied,
+        Err(_) => board.copy(rt.alloc()).expect(&rt, "memory"),
+    };
+    expect_that(&rt, copied.same(&board));
 }
 
 #[test]

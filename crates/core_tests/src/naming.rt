@@ -110,15 +110,11 @@ fn text_reads(board: &Board, letters: &str) -> bool {
 // From the first text both a batch of the commands and the commands one by one lead to the other.
 fn both_lead(rt: &impl Abort, alloc: Global, start: &str, commands: &[Command], end: &str) {
     let mut batched = board_of(rt, alloc, text(alloc, start));
-    expect_that(
-        rt,
-        apply_all(alloc, &mut batched, commands) && text_reads(&batched, end),
-    );
+    expect_that(rt, apply_all(alloc, &mut batched, commands));
+    expect_that(rt, text_reads(&batched, end));
     let mut stepped = board_of(rt, alloc, text(alloc, start));
-    expect_that(
-        rt,
-        apply_each(alloc, &mut stepped, commands) && text_reads(&stepped, end),
-    );
+    expect_that(rt, apply_each(alloc, &mut stepped, commands));
+    expect_that(rt, text_reads(&stepped, end));
 }
 
 #[test]
@@ -130,20 +126,40 @@ fn a_batch_shows_what_its_commands_show_one_by_one(rt: HostRuntime) {
     both_lead(&rt, alloc, "p", &[switch(true), put(1), cut(0)], "a");
 }
 
+// The insertion of a letter into the text, and a deletion from it.
+fn put_as(place: u32, name: Name) -> BoardOp {
+    let item = Item { name, value: 'a' };
+    on_text(SeqOp::Insert { place, item })
+}
+
+fn deletion(place: u32, name: Name) -> BoardOp {
+    on_text(SeqOp::Delete { place, name })
+}
+
+// The toggle is set.
+fn switched(on: bool) -> BoardOp {
+    on_widget(3, WidgetOp::Toggle(SetOp::Set(on)))
+}
+
+// Commands turn into operations, which are these at some places.
+fn turn_into(rt: &impl Abort, board: &Board, commands: &[Command], due: &[(usize, BoardOp)]) {
+    let ops = operations_of(board, commands).expect(rt, "items and widgets are there");
+    for &(at, op) in due {
+        expect_eq(rt, ops.get(at), Some(&op));
+    }
+}
+
 #[test]
 fn items_are_named_as_the_batch_left_them(rt: HostRuntime) {
     let board = board_of(&rt, rt.alloc(), text(rt.alloc(), "pqr"));
     let commands = [put(1), cut(1), cut(1), cut(1)];
-    let ops = operations_of(&board, &commands).expect(&rt, "the items are there");
-    let item = Item {
-        name: own(1),
-        value: 'a',
-    };
-    let deleted = |name| on_text(SeqOp::Delete { place: 1, name });
-    expect_eq(&rt, ops[0], on_text(SeqOp::Insert { place: 1, item }));
-    expect_eq(&rt, ops[1], deleted(own(1)));
-    expect_eq(&rt, ops[2], deleted(Name { site: 0, number: 2 }));
-    expect_eq(&rt, ops[3], deleted(Name { site: 0, number: 3 }));
+    let due = [
+        (0, put_as(1, own(1))),
+        (1, deletion(1, own(1))),
+        (2, deletion(1, Name { site: 0, number: 2 })),
+        (3, deletion(1, Name { site: 0, number: 3 })),
+    ];
+    turn_into(&rt, &board, &commands, &due);
 }
 
 #[test]
@@ -152,35 +168,24 @@ fn item_just_inserted_is_relabelled(rt: HostRuntime) {
     let label = Label::read(b"red").expect(&rt, "a label");
     let red = || insert(2, 0, Value::Label(label));
     let commands = [red(), red(), relabel(1, 2, 1, label)];
-    let ops = operations_of(&board, &commands).expect(&rt, "the item is there");
     let first = SeqOp::Relabel {
         place: 1,
         name: own(1),
         value: label,
     };
-    expect_eq(&rt, ops[2], on_list(first));
+    turn_into(&rt, &board, &commands, &[(2, on_list(first))]);
 }
 
 #[test]
 fn only_insertions_take_numbers(rt: HostRuntime) {
     let board = board_of(&rt, rt.alloc(), Seq::new(rt.alloc()));
     let commands = [switch(true), switch(false), put(0)];
-    let ops = operations_of(&board, &commands).expect(&rt, "the widgets are there");
-    let item = Item {
-        name: own(1),
-        value: 'a',
-    };
-    expect_eq(
-        &rt,
-        ops[0],
-        on_widget(3, WidgetOp::Toggle(SetOp::Set(true))),
-    );
-    expect_eq(
-        &rt,
-        ops[1],
-        on_widget(3, WidgetOp::Toggle(SetOp::Set(false))),
-    );
-    expect_eq(&rt, ops[2], on_text(SeqOp::Insert { place: 0, item }));
+    let due = [
+        (0, switched(true)),
+        (1, switched(false)),
+        (2, put_as(0, own(1))),
+    ];
+    turn_into(&rt, &board, &commands, &due);
 }
 
 #[test]

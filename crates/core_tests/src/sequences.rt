@@ -69,30 +69,28 @@ pub(crate) fn reads(seq: &Seq<char>, letters: &str) -> bool {
     rest.next().is_none()
 }
 
+// The item at a place after an operation came from there.
+fn came_from(rt: &impl Abort, op: &TextOp, place: u32, due: Source) {
+    expect_eq(rt, op.source(place), due);
+}
+
 #[test]
 fn item_is_followed_back_over_an_operation(rt: HostRuntime) {
     let put = insert(1, 1, 'X');
-    expect_eq(&rt, put.source(0), Source::Place(0));
-    expect_eq(
-        &rt,
-        put.source(1),
-        Source::Inserted(Name { site: 1, number: 1 }),
-    );
-    expect_eq(&rt, put.source(2), Source::Place(1));
+    came_from(&rt, &put, 0, Source::Place(0));
+    came_from(&rt, &put, 1, Source::Inserted(FIRST));
+    came_from(&rt, &put, 2, Source::Place(1));
     let cut = delete(1, 2);
-    expect_eq(&rt, cut.source(0), Source::Place(0));
-    expect_eq(&rt, cut.source(1), Source::Place(2));
+    came_from(&rt, &cut, 0, Source::Place(0));
+    came_from(&rt, &cut, 1, Source::Place(2));
     let other = relabel(1, 2, 'y');
-    expect_eq(&rt, other.source(1), Source::Place(1));
-    expect_eq(
-        &rt,
-        (
-            put.length_after(3),
-            cut.length_after(3),
-            other.length_after(3),
-        ),
-        (4, 2, 3),
-    );
+    came_from(&rt, &other, 1, Source::Place(1));
+    let after = [
+        put.length_after(3),
+        cut.length_after(3),
+        other.length_after(3),
+    ];
+    expect_eq(&rt, after, [4, 2, 3]);
 }
 
 // What a pair of operations becomes.
@@ -113,39 +111,65 @@ fn meet(alloc: Global, start: &str, c: TextOp, s: TextOp, end: &str) -> bool {
     leads(alloc, start, &c, &moved_s, end) && leads(alloc, start, &s, &moved_c, end)
 }
 
+// A pair of operations on a text becomes this pair, and both ways round lead to one text.
+fn becomes(
+    rt: &impl Abort,
+    alloc: Global,
+    start: &str,
+    (c, s): (TextOp, TextOp),
+    moved: (TextOp, TextOp),
+    end: &str,
+) {
+    expect_eq(rt, pair(c, s), moved);
+    expect_that(rt, meet(alloc, start, c, s, end));
+}
+
 #[test]
 fn of_insertions_at_one_place_the_clients_comes_first(rt: HostRuntime) {
-    let (c, s) = (insert(2, 1, 'X'), insert(2, 2, 'Y'));
-    expect_eq(&rt, pair(c, s), (insert(2, 1, 'X'), insert(3, 2, 'Y')));
-    expect_that(&rt, meet(rt.alloc(), "abcd", c, s, "abXYcd"));
+    let ops = (insert(2, 1, 'X'), insert(2, 2, 'Y'));
+    let moved = (insert(2, 1, 'X'), insert(3, 2, 'Y'));
+    becomes(&rt, rt.alloc(), "abcd", ops, moved, "abXYcd");
 }
 
 #[test]
 fn insertion_moves_down_past_a_deletion_below_it(rt: HostRuntime) {
-    let (c, s) = (insert(3, 1, 'X'), delete(1, 2));
-    expect_eq(&rt, pair(c, s), (insert(2, 1, 'X'), delete(1, 2)));
-    expect_that(&rt, meet(rt.alloc(), "abcd", c, s, "acXd"));
+    let ops = (insert(3, 1, 'X'), delete(1, 2));
+    let moved = (insert(2, 1, 'X'), delete(1, 2));
+    becomes(&rt, rt.alloc(), "abcd", ops, moved, "acXd");
 }
 
 #[test]
 fn deletion_moves_down_past_a_deletion_below_it(rt: HostRuntime) {
-    let (c, s) = (delete(3, 4), delete(1, 2));
-    expect_eq(&rt, pair(c, s), (delete(2, 4), delete(1, 2)));
-    expect_that(&rt, meet(rt.alloc(), "abcd", c, s, "ac"));
+    let ops = (delete(3, 4), delete(1, 2));
+    let moved = (delete(2, 4), delete(1, 2));
+    becomes(&rt, rt.alloc(), "abcd", ops, moved, "ac");
 }
 
 #[test]
 fn deletions_of_one_item_become_no_ops(rt: HostRuntime) {
-    let both = delete(1, 2);
-    expect_eq(&rt, pair(both, both), (SeqOp::Nothing, SeqOp::Nothing));
-    expect_that(&rt, meet(rt.alloc(), "abcd", both, both, "acd"));
+    let ops = (delete(1, 2), delete(1, 2));
+    let moved = (SeqOp::Nothing, SeqOp::Nothing);
+    becomes(&rt, rt.alloc(), "abcd", ops, moved, "acd");
 }
 
 #[test]
 fn deletion_moves_up_past_an_insertion_at_its_place(rt: HostRuntime) {
-    let (c, s) = (delete(1, 2), insert(1, 2, 'Y'));
-    expect_eq(&rt, pair(c, s), (delete(2, 2), insert(1, 2, 'Y')));
-    expect_that(&rt, meet(rt.alloc(), "abcd", c, s, "aYcd"));
+    let ops = (delete(1, 2), insert(1, 2, 'Y'));
+    let moved = (delete(2, 2), insert(1, 2, 'Y'));
+    becomes(&rt, rt.alloc(), "abcd", ops, moved, "aYcd");
+}
+
+// A relabel and another operation on "pqr" end so, whichever of them is the client's.
+fn relabel_ends(
+    rt: &impl Abort,
+    own: TextOp,
+    other: TextOp,
+    moved: TextOp,
+    alloc: Global,
+    end: &str,
+) {
+    becomes(rt, alloc, "pqr", (own, other), (moved, other), end);
+    becomes(rt, alloc, "pqr", (other, own), (other, moved), end);
 }
 
 #[test]
@@ -173,21 +197,16 @@ fn relabel_moves_with_its_item(rt: HostRuntime) {
             "pzr",
         ),
     ] {
-        expect_eq(&rt, pair(own, other), (moved, other));
-        expect_that(&rt, meet(rt.alloc(), "pqr", own, other, end));
-        expect_eq(&rt, pair(other, own), (other, moved));
-        expect_that(&rt, meet(rt.alloc(), "pqr", other, own, end));
+        relabel_ends(&rt, own, other, moved, rt.alloc(), end);
     }
 }
 
 #[test]
 fn of_two_relabels_of_one_item_the_clients_applies(rt: HostRuntime) {
     let (c, s) = (relabel(1, 2, 'c'), relabel(1, 2, 's'));
-    expect_eq(&rt, pair(c, s), (c, SeqOp::Nothing));
-    expect_that(&rt, meet(rt.alloc(), "pqr", c, s, "pcr"));
+    becomes(&rt, rt.alloc(), "pqr", (c, s), (c, SeqOp::Nothing), "pcr");
     let (c, s) = (relabel(0, 1, 'c'), relabel(2, 3, 's'));
-    expect_eq(&rt, pair(c, s), (c, s));
-    expect_that(&rt, meet(rt.alloc(), "pqr", c, s, "cqs"));
+    becomes(&rt, rt.alloc(), "pqr", (c, s), (c, s), "cqs");
 }
 
 #[test]
@@ -253,27 +272,28 @@ fn relabel_as(place: u32, number: u32, value: Label) -> ListOp {
     }
 }
 
-#[test]
-fn relabel_of_a_list_moves_with_its_item(rt: HostRuntime) {
-    let alloc = rt.alloc();
-    let z = letter(&rt, b"z");
+fn moves_past_a_deletion(rt: &impl Abort, alloc: Global, z: Label) {
     let gone = SeqOp::Delete {
         place: 0,
         name: Name { site: 0, number: 1 },
     };
-    let end = [letter(&rt, b"q"), z];
-    let relabel = relabel_as(2, 3, z);
-    expect_that(&rt, lists_meet(&rt, alloc, relabel, gone, &end));
-    let put = SeqOp::Insert {
-        place: 1,
-        item: Item {
-            name: FIRST,
-            value: letter(&rt, b"y"),
-        },
-    };
-    let end = [letter(&rt, b"p"), letter(&rt, b"y"), z, letter(&rt, b"r")];
-    let relabel = relabel_as(1, 2, z);
-    expect_that(&rt, lists_meet(&rt, alloc, relabel, put, &end));
+    let end = [letter(rt, b"q"), z];
+    expect_that(rt, lists_meet(rt, alloc, relabel_as(2, 3, z), gone, &end));
+}
+
+fn moves_past_an_insertion(rt: &impl Abort, alloc: Global, z: Label) {
+    let value = letter(rt, b"y");
+    let item = Item { name: FIRST, value };
+    let put = SeqOp::Insert { place: 1, item };
+    let end = [letter(rt, b"p"), value, z, letter(rt, b"r")];
+    expect_that(rt, lists_meet(rt, alloc, relabel_as(1, 2, z), put, &end));
+}
+
+#[test]
+fn relabel_of_a_list_moves_with_its_item(rt: HostRuntime) {
+    let z = letter(&rt, b"z");
+    moves_past_a_deletion(&rt, rt.alloc(), z);
+    moves_past_an_insertion(&rt, rt.alloc(), z);
 }
 
 const FIRST: Name = Name { site: 1, number: 1 };
@@ -322,38 +342,50 @@ fn label_is_put_into_a_list_and_deleted(rt: HostRuntime) {
     expect_that(&rt, list.is_empty());
 }
 
+// A relabel of the first item of site 1.
+fn relabel_first(value: Label) -> ListOp {
+    SeqOp::Relabel {
+        place: 0,
+        name: FIRST,
+        value,
+    }
+}
+
+// The relabel says what it is, and has another name than any insertion.
+fn is_a_relabel(rt: &impl Abort, alloc: Global, relabel: &ListOp, label: Label, put: &ListOp) {
+    let due = SeqEdit::Relabelled(FIRST, label);
+    expect_eq(rt, relabel.edit(alloc), Ok(due));
+    expect_eq(rt, relabel.copy(alloc), Ok(*relabel));
+    expect_that(
+        rt,
+        relabel.apart(put) && put.apart(relabel) && put.fresh_after(relabel),
+    );
+}
+
+// The relabel of an item of another name is refused.
+fn is_refused(rt: &impl Abort, alloc: Global, list: &mut Seq<Label>, value: Label) {
+    let other: ListOp = SeqOp::Relabel {
+        place: 0,
+        name: Name { site: 1, number: 2 },
+        value,
+    };
+    expect_that(rt, !attempt(alloc, &other, list));
+}
+
 #[test]
 fn label_is_given_to_the_item_of_its_name_alone(rt: HostRuntime) {
-    let name = Name { site: 1, number: 1 };
     let red = Label::read(b"red").expect(&rt, "a label");
     let green = Label::read(b"green").expect(&rt, "a label");
-    let item = Item { name, value: red };
-    let put: ListOp = SeqOp::Insert { place: 0, item };
-    let relabel: ListOp = SeqOp::Relabel {
-        place: 0,
-        name,
-        value: green,
-    };
-    expect_eq(
-        &rt,
-        relabel.edit(rt.alloc()),
-        Ok(SeqEdit::Relabelled(name, green)),
-    );
-    expect_eq(&rt, relabel.copy(rt.alloc()), Ok(relabel));
-    expect_that(
-        &rt,
-        relabel.apart(&put) && put.apart(&relabel) && put.fresh_after(&relabel),
-    );
-
+    let (put, relabel) = (put_in(red), relabel_first(green));
+    is_a_relabel(&rt, rt.alloc(), &relabel, green, &put);
     let mut list = Seq::new(rt.alloc());
     expect_that(&rt, !attempt(rt.alloc(), &relabel, &mut list));
     expect_that(&rt, attempt(rt.alloc(), &put, &mut list));
     expect_that(&rt, attempt(rt.alloc(), &relabel, &mut list));
-    expect_eq(&rt, list.get(0), Some(&Item { name, value: green }));
-    let other: ListOp = SeqOp::Relabel {
-        place: 0,
-        name: Name { site: 1, number: 2 },
-        value: red,
+    let item = Item {
+        name: FIRST,
+        value: green,
     };
-    expect_that(&rt, !attempt(rt.alloc(), &other, &mut list));
+    expect_eq(&rt, list.get(0), Some(&item));
+    is_refused(&rt, rt.alloc(), &mut list, red);
 }

@@ -44,15 +44,19 @@ const SECOND: Item<char> = Item {
     value: 'b',
 };
 
+fn has_first_alone(rt: &impl Abort, seq: &Seq<char>) {
+    expect_eq(rt, seq.len(), 1);
+    expect_eq(rt, seq.place_of(FIRST.name), Some(0));
+    expect_eq(rt, seq.place_of(Name { site: 2, number: 1 }), None);
+}
+
 #[test]
 fn sequence_is_filled_and_emptied(rt: HostRuntime) {
     let mut seq = Seq::new(rt.alloc());
     expect_that(&rt, seq.is_empty());
     seq.reserve_one().expect(&rt, "memory");
     seq.insert(0, FIRST);
-    expect_eq(&rt, seq.len(), 1);
-    expect_eq(&rt, seq.place_of(FIRST.name), Some(0));
-    expect_eq(&rt, seq.place_of(Name { site: 2, number: 1 }), None);
+    has_first_alone(&rt, &seq);
     expect_eq(&rt, seq.remove(0), FIRST);
     expect_that(&rt, seq.is_empty());
     expect_eq(&rt, NoMemory.number(), 8);

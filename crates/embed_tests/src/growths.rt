@@ -1,37 +1,38 @@
 //! Failed allocations in the calls of a client, each test for the call of its name. `./growths` makes one after another of the allocations between the two
 //! marks fail. What fails says so and leaves the client as it was, and a second call does all that was asked for. But a client that was fed is over.
 use crate::expect::{expect_eq, expect_that};
-use crate::sessions::{GREETED, insertion, opened, says, switched};
+use crate::sessions::{GREETED, insertion, opens, says, switched, with_client};
 use jup_embed::{Client, EmbedFault, Stage};
 use jup_rules::ClientEnd;
+use jup_xform::NoMemory;
 use std::alloc::Global;
 use std::process::Abort;
 use test_marks::{begin, end};
 
-fn fresh(alloc: Global) -> Option<Client> {
+// Whether a client was made.
+fn is_made(rt: &impl Abort, alloc: Global) -> bool {
     begin(alloc);
     let made = Client::new(alloc, true);
     end(alloc);
-    made.ok()
+    match made {
+        Ok(client) => {
+            let shows = (client.stage(), client.waiting());
+            expect_eq(rt, shows, (Stage::Greeting, 8));
+            true
+        }
+        Err(NoMemory) => false,
+    }
 }
 
 #[test]
 fn client_new(rt: HostRuntime) {
-    let alloc = rt.alloc();
-    let client = match fresh(alloc) {
-        Some(client) => client,
-        None => fresh(alloc).expect(&rt, "memory"),
-    };
-    expect_eq(
-        &rt,
-        (client.stage(), client.waiting()),
-        (Stage::Greeting, 8),
-    );
+    if !is_made(&rt, rt.alloc()) {
+        expect_that(&rt, is_made(&rt, rt.alloc()));
+    }
 }
 
 // How a client takes the greeting of its server.
-fn fed(rt: &impl Abort, alloc: Global) -> Result<(), ClientEnd> {
-    let mut client = Client::new(alloc, true).expect(rt, "memory");
+fn fed(rt: &impl Abort, alloc: Global, client: &mut Client) -> Result<(), ClientEnd> {
     begin(alloc);
     let fed = client.feed(alloc, GREETED);
     end(alloc);
@@ -45,9 +46,9 @@ fn fed(rt: &impl Abort, alloc: Global) -> Result<(), ClientEnd> {
 
 #[test]
 fn client_feed(rt: HostRuntime) {
-    let mut outcome = fed(&rt, rt.alloc());
+    let mut outcome = with_client(&rt, rt.alloc(), true, fed);
     if outcome == Err(ClientEnd::NoMemory) {
-        outcome = fed(&rt, rt.alloc());
+        outcome = with_client(&rt, rt.alloc(), true, fed);
     }
     expect_eq(&rt, outcome, Ok(()));
 }
@@ -66,19 +67,22 @@ fn edited(alloc: Global, client: &mut Client) -> Result<(), EmbedFault> {
     edited
 }
 
-#[test]
-fn client_edit(rt: HostRuntime) {
-    let alloc = rt.alloc();
-    let mut client = opened(&rt, alloc);
-    if edited(alloc, &mut client) == Err(EmbedFault::NoMemory) {
-        is_untouched(&rt, &mut client);
-        expect_eq(&rt, edited(alloc, &mut client), Ok(()));
+fn edits(rt: &impl Abort, alloc: Global, client: &mut Client) {
+    opens(rt, alloc, client);
+    if edited(alloc, client) == Err(EmbedFault::NoMemory) {
+        is_untouched(rt, client);
+        expect_eq(rt, edited(alloc, client), Ok(()));
     }
     says(
-        &rt,
-        &mut client,
+        rt,
+        client,
         "batch 0 0 2\ndo 1 1 text ins 0 1.1 97\ndo 1 3 toggle set on\n",
     );
+}
+
+#[test]
+fn client_edit(rt: HostRuntime) {
+    with_client(&rt, rt.alloc(), true, edits);
 }
 
 fn pinged(alloc: Global, client: &mut Client) -> Result<(), EmbedFault> {
@@ -88,15 +92,18 @@ fn pinged(alloc: Global, client: &mut Client) -> Result<(), EmbedFault> {
     pinged
 }
 
+fn pings(rt: &impl Abort, alloc: Global, client: &mut Client) {
+    opens(rt, alloc, client);
+    if pinged(alloc, client) == Err(EmbedFault::NoMemory) {
+        is_untouched(rt, client);
+        expect_eq(rt, pinged(alloc, client), Ok(()));
+    }
+    says(rt, client, "ping 1\n");
+}
+
 #[test]
 fn client_ping(rt: HostRuntime) {
-    let alloc = rt.alloc();
-    let mut client = opened(&rt, alloc);
-    if pinged(alloc, &mut client) == Err(EmbedFault::NoMemory) {
-        is_untouched(&rt, &mut client);
-        expect_eq(&rt, pinged(alloc, &mut client), Ok(()));
-    }
-    says(&rt, &mut client, "ping 1\n");
+    with_client(&rt, rt.alloc(), true, pings);
 }
 
 fn left(alloc: Global, client: &mut Client) -> Result<(), EmbedFault> {
@@ -106,15 +113,18 @@ fn left(alloc: Global, client: &mut Client) -> Result<(), EmbedFault> {
     left
 }
 
+fn leaves(rt: &impl Abort, alloc: Global, client: &mut Client) {
+    opens(rt, alloc, client);
+    if left(alloc, client) == Err(EmbedFault::NoMemory) {
+        is_untouched(rt, client);
+        expect_eq(rt, left(alloc, client), Ok(()));
+    }
+    says(rt, client, "bye\n");
+}
+
 #[test]
 fn client_bye(rt: HostRuntime) {
-    let alloc = rt.alloc();
-    let mut client = opened(&rt, alloc);
-    if left(alloc, &mut client) == Err(EmbedFault::NoMemory) {
-        is_untouched(&rt, &mut client);
-        expect_eq(&rt, left(alloc, &mut client), Ok(()));
-    }
-    says(&rt, &mut client, "bye\n");
+    with_client(&rt, rt.alloc(), true, leaves);
 }
 
 // Whether a line of a user is done.
@@ -125,14 +135,17 @@ fn commanded(alloc: Global, client: &mut Client, line: &[u8]) -> bool {
     told.is_ok()
 }
 
+fn commands(rt: &impl Abort, alloc: Global, client: &mut Client) {
+    opens(rt, alloc, client);
+    let line = b"ins 1 1 0 char \"a\"";
+    if !commanded(alloc, client, line) {
+        is_untouched(rt, client);
+        expect_that(rt, commanded(alloc, client, line));
+    }
+    says(rt, client, "batch 0 0 1\ndo 1 1 text ins 0 1.1 97\n");
+}
+
 #[test]
 fn client_command(rt: HostRuntime) {
-    let alloc = rt.alloc();
-    let mut client = opened(&rt, alloc);
-    let line = b"ins 1 1 0 char \"a\"";
-    if !commanded(alloc, &mut client, line) {
-        is_untouched(&rt, &mut client);
-        expect_that(&rt, commanded(alloc, &mut client, line));
-    }
-    says(&rt, &mut client, "batch 0 0 1\ndo 1 1 text ins 0 1.1 97\n");
+    with_client(&rt, rt.alloc(), true, commands);
 }

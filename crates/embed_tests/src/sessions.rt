@@ -13,12 +13,24 @@ use std::str;
 pub(crate) const GREETED: &[u8] =
     b"welcome 1 100\nwindow 1\ntext 1\nchar 0.1 104\nchar 0.2 105\nlist 2\nitem 0.3 tea\ntoggle 3 off\nslider 4 0 10 5\nready\n";
 
-/// A client that was greeted and is watched, and whose greeting was sent.
-pub(crate) fn opened(rt: &impl Abort, alloc: Global) -> Client {
-    let mut client = Client::new(alloc, true).expect(rt, "memory");
+/// Plays with a client before its first byte, and returns what the play returns. Only this function has a client in its hands, since a
+/// function that has one is proved in the time of several that borrow it.
+pub(crate) fn with_client<R: Abort, T, P: FnOnce(&R, Global, &mut Client) -> T>(
+    rt: &R,
+    alloc: Global,
+    is_watched: bool,
+    play: P,
+) -> T
+    requires { P.IsAlwaysCallable play }
+{
+    let mut client = Client::new(alloc, is_watched).expect(rt, "memory");
+    play(rt, alloc, &mut client)
+}
+
+/// The client is greeted, and its own greeting is sent.
+pub(crate) fn opens(rt: &impl Abort, alloc: Global, client: &mut Client) {
     expect_eq(rt, client.feed(alloc, GREETED), Ok(()));
-    says(rt, &mut client, "hello 3\n");
-    client
+    says(rt, client, "hello 3\n");
 }
 
 // These bytes wait to be sent, and no others. They are taken.
@@ -49,46 +61,54 @@ pub(crate) fn switched() -> Command {
 
 #[test]
 fn bytes_are_taken_in_order_and_once(rt: HostRuntime) {
-    let mut client = Client::new(rt.alloc(), false).expect(&rt, "memory");
+    with_client(&rt, rt.alloc(), false, takes_its_greeting);
+}
+
+fn takes_its_greeting(rt: &impl Abort, _alloc: Global, client: &mut Client) {
     let mut piece = [0u8; 3];
-    expect_eq(&rt, client.move_out(&mut piece), 3);
-    expect_eq(&rt, piece, *b"hel");
-    says(&rt, &mut client, "lo 3\n");
-    expect_eq(&rt, client.move_out(&mut piece), 0);
+    expect_eq(rt, client.move_out(&mut piece), 3);
+    expect_eq(rt, piece, *b"hel");
+    says(rt, client, "lo 3\n");
+    expect_eq(rt, client.move_out(&mut piece), 0);
 }
 
 #[test]
 fn a_board_comes_byte_by_byte(rt: HostRuntime) {
-    let alloc = rt.alloc();
-    let mut client = Client::new(alloc, false).expect(&rt, "memory");
-    expect_eq(&rt, client.stage(), Stage::Greeting);
+    with_client(&rt, rt.alloc(), false, hears_bytes);
+}
+
+fn hears_bytes(rt: &impl Abort, alloc: Global, client: &mut Client) {
+    expect_eq(rt, client.stage(), Stage::Greeting);
     let last = GREETED.len() - 1;
     for k in 0..last {
-        expect_that(&rt, client.board().is_none() && client.site().is_none());
-        expect_eq(&rt, client.feed(alloc, &GREETED[k..=k]), Ok(()));
+        expect_that(rt, client.board().is_none() && client.site().is_none());
+        expect_eq(rt, client.feed(alloc, &GREETED[k..=k]), Ok(()));
         // The first line has 14 bytes.
         let due = if k < 13 {
             Stage::Greeting
         } else {
             Stage::Opening
         };
-        expect_eq(&rt, client.stage(), due);
+        expect_eq(rt, client.stage(), due);
     }
-    expect_eq(&rt, client.feed(alloc, &GREETED[last..]), Ok(()));
-    expect_eq(&rt, client.stage(), Stage::Open);
-    expect_eq(&rt, client.site(), Some((1, 0)));
+    expect_eq(rt, client.feed(alloc, &GREETED[last..]), Ok(()));
+    expect_eq(rt, client.stage(), Stage::Open);
+    expect_eq(rt, client.site(), Some((1, 0)));
 }
 
 #[test]
 fn an_edit_is_shown_said_and_told(rt: HostRuntime) {
-    let alloc = rt.alloc();
-    let mut client = opened(&rt, alloc);
+    with_client(&rt, rt.alloc(), true, makes_an_edit);
+}
+
+fn makes_an_edit(rt: &impl Abort, alloc: Global, client: &mut Client) {
+    opens(rt, alloc, client);
     let edited = client.edit(alloc, &[insertion(1), switched()]);
-    expect_eq(&rt, edited, Ok(()));
-    expect_eq(&rt, client.site(), Some((1, 1)));
+    expect_eq(rt, edited, Ok(()));
+    expect_eq(rt, client.site(), Some((1, 1)));
     says(
-        &rt,
-        &mut client,
+        rt,
+        client,
         "batch 0 0 2\ndo 1 1 text ins 1 1.1 97\ndo 1 3 toggle set on\n",
     );
     let item = Item {
@@ -96,15 +116,15 @@ fn an_edit_is_shown_said_and_told(rt: HostRuntime) {
         value: 'a',
     };
     told(
-        &rt,
-        &mut client,
+        rt,
+        client,
         1,
         WidgetOp::Text(SeqOp::Insert { place: 1, item }),
     );
-    told(&rt, &mut client, 3, WidgetOp::Toggle(SetOp::Set(true)));
-    expect_eq(&rt, client.next_change(), None);
-    expect_eq(&rt, client.feed(alloc, b"ack 1\n"), Ok(()));
-    expect_eq(&rt, client.site(), Some((1, 0)));
+    told(rt, client, 3, WidgetOp::Toggle(SetOp::Set(true)));
+    expect_eq(rt, client.next_change(), None);
+    expect_eq(rt, client.feed(alloc, b"ack 1\n"), Ok(()));
+    expect_eq(rt, client.site(), Some((1, 0)));
 }
 
 // The oldest change is this one, of a widget of window 1.
@@ -115,76 +135,85 @@ fn told(rt: &impl Abort, client: &mut Client, wid: u16, op: WidgetOp) {
 // The other inserted its item at place 1 of the two that were there; the own one at place 0 is before it.
 #[test]
 fn an_edit_of_another_is_told_as_the_board_took_it(rt: HostRuntime) {
-    let alloc = rt.alloc();
-    let mut client = opened(&rt, alloc);
-    expect_eq(&rt, client.edit(alloc, &[insertion(0)]), Ok(()));
+    with_client(&rt, rt.alloc(), true, hears_an_edit);
+}
+
+fn hears_an_edit(rt: &impl Abort, alloc: Global, client: &mut Client) {
+    opens(rt, alloc, client);
+    expect_eq(rt, client.edit(alloc, &[insertion(0)]), Ok(()));
     let fed = client.feed(
         alloc,
         b"batch 0 0 2\ndo 1 1 text ins 1 2.1 98\ndo 1 2 list rel 0 0.3 milk\n",
     );
-    expect_eq(&rt, fed, Ok(()));
-    expect_that(&rt, client.next_change().is_some());
+    expect_eq(rt, fed, Ok(()));
+    expect_that(rt, client.next_change().is_some());
     let item = Item {
         name: Name { site: 2, number: 1 },
         value: 'b',
     };
     told(
-        &rt,
-        &mut client,
+        rt,
+        client,
         1,
         WidgetOp::Text(SeqOp::Insert { place: 2, item }),
     );
     let relabel = SeqOp::Relabel {
         place: 0,
         name: Name { site: 0, number: 3 },
-        value: Label::read(b"milk").expect(&rt, "a label"),
+        value: Label::read(b"milk").expect(rt, "a label"),
     };
-    told(&rt, &mut client, 2, WidgetOp::List(relabel));
-    expect_eq(&rt, client.next_change(), None);
+    told(rt, client, 2, WidgetOp::List(relabel));
+    expect_eq(rt, client.next_change(), None);
 }
 
 #[test]
 fn nothing_is_told_of_a_client_that_nobody_watches(rt: HostRuntime) {
-    let alloc = rt.alloc();
-    let mut client = Client::new(alloc, false).expect(&rt, "memory");
-    expect_eq(&rt, client.feed(alloc, GREETED), Ok(()));
-    expect_eq(&rt, client.edit(alloc, &[insertion(0)]), Ok(()));
-    expect_eq(&rt, client.next_change(), None);
+    with_client(&rt, rt.alloc(), false, tells_nothing);
+}
+
+fn tells_nothing(rt: &impl Abort, alloc: Global, client: &mut Client) {
+    opens(rt, alloc, client);
+    expect_eq(rt, client.edit(alloc, &[insertion(0)]), Ok(()));
+    expect_eq(rt, client.next_change(), None);
 }
 
 #[test]
 fn refused_edits_have_their_numbers(rt: HostRuntime) {
-    let alloc = rt.alloc();
-    let mut client = Client::new(alloc, true).expect(&rt, "memory");
-    let refused = client.edit(alloc, &[insertion(0)]);
-    expect_eq(&rt, refused.map_err(|fault| fault.number()), Err(91));
-    expect_eq(&rt, client.feed(alloc, GREETED), Ok(()));
-    says(&rt, &mut client, "hello 3\n");
+    with_client(&rt, rt.alloc(), true, refuses_edits);
+}
+
+// An edit is refused by this number.
+fn refuses(rt: &impl Abort, alloc: Global, client: &mut Client, edit: &[Command], number: u32) {
+    match client.edit(alloc, edit) {
+        Ok(()) => expect_that(rt, false),
+        Err(fault) => expect_eq(rt, fault.number(), number),
+    }
+}
+
+fn refuses_edits(rt: &impl Abort, alloc: Global, client: &mut Client) {
+    refuses(rt, alloc, client, &[insertion(0)], 91);
+    opens(rt, alloc, client);
     // The second command is refused, so the first is not made either.
-    let refused = client.edit(alloc, &[insertion(0), insertion(9)]);
-    expect_eq(&rt, refused.map_err(|fault| fault.number()), Err(4));
-    let refused = client.edit(alloc, &[switched(); 33]);
-    expect_eq(&rt, refused.map_err(|fault| fault.number()), Err(15));
-    expect_eq(&rt, client.waiting(), 0);
-    expect_eq(&rt, client.next_change(), None);
-    expect_eq(&rt, client.site(), Some((1, 0)));
+    refuses(rt, alloc, client, &[insertion(0), insertion(9)], 4);
+    refuses(rt, alloc, client, &[switched(); 33], 15);
+    expect_eq(rt, client.waiting(), 0);
+    expect_eq(rt, client.next_change(), None);
+    expect_eq(rt, client.site(), Some((1, 0)));
 }
 
 #[test]
 fn a_ping_is_answered(rt: HostRuntime) {
-    let alloc = rt.alloc();
-    let mut client = opened(&rt, alloc);
-    for number in 1..=2u32 {
-        expect_eq(&rt, client.ping(alloc), Ok(()));
-        expect_that(&rt, !client.is_synced());
-        let (line, answer) = if number == 1 {
-            ("ping 1\n", "pong 1\n")
-        } else {
-            ("ping 2\n", "pong 2\n")
-        };
-        says(&rt, &mut client, line);
-        expect_eq(&rt, client.feed(alloc, answer.as_bytes()), Ok(()));
-        expect_that(&rt, client.is_synced());
+    with_client(&rt, rt.alloc(), true, pings);
+}
+
+fn pings(rt: &impl Abort, alloc: Global, client: &mut Client) {
+    opens(rt, alloc, client);
+    for &(line, answer) in &[("ping 1\n", "pong 1\n"), ("ping 2\n", "pong 2\n")] {
+        expect_eq(rt, client.ping(alloc), Ok(()));
+        expect_that(rt, !client.is_synced());
+        says(rt, client, line);
+        expect_eq(rt, client.feed(alloc, answer.as_bytes()), Ok(()));
+        expect_that(rt, client.is_synced());
     }
 }
 
@@ -202,30 +231,30 @@ fn answers(rt: &impl Abort, alloc: Global, client: &mut Client, line: &[u8], due
 
 #[test]
 fn lines_of_a_user_are_done(rt: HostRuntime) {
-    let alloc = rt.alloc();
-    let mut client = opened(&rt, alloc);
+    with_client(&rt, rt.alloc(), true, does_lines);
+}
+
+fn does_lines(rt: &impl Abort, alloc: Global, client: &mut Client) {
+    opens(rt, alloc, client);
     for &(line, due) in &[
+        ("ins 1 1 0 char \"a\"", "made ins 1 1 1.1 \"a\"\n"),
+        ("what", "bad command\n"),
+        ("del 1 1 9", "refused 4\n"),
+        ("batch 2", ""),
+        ("del 1 1 0", ""),
+        ("set 1 3 on", "made del 1 1 1.1; set 1 3 on\n"),
+        ("sync", "synced\n"),
         (
-            b"ins 1 1 0 char \"a\"".as_slice(),
-            "made ins 1 1 1.1 \"a\"\n",
-        ),
-        (b"what".as_slice(), "bad command\n"),
-        (b"del 1 1 9".as_slice(), "refused 4\n"),
-        (b"batch 2".as_slice(), ""),
-        (b"del 1 1 0".as_slice(), ""),
-        (b"set 1 3 on".as_slice(), "made del 1 1 1.1; set 1 3 on\n"),
-        (b"sync".as_slice(), "synced\n"),
-        (
-            b"show".as_slice(),
+            "show",
             "window 1\ntext 1 \"hi\"\nlist 2 \"tea\"\ntoggle 3 on\nslider 4 0 10 5\n",
         ),
-        (b"quit".as_slice(), "bye\n"),
+        ("quit", "bye\n"),
     ] {
-        answers(&rt, alloc, &mut client, line, due);
+        answers(rt, alloc, client, line.as_bytes(), due);
     }
     says(
-        &rt,
-        &mut client,
+        rt,
+        client,
         "batch 0 0 1\ndo 1 1 text ins 0 1.1 97\nbatch 1 0 2\ndo 1 1 text del 0 1.1\ndo 1 3 toggle set on\nping 1\nbye\n",
     );
 }
@@ -239,21 +268,30 @@ fn a_fault_ends_the_session(rt: HostRuntime) {
         ("welcom\n", 40),
         ("welcome 1 100\nwindow 0\nready\n", 12),
     ] {
-        let mut client = Client::new(alloc, true).expect(&rt, "memory");
-        let end = ClientEnd::Fault(number);
-        expect_eq(&rt, client.feed(alloc, line.as_bytes()), Err(end));
-        expect_eq(&rt, client.stage(), Stage::Over(end));
-        expect_eq(&rt, client.feed(alloc, GREETED), Err(end));
-        let refused = client.edit(alloc, &[insertion(0)]);
-        expect_eq(&rt, refused, Err(EmbedFault::Over(end)));
-        says(&rt, &mut client, "hello 3\n");
+        with_client(&rt, alloc, true, |rt, alloc, client| {
+            ends(rt, alloc, client, line, number)
+        });
     }
+}
+
+// The line ends the session, and nothing is done after it.
+fn ends(rt: &impl Abort, alloc: Global, client: &mut Client, line: &str, number: u32) {
+    let end = ClientEnd::Fault(number);
+    expect_eq(rt, client.feed(alloc, line.as_bytes()), Err(end));
+    expect_eq(rt, client.stage(), Stage::Over(end));
+    expect_eq(rt, client.feed(alloc, GREETED), Err(end));
+    let refused = client.edit(alloc, &[insertion(0)]);
+    expect_eq(rt, refused, Err(EmbedFault::Over(end)));
+    says(rt, client, "hello 3\n");
 }
 
 #[test]
 fn a_goodbye_waits_to_be_sent(rt: HostRuntime) {
-    let alloc = rt.alloc();
-    let mut client = opened(&rt, alloc);
-    expect_eq(&rt, client.bye(alloc), Ok(()));
-    says(&rt, &mut client, "bye\n");
+    with_client(&rt, rt.alloc(), true, goodbye);
+}
+
+fn goodbye(rt: &impl Abort, alloc: Global, client: &mut Client) {
+    opens(rt, alloc, client);
+    expect_eq(rt, client.bye(alloc), Ok(()));
+    says(rt, client, "bye\n");
 }

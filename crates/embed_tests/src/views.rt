@@ -1,7 +1,7 @@
 //! A board as it is read from outside.
 use crate::expect::expect_eq;
-use crate::sessions::opened;
-use jup_embed::{WidgetKind, WidgetView, copy_label, copy_text, widget_view, window_view};
+use crate::sessions::{opens, with_client};
+use jup_embed::{Client, WidgetKind, WidgetView, copy_label, copy_text, widget_view, window_view};
 use jup_value::Label;
 use jup_window::Board;
 use std::alloc::Global;
@@ -49,18 +49,22 @@ fn windows_and_widgets_are_read_by_their_indices(rt: HostRuntime) {
 
 #[test]
 fn characters_are_copied_from_a_place_on(rt: HostRuntime) {
-    let client = opened(&rt, rt.alloc());
-    let board = client.board().expect(&rt, "an open session");
+    with_client(&rt, rt.alloc(), true, shows_characters);
+}
+
+fn shows_characters(rt: &impl Abort, alloc: Global, client: &mut Client) {
+    opens(rt, alloc, client);
+    let board = client.board().expect(rt, "an open session");
     let mut to = [0u32; 3];
-    expect_eq(&rt, copy_text(board, 1, 1, 0, &mut to), Some(2));
-    expect_eq(&rt, to, [104, 105, 0]);
-    expect_eq(&rt, copy_text(board, 1, 1, 1, &mut to), Some(1));
-    expect_eq(&rt, to, [105, 105, 0]);
-    expect_eq(&rt, copy_text(board, 1, 1, 0, &mut to[..1]), Some(1));
-    expect_eq(&rt, to, [104, 105, 0]);
-    expect_eq(&rt, copy_text(board, 1, 1, 9, &mut to), Some(0));
-    expect_eq(&rt, copy_text(board, 1, 2, 0, &mut to), None);
-    expect_eq(&rt, copy_text(board, 2, 1, 0, &mut to), None);
+    expect_eq(rt, copy_text(board, 1, 1, 0, &mut to), Some(2));
+    expect_eq(rt, to, [104, 105, 0]);
+    expect_eq(rt, copy_text(board, 1, 1, 1, &mut to), Some(1));
+    expect_eq(rt, to, [105, 105, 0]);
+    expect_eq(rt, copy_text(board, 1, 1, 0, &mut to[..1]), Some(1));
+    expect_eq(rt, to, [104, 105, 0]);
+    expect_eq(rt, copy_text(board, 1, 1, 9, &mut to), Some(0));
+    expect_eq(rt, copy_text(board, 1, 2, 0, &mut to), None);
+    expect_eq(rt, copy_text(board, 2, 1, 0, &mut to), None);
 }
 
 #[test]

@@ -84,6 +84,24 @@ fn is_message(gathered: &Gathered, msg: &Msg<BoardBatch>) -> bool {
     matches!(gathered, Gathered::Whole(whole) if whole == msg)
 }
 
+// A line is held, or gives the message. Whether it did.
+fn comes(
+    rt: &impl Abort,
+    alloc: Global,
+    gather: &mut Gather,
+    line: &Line,
+    msg: &Msg<BoardBatch>,
+) -> bool {
+    let gathered = push(rt, alloc, gather, line);
+    if gathered == Gathered::Held {
+        expect_that(rt, gather.part());
+        false
+    } else {
+        expect_that(rt, is_message(&gathered, msg));
+        true
+    }
+}
+
 // The bytes come in pieces of one size: the last of them gives the message, and no other gives anything.
 fn comes_in_pieces(
     rt: &impl Abort,
@@ -99,15 +117,9 @@ fn comes_in_pieces(
     for piece in bytes.chunks(size.max(1)) {
         let fed = reader.feed(alloc, piece).expect(rt, "memory");
         for line in fed.lines.as_slice() {
-            let gathered = push(rt, alloc, &mut gather, line);
             expect_that(rt, !came);
-            if gathered == Gathered::Held {
-                held = held.saturating_add(1);
-                expect_that(rt, gather.part());
-            } else {
-                came = is_message(&gathered, msg);
-                expect_that(rt, came);
-            }
+            came = comes(rt, alloc, &mut gather, line, msg);
+            held = held.saturating_add(usize::from(!came));
         }
     }
     expect_eq(rt, held, msg.op.as_slice().len());
@@ -135,16 +147,18 @@ fn message_of_one_operation_comes_whole(rt: HostRuntime) {
     comes_in_pieces(&rt, rt.alloc(), bytes.as_slice(), bytes.len(), &msg);
 }
 
+// A gathering gives this for a line.
+fn gives(rt: &impl Abort, alloc: Global, gather: &mut Gather, line: &Line, due: Gathered) {
+    expect_eq(rt, push(rt, alloc, gather, line), due);
+}
+
 #[test]
 fn other_lines_stand_alone(rt: HostRuntime) {
     let alloc = rt.alloc();
     let mut gather = Gather::new();
     for &line in &[Line::Hello, Line::Ack(64), Line::Ping(7), Line::Bye] {
-        expect_eq(
-            &rt,
-            push(&rt, alloc, &mut gather, &line),
-            Gathered::Plain(line),
-        );
+        let due = Gathered::Plain(line);
+        gives(&rt, alloc, &mut gather, &line, due);
         expect_that(&rt, !gather.part());
     }
 }
@@ -152,7 +166,7 @@ fn other_lines_stand_alone(rt: HostRuntime) {
 // After these lines every line is misplaced, whichever comes.
 fn is_stopped(rt: &impl Abort, alloc: Global, gather: &mut Gather) {
     for &line in &[Line::Ping(7), TWO, Line::Do(TOGGLED), Line::Bye] {
-        expect_eq(rt, push(rt, alloc, gather, &line), Gathered::Misplaced);
+        gives(rt, alloc, gather, &line, Gathered::Misplaced);
         expect_that(rt, !gather.part());
     }
 }
@@ -161,18 +175,12 @@ fn is_stopped(rt: &impl Abort, alloc: Global, gather: &mut Gather) {
 fn line_among_operations_is_misplaced_and_so_is_each_later_one(rt: HostRuntime) {
     let alloc = rt.alloc();
     let mut gather = Gather::new();
-    expect_eq(&rt, push(&rt, alloc, &mut gather, &TWO), Gathered::Held);
-    expect_eq(
-        &rt,
-        push(&rt, alloc, &mut gather, &Line::Do(TOGGLED)),
-        Gathered::Held,
-    );
+    gives(&rt, alloc, &mut gather, &TWO, Gathered::Held);
+    let toggled = Line::Do(TOGGLED);
+    gives(&rt, alloc, &mut gather, &toggled, Gathered::Held);
     expect_that(&rt, gather.part());
-    expect_eq(
-        &rt,
-        push(&rt, alloc, &mut gather, &Line::Ping(1)),
-        Gathered::Misplaced,
-    );
+    let ping = Line::Ping(1);
+    gives(&rt, alloc, &mut gather, &ping, Gathered::Misplaced);
     is_stopped(&rt, alloc, &mut gather);
 }
 
@@ -180,11 +188,8 @@ fn line_among_operations_is_misplaced_and_so_is_each_later_one(rt: HostRuntime) 
 fn operation_without_its_batch_line_is_misplaced_and_so_is_each_later_line(rt: HostRuntime) {
     let alloc = rt.alloc();
     let mut gather = Gather::new();
-    expect_eq(
-        &rt,
-        push(&rt, alloc, &mut gather, &Line::Do(TOGGLED)),
-        Gathered::Misplaced,
-    );
+    let toggled = Line::Do(TOGGLED);
+    gives(&rt, alloc, &mut gather, &toggled, Gathered::Misplaced);
     is_stopped(&rt, alloc, &mut gather);
 }
 
@@ -192,17 +197,13 @@ fn operation_without_its_batch_line_is_misplaced_and_so_is_each_later_line(rt: H
 fn batch_of_no_message_is_misplaced(rt: HostRuntime) {
     let alloc = rt.alloc();
     for &count in &[0, 33] {
-        let mut gather = Gather::new();
         let line = Line::Batch {
             mine: 0,
             heard: 0,
             count,
         };
-        expect_eq(
-            &rt,
-            push(&rt, alloc, &mut gather, &line),
-            Gathered::Misplaced,
-        );
+        let mut gather = Gather::new();
+        gives(&rt, alloc, &mut gather, &line, Gathered::Misplaced);
         is_stopped(&rt, alloc, &mut gather);
     }
 }

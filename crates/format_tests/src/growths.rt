@@ -9,7 +9,7 @@ use jup_seq::SeqEdit;
 use jup_text::{BoardReader, Untaken, read_quoted, write_board, write_edit};
 use jup_value::Name;
 use jup_window::{Board, BoardEdit, WidgetEdit};
-use jup_wire::{Line, Reader, WireFault, write};
+use jup_wire::{Fed, Line, Reader, WireFault, write};
 use jup_xform::{Few, NoMemory, OneOf};
 use std::alloc::Global;
 use std::process::Abort;
@@ -38,23 +38,35 @@ fn line_write(rt: HostRuntime) {
     expect_eq(&rt, written.as_slice(), wanted.as_bytes());
 }
 
+// What a reader gives for a piece. If an allocation failed first, it still held half a line.
+fn fed(rt: &impl Abort, alloc: Global, reader: &mut Reader, piece: &[u8]) -> Fed {
+    begin(alloc);
+    let first = reader.feed(alloc, piece);
+    end(alloc);
+    match first {
+        Ok(fed) => fed,
+        Err(_) => {
+            expect_eq(rt, reader.finish(), Err(WireFault::EarlyEnd));
+            reader.feed(alloc, piece).expect(rt, "memory")
+        }
+    }
+}
+
+// These lines were given, and no fault.
+fn gives(rt: &impl Abort, fed: &Fed, lines: &[Line]) {
+    expect_eq(rt, fed.lines.as_slice(), lines);
+    expect_eq(rt, fed.fault, None);
+}
+
 // The reader was given a line and a half, and is given the other half and a line.
 #[test]
 fn reader_feed(rt: HostRuntime) {
     let mut reader = Reader::new();
     let first = reader.feed(rt.alloc(), b"bye\npi").expect(&rt, "memory");
-    expect_eq(&rt, first.lines.as_slice(), [Line::Bye].as_slice());
-    begin(rt.alloc());
-    let mut fed = reader.feed(rt.alloc(), b"ng 1\nready\n");
-    end(rt.alloc());
-    if fed.is_err() {
-        expect_eq(&rt, reader.finish(), Err(WireFault::EarlyEnd));
-        fed = reader.feed(rt.alloc(), b"ng 1\nready\n");
-    }
-    let fed = fed.expect(&rt, "memory");
-    let lines = [Line::Ping(1), Line::Ready];
-    expect_eq(&rt, fed.lines.as_slice(), lines.as_slice());
-    expect_eq(&rt, (fed.fault, reader.finish()), (None, Ok(())));
+    gives(&rt, &first, &[Line::Bye]);
+    let second = fed(&rt, rt.alloc(), &mut reader, b"ng 1\nready\n");
+    gives(&rt, &second, &[Line::Ping(1), Line::Ready]);
+    expect_eq(&rt, reader.finish(), Ok(()));
 }
 
 // The board of a layout, or made again if an allocation failed.
@@ -68,21 +80,20 @@ fn laid(rt: &impl Abort, alloc: Global) -> Board {
     }
 }
 
-// The lines of a board, as bytes.
-fn spell(rt: &impl Abort, alloc: Global, lines: &[Line]) -> Vec<u8> {
+// Lines are written so.
+fn are_spelled(rt: &impl Abort, alloc: Global, lines: &[Line], due: &[u8]) {
     let mut written = Vec::new(alloc);
     for line in lines {
         append(alloc, line, &mut written).expect(rt, "memory");
     }
-    written
+    expect_eq(rt, written.as_slice(), due);
 }
 
 #[test]
 fn layout_text(rt: HostRuntime) {
     let board = laid(&rt, rt.alloc());
     let lines = lines_of(rt.alloc(), &board).expect(&rt, "memory");
-    let written = spell(&rt, rt.alloc(), lines.as_slice());
-    expect_eq(&rt, written.as_slice(), FOUR_WIDGETS);
+    are_spelled(&rt, rt.alloc(), lines.as_slice(), FOUR_WIDGETS);
 }
 
 // A board of four widgets.
@@ -94,14 +105,13 @@ fn four_widgets(rt: &impl Abort, alloc: Global) -> Board {
 fn board_lines_of(rt: HostRuntime) {
     let board = four_widgets(&rt, rt.alloc());
     begin(rt.alloc());
-    let mut lines = lines_of(rt.alloc(), &board);
+    let lines = lines_of(rt.alloc(), &board);
     end(rt.alloc());
-    if lines.is_err() {
-        lines = lines_of(rt.alloc(), &board);
-    }
-    let lines = lines.expect(&rt, "memory");
-    let written = spell(&rt, rt.alloc(), lines.as_slice());
-    expect_eq(&rt, written.as_slice(), FOUR_WIDGETS);
+    let lines = match lines {
+        Ok(lines) => lines,
+        Err(_) => lines_of(rt.alloc(), &board).expect(&rt, "memory"),
+    };
+    are_spelled(&rt, rt.alloc(), lines.as_slice(), FOUR_WIDGETS);
 }
 
 #[test]
@@ -109,11 +119,12 @@ fn board_of_lines(rt: HostRuntime) {
     let board = four_widgets(&rt, rt.alloc());
     let lines = lines_of(rt.alloc(), &board).expect(&rt, "memory");
     begin(rt.alloc());
-    let mut back = board_of(rt.alloc(), lines.as_slice());
+    let back = board_of(rt.alloc(), lines.as_slice());
     end(rt.alloc());
-    if matches!(back, Err(LayoutFault { number: 8, .. })) {
-        back = board_of(rt.alloc(), lines.as_slice());
-    }
+    let back = match back {
+        Err(LayoutFault { number: 8, .. }) => board_of(rt.alloc(), lines.as_slice()),
+        back => back,
+    };
     expect_that(&rt, back.expect(&rt, "a board's lines").same(&board));
 }
 
@@ -122,11 +133,12 @@ fn builder_take(rt: HostRuntime) {
     let board = four_widgets(&rt, rt.alloc());
     let lines = lines_of(rt.alloc(), &board).expect(&rt, "memory");
     begin(rt.alloc());
-    let mut back = build(rt.alloc(), lines.as_slice());
+    let back = build(rt.alloc(), lines.as_slice());
     end(rt.alloc());
-    if matches!(back, Err(LayoutFault { number: 8, .. })) {
-        back = build(rt.alloc(), lines.as_slice());
-    }
+    let back = match back {
+        Err(LayoutFault { number: 8, .. }) => build(rt.alloc(), lines.as_slice()),
+        back => back,
+    };
     expect_that(&rt, back.expect(&rt, "a board's lines").same(&board));
 }
 
@@ -134,13 +146,16 @@ fn builder_take(rt: HostRuntime) {
 fn gather_push(rt: HostRuntime) {
     let mut gather = Gather::new();
     begin(rt.alloc());
-    let mut gathered = gather.push(rt.alloc(), &TWO);
+    let gathered = gather.push(rt.alloc(), &TWO);
     end(rt.alloc());
-    if gathered == Err(NoMemory) {
-        expect_that(&rt, !gather.part());
-        gathered = gather.push(rt.alloc(), &TWO);
-    }
-    expect_eq(&rt, gathered, Ok(Gathered::Held));
+    let gathered = match gathered {
+        Ok(gathered) => gathered,
+        Err(_) => {
+            expect_that(&rt, !gather.part());
+            push(&rt, rt.alloc(), &mut gather, &TWO)
+        }
+    };
+    expect_eq(&rt, gathered, Gathered::Held);
     let next = push(&rt, rt.alloc(), &mut gather, &Line::Do(TOGGLED));
     expect_eq(&rt, next, Gathered::Held);
     expect_that(&rt, gather.part());
@@ -150,18 +165,14 @@ fn gather_push(rt: HostRuntime) {
 fn message_lines_of_op(rt: HostRuntime) {
     let msg = message(&rt, rt.alloc(), 2);
     begin(rt.alloc());
-    let mut lines = lines_of_op(rt.alloc(), &msg);
+    let lines = lines_of_op(rt.alloc(), &msg);
     end(rt.alloc());
-    if lines.is_err() {
-        lines = lines_of_op(rt.alloc(), &msg);
-    }
-    let lines = lines.expect(&rt, "memory");
-    let written = spell(&rt, rt.alloc(), lines.as_slice());
-    expect_eq(
-        &rt,
-        written.as_slice(),
-        b"batch 5 7 2\ndo 1 1 text ins 0 1.1 97\ndo 1 1 text ins 0 1.2 97\n".as_slice(),
-    );
+    let lines = match lines {
+        Ok(lines) => lines,
+        Err(_) => lines_of_op(rt.alloc(), &msg).expect(&rt, "memory"),
+    };
+    let due = b"batch 5 7 2\ndo 1 1 text ins 0 1.1 97\ndo 1 1 text ins 0 1.2 97\n";
+    are_spelled(&rt, rt.alloc(), lines.as_slice(), due);
 }
 
 const PRINTED: &str = "window 1\ntext 1 \"z\"\nlist 2 \"red\"\ntoggle 3 off\nslider 4 0 10 5\n";

@@ -1,4 +1,7 @@
 //! Layouts written by hand, their refusals with their lines, and boards taken back from their lines.
+ghost use Rattle.std.specs.Prelude.{◌≤◌, length};
+ghost use Rattle.jup_limits.specs.Limits.{longest_input};
+
 use crate::expect::{expect_eq, expect_that};
 use jup_layout::{BoardBuilder, LayoutFault, board_of, layout, lines_of};
 use jup_value::Name;
@@ -23,6 +26,13 @@ fn fault(line: u32, number: u32) -> LayoutFault {
 // The layout is refused so.
 fn check_fault(rt: &impl Abort, made: Result<Board, LayoutFault>, line: u32, number: u32) {
     expect_eq(rt, made.err(), Some(fault(line, number)));
+}
+
+// The bytes are refused as a layout so.
+fn is_refused(rt: &impl Abort, alloc: Global, text: &[u8], line: u32, number: u32)
+    requires { length text.now ≤ longest_input }
+{
+    check_fault(rt, layout(alloc, text), line, number);
 }
 
 // The bytes of a board's lines, which make that board again.
@@ -66,20 +76,16 @@ fn empty_layout_has_no_windows(rt: HostRuntime) {
 #[test]
 fn lines_out_of_place_are_refused(rt: HostRuntime) {
     let alloc = rt.alloc();
-    check_fault(&rt, layout(alloc, b"char 0.1 122\n"), 1, 44);
-    check_fault(&rt, layout(alloc, b"text 1\n"), 1, 44);
-    check_fault(&rt, layout(alloc, b"slider 1 5 0 0\n"), 1, 44);
-    check_fault(&rt, layout(alloc, b"ready\n"), 1, 44);
-    check_fault(
+    is_refused(&rt, alloc, b"char 0.1 122\n", 1, 44);
+    is_refused(&rt, alloc, b"text 1\n", 1, 44);
+    is_refused(&rt, alloc, b"slider 1 5 0 0\n", 1, 44);
+    is_refused(&rt, alloc, b"ready\n", 1, 44);
+    is_refused(&rt, alloc, b"window 1\ntext 1\nitem 0.1 red\n", 3, 44);
+    is_refused(&rt, alloc, b"window 1\nitem 0.1 red\n", 2, 44);
+    is_refused(
         &rt,
-        layout(alloc, b"window 1\ntext 1\nitem 0.1 red\n"),
-        3,
-        44,
-    );
-    check_fault(&rt, layout(alloc, b"window 1\nitem 0.1 red\n"), 2, 44);
-    check_fault(
-        &rt,
-        layout(alloc, b"window 1\nlist 1\nwindow 2\nchar 0.1 122\n"),
+        alloc,
+        b"window 1\nlist 1\nwindow 2\nchar 0.1 122\n",
         4,
         44,
     );
@@ -105,43 +111,33 @@ fn refused_windows_and_widgets_have_their_line(rt: HostRuntime) {
     let alloc = rt.alloc();
     let twice =
         b"window 1\ntext 1\nchar 0.1 122\nlist 2\nitem 0.2 red\ntoggle 3 off\nslider 4 0 10 5\nwindow 1\n";
-    check_fault(&rt, layout(alloc, twice), 8, 10);
+    is_refused(&rt, alloc, twice, 8, 10);
     let outside =
         b"window 1\ntext 1\nchar 0.1 122\nlist 2\nitem 0.2 red\ntoggle 3 off\nslider 4 0 10 11\n";
-    check_fault(&rt, layout(alloc, outside), 7, 13);
-    check_fault(&rt, layout(alloc, b"window 0\n"), 1, 12);
-    check_fault(&rt, layout(alloc, b"window 1\ntext 0\n"), 2, 12);
-    check_fault(&rt, layout(alloc, b"window 1\ntext 2\nlist 2\n"), 3, 10);
+    is_refused(&rt, alloc, outside, 7, 13);
+    is_refused(&rt, alloc, b"window 0\n", 1, 12);
+    is_refused(&rt, alloc, b"window 1\ntext 0\n", 2, 12);
+    is_refused(&rt, alloc, b"window 1\ntext 2\nlist 2\n", 3, 10);
 }
 
 #[test]
 fn items_of_a_layout_are_numbered(rt: HostRuntime) {
     let alloc = rt.alloc();
-    check_fault(
-        &rt,
-        layout(alloc, b"window 1\ntext 1\nchar 1.1 122\n"),
-        3,
-        45,
-    );
-    check_fault(
-        &rt,
-        layout(alloc, b"window 1\ntext 1\nchar 0.2 122\n"),
-        3,
-        45,
-    );
+    is_refused(&rt, alloc, b"window 1\ntext 1\nchar 1.1 122\n", 3, 45);
+    is_refused(&rt, alloc, b"window 1\ntext 1\nchar 0.2 122\n", 3, 45);
     let again = b"window 1\ntext 1\nchar 0.1 122\ntext 2\nchar 0.1 122\n";
-    check_fault(&rt, layout(alloc, again), 5, 45);
+    is_refused(&rt, alloc, again, 5, 45);
 }
 
 #[test]
 fn bytes_of_a_layout_that_are_no_line_have_their_line(rt: HostRuntime) {
     let alloc = rt.alloc();
-    check_fault(&rt, layout(alloc, b"window 1"), 1, 43);
-    check_fault(&rt, layout(alloc, b"window 1\ntext 01\n"), 2, 40);
-    check_fault(&rt, layout(alloc, &[b'x'; 256]), 1, 41);
-    check_fault(&rt, layout(alloc, b"window 1\nhello 1\n"), 2, 42);
+    is_refused(&rt, alloc, b"window 1", 1, 43);
+    is_refused(&rt, alloc, b"window 1\ntext 01\n", 2, 40);
+    is_refused(&rt, alloc, &[b'x'; 256], 1, 41);
+    is_refused(&rt, alloc, b"window 1\nhello 1\n", 2, 42);
     // The first line that has a fault counts.
-    check_fault(&rt, layout(alloc, b"window 0\nwindow 01\n"), 1, 12);
+    is_refused(&rt, alloc, b"window 0\nwindow 01\n", 1, 12);
 }
 
 #[test]
@@ -204,5 +200,5 @@ fn text_of_a_layout_has_at_most_65536_items(rt: HostRuntime) {
     expect_that(&rt, board.is_ok());
     let longer = long_layout(&rt, alloc, 65_537);
     assert!(&rt; longer.len() < 16_000_000);
-    check_fault(&rt, layout(alloc, &longer), 65_539, 11);
+    is_refused(&rt, alloc, &longer, 65_539, 11);
 }

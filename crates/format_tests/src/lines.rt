@@ -33,6 +33,25 @@ fn feed(rt: &impl Abort, alloc: Global, reader: &mut Reader, piece: &[u8]) -> Fe
     reader.feed(alloc, piece).expect(rt, "memory")
 }
 
+// A reader gives these lines for a piece, and this fault or none.
+fn gives(
+    rt: &impl Abort,
+    alloc: Global,
+    reader: &mut Reader,
+    piece: &[u8],
+    lines: &[Line],
+    fault: Option<WireFault>,
+) {
+    let fed = feed(rt, alloc, reader, piece);
+    expect_eq(rt, fed.lines.as_slice(), lines);
+    expect_eq(rt, fed.fault, fault);
+}
+
+// The bytes of a line that a new reader refuses, and gives nothing for.
+fn is_refused(rt: &impl Abort, alloc: Global, text: &[u8], fault: WireFault) {
+    gives(rt, alloc, &mut Reader::new(), text, &[], Some(fault));
+}
+
 // Whether a reader gives just this line.
 fn is_line(fed: &Fed, line: &Line) -> bool {
     fed.fault.is_none() && fed.lines.as_slice().len() == 1 && fed.lines.as_slice().contains(line)
@@ -76,27 +95,37 @@ fn fault_of(text: &[u8]) -> Option<WireFault> {
     }
 }
 
+// A reader gives no line for a byte that ends none.
+fn gives_nothing_yet(rt: &impl Abort, alloc: Global, reader: &mut Reader, byte: u8) {
+    let none = feed(rt, alloc, reader, &[byte]);
+    expect_that(rt, none.lines.as_slice().is_empty());
+    expect_eq(rt, reader.finish(), Err(WireFault::EarlyEnd));
+}
+
 // These bytes are read as the line, byte by byte.
 fn is_read_in_bytes(rt: &impl Abort, alloc: Global, line: &Line, text: &[u8]) {
     let mut cut = Reader::new();
     let (line_feed, before) = text.split_last().expect(rt, "a line feed");
     for byte in before {
-        let none = feed(rt, alloc, &mut cut, &[*byte]);
-        expect_that(rt, none.lines.as_slice().is_empty());
-        expect_eq(rt, cut.finish(), Err(WireFault::EarlyEnd));
+        gives_nothing_yet(rt, alloc, &mut cut, *byte);
     }
     let last = feed(rt, alloc, &mut cut, &[*line_feed]);
     expect_that(rt, is_line(&last, line));
+}
+
+// These bytes are read as the line, in one piece.
+fn is_read_whole(rt: &impl Abort, alloc: Global, line: &Line, text: &[u8]) {
+    let mut whole = Reader::new();
+    let all = feed(rt, alloc, &mut whole, text);
+    expect_that(rt, is_line(&all, line));
+    expect_eq(rt, whole.finish(), Ok(()));
 }
 
 // The line is written so, and these bytes are read as it, whole and byte by byte.
 fn check_line(rt: &impl Abort, alloc: Global, line: &Line, text: &[u8]) {
     expect_that(rt, has_spelling(line));
     is_written(rt, alloc, line, text);
-    let mut whole = Reader::new();
-    let all = feed(rt, alloc, &mut whole, text);
-    expect_that(rt, is_line(&all, line));
-    expect_eq(rt, whole.finish(), Ok(()));
+    is_read_whole(rt, alloc, line, text);
     is_read_in_bytes(rt, alloc, line, text);
     is_read_by_itself(rt, line, text);
 }
@@ -162,53 +191,37 @@ fn batches_as_bytes(rt: HostRuntime) {
     is_not_written(&rt, rt.alloc(), &batch(0, 0, 33));
 }
 
+// Operations on a text, as bytes.
+fn check_text(rt: &impl Abort, alloc: Global, win: u16, wid: u16, op: SeqOp<char>, text: &[u8]) {
+    check_line(rt, alloc, &operation(win, wid, WidgetOp::Text(op)), text);
+}
+
+// Operations on the list 2 of window 1, as bytes.
+fn check_list(rt: &impl Abort, alloc: Global, op: SeqOp<Label>, text: &[u8]) {
+    check_line(rt, alloc, &operation(1, 2, WidgetOp::List(op)), text);
+}
+
 #[test]
 fn operations_as_bytes(rt: HostRuntime) {
-    let insert = WidgetOp::Text(SeqOp::Insert {
-        place: 0,
-        item: Item {
-            name: name(1, 1),
-            value: 'a',
-        },
-    });
-    check_line(
-        &rt,
-        rt.alloc(),
-        &operation(1, 1, insert),
-        b"do 1 1 text ins 0 1.1 97\n",
-    );
-    let delete = WidgetOp::Text(SeqOp::Delete {
+    let alloc = rt.alloc();
+    let item = Item {
+        name: name(1, 1),
+        value: 'a',
+    };
+    let insert = SeqOp::Insert { place: 0, item };
+    check_text(&rt, alloc, 1, 1, insert, b"do 1 1 text ins 0 1.1 97\n");
+    let delete = SeqOp::Delete {
         place: 5,
         name: name(2, 3),
-    });
-    check_line(
-        &rt,
-        rt.alloc(),
-        &operation(3, 4, delete),
-        b"do 3 4 text del 5 2.3\n",
-    );
-    check_line(
-        &rt,
-        rt.alloc(),
-        &operation(1, 1, WidgetOp::Text(SeqOp::Nothing)),
-        b"do 1 1 text no\n",
-    );
-    let delete = WidgetOp::List(SeqOp::Delete {
+    };
+    check_text(&rt, alloc, 3, 4, delete, b"do 3 4 text del 5 2.3\n");
+    check_text(&rt, alloc, 1, 1, SeqOp::Nothing, b"do 1 1 text no\n");
+    let delete = SeqOp::Delete {
         place: 0,
         name: name(0, 2),
-    });
-    check_line(
-        &rt,
-        rt.alloc(),
-        &operation(1, 2, delete),
-        b"do 1 2 list del 0 0.2\n",
-    );
-    check_line(
-        &rt,
-        rt.alloc(),
-        &operation(1, 2, WidgetOp::List(SeqOp::Nothing)),
-        b"do 1 2 list no\n",
-    );
+    };
+    check_list(&rt, alloc, delete, b"do 1 2 list del 0 0.2\n");
+    check_list(&rt, alloc, SeqOp::Nothing, b"do 1 2 list no\n");
 }
 
 #[test]
@@ -241,9 +254,7 @@ fn relabel_of_a_text_is_no_line(rt: HostRuntime) {
     });
     is_not_written(&rt, rt.alloc(), &operation(1, 1, relabel));
     let text = b"do 1 1 text rel 0 0.1 97\n";
-    let refused = feed(&rt, rt.alloc(), &mut Reader::new(), text);
-    expect_eq(&rt, refused.fault, Some(WireFault::BadLine));
-    expect_that(&rt, refused.lines.as_slice().is_empty());
+    is_refused(&rt, rt.alloc(), text, WireFault::BadLine);
     expect_eq(
         &rt,
         fault_of(b"do 1 1 text rel 0 0.1 97"),
@@ -324,75 +335,75 @@ fn bytes_outside_the_grammar_are_refused(rt: HostRuntime) {
         b"toggle 1 yes\n".as_slice(),
         b"ready\r\n".as_slice(),
     ] {
-        let refused = feed(&rt, rt.alloc(), &mut Reader::new(), text);
-        expect_eq(&rt, refused.fault, Some(WireFault::BadLine));
-        expect_that(&rt, refused.lines.as_slice().is_empty());
+        is_refused(&rt, rt.alloc(), text, WireFault::BadLine);
     }
     for &text in &[b"hello 1\n", b"hello 2\n"] {
-        let other = feed(&rt, rt.alloc(), &mut Reader::new(), text);
-        expect_eq(&rt, other.fault, Some(WireFault::BadVersion));
+        is_refused(&rt, rt.alloc(), text, WireFault::BadVersion);
     }
 }
 
 #[test]
 fn long_line_is_reported_at_its_256th_byte(rt: HostRuntime) {
+    let alloc = rt.alloc();
     let mut reader = Reader::new();
-    let most = feed(&rt, rt.alloc(), &mut reader, &[b'x'; 255]);
-    expect_eq(&rt, most.fault, None);
+    gives(&rt, alloc, &mut reader, &[b'x'; 255], &[], None);
     expect_eq(&rt, reader.finish(), Err(WireFault::EarlyEnd));
-    let last = feed(&rt, rt.alloc(), &mut reader, b"x");
-    expect_eq(&rt, last.fault, Some(WireFault::LongLine));
+    let long = Some(WireFault::LongLine);
+    gives(&rt, alloc, &mut reader, b"x", &[], long);
+    line_of_255_bytes_is_bad(&rt, alloc);
+}
 
-    let mut ended = Reader::new();
-    feed(&rt, rt.alloc(), &mut ended, &[b'x'; 255]);
-    let line = feed(&rt, rt.alloc(), &mut ended, b"\n");
-    expect_eq(&rt, line.fault, Some(WireFault::BadLine));
+// A line feed comes after 255 bytes.
+fn line_of_255_bytes_is_bad(rt: &impl Abort, alloc: Global) {
+    let mut reader = Reader::new();
+    gives(rt, alloc, &mut reader, &[b'x'; 255], &[], None);
+    let bad = Some(WireFault::BadLine);
+    gives(rt, alloc, &mut reader, b"\n", &[], bad);
 }
 
 #[test]
 fn lines_before_a_fault_are_given_and_none_after(rt: HostRuntime) {
+    let alloc = rt.alloc();
+    let version = Some(WireFault::BadVersion);
     let mut reader = Reader::new();
-    let first = feed(&rt, rt.alloc(), &mut reader, b"ping 7\npi");
-    expect_eq(&rt, first.lines.as_slice().len(), 1);
+    gives(
+        &rt,
+        alloc,
+        &mut reader,
+        b"ping 7\npi",
+        &[Line::Ping(7)],
+        None,
+    );
     expect_eq(&rt, reader.finish(), Err(WireFault::EarlyEnd));
-    let second = feed(&rt, rt.alloc(), &mut reader, b"ng 8\nhello 1\nping 9\n");
-    expect_eq(&rt, second.lines.as_slice(), [Line::Ping(8)].as_slice());
-    expect_eq(&rt, second.fault, Some(WireFault::BadVersion));
-    let third = feed(&rt, rt.alloc(), &mut reader, b"ping 10\n");
-    expect_that(&rt, third.lines.as_slice().is_empty());
-    expect_eq(&rt, third.fault, Some(WireFault::BadVersion));
+    let second = b"ng 8\nhello 1\nping 9\n";
+    gives(&rt, alloc, &mut reader, second, &[Line::Ping(8)], version);
+    gives(&rt, alloc, &mut reader, b"ping 10\n", &[], version);
     expect_eq(&rt, reader.finish(), Err(WireFault::BadVersion));
 }
 
 #[test]
 fn a_piece_ends_a_part_and_begins_another(rt: HostRuntime) {
+    let alloc = rt.alloc();
     let mut reader = Reader::new();
-    let part = feed(&rt, rt.alloc(), &mut reader, b"pi");
-    expect_that(&rt, part.lines.as_slice().is_empty());
-    let middle = feed(&rt, rt.alloc(), &mut reader, b"ng 7\nbye\npon");
-    expect_eq(
-        &rt,
-        middle.lines.as_slice(),
-        [Line::Ping(7), Line::Bye].as_slice(),
-    );
+    gives(&rt, alloc, &mut reader, b"pi", &[], None);
+    let lines = [Line::Ping(7), Line::Bye];
+    gives(&rt, alloc, &mut reader, b"ng 7\nbye\npon", &lines, None);
     expect_eq(&rt, reader.finish(), Err(WireFault::EarlyEnd));
-    let last = feed(&rt, rt.alloc(), &mut reader, b"g 8\n");
-    expect_that(&rt, is_line(&last, &Line::Pong(8)));
+    gives(&rt, alloc, &mut reader, b"g 8\n", &[Line::Pong(8)], None);
     expect_eq(&rt, reader.finish(), Ok(()));
 }
 
 #[test]
 fn text_of_256_bytes_is_long_with_its_line_feed_too(rt: HostRuntime) {
+    let alloc = rt.alloc();
     let mut text = [b'x'; 257];
     text[256] = b'\n';
-    let long = feed(&rt, rt.alloc(), &mut Reader::new(), &text);
-    expect_eq(&rt, long.fault, Some(WireFault::LongLine));
-    let short = feed(&rt, rt.alloc(), &mut Reader::new(), &text[1..]);
-    expect_eq(&rt, short.fault, Some(WireFault::BadLine));
+    is_refused(&rt, alloc, &text, WireFault::LongLine);
+    is_refused(&rt, alloc, &text[1..], WireFault::BadLine);
     let mut held = Reader::new();
-    feed(&rt, rt.alloc(), &mut held, b"x");
-    let both = feed(&rt, rt.alloc(), &mut held, &text[1..]);
-    expect_eq(&rt, both.fault, Some(WireFault::LongLine));
+    gives(&rt, alloc, &mut held, b"x", &[], None);
+    let long = Some(WireFault::LongLine);
+    gives(&rt, alloc, &mut held, &text[1..], &[], long);
 }
 
 #[test]

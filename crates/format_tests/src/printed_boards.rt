@@ -28,27 +28,18 @@ fn take(reader: &mut BoardReader, alloc: Global, line: &str) -> Result<(), Untak
 fn a_line_that_is_refused_numbers_no_items(rt: HostRuntime) {
     let alloc = rt.alloc();
     let mut reader = BoardReader::new(alloc);
-    expect_eq(
-        &rt,
-        take(&mut reader, alloc, "text 1 \"a\""),
-        Err(Untaken::BadLine),
-    );
-    for &line in &["window 1", "text 1 \"ab\""] {
-        expect_eq(&rt, take(&mut reader, alloc, line), Ok(()));
-    }
-    for &line in &[
-        "text 1 \"xyz\"",
-        "text 2 \"xy",
-        "list 1 \"x\" \"y\"",
-        "list 2 \"x\"\"y\"",
+    for &(line, taken) in &[
+        ("text 1 \"a\"", Err(Untaken::BadLine)),
+        ("window 1", Ok(())),
+        ("text 1 \"ab\"", Ok(())),
+        ("text 1 \"xyz\"", Err(Untaken::BadLine)),
+        ("text 2 \"xy", Err(Untaken::BadLine)),
+        ("list 1 \"x\" \"y\"", Err(Untaken::BadLine)),
+        ("list 2 \"x\"\"y\"", Err(Untaken::BadLine)),
+        ("text 2 \"c\"", Ok(())),
     ] {
-        expect_eq(
-            &rt,
-            (line, take(&mut reader, alloc, line)),
-            (line, Err(Untaken::BadLine)),
-        );
+        expect_eq(&rt, (line, take(&mut reader, alloc, line)), (line, taken));
     }
-    expect_eq(&rt, take(&mut reader, alloc, "text 2 \"c\""), Ok(()));
     let board = reader.whole();
     let name = |number: u32| Some(Name { site: 0, number });
     expect_eq(&rt, first_name(&board, 1), name(1));

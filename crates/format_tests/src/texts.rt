@@ -70,6 +70,10 @@ fn a_command_is_read_from_its_one_spelling(rt: HostRuntime) {
     ] {
         is_read(&rt, line, Some(command));
     }
+    no_other_text_is_a_command(&rt);
+}
+
+fn no_other_text_is_a_command(rt: &impl Abort) {
     for &line in &[
         "",
         "ins",
@@ -92,9 +96,9 @@ fn a_command_is_read_from_its_one_spelling(rt: HostRuntime) {
         "set 1 2 +5",
         "sync",
     ] {
-        is_read(&rt, line, None);
+        is_read(rt, line, None);
     }
-    expect_eq(&rt, read_command(b"set 1 2 \xff"), None);
+    expect_eq(rt, read_command(b"set 1 2 \xff"), None);
 }
 
 // The edits are printed so, after what was there.
@@ -182,17 +186,23 @@ fn add(rt: &impl Abort, board: &mut Board, wid: u16, widget: Widget) {
     board.add_widget(1, wid, widget).expect(rt, "it is new");
 }
 
+// The windows 2 and 1, and in window 1 the widgets 9, 3, 2 and 1, put in in this order.
+fn descending(rt: &impl Abort, alloc: Global) -> Board {
+    let mut board = Board::new(alloc);
+    board.add_window(alloc, 2).expect(rt, "it is new");
+    board.add_window(alloc, 1).expect(rt, "it is new");
+    let slider = Slider::new(0, 10, 5).expect(rt, "5 is from 0 to 10");
+    add(rt, &mut board, 9, Widget::Slider(slider));
+    add(rt, &mut board, 3, Widget::Toggle(Toggle { on: false }));
+    add(rt, &mut board, 2, Widget::List(two_labels(rt, alloc)));
+    add(rt, &mut board, 1, Widget::Text(Seq::new(alloc)));
+    board
+}
+
 #[test]
 fn a_board_is_printed_ascending(rt: HostRuntime) {
     let alloc = rt.alloc();
-    let mut board = Board::new(alloc);
-    board.add_window(alloc, 2).expect(&rt, "it is new");
-    board.add_window(alloc, 1).expect(&rt, "it is new");
-    let slider = Slider::new(0, 10, 5).expect(&rt, "5 is from 0 to 10");
-    add(&rt, &mut board, 9, Widget::Slider(slider));
-    add(&rt, &mut board, 3, Widget::Toggle(Toggle { on: false }));
-    add(&rt, &mut board, 2, Widget::List(two_labels(&rt, alloc)));
-    add(&rt, &mut board, 1, Widget::Text(Seq::new(alloc)));
+    let board = descending(&rt, alloc);
     let mut text = Vec::new(alloc);
     write_board(alloc, &board, &mut text).expect(&rt, "memory");
     let wanted =

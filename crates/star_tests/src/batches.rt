@@ -4,7 +4,9 @@ ghost use Rattle.jup_window.specs.Entries.{EachWidget};
 ghost use Rattle.jup_star.specs.Stars.{IsShort};
 
 use crate::expect::{expect_eq, expect_that};
-use crate::stars::{edit_number, first_of, hears_one, insert, insertion, refusal_of_two, takes};
+use crate::stars::{
+    answers, edit_number, first_of, hears_one, insert, insertion, refusal_of_two, takes,
+};
 use jup_batch::BoardBatch;
 use jup_link::Msg;
 use jup_seq::{SeqEdit, SeqOp, TextOp};
@@ -57,7 +59,7 @@ fn joins(rt: &impl Abort, alloc: Global, star: &mut Star) -> Site {
 }
 
 // Site 1 with a board of its own.
-pub(crate) fn lone_site(rt: &impl Abort, alloc: Global, text: &str) -> Site {
+pub(crate) fn site_over(rt: &impl Abort, alloc: Global, text: &str) -> Site {
     Site::open(alloc, 1, LIMIT, layout(rt, alloc, text)).expect(rt, "a site's number")
 }
 
@@ -135,13 +137,12 @@ pub(crate) fn makes(rt: &impl Abort, alloc: Global, site: &mut Site, commands: &
 
 // The star takes the first edits of sites 1 and 2, in this order.
 fn takes_both(rt: &impl Abort, alloc: Global, star: &mut Star, one: &Up, two: &Up) {
-    expect_eq(rt, star.take(alloc, 1, one), Ok(Some(0)));
-    expect_eq(rt, star.take(alloc, 2, two), Ok(Some(1)));
+    answers(rt, alloc, star, 1, one, Ok(Some(0)));
+    answers(rt, alloc, star, 2, two, Ok(Some(1)));
 }
 
-// The star takes an edit of each site, and each site receives the other's.
-fn exchange(rt: &impl Abort, alloc: Global, pair: &mut Pair, one: &Up, two: &Up) {
-    takes_both(rt, alloc, &mut pair.star, one, two);
+// One message waits for each site, which receives it.
+fn both_hear(rt: &impl Abort, alloc: Global, pair: &mut Pair) {
     hears_one(rt, alloc, &mut pair.star, &mut pair.one);
     hears_one(rt, alloc, &mut pair.star, &mut pair.two);
 }
@@ -153,51 +154,88 @@ fn all_read(rt: &impl Abort, pair: &Pair, letters: &str) {
     expect_that(rt, reads(pair.two.board(), letters));
 }
 
+// Site 1 puts in a letter and deletes it, by one batch.
+fn undoes_itself(rt: &impl Abort, alloc: Global, site: &mut Site) -> Made {
+    let made = makes(rt, alloc, site, &[insert(0, 'a'), delete(0)]);
+    let name = first_of(1);
+    let wanted = [edit(SeqEdit::Put(name, 'a')), edit(SeqEdit::Deleted(name))];
+    expect_eq(rt, made.edit.as_slice(), wanted.as_slice());
+    made
+}
+
+// The order of the star is this entry.
+fn has_only(rt: &impl Abort, star: &Star, entry: Entry) {
+    expect_eq(rt, star.order(), [entry].as_slice());
+}
+
 #[test]
 fn a_batch_that_undoes_itself_is_one_edit(rt: HostRuntime) {
     let alloc = rt.alloc();
     let mut pair = pair_over(&rt, alloc, "");
-    let made = makes(&rt, alloc, &mut pair.one, &[insert(0, 'a'), delete(0)]);
-    let name = first_of(1);
-    let wanted = [edit(SeqEdit::Put(name, 'a')), edit(SeqEdit::Deleted(name))];
-    expect_eq(&rt, made.edit.as_slice(), wanted.as_slice());
+    let made = undoes_itself(&rt, alloc, &mut pair.one);
     let entry = takes(&rt, alloc, &mut pair.star, 1, made, 0);
     hears_one(&rt, alloc, &mut pair.star, &mut pair.two);
     all_read(&rt, &pair, "");
-    expect_eq(&rt, pair.star.order(), [entry].as_slice());
+    has_only(&rt, &pair.star, entry);
+}
+
+// What a site makes of one command, by itself.
+fn made_single(rt: &impl Abort, alloc: Global, command: Command) -> Made {
+    let mut site = site_over(rt, alloc, "");
+    site.edit(alloc, &command).expect(rt, "an edit")
+}
+
+// What it makes of that command as a batch.
+fn made_batched(rt: &impl Abort, alloc: Global, command: Command) -> Made {
+    let mut site = site_over(rt, alloc, "");
+    makes(rt, alloc, &mut site, &[command])
 }
 
 #[test]
 fn a_batch_of_one_command_is_the_edit_of_that_command(rt: HostRuntime) {
     let alloc = rt.alloc();
-    let mut one = lone_site(&rt, alloc, "");
-    let batched = makes(&rt, alloc, &mut one, &[insert(0, 'a')]);
-    let mut other = lone_site(&rt, alloc, "");
-    let single = other.edit(alloc, &insert(0, 'a')).expect(&rt, "an edit");
-    expect_eq(&rt, batched.up, single.up);
-    expect_eq(&rt, batched.edit, single.edit);
+    let batched = made_batched(&rt, alloc, insert(0, 'a'));
+    let single = made_single(&rt, alloc, insert(0, 'a'));
+    expect_eq(&rt, &batched.up, &single.up);
+    expect_eq(&rt, &batched.edit, &single.edit);
 }
 
-#[test]
-fn names_go_on_after_a_batch(rt: HostRuntime) {
-    let alloc = rt.alloc();
-    let mut site = lone_site(&rt, alloc, "");
-    let first = [insert(0, 'a'), delete(0), insert(0, 'b')];
-    makes(&rt, alloc, &mut site, &first);
-    let made = makes(&rt, alloc, &mut site, &[insert(1, 'c'), insert(2, 'd')]);
-    let op = batch_of(&rt, alloc, &[put(1, 1, 3, 'c'), put(2, 1, 4, 'd')]);
+// The second batch of a site that has heard of no other has these operations.
+fn makes_second(
+    rt: &impl Abort,
+    alloc: Global,
+    site: &mut Site,
+    commands: &[Command],
+    ops: &[BoardOp],
+)
+    requires some { 1 ≤ length ops.now }
+    requires few { length ops.now ≤ 32 }
+{
+    let made = makes(rt, alloc, site, commands);
+    let op = batch_of(rt, alloc, ops);
     let wanted = Msg {
         mine: 1,
         heard: 0,
         op,
     };
-    expect_eq(&rt, made.up, Up::Op(wanted));
+    expect_eq(rt, made.up, Up::Op(wanted));
+}
+
+#[test]
+fn names_go_on_after_a_batch(rt: HostRuntime) {
+    let alloc = rt.alloc();
+    let mut site = site_over(&rt, alloc, "");
+    let first = [insert(0, 'a'), delete(0), insert(0, 'b')];
+    makes(&rt, alloc, &mut site, &first);
+    let second = [insert(1, 'c'), insert(2, 'd')];
+    let ops = [put(1, 1, 3, 'c'), put(2, 1, 4, 'd')];
+    makes_second(&rt, alloc, &mut site, &second, &ops);
     expect_eq(&rt, site.backlog(), 2);
 }
 
 // The number of the refusal of a batch of commands by a site with this text, or 0.
 fn batch_refusal(rt: &impl Abort, alloc: Global, text: &str, commands: &[Command]) -> u32 {
-    let mut site = lone_site(rt, alloc, text);
+    let mut site = site_over(rt, alloc, text);
     edit_number(site.edit_batch(alloc, commands).err())
 }
 
@@ -219,17 +257,27 @@ fn batches_are_refused_by_number(rt: HostRuntime) {
     );
 }
 
+// A site still has its opening text "pqr".
+fn has_made_nothing(rt: &impl Abort, site: &Site) {
+    expect_that(rt, reads(site.board(), "pqr"));
+    expect_eq(rt, site.backlog(), 0);
+}
+
+// A site makes the first of its edits.
+fn makes_first(rt: &impl Abort, alloc: Global, site: &mut Site) {
+    let made = site.edit(alloc, &insert(0, 'b')).expect(rt, "an edit");
+    let wanted = first_edit(alone(alloc, put(0, 1, 1, 'b')));
+    expect_eq(rt, made.up, Up::Op(wanted));
+}
+
 #[test]
 fn a_batch_refused_at_its_second_command_changes_nothing(rt: HostRuntime) {
     let alloc = rt.alloc();
-    let mut site = lone_site(&rt, alloc, "pqr");
+    let mut site = site_over(&rt, alloc, "pqr");
     let refused = site.edit_batch(alloc, &[insert(0, 'a'), delete(9)]);
     expect_eq(&rt, edit_number(refused.err()), 4);
-    expect_that(&rt, reads(site.board(), "pqr"));
-    expect_eq(&rt, site.backlog(), 0);
-    let made = site.edit(alloc, &insert(0, 'b')).expect(&rt, "an edit");
-    let wanted = first_edit(alone(alloc, put(0, 1, 1, 'b')));
-    expect_eq(&rt, made.up, Up::Op(wanted));
+    has_made_nothing(&rt, &site);
+    makes_first(&rt, alloc, &mut site);
 }
 
 #[test]
@@ -265,42 +313,59 @@ fn is_sent(
     expect_eq(rt, star.fetch_one(site), Ok(Some(wanted)));
 }
 
+// Sites 1, 2 and 3 are sent both batches, of which site 1 made the first and site 2 the second.
+fn each_is_sent(rt: &impl Abort, alloc: Global, star: &mut Star) {
+    let put = [put(1, 1, 1, 'X'), put(2, 1, 2, 'Y')];
+    let cut = [cut(3, 2), cut(3, 3)];
+    is_sent(rt, alloc, star, 1, (0, 1), &cut);
+    is_sent(rt, alloc, star, 2, (0, 0), &put);
+    is_sent(rt, alloc, star, 3, (0, 0), &put);
+    is_sent(rt, alloc, star, 3, (1, 0), &cut);
+}
+
+// Two letters are put in after the first.
+fn typed() -> [Command; 2] {
+    [insert(1, 'X'), insert(2, 'Y')]
+}
+
+// The second letter and the third are deleted.
+fn erased() -> [Command; 2] {
+    [delete(1), delete(1)]
+}
+
+// Each site makes its batch before it hears of the other's, and the star takes that of site 1 first.
+fn race(rt: &impl Abort, alloc: Global, pair: &mut Pair, one: &[Command], two: &[Command]) {
+    let one = makes(rt, alloc, &mut pair.one, one);
+    let two = makes(rt, alloc, &mut pair.two, two);
+    takes_both(rt, alloc, &mut pair.star, &one.up, &two.up);
+}
+
 #[test]
 fn other_sites_are_sent_the_whole_batch_moved_past_earlier_ones(rt: HostRuntime) {
     let alloc = rt.alloc();
     let mut pair = pair_over(&rt, alloc, "pqr");
     expect_eq(&rt, joins(&rt, alloc, &mut pair.star).number(), 3);
-    let typed = makes(&rt, alloc, &mut pair.one, &[insert(1, 'X'), insert(2, 'Y')]);
-    let erased = makes(&rt, alloc, &mut pair.two, &[delete(1), delete(1)]);
-    takes_both(&rt, alloc, &mut pair.star, &typed.up, &erased.up);
-    let put = [put(1, 1, 1, 'X'), put(2, 1, 2, 'Y')];
-    let cut = [cut(3, 2), cut(3, 3)];
-    is_sent(&rt, alloc, &mut pair.star, 1, (0, 1), &cut);
-    is_sent(&rt, alloc, &mut pair.star, 2, (0, 0), &put);
-    is_sent(&rt, alloc, &mut pair.star, 3, (0, 0), &put);
-    is_sent(&rt, alloc, &mut pair.star, 3, (1, 0), &cut);
+    race(&rt, alloc, &mut pair, &typed(), &erased());
+    each_is_sent(&rt, alloc, &mut pair.star);
+}
+
+// Two batches on the text "pqr" meet, and all read so.
+fn meet(rt: &impl Abort, alloc: Global, one: &[Command], two: &[Command], letters: &str) {
+    let mut pair = pair_over(rt, alloc, "pqr");
+    race(rt, alloc, &mut pair, one, two);
+    both_hear(rt, alloc, &mut pair);
+    all_read(rt, &pair, letters);
+    expect_eq(rt, pair.star.order().len(), 2);
 }
 
 #[test]
 fn two_batches_on_one_text_meet(rt: HostRuntime) {
-    let alloc = rt.alloc();
-    let mut pair = pair_over(&rt, alloc, "pqr");
-    let typed = makes(&rt, alloc, &mut pair.one, &[insert(1, 'X'), insert(2, 'Y')]);
-    let erased = makes(&rt, alloc, &mut pair.two, &[delete(1), delete(1)]);
-    exchange(&rt, alloc, &mut pair, &typed.up, &erased.up);
-    all_read(&rt, &pair, "pXY");
-    expect_eq(&rt, pair.star.order().len(), 2);
+    meet(&rt, rt.alloc(), &typed(), &erased(), "pXY");
 }
 
 #[test]
 fn two_batches_meet_in_the_other_order(rt: HostRuntime) {
-    let alloc = rt.alloc();
-    let mut pair = pair_over(&rt, alloc, "pqr");
-    let erased = makes(&rt, alloc, &mut pair.one, &[delete(1), delete(1)]);
-    let typed = makes(&rt, alloc, &mut pair.two, &[insert(1, 'X'), insert(2, 'Y')]);
-    exchange(&rt, alloc, &mut pair, &erased.up, &typed.up);
-    all_read(&rt, &pair, "pXY");
-    expect_eq(&rt, pair.star.order().len(), 2);
+    meet(&rt, rt.alloc(), &erased(), &typed(), "pXY");
 }
 
 // A board, as it is printed.
@@ -339,30 +404,50 @@ fn slide(value: i32) -> Command {
     set(4, Setting::Slider(value))
 }
 
+// A batch on all four widgets.
+fn on_each(rt: &impl Abort) -> [Command; 4] {
+    let on = set(3, Setting::Toggle(true));
+    let relabel = relabel_first(label(rt, b"n"));
+    [insert(0, 'a'), on, relabel, slide(5)]
+}
+
+// A batch on the text, the list and the slider.
+fn on_three(rt: &impl Abort) -> [Command; 4] {
+    let listed = list_first(label(rt, b"red"));
+    [delete(0), listed, slide(7), insert(2, 'b')]
+}
+
+// The boards of the star and of both sites, as they are printed.
+fn all_show(rt: &impl Abort, alloc: Global, pair: &Pair, printed: &[u8]) {
+    shows(rt, alloc, pair.star.board(), printed);
+    shows(rt, alloc, pair.one.board(), printed);
+    shows(rt, alloc, pair.two.board(), printed);
+}
+
 #[test]
 fn batches_on_several_widgets_end_equal(rt: HostRuntime) {
     let alloc = rt.alloc();
     let mut pair = pair_over(&rt, alloc, "pqr");
-    let on = set(3, Setting::Toggle(true));
-    let relabel = relabel_first(label(&rt, b"n"));
-    let first = [insert(0, 'a'), on, relabel, slide(5)];
-    let one = makes(&rt, alloc, &mut pair.one, &first);
-    let listed = list_first(label(&rt, b"red"));
-    let second = [delete(0), listed, slide(7), insert(2, 'b')];
-    let two = makes(&rt, alloc, &mut pair.two, &second);
-    exchange(&rt, alloc, &mut pair, &one.up, &two.up);
+    race(&rt, alloc, &mut pair, &on_each(&rt), &on_three(&rt));
+    both_hear(&rt, alloc, &mut pair);
     let printed = b"window 1\ntext 1 \"aqrb\"\nlist 2 \"red\" \"n\"\ntoggle 3 on\nslider 4 0 9 7\n";
-    shows(&rt, alloc, pair.star.board(), printed);
-    shows(&rt, alloc, pair.one.board(), printed);
-    shows(&rt, alloc, pair.two.board(), printed);
+    all_show(&rt, alloc, &pair, printed);
+}
+
+// A site receives an edit, and owes nothing for it.
+fn receives(rt: &impl Abort, alloc: Global, site: &mut Site, ops: &[BoardOp])
+    requires some { 1 ≤ length ops.now }
+    requires few { length ops.now ≤ 32 }
+{
+    let down = down(rt, alloc, 0, 0, ops);
+    expect_eq(rt, site.deliver(alloc, &down), Ok(None));
 }
 
 // One deletion asks for no memory, while a batch of several does.
 #[test]
 fn one_deletion_is_shown_without_memory(rt: HostRuntime) {
     let alloc = rt.alloc();
-    let mut site = lone_site(&rt, alloc, "pqr");
-    let down = down(&rt, alloc, 0, 0, &[cut(0, 1)]);
-    expect_eq(&rt, site.deliver(alloc, &down), Ok(None));
+    let mut site = site_over(&rt, alloc, "pqr");
+    receives(&rt, alloc, &mut site, &[cut(0, 1)]);
     expect_that(&rt, reads(site.board(), "qr"));
 }

@@ -95,3 +95,8 @@ pub(crate) fn is_one_order(names: &[Name], others: &[Name]) -> bool {
     }
     true
 }
+
+/// Whether a list of names is in the same order as each of those that were kept.
+pub(crate) fn keeps_orders(names: &[Name], kept: &[Vec<Name>]) -> bool {
+    kept.iter().all(|old| is_one_order(old, names))
+}

@@ -2,7 +2,7 @@
 ghost use Rattle.jup_window.specs.Entries.{EachWidget};
 ghost use Rattle.jup_star.specs.Stars.{IsShort};
 
-use crate::contents::{Content, is_one_order, names_on};
+use crate::contents::{Content, keeps_orders, names_on};
 use crate::expect::{expect_eq, expect_that};
 use crate::honest_sites::Honest;
 use crate::served::Served;
@@ -63,11 +63,6 @@ fn star_shows(rt: &impl Abort, alloc: Global, opening: &Board, star: &Star) {
         due.take_all(rt, alloc, entry.edit.as_slice());
     }
     expect_that(rt, Content::of(rt, alloc, star.board()).same(&due));
-}
-
-// A list of names in the same order as each of those that were kept.
-fn keeps_orders(names: &[Name], kept: &[Vec<Name>]) -> bool {
-    kept.iter().all(|old| is_one_order(old, names))
 }
 
 impl History {
@@ -151,6 +146,18 @@ impl History {
             .all(|honest| honest.is_drained(&self.served))
     }
 
+    // Each site with a link is level with the star. How many there are.
+    fn are_level(&self, rt: &impl Abort) -> u32 {
+        let mut level: u32 = 0;
+        for honest in &self.sites {
+            if honest.has_link {
+                honest.is_level(rt, &self.served);
+                level = level.saturating_add(1);
+            }
+        }
+        level
+    }
+
     // All that is on its way comes, while the strangers are silent. Then each site with a link is level with the star.
     fn drains<R: Abort + Wait>(&mut self, rt: &R, alloc: Global) {
         for _ in 0..MOST_ROUNDS {
@@ -160,10 +167,7 @@ impl History {
             self.moves(rt, alloc);
         }
         expect_that(rt, self.is_drained());
-        for honest in self.sites.iter().filter(|honest| honest.has_link) {
-            honest.is_level(rt, &self.served);
-            self.level = self.level.saturating_add(1);
-        }
+        self.level = self.level.saturating_add(self.are_level(rt));
     }
 
     // So many steps, each of an honest site or of a stranger. The sites join one after another.
@@ -184,39 +188,61 @@ impl History {
         self.drains(rt, alloc);
     }
 
-    // How many messages of strangers were accepted, and how many refused.
-    fn strangers_messages(&self) -> (u32, u32) {
+    // What a test asks of it: how many messages of strangers were accepted, and how many refused, among others.
+    fn counts(&self) -> Counts {
         let [one, two] = &self.strangers;
-        (
-            one.accepted.saturating_add(two.accepted),
-            one.refused.saturating_add(two.refused),
-        )
+        Counts {
+            accepted: one.accepted.saturating_add(two.accepted),
+            refused: one.refused.saturating_add(two.refused),
+            lost: self.lost,
+            level: self.level,
+            taken: self.served.taken(),
+        }
     }
+}
+
+// What is counted of a history that was played.
+#[derive(Clone, Copy)]
+struct Counts {
+    accepted: u32,
+    refused: u32,
+    lost: u32,
+    level: u32,
+    taken: usize,
+}
+
+// A history of some rounds of so many steps each.
+fn played<R: Abort + Wait>(
+    rt: &R,
+    alloc: Global,
+    seed: u32,
+    limit: u32,
+    rounds: [u32; 2],
+) -> Counts {
+    let [count, steps] = rounds;
+    let mut dice = Dice::of(seed);
+    let mut history = History::open(rt, alloc, limit);
+    for _ in 0..count {
+        history.plays(rt, alloc, &mut dice, steps);
+    }
+    history.counts()
 }
 
 // After each of six rounds the sites with a link are level with the star. Strangers are heard and refused.
 #[test]
 fn honest_sites_agree_whatever_strangers_send(rt: HostRuntime) {
-    let alloc = rt.alloc();
-    let mut dice = Dice::of(1995);
-    let mut history = History::open(&rt, alloc, 100_000);
-    for _ in 0..6 {
-        history.plays(&rt, alloc, &mut dice, 200);
-    }
-    let (accepted, refused) = history.strangers_messages();
+    let counts = played(&rt, rt.alloc(), 1995, 100_000, [6, 200]);
+    let (accepted, refused) = (counts.accepted, counts.refused);
     expect_eq(&rt, (accepted, accepted >= 50), (accepted, true));
     expect_eq(&rt, (refused, refused >= 50), (refused, true));
-    expect_that(&rt, history.lost >= 1);
-    expect_that(&rt, history.level >= 12);
+    expect_that(&rt, counts.lost >= 1);
+    expect_that(&rt, counts.level >= 12);
 }
 
 // Only a full order refuses what an honest site sends. Without its link the site still shows what its view means.
 #[test]
 fn only_a_full_order_refuses_an_honest_site(rt: HostRuntime) {
-    let alloc = rt.alloc();
-    let mut dice = Dice::of(2026);
-    let mut history = History::open(&rt, alloc, 40);
-    history.plays(&rt, alloc, &mut dice, 600);
-    expect_eq(&rt, history.served.taken(), 40);
-    expect_that(&rt, history.lost >= 3);
+    let counts = played(&rt, rt.alloc(), 2026, 40, [1, 600]);
+    expect_eq(&rt, counts.taken, 40);
+    expect_that(&rt, counts.lost >= 3);
 }

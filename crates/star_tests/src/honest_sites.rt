@@ -1,5 +1,5 @@
 //! An honest site of a hub, and what it checks of itself: the clauses of `honest_sites_agree`, computed here from what happened.
-use crate::contents::{Content, is_one_order, names_on};
+use crate::contents::{Content, is_one_order, keeps_orders, names_on};
 use crate::expect::{expect_eq, expect_that};
 use crate::served::Served;
 use jup_batch::BoardEdits;
@@ -216,15 +216,27 @@ impl Honest {
     /// It shows what its view of the order means. It keeps the order of its items, which is the star's while it has its link, and has
     /// the link that it should have. Its backlog is its edits less those that it knows the star received.
     pub(crate) fn is_well(&self, rt: &impl Abort, alloc: Global, opening: &Board, served: &Served) {
-        let shown = Content::of(rt, alloc, self.site.board());
-        let due = self.view(rt, alloc, opening, served.star().order());
-        expect_that(rt, shown.same(&due));
-        let names = names_on(rt, alloc, self.site.board());
-        expect_that(rt, self.kept.iter().all(|old| is_one_order(old, &names)));
-        let star_names = names_on(rt, alloc, served.star().board());
-        expect_that(rt, !self.has_link || is_one_order(&names, &star_names));
+        self.shows_its_view(rt, alloc, opening, served.star().order());
+        self.has_one_order(rt, alloc, served.star().board());
         let linked = served.star().waiting(self.site.number()).is_some();
         expect_eq(rt, linked, self.has_link);
+        self.counts(rt);
+    }
+
+    fn shows_its_view(&self, rt: &impl Abort, alloc: Global, opening: &Board, order: &[Entry]) {
+        let shown = Content::of(rt, alloc, self.site.board());
+        let due = self.view(rt, alloc, opening, order);
+        expect_that(rt, shown.same(&due));
+    }
+
+    fn has_one_order(&self, rt: &impl Abort, alloc: Global, star_board: &Board) {
+        let names = names_on(rt, alloc, self.site.board());
+        expect_that(rt, keeps_orders(&names, &self.kept));
+        let star_names = names_on(rt, alloc, star_board);
+        expect_that(rt, !self.has_link || is_one_order(&names, &star_names));
+    }
+
+    fn counts(&self, rt: &impl Abort) {
         let backlog = self.site.backlog();
         expect_that(rt, backlog <= 1024);
         expect_eq(

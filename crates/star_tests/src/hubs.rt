@@ -120,16 +120,21 @@ pub(crate) fn takes<R: Abort + Wait>(
     expect_eq(rt, taken, Ok(Some(place)));
 }
 
+// An order has the first edits of these sites.
+fn has_edits(rt: &impl Abort, alloc: Global, order: &[Entry], sites: &[u32]) {
+    expect_eq(rt, order.len(), sites.len());
+    for (entry, site) in order.iter().zip(sites) {
+        expect_eq(rt, entry, &entry_of(alloc, *site));
+    }
+}
+
 // The star of a hub that is closed after so many events, whose order has the first edits of these sites.
 fn ends(rt: &impl Abort, alloc: Global, hub: Hub, pass: Pass, events: u64, sites: &[u32]) -> Star
     requires { IsPassOf hub pass }
 {
     let closed = close(rt, hub, pass);
     expect_eq(rt, closed.events, events);
-    expect_eq(rt, closed.star.order().len(), sites.len());
-    for (entry, site) in closed.star.order().iter().zip(sites) {
-        expect_eq(rt, entry, &entry_of(alloc, *site));
-    }
+    has_edits(rt, alloc, closed.star.order(), sites);
     closed.star
 }
 
@@ -137,13 +142,24 @@ fn ends(rt: &impl Abort, alloc: Global, hub: Hub, pass: Pass, events: u64, sites
 fn each_call_of_two_passes_is_an_event(rt: HostRuntime) {
     let alloc = rt.alloc();
     let (hub, mut a) = hub_of(&rt, alloc, 0);
-    expect_eq(&rt, joins(&rt, alloc, &hub, &mut a), 1);
-    expect_eq(&rt, joins(&rt, alloc, &hub, &mut a), 2);
+    joins_as(&rt, alloc, &hub, &mut a, 1);
+    joins_as(&rt, alloc, &hub, &mut a, 2);
     let mut b = hub.split(&mut a);
     takes(&rt, alloc, &hub, &mut a, 1, 0);
     takes(&rt, alloc, &hub, &mut b, 2, 1);
     hub.rejoin(&mut a, b);
     ends(&rt, alloc, hub, a, 4, &[1, 2]);
+}
+
+// A pass fetches the first edit of site 1 for site 2 and nothing for site 9, which has no link. Then site 1 leaves.
+fn is_told_and_leaves<R: Abort + Wait>(rt: &R, alloc: Global, hub: &Hub, pass: &mut Pass)
+    requires { IsPassOf hub.now pass.old }
+    ensures { IsPassOf hub.now pass.new }
+{
+    expect_that(rt, fetches_one(rt, alloc, hub, pass));
+    let none = hub.fetch(rt, alloc, pass, 9, 1);
+    expect_eq(rt, none.err().map(|fault| fault.number()), Some(33));
+    expect_eq(rt, hub.leave(rt, pass, 1), Ok(()));
 }
 
 #[test]
@@ -152,10 +168,7 @@ fn a_pass_split_from_another_fetches_what_it_took(rt: HostRuntime) {
     let (hub, mut a) = hub_of(&rt, alloc, 2);
     takes(&rt, alloc, &hub, &mut a, 1, 0);
     let mut b = hub.split(&mut a);
-    expect_that(&rt, fetches_one(&rt, alloc, &hub, &mut b));
-    let none = hub.fetch(&rt, alloc, &mut b, 9, 1);
-    expect_eq(&rt, none.err().map(|fault| fault.number()), Some(33));
-    expect_eq(&rt, hub.leave(&rt, &mut b, 1), Ok(()));
+    is_told_and_leaves(&rt, alloc, &hub, &mut b);
     hub.rejoin(&mut a, b);
     let star = ends(&rt, alloc, hub, a, 4, &[1]);
     expect_that(&rt, reads(star.board(), "a"));
@@ -178,16 +191,24 @@ pub(crate) fn shows<R: Wait>(
     }
 }
 
+// The hub's board shows this text.
+fn is_shown<R: Abort + Wait>(rt: &R, alloc: Global, hub: &Hub, pass: &mut Pass, text: &str)
+    requires { IsPassOf hub.now pass.old }
+    ensures { IsPassOf hub.now pass.new }
+{
+    expect_eq(rt, shows(rt, alloc, hub, pass, text), Ok(true));
+}
+
 #[test]
 fn the_board_of_a_hub_is_the_star_s_and_no_event(rt: HostRuntime) {
     let alloc = rt.alloc();
     let (hub, mut a) = hub_of(&rt, alloc, 2);
     let mut b = hub.split(&mut a);
-    expect_eq(&rt, shows(&rt, alloc, &hub, &mut b, ""), Ok(true));
+    is_shown(&rt, alloc, &hub, &mut b, "");
     takes(&rt, alloc, &hub, &mut a, 1, 0);
-    expect_eq(&rt, shows(&rt, alloc, &hub, &mut b, "a"), Ok(true));
+    is_shown(&rt, alloc, &hub, &mut b, "a");
     expect_that(&rt, hub.news(&mut b));
-    expect_eq(&rt, shows(&rt, alloc, &hub, &mut a, "a"), Ok(true));
+    is_shown(&rt, alloc, &hub, &mut a, "a");
     expect_that(&rt, !hub.news(&mut b));
     let star = ends(&rt, alloc, hub, a, 1, &[1]);
     expect_eq(&rt, star.waiting(2), Some(1));
@@ -205,13 +226,13 @@ fn news_after_take(rt: HostRuntime) {
     expect_that(&rt, !hub.news(&mut a));
 }
 
-// The number that the next site is given.
-fn joins<R: Abort + Wait>(rt: &R, alloc: Global, hub: &Hub, pass: &mut Pass) -> u32
+// The next site is given this number.
+fn joins_as<R: Abort + Wait>(rt: &R, alloc: Global, hub: &Hub, pass: &mut Pass, number: u32)
     requires { IsPassOf hub.now pass.old }
     ensures { IsPassOf hub.now pass.new }
 {
     let joined = hub.join_site(rt, alloc, pass).expect(rt, "a free link");
-    joined.site
+    expect_eq(rt, joined.site, number);
 }
 
 // In a thread of its own: the first edit of a site is taken.

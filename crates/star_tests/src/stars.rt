@@ -110,21 +110,41 @@ fn star_number(fault: Option<StarFault>) -> u32 {
     }
 }
 
-// The number of the fault that a star finds in an edit of site 2. After it site 2 has no link, and nothing
-// waits for site 1, whose edit is the first that is taken.
+// What a star answers to a message.
+type Taken = Result<Option<u32>, StarFault>;
+
+// The star answers a message of a site so.
+pub(crate) fn answers(
+    rt: &impl Abort,
+    alloc: Global,
+    star: &mut Star,
+    site: u32,
+    up: &Up,
+    due: Taken,
+) {
+    expect_eq(rt, star.take(alloc, site, up), due);
+}
+
+// So many messages wait for a site, or it has no link.
+fn waits(rt: &impl Abort, star: &Star, site: u32, due: Option<usize>) {
+    expect_eq(rt, star.waiting(site), due);
+}
+
+// Site 2 has no link, and nothing waits for site 1, whose edit is the first that is taken.
+fn has_lost_two(rt: &impl Abort, alloc: Global, star: &mut Star) {
+    answers(rt, alloc, star, 2, &Up::Ping(7), Err(StarFault::NoLink));
+    waits(rt, star, 1, Some(0));
+    expect_that(rt, reads(star.board(), ""));
+    let next = first_message(alloc, insertion(0, first_of(1)));
+    answers(rt, alloc, star, 1, &next, Ok(Some(0)));
+    expect_that(rt, reads(star.board(), "a"));
+}
+
+// The number of the fault that a star finds in an edit of site 2, after which it has lost that site alone.
 pub(crate) fn refusal_of_two(rt: &impl Abort, alloc: Global, msg: Msg<BoardBatch>) -> u32 {
     let mut star = star_of_two(rt, alloc);
     let refused = star.take(alloc, 2, &Up::Op(msg));
-    expect_eq(
-        rt,
-        star.take(alloc, 2, &Up::Ping(7)),
-        Err(StarFault::NoLink),
-    );
-    expect_eq(rt, star.waiting(1), Some(0));
-    expect_that(rt, reads(star.board(), ""));
-    let next = first_message(alloc, insertion(0, first_of(1)));
-    expect_eq(rt, star.take(alloc, 1, &next), Ok(Some(0)));
-    expect_that(rt, reads(star.board(), "a"));
+    has_lost_two(rt, alloc, &mut star);
     star_number(refused.err())
 }
 
@@ -186,6 +206,13 @@ fn refusal_of_one(rt: &impl Abort, alloc: Global, down: &Down) -> u32 {
     site_number(refused.err())
 }
 
+// The number of the fault that site 1 has in an edit.
+fn refusal_of_edit(rt: &impl Abort, alloc: Global, mine: u32, op: BoardOp) -> u32 {
+    let op = alone(alloc, op);
+    let edit = Down::Op(Msg { mine, heard: 0, op });
+    refusal_of_one(rt, alloc, &edit)
+}
+
 #[test]
 fn a_site_stops_at_a_bad_message(rt: HostRuntime) {
     let alloc = rt.alloc();
@@ -196,13 +223,8 @@ fn a_site_stops_at_a_bad_message(rt: HostRuntime) {
         (0, insertion(0, first_of(1)), 22),
         (0, insertion(99, first_of(2)), 23),
     ] {
-        let op = alone(alloc, op);
-        let edit = Down::Op(Msg { mine, heard: 0, op });
-        expect_eq(
-            &rt,
-            (mine, refusal_of_one(&rt, alloc, &edit)),
-            (mine, number),
-        );
+        let refused = refusal_of_edit(&rt, alloc, mine, op);
+        expect_eq(&rt, (mine, refused), (mine, number));
     }
 }
 
@@ -220,16 +242,21 @@ fn site_refusal(alloc: Global, number: u32, board: Board) -> u32 {
     open_number(site.err())
 }
 
+// A site is opened with the last number.
+fn last_site_opens(rt: &impl Abort, alloc: Global) {
+    let last = Site::open(alloc, 65_535, 16_777_216, with_item_of(rt, alloc, 1));
+    let last = last.expect(rt, "the last number");
+    expect_eq(rt, last.number(), 65_535);
+    expect_that(rt, reads(last.board(), "z"));
+}
+
 #[test]
 fn a_site_is_opened_with_a_number_that_its_board_does_not_bear(rt: HostRuntime) {
     let alloc = rt.alloc();
     expect_eq(&rt, site_refusal(alloc, 0, blank(&rt, alloc)), 51);
     expect_eq(&rt, site_refusal(alloc, 1, with_item_of(&rt, alloc, 1)), 51);
     expect_eq(&rt, site_refusal(alloc, 65_536, blank(&rt, alloc)), 51);
-    let last = Site::open(alloc, 65_535, 16_777_216, with_item_of(&rt, alloc, 1));
-    let last = last.expect(&rt, "the last number");
-    expect_eq(&rt, last.number(), 65_535);
-    expect_that(&rt, reads(last.board(), "z"));
+    last_site_opens(&rt, alloc);
 }
 
 // The number of the fault with which a star is not opened, or 0.
@@ -238,6 +265,13 @@ fn star_refusal(alloc: Global, board: Board, limit: u32) -> u32
 {
     let star = Star::open(alloc, board, limit);
     open_number(star.err())
+}
+
+// A star is opened on a layout of one item, with the least limit.
+fn star_of_an_item_opens(rt: &impl Abort, alloc: Global) {
+    let star = Star::open(alloc, with_item_of(rt, alloc, 0), 1);
+    let star = star.expect(rt, "a layout and a limit");
+    expect_that(rt, reads(star.board(), "z"));
 }
 
 #[test]
@@ -250,9 +284,7 @@ fn a_star_is_opened_on_a_layout_with_a_limit(rt: HostRuntime) {
         star_refusal(alloc, with_item_of(&rt, alloc, 1), LIMIT),
         51,
     );
-    let star = Star::open(alloc, with_item_of(&rt, alloc, 0), 1);
-    let star = star.expect(&rt, "a layout and a limit");
-    expect_that(&rt, reads(star.board(), "z"));
+    star_of_an_item_opens(&rt, alloc);
 }
 
 #[test]
@@ -268,13 +300,18 @@ fn sixty_four_sites_join(rt: HostRuntime) {
     expect_eq(&rt, joins(&rt, alloc, &mut star), 65);
 }
 
+// The next site is given this number, and leaves.
+fn comes_and_goes(rt: &impl Abort, alloc: Global, star: &mut Star, number: u32) {
+    expect_eq(rt, joins(rt, alloc, star), number);
+    expect_eq(rt, star.leave(number), Ok(()));
+}
+
 #[test]
 fn each_site_number_is_given_once(rt: HostRuntime) {
     let alloc = rt.alloc();
     let mut star = open_star(&rt, alloc);
     for number in 1..65_536 {
-        expect_eq(&rt, joins(&rt, alloc, &mut star), number);
-        expect_eq(&rt, star.leave(number), Ok(()));
+        comes_and_goes(&rt, alloc, &mut star, number);
     }
     let more = star.join(alloc);
     expect_eq(&rt, star_number(more.err()), 31);
@@ -287,15 +324,24 @@ fn third(rt: &impl Abort, alloc: Global, star: &mut Star) {
     expect_that(rt, reads(&joined.board, ""));
 }
 
+fn has_one_edit(rt: &impl Abort, made: &Made) {
+    expect_eq(rt, made.edit.as_slice().len(), 1);
+}
+
+// Site 1 leaves a star that has taken nothing.
+fn loses_one(rt: &impl Abort, star: &mut Star) {
+    expect_eq(rt, star.leave(1), Ok(()));
+    expect_eq(rt, (star.waiting(1), star.waiting(2)), (None, Some(0)));
+    expect_eq(rt, star.order().len(), 0);
+}
+
 #[test]
 fn an_edit_that_was_not_taken_leaves_with_its_site(rt: HostRuntime) {
     let alloc = rt.alloc();
     let mut star = star_of_two(&rt, alloc);
     let (_site, made) = type_at_head(&rt, alloc, 1, 'a');
-    expect_eq(&rt, made.edit.as_slice().len(), 1);
-    expect_eq(&rt, star.leave(1), Ok(()));
-    expect_eq(&rt, (star.waiting(1), star.waiting(2)), (None, Some(0)));
-    expect_eq(&rt, star.order().len(), 0);
+    has_one_edit(&rt, &made);
+    loses_one(&rt, &mut star);
     third(&rt, alloc, &mut star);
 }
 
@@ -343,7 +389,7 @@ pub(crate) fn takes(
     place: u32,
 ) -> Entry {
     let Made { edit, up } = made;
-    expect_eq(rt, star.take(alloc, site, &up), Ok(Some(place)));
+    answers(rt, alloc, star, site, &up, Ok(Some(place)));
     Entry { site, edit }
 }
 
@@ -367,16 +413,21 @@ fn the_order_has_edits_as_they_were_made(rt: HostRuntime) {
     expect_eq(&rt, race.star.order(), race.made.as_slice());
 }
 
+// The text of the star and of both sites.
+fn all_read(rt: &impl Abort, race: &Race, letters: &str) {
+    expect_that(rt, reads(race.star.board(), letters));
+    expect_that(rt, reads(race.one.board(), letters));
+    expect_that(rt, reads(race.two.board(), letters));
+}
+
 #[test]
 fn the_later_of_two_insertions_comes_first(rt: HostRuntime) {
     let alloc = rt.alloc();
     let mut race = run_race(&rt, alloc);
-    expect_eq(&rt, race.star.waiting(1), Some(1));
+    waits(&rt, &race.star, 1, Some(1));
     hears_one(&rt, alloc, &mut race.star, &mut race.one);
     hears_one(&rt, alloc, &mut race.star, &mut race.two);
-    expect_that(&rt, reads(race.star.board(), "xa"));
-    expect_that(&rt, reads(race.one.board(), "xa"));
-    expect_that(&rt, reads(race.two.board(), "xa"));
+    all_read(&rt, &race, "xa");
 }
 
 // The star takes an edit of a site, so many times.
@@ -400,18 +451,30 @@ fn last_answer(rt: &impl Abort, alloc: Global, star: &mut Star, site: &mut Site)
     last
 }
 
+// A site of 64 edits receives the acknowledgement of them.
+fn is_acknowledged(rt: &impl Abort, alloc: Global, star: &mut Star, site: &mut Site) {
+    expect_eq(rt, site.backlog(), 64);
+    expect_eq(rt, last_answer(rt, alloc, star, site), None);
+    expect_eq(rt, site.backlog(), 0);
+}
+
 #[test]
 fn the_star_acknowledges_sixty_four_edits(rt: HostRuntime) {
     let alloc = rt.alloc();
     let mut star = star_of_two(&rt, alloc);
     let mut site = lone_site(&rt, alloc, 1);
     edits_taken(&rt, alloc, &mut star, &mut site, 63);
-    expect_eq(&rt, star.waiting(1), Some(0));
+    waits(&rt, &star, 1, Some(0));
     edits_taken(&rt, alloc, &mut star, &mut site, 1);
-    expect_eq(&rt, star.waiting(1), Some(1));
-    expect_eq(&rt, site.backlog(), 64);
-    expect_eq(&rt, last_answer(&rt, alloc, &mut star, &mut site), None);
-    expect_eq(&rt, site.backlog(), 0);
+    waits(&rt, &star, 1, Some(1));
+    is_acknowledged(&rt, alloc, &mut star, &mut site);
+}
+
+// Site 2 answers that it has 64 edits, which the star takes.
+fn acknowledges(rt: &impl Abort, alloc: Global, star: &mut Star, site: &mut Site) {
+    let answer = last_answer(rt, alloc, star, site);
+    expect_eq(rt, answer, Some(Up::Ack(64)));
+    answers(rt, alloc, star, 2, &Up::Ack(64), Ok(None));
 }
 
 #[test]
@@ -421,9 +484,20 @@ fn a_site_acknowledges_sixty_four_edits(rt: HostRuntime) {
     let mut one = lone_site(&rt, alloc, 1);
     let mut two = lone_site(&rt, alloc, 2);
     edits_taken(&rt, alloc, &mut star, &mut one, 64);
-    let answer = last_answer(&rt, alloc, &mut star, &mut two);
-    expect_eq(&rt, answer, Some(Up::Ack(64)));
-    expect_eq(&rt, star.take(alloc, 2, &Up::Ack(64)), Ok(None));
+    acknowledges(&rt, alloc, &mut star, &mut two);
+}
+
+// The number of the refusal of an edit by a site, or 0.
+fn refusal_of_switch(alloc: Global, site: &mut Site) -> u32 {
+    edit_number(site.edit(alloc, &switch_on()).err())
+}
+
+// A site of 1024 edits makes another only after an acknowledgement.
+fn goes_on_if_acknowledged(rt: &impl Abort, alloc: Global, site: &mut Site) {
+    expect_eq(rt, refusal_of_switch(alloc, site), 7);
+    expect_eq(rt, site.deliver(alloc, &Down::Ack(64)), Ok(None));
+    expect_eq(rt, refusal_of_switch(alloc, site), 0);
+    expect_eq(rt, site.backlog(), 961);
 }
 
 #[test]
@@ -431,35 +505,45 @@ fn a_site_makes_1024_edits_without_an_acknowledgement(rt: HostRuntime) {
     let alloc = rt.alloc();
     let mut site = lone_site(&rt, alloc, 1);
     for _ in 0..1024 {
-        expect_that(&rt, site.edit(alloc, &switch_on()).is_ok());
+        expect_eq(&rt, refusal_of_switch(alloc, &mut site), 0);
     }
-    let more = site.edit(alloc, &switch_on());
-    expect_eq(&rt, edit_number(more.err()), 7);
-    expect_eq(&rt, site.deliver(alloc, &Down::Ack(64)), Ok(None));
-    expect_that(&rt, site.edit(alloc, &switch_on()).is_ok());
-    expect_eq(&rt, site.backlog(), 961);
+    goes_on_if_acknowledged(&rt, alloc, &mut site);
+}
+
+// Site 1 is sent the answer to its ping.
+fn fetches_pong(rt: &impl Abort, alloc: Global, star: &mut Star) {
+    let downs = star.fetch(alloc, 1, 1).expect(rt, "memory");
+    expect_eq(rt, downs.as_slice(), [Down::Pong(7)].as_slice());
+}
+
+// The number of the refusal of a fetch for a site, or 0.
+fn refusal_of_fetch(alloc: Global, star: &mut Star, site: u32) -> u32 {
+    star_number(star.fetch(alloc, site, 1).err())
 }
 
 #[test]
 fn a_ping_is_answered(rt: HostRuntime) {
     let alloc = rt.alloc();
     let mut star = star_of_two(&rt, alloc);
-    expect_eq(&rt, star.take(alloc, 1, &Up::Ping(7)), Ok(None));
-    let downs = star.fetch(alloc, 1, 1).expect(&rt, "memory");
-    expect_eq(&rt, downs.as_slice(), [Down::Pong(7)].as_slice());
-    let absent = star.fetch(alloc, 9, 1);
-    expect_eq(&rt, star_number(absent.err()), 33);
+    answers(&rt, alloc, &mut star, 1, &Up::Ping(7), Ok(None));
+    fetches_pong(&rt, alloc, &mut star);
+    expect_eq(&rt, refusal_of_fetch(alloc, &mut star, 9), 33);
+}
+
+// The next message to site 1, or none.
+fn gives(rt: &impl Abort, star: &mut Star, due: Option<Down>) {
+    expect_eq(rt, star.fetch_one(1), Ok(due));
 }
 
 #[test]
 fn one_message_is_fetched_without_a_list(rt: HostRuntime) {
     let alloc = rt.alloc();
     let mut star = star_of_two(&rt, alloc);
-    expect_eq(&rt, star.fetch_one(1), Ok(None));
-    expect_eq(&rt, star.take(alloc, 1, &Up::Ping(7)), Ok(None));
-    expect_eq(&rt, star.take(alloc, 1, &Up::Ping(8)), Ok(None));
-    expect_eq(&rt, star.fetch_one(1), Ok(Some(Down::Pong(7))));
-    expect_eq(&rt, star.waiting(1), Some(1));
+    gives(&rt, &mut star, None);
+    answers(&rt, alloc, &mut star, 1, &Up::Ping(7), Ok(None));
+    answers(&rt, alloc, &mut star, 1, &Up::Ping(8), Ok(None));
+    gives(&rt, &mut star, Some(Down::Pong(7)));
+    waits(&rt, &star, 1, Some(1));
     expect_eq(&rt, star_number(star.fetch_one(9).err()), 33);
 }
 
@@ -480,26 +564,30 @@ fn star_with_two_deletions(rt: &impl Abort, alloc: Global) -> Star {
     joins(rt, alloc, &mut star);
     joins(rt, alloc, &mut star);
     let deletion = first_message(alloc, deletion_of_the_first());
-    expect_eq(rt, star.take(alloc, 1, &deletion), Ok(Some(0)));
-    expect_eq(rt, star.take(alloc, 2, &deletion), Ok(Some(1)));
+    answers(rt, alloc, &mut star, 1, &deletion, Ok(Some(0)));
+    answers(rt, alloc, &mut star, 2, &deletion, Ok(Some(1)));
     star
+}
+
+// A message to site 1 that bears a no-op on the text.
+fn no_op(alloc: Global) -> Down {
+    let nothing = BoardOp {
+        win: 1,
+        wid: 1,
+        op: WidgetOp::Text(SeqOp::Nothing),
+    };
+    Down::Op(Msg {
+        mine: 0,
+        heard: 1,
+        op: alone(alloc, nothing),
+    })
 }
 
 // What site 1 is sent for the second deletion bears a no-op.
 #[test]
 fn a_second_deletion_is_sent_as_a_no_op(rt: HostRuntime) {
     let mut star = star_with_two_deletions(&rt, rt.alloc());
-    let nothing = BoardOp {
-        win: 1,
-        wid: 1,
-        op: WidgetOp::Text(SeqOp::Nothing),
-    };
-    let due = Down::Op(Msg {
-        mine: 0,
-        heard: 1,
-        op: alone(rt.alloc(), nothing),
-    });
-    expect_eq(&rt, star.fetch_one(1), Ok(Some(due)));
-    expect_eq(&rt, star.fetch_one(1), Ok(None));
+    gives(&rt, &mut star, Some(no_op(rt.alloc())));
+    gives(&rt, &mut star, None);
     expect_that(&rt, reads(star.board(), ""));
 }

@@ -1,7 +1,6 @@
 -- Frames, byte by byte and as messages.
-use Rattle.std.proofs.Common.{◌≡◌, ℕ, suc, ◌<◌, ◌≤◌, ◌+◌, List, [], ◌∷◌, ◌++◌, length, take, drop, get_or, set, refl, sym, ap, ◌∙◌, arith, append-nil, append_assoc, add-one, drop-cons, length-append, Option, Some, None, map, ◌%◌, ◌==◌, Bool, true, false, subst, bit_xor, Result, Ok, Err, inl, inr, cond, ◌||◌, nat_lt, is_some, ◌-◌, zero, slice_range, option_map, IfOk, IfErr, OnOk, OnErr}
-use Rattle.std.proofs.Math.Seq.{take-suc-set}
-use Rattle.std.proofs.lemmas.List.{map-append, take_at, get_or_past, drop-drop}
+use Rattle.std.proofs.Common.{◌≡◌, ℕ, suc, ◌<◌, ◌≤◌, ◌+◌, List, [], ◌∷◌, ◌++◌, length, take, drop, get_or, refl, sym, ap, ◌∙◌, arith, append-nil, append_assoc, add-one, drop-cons, length-append, Option, Some, None, map, ◌%◌, ◌==◌, Bool, true, false, subst, bit_xor, Result, Ok, Err, inl, inr, cond, ◌||◌, nat_lt, is_some, ◌-◌, zero, slice_range, option_map, IfOk, IfErr, OnOk, OnErr}
+use Rattle.std.proofs.lemmas.List.{take_at, get_or_past, drop-drop}
 use Rattle.std.proofs.lemmas.Grind.{flat_map-append}
 use Rattle.std.proofs.lemmas.Bool.Decides.{nat_tests, leb_tells}
 use Rattle.std.specs.List.{flat_map}
@@ -62,12 +61,6 @@ pub told_first : (given : List Told) (s : Standing) (b : ℕ) (next : Standing) 
     → step s b ≡ record { next = next; told = told } → given ++ tells s (b ∷ rest) ≡ given ++ told ++ tells next rest
 told_first given s b next told rest is = ap (λ (t : Step). given ++ (t.told ++ tells t.next rest)) is ∙ sym (append_assoc given told (tells next rest))
 
--- a byte of data goes after those before it
-pub data_put : (buf : List ℕ) (given b : ℕ) (rest : List Told) → given < length buf
-    → map brought (take given buf) ++ (brought b ∷ []) ++ rest ≡ map brought (take (suc given) (set buf given b)) ++ rest
-data_put buf given b rest room =
-    ap (λ t. t ++ rest) (sym (map-append brought (take given buf) (b ∷ [])) ∙ ap (map brought) (sym (take-suc-set buf given b room)))
-
 -- after the end nothing is reported
 pub over_tells : (s : Standing) (bs : List ℕ) → s.place ≡ Over → tells s bs ≡ []
 unfolding step
@@ -83,13 +76,6 @@ data_of_event None = refl
 data_of_event (Some (Ping held)) = refl
 data_of_event (Some (Closed code)) = refl
 data_of_event (Some (Broken b)) = refl
-
--- the data that was given is the first of what the bytes bring
-pub given_first : (s next : Standing) (bytes rest : List ℕ) (given : List ℕ) (e : Option Event)
-    → tells s bytes ≡ map brought given ++ told_by_option e ++ tells next rest → brings s bytes ≡ given ++ brings next rest
-given_first s next bytes rest given e told =
-    ap data_of told ∙ flat_map-append data_in (map brought given ++ told_by_option e) (tells next rest)
-    ∙ ap (λ t. t ++ brings next rest) (flat_map-append data_in (map brought given) (told_by_option e) ∙ rw (data_of_brought given, data_of_event e) (append-nil given))
 
 -- Whole frames, byte by byte.
 
@@ -297,10 +283,6 @@ appends_kept (Some x) None c bs p q = absurd p
 appends_kept (Some x) (Some y) None bs p q = absurd q
 appends_kept (Some x) (Some y) (Some z) bs p q = q ∙ p
 
-takes_none : (a : Option (List Told)) → Takes a a []
-takes_none None = tt
-takes_none (Some xs) = refl
-
 takes_both : (a b c : Option (List Told)) (first second : List Told) → Takes a b first → Takes b c second → Takes a c (first ++ second)
 takes_both None b c first second ab bc = tt
 takes_both (Some xs) None c first second ab bc = absurd ab
@@ -334,9 +316,6 @@ hears_whole a b w x h = record { told = h.told; sent = pongs_to h.told; unsent =
 
 pub hears_nothing : (a b : Option (List Told)) (w x : Option (List ℕ)) → Takes a b [] → x ≡ w → Hears a b w x []
 hears_nothing a b w x keeps same = record { told = []; first = keeps; given = refl; answered = subst (λ it. Appends w it []) (sym same) (Appends-nil w) }
-
-pub hears_no_more : (a : Option (List Told)) (w : Option (List ℕ)) → Hears a a w w []
-hears_no_more a w = hears_nothing a a w w (takes_none a) refl
 
 -- no byte was given
 pub gave_none : (a b : Option (List Told)) (w x : Option (List ℕ)) (n : ℕ) (buf : List ℕ) → Hears a b w x (take n buf) → n ≤ 0 → Hears a b w x []
@@ -398,21 +377,6 @@ answers_in_part payload s untaken known w x sent unsent is wrote =
     go : (k : Option (List ℕ)) → Takes (Left (ping payload ∷ []) s untaken k) (Left [] s untaken k) (ping payload ∷ [])
     go None = tt
     go (Some xs) = refl
-
--- bytes that the reader below gave are untaken
-pub filled : (due : List Told) (s : Standing) (piece : List ℕ) (old new : Option (List ℕ)) → Consumes old new piece → Takes (Left due s [] old) (Left due s piece new) []
-filled due s piece None new read = tt
-filled due s piece (Some xs) None read = absurd read
-filled due s piece (Some xs) (Some ys) read = ap (λ bs. due ++ tells s bs) read
-
-pub not_filled : (due : List Told) (s : Standing) (old new : Option (List ℕ)) → Keeps old new → Takes (Left due s [] old) (Left due s [] new) []
-not_filled due s None new read = tt
-not_filled due s (Some xs) None read = absurd read
-not_filled due s (Some xs) (Some ys) read = ap (λ bs. due ++ tells s bs) (sym read)
-
-pub filled_by_nothing : (s : Standing) (known : Option (List ℕ)) → IsAtEnd known → IsDealtWith (Left [] s [] known)
-filled_by_nothing s None at_end = tt
-filled_by_nothing s (Some xs) at_end = ap (tells s) at_end
 
 -- a stream that is over reports nothing
 pub over_is_dealt_with : (s : Standing) (untaken : List ℕ) (known : Option (List ℕ)) → s.place ≡ Over → IsDealtWith (Left [] s untaken known)

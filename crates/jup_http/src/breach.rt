@@ -2,30 +2,28 @@
 ghost use Rattle.std.specs.Prelude.{◌≡◌};
 ghost use Rattle.jup_http.specs.Frames.{breach_number};
 
-use thiserror::Error;
-
 /// What a client's frames break of RFC 6455, or of the bounds of this server.
-#[derive(Clone, Copy, Debug, PartialEq, Eq, Error)]
+#[derive(Clone, Copy, Debug, PartialEq, Eq)]
 pub enum Breach {
-    #[error("a reserved opcode, or a length that is not in its shortest form")]
+    /// A reserved opcode, or a length that is not in its shortest form.
     Header,
-    #[error("a reserved bit is set, and no extension was agreed on")]
+    /// A reserved bit is set, and no extension was agreed on.
     ReservedBit,
-    #[error("a frame that is not masked")]
+    /// A frame that is not masked.
     Unmasked,
-    #[error("a control frame in fragments")]
+    /// A control frame in fragments.
     FragmentedControl,
-    #[error("a control frame with more than 125 bytes")]
+    /// A control frame with more than 125 bytes.
     LongControl,
-    #[error("a continuation, and no message is open")]
+    /// A continuation, and no message is open.
     NothingToContinue,
-    #[error("a new message, and the last one is open")]
+    /// A new message, and the last one is open.
     MessageOpen,
-    #[error("a message with more than 65536 bytes")]
+    /// A message with more than 65536 bytes.
     LongMessage,
-    #[error("a text that is not UTF-8")]
+    /// A text that is not UTF-8.
     BadText,
-    #[error("a close with half a status code, or with one that may not be sent")]
+    /// A close with half a status code, or with one that may not be sent.
     BadClose,
 }
 

@@ -2,22 +2,20 @@
 ghost use Rattle.std.specs.Prelude.{◌≡◌};
 ghost use Rattle.jup_http.specs.Heads.{status_of};
 
-use thiserror::Error;
-
 /// Why a request is refused.
-#[derive(Clone, Copy, Debug, PartialEq, Eq, Error)]
+#[derive(Clone, Copy, Debug, PartialEq, Eq)]
 pub enum Refusal {
-    #[error("no head of a request, or one that is too long")]
+    /// No head of a request, or one that is too long.
     BadHead,
-    #[error("a page of another origin asks, or the request names another host")]
+    /// A page of another origin asks, or the request names another host.
     Foreign,
-    #[error("no page is there")]
+    /// No page is there.
     NoPage,
-    #[error("another method than GET")]
+    /// Another method than GET.
     BadMethod,
-    #[error("a link is asked for by no upgrade to a WebSocket")]
+    /// A link is asked for by no upgrade to a WebSocket.
     NoUpgrade,
-    #[error("another version of WebSockets")]
+    /// Another version of WebSockets.
     OtherVersion,
 }
 

@@ -57,7 +57,7 @@ close_code None false = Some 1000
 abbrev pub service_end_status : ServiceEnd → ℕ
 service_end_status (Io _) = 1
 service_end_status BoardTaken = 1
-service_end_status (Words _) = 2
+service_end_status Words = 2
 service_end_status NoOrigin = 2
 service_end_status NoMemory = 3
 service_end_status (BadBoard _ _) = 5

@@ -12,27 +12,36 @@ use std::io::ErrorKind;
 use thiserror::Error;
 
 /// What a server tried when a read or a write failed.
-#[derive(Clone, Copy, Debug, Error)]
+#[derive(Clone, Copy, Debug)]
 pub enum Attempt {
-    #[error("open the board")]
     OpenBoard,
-    #[error("write the board")]
     WriteBoard,
-    #[error("read the page")]
     ReadPage,
-    #[error("read the captions")]
     ReadCaptions,
-    #[error("listen there")]
     Listen,
-    #[error("print")]
     Print,
 }
 
+impl Attempt {
+    /// What the operator reads of it, after the word `cannot`.
+    pub fn text(self) -> &'static str {
+        match self {
+            Attempt::OpenBoard => "open the board",
+            Attempt::WriteBoard => "write the board",
+            Attempt::ReadPage => "read the page",
+            Attempt::ReadCaptions => "read the captions",
+            Attempt::Listen => "listen there",
+            Attempt::Print => "print",
+        }
+    }
+}
+
 /// Why a server ends early.
-#[derive(Debug, Drop, Error)]
+#[derive(Clone, Copy, Debug, Error)]
 pub enum ServiceEnd {
-    #[error("{0}")]
-    Words(clap::Error),
+    /// The words are refused, or ask for help.
+    #[error("bad words")]
+    Words,
     #[error("no origin")]
     NoOrigin,
     #[error("io fault")]
@@ -64,6 +73,15 @@ impl ServiceEnd {
         }
     }
 
+    /// The end of a server whose words came to this.
+    pub fn of_words(error: &clap::Error) -> ServiceEnd {
+        if error.kind() == WordsKind::OutOfMemory {
+            ServiceEnd::NoMemory
+        } else {
+            ServiceEnd::Words
+        }
+    }
+
     /// The end of a server whose captions are refused at this line.
     pub fn of_captions(line: u32, fault: CaptionFault) -> ServiceEnd
         ensures memory { fault ≡ CaptionFault.NoMemory → result ≡ ServiceEnd.NoMemory }
@@ -83,7 +101,7 @@ impl ServiceEnd {
     {
         match self {
             ServiceEnd::Io(_) | ServiceEnd::BoardTaken => 1,
-            ServiceEnd::Words(_) | ServiceEnd::NoOrigin => 2,
+            ServiceEnd::Words | ServiceEnd::NoOrigin => 2,
             ServiceEnd::NoMemory => 3,
             ServiceEnd::BadBoard(..) | ServiceEnd::LongBoard | ServiceEnd::BadCaptions(..) => 5,
         }
@@ -97,16 +115,6 @@ impl From<AllocError> for ServiceEnd {
 
     fn from(_error: AllocError) -> ServiceEnd {
         ServiceEnd::NoMemory
-    }
-}
-
-impl From<clap::Error> for ServiceEnd {
-    fn from(error: clap::Error) -> ServiceEnd {
-        if error.kind() == WordsKind::OutOfMemory {
-            ServiceEnd::NoMemory
-        } else {
-            ServiceEnd::Words(error)
-        }
     }
 }
 

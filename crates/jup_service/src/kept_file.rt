@@ -65,12 +65,17 @@ impl KeptFile {
     /// whole. The new text is written to a second file, and is on the disk before a rename gives it the file's name. On return the
     /// rename is on the disk too.
     pub fn save<R: Files<File = File>>(&self, rt: &R, text: &[u8]) -> io::Result<()> {
+        self.write_fresh(rt, text)?;
+        rt.rename(self.fresh.as_str(), self.path.as_str())?;
+        File::open(rt, self.folder.as_str())?.sync_all()
+    }
+
+    // Writes the new text to the second file.
+    fn write_fresh<R: Files<File = File>>(&self, rt: &R, text: &[u8]) -> io::Result<()> {
         let mode = rt.metadata(self.path.as_str())?.permissions();
         let mut fresh = File::create(rt, self.fresh.as_str())?;
         fresh.set_permissions(mode)?;
-        write_synced(&mut fresh, text)?;
-        rt.rename(self.fresh.as_str(), self.path.as_str())?;
-        File::open(rt, self.folder.as_str())?.sync_all()
+        write_synced(&mut fresh, text)
     }
 }
 

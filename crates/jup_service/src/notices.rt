@@ -2,19 +2,27 @@
 ghost use Rattle.std.specs.Prelude.{◌≡◌, not, true, false};
 ghost use Rattle.jup_service.specs.Servers.{notice_of, is_told, with_told};
 
-use thiserror::Error;
-
 /// What a server reports to its operator while it runs.
-#[derive(Clone, Copy, Debug, PartialEq, Eq, Error)]
+#[derive(Clone, Copy, Debug, PartialEq, Eq)]
 pub enum Notice {
-    #[error("all site numbers are spent: nobody can join any more; a restart with the same board begins again")]
     SitesSpent,
-    #[error("the order is full: no edit is taken any more; a restart with the same board begins again")]
     OrderFull,
-    #[error("cannot accept a connection: it is tried again")]
     CannotAccept,
-    #[error("cannot write the board: it is tried again")]
     CannotWrite,
+}
+
+impl Notice {
+    /// What the operator reads of it.
+    pub fn text(self) -> &'static str {
+        match self {
+            Notice::SitesSpent =>
+                "all site numbers are spent: nobody can join any more; a restart with the same board begins again",
+            Notice::OrderFull =>
+                "the order is full: no edit is taken any more; a restart with the same board begins again",
+            Notice::CannotAccept => "cannot accept a connection: it is tried again",
+            Notice::CannotWrite => "cannot write the board: it is tried again",
+        }
+    }
 }
 
 /// What the server reports to its operator after a session that a fault of this number ended, if it reports anything.

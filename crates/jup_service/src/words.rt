@@ -25,6 +25,45 @@ const BAD_LIMIT: &str = "a count out of range";
 const BAD_ORIGIN: &str =
     "an origin is http:// or https:// and a host, with a port or without one, and no path";
 
+// What the help shows of an option.
+#[derive(Clone, Copy)]
+struct OptionTexts {
+    name: &'static str,
+    value: &'static str,
+    help: &'static str,
+}
+
+const NEEDED: [OptionTexts; 2] = [
+    OptionTexts {
+        name: "listen",
+        value: "ADDR",
+        help: "Where to listen, as 127.0.0.1:4711",
+    },
+    OptionTexts {
+        name: "board",
+        value: "FILE",
+        help: "The printed board, which is read and written",
+    },
+];
+
+const OTHERS: [OptionTexts; 3] = [
+    OptionTexts {
+        name: "page",
+        value: "FILE",
+        help: "Another page than the program's own",
+    },
+    OptionTexts {
+        name: "captions",
+        value: "FILE",
+        help: "Captions of windows and widgets",
+    },
+    OptionTexts {
+        name: "origin",
+        value: "ORIGIN",
+        help: "Where browsers find the server, as https://board.example",
+    },
+];
+
 /// What the command line asks of the server.
 #[derive(Clone, Copy)]
 pub struct ServiceWords<'a> {
@@ -59,8 +98,7 @@ fn read_words<'a>(command: &mut Command<'a>, words: &'a [String]) -> Result<Serv
     let matches = command.try_get_matches_from_mut(words)?;
     match told_by(&matches) {
         Ok(told) => Ok(told),
-        Err(Unread::BadLimit) => Err(bad_value(command, BAD_LIMIT)),
-        Err(Unread::BadOrigin) => Err(bad_value(command, BAD_ORIGIN)),
+        Err(unread) => Err(bad_value(command, unread)),
     }
 }
 
@@ -73,33 +111,33 @@ enum Unread {
 
 // The program's command line.
 fn command<'a>(alloc: Global) -> Result<Command<'a>, AllocError> {
+    let options = options(alloc)?;
     Command::new(alloc, "jupweb")
         .no_binary_name(true)
         .about(ABOUT)
         .after_help(EXAMPLE)
-        .arg(option(
-            alloc,
-            "listen",
-            "ADDR",
-            "Where to listen, as 127.0.0.1:4711",
-        )
-        .required(true))?
-        .arg(option(
-            alloc,
-            "board",
-            "FILE",
-            "The printed board, which is read and written",
-        )
-        .required(true))?
-        .arg(limit(alloc))?
-        .arg(option(alloc, "page", "FILE", "Another page than the program's own"))?
-        .arg(option(alloc, "captions", "FILE", "Captions of windows and widgets"))?
-        .arg(option(
-            alloc,
-            "origin",
-            "ORIGIN",
-            "Where browsers find the server, as https://board.example",
-        ))
+        .args(options)
+}
+
+// Its options, in the order in which the help shows them.
+fn options<'a>(alloc: Global) -> Result<Vec<Arg<'a>>, AllocError> {
+    let mut options = Vec::new(alloc);
+    add_options(alloc, &NEEDED, true, &mut options)?;
+    options.push(limit(alloc))?;
+    add_options(alloc, &OTHERS, false, &mut options)?;
+    Ok(options)
+}
+
+fn add_options<'a>(
+    alloc: Global,
+    texts: &[OptionTexts],
+    is_needed: bool,
+    options: &mut Vec<Arg<'a>>,
+) -> Result<(), AllocError> {
+    for it in texts {
+        options.push(option(alloc, it.name, it.value, it.help).required(is_needed))?;
+    }
+    Ok(())
 }
 
 // An option with a value.
@@ -156,7 +194,11 @@ fn origin_of(origin: Option<&str>) -> Result<Option<&str>, Unread>
 }
 
 // The error for a value that was read and is refused.
-fn bad_value(command: &mut Command<'_>, message: &str) -> Error {
+fn bad_value(command: &mut Command<'_>, unread: Unread) -> Error {
+    let message = match unread {
+        Unread::BadLimit => BAD_LIMIT,
+        Unread::BadOrigin => BAD_ORIGIN,
+    };
     match command.error(ErrorKind::ValueValidation, message) {
         Ok(error) => error,
         Err(error) => error.into(),

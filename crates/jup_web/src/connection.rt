@@ -4,16 +4,17 @@ ghost use Rattle.jup_hub.specs.Passes.{IsPassOf};
 
 use crate::browser::{BrowserBytes, UntilStopped};
 use crate::session::{Service, run_session};
+use crate::stop::Stop;
 use crate::turn::{BROWSER_PATIENCE, InTurn};
 use jup_http::{
-    LONGEST_HEAD, Media, MessageReader, MessageWriter, Request, body_head, put_close, read_request,
-    refusal_head,
+    Ending, LONGEST_HEAD, Media, MessageReader, MessageWriter, Request, body_head, put_close,
+    read_request, refusal_head,
 };
 use jup_hub::Pass;
 use jup_intake::is_interrupted;
 use jup_service::{LONGEST_SILENCE, Opening, close_code, head_wait, opening_of};
 use jup_session::{Outgoing, hang_up};
-use std::alloc::AllocError;
+use std::alloc::{AllocError, Global};
 use std::io;
 use std::io::{ErrorKind, Read, Write};
 use std::net::TcpStream;
@@ -42,7 +43,7 @@ pub(crate) fn serve_connection<R: Threads + Wait + Clock + Eprint + Sync>(
     match read_head(rt, service.origins, stream, &mut head) {
         Ok((len, Head::Lines)) => serve_lines(rt, service, stream, &head[..len], pass),
         Ok((_, Head::Request(Request::Link(key)))) => {
-            if greet(service, stream, &key).is_ok() {
+            if greet(service.alloc, stream, &key).is_ok() {
                 serve_browser(rt, service, stream, pass);
             }
         }
@@ -64,21 +65,32 @@ fn read_head<R: Clock>(
     ensures { IfOk result (λ read. read.0 ≤ length head.new) }
 {
     let start = Instant::now(rt)?;
-    let mut from = stream;
     let mut len = 0usize;
     for _ in 0..LONGEST_HEAD {
-        stream.set_read_timeout(Some(wait_from(rt, start)?))?;
-        match from.read(&mut head[len..]) {
-            Ok(0) => return Err(io::Error::from(ErrorKind::UnexpectedEof)),
-            Ok(more) => len += more,
-            Err(error) if is_interrupted(&error) => {}
-            Err(error) => return Err(error),
-        }
+        len += read_more(rt, start, stream, &mut head[len..])?;
         if let Some(found) = head_of(&head[..len], origins) {
             return Ok((len, found));
         }
     }
     Err(io::Error::from(ErrorKind::TimedOut))
+}
+
+// Reads once, and answers how many bytes came: none if the read was interrupted.
+fn read_more<R: Clock>(
+    rt: &R,
+    start: Instant,
+    mut stream: &TcpStream,
+    buf: &mut [u8],
+) -> io::Result<usize>
+    ensures { IfOk result (λ more. more ≤ length buf.new) }
+{
+    stream.set_read_timeout(Some(wait_from(rt, start)?))?;
+    match stream.read(buf) {
+        Ok(0) => Err(io::Error::from(ErrorKind::UnexpectedEof)),
+        Ok(more) => Ok(more),
+        Err(error) if is_interrupted(&error) => Ok(0),
+        Err(error) => Err(error),
+    }
 }
 
 // How long the next read of a head may wait.
@@ -122,27 +134,27 @@ fn serve_lines<R: Threads + Wait + Clock + Eprint + Sync>(
 fn answer(service: &Service<'_>, stream: &TcpStream, request: Request) -> io::Result<()> {
     let mut to = Outgoing::new(stream, BROWSER_PATIENCE);
     match request {
-        Request::Page => send(service, &mut to, Media::Html, service.page),
-        Request::Captions => send(service, &mut to, Media::Plain, service.captions),
+        Request::Page => send(service.alloc, &mut to, Media::Html, service.page),
+        Request::Captions => send(service.alloc, &mut to, Media::Plain, service.captions),
         Request::Who => {
             let links = service.connections.count_links();
             let text = format!(in service.alloc; "{links}\n")?;
-            send(service, &mut to, Media::Plain, text.as_bytes())
+            send(service.alloc, &mut to, Media::Plain, text.as_bytes())
         }
         Request::Refused(refusal) => to.write_all(refusal_head(refusal).as_bytes()),
         Request::Link(_) => Ok(()),
     }
 }
 
-fn send<O: Write>(service: &Service<'_>, to: &mut O, media: Media, body: &[u8]) -> io::Result<()> {
-    let head = body_head(service.alloc, media, body.len())?;
+fn send<O: Write>(alloc: Global, to: &mut O, media: Media, body: &[u8]) -> io::Result<()> {
+    let head = body_head(alloc, media, body.len())?;
     to.write_all(head.as_bytes())?;
     to.write_all(body)
 }
 
 // Accepts a WebSocket.
-fn greet(service: &Service<'_>, stream: &TcpStream, key: &[u8; 28]) -> io::Result<()> {
-    let mut head = Vec::new(service.alloc);
+fn greet(alloc: Global, stream: &TcpStream, key: &[u8; 28]) -> io::Result<()> {
+    let mut head = Vec::new(alloc);
     if write_response(key, &[], &mut head).is_err() {
         return Err(io::Error::from(ErrorKind::OutOfMemory));
     }
@@ -162,31 +174,43 @@ fn serve_browser<R: Threads + Wait + Clock + Eprint + Sync>(
     let _ = stream.set_read_timeout(Some(Duration::from_secs(LONGEST_SILENCE)));
     let turn = Mutex::new(());
     let turn = &turn;
-    let Ok(writer) = MessageWriter::new(service.alloc, InTurn::new(rt, turn, stream)) else {
-        return;
-    };
-    let Ok(mut reader) = messages_of(rt, service, stream, turn) else {
-        return;
-    };
+    if let Ok(ending) = serve_messages(rt, service, stream, turn, pass) {
+        let code = close_code(ending, service.stop.is_told(rt));
+        let _ = send_close(service.alloc, &mut InTurn::new(rt, turn, stream), code);
+    }
+}
+
+// Serves a session whose lines are the payloads of messages, and answers how the browser's frames ended, if they have.
+fn serve_messages<R: Threads + Wait + Clock + Eprint + Sync>(
+    rt: &R,
+    service: &Service<'_>,
+    stream: &TcpStream,
+    turn: &Mutex<()>,
+    pass: Pass,
+) -> Result<Option<Ending>, AllocError>
+    requires { IsPassOf service.now.hub.now pass }
+{
+    let writer = MessageWriter::new(service.alloc, InTurn::new(rt, turn, stream))?;
+    let mut reader = messages_of(rt, service.alloc, service.stop, stream, turn)?;
     run_session(rt, service, &mut reader, writer, pass);
-    let code = close_code(reader.ending(), service.stop.is_told(rt));
-    let _ = send_close(service, &mut InTurn::new(rt, turn, stream), code);
+    Ok(reader.ending())
 }
 
 // The payloads of the messages that a browser sends.
 fn messages_of<'a, R: Wait>(
     rt: &'a R,
-    service: &Service<'a>,
+    alloc: Global,
+    stop: &'a Stop,
     stream: &'a TcpStream,
     turn: &'a Mutex<()>,
 ) -> Result<MessageReader<BrowserBytes<'a, R>, InTurn<'a, R>>, AllocError> {
-    let from = UntilStopped::new(rt, service.stop, stream);
-    let bytes = BrowserBytes::new(service.alloc, from, InTurn::new(rt, turn, stream))?;
-    MessageReader::new(service.alloc, bytes, InTurn::new(rt, turn, stream))
+    let from = UntilStopped::new(rt, stop, stream);
+    let bytes = BrowserBytes::new(alloc, from, InTurn::new(rt, turn, stream))?;
+    MessageReader::new(alloc, bytes, InTurn::new(rt, turn, stream))
 }
 
-fn send_close<O: Write>(service: &Service<'_>, to: &mut O, code: Option<u16>) -> io::Result<()> {
-    let mut frame = Vec::new(service.alloc);
+fn send_close<O: Write>(alloc: Global, to: &mut O, code: Option<u16>) -> io::Result<()> {
+    let mut frame = Vec::new(alloc);
     put_close(code, &mut frame)?;
     to.write_all(&frame)
 }

@@ -3,6 +3,7 @@ ghost use Rattle.std.specs.Prelude.{◌≡◌, IfOk, IfSome};
 ghost use Rattle.jup_hub.specs.Passes.{view_of, IsPassOf};
 ghost use Rattle.jup_web.specs.Keeping.{IsTextAt};
 
+use crate::notices::Notices;
 use crate::session::Service;
 use jup_hub::{Hub, Pass};
 use jup_service::{KeptFile, Notice};
@@ -79,21 +80,25 @@ impl<'a> KeptBoard<'a> {
         }
     }
 
+    pub(crate) fn file(&self) -> &'a KeptFile {
+        self.file
+    }
+
     // Writes a text that the file does not have.
     fn write<R: Wait + Eprint, F: Files<File = File>>(
         &mut self,
         rt: &R,
         files: &F,
-        service: &Service<'_>,
+        notices: &Notices,
         text: Vec<u8>,
     ) {
         self.is_due = true;
         if text != self.text {
             if self.file.save(files, text.as_slice()).is_err() {
-                service.notices.tell(rt, Notice::CannotWrite);
+                notices.tell(rt, Notice::CannotWrite);
                 return;
             }
-            service.notices.clear(rt, Notice::CannotWrite);
+            notices.clear(rt, Notice::CannotWrite);
             self.text = text;
         }
         self.is_due = false;
@@ -105,7 +110,7 @@ pub(crate) fn keep<R: Wait + Clock + Eprint, F: Files<File = File>>(
     rt: &R,
     files: &F,
     service: &Service<'_>,
-    mut board: KeptBoard<'_>,
+    board: &mut KeptBoard<'_>,
     pass: &mut Pass,
 )
     requires { IsPassOf service.now.hub.now pass.old }
@@ -116,7 +121,7 @@ pub(crate) fn keep<R: Wait + Clock + Eprint, F: Files<File = File>>(
             return;
         }
         match take_news(rt, service.alloc, service.hub, pass, board.is_due) {
-            Ok(Some(text)) => board.write(rt, files, service, text),
+            Ok(Some(text)) => board.write(rt, files, service.notices, text),
             Ok(None) => {}
             Err(NoMemory) => board.is_due = true,
         }

@@ -20,7 +20,8 @@ impl Notices {
     pub(crate) fn tell<R: Wait + Eprint>(&self, rt: &R, notice: Notice) {
         let is_first = self.told.lock(rt).tell(notice);
         if is_first {
-            let _ = eprintln!(rt; "{notice}");
+            let text = notice.text();
+            let _ = eprintln!(rt; "{text}");
         }
     }
 

@@ -5,6 +5,7 @@ use crate::keeping::board_text;
 use crate::session::Service;
 use jup_hub::Pass;
 use jup_service::{Command, command_of};
+use std::alloc::Global;
 use std::io;
 use std::io::{BufRead, BufReader, ErrorKind, Read, Write};
 use std::sync::Wait;
@@ -22,14 +23,10 @@ pub(crate) fn operate<R: Wait + Print, I: Read + Drop>(
         return;
     };
     for _ in rt.forever() {
-        let mut line = String::new(service.alloc);
-        match input.read_line(&mut line) {
-            Ok(0) => return,
-            Ok(_) => {}
-            Err(error) if error.kind() == ErrorKind::InvalidData => {}
-            Err(_) => return,
-        }
-        match command_of(line.as_str().trim_end().as_bytes()) {
+        let Some(command) = next_command(service.alloc, &mut input) else {
+            return;
+        };
+        match command {
             Some(Command::Stop) => {
                 service.stop.tell(rt);
                 return;
@@ -40,6 +37,18 @@ pub(crate) fn operate<R: Wait + Print, I: Read + Drop>(
             }
         }
     }
+}
+
+// The command of the next line, if it has one. `None` at the end of the input.
+fn next_command<I: BufRead>(alloc: Global, input: &mut I) -> Option<Option<Command>> {
+    let mut line = String::new(alloc);
+    match input.read_line(&mut line) {
+        Ok(0) => return None,
+        Ok(_) => {}
+        Err(error) if error.kind() == ErrorKind::InvalidData => {}
+        Err(_) => return None,
+    }
+    Some(command_of(line.as_str().trim_end().as_bytes()))
 }
 
 // Prints the board.

@@ -10,7 +10,7 @@ use crate::operating::operate;
 use crate::session::Service;
 use crate::setup::{Door, OpenedBoard, Setup, prepare, slices};
 use crate::stop::Stop;
-use crate::telling::tell;
+use crate::telling::{tell, tell_words};
 use jup_hub::{Hub, Pass};
 use jup_service::{Attempt, KeptFile, Notice, ServiceEnd, service_words};
 use jup_session::Bell;
@@ -49,12 +49,12 @@ pub fn web_main<
         + Eprint
         + Sync,
     I: Read + Send + Drop,
->(rt: &R, alloc: Global, words: &[String], page: &str, input: I) -> u8
+>(rt: &R, alloc: Global, words: &[String], page: &[u8], input: I) -> u8
     ensures { result ≤ 5 }
 {
     let told = match service_words(alloc, words) {
         Ok(told) => told,
-        Err(error) => return tell(rt, &ServiceEnd::from(error)),
+        Err(error) => return tell_words(rt, &error),
     };
     let served = match prepare(rt, alloc, &told) {
         Ok(setup) => serve(rt, alloc, setup, page, input),
@@ -62,7 +62,7 @@ pub fn web_main<
     };
     match served {
         Ok(()) => 0,
-        Err(end) => tell(rt, &end),
+        Err(end) => tell(rt, end),
     }
 }
 
@@ -70,7 +70,7 @@ pub fn web_main<
 fn serve<
     R: Files<File = File> + Threads + Wait + Clock + Print + Eprint + Sync,
     I: Read + Send + Drop,
->(rt: &R, alloc: Global, setup: Setup, page: &str, input: I) -> Result<(), ServiceEnd> {
+>(rt: &R, alloc: Global, setup: Setup, page: &[u8], input: I) -> Result<(), ServiceEnd> {
     let Setup {
         board,
         bodies,
@@ -80,6 +80,37 @@ fn serve<
     let Ok((hub, pass)) = Hub::open(alloc, star) else {
         return Err(ServiceEnd::NoMemory);
     };
+    let page = page_of(&bodies.page, page);
+    serve_hub(
+        rt,
+        alloc,
+        &hub,
+        pass,
+        KeptBoard::new(&file, text),
+        page,
+        bodies.captions.as_slice(),
+        door,
+        input,
+    )
+}
+
+// Serves the hub of a board until a stop, and keeps the board.
+fn serve_hub<
+    R: Files<File = File> + Threads + Wait + Clock + Print + Eprint + Sync,
+    I: Read + Send + Drop,
+>(
+    rt: &R,
+    alloc: Global,
+    hub: &Hub,
+    pass: Pass,
+    mut board: KeptBoard<'_>,
+    page: &[u8],
+    captions: &[u8],
+    door: Door,
+    input: I,
+) -> Result<(), ServiceEnd>
+    requires { IsPassOf hub.now pass }
+{
     let Door { listener, origins } = door;
     let origins = slices(alloc, origins.as_slice())?;
     let stop = match announce(rt, &listener) {
@@ -88,17 +119,16 @@ fn serve<
     };
     let service = Service {
         alloc,
-        hub: &hub,
+        hub,
         bell: &Bell::new(),
         stop: &stop,
         connections: &Connections::new(),
         notices: &Notices::new(),
         origins: &origins,
-        page: page_of(&bodies.page, page),
-        captions: bodies.captions.as_slice(),
+        page,
+        captions,
     };
-    let board = KeptBoard::new(&file, text);
-    serve_and_save(rt, &service, listener, input, &file, board, pass)
+    serve_and_save(rt, &service, listener, input, &mut board, pass)
 }
 
 // Serves until a stop, and writes the board at last.
@@ -110,21 +140,20 @@ fn serve_and_save<
     service: &Service<'_>,
     listener: TcpListener,
     input: I,
-    file: &KeptFile,
-    board: KeptBoard<'_>,
+    board: &mut KeptBoard<'_>,
     pass: Pass,
 ) -> Result<(), ServiceEnd>
     requires { IsPassOf service.now.hub.now pass }
 {
     let pass = serve_all(rt, rt, service, listener, input, board, pass)?;
-    save_last(rt, rt, service, file, pass)
+    save_last(rt, rt, service, board.file(), pass)
 }
 
 // The page that the server serves.
-fn page_of<'a>(told: &'a Option<Vec<u8>>, own: &'a str) -> &'a [u8] {
+fn page_of<'a>(told: &'a Option<Vec<u8>>, own: &'a [u8]) -> &'a [u8] {
     match told {
         Some(told) => told.as_slice(),
-        None => own.as_bytes(),
+        None => own,
     }
 }
 
@@ -168,7 +197,7 @@ fn serve_all<
     service: &Service<'_>,
     listener: TcpListener,
     input: I,
-    board: KeptBoard<'_>,
+    board: &mut KeptBoard<'_>,
     mut pass: Pass,
 ) -> Result<Pass, ServiceEnd>
     requires { IsPassOf service.now.hub.now pass }
@@ -237,7 +266,7 @@ fn accept_all<R: Threads + Wait + Clock + Eprint + Sync>(
                 }
             }
             drop(listener);
-            end_connections(rt, service);
+            end_connections(rt, service.connections);
         },
     )
 }
@@ -269,13 +298,13 @@ fn next_connection<R: Wait + Clock + Eprint>(
 }
 
 // Ends the connections that are open: first as if their clients were gone, and after five seconds regardless of what they do.
-fn end_connections<R: Wait + Clock>(rt: &R, service: &Service<'_>) {
-    service.connections.shut(rt, Shutdown::Read);
+fn end_connections<R: Wait + Clock>(rt: &R, connections: &Connections) {
+    connections.shut(rt, Shutdown::Read);
     for _ in 0..ENDING_LOOKS {
-        if service.connections.are_none(rt) {
+        if connections.are_none(rt) {
             return;
         }
         thread::sleep(rt, Duration::from_millis(ENDING_PAUSE));
     }
-    service.connections.shut(rt, Shutdown::Both);
+    connections.shut(rt, Shutdown::Both);
 }

@@ -1,6 +1,6 @@
 //! The page. `tools/embed` makes this file of page/jupweb.html.
 
-pub(crate) const PAGE: &str = r#"<!doctype html>
+pub(crate) const PAGE: &[u8] = br#"<!doctype html>
 <html lang="en">
 <head>
 <meta charset="utf-8">

@@ -22,7 +22,7 @@ fn expect_head(rt: &impl Abort, bytes: &[u8], code: u16, fields: usize) {
 
 #[test]
 fn refusals_are_heads_of_their_status(rt: HostRuntime) {
-    for (refusal, code, fields) in [
+    for (refusal, code, fields) in &[
         (Refusal::BadHead, 400, 2),
         (Refusal::Foreign, 403, 2),
         (Refusal::NoPage, 404, 2),
@@ -30,8 +30,8 @@ fn refusals_are_heads_of_their_status(rt: HostRuntime) {
         (Refusal::NoUpgrade, 400, 2),
         (Refusal::OtherVersion, 426, 4),
     ] {
-        expect_eq(&rt, refusal.status(), code);
-        expect_head(&rt, refusal_head(refusal).as_bytes(), code, fields);
+        expect_eq(&rt, refusal.status(), *code);
+        expect_head(&rt, refusal_head(*refusal).as_bytes(), *code, *fields);
     }
 }
 

@@ -17,9 +17,13 @@ fn expect_origins(
     due: &[&str],
 ) {
     let origins = own_origins(rt.alloc(), host, at, told).expect(rt, "memory");
-    expect_eq(rt, origins.len(), due.len());
-    for (origin, due) in origins.iter().zip(due.iter()) {
-        expect_eq(rt, origin.as_str().as_bytes(), due.as_bytes());
+    expect_texts(rt, origins.as_slice(), due);
+}
+
+fn expect_texts(rt: &impl Abort, texts: &[String], due: &[&str]) {
+    expect_eq(rt, texts.len(), due.len());
+    for (text, due) in texts.iter().zip(due.iter()) {
+        expect_eq(rt, text.as_str().as_bytes(), due.as_bytes());
     }
 }
 

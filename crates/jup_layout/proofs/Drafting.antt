@@ -8,7 +8,7 @@ use Rattle.std.proofs.lemmas.Option.{none-some}
 use Rattle.std.proofs.lemmas.List.Edits.{length-insert, insert_end}
 use Rattle.std.specs.Ordering.{nat_cmp, ordering_then, is_eq}
 use Rattle.std.specs.Cmp.{both_tied, unsigned_ties}
-use Rattle.jup_layout.specs.Prelude.{most_entries, Item, Name, Items, has_name, name_eq, BoardFault, Widget, Text, Labels, Toggle, Slider, Line, Refusal, NoMemory, DoubleId, TooMany, BadId, BadBounds, Misplaced, BadItemName, Distinct}
+use Rattle.jup_layout.specs.Prelude.{Added, AddedChar, AddedLabel, most_entries, Item, Name, Items, has_name, name_eq, BoardFault, Widget, Text, Labels, Toggle, Slider, Line, Refusal, NoMemory, DoubleId, TooMany, BadId, BadBounds, Misplaced, BadItemName, Distinct}
 use Rattle.jup_window.specs.declared.faults.BoardFault.TheVariants as fault
 use Rattle.jup_window.specs.Entries.{double_fault, entry_fault, fault_in, widget_fault, RefusesBy, at_id, change_at, slot_of, with_entry, map_values}
 use Rattle.jup_window.specs.Laws.Entries.{at_id-map, at_id-same, at_id-other}
@@ -16,7 +16,7 @@ use Rattle.jup_window.specs.Boards as board
 use Rattle.jup_window.specs.Widgets as widget
 use Rattle.jup_window.proofs.BoardChanges.{slot_of-within}
 use Rattle.jup_wire.specs.declared.line.Line.TheVariants as line
-use Rattle.jup_layout.specs.Drafts.{refusal_of, Drafted, put_into, whole, unless, with_window, with_widget_in, bare_last, is_free, Follows, with_slider_in, with_char_in, with_label_in, taken, items_in_last, naming_refusal, next_naming, first_refusal, with_item, ◌>>?◌, at_line, lines_taken, AddsName}
+use Rattle.jup_layout.specs.Drafts.{refusal_of, Drafted, put_into, whole, unless, with_window, with_widget_in, bare_last, is_free, Follows, with_slider_in, with_added, taken, items_in_last, naming_refusal, next_naming, first_refusal, with_item, ◌>>?◌, at_line, lines_taken, AddsName}
 
 -- What a draft's calls give, apart from the room of its sequences.
 
@@ -270,19 +270,14 @@ in_slider (Some win) false wid w d next n empty e = absurd cc
 one_more : {V : Type 0} (items : List (Item V)) (item : Item V) → length (items ++ item ∷ []) ≤ length items + 1
 one_more items item = omega (arith, length-append items (item ∷ []))
 
-in_text : (o : Option (ℕ × Widget)) (item : Item ℕ) (d next : Drafted) → with_char_in o item d ≡ Ok next → items_in_last next.last ≤ items_in_last o + 1
-in_text None item d next e = absurd cc
-in_text (Some (wid, Text x)) item d next e = subst (λ y. items_in_last y.last ≤ length x.items + 1) (unless_ok _ _ next e) (one_more x.items item)
-in_text (Some (wid, Labels x)) item d next e = absurd cc
-in_text (Some (wid, Toggle x)) item d next e = absurd cc
-in_text (Some (wid, Slider x)) item d next e = absurd cc
-
-in_list : (o : Option (ℕ × Widget)) (item : Item (List ℕ)) (d next : Drafted) → with_label_in o item d ≡ Ok next → items_in_last next.last ≤ items_in_last o + 1
-in_list None item d next e = absurd cc
-in_list (Some (wid, Text x)) item d next e = absurd cc
-in_list (Some (wid, Labels x)) item d next e = subst (λ y. items_in_last y.last ≤ length x.items + 1) (unless_ok _ _ next e) (one_more x.items item)
-in_list (Some (wid, Toggle x)) item d next e = absurd cc
-in_list (Some (wid, Slider x)) item d next e = absurd cc
+in_item : (o : Option (ℕ × Widget)) (added : Added) (d next : Drafted) → with_added o added d ≡ Ok next → items_in_last next.last ≤ items_in_last o + 1
+in_item None added d next e = absurd cc
+in_item (Some (wid, Text x)) (AddedChar item) d next e = subst (λ y. items_in_last y.last ≤ length x.items + 1) (unless_ok _ _ next e) (one_more x.items item)
+in_item (Some (wid, Text x)) (AddedLabel item) d next e = absurd cc
+in_item (Some (wid, Labels x)) (AddedChar item) d next e = absurd cc
+in_item (Some (wid, Labels x)) (AddedLabel item) d next e = subst (λ y. items_in_last y.last ≤ length x.items + 1) (unless_ok _ _ next e) (one_more x.items item)
+in_item (Some (wid, Toggle x)) added d next e = absurd cc
+in_item (Some (wid, Slider x)) added d next e = absurd cc
 
 pub taken_grows : (d next : Drafted) (l : Line) → taken d l ≡ Ok next → items_in_last next.last ≤ items_in_last d.last + 1
 taken_grows d next (line.Window win) e = subst (λ x. items_in_last x.last ≤ items_in_last d.last + 1) (unless_ok _ _ next e) (omega arith)
@@ -290,8 +285,8 @@ taken_grows d next (line.Text wid) e = in_widget d.window wid _ d next (items_in
 taken_grows d next (line.List wid) e = in_widget d.window wid _ d next (items_in_last d.last) refl e
 taken_grows d next (line.Toggle wid on) e = in_widget d.window wid _ d next (items_in_last d.last) refl e
 taken_grows d next (line.Slider wid lo hi value) e = in_slider d.window _ wid _ d next (items_in_last d.last) refl e
-taken_grows d next (line.Char name value) e = in_text d.last _ d next e
-taken_grows d next (line.Item name value) e = in_list d.last _ d next e
+taken_grows d next (line.Char name value) e = in_item d.last _ d next e
+taken_grows d next (line.Item name value) e = in_item d.last _ d next e
 taken_grows d next line.Hello e = absurd cc
 taken_grows d next (line.Welcome site limit) e = absurd cc
 taken_grows d next line.Ready e = absurd cc
@@ -401,19 +396,14 @@ slider_plain None b wid w d next e = absurd cc
 slider_plain (Some win) true wid w d next e = widget_plain d.window wid w d next e
 slider_plain (Some win) false wid w d next e = absurd cc
 
-char_plain : (o : Option (ℕ × Widget)) (item : Item ℕ) (d next : Drafted) → with_char_in o item d ≡ Ok next → with_char_in o item (plain d) ≡ Ok (plain next)
-char_plain None item d next e = absurd cc
-char_plain (Some (wid, Text x)) item d next e = item_plain Text wid x item d next e
-char_plain (Some (wid, Labels x)) item d next e = absurd cc
-char_plain (Some (wid, Toggle x)) item d next e = absurd cc
-char_plain (Some (wid, Slider x)) item d next e = absurd cc
-
-label_plain : (o : Option (ℕ × Widget)) (item : Item (List ℕ)) (d next : Drafted) → with_label_in o item d ≡ Ok next → with_label_in o item (plain d) ≡ Ok (plain next)
-label_plain None item d next e = absurd cc
-label_plain (Some (wid, Text x)) item d next e = absurd cc
-label_plain (Some (wid, Labels x)) item d next e = item_plain Labels wid x item d next e
-label_plain (Some (wid, Toggle x)) item d next e = absurd cc
-label_plain (Some (wid, Slider x)) item d next e = absurd cc
+added_plain : (o : Option (ℕ × Widget)) (added : Added) (d next : Drafted) → with_added o added d ≡ Ok next → with_added o added (plain d) ≡ Ok (plain next)
+added_plain None added d next e = absurd cc
+added_plain (Some (wid, Text x)) (AddedChar item) d next e = item_plain Text wid x item d next e
+added_plain (Some (wid, Text x)) (AddedLabel item) d next e = absurd cc
+added_plain (Some (wid, Labels x)) (AddedChar item) d next e = absurd cc
+added_plain (Some (wid, Labels x)) (AddedLabel item) d next e = item_plain Labels wid x item d next e
+added_plain (Some (wid, Toggle x)) added d next e = absurd cc
+added_plain (Some (wid, Slider x)) added d next e = absurd cc
 
 taken_plain : (d next : Drafted) (l : Line) → taken d l ≡ Ok next → taken (plain d) l ≡ Ok (plain next)
 taken_plain d next (line.Window win) e = unless_plain _ _ next e
@@ -421,8 +411,8 @@ taken_plain d next (line.Text wid) e = widget_plain d.window wid _ d next e
 taken_plain d next (line.List wid) e = widget_plain d.window wid _ d next e
 taken_plain d next (line.Toggle wid on) e = widget_plain d.window wid _ d next e
 taken_plain d next (line.Slider wid lo hi value) e = slider_plain d.window _ wid _ d next e
-taken_plain d next (line.Char name value) e = char_plain d.last _ d next e
-taken_plain d next (line.Item name value) e = label_plain d.last _ d next e
+taken_plain d next (line.Char name value) e = added_plain d.last _ d next e
+taken_plain d next (line.Item name value) e = added_plain d.last _ d next e
 taken_plain d next line.Hello e = absurd cc
 taken_plain d next (line.Welcome site limit) e = absurd cc
 taken_plain d next line.Ready e = absurd cc

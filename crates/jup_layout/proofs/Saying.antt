@@ -4,13 +4,13 @@ use Rattle.std.specs.Prelude.{T, IsTrue, ℤ, ◌≤ℤ◌, nat_le, int_le, if�
 use Rattle.std.specs.Option.{option_map, option_and_then, is_none, IsSome}
 use Rattle.std.proofs.lemmas.Bool.{cases_Bool, eqb-true, eqb-false, eq-eqb, ne_eqb, lt-leb, leb-false, and_parts, and_from}
 use Rattle.std.proofs.lemmas.Option.{none-some, same_Some}
-use Rattle.jup_layout.specs.Prelude.{longest_sequence, most_entries, Name, Item, Items, name_eq, has_name, BoardFault, Widget, Text, Labels, Toggle, Slider, Windows, Naming, Distinct, Numbered, Refusal, Misplaced, BadBounds, BadItemName, TooMany, Line, LayoutFault}
+use Rattle.jup_layout.specs.Prelude.{Added, AddedChar, AddedLabel, longest_sequence, most_entries, Name, Item, Items, name_eq, has_name, BoardFault, Widget, Text, Labels, Toggle, Slider, Windows, Naming, Distinct, Numbered, Refusal, Misplaced, BadBounds, BadItemName, TooMany, Line, LayoutFault}
 use Rattle.jup_window.specs.declared.faults.BoardFault.TheVariants as fault
 use Rattle.jup_window.specs.Entries.{double_fault, entry_fault, fault_in, widget_fault, at_id, change_at, with_entry, Place, same_place, widget_at}
 use Rattle.jup_window.specs.Laws.Entries.{at_id-same, at_id-other}
 use Rattle.jup_wire.specs.declared.line.Line.TheVariants as line
-use Rattle.jup_layout.specs.Drafts.{refusal_number, ◌>>?◌, at_line, lines_taken, board_from, refusal_of, next_naming, first_refusal, naming_refusal, item_refusal, Drafted, blank, whole, unless, with_window, with_widget_in, with_slider_in, with_char_in, with_label_in, taken, is_free}
-use Rattle.jup_layout.specs.Said.{Part, SaysWindow, SaysWidget, SaysChar, SaysLabel, last_window, last_place, window_ids, widget_ids, named_by, is_place, widget_said, with_char, with_label, IsFreeId, IsNamed, IsNextItem, IsBounded, MayCome, MayFollow, AreIdsOf, Shows, history, part_of, no_items}
+use Rattle.jup_layout.specs.Drafts.{refusal_number, ◌>>?◌, at_line, lines_taken, board_from, refusal_of, next_naming, first_refusal, naming_refusal, item_refusal, Drafted, blank, whole, unless, with_window, with_widget_in, with_slider_in, with_item, with_added, taken, is_free}
+use Rattle.jup_layout.specs.Said.{Part, SaysWindow, SaysWidget, SaysItem, last_window, last_place, window_ids, widget_ids, named_by, is_place, widget_said, extended, IsFreeId, IsNamed, IsNextItem, IsBounded, MayExtend, MayCome, MayFollow, AreIdsOf, Shows, history, part_of, no_items}
 use Rattle.jup_layout.proofs.Drafting.{same_Ok, fresh-id, entry_fault-whole, free-more, whole-more, put-same, put-other, put-kept, put-length, put-again, changed-absent, changed-back, changed-length}
 use Rattle.jup_window.specs.Prelude.{name_eq_refl, name_eq_same, SliderState}
 
@@ -323,110 +323,73 @@ shown_last naming older board window home wid named w agrees =
     let at_home = free_home home wid board agrees.free in
     sym (agrees.shows (home, wid)) ∙ put_at home wid w at_home.0 (home, wid) board at_home.1 at_home.2 ∙ rw (eq-eqb home home refl, eq-eqb wid wid refl) refl
 
--- # Characters
+-- # One more item
 
-char_agrees : (naming : Naming) (older : List Part) (board : Windows) (window : Option ℕ) (home wid : ℕ) (named : Naming) (x : Items ℕ) (item : Item ℕ) → Agrees naming older (ending board window home wid named (Text x))
-    → last_place older ≡ Some (home, wid) → Agrees naming (SaysChar item ∷ older) (ending board window home wid (next_naming named) (Text (record x { items = x.items ++ item ∷ [] })))
-char_agrees naming older board window home wid named x item agrees place =
-    let more = Text (record x { items = x.items ++ item ∷ [] }) in
-    let kept = item_extends naming older board window home wid named (next_naming named) (Text x) more agrees place (with_char item) refl in
-    record {
-      window = agrees.window;
-      ids = kept.ids;
-      widgets = kept.widgets;
-      last = inr (home, wid, more, refl, refl, place);
-      shows = kept.shows;
-      free = agrees.free;
-      named = ap next_naming agrees.named;
-    }
+module _ (naming : Naming) (older : List Part) (board : Windows) (window : Option ℕ) (home wid : ℕ) (named : Naming) (w : Widget) (agrees : Agrees naming older (ending board window home wid named w)) (place : last_place older ≡ Some (home, wid)) where
+  item_agrees : (added : Added) → Agrees naming (SaysItem added ∷ older) (ending board window home wid (next_naming named) (extended added w))
+  item_agrees added =
+      let kept = item_extends naming older board window home wid named (next_naming named) w (extended added w) agrees place (extended added) refl in
+      record {
+        window = agrees.window;
+        ids = kept.ids;
+        widgets = kept.widgets;
+        last = inr (home, wid, extended added w, refl, refl, place);
+        shows = kept.shows;
+        free = agrees.free;
+        named = ap next_naming agrees.named;
+      }
 
-char_said_in : (naming : Naming) (older : List Part) (board : Windows) (window : Option ℕ) (home wid : ℕ) (named : Naming) (w : Widget) (item : Item ℕ) (next : Drafted) → Agrees naming older (ending board window home wid named w)
-    → last_place older ≡ Some (home, wid) → with_char_in (Some (wid, w)) item (ending board window home wid named w) ≡ Ok next → MayCome naming older (SaysChar item) × Agrees naming (SaysChar item ∷ older) next
-char_said_in naming older board window home wid named (Text x) item next agrees place e =
-    let more = ending board window home wid (next_naming named) (Text (record x { items = x.items ++ item ∷ [] })) in
-    let parts = item_allowed named item.name x.items more next e in (
-      ((home, wid), x, place, shown_last naming older board window home wid named (Text x) agrees, subst (λ (n : Naming). IsNextItem n item.name x.items) agrees.named parts.0),
-      subst (λ (d : Drafted). Agrees naming (SaysChar item ∷ older) d) parts.1 (char_agrees naming older board window home wid named x item agrees place),
-    )
-char_said_in naming older board window home wid named (Labels x) item next agrees place e = absurd cc
-char_said_in naming older board window home wid named (Toggle x) item next agrees place e = absurd cc
-char_said_in naming older board window home wid named (Slider x) item next agrees place e = absurd cc
+  -- an item that its widget takes if nothing is wrong with it
+  item_said_by : {V : Type 0} (added : Added) (item : Item V) (items : List (Item V)) (next : Drafted) → ((n : Naming) → IsNextItem n item.name items → MayExtend n added w)
+      → unless (item_refusal named item.name items) (ending board window home wid (next_naming named) (extended added w)) ≡ Ok next → MayCome naming older (SaysItem added) × Agrees naming (SaysItem added ∷ older) next
+  item_said_by added item items next may e =
+      let parts = item_allowed named item.name items (ending board window home wid (next_naming named) (extended added w)) next e in (
+        ((home, wid), w, place, shown_last naming older board window home wid named w agrees, subst (λ (n : Naming). MayExtend n added w) agrees.named (may named parts.0)),
+        subst (λ (d : Drafted). Agrees naming (SaysItem added ∷ older) d) parts.1 (item_agrees added),
+      )
 
-char_said : (naming : Naming) (older : List Part) (d : Drafted) (item : Item ℕ) (next : Drafted) → Agrees naming older d → with_char_in d.last item d ≡ Ok next → MayCome naming older (SaysChar item) × Agrees naming (SaysChar item ∷ older) next
-char_said naming older d item next agrees e =
+item_said_in : (naming : Naming) (older : List Part) (board : Windows) (window : Option ℕ) (home wid : ℕ) (named : Naming) (w : Widget) (added : Added) (next : Drafted) → Agrees naming older (ending board window home wid named w)
+    → last_place older ≡ Some (home, wid) → with_added (Some (wid, w)) added (ending board window home wid named w) ≡ Ok next → MayCome naming older (SaysItem added) × Agrees naming (SaysItem added ∷ older) next
+item_said_in naming older board window home wid named (Text x) (AddedChar item) next agrees place e = item_said_by naming older board window home wid named (Text x) agrees place (AddedChar item) item x.items next (λ n may. may) e
+item_said_in naming older board window home wid named (Text x) (AddedLabel item) next agrees place e = absurd cc
+item_said_in naming older board window home wid named (Labels x) (AddedChar item) next agrees place e = absurd cc
+item_said_in naming older board window home wid named (Labels x) (AddedLabel item) next agrees place e = item_said_by naming older board window home wid named (Labels x) agrees place (AddedLabel item) item x.items next (λ n may. may) e
+item_said_in naming older board window home wid named (Toggle x) added next agrees place e = absurd cc
+item_said_in naming older board window home wid named (Slider x) added next agrees place e = absurd cc
+
+item_said : (naming : Naming) (older : List Part) (d : Drafted) (added : Added) (next : Drafted) → Agrees naming older d → with_added d.last added d ≡ Ok next → MayCome naming older (SaysItem added) × Agrees naming (SaysItem added ∷ older) next
+item_said naming older d added next agrees e =
     elim agrees.last [
-      | inl none ↦ absurd (let no : Err Misplaced ≡ Ok next = ap (λ l. with_char_in l item d) (sym none.0) ∙ e in cc)
+      | inl none ↦ absurd (let no : Err Misplaced ≡ Ok next = ap (λ l. with_added l added d) (sym none.0) ∙ e in cc)
       | inr last ↦
           let same = as_ending d last.0 last.1 last.2 last.3 last.4 in
-          char_said_in naming older d.board d.window last.0 last.1 d.naming last.2 item next (subst (λ (x : Drafted). Agrees naming older x) same agrees) last.5 (ap (λ (x : Drafted). with_char_in x.last item x) (sym same) ∙ e)
+          item_said_in naming older d.board d.window last.0 last.1 d.naming last.2 added next (subst (λ (x : Drafted). Agrees naming older x) same agrees) last.5 (ap (λ (x : Drafted). with_added x.last added x) (sym same) ∙ e)
     ]
 
-char_taken : (naming : Naming) (older : List Part) (d : Drafted) (item : Item ℕ) → Agrees naming older d → MayCome naming older (SaysChar item) → (next : Drafted) × (with_char_in d.last item d ≡ Ok next)
-char_taken naming older d item agrees (p, x, place, shown, may) =
+item_taken_by : {V : Type 0} (make : Items V → Widget) (wid : ℕ) (x : Items V) (item : Item V) (d : Drafted) → IsNextItem d.naming item.name x.items → (next : Drafted) × (with_item make wid x item d ≡ Ok next)
+item_taken_by make wid x item d may =
+    let more : Drafted = record d { last = Some (wid, make (record x { items = x.items ++ item ∷ [] })); naming = next_naming d.naming } in
+    (more, ap (λ due. unless due more) (item_free d.naming item.name x.items may))
+
+item_taken_in : (wid : ℕ) (w : Widget) (added : Added) (d : Drafted) → MayExtend d.naming added w → (next : Drafted) × (with_added (Some (wid, w)) added d ≡ Ok next)
+item_taken_in wid (Text x) (AddedChar item) d may = item_taken_by Text wid x item d may
+item_taken_in wid (Text x) (AddedLabel item) d may = absurd may
+item_taken_in wid (Labels x) (AddedChar item) d may = absurd may
+item_taken_in wid (Labels x) (AddedLabel item) d may = item_taken_by Labels wid x item d may
+item_taken_in wid (Toggle x) added d may = absurd may
+item_taken_in wid (Slider x) added d may = absurd may
+
+item_taken : (naming : Naming) (older : List Part) (d : Drafted) (added : Added) → Agrees naming older d → MayCome naming older (SaysItem added) → (next : Drafted) × (with_added d.last added d ≡ Ok next)
+item_taken naming older d added agrees (p, w, place, shown, may) =
     elim agrees.last [
       | inl none ↦ absurd (none-some p (sym none.1 ∙ place))
       | inr last ↦
           let same = as_ending d last.0 last.1 last.2 last.3 last.4 in
           let home_place : Place = (last.0, last.1) in
           let at_last : home_place ≡ p = same_Some home_place p (sym last.5 ∙ place) in
-          let text : last.2 ≡ Text x =
-          same_Some last.2 (Text x) (sym (shown_last naming older d.board d.window last.0 last.1 d.naming last.2 (subst (λ (y : Drafted). Agrees naming older y) same agrees)) ∙ ap (λ q. widget_said q older) at_last ∙ shown) in
-          let free : item_refusal d.naming item.name x.items ≡ None = item_free d.naming item.name x.items (subst (λ (n : Naming). IsNextItem n item.name x.items) (sym agrees.named) may) in
-          let more : Drafted = record d { last = Some (last.1, Text (record x { items = x.items ++ item ∷ [] })); naming = next_naming d.naming } in
-          (more, ap (λ l. with_char_in l item d) (last.4 ∙ ap (λ (v : Widget). Some (last.1, v)) text) ∙ ap (λ due. unless due more) free)
-    ]
-
--- # Labels
-
-label_agrees : (naming : Naming) (older : List Part) (board : Windows) (window : Option ℕ) (home wid : ℕ) (named : Naming) (x : Items (List ℕ)) (item : Item (List ℕ)) → Agrees naming older (ending board window home wid named (Labels x))
-    → last_place older ≡ Some (home, wid) → Agrees naming (SaysLabel item ∷ older) (ending board window home wid (next_naming named) (Labels (record x { items = x.items ++ item ∷ [] })))
-label_agrees naming older board window home wid named x item agrees place =
-    let more = Labels (record x { items = x.items ++ item ∷ [] }) in
-    let kept = item_extends naming older board window home wid named (next_naming named) (Labels x) more agrees place (with_label item) refl in
-    record {
-      window = agrees.window;
-      ids = kept.ids;
-      widgets = kept.widgets;
-      last = inr (home, wid, more, refl, refl, place);
-      shows = kept.shows;
-      free = agrees.free;
-      named = ap next_naming agrees.named;
-    }
-
-label_said_in : (naming : Naming) (older : List Part) (board : Windows) (window : Option ℕ) (home wid : ℕ) (named : Naming) (w : Widget) (item : Item (List ℕ)) (next : Drafted) → Agrees naming older (ending board window home wid named w)
-    → last_place older ≡ Some (home, wid) → with_label_in (Some (wid, w)) item (ending board window home wid named w) ≡ Ok next → MayCome naming older (SaysLabel item) × Agrees naming (SaysLabel item ∷ older) next
-label_said_in naming older board window home wid named (Labels x) item next agrees place e =
-    let more = ending board window home wid (next_naming named) (Labels (record x { items = x.items ++ item ∷ [] })) in
-    let parts = item_allowed named item.name x.items more next e in (
-      ((home, wid), x, place, shown_last naming older board window home wid named (Labels x) agrees, subst (λ (n : Naming). IsNextItem n item.name x.items) agrees.named parts.0),
-      subst (λ (d : Drafted). Agrees naming (SaysLabel item ∷ older) d) parts.1 (label_agrees naming older board window home wid named x item agrees place),
-    )
-label_said_in naming older board window home wid named (Text x) item next agrees place e = absurd cc
-label_said_in naming older board window home wid named (Toggle x) item next agrees place e = absurd cc
-label_said_in naming older board window home wid named (Slider x) item next agrees place e = absurd cc
-
-label_said : (naming : Naming) (older : List Part) (d : Drafted) (item : Item (List ℕ)) (next : Drafted) → Agrees naming older d → with_label_in d.last item d ≡ Ok next → MayCome naming older (SaysLabel item) × Agrees naming (SaysLabel item ∷ older) next
-label_said naming older d item next agrees e =
-    elim agrees.last [
-      | inl none ↦ absurd (let no : Err Misplaced ≡ Ok next = ap (λ l. with_label_in l item d) (sym none.0) ∙ e in cc)
-      | inr last ↦
-          let same = as_ending d last.0 last.1 last.2 last.3 last.4 in
-          label_said_in naming older d.board d.window last.0 last.1 d.naming last.2 item next (subst (λ (x : Drafted). Agrees naming older x) same agrees) last.5 (ap (λ (x : Drafted). with_label_in x.last item x) (sym same) ∙ e)
-    ]
-
-label_taken : (naming : Naming) (older : List Part) (d : Drafted) (item : Item (List ℕ)) → Agrees naming older d → MayCome naming older (SaysLabel item) → (next : Drafted) × (with_label_in d.last item d ≡ Ok next)
-label_taken naming older d item agrees (p, x, place, shown, may) =
-    elim agrees.last [
-      | inl none ↦ absurd (none-some p (sym none.1 ∙ place))
-      | inr last ↦
-          let same = as_ending d last.0 last.1 last.2 last.3 last.4 in
-          let home_place : Place = (last.0, last.1) in
-          let at_last : home_place ≡ p = same_Some home_place p (sym last.5 ∙ place) in
-          let list : last.2 ≡ Labels x =
-          same_Some last.2 (Labels x) (sym (shown_last naming older d.board d.window last.0 last.1 d.naming last.2 (subst (λ (y : Drafted). Agrees naming older y) same agrees)) ∙ ap (λ q. widget_said q older) at_last ∙ shown) in
-          let free : item_refusal d.naming item.name x.items ≡ None = item_free d.naming item.name x.items (subst (λ (n : Naming). IsNextItem n item.name x.items) (sym agrees.named) may) in
-          let more : Drafted = record d { last = Some (last.1, Labels (record x { items = x.items ++ item ∷ [] })); naming = next_naming d.naming } in
-          (more, ap (λ l. with_label_in l item d) (last.4 ∙ ap (λ (v : Widget). Some (last.1, v)) list) ∙ ap (λ due. unless due more) free)
+          let is : last.2 ≡ w = same_Some last.2 w (sym (shown_last naming older d.board d.window last.0 last.1 d.naming last.2 (subst (λ (y : Drafted). Agrees naming older y) same agrees)) ∙ ap (λ q. widget_said q older) at_last ∙ shown) in
+          let next = item_taken_in last.1 w added d (subst (λ (n : Naming). MayExtend n added w) (sym agrees.named) may) in
+          (next.0, ap (λ l. with_added l added d) (last.4 ∙ ap (λ (v : Widget). Some (last.1, v)) is) ∙ next.1)
     ]
 
 -- # A line
@@ -492,8 +455,8 @@ line_said naming older d next (line.Text wid) agrees e = widget_said_in naming o
 line_said naming older d next (line.List wid) agrees e = widget_said_in naming older d wid (Labels no_items) next agrees tt e
 line_said naming older d next (line.Toggle wid on) agrees e = widget_said_in naming older d wid (Toggle (record { on = on })) next agrees tt e
 line_said naming older d next (line.Slider wid lo hi value) agrees e = slider_said_in naming older d wid (record { lo = lo; hi = hi; value = value }) next agrees e
-line_said naming older d next (line.Char name value) agrees e = char_said naming older d (record { name = name; value = value }) next agrees e
-line_said naming older d next (line.Item name value) agrees e = label_said naming older d (record { name = name; value = value }) next agrees e
+line_said naming older d next (line.Char name value) agrees e = item_said naming older d (AddedChar (record { name = name; value = value })) next agrees e
+line_said naming older d next (line.Item name value) agrees e = item_said naming older d (AddedLabel (record { name = name; value = value })) next agrees e
 line_said naming older d next line.Hello agrees e = absurd cc
 line_said naming older d next (line.Welcome site limit) agrees e = absurd cc
 line_said naming older d next line.Ready agrees e = absurd cc
@@ -511,8 +474,8 @@ line_may naming older d (line.Text wid) agrees may = widget_taken_in naming olde
 line_may naming older d (line.List wid) agrees may = widget_taken_in naming older d wid (Labels no_items) agrees may
 line_may naming older d (line.Toggle wid on) agrees may = widget_taken_in naming older d wid (Toggle (record { on = on })) agrees may
 line_may naming older d (line.Slider wid lo hi value) agrees may = slider_taken_in naming older d wid (record { lo = lo; hi = hi; value = value }) agrees may
-line_may naming older d (line.Char name value) agrees may = char_taken naming older d (record { name = name; value = value }) agrees may
-line_may naming older d (line.Item name value) agrees may = label_taken naming older d (record { name = name; value = value }) agrees may
+line_may naming older d (line.Char name value) agrees may = item_taken naming older d (AddedChar (record { name = name; value = value })) agrees may
+line_may naming older d (line.Item name value) agrees may = item_taken naming older d (AddedLabel (record { name = name; value = value })) agrees may
 line_may naming older d line.Hello agrees may = absurd may
 line_may naming older d (line.Welcome site limit) agrees may = absurd may
 line_may naming older d line.Ready agrees may = absurd may

@@ -4,7 +4,7 @@ use Rattle.std.specs.Option.{option_map}
 use Rattle.std.specs.List.{flat_map, AllByRecursion}
 use Rattle.std.specs.Ordering.{nat_cmp, ordering_then}
 use Rattle.std.specs.BTreeSet.{contains}
-use Rattle.jup_layout.specs.Prelude.{longest_sequence, IsWithin, Name, Item, Items, has_name, name_eq, AreDistinct, BoardFault, Widget, Text, Labels, Toggle, Slider, Windows, Line, WireFault, Refusal, NoMemory, DoubleId, TooMany, BadId, BadBounds, Misplaced, BadItemName, Naming, Distinct, Numbered, LayoutFault}
+use Rattle.jup_layout.specs.Prelude.{longest_sequence, IsWithin, Name, Item, Items, has_name, name_eq, AreDistinct, BoardFault, Widget, Text, Labels, Toggle, Slider, Windows, Line, WireFault, Refusal, NoMemory, DoubleId, TooMany, BadId, BadBounds, Misplaced, BadItemName, Added, AddedChar, AddedLabel, Naming, Distinct, Numbered, LayoutFault}
 use Rattle.jup_window.specs.declared.faults.BoardFault.TheVariants as fault
 use Rattle.jup_window.specs.Entries.{entry_fault, widget_fault, change_at, with_entry, IsTable}
 use Rattle.jup_window.specs.Boards as board
@@ -12,8 +12,6 @@ use Rattle.jup_window.specs.Widgets as widget
 use Rattle.jup_wire.specs.declared.line.Line.TheVariants as line
 use Rattle.jup_wire.specs.Lines.{wire_fault_number, HasSpelling, spelling}
 use Rattle.jup_wire.specs.Streams.{Progress, HasRead, ending_at}
-use Rattle.jup_layout.specs.declared.drafts.Added.{Added}
-use Rattle.jup_layout.specs.declared.drafts.Added.TheVariants.{Char as AddedChar, Label as AddedLabel}
 use Rattle.jup_layout.specs.declared.names.Names.{Names}
 
 -- Lines as a board, line by line.
@@ -98,30 +96,21 @@ abbrev pub with_slider_in : Option ℕ → Bool → ℕ → Widget → Drafted �
 with_slider_in None bounded wid w d = Err Misplaced
 with_slider_in (Some win) bounded wid w d = if bounded then with_widget wid w d else Err BadBounds
 
--- after an item's line
+-- after one more item of a sequence
 abbrev pub with_item : {V : Type 0} → (Items V → Widget) → ℕ → Items V → Item V → Drafted → Result Drafted Refusal
 with_item make wid x item d =
     unless (item_refusal d.naming item.name x.items)
     (record d { last = Some (wid, make (record x { items = x.items ++ item ∷ [] })); naming = next_naming d.naming })
 
-abbrev pub with_char_in : Option (ℕ × Widget) → Item ℕ → Drafted → Result Drafted Refusal
-with_char_in None item d = Err Misplaced
-with_char_in (Some (wid, Text x)) item d = with_item Text wid x item d
-with_char_in (Some (wid, Labels x)) item d = Err Misplaced
-with_char_in (Some (wid, Toggle x)) item d = Err Misplaced
-with_char_in (Some (wid, Slider x)) item d = Err Misplaced
-
-abbrev pub with_label_in : Option (ℕ × Widget) → Item (List ℕ) → Drafted → Result Drafted Refusal
-with_label_in None item d = Err Misplaced
-with_label_in (Some (wid, Text x)) item d = Err Misplaced
-with_label_in (Some (wid, Labels x)) item d = with_item Labels wid x item d
-with_label_in (Some (wid, Toggle x)) item d = Err Misplaced
-with_label_in (Some (wid, Slider x)) item d = Err Misplaced
-
--- after an item's line of either kind
+-- after an item's line: a text takes characters, and a list labels
 abbrev pub with_added : Option (ℕ × Widget) → Added → Drafted → Result Drafted Refusal
-with_added last (AddedChar item) d = with_char_in last item d
-with_added last (AddedLabel item) d = with_label_in last item d
+with_added None added d = Err Misplaced
+with_added (Some (wid, Text x)) (AddedChar item) d = with_item Text wid x item d
+with_added (Some (wid, Text x)) (AddedLabel item) d = Err Misplaced
+with_added (Some (wid, Labels x)) (AddedChar item) d = Err Misplaced
+with_added (Some (wid, Labels x)) (AddedLabel item) d = with_item Labels wid x item d
+with_added (Some (wid, Toggle x)) added d = Err Misplaced
+with_added (Some (wid, Slider x)) added d = Err Misplaced
 
 -- after one more line
 abbrev pub taken : Drafted → Line → Result Drafted Refusal
@@ -131,8 +120,8 @@ taken d (line.List wid) = with_widget wid (Labels (record { items = []; spare = 
 taken d (line.Toggle wid on) = with_widget wid (Toggle (record { on = on })) d
 taken d (line.Slider wid lo hi value) =
     with_slider_in d.window (int_le lo value && int_le value hi) wid (Slider (record { lo = lo; hi = hi; value = value })) d
-taken d (line.Char name value) = with_char_in d.last (record { name = name; value = value }) d
-taken d (line.Item name value) = with_label_in d.last (record { name = name; value = value }) d
+taken d (line.Char name value) = with_added d.last (AddedChar (record { name = name; value = value })) d
+taken d (line.Item name value) = with_added d.last (AddedLabel (record { name = name; value = value })) d
 taken d line.Hello = Err Misplaced
 taken d (line.Welcome site limit) = Err Misplaced
 taken d line.Ready = Err Misplaced

@@ -15,3 +15,5 @@ pub use Rattle.jup_layout.specs.declared.naming.Naming.{Naming}
 pub use Rattle.jup_layout.specs.declared.naming.Naming.TheVariants.{Distinct, Numbered}
 pub use Rattle.jup_layout.specs.declared.refusals.Refusal.{Refusal}
 pub use Rattle.jup_layout.specs.declared.refusals.Refusal.TheVariants.{BadBounds, BadId, BadItemName, DoubleId, Misplaced, NoMemory, TooMany}
+pub use Rattle.jup_layout.specs.declared.drafts.Added.{Added}
+pub use Rattle.jup_layout.specs.declared.drafts.Added.TheVariants.{Char as AddedChar, Label as AddedLabel}

@@ -2,7 +2,7 @@
 use Rattle.std.specs.Prelude.{◌≡◌, ◌≢◌, ℕ, suc, ◌<◌, Bool, false, List, [], ◌∷◌, ◌++◌, length, Option, Some, None, if◌then◌else◌}
 use Rattle.std.specs.List.{AllByRecursion}
 use Rattle.std.specs.Option.{option_map, IsSome}
-use Rattle.jup_layout.specs.Prelude.{longest_sequence, most_entries, Name, Item, Items, has_name, IsWithin, Widget, Text, Labels, Toggle, Slider, Windows, Line, Naming, Distinct, Numbered}
+use Rattle.jup_layout.specs.Prelude.{longest_sequence, most_entries, Name, Item, Items, has_name, IsWithin, Widget, Text, Labels, Toggle, Slider, Windows, Line, Added, AddedChar, AddedLabel, Naming, Distinct, Numbered}
 use Rattle.jup_window.specs.Entries.{Place, same_place, widget_at, at_id}
 use Rattle.jup_wire.specs.declared.line.Line.TheVariants as line
 use Rattle.jup_layout.specs.Drafts.{next_naming, AreLines}
@@ -11,8 +11,7 @@ use Rattle.jup_layout.specs.Drafts.{next_naming, AreLines}
 pub data Part : Type 0 where
   SaysWindow : ℕ → Part
   SaysWidget : ℕ → Widget → Part
-  SaysChar : Item ℕ → Part
-  SaysLabel : Item (List ℕ) → Part
+  SaysItem : Added → Part
   SaysNothing : Part
 
 abbrev pub no_items : {V : Type 0} → Items V
@@ -24,32 +23,27 @@ part_of (line.Text wid) = SaysWidget wid (Text no_items)
 part_of (line.List wid) = SaysWidget wid (Labels no_items)
 part_of (line.Toggle wid on) = SaysWidget wid (Toggle (record { on = on }))
 part_of (line.Slider wid lo hi value) = SaysWidget wid (Slider (record { lo = lo; hi = hi; value = value }))
-part_of (line.Char name value) = SaysChar (record { name = name; value = value })
-part_of (line.Item name value) = SaysLabel (record { name = name; value = value })
+part_of (line.Char name value) = SaysItem (AddedChar (record { name = name; value = value }))
+part_of (line.Item name value) = SaysItem (AddedLabel (record { name = name; value = value }))
 part_of other = SaysNothing
 
 -- ---- what a history says, in which the newest part comes first
 
--- a text, or a list, with one more item at its end
-abbrev pub with_char : Item ℕ → Widget → Widget
-with_char item (Text x) = Text (record x { items = x.items ++ item ∷ [] })
-with_char item (Labels x) = Labels x
-with_char item (Toggle x) = Toggle x
-with_char item (Slider x) = Slider x
-
-abbrev pub with_label : Item (List ℕ) → Widget → Widget
-with_label item (Text x) = Text x
-with_label item (Labels x) = Labels (record x { items = x.items ++ item ∷ [] })
-with_label item (Toggle x) = Toggle x
-with_label item (Slider x) = Slider x
+-- a text with one more character at its end, or a list with one more label
+abbrev pub extended : Added → Widget → Widget
+extended (AddedChar item) (Text x) = Text (record x { items = x.items ++ item ∷ [] })
+extended (AddedLabel item) (Text x) = Text x
+extended (AddedChar item) (Labels x) = Labels x
+extended (AddedLabel item) (Labels x) = Labels (record x { items = x.items ++ item ∷ [] })
+extended added (Toggle x) = Toggle x
+extended added (Slider x) = Slider x
 
 -- the last window
 abbrev pub last_window : List Part → Option ℕ
 last_window [] = None
 last_window (SaysWindow win ∷ older) = Some win
 last_window (SaysWidget wid w ∷ older) = last_window older
-last_window (SaysChar item ∷ older) = last_window older
-last_window (SaysLabel item ∷ older) = last_window older
+last_window (SaysItem added ∷ older) = last_window older
 last_window (SaysNothing ∷ older) = last_window older
 
 -- the window and the id of the last widget, which may be in an earlier window than the last
@@ -57,8 +51,7 @@ abbrev pub last_place : List Part → Option Place
 last_place [] = None
 last_place (SaysWindow win ∷ older) = last_place older
 last_place (SaysWidget wid w ∷ older) = option_map (λ win. (win, wid)) (last_window older)
-last_place (SaysChar item ∷ older) = last_place older
-last_place (SaysLabel item ∷ older) = last_place older
+last_place (SaysItem added ∷ older) = last_place older
 last_place (SaysNothing ∷ older) = last_place older
 
 -- the ids of the windows, and of the widgets of the last window
@@ -66,16 +59,14 @@ abbrev pub window_ids : List Part → List ℕ
 window_ids [] = []
 window_ids (SaysWindow win ∷ older) = win ∷ window_ids older
 window_ids (SaysWidget wid w ∷ older) = window_ids older
-window_ids (SaysChar item ∷ older) = window_ids older
-window_ids (SaysLabel item ∷ older) = window_ids older
+window_ids (SaysItem added ∷ older) = window_ids older
 window_ids (SaysNothing ∷ older) = window_ids older
 
 abbrev pub widget_ids : List Part → List ℕ
 widget_ids [] = []
 widget_ids (SaysWindow win ∷ older) = []
 widget_ids (SaysWidget wid w ∷ older) = wid ∷ widget_ids older
-widget_ids (SaysChar item ∷ older) = widget_ids older
-widget_ids (SaysLabel item ∷ older) = widget_ids older
+widget_ids (SaysItem added ∷ older) = widget_ids older
 widget_ids (SaysNothing ∷ older) = widget_ids older
 
 -- what the name of the next item has to be
@@ -83,8 +74,7 @@ abbrev pub named_by : Naming → List Part → Naming
 named_by naming [] = naming
 named_by naming (SaysWindow win ∷ older) = named_by naming older
 named_by naming (SaysWidget wid w ∷ older) = named_by naming older
-named_by naming (SaysChar item ∷ older) = next_naming (named_by naming older)
-named_by naming (SaysLabel item ∷ older) = next_naming (named_by naming older)
+named_by naming (SaysItem added ∷ older) = next_naming (named_by naming older)
 named_by naming (SaysNothing ∷ older) = named_by naming older
 
 -- whether this is the place
@@ -97,8 +87,7 @@ abbrev pub widget_said : Place → List Part → Option Widget
 widget_said p [] = None
 widget_said p (SaysWindow win ∷ older) = widget_said p older
 widget_said p (SaysWidget wid w ∷ older) = if is_place p (option_map (λ win. (win, wid)) (last_window older)) then Some w else widget_said p older
-widget_said p (SaysChar item ∷ older) = if is_place p (last_place older) then option_map (with_char item) (widget_said p older) else widget_said p older
-widget_said p (SaysLabel item ∷ older) = if is_place p (last_place older) then option_map (with_label item) (widget_said p older) else widget_said p older
+widget_said p (SaysItem added ∷ older) = if is_place p (last_place older) then option_map (extended added) (widget_said p older) else widget_said p older
 widget_said p (SaysNothing ∷ older) = widget_said p older
 
 -- ---- which parts may come next
@@ -121,11 +110,19 @@ IsNamed (Numbered count) name place = (name ≡ record { site = 0; number = suc 
 abbrev pub IsNextItem : {V : Type 0} → Naming → Name → List (Item V) → Type 0
 IsNextItem naming name items = IsNamed naming name (length items) × (has_name name items ≡ false)
 
+-- the item that a widget may have next: a text a character, a list a label
+abbrev pub MayExtend : Naming → Added → Widget → Type 0
+MayExtend naming (AddedChar item) (Text x) = IsNextItem naming item.name x.items
+MayExtend naming (AddedLabel item) (Text x) = ⊥
+MayExtend naming (AddedChar item) (Labels x) = ⊥
+MayExtend naming (AddedLabel item) (Labels x) = IsNextItem naming item.name x.items
+MayExtend naming added (Toggle x) = ⊥
+MayExtend naming added (Slider x) = ⊥
+
 abbrev pub MayCome : Naming → List Part → Part → Type 0
 MayCome naming older (SaysWindow win) = IsFreeId win (window_ids older)
 MayCome naming older (SaysWidget wid w) = IsSome (last_window older) × (IsFreeId wid (widget_ids older) × IsBounded w)
-MayCome naming older (SaysChar item) = (p : Place) × (x : Items ℕ) × (last_place older ≡ Some p) × (widget_said p older ≡ Some (Text x)) × IsNextItem (named_by naming older) item.name x.items
-MayCome naming older (SaysLabel item) = (p : Place) × (x : Items (List ℕ)) × (last_place older ≡ Some p) × (widget_said p older ≡ Some (Labels x)) × IsNextItem (named_by naming older) item.name x.items
+MayCome naming older (SaysItem added) = (p : Place) × (w : Widget) × (last_place older ≡ Some p) × (widget_said p older ≡ Some w) × MayExtend (named_by naming older) added w
 MayCome naming older SaysNothing = ⊥
 
 -- lines that may follow such a history, one after another

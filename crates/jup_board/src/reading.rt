@@ -3,10 +3,9 @@ ghost use Rattle.std.specs.Prelude.{◌<◌, ◌^◌, length, IfOk, IsOkUnless};
 ghost use Rattle.jup_board.specs.declared.ending.BoardEnd.TheVariants as ends;
 ghost use Rattle.jup_board.specs.Boards.{IsPrinted, IsPrintOf};
 
-use crate::BoardEnd;
-use crate::faults::{line_fault, window_of};
 use crate::heading::behind_heading;
 use crate::lines::BoardLines;
+use crate::{BoardEnd, LineFault};
 use jup_text::{BoardReader, Untaken};
 use jup_window::Board;
 use jup_xform::NoMemory;
@@ -21,29 +20,20 @@ pub fn read_printed(alloc: Global, text: &[u8]) -> Result<Board, BoardEnd>
     let (rest, passed) = behind_heading(text);
     let mut lines = BoardLines::new(rest, passed);
     let mut reader = BoardReader::new(alloc);
-    let mut window = None;
     while let Some(line) = lines.next_line()? {
         match reader.take(alloc, line) {
-            Ok(()) => window = window_of(line).or(window),
+            Ok(()) => {}
             Err(Untaken::NoMemory) => return Err(BoardEnd::NoMemory),
-            Err(Untaken::BadLine) => {
-                return Err(refusal(alloc, reader.whole(), window, line, &lines));
-            }
+            Err(Untaken::BadLine) => return Err(refusal(alloc, reader, line, &lines)),
         }
     }
     Ok(reader.whole())
 }
 
 // Why the line that was read last is not taken after those before it.
-fn refusal(
-    alloc: Global,
-    mut board: Board,
-    window: Option<u16>,
-    line: &str,
-    lines: &BoardLines<'_>,
-) -> BoardEnd {
-    match line_fault(alloc, &mut board, window, line) {
-        Ok(fault) => lines.bad(fault),
+fn refusal(alloc: Global, reader: BoardReader, line: &str, lines: &BoardLines<'_>) -> BoardEnd {
+    match reader.fault(alloc, line) {
+        Ok(fault) => lines.bad(LineFault::Board(fault)),
         Err(NoMemory) => BoardEnd::NoMemory,
     }
 }

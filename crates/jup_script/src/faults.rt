@@ -1,5 +1,6 @@
 //! What is wrong with a line of a script.
 
+use jup_text::BoardLineFault;
 use std::error::Error;
 use std::fmt;
 
@@ -24,14 +25,11 @@ pub enum ScriptFault {
     BadSwitch,
     BadText,
     BadChar,
-    BadLabels,
     NoBounds,
     OutOfBounds,
     LongText,
-    BadId,
-    NoWindow,
-    DoubleId,
-    TooMany,
+    /// It is a board's, and is refused after the lines before it.
+    Board(BoardLineFault),
 }
 
 impl ScriptFault {
@@ -59,22 +57,20 @@ impl ScriptFault {
             ScriptFault::BadSwitch => "`on` or `off` is due",
             ScriptFault::BadText => "a text in quotes is due, in its one spelling",
             ScriptFault::BadChar => "one character in quotes is due, in its one spelling",
-            ScriptFault::BadLabels =>
-                "labels of 1 to 48 bytes in quotes are due, a space before each, at most 65536",
             ScriptFault::NoBounds => "`LO HI VALUE` is due",
             ScriptFault::OutOfBounds => "the value is not within the bounds",
             ScriptFault::LongText => "a text or a list has more than 65536 items",
-            ScriptFault::BadId => "an id from 1 to 65535 is due",
-            ScriptFault::NoWindow => "a window is due above its widgets",
-            ScriptFault::DoubleId => "the id is taken",
-            ScriptFault::TooMany => "64 are there already",
+            ScriptFault::Board(_) => "the line of the board is bad",
         }
     }
 }
 
 impl fmt::Display for ScriptFault {
     fn fmt<W: fmt::Write>(&self, f: &mut fmt::Formatter<W>) -> fmt::Result {
-        f.write_str(self.text())
+        match self {
+            ScriptFault::Board(fault) => write!(f, "{fault}"),
+            fault => f.write_str(fault.text()),
+        }
     }
 }
 

@@ -11,7 +11,6 @@ use jup_limits::LONGEST_INPUT;
 use std::alloc::Global;
 use std::io::{BufWriter, ErrorKind, Read, Write};
 
-mod board_lines;
 mod ending;
 mod faults;
 mod lines;

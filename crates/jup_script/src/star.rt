@@ -2,7 +2,6 @@
 ghost use Rattle.std.specs.Prelude.{◌≤◌, length, IfErr};
 ghost use Rattle.jup_script.specs.ScriptEnds.{ComesInPlay};
 
-use crate::board_lines::{board_line_fault, window_of};
 use crate::lines::{Script, number_of};
 use crate::{ScriptEnd, ScriptFault};
 use jup_batch::Commands;
@@ -69,16 +68,15 @@ fn read_board<'a>(
     ensures { IfErr result ComesInPlay }
 {
     let mut reader = BoardReader::new(alloc);
-    let mut window = None;
     while let Some(line) = script.next_line()? {
         if !is_board_line(line) {
             return Ok((reader.whole(), Some(line)));
         }
         match reader.take(alloc, line) {
-            Ok(()) => window = window_of(line).or(window),
+            Ok(()) => {}
             Err(Untaken::BadLine) => {
-                return match board_line_fault(alloc, reader.whole(), window, line) {
-                    Ok(fault) => Err(script.bad(fault)),
+                return match reader.fault(alloc, line) {
+                    Ok(fault) => Err(script.bad(ScriptFault::Board(fault))),
                     Err(NoMemory) => Err(ScriptEnd::NoMemory),
                 };
             }

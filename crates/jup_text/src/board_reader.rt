@@ -5,14 +5,19 @@ ghost use Rattle.jup_window.specs.Entries.{widget_fault};
 ghost use Rattle.jup_text.specs.declared.board_reader.Untaken.TheVariants as untaken;
 ghost use Rattle.jup_text.specs.Boards.{IsTaken, TakesWindow, TakesWidget, IsNext, IsNextWindow, IsWidgetLine};
 
+use self::line_faults::line_fault;
 use self::widget_lines::{WidgetLine, read_widget};
 use super::words::{id_of, next_word};
 use jup_window::{Board, BoardFault};
+use jup_xform::NoMemory;
 use std::alloc::Global;
 use std::marker::Model;
 
+mod line_faults;
 mod numbered;
 mod widget_lines;
+
+pub use line_faults::BoardLineFault;
 
 /// Why a line of a board is not taken.
 #[derive(Clone, Copy, Debug, PartialEq, Eq)]
@@ -94,6 +99,11 @@ impl BoardReader {
         }
         let read = read_widget(alloc, self.last, word, rest)?;
         self.put(read)
+    }
+
+    /// What is wrong with a line that [`take`](BoardReader::take) calls bad.
+    pub fn fault(self, alloc: Global, line: &str) -> Result<BoardLineFault, NoMemory> {
+        line_fault(alloc, self.board, self.window, line)
     }
 
     // Takes the line of a window, whose id this is.

@@ -1,6 +1,7 @@
 use crate::expect::{expect_eq, expect_that};
 use jup_script::{ScriptEnd, ScriptFault, run_script};
 use jup_setting::Slider;
+use jup_text::BoardLineFault;
 use jup_window::EditFault;
 use jup_world::{Two, TwoEdit, TwoEvent, TwoReply, pair_slider, pair_toggle};
 use std::alloc::Global;
@@ -133,7 +134,11 @@ fn a_line_that_ends_in_a_carriage_return_is_bad(rt: HostRuntime) {
         ("two\r\n", 1, ScriptFault::NoMode),
         ("two\nstart \"\"\r\n", 2, ScriptFault::BadText),
         ("star 1\r\n", 1, ScriptFault::BadLimit),
-        ("star 1\nwindow 1\r\n", 2, ScriptFault::BadId),
+        (
+            "star 1\nwindow 1\r\n",
+            2,
+            ScriptFault::Board(BoardLineFault::BadId),
+        ),
         ("star 1\nshow\r\n", 2, ScriptFault::NoEvent),
     ] {
         is_bad_at(&rt, rt.alloc(), script, ScriptEnd::Bad(line, fault), "");
@@ -389,10 +394,6 @@ fn what_is_wrong_with_a_line_has_a_text(rt: HostRuntime) {
             ScriptFault::BadChar,
             "one character in quotes is due, in its one spelling",
         ),
-        (
-            ScriptFault::BadLabels,
-            "labels of 1 to 48 bytes in quotes are due, a space before each, at most 65536",
-        ),
         (ScriptFault::NoBounds, "`LO HI VALUE` is due"),
         (
             ScriptFault::OutOfBounds,
@@ -402,10 +403,14 @@ fn what_is_wrong_with_a_line_has_a_text(rt: HostRuntime) {
             ScriptFault::LongText,
             "a text or a list has more than 65536 items",
         ),
-        (ScriptFault::BadId, "an id from 1 to 65535 is due"),
-        (ScriptFault::NoWindow, "a window is due above its widgets"),
-        (ScriptFault::DoubleId, "the id is taken"),
-        (ScriptFault::TooMany, "64 are there already"),
+        (
+            ScriptFault::Board(BoardLineFault::BadId),
+            "an id from 1 to 65535 is due",
+        ),
+        (
+            ScriptFault::Board(BoardLineFault::LongList(3, 65_537)),
+            "list 3 has 65537 items, and a layout takes 65536",
+        ),
     ] {
         let told = format!(in rt.alloc(); "{fault}").expect(&rt, "memory");
         expect_eq(&rt, told.as_str(), text);

@@ -2,6 +2,7 @@
 use super::scripts::{is_bad_at, play, prints};
 use crate::expect::expect_eq;
 use jup_script::{ScriptEnd, ScriptFault};
+use jup_text::BoardLineFault;
 use std::alloc::Global;
 use std::fmt::Write;
 use std::process::Abort;
@@ -57,7 +58,7 @@ fn a_star_script_takes_ids_in_any_order(rt: HostRuntime) {
 }
 
 #[test]
-fn a_bad_board_is_reported_with_its_line_and_fault(rt: HostRuntime) {
+fn a_bad_first_line_is_reported_with_its_fault(rt: HostRuntime) {
     for &(script, line, fault) in &[
         ("star\n", 1, ScriptFault::NoMode),
         ("star \n", 1, ScriptFault::BadLimit),
@@ -68,37 +69,7 @@ fn a_bad_board_is_reported_with_its_line_and_fault(rt: HostRuntime) {
         ("star 1 \n", 1, ScriptFault::BadLimit),
         ("star 1", 1, ScriptFault::Unended),
         ("star 0\nwindow 0\n", 1, ScriptFault::BadLimit),
-        ("star 1\nwindow\n", 2, ScriptFault::BadId),
-        ("star 1\nwindow 0\n", 2, ScriptFault::BadId),
-        ("star 1\nwindow 65536\n", 2, ScriptFault::BadId),
-        ("star 1\nwindow 1 \n", 2, ScriptFault::BadId),
         ("star 1\nwindow 1", 2, ScriptFault::Unended),
-        ("star 1\nwindow 1\nwindow 1\n", 3, ScriptFault::DoubleId),
-        (
-            "star 1\nwindow 65535\nwindow 65535\n",
-            3,
-            ScriptFault::DoubleId,
-        ),
-        (
-            "star 1\nwindow 65535\ntext 65535 \"\"\ntoggle 65535 on\n",
-            4,
-            ScriptFault::DoubleId,
-        ),
-        ("star 1\ntext 1 \"\"\n", 2, ScriptFault::NoWindow),
-        ("star 1\nwindow 1\ntext 1\n", 3, ScriptFault::BadText),
-        ("star 1\nwindow 1\ntext 0 \"\"\n", 3, ScriptFault::BadId),
-        ("star 1\nwindow 1\ntext 1 \"\" \n", 3, ScriptFault::BadText),
-        ("star 1\nwindow 1\ntext 1 \"a\n", 3, ScriptFault::BadText),
-        (
-            "star 1\nwindow 1\ntext 1 \"\\u{61}\"\n",
-            3,
-            ScriptFault::BadText,
-        ),
-        (
-            "star 1\nwindow 1\ntext 1 \"\"\ntoggle 1 on\n",
-            4,
-            ScriptFault::DoubleId,
-        ),
         ("star 1\nwindows 1\n", 2, ScriptFault::NoEvent),
         ("star 1\n\n", 2, ScriptFault::NoEvent),
     ] {
@@ -106,75 +77,131 @@ fn a_bad_board_is_reported_with_its_line_and_fault(rt: HostRuntime) {
     }
 }
 
+// A line of the board is bad, and the fault is the board's.
+fn is_bad_board(rt: &impl Abort, alloc: Global, script: &str, line: u32, fault: BoardLineFault) {
+    let end = ScriptEnd::Bad(line, ScriptFault::Board(fault));
+    is_bad_at(rt, alloc, script, end, "");
+}
+
+#[test]
+fn a_bad_board_is_reported_with_its_line_and_fault(rt: HostRuntime) {
+    for &(script, line, fault) in &[
+        ("star 1\nwindow\n", 2, BoardLineFault::BadId),
+        ("star 1\nwindow 0\n", 2, BoardLineFault::BadId),
+        ("star 1\nwindow 65536\n", 2, BoardLineFault::BadId),
+        ("star 1\nwindow 1 \n", 2, BoardLineFault::BadId),
+        ("star 1\nwindow 1\nwindow 1\n", 3, BoardLineFault::DoubleId),
+        (
+            "star 1\nwindow 65535\nwindow 65535\n",
+            3,
+            BoardLineFault::DoubleId,
+        ),
+        (
+            "star 1\nwindow 65535\ntext 65535 \"\"\ntoggle 65535 on\n",
+            4,
+            BoardLineFault::DoubleId,
+        ),
+        ("star 1\ntext 1 \"\"\n", 2, BoardLineFault::NoWindow),
+        ("star 1\nwindow 1\ntext 1\n", 3, BoardLineFault::BadText),
+        ("star 1\nwindow 1\ntext 0 \"\"\n", 3, BoardLineFault::BadId),
+        (
+            "star 1\nwindow 1\ntext 1 \"\" \n",
+            3,
+            BoardLineFault::BadText,
+        ),
+        ("star 1\nwindow 1\ntext 1 \"a\n", 3, BoardLineFault::BadText),
+        (
+            "star 1\nwindow 1\ntext 1 \"\\u{61}\"\n",
+            3,
+            BoardLineFault::BadText,
+        ),
+        (
+            "star 1\nwindow 1\ntext 1 \"\"\ntoggle 1 on\n",
+            4,
+            BoardLineFault::DoubleId,
+        ),
+    ] {
+        is_bad_board(&rt, rt.alloc(), script, line, fault);
+    }
+}
+
 #[test]
 fn a_bad_list_or_setting_of_a_board_is_reported_with_its_line_and_fault(rt: HostRuntime) {
     for &(script, line, fault) in &[
-        ("star 1\nwindow 1\nlist\n", 3, ScriptFault::BadId),
-        ("star 1\nwindow 1\nlist 1 \n", 3, ScriptFault::BadLabels),
-        ("star 1\nwindow 1\nlist 1 red\n", 3, ScriptFault::BadLabels),
-        ("star 1\nwindow 1\nlist 1 \"\"\n", 3, ScriptFault::BadLabels),
+        ("star 1\nwindow 1\nlist\n", 3, BoardLineFault::BadId),
+        ("star 1\nwindow 1\nlist 1 \n", 3, BoardLineFault::BadLabels),
+        (
+            "star 1\nwindow 1\nlist 1 red\n",
+            3,
+            BoardLineFault::BadLabels,
+        ),
+        (
+            "star 1\nwindow 1\nlist 1 \"\"\n",
+            3,
+            BoardLineFault::BadLabels,
+        ),
         (
             "star 1\nwindow 1\nlist 1 \"red\" \n",
             3,
-            ScriptFault::BadLabels,
+            BoardLineFault::BadLabels,
         ),
         (
             "star 1\nwindow 1\nlist 1 \"red\"\"blue\"\n",
             3,
-            ScriptFault::BadLabels,
+            BoardLineFault::BadLabels,
         ),
         (
             "star 1\nwindow 1\nlist 1 \"red\"  \"blue\"\n",
             3,
-            ScriptFault::BadLabels,
+            BoardLineFault::BadLabels,
         ),
         (
             "star 1\nwindow 1\nlist 1 \"\\u{e9}\"\n",
             3,
-            ScriptFault::BadLabels,
+            BoardLineFault::BadLabels,
         ),
         (
             "star 1\nwindow 1\nlist 1 \"0123456789012345678901234567890123456789012345678\"\n",
             3,
-            ScriptFault::BadLabels,
+            BoardLineFault::BadLabels,
         ),
         (
             "star 1\nwindow 1\ntoggle 1 yes\n",
             3,
-            ScriptFault::BadSwitch,
+            BoardLineFault::BadSwitch,
         ),
         (
             "star 1\nwindow 1\ntoggle 1 on on\n",
             3,
-            ScriptFault::BadSwitch,
+            BoardLineFault::BadSwitch,
         ),
         (
             "star 1\nwindow 1\nslider 1 5 4 5\n",
             3,
-            ScriptFault::OutOfBounds,
+            BoardLineFault::OutOfBounds,
         ),
         (
             "star 1\nwindow 1\nslider 1 0 10 11\n",
             3,
-            ScriptFault::OutOfBounds,
+            BoardLineFault::OutOfBounds,
         ),
         (
             "star 1\nwindow 1\nslider 1 0 10\n",
             3,
-            ScriptFault::NoBounds,
+            BoardLineFault::BadBounds,
         ),
         (
             "star 1\nwindow 1\nslider 1 0 10 5 5\n",
             3,
-            ScriptFault::BadInteger,
+            BoardLineFault::BadBounds,
         ),
         (
             "star 1\nwindow 1\nslider 1 0 2147483648 0\n",
             3,
-            ScriptFault::BadInteger,
+            BoardLineFault::BadBounds,
         ),
     ] {
-        is_bad_at(&rt, rt.alloc(), script, ScriptEnd::Bad(line, fault), "");
+        is_bad_board(&rt, rt.alloc(), script, line, fault);
     }
 }
 
@@ -267,7 +294,7 @@ fn a_window_has_at_most_64_widgets_and_a_board_64_windows(rt: HostRuntime) {
         let full = script_of(&rt, alloc, start, word, value, 64);
         prints(&rt, alloc, full.as_str(), "");
         let over = script_of(&rt, alloc, start, word, value, 65);
-        let end = ScriptEnd::Bad(bad, ScriptFault::TooMany);
+        let end = ScriptEnd::Bad(bad, ScriptFault::Board(BoardLineFault::TooMany));
         is_bad_at(&rt, alloc, over.as_str(), end, "");
     }
 }
@@ -294,10 +321,20 @@ fn end_of_long(
 #[test]
 fn a_text_or_a_list_has_at_most_65536_items(rt: HostRuntime) {
     for &(start, item, end, fault) in &[
-        ("text 1 \"", "z", "\"\n", ScriptFault::LongText),
-        ("list 1", " \"z\"", "\n", ScriptFault::BadLabels),
+        (
+            "text 1 \"",
+            "z",
+            "\"\n",
+            BoardLineFault::LongText(1, 65_537),
+        ),
+        (
+            "list 1",
+            " \"z\"",
+            "\n",
+            BoardLineFault::LongList(1, 65_537),
+        ),
     ] {
-        let over = Err(ScriptEnd::Bad(3, fault));
+        let over = Err(ScriptEnd::Bad(3, ScriptFault::Board(fault)));
         for &(count, played) in &[(65_536, Ok(())), (65_537, over)] {
             expect_eq(
                 &rt,

@@ -276,13 +276,6 @@ Left due s untaken known = option_map (λ xs. due ++ tells s (untaken ++ xs)) kn
 abbrev pub Payloads : Standing → List ℕ → Option (List ℕ) → Option (List ℕ)
 Payloads s untaken known = option_map (λ xs. brings s (untaken ++ xs)) known
 
--- known bytes that are kept after they grew
-pub appends_kept : (a b c : Option (List ℕ)) (bs : List ℕ) → Appends a b bs → Keeps b c → Appends a c bs
-appends_kept None b c bs p q = tt
-appends_kept (Some x) None c bs p q = absurd p
-appends_kept (Some x) (Some y) None bs p q = absurd q
-appends_kept (Some x) (Some y) (Some z) bs p q = q ∙ p
-
 takes_both : (a b c : Option (List Told)) (first second : List Told) → Takes a b first → Takes b c second → Takes a c (first ++ second)
 takes_both None b c first second ab bc = tt
 takes_both (Some xs) None c first second ab bc = absurd ab

@@ -3,8 +3,8 @@ ghost use Rattle.std.specs.Prelude.{◌≡◌, ◌≤◌, ◌+◌, ◌++◌, ℕ
 ghost use Rattle.jup_http.specs.Streams.{brought, tells};
 ghost use Rattle.jup_http.specs.Events.{standing, told_by_option};
 
-use crate::sending::write_whole;
 use crate::{Ending, Event, FrameStream, Held, Unframed, put_pong};
+use jup_io::write_whole;
 use std::alloc::{AllocError, Global};
 use std::io;
 use std::io::{ErrorKind, Read, Write};

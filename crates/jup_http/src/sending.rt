@@ -1,13 +1,10 @@
 //! Frames that a server sends.
-ghost use Rattle.std.specs.Prelude.{◌≡◌, ◌++◌, ℕ, List, None, OnOk, OnErr};
-ghost use Rattle.std.specs.Io.KnownBytes.{Appends};
+ghost use Rattle.std.specs.Prelude.{◌≡◌, ◌++◌, None, OnOk, OnErr};
 ghost use Rattle.websocket.specs.Connection.{whole_header};
 ghost use Rattle.websocket.specs.Frame.{encode_frame};
 ghost use Rattle.jup_http.specs.Frames.{text_frame, ping_frame, pong_frame, close_frame};
 
 use std::alloc::AllocError;
-use std::io;
-use std::io::{ErrorKind, Write};
 use websocket::protocol::frame::coding::{Control, Data, OpCode};
 use websocket::protocol::frame::{FrameHeader, write_frame};
 
@@ -51,27 +48,4 @@ fn put(opcode: OpCode, payload: &[u8], out: &mut Vec<u8>) -> Result<(), AllocErr
     ensures err { OnErr result (out.new.items ≡ out.old.items) }
 {
     write_frame(&FrameHeader::new(opcode, None), payload, out)
-}
-
-/// Writes a whole frame. If that fails, the first bytes of it are written. A write that was interrupted is made again.
-pub(crate) fn write_whole<O: Write + Drop>(to: &mut O, frame: &[u8]) -> io::Result<()>
-    ensures ok { OnOk result (Appends (O.contents to.old) (O.contents to.new) frame.now) }
-    ensures err { OnErr result ((sent unsent : List ℕ) × (frame.now ≡ sent ++ unsent) × Appends (O.contents to.old) (O.contents to.new) sent) }
-{
-    let mut rest = frame;
-    for _ in 0..u64::MAX {
-        if rest.is_empty() {
-            return Ok(());
-        }
-        match to.write(rest) {
-            Ok(0) => return Err(io::Error::from(ErrorKind::WriteZero)),
-            Ok(len) => rest = &rest[len..],
-            Err(error) => {
-                if error.kind() != ErrorKind::Interrupted {
-                    return Err(error);
-                }
-            }
-        }
-    }
-    Err(io::Error::from(ErrorKind::TimedOut))
 }

@@ -2,7 +2,7 @@
 ghost use Rattle.std.specs.Prelude.{◌≡◌, ◌≤◌, length, IfOk};
 
 use crate::Intake;
-use crate::again::{has_waited, is_interrupted};
+use jup_io::{has_waited, is_interrupted};
 use jup_rules::{Inbox, LinkEnd};
 use std::io::Read;
 use std::sync::Wait;

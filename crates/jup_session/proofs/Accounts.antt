@@ -13,7 +13,8 @@ use Rattle.jup_gather.specs.Gathering.{Piece, up_in, up_way}
 use Rattle.jup_gather.proofs.Gathering.{one_gathering}
 use Rattle.jup_hub.specs.Histories.{after_split, tally, split_from, joined_with}
 use Rattle.jup_rules.specs.Sessions.{counted, says_edit, said_piece}
-use Rattle.jup_stream.proofs.Streams.{appends_kept, written_of}
+use Rattle.jup_io.specs.Appends.{appends_kept}
+use Rattle.jup_stream.proofs.Streams.{written_of}
 use Rattle.jup_session.specs.ExactSessions.{IsFresh, IsTurnedAway, NoLine, NoGreeting, NoJoin, EndsEarly, TurnedAway, Unwelcome, IsServed, HasLines, NoRoom, Early, Served, IsExact, bytes_away, lines_away, bytes_early, lines_early, bytes_over, lines_over, bytes_heard, lines_heard, bytes_of, lines_of, bytes_read, lines_read, bytes_written, BeginWith, IsWelcomed, BothHalves}
 use Rattle.jup_session.specs.Sessions.{Over, Stopped, ByLine, Untaken, Spent, Behind, Heard, lines_brought, told_line, untold_line, Wrote}
 

@@ -1,7 +1,8 @@
 -- How lines are read, and bytes are put.
-use Rattle.std.proofs.Common.{arith, slice_get, drop, zero, suc, ◌+◌, ◌≡◌, ◌∙◌, sym, ap, subst, ℕ, inl, inr, List, [], ◌∷◌, ◌++◌, Option, Some, None, Result, Ok, Err, refl, append_assoc, append-nil, rules, not, Bool, true, false, IsTrue, IsFalse, true≢false}
+use Rattle.std.proofs.Common.{arith, slice_get, drop, zero, suc, ◌+◌, ◌≡◌, ◌∙◌, sym, ap, subst, ℕ, inl, inr, List, [], ◌∷◌, ◌++◌, Option, Some, None, Result, Ok, Err, OnOk, OnErr, is_ok, refl, append_assoc, append-nil, rules, not, Bool, true, false, IsTrue, IsFalse, true≢false}
 use Rattle.std.specs.Io.KnownBytes.{Consumes, Keeps, IsAtEnd, Appends}
 use Rattle.std.proofs.KnownBytes.{Consumes-nil, Consumes-trans, Consumes-kept, Appends-nil, Appends-trans}
+use Rattle.jup_io.specs.Appends.{appends_kept}
 use Rattle.jup_wire.specs.Streams.{Progress, HasRead, ending_at}
 use Rattle.jup_rules.specs.declared.ends.SessionFault.TheVariants.{Wire, NoMemory, ReadsSpent, ReadFailed}
 use Rattle.jup_stream.specs.Streams.{Sourced, sourced, ReadsOn, HandsOn, IsWhy, Stops, stop_of, Put, put_as, fresh_put, Puts, IsFlushed, WritesFront, puts_both}
@@ -123,12 +124,11 @@ drop_get (y ∷ xs) (suc n) x e = drop_get xs n x e ∙ ap (λ m. x ∷ drop m (
 
 -- How an output puts bytes.
 
--- known bytes that are kept after they grew
-pub appends_kept : (a b c : Option (List ℕ)) (bs : List ℕ) → Appends a b bs → Keeps b c → Appends a c bs
-appends_kept None b c bs p q = tt
-appends_kept (Some x) None c bs p q = absurd p
-appends_kept (Some x) (Some y) None bs p q = absurd q
-appends_kept (Some x) (Some y) (Some z) bs p q = q ∙ p
+-- what was written whole, or as far as that went
+pub front_written : {E : Type 0} (old new : Option (List ℕ)) (bytes : List ℕ) (r : Result (Unit {0}) E) → OnOk r (Appends old new bytes) → OnErr r ((sent unsent : List ℕ) × (bytes ≡ sent ++ unsent) × Appends old new sent)
+    → WritesFront old new bytes (is_ok r)
+front_written old new bytes (Ok done) ok err = (bytes, [], sym (append-nil bytes), ok, λ all. refl)
+front_written old new bytes (Err fault) ok err = (err.0, err.1, err.2, err.3, λ all. absurd cc)
 
 -- all that is gathered goes out, or the front of it
 pub puts_out : (w w' : Option (List ℕ)) (held held' : List ℕ) (all before failed : Bool) → WritesFront w w' held all → IsFalse before → (IsFalse failed → IsTrue all) → held' ≡ []

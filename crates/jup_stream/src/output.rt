@@ -4,7 +4,7 @@ ghost use Rattle.jup_wire.specs.Lines.{line_bytes};
 ghost use Rattle.jup_wire.specs.Streams.{HasRoom};
 ghost use Rattle.jup_stream.specs.Streams.{put_as, Puts, PutsLines, IsFlushed, WritesFront, fresh_put};
 
-use jup_intake::is_interrupted;
+use jup_io::write_whole;
 use jup_rules::SessionFault;
 use jup_wire::{LONGEST, Line, LineSink, MOST, write_reserved};
 use std::alloc::Global;
@@ -107,26 +107,11 @@ impl<O: Write + Drop> LineSink for Output<O> {
 }
 
 /// Writes bytes, up to a write that fails or takes nothing. Whether all were written. A write that was interrupted is made again.
+#[tactic(auto, using(crate::proofs::Streams::front_written))]
 pub fn write_bytes<O: Write + Drop>(to: &mut O, bytes: &[u8]) -> bool
     ensures { WritesFront (O.contents to.old) (O.contents to.new) bytes.now result }
 {
-    let mut rest = bytes;
-    for _ in 0..u64::MAX {
-        if rest.is_empty() {
-            return true;
-        }
-        // The contract of `write` says which bytes were taken. That of `write_all` says nothing after a failure.
-        match to.write(rest) {
-            Ok(0) => return false,
-            Ok(len) => rest = &rest[len..],
-            Err(error) => {
-                if !is_interrupted(&error) {
-                    return false;
-                }
-            }
-        }
-    }
-    false
+    write_whole(to, bytes).is_ok()
 }
 
 // Writes what is gathered, unless a write has failed.

@@ -6,7 +6,7 @@ ghost use Rattle.jup_wire.specs.Streams.{HasRead, ending_at};
 ghost use Rattle.jup_rules.specs.Clients.{most_reads};
 ghost use Rattle.jup_stream.specs.Streams.{ReadsOn, HandsOn, Stops, stop_of};
 
-use jup_intake::is_interrupted;
+use jup_io::is_interrupted;
 use jup_rules::{SessionFault, Stop, count_read};
 use jup_window::Within;
 use jup_wire::{Fed, Line, Reader, WireFault};

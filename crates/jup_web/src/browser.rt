@@ -2,7 +2,7 @@
 use crate::stop::Stop;
 use crate::turn::InTurn;
 use jup_http::put_ping;
-use jup_intake::has_waited;
+use jup_io::has_waited;
 use jup_service::Presence;
 use std::alloc::{AllocError, Global};
 use std::io;

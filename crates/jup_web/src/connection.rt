@@ -11,7 +11,7 @@ use jup_http::{
     read_request, refusal_head,
 };
 use jup_hub::Pass;
-use jup_intake::is_interrupted;
+use jup_io::is_interrupted;
 use jup_service::{LONGEST_SILENCE, Opening, close_code, head_wait, opening_of};
 use jup_session::{Outgoing, hang_up};
 use std::alloc::{AllocError, Global};

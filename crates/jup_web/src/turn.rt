@@ -1,7 +1,7 @@
 //! Whose turn it is to write to a socket that both halves of a session write to.
 ghost use Rattle.std.specs.Prelude.{◌≡◌, length, IfOk};
 
-use jup_intake::is_interrupted;
+use jup_io::is_interrupted;
 use jup_session::Outgoing;
 use std::io;
 use std::io::{ErrorKind, Write};

@@ -1,7 +1,7 @@
 //! The commands of a user, a line each.
 ghost use Rattle.std.specs.Prelude.{◌≤◌};
 
-use jup_intake::is_interrupted;
+use jup_io::is_interrupted;
 use jup_rules::{Asking, ClientEnd, Request, SessionFault, TypedLine};
 use jup_stream::Source;
 use jup_xform::NoMemory;

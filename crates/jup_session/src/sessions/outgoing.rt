@@ -1,6 +1,6 @@
 //! The writing side of a link's socket.
 
-use jup_intake::{has_waited, is_interrupted};
+use jup_io::{has_waited, is_interrupted};
 use std::io;
 use std::io::{ErrorKind, Write};
 use std::net::{Shutdown, TcpStream};

@@ -2,9 +2,9 @@ use Rattle.std.proofs.Common.{◌≡◌, ℕ, List, ◌++◌, sym, ap, ◌∙◌
 use Rattle.std.proofs.lemmas.List.{take_rest}
 use Rattle.std.specs.Io.KnownBytes.{Appends}
 use Rattle.std.proofs.KnownBytes.{Appends-trans}
-use Rattle.jup_http.proofs.Frames.{appends_kept}
-use Rattle.jup_http.proofs.sending.write_whole.Goals as goal
-use Rattle.jup_http.proofs.sending.write_whole.Goals.{in-Ok, in-Err+else-ne}
+use Rattle.jup_io.specs.Appends.{appends_kept}
+use Rattle.jup_io.proofs.whole.write_whole.Goals as goal
+use Rattle.jup_io.proofs.whole.write_whole.Goals.{in-Ok, in-Err+else-not-is_interrupted}
 
 front_grows : (all done rest : List ℕ) (n : ℕ) → all ≡ done ++ rest → all ≡ (done ++ take n rest) ++ take (length rest - n) (drop n rest)
 front_grows all done rest n is =
@@ -15,8 +15,8 @@ loop-preserved g c =
     let (done, split, appended) = c.loop.invariant in
     let rest = c.loop.rest.now in
     elim c.match-write.branch [
-      | in-Ok w ↦ subst (λ r. (x : List ℕ) × (c.args.frame.now ≡ x ++ r.now) × Appends (g.O.Write.contents c.args.to.now) (g.O.Write.contents c.write.new.self) x) (sym w.rest-is)
+      | in-Ok w ↦ subst (λ r. (x : List ℕ) × (c.args.bytes.now ≡ x ++ r.now) × Appends (g.O.Write.contents c.args.to.now) (g.O.Write.contents c.write.new.self) x) (sym w.rest-is)
           (done ++ take w.in-Ok.len rest, front_grows _ done rest w.in-Ok.len split, Appends-trans _ _ _ _ _ appended w.in-Ok.ensures.bytes)
-      | in-Err+else-ne w ↦ subst (λ r. (x : List ℕ) × (c.args.frame.now ≡ x ++ r.now) × Appends (g.O.Write.contents c.args.to.now) (g.O.Write.contents c.write.new.self) x) (sym w.rest-is)
+      | in-Err+else-not-is_interrupted w ↦ subst (λ r. (x : List ℕ) × (c.args.bytes.now ≡ x ++ r.now) × Appends (g.O.Write.contents c.args.to.now) (g.O.Write.contents c.write.new.self) x) (sym w.rest-is)
           (done, split, appends_kept _ _ _ _ appended w.in-Err.ensures.bytes)
     ]

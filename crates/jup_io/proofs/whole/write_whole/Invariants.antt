@@ -1,6 +1,6 @@
 use Rattle.std.proofs.Common.{◌≡◌, ℕ, List, ◌++◌}
 use Rattle.std.specs.Io.KnownBytes.{Appends}
-use Rattle.jup_stream.proofs.output.write_bytes.Given as goal
+use Rattle.jup_io.proofs.whole.write_whole.Given as goal
 
 abbrev pub invariant-loop : goal.invariant-loop
 invariant-loop g l = (done : List ℕ) × (l.fn.bytes ≡ done ++ l.rest) × Appends (g.O.Write.contents l.fn.to) (g.O.Write.contents l.to) done

@@ -1,6 +1,0 @@
-use Rattle.std.proofs.Common.{◌≡◌, ℕ, List, ◌++◌}
-use Rattle.std.specs.Io.KnownBytes.{Appends}
-use Rattle.jup_http.proofs.sending.write_whole.Given as goal
-
-abbrev pub invariant-loop : goal.invariant-loop
-invariant-loop g l = (done : List ℕ) × (l.fn.frame ≡ done ++ l.rest) × Appends (g.O.Write.contents l.fn.to) (g.O.Write.contents l.to) done

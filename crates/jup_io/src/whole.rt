@@ -1,0 +1,31 @@
+//! Bytes that are written whole.
+ghost use Rattle.std.specs.Prelude.{◌≡◌, ◌++◌, ℕ, List, OnOk, OnErr};
+ghost use Rattle.std.specs.Io.KnownBytes.{Appends};
+
+use crate::again::is_interrupted;
+use std::io;
+use std::io::{ErrorKind, Write};
+
+/// Writes all the bytes. If that fails, the first of them are written. A write that was interrupted is made again.
+pub fn write_whole<O: Write + Drop>(to: &mut O, bytes: &[u8]) -> io::Result<()>
+    ensures ok { OnOk result (Appends (O.contents to.old) (O.contents to.new) bytes.now) }
+    ensures err { OnErr result ((sent unsent : List ℕ) × (bytes.now ≡ sent ++ unsent) × Appends (O.contents to.old) (O.contents to.new) sent) }
+{
+    let mut rest = bytes;
+    for _ in 0..u64::MAX {
+        if rest.is_empty() {
+            return Ok(());
+        }
+        // The contract of `write` says which bytes were taken. That of `write_all` says nothing after a failure.
+        match to.write(rest) {
+            Ok(0) => return Err(io::Error::from(ErrorKind::WriteZero)),
+            Ok(len) => rest = &rest[len..],
+            Err(error) => {
+                if !is_interrupted(&error) {
+                    return Err(error);
+                }
+            }
+        }
+    }
+    Err(io::Error::from(ErrorKind::TimedOut))
+}

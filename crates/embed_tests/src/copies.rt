@@ -1,11 +1,10 @@
 //! 300 runs at random: at each moment a copy that takes only the changes that a client tells shows what the client shows.
 use crate::expect::{expect_eq, expect_that};
-use crate::random_commands::{LINES, commands};
 use crate::seats::Seat;
 use jup_star::Star;
 use std::alloc::Global;
 use std::process::Abort;
-use test_boards::{Dice, board_of};
+use test_boards::{Dice, commands, each_kind};
 
 const RUNS: u32 = 300;
 
@@ -24,7 +23,7 @@ struct Run {
 }
 
 fn open_star(rt: &impl Abort, alloc: Global) -> Star {
-    let board = board_of(alloc, LINES).expect(rt, "a board");
+    let board = each_kind(alloc).expect(rt, "memory");
     Star::open(alloc, board, 1_000_000).expect(rt, "a limit")
 }
 
@@ -94,7 +93,7 @@ impl Run {
 // Whether a client makes an edit; nothing if it is not open yet.
 fn edits(rt: &impl Abort, alloc: Global, dice: &mut Dice, seat: &mut Seat) -> Option<bool> {
     let board = seat.board()?;
-    let all = commands(rt, alloc, dice, board);
+    let all = commands(alloc, dice, board, 4).expect(rt, "memory");
     Some(seat.edits(alloc, &all).is_ok())
 }
 

@@ -10,7 +10,6 @@ mod expect;
 #[cfg(test)]
 mod growths;
 #[cfg(test)]
-mod random_commands;
 #[cfg(test)]
 mod seats;
 #[cfg(test)]

@@ -4,13 +4,11 @@ use super::boards::{LIMIT, batch, drain, is_quiet};
 use super::content::Content;
 use super::ledger::Ledger;
 use crate::expect::{expect_eq, expect_that};
-use jup_value::Label;
-use jup_window::{Board, Command, Setting, Value, Within};
+use jup_window::Board;
 use jup_world::{Event, Reply, World};
 use std::alloc::Global;
-use std::marker::PhantomData;
 use std::process::Abort;
-use test_boards::{Dice, board_of};
+use test_boards::{Dice, commands, each_kind};
 
 const SITES: u32 = 3;
 
@@ -21,14 +19,7 @@ const NUMBERS: &[u32] = &[1, 2, 3];
 const EVENTS: u32 = 200;
 
 pub(super) fn open_world(rt: &impl Abort, alloc: Global) -> World {
-    let lines = [
-        "window 1",
-        "text 1 \"pqr\"",
-        "list 2 \"red\" \"green\"",
-        "toggle 3 off",
-        "slider 4 0 10 5",
-    ];
-    let board = board_of(alloc, &lines).expect(rt, "a board");
+    let board = each_kind(alloc).expect(rt, "memory");
     let mut world = World::open(alloc, board, LIMIT).expect(rt, "a layout and a limit");
     for _ in 0..SITES {
         world.step(alloc, &Event::Join).expect(rt, "memory");
@@ -44,91 +35,12 @@ pub(super) fn board_at(world: &World, number: u32) -> &Board {
     }
 }
 
-// A place in a widget, or the one after its last item.
-fn place(dice: &mut Dice, board: &Board, wid: u16) -> u32 {
-    let count = board.widget(1, wid).map_or(0, |widget| widget.item_count());
-    dice.roll(count.saturating_add(1))
-}
-
-fn label(rt: &impl Abort, dice: &mut Dice) -> Label {
-    let text: &[u8] = if dice.once_in(2) { b"blue" } else { b"grey" };
-    Label::read(text).expect(rt, "a label")
-}
-
-// A command on the text or the list.
-fn item_command(rt: &impl Abort, dice: &mut Dice, board: &Board) -> Command {
-    let win = 1;
-    match dice.roll(5) {
-        0 => Command::Insert {
-            win,
-            wid: 1,
-            place: place(dice, board, 1),
-            value: Value::Char('a'),
-        },
-        1 => Command::Insert {
-            win,
-            wid: 2,
-            place: place(dice, board, 2),
-            value: Value::Label(label(rt, dice)),
-        },
-        2 => Command::Delete {
-            win,
-            wid: 1,
-            place: place(dice, board, 1),
-        },
-        3 => Command::Delete {
-            win,
-            wid: 2,
-            place: place(dice, board, 2),
-        },
-        _ => Command::Relabel {
-            win,
-            wid: 2,
-            place: place(dice, board, 2),
-            label: label(rt, dice),
-        },
-    }
-}
-
-fn command(rt: &impl Abort, dice: &mut Dice, board: &Board) -> Command {
-    let win = 1;
-    match dice.roll(4) {
-        0 => Command::Set {
-            win,
-            wid: 3,
-            setting: Setting::Toggle(dice.once_in(2)),
-        },
-        // The slider has no 11.
-        1 => Command::Set {
-            win,
-            wid: 4,
-            setting: Setting::Slider(i32::try_from(dice.roll(12)).unwrap_or(0)),
-        },
-        _ => item_command(rt, dice, board),
-    }
-}
-
-// One to five commands, each as if it were alone on the board, so that some of them are refused after the others.
-pub(super) fn commands(
-    rt: &impl Abort,
-    alloc: Global,
-    dice: &mut Dice,
-    board: &Board,
-) -> Vec<Command> {
-    let _within: Within = PhantomData;
-    let mut all = Vec::new(alloc);
-    for _ in 0..=dice.roll(5) {
-        all.push(command(rt, dice, board)).expect(rt, "memory");
-    }
-    all
-}
-
 // A site edits, one of its messages moves, or some bytes of one.
 fn event(rt: &impl Abort, alloc: Global, dice: &mut Dice, world: &World) -> Event {
     let site = dice.roll(SITES).saturating_add(1);
     match dice.roll(8) {
         0 | 1 => {
-            let all = commands(rt, alloc, dice, board_at(world, site));
+            let all = commands(alloc, dice, board_at(world, site), 5).expect(rt, "memory");
             batch(rt, alloc, site, &all)
         }
         2 | 3 => Event::Up(site),

@@ -2,12 +2,12 @@
 //! Whenever all is delivered, all attached sites show the star's board.
 use super::boards::{batch, drain};
 use super::ledger::Ledger;
-use super::random_batches::{all_agree, all_hold, board_at, commands, open_world};
+use super::random_batches::{all_agree, all_hold, board_at, open_world};
 use crate::expect::expect_that;
 use jup_world::{Event, World};
 use std::alloc::Global;
 use std::process::Abort;
-use test_boards::Dice;
+use test_boards::{Dice, commands};
 
 // How often all is delivered, and how many events happen before each time.
 const ROUNDS: u32 = 8;
@@ -39,7 +39,7 @@ fn event(rt: &impl Abort, alloc: Global, dice: &mut Dice, world: &World, numbers
         0 if numbers.len() < 6 => Event::Join,
         1 => Event::Leave(site),
         2..8 => {
-            let all = commands(rt, alloc, dice, board_at(world, site));
+            let all = commands(alloc, dice, board_at(world, site), 5).expect(rt, "memory");
             batch(rt, alloc, site, &all)
         }
         8..14 => Event::Up(site),

@@ -2,7 +2,7 @@
 use Rattle.std.proofs.Common.{◌≡◌, ℕ, zero, suc, ◌+◌, ◌-◌, ◌≤◌, List, [], ◌∷◌, take, drop, sum, refl, arith, ◌*◌, ◌<◌, ◌++◌, length, get_or, set, map, sym, ap, ◌∙◌, append_assoc, append-nil, add-one, zero-add, Bool, true, false, cond, Option, Some, None, inl, inr, length-append, insert, remove, slice_get, nat_le}
 use Rattle.std.proofs.lemmas.List.Sums.{sum_by-cons, sum_by_more}
 use Rattle.std.proofs.lemmas.Bool.{cases_Bool, leb-true, leb-false, lt-ltb, le-ltb, le-leb, lt-leb}
-use Rattle.std.proofs.lemmas.List.{take-append-drop, length-take-le, length-drop, length-map, take-map, get_or-map, nil_from_length, drop_more}
+use Rattle.std.proofs.lemmas.List.{get_or_default, take-append-drop, length-take-le, length-drop, length-map, take-map, get_or-map, nil_from_length, drop_more}
 use Rattle.std.specs.List.{position_from}
 use Rattle.std.proofs.lemmas.List.Edits.{length-insert, length-remove, insert-append_left, insert-append_right, remove-append_left, remove-append_right}
 use Rattle.jup_value.specs.declared.names.Name.{Name}
@@ -160,6 +160,19 @@ found bs ns i off at table l place offset =
     let below = offset l in
     record { within = in_bs; offset = omega arith; place = place_in_blocks bs ns i off at table place }
 
+-- what it says of an item
+pub record FoundItem {X : Type 0} (bs : List (List X)) (i off at : ℕ) : Type 0 where
+  pub within : i < length bs
+  pub offset : off < length (get_or bs i [])
+  pub place : at ≡ length (joined (take i bs)) + off
+
+pub found_item : {X : Type 0} → (bs : List (List X)) (ns : List ℕ) (i off at : ℕ) → ns ≡ map length bs → i < length ns → at ≡ sum (take i ns) + off → off < get_or ns i 0 → FoundItem bs i off at
+found_item bs ns i off at table l place below =
+    let same = table_length bs ns table in
+    let in_bs : i < length bs = omega arith in
+    let count = count_in_blocks bs ns i table in_bs in
+    record { within = in_bs; offset = omega arith; place = place_in_blocks bs ns i off at table place }
+
 -- another value for an item
 
 with_value-append_left : {V : Type 0} (xs ys : List (Item V)) (i : ℕ) (v : V) → i < length xs → with_value (xs ++ ys) i v ≡ with_value xs i v ++ ys
@@ -181,6 +194,13 @@ joined-set_value (c ∷ cs) zero p at b v l e h place =
 joined-set_value (c ∷ cs) (suc i) p at b v l e h place =
     let sizes = length-append c (joined (take i cs)) in
     ap (λ d. c ++ d) (joined-set_value cs i p (at - length c) b v (omega arith) e h (omega arith)) ∙ sym (with_value-append_right c (joined cs) (at - length c) at v (omega arith))
+
+-- the item that was found gets another value
+pub found-set_value : {V : Type 0} → (bs : List (List (Item V))) (i off at : ℕ) (b : List (Item V)) (v : V) → FoundItem bs i off at → b ≡ get_or bs i b → joined (set bs i (with_value b off v)) ≡ with_value (joined bs) at v
+found-set_value bs i off at b v item here =
+    let long = ap length (here ∙ get_or_default bs i b [] item.within) in
+    let offset = item.offset in
+    joined-set_value bs i off at b v item.within here (omega arith) item.place
 
 pub table-set_value : {V : Type 0} → (bs : List (List (Item V))) (i p : ℕ) (b : List (Item V)) (v : V) → b ≡ get_or bs i b → map length bs ≡ map length (set bs i (with_value b p v))
 table-set_value [] i p b v e = refl

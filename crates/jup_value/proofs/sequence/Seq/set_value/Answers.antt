@@ -1,9 +1,8 @@
-use Rattle.std.proofs.Common.{◌<◌, length, set, [], sum, map, ap, sym, ◌∙◌, arith}
-use Rattle.std.proofs.lemmas.List.{get_or_default}
+use Rattle.std.proofs.Common.{length, set, sum, map, ap, sym, ◌∙◌, arith}
 use Rattle.jup_value.specs.Items.{with_value, joined}
 use Rattle.jup_value.proofs.Items.{AreDistinct-with_value, length-with_value}
 use Rattle.jup_value.proofs.MarkLists.{AreMarked-with_value}
-use Rattle.jup_value.proofs.Layouts.{sum_lengths, place_in_blocks, count_in_blocks, table_length, joined-set_value, table-set_value, AreBlocks-set_value}
+use Rattle.jup_value.proofs.Layouts.{sum_lengths, found_item, found-set_value, table-set_value, AreBlocks-set_value}
 use Rattle.jup_value.proofs.sequence.Seq.set_value.Goals as goal
 
 pub find_item-index-requires : goal.find_item-index-requires
@@ -16,28 +15,16 @@ pub returns-clause-items : goal.returns-clause-items
 returns-clause-items g c =
     let bs = c.self.inside.blocks.items in
     let table = c.deref.ensures.value ∙ c.self.invariant.layout.1 in
-    let place = place_in_blocks bs c.deref.result.now _ _ c.args.at table c.find_item-index.ensures.place in
-    let same = table_length bs c.deref.result.now table in
-    let within : c.find_item-index.result.0 < length bs = omega arith in
-    let count = count_in_blocks bs c.deref.result.now _ table within in
-    let here = c.index_mut-block.ensures.value ∙ get_or_default bs c.find_item-index.result.0 _ [] within in
-    let long = ap length here in
-    let offset : c.find_item-index.result.1 < length c.index_mut-block.result.now = omega arith in
-    let put = ap (λ b. joined (set bs c.find_item-index.result.0 b)) c.set_value.ensures ∙ joined-set_value bs _ _ c.args.at _ c.args.value within c.index_mut-block.ensures.value offset place in
+    let item = found_item bs c.deref.result.now _ _ c.args.at table c.find_item-index.ensures.block c.find_item-index.ensures.place c.find_item-index.ensures.within in
+    let put = ap (λ b. joined (set bs c.find_item-index.result.0 b)) c.set_value.ensures ∙ found-set_value bs _ _ c.args.at _ c.args.value item c.index_mut-block.ensures.value in
     put ∙ ap (λ s. with_value s.items c.args.at c.args.value) c.self.view_is
 
 pub invariant_of-self : goal.invariant_of-self
 invariant_of-self g c =
     let bs = c.self.inside.blocks.items in
     let table = c.deref.ensures.value ∙ c.self.invariant.layout.1 in
-    let place = place_in_blocks bs c.deref.result.now _ _ c.args.at table c.find_item-index.ensures.place in
-    let same = table_length bs c.deref.result.now table in
-    let within : c.find_item-index.result.0 < length bs = omega arith in
-    let count = count_in_blocks bs c.deref.result.now _ table within in
-    let here = c.index_mut-block.ensures.value ∙ get_or_default bs c.find_item-index.result.0 _ [] within in
-    let long = ap length here in
-    let offset : c.find_item-index.result.1 < length c.index_mut-block.result.now = omega arith in
-    let put = ap (λ b. joined (set bs c.find_item-index.result.0 b)) c.set_value.ensures ∙ joined-set_value bs _ _ c.args.at _ c.args.value within c.index_mut-block.ensures.value offset place in
+    let item = found_item bs c.deref.result.now _ _ c.args.at table c.find_item-index.ensures.block c.find_item-index.ensures.place c.find_item-index.ensures.within in
+    let put = ap (λ b. joined (set bs c.find_item-index.result.0 b)) c.set_value.ensures ∙ found-set_value bs _ _ c.args.at _ c.args.value item c.index_mut-block.ensures.value in
     let size = ap length put ∙ length-with_value (joined bs) c.args.at c.args.value in
     record {
       layout = (

@@ -126,6 +126,18 @@ behind_integer text rest other x y x_is y_is read same =
     let parts = same_parts 32 (signed_decimal x) (signed_decimal y) rest other (integer_word x x_is) (integer_word y y_is) (sym read ∙ same) in
     (same_integer x y x_is y_is parts.0, parts.1)
 
+-- the numbers that were read of a slider's text are those that it spells
+module _ (text : List ℕ) (wid : ℕ) (lo hi value : ℤ) (is : IsSliderText text wid lo hi value) (id : ℕ) (behind_wid : List ℕ) (wid_read : IsId id × (text ≡ decimal id ++ 32 ∷ behind_wid)) where
+  pub slider_low : behind_wid ≡ signed_decimal lo ++ 32 ∷ (signed_decimal hi ++ 32 ∷ signed_decimal value)
+  slider_low = behind_id text behind_wid _ id wid wid_read.0 is.0 wid_read.1 is.1.1.1
+
+  pub slider_high : (low : ℤ) (behind_lo : List ℕ) → IsInt low × (behind_wid ≡ signed_decimal low ++ 32 ∷ behind_lo) → (low ≡ lo) × (behind_lo ≡ signed_decimal hi ++ 32 ∷ signed_decimal value)
+  slider_high low behind_lo low_read = behind_integer behind_wid behind_lo _ low lo low_read.0 is.1.0.0 low_read.1 slider_low
+
+  pub slider_last : (low high : ℤ) (behind_lo behind_hi : List ℕ) → IsInt low × (behind_wid ≡ signed_decimal low ++ 32 ∷ behind_lo) → IsInt high × (behind_lo ≡ signed_decimal high ++ 32 ∷ behind_hi)
+      → (high ≡ hi) × (behind_hi ≡ signed_decimal value)
+  slider_last low high behind_lo behind_hi low_read high_read = behind_integer behind_lo behind_hi _ high hi high_read.0 is.1.0.1.0 high_read.1 (slider_high low behind_lo low_read).1
+
 -- ---- the first words of lines
 
 -- nothing follows a word, or a space does

@@ -1,41 +1,28 @@
 use Rattle.std.proofs.Common.{sym, ◌∙◌}
 use Rattle.std.specs.Int.{w32}
 use Rattle.std.proofs.lemmas.Int.{to_z-of_z}
-use Rattle.jup_text.proofs.BoardLines.{behind_id, behind_integer, same_integer, same_within}
+use Rattle.jup_text.proofs.BoardLines.{slider_low, slider_high, slider_last, same_integer, same_within}
 use Rattle.jup_text.proofs.board_reader.widget_lines.read_slider.Goals as goal
 
 pub returns-in_err-lo-clause-every : goal.returns-in_err-lo-clause-every
 returns-in_err-lo-clause-every c = λ wid lo hi value is.
-    let id = c.in_ok-wid.ensures.read in
-    let first = behind_id c.args.rest.now c.in_ok-wid.rest.now _ c.in_ok-wid.wid wid id.0 is.0 id.1 is.1.1.1 in
-    absurd (c.in_err-lo.ensures.none lo _ is.1.0.0 first)
+    absurd (c.in_err-lo.ensures.none lo _ is.1.0.0 (slider_low _ wid lo hi value is _ _ c.in_ok-wid.ensures.read))
 
 pub returns-in_err-hi-clause-every : goal.returns-in_err-hi-clause-every
 returns-in_err-hi-clause-every c = λ wid lo hi value is.
-    let id = c.in_ok-wid.ensures.read in
-    let first = behind_id c.args.rest.now c.in_ok-wid.rest.now _ c.in_ok-wid.wid wid id.0 is.0 id.1 is.1.1.1 in
-    let low = c.in_ok-lo.ensures.read in
-    let second = behind_integer c.in_ok-wid.rest.now c.in_ok-lo.rest.now _ c.in_ok-lo.lo lo low.0 is.1.0.0 low.1 first in
-    absurd (c.in_err-hi.ensures.none hi _ is.1.0.1.0 second.1)
+    absurd (c.in_err-hi.ensures.none hi _ is.1.0.1.0 (slider_high _ wid lo hi value is _ _ c.in_ok-wid.ensures.read _ _ c.in_ok-lo.ensures.read).1)
 
 pub returns-in_err-value-clause-every : goal.returns-in_err-value-clause-every
 returns-in_err-value-clause-every c = λ wid lo hi value is.
-    let id = c.in_ok-wid.ensures.read in
-    let first = behind_id c.args.rest.now c.in_ok-wid.rest.now _ c.in_ok-wid.wid wid id.0 is.0 id.1 is.1.1.1 in
-    let low = c.in_ok-lo.ensures.read in
-    let second = behind_integer c.in_ok-wid.rest.now c.in_ok-lo.rest.now _ c.in_ok-lo.lo lo low.0 is.1.0.0 low.1 first in
-    let high = c.in_ok-hi.ensures.read in
-    let third = behind_integer c.in_ok-lo.rest.now c.in_ok-hi.rest.now _ c.in_ok-hi.hi hi high.0 is.1.0.1.0 high.1 second.1 in
+    let third = slider_last _ wid lo hi value is _ _ c.in_ok-wid.ensures.read _ _ _ _ c.in_ok-lo.ensures.read c.in_ok-hi.ensures.read in
     absurd (c.in_err-value.ensures value is.1.0.1.1 third.1)
 
 pub returns-in-Err-clause-every : goal.returns-in-Err-clause-every
 returns-in-Err-clause-every c = λ wid lo hi value is.
-    let id = c.in_ok-wid.ensures.read in
-    let first = behind_id c.args.rest.now c.in_ok-wid.rest.now _ c.in_ok-wid.wid wid id.0 is.0 id.1 is.1.1.1 in
     let low = c.in_ok-lo.ensures.read in
-    let second = behind_integer c.in_ok-wid.rest.now c.in_ok-lo.rest.now _ c.in_ok-lo.lo lo low.0 is.1.0.0 low.1 first in
     let high = c.in_ok-hi.ensures.read in
-    let third = behind_integer c.in_ok-lo.rest.now c.in_ok-hi.rest.now _ c.in_ok-hi.hi hi high.0 is.1.0.1.0 high.1 second.1 in
+    let second = slider_high _ wid lo hi value is _ _ c.in_ok-wid.ensures.read _ _ low in
+    let third = slider_last _ wid lo hi value is _ _ c.in_ok-wid.ensures.read _ _ _ _ low high in
     let last = c.in_ok-value.ensures in
     let same = same_integer c.in_ok-value.value value last.0 is.1.0.1.1 (sym last.1 ∙ third.1) in
     let low_is = to_z-of_z w32 c.in_ok-lo.lo low.0 ∙ second.0 in

@@ -7,7 +7,7 @@ use Rattle.jup_world.specs.Prelude.{BoardBatch, Windows, board_batches, Msg, UpO
 use Rattle.jup_star.specs.Prelude.{Toggle}
 use Rattle.jup_batch.specs.Prelude.{OnToggle, SetValue}
 use Rattle.jup_window.specs.Prelude.{SetTo}
-use Rattle.jup_window.specs.declared.commands.Setting.TheVariants.{Toggle as ToToggle}
+use Rattle.jup_window.specs.declared.kinds.Setting.TheVariants.{Toggle as ToToggle}
 
 -- window 1 has toggle 1
 abbrev pub board : Bool → Windows

@@ -1,7 +1,9 @@
 //! A board as it is read from outside.
 use crate::expect::expect_eq;
 use crate::sessions::{opens, with_client};
-use jup_embed::{Client, WidgetKind, WidgetView, copy_label, copy_text, widget_view, window_view};
+use jup_embed::{
+    Client, WidgetKind, WidgetValue, WidgetView, copy_label, copy_text, widget_view, window_view,
+};
 use jup_value::Label;
 use jup_window::Board;
 use std::alloc::Global;
@@ -29,15 +31,15 @@ fn windows_and_widgets_are_read_by_their_indices(rt: HostRuntime) {
     for &(index, wid, kind) in &[
         (0, 1, WidgetKind::Text(2)),
         (1, 4, WidgetKind::List(2)),
-        (2, 5, WidgetKind::Toggle(true)),
+        (2, 5, WidgetKind::Value(WidgetValue::Toggle(true))),
         (
             3,
             6,
-            WidgetKind::Slider {
+            WidgetKind::Value(WidgetValue::Slider {
                 lo: -3,
                 hi: 10,
                 value: 5,
-            },
+            }),
         ),
     ] {
         let due = WidgetView { win: 7, wid, kind };

@@ -5,8 +5,8 @@ use jup_setting::SetOp;
 use jup_value::{Item, Label, Name};
 use jup_window::{BoardOp, WidgetOp, Within};
 use jup_wire::{
-    Fed, LONGEST, Line, MOST, Reader, WireFault, feed_of, has_spelling, read_line, write,
-    write_reserved,
+    Fed, LONGEST, Line, MOST, Reader, WidgetValue, WireFault, feed_of, has_spelling, read_line,
+    write, write_reserved,
 };
 use std::alloc::Global;
 use std::marker::PhantomData;
@@ -156,10 +156,11 @@ fn layouts_as_bytes(rt: HostRuntime) {
     check_line(&rt, rt.alloc(), &Line::Window(65_535), b"window 65535\n");
     check_line(&rt, rt.alloc(), &Line::Text(1), b"text 1\n");
     check_line(&rt, rt.alloc(), &Line::List(2), b"list 2\n");
-    check_line(&rt, rt.alloc(), &Line::Toggle(3, true), b"toggle 3 on\n");
-    check_line(&rt, rt.alloc(), &Line::Toggle(3, false), b"toggle 3 off\n");
-    let slider = Line::Slider {
-        wid: 4,
+    let on = Line::Value(3, WidgetValue::Toggle(true));
+    check_line(&rt, rt.alloc(), &on, b"toggle 3 on\n");
+    let off = Line::Value(3, WidgetValue::Toggle(false));
+    check_line(&rt, rt.alloc(), &off, b"toggle 3 off\n");
+    let bounds = WidgetValue::Slider {
         lo: -2_147_483_648,
         hi: 2_147_483_647,
         value: 0,
@@ -167,7 +168,7 @@ fn layouts_as_bytes(rt: HostRuntime) {
     check_line(
         &rt,
         rt.alloc(),
-        &slider,
+        &Line::Value(4, bounds),
         b"slider 4 -2147483648 2147483647 0\n",
     );
     check_line(

@@ -1,18 +1,18 @@
 -- The calls of the passes of a run.
-use Rattle.std.proofs.Common.{◌≡◌, ◌≢◌, ℕ, zero, suc, ◌+◌, ◌<◌, ◌≤◌, Bool, true, false, cond, List, [], ◌∷◌, ◌++◌, map, length, refl, sym, ap, ◌∙◌, subst, arith, append-nil, append_assoc, inl, inr, ◌⊎◌, length-append, bytes_eq, ◌-◌, get_or, drop, Result, Ok, ◌&&◌, nat_le, Option, Some, None, if◌then◌else◌, All, Err}
+use Rattle.std.proofs.Common.{◌≡◌, ℕ, suc, ◌+◌, ◌<◌, ◌≤◌, Bool, true, false, cond, List, [], ◌∷◌, ◌++◌, map, length, refl, sym, ap, ◌∙◌, subst, arith, append-nil, append_assoc, inl, inr, ◌⊎◌, length-append, bytes_eq, ◌-◌, Result, Ok, ◌&&◌, nat_le, Option, Some, None, if◌then◌else◌, All}
 use Rattle.std.proofs.lemmas.Slice.Eq.{bytes_eq-Decides}
 use Rattle.std.proofs.lemmas.List.{append_cancel_left, map-append}
 use Rattle.std.proofs.Math.Dec.{eqb}
-use Rattle.std.proofs.lemmas.Bool.{eq-eqb, eqb-true, eqb-false}
+use Rattle.std.proofs.lemmas.Bool.{eq-eqb}
 use Rattle.std.proofs.lemmas.Bool.Decides.{eqb_tells}
-use Rattle.jup_app.specs.Prelude.{highest_limit, board_batches, Call, Fetch, Join, Take, Fetched, OpenFault, StarReply, BoardSite, Each, BoardAttached, one_taken, IsOpening, HubEvent, Tally, View, view_of, most_fetched, Player, SiteEnd, Halt}
+use Rattle.jup_app.specs.Prelude.{highest_limit, board_batches, Fetch, Join, Fetched, OpenFault, BoardSite, BoardAttached, one_taken, IsOpening, HubEvent, Tally, View, view_of, most_fetched, Player, SiteEnd, Halt, AllByRecursion}
 use Rattle.jup_window.specs.Boards.{Windows, bare, HasDistinctNames}
 use Rattle.jup_window.specs.Entries.{EachWidget}
 use Rattle.jup_star.specs.declared.calls.StarReply.TheVariants as reply
 use Rattle.jup_star.specs.Stars.{opened_star, BoardStar, star_open_fault, IsShort}
 use Rattle.jup_star.proofs.Stars.{short_bare, distinct_bare}
-use Rattle.jup_hub.specs.Histories.{calls_by, AllTallied, IsNew, AllApart, entry, longest, having_seen, Called, Meets, BeginsWith, BeginsWithAll, after_split, split_from, with_call, tallies, joined_with}
-use Rattle.jup_app.specs.Runs.{Made, made, makes, Step, Edited, Took, Got, calls_of, site_of, made_at, IsSite, calls_at, edits_of, IsPlayed, edited, all_delivered, BoardDown, Handles, Fetches, CatchesUp, told_to, IsFresh, joined_call, HasMet, HasJoinedAll, IsSame, HasTaken, end_of, all_tallies, all_calls}
+use Rattle.jup_hub.specs.Histories.{calls_by, AllTallied, IsNew, AllApart, entry, longest, having_seen, Called, Meets, BeginsWith, BeginsWithAll, split_from, with_call, tallies, joined_with}
+use Rattle.jup_app.specs.Runs.{Made, made, makes, Step, Edited, Took, Got, calls_of, site_of, made_at, IsSite, calls_at, edits_of, IsPlayed, edited, all_delivered, BoardDown, Handles, Fetches, CatchesUp, told_to, IsFresh, joined_call, HasMet, HasJoinedAll, HasTaken, end_of, all_tallies, all_calls}
 use Rattle.jup_star.specs.Prelude.{only_site}
 use Rattle.jup_star.specs.declared.faults.OpenFault.TheVariants.{BadLimit, BadSite}
 
@@ -84,7 +84,7 @@ unfolding total_by
 none_by [] = refl
 none_by (k ∷ ks) = omega (arith, none_by ks)
 
-all_known : (ks : List Tally) (h : List HubEvent) → AllApart ks → (total_by ks h ≤ length h) × (total_by ks h ≡ length h → Each (λ (e : HubEvent). IsKnown e.by ks) h)
+all_known : (ks : List Tally) (h : List HubEvent) → AllApart ks → (total_by ks h ≤ length h) × (total_by ks h ≡ length h → AllByRecursion (λ (e : HubEvent). IsKnown e.by ks) h)
 all_known ks [] apart = (omega (arith, none_by ks), λ _. tt)
 all_known ks (e ∷ h) apart =
     let rest = all_known ks h apart in
@@ -99,18 +99,18 @@ total_is [] h own = refl
 total_is (k ∷ ks) h own = omega (arith, ap length own.0, total_is ks h own.1)
 
 -- each entry is by one of the hands
-pub known : (ks : List Tally) (h : List HubEvent) → AllApart ks → AllTallied h ks → length h ≡ total ks → Each (λ (e : HubEvent). IsKnown e.by ks) h
+pub known : (ks : List Tally) (h : List HubEvent) → AllApart ks → AllTallied h ks → length h ≡ total ks → AllByRecursion (λ (e : HubEvent). IsKnown e.by ks) h
 known ks h apart own whole = (all_known ks h apart).1 (total_is ks h own ∙ sym whole)
 
-pub each_append : {A : Type 0} (P : A → Type 0) (xs ys : List A) → Each P (xs ++ ys) → Each P xs × Each P ys
+pub each_append : {A : Type 0} (P : A → Type 0) (xs ys : List A) → AllByRecursion P (xs ++ ys) → AllByRecursion P xs × AllByRecursion P ys
 each_append P [] ys all = (tt, all)
 each_append P (x ∷ xs) ys all = let rest = each_append P xs ys all.1 in ((all.0, rest.0), rest.1)
 
-pub each_both : {A : Type 0} (P : A → Type 0) (xs ys : List A) → Each P xs → Each P ys → Each P (xs ++ ys)
+pub each_both : {A : Type 0} (P : A → Type 0) (xs ys : List A) → AllByRecursion P xs → AllByRecursion P ys → AllByRecursion P (xs ++ ys)
 each_both P [] ys a b = b
 each_both P (x ∷ xs) ys a b = (a.0, each_both P xs ys a.1 b)
 
-pub each_weaker : {A : Type 0} (P Q : A → Type 0) (xs : List A) → ((x : A) → P x → Q x) → Each P xs → Each Q xs
+pub each_weaker : {A : Type 0} (P Q : A → Type 0) (xs : List A) → ((x : A) → P x → Q x) → AllByRecursion P xs → AllByRecursion Q xs
 each_weaker P Q [] f all = tt
 each_weaker P Q (x ∷ xs) f all = (f x all.0, each_weaker P Q xs f all.1)
 
@@ -120,7 +120,7 @@ calls_by-append n (e ∷ h) k =
     ap (λ ms. cond (bytes_eq e.by n) (e ∷ ms) ms) (calls_by-append n h k)
     ∙ elim (bytes_eq e.by n) as (λ b. cond b (e ∷ (calls_by n h ++ calls_by n k)) (calls_by n h ++ calls_by n k) ≡ cond b (e ∷ calls_by n h) (calls_by n h) ++ calls_by n k) [ true ↦ refl | false ↦ refl ]
 
-pub each_made : (P : Made → Type 0) (h : List HubEvent) → Each P (makes h) → Each (λ (e : HubEvent). P (made e)) h
+pub each_made : (P : Made → Type 0) (h : List HubEvent) → AllByRecursion P (makes h) → AllByRecursion (λ (e : HubEvent). P (made e)) h
 each_made P [] all = tt
 each_made P (e ∷ h) all = (all.0, each_made P h all.1)
 
@@ -134,12 +134,12 @@ tail_silent n e h none = elim (bytes_eq e.by n) as (λ b. cond b (e ∷ calls_by
 not_silent : (n : List ℕ) (e : HubEvent) (h : List HubEvent) → e.by ≡ n → calls_by n (e ∷ h) ≡ [] → ⊥
 not_silent n e h is none = let b : bytes_eq e.by n ≡ true = same_bytes e.by n is in let one : e ∷ calls_by n h ≡ [] = rw b at none in absurd cc
 
-silent_known : (ks : List Tally) (e : HubEvent) (h : List HubEvent) → IsKnown e.by ks → Each (λ (k : Tally). calls_by k.number (e ∷ h) ≡ []) ks → ⊥
+silent_known : (ks : List Tally) (e : HubEvent) (h : List HubEvent) → IsKnown e.by ks → AllByRecursion (λ (k : Tally). calls_by k.number (e ∷ h) ≡ []) ks → ⊥
 silent_known [] e h is none = is
 silent_known (k ∷ ks) e h is none = elim is [ inl same ↦ not_silent k.number e h (sym same) none.0 | inr more ↦ silent_known ks e h more none.1 ]
 
 -- if the others have no entry, all are by the first
-pub only_one : (k : Tally) (ks : List Tally) (h : List HubEvent) → Each (λ (e : HubEvent). IsKnown e.by (k ∷ ks)) h → Each (λ (j : Tally). calls_by j.number h ≡ []) ks → Each (λ (e : HubEvent). e.by ≡ k.number) h
+pub only_one : (k : Tally) (ks : List Tally) (h : List HubEvent) → AllByRecursion (λ (e : HubEvent). IsKnown e.by (k ∷ ks)) h → AllByRecursion (λ (j : Tally). calls_by j.number h ≡ []) ks → AllByRecursion (λ (e : HubEvent). e.by ≡ k.number) h
 only_one k ks [] all none = tt
 only_one k ks (e ∷ h) all none = (
   elim all.0 [ inl same ↦ sym same | inr more ↦ absurd (silent_known ks e h more none) ],
@@ -147,7 +147,7 @@ only_one k ks (e ∷ h) all none = (
 )
 
 -- if the first has no entry, all are by the others
-pub none_first : (k : Tally) (ks : List Tally) (h : List HubEvent) → Each (λ (e : HubEvent). IsKnown e.by (k ∷ ks)) h → calls_by k.number h ≡ [] → Each (λ (e : HubEvent). IsKnown e.by ks) h
+pub none_first : (k : Tally) (ks : List Tally) (h : List HubEvent) → AllByRecursion (λ (e : HubEvent). IsKnown e.by (k ∷ ks)) h → calls_by k.number h ≡ [] → AllByRecursion (λ (e : HubEvent). IsKnown e.by ks) h
 none_first k ks [] all none = tt
 none_first k ks (e ∷ h) all none = (
   elim all.0 [ inl same ↦ absurd (not_silent k.number e h (sym same) none) | inr more ↦ more ],
@@ -159,11 +159,11 @@ makes-append [] k = refl
 makes-append (e ∷ h) k = ap (λ ms. made e ∷ ms) (makes-append h k)
 
 -- a history that is all of one pass is its calls
-pub all_of_one : (n : List ℕ) (h : List HubEvent) → Each (λ (e : HubEvent). e.by ≡ n) h → h ≡ calls_by n h
+pub all_of_one : (n : List ℕ) (h : List HubEvent) → AllByRecursion (λ (e : HubEvent). e.by ≡ n) h → h ≡ calls_by n h
 all_of_one n [] all = refl
 all_of_one n (e ∷ h) all = ap (λ es. e ∷ es) (all_of_one n h all.1) ∙ ap (λ b. cond b (e ∷ calls_by n h) (calls_by n h)) (sym (same_bytes e.by n all.0))
 
-pub each_tallied : (ks : List Tally) (h : List HubEvent) → AllTallied h ks → Each (λ (k : Tally). calls_by k.number h ≡ k.calls) ks
+pub each_tallied : (ks : List Tally) (h : List HubEvent) → AllTallied h ks → AllByRecursion (λ (k : Tally). calls_by k.number h ≡ k.calls) ks
 each_tallied [] h all = tt
 each_tallied (k ∷ ks) h all = (all.0, each_tallied ks h all.1)
 
@@ -172,16 +172,16 @@ each_tallied (k ∷ ks) h all = (all.0, each_tallied ks h all.1)
 pub apart : (i j : ℕ) → (i ≡ j → ⊥) → eqb i j ≡ false
 apart i j ne = elim (eqb_tells i j) [ inl same ↦ absurd (ne same.1) | inr other ↦ other.0 ]
 
-each_later : (Q : HubEvent → Type 0) (n : List ℕ) (e : HubEvent) (h : List HubEvent) → Each Q (calls_by n (e ∷ h)) → Each Q (calls_by n h)
-each_later Q n e h all = elim (bytes_eq e.by n) as (λ b. Each Q (cond b (e ∷ calls_by n h) (calls_by n h)) → Each Q (calls_by n h)) [ true ↦ λ all. all.1 | false ↦ λ all. all ] all
+each_later : (Q : HubEvent → Type 0) (n : List ℕ) (e : HubEvent) (h : List HubEvent) → AllByRecursion Q (calls_by n (e ∷ h)) → AllByRecursion Q (calls_by n h)
+each_later Q n e h all = elim (bytes_eq e.by n) as (λ b. AllByRecursion Q (cond b (e ∷ calls_by n h) (calls_by n h)) → AllByRecursion Q (calls_by n h)) [ true ↦ λ all. all.1 | false ↦ λ all. all ] all
 
-each_now : (Q : HubEvent → Type 0) (n : List ℕ) (e : HubEvent) (h : List HubEvent) → e.by ≡ n → Each Q (calls_by n (e ∷ h)) → Q e
-each_now Q n e h is all = let b : bytes_eq e.by n ≡ true = same_bytes e.by n is in let all' : Each Q (e ∷ calls_by n h) = rw b at all in all'.0
+each_now : (Q : HubEvent → Type 0) (n : List ℕ) (e : HubEvent) (h : List HubEvent) → e.by ≡ n → AllByRecursion Q (calls_by n (e ∷ h)) → Q e
+each_now Q n e h is all = let b : bytes_eq e.by n ≡ true = same_bytes e.by n is in let all' : AllByRecursion Q (e ∷ calls_by n h) = rw b at all in all'.0
 
 -- the entries of n passes, one for each site, which calls for its own site alone
 pub record Parted (n : ℕ) (pass : ℕ → List ℕ) (h : List HubEvent) : Type 0 where
-  pub own : (j : ℕ) → IsSite n j → Each (λ (e : HubEvent). site_of e.call ≡ j) (calls_by (pass j) h)
-  pub known : Each (λ (e : HubEvent). (j : ℕ) × IsSite n j × (pass j ≡ e.by)) h
+  pub own : (j : ℕ) → IsSite n j → AllByRecursion (λ (e : HubEvent). site_of e.call ≡ j) (calls_by (pass j) h)
+  pub known : AllByRecursion (λ (e : HubEvent). (j : ℕ) × IsSite n j × (pass j ≡ e.by)) h
   pub apart : (i j : ℕ) → IsSite n i → IsSite n j → pass i ≡ pass j → i ≡ j
 
 later : (n : ℕ) (pass : ℕ → List ℕ) (e : HubEvent) (h : List HubEvent) → Parted n pass (e ∷ h) → Parted n pass h
@@ -206,7 +206,7 @@ made_at_is n pass (e ∷ h) p i site =
     ∙ ap (λ ms. cond (bytes_eq e.by (pass i)) (made e ∷ ms) ms) (made_at_is n pass h (later n pass e h p) i site)
     ∙ elim (bytes_eq e.by (pass i)) as (λ b. cond b (made e ∷ makes (calls_by (pass i) h)) (makes (calls_by (pass i) h)) ≡ makes (cond b (e ∷ calls_by (pass i) h) (calls_by (pass i) h))) [ true ↦ refl | false ↦ refl ]
 
-pub sited : (n : ℕ) (pass : ℕ → List ℕ) (h : List HubEvent) → Parted n pass h → Each (λ (e : HubEvent). IsSite n (site_of e.call)) h
+pub sited : (n : ℕ) (pass : ℕ → List ℕ) (h : List HubEvent) → Parted n pass h → AllByRecursion (λ (e : HubEvent). IsSite n (site_of e.call)) h
 sited n pass [] p = tt
 sited n pass (e ∷ h) p = (subst (λ i. IsSite n i) (sym (site_of_entry n pass e h p)) p.known.0.1, sited n pass h (later n pass e h p))
 
@@ -239,7 +239,7 @@ calls_at_other i j (Edited c r ∷ log) ne = calls_at_other i j log ne
 calls_at_other i j (Took u p ∷ log) ne = rw ne (calls_at_other i j log ne)
 calls_at_other i j (Got m ds ∷ log) ne = rw ne (calls_at_other i j log ne)
 
-pub calls_own : (i : ℕ) (log : List Step) → Each (λ (m : Made). site_of m.call ≡ i) (calls_of i log)
+pub calls_own : (i : ℕ) (log : List Step) → AllByRecursion (λ (m : Made). site_of m.call ≡ i) (calls_of i log)
 calls_own i [] = tt
 calls_own i (Edited c r ∷ log) = calls_own i log
 calls_own i (Took u p ∷ log) = (refl, calls_own i log)
@@ -315,7 +315,7 @@ opens b limit star short distinct fine is = subst (λ (s : BoardStar). IsOpening
 
 -- What the first pass of a run knows, put together.
 
-each_snoc : (P : BoardSite → Type 0) (xs : List BoardSite) (x : BoardSite) → Each P xs → P x → Each P (xs ++ x ∷ [])
+each_snoc : (P : BoardSite → Type 0) (xs : List BoardSite) (x : BoardSite) → AllByRecursion P xs → P x → AllByRecursion P (xs ++ x ∷ [])
 each_snoc P [] x all one = (one, tt)
 each_snoc P (y ∷ xs) x all one = (all.0, each_snoc P xs x all.1 one)
 
@@ -327,7 +327,7 @@ joined_more v w n m j js all a c fresh more is =
       history = with_call c.before v Join (reply.Joined (Ok (told_to j)));
       met = record { seen = ap (λ (x : View). x.seen) c.view; meets = c.meets };
       made = ap makes made_is ∙ makes-append v.made (e ∷ []) ∙ ap (λ ms. ms ++ joined_call j ∷ []) a.made ∙ sym (map-append joined_call js (j ∷ [])) ∙ ap (λ ns. map joined_call ns) (sym is);
-      fresh = subst (λ xs. Each IsFresh xs) (sym is) (each_snoc IsFresh js j a.fresh fresh);
+      fresh = subst (λ xs. AllByRecursion IsFresh xs) (sym is) (each_snoc IsFresh js j a.fresh fresh);
       kept = ap (λ (x : View). x.kept) c.view ∙ a.kept;
       count = omega (arith, a.count, ap (λ (es : List HubEvent). length es) made_is, length-append v.made (e ∷ []));
     }

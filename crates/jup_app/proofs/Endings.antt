@@ -1,13 +1,12 @@
 -- A whole run, put together.
-use Rattle.std.proofs.Common.{◌≡◌, ◌≢◌, ℕ, zero, suc, ◌+◌, ◌-◌, ◌<◌, ◌≤◌, List, [], ◌∷◌, ◌++◌, length, take, map, get_or, Option, Some, None, Result, Ok, Err, IfOk, refl, sym, ap, ◌∙◌, subst, arith, append-nil, length-append, append_assoc, lit<, inl, inr, ◌⊎◌}
-use Rattle.std.proofs.lemmas.List.{get_or_default, length-map}
-use Rattle.std.specs.Borrow.{Bor}
+use Rattle.std.proofs.Common.{◌≡◌, ℕ, zero, suc, ◌+◌, ◌-◌, ◌<◌, ◌≤◌, List, [], ◌∷◌, ◌++◌, length, take, map, get_or, Some, Result, Ok, Err, IfOk, refl, sym, ap, ◌∙◌, subst, arith, append-nil, length-append, append_assoc, lit<, inl, inr, ◌⊎◌}
+use Rattle.std.proofs.lemmas.List.{get_or_default}
 use native.Mathlib.Decide.{dec_le}
-use Rattle.jup_app.specs.Prelude.{highest_limit, Command, Commands, Windows, board_batches, Call, Join, Fetch, StarReply, BoardSite, Each, IsOpening, opened_world, attached, BoardWorld, BoardAttached, Hub, HubEvent, Tally, View, view_of, IsPassOf, most_fetched, Job, Player, Halt, SiteEnd}
+use Rattle.jup_app.specs.Prelude.{highest_limit, Command, Commands, Windows, board_batches, Join, Fetch, BoardSite, IsOpening, opened_world, BoardAttached, Hub, HubEvent, Tally, View, view_of, IsPassOf, most_fetched, Job, Player, Halt, SiteEnd, AllByRecursion, Bor}
 use Rattle.jup_star.specs.declared.calls.StarReply.TheVariants as reply
-use Rattle.jup_star.specs.Stars.{BoardStar, BoardLink, reply_of, star_after, opened_star, link_of}
-use Rattle.jup_hub.specs.Histories.{calls_by, tally, tallies, IsLegal, star_through, BeginsWith, BeginsWithAll, AllTallied, AllApart, Meets, having_seen}
-use Rattle.jup_app.specs.Runs.{EditAnswer, Made, made, Step, calls_of, edits_of, singles, IsPlayed, makes, link_with, Played, all_tallies, all_calls, end_of, IsSeated, IsJob, Ran, AllRan, IsSite, site_of, made_at, joins, assembled, calls_at, HasSeen, joined_call, HasJoinedAll, HasMet, IsSame, HasTaken, AreJobs, no_site, Drained, IsDrained, AreNumbered, empty_fetches, IsRun, IsRunOf}
+use Rattle.jup_star.specs.Stars.{BoardStar, reply_of, star_after, opened_star}
+use Rattle.jup_hub.specs.Histories.{calls_by, tally, IsLegal, star_through, BeginsWith, BeginsWithAll, AllTallied, AllApart, Meets, having_seen}
+use Rattle.jup_app.specs.Runs.{EditAnswer, Made, made, Step, calls_of, edits_of, singles, IsPlayed, makes, link_with, all_tallies, all_calls, end_of, IsJob, Ran, AllRan, IsSite, site_of, joins, assembled, HasSeen, joined_call, HasJoinedAll, HasMet, IsSame, HasTaken, AreJobs, no_site, IsDrained, AreNumbered, empty_fetches, IsRun, IsRunOf}
 use Rattle.jup_app.proofs.Calls.{total, edits_of-append}
 use Rattle.jup_app.proofs.Stars.{played_number, IsIdle, IsTidy, tidy_through, fetch_nothing, fetch_empty}
 use Rattle.jup_app.proofs.WholeRuns.{HasJoined, has_joined, Known, Whole, Parts, parts, tracks, both_logs, assembled_run, legal_append, star_through-append}
@@ -93,7 +92,7 @@ tallies_are [] none = refl
 tallies_are (p ∷ ps) none =
     ap (λ ks. (tally_of p ∷ ks) ++ all_tallies ps) (none 0 p (omega arith)) ∙ ap (λ ts. tally_of p ∷ ts) (tallies_are ps (λ k d within. none (suc k) d (omega arith)))
 
-pub each_player : (P : Tally → Type 0) (ps : List Player) → ((k : ℕ) (d : Player) → k < length ps → P (tally_of (get_or ps k d))) → Each P (map tally_of ps)
+pub each_player : (P : Tally → Type 0) (ps : List Player) → ((k : ℕ) (d : Player) → k < length ps → P (tally_of (get_or ps k d))) → AllByRecursion P (map tally_of ps)
 each_player P [] all = tt
 each_player P (p ∷ ps) all = (all 0 p (omega arith), each_player P ps (λ k d within. all (suc k) d (omega arith)))
 
@@ -208,7 +207,7 @@ quiet_end n s front tail i tidy are legal site =
     let q = quiet_after n (star_through s front) tail (tidy_through front s tidy) are both.1 in
     subst (λ t. IsIdle t i) (sym (star_through-append s front tail ∙ q.0)) (q.1 i site)
 
-all_joins : (h : List HubEvent) (js : List BoardSite) → makes h ≡ map joined_call js → Each (λ (e : HubEvent). e.call ≡ Join) h
+all_joins : (h : List HubEvent) (js : List BoardSite) → makes h ≡ map joined_call js → AllByRecursion (λ (e : HubEvent). e.call ≡ Join) h
 all_joins [] js are = tt
 all_joins (e ∷ h) [] are = absurd cc
 all_joins (e ∷ h) (j ∷ js) are = let head : made e ≡ joined_call j = cc in let tail : makes h ≡ map joined_call js = cc in (ap (λ (m : Made). m.call) head, all_joins h js tail)
@@ -345,7 +344,7 @@ module _ (board : Windows) (limit : ℕ) (opened : IsOpening board) (low : limit
         subst (λ j. IsPlayed (link_with (site_at before (i - 1)) []) (facts.drained.drained.logs j) (link_with (site_at after (i - 1)) [])) (up_down i site.0)
         (subst (λ q. IsPlayed (link_with (site_at before (i - 1)) []) (facts.drained.drained.logs (suc (i - 1))) (link_with q [])) (sym (site_at_is after (i - 1) x end_in))
         (subst (λ q. IsPlayed (link_with q []) (facts.drained.drained.logs (suc (i - 1))) (link_with (get_or after (i - 1) x).site [])) (sym (site_at_is before (i - 1) x inside)) (facts.drained.drained.played (i - 1) x inside)));
-    drain_sites = subst (λ n. Each (λ (z : HubEvent). IsSite n (site_of z.call)) facts.drained.drained.calls) many_before (facts.drained.drained.sites numbered);
+    drain_sites = subst (λ n. AllByRecursion (λ (z : HubEvent). IsSite n (site_of z.call)) facts.drained.drained.calls) many_before (facts.drained.drained.sites numbered);
   }
 
   pieces : Parts (opened_star board limit) js (map tally_of facts.taken.players) h facts.drained.drained.calls

@@ -1,18 +1,16 @@
 -- What passes and threads have done.
-use Rattle.std.proofs.Common.{◌≡◌, ℕ, zero, suc, ◌+◌, ◌<◌, ◌≤◌, List, [], ◌∷◌, ◌++◌, length, get_or, drop, Option, Some, None, Result, Ok, Err, refl, sym, ap, ◌∙◌, subst, arith, append-nil, append_assoc, length-append, add-one, drop-cons, ◌==◌, true, ◌≢◌, Bool, false, cond, set, length-set, get_or-set_same, get_or-set_other, inl, inr, ◌⊎◌, take}
+use Rattle.std.proofs.Common.{◌≡◌, ℕ, zero, suc, ◌+◌, ◌<◌, ◌≤◌, List, [], ◌∷◌, ◌++◌, length, get_or, drop, Option, Some, Result, Ok, Err, refl, sym, ap, ◌∙◌, subst, arith, append-nil, append_assoc, length-append, add-one, drop-cons, ◌==◌, true, ◌≢◌, false, cond, set, length-set, get_or-set_same, get_or-set_other, inl, inr, take}
 use Rattle.std.proofs.lemmas.List.{nil_from_length, append_cancel_left, map-append, take_more}
 use Rattle.std.proofs.lemmas.Bool.Decides.{nat_tests, eqb_tells}
 use Rattle.std.proofs.Math.Dec.{eqb}
 use Rattle.std.proofs.lemmas.Bool.{eq-eqb, eqb-false}
-use Rattle.std.proofs.Math.Seq.{take-suc}
-use Rattle.std.specs.Borrow.{Bor}
-use Rattle.jup_app.specs.Prelude.{Command, EditFault, BoardBatch, BoardEdits, Commands, board_batches, Call, Join, Take, Fetch, StarReply, MadeEdit, BoardSite, edit_answer, EditAnswers, is_edit_memory, made_by, BoardAttached, Each, HubFault, HubEvent, View, Hub, Tally, most_fetched, SiteEnd, Job}
+use Rattle.jup_app.specs.Prelude.{Command, EditFault, BoardBatch, BoardEdits, Commands, board_batches, Call, Take, Fetch, StarReply, MadeEdit, BoardSite, edit_answer, EditAnswers, is_edit_memory, made_by, BoardAttached, HubFault, HubEvent, View, Hub, most_fetched, SiteEnd, Job, AllByRecursion, Bor}
 use Rattle.jup_star.specs.declared.calls.StarReply.TheVariants as reply
-use Rattle.jup_hub.specs.Histories.{BeginsWith, BeginsWithAll, Called, having_called, with_call, Meets, having_seen, IsLegal, AllTallied, AllApart, tallies, tally}
+use Rattle.jup_hub.specs.Histories.{BeginsWith, BeginsWithAll, Called, with_call, Meets, having_seen, IsLegal, AllTallied, AllApart, tallies, tally}
 use Rattle.jup_session.specs.Sessions.{HasAnswered}
-use Rattle.jup_app.specs.Runs.{BoardUp, BoardDown, delivered, Made, made, Step, Edited, Took, Got, calls_of, edits_of, IsPlayed, IsAccepted, all_delivered, AcceptsAll, makes, link_with, HasSeen, Plays, Handles, IsDelivering, site_of, IsSite, with_log, calls_at, FoundNothing, AreNumbered, Drained, EndsQuiet, IsDrained, empty_fetches, EditAnswer, edited, answer_to, edit_by, answer_by, singles, Works, Answered, Played, HasMet, IsSame, IsSeated, IsJob, AreJobs, no_site}
+use Rattle.jup_app.specs.Runs.{BoardUp, BoardDown, delivered, Made, made, Step, Edited, Took, Got, calls_of, edits_of, IsPlayed, IsAccepted, all_delivered, AcceptsAll, makes, link_with, HasSeen, Plays, Handles, IsDelivering, site_of, IsSite, with_log, calls_at, FoundNothing, AreNumbered, Drained, EndsQuiet, IsDrained, empty_fetches, EditAnswer, edited, answer_to, edit_by, answer_by, singles, Works, Answered, Played, HasMet, IsSame, IsJob, AreJobs, no_site}
 use Rattle.jup_app.proofs.Calls.{makes-append, calls_of-append, played_both, edits_of-append, each_both, each_weaker, each_made, apart, calls_at-append, calls_at_own, calls_at_other, calls_own}
-use Rattle.jup_app.proofs.Stars.{played_number, Makes, edit_gives, edit_refused}
+use Rattle.jup_app.proofs.Stars.{played_number, edit_gives, edit_refused}
 use Rattle.jup_app.proofs.Simulate.{at_each}
 
 -- What the calls of a pass do for one site, put together.
@@ -215,7 +213,7 @@ drained_more v w x n m o old new k e t within a at h =
       made = now.plays.made ∙ ap (λ es. es ++ fresh) a.made ∙ append_assoc v.made a.calls fresh;
       own = λ numbered j. ap (λ ms. calls_at j ms) (makes-append a.calls fresh) ∙ calls_at-append j (makes a.calls) (makes fresh) ∙ ap (λ ms. ms ++ calls_at j (makes fresh)) (a.own numbered j) ∙ ap (λ ms. calls_of j (a.logs j) ++ calls_at j ms) (are numbered) ∙ own_more i j a.logs now.steps;
       sites = λ numbered. each_both (λ (e : HubEvent). IsSite (length old) (site_of e.call)) a.calls fresh (a.sites numbered)
-          (each_made (λ (m : Made). IsSite (length old) (site_of m.call)) fresh (subst (λ ms. Each (λ (m : Made). IsSite (length old) (site_of m.call)) ms) (sym (are numbered))
+          (each_made (λ (m : Made). IsSite (length old) (site_of m.call)) fresh (subst (λ ms. AllByRecursion (λ (m : Made). IsSite (length old) (site_of m.call)) ms) (sym (are numbered))
           (each_weaker (λ (m : Made). site_of m.call ≡ i) (λ (m : Made). IsSite (length old) (site_of m.call)) (calls_of i now.steps) (λ m is. (omega (arith, is), omega (arith, is))) (calls_own i now.steps))));
       no_edits = λ j. at_each (λ log (q : ℕ). edits_of log ≡ []) i j (a.logs i ++ now.steps) 0 a.logs (λ k. 0) (λ e. edits_of-append (a.logs i) now.steps ∙ ap (λ es. es ++ edits_of now.steps) (a.no_edits i) ∙ now.no_edits) (λ ne. a.no_edits j);
       number = now.plays.number ∙ a.number;
@@ -257,7 +255,7 @@ drained_both v w x n m o old mid new a b = record {
   calls = a.calls ++ b.calls;
   made = b.made ∙ ap (λ es. es ++ b.calls) a.made ∙ append_assoc v.made a.calls b.calls;
   own = λ numbered i. ap (λ ms. calls_at i ms) (makes-append a.calls b.calls) ∙ calls_at-append i (makes a.calls) (makes b.calls) ∙ ap (λ ms. ms ++ calls_at i (makes b.calls)) (a.own numbered i) ∙ ap (λ ms. calls_of i (a.logs i) ++ ms) (b.own (still_numbered v w n m old mid a numbered) i) ∙ sym (calls_of-append i (a.logs i) (b.logs i));
-  sites = λ numbered. each_both (λ (e : HubEvent). IsSite (length old) (site_of e.call)) a.calls b.calls (a.sites numbered) (subst (λ q. Each (λ (e : HubEvent). IsSite q (site_of e.call)) b.calls) a.long (b.sites (still_numbered v w n m old mid a numbered)));
+  sites = λ numbered. each_both (λ (e : HubEvent). IsSite (length old) (site_of e.call)) a.calls b.calls (a.sites numbered) (subst (λ q. AllByRecursion (λ (e : HubEvent). IsSite q (site_of e.call)) b.calls) a.long (b.sites (still_numbered v w n m old mid a numbered)));
   no_edits = λ i. edits_of-append (a.logs i) (b.logs i) ∙ ap (λ es. es ++ edits_of (b.logs i)) (a.no_edits i) ∙ b.no_edits i;
   number = b.number ∙ a.number;
   kept = b.kept ∙ a.kept;

@@ -1,9 +1,9 @@
 -- The assembled run of the core follows the history.
-use Rattle.std.proofs.Common.{◌≡◌, ℕ, zero, suc, ◌+◌, ◌<◌, ◌≤◌, Bool, true, false, cond, List, [], ◌∷◌, ◌++◌, length, drop, Option, Some, None, option_map, Result, Ok, Err, refl, sym, ap, ◌∙◌, subst, arith, append-nil, append_assoc, inl, inr, ◌⊎◌}
+use Rattle.std.proofs.Common.{◌≡◌, ℕ, zero, suc, ◌+◌, ◌<◌, ◌≤◌, true, false, cond, List, [], ◌∷◌, ◌++◌, drop, Option, Some, None, option_map, Result, Ok, Err, refl, sym, ap, ◌∙◌, subst, arith, append-nil, append_assoc, inl, inr}
 use Rattle.std.proofs.Math.Dec.{eqb}
 use Rattle.std.proofs.lemmas.Bool.{eq-eqb, eqb-true, eqb-false}
 use Rattle.std.proofs.lemmas.Bool.Decides.{eqb_tells}
-use Rattle.jup_app.specs.Prelude.{BoardBatch, BoardEdits, Commands, board_batches, batch_laws, StarFault, Call, Join, Take, Fetch, Leave, StarReply, edit_answer, deliver_fault, HubEvent, Each, Happened, BoardWorld, BoardAttached, BoardEvent, BoardReply, IsReached, attached, opened_world, Outcome, outcome, happens, run, one_taken, one_handed, with_edit, EditFault}
+use Rattle.jup_app.specs.Prelude.{BoardBatch, BoardEdits, Commands, board_batches, batch_laws, StarFault, Call, Take, Fetch, edit_answer, HubEvent, Happened, BoardWorld, BoardAttached, BoardEvent, IsReached, attached, opened_world, Outcome, outcome, happens, run, one_taken, one_handed, with_edit, EditFault, AllByRecursion}
 use Rattle.jup_star.specs.declared.messages.Down.TheVariants as down
 use Rattle.jup_star.specs.declared.calls.StarReply.TheVariants as reply
 use Rattle.jup_star.specs.Stars.{BoardLink, reply_of, star_after}
@@ -13,8 +13,8 @@ use Rattle.jup_world.specs.Worlds.{at_site, at_linked, at_attached, edit_outcome
 use Rattle.jup_world.proofs.Sound.Traces.{standing_of}
 use Rattle.jup_world.proofs.Worlds.{reached_sound}
 use Rattle.jup_app.specs.Runs.{BoardUp, BoardDown, EditAnswer, Made, made, Step, Edited, Took, Got, calls_of, edits_of, IsPlayed, IsAccepted, edited, answer_to, edit_by, answer_by, delivered, all_delivered, AcceptsAll, site_of, made_at, deliveries, through_call, past_call, with_log, left_over, assembled, IsSite, edit_at, edits_at}
-use Rattle.jup_app.proofs.Stars.{IsTidy, tidy_after, Takes, take_gives, InParts, fetch_in_parts, fetch_nothing, delivered_number}
-use Rattle.jup_world.specs.Prelude.{link_of, fetched, taken, up_fault, most_batches, BoardStar, found-map, found-map_other}
+use Rattle.jup_app.proofs.Stars.{IsTidy, tidy_after, take_gives, fetch_in_parts, fetch_nothing}
+use Rattle.jup_world.specs.Prelude.{link_of, fetched, most_batches, BoardStar, found-map, found-map_other}
 
 eqb_self : (i : ℕ) → eqb i i ≡ true
 eqb_self i = eq-eqb i i refl
@@ -278,7 +278,7 @@ pub record Tracks (n : ℕ) (w : BoardWorld) (h : List HubEvent) (here : ℕ →
   pub idle : (i : ℕ) → IsSite n i → (here i).down ≡ []
   pub played : (i : ℕ) → IsSite n i → IsPlayed (here i) (logs i) (ends i)
   pub calls : (i : ℕ) → IsSite n i → calls_of i (logs i) ≡ made_at i h
-  pub sited : Each (λ (e : HubEvent). IsSite n (site_of e.call)) h
+  pub sited : AllByRecursion (λ (e : HubEvent). IsSite n (site_of e.call)) h
 
 -- a list of events brings the world to this star, with these sites and these replies
 pub record Ends (n : ℕ) (w : BoardWorld) (es : List BoardEvent) (s : BoardStar) (logs : ℕ → List Step) (ends : ℕ → BoardAttached) : Type 0 where

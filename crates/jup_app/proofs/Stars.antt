@@ -1,16 +1,16 @@
 -- The calls of sites and of a star.
-use Rattle.std.proofs.Common.{◌≡◌, false, ℕ, ◌<◌, List, [], ◌∷◌, ◌++◌, drop, Option, Some, None, option_to_list, Result, Ok, Err, refl, sym, ap, ◌∙◌, subst, zero, suc, ◌+◌, ◌≤◌, Bool, true, cond, not, take, map, filter, nat_eq, arith}
+use Rattle.std.proofs.Common.{◌≡◌, false, ℕ, ◌<◌, List, [], ◌∷◌, ◌++◌, drop, Option, Some, None, option_to_list, Result, Ok, Err, refl, sym, ap, ◌∙◌, subst, zero, suc, ◌+◌, ◌≤◌, Bool, true, cond, not, take, map, nat_eq, arith}
 use Rattle.std.proofs.lemmas.Bool.{eqb-true}
-use Rattle.jup_app.specs.Prelude.{EditFault, BoardBatch, Commands, board_batches, MadeEdit as Made, SiteFault, StarFault, Joined, Call, Join, Take, Fetch, Leave, JoinedReply, Fetched, edit_answer, deliver_fault, BoardSite, EditAnswers, is_edit_memory, made_by, BoardAttached, one_taken, Each, HubEvent}
+use Rattle.jup_app.specs.Prelude.{EditFault, BoardBatch, Commands, board_batches, MadeEdit as Made, SiteFault, StarFault, Joined, Call, Join, Take, Fetch, Leave, JoinedReply, Fetched, edit_answer, deliver_fault, BoardSite, EditAnswers, is_edit_memory, made_by, BoardAttached, one_taken, HubEvent, AllByRecursion}
 use Rattle.jup_star.specs.declared.calls.StarReply.TheVariants.{Taken}
 use Rattle.jup_star.specs.declared.messages.Down.TheVariants as down
 use Rattle.jup_star.specs.declared.messages.Up.TheVariants as up
 use Rattle.jup_star.specs.Sites.{received, sent_back, after_fault, DeliverAnswers, made_result, after_edit, deliver_result}
-use Rattle.jup_star.specs.Stars.{is_of, link_fetched, opened_link, link_heard, link_sent, link_acked, link_ponged, operation_at, link_of, without, at_link, join_fault, joined, up_fault, take_fault, taken, links_after, place_taken, left, fetched, IsNew, AreApart, BoardStar, BoardLink, joining, join_result, after_join, take_result, after_take, fetch_result, after_fetch, after_leave, reply_of, star_after}
+use Rattle.jup_star.specs.Stars.{is_of, link_fetched, opened_link, link_heard, link_sent, link_acked, link_ponged, operation_at, link_of, without, at_link, join_fault, joined, up_fault, take_fault, taken, left, fetched, IsNew, AreApart, BoardStar, BoardLink, joining, join_result, after_join, take_result, after_take, fetch_result, after_fetch, after_leave, reply_of, star_after}
 use Rattle.jup_star.specs.Sites as site
 use Rattle.jup_star.proofs.LinkChanges.{apart_map, apart_without}
 use Rattle.jup_hub.specs.Histories.{star_through}
-use Rattle.jup_app.specs.Runs.{BoardUp, BoardDown, Step, Edited, Took, Got, edit_by, answer_by, edited, answer_to, delivered, all_delivered, IsAccepted, IsPlayed, link_with}
+use Rattle.jup_app.specs.Runs.{BoardUp, BoardDown, Step, Edited, Took, Got, edit_by, edited, delivered, all_delivered, IsAccepted, IsPlayed, link_with}
 
 -- What the calls on a site do to it and to what it has still to send.
 
@@ -141,21 +141,21 @@ fetch_from s i m l is = ap (λ o. Fetched (fetch_result m o)) is
 -- the sites of the links differ, and were given
 pub record IsTidy (s : BoardStar) : Type 0 where
   pub apart : AreApart s.links
-  pub within : Each (λ (l : BoardLink). l.site ≤ s.given) s.links
+  pub within : AllByRecursion (λ (l : BoardLink). l.site ≤ s.given) s.links
 
-within_map : (f : BoardLink → BoardLink) → ((l : BoardLink) → (f l).site ≡ l.site) → (n : ℕ) (ls : List BoardLink) → Each (λ (l : BoardLink). l.site ≤ n) ls → Each (λ (l : BoardLink). l.site ≤ n) (map f ls)
+within_map : (f : BoardLink → BoardLink) → ((l : BoardLink) → (f l).site ≡ l.site) → (n : ℕ) (ls : List BoardLink) → AllByRecursion (λ (l : BoardLink). l.site ≤ n) ls → AllByRecursion (λ (l : BoardLink). l.site ≤ n) (map f ls)
 within_map f same n [] all = tt
 within_map f same n (l ∷ ls) all = (omega (arith, same l, all.0), within_map f same n ls all.1)
 
-within_without : (i n : ℕ) (ls : List BoardLink) → Each (λ (l : BoardLink). l.site ≤ n) ls → Each (λ (l : BoardLink). l.site ≤ n) (without i ls)
+within_without : (i n : ℕ) (ls : List BoardLink) → AllByRecursion (λ (l : BoardLink). l.site ≤ n) ls → AllByRecursion (λ (l : BoardLink). l.site ≤ n) (without i ls)
 within_without i n [] all = tt
 within_without i n (l ∷ ls) all = go (is_of i l) all.0 (within_without i n ls all.1)
   where
-    go : (b : Bool) → l.site ≤ n → Each (λ (l : BoardLink). l.site ≤ n) (without i ls) → Each (λ (l : BoardLink). l.site ≤ n) (cond (not b) (l ∷ without i ls) (without i ls))
+    go : (b : Bool) → l.site ≤ n → AllByRecursion (λ (l : BoardLink). l.site ≤ n) (without i ls) → AllByRecursion (λ (l : BoardLink). l.site ≤ n) (cond (not b) (l ∷ without i ls) (without i ls))
     go true low rest = rest
     go false low rest = (low, rest)
 
-within_more : (n : ℕ) (l : BoardLink) (ls : List BoardLink) → l.site ≡ n + 1 → Each (λ (l : BoardLink). l.site ≤ n) ls → Each (λ (l : BoardLink). l.site ≤ n + 1) (ls ++ l ∷ [])
+within_more : (n : ℕ) (l : BoardLink) (ls : List BoardLink) → l.site ≡ n + 1 → AllByRecursion (λ (l : BoardLink). l.site ≤ n) ls → AllByRecursion (λ (l : BoardLink). l.site ≤ n + 1) (ls ++ l ∷ [])
 within_more n l [] is all = (omega (arith, is), tt)
 within_more n l (k ∷ ls) is all = (omega (arith, all.0), within_more n l ls is all.1)
 
@@ -170,14 +170,14 @@ new_end : (i n : ℕ) (l : BoardLink) (ls : List BoardLink) → i ≤ n → l.si
 new_end i n l [] low is new = (differs l.site i (λ e. omega (arith, e, is)), tt)
 new_end i n l (k ∷ ls) low is new = (new.0, new_end i n l ls low is new.1)
 
-apart_end : (n : ℕ) (l : BoardLink) (ls : List BoardLink) → l.site ≡ n + 1 → Each (λ (l : BoardLink). l.site ≤ n) ls → AreApart ls → AreApart (ls ++ l ∷ [])
+apart_end : (n : ℕ) (l : BoardLink) (ls : List BoardLink) → l.site ≡ n + 1 → AllByRecursion (λ (l : BoardLink). l.site ≤ n) ls → AreApart ls → AreApart (ls ++ l ∷ [])
 apart_end n l [] is all apart = (tt, tt)
 apart_end n l (k ∷ ls) is all apart = (new_end k.site n l ls all.0 is apart.0, apart_end n l ls is all.1 apart.1)
 
 tidy_map : (s t : BoardStar) (f : BoardLink → BoardLink) → ((l : BoardLink) → (f l).site ≡ l.site) → t.given ≡ s.given → t.links ≡ map f s.links → IsTidy s → IsTidy t
 tidy_map s t f same given links tidy = record {
   apart = subst (λ ls. AreApart ls) (sym links) (apart_map f same s.links tidy.apart);
-  within = subst (λ ls. Each (λ (l : BoardLink). l.site ≤ t.given) ls) (sym links) (subst (λ n. Each (λ (l : BoardLink). l.site ≤ n) (map f s.links)) (sym given) (within_map f same s.given s.links tidy.within));
+  within = subst (λ ls. AllByRecursion (λ (l : BoardLink). l.site ≤ t.given) ls) (sym links) (subst (λ n. AllByRecursion (λ (l : BoardLink). l.site ≤ n) (map f s.links)) (sym given) (within_map f same s.given s.links tidy.within));
 }
 
 tidy_left : (i : ℕ) (s : BoardStar) → IsTidy s → IsTidy (left i s)

@@ -1,10 +1,9 @@
 -- The run of the core, from its joins to its end.
-use Rattle.std.proofs.Common.{◌≡◌, ℕ, zero, suc, ◌+◌, ◌<◌, ◌≤◌, true, false, List, [], ◌∷◌, ◌++◌, map, length, get_or, Option, Some, None, Ok, Err, refl, sym, ap, ◌∙◌, subst, arith, append-nil, ◌≢◌, ◌-◌, Bool, cond, inl, inr, ◌⊎◌, add-zero, add-suc, append_assoc, length-append, is_some}
+use Rattle.std.proofs.Common.{◌≡◌, ℕ, zero, suc, ◌+◌, ◌<◌, ◌≤◌, true, false, List, [], ◌∷◌, ◌++◌, map, length, get_or, Option, Some, None, Ok, Err, refl, sym, ap, ◌∙◌, subst, arith, append-nil, ◌-◌, Bool, cond, inl, inr, append_assoc}
 use Rattle.std.proofs.lemmas.Bool.{eq-eqb}
 use Rattle.std.proofs.Math.Dec.{eqb}
-use Rattle.std.proofs.lemmas.List.{get_or_default}
 use native.Mathlib.Decide.{dec_le}
-use Rattle.jup_app.specs.Prelude.{highest_limit, Command, EditFault, board_batches, Windows, BoardBatch, BoardEdits, Commands, content, meaning, batch_laws, StarFault, Joined, Join, Take, Fetch, Leave, Call, StarReply, OrderEntry, opened_site, BoardSite, Each, turns, edits, own_edits, BoardWorld, BoardAttached, BoardEvent, IsReached, BoardReply, attached, Outcome, outcome, happens, IsOpening, opened_world, run, Happened, HubEvent, Tally, SiteEnd}
+use Rattle.jup_app.specs.Prelude.{highest_limit, Command, EditFault, board_batches, Windows, BoardBatch, BoardEdits, Commands, content, meaning, batch_laws, StarFault, Joined, Join, Take, Fetch, Leave, Call, OrderEntry, opened_site, BoardSite, turns, edits, own_edits, BoardWorld, BoardAttached, BoardEvent, IsReached, BoardReply, attached, happens, IsOpening, opened_world, run, Happened, HubEvent, Tally, SiteEnd, AllByRecursion}
 use Rattle.jup_star.specs.declared.calls.StarReply.TheVariants as reply
 use Rattle.jup_star.specs.declared.messages.Up.TheVariants as up
 use Rattle.jup_star.specs.Stars.{reply_of, star_after, BoardLink, take_fault, after_join, after_take, after_fetch, after_leave}
@@ -17,7 +16,7 @@ use Rattle.jup_world.proofs.Worlds.{are_linked, reached_sound}
 use Rattle.jup_world.proofs.Sound.Runs.{sound-promises}
 use Rattle.jup_hub.specs.Histories.{IsLegal, star_through, calls_by, BeginsWith, AllTallied, IsNew, AllApart}
 use Rattle.jup_app.specs.Runs.{Made, made, joins, edits_at, makes, link_with, told_to, IsFresh, joined_call, Step, calls_of, edits_of, IsPlayed, site_of, made_at, IsSite, assembled, calls_at, no_site, BoardUp, EditAnswer, edit_at, IsRunOf, assembled_world, AllAgree, accepted}
-use Rattle.jup_app.proofs.Calls.{apart, IsKnown, makes-append, total, known, each_append, each_both, each_weaker, calls_by-append, made_since, only_one, none_first, all_of_one, each_tallied, each_made, Parted, made_at_is, sited, made_at_makes, made_at-append, calls_own, calls_of-append, played_both, edits_of-append}
+use Rattle.jup_app.proofs.Calls.{apart, IsKnown, total, known, each_append, each_both, each_weaker, made_since, only_one, none_first, all_of_one, each_tallied, each_made, Parted, made_at_is, sited, made_at_makes, made_at-append, calls_own, calls_of-append, played_both}
 use Rattle.jup_app.proofs.Simulate.{after, edits_at_last, Tracks, Ends, assembled_ends, run_append, reached_more}
 use Rattle.jup_app.proofs.Stars.{join_gives, IsTidy, tidy_through}
 use Rattle.jup_world.specs.Prelude.{join_fault, joined, BoardStar, joining, opened_star, link_of, taken, most_batches, found-end, found-end_other}
@@ -86,7 +85,7 @@ site_at w v j js g grew first others (suc k) d within =
     let at : w.star.given + suc (suc k) ≡ g + suc k = omega (arith, grew) in
     ap (λ n. attached n v.sites) at ∙ others k d (omega arith)
 
-pub has_joined : (js : List BoardSite) (w : BoardWorld) (h : List HubEvent) → makes h ≡ map joined_call js → Each IsFresh js → IsClear w → IsLegal w.star h → HasJoined w js h
+pub has_joined : (js : List BoardSite) (w : BoardWorld) (h : List HubEvent) → makes h ≡ map joined_call js → AllByRecursion IsFresh js → IsClear w → IsLegal w.star h → HasJoined w js h
 has_joined [] w [] are fresh clear legal = record { star = refl; sites = λ k d within. absurd (omega arith); before = λ i within. refl; numbers = λ k d within. absurd (omega arith); silent = λ i. refl }
 has_joined [] w (e ∷ h) are fresh clear legal = absurd cc
 has_joined (j ∷ js) w [] are fresh clear legal = absurd cc
@@ -115,7 +114,7 @@ has_joined (j ∷ js) w (e ∷ h) are fresh clear legal =
 
 -- What the passes of a run know makes an assembled run of the core.
 
-pub each_at : {A : Type 0} (P : A → Type 0) (xs : List A) (k : ℕ) (d : A) → Each P xs → k < length xs → P (get_or xs k d)
+pub each_at : {A : Type 0} (P : A → Type 0) (xs : List A) (k : ℕ) (d : A) → AllByRecursion P xs → k < length xs → P (get_or xs k d)
 each_at P [] k d all within = absurd (omega arith)
 each_at P (x ∷ xs) zero d all within = all.0
 each_at P (x ∷ xs) (suc k) d all within = each_at P xs k d all.1 (omega arith)
@@ -161,7 +160,7 @@ pub record Known (opening : BoardStar) (js : List BoardSite) (hands : List Tally
   pub joins_made : calls_by main joined ≡ firsts
   pub joins_still : calls_by main played ≡ firsts
   pub drains_made : calls_by main history ≡ firsts ++ drains
-  pub not_yet : Each (λ (k : Tally). calls_by k.number joined ≡ []) hands
+  pub not_yet : AllByRecursion (λ (k : Tally). calls_by k.number joined ≡ []) hands
   pub all_made : AllTallied played hands
   pub all_still : AllTallied history hands
   pub distinct : AllApart (record { number = main; calls = firsts ++ drains } ∷ hands)
@@ -175,7 +174,7 @@ pub record Whole (opening : BoardStar) (js : List BoardSite) (hands : List Tally
   pub own_played : (i : ℕ) (d : BoardSite) → IsSite (length js) i → IsPlayed (link_with (get_or js (i - 1) d) []) (logs i) (mids i)
   pub drain_log : (i : ℕ) → IsSite (length js) i → calls_at i (makes drains) ≡ calls_of i (drained i)
   pub drain_played : (i : ℕ) → IsSite (length js) i → IsPlayed (mids i) (drained i) (ends i)
-  pub drain_sites : Each (λ (e : HubEvent). IsSite (length js) (site_of e.call)) drains
+  pub drain_sites : AllByRecursion (λ (e : HubEvent). IsSite (length js) (site_of e.call)) drains
 
 -- a history in its three parts
 pub record Parts (opening : BoardStar) (js : List BoardSite) (hands : List Tally) (history drains : List HubEvent) : Type 0 where
@@ -186,10 +185,10 @@ pub record Parts (opening : BoardStar) (js : List BoardSite) (hands : List Tally
   pub legal : IsLegal opening (joined ++ (between ++ rest))
   pub joins_are : makes joined ≡ map joined_call js
   pub drains_are : rest ≡ drains
-  pub by_hands : Each (λ (e : HubEvent). IsKnown e.by hands) between
-  pub hands_made : Each (λ (k : Tally). calls_by k.number between ≡ k.calls) hands
+  pub by_hands : AllByRecursion (λ (e : HubEvent). IsKnown e.by hands) between
+  pub hands_made : AllByRecursion (λ (k : Tally). calls_by k.number between ≡ k.calls) hands
 
-each_two : {A : Type 0} (P Q R : A → Type 0) (xs : List A) → ((x : A) → P x → Q x → R x) → Each P xs → Each Q xs → Each R xs
+each_two : {A : Type 0} (P Q R : A → Type 0) (xs : List A) → ((x : A) → P x → Q x → R x) → AllByRecursion P xs → AllByRecursion Q xs → AllByRecursion R xs
 each_two P Q R [] f p q = tt
 each_two P Q R (x ∷ xs) f p q = (f x p.0 q.0, each_two P Q R xs f p.1 q.1)
 
@@ -199,15 +198,15 @@ parts {opening} {js} {hands} {firsts} {drains} w =
     let played_is : w.played ≡ w.joined ++ between = w.first.1 in
     let history_is : w.history ≡ w.joined ++ (between ++ rest) = w.next.1 ∙ ap (λ h. h ++ rest) played_is ∙ append_assoc w.joined between rest in
     let me : Tally = record { number = w.main; calls = firsts ++ drains } in
-    let all : Each (λ (e : HubEvent). IsKnown e.by (me ∷ hands)) w.history = known (me ∷ hands) w.history w.distinct (w.drains_made, w.all_still) w.count in
-    let all' : Each (λ (e : HubEvent). IsKnown e.by (me ∷ hands)) (w.joined ++ (between ++ rest)) = subst (λ h. Each (λ (e : HubEvent). IsKnown e.by (me ∷ hands)) h) history_is all in
+    let all : AllByRecursion (λ (e : HubEvent). IsKnown e.by (me ∷ hands)) w.history = known (me ∷ hands) w.history w.distinct (w.drains_made, w.all_still) w.count in
+    let all' : AllByRecursion (λ (e : HubEvent). IsKnown e.by (me ∷ hands)) (w.joined ++ (between ++ rest)) = subst (λ h. AllByRecursion (λ (e : HubEvent). IsKnown e.by (me ∷ hands)) h) history_is all in
     let in_joined = each_append (λ (e : HubEvent). IsKnown e.by (me ∷ hands)) w.joined (between ++ rest) all' in
     let in_rest = each_append (λ (e : HubEvent). IsKnown e.by (me ∷ hands)) between rest in_joined.1 in
     let main_between : calls_by w.main between ≡ [] =
     made_since w.main w.joined between firsts [] w.joins_made (ap (λ h. calls_by w.main h) (sym played_is) ∙ w.joins_still ∙ sym (append-nil firsts)) in
     let main_rest : calls_by w.main rest ≡ drains =
     made_since w.main w.played rest firsts drains w.joins_still (ap (λ h. calls_by w.main h) (sym w.next.1) ∙ w.drains_made) in
-    let hands_rest : Each (λ (k : Tally). calls_by k.number rest ≡ []) hands =
+    let hands_rest : AllByRecursion (λ (k : Tally). calls_by k.number rest ≡ []) hands =
     each_two (λ (k : Tally). calls_by k.number w.played ≡ k.calls) (λ (k : Tally). calls_by k.number w.history ≡ k.calls) (λ (k : Tally). calls_by k.number rest ≡ []) hands
     (λ k a b. made_since k.number w.played rest k.calls [] a (ap (λ h. calls_by k.number h) (sym w.next.1) ∙ b ∙ sym (append-nil k.calls))) w.all_made w.all_still in
     record {
@@ -227,12 +226,12 @@ sub_suc : (k : ℕ) → suc k - 1 ≡ k
 sub_suc k = omega arith
 
 parted : {opening : BoardStar} {js : List BoardSite} {hands : List Tally} {firsts drains : List HubEvent} {logs drained : ℕ → List Step} {mids ends : ℕ → BoardAttached} → Whole opening js hands firsts drains logs drained mids ends
-    → (h : List HubEvent) → Each (λ (e : HubEvent). IsKnown e.by hands) h → Each (λ (k : Tally). calls_by k.number h ≡ k.calls) hands → Parted (length js) (pass_of hands) h
+    → (h : List HubEvent) → AllByRecursion (λ (e : HubEvent). IsKnown e.by hands) h → AllByRecursion (λ (k : Tally). calls_by k.number h ≡ k.calls) hands → Parted (length js) (pass_of hands) h
 unfolding pass_of
 parted {opening} {js} {hands} {firsts} {drains} {logs} w h by by_each =
     let d : Tally = record { number = []; calls = [] } in record {
       own = λ j site. let same : calls_by (pass_of hands j) h ≡ (get_or hands (j - 1) d).calls = each_at (λ (k : Tally). calls_by k.number h ≡ k.calls) hands (j - 1) d by_each (omega (arith, w.as_many)) in
-          each_made (λ (m : Made). site_of m.call ≡ j) (calls_by (pass_of hands j) h) (subst (λ ms. Each (λ (m : Made). site_of m.call ≡ j) ms) (sym (ap makes same ∙ w.own_log j d site)) (calls_own j (logs j)));
+          each_made (λ (m : Made). site_of m.call ≡ j) (calls_by (pass_of hands j) h) (subst (λ ms. AllByRecursion (λ (m : Made). site_of m.call ≡ j) ms) (sym (ap makes same ∙ w.own_log j d site)) (calls_own j (logs j)));
       known = each_weaker (λ (e : HubEvent). IsKnown e.by hands) (λ (e : HubEvent). (j : ℕ) × IsSite (length js) j × (pass_of hands j ≡ e.by)) h
           (λ e is. let k = known_at e.by hands d is in (suc k.0, (omega arith, omega (arith, k.1, w.as_many)), ap (λ i. (get_or hands i d).number) (sub_suc k.0) ∙ k.2)) by;
       apart = λ i j site site' same. let e : i - 1 ≡ j - 1 = distinct_at hands (i - 1) (j - 1) d w.known.distinct.1 (omega (arith, w.as_many)) (omega (arith, w.as_many)) same in omega arith;
@@ -283,7 +282,7 @@ module _ (board : Windows) (limit : ℕ) (opening : IsOpening board) (low : limi
             ∙ ap (λ ms. made_at i p.between ++ ms) (sym (made_at_makes i p.rest ∙ ap (λ h. calls_at i (makes h)) p.drains_are ∙ w.drain_log i site))
             ∙ sym (made_at-append i p.between p.rest);
         sited = each_both (λ (e : HubEvent). IsSite n (site_of e.call)) p.between p.rest (sited n (pass_of hands) p.between q)
-            (subst (λ h. Each (λ (e : HubEvent). IsSite n (site_of e.call)) h) (sym p.drains_are) w.drain_sites);
+            (subst (λ h. AllByRecursion (λ (e : HubEvent). IsSite n (site_of e.call)) h) (sym p.drains_are) w.drain_sites);
       }
 
   -- the run of the core has the star, the sites and the replies
@@ -362,9 +361,9 @@ made_of-answers ((c, Err n) ∷ es) = made_of-answers es
 
 -- each entry is of one of the first n sites
 abbrev pub OrderWithin : ℕ → BoardStar → Type 0
-OrderWithin n s = Each (λ (e : OrderEntry BoardEdits). IsSite n e.site) s.order
+OrderWithin n s = AllByRecursion (λ (e : OrderEntry BoardEdits). IsSite n e.site) s.order
 
-order_snoc : (n : ℕ) (xs : List (OrderEntry BoardEdits)) (x : OrderEntry BoardEdits) → Each (λ (e : OrderEntry BoardEdits). IsSite n e.site) xs → IsSite n x.site → Each (λ (e : OrderEntry BoardEdits). IsSite n e.site) (xs ++ x ∷ [])
+order_snoc : (n : ℕ) (xs : List (OrderEntry BoardEdits)) (x : OrderEntry BoardEdits) → AllByRecursion (λ (e : OrderEntry BoardEdits). IsSite n e.site) xs → IsSite n x.site → AllByRecursion (λ (e : OrderEntry BoardEdits). IsSite n e.site) (xs ++ x ∷ [])
 order_snoc n [] x all one = (one, tt)
 order_snoc n (y ∷ xs) x all one = (all.0, order_snoc n xs x all.1 one)
 
@@ -399,7 +398,7 @@ one_call n (Leave i) s site all = go (link_of i s.links)
     go None = (all, refl)
     go (Some l) = (all, refl)
 
-all_calls : (n : ℕ) (h : List HubEvent) (s : BoardStar) → Each (λ (e : HubEvent). IsSite n (site_of e.call)) h → OrderWithin n s → OrderWithin n (star_through s h) × ((star_through s h).given ≡ s.given)
+all_calls : (n : ℕ) (h : List HubEvent) (s : BoardStar) → AllByRecursion (λ (e : HubEvent). IsSite n (site_of e.call)) h → OrderWithin n s → OrderWithin n (star_through s h) × ((star_through s h).given ≡ s.given)
 all_calls n [] s sited all = (all, refl)
 all_calls n (e ∷ h) s sited all =
     let one = one_call n e.call s sited.0 all in
@@ -414,7 +413,7 @@ join_call s = go (join_fault s)
     go None = (refl, omega arith)
     go (Some e) = (refl, omega arith)
 
-all_joins : (h : List HubEvent) (s : BoardStar) → Each (λ (e : HubEvent). e.call ≡ Join) h → ((star_through s h).order ≡ s.order) × ((star_through s h).given ≤ s.given + length h)
+all_joins : (h : List HubEvent) (s : BoardStar) → AllByRecursion (λ (e : HubEvent). e.call ≡ Join) h → ((star_through s h).order ≡ s.order) × ((star_through s h).given ≤ s.given + length h)
 all_joins [] s joined = (refl, omega arith)
 all_joins (e ∷ h) s joined =
     let here : star_after e.call s ≡ star_after Join s = ap (λ c. star_after c s) joined.0 in
@@ -446,7 +445,7 @@ module _ (board : Windows) (limit n : ℕ) (scripts : List (List Command)) (star
   numbers =
       let s0 : BoardStar = opened_star board limit in
       let first = all_joins is.joined s0 is.all_join in
-      let none : OrderWithin n (star_through s0 is.joined) = subst (λ (es : List (OrderEntry BoardEdits)). Each (λ (e : OrderEntry BoardEdits). IsSite n e.site) es) (sym first.0) tt in
+      let none : OrderWithin n (star_through s0 is.joined) = subst (λ (es : List (OrderEntry BoardEdits)). AllByRecursion (λ (e : OrderEntry BoardEdits). IsSite n e.site) es) (sym first.0) tt in
       let both = all_calls n is.later (star_through s0 is.joined) is.sited none in
       let whole : star_through (star_through s0 is.joined) is.later ≡ star = sym (star_through-append s0 is.joined is.later) ∙ is.after in
       let given : star.given ≡ (star_through s0 is.joined).given = ap (λ (t : BoardStar). t.given) (sym whole) ∙ both.1 in
@@ -499,5 +498,5 @@ module _ (board : Windows) (limit n : ℕ) (scripts : List (List Command)) (star
             ∙ promised.whole quiet (suc k) (link_with (get_or ends k d).site []) (is.sites k d inside)
             ∙ made_is (suc k) w.trace ∙ ap made_of (is.edits k inside) ∙ made_of-answers (edits_of (is.logs (suc k)))
             ∙ ap accepted (is.replies k d inside);
-        no_other = subst (λ m. Each (λ (e : OrderEntry BoardEdits). IsSite m e.site) star.order) (sym is.count) numbers.0;
+        no_other = subst (λ m. AllByRecursion (λ (e : OrderEntry BoardEdits). IsSite m e.site) star.order) (sym is.count) numbers.0;
       }

@@ -16,7 +16,7 @@ pub use Rattle.jup_star.specs.declared.star.Joined.{Joined}
 pub use Rattle.jup_star.specs.Sites.{BoardSite, EditAnswers, deliver_fault, edit_answer, is_edit_memory, made_by, opened_site}
 pub use Rattle.jup_world.specs.Boards.{BoardAttached, BoardEvent, BoardReply, BoardWorld, IsReached}
 pub use Rattle.jup_world.specs.Events.{Happened}
-pub use Rattle.jup_world.specs.Traces.{Each, edits, own_edits, turns}
+pub use Rattle.jup_world.specs.Traces.{edits, own_edits, turns}
 pub use Rattle.jup_world.specs.Worlds.{IsOpening, Outcome, attached, happens, one_handed, one_taken, opened_world, outcome, run, with_edit}
 pub use Rattle.jup_hub.specs.declared.fault.HubFault.{HubFault}
 pub use Rattle.jup_hub.specs.declared.hub.Hub.{Hub}
@@ -29,3 +29,6 @@ pub use Rattle.jup_app.specs.declared.runs.drain.SiteEnd.{SiteEnd}
 pub use Rattle.jup_app.specs.declared.runs.halt.Halt.{Halt}
 pub use Rattle.jup_app.specs.declared.runs.player.Player.{Player}
 pub use Rattle.jup_app.specs.declared.runs.threads.Job.{Job}
+pub use Rattle.std.specs.List.{AllByRecursion}
+pub use Rattle.std.specs.Borrow.{Bor}
+pub use Rattle.std.specs.Vec.Iter.{into_iter_items}

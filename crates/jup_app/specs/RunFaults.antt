@@ -1,5 +1,5 @@
 -- The faults of runs.
-use Rattle.std.specs.Prelude.{◌≡◌, ℕ, ◌&&◌, nat_le, Option, Some, None, Result, Ok, Err, IfErr, if◌then◌else◌}
+use Rattle.std.specs.Prelude.{◌≡◌, ℕ, ◌&&◌, nat_le, Option, Some, None, Result, Err, IfErr, if◌then◌else◌}
 use Rattle.std.specs.Option.{option_map}
 use Rattle.jup_app.specs.Prelude.{Windows, OpenFault, SiteFault, HubFault, Halt}
 use Rattle.jup_star.specs.Stars.{star_open_fault}

@@ -1,12 +1,10 @@
 -- Runs in threads, and the run of the core that each is.
 use Rattle.std.specs.Prelude.{◌≡◌, ℕ, zero, suc, ◌<◌, ◌≤◌, cond, eqb, List, [], ◌∷◌, ◌++◌, drop, Option, None, Result, Ok, Err, map, ◌+◌, length, get_or, Some, slice_index_or, IfOk}
-use Rattle.std.specs.Borrow.{Bor}
-use Rattle.jup_app.specs.Prelude.{Command, EditFault, BoardBatch, BoardEdits, Commands, board_batches, Windows, content, meaning, Call, Join, Take, Fetch, Leave, StarReply, Fetched, JoinedReply, Joined, OrderEntry, edit_answer, deliver_fault, BoardSite, opened_site, Happened, BoardAttached, BoardEvent, BoardReply, BoardWorld, with_edit, one_taken, one_handed, opened_world, attached, run, Each, turns, edits, own_edits, HubEvent, View, Hub, Tally, view_of, IsPassOf, most_fetched, SiteEnd, Player, Halt, Job}
+use Rattle.jup_app.specs.Prelude.{Command, EditFault, BoardBatch, BoardEdits, Commands, board_batches, Windows, content, meaning, Call, Join, Take, Fetch, Leave, StarReply, Fetched, JoinedReply, Joined, OrderEntry, edit_answer, deliver_fault, BoardSite, opened_site, Happened, BoardAttached, BoardEvent, BoardReply, BoardWorld, with_edit, one_taken, one_handed, opened_world, attached, run, turns, edits, own_edits, HubEvent, View, Hub, Tally, view_of, IsPassOf, most_fetched, SiteEnd, Player, Halt, Job, AllByRecursion, Bor}
 use Rattle.jup_batch.specs.Boards.{edit_of}
 use Rattle.jup_star.specs.declared.calls.StarReply.TheVariants as reply
 use Rattle.jup_star.specs.Stars.{BoardLink}
 use Rattle.jup_world.specs.declared.events.Reply.TheVariants.{Made as WasMade, Refused as WasRefused}
-use Rattle.jup_world.specs.Events.{Event}
 use Rattle.jup_world.specs.Events as event
 use Rattle.jup_hub.specs.Histories.{entry, BeginsWith, longest, Called, Meets, calls_by, tallies, IsLegal, star_through}
 use Rattle.jup_world.specs.Prelude.{Up, Down, opened_star, link_of, BoardStar}
@@ -264,7 +262,7 @@ pub record Drained (v w : View) (before after : ℕ) (old new : List SiteEnd) : 
   pub calls : List HubEvent
   pub made : w.made ≡ v.made ++ calls
   pub own : AreNumbered old → (i : ℕ) → calls_at i (makes calls) ≡ calls_of i (logs i)
-  pub sites : AreNumbered old → Each (λ (e : HubEvent). IsSite (length old) (site_of e.call)) calls
+  pub sites : AreNumbered old → AllByRecursion (λ (e : HubEvent). IsSite (length old) (site_of e.call)) calls
   pub no_edits : (i : ℕ) → edits_of (logs i) ≡ []
   pub number : w.number ≡ v.number
   pub kept : w.kept ≡ v.kept
@@ -319,7 +317,7 @@ pub record HasJoinedAll (v : View) (calls : ℕ) (sites : List BoardSite) : Type
   pub history : List HubEvent
   pub met : HasMet v history
   pub made : makes v.made ≡ map joined_call sites
-  pub fresh : Each IsFresh sites
+  pub fresh : AllByRecursion IsFresh sites
   pub kept : v.kept ≡ []
   pub count : calls ≡ length v.made
 
@@ -425,9 +423,9 @@ pub record IsRunOf (board : Windows) (limit n : ℕ) (scripts : List (List Comma
   pub legal : IsLegal (opened_star board limit) (joined ++ later)
   pub after : star_through (opened_star board limit) (joined ++ later) ≡ star
   -- each site joins once, and then come calls of the sites alone: those of their logs
-  pub all_join : Each (λ (e : HubEvent). e.call ≡ Join) joined
+  pub all_join : AllByRecursion (λ (e : HubEvent). e.call ≡ Join) joined
   pub as_many : length joined ≡ n
-  pub sited : Each (λ (e : HubEvent). IsSite n (site_of e.call)) later
+  pub sited : AllByRecursion (λ (e : HubEvent). IsSite n (site_of e.call)) later
   pub own : (i : ℕ) → IsSite n i → calls_of i (logs i) ≡ made_at i later
   -- the assembled run ends with this star and these sites, and nothing in their streams
   pub star_is : (assembled_world board limit n logs later).star ≡ star
@@ -459,4 +457,4 @@ pub record AllAgree (board : Windows) (star : BoardStar) (ends : List SiteEnd) :
   -- the order has each site's accepted edits once, in the order of its script
   pub own : (k : ℕ) (d : SiteEnd) → k < length ends → own_edits (turns (suc k) star.order) ≡ accepted (get_or ends k d).replies.items
   -- and nothing else
-  pub no_other : Each (λ (e : OrderEntry BoardEdits). IsSite (length ends) e.site) star.order
+  pub no_other : AllByRecursion (λ (e : OrderEntry BoardEdits). IsSite (length ends) e.site) star.order

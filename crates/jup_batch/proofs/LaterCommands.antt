@@ -4,17 +4,18 @@ use Rattle.std.specs.List.{fold}
 use Rattle.std.specs.Option.{IsSomeAnd, option_map, option_and_then}
 use Rattle.std.proofs.lemmas.Grind.{reverse_onto, fold-append}
 use Rattle.std.proofs.lemmas.Bool.{cases_Bool, eqb-true, ltb-true, ltb-false}
-use Rattle.jup_batch.specs.Prelude.{after_all, AreValid, Name, SeqOp, Insert, Delete, Relabel, Nothing, Source, Inserted, Place, Widget, Text, Labels, Toggle, Slider, WidgetOp, OnText, OnList, OnToggle, OnSlider, BoardOp, EditFault, Command, InsertAt, DeleteAt, RelabelAt, SetValue, item_count, item_name, boards, board_operations, next_name, and_then_ok, told_on, on_widget, item_place, command_place, named_widget, named, map_ok, insertions}
+use Rattle.jup_batch.specs.Prelude.{after_all, AreValid, Name, SeqOp, Insert, Delete, Relabel, Nothing, Source, Inserted, Place, Widget, Text, Labels, WidgetOp, OnText, OnList, BoardOp, EditFault, Command, InsertAt, DeleteAt, RelabelAt, SetValue, item_count, item_name, boards, board_operations, next_name, and_then_ok, told_on, on_widget, item_place, command_place, named_widget, named, map_ok, insertions}
 use Rattle.jup_xform.specs.Laws.Grids.{after_all-append, AreValid-append}
 use Rattle.jup_seq.specs.Traces.{length_after, length_is}
 use Rattle.jup_seq.specs.Traces as sources
 use Rattle.jup_window.specs.declared.faults.EditFault.TheVariants.{NoWindow}
 use Rattle.jup_window.specs.declared.commands.Value.{Value}
-use Rattle.jup_window.specs.declared.commands.Setting.{Setting}
+use Rattle.jup_window.specs.declared.kinds.Setting.{Setting}
 use Rattle.jup_window.specs.Entries.{Place as Ids, widget_at, at_id, change_at}
 use Rattle.jup_window.specs.Laws.Entries.{same_place-true, widget_at-change, at_id-same, at_id-other, at_id-map, widget_at-bare}
 use Rattle.jup_window.specs.Laws.Widgets.{of_valid}
-use Rattle.jup_window.specs.Commands.{insertion_on, deletion_on, relabel_on, setting_on, found_widget, in_window}
+use Rattle.jup_window.specs.Commands.{insertion_on, deletion_on, relabel_on, found_widget, in_window}
+use Rattle.jup_window.specs.Kinds.{HasNoItems, value_after, setting_on, setting_later, setting_bare, setting_of_items}
 use Rattle.jup_window.specs.Laws.Operations.{named-bare, board_laws}
 use Rattle.jup_window.specs.Widgets as widget
 use Rattle.jup_window.specs.Boards as board
@@ -23,33 +24,42 @@ use Rattle.jup_batch.specs.Batched.{AreKnown, operations_of}
 use Rattle.jup_batch.specs.Laws.BatchedLaws.{known_after}
 use Rattle.jup_window.specs.Prelude.{Item, Items, name_at}
 use Rattle.jup_window.specs.declared.commands.Value.TheVariants.{Char, Label}
-use Rattle.jup_window.specs.declared.commands.Setting.TheVariants.{Toggle as ToToggle, Slider as ToSlider}
 
 -- A widget of a board after operations is of its kind, and its items are as many, and have the names, that are computed
 
--- widgets of one kind, and with the same bounds
+-- widgets of one kind, which take the same settings
 abbrev pub IsAlike : Widget → Widget → Type 0
 IsAlike (Text x) (Text y) = Unit {0}
+IsAlike (Text x) v = ⊥
 IsAlike (Labels x) (Labels y) = Unit {0}
-IsAlike (Toggle x) (Toggle y) = Unit {0}
-IsAlike (Slider x) (Slider y) = (y.lo ≡ x.lo) × (y.hi ≡ x.hi)
-IsAlike w v = ⊥
+IsAlike (Labels x) v = ⊥
+IsAlike w (Text y) = ⊥
+IsAlike w (Labels y) = ⊥
+IsAlike w v = (s : Setting) → setting_on s v ≡ setting_on s w
 
 IsAlike-self : (w : Widget) → IsAlike w w
 IsAlike-self (Text x) = tt
 IsAlike-self (Labels x) = tt
-IsAlike-self (Toggle x) = tt
-IsAlike-self (Slider x) = (refl, refl)
+IsAlike-self w = λ s. refl
 
 IsAlike-then : (u v w : Widget) → IsAlike u v → IsAlike v w → IsAlike u w
 IsAlike-then (Text x) (Text y) w a b = b
+IsAlike-then (Text x) v w a b = absurd a
 IsAlike-then (Labels x) (Labels y) w a b = b
-IsAlike-then (Toggle x) (Toggle y) w a b = b
-IsAlike-then (Slider x) (Slider y) (Slider z) a b = (b.0 ∙ a.0, b.1 ∙ a.1)
-IsAlike-then (Slider x) (Slider y) (Text z) a b = absurd b
-IsAlike-then (Slider x) (Slider y) (Labels z) a b = absurd b
-IsAlike-then (Slider x) (Slider y) (Toggle z) a b = absurd b
-IsAlike-then u v w a b = absurd a
+IsAlike-then (Labels x) v w a b = absurd a
+IsAlike-then u (Text y) w a b = absurd a
+IsAlike-then u (Labels y) w a b = absurd a
+IsAlike-then u v (Text z) a b = absurd b
+IsAlike-then u v (Labels z) a b = absurd b
+IsAlike-then u v w a b = λ s. b s ∙ a s
+
+-- widgets without items that take the same settings
+alike_values : (w v : Widget) → HasNoItems w → HasNoItems v → ((s : Setting) → setting_on s v ≡ setting_on s w) → IsAlike w v
+alike_values (Text x) v none none' same = absurd none
+alike_values (Labels x) v none none' same = absurd none
+alike_values w (Text y) none none' same = absurd none'
+alike_values w (Labels y) none none' same = absurd none'
+alike_values w v none none' same = same
 
 -- the place of a source is one of the widget
 abbrev pub IsWithin : Source → Widget → Type 0
@@ -77,6 +87,19 @@ list_source : (s : Source) (x : Items (List ℕ)) (m : Option Name) → (m ≡ s
 list_source (Inserted n) x m is = is
 list_source (Place p) x m is = is
 
+-- a widget without items has none before and after an operation
+no_count : (w : Widget) → HasNoItems w → item_count w ≡ 0
+no_count (Text x) none = absurd none
+no_count (Labels x) none = absurd none
+no_count w none = refl
+
+value_count : (k : ℕ) (e : WidgetOp) (w : Widget) → HasNoItems w → widget.IsValid e w → widget_count k e ≡ k
+value_count k e (Text x) none valid = absurd none
+value_count k e (Labels x) none valid = absurd none
+value_count k (OnText e) w none valid = absurd valid
+value_count k (OnList e) w none valid = absurd valid
+value_count k e w none valid = refl
+
 stepped : (e : WidgetOp) (w : Widget) → widget.IsValid e w → Stepped e w
 stepped e w valid =
     of_valid (λ e w. Stepped e w)
@@ -90,8 +113,11 @@ stepped e w valid =
       count = length_is (length x.items) e x valid refl;
       named = λ few p l. list_source (sources.source p e) x _ (sources.sourced p e x few valid l);
     })
-    (λ e x. record { alike = tt; count = refl; named = λ few p l. absurd (omega (arith, l)) })
-    (λ e x valid. record { alike = (refl, refl); count = refl; named = λ few p l. absurd (omega (arith, l)) })
+    (λ e w none valid. record {
+      alike = alike_values w (widget.after e w) none (value_after e w none) (λ s. setting_later s e w none valid);
+      count = no_count (widget.after e w) (value_after e w none) ∙ sym (no_count w none) ∙ sym (value_count (item_count w) e w none valid);
+      named = λ few p l. absurd (let zero = no_count (widget.after e w) (value_after e w none) in omega (arith, l, zero));
+    })
     e w valid
 
 -- no widget has more items than can be counted
@@ -104,8 +130,7 @@ length_few k Nothing few = few
 count_few : (k : ℕ) (e : WidgetOp) → k ≤ 4294967295 → widget_count k e ≤ 4294967295
 count_few k (OnText e) few = length_few k e few
 count_few k (OnList e) few = length_few k e few
-count_few k (OnToggle e) few = few
-count_few k (OnSlider e) few = few
+count_few k other few = few
 
 -- several operations
 
@@ -180,43 +205,45 @@ absent_later ids b (e ∷ es) none = absent_later ids (board.after e b) es (widg
 
 -- The operation that a command becomes after others is computed without applying them
 
--- the operation that is computed is the same on widgets of one kind and with the same bounds
+-- the operation that is computed is the same on widgets that are alike
 
 insertion_alike : (p : ℕ) (v : Value) (n : Name) (k : ℕ) (w u : Widget) → IsAlike w u → insertion_on p v n k u ≡ insertion_on p v n k w
 insertion_alike p (Char v) n k (Text x) (Text y) a = refl
-insertion_alike p (Char v) n k (Labels x) (Labels y) a = refl
-insertion_alike p (Char v) n k (Toggle x) (Toggle y) a = refl
-insertion_alike p (Char v) n k (Slider x) (Slider y) a = refl
 insertion_alike p (Label v) n k (Text x) (Text y) a = refl
+insertion_alike p (Char v) n k (Labels x) (Labels y) a = refl
 insertion_alike p (Label v) n k (Labels x) (Labels y) a = refl
-insertion_alike p (Label v) n k (Toggle x) (Toggle y) a = refl
-insertion_alike p (Label v) n k (Slider x) (Slider y) a = refl
-insertion_alike p v n k w u a = absurd a
+insertion_alike p v n k (Text x) u a = absurd a
+insertion_alike p v n k (Labels x) u a = absurd a
+insertion_alike p v n k w (Text y) a = absurd a
+insertion_alike p v n k w (Labels y) a = absurd a
+insertion_alike p v n k w u a = refl
 
 deletion_alike : (p : ℕ) (m : Option Name) (w u : Widget) → IsAlike w u → deletion_on p m u ≡ deletion_on p m w
 deletion_alike p m (Text x) (Text y) a = refl
 deletion_alike p m (Labels x) (Labels y) a = refl
-deletion_alike p m (Toggle x) (Toggle y) a = refl
-deletion_alike p m (Slider x) (Slider y) a = refl
-deletion_alike p m w u a = absurd a
+deletion_alike p m (Text x) u a = absurd a
+deletion_alike p m (Labels x) u a = absurd a
+deletion_alike p m w (Text y) a = absurd a
+deletion_alike p m w (Labels y) a = absurd a
+deletion_alike p m w u a = refl
 
 relabel_alike : (p : ℕ) (v : List ℕ) (m : Option Name) (w u : Widget) → IsAlike w u → relabel_on p v m u ≡ relabel_on p v m w
 relabel_alike p v m (Text x) (Text y) a = refl
 relabel_alike p v m (Labels x) (Labels y) a = refl
-relabel_alike p v m (Toggle x) (Toggle y) a = refl
-relabel_alike p v m (Slider x) (Slider y) a = refl
-relabel_alike p v m w u a = absurd a
+relabel_alike p v m (Text x) u a = absurd a
+relabel_alike p v m (Labels x) u a = absurd a
+relabel_alike p v m w (Text y) a = absurd a
+relabel_alike p v m w (Labels y) a = absurd a
+relabel_alike p v m w u a = refl
 
 setting_alike : (s : Setting) (w u : Widget) → IsAlike w u → setting_on s u ≡ setting_on s w
-setting_alike (ToToggle v) (Text x) (Text y) a = refl
-setting_alike (ToToggle v) (Labels x) (Labels y) a = refl
-setting_alike (ToToggle v) (Toggle x) (Toggle y) a = refl
-setting_alike (ToToggle v) (Slider x) (Slider y) a = refl
-setting_alike (ToSlider v) (Text x) (Text y) a = refl
-setting_alike (ToSlider v) (Labels x) (Labels y) a = refl
-setting_alike (ToSlider v) (Toggle x) (Toggle y) a = refl
-setting_alike (ToSlider v) (Slider x) (Slider y) a = rw (a.0, a.1) refl
-setting_alike s w u a = absurd a
+setting_alike s (Text x) (Text y) a = setting_of_items s (Text y) (λ h. h) ∙ sym (setting_of_items s (Text x) (λ h. h))
+setting_alike s (Labels x) (Labels y) a = setting_of_items s (Labels y) (λ h. h) ∙ sym (setting_of_items s (Labels x) (λ h. h))
+setting_alike s (Text x) u a = absurd a
+setting_alike s (Labels x) u a = absurd a
+setting_alike s w (Text y) a = absurd a
+setting_alike s w (Labels y) a = absurd a
+setting_alike s w u a = a s
 
 told_alike : (c : Command) (n : Name) (k : ℕ) (m : Option Name) (w u : Widget) → IsAlike w u → told_on c n k m u ≡ told_on c n k m w
 told_alike (InsertAt win wid p v) n k m w u a = insertion_alike p v n k w u a
@@ -259,8 +286,7 @@ no_item (x ∷ xs) (suc p) l = no_item xs p (omega (arith, l))
 past_end : (p : ℕ) (w : Widget) → item_count w ≤ p → item_name p w ≡ None
 past_end p (Text x) l = no_item x.items p l
 past_end p (Labels x) l = no_item x.items p l
-past_end p (Toggle x) l = refl
-past_end p (Slider x) l = refl
+past_end p other l = refl
 
 -- the name that is computed for a place is that of the item there
 held_later : (p k : ℕ) (m : Option Name) (u : Widget) → item_count u ≡ k → (p < item_count u → item_name p u ≡ m) → item_name p u ≡ (if nat_lt p k then m else None)
@@ -289,20 +315,17 @@ told_later c n b w es valid there few window =
 alike_bare : (w : Widget) → IsAlike w (widget.bare w)
 alike_bare (Text x) = tt
 alike_bare (Labels x) = tt
-alike_bare (Toggle x) = tt
-alike_bare (Slider x) = (refl, refl)
+alike_bare w = λ s. setting_bare s w
 
 count_bare : (w : Widget) → item_count (widget.bare w) ≡ item_count w
 count_bare (Text x) = refl
 count_bare (Labels x) = refl
-count_bare (Toggle x) = refl
-count_bare (Slider x) = refl
+count_bare other = refl
 
 name_bare : (p : ℕ) (w : Widget) → item_name p (widget.bare w) ≡ item_name p w
 name_bare p (Text x) = refl
 name_bare p (Labels x) = refl
-name_bare p (Toggle x) = refl
-name_bare p (Slider x) = refl
+name_bare p other = refl
 
 source_bare : (s : Source) (w : Widget) → source_in s (widget.bare w) ≡ source_in s w
 source_bare (Inserted n) w = refl

@@ -1,15 +1,15 @@
 -- Batches of operations on boards.
-use Rattle.std.proofs.Common.{◌≡◌, Bool, true, not, ◌&&◌, Option, Some, None, refl, ap, ◌⊎◌, inl, inr, ◌↔◌, IsTrue, ℕ, ◌≤◌, false, List, [], ◌∷◌, length, ◌∙◌, sym, arith, reverse, Result, nat_lt, if◌then◌else◌}
-use Rattle.std.proofs.lemmas.Bool.{and_parts, and_from, not-true, not_from_false, false_from_ne_true, or_parts, eq-eqb, false≢true}
+use Rattle.std.proofs.Common.{◌≡◌, Bool, true, ◌&&◌, Option, Some, None, refl, ap, ◌⊎◌, inl, inr, ◌↔◌, IsTrue, ℕ, ◌≤◌, false, List, [], ◌∷◌, length, ◌∙◌, sym, arith, reverse, Result, nat_lt, if◌then◌else◌}
+use Rattle.std.proofs.lemmas.Bool.{and_parts, and_from, or_parts, eq-eqb, false≢true}
 use Rattle.std.specs.List.{fold}
-use Rattle.jup_batch.specs.Prelude.{KeepsFresh, after_all, edits, IsValidBatch, batches, BatchInserts, Name, Source, Inserted, Place, BoardOp, Command, Widget, WidgetOp, OnText, OnList, OnToggle, OnSlider, EditFault, count_of, Operations, AreLawful, boards, board_operations, item_count, item_name, map_ok, told_on, item_place, command_place}
+use Rattle.jup_batch.specs.Prelude.{KeepsFresh, after_all, edits, IsValidBatch, batches, BatchInserts, Name, Source, Inserted, Place, BoardOp, Command, Widget, WidgetOp, OnText, OnList, EditFault, count_of, Operations, AreLawful, boards, board_operations, item_count, item_name, map_ok, told_on, item_place, command_place}
 use Rattle.jup_xform.specs.Batches.{shapes, has_batch_room, is_small_batch, batch_meaning}
 use Rattle.jup_xform.specs.Laws.Batches.{length-grid_rows, batch_shape_past, batch_room_past}
 use Rattle.jup_seq.specs.Traces.{length_after, source}
 use Rattle.jup_seq.specs.Names as seq_names
 use Rattle.jup_window.specs.Kinds.{WidgetEdit, inserted_name, is_of_site}
 use Rattle.jup_window.specs.Laws.Operations.{board_laws, inserts_own, deletes_own}
-use Rattle.jup_window.specs.Laws.Widgets.{inserts_name}
+use Rattle.jup_window.specs.Laws.Widgets.{inserts_name, differ_from}
 use Rattle.jup_window.specs.Laws.Boards.{room_client as one_room_client, room_server as one_room_server}
 use Rattle.jup_window.specs.Entries.{Place as Ids, same_place}
 use Rattle.jup_window.specs.Widgets as widget
@@ -18,61 +18,35 @@ use Rattle.jup_window.specs.Boards as board
 use Rattle.jup_window.specs.Laws.Boards as laws
 use Rattle.jup_batch.specs.Batched.{batched, AreBatchable, all_insertions, one_bears_site}
 use Rattle.jup_batch.specs.Laws.BatchedLaws.{batched_laws}
-use Rattle.jup_window.specs.Prelude.{First, Second, Ghosts, name_eq, name_eq_same}
+use Rattle.jup_window.specs.Prelude.{First, Second, Ghosts}
 use Rattle.jup_window.specs.declared.edits.BoardEdit.{BoardEdit}
 
 -- Batches of operations on boards, as a star and its sites use them
 
--- whether two names, if both are there, differ
-abbrev pub names_differ : Option Name → Option Name → Bool
-names_differ (Some m) (Some n) = not (name_eq m n)
-names_differ (Some m) None = true
-names_differ None n = true
-
 -- whether an operation inserts no name that an earlier one inserts or deletes
 abbrev pub is_fresh : BoardOp → BoardOp → Bool
-is_fresh o e = names_differ (widget.inserted o.op) (widget.inserted e.op) && names_differ (widget.inserted o.op) (widget.deleted e.op)
+is_fresh o e = widget.names_differ (widget.inserted o.op) (widget.inserted e.op) && widget.names_differ (widget.inserted o.op) (widget.deleted e.op)
 
 -- batches of operations on boards
 abbrev pub board_batches : Operations
 board_batches = batched board_operations is_fresh
 
-differ_apart : (m n : Option Name) → names_differ m n ≡ true → widget.AreApartNames m n
-differ_apart (Some m) (Some n) h = not-true (name_eq m n) h
-differ_apart (Some m) None h = tt
-differ_apart None n h = tt
-
-apart_differ : (m n : Option Name) → widget.AreApartNames m n → names_differ m n ≡ true
-apart_differ (Some m) (Some n) h = not_from_false (name_eq m n) h
-apart_differ (Some m) None h = refl
-apart_differ None n h = refl
-
--- names that differ in site or number are apart
-apart_from : (m n : Option Name) → ((j k : Name) → m ≡ Some j → n ≡ Some k → j.site ≡ k.site → j.number ≡ k.number → ⊥) → widget.AreApartNames m n
-apart_from (Some m) (Some n) h =
-    false_from_ne_true (name_eq m n) (λ same. let is = name_eq_same m n same in h m n refl refl (ap (λ j. j.site) is) (ap (λ j. j.number) is))
-apart_from (Some m) None h = tt
-apart_from None n h = tt
-
 fresh_from_names : (o e : BoardOp)
     → ((m n : board.Placed) → board.Inserts (board.edit_of o) m → board.Inserts (board.edit_of e) n ⊎ board.Deletes (board.edit_of e) n → m.name.site ≡ n.name.site → m.name.number ≡ n.name.number → ⊥)
     → board.IsFresh o e
 fresh_from_names o e h = (
-  apart_from (widget.inserted o.op) (widget.inserted e.op) (λ j k first second.
+  differ_from (widget.inserted o.op) (widget.inserted e.op) (λ j k first second same.
       h (record { at = board.place o; name = j }) (record { at = board.place e; name = k })
-      (inserts_own (board.edit_of o) j first) (inl (inserts_own (board.edit_of e) k second))),
-  apart_from (widget.inserted o.op) (widget.deleted e.op) (λ j k first second.
+      (inserts_own (board.edit_of o) j first) (inl (inserts_own (board.edit_of e) k second)) (ap (λ n. n.site) same) (ap (λ n. n.number) same)),
+  differ_from (widget.inserted o.op) (widget.deleted e.op) (λ j k first second same.
       h (record { at = board.place o; name = j }) (record { at = board.place e; name = k })
-      (inserts_own (board.edit_of o) j first) (inr (deletes_own (board.edit_of e) k second))),
+      (inserts_own (board.edit_of o) j first) (inr (deletes_own (board.edit_of e) k second)) (ap (λ n. n.site) same) (ap (λ n. n.number) same)),
 )
 
 fresh_decides : (o e : BoardOp) → IsTrue (is_fresh o e) ↔ board.IsFresh o e
 fresh_decides o e = (
-  (λ h.
-      let parts = and_parts (names_differ (widget.inserted o.op) (widget.inserted e.op)) (names_differ (widget.inserted o.op) (widget.deleted e.op)) h in
-      (differ_apart (widget.inserted o.op) (widget.inserted e.op) parts.0, differ_apart (widget.inserted o.op) (widget.deleted e.op) parts.1)),
-  (λ h. and_from (names_differ (widget.inserted o.op) (widget.inserted e.op)) (names_differ (widget.inserted o.op) (widget.deleted e.op))
-      (apart_differ (widget.inserted o.op) (widget.inserted e.op) h.0) (apart_differ (widget.inserted o.op) (widget.deleted e.op) h.1)),
+  and_parts (widget.names_differ (widget.inserted o.op) (widget.inserted e.op)) (widget.names_differ (widget.inserted o.op) (widget.deleted e.op)),
+  λ h. and_from (widget.names_differ (widget.inserted o.op) (widget.inserted e.op)) (widget.names_differ (widget.inserted o.op) (widget.deleted e.op)) h.0 h.1,
 )
 
 pub boards_keep_fresh : KeepsFresh boards
@@ -232,15 +206,13 @@ is_on ids e = same_place (board.place e) ids
 abbrev pub widget_count : ℕ → WidgetOp → ℕ
 widget_count k (OnText e) = length_after k e
 widget_count k (OnList e) = length_after k e
-widget_count k (OnToggle e) = k
-widget_count k (OnSlider e) = k
+widget_count k other = k
 
 abbrev pub widget_source : Source → WidgetOp → Source
 widget_source (Inserted n) e = Inserted n
 widget_source (Place p) (OnText e) = source p e
 widget_source (Place p) (OnList e) = source p e
-widget_source (Place p) (OnToggle e) = Place p
-widget_source (Place p) (OnSlider e) = Place p
+widget_source (Place p) other = Place p
 
 -- of one on the board
 abbrev pub count_past : Ids → ℕ → BoardOp → ℕ

@@ -11,10 +11,10 @@ pub use Rattle.jup_window.specs.declared.board_operations.BoardOp.{BoardOp}
 pub use Rattle.jup_window.specs.declared.commands.Command.{Command}
 pub use Rattle.jup_window.specs.declared.commands.Command.TheVariants.{Delete as DeleteAt, Insert as InsertAt, Relabel as RelabelAt, Set as SetValue}
 pub use Rattle.jup_window.specs.declared.faults.EditFault.{EditFault}
-pub use Rattle.jup_window.specs.declared.widget_operations.WidgetOp.{WidgetOp}
-pub use Rattle.jup_window.specs.declared.widget_operations.WidgetOp.TheVariants.{List as OnList, Slider as OnSlider, Text as OnText, Toggle as OnToggle}
-pub use Rattle.jup_window.specs.declared.widgets.Widget.{Widget}
-pub use Rattle.jup_window.specs.declared.widgets.Widget.TheVariants.{List as Labels, Slider, Text, Toggle}
+pub use Rattle.jup_window.specs.declared.kinds.WidgetOp.{WidgetOp}
+pub use Rattle.jup_window.specs.declared.kinds.WidgetOp.TheVariants.{List as OnList, Slider as OnSlider, Text as OnText, Toggle as OnToggle}
+pub use Rattle.jup_window.specs.declared.kinds.Widget.{Widget}
+pub use Rattle.jup_window.specs.declared.kinds.Widget.TheVariants.{List as Labels, Slider, Text, Toggle}
 pub use Rattle.jup_window.specs.Commands.{and_then_ok, command_place, item_place, map_ok, named, named_widget, on_widget, told_on}
 pub use Rattle.jup_window.specs.Kinds.{count_of, insertions}
 pub use Rattle.jup_window.specs.Operations.{AreLawful, Operations, board_operations, boards, next_name}

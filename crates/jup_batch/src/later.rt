@@ -24,7 +24,7 @@ fn count_past(ids: (u16, u16), count: u32, op: &BoardOp) -> u32
     match &op.op {
         WidgetOp::Text(op) => op.length_after(count),
         WidgetOp::List(op) => op.length_after(count),
-        WidgetOp::Toggle(_) | WidgetOp::Slider(_) => count,
+        _ => count,
     }
 }
 

@@ -1,12 +1,11 @@
 -- The lines of a printed board.
-use Rattle.std.proofs.Common.{◌≡◌, ◌≢◌, ℕ, ◌+◌, ◌^◌, ◌<◌, ◌≤◌, suc, List, [], ◌∷◌, ◌++◌, map, length, Some, None, refl, sym, ap, subst, ◌∙◌, append_assoc, arith, inl, inr, codes, decimal, ◌⊎◌, append-nil}
-use Rattle.std.specs.Option.{option_map}
+use Rattle.std.proofs.Common.{◌≡◌, ◌≢◌, ℕ, ◌+◌, ◌^◌, ◌<◌, ◌≤◌, suc, List, [], ◌∷◌, ◌++◌, map, length, Some, None, refl, sym, ap, subst, ◌∙◌, append_assoc, arith, inl, inr, codes, decimal, ◌⊎◌, append-nil, option_map}
 use Rattle.std.specs.List.{flat_map, AllByRecursion, join_with_byte}
 use Rattle.std.proofs.lemmas.List.{length-append, append_cancel_left}
 use Rattle.std.proofs.lemmas.Option.{same_Some}
 use Rattle.std.specs.Str.{IsUtf8}
 use Rattle.std.proofs.lemmas.List.Concat.{flat_map-append}
-use Rattle.jup_board.specs.Prelude.{most_entries, Item, Widget, Text, Labels, Toggle, Slider, Windows, IsId}
+use Rattle.jup_board.specs.Prelude.{most_entries, Item, Widget, Text, Labels, Windows, IsId}
 use Rattle.jup_window.specs.Entries.{fault_in, widget_fault, at_id, change_at, with_entry}
 use Rattle.jup_window.specs.Laws.Entries.{at_id-same}
 use Rattle.jup_window.specs.Widgets.{item_count}
@@ -17,7 +16,8 @@ use Rattle.jup_text.proofs.Quotes.{same_parts}
 use Rattle.jup_layout.proofs.Drafting.{put-same, put-other, put-length, changed-absent, changed-length}
 use Rattle.jup_layout.proofs.Saying.{none_due}
 use Rattle.jup_board.specs.Boards.{lines_text, blank, HaveOwnIds, IsPrintableWindow, ArePrintable, Lacks, AreTaken, IsPrinted, IsReadTo}
-use Rattle.jup_board.proofs.Texts.{ArePlain, decimal_word, small_decimal, widget_plain, window_plain, flat_long, char_long, lacks_behind, plain_line, plain_text}
+use Rattle.jup_wire.proofs.Plain.{ArePlain}
+use Rattle.jup_board.proofs.Texts.{decimal_word, small_decimal, widget_plain, window_plain, flat_long, char_long, lacks_behind, plain_line, plain_text}
 
 -- The lines of a printed board may come one after another.
 
@@ -86,8 +86,7 @@ same_widget line wid id x y small x_is y_is =
 numbered_to : (before last : ℕ) (widget : Widget) → IsNumbered before widget last → last ≡ before + item_count widget
 numbered_to before last (Text x) are = number_of before last x.items are
 numbered_to before last (Labels x) are = number_of before last x.items are
-numbered_to before last (Toggle x) are = omega (arith, are)
-numbered_to before last (Slider x) are = omega (arith, are)
+numbered_to before last other are = omega (arith, are)
 
 map_long : {A B : Type 0} (f : A → B) (xs : List A) → length (map f xs) ≡ length xs
 map_long f [] = refl
@@ -106,8 +105,7 @@ text_long wid (Labels x) =
     let words = ap (λ (t : List ℕ). length t) (join_spaced (λ (item : Item (List ℕ)). quoted item.value) (decimal wid) x.items) in
     let whole = length-append (decimal wid) (flat_map spaced x.items) in
     omega (arith, labels, words, whole)
-text_long wid (Toggle x) = omega arith
-text_long wid (Slider x) = omega arith
+text_long wid other = omega arith
 
 -- the same of a line that spells the widget
 line_long : (line : List ℕ) (wid : ℕ) (widget : Widget) → IsLineOf line wid widget → item_count widget ≤ length line
@@ -121,8 +119,7 @@ values_more IsIn before values are fits = record { each = are.each; short = are.
 held_more : (before : ℕ) (widget : Widget) → IsHeld 0 widget → before + item_count widget < 2 ^ 32 → IsHeld before widget
 held_more before (Text x) held fits = values_more _ before (map (λ item. item.value) x.items) held (omega (arith, fits, map_long (λ (item : Item ℕ). item.value) x.items))
 held_more before (Labels x) held fits = values_more _ before (map (λ item. item.value) x.items) held (omega (arith, fits, map_long (λ (item : Item (List ℕ)). item.value) x.items))
-held_more before (Toggle x) held fits = tt
-held_more before (Slider x) held fits = held
+held_more before other held fits = held
 
 -- ---- entries that may be added one by one
 

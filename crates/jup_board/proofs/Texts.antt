@@ -1,73 +1,38 @@
 -- The bytes of printed boards, with their headings.
-use Rattle.std.proofs.Common.{◌≡◌, ℕ, ◌+◌, ◌/◌, ◌%◌, ◌^◌, ◌<◌, ◌≤◌, zero, suc, Bool, true, false, ◌&&◌, List, [], ◌∷◌, map, length, refl, sym, ap, ◌∙◌, arith, inl, inr, codes, decimal, ℤ, pos, negsuc, nat_le, ◌≢◌, ◌⊎◌, subst, ◌++◌, get_or, append_assoc, if◌then◌else◌, Result, Ok, Err, IfOk}
-use Rattle.std.specs.Fmt.{digit_glyph, digits_onto, digits, signed_decimal}
-use Rattle.std.specs.List.{flat_map, list_all, AllByRecursion, join_with_byte}
+use Rattle.std.proofs.Common.{◌≡◌, ℕ, ◌+◌, ◌/◌, ◌%◌, ◌^◌, ◌<◌, ◌≤◌, zero, suc, true, false, Option, None, Some, List, [], ◌∷◌, map, length, refl, sym, ap, ◌∙◌, arith, inl, inr, codes, decimal, ◌≢◌, ◌⊎◌, subst, ◌++◌, get_or, append_assoc, if◌then◌else◌, Result, Ok, Err, IfOk}
+use Rattle.std.specs.Fmt.{digit_glyph, digits_onto, digits}
+use Rattle.std.specs.List.{flat_map, AllByRecursion, join_with_byte}
 use Rattle.std.specs.Str.{IsUtf8}
 use Rattle.std.specs.Str.Parse.{digits_value}
-use Rattle.std.proofs.lemmas.Bool.{cases_lt, cases_eq, lt-ltb, le-ltb, eq-eqb, ne_eqb, and_parts, leb-true}
+use Rattle.std.proofs.lemmas.Bool.{cases_eq, ne_eqb}
 use Rattle.std.proofs.lemmas.Fmt.{decimal_is_IsNumeral_wide, length-decimal-le}
 use Rattle.std.proofs.lemmas.List.{length-append}
 use Rattle.std.proofs.lemmas.List.Elements.{All-from_recursion}
 use Rattle.std.proofs.lemmas.Str.{IsUtf8-from_ascii}
 use Rattle.std.proofs.lemmas.Str.Ascii.{IsAscii-from_all}
 use Rattle.std.specs.Global.{Vec}
-use Rattle.jup_board.specs.Prelude.{IsU32, Item, Name, Widget, Text, Labels, Toggle, Slider, Windows, Line}
-use Rattle.jup_text.specs.Boards.{widget_words, board_text}
-use Rattle.jup_text.specs.Words.{hexadecimal, quoted_char, quoted, IsWord, switch_text}
-use Rattle.jup_text.proofs.Quotes.{IsPlain, by_kind, same_parts}
+use Rattle.jup_board.specs.Prelude.{IsU32, Item, Name, Widget, Text, Labels, Windows, Line}
+use Rattle.jup_text.specs.Boards.{widget_words, value_words, board_text}
+use Rattle.jup_text.specs.Words.{hexadecimal, quoted_char, quoted, IsWord}
+use Rattle.jup_text.proofs.Quotes.{by_kind, same_parts}
+use Rattle.jup_wire.specs.declared.kinds.WidgetValue.{WidgetValue}
+use Rattle.jup_wire.specs.Kinds.{value_of}
+use Rattle.jup_wire.proofs.ByKind.{value_plain}
+use Rattle.jup_wire.proofs.Plain.{IsPlain, ArePlain, AreMarks, digits_marks, decimal_marks, marks_plain, decimal_plain, are_plain}
 use Rattle.jup_wire.specs.declared.line.Line.TheVariants as line
 use Rattle.jup_wire.specs.Lines.{HasSpelling, is_spelled, line_bytes, spelling}
 use Rattle.jup_wire.proofs.Streams.{all-append}
 use Rattle.jup_layout.specs.Drafts.{item_lines, widget_lines, window_lines, board_lines}
 use Rattle.jup_board.specs.Boards.{BeginsOtherwise, Follows, PassesOver, Lacks, IsHeading, IsListening, IsOrder, IsLayoutOf, numbered_line, number_after, numbered_lines, Gathered, IsWritable, PutsNumbered}
 
--- The bytes of a printed board's lines: each is from a space to `~`.
-
-abbrev pub ArePlain : List ℕ → Type 0
-ArePlain bytes = AllByRecursion IsPlain bytes
-
--- ---- digits
-
--- digits and letters
-abbrev AreMarks : List ℕ → Type 0
-AreMarks bytes = AllByRecursion (λ byte. (48 ≤ byte) × (byte ≤ 126)) bytes
-
-glyph_mark : (d : ℕ) → d < 16 → (48 ≤ digit_glyph false d) × (digit_glyph false d ≤ 126)
-glyph_mark d low = elim (cases_lt d 10) [ inl digit ↦ rw (lt-ltb d 10 digit) (omega arith, omega arith) | inr letter ↦ rw (le-ltb d 10 letter) (omega arith, omega arith) ]
-
-onto_marks : (base k n : ℕ) (behind : List ℕ) → ((m : ℕ) → m % base < 16) → AreMarks behind → AreMarks (digits_onto k base false n behind)
-onto_marks base zero n behind low all = all
-onto_marks base (suc k) n behind low all =
-    let more : AreMarks (digit_glyph false (n % base) ∷ behind) = (glyph_mark (n % base) (low n), all) in
-    elim (cases_eq (n / base) 0) [
-      | inl last ↦ rw (eq-eqb (n / base) 0 last) more
-      | inr next ↦ rw (ne_eqb (n / base) 0 next) (onto_marks base k (n / base) (digit_glyph false (n % base) ∷ behind) low more)
-    ]
-
-digits_marks : (base n : ℕ) → ((m : ℕ) → m % base < 16) → AreMarks (digits base false n)
-unfolding digits
-digits_marks base n low = onto_marks base 64 n [] low tt
-
-decimal_marks : (n : ℕ) → AreMarks (decimal n)
-decimal_marks n = digits_marks 10 n (λ m. omega arith)
+-- ---- words
 
 marks_word : (bytes : List ℕ) → AreMarks bytes → IsWord bytes
 marks_word [] all = tt
 marks_word (b ∷ bytes) all = let high = all.0.0 in ((λ e. absurd (omega (arith, e, high))), marks_word bytes all.1)
 
-marks_plain : (bytes : List ℕ) → AreMarks bytes → ArePlain bytes
-marks_plain [] all = tt
-marks_plain (b ∷ bytes) all = let low = all.0.0 in ((omega (arith, low), all.0.1), marks_plain bytes all.1)
-
 pub decimal_word : (n : ℕ) → IsWord (decimal n)
 decimal_word n = marks_word (decimal n) (decimal_marks n)
-
-pub decimal_plain : (n : ℕ) → ArePlain (decimal n)
-decimal_plain n = marks_plain (decimal n) (decimal_marks n)
-
-signed_plain : (z : ℤ) → ArePlain (signed_decimal z)
-signed_plain (pos n) = decimal_plain n
-signed_plain (negsuc n) = ((omega arith, omega arith), decimal_plain (suc n))
 
 -- ---- a number with few digits
 
@@ -100,13 +65,6 @@ small_decimal n id small same =
 
 -- ---- words, quotes, lines
 
-pub are_plain : (bytes : List ℕ) → list_all (λ byte. nat_le 32 byte && nat_le byte 126) bytes ≡ true → ArePlain bytes
-are_plain [] all = tt
-are_plain (b ∷ bytes) all =
-    let parts = and_parts (nat_le 32 b && nat_le b 126) (list_all (λ byte. nat_le 32 byte && nat_le byte 126) bytes) all in
-    let here = and_parts (nat_le 32 b) (nat_le b 126) parts.0 in
-    ((leb-true 32 b here.0, leb-true b 126 here.1), are_plain bytes parts.1)
-
 char_plain : (c : ℕ) → ArePlain (quoted_char c)
 char_plain c =
     by_kind c (λ (d : ℕ) (t : List ℕ). ArePlain t)
@@ -128,19 +86,18 @@ joined_plain [] all = tt
 joined_plain (x ∷ []) all = all.0
 joined_plain (x ∷ y ∷ xs) all = all-append IsPlain x (32 ∷ join_with_byte 32 (y ∷ xs)) all.0 ((omega arith, omega arith), joined_plain (y ∷ xs) all.1)
 
-switch_plain : (on : Bool) → ArePlain (switch_text on)
-switch_plain true = are_plain (codes "on") refl
-switch_plain false = are_plain (codes "off") refl
-
 labels_plain : (items : List (Item (List ℕ))) → AllByRecursion ArePlain (map (λ item. quoted item.value) items)
 labels_plain [] = tt
 labels_plain (x ∷ xs) = (quoted_plain x.value, labels_plain xs)
 
+value_words_plain : (wid : ℕ) (said : Option WidgetValue) → AllByRecursion ArePlain (value_words wid said)
+value_words_plain wid None = tt
+value_words_plain wid (Some value) = let words = value_plain value in (words.0, (decimal_plain wid, words.1))
+
 words_plain : (wid : ℕ) (widget : Widget) → AllByRecursion ArePlain (widget_words wid widget)
 words_plain wid (Text x) = (are_plain (codes "text") refl, (decimal_plain wid, (quoted_plain (map (λ item. item.value) x.items), tt)))
 words_plain wid (Labels x) = (are_plain (codes "list") refl, (decimal_plain wid, labels_plain x.items))
-words_plain wid (Toggle x) = (are_plain (codes "toggle") refl, (decimal_plain wid, (switch_plain x.on, tt)))
-words_plain wid (Slider x) = (are_plain (codes "slider") refl, (decimal_plain wid, (signed_plain x.lo, (signed_plain x.hi, (signed_plain x.value, tt)))))
+words_plain wid other = value_words_plain wid (value_of other)
 
 pub widget_plain : (wid : ℕ) (widget : Widget) → ArePlain (join_with_byte 32 (widget_words wid widget))
 widget_plain wid widget = joined_plain (widget_words wid widget) (words_plain wid widget)
@@ -339,8 +296,7 @@ of_items line_of are (x ∷ xs) = (are x.name x.value, of_items line_of are xs)
 of_widget : (entry : ℕ × Widget) → AllByRecursion IsOfBoard (widget_lines entry)
 of_widget (wid, Text x) = (λ n. refl, of_items line.Char (λ name value n. refl) x.items)
 of_widget (wid, Labels x) = (λ n. refl, of_items line.Item (λ name value n. refl) x.items)
-of_widget (wid, Toggle x) = (λ n. refl, tt)
-of_widget (wid, Slider x) = (λ n. refl, tt)
+of_widget (wid, other) = (λ n. refl, tt)
 
 of_all : {A : Type 0} (lines_of : A → List Line) → ((a : A) → AllByRecursion IsOfBoard (lines_of a)) → (entries : List A) → AllByRecursion IsOfBoard (flat_map lines_of entries)
 of_all lines_of are [] = tt

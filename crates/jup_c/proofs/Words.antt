@@ -29,12 +29,11 @@ use Rattle.core.proofs.alloc.Calls.{handle_tells, α}
 use Rattle.core.proofs.cell.Inside.{Good}
 use Rattle.std_alloc.specs.Box.Ownership.{box_owns}
 use Rattle.std_alloc.proofs.BoxSteps.Form.{Bx}
-use Rattle.std.specs.declared.alloc.Global.{Global}
 use Rattle.std_heap.specs.contracts.Global as Heap
 use Rattle.std_heap.specs.contracts.GlobalAllocator.TheImpl.{ghosts, dict}
 use Rattle.std_heap.proofs.Global.TheLaws as heap
 use Rattle.std.proofs.GlobalToken.{dealloc_token-Testable}
-use Rattle.jup_c.specs.Prelude.{Session}
+use Rattle.jup_c.specs.Prelude.{Session, Global}
 use Rattle.jup_embed.specs.contracts.client.Client.{the_row as R}
 use Rattle.jup_embed.proofs.client.Client.TheLaws as laws
 use Rattle.jup_c.specs.contracts.handle.JupClient as Handle

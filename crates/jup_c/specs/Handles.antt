@@ -1,14 +1,13 @@
 -- What a handle owns, and what a call makes of it.
 use Rattle.std.specs.Prelude.{Option, None, Some, ◌≡◌, ℕ, List, [], ◌∷◌, drop}
 use Rattle.std.specs.Coded.{coded_option}
-use Rattle.std.specs.declared.alloc.Global.{Global}
 use Rattle.std.specs.Option.{option_map}
 use base.Fml.{Fml, ftrue, ffalse}
 use base.Stored.{Coded}
 use denote.RawPtr.{Ptr, block_ptr, null_ptr}
 use Rattle.std_heap.specs.contracts.GlobalAllocator.TheImpl.{ghosts}
 use Rattle.std_alloc.specs.Box.Ownership.{box_owns}
-use Rattle.jup_c.specs.Prelude.{Command, BoardOp, Hello, line_bytes, HasRead, Greeting, Session, stage_of, Feeds, MakesEdit, JupCommand, JupChange}
+use Rattle.jup_c.specs.Prelude.{Command, BoardOp, Hello, line_bytes, HasRead, Greeting, Session, stage_of, Feeds, MakesEdit, JupCommand, JupChange, Global}
 use Rattle.jup_embed.specs.contracts.client.Client.{the_row}
 use Rattle.jup_c.specs.Numbers.{stage_number, no_stage, stage_fault, SpellAll, Shows}
 

@@ -1,29 +1,30 @@
 -- The numbers of c/jup.h, and what is passed in numbers.
-use Rattle.std.specs.Prelude.{ℕ, ◌==◌, ◌||◌, nat_le, if◌then◌else◌, Result, Ok, Err, ◌≡◌, ◌≢◌, ◌↔◌, ◌⊎◌, ℤ, pos, ◌≤◌, IsTrue, List, [], ◌∷◌, length, take, replicate}
+use Rattle.std.specs.Prelude.{ℕ, ◌==◌, ◌||◌, nat_le, if◌then◌else◌, Option, Some, None, Result, Ok, Err, ◌≡◌, ◌⊎◌, ℤ, pos, ◌≤◌, List, [], ◌∷◌, length, take, replicate}
 use Rattle.std.specs.Char.{IsScalar}
 use Rattle.jup_limits.specs.Limits.{longest_label}
 use Rattle.jup_value.specs.Labels.{IsLabelText}
 use Rattle.jup_c.specs.Prelude.{Command, BoardOp, JupCommand, JupChange}
 use Rattle.jup_window.specs.declared.commands.Value.{Value}
-use Rattle.jup_window.specs.declared.commands.Setting.{Setting}
+use Rattle.jup_window.specs.declared.kinds.Setting.{Setting}
 use Rattle.jup_window.specs.Commands.{command_place}
 use Rattle.jup_rules.specs.Ends.{client_end_number}
 use Rattle.jup_embed.specs.declared.client.Stage.{Stage}
 use Rattle.jup_embed.specs.declared.client.Stage.TheVariants.{Greeting, Opening, Open, Over}
 use Rattle.jup_embed.specs.declared.board_view.WidgetKind.{WidgetKind}
-use Rattle.jup_embed.specs.declared.board_view.WidgetKind.TheVariants.{Text, List as Labels, Toggle, Slider}
+use Rattle.jup_embed.specs.declared.board_view.WidgetKind.TheVariants.{Text, List as Labels}
+use Rattle.jup_wire.specs.Kinds.{kind_number, value_numbers}
 use Rattle.jup_embed.specs.declared.refusals.EmbedFault.TheVariants.{NotOpen, Over as WasOver, Edit, NoMemory}
 use Rattle.jup_embed.specs.declared.board_view.WidgetView.{WidgetView}
 use Rattle.jup_embed.specs.declared.board_view.WidgetKind.TheVariants as widget
 use Rattle.jup_c.specs.declared.views.JupWidget.{JupWidget}
 use Rattle.jup_embed.specs.Prelude.{edit_fault_number}
-use Rattle.jup_window.specs.Prelude.{SetTo, Insert, Delete, Relabel}
+use Rattle.jup_window.specs.Prelude.{Insert, Delete, Relabel}
 use Rattle.jup_embed.specs.declared.refusals.EmbedFault.{EmbedFault}
-use Rattle.jup_window.specs.declared.widget_operations.WidgetOp.{WidgetOp}
-use Rattle.jup_window.specs.declared.widget_operations.WidgetOp.TheVariants.{Text as OnText, List as OnList, Toggle as OnToggle, Slider as OnSlider}
+use Rattle.jup_window.specs.declared.kinds.WidgetOp.{WidgetOp}
+use Rattle.jup_window.specs.declared.kinds.WidgetOp.TheVariants.{Text as OnText, List as OnList}
 use Rattle.jup_window.specs.declared.commands.Command.TheVariants.{Insert as InsertAt, Delete as DeleteAt, Relabel as RelabelAt, Set as SetValue}
 use Rattle.jup_window.specs.declared.commands.Value.TheVariants.{Char, Label}
-use Rattle.jup_window.specs.declared.commands.Setting.TheVariants.{Toggle as ToToggle, Slider as ToSlider}
+use Rattle.jup_window.specs.Kinds.{setting_kind, setting_number, op_setting, IsToldBy}
 
 -- The numbers of c/jup.h: of each kind of commands, of changes and of widgets, of each stage, and of each answer.
 
@@ -33,26 +34,27 @@ command_kind (InsertAt win wid place (Char value)) = 1
 command_kind (InsertAt win wid place (Label label)) = 2
 command_kind (DeleteAt win wid place) = 3
 command_kind (RelabelAt win wid place label) = 4
-command_kind (SetValue win wid (ToToggle on)) = 5
-command_kind (SetValue win wid (ToSlider value)) = 6
+command_kind (SetValue win wid setting) = setting_kind setting
 
 -- what a change did: the kind of the command that asks for it, and 0 if the board stayed as it was
+abbrev pub set_kind : Option Setting → ℕ
+set_kind None = 0
+set_kind (Some setting) = setting_kind setting
+
 abbrev pub change_kind : WidgetOp → ℕ
 change_kind (OnText (Insert place item)) = 1
 change_kind (OnList (Insert place item)) = 2
 change_kind (OnText (Delete place name)) = 3
 change_kind (OnList (Delete place name)) = 3
 change_kind (OnList (Relabel place name label)) = 4
-change_kind (OnToggle (SetTo on)) = 5
-change_kind (OnSlider (SetTo value)) = 6
-change_kind other = 0
+change_kind other = set_kind (op_setting other)
 
 -- what a widget is
 abbrev pub widget_kind : WidgetKind → ℕ
 widget_kind (Text count) = 1
 widget_kind (Labels count) = 2
-widget_kind (Toggle on) = 3
-widget_kind (Slider lo hi value) = 4
+widget_kind (widget.Value value) = kind_number value
+widget_kind widget.Unknown = 0
 
 -- how far a session is
 abbrev pub stage_number : Stage → ℕ
@@ -118,16 +120,12 @@ abbrev pub HasValue : JupCommand → Value → Type 0
 HasValue told (Char value) = (told.value ≡ pos value) × IsScalar value
 HasValue told (Label label) = HasLabel told label
 
-abbrev pub HasSetting : JupCommand → Setting → Type 0
-HasSetting told (ToToggle on) = IsTrue on ↔ (told.value ≢ pos 0)
-HasSetting told (ToSlider value) = told.value ≡ value
-
 -- the fields that the kind of the command uses beside the ids
 abbrev pub HasFields : JupCommand → Command → Type 0
 HasFields told (InsertAt win wid place value) = (told.place ≡ place) × HasValue told value
 HasFields told (DeleteAt win wid place) = told.place ≡ place
 HasFields told (RelabelAt win wid place label) = (told.place ≡ place) × HasLabel told label
-HasFields told (SetValue win wid setting) = HasSetting told setting
+HasFields told (SetValue win wid setting) = IsToldBy setting told.value
 
 -- these numbers spell the command
 pub record Spells (told : JupCommand) (command : Command) : Type 0 where
@@ -178,11 +176,13 @@ change_name (OnList (Relabel place name label)) = (name.site, name.number)
 change_name other = (0, 0)
 
 -- the character that was inserted, or the value that was set, and 0 if there was none
+abbrev pub set_number : Option Setting → ℤ
+set_number None = pos 0
+set_number (Some setting) = setting_number setting
+
 abbrev pub change_value : WidgetOp → ℤ
 change_value (OnText (Insert place item)) = pos item.value
-change_value (OnToggle (SetTo on)) = pos (if on then 1 else 0)
-change_value (OnSlider (SetTo value)) = value
-change_value other = pos 0
+change_value other = set_number (op_setting other)
 
 -- the label that was inserted or given, and no byte if there was none
 abbrev pub change_label : WidgetOp → List ℕ
@@ -207,18 +207,17 @@ widget_items (widget.Text count) = count
 widget_items (widget.List count) = count
 widget_items other = 0
 
--- the bounds of a slider, and what a toggle or a slider shows
+-- the bounds of a widget without items, and what it shows
 abbrev pub widget_lo : WidgetKind → ℤ
-widget_lo (widget.Slider lo hi value) = lo
+widget_lo (widget.Value value) = (value_numbers value).0
 widget_lo other = pos 0
 
 abbrev pub widget_hi : WidgetKind → ℤ
-widget_hi (widget.Slider lo hi value) = hi
+widget_hi (widget.Value value) = (value_numbers value).1
 widget_hi other = pos 0
 
 abbrev pub widget_value : WidgetKind → ℤ
-widget_value (widget.Toggle on) = pos (if on then 1 else 0)
-widget_value (widget.Slider lo hi value) = value
+widget_value (widget.Value value) = (value_numbers value).2
 widget_value other = pos 0
 
 -- a widget in numbers is this widget

@@ -8,3 +8,4 @@ pub use Rattle.jup_embed.specs.declared.phase.Phase.TheVariants.{Greeting}
 pub use Rattle.jup_embed.specs.Sessions.{Feeds, MakesEdit, Session, stage_of}
 pub use Rattle.jup_c.specs.declared.changes.JupChange.{JupChange}
 pub use Rattle.jup_c.specs.declared.commands.JupCommand.{JupCommand}
+pub use Rattle.std.specs.declared.alloc.Global.{Global}

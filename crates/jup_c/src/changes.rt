@@ -2,10 +2,9 @@
 ghost use Rattle.std.specs.Prelude.{◌≡◌, pos, length, take};
 ghost use Rattle.jup_c.specs.Numbers.{bare_change, Shows};
 
-use crate::kinds::{DELETE, INSERT_CHAR, INSERT_LABEL, NOTHING, RELABEL, SET_SLIDER, SET_TOGGLE};
+use crate::kinds::{DELETE, INSERT_CHAR, INSERT_LABEL, NOTHING, RELABEL};
 use jup_limits::LONGEST_LABEL;
 use jup_seq::SeqOp;
-use jup_setting::SetOp;
 use jup_value::{Label, Name};
 use jup_window::{BoardOp, WidgetOp};
 
@@ -43,15 +42,13 @@ pub(crate) fn change_of(op: &BoardOp) -> JupChange
         WidgetOp::List(SeqOp::Relabel { place, name, value }) => {
             with_label(of_item(op, RELABEL, *place, *name), value)
         }
-        WidgetOp::Toggle(SetOp::Set(on)) => JupChange {
-            value: i32::from(*on),
-            ..of_widget(op, SET_TOGGLE)
+        other => match other.setting() {
+            Some(setting) => JupChange {
+                value: setting.number(),
+                ..of_widget(op, setting.kind_number())
+            },
+            None => of_widget(op, NOTHING),
         },
-        WidgetOp::Slider(SetOp::Set(value)) => JupChange {
-            value: *value,
-            ..of_widget(op, SET_SLIDER)
-        },
-        _ => of_widget(op, NOTHING),
     }
 }
 

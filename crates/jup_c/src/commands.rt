@@ -2,10 +2,9 @@
 ghost use Rattle.std.specs.Prelude.{◌≡◌, ◌≢◌, ◌↔◌, pos, ℕ, List, length, IsOk, IsErr, IfOk, IfErr};
 ghost use Rattle.std.specs.Char.{IsScalar};
 ghost use Rattle.jup_window.specs.declared.commands.Command.{Command as AnyCommand};
-ghost use Rattle.jup_window.specs.declared.commands.Command.TheVariants.{Set as SetValue};
 ghost use Rattle.jup_c.specs.Numbers.{bad_label, bad_command, HasLabel, Spells, SpellAll, IsFirstWrong, wrong_part};
 
-use crate::kinds::{DELETE, INSERT_CHAR, INSERT_LABEL, RELABEL, SET_SLIDER, SET_TOGGLE};
+use crate::kinds::{DELETE, INSERT_CHAR, INSERT_LABEL, RELABEL};
 use crate::numbers::{BAD_COMMAND, BAD_LABEL};
 use jup_value::Label;
 use jup_window::{Command, Setting, Value};
@@ -79,19 +78,10 @@ pub(crate) fn command_of(told: &JupCommand) -> Result<Command, u32>
             place,
             label: label_of(told)?,
         }),
-        SET_TOGGLE => Ok(set(told, Setting::Toggle(told.value != 0))),
-        SET_SLIDER => Ok(set(told, Setting::Slider(told.value))),
-        _ => Err(BAD_COMMAND),
-    }
-}
-
-fn set(told: &JupCommand, setting: Setting) -> Command
-    ensures { result ≡ SetValue told.now.win told.now.wid setting }
-{
-    Command::Set {
-        win: told.win,
-        wid: told.wid,
-        setting,
+        kind => match Setting::told(kind, told.value) {
+            Some(setting) => Ok(Command::Set { win, wid, setting }),
+            None => Err(BAD_COMMAND),
+        },
     }
 }
 

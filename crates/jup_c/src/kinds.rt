@@ -8,10 +8,6 @@ pub(crate) const DELETE: u32 = 3;
 
 pub(crate) const RELABEL: u32 = 4;
 
-pub(crate) const SET_TOGGLE: u32 = 5;
-
-pub(crate) const SET_SLIDER: u32 = 6;
-
 /// The kind of a change that left the board as it was.
 pub(crate) const NOTHING: u32 = 0;
 
@@ -19,6 +15,5 @@ pub(crate) const TEXT: u32 = 1;
 
 pub(crate) const LIST: u32 = 2;
 
-pub(crate) const TOGGLE: u32 = 3;
-
-pub(crate) const SLIDER: u32 = 4;
+// Widgets without items have their numbers in `jup_wire`, and settings have theirs in `jup_window`.
+pub(crate) const UNKNOWN: u32 = 0;

@@ -1,9 +1,10 @@
 //! Widgets and texts as C reads them.
 ghost use Rattle.std.specs.Prelude.{◌≡◌, length, min, take, drop};
+ghost use Rattle.jup_wire.specs.Kinds.{kind_number, value_numbers};
 ghost use Rattle.jup_c.specs.Numbers.{IsWidget};
 
-use crate::kinds::{LIST, SLIDER, TEXT, TOGGLE};
-use jup_embed::{WidgetKind, WidgetView};
+use crate::kinds::{LIST, TEXT, UNKNOWN};
+use jup_embed::{WidgetKind, WidgetValue, WidgetView};
 
 /// A widget in numbers, without its items. `kind` says which of the other fields count.
 #[repr(C)]
@@ -16,7 +17,7 @@ pub struct JupWidget {
     pub items: u32,
     pub lo: i32,
     pub hi: i32,
-    /// 0 or 1 of a toggle, or the value of a slider.
+    /// What a widget without items shows: 0 or 1 of a toggle, or the value of a slider.
     pub value: i32,
 }
 
@@ -41,18 +42,25 @@ pub(crate) fn widget_of(view: &WidgetView) -> JupWidget
             items,
             ..bare
         },
-        WidgetKind::Toggle(on) => JupWidget {
-            kind: TOGGLE,
-            value: i32::from(on),
+        WidgetKind::Value(value) => of_value(bare, &value),
+        WidgetKind::Unknown => JupWidget {
+            kind: UNKNOWN,
             ..bare
         },
-        WidgetKind::Slider { lo, hi, value } => JupWidget {
-            kind: SLIDER,
-            lo,
-            hi,
-            value,
-            ..bare
-        },
+    }
+}
+
+// A widget without items, by its ids.
+fn of_value(bare: JupWidget, value: &WidgetValue) -> JupWidget
+    ensures { result ≡ record bare { kind = kind_number value.now; lo = (value_numbers value.now).0; hi = (value_numbers value.now).1; value = (value_numbers value.now).2 } }
+{
+    let (lo, hi, shown) = value.numbers();
+    JupWidget {
+        kind: value.kind_number(),
+        lo,
+        hi,
+        value: shown,
+        ..bare
     }
 }
 

@@ -1,13 +1,11 @@
 -- What each call makes of a session.
-use Rattle.std.proofs.Common.{inl, inr, ◌≡◌, ◌≤◌, ◌<◌, ℕ, ◌+◌, ◌-◌, arith, ◌∙◌, refl, sym, ap, Bool, true, false, List, [], ◌∷◌, ◌++◌, map, length, take, drop, get_or, set, length-drop, slice_get, Some, None, if◌then◌else◌, subst, ◌||◌, ◌==◌, Option, Result, Ok, Err, MatchBool, is_ok, IfErr, IsErrAnd, IfOk, OnOk}
+use Rattle.std.proofs.Common.{inl, inr, ◌≡◌, ◌≤◌, ◌<◌, ℕ, ◌+◌, ◌-◌, arith, ◌∙◌, refl, sym, ap, Bool, true, false, List, [], ◌∷◌, ◌++◌, length, take, drop, get_or, set, length-drop, slice_get, Some, None, if◌then◌else◌, subst, ◌||◌, ◌==◌, Option, Result, Ok, Err, MatchBool, is_ok, IfErr, IsErrAnd, IfOk, OnOk, flat_map}
 use Rattle.std.proofs.lemmas.List.{append-nil, drop_more, drop_all, get_or-drop, get_or-map, get_or_default, length-map, take-append-drop}
 use Rattle.std.proofs.Math.ListN.{get_or-eq_default}
 use Rattle.std.proofs.lemmas.Option.{get_or_from_slice_get, slice_get_within, slice_get_cases}
 use Rattle.std.proofs.lemmas.Grind.{take-set_at}
-use Rattle.std.specs.List.{flat_map}
-use Rattle.std.specs.Option.{option_map}
 use Rattle.jup_xform.specs.Laws.Grids.{after_all-append}
-use Rattle.jup_embed.specs.Prelude.{Item, Command, EditFault, BoardOp, Made, Line, WireFault, line_bytes, Request, NoMemory, Told, Answer, Heard, ClientEnd, ClientState, Wire, Said, end_of_fault, Phase, EmbedFault}
+use Rattle.jup_embed.specs.Prelude.{Item, Command, EditFault, BoardOp, Made, Line, WireFault, line_bytes, Request, NoMemory, Told, Answer, Heard, ClientEnd, ClientState, Wire, end_of_fault, Phase, EmbedFault}
 use Rattle.jup_batch.specs.Boards.{board_batches, Windows, after}
 use Rattle.jup_star.specs.declared.site.Delivered.{Delivered}
 use Rattle.jup_star.specs.Sites.{EditAnswers, edit_reply, site_edited, is_edit_memory, edit_answer as site_answer, BoardSite, made_by, made_result, after_edit, shown_after}
@@ -16,7 +14,7 @@ use Rattle.jup_wire.proofs.Streams.{take_one_more}
 use Rattle.jup_gather.specs.Gathering.{down_in, message_given}
 use Rattle.jup_rules.specs.declared.client.Told.TheVariants.{Synced, Bye as SaidBye}
 use Rattle.jup_rules.specs.declared.client.Told.TheVariants as told
-use Rattle.jup_rules.specs.Clients.{saying, IsHeld, ComesTo, AnswersEdit, Answers, edit_answer, telling, Hears, HearsDown, Delivers, down_heard, heard_answer, sync_answer}
+use Rattle.jup_rules.specs.Clients.{saying, IsHeld, ComesTo, AnswersEdit, Answers, edit_answer, telling, Hears, HearsDown, down_heard, heard_answer}
 use Rattle.jup_embed.specs.declared.phase.Phase.TheVariants as phase
 use Rattle.jup_embed.specs.Sessions.{kept, operations_in, operations_said, said_bytes, PhaseHears, Session, HearsLine, HearsLines, EditedIn, MakesEdit, AnsweredIn, IsDone, DoesAsked, Commands, still_synced, KeepsRest, RefusesLine, HearsUpTo, ReadsOn, Ends, board_in, Feeds, LacksUntold, KeepsCopies}
 use Rattle.jup_embed.specs.Views.{values_of}

@@ -7,18 +7,23 @@ use Rattle.jup_window.specs.Entries.{Place, widget_at}
 use Rattle.jup_embed.specs.declared.board_view.WidgetKind.{WidgetKind}
 use Rattle.jup_embed.specs.declared.board_view.WidgetKind.TheVariants as kind
 use Rattle.jup_embed.specs.declared.board_view.WidgetView.{WidgetView}
-use Rattle.jup_window.specs.declared.widgets.Widget.{Widget}
-use Rattle.jup_window.specs.declared.widgets.Widget.TheVariants.{Text, List as Labels, Toggle, Slider}
+use Rattle.jup_window.specs.declared.kinds.Widget.{Widget}
+use Rattle.jup_window.specs.declared.kinds.Widget.TheVariants.{Text, List as Labels}
+use Rattle.jup_wire.specs.declared.kinds.WidgetValue.{WidgetValue}
+use Rattle.jup_wire.specs.Kinds.{value_of}
 
 -- the id of the window at an index, and how many widgets it has
 abbrev pub window_shown : ℕ → Windows → Option (ℕ × ℕ)
 window_shown index board = option_map (λ entry. (entry.0, length entry.1)) (slice_get board index)
 
+abbrev pub value_kind : Option WidgetValue → WidgetKind
+value_kind None = kind.Unknown
+value_kind (Some value) = kind.Value value
+
 abbrev pub kind_of : Widget → WidgetKind
 kind_of (Text text) = kind.Text (length text.items)
 kind_of (Labels list) = kind.List (length list.items)
-kind_of (Toggle toggle) = kind.Toggle toggle.on
-kind_of (Slider slider) = kind.Slider slider.lo slider.hi slider.value
+kind_of other = value_kind (value_of other)
 
 -- the widget at an index of the window at an index
 abbrev pub widget_shown : ℕ → ℕ → Windows → Option WidgetView

@@ -4,6 +4,7 @@ ghost use Rattle.jup_embed.specs.Views.{window_shown, kind_of, widget_shown, val
 
 use jup_value::{Label, Seq};
 use jup_window::{Board, Widget};
+use jup_wire::WidgetValue;
 
 /// What a widget is.
 #[derive(Clone, Copy, Debug, PartialEq, Eq)]
@@ -12,8 +13,10 @@ pub enum WidgetKind {
     Text(u32),
     /// A list, with the count of its items.
     List(u32),
-    Toggle(bool),
-    Slider { lo: i32, hi: i32, value: i32 },
+    /// A widget without items, with what it shows.
+    Value(WidgetValue),
+    /// No other widget than these is on a board.
+    Unknown,
 }
 
 /// A widget, without its items.
@@ -51,12 +54,7 @@ fn kind_of(widget: &Widget) -> WidgetKind
     match widget {
         Widget::Text(text) => WidgetKind::Text(text.len()),
         Widget::List(list) => WidgetKind::List(list.len()),
-        Widget::Toggle(toggle) => WidgetKind::Toggle(toggle.on),
-        Widget::Slider(slider) => WidgetKind::Slider {
-            lo: slider.lo(),
-            hi: slider.hi(),
-            value: slider.value(),
-        },
+        other => WidgetValue::of(other).map_or(WidgetKind::Unknown, WidgetKind::Value),
     }
 }
 
@@ -69,7 +67,7 @@ pub fn copy_text(board: &Board, win: u16, wid: u16, place: u32, to: &mut [u32]) 
 {
     match board.widget(win, wid)? {
         Widget::Text(text) => Some(copy_chars(text, place, to)),
-        Widget::List(_) | Widget::Toggle(_) | Widget::Slider(_) => None,
+        _ => None,
     }
 }
 
@@ -105,6 +103,6 @@ pub fn copy_label(board: &Board, win: u16, wid: u16, place: u32) -> Option<Label
 {
     match board.widget(win, wid)? {
         Widget::List(list) => list.get(place).map(|item| item.value),
-        Widget::Text(_) | Widget::Toggle(_) | Widget::Slider(_) => None,
+        _ => None,
     }
 }

@@ -11,5 +11,6 @@ mod unsent;
 
 pub use board_view::{WidgetKind, WidgetView, copy_label, copy_text, widget_view, window_view};
 pub use client::{Client, Stage};
+pub use jup_wire::WidgetValue;
 pub use phase::Phase;
 pub use refusals::EmbedFault;

@@ -8,11 +8,12 @@ use Rattle.std.proofs.lemmas.List.Concat.{flat_map-cons, flat_map-append}
 use Rattle.jup_setting.specs.declared.operation.SetOp.TheVariants as set
 use Rattle.jup_gather.specs.Prelude.{Msg, BoardOp, Line, Batch, Do, Whole, Held, Plain, Misplaced, Gathered}
 use Rattle.jup_star.specs.Messages.{RelabelNoText}
-use Rattle.jup_wire.specs.Lines.{IsCount, spelling, HasSpelling, is_spelled, line_bytes, IsLine}
+use Rattle.jup_wire.specs.Fields.{IsCount}
+use Rattle.jup_wire.specs.Lines.{spelling, HasSpelling, is_spelled, line_bytes, IsLine}
 use Rattle.jup_wire.proofs.Streams.{all-append}
 use Rattle.jup_gather.specs.Gathering.{Message, Alone, stands_alone, IsPart, HasNoPlace, Gathers, Piece, piece_lines, MayGo, IsSound, message_lines, all_lines, IsPiece, BeginsNone, HasGathered, IsMisplaced, pieces_of, GathersAll}
 use Rattle.jup_star.specs.Prelude.{most_operations}
-use Rattle.jup_window.specs.declared.widget_operations.WidgetOp.TheVariants.{Toggle}
+use Rattle.jup_window.specs.declared.kinds.WidgetOp.TheVariants.{Toggle}
 
 -- A message that has begun, and the line after it.
 

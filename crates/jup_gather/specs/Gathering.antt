@@ -5,7 +5,7 @@ use Rattle.std.specs.Option.{ok_or}
 use Rattle.jup_gather.specs.Prelude.{Msg, BoardOp, Line, Batch, Do, Gathered, Whole, Plain, Held, Misplaced}
 use Rattle.jup_star.specs.Messages.{RelabelNoText, UpRelabelsNoText, DownRelabelsNoText}
 use Rattle.jup_wire.specs.declared.line.Line.TheVariants.{Ack, Ping, Pong}
-use Rattle.jup_wire.specs.Lines.{IsCount}
+use Rattle.jup_wire.specs.Fields.{IsCount}
 use Rattle.jup_gather.specs.declared.part.Part.{Part}
 use Rattle.jup_gather.specs.declared.taken.State.{State}
 use Rattle.jup_gather.specs.declared.taken.State.TheVariants.{Nothing, Begun, Stopped}

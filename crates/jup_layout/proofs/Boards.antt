@@ -1,18 +1,19 @@
 -- The lines of a board are taken back as that board.
-use Rattle.std.proofs.Common.{◌≡◌, ◌==◌, ℕ, suc, ◌+◌, ◌<◌, ◌≤◌, Bool, true, false, ◌&&◌, List, [], ◌∷◌, ◌++◌, length, Some, None, Ok, Err, refl, sym, ap, subst, ◌∙◌, append_assoc, arith, T, IsTrue, insert, nat_lt, int_le, Result, inl, inr, MatchResult}
+use Rattle.std.proofs.Common.{◌≡◌, ◌==◌, ℕ, suc, ◌+◌, ◌<◌, ◌≤◌, false, List, [], ◌∷◌, ◌++◌, length, Some, None, Ok, Err, refl, sym, ap, subst, ◌∙◌, append_assoc, arith, IsTrue, insert, nat_lt, Result, inl, inr, MatchResult}
 use Rattle.std.specs.List.{flat_map, AllByRecursion}
-use Rattle.std.specs.Option.{option_map, is_none}
-use Rattle.std.proofs.lemmas.Bool.{ne_eqb, lt-ltb, eq-eqb, lt-leb, or_parts, and_from, cond-true}
+use Rattle.std.proofs.lemmas.Bool.{ne_eqb, lt-ltb, eq-eqb, lt-leb, or_parts}
 use Rattle.std.proofs.lemmas.List.{length-append, append-nil}
 use Rattle.std.proofs.lemmas.List.Sums.{take_while-cons}
 use Rattle.std.proofs.lemmas.List.Concat.{flat_map-cons}
-use Rattle.jup_layout.specs.Prelude.{most_entries, Name, Item, Items, name_eq, has_name, AreDistinct, Widget, Text, Labels, Toggle, Slider, Line, Distinct, BadBounds, LayoutFault}
+use Rattle.jup_layout.specs.Prelude.{most_entries, Name, Item, Items, name_eq, has_name, AreDistinct, Widget, WidgetValue, Text, Labels, Line, Distinct, LayoutFault, value_of, said_widget, value_there, option_map, is_none}
 use Rattle.jup_value.proofs.Items.{name_eq_sym}
 use Rattle.jup_window.specs.Entries.{entry_fault, fault_in, widget_fault, at_id, change_at, slot_of, with_entry, AreOver}
 use Rattle.jup_window.specs.Boards as board
 use Rattle.jup_window.specs.Widgets as widget
 use Rattle.jup_wire.specs.declared.line.Line.TheVariants as line
-use Rattle.jup_layout.specs.Drafts.{item_lines, widget_lines, window_lines, board_lines, IsWidget, IsWindow, IsBoard, refusal_of, Drafted, blank, whole, unless, is_free, with_widget_in, with_slider_in, with_item, taken, ◌>>?◌, at_line, lines_taken, board_with, no_memory, Makes}
+use Rattle.jup_window.specs.Kinds.{HasNoItems}
+use Rattle.jup_window.specs.Laws.Widgets.{bare_none}
+use Rattle.jup_layout.specs.Drafts.{item_lines, widget_lines, window_lines, board_lines, IsWidget, IsWindow, IsBoard, refusal_of, Drafted, blank, whole, unless, is_free, with_widget_in, with_said, value_lines, with_item, taken, ◌>>?◌, at_line, lines_taken, board_with, no_memory, Makes}
 use Rattle.jup_layout.proofs.Drafting.{entry_fault-whole, free-more, whole-more, same_Ok}
 
 -- A board's lines describe that board.
@@ -116,10 +117,6 @@ module _ {V : Type 0} (make : Items V → Widget) (line_of : Name → V → Line
 
 -- # Widgets
 
-is_so : (b : Bool) → T b → b ≡ true
-is_so true t = refl
-is_so false t = absurd t
-
 -- the board that is described ends in a window with these widgets, which is the last window line's
 pub record Holds (d : Drafted) (front : board.Windows) (win : ℕ) (ws : List (ℕ × Widget)) : Type 0 where
   pub all : whole d ≡ front ++ (win, ws) ∷ []
@@ -153,6 +150,17 @@ module _ (front : board.Windows) (win low : ℕ) (above : low < win) (front_belo
     naming = refl;
   }
 
+  -- the line of a widget without items
+  value_pass : (d : Drafted) (ws : List (ℕ × Widget)) (wid high : ℕ) (w : Widget) → HasNoItems w → Holds d front win ws → high < wid → AtMost high ws → length ws < most_entries
+      → ((value : WidgetValue) → value_of w ≡ Some value → said_widget value ≡ Some w) → Passes d (value_lines wid (value_of w)) (opened (front ++ (win, ws) ∷ []) win wid (widget.bare w))
+  value_pass d ws wid high w none holds lt below room is =
+      let value = value_there w none in
+      let after = opened (front ++ (win, ws) ∷ []) win wid w in
+      let taken_there : taken d (line.Value wid value.0) ≡ Ok after =
+      ap (λ o. with_said o (said_widget value.0) wid d) holds.window ∙ ap (λ said. with_said (Some win) said wid d) (is value.0 value.1) ∙ opens d ws wid high w holds lt below room in
+      subst (λ v. Passes d (value_lines wid v) (opened (front ++ (win, ws) ∷ []) win wid (widget.bare w))) (sym value.1)
+      (subst (λ u. Passes d (line.Value wid value.0 ∷ []) (opened (front ++ (win, ws) ∷ []) win wid u)) (sym (bare_none w none)) (passes_cons d after after (line.Value wid value.0) [] taken_there (passes_none after)))
+
   -- a widget's lines
   widget_pass : (d : Drafted) (ws : List (ℕ × Widget)) (wid high : ℕ) (w : Widget) → Holds d front win ws → high < wid → AtMost high ws → length ws < most_entries → IsWidget (wid, w)
       → Passes d (widget_lines (wid, w)) (opened (front ++ (win, ws) ∷ []) win wid (widget.bare w))
@@ -164,17 +172,7 @@ module _ (front : board.Windows) (win low : ℕ) (above : low < win) (front_belo
       passes_cons d (filled Labels (front ++ (win, ws) ∷ []) win wid []) (filled Labels (front ++ (win, ws) ∷ []) win wid x.items) (line.List wid) (item_lines line.Item x.items)
       (opens d ws wid high (Labels (record { items = []; spare = 0 })) holds lt below room)
       (items_pass Labels line.Item (front ++ (win, ws) ∷ []) win wid (λ items item. refl) x.items [] is)
-  widget_pass d ws wid high (Toggle x) holds lt below room is =
-      let after = opened (front ++ (win, ws) ∷ []) win wid (Toggle x) in
-      passes_cons d after after (line.Toggle wid x.on) [] (opens d ws wid high (Toggle x) holds lt below room) (passes_none after)
-  widget_pass d ws wid high (Slider x) holds lt below room is =
-      let after = opened (front ++ (win, ws) ∷ []) win wid (Slider x) in
-      let within : (int_le x.lo x.value && int_le x.value x.hi) ≡ true = and_from (int_le x.lo x.value) (int_le x.value x.hi) (is_so (int_le x.lo x.value) is.0.le) (is_so (int_le x.value x.hi) is.1.le) in
-      let taken_there : taken d (line.Slider wid x.lo x.hi x.value) ≡ Ok after =
-      ap (λ o. with_slider_in o (int_le x.lo x.value && int_le x.value x.hi) wid (Slider x) d) holds.window
-      ∙ cond-true (int_le x.lo x.value && int_le x.value x.hi) (with_widget_in d.window wid (Slider x) d) (Err BadBounds) within
-      ∙ opens d ws wid high (Slider x) holds lt below room in
-      passes_cons d after after (line.Slider wid x.lo x.hi x.value) [] taken_there (passes_none after)
+  widget_pass d ws wid high other holds lt below room is = value_pass d ws wid high other tt holds lt below room is
 
   -- the lines of a window's widgets
   widgets_pass : (vs ws : List (ℕ × Widget)) (d : Drafted) (high : ℕ) → Holds d front win ws → AreOver high vs → AtMost high ws → length ws + length vs ≤ most_entries → AllByRecursion IsWidget vs

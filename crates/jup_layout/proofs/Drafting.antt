@@ -1,6 +1,5 @@
 -- A board as its lines make it, one by one.
 use Rattle.std.proofs.Common.{◌≡◌, ℕ, zero, suc, false, cond, ◌==◌, nat_lt, List, [], ◌∷◌, length, Option, Some, None, Result, Ok, Err, refl, sym, ap, subst, ◌∙◌, inl, inr, insert, nat_le, IsTrue, ◌+◌, ◌≤◌, Bool, true, ◌++◌, arith, ◌≢◌, ◌||◌}
-use Rattle.std.specs.Option.{option_map, is_none}
 use Rattle.std.proofs.lemmas.Bool.{cases_Bool, eqb-true, eq-eqb, ne_eqb}
 use Rattle.std.proofs.lemmas.List.Sums.{take_while-cons}
 use Rattle.std.proofs.lemmas.List.{length-append}
@@ -8,7 +7,7 @@ use Rattle.std.proofs.lemmas.Option.{none-some}
 use Rattle.std.proofs.lemmas.List.Edits.{length-insert, insert_end}
 use Rattle.std.specs.Ordering.{nat_cmp, ordering_then, is_eq}
 use Rattle.std.specs.Cmp.{both_tied, unsigned_ties}
-use Rattle.jup_layout.specs.Prelude.{Added, AddedChar, AddedLabel, most_entries, Item, Name, Items, has_name, name_eq, BoardFault, Widget, Text, Labels, Toggle, Slider, Line, Refusal, NoMemory, DoubleId, TooMany, BadId, BadBounds, Misplaced, BadItemName, Distinct}
+use Rattle.jup_layout.specs.Prelude.{Added, AddedChar, AddedLabel, most_entries, Item, Name, Items, has_name, name_eq, BoardFault, Widget, WidgetValue, Text, Labels, Line, Refusal, NoMemory, DoubleId, TooMany, BadId, BadBounds, Misplaced, BadItemName, Distinct, said_widget, said_none, option_map, is_none}
 use Rattle.jup_window.specs.declared.faults.BoardFault.TheVariants as fault
 use Rattle.jup_window.specs.Entries.{double_fault, entry_fault, fault_in, widget_fault, RefusesBy, at_id, change_at, slot_of, with_entry, map_values}
 use Rattle.jup_window.specs.Laws.Entries.{at_id-map, at_id-same, at_id-other}
@@ -16,7 +15,8 @@ use Rattle.jup_window.specs.Boards as board
 use Rattle.jup_window.specs.Widgets as widget
 use Rattle.jup_window.proofs.BoardChanges.{slot_of-within}
 use Rattle.jup_wire.specs.declared.line.Line.TheVariants as line
-use Rattle.jup_layout.specs.Drafts.{refusal_of, Drafted, put_into, whole, unless, with_window, with_widget_in, bare_last, is_free, Follows, with_slider_in, with_added, taken, items_in_last, naming_refusal, next_naming, first_refusal, with_item, ◌>>?◌, at_line, lines_taken, AddsName}
+use Rattle.jup_window.specs.Kinds.{HasNoItems}
+use Rattle.jup_layout.specs.Drafts.{refusal_of, Drafted, put_into, whole, unless, with_window, with_widget_in, bare_last, is_free, Follows, with_said, with_added, taken, items_in_last, naming_refusal, next_naming, first_refusal, with_item, ◌>>?◌, at_line, lines_taken, AddsName}
 
 -- What a draft's calls give, apart from the room of its sequences.
 
@@ -262,10 +262,19 @@ in_widget None wid w d next n empty e = absurd cc
 in_widget (Some win) wid w d next n empty e =
     subst (λ x. items_in_last x.last ≤ n + 1) (unless_ok _ _ next e) (omega (arith, empty))
 
-in_slider : (o : Option ℕ) (b : Bool) (wid : ℕ) (w : Widget) (d next : Drafted) (n : ℕ) → items_in_last (Some (wid, w)) ≡ 0 → with_slider_in o b wid w d ≡ Ok next → items_in_last next.last ≤ n + 1
-in_slider None b wid w d next n empty e = absurd cc
-in_slider (Some win) true wid w d next n empty e = in_widget d.window wid w d next n empty e
-in_slider (Some win) false wid w d next n empty e = absurd cc
+-- a widget without items has none
+no_items_in : (wid : ℕ) (w : Widget) → HasNoItems w → items_in_last (Some (wid, w)) ≡ 0
+no_items_in wid (Text x) none = absurd none
+no_items_in wid (Labels x) none = absurd none
+no_items_in wid w none = refl
+
+pub said_empty : (wid : ℕ) (value : WidgetValue) (w : Widget) → said_widget value ≡ Some w → items_in_last (Some (wid, w)) ≡ 0
+said_empty wid value w is = no_items_in wid w (said_none value w is)
+
+in_said : (o : Option ℕ) (said : Option Widget) (wid : ℕ) (d next : Drafted) (n : ℕ) → ((w : Widget) → said ≡ Some w → items_in_last (Some (wid, w)) ≡ 0) → with_said o said wid d ≡ Ok next → items_in_last next.last ≤ n + 1
+in_said None said wid d next n empty e = absurd cc
+in_said (Some win) (Some w) wid d next n empty e = in_widget d.window wid w d next n (empty w refl) e
+in_said (Some win) None wid d next n empty e = absurd cc
 
 one_more : {V : Type 0} (items : List (Item V)) (item : Item V) → length (items ++ item ∷ []) ≤ length items + 1
 one_more items item = omega (arith, length-append items (item ∷ []))
@@ -276,15 +285,13 @@ in_item (Some (wid, Text x)) (AddedChar item) d next e = subst (λ y. items_in_l
 in_item (Some (wid, Text x)) (AddedLabel item) d next e = absurd cc
 in_item (Some (wid, Labels x)) (AddedChar item) d next e = absurd cc
 in_item (Some (wid, Labels x)) (AddedLabel item) d next e = subst (λ y. items_in_last y.last ≤ length x.items + 1) (unless_ok _ _ next e) (one_more x.items item)
-in_item (Some (wid, Toggle x)) added d next e = absurd cc
-in_item (Some (wid, Slider x)) added d next e = absurd cc
+in_item (Some (wid, other)) added d next e = absurd cc
 
 pub taken_grows : (d next : Drafted) (l : Line) → taken d l ≡ Ok next → items_in_last next.last ≤ items_in_last d.last + 1
 taken_grows d next (line.Window win) e = subst (λ x. items_in_last x.last ≤ items_in_last d.last + 1) (unless_ok _ _ next e) (omega arith)
 taken_grows d next (line.Text wid) e = in_widget d.window wid _ d next (items_in_last d.last) refl e
 taken_grows d next (line.List wid) e = in_widget d.window wid _ d next (items_in_last d.last) refl e
-taken_grows d next (line.Toggle wid on) e = in_widget d.window wid _ d next (items_in_last d.last) refl e
-taken_grows d next (line.Slider wid lo hi value) e = in_slider d.window _ wid _ d next (items_in_last d.last) refl e
+taken_grows d next (line.Value wid value) e = in_said d.window (said_widget value) wid d next (items_in_last d.last) (said_empty wid value) e
 taken_grows d next (line.Char name value) e = in_item d.last _ d next e
 taken_grows d next (line.Item name value) e = in_item d.last _ d next e
 taken_grows d next line.Hello e = absurd cc
@@ -391,10 +398,10 @@ widget_plain : (o : Option ℕ) (wid : ℕ) (w : Widget) (d next : Drafted) → 
 widget_plain None wid w d next e = absurd cc
 widget_plain (Some win) wid w d next e = unless_plain _ (record { board = whole d; window = Some win; home = Some win; last = Some (wid, w); naming = d.naming }) next e
 
-slider_plain : (o : Option ℕ) (b : Bool) (wid : ℕ) (w : Widget) (d next : Drafted) → with_slider_in o b wid w d ≡ Ok next → with_slider_in o b wid w (plain d) ≡ Ok (plain next)
-slider_plain None b wid w d next e = absurd cc
-slider_plain (Some win) true wid w d next e = widget_plain d.window wid w d next e
-slider_plain (Some win) false wid w d next e = absurd cc
+said_plain : (o : Option ℕ) (said : Option Widget) (wid : ℕ) (d next : Drafted) → with_said o said wid d ≡ Ok next → with_said o said wid (plain d) ≡ Ok (plain next)
+said_plain None said wid d next e = absurd cc
+said_plain (Some win) (Some w) wid d next e = widget_plain d.window wid w d next e
+said_plain (Some win) None wid d next e = absurd cc
 
 added_plain : (o : Option (ℕ × Widget)) (added : Added) (d next : Drafted) → with_added o added d ≡ Ok next → with_added o added (plain d) ≡ Ok (plain next)
 added_plain None added d next e = absurd cc
@@ -402,15 +409,13 @@ added_plain (Some (wid, Text x)) (AddedChar item) d next e = item_plain Text wid
 added_plain (Some (wid, Text x)) (AddedLabel item) d next e = absurd cc
 added_plain (Some (wid, Labels x)) (AddedChar item) d next e = absurd cc
 added_plain (Some (wid, Labels x)) (AddedLabel item) d next e = item_plain Labels wid x item d next e
-added_plain (Some (wid, Toggle x)) added d next e = absurd cc
-added_plain (Some (wid, Slider x)) added d next e = absurd cc
+added_plain (Some (wid, other)) added d next e = absurd cc
 
 taken_plain : (d next : Drafted) (l : Line) → taken d l ≡ Ok next → taken (plain d) l ≡ Ok (plain next)
 taken_plain d next (line.Window win) e = unless_plain _ _ next e
 taken_plain d next (line.Text wid) e = widget_plain d.window wid _ d next e
 taken_plain d next (line.List wid) e = widget_plain d.window wid _ d next e
-taken_plain d next (line.Toggle wid on) e = widget_plain d.window wid _ d next e
-taken_plain d next (line.Slider wid lo hi value) e = slider_plain d.window _ wid _ d next e
+taken_plain d next (line.Value wid value) e = said_plain d.window (said_widget value) wid d next e
 taken_plain d next (line.Char name value) e = added_plain d.last _ d next e
 taken_plain d next (line.Item name value) e = added_plain d.last _ d next e
 taken_plain d next line.Hello e = absurd cc

@@ -1,18 +1,16 @@
 -- What the lines so far describe is what they say.
-use Rattle.std.proofs.Common.{◌≡◌, ◌≢◌, ℕ, suc, ◌+◌, ◌<◌, ◌≤◌, Bool, true, false, ◌&&◌, ◌==◌, cond, List, [], ◌∷◌, ◌++◌, length, Option, Some, None, Result, Ok, Err, refl, sym, ap, subst, ◌∙◌, ◌⊎◌, inl, inr, arith}
-use Rattle.std.specs.Prelude.{T, IsTrue, ℤ, ◌≤ℤ◌, nat_le, int_le, if◌then◌else◌}
-use Rattle.std.specs.Option.{option_map, option_and_then, is_none, IsSome}
-use Rattle.std.proofs.lemmas.Bool.{cases_Bool, eqb-true, eqb-false, eq-eqb, ne_eqb, lt-leb, leb-false, and_parts, and_from}
+use Rattle.std.proofs.Common.{◌≡◌, ◌≢◌, ℕ, suc, ◌+◌, ◌<◌, ◌≤◌, Bool, true, false, ◌==◌, cond, List, [], ◌∷◌, ◌++◌, length, Option, Some, None, Result, Ok, Err, refl, sym, ap, subst, ◌∙◌, ◌⊎◌, inl, inr, arith, IsTrue, nat_le, if◌then◌else◌}
+use Rattle.std.proofs.lemmas.Bool.{cases_Bool, eqb-true, eqb-false, eq-eqb, ne_eqb, lt-leb, leb-false}
 use Rattle.std.proofs.lemmas.Option.{none-some, same_Some}
-use Rattle.jup_layout.specs.Prelude.{Added, AddedChar, AddedLabel, longest_sequence, most_entries, Name, Item, Items, name_eq, has_name, BoardFault, Widget, Text, Labels, Toggle, Slider, Windows, Naming, Distinct, Numbered, Refusal, Misplaced, BadBounds, BadItemName, TooMany, Line, LayoutFault}
+use Rattle.jup_layout.specs.Prelude.{Added, AddedChar, AddedLabel, longest_sequence, most_entries, Name, Item, Items, name_eq, has_name, BoardFault, Widget, Text, Labels, Windows, Naming, Distinct, Numbered, Refusal, Misplaced, BadBounds, BadItemName, TooMany, Line, LayoutFault, said_widget, option_map, option_and_then, is_none, IsSome}
 use Rattle.jup_window.specs.declared.faults.BoardFault.TheVariants as fault
 use Rattle.jup_window.specs.Entries.{double_fault, entry_fault, fault_in, widget_fault, at_id, change_at, with_entry, Place, same_place, widget_at}
 use Rattle.jup_window.specs.Laws.Entries.{at_id-same, at_id-other}
 use Rattle.jup_wire.specs.declared.line.Line.TheVariants as line
-use Rattle.jup_layout.specs.Drafts.{refusal_number, ◌>>?◌, at_line, lines_taken, board_from, refusal_of, next_naming, first_refusal, naming_refusal, item_refusal, Drafted, blank, whole, unless, with_window, with_widget_in, with_slider_in, with_item, with_added, taken, is_free}
-use Rattle.jup_layout.specs.Said.{Part, SaysWindow, SaysWidget, SaysItem, last_window, last_place, window_ids, widget_ids, named_by, is_place, widget_said, extended, IsFreeId, IsNamed, IsNextItem, IsBounded, MayExtend, MayCome, MayFollow, AreIdsOf, Shows, history, part_of, no_items}
+use Rattle.jup_layout.specs.Drafts.{refusal_number, ◌>>?◌, at_line, lines_taken, board_from, refusal_of, next_naming, first_refusal, naming_refusal, item_refusal, Drafted, blank, whole, unless, with_window, with_widget_in, with_said, with_item, with_added, taken, is_free}
+use Rattle.jup_layout.specs.Said.{Part, SaysWindow, SaysWidget, SaysItem, last_window, last_place, window_ids, widget_ids, named_by, is_place, widget_said, extended, IsFreeId, IsNamed, IsNextItem, MayExtend, MayCome, MayFollow, AreIdsOf, Shows, history, part_of, says_value, no_items}
 use Rattle.jup_layout.proofs.Drafting.{same_Ok, fresh-id, entry_fault-whole, free-more, whole-more, put-same, put-other, put-kept, put-length, put-again, changed-absent, changed-back, changed-length}
-use Rattle.jup_window.specs.Prelude.{name_eq_refl, name_eq_same, SliderState}
+use Rattle.jup_window.specs.Prelude.{name_eq_refl, name_eq_same}
 
 -- # Ids
 
@@ -354,8 +352,7 @@ item_said_in naming older board window home wid named (Text x) (AddedChar item) 
 item_said_in naming older board window home wid named (Text x) (AddedLabel item) next agrees place e = absurd cc
 item_said_in naming older board window home wid named (Labels x) (AddedChar item) next agrees place e = absurd cc
 item_said_in naming older board window home wid named (Labels x) (AddedLabel item) next agrees place e = item_said_by naming older board window home wid named (Labels x) agrees place (AddedLabel item) item x.items next (λ n may. may) e
-item_said_in naming older board window home wid named (Toggle x) added next agrees place e = absurd cc
-item_said_in naming older board window home wid named (Slider x) added next agrees place e = absurd cc
+item_said_in naming older board window home wid named other added next agrees place e = absurd cc
 
 item_said : (naming : Naming) (older : List Part) (d : Drafted) (added : Added) (next : Drafted) → Agrees naming older d → with_added d.last added d ≡ Ok next → MayCome naming older (SaysItem added) × Agrees naming (SaysItem added ∷ older) next
 item_said naming older d added next agrees e =
@@ -376,8 +373,8 @@ item_taken_in wid (Text x) (AddedChar item) d may = item_taken_by Text wid x ite
 item_taken_in wid (Text x) (AddedLabel item) d may = absurd may
 item_taken_in wid (Labels x) (AddedChar item) d may = absurd may
 item_taken_in wid (Labels x) (AddedLabel item) d may = item_taken_by Labels wid x item d may
-item_taken_in wid (Toggle x) added d may = absurd may
-item_taken_in wid (Slider x) added d may = absurd may
+item_taken_in wid other (AddedChar item) d may = absurd may
+item_taken_in wid other (AddedLabel item) d may = absurd may
 
 item_taken : (naming : Naming) (older : List Part) (d : Drafted) (added : Added) → Agrees naming older d → MayCome naming older (SaysItem added) → (next : Drafted) × (with_added d.last added d ≡ Ok next)
 item_taken naming older d added agrees (p, w, place, shown, may) =
@@ -394,26 +391,16 @@ item_taken naming older d added agrees (p, w, place, shown, may) =
 
 -- # A line
 
-so : (b : Bool) → T b → b ≡ true
-so true t = refl
-so false t = absurd t
-
-within : (a b : ℤ) → int_le a b ≡ true → a ≤ℤ b
-within a b test = record { le = subst T (sym test) tt }
-
-is_within : (a b : ℤ) → a ≤ℤ b → int_le a b ≡ true
-is_within a b is = so (int_le a b) is.le
-
-widget_said_in : (naming : Naming) (older : List Part) (d : Drafted) (wid : ℕ) (w : Widget) (next : Drafted) → Agrees naming older d → IsBounded w → with_widget_in d.window wid w d ≡ Ok next
+widget_said_in : (naming : Naming) (older : List Part) (d : Drafted) (wid : ℕ) (w : Widget) (next : Drafted) → Agrees naming older d → with_widget_in d.window wid w d ≡ Ok next
     → MayCome naming older (SaysWidget wid w) × Agrees naming (SaysWidget wid w ∷ older) next
-widget_said_in naming older d wid w next agrees bounded e = go d.window refl
+widget_said_in naming older d wid w next agrees e = go d.window refl
   where
     go : (o : Option ℕ) → d.window ≡ o → MayCome naming older (SaysWidget wid w) × Agrees naming (SaysWidget wid w ∷ older) next
     go None is = absurd (let no : Err Misplaced ≡ Ok next = ap (λ o. with_widget_in o wid w d) (sym is) ∙ e in cc)
     go (Some win) is =
         let in_win : last_window older ≡ Some win = sym agrees.window ∙ is in
         let said = widget_said_there naming older d agrees wid w win in_win next (ap (λ o. with_widget_in o wid w d) (sym is) ∙ e) in
-        ((subst (λ (o : Option ℕ). IsSome o) (sym in_win) refl, (said.0, bounded)), said.1)
+        ((subst (λ (o : Option ℕ). IsSome o) (sym in_win) refl, said.0), said.1)
 
 widget_taken_in : (naming : Naming) (older : List Part) (d : Drafted) (wid : ℕ) (w : Widget) → Agrees naming older d → MayCome naming older (SaysWidget wid w) → (next : Drafted) × (with_widget_in d.window wid w d ≡ Ok next)
 widget_taken_in naming older d wid w agrees may = go (last_window older) refl
@@ -421,40 +408,32 @@ widget_taken_in naming older d wid w agrees may = go (last_window older) refl
     go : (o : Option ℕ) → last_window older ≡ o → (next : Drafted) × (with_widget_in d.window wid w d ≡ Ok next)
     go None is = absurd (let no : false ≡ true = subst (λ (o : Option ℕ). IsSome o) is may.0 in cc)
     go (Some win) is =
-        let free = widget_free naming older d agrees wid w win is may.1.0 in
+        let free = widget_free naming older d agrees wid w win is may.1 in
         let after : Drafted = record { board = whole d; window = Some win; home = Some win; last = Some (wid, w); naming = d.naming } in
         (after, ap (λ o. with_widget_in o wid w d) (agrees.window ∙ is) ∙ ap (λ f. unless (option_map refusal_of f) after) free)
 
-slider_said_in : (naming : Naming) (older : List Part) (d : Drafted) (wid : ℕ) (x : SliderState) (next : Drafted) → Agrees naming older d → with_slider_in d.window (int_le x.lo x.value && int_le x.value x.hi) wid (Slider x) d ≡ Ok next
-    → MayCome naming older (SaysWidget wid (Slider x)) × Agrees naming (SaysWidget wid (Slider x) ∷ older) next
-slider_said_in naming older d wid x next agrees e = go d.window refl (int_le x.lo x.value && int_le x.value x.hi) refl
+value_said_in : (naming : Naming) (older : List Part) (d : Drafted) (wid : ℕ) (said : Option Widget) (next : Drafted) → Agrees naming older d → with_said d.window said wid d ≡ Ok next
+    → MayCome naming older (says_value wid said) × Agrees naming (says_value wid said ∷ older) next
+value_said_in naming older d wid said next agrees e = go d.window refl said e
   where
-    go : (o : Option ℕ) → d.window ≡ o → (bounded : Bool) → (int_le x.lo x.value && int_le x.value x.hi) ≡ bounded → MayCome naming older (SaysWidget wid (Slider x)) × Agrees naming (SaysWidget wid (Slider x) ∷ older) next
-    go None is bounded test = absurd (let no : Err Misplaced ≡ Ok next = ap (λ o. with_slider_in o (int_le x.lo x.value && int_le x.value x.hi) wid (Slider x) d) (sym is) ∙ e in cc)
-    go (Some win) is false test =
-        absurd (let no : Err BadBounds ≡ Ok next = ap (λ t. with_slider_in (Some win) t wid (Slider x) d) (sym test) ∙ ap (λ o. with_slider_in o (int_le x.lo x.value && int_le x.value x.hi) wid (Slider x) d) (sym is) ∙ e in cc)
-    go (Some win) is true test =
-        let parts = and_parts (int_le x.lo x.value) (int_le x.value x.hi) test in
-        widget_said_in naming older d wid (Slider x) next agrees (within x.lo x.value parts.0, within x.value x.hi parts.1)
-        (ap (λ t. with_slider_in (Some win) t wid (Slider x) d) (sym test) ∙ ap (λ o. with_slider_in o (int_le x.lo x.value && int_le x.value x.hi) wid (Slider x) d) (sym is) ∙ e)
+    go : (o : Option ℕ) → d.window ≡ o → (said : Option Widget) → with_said d.window said wid d ≡ Ok next → MayCome naming older (says_value wid said) × Agrees naming (says_value wid said ∷ older) next
+    go None is said e = absurd (let no : Err Misplaced ≡ Ok next = ap (λ o. with_said o said wid d) (sym is) ∙ e in cc)
+    go (Some win) is None e = absurd (let no : Err BadBounds ≡ Ok next = ap (λ o. with_said o None wid d) (sym is) ∙ e in cc)
+    go (Some win) is (Some w) e = widget_said_in naming older d wid w next agrees (ap (λ o. with_said o (Some w) wid d) (sym is) ∙ e)
 
-slider_taken_in : (naming : Naming) (older : List Part) (d : Drafted) (wid : ℕ) (x : SliderState) → Agrees naming older d → MayCome naming older (SaysWidget wid (Slider x))
-    → (next : Drafted) × (with_slider_in d.window (int_le x.lo x.value && int_le x.value x.hi) wid (Slider x) d ≡ Ok next)
-slider_taken_in naming older d wid x agrees may = go (last_window older) refl
+value_taken_in : (naming : Naming) (older : List Part) (d : Drafted) (wid : ℕ) (said : Option Widget) → Agrees naming older d → MayCome naming older (says_value wid said) → (next : Drafted) × (with_said d.window said wid d ≡ Ok next)
+value_taken_in naming older d wid None agrees may = absurd may
+value_taken_in naming older d wid (Some w) agrees may = go (last_window older) refl
   where
-    go : (o : Option ℕ) → last_window older ≡ o → (next : Drafted) × (with_slider_in d.window (int_le x.lo x.value && int_le x.value x.hi) wid (Slider x) d ≡ Ok next)
+    go : (o : Option ℕ) → last_window older ≡ o → (next : Drafted) × (with_said d.window (Some w) wid d ≡ Ok next)
     go None is = absurd (let no : false ≡ true = subst (λ (o : Option ℕ). IsSome o) is may.0 in cc)
-    go (Some win) is =
-        let test : (int_le x.lo x.value && int_le x.value x.hi) ≡ true = and_from (int_le x.lo x.value) (int_le x.value x.hi) (is_within x.lo x.value may.1.1.0) (is_within x.value x.hi may.1.1.1) in
-        let taken_there = widget_taken_in naming older d wid (Slider x) agrees may in
-        (taken_there.0, ap (λ t. with_slider_in d.window t wid (Slider x) d) test ∙ ap (λ o. with_slider_in o true wid (Slider x) d) (agrees.window ∙ is) ∙ taken_there.1)
+    go (Some win) is = let taken_there = widget_taken_in naming older d wid w agrees may in (taken_there.0, ap (λ o. with_said o (Some w) wid d) (agrees.window ∙ is) ∙ taken_there.1)
 
 line_said : (naming : Naming) (older : List Part) (d next : Drafted) (l : Line) → Agrees naming older d → taken d l ≡ Ok next → MayCome naming older (part_of l) × Agrees naming (part_of l ∷ older) next
 line_said naming older d next (line.Window win) agrees e = window_said naming older d agrees win next e
-line_said naming older d next (line.Text wid) agrees e = widget_said_in naming older d wid (Text no_items) next agrees tt e
-line_said naming older d next (line.List wid) agrees e = widget_said_in naming older d wid (Labels no_items) next agrees tt e
-line_said naming older d next (line.Toggle wid on) agrees e = widget_said_in naming older d wid (Toggle (record { on = on })) next agrees tt e
-line_said naming older d next (line.Slider wid lo hi value) agrees e = slider_said_in naming older d wid (record { lo = lo; hi = hi; value = value }) next agrees e
+line_said naming older d next (line.Text wid) agrees e = widget_said_in naming older d wid (Text no_items) next agrees e
+line_said naming older d next (line.List wid) agrees e = widget_said_in naming older d wid (Labels no_items) next agrees e
+line_said naming older d next (line.Value wid value) agrees e = value_said_in naming older d wid (said_widget value) next agrees e
 line_said naming older d next (line.Char name value) agrees e = item_said naming older d (AddedChar (record { name = name; value = value })) next agrees e
 line_said naming older d next (line.Item name value) agrees e = item_said naming older d (AddedLabel (record { name = name; value = value })) next agrees e
 line_said naming older d next line.Hello agrees e = absurd cc
@@ -472,8 +451,7 @@ line_may : (naming : Naming) (older : List Part) (d : Drafted) (l : Line) → Ag
 line_may naming older d (line.Window win) agrees may = window_taken naming older d agrees win may
 line_may naming older d (line.Text wid) agrees may = widget_taken_in naming older d wid (Text no_items) agrees may
 line_may naming older d (line.List wid) agrees may = widget_taken_in naming older d wid (Labels no_items) agrees may
-line_may naming older d (line.Toggle wid on) agrees may = widget_taken_in naming older d wid (Toggle (record { on = on })) agrees may
-line_may naming older d (line.Slider wid lo hi value) agrees may = slider_taken_in naming older d wid (record { lo = lo; hi = hi; value = value }) agrees may
+line_may naming older d (line.Value wid value) agrees may = value_taken_in naming older d wid (said_widget value) agrees may
 line_may naming older d (line.Char name value) agrees may = item_taken naming older d (AddedChar (record { name = name; value = value })) agrees may
 line_may naming older d (line.Item name value) agrees may = item_taken naming older d (AddedLabel (record { name = name; value = value })) agrees may
 line_may naming older d line.Hello agrees may = absurd may

@@ -1,10 +1,9 @@
 -- Lines as boards, and boards as lines.
-use Rattle.std.specs.Prelude.{◌≡◌, ℕ, suc, Bool, true, ◌&&◌, if◌then◌else◌, nat_le, List, [], ◌∷◌, ◌++◌, length, Option, Some, None, is_none, Result, Ok, Err, int_le, ◌==◌, ◌⊎◌, map, ◌||◌}
-use Rattle.std.specs.Option.{option_map}
+use Rattle.std.specs.Prelude.{◌≡◌, ℕ, suc, Bool, true, if◌then◌else◌, nat_le, List, [], ◌∷◌, ◌++◌, length, Option, Some, None, is_none, Result, Ok, Err, ◌==◌, ◌⊎◌, map, ◌||◌}
 use Rattle.std.specs.List.{flat_map, AllByRecursion}
 use Rattle.std.specs.Ordering.{nat_cmp, ordering_then}
 use Rattle.std.specs.BTreeSet.{contains}
-use Rattle.jup_layout.specs.Prelude.{longest_sequence, IsWithin, Name, Item, Items, has_name, name_eq, AreDistinct, BoardFault, Widget, Text, Labels, Toggle, Slider, Windows, Line, WireFault, Refusal, NoMemory, DoubleId, TooMany, BadId, BadBounds, Misplaced, BadItemName, Added, AddedChar, AddedLabel, Naming, Distinct, Numbered, LayoutFault}
+use Rattle.jup_layout.specs.Prelude.{longest_sequence, Name, Item, Items, has_name, name_eq, AreDistinct, BoardFault, Widget, WidgetValue, Text, Labels, Windows, Line, WireFault, Refusal, NoMemory, DoubleId, TooMany, BadId, BadBounds, Misplaced, BadItemName, Added, AddedChar, AddedLabel, Naming, Distinct, Numbered, LayoutFault, value_of, said_widget, option_map}
 use Rattle.jup_window.specs.declared.faults.BoardFault.TheVariants as fault
 use Rattle.jup_window.specs.Entries.{entry_fault, widget_fault, change_at, with_entry, IsTable}
 use Rattle.jup_window.specs.Boards as board
@@ -91,10 +90,11 @@ with_widget_in (Some win) wid w d =
 abbrev pub with_widget : ℕ → Widget → Drafted → Result Drafted Refusal
 with_widget wid w d = with_widget_in d.window wid w d
 
--- after a slider's line
-abbrev pub with_slider_in : Option ℕ → Bool → ℕ → Widget → Drafted → Result Drafted Refusal
-with_slider_in None bounded wid w d = Err Misplaced
-with_slider_in (Some win) bounded wid w d = if bounded then with_widget wid w d else Err BadBounds
+-- after the line of a widget without items, which says this widget, or one whose value is outside its bounds
+abbrev pub with_said : Option ℕ → Option Widget → ℕ → Drafted → Result Drafted Refusal
+with_said None said wid d = Err Misplaced
+with_said (Some win) None wid d = Err BadBounds
+with_said (Some win) (Some w) wid d = with_widget wid w d
 
 -- after one more item of a sequence
 abbrev pub with_item : {V : Type 0} → (Items V → Widget) → ℕ → Items V → Item V → Drafted → Result Drafted Refusal
@@ -109,17 +109,14 @@ with_added (Some (wid, Text x)) (AddedChar item) d = with_item Text wid x item d
 with_added (Some (wid, Text x)) (AddedLabel item) d = Err Misplaced
 with_added (Some (wid, Labels x)) (AddedChar item) d = Err Misplaced
 with_added (Some (wid, Labels x)) (AddedLabel item) d = with_item Labels wid x item d
-with_added (Some (wid, Toggle x)) added d = Err Misplaced
-with_added (Some (wid, Slider x)) added d = Err Misplaced
+with_added (Some (wid, other)) added d = Err Misplaced
 
 -- after one more line
 abbrev pub taken : Drafted → Line → Result Drafted Refusal
 taken d (line.Window win) = with_window win d
 taken d (line.Text wid) = with_widget wid (Text (record { items = []; spare = 0 })) d
 taken d (line.List wid) = with_widget wid (Labels (record { items = []; spare = 0 })) d
-taken d (line.Toggle wid on) = with_widget wid (Toggle (record { on = on })) d
-taken d (line.Slider wid lo hi value) =
-    with_slider_in d.window (int_le lo value && int_le value hi) wid (Slider (record { lo = lo; hi = hi; value = value })) d
+taken d (line.Value wid value) = with_said d.window (said_widget value) wid d
 taken d (line.Char name value) = with_added d.last (AddedChar (record { name = name; value = value })) d
 taken d (line.Item name value) = with_added d.last (AddedLabel (record { name = name; value = value })) d
 taken d line.Hello = Err Misplaced
@@ -138,8 +135,7 @@ abbrev pub items_in_last : Option (ℕ × Widget) → ℕ
 items_in_last None = 0
 items_in_last (Some (wid, Text x)) = length x.items
 items_in_last (Some (wid, Labels x)) = length x.items
-items_in_last (Some (wid, Toggle x)) = 0
-items_in_last (Some (wid, Slider x)) = 0
+items_in_last (Some (wid, other)) = 0
 
 -- no refusal is due when the last widget is put into its window
 abbrev pub is_free : Option ℕ → Option (ℕ × Widget) → board.Windows → Bool
@@ -256,12 +252,16 @@ Lays text (Err fault) = (fault ≡ no_memory) ⊎ Describes text (Err fault)
 abbrev pub item_lines : {V : Type 0} → (Name → V → Line) → List (Item V) → List Line
 item_lines line_of items = map (λ item. line_of item.name item.value) items
 
+-- the line of a widget without items
+abbrev pub value_lines : ℕ → Option WidgetValue → List Line
+value_lines wid None = []
+value_lines wid (Some value) = line.Value wid value ∷ []
+
 -- a widget's line, and the items of a text or a list in order
 abbrev pub widget_lines : ℕ × Widget → List Line
 widget_lines (wid, Text x) = line.Text wid ∷ item_lines line.Char x.items
 widget_lines (wid, Labels x) = line.List wid ∷ item_lines line.Item x.items
-widget_lines (wid, Toggle x) = line.Toggle wid x.on ∷ []
-widget_lines (wid, Slider x) = line.Slider wid x.lo x.hi x.value ∷ []
+widget_lines (wid, other) = value_lines wid (value_of other)
 
 -- a window's line, and those of its widgets
 abbrev pub window_lines : ℕ × List (ℕ × Widget) → List Line
@@ -270,12 +270,11 @@ window_lines window = line.Window window.0 ∷ flat_map widget_lines window.1
 abbrev pub board_lines : Windows → List Line
 board_lines windows = flat_map window_lines windows
 
--- what holds of each widget: distinct names, and a value within its bounds
+-- what holds of each widget: distinct names; or its line says it, since its value is within its bounds
 abbrev pub IsWidget : ℕ × Widget → Type 0
 IsWidget (wid, Text x) = AreDistinct x.items
 IsWidget (wid, Labels x) = AreDistinct x.items
-IsWidget (wid, Toggle x) = Unit {0}
-IsWidget (wid, Slider x) = IsWithin x x.value
+IsWidget (wid, other) = (value : WidgetValue) → value_of other ≡ Some value → said_widget value ≡ Some other
 
 -- what holds of each window, and of each board
 abbrev pub IsWindow : ℕ × List (ℕ × Widget) → Type 0
@@ -308,5 +307,4 @@ abbrev pub AreKeptIn : Naming → Option (ℕ × Widget) → Names → Type 0
 AreKeptIn naming None names = Unit {0}
 AreKeptIn naming (Some (wid, Text x)) names = AreKept naming x.items names
 AreKeptIn naming (Some (wid, Labels x)) names = AreKept naming x.items names
-AreKeptIn naming (Some (wid, Toggle x)) names = Unit {0}
-AreKeptIn naming (Some (wid, Slider x)) names = Unit {0}
+AreKeptIn naming (Some (wid, other)) names = Unit {0}

@@ -5,7 +5,7 @@ ghost use Rattle.jup_layout.specs.Drafts.{item_lines, widget_lines, window_lines
 
 use jup_value::{Label, Name, Seq};
 use jup_window::{Board, Widget, Window};
-use jup_wire::{Line, LineSink, Lines};
+use jup_wire::{Line, LineSink, Lines, WidgetValue};
 use jup_xform::NoMemory;
 use std::alloc::Global;
 
@@ -68,13 +68,10 @@ fn put_widget<S: LineSink>(sink: &mut S, wid: u16, widget: &Widget) -> Result<()
             sink.put(Line::List(wid))?;
             put_items(sink, items)
         }
-        Widget::Toggle(toggle) => sink.put(Line::Toggle(wid, toggle.on)),
-        Widget::Slider(slider) => sink.put(Line::Slider {
-            wid,
-            lo: slider.lo(),
-            hi: slider.hi(),
-            value: slider.value(),
-        }),
+        other => match WidgetValue::of(other) {
+            Some(value) => sink.put(Line::Value(wid, value)),
+            None => Ok(()),
+        },
     }
 }
 

@@ -3,18 +3,17 @@ ghost use Rattle.std.specs.Prelude.{◌≡◌, ◌<◌, List, length, not, Ok, S
 ghost use Rattle.jup_window.specs.Entries.{widget_fault, change_at, with_entry};
 ghost use Rattle.jup_window.specs.Boards as boards;
 ghost use Rattle.jup_window.specs.Widgets as widgets;
-ghost use Rattle.jup_wire.specs.declared.line.Line.TheVariants as lines;
+ghost use Rattle.jup_wire.specs.Kinds.{said_widget};
 ghost use Rattle.jup_value.specs.declared.names.Item.{Item};
 ghost use Rattle.jup_value.specs.Items.{has_name};
-ghost use Rattle.jup_layout.specs.Drafts.{AreKept, AddsName, blank, whole, with_window, with_widget, with_added, taken, items_in_last, Follows, Appended};
+ghost use Rattle.jup_layout.specs.Drafts.{AreKept, AddsName, blank, whole, with_window, with_widget, with_said, with_added, taken, items_in_last, Follows, Appended};
 
 use crate::names::Names;
 use crate::naming::Naming;
 use crate::refusals::Refusal;
-use jup_setting::{Slider, Toggle};
 use jup_value::{Item, Label, Name, Seq};
 use jup_window::{Board, Widget};
-use jup_wire::Line;
+use jup_wire::{Line, WidgetValue};
 use jup_xform::NoMemory;
 use std::alloc::Global;
 use std::marker::Model;
@@ -236,22 +235,15 @@ impl Draft {
         })
     }
 
-    fn with_slider(
-        self,
-        alloc: Global,
-        wid: u16,
-        lo: i32,
-        hi: i32,
-        value: i32,
-    ) -> Result<Draft, Refusal>
-        ensures { Follows (λ d. d) result (taken self (lines.Slider wid lo hi value)) }
+    fn with_value(self, alloc: Global, wid: u16, value: WidgetValue) -> Result<Draft, Refusal>
+        ensures { Follows (λ d. d) result (with_said self.window (said_widget value) wid self) }
     {
         if self.window.is_none() {
             return Err(Refusal::Misplaced);
         }
-        match Slider::new(lo, hi, value) {
-            Ok(slider) => self.with_widget(alloc, wid, Widget::Slider(slider)),
-            Err(_) => Err(Refusal::BadBounds),
+        match value.widget() {
+            Some(widget) => self.with_widget(alloc, wid, widget),
+            None => Err(Refusal::BadBounds),
         }
     }
 
@@ -264,12 +256,7 @@ impl Draft {
             Line::Window(win) => self.with_window(alloc, *win),
             Line::Text(wid) => self.with_widget(alloc, *wid, Widget::Text(Seq::new(alloc))),
             Line::List(wid) => self.with_widget(alloc, *wid, Widget::List(Seq::new(alloc))),
-            Line::Toggle(wid, on) => self.with_widget(
-                alloc,
-                *wid,
-                Widget::Toggle(Toggle { on: *on }),
-            ),
-            Line::Slider { wid, lo, hi, value } => self.with_slider(alloc, *wid, *lo, *hi, *value),
+            Line::Value(wid, value) => self.with_value(alloc, *wid, *value),
             Line::Char(name, value) => self.with_item(Added::Char(Item {
                 name: *name,
                 value: *value,

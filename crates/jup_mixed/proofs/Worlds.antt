@@ -1,5 +1,5 @@
 -- A star with one site and strangers is a world.
-use Rattle.std.proofs.Common.{◌≡◌, ℕ, ◌+◌, Bool, true, false, cond, not, ◌||◌, List, [], ◌∷◌, nat_eq, refl, ap, sym, ◌∙◌, subst, Option, Some, None, option_to_list, Result, Ok, Err, arith, eq-eqb, ne_eqb, eqb-true, is_some, inl, inr, ◌≤◌, ◌++◌, map, drop, take, length, zero-add, ◌≢◌, ◌⊎◌}
+use Rattle.std.proofs.Common.{◌≡◌, ℕ, ◌+◌, Bool, true, false, cond, not, ◌||◌, List, [], ◌∷◌, nat_eq, refl, ap, sym, ◌∙◌, subst, Option, Some, None, option_to_list, Result, Ok, Err, arith, eq-eqb, ne_eqb, eqb-true, is_some, inl, inr, ◌≤◌, ◌++◌, map, drop, take, length, zero-add, ◌≢◌}
 use Rattle.std.proofs.lemmas.Bool.{eqb-false}
 use Rattle.std.proofs.lemmas.List.{map-append}
 use Rattle.jup_mixed.specs.Prelude.{Operations, AreLawful, board_batches, batch_laws, Up, Down, StarFault, SiteFault, Entry, LogFull, LinkState, link_of, join_fault, up_fault, left, taken, fetched, place_taken, most_batches, edit_answer, deliver_fault, order_symmetric, HomeEdit, HomeUp, HomeDown, JoinStray, Stray, LeaveStray, EditFault}

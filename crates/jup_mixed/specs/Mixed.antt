@@ -1,7 +1,6 @@
 -- A star with one site and strangers.
-use Rattle.std.specs.Prelude.{◌≡◌, ℕ, List, [], Option, Some, ◌+◌, cond, nat_eq, ◌∷◌, ◌++◌, None, Result, Ok, Err, length, take, drop, ◌≢◌, ◌⊎◌, ◌≤◌, false, IsTrue, is_some, map, option_to_list}
-use Rattle.std.specs.Option.{option_map}
-use Rattle.jup_mixed.specs.Prelude.{highest_limit, EditFault, Operations, Windows, board_batches, BoardBatch, BoardEdits, Commands, Up, Down, StarFault, SiteFault, Entry, LogFull, LinkState, joined, link_of, join_fault, left, fetched, up_fault, taken, place_taken, most_batches, BoardStar, opened_site, edit_answer, deliver_fault, bare_attached, HomeEdit, HomeUp, HomeDown, JoinStray, Stray, LeaveStray}
+use Rattle.std.specs.Prelude.{◌≡◌, ℕ, List, [], Option, Some, ◌+◌, cond, nat_eq, ◌∷◌, ◌++◌, None, Result, Ok, Err, length, take, drop, ◌≢◌, ◌⊎◌, ◌≤◌, false, is_some, map, option_to_list}
+use Rattle.jup_mixed.specs.Prelude.{highest_limit, EditFault, Operations, Windows, board_batches, BoardBatch, BoardEdits, Commands, Up, Down, StarFault, SiteFault, Entry, LogFull, LinkState, joined, link_of, join_fault, left, fetched, up_fault, taken, place_taken, most_batches, BoardStar, opened_site, edit_answer, deliver_fault, bare_attached, HomeEdit, HomeUp, HomeDown, JoinStray, Stray, LeaveStray, option_map}
 use Rattle.jup_star.specs.Stars.{StarState}
 use Rattle.jup_world.specs.declared.events.Reply.{Reply}
 use Rattle.jup_world.specs.declared.events.Reply.TheVariants.{Joined, NoJoin, Left, Made, Refused, Detached, Nothing, Shown}

@@ -15,3 +15,4 @@ pub use Rattle.jup_world.specs.declared.world.attached.Attached.{Attached}
 pub use Rattle.jup_world.specs.Insides.{bare_attached}
 pub use Rattle.jup_world.proofs.Copies.Boards.{order_symmetric}
 pub use Rattle.jup_mixed.specs.declared.events.MixEvent.TheVariants.{Down as HomeDown, Edit as HomeEdit, JoinStray, LeaveStray, Stray, Up as HomeUp}
+pub use Rattle.std.specs.Option.{option_map}

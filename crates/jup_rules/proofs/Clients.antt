@@ -12,7 +12,7 @@ use Rattle.jup_layout.specs.Drafts.{board_with, no_memory}
 use Rattle.jup_layout.proofs.Texts.{refused_early}
 use Rattle.jup_rules.specs.Clients.{request_lines, IsRequest, IsRequestOf, IsNoCommand, AreCommands, IsBegunBy}
 use Rattle.jup_rules.specs.ClientEnds.{end_of_layout}
-use Rattle.jup_layout.specs.Prelude.{Widget, Text, Labels, Toggle, Slider}
+use Rattle.jup_layout.specs.Prelude.{Widget, Text, Labels}
 
 -- What the lines of a user give, one by one.
 
@@ -122,8 +122,7 @@ ends_bad lines line missing old commands true next bad begun = inr (
 widget_line-bare : (id : ℕ) (w : Widget) → widget_line (id, widget.bare w) ≡ widget_line (id, w)
 widget_line-bare id (Text x) = refl
 widget_line-bare id (Labels x) = refl
-widget_line-bare id (Toggle x) = refl
-widget_line-bare id (Slider x) = refl
+widget_line-bare id other = refl
 
 -- lists of entries that are printed alike, one by one
 alike : {A : Type 0} (f : A → List ℕ) (x y : A) (xs ys : List A) → f y ≡ f x → flat_map f ys ≡ flat_map f xs → flat_map f (y ∷ ys) ≡ flat_map f (x ∷ xs)

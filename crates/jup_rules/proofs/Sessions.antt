@@ -1,8 +1,7 @@
 -- What a line of a site leads to.
-use Rattle.std.proofs.Common.{◌≡◌, Bool, true, false, List, [], ◌∷◌, ◌++◌, Option, Some, None, Result, Ok, Err, IfErr, inr, refl, sym, ap, ◌∙◌, ℕ, ◌+◌, ◌-◌, ◌≤◌, min, IfOk, inl, subst, append-nil, arith, count_by}
+use Rattle.std.proofs.Common.{◌≡◌, Bool, true, false, List, [], ◌∷◌, ◌++◌, Option, Some, None, Result, Ok, Err, IfErr, inr, refl, sym, ap, ◌∙◌, ℕ, ◌+◌, ◌-◌, ◌≤◌, IfOk, inl, subst, append-nil, arith, count_by, option_to_list}
 use Rattle.std.proofs.lemmas.Bool.{false≢true}
 use Rattle.std.proofs.Math.Nat.{min-le_left, min-le_right, le-min, le_antisymm}
-use Rattle.std.specs.Option.{option_to_list}
 use Rattle.std.proofs.lemmas.List.Sums.{sum_by-append}
 use Rattle.jup_rules.specs.Prelude.{BoardBatch, UpOp, UpAck, UpPing, Up, Line, Gathered, Said, SaysUp, SaysBye, SessionFault}
 use Rattle.jup_wire.specs.declared.line.Line.TheVariants as wire

@@ -380,8 +380,7 @@ fn is_of_board(line: &Line) -> bool
         Line::Window(_)
             | Line::Text(_)
             | Line::List(_)
-            | Line::Toggle(..)
-            | Line::Slider { .. }
+            | Line::Value(..)
             | Line::Char(..)
             | Line::Item(..)
     )

@@ -61,7 +61,10 @@ fn play<W: Write>(alloc: Global, script: &mut Script<'_>, replies: &mut W) -> Re
 {
     let first = script.required_line()?;
     match first.split_once(' ') {
-        Some(("pair", widget)) => script.judge(Pair::read(widget))?.play(script, replies),
+        Some(("pair", widget)) => match Pair::read(widget) {
+            Ok(pair) => pair.play(script, replies),
+            Err(fault) => Err(script.bad(fault)),
+        },
         Some(("star", limit)) => {
             let limit = script.judge(star::read_limit(limit))?;
             star::play(alloc, limit, script, replies)

@@ -24,7 +24,10 @@ impl Pair {
             Some(("toggle", start)) => Ok(Pair::Toggle(Toggle {
                 on: read_on(start)?,
             })),
-            Some(("slider", values)) => Ok(Pair::Slider(read_slider(values)?)),
+            Some(("slider", values)) => match read_slider(values) {
+                Ok(start) => Ok(Pair::Slider(start)),
+                Err(fault) => Err(fault),
+            },
             _ => Err(ScriptFault::NoPair),
         }
     }

@@ -168,7 +168,10 @@ fn next_commands(
     let _within: Within = PhantomData;
     let mut commands = Vec::new(alloc);
     for _ in 0..count {
-        let command = next_command(script)?;
+        let command = match next_command(script) {
+            Ok(command) => command,
+            Err(end) => return Err(end),
+        };
         if commands.push(command).is_err() {
             return Err(ScriptEnd::NoMemory);
         }

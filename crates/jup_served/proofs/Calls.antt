@@ -1,10 +1,9 @@
 -- The calls of a session.
 use Rattle.std.proofs.Common.{◌≡◌, ◌⊎◌, inl, inr, ℕ, Bool, true, false, cond, List, [], ◌∷◌, ◌++◌, refl, sym, subst, ◌∙◌, bytes_eq, true≢false, not, ◌||◌, map, nat_eq, Ok, Err, ap, append_assoc, eq-eqb, eqb-true, Option, Some, None, Result, MatchBool, append-nil}
-use Rattle.std.specs.List.{AllByRecursion, flat_map}
 use Rattle.std.proofs.lemmas.Slice.Eq.{bytes_eq-Decides}
 use Rattle.std.proofs.lemmas.List.Concat.{flat_map-cons, flat_map-append}
 use Rattle.std.proofs.lemmas.List.{map-append}
-use Rattle.jup_served.specs.Prelude.{BoardBatch, Up, Call, Join, Take, Fetch, Leave, StarReply, JoinedReply, Taken, Fetched, Left, Line, Progress, HasRead, all-append, at_first, HubEvent, Tally, View, Said, SaysUp, Ending, Sourced}
+use Rattle.jup_served.specs.Prelude.{BoardBatch, Up, Call, Join, Take, Fetch, Leave, StarReply, JoinedReply, Taken, Fetched, Left, Line, Progress, HasRead, all-append, at_first, HubEvent, Tally, View, Said, SaysUp, Ending, Sourced, AllByRecursion, flat_map}
 use Rattle.jup_hub.specs.Histories.{calls_by, AllTallied, IsNew, AllApart, is_among, calls_of_others, entry, Called, ComesToAsk, tally, after_split}
 use Rattle.jup_honest.specs.Sites.{taken_with, takes_of, fetched_in, fetched_with, fetches_of}
 use Rattle.jup_rules.specs.Sessions.{HasSaid}

@@ -1,7 +1,6 @@
 -- Each site of a hub is its session's own.
 use Rattle.std.proofs.Common.{◌≡◌, inl, inr, ℕ, ◌+◌, ◌<◌, ◌≤◌, Bool, true, false, cond, List, [], ◌∷◌, ◌++◌, nat_eq, None, Ok, refl, sym, ap, subst, ◌∙◌, eqb-true, arith, ◌⊎◌, length, IsTrue, Err}
-use Rattle.std.specs.List.{AllByRecursion}
-use Rattle.jup_served.specs.Prelude.{highest_limit, Windows, Joined, Call, Join, Take, Fetch, Leave, JoinedReply, Fetched, Taken, Left, StarReply, IsOpening, HubEvent, Tally, View}
+use Rattle.jup_served.specs.Prelude.{highest_limit, Windows, Joined, Call, Join, Take, Fetch, Leave, JoinedReply, Fetched, Taken, Left, StarReply, IsOpening, HubEvent, Tally, View, AllByRecursion}
 use Rattle.jup_star.specs.Stars.{link_of, joined, BoardStar, fetch_result, reply_of, star_after, opened_star}
 use Rattle.jup_hub.specs.Histories.{star_through, IsLegal, calls_by, AllTallied, IsNew, AllApart, is_among, calls_in, Meets, tally, tallies}
 use Rattle.jup_hub.proofs.Histories.{no_others}

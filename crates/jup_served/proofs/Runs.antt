@@ -1,18 +1,18 @@
 -- The run of a site that a session serves.
 use Rattle.std.proofs.Common.{◌≡◌, ℕ, ◌≤◌, Bool, true, false, List, [], ◌∷◌, ◌++◌, refl, sym, ap, ◌∙◌, arith, nat_le, ◌&&◌, ◌⊎◌, inl, inr, ◌<◌, Ok, IsTrue, subst, append_assoc, bytes_eq, map, Err, append-nil}
-use Rattle.std.specs.List.{flat_map, AllByRecursion}
 use Rattle.std.proofs.lemmas.Bool.{leb-false, cond-true}
 use Rattle.std.proofs.lemmas.List.Concat.{flat_map-cons}
 use Rattle.std.proofs.lemmas.List.Elements.{filter-append}
 use Rattle.std.proofs.lemmas.List.{map-append}
-use Rattle.jup_window.specs.declared.widget_operations.WidgetOp.TheVariants as widget
+use Rattle.jup_window.specs.declared.kinds.WidgetOp.TheVariants as widget
 use Rattle.jup_window.specs.Widgets.{relabels_no_text}
 use Rattle.jup_window.specs.Boards as board
 use Rattle.jup_window.specs.Widgets as one
-use Rattle.jup_served.specs.Prelude.{Windows, bare, BoardBatch, Up, Down, Joined, Call, Join, Take, Fetch, Leave, JoinedReply, UpPing, Line, HasRead, HubEvent, Ending, ClientState, Said, SaysUp, last_line}
+use Rattle.jup_served.specs.Prelude.{Windows, bare, BoardBatch, Up, Down, Joined, Call, Join, Take, Fetch, Leave, JoinedReply, UpPing, Line, HasRead, HubEvent, Ending, ClientState, Said, SaysUp, last_line, flat_map, AllByRecursion}
 use Rattle.jup_star.specs.Sites.{edit_reply, site_edited, deliver_reply, site_delivered}
 use Rattle.jup_wire.specs.declared.line.Line.TheVariants as line
-use Rattle.jup_wire.specs.Lines.{spelling, HasSpelling, IsBody, is_spelled, line_bytes}
+use Rattle.jup_wire.specs.Kinds.{IsBody}
+use Rattle.jup_wire.specs.Lines.{spelling, HasSpelling, is_spelled, line_bytes}
 use Rattle.jup_layout.specs.Drafts.{widget_lines, window_lines, board_lines}
 use Rattle.jup_hub.specs.Histories.{entry, star_through, IsLegal, calls_by, AllTallied, is_among, tally, tallies}
 use Rattle.jup_honest.specs.Sites.{Connection, history, takes_of, fetches_of, Begins, IsReliable, IsCausal, IsCausalThrough, through, after, Step, SiteRun, IsHonest, opening, calls, start, now, Edit, Deliver, Ping, Called, sent_as_made, sent_as_handed}
@@ -28,7 +28,7 @@ use Rattle.jup_served.specs.Sessions.{Ended, ServesSite, answer_of, writer_of, f
 use Rattle.jup_served.proofs.Calls.{IsIn, by_in, among_is, IsTakeFor, takes_both, fetches_both, fetches_are, under_one, takes_under, fetches_under, join, half, departing, made_is, kept_is}
 use Rattle.jup_served.proofs.Hubs.{IsJoin, early_join, early_fetches, owned}
 use Rattle.jup_socket.specs.Prelude.{NoMemory}
-use Rattle.jup_layout.specs.Prelude.{Widget, Text, Labels, Toggle, Slider}
+use Rattle.jup_layout.specs.Prelude.{Widget, Text, Labels}
 use Rattle.jup_wire.specs.Prelude.{WidgetOp}
 use Rattle.jup_star.specs.Prelude.{most_operations}
 
@@ -49,8 +49,7 @@ and_true false b p q = absurd (cc)
 body_spelled : (w : WidgetOp) → IsBody w → relabels_no_text w ≡ true
 body_spelled (widget.Text op) is = is.0
 body_spelled (widget.List op) is = refl
-body_spelled (widget.Toggle op) is = refl
-body_spelled (widget.Slider op) is = refl
+body_spelled other is = refl
 
 -- a line that has a spelling is written as that
 line_spelled : (l : Line) → HasSpelling l → is_spelled l ≡ true
@@ -70,8 +69,7 @@ lines_spelled (l ∷ ls) all =
 bare_widget : (w : ℕ × Widget) → widget_lines (w.0, one.bare w.1) ≡ widget_lines w
 bare_widget (wid, Text x) = refl
 bare_widget (wid, Labels x) = refl
-bare_widget (wid, Toggle x) = refl
-bare_widget (wid, Slider x) = refl
+bare_widget (wid, other) = refl
 
 bare_widgets : (ws : List (ℕ × Widget)) → flat_map widget_lines (board.bare_widgets ws) ≡ flat_map widget_lines ws
 bare_widgets [] = refl

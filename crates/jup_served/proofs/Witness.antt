@@ -1,9 +1,8 @@
 -- Two sessions of one hub.
 use Rattle.std.proofs.Common.{◌≡◌, inl, inr, ℕ, true, false, List, [], ◌∷◌, ◌++◌, map, Some, None, Ok, refl, sym, ap, subst, ◌∙◌, append-nil, lit≤, count_by, Bool, length, lit<}
-use Rattle.std.specs.List.{flat_map, AllByRecursion}
 use Rattle.std.proofs.lemmas.List.Concat.{flat_map-append}
 use Rattle.std.proofs.lemmas.List.Elements.{All-nil}
-use Rattle.jup_served.specs.Prelude.{BoardBatch, bare, Windows, Up, Joined, Join, Leave, Take, Fetch, StarReply, JoinedReply, Taken, Fetched, Left, UpPing, Down, Line, Progress, HasRead, all-append, at_first, IsOpening, HubEvent, View, Said, SaysUp, Answer, ClientHeard, ClientState, last_line, Sourced}
+use Rattle.jup_served.specs.Prelude.{BoardBatch, bare, Windows, Up, Joined, Join, Leave, Take, Fetch, StarReply, JoinedReply, Taken, Fetched, Left, UpPing, Down, Line, Progress, HasRead, all-append, at_first, IsOpening, HubEvent, View, Said, SaysUp, Answer, ClientHeard, ClientState, last_line, Sourced, flat_map, AllByRecursion}
 use Rattle.jup_batch.specs.Boards.{edit_of}
 use Rattle.jup_star.specs.Stars.{BoardLink, reply_of, star_after, opened_star}
 use Rattle.jup_star.specs.Sites.{BoardSite, site_edited}
@@ -25,12 +24,11 @@ use Rattle.jup_served.proofs.Runs.{lines_spelled}
 use Rattle.jup_session.specs.Prelude.{BoardStar, Hello, line_bytes, board_lines, SessionFault, HasHeard, Keeper, HandsOn, Stops}
 use Rattle.jup_rules.specs.Prelude.{UpOp, DownOp, DownPong}
 use Rattle.jup_honest.specs.Prelude.{Msg, Commands, entry, IsLegal}
-use Rattle.jup_layout.specs.Prelude.{Toggle as ToggleWidget}
-use Rattle.jup_star.specs.Prelude.{Server}
+use Rattle.jup_star.specs.Prelude.{Server, Toggle as ToggleWidget}
 use Rattle.jup_batch.specs.Prelude.{OnToggle as ToggleOp, SetValue as SetCommand}
 use Rattle.jup_window.specs.Prelude.{SetTo, NoSetOp as SetNothing}
 use Rattle.jup_rules.specs.declared.ends.Stop.TheVariants.{End, Fault}
-use Rattle.jup_window.specs.declared.commands.Setting.TheVariants.{Toggle as ToggleSetting}
+use Rattle.jup_window.specs.declared.kinds.Setting.TheVariants.{Toggle as ToggleSetting}
 
 -- A session whose client says some messages, all of which are taken, and then closes its way up.
 
@@ -394,10 +392,10 @@ session_two = plain plan_two is_plain_two
 
 -- their lines
 spelled_one : AllByRecursion HasSpelling (lines plan_one)
-spelled_one = ((lit< tt, lit< tt), (lit< tt, (lit< tt, (tt, ((lit< tt, (lit< tt, (lit≤ tt, lit≤ tt))), ((lit< tt, (lit< tt, tt)), (lit< tt, (tt, tt))))))))
+spelled_one = ((lit< tt, lit< tt), (lit< tt, ((lit< tt, tt), (tt, ((lit< tt, (lit< tt, (lit≤ tt, lit≤ tt))), ((lit< tt, (lit< tt, tt)), (lit< tt, (tt, tt))))))))
 
 spelled_two : AllByRecursion HasSpelling (lines plan_two)
-spelled_two = ((lit< tt, lit< tt), (lit< tt, (lit< tt, (tt, ((lit< tt, (lit< tt, (lit≤ tt, lit≤ tt))), ((lit< tt, (lit< tt, tt)), (tt, tt)))))))
+spelled_two = ((lit< tt, lit< tt), (lit< tt, ((lit< tt, tt), (tt, ((lit< tt, (lit< tt, (lit≤ tt, lit≤ tt))), ((lit< tt, (lit< tt, tt)), (tt, tt)))))))
 
 pub hub : IsSessionHub board 9 (session_one ∷ session_two ∷ []) log
 unfolding session_one session_two

@@ -25,3 +25,4 @@ pub use Rattle.jup_rules.specs.declared.session.Said.{Said}
 pub use Rattle.jup_rules.specs.declared.session.Said.TheVariants.{Up as SaysUp}
 pub use Rattle.jup_rules.specs.Ends.{last_line}
 pub use Rattle.jup_stream.specs.Streams.{Sourced}
+pub use Rattle.std.specs.List.{AllByRecursion, flat_map}

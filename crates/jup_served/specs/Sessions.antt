@@ -1,7 +1,6 @@
 -- Sessions, their sites and their clients.
 use Rattle.std.specs.Prelude.{◌≡◌, ℕ, Bool, List, ◌∷◌, Option, IsTrue, ◌≤◌, ◌++◌, ◌⊎◌, [], option_to_list, Ok}
-use Rattle.std.specs.List.{AllByRecursion, flat_map}
-use Rattle.jup_served.specs.Prelude.{highest_limit, bare, BoardBatch, Windows, Joined, Up, UpPing, IsOpening, HubEvent, View, Tally, Ending, Answer, ClientHeard as Heard, ClientState, Said, SaysUp, Sourced}
+use Rattle.jup_served.specs.Prelude.{highest_limit, bare, BoardBatch, Windows, Joined, Up, UpPing, IsOpening, HubEvent, View, Tally, Ending, Answer, ClientHeard as Heard, ClientState, Said, SaysUp, Sourced, AllByRecursion, flat_map}
 use Rattle.jup_star.specs.Stars.{opened_star}
 use Rattle.jup_wire.specs.Lines.{spelling, HasSpelling}
 use Rattle.jup_hub.specs.Histories.{is_among, tallies, calls_by, BeginsWith, Meets, IsLegal, AllTallied, AllApart, calls_of_others}

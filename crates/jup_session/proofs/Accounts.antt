@@ -1,11 +1,9 @@
 -- The account of a whole session.
-use Rattle.std.proofs.Common.{◌≡◌, ◌∙◌, sym, ap, subst, ℕ, ◌⊎◌, inl, inr, Bool, List, [], ◌∷◌, ◌++◌, map, Option, Some, None, refl, append_assoc, append-nil, count_by, arith, true, false, IsTrue, not, Result, Ok, Err, ◌+◌, ◌≤◌, length, take, IfSome}
+use Rattle.std.proofs.Common.{◌≡◌, ◌∙◌, sym, ap, subst, ℕ, inl, inr, Bool, List, [], ◌∷◌, ◌++◌, map, Option, Some, None, refl, append_assoc, append-nil, count_by, arith, true, false, IsTrue, not, ◌+◌, ◌≤◌, length, take, IfSome, option_map, flat_map}
 use Rattle.std.specs.Io.KnownBytes.{Consumes, Appends, Keeps}
 use Rattle.std.proofs.KnownBytes.{Consumes-nil, Consumes-trans}
-use Rattle.std.specs.List.{flat_map, AllByRecursion}
 use Rattle.std.proofs.lemmas.Fmt.{decimal_digit}
 use Rattle.std.proofs.lemmas.List.{take_all, length-take}
-use Rattle.std.specs.Option.{option_map}
 use Rattle.jup_session.specs.Prelude.{BoardBatch, Up, Line, Hello, Error, line_bytes, View, HubEvent, Tally, Ending, Said, SaysUp, SaysBye as Bye, NoMemory, HasHeard, Keeper, ending_of, last_line, standing, Sourced, HandsOn, Put, PutsLines, IsFlushed, WritesFront, fresh_put, puts_more}
 use Rattle.jup_wire.specs.Streams.{HasRead, Progress}
 use Rattle.jup_wire.proofs.Streams.{one_read}

@@ -9,7 +9,7 @@ use Rattle.jup_rules.specs.declared.session.Awaits.TheVariants.{Gate, Pongs}
 use Rattle.jup_rules.specs.declared.session.Next.TheVariants.{Line as NextLine, Take as NextTake}
 use Rattle.jup_stream.specs.Streams.{puts_none}
 use Rattle.jup_stream.proofs.Streams.{hands_none, hands_more}
-use Rattle.jup_session.specs.Sessions.{HasAnswered, HasToWait, HasCalled, followed_by, IsHandled, IsCallFor, AreCallsFor, AreTalliesFor, HasLeft, IsFull, SomeLeft, FollowsJoin, IsSession, Makes, Serves, Leaves, HasMadeNone, HasServed, IsJoinOf, Joins, BothServe, GivesBack, IsLeaveOf, Departs, brought, lines_brought, IsFetchFor, AreFetchesFor, Forwards, Brings, IsOfWriting, TellsFault, told_line, Wrote, welcome_lines, IsTaken, AreTakesOf, Hears, Over, Stopped, ByLine, Untaken, Spent, Behind, HearsAll, HearsNothing, Heard}
+use Rattle.jup_session.specs.Sessions.{HasAnswered, HasToWait, HasCalled, followed_by, IsHandled, IsCallFor, AreCallsFor, AreTalliesFor, HasLeft, IsFull, SomeLeft, FollowsJoin, IsSession, Makes, Serves, Leaves, HasMadeNone, HasServed, IsJoinOf, Joins, BothServe, GivesBack, IsLeaveOf, Departs, brought, lines_brought, IsFetchFor, Forwards, Brings, IsOfWriting, TellsFault, told_line, Wrote, welcome_lines, IsTaken, AreTakesOf, Hears, Over, Stopped, ByLine, Untaken, Spent, Behind, HearsAll, Heard}
 use Rattle.jup_session.specs.ExactSessions.{Enters, IsTurnedAway, NoLine, NoGreeting, NoJoin, IsWelcomed, EndsEarly, TurnedAway, Unwelcome}
 use Rattle.jup_hub.specs.Prelude.{StarFault, is_no_memory}
 use Rattle.jup_hub.specs.declared.fault.HubFault.TheVariants.{Star, Spent as HubSpent}

@@ -1,7 +1,7 @@
 -- What a session does, byte for byte.
-use Rattle.std.proofs.Common.{◌≡◌, ◌≢◌, ℕ, Bool, true, not, List, [], ◌∷◌, ◌++◌, Option, Ok, Err, IsTrue, inl, inr}
+use Rattle.std.proofs.Common.{◌≡◌, ◌≢◌, ℕ, Bool, not, List, [], ◌∷◌, ◌++◌, Option, Ok, Err, IsTrue, inl, inr}
 use Rattle.std.specs.List.{flat_map, AllByRecursion}
-use Rattle.jup_session.specs.Prelude.{Joined, Join, JoinedReply, bare_joined, Line, Hello, line_bytes, HubFault, HubEvent, View, Made, Ending, Stop, Hub, NoMemory, Misplaced, WriteFailed, Said, ending_of, ended_by, last_line, standing, Keeper, WritesFront, Sourced, HandsOn, Stops}
+use Rattle.jup_session.specs.Prelude.{Joined, Join, JoinedReply, bare_joined, Line, Hello, line_bytes, HubFault, HubEvent, View, Made, Ending, Stop, Hub, NoMemory, Misplaced, WriteFailed, ending_of, ended_by, last_line, standing, Keeper, WritesFront, Sourced, HandsOn, Stops}
 use Rattle.jup_wire.specs.Streams.{HasRead}
 use Rattle.jup_hub.specs.Histories.{tally, after_split, Called}
 use Rattle.jup_session.specs.Sessions.{GivesBack, IsLeaveOf, Departs, lines_brought, AreFetchesFor, TellsFault, welcome_lines, Heard, Over, Stopped, ByLine, Untaken, Spent, Behind}

@@ -24,7 +24,7 @@ use Rattle.jup_socket.specs.Sockets.{IsWithinBoard, all_said, said_lines, UpSock
 use Rattle.jup_rules.specs.Prelude.{BoardBatch, UpOp, UpAck, UpPing, DownOp, DownAck, DownPong, SiteFault, LayoutFault}
 use Rattle.jup_honest.specs.Prelude.{Commands, Windows, board_batches, IsOpening, IsLegal}
 use Rattle.jup_world.specs.Prelude.{highest_limit, Item, Name, EditFault, bare, SiteBadOp as BadOp, edit_answer as site_answer, opened_site}
-use Rattle.jup_layout.specs.Prelude.{Widget, Text, Labels, Toggle, Slider, Windows as BoardWindows}
+use Rattle.jup_layout.specs.Prelude.{Widget, Text, Labels, Windows as BoardWindows}
 
 -- A greeting is read in one way: the lines of a board have no `ready` among them.
 
@@ -40,8 +40,7 @@ all_items P line_of each (x ∷ xs) = (each x.name x.value, all_items P line_of 
 widget_within : (w : ℕ × Widget) → AllByRecursion IsWithinBoard (widget_lines w)
 widget_within (wid, Text x) = (tt, all_items IsWithinBoard line.Char (λ n v. tt) x.items)
 widget_within (wid, Labels x) = (tt, all_items IsWithinBoard line.Item (λ n v. tt) x.items)
-widget_within (wid, Toggle x) = (tt, tt)
-widget_within (wid, Slider x) = (tt, tt)
+widget_within (wid, other) = (tt, tt)
 
 pub board_within : (b : BoardWindows) → AllByRecursion IsWithinBoard (board_lines b)
 board_within b = all_parts IsWithinBoard window_lines (λ w. (tt, all_parts IsWithinBoard widget_lines widget_within w.1)) b

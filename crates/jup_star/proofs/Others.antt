@@ -1,6 +1,5 @@
 -- The links of all other sites.
-use Rattle.std.proofs.Common.{◌≡◌, refl, ap, List, [], ◌∷◌, ◌++◌, ℕ, ◌+◌, ◌-◌, ◌≤◌, sym, ◌∙◌, subst, arith, append_assoc, ◌≢◌, Bool, true, false, cond, length, map, nat_eq, Option, Some, None, option_map, ne_eqb, MatchBool, Result}
-use Rattle.std.specs.Option.{IsSomeAnd}
+use Rattle.std.proofs.Common.{◌≡◌, refl, ap, List, [], ◌∷◌, ◌++◌, ℕ, ◌+◌, ◌-◌, ◌≤◌, sym, ◌∙◌, subst, arith, append_assoc, ◌≢◌, Bool, true, false, cond, length, map, nat_eq, Option, Some, None, option_map, ne_eqb, MatchBool, Result, IsSomeAnd}
 use Rattle.jup_star.specs.Prelude.{highest_limit, most_unacknowledged, Msg, Ack, sent, Message, generated, after_send, next_message, operation_count, AllMessages, InStep, Operations, AreLawful, BoardBatch, board_batches, batch_laws as board_laws, Up, Op as UpOp, UpAck, UpPing, Down, DownOp, DownAck, DownPong, StarFault, Take}
 use Rattle.jup_link.specs.Links.{message, MessagesApart}
 use Rattle.jup_link.specs.Laws.InStep.{MessagesApart-from}

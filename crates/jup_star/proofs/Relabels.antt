@@ -1,6 +1,5 @@
 -- Batches that are sent.
-use Rattle.std.proofs.Common.{◌≡◌, true, [], ◌∷◌, ◌≤◌, ap, refl, inl, inr, suc, length, arith}
-use Rattle.std.specs.Option.{IsSomeAnd}
+use Rattle.std.proofs.Common.{◌≡◌, true, [], ◌∷◌, ◌≤◌, ap, refl, inl, inr, suc, length, arith, IsSomeAnd}
 use Rattle.jup_window.specs.Laws.Operations.{valid-relabels_no_text}
 use Rattle.jup_star.specs.Prelude.{BoardBatch, accepts, batch_laws, shape}
 use Rattle.jup_batch.specs.Boards.{Windows, after}

@@ -3,7 +3,7 @@ use Rattle.std.proofs.Common.{◌≡◌, sym, subst, ℕ, zero, suc, ◌+◌, �
 use Rattle.std.proofs.lemmas.Bool.{and_from, and_parts, le-leb}
 use Rattle.std.proofs.Math.ListN.{set}
 use Rattle.std.proofs.lemmas.List.{length-append, length-map, length-set, map-set, length-drop}
-use Rattle.jup_star.specs.Prelude.{highest_limit, last_site, most_attached, most_operations, most_ordered, Side, Client, Server, row_operation, past, opposite, Msg, IsCount, EndLink, generated, owes, unheard, Widget, Text, Labels, Toggle, Slider, BoardBatch, boards, board_batches, batch_laws, BoardEdits, accepts, Up, StarFault, NoMemory, NoLink, BadOp, Take, Fetch, Leave, Entry, Op}
+use Rattle.jup_star.specs.Prelude.{highest_limit, last_site, most_attached, most_operations, most_ordered, Side, Client, Server, row_operation, past, opposite, Msg, IsCount, EndLink, generated, owes, unheard, Widget, Text, Labels, BoardBatch, boards, board_batches, batch_laws, BoardEdits, accepts, Up, StarFault, NoMemory, NoLink, BadOp, Take, Fetch, Leave, Entry, Op}
 use Rattle.jup_xform.specs.Batches.{before_last}
 use Rattle.jup_link.specs.Laws.Steps.{small_next}
 use Rattle.jup_window.specs.Entries.{Each, EachWidget}
@@ -50,14 +50,12 @@ one_more {A = A} P Q es n e old fits below is known test holds =
 bare_short : (w : Widget) → IsShort w → IsShort (widget.bare w)
 bare_short (Text x) short = short
 bare_short (Labels x) short = short
-bare_short (Toggle x) short = tt
-bare_short (Slider x) short = tt
+bare_short other short = tt
 
 bare_distinct : (w : Widget) → widget.HasDistinctNames w → widget.HasDistinctNames (widget.bare w)
 bare_distinct (Text x) distinct = distinct
 bare_distinct (Labels x) distinct = distinct
-bare_distinct (Toggle x) distinct = tt
-bare_distinct (Slider x) distinct = tt
+bare_distinct other distinct = tt
 
 bare_each : (P : Widget → Type 0) → ((w : Widget) → P w → P (widget.bare w)) → (ws : List (ℕ × Widget)) → Each P ws → Each P (one.bare_widgets ws)
 bare_each P keeps [] all = tt
@@ -84,8 +82,7 @@ each_map P Q f (e ∷ es) h = (f e.1 h.0, each_map P Q f es h.1)
 short_small : (w : Widget) → IsShort w → widget.IsSmall (before_last most_batches) w
 short_small (Text x) short = omega arith
 short_small (Labels x) short = omega arith
-short_small (Toggle x) short = tt
-short_small (Slider x) short = tt
+short_small other short = tt
 
 -- and so has a board of such widgets
 pub board_small : (b : one.Windows) → EachWidget IsShort b → one.IsSmall (before_last most_batches) b

@@ -7,8 +7,8 @@ pub use Rattle.jup_xform.specs.Rows.{row_operation}
 pub use Rattle.jup_link.specs.declared.Msg.{Msg}
 pub use Rattle.jup_link.specs.Links.{Ack, AllMessages, InStep, IsCount, IsNumber, Link as EndLink, Message, accepts_count, accepts_number, after_count, after_send, answered, generated, next_message, opened, operation_count, owes, sent, unheard}
 pub use Rattle.jup_window.specs.declared.commands.Command.{Command}
-pub use Rattle.jup_window.specs.declared.widgets.Widget.{Widget}
-pub use Rattle.jup_window.specs.declared.widgets.Widget.TheVariants.{List as Labels, Slider, Text, Toggle}
+pub use Rattle.jup_window.specs.declared.kinds.Widget.{Widget}
+pub use Rattle.jup_window.specs.declared.kinds.Widget.TheVariants.{List as Labels, Slider, Text, Toggle}
 pub use Rattle.jup_window.specs.Boards.{has_site, only_site}
 pub use Rattle.jup_window.specs.Operations.{AreLawful, Operations}
 pub use Rattle.jup_batch.specs.Boards.{BoardBatch, BoardEdits, Shape, accepts, bare, batch_laws, board_batches, boards_of as boards, insertions_few, shape}

@@ -1,7 +1,7 @@
 -- The star, and what each call makes of it.
 use Rattle.std.specs.Prelude.{ℕ, ◌+◌, Bool, List, [], ◌∷◌, ◌++◌, drop, nat_eq, if◌then◌else◌, ◌≡◌, ◌*◌, ◌≤◌, false, not, length, map, filter, find, nat_lt, Option, Some, None, ◌-◌, ◌&&◌, nat_le, true, take, is_none, Result, Ok, Err, MatchBool, zero, suc, ◌≢◌, ◌⊎◌, ◌<◌}
 use Rattle.std.specs.Option.{IsSomeAnd}
-use Rattle.jup_star.specs.Prelude.{last_site, most_attached, most_operations, highest_limit, most_ordered, most_unacknowledged, Server, Msg, owes, EndLink, opened, after_send, after_count, answered, next_message, generated, accepts_count, IsNumber, IsCount, operation_count, AllMessages, InStep, Widget, Text, Labels, Toggle, Slider, Operations, only_site, BoardBatch, BoardEdits, board_batches, Shape, shape, bare, Down, DownOp, DownAck, DownPong as Pong, Entry, Up, Op as UpOp, UpAck, UpPing as Ping, StarFault, Full, SitesSpent, NoLink, BadCount, BadAck, NotAnEdit, BadName, LogFull, BadOp, NoMemory, OpenFault, BadLimit, BadSite, Take, Fetch, Leave}
+use Rattle.jup_star.specs.Prelude.{last_site, most_attached, most_operations, highest_limit, most_ordered, most_unacknowledged, Server, Msg, owes, EndLink, opened, after_send, after_count, answered, next_message, generated, accepts_count, IsNumber, IsCount, operation_count, AllMessages, InStep, Widget, Text, Labels, Operations, only_site, BoardBatch, BoardEdits, board_batches, Shape, shape, bare, Down, DownOp, DownAck, DownPong as Pong, Entry, Up, Op as UpOp, UpAck, UpPing as Ping, StarFault, Full, SitesSpent, NoLink, BadCount, BadAck, NotAnEdit, BadName, LogFull, BadOp, NoMemory, OpenFault, BadLimit, BadSite, Take, Fetch, Leave}
 use Rattle.jup_limits.specs.Limits.{longest_sequence}
 use Rattle.jup_link.specs.Links.{received_operation, after_receive}
 use Rattle.jup_batch.specs.Boards as board
@@ -331,8 +331,7 @@ star_open_fault b limit = first_fault (test (nat_le 1 limit && nat_le limit high
 abbrev pub IsShort : Widget → Type 0
 IsShort (Text x) = length x.items ≤ longest_sequence
 IsShort (Labels x) = length x.items ≤ longest_sequence
-IsShort (Toggle x) = Unit {0}
-IsShort (Slider x) = Unit {0}
+IsShort other = Unit {0}
 
 -- Where the link of a site is, and what it can hear.
 

@@ -1,14 +1,14 @@
 -- How lines are read, and bytes are put.
-use Rattle.std.proofs.Common.{arith, slice_get, drop, zero, suc, ◌+◌, ◌≡◌, ◌∙◌, sym, ap, subst, ℕ, inl, inr, List, [], ◌∷◌, ◌++◌, Option, Some, None, Result, Ok, Err, OnOk, OnErr, is_ok, refl, append_assoc, append-nil, rules, not, Bool, true, false, IsTrue, IsFalse, true≢false}
+use Rattle.std.proofs.Common.{arith, slice_get, drop, zero, suc, ◌+◌, ◌≡◌, ◌∙◌, sym, ap, subst, ℕ, inl, inr, List, [], ◌∷◌, ◌++◌, Option, Some, Result, Ok, Err, OnOk, OnErr, is_ok, refl, append_assoc, append-nil, rules, not, Bool, true, false, IsTrue, IsFalse, true≢false}
 use Rattle.std.specs.Io.KnownBytes.{Consumes, Keeps, IsAtEnd, Appends}
-use Rattle.std.proofs.KnownBytes.{Consumes-nil, Consumes-trans, Consumes-kept, Appends-nil, Appends-trans}
+use Rattle.std.proofs.KnownBytes.{Consumes-nil, Consumes-trans, Consumes-kept}
 use Rattle.jup_io.specs.Appends.{appends_kept}
 use Rattle.jup_wire.specs.Streams.{Progress, HasRead, ending_at}
 use Rattle.jup_rules.specs.declared.ends.SessionFault.TheVariants.{Wire, NoMemory, ReadsSpent, ReadFailed}
-use Rattle.jup_stream.specs.Streams.{Sourced, sourced, ReadsOn, HandsOn, IsWhy, Stops, stop_of, Put, put_as, fresh_put, Puts, IsFlushed, WritesFront, puts_both}
+use Rattle.jup_stream.specs.Streams.{Sourced, sourced, ReadsOn, HandsOn, Stops, stop_of, Put, put_as, fresh_put, Puts, IsFlushed, WritesFront}
 use Rattle.jup_rules.specs.Prelude.{Line}
 use Rattle.jup_rules.specs.declared.ends.Stop.{Stop}
-use Rattle.jup_rules.specs.declared.ends.Stop.TheVariants.{End, Fault}
+use Rattle.jup_rules.specs.declared.ends.Stop.TheVariants.{Fault}
 use Rattle.jup_wire.specs.declared.faults.WireFault.{WireFault}
 
 -- How lines are read.

@@ -1,15 +1,13 @@
 -- What is read and what is written.
-use Rattle.std.proofs.Common.{◌≡◌, ◌⊎◌, ℕ, List, [], ◌∷◌, ◌++◌, drop, Option, Some, None, Result, Ok, Err, ◌∙◌, sym, ap, subst, Bool, true, false, IsTrue, IsFalse, refl, true≢false, append_assoc, append-nil}
+use Rattle.std.proofs.Common.{◌≡◌, ◌⊎◌, ℕ, List, [], ◌++◌, drop, Option, Some, None, Result, Ok, Err, ◌∙◌, sym, ap, subst, Bool, true, false, IsTrue, IsFalse, refl, true≢false, append_assoc, append-nil, flat_map}
 use Rattle.std.specs.Io.KnownBytes.{Consumes, IsAtEnd, Appends}
 use Rattle.std.proofs.lemmas.List.Concat.{flat_map-append}
-use Rattle.std.specs.List.{flat_map}
 use Rattle.std.proofs.KnownBytes.{Appends-nil, Appends-trans}
 use Rattle.jup_wire.specs.declared.reader.Fed.{Fed}
 use Rattle.jup_wire.specs.Streams.{Progress, HasRead, ending_at}
 use Rattle.jup_wire.specs.Lines.{line_bytes}
-use Rattle.jup_rules.specs.declared.ends.SessionFault.TheVariants.{Hub, Wire, NoMemory, Misplaced, ReadsSpent, GateShut, ReadFailed, WriteFailed}
+use Rattle.jup_rules.specs.declared.ends.SessionFault.TheVariants.{Wire, NoMemory, ReadsSpent, ReadFailed}
 use Rattle.jup_rules.specs.Prelude.{Line}
-use Rattle.jup_rules.specs.declared.ends.SessionFault.{SessionFault}
 use Rattle.jup_rules.specs.declared.ends.Stop.{Stop}
 use Rattle.jup_rules.specs.declared.ends.Stop.TheVariants.{End, Fault}
 use Rattle.jup_wire.specs.declared.faults.WireFault.{WireFault}

@@ -1,19 +1,21 @@
 -- Boards as text, line by line.
-use Rattle.std.proofs.Common.{◌≡◌, ℕ, List, [], ◌∷◌, ◌++◌, map, sym, ap, ◌∙◌, append-nil, append_assoc, ℤ, codes, decimal, ◌+◌, Option, Some, None, Ok, refl, subst, ◌≢◌, ◌<◌, Bool, length, arith, lit<, get_or, drop, suc, ◌⊎◌, inl, inr, ◌≤ℤ◌, pos, negsuc, false, insert}
-use Rattle.std.specs.Fmt.{signed_decimal}
-use Rattle.std.specs.List.{flat_map, join_with_byte, AllByRecursion}
+use Rattle.std.proofs.Common.{◌≡◌, ℕ, List, [], ◌∷◌, ◌++◌, map, sym, ap, ◌∙◌, append-nil, append_assoc, codes, decimal, ◌+◌, Option, Some, None, Ok, refl, subst, ◌≢◌, ◌<◌, ◌==◌, not, true, length, arith, lit<, get_or, drop, ◌⊎◌, inl, inr, false, insert}
 use Rattle.std.proofs.lemmas.List.{map-append, append_cancel_left, append_cancel_right, length-append}
 use Rattle.std.proofs.lemmas.List.Concat.{flat_map-append}
-use Rattle.std.specs.Char.{IsScalar}
-use Rattle.std.proofs.lemmas.Fmt.{decimal_injective, signed_decimal_injective}
-use Rattle.std.proofs.lemmas.Bool.{ne_eqb}
-use Rattle.jup_text.specs.Prelude.{IsInt, Item, IsLabelText, Labels, Text, Toggle, Slider, Widget}
+use Rattle.std.proofs.lemmas.Fmt.{decimal_injective}
+use Rattle.std.proofs.lemmas.Bool.{ne_eqb, and_parts, not-true, eqb-false}
+use Rattle.jup_text.specs.Prelude.{Item, IsLabelText, Labels, Text, Widget, WidgetValue, flat_map, join_with_byte, AllByRecursion, IsScalar}
 use Rattle.jup_value.proofs.Items.{has_name-insert}
 use Rattle.jup_window.specs.Entries.{RefusesBy}
-use Rattle.jup_text.specs.Boards.{line_of, AreNumbered, IsWidgetLine, Draft, AreValues, IsHeld, IsToggleText, IsSliderText, IsNextWindow, IsNextWidget, IsNext, IsLineOf, IsNumberedTo}
+use Rattle.jup_window.specs.Kinds.{HasNoItems}
+use Rattle.jup_wire.specs.Fields.{dispatch}
+use Rattle.jup_wire.specs.Kinds.{value_of, said_widget, said_none, said_value, value_there, value_word, value_fields, IsValueLine, value_table}
+use Rattle.jup_wire.proofs.Spellings.{lacks, dispatch_takes}
+use Rattle.jup_wire.proofs.ByKind.{value_text, values_take, value_read, value_joined, word_lacks_space, other_word}
+use Rattle.jup_text.specs.Boards.{line_of, widget_words, value_words, AreNumbered, IsNumbered, IsWidgetLine, Draft, AreValues, IsHeld, IsValueText, IsNextWindow, IsNextWidget, IsNext, IsLineOf, IsNumberedTo}
 use Rattle.jup_text.specs.Words.{quoted, quoted_char, IsWord}
 use Rattle.jup_text.specs.Commands.{IsId}
-use Rattle.jup_text.proofs.CommandWords.{id_word, number_word}
+use Rattle.jup_text.proofs.CommandWords.{id_word}
 use Rattle.jup_text.proofs.Quotes.{label_scalars, HasRead, behind_read, all_are_read, no_quote_first, quoted_parts, same_parts}
 use Rattle.jup_window.specs.Prelude.{Items, name_eq}
 use Rattle.jup_window.specs.declared.faults.BoardFault.{BoardFault}
@@ -29,10 +31,6 @@ pub labels_line : {A : Type 0} (text : A → List ℕ) (wid : ℕ) (xs : List A)
 labels_line text wid xs =
     sym (append_assoc (codes "list " ++ decimal wid) (flat_map (λ x. 32 ∷ text x) xs) (10 ∷ []))
     ∙ ap (λ (t : List ℕ). (codes "list " ++ t) ++ 10 ∷ []) (sym (join_spaced text (decimal wid) xs))
-
-pub slider_line : (wid : ℕ) (lo hi value : ℤ) → codes "slider " ++ (decimal wid ++ (32 ∷ (signed_decimal lo ++ (32 ∷ (signed_decimal hi ++ (32 ∷ (signed_decimal value ++ 10 ∷ [])))))))
-    ≡ line_of (codes "slider" ∷ decimal wid ∷ signed_decimal lo ∷ signed_decimal hi ∷ signed_decimal value ∷ [])
-slider_line wid lo hi value = simp append_assoc
 
 -- Items that are read one by one, each named after the last.
 
@@ -85,16 +83,6 @@ list_line rest id labels wid before last list parts named read are =
 
 -- ---- words
 
-pub integer_word : (z : ℤ) → IsInt z → IsWord (signed_decimal z)
-integer_word (pos n) is = number_word n (omega (arith, is.sfits))
-integer_word (negsuc n) is = (λ e. absurd (omega (arith, e)), number_word (suc n) (omega (arith, is.sfits)))
-
-pub same_integer : (x y : ℤ) → IsInt x → IsInt y → signed_decimal x ≡ signed_decimal y → x ≡ y
-same_integer (pos m) (pos n) x_is y_is same = signed_decimal_injective (pos m) (pos n) (omega (arith, x_is.sfits)) (omega (arith, y_is.sfits)) same
-same_integer (pos m) (negsuc n) x_is y_is same = signed_decimal_injective (pos m) (negsuc n) (omega (arith, x_is.sfits)) (omega (arith, y_is.sfits)) same
-same_integer (negsuc m) (pos n) x_is y_is same = signed_decimal_injective (negsuc m) (pos n) (omega (arith, x_is.sfits)) (omega (arith, y_is.sfits)) same
-same_integer (negsuc m) (negsuc n) x_is y_is same = signed_decimal_injective (negsuc m) (negsuc n) (omega (arith, x_is.sfits)) (omega (arith, y_is.sfits)) same
-
 four : (a b c d : ℕ) → 32 < a → 32 < b → 32 < c → 32 < d → IsWord (a ∷ b ∷ c ∷ d ∷ [])
 four a b c d first second third fourth =
     (λ e. absurd (omega (arith, e, first)), (λ e. absurd (omega (arith, e, second)), (λ e. absurd (omega (arith, e, third)), (λ e. absurd (omega (arith, e, fourth)), tt))))
@@ -108,35 +96,20 @@ text_word = four 116 101 120 116 (lit< tt) (lit< tt) (lit< tt) (lit< tt)
 list_word : IsWord (codes "list")
 list_word = four 108 105 115 116 (lit< tt) (lit< tt) (lit< tt) (lit< tt)
 
-toggle_word : IsWord (codes "toggle")
-toggle_word = six 116 111 103 103 108 101 (lit< tt) (lit< tt) (lit< tt) (lit< tt) (lit< tt) (lit< tt)
+-- bytes without a space
+without_space : (bytes : List ℕ) → lacks 32 bytes ≡ true → IsWord bytes
+without_space [] none = tt
+without_space (b ∷ bs) none = let parts = and_parts (not (b == 32)) (lacks 32 bs) none in (eqb-false b 32 (not-true (b == 32) parts.0), without_space bs parts.1)
 
-slider_word : IsWord (codes "slider")
-slider_word = six 115 108 105 100 101 114 (lit< tt) (lit< tt) (lit< tt) (lit< tt) (lit< tt) (lit< tt)
+value_is_word : (value : WidgetValue) → IsWord (value_word value)
+value_is_word value = without_space (value_word value) (word_lacks_space value)
 
 pub window_word : IsWord (codes "window")
 window_word = six 119 105 110 100 111 119 (lit< tt) (lit< tt) (lit< tt) (lit< tt) (lit< tt) (lit< tt)
 
--- what follows an id, or a signed number, in front of a space
+-- what follows an id in front of a space
 pub behind_id : (text rest other : List ℕ) (id wid : ℕ) → IsId id → IsId wid → text ≡ decimal id ++ 32 ∷ rest → text ≡ decimal wid ++ 32 ∷ other → rest ≡ other
 behind_id text rest other id wid id_is wid_is read same = (same_parts 32 (decimal id) (decimal wid) rest other (id_word id id_is) (id_word wid wid_is) (sym read ∙ same)).1
-
-pub behind_integer : (text rest other : List ℕ) (x y : ℤ) → IsInt x → IsInt y → text ≡ signed_decimal x ++ 32 ∷ rest → text ≡ signed_decimal y ++ 32 ∷ other → (x ≡ y) × (rest ≡ other)
-behind_integer text rest other x y x_is y_is read same =
-    let parts = same_parts 32 (signed_decimal x) (signed_decimal y) rest other (integer_word x x_is) (integer_word y y_is) (sym read ∙ same) in
-    (same_integer x y x_is y_is parts.0, parts.1)
-
--- the numbers that were read of a slider's text are those that it spells
-module _ (text : List ℕ) (wid : ℕ) (lo hi value : ℤ) (is : IsSliderText text wid lo hi value) (id : ℕ) (behind_wid : List ℕ) (wid_read : IsId id × (text ≡ decimal id ++ 32 ∷ behind_wid)) where
-  pub slider_low : behind_wid ≡ signed_decimal lo ++ 32 ∷ (signed_decimal hi ++ 32 ∷ signed_decimal value)
-  slider_low = behind_id text behind_wid _ id wid wid_read.0 is.0 wid_read.1 is.1.1.1
-
-  pub slider_high : (low : ℤ) (behind_lo : List ℕ) → IsInt low × (behind_wid ≡ signed_decimal low ++ 32 ∷ behind_lo) → (low ≡ lo) × (behind_lo ≡ signed_decimal hi ++ 32 ∷ signed_decimal value)
-  slider_high low behind_lo low_read = behind_integer behind_wid behind_lo _ low lo low_read.0 is.1.0.0 low_read.1 slider_low
-
-  pub slider_last : (low high : ℤ) (behind_lo behind_hi : List ℕ) → IsInt low × (behind_wid ≡ signed_decimal low ++ 32 ∷ behind_lo) → IsInt high × (behind_lo ≡ signed_decimal high ++ 32 ∷ behind_hi)
-      → (high ≡ hi) × (behind_hi ≡ signed_decimal value)
-  slider_last low high behind_lo behind_hi low_read high_read = behind_integer behind_lo behind_hi _ high hi high_read.0 is.1.0.1.0 high_read.1 (slider_high low behind_lo low_read).1
 
 -- ---- the first words of lines
 
@@ -184,6 +157,48 @@ list_first line wid items is =
     append_cancel_right line _ (10 ∷ []) is
     ∙ ap (λ (t : List ℕ). codes "list" ++ 32 ∷ t) (join_spaced (λ (item : Item (List ℕ)). quoted item.value) (decimal wid) items ∙ ap (λ (t : List ℕ). decimal wid ++ t) (spaced_values items))
 
+-- the line of a widget without items
+words_none : (wid : ℕ) (w : Widget) → HasNoItems w → widget_words wid w ≡ value_words wid (value_of w)
+words_none wid (Text x) none = absurd none
+words_none wid (Labels x) none = absurd none
+words_none wid w none = refl
+
+value_line : (line : List ℕ) (wid : ℕ) (w : Widget) (value : WidgetValue) → HasNoItems w → value_of w ≡ Some value → IsLineOf line wid w
+    → line ≡ value_word value ++ 32 ∷ (decimal wid ++ 32 ∷ join_with_byte 32 (value_fields value))
+value_line line wid w value none there is =
+    append_cancel_right line _ (10 ∷ []) (is ∙ ap line_of (words_none wid w none ∙ ap (value_words wid) there)) ∙ value_joined wid value
+
+value_first : (line : List ℕ) (wid : ℕ) (w : Widget) → HasNoItems w → IsLineOf line wid w → HasFirst line wid
+value_first line wid w none is =
+    let value = value_there w none in
+    record {
+      kind = value_word value.0;
+      behind = 32 ∷ join_with_byte 32 (value_fields value.0);
+      word = value_is_word value.0;
+      other = (other_word value.0).0;
+      ends = inr (join_with_byte 32 (value_fields value.0), refl);
+      spelled = value_line line wid w value.0 none value.1 is;
+    }
+
+-- what was read of such a line, by its word and what follows that
+pub value_was_read : (kind rest : List ℕ) (wid : ℕ) (value : WidgetValue) (w : Widget) → dispatch value_table kind rest ≡ Some (wid, value) → said_widget value ≡ Some w → IsLineOf (kind ++ 32 ∷ rest) wid w × IsId wid
+value_was_read kind rest wid value w read said =
+    let took = dispatch_takes value_text IsValueLine value_table values_take kind rest (wid, value) read in
+    (ap (λ t. t ++ 10 ∷ []) took.1 ∙ ap line_of (sym (words_none wid w (said_none value w said) ∙ ap (value_words wid) (said_value value w said))), took.0.0)
+
+pub value_numbered : (value : WidgetValue) (w : Widget) → said_widget value ≡ Some w → (last : ℕ) → IsNumbered last w last
+value_numbered value w said last = numbered_none last w (said_none value w said)
+  where
+    numbered_none : (last : ℕ) (w : Widget) → HasNoItems w → IsNumbered last w last
+    numbered_none last (Text x) none = absurd none
+    numbered_none last (Labels x) none = absurd none
+    numbered_none last w none = refl
+
+-- and each such line is read
+pub value_is_read : (kind rest : List ℕ) (wid : ℕ) (value : WidgetValue) (w : Widget) → kind ≡ value_word value → IsValueText rest wid value w → dispatch value_table kind rest ≡ Some (wid, value)
+value_is_read kind rest wid value w kind_is text =
+    ap (λ k. dispatch value_table k rest) kind_is ∙ ap (dispatch value_table (value_word value)) text.spelled ∙ value_read (wid, value) (text.id, text.ranges)
+
 pub first_of : (line : List ℕ) (wid : ℕ) (widget : Widget) → IsLineOf line wid widget → HasFirst line wid
 first_of line wid (Text x) is = record {
   kind = codes "text";
@@ -201,22 +216,7 @@ first_of line wid (Labels x) is = record {
   ends = labels_end (map (λ item. item.value) x.items);
   spelled = list_first line wid x.items is;
 }
-first_of line wid (Toggle x) is = record {
-  kind = codes "toggle";
-  behind = _;
-  word = toggle_word;
-  other = λ e. absurd (omega (arith, ap (λ (bs : List ℕ). get_or bs 0 0) e));
-  ends = inr (_, refl);
-  spelled = append_cancel_right line _ (10 ∷ []) is;
-}
-first_of line wid (Slider x) is = record {
-  kind = codes "slider";
-  behind = _;
-  word = slider_word;
-  other = λ e. absurd (omega (arith, ap (λ (bs : List ℕ). get_or bs 0 0) e));
-  ends = inr (_, refl);
-  spelled = append_cancel_right line _ (10 ∷ []) is;
-}
+first_of line wid other is = value_first line wid other tt is
 
 -- a line is that of widgets with one id
 pub same_id : (line : List ℕ) (id wid : ℕ) (x y : Widget) → IsId id → IsId wid → IsLineOf line id x → IsLineOf line wid y → id ≡ wid
@@ -235,26 +235,19 @@ window_first line win is = append_cancel_right line _ (10 ∷ []) is
 pub by_kind : {P : Type 0} (before : ℕ) (kind rest : List ℕ) (wid : ℕ) (widget : Widget) → IsWord kind → IsId wid → IsHeld before widget → IsLineOf (kind ++ 32 ∷ rest) wid widget
     → ((chars : List ℕ) → kind ≡ codes "text" → AreValues IsScalar before chars → rest ≡ decimal wid ++ 32 ∷ quoted chars → P)
     → ((labels : List (List ℕ)) → kind ≡ codes "list" → AreValues IsLabelText before labels → rest ≡ decimal wid ++ spaced_labels labels → P)
-    → ((on : Bool) → kind ≡ codes "toggle" → IsToggleText rest wid on → P)
-    → ((lo hi value : ℤ) → kind ≡ codes "slider" → IsSliderText rest wid lo hi value → P)
+    → ((value : WidgetValue) → kind ≡ value_word value → IsValueText rest wid value widget → P)
     → P
-by_kind before kind rest wid (Text x) word id held line text list toggle slider =
+by_kind before kind rest wid (Text x) word id held line text list values =
     let parts = same_parts 32 kind (codes "text") rest _ word text_word (append_cancel_right (kind ++ 32 ∷ rest) _ (10 ∷ []) line) in
     text (map (λ item. item.value) x.items) parts.0 held parts.1
-by_kind before kind rest wid (Labels x) word id held line text list toggle slider =
+by_kind before kind rest wid (Labels x) word id held line text list values =
     let parts = same_parts 32 kind (codes "list") rest _ word list_word (list_first (kind ++ 32 ∷ rest) wid x.items line) in
     list (map (λ item. item.value) x.items) parts.0 held parts.1
-by_kind before kind rest wid (Toggle x) word id held line text list toggle slider =
-    let parts = same_parts 32 kind (codes "toggle") rest _ word toggle_word (append_cancel_right (kind ++ 32 ∷ rest) _ (10 ∷ []) line) in
-    toggle x.on parts.0 (id, parts.1)
-by_kind before kind rest wid (Slider x) word id held line text list toggle slider =
-    let parts = same_parts 32 kind (codes "slider") rest _ word slider_word (append_cancel_right (kind ++ 32 ∷ rest) _ (10 ∷ []) line) in
-    slider x.lo x.hi x.value parts.0 (id, (held.0, (held.1, parts.1)))
-
--- bounds and a value that are those of a slider
-pub same_within : (a b c lo hi value : ℤ) → a ≡ lo → b ≡ hi → c ≡ value → (lo ≤ℤ value) × (value ≤ℤ hi) → (a ≤ℤ c) × (c ≤ℤ b)
-same_within a b c lo hi value a_is b_is c_is within =
-    subst (λ (x : ℤ). (x ≤ℤ c) × (c ≤ℤ b)) (sym a_is) (subst (λ (x : ℤ). (lo ≤ℤ c) × (c ≤ℤ x)) (sym b_is) (subst (λ (x : ℤ). (lo ≤ℤ x) × (x ≤ℤ hi)) (sym c_is) within))
+by_kind before kind rest wid other word id held line text list values =
+    let value = value_there other tt in
+    let is = held value.0 value.1 in
+    let parts = same_parts 32 kind (value_word value.0) rest _ word (value_is_word value.0) (value_line (kind ++ 32 ∷ rest) wid other value.0 tt value.1 line) in
+    values value.0 parts.0 (record { id = id; ranges = is.0; said = is.1; spelled = parts.1 })
 
 -- ---- lines that may come next
 

@@ -1,17 +1,14 @@
 -- Commands have one spelling.
-use Rattle.std.proofs.Common.{◌≡◌, ◌≢◌, ℕ, ◌^◌, ◌<◌, List, [], ◌∷◌, ◌++◌, get_or, refl, sym, ap, ◌∙◌, arith, lit<, codes, decimal, Bool, true, false, length, drop, Option, Some, None, ℤ, pos, negsuc}
-use Rattle.std.specs.Char.{digit_value, IsScalar}
+use Rattle.std.proofs.Common.{◌≡◌, ◌≢◌, ℕ, ◌^◌, ◌<◌, List, [], ◌∷◌, ◌++◌, get_or, refl, sym, ap, ◌∙◌, arith, lit<, codes, decimal, drop, Option, Some, None}
 use Rattle.std.specs.Str.Parse.{AllDigits}
-use Rattle.std.proofs.lemmas.Fmt.{decimal_is_IsNumeral, decimal_injective, signed_decimal_injective}
-use Rattle.std.specs.Fmt.{signed_decimal}
-use Rattle.std.specs.Int.Signed.{mag}
-use Rattle.std.specs.List.{AllByRecursion}
-use Rattle.jup_text.specs.Prelude.{IsU32, IsInt, IsLabelText, Command, Insert, Delete, Relabel, Set, Setting, Value, Char, Label}
+use Rattle.std.proofs.lemmas.Fmt.{decimal_is_IsNumeral, decimal_injective}
+use Rattle.jup_text.specs.Prelude.{IsU32, IsLabelText, Command, Insert, Delete, Relabel, Set, Setting, Value, Char, Label, AllByRecursion, digit_value, IsScalar}
 use Rattle.jup_number.specs.Numbers.{IsReadingOf}
-use Rattle.jup_text.specs.Words.{quoted, IsWord, switch_text}
-use Rattle.jup_text.specs.Commands.{command_text, value_text, setting_word, IsCommand, IsId, IsValue, IsSetting}
+use Rattle.jup_text.specs.Words.{quoted, IsWord}
+use Rattle.jup_wire.specs.Kinds.{setting_text, IsSetting}
+use Rattle.jup_wire.proofs.ByKind.{one_setting}
+use Rattle.jup_text.specs.Commands.{command_text, value_text, IsCommand, IsId, IsValue}
 use Rattle.jup_text.proofs.Quotes.{same_parts, all_are_read, no_quote_first, label_scalars}
-use Rattle.jup_window.specs.declared.commands.Setting.TheVariants.{Toggle, Slider}
 
 -- A command's text by its first words: its kind, its ids, and what comes after them.
 
@@ -50,7 +47,7 @@ abbrev pub behind_ids : Command → List ℕ
 behind_ids (Insert win wid place value) = decimal place ++ 32 ∷ value_text value
 behind_ids (Delete win wid place) = decimal place
 behind_ids (Relabel win wid place label) = decimal place ++ 32 ∷ quoted label
-behind_ids (Set win wid setting) = setting_word setting
+behind_ids (Set win wid setting) = setting_text setting
 
 -- a line begins with a word and two ids
 pub record HasHead (line kind : List ℕ) (win wid : ℕ) (rest : List ℕ) : Type 0 where
@@ -156,7 +153,7 @@ no_relabel line rest win wid h none (Relabel k l place label) is same = none pla
 no_relabel line rest win wid h none (Set k l setting) is same = absurd (omega (arith, ap (λ (bs : List ℕ). get_or bs 0 0) (head_same line _ rest win wid h (Set k l setting) is same).0))
 
 pub no_setting : (line rest : List ℕ) (win wid : ℕ) → HasHead line (codes "set") win wid rest
-    → ((setting : Setting) → IsSetting setting → rest ≢ setting_word setting) → (c : Command) → IsCommand c → line ≢ command_text c
+    → ((setting : Setting) → IsSetting setting → rest ≢ setting_text setting) → (c : Command) → IsCommand c → line ≢ command_text c
 no_setting line rest win wid h none (Insert k l place value) is same = absurd (omega (arith, ap (λ (bs : List ℕ). get_or bs 0 0) (head_same line _ rest win wid h (Insert k l place value) is same).0))
 no_setting line rest win wid h none (Delete k l place) is same = absurd (omega (arith, ap (λ (bs : List ℕ). get_or bs 0 0) (head_same line _ rest win wid h (Delete k l place) is same).0))
 no_setting line rest win wid h none (Relabel k l place label) is same = absurd (omega (arith, ap (λ (bs : List ℕ). get_or bs 0 0) (head_same line _ rest win wid h (Relabel k l place label) is same).0))
@@ -202,33 +199,6 @@ one_value (Char c) (Char d) c_is d_is same =
 one_value (Char c) (Label l) c_is l_is same = absurd (omega (arith, ap (λ (bs : List ℕ). get_or bs 0 0) same))
 one_value (Label l) (Char c) l_is c_is same = absurd (omega (arith, ap (λ (bs : List ℕ). get_or bs 0 0) same))
 one_value (Label l) (Label k) l_is k_is same = ap Label (one_label l k l_is k_is (ap (λ (bs : List ℕ). drop 5 bs) same))
-
--- no number is a switch
-digit_first : (n : ℕ) → n < 2 ^ 64 → get_or (decimal n) 0 0 ≢ 111
-digit_first n small e = go (decimal n) (decimal_is_IsNumeral n small).0.0 (decimal_is_IsNumeral n small).0.1 e
-  where
-    go : (ds : List ℕ) → 0 < length ds → AllDigits 10 ds → get_or ds 0 0 ≢ 111
-    go [] some all first = absurd (omega (arith, some))
-    go (d ∷ ds) some all first = absurd (omega (arith, ap digit_value first, all.0))
-
-int_mag : (z : ℤ) → IsInt z → mag z < 2 ^ 63
-int_mag (pos n) is = let small = is.sfits in omega (arith, small)
-int_mag (negsuc n) is = let small = is.sfits in omega (arith, small)
-
-no_switch : (on : Bool) (z : ℤ) → IsInt z → switch_text on ≢ signed_decimal z
-no_switch true (pos n) is same = let small = is.sfits in digit_first n (omega (arith, small)) (sym (ap (λ (bs : List ℕ). get_or bs 0 0) same))
-no_switch false (pos n) is same = let small = is.sfits in digit_first n (omega (arith, small)) (sym (ap (λ (bs : List ℕ). get_or bs 0 0) same))
-no_switch true (negsuc n) is same = absurd (omega (arith, ap (λ (bs : List ℕ). get_or bs 0 0) same))
-no_switch false (negsuc n) is same = absurd (omega (arith, ap (λ (bs : List ℕ). get_or bs 0 0) same))
-
-one_setting : (s t : Setting) → IsSetting s → IsSetting t → setting_word s ≡ setting_word t → s ≡ t
-one_setting (Toggle true) (Toggle true) s_is t_is same = refl
-one_setting (Toggle true) (Toggle false) s_is t_is same = absurd (omega (arith, ap (λ (bs : List ℕ). length bs) same))
-one_setting (Toggle false) (Toggle true) s_is t_is same = absurd (omega (arith, ap (λ (bs : List ℕ). length bs) same))
-one_setting (Toggle false) (Toggle false) s_is t_is same = refl
-one_setting (Toggle on) (Slider z) s_is t_is same = absurd (no_switch on z t_is same)
-one_setting (Slider z) (Toggle on) s_is t_is same = absurd (no_switch on z s_is (sym same))
-one_setting (Slider y) (Slider z) s_is t_is same = ap Slider (signed_decimal_injective y z (int_mag y s_is) (int_mag z t_is) same)
 
 -- a place with what comes after it
 placed : (p q : ℕ) (r s : List ℕ) → IsU32 p → IsU32 q → decimal p ++ 32 ∷ r ≡ decimal q ++ 32 ∷ s → (p ≡ q) × (r ≡ s)

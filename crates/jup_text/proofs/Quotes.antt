@@ -1,6 +1,5 @@
 -- Texts in quotes have one spelling.
 use Rattle.std.proofs.Common.{◌≡◌, ◌≢◌, ℕ, suc, ◌+◌, ◌<◌, List, [], ◌∷◌, ◌++◌, length, take, drop, add-one, Bool, ◌==◌, Some, None, ltb, refl, sym, ap, subst, ◌∙◌, arith, inl, inr, position, zero, ◌*◌, ◌/◌, ◌%◌, ◌^◌, ◌≤◌, false, map, get_or, append-nil, ◌⊎◌, lit<, lit≤, ◌-◌, cond, eqb, append_assoc}
-use Rattle.std.specs.List.{AllByRecursion, position_or_len, before_first, after_first, flat_map}
 use Rattle.std.proofs.lemmas.Bool.{cases_Bool, cases_lt, ne_eqb, eqb-true, eq-eqb, cond-true, lt-ltb, ltb-true, true≢false, cases_eq, cond-false, le-ltb, le-leb, lt-leb}
 use Rattle.std.proofs.lemmas.Option.{none-some, cond_some}
 use Rattle.std.proofs.lemmas.List.Sums.{split_at_first, passes_at_first}
@@ -14,10 +13,10 @@ use Rattle.std.proofs.lemmas.Fmt.{hex_one_digit, digits_is_IsNumeral}
 use Rattle.std.proofs.lemmas.Int.Digits.{digits_of_step, length-digits_of_step, length-digits_of-le, first_digits_of, all_below_base_digits_of}
 use Rattle.std.proofs.Math.Nat.{pow-le-pow_right}
 use Rattle.std.proofs.lemmas.Grind.{pow_more}
-use Rattle.std.specs.Char.{IsScalar}
 use Rattle.std.proofs.lemmas.List.Elements.{recursion_from_All}
 use lib.Utf8.{scalar_cases, low_scalar}
-use Rattle.jup_text.specs.Prelude.{IsLabelText}
+use Rattle.jup_text.specs.Prelude.{IsLabelText, AllByRecursion, position_or_len, before_first, after_first, flat_map, IsScalar}
+use Rattle.jup_wire.proofs.Plain.{IsPlain}
 use Rattle.jup_text.specs.Words.{hexadecimal, quoted_char, quoted, AreScalars}
 
 -- The first place of a byte, and the parts before and after it.
@@ -492,9 +491,6 @@ pub quoted_parts : (chars rest : List ℕ) → quoted chars ++ rest ≡ 34 ∷ (
 quoted_parts chars rest = ap (λ (t : List ℕ). 34 ∷ t) (append_assoc (flat_map quoted_char chars) (34 ∷ []) rest)
 
 -- Labels in quotes: texts of 1 to 48 characters, each from a space to `~`.
-
-abbrev pub IsPlain : ℕ → Type 0
-IsPlain byte = (32 ≤ byte) × (byte ≤ 126)
 
 plain_scalars : (bytes : List ℕ) → AllByRecursion IsPlain bytes → AllByRecursion IsScalar bytes
 plain_scalars [] all = tt

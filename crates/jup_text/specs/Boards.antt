@@ -1,13 +1,10 @@
 -- Boards as text, line by line.
-use Rattle.std.specs.Prelude.{ℕ, List, [], ◌∷◌, ◌++◌, map, codes, decimal, ◌≡◌, ◌+◌, ◌⊎◌, Option, Some, None, ℤ, ◌≤ℤ◌, Bool, ◌<◌, ◌≤◌, ◌^◌, length, false}
-use Rattle.std.specs.Fmt.{signed_decimal}
-use Rattle.std.specs.List.{flat_map, join_with_byte, AllByRecursion}
-use Rattle.std.specs.Char.{IsScalar}
-use Rattle.jup_text.specs.Prelude.{IsInt, Item, IsLabelText, Widget, Text, Labels, Toggle, Slider}
-use Rattle.jup_setting.specs.Sliders.{IsWithin}
+use Rattle.std.specs.Prelude.{ℕ, List, [], ◌∷◌, ◌++◌, map, codes, decimal, ◌≡◌, ◌+◌, ◌⊎◌, Option, Some, None, ◌<◌, ◌≤◌, ◌^◌, length, false}
+use Rattle.jup_text.specs.Prelude.{Item, IsLabelText, Widget, WidgetValue, Text, Labels, flat_map, join_with_byte, AllByRecursion, IsScalar}
+use Rattle.jup_wire.specs.Kinds.{value_of, said_widget, value_word, value_fields, HasRanges}
 use Rattle.jup_window.specs.Boards.{Windows}
 use Rattle.jup_window.specs.Entries.{change_at, with_entry, entry_fault, widget_fault}
-use Rattle.jup_text.specs.Words.{quoted, switch_text}
+use Rattle.jup_text.specs.Words.{quoted}
 use Rattle.jup_text.specs.Commands.{IsId}
 use Rattle.jup_window.specs.Prelude.{longest_sequence, has_name}
 
@@ -17,11 +14,15 @@ use Rattle.jup_window.specs.Prelude.{longest_sequence, has_name}
 abbrev pub line_of : List (List ℕ) → List ℕ
 line_of words = join_with_byte 32 words ++ 10 ∷ []
 
+-- those of a widget without items, as on its line of a link
+abbrev pub value_words : ℕ → Option WidgetValue → List (List ℕ)
+value_words wid None = []
+value_words wid (Some value) = value_word value ∷ decimal wid ∷ value_fields value
+
 abbrev pub widget_words : ℕ → Widget → List (List ℕ)
 widget_words wid (Text x) = codes "text" ∷ decimal wid ∷ quoted (map (λ item. item.value) x.items) ∷ []
 widget_words wid (Labels x) = codes "list" ∷ decimal wid ∷ map (λ item. quoted item.value) x.items
-widget_words wid (Toggle x) = codes "toggle" ∷ decimal wid ∷ switch_text x.on ∷ []
-widget_words wid (Slider x) = codes "slider" ∷ decimal wid ∷ signed_decimal x.lo ∷ signed_decimal x.hi ∷ signed_decimal x.value ∷ []
+widget_words wid other = value_words wid (value_of other)
 
 -- a widget's line
 abbrev pub widget_line : ℕ × Widget → List ℕ
@@ -46,8 +47,7 @@ AreNumbered before (x ∷ xs) last = (x.name ≡ record { site = 0; number = bef
 abbrev pub IsNumbered : ℕ → Widget → ℕ → Type 0
 IsNumbered before (Text x) last = AreNumbered before x.items last
 IsNumbered before (Labels x) last = AreNumbered before x.items last
-IsNumbered before (Toggle x) last = last ≡ before
-IsNumbered before (Slider x) last = last ≡ before
+IsNumbered before other last = last ≡ before
 
 -- a line, without its line feed, is that of this widget
 abbrev pub IsLineOf : List ℕ → ℕ → Widget → Type 0
@@ -97,18 +97,14 @@ pub record AreValues {V : Type 0} (IsIn : V → Type 0) (before : ℕ) (values :
 abbrev pub IsHeld : ℕ → Widget → Type 0
 IsHeld before (Text x) = AreValues IsScalar before (map (λ item. item.value) x.items)
 IsHeld before (Labels x) = AreValues IsLabelText before (map (λ item. item.value) x.items)
-IsHeld before (Toggle x) = Unit {0}
-IsHeld before (Slider x) = (IsInt x.lo × (IsInt x.hi × IsInt x.value)) × IsWithin x x.value
+IsHeld before other = (value : WidgetValue) → value_of other ≡ Some value → HasRanges value × (said_widget value ≡ Some other)
 
--- what follows the words `toggle` and `slider`
-abbrev pub IsToggleText : List ℕ → ℕ → Bool → Type 0
-IsToggleText text wid on = IsId wid × (text ≡ decimal wid ++ 32 ∷ switch_text on)
-
-abbrev pub IsSliderText : List ℕ → ℕ → ℤ → ℤ → ℤ → Type 0
-IsSliderText text wid lo hi value =
-    IsId wid
-    × ((IsInt lo × (IsInt hi × IsInt value))
-    × (((lo ≤ℤ value) × (value ≤ℤ hi)) × (text ≡ decimal wid ++ 32 ∷ (signed_decimal lo ++ 32 ∷ (signed_decimal hi ++ 32 ∷ signed_decimal value)))))
+-- what follows the word of a widget without items
+pub record IsValueText (text : List ℕ) (wid : ℕ) (value : WidgetValue) (widget : Widget) : Type 0 where
+  pub id : IsId wid
+  pub ranges : HasRanges value
+  pub said : said_widget value ≡ Some widget
+  pub spelled : text ≡ decimal wid ++ 32 ∷ join_with_byte 32 (value_fields value)
 
 -- the line of a window that may be added
 pub record IsNextWindow (draft : Draft) (line : List ℕ) : Type 0 where

@@ -1,15 +1,12 @@
 -- Commands and edits as text.
-use Rattle.std.specs.Prelude.{ℕ, ◌^◌, ◌<◌, ◌≤◌, List, [], ◌∷◌, codes, decimal, ◌++◌}
-use Rattle.std.specs.Fmt.{signed_decimal}
-use Rattle.std.specs.Char.{IsScalar}
-use Rattle.std.specs.List.{join_with_byte, flat_map}
-use Rattle.jup_text.specs.Prelude.{IsU32, IsInt, IsLabelText, Command, Insert, Delete, Relabel, Set, Setting, Value, Char, Label}
+use Rattle.std.specs.Prelude.{ℕ, ◌^◌, ◌<◌, ◌≤◌, List, [], ◌∷◌, codes, decimal, ◌++◌, Option, Some, None}
+use Rattle.jup_text.specs.Prelude.{IsU32, IsLabelText, Command, Insert, Delete, Relabel, Set, Setting, Value, Char, Label, join_with_byte, flat_map, IsScalar}
 use Rattle.jup_window.specs.declared.edits.Edit.{Edit}
-use Rattle.jup_window.specs.declared.edits.Effect.{Effect}
-use Rattle.jup_window.specs.declared.edits.Effect.TheVariants.{PutChar, PutLabel, Deleted, Relabelled, Toggled, Slid, Nothing}
-use Rattle.jup_window.specs.Kinds.{shown_edit}
-use Rattle.jup_text.specs.Words.{quoted, switch_text, name_text}
-use Rattle.jup_window.specs.declared.commands.Setting.TheVariants.{Toggle, Slider}
+use Rattle.jup_window.specs.declared.kinds.Effect.{Effect}
+use Rattle.jup_window.specs.declared.kinds.Effect.TheVariants.{PutChar, PutLabel, Deleted, Relabelled}
+use Rattle.jup_window.specs.Kinds.{shown_edit, effect_setting}
+use Rattle.jup_wire.specs.Kinds.{setting_text, IsSetting}
+use Rattle.jup_text.specs.Words.{quoted, name_text}
 use Rattle.jup_window.specs.declared.edits.BoardEdit.{BoardEdit}
 
 -- Commands as text: their words, with one space between them.
@@ -18,15 +15,11 @@ abbrev pub value_words : Value → List (List ℕ)
 value_words (Char c) = codes "char" ∷ quoted (c ∷ []) ∷ []
 value_words (Label label) = codes "item" ∷ quoted label ∷ []
 
-abbrev pub setting_word : Setting → List ℕ
-setting_word (Toggle on) = switch_text on
-setting_word (Slider value) = signed_decimal value
-
 abbrev pub command_words : Command → List (List ℕ)
 command_words (Insert win wid place value) = codes "ins" ∷ decimal win ∷ decimal wid ∷ decimal place ∷ value_words value
 command_words (Delete win wid place) = codes "del" ∷ decimal win ∷ decimal wid ∷ decimal place ∷ []
 command_words (Relabel win wid place label) = codes "rel" ∷ decimal win ∷ decimal wid ∷ decimal place ∷ quoted label ∷ []
-command_words (Set win wid setting) = codes "set" ∷ decimal win ∷ decimal wid ∷ setting_word setting ∷ []
+command_words (Set win wid setting) = codes "set" ∷ decimal win ∷ decimal wid ∷ setting_text setting ∷ []
 
 -- the one spelling of a command
 abbrev pub command_text : Command → List ℕ
@@ -39,10 +32,6 @@ IsId id = id < 2 ^ 16
 abbrev pub IsValue : Value → Type 0
 IsValue (Char c) = IsScalar c
 IsValue (Label label) = IsLabelText label
-
-abbrev pub IsSetting : Setting → Type 0
-IsSetting (Toggle on) = Unit {0}
-IsSetting (Slider value) = IsInt value
 
 abbrev pub IsCommand : Command → Type 0
 IsCommand (Insert win wid place value) = IsId win × (IsId wid × (IsU32 place × IsValue value))
@@ -64,15 +53,18 @@ value_text value = join_with_byte 32 (value_words value)
 
 -- Edits as text: their words, with one space between them.
 
+-- the words of an effect that sets a value
+abbrev pub setting_words : ℕ → ℕ → Option Setting → List (List ℕ)
+setting_words win wid None = []
+setting_words win wid (Some setting) = codes "set" ∷ decimal win ∷ decimal wid ∷ setting_text setting ∷ []
+
 -- the words of an effect on the widget with these ids
 abbrev pub effect_words : ℕ → ℕ → Effect → List (List ℕ)
 effect_words win wid (PutChar name value) = codes "ins" ∷ decimal win ∷ decimal wid ∷ name_text name ∷ quoted (value ∷ []) ∷ []
 effect_words win wid (PutLabel name label) = codes "ins" ∷ decimal win ∷ decimal wid ∷ name_text name ∷ quoted label ∷ []
 effect_words win wid (Deleted name) = codes "del" ∷ decimal win ∷ decimal wid ∷ name_text name ∷ []
 effect_words win wid (Relabelled name label) = codes "rel" ∷ decimal win ∷ decimal wid ∷ name_text name ∷ quoted label ∷ []
-effect_words win wid (Toggled on) = codes "set" ∷ decimal win ∷ decimal wid ∷ switch_text on ∷ []
-effect_words win wid (Slid value) = codes "set" ∷ decimal win ∷ decimal wid ∷ signed_decimal value ∷ []
-effect_words win wid Nothing = []
+effect_words win wid other = setting_words win wid (effect_setting other)
 
 -- an edit as it is printed; one that changes nothing is no text
 abbrev pub edit_text : Edit → List ℕ

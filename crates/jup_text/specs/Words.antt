@@ -1,5 +1,5 @@
 -- The words of texts, and texts in quotes.
-use Rattle.std.specs.Prelude.{◌==◌, ℕ, false, ◌||◌, ◌&&◌, nat_le, if◌then◌else◌, List, [], ◌∷◌, ◌++◌, ◌≢◌, Bool, true, codes, decimal}
+use Rattle.std.specs.Prelude.{◌==◌, ℕ, false, ◌||◌, ◌&&◌, nat_le, if◌then◌else◌, List, [], ◌∷◌, ◌++◌, ◌≢◌, decimal}
 use Rattle.std.specs.Char.{IsScalar}
 use Rattle.std.specs.Fmt.{digits}
 use Rattle.std.specs.List.{flat_map, AllByRecursion}
@@ -30,10 +30,6 @@ AreScalars chars = AllByRecursion IsScalar chars
 -- no byte is a space
 abbrev pub IsWord : List ℕ → Type 0
 IsWord bytes = AllByRecursion (λ byte. byte ≢ 32) bytes
-
-abbrev pub switch_text : Bool → List ℕ
-switch_text true = codes "on"
-switch_text false = codes "off"
 
 -- a name: its site, a dot, its number
 abbrev pub name_text : Name → List ℕ

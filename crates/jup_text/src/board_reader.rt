@@ -9,6 +9,7 @@ use self::line_faults::line_fault;
 use self::widget_lines::{WidgetLine, read_widget};
 use super::words::{id_of, next_word};
 use jup_window::{Board, BoardFault};
+use jup_wire::value_due;
 use jup_xform::NoMemory;
 use std::alloc::Global;
 use std::marker::Model;
@@ -43,7 +44,7 @@ impl From<BoardFault> for Untaken {
 /// Whether the first word of a line is one of a board's.
 pub fn is_board_line(line: &str) -> bool {
     let (word, _) = line.split_once(' ').unwrap_or((line, ""));
-    matches!(word, "window" | "text" | "list" | "toggle" | "slider")
+    matches!(word, "window" | "text" | "list") || value_due(word).is_some()
 }
 
 /// Reads a board line by line, as it is printed.

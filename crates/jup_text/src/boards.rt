@@ -2,13 +2,14 @@
 ghost use Rattle.std.specs.Prelude.{◌≡◌, ◌∷◌, ◌++◌, Some, OnOk, OnErr};
 ghost use Rattle.std.specs.Fmt.{AppendsText, DisplaysOnOk};
 ghost use Rattle.std.specs.List.{flat_map};
+ghost use Rattle.jup_window.specs.Kinds.{HasNoItems};
 ghost use Rattle.jup_text.specs.Boards.{board_text, window_lines, widget_line};
 ghost use Rattle.jup_text.specs.Words.{quoted};
 
 use super::quoted::{Quoted, QuotedLabel};
-use super::words::switch_word;
 use jup_value::{Label, Seq};
 use jup_window::{Board, Widget, Window};
+use jup_wire::WidgetValue;
 use jup_xform::NoMemory;
 use std::alloc::Global;
 use std::fmt;
@@ -78,17 +79,19 @@ fn write_widget<W: fmt::Write>(f: &mut fmt::Formatter<W>, entry: &(u16, Widget))
             write_labels(f, list)?;
             writeln!(f)
         }
-        Widget::Toggle(toggle) => {
-            let on = switch_word(toggle.on);
-            writeln!(f, "toggle {wid} {on}")
-        }
-        Widget::Slider(slider) => {
-            let lo = slider.lo();
-            let hi = slider.hi();
-            let value = slider.value();
-            writeln!(f, "slider {wid} {lo} {hi} {value}")
-        }
+        other => write_value(f, *wid, other),
     }
+}
+
+// Writes the line of a widget without items.
+fn write_value<W: fmt::Write>(f: &mut fmt::Formatter<W>, wid: u16, widget: &Widget) -> fmt::Result
+    ensures { HasNoItems widget.now → DisplaysOnOk W.Write.write_str_gives f.old result (Some (widget_line (wid, widget.now))) f.new }
+{
+    let Some(value) = WidgetValue::of(widget) else {
+        return Ok(());
+    };
+    let word = value.word();
+    writeln!(f, "{word} {wid} {value}")
 }
 
 // Writes each label after a space.

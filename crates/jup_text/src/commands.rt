@@ -4,14 +4,15 @@ ghost use Rattle.std.specs.Prelude.{◌≡◌, ◌≢◌, ◌<◌, ◌^◌, ◌�
 ghost use Rattle.jup_number.specs.Numbers.{IsU32, IsReadingOf};
 ghost use Rattle.jup_value.specs.Labels.{IsLabelText};
 ghost use Rattle.jup_window.specs.declared.commands.Command.{Command};
-ghost use Rattle.jup_text.specs.Commands.{command_text, batch_text, value_text, setting_word, IsCommand, IsBatchCount, IsId, IsValue, IsSetting};
+ghost use Rattle.jup_text.specs.Commands.{command_text, batch_text, value_text, IsCommand, IsBatchCount, IsId, IsValue};
 ghost use Rattle.jup_text.specs.Words.{quoted};
 
 use super::quoted::{char_of, label_of};
-use super::words::{next_id, next_word, switch_of};
-use jup_number::{read_integer, read_number};
+use super::words::{next_id, next_word};
+use jup_number::read_number;
 use jup_value::Label;
-use jup_window::{Command, Setting, Value};
+use jup_window::{Command, Value};
+use jup_wire::read_setting;
 
 /// Lines of commands that a batch may have. A site makes an edit of 32 at most.
 const MOST_LINES: u32 = 64;
@@ -108,13 +109,4 @@ fn read_value(text: &[u8]) -> Option<Value>
         return Some(Value::Label(label_of(rest)?));
     }
     None
-}
-
-fn read_setting(word: &[u8]) -> Option<Setting>
-    ensures { IsReadingOf setting_word IsSetting word.now result }
-{
-    match switch_of(word) {
-        Some(on) => Some(Setting::Toggle(on)),
-        None => Some(Setting::Slider(read_integer(word)?)),
-    }
 }

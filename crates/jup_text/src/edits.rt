@@ -1,15 +1,16 @@
 //! Edits: `ins W I NAME Q`, `del W I NAME`, `rel W I NAME Q` and `set W I VALUE`.
 ghost use Rattle.std.specs.Prelude.{◌≡◌, ◌++◌, Some, OnOk, OnErr};
 ghost use Rattle.std.specs.Fmt.{DisplaysOnOk};
-ghost use Rattle.std.specs.List.{flat_map};
-ghost use Rattle.jup_text.specs.Commands.{edit_text, other_text, edits_text};
+ghost use Rattle.std.specs.List.{flat_map, join_with_byte};
+ghost use Rattle.jup_window.specs.Kinds.{effect_setting};
+ghost use Rattle.jup_text.specs.Commands.{edit_text, other_text, edits_text, setting_words};
 ghost use Rattle.jup_text.specs.Words.{name_text};
 
 use super::boards::append;
 use super::quoted::{QuotedChar, QuotedLabel};
-use super::words::switch_word;
 use jup_value::Name;
 use jup_window::{BoardEdit, Edit, Effect};
+use jup_wire::PrintedSetting;
 use jup_xform::{Few, NoMemory};
 use std::alloc::Global;
 use std::fmt;
@@ -81,14 +82,25 @@ impl fmt::Display for PrintedEdit {
                 let value = QuotedLabel(value);
                 write!(f, "rel {win} {wid} {name} {value}")
             }
-            Effect::Toggled(on) => {
-                let on = switch_word(*on);
-                write!(f, "set {win} {wid} {on}")
-            }
-            Effect::Slid(value) => write!(f, "set {win} {wid} {value}"),
-            Effect::Nothing => Ok(()),
+            other => write_setting(f, win, wid, other),
         }
     }
+}
+
+// Writes an effect that sets a value, and nothing of any other.
+fn write_setting<W: fmt::Write>(
+    f: &mut fmt::Formatter<W>,
+    win: u16,
+    wid: u16,
+    effect: &Effect,
+) -> fmt::Result
+    ensures { DisplaysOnOk W.Write.write_str_gives f.old result (Some (join_with_byte 32 (setting_words win wid (effect_setting effect.now)))) f.new }
+{
+    let Some(setting) = effect.setting() else {
+        return Ok(());
+    };
+    let setting = PrintedSetting(setting);
+    write!(f, "set {win} {wid} {setting}")
 }
 
 /// A name as it is printed.

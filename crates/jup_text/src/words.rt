@@ -3,26 +3,14 @@ ghost use Rattle.std.specs.Prelude.{◌≡◌, ◌≢◌, ◌⊎◌, ◌==◌, �
 ghost use Rattle.std.specs.Fmt.{signed_decimal};
 ghost use Rattle.jup_number.specs.Numbers.{IsU32, IsInt, IsReadingOf};
 ghost use Rattle.jup_text.specs.Commands.{IsId};
-ghost use Rattle.jup_text.specs.Words.{IsWord, switch_text};
+ghost use Rattle.jup_wire.specs.Fields.{switch_text};
+ghost use Rattle.jup_text.specs.Words.{IsWord};
 
 /// Reads `on` or `off`.
 pub fn read_switch(word: &str) -> Option<bool>
     ensures { IsReadingOf switch_text (λ on. Unit {0}) word.now result }
 {
-    switch_of(word.as_bytes())
-}
-
-/// The switch that bytes spell.
-pub(crate) fn switch_of(word: &[u8]) -> Option<bool>
-    ensures { IsReadingOf switch_text (λ on. Unit {0}) word.now result }
-{
-    if word == b"on".as_slice() {
-        return Some(true);
-    }
-    if word == b"off".as_slice() {
-        return Some(false);
-    }
-    None
+    jup_wire::read_switch(word.as_bytes())
 }
 
 /// How a switch is printed.
@@ -73,15 +61,6 @@ pub(crate) fn next_id(text: &[u8]) -> Option<(u16, &[u8])>
 {
     let (word, rest) = next_word(text)?;
     Some((id_of(word)?, rest))
-}
-
-/// The signed number before the first space, and what follows that space.
-pub(crate) fn next_integer(text: &[u8]) -> Option<(i32, &[u8])>
-    ensures read { IfSome result (λ read. IsInt read.0 × (text.now ≡ signed_decimal read.0 ++ 32 ∷ read.1.now)) }
-    ensures none { IfNone result ((n : ℤ) (rest : List ℕ) → IsInt n → text.now ≢ signed_decimal n ++ 32 ∷ rest) }
-{
-    let (word, rest) = next_word(text)?;
-    Some((jup_number::read_integer(word)?, rest))
 }
 
 /// The word before the first space, or all if there is none, and what follows the word.

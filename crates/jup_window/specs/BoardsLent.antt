@@ -5,7 +5,7 @@ use Rattle.jup_window.specs.Prelude.{Widget}
 use Rattle.jup_window.specs.Entries.{Place, change_widget}
 use Rattle.jup_window.specs.Boards.{Windows}
 use Rattle.jup_window.specs.contracts.boards.Board.{the_row}
-use Rattle.jup_window.specs.contracts.widgets.Widget.{the_row as widget_row}
+use Rattle.jup_window.specs.contracts.kinds.Widget.{the_row as widget_row}
 
 -- the widget at the place is the last one written through r, and at `None` the board stays as it is
 abbrev pub lends_widget : MutBor Windows → Place → Option (MutBor Widget) → Fml

@@ -6,6 +6,7 @@ pub mod EntriesLent
 pub mod Kinds
 pub mod Laws
 pub mod Operations
+pub mod Parts
 pub mod Prelude
 pub mod Traces
 pub mod Widgets

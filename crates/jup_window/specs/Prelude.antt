@@ -22,12 +22,12 @@ pub use Rattle.jup_seq.specs.Operations.{is_no_relabel}
 pub use Rattle.jup_window.specs.declared.board_operations.BoardOp.{BoardOp}
 pub use Rattle.jup_window.specs.declared.commands.Command.{Command}
 pub use Rattle.jup_window.specs.declared.commands.Command.TheVariants.{Delete as DeleteAt, Insert as InsertAt, Relabel as RelabelAt, Set as SetValue}
-pub use Rattle.jup_window.specs.declared.commands.Setting.TheVariants.{Slider as ToSlider, Toggle as ToToggle}
+pub use Rattle.jup_window.specs.declared.kinds.Setting.TheVariants.{Slider as ToSlider, Toggle as ToToggle}
 pub use Rattle.jup_window.specs.declared.commands.Value.TheVariants.{Char, Label}
 pub use Rattle.jup_window.specs.declared.edits.BoardEdit.{BoardEdit}
 pub use Rattle.jup_window.specs.declared.faults.BoardFault.{BoardFault}
 pub use Rattle.jup_window.specs.declared.faults.EditFault.{EditFault}
-pub use Rattle.jup_window.specs.declared.widget_operations.WidgetOp.{WidgetOp}
-pub use Rattle.jup_window.specs.declared.widget_operations.WidgetOp.TheVariants.{List as OnList, Slider as OnSlider, Text as OnText, Toggle as OnToggle}
-pub use Rattle.jup_window.specs.declared.widgets.Widget.{Widget}
-pub use Rattle.jup_window.specs.declared.widgets.Widget.TheVariants.{List as Labels, Slider, Text, Toggle}
+pub use Rattle.jup_window.specs.declared.kinds.WidgetOp.{WidgetOp}
+pub use Rattle.jup_window.specs.declared.kinds.WidgetOp.TheVariants.{List as OnList, Slider as OnSlider, Text as OnText, Toggle as OnToggle}
+pub use Rattle.jup_window.specs.declared.kinds.Widget.{Widget}
+pub use Rattle.jup_window.specs.declared.kinds.Widget.TheVariants.{List as Labels, Slider, Text, Toggle}

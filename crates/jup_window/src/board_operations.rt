@@ -6,7 +6,7 @@ ghost use Rattle.jup_window.specs.Laws.Boards as board_laws;
 
 use crate::boards::Board;
 use crate::edits::BoardEdit;
-use crate::widget_operations::WidgetOp;
+use crate::kinds::WidgetOp;
 use jup_xform::{NoMemory, Transform};
 use std::alloc::Global;
 

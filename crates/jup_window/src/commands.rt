@@ -1,17 +1,15 @@
 //! Commands of a user, and the operations that they become.
 ghost use Rattle.std.specs.Prelude.{◌≡◌, IfOk};
-ghost use Rattle.jup_window.specs.Commands.{insertion, deletion, relabel, insertion_on, deletion_on, relabel_on, setting_on, told_on, command_place, item_place, named_widget, named, map_ok, IsFresh, shown};
+ghost use Rattle.jup_window.specs.Commands.{insertion, deletion, relabel, insertion_on, deletion_on, relabel_on, told_on, command_place, item_place, named_widget, named, map_ok, IsFresh, shown};
 ghost use Rattle.jup_window.specs.Boards.{bare, after, IsValid};
 
 use crate::board_operations::BoardOp;
 use crate::boards::Board;
 use crate::entries::get;
 use crate::faults::EditFault;
-use crate::widget_operations::WidgetOp;
-use crate::widgets::Widget;
+use crate::kinds::{Setting, Widget, WidgetOp, setting_of};
 use jup_limits::LONGEST_SEQUENCE;
 use jup_seq::SeqOp;
-use jup_setting::SetOp;
 use jup_value::{Item, Label, Name};
 
 /// The value of an item that a command inserts.
@@ -19,13 +17,6 @@ use jup_value::{Item, Label, Name};
 pub enum Value {
     Char(char),
     Label(Label),
-}
-
-/// The value that a command sets.
-#[derive(Clone, Copy, Debug, PartialEq, Eq)]
-pub enum Setting {
-    Toggle(bool),
-    Slider(i32),
 }
 
 /// What a user asks for, of the widget that the ids of a window and of a widget name. Places count
@@ -100,7 +91,7 @@ fn deletion_from(widget: &Widget, place: u32, held: Option<Name>) -> Result<Widg
         (Widget::Text(_), Some(name)) => Ok(WidgetOp::Text(SeqOp::Delete { place, name })),
         (Widget::List(_), Some(name)) => Ok(WidgetOp::List(SeqOp::Delete { place, name })),
         (Widget::Text(_) | Widget::List(_), None) => Err(EditFault::BadPlace),
-        (Widget::Toggle(_) | Widget::Slider(_), _) => Err(EditFault::WrongKind),
+        _ => Err(EditFault::WrongKind),
     }
 }
 
@@ -116,21 +107,6 @@ fn relabel_in(
     match (widget, held) {
         (Widget::List(_), Some(name)) => Ok(WidgetOp::List(SeqOp::Relabel { place, name, value })),
         (Widget::List(_), None) => Err(EditFault::BadPlace),
-        (Widget::Text(_) | Widget::Toggle(_) | Widget::Slider(_), _) => Err(EditFault::WrongKind),
-    }
-}
-
-fn setting_of(widget: &Widget, setting: Setting) -> Result<WidgetOp, EditFault>
-    ensures { result ≡ setting_on setting widget.now }
-{
-    match (widget, setting) {
-        (Widget::Toggle(_), Setting::Toggle(on)) => Ok(WidgetOp::Toggle(SetOp::Set(on))),
-        (Widget::Slider(slider), Setting::Slider(value)) => {
-            if value < slider.lo() || slider.hi() < value {
-                return Err(EditFault::BadValue);
-            }
-            Ok(WidgetOp::Slider(SetOp::Set(value)))
-        }
         _ => Err(EditFault::WrongKind),
     }
 }

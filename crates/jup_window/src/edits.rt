@@ -1,18 +1,11 @@
 //! What operations do to the content of a board.
 ghost use Rattle.std.specs.Prelude.{◌≡◌};
-ghost use Rattle.jup_window.specs.Kinds.{effect, inserted_name, insertions, bears_next, bears_site, is_nothing, shown_edit};
+ghost use Rattle.jup_window.specs.Kinds.{inserted_name, insertions, bears_next, bears_site, is_nothing, shown_edit};
 
+use crate::kinds::{Effect, WidgetEdit, effect_of};
 use jup_seq::SeqEdit;
-use jup_setting::SettingEdit;
-use jup_value::{Label, Name};
+use jup_value::Name;
 use jup_xform::OneOf;
-
-/// What an operation does to the content of a widget, by the widget's kind: of a text, a list, a toggle or a slider.
-/// No place is in it.
-pub type WidgetEdit = OneOf<
-    SeqEdit<char>,
-    OneOf<SeqEdit<Label>, OneOf<SettingEdit<bool>, SettingEdit<i32>>>,
->;
 
 /// What an operation does to the content of a board: an edit of the widget with some ids.
 #[derive(Clone, Copy, Debug, PartialEq, Eq)]
@@ -22,49 +15,12 @@ pub struct BoardEdit {
     pub what: WidgetEdit,
 }
 
-/// What an edit of a widget is shown as, whatever the kind.
-#[derive(Clone, Copy, Debug, PartialEq, Eq)]
-pub enum Effect {
-    /// A character is put into a text under a name.
-    PutChar(Name, char),
-    /// A label is put into a list under a name.
-    PutLabel(Name, Label),
-    /// The item with the name is gone, from a text or from a list.
-    Deleted(Name),
-    /// The item with the name is given another label, in a list.
-    Relabelled(Name, Label),
-    /// A toggle is set.
-    Toggled(bool),
-    /// A slider is set.
-    Slid(i32),
-    /// Nothing changes.
-    Nothing,
-}
-
 /// An edit as it is shown: an effect on the widget with some ids.
 #[derive(Clone, Copy, Debug, PartialEq, Eq)]
 pub struct Edit {
     pub win: u16,
     pub wid: u16,
     pub what: Effect,
-}
-
-// An edit without its kind. No text takes a relabel.
-fn effect_of(edit: &WidgetEdit) -> Effect
-    ensures { result ≡ effect edit.now }
-{
-    match *edit {
-        OneOf::First(SeqEdit::Put(name, value)) => Effect::PutChar(name, value),
-        OneOf::First(SeqEdit::Deleted(name)) => Effect::Deleted(name),
-        OneOf::Second(OneOf::First(SeqEdit::Put(name, value))) => Effect::PutLabel(name, value),
-        OneOf::Second(OneOf::First(SeqEdit::Deleted(name))) => Effect::Deleted(name),
-        OneOf::Second(OneOf::First(SeqEdit::Relabelled(name, value))) => {
-            Effect::Relabelled(name, value)
-        }
-        OneOf::Second(OneOf::Second(OneOf::First(SettingEdit::Set(on)))) => Effect::Toggled(on),
-        OneOf::Second(OneOf::Second(OneOf::Second(SettingEdit::Set(value)))) => Effect::Slid(value),
-        _ => Effect::Nothing,
-    }
 }
 
 // The name that an edit inserts.

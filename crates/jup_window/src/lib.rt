@@ -14,6 +14,7 @@ mod commands;
 mod edits;
 mod entries;
 mod faults;
+mod kinds;
 pub mod laws;
 mod singles;
 mod sites;
@@ -22,12 +23,11 @@ mod widgets;
 
 pub use board_operations::BoardOp;
 pub use boards::{Board, Window};
-pub use commands::{Command, Setting, Value};
-pub use edits::{BoardEdit, Edit, Effect, WidgetEdit};
+pub use commands::{Command, Value};
+pub use edits::{BoardEdit, Edit};
 pub use faults::{BoardFault, EditFault};
+pub use kinds::{Effect, Setting, Widget, WidgetEdit, WidgetOp};
 pub use singles::WidgetTrace;
-pub use widget_operations::WidgetOp;
-pub use widgets::Widget;
 
 /// The types within operations, commands and edits of a board. A field or a local of this type names them to the borrow checker, which
 /// learns of a type only where it is named.

@@ -6,8 +6,7 @@ ghost use Rattle.jup_window.specs.Traces as traces;
 
 use crate::board_operations::BoardOp;
 use crate::boards::Board;
-use crate::widget_operations::WidgetOp;
-use crate::widgets::Widget;
+use crate::kinds::{Widget, WidgetOp};
 use jup_seq::SeqTrace;
 use jup_xform::{Single, Transform};
 
@@ -16,10 +15,8 @@ use jup_xform::{Single, Transform};
 pub enum WidgetTrace {
     /// What is traced in a text or a list.
     Sequence(SeqTrace),
-    /// Whether the setting takes the value.
-    Setting(bool),
-    /// There is no widget, or it is of another kind.
-    Misfit,
+    /// Whether the operation may be applied. An operation on a widget without items changes that for no other.
+    Decided(bool),
 }
 
 impl WidgetOp {
@@ -30,11 +27,7 @@ impl WidgetOp {
         match (self, state) {
             (WidgetOp::Text(op), Widget::Text(text)) => WidgetTrace::Sequence(op.trace(text)),
             (WidgetOp::List(op), Widget::List(list)) => WidgetTrace::Sequence(op.trace(list)),
-            (WidgetOp::Toggle(_), Widget::Toggle(_)) => WidgetTrace::Setting(true),
-            (WidgetOp::Slider(op), Widget::Slider(slider)) => WidgetTrace::Setting(op.valid(
-                slider,
-            )),
-            _ => WidgetTrace::Misfit,
+            _ => WidgetTrace::Decided(self.valid(state)),
         }
     }
 
@@ -61,7 +54,7 @@ impl WidgetOp {
             (WidgetTrace::Sequence(trace), WidgetOp::Text(op)) => op.is_no_relabel()
                 && op.allowed_by(trace),
             (WidgetTrace::Sequence(trace), WidgetOp::List(op)) => op.allowed_by(trace),
-            (WidgetTrace::Setting(taken), _) => taken,
+            (WidgetTrace::Decided(taken), _) => taken,
             _ => false,
         }
     }
@@ -79,7 +72,7 @@ impl Single for BoardOp {
     fn trace(&self, state: &Board) -> WidgetTrace {
         match state.widget(self.win, self.wid) {
             Some(widget) => self.op.trace(widget),
-            None => WidgetTrace::Misfit,
+            None => WidgetTrace::Decided(false),
         }
     }
 

@@ -1,11 +1,6 @@
 -- Lines: what is read is what is spelled.
-use Rattle.std.proofs.Common.{◌≡◌, ℕ, ◌+◌, cond, List, [], ◌∷◌, ◌++◌, Option, Some, refl, sym, subst, ◌∙◌, arith, inl, inr, lit≤, IsTrue, decimal, codes, ◌≤◌, true, eqb, length, None, ap, lit<, ◌<◌, ◌^◌, ◌-◌, append_assoc, append-nil, ◌/◌, ◌%◌, ℤ, pos, negsuc, unsigned_abs}
-use Rattle.std.specs.Fmt.{signed_decimal, digits}
-use Rattle.std.specs.Char.{IsScalar}
-use Rattle.std.specs.List.{join_with_byte}
-use Rattle.std.specs.Str.{bytes_eq}
+use Rattle.std.proofs.Common.{◌≡◌, ℕ, ◌+◌, cond, List, [], ◌∷◌, ◌++◌, Option, Some, refl, sym, subst, ◌∙◌, arith, inl, inr, lit≤, decimal, codes, ◌≤◌, true, eqb, length, None, ap, lit<, ◌<◌, ◌^◌, ◌-◌, append_assoc, append-nil, ◌/◌, ◌%◌, ℤ, pos, negsuc, unsigned_abs}
 use Rattle.std.proofs.lemmas.Bool.{cases_Bool, cond-true, cond-false, eqb-true, eqb-false, ltb-true}
-use Rattle.std.proofs.lemmas.Option.{same_Some, cond_some, none-some}
 use Rattle.std.proofs.lemmas.Slice.Eq.{bytes_eq-Decides}
 use Rattle.std.proofs.lemmas.List.{length-append}
 use Rattle.std.specs.Global.{Vec}
@@ -14,194 +9,22 @@ use Rattle.std.proofs.lemmas.Int.{to_z-of_z}
 use Rattle.std.specs.Int.{w32}
 use lib.Signed.{lt_z}
 use mir.Val.{to_z, of_z}
-use Rattle.jup_limits.specs.Limits.{longest_label}
-use Rattle.jup_wire.specs.Prelude.{SetOp, Name, IsLabelText, SeqOp, is_no_relabel, WidgetOp, Line, BadLine, BadVersion}
-use Rattle.jup_setting.specs.declared.operation.SetOp.TheVariants as set
-use Rattle.jup_seq.specs.declared.operations.SeqOp.TheVariants as seq
-use Rattle.jup_window.specs.declared.widget_operations.WidgetOp.TheVariants as widget
-use Rattle.jup_wire.specs.declared.line.Line.TheVariants.{Hello, Welcome, Window, Text, List as ListLine, Toggle, Slider, Char, Item as ItemLine, Ready, Batch, Do, Ack, Ping, Pong, Bye, Error}
-use Rattle.jup_wire.specs.Lines.{name_text, switch_text, seq_fields, set_fields, body_fields, IsU32, IsName, IsInt, IsSeqOp, IsSetOp, IsBody, ◌>>=◌, split_of, pair_of, number_of, scalar_of, int_of, name_of, switch_of, label_of, headed_by, insert_of, delete_of, relabel_of, seq_of, text_of, set_of, body_table, body_of, this_version, line_text, IsId, IsCount, HasSpelling, spelling, id_of, count_of, hello_of, welcome_of, toggle_of, slider_of, char_of, item_of, batch_of, do_of, line_table, headed_of, line_of, IsNoLine, IsBad, version_of, refusal_of, if_no_relabel, field_of, BeginsWith, BeginsWithOp, BeginsLines, after_spaces}
+use Rattle.std.specs.Fmt.{digits}
+use Rattle.jup_wire.specs.Prelude.{Name, IsLabelText, SeqOp, is_no_relabel, Line, BadLine, BadVersion, join_with_byte, AllByRecursion, bytes_eq, IsScalar, signed_decimal, same_Some, cond_some, none-some}
+use Rattle.jup_wire.specs.declared.line.Line.TheVariants.{Hello, Welcome, Window, Text, List as ListLine, Value, Char, Item as ItemLine, Ready, Batch, Do, Ack, Ping, Pong, Bye, Error}
+use Rattle.jup_wire.specs.Fields.{name_text, seq_fields, IsU32, IsName, IsInt, ◌>>=◌, split_of, pair_of, number_of, scalar_of, name_of, label_of, insert_of, delete_of, seq_of, IsId, IsCount, id_of, count_of, field_of, after_spaces, dispatch}
+use Rattle.jup_wire.specs.Kinds.{IsBody, text_of, body_of, if_no_relabel, IsValueLine, value_table}
+use Rattle.jup_wire.specs.Lines.{this_version, line_text, HasSpelling, spelling, hello_of, welcome_of, char_of, item_of, batch_of, do_of, line_table, headed_of, line_of, IsNoLine, IsBad, version_of, refusal_of, BeginsWith, BeginsWithOp, BeginsLines, dispatch_or, value_line}
 use Rattle.jup_wire.specs.Streams.{Appends}
-use Rattle.jup_wire.proofs.Spellings.{IsReader, IsField, within, pair_reader, behind, headed_takes, tested, lacks-decimal, number_reader, scalar_reader, switch_reader, label_reader, name_reader, name_field, int_reader, bind_some, number_takes, number_again, lacks, TakesBehind, id_reader, int_field, count_reader, split_parts, field_takes}
+use Rattle.jup_wire.proofs.Spellings.{IsReader, pair_reader, behind, number_reader, scalar_reader, label_reader, name_reader, name_field, bind_some, number_takes, number_again, lacks, TakesBehind, id_reader, count_reader, split_parts, field_takes, dispatch_takes, number_field, id_field, word_or}
 use Rattle.jup_window.specs.Prelude.{Insert, Delete, Relabel, NoSeqOp as Nothing}
-use Rattle.jup_window.specs.declared.widget_operations.WidgetOp.TheVariants.{Text as OnText}
-
--- Operations as fields: what is read is spelled so, and what is spelled so is read.
-
-number_field : IsField 32 decimal IsU32
-number_field = lacks-decimal 32 (lit≤ tt)
-
--- a test for one whole word, and another reader if it fails
-pub word_or : {B : Type 0} (text : B → List ℕ) (Is : B → Type 0) (word : List ℕ) (b : B) → Is b → word ≡ text b → (other : Option B) (bytes : List ℕ) (x : B)
-    → (other ≡ Some x → Is x × (bytes ≡ text x)) → cond (bytes_eq bytes word) (Some b) other ≡ Some x → Is x × (bytes ≡ text x)
-word_or text Is word b is spelled other bytes x takes e =
-    elim (cases_Bool (bytes_eq bytes word)) [
-      | inl same ↦ subst (λ y. Is y × (bytes ≡ text y)) (same_Some b x (sym (cond-true (bytes_eq bytes word) (Some b) other same) ∙ e)) (is, (bytes_eq-Decides bytes word).0 same ∙ spelled)
-      | inr differs ↦ takes (sym (cond-false (bytes_eq bytes word) (Some b) other differs) ∙ e)
-    ]
-
--- ---- operations on a text or a list
-
-abbrev pub seq_text : {V : Type 0} → (V → List ℕ) → SeqOp V → List ℕ
-seq_text text op = join_with_byte 32 (seq_fields text op)
-
-abbrev pub set_text : {V : Type 0} → (V → List ℕ) → SetOp V → List ℕ
-set_text text op = join_with_byte 32 (set_fields text op)
-
-pub deletion_reader : IsReader (pair_of 32 number_of name_of) (λ x. decimal x.0 ++ 32 ∷ name_text x.1) (λ x. IsU32 x.0 × IsName x.1) 32
-deletion_reader = pair_reader 32 number_of decimal IsU32 10 number_reader name_of name_text IsName 21 name_reader number_field refl
-
-module _ {V : Type 0} (value : List ℕ → Option V) (text : V → List ℕ) (IsValue : V → Type 0) (limit : ℕ) (reader : IsReader value text IsValue limit) where
-  -- a place, a name and a value, as an insertion and a relabel have them
-  valued_reader : IsReader (pair_of 32 number_of (pair_of 32 name_of value)) (λ x. decimal x.0 ++ 32 ∷ (name_text x.1.0 ++ 32 ∷ text x.1.1)) (λ x. IsU32 x.0 × (IsName x.1.0 × IsValue x.1.1)) (33 + limit)
-  valued_reader =
-      let named = pair_reader 32 name_of name_text IsName 21 name_reader value text IsValue limit reader name_field refl in
-      let placed = pair_reader 32 number_of decimal IsU32 10 number_reader (pair_of 32 name_of value) (λ x. name_text x.0 ++ 32 ∷ text x.1) (λ x. IsName x.0 × IsValue x.1) (22 + limit) named number_field refl in
-      within (33 + limit) (omega arith) placed
-
-  seq_takes : (bytes : List ℕ) (op : SeqOp V) → seq_of value bytes ≡ Some op → IsSeqOp IsValue op × (bytes ≡ seq_text text op)
-  unfolding seq_of insert_of delete_of relabel_of
-  seq_takes bytes op e =
-      let table : List (List ℕ × (List ℕ → Option (SeqOp V))) = (codes "ins", insert_of value) ∷ (codes "del", delete_of) ∷ (codes "rel", relabel_of value) ∷ [] in
-      word_or (seq_text text) (IsSeqOp IsValue) (codes "no") seq.Nothing tt refl (headed_by table bytes) bytes op
-      (headed_takes (seq_text text) (IsSeqOp IsValue) table (
-        behind (codes "ins") (pair_of 32 number_of (pair_of 32 name_of value)) _ _ _ valued_reader (λ x. seq.Insert x.0 (record { name = x.1.0; value = x.1.1 })) (seq_text text) (IsSeqOp IsValue) (λ x is. (is, refl)),
-        (
-          behind (codes "del") (pair_of 32 number_of name_of) _ _ _ deletion_reader (λ x. seq.Delete x.0 x.1) (seq_text text) (IsSeqOp IsValue) (λ x is. (is, refl)),
-          (
-            behind (codes "rel") (pair_of 32 number_of (pair_of 32 name_of value)) _ _ _ valued_reader (λ x. seq.Relabel x.0 x.1.0 x.1.1) (seq_text text) (IsSeqOp IsValue) (λ x is. (is, refl)),
-            tt,
-          ),
-        ),
-      ) bytes op) e
-
-  seq_again : (op : SeqOp V) → IsSeqOp IsValue op → seq_of value (seq_text text op) ≡ Some op
-  unfolding seq_of insert_of delete_of relabel_of split_of
-  seq_again (seq.Insert place item) is = rw (valued_reader.again (place, (item.name, item.value)) is) refl
-  seq_again (seq.Delete place name) is = rw (deletion_reader.again (place, name) is) refl
-  seq_again (seq.Relabel place name value) is = rw (valued_reader.again (place, (name, value)) is) refl
-  seq_again seq.Nothing is = refl
-
-  pub seq_reader : IsReader (seq_of value) (seq_text text) (IsSeqOp IsValue) (37 + limit)
-  seq_reader = record {
-    takes = seq_takes;
-    again = seq_again;
-    one_line = elim [
-      | seq.Insert place item ↦ λ is. valued_reader.one_line (place, (item.name, item.value)) is
-      | seq.Delete place name ↦ λ is. deletion_reader.one_line (place, name) is
-      | seq.Relabel place name value ↦ λ is. valued_reader.one_line (place, (name, value)) is
-      | seq.Nothing ↦ λ is. refl
-    ];
-    short = elim [
-      | seq.Insert place item ↦ λ is. omega (arith, valued_reader.short (place, (item.name, item.value)) is)
-      | seq.Delete place name ↦ λ is. omega (arith, deletion_reader.short (place, name) is)
-      | seq.Relabel place name value ↦ λ is. omega (arith, valued_reader.short (place, (name, value)) is)
-      | seq.Nothing ↦ λ is. omega arith
-    ];
-  }
-
-  -- ---- settings
-
-  set_takes : (bytes : List ℕ) (op : SetOp V) → set_of value bytes ≡ Some op → IsSetOp IsValue op × (bytes ≡ set_text text op)
-  unfolding set_of
-  set_takes bytes op e =
-      let table : List (List ℕ × (List ℕ → Option (SetOp V))) = (codes "set", λ rest. value rest >>= λ x. Some (set.Set x)) ∷ [] in
-      word_or (set_text text) (IsSetOp IsValue) (codes "no") set.Nothing tt refl (headed_by table bytes) bytes op
-      (headed_takes (set_text text) (IsSetOp IsValue) table (behind (codes "set") value text IsValue limit reader set.Set (set_text text) (IsSetOp IsValue) (λ x is. (is, refl)), tt) bytes op) e
-
-  pub set_reader : IsReader (set_of value) (set_text text) (IsSetOp IsValue) (4 + limit)
-  unfolding set_of split_of
-  set_reader = record {
-    takes = set_takes;
-    again = elim [ set.Set x ↦ λ is. rw (reader.again x is) refl | set.Nothing ↦ λ is. refl ];
-    one_line = elim [ set.Set x ↦ λ is. reader.one_line x is | set.Nothing ↦ λ is. refl ];
-    short = elim [ set.Set x ↦ λ is. omega (arith, reader.short x is) | set.Nothing ↦ λ is. omega arith ];
-  }
-
--- ---- operations on a widget
-
-abbrev pub body_text : WidgetOp → List ℕ
-body_text op = join_with_byte 32 (body_fields op)
-
-pub joined_seq : {V : Type 0} (word : List ℕ) (text : V → List ℕ) (op : SeqOp V) → join_with_byte 32 (word ∷ seq_fields text op) ≡ word ++ 32 ∷ seq_text text op
-joined_seq word text (seq.Insert place item) = refl
-joined_seq word text (seq.Delete place name) = refl
-joined_seq word text (seq.Relabel place name value) = refl
-joined_seq word text seq.Nothing = refl
-
-pub joined_set : {V : Type 0} (word : List ℕ) (text : V → List ℕ) (op : SetOp V) → join_with_byte 32 (word ∷ set_fields text op) ≡ word ++ 32 ∷ set_text text op
-joined_set word text (set.Set x) = refl
-joined_set word text set.Nothing = refl
-
-text_op_reader : IsReader text_of (seq_text decimal) (λ op. IsTrue (is_no_relabel op) × IsSeqOp IsScalar op) 44
-unfolding text_of
-text_op_reader = tested (seq_of scalar_of) (seq_text decimal) (IsSeqOp IsScalar) 44 (seq_reader scalar_of decimal IsScalar 7 scalar_reader) is_no_relabel
-
-list_op_reader : IsReader (seq_of label_of) (seq_text (λ label. label)) (IsSeqOp IsLabelText) 85
-list_op_reader = seq_reader label_of (λ label. label) IsLabelText longest_label label_reader
-
-toggle_op_reader : IsReader (set_of switch_of) (set_text switch_text) (IsSetOp (λ on. Unit {0})) 7
-toggle_op_reader = set_reader switch_of switch_text (λ on. Unit {0}) 3 switch_reader
-
-slider_op_reader : IsReader (set_of int_of) (set_text signed_decimal) (IsSetOp IsInt) 15
-slider_op_reader = set_reader int_of signed_decimal IsInt 11 int_reader
-
-body_takes : (bytes : List ℕ) (op : WidgetOp) → body_of bytes ≡ Some op → IsBody op × (bytes ≡ body_text op)
-unfolding body_of
-body_takes = headed_takes body_text IsBody body_table (
-  behind (codes "text") text_of _ _ _ text_op_reader widget.Text body_text IsBody (λ op is. (is, sym (joined_seq (codes "text") decimal op))),
-  (
-    behind (codes "list") (seq_of label_of) _ _ _ list_op_reader widget.List body_text IsBody (λ op is. (is, sym (joined_seq (codes "list") (λ label. label) op))),
-    (
-      behind (codes "toggle") (set_of switch_of) _ _ _ toggle_op_reader widget.Toggle body_text IsBody (λ op is. (is, sym (joined_set (codes "toggle") switch_text op))),
-      (behind (codes "slider") (set_of int_of) _ _ _ slider_op_reader widget.Slider body_text IsBody (λ op is. (is, sym (joined_set (codes "slider") signed_decimal op))), tt),
-    ),
-  ),
-)
-
-pub body_reader : IsReader body_of body_text IsBody 90
-unfolding body_of split_of
-body_reader = record {
-  takes = body_takes;
-  again = elim [
-    | widget.Text op ↦ λ is. rw (joined_seq (codes "text") decimal op, text_op_reader.again op is) refl
-    | widget.List op ↦ λ is. rw (joined_seq (codes "list") (λ label. label) op, list_op_reader.again op is) refl
-    | widget.Toggle op ↦ λ is. rw (joined_set (codes "toggle") switch_text op, toggle_op_reader.again op is) refl
-    | widget.Slider op ↦ λ is. rw (joined_set (codes "slider") signed_decimal op, slider_op_reader.again op is) refl
-  ];
-  one_line = elim [
-    | widget.Text op ↦ λ is. rw (joined_seq (codes "text") decimal op) (text_op_reader.one_line op is)
-    | widget.List op ↦ λ is. rw (joined_seq (codes "list") (λ label. label) op) (list_op_reader.one_line op is)
-    | widget.Toggle op ↦ λ is. rw (joined_set (codes "toggle") switch_text op) (toggle_op_reader.one_line op is)
-    | widget.Slider op ↦ λ is. rw (joined_set (codes "slider") signed_decimal op) (slider_op_reader.one_line op is)
-  ];
-  short = elim [
-    | widget.Text op ↦ λ is. rw (joined_seq (codes "text") decimal op) (omega (arith, text_op_reader.short op is))
-    | widget.List op ↦ λ is. rw (joined_seq (codes "list") (λ label. label) op) (omega (arith, list_op_reader.short op is))
-    | widget.Toggle op ↦ λ is. rw (joined_set (codes "toggle") switch_text op) (omega (arith, toggle_op_reader.short op is))
-    | widget.Slider op ↦ λ is. rw (joined_set (codes "slider") signed_decimal op) (omega (arith, slider_op_reader.short op is))
-  ];
-}
-
--- Lines: what is read is spelled so, and what is spelled so is read.
-
-id_field : IsField 32 decimal IsId
-id_field n lt = lacks-decimal 32 (lit≤ tt) n (omega (arith, lt))
+use Rattle.jup_window.specs.declared.kinds.WidgetOp.TheVariants.{Text as OnText}
+use Rattle.jup_wire.proofs.ByKind.{body_text, body_reader, joined_do, value_text, values_take, value_again, value_one_line, value_short}
 
 -- ---- what comes after the first word
 
 welcome_rest : IsReader (pair_of 32 number_of number_of) (λ x. decimal x.0 ++ 32 ∷ decimal x.1) (λ x. IsU32 x.0 × IsU32 x.1) 21
 welcome_rest = pair_reader 32 number_of decimal IsU32 10 number_reader number_of decimal IsU32 10 number_reader number_field refl
-
-toggle_rest : IsReader (pair_of 32 id_of switch_of) (λ x. decimal x.0 ++ 32 ∷ switch_text x.1) (λ x. IsId x.0 × Unit {0}) 9
-toggle_rest = pair_reader 32 id_of decimal IsId 5 id_reader switch_of switch_text (λ on. Unit {0}) 3 switch_reader id_field refl
-
-slider_rest : IsReader (pair_of 32 id_of (pair_of 32 int_of (pair_of 32 int_of int_of))) (λ x. decimal x.0 ++ 32 ∷ (signed_decimal x.1.0 ++ 32 ∷ (signed_decimal x.1.1.0 ++ 32 ∷ signed_decimal x.1.1.1)))
-    (λ x. IsId x.0 × (IsInt x.1.0 × (IsInt x.1.1.0 × IsInt x.1.1.1))) 41
-slider_rest =
-    let bounds = pair_reader 32 int_of signed_decimal IsInt 11 int_reader int_of signed_decimal IsInt 11 int_reader int_field refl in
-    let ints = pair_reader 32 int_of signed_decimal IsInt 11 int_reader (pair_of 32 int_of int_of) _ _ _ bounds int_field refl in
-    pair_reader 32 id_of decimal IsId 5 id_reader (pair_of 32 int_of (pair_of 32 int_of int_of)) _ _ _ ints id_field refl
 
 char_rest : IsReader (pair_of 32 name_of scalar_of) (λ x. name_text x.0 ++ 32 ∷ decimal x.1) (λ x. IsName x.0 × IsScalar x.1) 29
 char_rest = pair_reader 32 name_of name_text IsName 21 name_reader scalar_of decimal IsScalar 7 scalar_reader name_field refl
@@ -219,13 +42,6 @@ do_rest =
     let placed = pair_reader 32 id_of decimal IsId 5 id_reader body_of body_text IsBody 90 body_reader id_field refl in
     pair_reader 32 id_of decimal IsId 5 id_reader (pair_of 32 id_of body_of) _ _ _ placed id_field refl
 
--- the body's fields follow the others
-joined_do : (win wid : ℕ) (op : WidgetOp) → join_with_byte 32 (codes "do" ∷ decimal win ∷ decimal wid ∷ body_fields op) ≡ codes "do" ++ 32 ∷ (decimal win ++ 32 ∷ (decimal wid ++ 32 ∷ body_text op))
-joined_do win wid (widget.Text op) = refl
-joined_do win wid (widget.List op) = refl
-joined_do win wid (widget.Toggle op) = refl
-joined_do win wid (widget.Slider op) = refl
-
 -- ---- lines
 
 hello_takes : TakesBehind line_text HasSpelling (codes "hello", hello_of)
@@ -237,12 +53,36 @@ hello_takes rest line e =
     let spelled : rest ≡ codes "3" = t.1 ∙ ap decimal (eqb-true b.0 this_version c.0) in
     subst (λ l. HasSpelling l × (codes "hello" ++ 32 ∷ rest ≡ line_text l)) c.1 (tt, ap (λ (r : List ℕ). codes "hello" ++ 32 ∷ r) spelled)
 
+-- the line that the word in a table or that of a widget without items gives
+dispatch_takes_or : (table : List (List ℕ × (List ℕ → Option Line))) → AllByRecursion (TakesBehind line_text HasSpelling) table
+    → (word rest : List ℕ) (l : Line) → dispatch_or table word rest ≡ Some l → HasSpelling l × (word ++ 32 ∷ rest ≡ line_text l)
+dispatch_takes_or [] all word rest l e =
+    let x = bind_some (dispatch value_table word rest) (λ x. Some (value_line x)) l e in
+    let t = dispatch_takes value_text IsValueLine value_table values_take word rest x.0 x.1 in
+    subst (λ y. HasSpelling y × (word ++ 32 ∷ rest ≡ line_text y)) (same_Some (value_line x.0) l x.2) (t.0, t.1)
+dispatch_takes_or (entry ∷ table) all word rest l e =
+    elim (cases_Bool (bytes_eq word entry.0)) [
+      | inl same ↦
+          let w : word ≡ entry.0 = (bytes_eq-Decides word entry.0).0 same in
+          let t = all.0 rest l (sym (cond-true (bytes_eq word entry.0) (entry.1 rest) (dispatch_or table word rest) same) ∙ e) in
+          (t.0, ap (λ (v : List ℕ). v ++ 32 ∷ rest) w ∙ t.1)
+      | inr other ↦ dispatch_takes_or table all.1 word rest l (sym (cond-false (bytes_eq word entry.0) (entry.1 rest) (dispatch_or table word rest) other) ∙ e)
+    ]
+
+headed_takes_or : (table : List (List ℕ × (List ℕ → Option Line))) → AllByRecursion (TakesBehind line_text HasSpelling) table
+    → (bytes : List ℕ) (l : Line) → (split_of 32 bytes >>= λ parts. dispatch_or table parts.0 parts.1) ≡ Some l → HasSpelling l × (bytes ≡ line_text l)
+headed_takes_or table all bytes l e =
+    let p = bind_some (split_of 32 bytes) (λ parts. dispatch_or table parts.0 parts.1) l e in
+    let t = dispatch_takes_or table all p.0.0 p.0.1 l p.2 in
+    let parts = split_parts 32 bytes p.0.0 p.0.1 p.1 in
+    (t.0, parts.0 ∙ t.1)
+
 line_takes : (bytes : List ℕ) (line : Line) → line_of bytes ≡ Some line → HasSpelling line × (bytes ≡ line_text line)
-unfolding line_of headed_of welcome_of toggle_of slider_of char_of item_of batch_of do_of
+unfolding line_of headed_of welcome_of char_of item_of batch_of do_of
 line_takes bytes line e =
     word_or line_text HasSpelling (codes "ready") Ready tt refl _ bytes line
-    (word_or line_text HasSpelling (codes "bye") Bye tt refl (headed_by line_table bytes) bytes line
-    (headed_takes line_text HasSpelling line_table (
+    (word_or line_text HasSpelling (codes "bye") Bye tt refl _ bytes line
+    (headed_takes_or line_table (
       hello_takes,
       (
         behind (codes "welcome") (pair_of 32 number_of number_of) _ _ _ welcome_rest (λ x. Welcome x.0 x.1) line_text HasSpelling (λ x is. (is, refl)),
@@ -253,26 +93,20 @@ line_takes bytes line e =
             (
               behind (codes "list") id_of _ _ _ id_reader ListLine line_text HasSpelling (λ x is. (is, refl)),
               (
-                behind (codes "toggle") (pair_of 32 id_of switch_of) _ _ _ toggle_rest (λ x. Toggle x.0 x.1) line_text HasSpelling (λ x is. (is.0, refl)),
+                behind (codes "char") (pair_of 32 name_of scalar_of) _ _ _ char_rest (λ x. Char x.0 x.1) line_text HasSpelling (λ x is. (is, refl)),
                 (
-                  behind (codes "slider") (pair_of 32 id_of (pair_of 32 int_of (pair_of 32 int_of int_of))) _ _ _ slider_rest (λ x. Slider x.0 x.1.0 x.1.1.0 x.1.1.1) line_text HasSpelling (λ x is. (is, refl)),
+                  behind (codes "item") (pair_of 32 name_of label_of) _ _ _ item_rest (λ x. ItemLine x.0 x.1) line_text HasSpelling (λ x is. (is, refl)),
                   (
-                    behind (codes "char") (pair_of 32 name_of scalar_of) _ _ _ char_rest (λ x. Char x.0 x.1) line_text HasSpelling (λ x is. (is, refl)),
+                    behind (codes "batch") (pair_of 32 number_of (pair_of 32 number_of count_of)) _ _ _ batch_rest (λ x. Batch x.0 x.1.0 x.1.1) line_text HasSpelling (λ x is. (is, refl)),
                     (
-                      behind (codes "item") (pair_of 32 name_of label_of) _ _ _ item_rest (λ x. ItemLine x.0 x.1) line_text HasSpelling (λ x is. (is, refl)),
+                      behind (codes "do") (pair_of 32 id_of (pair_of 32 id_of body_of)) _ _ _ do_rest (λ x. Do (record { win = x.0; wid = x.1.0; op = x.1.1 })) line_text HasSpelling (λ x is. (is, sym (joined_do x.0 x.1.0 x.1.1))),
                       (
-                        behind (codes "batch") (pair_of 32 number_of (pair_of 32 number_of count_of)) _ _ _ batch_rest (λ x. Batch x.0 x.1.0 x.1.1) line_text HasSpelling (λ x is. (is, refl)),
+                        behind (codes "ack") number_of _ _ _ number_reader Ack line_text HasSpelling (λ x is. (is, refl)),
                         (
-                          behind (codes "do") (pair_of 32 id_of (pair_of 32 id_of body_of)) _ _ _ do_rest (λ x. Do (record { win = x.0; wid = x.1.0; op = x.1.1 })) line_text HasSpelling (λ x is. (is, sym (joined_do x.0 x.1.0 x.1.1))),
+                          behind (codes "ping") number_of _ _ _ number_reader Ping line_text HasSpelling (λ x is. (is, refl)),
                           (
-                            behind (codes "ack") number_of _ _ _ number_reader Ack line_text HasSpelling (λ x is. (is, refl)),
-                            (
-                              behind (codes "ping") number_of _ _ _ number_reader Ping line_text HasSpelling (λ x is. (is, refl)),
-                              (
-                                behind (codes "pong") number_of _ _ _ number_reader Pong line_text HasSpelling (λ x is. (is, refl)),
-                                (behind (codes "error") number_of _ _ _ number_reader Error line_text HasSpelling (λ x is. (is, refl)), tt),
-                              ),
-                            ),
+                            behind (codes "pong") number_of _ _ _ number_reader Pong line_text HasSpelling (λ x is. (is, refl)),
+                            (behind (codes "error") number_of _ _ _ number_reader Error line_text HasSpelling (λ x is. (is, refl)), tt),
                           ),
                         ),
                       ),
@@ -292,14 +126,13 @@ unfolding digits
 this_version_again = number_again 3 (lit< tt)
 
 line_again : (line : Line) → HasSpelling line → line_of (line_text line) ≡ Some line
-unfolding line_of headed_of split_of hello_of welcome_of toggle_of slider_of char_of item_of batch_of do_of
+unfolding line_of headed_of split_of hello_of welcome_of char_of item_of batch_of do_of
 line_again Hello is = rw this_version_again refl
 line_again (Welcome site limit) is = rw (welcome_rest.again (site, limit) is) refl
 line_again (Window win) is = rw (id_reader.again win is) refl
 line_again (Text wid) is = rw (id_reader.again wid is) refl
 line_again (ListLine wid) is = rw (id_reader.again wid is) refl
-line_again (Toggle wid on) is = rw (toggle_rest.again (wid, on) (is, tt)) refl
-line_again (Slider wid lo hi value) is = rw (slider_rest.again (wid, (lo, (hi, value))) is) refl
+line_again (Value wid value) is = value_again (wid, value) is
 line_again (Char name scalar) is = rw (char_rest.again (name, scalar) is) refl
 line_again (ItemLine name label) is = rw (item_rest.again (name, label) is) refl
 line_again Ready is = refl
@@ -317,8 +150,7 @@ line_one (Welcome site limit) is = welcome_rest.one_line (site, limit) is
 line_one (Window win) is = id_reader.one_line win is
 line_one (Text wid) is = id_reader.one_line wid is
 line_one (ListLine wid) is = id_reader.one_line wid is
-line_one (Toggle wid on) is = toggle_rest.one_line (wid, on) (is, tt)
-line_one (Slider wid lo hi value) is = slider_rest.one_line (wid, (lo, (hi, value))) is
+line_one (Value wid value) is = value_one_line (wid, value) is
 line_one (Char name scalar) is = char_rest.one_line (name, scalar) is
 line_one (ItemLine name label) is = item_rest.one_line (name, label) is
 line_one Ready is = refl
@@ -336,8 +168,7 @@ line_short (Welcome site limit) is = omega (arith, welcome_rest.short (site, lim
 line_short (Window win) is = omega (arith, id_reader.short win is)
 line_short (Text wid) is = omega (arith, id_reader.short wid is)
 line_short (ListLine wid) is = omega (arith, id_reader.short wid is)
-line_short (Toggle wid on) is = omega (arith, toggle_rest.short (wid, on) (is, tt))
-line_short (Slider wid lo hi value) is = omega (arith, slider_rest.short (wid, (lo, (hi, value))) is)
+line_short (Value wid value) is = omega (arith, value_short (wid, value) is)
 line_short (Char name scalar) is = omega (arith, char_rest.short (name, scalar) is)
 line_short (ItemLine name label) is = omega (arith, item_rest.short (name, label) is)
 line_short Ready is = lit≤ tt

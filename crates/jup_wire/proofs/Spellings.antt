@@ -1,18 +1,11 @@
 -- The fields of lines: what is read is what is spelled.
-use Rattle.std.proofs.Common.{◌≡◌, false, Option, Some, None, refl, is_some, ℕ, ◌^◌, ◌<◌, true, ltb, ◌&&◌, List, length, get_or, sym, ap, subst, ◌∙◌, arith, decimal, ◌==◌, suc, ◌+◌, ◌-◌, ◌≤◌, Bool, not, cond, [], ◌∷◌, ◌++◌, take, drop, le_refl, inl, inr, add-one, position, zero, leb, Result, Ok, Err, eqb, lit<, lit≤, IfOk, IsOk, IsTrue, ◌↔◌, All, codes, ℤ, pos, negsuc, neg_ℤ}
+use Rattle.std.proofs.Common.{◌≡◌, false, Option, Some, None, refl, is_some, ℕ, ◌^◌, ◌<◌, true, ltb, ◌&&◌, List, length, get_or, sym, ap, subst, ◌∙◌, arith, decimal, ◌==◌, suc, ◌+◌, ◌-◌, ◌≤◌, Bool, not, cond, [], ◌∷◌, ◌++◌, take, drop, le_refl, inl, inr, add-one, position, zero, leb, Result, Ok, Err, eqb, lit<, lit≤, IfOk, IsOk, IsTrue, ◌↔◌, All, codes, ℤ, pos, negsuc, neg_ℤ, SomeIff}
 use Rattle.std.proofs.lemmas.Bool.{true≢false, and_parts, ltb-true, lt-ltb, false_from_ne_true, and_from, eqb-true, eq-eqb, not-true, cases_Bool, cases_lt, le-ltb, cond-true, cond-false, not_from_false, false≢true, leb-true, le-leb, ne_eqb}
-use Rattle.std.specs.Option.{SomeIff}
-use Rattle.std.specs.Str.{bytes_eq}
-use Rattle.std.specs.Str.Parse.{AllDigits, digits_value}
-use Rattle.std.proofs.lemmas.Option.{cond_some, same_Some}
 use Rattle.std.proofs.lemmas.Slice.Eq.{bytes_eq-Decides}
 use Rattle.std.proofs.lemmas.Fmt.{decimal_is_IsNumeral, length-decimal-le, decimal_nonempty}
-use Rattle.std.specs.List.{position_or_len, AllByRecursion, list_all}
 use Rattle.std.proofs.lemmas.List.{take_all, length-drop, length-append}
 use Rattle.std.proofs.lemmas.List.Sums.{position_or_len_is}
 use Rattle.std.proofs.Math.Numerals.{one-add}
-use Rattle.std.specs.Fmt.{signed_decimal}
-use Rattle.std.specs.Char.{digit_value, IsScalar}
 use Rattle.std.proofs.lemmas.List.Elements.{recursion_from_All}
 use Rattle.std.specs.Bool.{Decides}
 use Rattle.std.specs.Result.{result_ok}
@@ -21,9 +14,11 @@ use Rattle.memchr.specs.Find.{IsFirstByte, is_byte}
 use lib.Utf8.{scalar, scalar_cases}
 use Rattle.jup_number.specs.Numbers.{IsU32, IsReadingOf}
 use Rattle.jup_number.proofs.Numbers.{decimal_digits, digits_read, none_by_nothing, none_by_zeros, digit_below}
-use Rattle.jup_wire.specs.Prelude.{Name, IsLabelText}
+use Rattle.jup_wire.specs.Prelude.{Name, IsLabelText, SetOp, SeqOp, position_or_len, AllByRecursion, list_all, join_with_byte, bytes_eq, digit_value, IsScalar, signed_decimal, AllDigits, digits_value, cond_some, same_Some}
 use Rattle.jup_value.specs.declared.labels.BadLabel.{BadLabel}
-use Rattle.jup_wire.specs.Lines.{◌>>=◌, number_of, split_of, field_of, pair_of, dispatch, headed_by, name_text, switch_text, IsId, IsInt, IsName, IsCount, is_count, id_of, count_of, scalar_of, int_of, name_of, switch_of, is_label, label_of}
+use Rattle.jup_wire.specs.Fields.{◌>>=◌, number_of, split_of, field_of, pair_of, dispatch, headed_by, name_text, switch_text, IsId, IsInt, IsName, IsCount, is_count, id_of, count_of, scalar_of, int_of, name_of, switch_of, is_label, label_of, seq_fields, set_fields, IsU32, IsSeqOp, IsSetOp, insert_of, delete_of, relabel_of, seq_of, set_of}
+use Rattle.jup_setting.specs.declared.operation.SetOp.TheVariants as set
+use Rattle.jup_seq.specs.declared.operations.SeqOp.TheVariants as seq
 
 -- Steps that may fail.
 
@@ -511,3 +506,98 @@ int_reader = record {
 
 pub int_field : IsField 32 signed_decimal IsInt
 int_field = elim [ pos n ↦ λ is. lacks-decimal 32 (lit≤ tt) n (omega (arith, is.sfits)) | negsuc n ↦ λ is. lacks-decimal 32 (lit≤ tt) (suc n) (omega (arith, is.sfits)) ]
+
+-- Operations on sequences and settings as fields.
+
+pub number_field : IsField 32 decimal IsU32
+number_field = lacks-decimal 32 (lit≤ tt)
+
+pub id_field : IsField 32 decimal IsId
+id_field n lt = lacks-decimal 32 (lit≤ tt) n (omega (arith, lt))
+
+-- a test for one whole word, and another reader if it fails
+pub word_or : {B : Type 0} (text : B → List ℕ) (Is : B → Type 0) (word : List ℕ) (b : B) → Is b → word ≡ text b → (other : Option B) (bytes : List ℕ) (x : B)
+    → (other ≡ Some x → Is x × (bytes ≡ text x)) → cond (bytes_eq bytes word) (Some b) other ≡ Some x → Is x × (bytes ≡ text x)
+word_or text Is word b is spelled other bytes x takes e =
+    elim (cases_Bool (bytes_eq bytes word)) [
+      | inl same ↦ subst (λ y. Is y × (bytes ≡ text y)) (same_Some b x (sym (cond-true (bytes_eq bytes word) (Some b) other same) ∙ e)) (is, (bytes_eq-Decides bytes word).0 same ∙ spelled)
+      | inr differs ↦ takes (sym (cond-false (bytes_eq bytes word) (Some b) other differs) ∙ e)
+    ]
+
+-- ---- operations on a text or a list
+
+abbrev pub seq_text : {V : Type 0} → (V → List ℕ) → SeqOp V → List ℕ
+seq_text text op = join_with_byte 32 (seq_fields text op)
+
+abbrev pub set_text : {V : Type 0} → (V → List ℕ) → SetOp V → List ℕ
+set_text text op = join_with_byte 32 (set_fields text op)
+
+pub deletion_reader : IsReader (pair_of 32 number_of name_of) (λ x. decimal x.0 ++ 32 ∷ name_text x.1) (λ x. IsU32 x.0 × IsName x.1) 32
+deletion_reader = pair_reader 32 number_of decimal IsU32 10 number_reader name_of name_text IsName 21 name_reader number_field refl
+
+module _ {V : Type 0} (value : List ℕ → Option V) (text : V → List ℕ) (IsValue : V → Type 0) (limit : ℕ) (reader : IsReader value text IsValue limit) where
+  -- a place, a name and a value, as an insertion and a relabel have them
+  valued_reader : IsReader (pair_of 32 number_of (pair_of 32 name_of value)) (λ x. decimal x.0 ++ 32 ∷ (name_text x.1.0 ++ 32 ∷ text x.1.1)) (λ x. IsU32 x.0 × (IsName x.1.0 × IsValue x.1.1)) (33 + limit)
+  valued_reader =
+      let named = pair_reader 32 name_of name_text IsName 21 name_reader value text IsValue limit reader name_field refl in
+      let placed = pair_reader 32 number_of decimal IsU32 10 number_reader (pair_of 32 name_of value) (λ x. name_text x.0 ++ 32 ∷ text x.1) (λ x. IsName x.0 × IsValue x.1) (22 + limit) named number_field refl in
+      within (33 + limit) (omega arith) placed
+
+  seq_takes : (bytes : List ℕ) (op : SeqOp V) → seq_of value bytes ≡ Some op → IsSeqOp IsValue op × (bytes ≡ seq_text text op)
+  unfolding seq_of insert_of delete_of relabel_of
+  seq_takes bytes op e =
+      let table : List (List ℕ × (List ℕ → Option (SeqOp V))) = (codes "ins", insert_of value) ∷ (codes "del", delete_of) ∷ (codes "rel", relabel_of value) ∷ [] in
+      word_or (seq_text text) (IsSeqOp IsValue) (codes "no") seq.Nothing tt refl (headed_by table bytes) bytes op
+      (headed_takes (seq_text text) (IsSeqOp IsValue) table (
+        behind (codes "ins") (pair_of 32 number_of (pair_of 32 name_of value)) _ _ _ valued_reader (λ x. seq.Insert x.0 (record { name = x.1.0; value = x.1.1 })) (seq_text text) (IsSeqOp IsValue) (λ x is. (is, refl)),
+        (
+          behind (codes "del") (pair_of 32 number_of name_of) _ _ _ deletion_reader (λ x. seq.Delete x.0 x.1) (seq_text text) (IsSeqOp IsValue) (λ x is. (is, refl)),
+          (
+            behind (codes "rel") (pair_of 32 number_of (pair_of 32 name_of value)) _ _ _ valued_reader (λ x. seq.Relabel x.0 x.1.0 x.1.1) (seq_text text) (IsSeqOp IsValue) (λ x is. (is, refl)),
+            tt,
+          ),
+        ),
+      ) bytes op) e
+
+  seq_again : (op : SeqOp V) → IsSeqOp IsValue op → seq_of value (seq_text text op) ≡ Some op
+  unfolding seq_of insert_of delete_of relabel_of split_of
+  seq_again (seq.Insert place item) is = rw (valued_reader.again (place, (item.name, item.value)) is) refl
+  seq_again (seq.Delete place name) is = rw (deletion_reader.again (place, name) is) refl
+  seq_again (seq.Relabel place name value) is = rw (valued_reader.again (place, (name, value)) is) refl
+  seq_again seq.Nothing is = refl
+
+  pub seq_reader : IsReader (seq_of value) (seq_text text) (IsSeqOp IsValue) (37 + limit)
+  seq_reader = record {
+    takes = seq_takes;
+    again = seq_again;
+    one_line = elim [
+      | seq.Insert place item ↦ λ is. valued_reader.one_line (place, (item.name, item.value)) is
+      | seq.Delete place name ↦ λ is. deletion_reader.one_line (place, name) is
+      | seq.Relabel place name value ↦ λ is. valued_reader.one_line (place, (name, value)) is
+      | seq.Nothing ↦ λ is. refl
+    ];
+    short = elim [
+      | seq.Insert place item ↦ λ is. omega (arith, valued_reader.short (place, (item.name, item.value)) is)
+      | seq.Delete place name ↦ λ is. omega (arith, deletion_reader.short (place, name) is)
+      | seq.Relabel place name value ↦ λ is. omega (arith, valued_reader.short (place, (name, value)) is)
+      | seq.Nothing ↦ λ is. omega arith
+    ];
+  }
+
+  -- ---- settings
+
+  set_takes : (bytes : List ℕ) (op : SetOp V) → set_of value bytes ≡ Some op → IsSetOp IsValue op × (bytes ≡ set_text text op)
+  unfolding set_of
+  set_takes bytes op e =
+      let table : List (List ℕ × (List ℕ → Option (SetOp V))) = (codes "set", λ rest. value rest >>= λ x. Some (set.Set x)) ∷ [] in
+      word_or (set_text text) (IsSetOp IsValue) (codes "no") set.Nothing tt refl (headed_by table bytes) bytes op
+      (headed_takes (set_text text) (IsSetOp IsValue) table (behind (codes "set") value text IsValue limit reader set.Set (set_text text) (IsSetOp IsValue) (λ x is. (is, refl)), tt) bytes op) e
+
+  pub set_reader : IsReader (set_of value) (set_text text) (IsSetOp IsValue) (4 + limit)
+  unfolding set_of split_of
+  set_reader = record {
+    takes = set_takes;
+    again = elim [ set.Set x ↦ λ is. rw (reader.again x is) refl | set.Nothing ↦ λ is. refl ];
+    one_line = elim [ set.Set x ↦ λ is. reader.one_line x is | set.Nothing ↦ λ is. refl ];
+    short = elim [ set.Set x ↦ λ is. omega (arith, reader.short x is) | set.Nothing ↦ λ is. omega arith ];
+  }

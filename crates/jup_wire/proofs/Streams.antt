@@ -1,17 +1,15 @@
 -- Lines from bytes that come in pieces.
 use Rattle.std.proofs.Common.{◌≡◌, ◌≢◌, ◌==◌, ℕ, ◌<◌, Bool, true, false, not, cond, List, [], ◌∷◌, ◌++◌, length, take, drop, Option, Some, None, Result, Ok, Err, refl, sym, ap, subst, ◌∙◌, append_assoc, arith, inl, inr, All, IfOk, IfErr, IsSome, is_some, take-append-drop, ◌+◌, ◌-◌, ltb, suc, eqb, ◌^◌, ◌≤◌, codes, decimal, zero, get_or, add-one, drop-cons}
-use Rattle.std.specs.List.{flat_map, AllByRecursion}
 use Rattle.std.proofs.lemmas.Bool.{false≢true, true≢false, and_parts, and_from, cases_Bool, eqb-false, not-true, not_from_false, ne_eqb, cond-true, cond-false, lt-ltb, le-ltb, eq-eqb}
-use Rattle.std.proofs.lemmas.Option.{MatchOption-at_none, none-some, same_Some, some_pair_parts}
 use Rattle.std.proofs.lemmas.List.Elements.{All-append, All-take, All-from_recursion, recursion_from_All}
 use Rattle.std.proofs.lemmas.List.Concat.{flat_map-append, flat_map-cons}
 use Rattle.std.proofs.lemmas.List.{append-nil, length-take, take_all, length-append, take-append-le, take_more, get_or_append_left, get_or-take}
 use Rattle.std.proofs.Math.Seq.{take-append-add, take-append_seam, take-suc}
-use Rattle.std.specs.Str.Parse.{AllDigits, digits_value}
 use Rattle.std.proofs.lemmas.Fmt.{decimal_is_IsNumeral}
 use Rattle.jup_number.proofs.Numbers.{IsValueOf, Continues, value_ends}
-use Rattle.jup_wire.specs.Prelude.{WireFault, BadLine, LongLine, BadVersion, EarlyEnd, Line}
-use Rattle.jup_wire.specs.Lines.{line_text, spelling, HasSpelling, IsBad, ◌>>=◌, split_of, this_version, IsLine, IsOtherVersion, line_of, version_of, refusal_of, headed_of, hello_of, with_rest, field_of, number_of, id_of}
+use Rattle.jup_wire.specs.Prelude.{WireFault, BadLine, LongLine, BadVersion, EarlyEnd, Line, flat_map, AllByRecursion, AllDigits, digits_value, MatchOption-at_none, none-some, same_Some, some_pair_parts}
+use Rattle.jup_wire.specs.Fields.{◌>>=◌, split_of, with_rest, field_of, number_of, id_of}
+use Rattle.jup_wire.specs.Lines.{line_text, spelling, HasSpelling, IsBad, this_version, IsLine, IsOtherVersion, line_of, version_of, refusal_of, headed_of, hello_of}
 use Rattle.jup_wire.specs.Streams.{stream_of, IsPart, IsFaulty, Faults, Progress, HasRead, Ends, ReadsTo, IsBadLine}
 use Rattle.jup_wire.proofs.Spellings.{lacks, split_again, split_lacks, none_from, number_again, number_takes, number_of_none, number_of_zeros, number_from_value, digits_of_decimal, lacks-append, split_parts}
 use Rattle.jup_wire.proofs.Readings.{version_takes, version_again, line_reader}

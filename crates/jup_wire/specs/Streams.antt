@@ -1,8 +1,7 @@
 -- Bytes that come in pieces.
 use Rattle.std.specs.Prelude.{◌≡◌, ◌≢◌, ℕ, ◌<◌, List, [], ◌∷◌, ◌++◌, length, All, Option, Some, None, MatchOption, Result, Ok, Err, take, ◌+◌, ◌≤◌, vec_len, vec_capacity}
-use Rattle.std.specs.List.{flat_map, AllByRecursion}
 use Rattle.std.specs.Global.{Vec}
-use Rattle.jup_wire.specs.Prelude.{WireFault, BadLine, LongLine, BadVersion, EarlyEnd, Line}
+use Rattle.jup_wire.specs.Prelude.{WireFault, BadLine, LongLine, BadVersion, EarlyEnd, Line, flat_map, AllByRecursion}
 use Rattle.jup_wire.specs.declared.part.Part.{Part}
 use Rattle.jup_wire.specs.Lines.{line_text, spelling, HasSpelling, IsBad}
 

@@ -2,7 +2,7 @@
 
 ghost use Rattle.std.specs.Prelude.{◌≡◌, ◌≢◌, ◌==◌, ◌++◌, length, IfSome, MatchOption, position, ℕ, ◌+◌, ◌<◌, List, take, drop, Option};
 ghost use Rattle.std.specs.Str.Parse.{AllDigits, digits_value};
-ghost use Rattle.jup_wire.specs.Lines.{Gives, with_rest, split_of, field_of, number_of, id_of, scalar_of, int_of, name_of, switch_of, label_of, count_of, is_count as is_count_of};
+ghost use Rattle.jup_wire.specs.Fields.{Gives, with_rest, split_of, field_of, number_of, id_of, scalar_of, int_of, name_of, switch_of, label_of, count_of, is_count as is_count_of};
 
 use jup_limits::MOST_OPERATIONS;
 use jup_number::{read_integer, read_number, with_digit};
@@ -57,7 +57,7 @@ fn place_of(bytes: &[u8], wanted: u8) -> Option<usize>
 }
 
 /// The field before the first space, and the bytes after that space.
-#[tactic(auto, unfolding(crate::specs::Lines::field_of))]
+#[tactic(auto, unfolding(crate::specs::Fields::field_of))]
 pub(crate) fn field<T: FieldValue>(bytes: &[u8]) -> Option<(T, &[u8])>
     ensures { Gives (λ x. (x.0, x.1.now)) result (field_of 32 T.read_of bytes.now) }
 {
@@ -109,7 +109,7 @@ pub(crate) fn id_before(bytes: &[u8]) -> Option<(u16, &[u8])>
 impl FieldValue for u16 {
     ghost read_of = { id_of };
 
-    #[tactic(auto, unfolding(crate::specs::Lines::id_of))]
+    #[tactic(auto, unfolding(crate::specs::Fields::id_of))]
     fn read(bytes: &[u8]) -> Option<u16> {
         u16::try_from(number(bytes)?).ok()
     }
@@ -118,7 +118,7 @@ impl FieldValue for u16 {
 impl FieldValue for char {
     ghost read_of = { scalar_of };
 
-    #[tactic(auto, unfolding(crate::specs::Lines::scalar_of))]
+    #[tactic(auto, unfolding(crate::specs::Fields::scalar_of))]
     fn read(bytes: &[u8]) -> Option<char> {
         char::from_u32(number(bytes)?)
     }
@@ -135,7 +135,7 @@ impl FieldValue for i32 {
 impl FieldValue for Name {
     ghost read_of = { name_of };
 
-    #[tactic(auto, unfolding(crate::specs::Lines::name_of))]
+    #[tactic(auto, unfolding(crate::specs::Fields::name_of))]
     fn read(bytes: &[u8]) -> Option<Name> {
         let (site, rest) = number_before(bytes, b'.')?;
         Some(Name {
@@ -148,7 +148,7 @@ impl FieldValue for Name {
 impl FieldValue for bool {
     ghost read_of = { switch_of };
 
-    #[tactic(auto, unfolding(crate::specs::Lines::switch_of))]
+    #[tactic(auto, unfolding(crate::specs::Fields::switch_of))]
     fn read(bytes: &[u8]) -> Option<bool> {
         if bytes == b"on".as_slice() {
             Some(true)
@@ -163,7 +163,7 @@ impl FieldValue for bool {
 impl FieldValue for Label {
     ghost read_of = { label_of };
 
-    #[tactic(auto, unfolding(crate::specs::Lines::label_of))]
+    #[tactic(auto, unfolding(crate::specs::Fields::label_of))]
     fn read(bytes: &[u8]) -> Option<Label> {
         Label::read(bytes).ok()
     }
@@ -184,7 +184,7 @@ pub(crate) fn is_count(count: u32) -> bool
 }
 
 /// How many operations a batch has.
-#[tactic(auto, unfolding(crate::specs::Lines::count_of))]
+#[tactic(auto, unfolding(crate::specs::Fields::count_of))]
 pub(crate) fn count(bytes: &[u8]) -> Option<u32>
     ensures { result ≡ count_of bytes.now }
 {

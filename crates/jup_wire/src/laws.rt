@@ -5,10 +5,12 @@ ghost use Rattle.std.specs.List.{flat_map, AllByRecursion};
 ghost use Rattle.jup_wire.specs.declared.line.Line.{Line};
 ghost use Rattle.jup_wire.specs.declared.line.Line.TheVariants.{Batch, Do};
 ghost use Rattle.jup_window.specs.Widgets.{relabels_no_text};
-ghost use Rattle.jup_wire.specs.Lines.{HasSpelling, IsLine, IsName, is_count, is_spelled, spelling};
+ghost use Rattle.jup_wire.specs.Fields.{IsName, is_count};
+ghost use Rattle.jup_wire.specs.Lines.{HasSpelling, IsLine, is_spelled, spelling};
 ghost use Rattle.jup_wire.specs.Streams.{HasRead, Progress};
 
 use crate::fields::is_count;
+use crate::kinds::has_ranges;
 use crate::line::Line;
 use jup_seq::SeqOp;
 use jup_value::Name;
@@ -47,11 +49,12 @@ pub fn has_spelling(line: &Line) -> bool
         Line::Welcome { site, limit } => {
             let _numbers = (*site, *limit);
         }
-        Line::Window(id) | Line::Text(id) | Line::List(id) | Line::Toggle(id, _) => {
+        Line::Window(id) | Line::Text(id) | Line::List(id) => {
             let _id = *id;
         }
-        Line::Slider { wid, lo, hi, value } => {
-            let _numbers = (*wid, *lo, *hi, *value);
+        Line::Value(wid, value) => {
+            let _id = *wid;
+            has_ranges(*value);
         }
         Line::Char(name, value) => {
             is_name(*name);

@@ -5,6 +5,7 @@
 
 mod faults;
 mod fields;
+mod kinds;
 mod laws;
 mod line;
 mod parse;
@@ -17,6 +18,9 @@ mod writing;
 
 pub use faults::WireFault;
 pub use fields::feed_of;
+pub use kinds::{
+    PrintedSetting, VALUE_LINES, WidgetValue, read_setting, read_switch, read_value, value_due,
+};
 pub use laws::{has_spelling, on_the_way, one_reading, one_spelling};
 pub use line::Line;
 pub use parse::read_line;

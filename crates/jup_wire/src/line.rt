@@ -1,5 +1,6 @@
 //! The lines of a link and of a layout.
 
+use crate::kinds::WidgetValue;
 use jup_value::{Label, Name};
 use jup_window::BoardOp;
 
@@ -7,29 +8,17 @@ use jup_window::BoardOp;
 #[derive(Clone, Copy, Debug, PartialEq, Eq)]
 pub enum Line {
     Hello,
-    Welcome {
-        site: u32,
-        limit: u32,
-    },
+    Welcome { site: u32, limit: u32 },
     Window(u16),
     Text(u16),
     List(u16),
-    Toggle(u16, bool),
-    Slider {
-        wid: u16,
-        lo: i32,
-        hi: i32,
-        value: i32,
-    },
+    /// A widget without items.
+    Value(u16, WidgetValue),
     Char(Name, char),
     Item(Name, Label),
     Ready,
     /// A message of so many operations, each of which follows on a line of its own.
-    Batch {
-        mine: u32,
-        heard: u32,
-        count: u32,
-    },
+    Batch { mine: u32, heard: u32, count: u32 },
     Do(BoardOp),
     Ack(u32),
     Ping(u32),

@@ -2,15 +2,18 @@
 
 ghost use Rattle.std.specs.Prelude.{◌≡◌, Ok, IfOk, IfErr};
 ghost use Rattle.jup_wire.specs.declared.line.Line.{Line};
-ghost use Rattle.jup_wire.specs.Lines.{HasSpelling, line_text, IsBad, insert_of, delete_of, relabel_of, seq_of, text_of, set_of, body_of, welcome_of, hello_of, toggle_of, slider_of, char_of, item_of, batch_of, do_of, headed_of, line_of, version_of, refusal_of};
+ghost use Rattle.jup_wire.specs.Fields.{insert_of, delete_of, relabel_of, seq_of, set_of};
+ghost use Rattle.jup_wire.specs.Kinds.{text_of};
+ghost use Rattle.jup_wire.specs.Lines.{HasSpelling, line_text, IsBad, welcome_of, hello_of, char_of, item_of, batch_of, do_of, headed_of, line_of, version_of, refusal_of};
 
 use crate::faults::WireFault;
 use crate::fields::{FieldValue, behind, count, field, id_before, number, number_before, split};
+use crate::kinds::{body, read_value};
 use crate::line::Line;
 use jup_seq::{SeqOp, TextOp};
 use jup_setting::SetOp;
 use jup_value::{Item, Label, Name};
-use jup_window::{BoardOp, WidgetOp};
+use jup_window::BoardOp;
 
 /// The version of the protocol, as a greeting names it.
 const THIS_VERSION: u32 = 3;
@@ -105,12 +108,6 @@ fn line_by_word(word: &[u8], rest: &[u8]) -> Option<Line>
     if word == b"list".as_slice() {
         return Some(Line::List(u16::read(rest)?));
     }
-    if word == b"toggle".as_slice() {
-        return toggle(rest);
-    }
-    if word == b"slider".as_slice() {
-        return slider(rest);
-    }
     if word == b"char".as_slice() {
         return char_line(rest);
     }
@@ -129,7 +126,8 @@ fn line_by_word(word: &[u8], rest: &[u8]) -> Option<Line>
     if word == b"error".as_slice() {
         return Some(Line::Error(number(rest)?));
     }
-    None
+    let (wid, value) = read_value(word, rest)?;
+    Some(Line::Value(wid, value))
 }
 
 #[tactic(auto, unfolding(crate::specs::Lines::hello_of))]
@@ -150,26 +148,6 @@ fn welcome(rest: &[u8]) -> Option<Line>
     let (site, rest) = number_before(rest, b' ')?;
     let limit = number(rest)?;
     Some(Line::Welcome { site, limit })
-}
-
-#[tactic(auto, unfolding(crate::specs::Lines::toggle_of))]
-fn toggle(rest: &[u8]) -> Option<Line>
-    ensures { result ≡ toggle_of rest.now }
-{
-    let (wid, rest) = id_before(rest)?;
-    let on = bool::read(rest)?;
-    Some(Line::Toggle(wid, on))
-}
-
-#[tactic(auto, unfolding(crate::specs::Lines::slider_of))]
-fn slider(rest: &[u8]) -> Option<Line>
-    ensures { result ≡ slider_of rest.now }
-{
-    let (wid, rest) = id_before(rest)?;
-    let (lo, rest) = field::<i32>(rest)?;
-    let (hi, rest) = field::<i32>(rest)?;
-    let value = i32::read(rest)?;
-    Some(Line::Slider { wid, lo, hi, value })
 }
 
 #[tactic(auto, unfolding(crate::specs::Lines::char_of))]
@@ -210,29 +188,8 @@ fn operation(rest: &[u8]) -> Option<Line>
     Some(Line::Do(BoardOp { win, wid, op }))
 }
 
-/// An operation on a widget, by the widget's kind.
-#[tactic(auto, unfolding(crate::specs::Lines::body_of))]
-fn body(bytes: &[u8]) -> Option<WidgetOp>
-    ensures { result ≡ body_of bytes.now }
-{
-    let (kind, rest) = split(bytes, b' ')?;
-    if kind == b"text".as_slice() {
-        return Some(WidgetOp::Text(text_op(rest)?));
-    }
-    if kind == b"list".as_slice() {
-        return Some(WidgetOp::List(seq_op::<Label>(rest)?));
-    }
-    if kind == b"toggle".as_slice() {
-        return Some(WidgetOp::Toggle(set_op::<bool>(rest)?));
-    }
-    if kind == b"slider".as_slice() {
-        return Some(WidgetOp::Slider(set_op::<i32>(rest)?));
-    }
-    None
-}
-
-#[tactic(auto, unfolding(crate::specs::Lines::seq_of))]
-fn seq_op<V: FieldValue>(bytes: &[u8]) -> Option<SeqOp<V>>
+#[tactic(auto, unfolding(crate::specs::Fields::seq_of))]
+pub(crate) fn seq_op<V: FieldValue>(bytes: &[u8]) -> Option<SeqOp<V>>
     ensures { result ≡ seq_of V.read_of bytes.now }
 {
     if bytes == b"no".as_slice() {
@@ -252,7 +209,7 @@ fn seq_op<V: FieldValue>(bytes: &[u8]) -> Option<SeqOp<V>>
 }
 
 /// An operation on a text, which has no relabels.
-fn text_op(bytes: &[u8]) -> Option<TextOp>
+pub(crate) fn text_op(bytes: &[u8]) -> Option<TextOp>
     ensures { result ≡ text_of bytes.now }
 {
     // Most are insertions or deletions.
@@ -266,7 +223,7 @@ fn text_op(bytes: &[u8]) -> Option<TextOp>
 }
 
 #[inline(never)]
-#[tactic(auto, unfolding(crate::specs::Lines::text_of))]
+#[tactic(auto, unfolding(crate::specs::Kinds::text_of))]
 fn any_text_op(bytes: &[u8]) -> Option<TextOp>
     ensures { result ≡ text_of bytes.now }
 {
@@ -276,7 +233,7 @@ fn any_text_op(bytes: &[u8]) -> Option<TextOp>
     }
 }
 
-#[tactic(auto, unfolding(crate::specs::Lines::insert_of))]
+#[tactic(auto, unfolding(crate::specs::Fields::insert_of))]
 fn insertion<V: FieldValue>(bytes: &[u8]) -> Option<SeqOp<V>>
     ensures { result ≡ insert_of V.read_of bytes.now }
 {
@@ -289,7 +246,7 @@ fn insertion<V: FieldValue>(bytes: &[u8]) -> Option<SeqOp<V>>
     })
 }
 
-#[tactic(auto, unfolding(crate::specs::Lines::delete_of))]
+#[tactic(auto, unfolding(crate::specs::Fields::delete_of))]
 fn deletion<V>(bytes: &[u8]) -> Option<SeqOp<V>>
     ensures { result ≡ delete_of bytes.now }
 {
@@ -298,7 +255,7 @@ fn deletion<V>(bytes: &[u8]) -> Option<SeqOp<V>>
     Some(SeqOp::Delete { place, name })
 }
 
-#[tactic(auto, unfolding(crate::specs::Lines::relabel_of))]
+#[tactic(auto, unfolding(crate::specs::Fields::relabel_of))]
 fn relabel<V: FieldValue>(bytes: &[u8]) -> Option<SeqOp<V>>
     ensures { result ≡ relabel_of V.read_of bytes.now }
 {
@@ -308,8 +265,8 @@ fn relabel<V: FieldValue>(bytes: &[u8]) -> Option<SeqOp<V>>
     Some(SeqOp::Relabel { place, name, value })
 }
 
-#[tactic(auto, unfolding(crate::specs::Lines::set_of))]
-fn set_op<V: FieldValue>(bytes: &[u8]) -> Option<SetOp<V>>
+#[tactic(auto, unfolding(crate::specs::Fields::set_of))]
+pub(crate) fn set_op<V: FieldValue>(bytes: &[u8]) -> Option<SetOp<V>>
     ensures { result ≡ set_of V.read_of bytes.now }
 {
     if bytes == b"no".as_slice() {

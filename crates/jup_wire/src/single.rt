@@ -2,7 +2,8 @@
 
 ghost use Rattle.std.specs.Prelude.{◌≡◌, ◌∷◌, ◌++◌, IfSome, codes};
 ghost use Rattle.jup_wire.specs.declared.line.Line.TheVariants.{Batch, Do};
-ghost use Rattle.jup_wire.specs.Lines.{IsName, name_text, BeginsWith, BeginsWithOp, BeginsLines, single_lines};
+ghost use Rattle.jup_wire.specs.Fields.{IsName, name_text};
+ghost use Rattle.jup_wire.specs.Lines.{BeginsWith, BeginsWithOp, BeginsLines, single_lines};
 
 use crate::fields::{behind, id_before, number_before, split_line};
 use crate::line::Line;

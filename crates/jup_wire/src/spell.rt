@@ -3,7 +3,7 @@
 
 ghost use Rattle.std.specs.Prelude.{ℕ, ◌+◌, ◌<◌, List, [], ◌∷◌, decimal, length};
 ghost use Rattle.std.specs.Fmt.{signed_decimal};
-ghost use Rattle.jup_wire.specs.Lines.{name_text, switch_text};
+ghost use Rattle.jup_wire.specs.Fields.{name_text, switch_text};
 ghost use Rattle.jup_wire.specs.Streams.{HasRoom, Appends};
 
 use jup_value::{Label, Name};

@@ -1,15 +1,16 @@
 //! Writing lines.
 
 ghost use Rattle.std.specs.Prelude.{◌≡◌, ◌↔◌, ◌+◌, ◌≤◌, ◌∷◌, ◌++◌, length, IsTrue, IsOk, OnOk, OnErr, vec_capacity};
-ghost use Rattle.jup_wire.specs.Lines.{HasSpelling, is_spelled, line_bytes, seq_fields, set_fields, body_fields, line_text, after_spaces};
+ghost use Rattle.jup_wire.specs.Fields.{seq_fields, set_fields, after_spaces};
+ghost use Rattle.jup_wire.specs.Lines.{HasSpelling, is_spelled, line_bytes, line_text};
 ghost use Rattle.jup_wire.specs.Streams.{HasRoom, Appends};
 
+use crate::kinds::{push_body, push_value};
 use crate::laws::has_spelling;
 use crate::line::Line;
 use crate::spell::{Spelled, push, push_field};
 use jup_seq::SeqOp;
 use jup_setting::SetOp;
-use jup_window::WidgetOp;
 use jup_xform::NoMemory;
 use std::alloc::Global;
 
@@ -63,16 +64,7 @@ fn push_line(out: &mut Vec<u8>, line: &Line)
         Line::Window(win) => push_word(out, b"window", win),
         Line::Text(wid) => push_word(out, b"text", wid),
         Line::List(wid) => push_word(out, b"list", wid),
-        Line::Toggle(wid, on) => {
-            push_word(out, b"toggle", wid);
-            push_field(out, on);
-        }
-        Line::Slider { wid, lo, hi, value } => {
-            push_word(out, b"slider", wid);
-            push_field(out, lo);
-            push_field(out, hi);
-            push_field(out, value);
-        }
+        Line::Value(wid, value) => push_value(out, *wid, value),
         Line::Char(name, value) => {
             push_word(out, b"char", name);
             push_field(out, value);
@@ -101,7 +93,7 @@ fn push_line(out: &mut Vec<u8>, line: &Line)
 }
 
 /// Appends a line's first word, and the field after it.
-fn push_word<T: Spelled>(out: &mut Vec<u8>, word: &[u8], value: &T)
+pub(crate) fn push_word<T: Spelled>(out: &mut Vec<u8>, word: &[u8], value: &T)
     requires { HasRoom out.old (length word.now + (T.most + 1)) }
     ensures { Appends out.old out.new (word.now ++ 32 ∷ T.text value.now) (length word.now + (T.most + 1)) }
 {
@@ -110,7 +102,7 @@ fn push_word<T: Spelled>(out: &mut Vec<u8>, word: &[u8], value: &T)
 }
 
 /// Appends an operation's fields, a space before each.
-fn push_seq<V: Spelled>(out: &mut Vec<u8>, op: &SeqOp<V>)
+pub(crate) fn push_seq<V: Spelled>(out: &mut Vec<u8>, op: &SeqOp<V>)
     requires { HasRoom out.old (38 + V.most) }
     ensures { Appends out.old out.new (after_spaces (seq_fields V.text op.now)) (38 + V.most) }
 {
@@ -136,7 +128,7 @@ fn push_seq<V: Spelled>(out: &mut Vec<u8>, op: &SeqOp<V>)
     }
 }
 
-fn push_set<V: Spelled>(out: &mut Vec<u8>, op: &SetOp<V>)
+pub(crate) fn push_set<V: Spelled>(out: &mut Vec<u8>, op: &SetOp<V>)
     requires { HasRoom out.old (5 + V.most) }
     ensures { Appends out.old out.new (after_spaces (set_fields V.text op.now)) (5 + V.most) }
 {
@@ -146,29 +138,5 @@ fn push_set<V: Spelled>(out: &mut Vec<u8>, op: &SetOp<V>)
             push_field(out, value);
         }
         SetOp::Nothing => push(out, b" no"),
-    }
-}
-
-fn push_body(out: &mut Vec<u8>, op: &WidgetOp)
-    requires { HasRoom out.old 91 }
-    ensures { Appends out.old out.new (after_spaces (body_fields op.now)) 91 }
-{
-    match op {
-        WidgetOp::Text(op) => {
-            push(out, b" text");
-            push_seq(out, op);
-        }
-        WidgetOp::List(op) => {
-            push(out, b" list");
-            push_seq(out, op);
-        }
-        WidgetOp::Toggle(op) => {
-            push(out, b" toggle");
-            push_set(out, op);
-        }
-        WidgetOp::Slider(op) => {
-            push(out, b" slider");
-            push_set(out, op);
-        }
     }
 }

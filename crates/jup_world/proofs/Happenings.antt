@@ -2,8 +2,7 @@
 use Rattle.std.proofs.Common.{◌≡◌, refl, sym, ◌∙◌, ap, subst, ℕ, zero, suc, ◌+◌, ◌<◌, ◌≤◌, Bool, true, false, cond, not, List, [], ◌∷◌, ◌++◌, length, map, filter, get_or, nat_eq, nat_lt, Option, Some, None, arith, position, MatchOption, eqb-true, ne_eqb, ◌&&◌, nat_le, is_some, Result, Ok, Err, IsOk, inl, inr, take, drop, IfOk, OnOk, OnErr}
 use Rattle.std.proofs.Math.ListN.{set}
 use Rattle.std.proofs.lemmas.Bool.{ltb-true, lt-ltb, eq-eqb, and_from, le-leb}
-use Rattle.std.specs.List.{position_or_len}
-use Rattle.jup_world.specs.Prelude.{NoMemory, highest_limit, last_site, EditFault, has_site, BoardBatch, BoardEdits, Commands, Windows, bare, board_batches, Up, Down, JoinedSite, StarFault, Full, SitesSpent, test, first_fault, link_of, join_fault, joined, left, fetched, up_fault, taken, place_taken, BoardStar, joining, bare_joined, is_no_memory, opened_site, edit_answer, BoardSite, Attached, Reply}
+use Rattle.jup_world.specs.Prelude.{NoMemory, highest_limit, last_site, EditFault, has_site, BoardBatch, BoardEdits, Commands, Windows, bare, board_batches, Up, Down, JoinedSite, StarFault, Full, SitesSpent, test, first_fault, link_of, join_fault, joined, left, fetched, up_fault, taken, place_taken, BoardStar, joining, bare_joined, is_no_memory, opened_site, edit_answer, BoardSite, Attached, Reply, position_or_len}
 use Rattle.jup_star.specs.declared.site.Site.{Site}
 use Rattle.jup_star.specs.Faults.{fault_of}
 use Rattle.jup_star.specs.Sites.{site_open_fault}

@@ -3,13 +3,13 @@ use Rattle.std.proofs.Common.{◌≡◌, ℕ, ◌+◌, ◌≤◌, Bool, true, fa
 use Rattle.std.proofs.lemmas.Bool.{eqb-false}
 use Rattle.std.proofs.lemmas.List.{length-take-le, take_more}
 use Rattle.std.proofs.lemmas.List.Edits.{insert_end}
-use Rattle.jup_world.specs.Prelude.{Side, Client, Server, past, opposite, row_operation, Item, Items, has_name, name_eq, SeqOp, Message, Operation, Ack, Link, received_operation, unheard, Operations, AreLawful, LinkState}
+use Rattle.jup_world.specs.Prelude.{Side, Client, Server, past, opposite, row_operation, Item, Items, has_name, name_eq, SeqOp, Message, Operation, Ack, Link, received_operation, unheard, Operations, AreLawful, LinkState, AllByRecursion}
 use Rattle.jup_xform.specs.Grids.{after_all, AreValid}
 use Rattle.jup_value.specs.Items.{AreDistinct}
 use Rattle.jup_seq.specs.Operations.{HasRoom, client_past, server_past}
 use Rattle.jup_seq.specs.Laws.Squares.{room_client, room_server}
 use Rattle.jup_seq.specs.Names.{inserts_client, inserts_server}
-use Rattle.jup_world.specs.Traces.{Each, IsIn, Turn, Own, Other, others}
+use Rattle.jup_world.specs.Traces.{IsIn, Turn, Own, Other, others}
 use Rattle.jup_world.specs.Sound.{edits_sent, named_by, IsKnown, own_counts, ChangesKnown, ChangesHeld, Inherits, RawNamed, HoldsKnown, OrderNamed, Paired}
 use Rattle.jup_world.specs.Worlds.{AttachedOf}
 use Rattle.jup_world.specs.Twos.{texts, InsertsUnder, named_from}
@@ -17,29 +17,29 @@ use Rattle.jup_world.specs.Twos.{texts, InsertsUnder, named_from}
 -- The names that are known, and lists of edits as their sites named them.
 
 -- each of two lists
-pub Each-append : {A : Type 0} (P : A → Type 0) → (xs ys : List A) → Each P xs → Each P ys → Each P (xs ++ ys)
-Each-append P [] ys h k = k
-Each-append P (x ∷ xs) ys h k = (h.0, Each-append P xs ys h.1 k)
+pub All-append : {A : Type 0} (P : A → Type 0) → (xs ys : List A) → AllByRecursion P xs → AllByRecursion P ys → AllByRecursion P (xs ++ ys)
+All-append P [] ys h k = k
+All-append P (x ∷ xs) ys h k = (h.0, All-append P xs ys h.1 k)
 
 -- each of the first
-pub Each-first : {A : Type 0} (P : A → Type 0) → (xs ys : List A) → Each P (xs ++ ys) → Each P xs
-Each-first P [] ys h = tt
-Each-first P (x ∷ xs) ys h = (h.0, Each-first P xs ys h.1)
+pub All-first : {A : Type 0} (P : A → Type 0) → (xs ys : List A) → AllByRecursion P (xs ++ ys) → AllByRecursion P xs
+All-first P [] ys h = tt
+All-first P (x ∷ xs) ys h = (h.0, All-first P xs ys h.1)
 
 -- each of the second
-pub Each-second : {A : Type 0} (P : A → Type 0) → (xs ys : List A) → Each P (xs ++ ys) → Each P ys
-Each-second P [] ys h = h
-Each-second P (x ∷ xs) ys h = Each-second P xs ys h.1
+pub All-second : {A : Type 0} (P : A → Type 0) → (xs ys : List A) → AllByRecursion P (xs ++ ys) → AllByRecursion P ys
+All-second P [] ys h = h
+All-second P (x ∷ xs) ys h = All-second P xs ys h.1
 
 -- each has what follows
-pub Each-map : {A : Type 0} (P Q : A → Type 0) → ((x : A) → P x → Q x) → (xs : List A) → Each P xs → Each Q xs
-Each-map P Q f [] h = tt
-Each-map P Q f (x ∷ xs) h = (f x h.0, Each-map P Q f xs h.1)
+pub All-map : {A : Type 0} (P Q : A → Type 0) → ((x : A) → P x → Q x) → (xs : List A) → AllByRecursion P xs → AllByRecursion Q xs
+All-map P Q f [] h = tt
+All-map P Q f (x ∷ xs) h = (f x h.0, All-map P Q f xs h.1)
 
 -- one of them has it
-pub Each-at : {A : Type 0} (P : A → Type 0) → (xs : List A) (x : A) → IsIn x xs → Each P xs → P x
-Each-at P [] x h k = absurd h
-Each-at P (y ∷ ys) x h k = elim h [ inl e ↦ subst P (sym e) k.0 | inr m ↦ Each-at P ys x m k.1 ]
+pub All-at : {A : Type 0} (P : A → Type 0) → (xs : List A) (x : A) → IsIn x xs → AllByRecursion P xs → P x
+All-at P [] x h k = absurd h
+All-at P (y ∷ ys) x h k = elim h [ inl e ↦ subst P (sym e) k.0 | inr m ↦ All-at P ys x m k.1 ]
 
 module _ (O : Operations) (L : AreLawful O) where
   -- what is known under lower counts is known under higher ones
@@ -64,8 +64,8 @@ module _ (O : Operations) (L : AreLawful O) where
   held_more c d h e k n m = elim (k n m) [ inl known ↦ inl (known_more c d n h known) | inr own ↦ inr own ]
 
   -- for each edit of a list
-  pub all_changes_more : (c d : ℕ → ℕ) → ((j : ℕ) → c j ≤ d j) → (es : List O.Edit) → Each (ChangesKnown O c) es → Each (ChangesKnown O d) es
-  all_changes_more c d h es k = Each-map (ChangesKnown O c) (ChangesKnown O d) (changes_more c d h) es k
+  pub all_changes_more : (c d : ℕ → ℕ) → ((j : ℕ) → c j ≤ d j) → (es : List O.Edit) → AllByRecursion (ChangesKnown O c) es → AllByRecursion (ChangesKnown O d) es
+  all_changes_more c d h es k = All-map (ChangesKnown O c) (ChangesKnown O d) (changes_more c d h) es k
 
   -- edits on their way stay named
   pub raw_named-more : (c d : ℕ → ℕ) (i : ℕ) → ((j : ℕ) → c j ≤ d j) → (k : ℕ) (es : List O.Edit) (last : ℕ) → RawNamed O c i k es last → RawNamed O d i k es last
@@ -166,7 +166,7 @@ module _ (O : Operations) (L : AreLawful O) where
 
   -- none of the operations inserts a name of this kind
   abbrev pub InsertNone : (O.t.Name → Type 0) → List O.Op → Type 0
-  InsertNone K os = Each (λ o. (n : O.t.Name) → O.t.inserts (O.t.edit_of o) n → K n → ⊥) os
+  InsertNone K os = AllByRecursion (λ o. (n : O.t.Name) → O.t.inserts (O.t.edit_of o) n → K n → ⊥) os
 
   -- A state and a later one: what both hold is in one order in both, and the earlier one held each known name that the later one holds.
   pub record Since (K : O.t.Name → Type 0) (x z : O.State) : Type 0 where

@@ -1,17 +1,17 @@
 -- A star stays sound.
 use Rattle.std.proofs.Common.{◌≡◌, ℕ, ◌+◌, ◌<◌, ◌≤◌, inl, Bool, true, false, List, nat_eq, refl, ap, sym, ◌∙◌, subst, Option, Some, None, option_map, arith, eq-eqb, eqb-true, ne_eqb, ◌⊎◌, ◌-◌, inr, cond, [], ◌∷◌, ◌++◌, length, IsTrue, add-zero, length-append, if◌then◌else◌}
 use Rattle.std.proofs.lemmas.Bool.{ltb-true}
-use Rattle.jup_world.specs.Prelude.{most_beyond, row_operation, row_entries, past, opposite, Msg, Link, unheard, answered, after_ack, owes, Operations, AreLawful, Entry, Up, UpOp, UpAck, UpPing, BadOp, LinkState, opened_link, link_acked, link_ponged, link_fetched, StarOf, opened_star, link_of, at_link, with_links, left, joined, fetched, operation_at, link_heard, link_sent, fits_board, up_fault, place_taken, taken, links_after, entry, test, found-map, found-map_other, found-without, found-without_other, found-end, found-end_other}
+use Rattle.jup_world.specs.Prelude.{most_beyond, row_operation, row_entries, past, opposite, Msg, Link, unheard, answered, after_ack, owes, Operations, AreLawful, Entry, Up, UpOp, UpAck, UpPing, BadOp, LinkState, opened_link, link_acked, link_ponged, link_fetched, StarOf, opened_star, link_of, at_link, with_links, left, joined, fetched, operation_at, link_heard, link_sent, fits_board, up_fault, place_taken, taken, links_after, entry, test, found-map, found-map_other, found-without, found-without_other, found-end, found-end_other, AllByRecursion}
 use Rattle.jup_link.specs.Laws.Steps.{small_next}
 use Rattle.jup_star.specs.Stars.{early_tests}
 use Rattle.jup_star.proofs.FaultTests.{link_site, inserted_at, taken_valid, AllHold, all_hold}
 use Rattle.jup_world.specs.Sound.{ChangesKnown, named_in, edits_in, IsMoved, IsSoundLink, SoundLinkAt, IsSoundStar, SameMeaning, IsAccepted, named_by, IsKnown, ChangesHeld, HoldsKnown}
-use Rattle.jup_world.specs.Traces.{Each, Own, Other, turn, turns, edits}
+use Rattle.jup_world.specs.Traces.{Own, Other, turn, turns, edits}
 use Rattle.jup_world.specs.Worlds.{place_reply}
 use Rattle.jup_world.proofs.EventSteps.{option_map-self}
-use Rattle.jup_world.proofs.Pairs.Grids.{Each-drop, meaning_one, same-meaning, edits-append, row-same, row-moved, moved-longer, moved-new, row-changes, row-known}
+use Rattle.jup_world.proofs.Pairs.Grids.{All-drop, meaning_one, same-meaning, edits-append, row-same, row-moved, moved-longer, moved-new, row-changes, row-known}
 use Rattle.jup_world.proofs.Sound.Traces.{turns-append}
-use Rattle.jup_world.proofs.Known.{Each-append, Each-at, Each-map, known_more, changes_more, all_changes_more, named_by-append}
+use Rattle.jup_world.proofs.Known.{All-append, All-at, All-map, known_more, changes_more, all_changes_more, named_by-append}
 
 -- A star is sound as it is opened, and after a link changed, left or joined.
 
@@ -84,8 +84,8 @@ module _ (O : Operations) (L : AreLawful O) (most : ℕ) (first : O.t.Content) (
     side = c.side;
     positive = c.positive;
     named = c.named;
-    moved = Each-drop (IsMoved O (edits_in O s.order)) _ k.end.outgoing c.moved;
-    known = Each-drop (λ b. ChangesKnown O (named_in O s.order) (O.t.edit_of b)) _ k.end.outgoing c.known;
+    moved = All-drop (IsMoved O (edits_in O s.order)) _ k.end.outgoing c.moved;
+    known = All-drop (λ b. ChangesKnown O (named_in O s.order) (O.t.edit_of b)) _ k.end.outgoing c.known;
   })
 
   -- a ping
@@ -194,12 +194,12 @@ module _ (O : Operations) (L : AreLawful O) (most : ℕ) (first : O.t.Content) (
   -- it means the edit after the order
   pub same : SameMeaning O (edits_in O s.order ++ O.t.edit_of op ∷ []) (edits_in O s.order ++ meant ∷ [])
   same = subst (λ o. SameMeaning O (edits_in O s.order ++ O.t.edit_of o ∷ []) (edits_in O s.order ++ meant ∷ [])) (sym op_is)
-      (row-same O L (edits_in O s.order) q (Each-drop (IsMoved O (edits_in O s.order)) _ l.end.outgoing linked.moved) m.op)
+      (row-same O L (edits_in O s.order) q (All-drop (IsMoved O (edits_in O s.order)) _ l.end.outgoing linked.moved) m.op)
 
   -- what the edit changes is known, or inserted by it
   pub changes : ChangesHeld O (named_in O s.order) meant
   changes n x =
-      let known : Each (λ b. ChangesKnown O (named_in O s.order) (O.t.edit_of b)) q = Each-drop (λ b. ChangesKnown O (named_in O s.order) (O.t.edit_of b)) _ l.end.outgoing linked.known in
+      let known : AllByRecursion (λ b. ChangesKnown O (named_in O s.order) (O.t.edit_of b)) q = All-drop (λ b. ChangesKnown O (named_in O s.order) (O.t.edit_of b)) _ l.end.outgoing linked.known in
       elim (row-changes O L (named_in O s.order) q known m.op n x) [
         | inl still ↦ held (subst (λ o. O.t.changes (O.t.edit_of o) n) (sym op_is) still)
         | inr was ↦ inl was
@@ -260,7 +260,7 @@ module _ (O : Operations) (L : AreLawful O) (most : ℕ) (first : O.t.Content) (
       L.keeps.effect_one s.board op h.distinct valid
       ∙ ap (λ x. O.t.meaning x (O.t.edit_of op ∷ [])) h.content_is
       ∙ meaning_one O L first (edits_in O s.order) (O.t.edit_of op)
-      (λ n x f k d. fresh n x (Each-at (ChangesKnown O (named_in O s.order)) (edits_in O s.order) f k h.order_known n d))
+      (λ n x f k d. fresh n x (All-at (ChangesKnown O (named_in O s.order)) (edits_in O s.order) f k h.order_known n d))
       ∙ same-meaning O L _ _ first same
       ∙ ap (O.t.meaning first) (sym edits_next)
 
@@ -269,9 +269,9 @@ module _ (O : Operations) (L : AreLawful O) (most : ℕ) (first : O.t.Content) (
   board_known_next n x = elim (L.keeps.held_before s.board op n valid x) [ inl held ↦ still_known n (h.board_known n held) | inr new ↦ new_known n (inserts n new) ]
 
   -- and what its order changes
-  order_known_next : Each (ChangesKnown O (named_in O order_next)) (edits_in O order_next)
-  order_known_next = subst (Each (ChangesKnown O (named_in O order_next))) (sym edits_next)
-      (Each-append (ChangesKnown O (named_in O order_next)) (edits_in O s.order) (meant ∷ [])
+  order_known_next : AllByRecursion (ChangesKnown O (named_in O order_next)) (edits_in O order_next)
+  order_known_next = subst (AllByRecursion (ChangesKnown O (named_in O order_next))) (sym edits_next)
+      (All-append (ChangesKnown O (named_in O order_next)) (edits_in O s.order) (meant ∷ [])
       (all_changes_more O L (named_in O s.order) (named_in O order_next) more (edits_in O s.order) h.order_known)
       ((λ n x. elim (changes n x) [ inl known ↦ still_known n known | inr new ↦ new_known n new ]), tt))
 
@@ -295,12 +295,12 @@ module _ (O : Operations) (L : AreLawful O) (most : ℕ) (first : O.t.Content) (
     side = answered_side _ ∙ linked.side;
     positive = linked.positive;
     named = ap (λ k. k + O.insertions meant) linked.named ∙ sym (named_next i ∙ ap (λ k. named_in O s.order i + k) (mine (nat_eq i i) (eq-eqb i i refl)));
-    moved = subst (Each (IsMoved O (edits_in O order_next))) (sym heard_queue)
-        (Each-map (IsMoved O (edits_in O s.order)) (IsMoved O (edits_in O order_next)) moved_next _
-        (row-moved O L (edits_in O s.order) q (Each-drop (IsMoved O (edits_in O s.order)) _ l.end.outgoing linked.moved) m.op));
-    known = subst (Each (λ b. ChangesKnown O (named_in O order_next) (O.t.edit_of b))) (sym heard_queue)
-        (Each-map (λ b. ChangesKnown O (named_in O s.order) (O.t.edit_of b)) (λ b. ChangesKnown O (named_in O order_next) (O.t.edit_of b)) known_next _
-        (row-known O L (named_in O s.order) q (Each-drop (λ b. ChangesKnown O (named_in O s.order) (O.t.edit_of b)) _ l.end.outgoing linked.known) m.op));
+    moved = subst (AllByRecursion (IsMoved O (edits_in O order_next))) (sym heard_queue)
+        (All-map (IsMoved O (edits_in O s.order)) (IsMoved O (edits_in O order_next)) moved_next _
+        (row-moved O L (edits_in O s.order) q (All-drop (IsMoved O (edits_in O s.order)) _ l.end.outgoing linked.moved) m.op));
+    known = subst (AllByRecursion (λ b. ChangesKnown O (named_in O order_next) (O.t.edit_of b))) (sym heard_queue)
+        (All-map (λ b. ChangesKnown O (named_in O s.order) (O.t.edit_of b)) (λ b. ChangesKnown O (named_in O order_next) (O.t.edit_of b)) known_next _
+        (row-known O L (named_in O s.order) q (All-drop (λ b. ChangesKnown O (named_in O s.order) (O.t.edit_of b)) _ l.end.outgoing linked.known) m.op));
   }
     where
       mine : (b : Bool) → b ≡ true → cond b (O.insertions meant) 0 ≡ O.insertions meant
@@ -313,11 +313,11 @@ module _ (O : Operations) (L : AreLawful O) (most : ℕ) (first : O.t.Content) (
     side = c.side;
     positive = c.positive;
     named = c.named ∙ sym (named_next j ∙ ap (λ n. named_in O s.order j + n) (other (nat_eq i j) apart) ∙ add-zero (named_in O s.order j));
-    moved = Each-append (IsMoved O (edits_in O order_next)) k.end.outgoing (op ∷ [])
-        (Each-map (IsMoved O (edits_in O s.order)) (IsMoved O (edits_in O order_next)) moved_next k.end.outgoing c.moved)
+    moved = All-append (IsMoved O (edits_in O order_next)) k.end.outgoing (op ∷ [])
+        (All-map (IsMoved O (edits_in O s.order)) (IsMoved O (edits_in O order_next)) moved_next k.end.outgoing c.moved)
         (subst (λ es. IsMoved O es op) (sym edits_next) (moved-new O L (edits_in O s.order) op meant same), tt);
-    known = Each-append (λ b. ChangesKnown O (named_in O order_next) (O.t.edit_of b)) k.end.outgoing (op ∷ [])
-        (Each-map (λ b. ChangesKnown O (named_in O s.order) (O.t.edit_of b)) (λ b. ChangesKnown O (named_in O order_next) (O.t.edit_of b)) known_next k.end.outgoing c.known)
+    known = All-append (λ b. ChangesKnown O (named_in O order_next) (O.t.edit_of b)) k.end.outgoing (op ∷ [])
+        (All-map (λ b. ChangesKnown O (named_in O s.order) (O.t.edit_of b)) (λ b. ChangesKnown O (named_in O order_next) (O.t.edit_of b)) known_next k.end.outgoing c.known)
         (op_known, tt);
   }
     where

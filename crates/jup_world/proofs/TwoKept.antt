@@ -1,5 +1,4 @@
-use Rattle.std.proofs.Common.{◌≡◌, ℕ, ◌+◌, ◌-◌, ◌<◌, ◌≤◌, inl, inr, Bool, true, false, nat_lt, nat_le, List, [], ◌∷◌, ◌++◌, length, slice_get, refl, sym, ap, ◌∙◌, subst, arith, append-nil}
-use Rattle.std.specs.Prelude.{Option, Some, None, Result, Ok, Err, OnOk, OnErr, option_map, if◌then◌else◌}
+use Rattle.std.proofs.Common.{◌≡◌, ℕ, ◌+◌, ◌-◌, ◌<◌, ◌≤◌, inl, inr, Bool, true, false, nat_lt, nat_le, List, [], ◌∷◌, ◌++◌, length, slice_get, refl, sym, ap, ◌∙◌, subst, arith, append-nil, Option, Some, None, Result, Ok, Err, OnOk, OnErr, option_map, if◌then◌else◌}
 use Rattle.std.proofs.lemmas.Bool.{ltb-false, leb-false, false_from_ne_true, false≢true}
 use Rattle.std.proofs.lemmas.List.{length_push}
 use Rattle.jup_world.specs.Prelude.{highest_limit, longest_sequence, most_of_two, Side, Client as ClientSide, Server as ServerSide, Name, Item, Items, name_eq, has_name, SeqOp, InsertOp, DeleteOp, RelabelOp, NoOp, Link, Message, Operation, Ack, generated, after_ack, after_count, after_receive, received_operation, link_after, state_after, message, owes, AllMessages, EditFault, TwoEdit, Insert, Delete, TwoEvent}

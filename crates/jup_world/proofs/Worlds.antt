@@ -1,8 +1,7 @@
 -- What holds of every world of the program.
 use Rattle.std.proofs.Common.{is_some, ◌&&◌, ◌≡◌, ℕ, ◌+◌, ◌≤◌, Bool, true, false, cond, not, ◌||◌, List, [], ◌∷◌, ◌++◌, map, nat_eq, refl, ap, sym, ◌∙◌, subst, Option, Some, None, option_map, arith, eq-eqb, ne_eqb, zero, suc, ◌<◌, ◌==◌, take, drop, insert, remove, eqb-true, inl, inr, length, nat_le, leb-false, append-nil, drop_of_length-le, le_refl}
-use Rattle.std.specs.List.{list_any, list_all}
 use Rattle.std.proofs.lemmas.Bool.{or_parts, or_from, and_from, and_parts, leb-true}
-use Rattle.jup_world.specs.Prelude.{highest_limit, Name, Item, name_eq, InsertOp as Insert, DeleteOp as Delete, RelabelOp as Relabel, NoOp as NoSeqOp, Command, EditFault, Operations, AreLawful, has_site, only_site, BoardBatch, Windows, board_batches, batch_laws, BoardEdits, Commands, Up, UpOp, UpAck, UpPing, Down, LinkState, opened_link, link_acked, link_ponged, link_fetched, link_heard, link_sent, operation_at, link_of, most_batches, BoardStar, IsShort, test, first_fault, downs, found-end, found-end_other, Played, Kept}
+use Rattle.jup_world.specs.Prelude.{highest_limit, Name, Item, name_eq, InsertOp as Insert, DeleteOp as Delete, RelabelOp as Relabel, NoOp as NoSeqOp, Command, EditFault, Operations, AreLawful, has_site, only_site, BoardBatch, Windows, board_batches, batch_laws, BoardEdits, Commands, Up, UpOp, UpAck, UpPing, Down, LinkState, opened_link, link_acked, link_ponged, link_fetched, link_heard, link_sent, operation_at, link_of, most_batches, BoardStar, IsShort, test, first_fault, downs, found-end, found-end_other, Played, Kept, list_any, list_all}
 use Rattle.jup_value.specs.Items.{with_value}
 use Rattle.jup_window.specs.Entries.{change_at, EachWidget}
 use Rattle.jup_window.specs.Boards.{some_in_widget, every_in_widget, some_in_window, every_in_window}
@@ -30,8 +29,8 @@ use Rattle.jup_world.proofs.Sound.Steps.{no_site}
 use Rattle.jup_world.proofs.Sound.Runs.{sound-opened, sound-happens, sound-fetched, fall_fits}
 use Rattle.jup_world.proofs.Sound.Tallies.{counts-happens, counts-fetched, tallied-happens, tallied-fetched}
 use Rattle.jup_world.proofs.Happenings.{ascending_without, ascending_at, ascending_end}
-use Rattle.jup_star.specs.Prelude.{Widget, Text, Labels, Toggle, Slider}
-use Rattle.jup_batch.specs.Prelude.{WidgetOp, OnText, OnList, OnToggle, OnSlider, BoardOp}
+use Rattle.jup_star.specs.Prelude.{Widget, Text, Labels}
+use Rattle.jup_batch.specs.Prelude.{WidgetOp, OnText, OnList, BoardOp}
 use Rattle.jup_star.specs.declared.faults.OpenFault.TheVariants.{BadLimit, BadSite}
 
 -- The links without a site are those of strangers, by the trace.
@@ -224,8 +223,7 @@ widget_none i (OnList (Insert p y)) (Labels x) other none = none_insert (λ z. z
 widget_none i (OnList (Delete p n)) (Labels x) other none = none_remove (λ z. z.name.site == i) x.items p none
 widget_none i (OnList (Relabel p n v)) (Labels x) other none = none_relabel (λ m. m.site == i) x.items p v none
 widget_none i (OnList NoSeqOp) (Labels x) other none = none
-widget_none i (OnToggle o) (Toggle x) other none = none
-widget_none i (OnSlider o) (Slider x) other none = none
+widget_none i o (Text x) other none = none
 widget_none i o w other none = none
 
 -- what an id has is changed
@@ -269,8 +267,7 @@ other_site i above x is = ne_eqb x.name.site i (λ same. let none : x.name.site 
 other_widget : (i : ℕ) → 0 < i → (w : Widget) → every_in_widget 0 w ≡ true → some_in_widget i w ≡ false
 other_widget i above (Text x) all = all_none (λ y. y.name.site == 0) (λ y. y.name.site == i) (other_site i above) x.items all
 other_widget i above (Labels x) all = all_none (λ y. y.name.site == 0) (λ y. y.name.site == i) (other_site i above) x.items all
-other_widget i above (Toggle x) all = refl
-other_widget i above (Slider x) all = refl
+other_widget i above other all = refl
 
 pub layout_none : (i : ℕ) (b : board.Windows) → 0 < i → only_site 0 b ≡ true → has_site i b ≡ false
 layout_none i b above all =

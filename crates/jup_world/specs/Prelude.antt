@@ -45,3 +45,4 @@ pub use Rattle.jup_world.specs.declared.two.TwoEvent.{TwoEvent}
 pub use Rattle.jup_world.specs.declared.world.attached.Attached.{Attached}
 pub use Rattle.jup_world.specs.declared.world.draining.Way.{Way}
 pub use Rattle.jup_world.specs.declared.world.draining.Way.TheVariants.{Down as WayDown, Up as WayUp}
+pub use Rattle.std.specs.List.{position_or_len, AllByRecursion, list_any, list_all}

@@ -1,7 +1,7 @@
 -- What every world keeps, and what each event answers.
 use Rattle.std.specs.Prelude.{◌≡◌, List, [], ◌∷◌, ◌++◌, ℕ, ◌+◌, ◌≤◌, ◌<◌, ◌⊎◌, false, cond, length, take, drop, nat_eq, IsTrue, Option, Some, None, Bool, true, is_some, Result, Ok, Err}
-use Rattle.jup_world.specs.Prelude.{most_unacknowledged, most_beyond, last_site, most_attached, Client, Server, row_operation, row_entries, Msg, Message, Operation, Ack, generated, InStepAt, InStep, Operations, Entry, StarFault, LogFull, Full, SitesSpent, Up, UpOp, UpAck, UpPing, Down, DownOp, DownAck, DownPong, LinkState, StarOf, link_of, operation_at, left, up_fault, entry, ups, downs, edit_answer, EditFault}
-use Rattle.jup_world.specs.Traces.{Turn, Own, Other, own_edits, Each, turns, edits, others, through_others, order_of, made, joined_at, shown_count, view, is_stray}
+use Rattle.jup_world.specs.Prelude.{most_unacknowledged, most_beyond, last_site, most_attached, Client, Server, row_operation, row_entries, Msg, Message, Operation, Ack, generated, InStepAt, InStep, Operations, Entry, StarFault, LogFull, Full, SitesSpent, Up, UpOp, UpAck, UpPing, Down, DownOp, DownAck, DownPong, LinkState, StarOf, link_of, operation_at, left, up_fault, entry, ups, downs, edit_answer, EditFault, AllByRecursion}
+use Rattle.jup_world.specs.Traces.{Turn, Own, Other, own_edits, turns, edits, others, through_others, order_of, made, joined_at, shown_count, view, is_stray}
 use Rattle.jup_world.specs.Worlds.{WorldOf, AttachedOf, attached, EventOf, outcome, ReplyOf, Outcome, unchanged}
 use Rattle.jup_world.specs.declared.events.Reply.TheVariants.{Detached, Joined, NoJoin, Left, Made, Refused, Taken, Heard, Shown, Asked, Nothing}
 use Rattle.jup_world.specs.Events.{Up as MoveUp, JoinStray, Stray, LeaveStray, Join, Leave, Edit as MakeEdit, Down as MoveDown, Ping as SendPing}
@@ -132,8 +132,8 @@ module _ (O : Operations) where
     pub rest_named : OrderNamed i past rest
     pub board_known : HoldsKnown (own_counts i a.site.named (λ j. named_by i j past)) a.site.board
     pub from_known : HoldsKnown (own_counts i (named_by i i (past ++ rest)) (λ j. named_by i j past)) from
-    pub view_known : Each (ChangesKnown (own_counts i a.site.named (λ j. named_by i j past))) ((edits past ++ own_edits rest) ++ raw)
-    pub falling_foreign : Each (λ e. O.bears_site i e ≡ false) (edits_sent (downs (a.down ++ l.outbox)))
+    pub view_known : AllByRecursion (ChangesKnown (own_counts i a.site.named (λ j. named_by i j past))) ((edits past ++ own_edits rest) ++ raw)
+    pub falling_foreign : AllByRecursion (λ e. O.bears_site i e ≡ false) (edits_sent (downs (a.down ++ l.outbox)))
     -- the site and the link
     pub positive : 1 ≤ i
     pub site_number : a.site.number ≡ i
@@ -187,8 +187,8 @@ module _ (O : Operations) where
     pub side : l.end.side ≡ Server
     pub positive : 1 ≤ i
     pub named : l.named ≡ named_in order i
-    pub moved : Each (IsMoved (edits_in order)) l.end.outgoing
-    pub known : Each (λ b. ChangesKnown (named_in order) (O.t.edit_of b)) l.end.outgoing
+    pub moved : AllByRecursion (IsMoved (edits_in order)) l.end.outgoing
+    pub known : AllByRecursion (λ b. ChangesKnown (named_in order) (O.t.edit_of b)) l.end.outgoing
 
   abbrev pub SoundLinkAt : List (Entry O.Edit) → ℕ → Option (LinkState O.Op) → Type 0
   SoundLinkAt order i None = Unit {0}
@@ -205,7 +205,7 @@ module _ (O : Operations) where
     pub limited : s.limit + most_beyond ≤ most
     pub counted : most ≤ 4294967295
     pub board_known : HoldsKnown (named_in s.order) s.board
-    pub order_known : Each (ChangesKnown (named_in s.order)) (edits_in s.order)
+    pub order_known : AllByRecursion (ChangesKnown (named_in s.order)) (edits_in s.order)
     pub links : (i : ℕ) → SoundLinkAt s.order i (link_of i s.links)
     -- numbers that were not given yet
     pub no_link : (i : ℕ) → s.given < i → link_of i s.links ≡ None

@@ -1,6 +1,6 @@
 -- What is read off a trace, and what it says of sites.
 use Rattle.std.specs.Prelude.{ℕ, zero, suc, cond, List, [], ◌∷◌, nat_eq, ◌+◌, Bool, false, ◌||◌, ◌++◌, length, take, drop, ◌≡◌, ◌⊎◌, Some, ◌<◌, ◌≤◌, Option, None, ◌&&◌, not, is_some}
-use Rattle.jup_world.specs.Prelude.{answer_after, most_unacknowledged, generated, Operations, Entry, Up, UpOp, UpAck, UpPing, Down, DownOp, DownAck, DownPong, entry, LinkState, link_of, EditFault}
+use Rattle.jup_world.specs.Prelude.{answer_after, most_unacknowledged, generated, Operations, Entry, Up, UpOp, UpAck, UpPing, Down, DownOp, DownAck, DownPong, entry, LinkState, link_of, EditFault, AllByRecursion}
 use Rattle.jup_world.specs.declared.events.Reply.{Reply}
 use Rattle.jup_world.specs.declared.events.Reply.TheVariants.{Joined, Made, Taken, Shown}
 use Rattle.jup_world.specs.Events.{Event, Join, Edit as MakeEdit, Up as MoveUp, Down as MoveDown, JoinStray, Stray, Happened}
@@ -135,11 +135,6 @@ module _ (O : Operations) where
 
 -- Lists of which each element has a property.
 
--- each element has the property
-abbrev pub Each : {A : Type 0} → (A → Type 0) → List A → Type 0
-Each P [] = Unit {0}
-Each P (x ∷ xs) = P x × Each P xs
-
 -- an element is in the list
 abbrev pub IsIn : {A : Type 0} → A → List A → Type 0
 IsIn x [] = ⊥
@@ -165,7 +160,7 @@ module _ (O : Operations) where
   -- the star has given the numbers that the trace records, and each of its sites made the edits
   pub record IsTallied (w : WorldOf O) : Type 0 where
     pub given : w.star.given ≡ numbers_given w.trace
-    pub made : Each (CountsItsEdits w.trace) w.sites
+    pub made : AllByRecursion (CountsItsEdits w.trace) w.sites
 
   -- the same of each attached site
   pub record Tallies (w : WorldOf O) : Type 0 where

@@ -10,6 +10,12 @@ use std::process::Abort;
 // A script over one text, with sites 1 and 2.
 const START: &str = "star 100\nwindow 1\ntext 1 \"\"\njoin\njoin\n";
 
+// What is due after the id of a toggle, and of a slider.
+const SWITCH_DUE: &str = "`on` or `off` is due";
+
+const BOUNDS_DUE: &str =
+    "`LO HI VALUE` is due, numbers from -2147483648 to 2147483647 with no plus sign, no leading zero and no -0";
+
 #[test]
 fn a_star_script_prints_each_kind_of_reply(rt: HostRuntime) {
     let script =
@@ -168,12 +174,12 @@ fn a_bad_list_or_setting_of_a_board_is_reported_with_its_line_and_fault(rt: Host
         (
             "star 1\nwindow 1\ntoggle 1 yes\n",
             3,
-            BoardLineFault::BadSwitch,
+            BoardLineFault::BadValue(SWITCH_DUE),
         ),
         (
             "star 1\nwindow 1\ntoggle 1 on on\n",
             3,
-            BoardLineFault::BadSwitch,
+            BoardLineFault::BadValue(SWITCH_DUE),
         ),
         (
             "star 1\nwindow 1\nslider 1 5 4 5\n",
@@ -188,17 +194,17 @@ fn a_bad_list_or_setting_of_a_board_is_reported_with_its_line_and_fault(rt: Host
         (
             "star 1\nwindow 1\nslider 1 0 10\n",
             3,
-            BoardLineFault::BadBounds,
+            BoardLineFault::BadValue(BOUNDS_DUE),
         ),
         (
             "star 1\nwindow 1\nslider 1 0 10 5 5\n",
             3,
-            BoardLineFault::BadBounds,
+            BoardLineFault::BadValue(BOUNDS_DUE),
         ),
         (
             "star 1\nwindow 1\nslider 1 0 2147483648 0\n",
             3,
-            BoardLineFault::BadBounds,
+            BoardLineFault::BadValue(BOUNDS_DUE),
         ),
     ] {
         is_bad_board(&rt, rt.alloc(), script, line, fault);

@@ -1,6 +1,6 @@
 -- The laws of batches of operations on boards.
 use Rattle.std.proofs.Common.{◌≡◌, ℕ, ◌≤◌, [], ◌∷◌, length, Option, Some, None, arith, IfSome, ◌≢◌, ◌+◌, ◌-◌, ◌*◌, List, Ok, refl, ap, ◌∙◌}
-use Rattle.jup_batch.specs.Prelude.{most_operations, Name, SeqOp, Insert, Delete, Relabel, Nothing as NoSeqOp, BoardOp, Widget, Text, Labels, Toggle, Slider, WidgetOp, OnText, OnList, OnToggle, OnSlider, Command, InsertAt, DeleteAt, RelabelAt, SetValue, count_of, insertions, boards, board_operations, next_name, named, on_widget}
+use Rattle.jup_batch.specs.Prelude.{most_operations, Name, SeqOp, Insert, Delete, Relabel, Nothing as NoSeqOp, BoardOp, Widget, Text, Labels, WidgetOp, OnText, OnList, Command, InsertAt, DeleteAt, RelabelAt, SetValue, count_of, insertions, boards, board_operations, next_name, named, on_widget}
 use Rattle.jup_xform.specs.Batches.{HaveRoom}
 use Rattle.jup_value.specs.Items.{Items}
 use Rattle.jup_seq.specs.Laws.Kinds.{put_name-text}
@@ -27,8 +27,7 @@ of_sequence NoSeqOp n x none = tt
 of_widget : (o : WidgetOp) (n : ℕ) (w : Widget) → count_of (widget.inserted o) ≡ 0 → widget.HasRoom o n w
 of_widget (OnText o) n (Text x) none = of_sequence o n x (rw (put_name-text o) at none)
 of_widget (OnList o) n (Labels x) none = of_sequence o n x none
-of_widget (OnToggle o) n (Toggle x) none = tt
-of_widget (OnSlider o) n (Slider x) none = tt
+of_widget o n (Text x) none = tt
 of_widget o n w none = tt
 
 if_there : (o : WidgetOp) (n : ℕ) (w : Option Widget) → count_of (widget.inserted o) ≡ 0 → IfSome w (widget.HasRoom o n)
@@ -66,7 +65,8 @@ inserted_on : (c : Command) (n : Name) (w : Widget) (op : WidgetOp) → on_widge
 inserted_on c n w op e =
     of_named n (λ c w o. count_of (inserted o) ≡ items_inserted c)
     (λ win wid p v x within short. refl) (λ win wid p v x within short. refl)
-    (λ win wid p x y there. refl) (λ win wid p x y there. refl) (λ win wid p v x y there. refl) (λ win wid v x. refl) (λ win wid v x within. refl)
+    (λ win wid p x y there. refl) (λ win wid p x y there. refl) (λ win wid p v x y there. refl)
+    (λ win wid s w op set. ap count_of set.inserts)
     c w op e
 
 named_inserts : (c : Command) (n : Name) (b : one.Windows) (op : BoardOp) → named c n b ≡ Ok op → insertions (one.edit_of op) ≡ items_inserted c

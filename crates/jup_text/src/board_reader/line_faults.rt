@@ -2,9 +2,10 @@
 
 use crate::is_board_line;
 use crate::quoted::read_quoted;
-use crate::words::{read_integer, read_number};
-use jup_setting::{Slider, Toggle};
+use crate::words::read_number;
+use jup_setting::Toggle;
 use jup_window::{Board, BoardFault, Widget};
+use jup_wire::{VALUE_LINES, read_value, value_due};
 use jup_xform::NoMemory;
 use std::alloc::Global;
 use std::error::Error;
@@ -24,17 +25,16 @@ pub enum BoardLineFault {
     LongText(u16, u64),
     /// The list of this id has so many items.
     LongList(u16, u64),
-    BadSwitch,
-    BadBounds,
+    /// What is due after the id of a widget without items.
+    BadValue(&'static str),
     OutOfBounds,
 }
 
 impl BoardLineFault {
-    // The text that people read of it, without an id and a length.
+    // The text that people read of it, without an id, a length and the lines of the kinds.
     fn text(self) -> &'static str {
         match self {
-            BoardLineFault::NoBoardLine =>
-                "`window W`, `text I Q`, `list I Q ..`, `toggle I VALUE` or `slider I LO HI VALUE` is due",
+            BoardLineFault::NoBoardLine => "a line of a board is due",
             BoardLineFault::BadId => "an id from 1 to 65535 is due",
             BoardLineFault::NoWindow => "a window is due above its widgets",
             BoardLineFault::DoubleId => "the id is taken",
@@ -44,9 +44,7 @@ impl BoardLineFault {
                 "labels of 1 to 48 bytes in quotes are due, a space before each",
             BoardLineFault::LongText(..) => "a text is too long",
             BoardLineFault::LongList(..) => "a list is too long",
-            BoardLineFault::BadSwitch => "`on` or `off` is due",
-            BoardLineFault::BadBounds =>
-                "`LO HI VALUE` is due, numbers from -2147483648 to 2147483647 with no plus sign, no leading zero and no -0",
+            BoardLineFault::BadValue(due) => due,
             BoardLineFault::OutOfBounds => "the value is not within the bounds",
         }
     }
@@ -55,6 +53,12 @@ impl BoardLineFault {
 impl fmt::Display for BoardLineFault {
     fn fmt<W: fmt::Write>(&self, f: &mut fmt::Formatter<W>) -> fmt::Result {
         let (kind, id, count, items) = match *self {
+            BoardLineFault::NoBoardLine => {
+                return write!(
+                    f,
+                    "`window W`, `text I Q`, `list I Q ..`, {VALUE_LINES} is due"
+                );
+            }
             BoardLineFault::LongText(id, count) => ("text", id, count, "characters"),
             BoardLineFault::LongList(id, count) => ("list", id, count, "items"),
             fault => return f.write_str(fault.text()),
@@ -93,7 +97,8 @@ pub(super) fn line_fault(
         Err(BoardFault::BadId) => Ok(BoardLineFault::BadId),
         Err(BoardFault::DoubleId) => Ok(BoardLineFault::DoubleId),
         Err(BoardFault::TooMany) => Ok(BoardLineFault::TooMany),
-        _ => value_fault(alloc, word, id, value),
+        _ if word == "text" || word == "list" => items_fault(alloc, word, id, value),
+        _ => Ok(value_fault(word, rest)),
     }
 }
 
@@ -104,24 +109,33 @@ fn id_of(word: &str) -> Option<u16> {
     }
 }
 
-// What is wrong after an id that the board takes.
-fn value_fault(
+// What is wrong after the id of a text or a list that the board takes.
+fn items_fault(
     alloc: Global,
     word: &str,
     id: u16,
     value: &str,
 ) -> Result<BoardLineFault, NoMemory> {
-    let fault = match word {
-        "text" => match read_quoted(alloc, value)? {
-            Some(chars) => BoardLineFault::LongText(id, chars.len() as u64),
-            None => BoardLineFault::BadText,
-        },
-        "list" => list_fault(id, value),
-        "toggle" => BoardLineFault::BadSwitch,
-        "slider" => slider_fault(value),
-        _ => BoardLineFault::BadId,
-    };
-    Ok(fault)
+    if word == "list" {
+        return Ok(list_fault(id, value));
+    }
+    Ok(match read_quoted(alloc, value)? {
+        Some(chars) => BoardLineFault::LongText(id, chars.len() as u64),
+        None => BoardLineFault::BadText,
+    })
+}
+
+// What is wrong after the word of a widget without items, or of a window, whose id the board takes. A line that is read says a
+// value outside its bounds.
+fn value_fault(word: &str, rest: &str) -> BoardLineFault {
+    match (
+        value_due(word),
+        read_value(word.as_bytes(), rest.as_bytes()),
+    ) {
+        (None, _) => BoardLineFault::BadId,
+        (Some(_), Some(_)) => BoardLineFault::OutOfBounds,
+        (Some(due), None) => BoardLineFault::BadValue(due),
+    }
 }
 
 // A list's line with too many quoted texts is too long; otherwise one of its labels is bad.
@@ -144,24 +158,4 @@ fn quoted_texts(value: &[u8]) -> u64 {
         is_escaped = *byte == b'\\' && !is_escaped;
     }
     quotes.div_ceil(2)
-}
-
-fn slider_fault(value: &str) -> BoardLineFault {
-    let mut words = value.split(' ');
-    let bounds = (
-        integer_of(words.next()),
-        integer_of(words.next()),
-        integer_of(words.next()),
-        words.next(),
-    );
-    match bounds {
-        (Some(lo), Some(hi), Some(value), None) if Slider::new(lo, hi, value).is_err() => {
-            BoardLineFault::OutOfBounds
-        }
-        _ => BoardLineFault::BadBounds,
-    }
-}
-
-fn integer_of(word: Option<&str>) -> Option<i32> {
-    read_integer(word?)
 }

@@ -1,22 +1,23 @@
 //! The lines of widgets, as they are printed.
-ghost use Rattle.std.specs.Prelude.{◌≡◌, ◌≢◌, ℕ, ℤ, Bool, List, ◌∷◌, ◌++◌, map, IfOk, IfSome, IsSome, IsOkUnless, MatchOption, codes, decimal};
+ghost use Rattle.std.specs.Prelude.{◌≡◌, ◌≢◌, ℕ, List, ◌∷◌, ◌++◌, map, IfOk, IfSome, IsSome, IsOkUnless, MatchOption, codes, decimal};
 ghost use Rattle.std.specs.Char.{IsScalar};
 ghost use Rattle.std.specs.List.{flat_map};
 ghost use Rattle.jup_value.specs.Labels.{IsLabelText};
-ghost use Rattle.jup_window.specs.declared.widgets.Widget.{Widget};
+ghost use Rattle.jup_window.specs.declared.kinds.Widget.{Widget};
 ghost use Rattle.jup_text.specs.declared.board_reader.Untaken.TheVariants as untaken;
+ghost use Rattle.jup_wire.specs.declared.kinds.WidgetValue.{WidgetValue};
+ghost use Rattle.jup_wire.specs.Kinds.{value_word};
 ghost use Rattle.jup_text.specs.Commands.{IsId};
-ghost use Rattle.jup_text.specs.Boards.{AreValues, IsHeld, IsToggleText, IsSliderText, AreNumbered, IsLineOf, IsNumbered, IsWidgetLine};
+ghost use Rattle.jup_text.specs.Boards.{AreValues, IsHeld, IsValueText, AreNumbered, IsLineOf, IsNumbered, IsWidgetLine};
 ghost use Rattle.jup_text.specs.Words.{quoted, IsWord};
 
 use super::Untaken;
 use super::numbered::Numbered;
 use crate::quoted::{behind_quote, is_end, next_char, next_quoted_label};
-use crate::words::{id_of, next_id, next_integer, split_word, switch_of};
-use jup_number::read_integer;
-use jup_setting::{Slider, Toggle};
+use crate::words::{id_of, next_id, split_word};
 use jup_value::Label;
 use jup_window::Widget;
+use jup_wire::read_value;
 use std::alloc::Global;
 
 /// A widget as its line has it, with its id, and the number of its last item.
@@ -45,7 +46,7 @@ pub(crate) fn read_widget(
     if kind == b"list".as_slice() {
         return read_list(alloc, last, rest);
     }
-    let Some((wid, widget)) = read_setting(kind, rest) else {
+    let Some((wid, widget)) = read_value_line(kind, rest) else {
         return Err(Untaken::BadLine);
     };
     Ok(WidgetLine { wid, widget, last })
@@ -143,48 +144,17 @@ fn behind_space(text: &[u8]) -> Option<&[u8]>
     if *first == b' ' { Some(rest) } else { None }
 }
 
-// A toggle or a slider with its id.
-fn read_setting(kind: &[u8], rest: &[u8]) -> Option<(u16, Widget)>
+// A widget without items with its id.
+fn read_value_line(kind: &[u8], rest: &[u8]) -> Option<(u16, Widget)>
     ensures line { IfSome result (λ r. IsLineOf (kind.now ++ 32 ∷ rest.now) r.0 r.1) }
     ensures no_items { IfSome result (λ r. (last : ℕ) → IsNumbered last r.1 last) }
     ensures id { IfSome result (λ r. IsId r.0) }
-    ensures toggles { kind.now ≡ codes "toggle" → (wid : ℕ) (on : Bool) → IsToggleText rest.now wid on → IsSome result }
-    ensures sliders { kind.now ≡ codes "slider" → (wid : ℕ) (lo hi value : ℤ) → IsSliderText rest.now wid lo hi value → IsSome result }
+    ensures every { (wid : ℕ) (value : WidgetValue) (widget : Widget) → kind.now ≡ value_word value
+        → IsValueText rest.now wid value widget → IsSome result }
 {
-    if kind == b"toggle".as_slice() {
-        return read_toggle(rest);
-    }
-    if kind == b"slider".as_slice() {
-        return read_slider(rest);
-    }
-    None
-}
-
-// What follows the word `toggle`.
-fn read_toggle(rest: &[u8]) -> Option<(u16, Widget)>
-    ensures line { IfSome result (λ r. IsLineOf (codes "toggle " ++ rest.now) r.0 r.1) }
-    ensures no_items { IfSome result (λ r. (last : ℕ) → IsNumbered last r.1 last) }
-    ensures id { IfSome result (λ r. IsId r.0) }
-    ensures every { (wid : ℕ) (on : Bool) → IsToggleText rest.now wid on → IsSome result }
-{
-    let (wid, word) = next_id(rest)?;
-    let on = switch_of(word)?;
-    Some((wid, Widget::Toggle(Toggle { on })))
-}
-
-// What follows the word `slider`.
-fn read_slider(rest: &[u8]) -> Option<(u16, Widget)>
-    ensures line { IfSome result (λ r. IsLineOf (codes "slider " ++ rest.now) r.0 r.1) }
-    ensures no_items { IfSome result (λ r. (last : ℕ) → IsNumbered last r.1 last) }
-    ensures id { IfSome result (λ r. IsId r.0) }
-    ensures every { (wid : ℕ) (lo hi value : ℤ) → IsSliderText rest.now wid lo hi value → IsSome result }
-{
-    let (wid, rest) = next_id(rest)?;
-    let (lo, rest) = next_integer(rest)?;
-    let (hi, rest) = next_integer(rest)?;
-    let value = read_integer(rest)?;
-    match Slider::new(lo, hi, value) {
-        Ok(slider) => Some((wid, Widget::Slider(slider))),
-        Err(_) => None,
+    let (wid, value) = read_value(kind, rest)?;
+    match value.widget() {
+        Some(widget) => Some((wid, widget)),
+        None => None,
     }
 }

@@ -6,7 +6,7 @@ use Rattle.jup_window.specs.Prelude.{First, Second, Name, WidgetOp, BoardOp, Boa
 use Rattle.jup_xform.specs.Rows.{SomeOf, row_operation}
 use Rattle.jup_window.specs.Entries.{Place, same_place, Each, widget_at, change_widget}
 use Rattle.jup_window.specs.Laws.Entries.{same_place-true, same_place-comm, widget_at-same, widget_at-other, widget_at-change, change_widget-same, change_widget-other, change_widget-agree, change_widget-each, change_widget-back, widget_at-each, each-implies}
-use Rattle.jup_window.specs.Kinds.{WidgetEdit, KindOp, kinds, kinds_keep_meaning, op_kind}
+use Rattle.jup_window.specs.Kinds.{WidgetEdit, KindOp, kinds, nameless, kinds_keep_meaning, op_kind}
 use Rattle.jup_window.specs.Boards.{with_if, edits_at, Windows, place, IsValid, after, HasRoom, HasDistinctNames, IsSmall, AreApart, IsFresh, client_past, server_past, held_in, stands_in, KeepsOrder, content, edit_of, meaning, Placed, Holds, IsAt, Inserts, Deletes, Changes}
 use Rattle.jup_window.specs.Laws.Widgets.{client-kinds, server-kinds, apart-kinds}
 use Rattle.jup_window.specs.Kinds as kind
@@ -139,22 +139,19 @@ meaning_none X = λ i p. none_at (X p) i
 abbrev plain : kinds.Name → Name
 plain (First n) = n
 plain (Second (First n)) = n
-plain (Second (Second (First n))) = absurd n
-plain (Second (Second (Second n))) = absurd n
+plain (Second (Second n)) = absurd (nameless n)
 
 -- an edit inserts it, and changes it
 plain_inserts : (e : WidgetEdit) (m : kinds.Name) → kinds.inserts e m → kind.InsertsName e (plain m)
 plain_inserts (First e) (First n) i = i
 plain_inserts (Second (First e)) (Second (First n)) i = i
-plain_inserts (Second (Second (First e))) (Second (Second (First n))) i = absurd i
-plain_inserts (Second (Second (Second e))) (Second (Second (Second n))) i = absurd i
+plain_inserts (Second (Second e)) (Second (Second n)) i = absurd (nameless n)
 plain_inserts e m i = absurd i
 
 plain_changes : (e : WidgetEdit) (m : kinds.Name) → kinds.changes e m → kind.ChangesName e (plain m)
 plain_changes (First e) (First n) i = i
 plain_changes (Second (First e)) (Second (First n)) i = i
-plain_changes (Second (Second (First e))) (Second (Second (First n))) i = absurd i
-plain_changes (Second (Second (Second e))) (Second (Second (Second n))) i = absurd i
+plain_changes (Second (Second e)) (Second (Second n)) i = absurd (nameless n)
 plain_changes e m i = absurd i
 
 -- a list after another means what the two mean in one, if no name that is inserted later is changed earlier

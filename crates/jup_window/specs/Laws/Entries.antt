@@ -3,7 +3,7 @@ use Rattle.std.proofs.Common.{◌≡◌, ℕ, true, false, ◌&&◌, ◌==◌, L
 use Rattle.std.specs.Option.{option_and_then, option_map, IfSome}
 use Rattle.std.proofs.lemmas.Bool.{cases_Bool, eqb-true, eqb-false, eq-eqb, ne_eqb, and_parts, and_from, or_parts, or_cases, false≢true}
 use Rattle.std.specs.List.{list_any, list_all}
-use Rattle.jup_window.specs.Prelude.{Name, Item, name_eq, has_name, name_eq_same, Widget, Text, Labels, Toggle, Slider}
+use Rattle.jup_window.specs.Prelude.{Name, Item, name_eq, has_name, name_eq_same, Widget, Text, Labels}
 use Rattle.jup_window.specs.Entries.{at_id, change_at, map_values, Each, Place, same_place, Grouped, widget_at, change_widget, EachWidget}
 use Rattle.jup_window.specs.Boards.{some_item, every_item, some_in_widget, every_in_widget, some_in_window, every_in_window, has_site, only_site}
 use Rattle.jup_window.specs.Widgets as widget
@@ -257,8 +257,7 @@ held_bare : (n : Name) (o : Option Widget) → board.held_in n (option_map widge
 held_bare n None = refl
 held_bare n (Some (Text x)) = refl
 held_bare n (Some (Labels x)) = refl
-held_bare n (Some (Toggle x)) = refl
-held_bare n (Some (Slider x)) = refl
+held_bare n (Some other) = refl
 
 -- and so does a board
 pub held-bare : (p : Place) (n : Name) (b : board.Windows) → board.held p n (board.bare b) ≡ board.held p n b
@@ -280,8 +279,7 @@ every_named site n (x ∷ xs) every h =
 every_held : (site : ℕ) (n : Name) (w : Widget) → every_in_widget site w ≡ true → widget.holds n w ≡ true → n.site ≡ site
 every_held site n (Text x) every h = every_named site n x.items every h
 every_held site n (Labels x) every h = every_named site n x.items every h
-every_held site n (Toggle x) every h = absurd (false≢true h)
-every_held site n (Slider x) every h = absurd (false≢true h)
+every_held site n other every h = absurd (false≢true h)
 
 -- what is so of each value is so of the one under an id
 at_id-every : {A : Type 0} (p : A → Bool) (k : ℕ) (es : List (ℕ × A)) → list_all (λ e. p e.1) es ≡ true → IfSome (at_id k es) (λ a. p a ≡ true)
@@ -319,8 +317,7 @@ none_named site n (x ∷ xs) none h is =
 none_held : (site : ℕ) (n : Name) (w : Widget) → some_in_widget site w ≡ false → widget.holds n w ≡ true → n.site ≡ site → ⊥
 none_held site n (Text x) none h is = none_named site n x.items none h is
 none_held site n (Labels x) none h is = none_named site n x.items none h is
-none_held site n (Toggle x) none h is = false≢true h
-none_held site n (Slider x) none h is = false≢true h
+none_held site n other none h is = false≢true h
 
 -- what is so of no value is not so of the one under an id
 at_id-none : {A : Type 0} (p : A → Bool) (k : ℕ) (es : List (ℕ × A)) → list_any (λ e. p e.1) es ≡ false → IfSome (at_id k es) (λ a. p a ≡ false)
@@ -350,15 +347,13 @@ has_site-held site b n none h is =
 some_bare : (site : ℕ) (w : Widget) → some_in_widget site (widget.bare w) ≡ some_in_widget site w
 some_bare site (Text x) = refl
 some_bare site (Labels x) = refl
-some_bare site (Toggle x) = refl
-some_bare site (Slider x) = refl
+some_bare site other = refl
 
 -- for each item of a widget
 every_bare : (site : ℕ) (w : Widget) → every_in_widget site (widget.bare w) ≡ every_in_widget site w
 every_bare site (Text x) = refl
 every_bare site (Labels x) = refl
-every_bare site (Toggle x) = refl
-every_bare site (Slider x) = refl
+every_bare site other = refl
 
 -- for some item of a window
 some_in_window-bare : (site : ℕ) (ws : List (ℕ × Widget)) → some_in_window site (board.bare_widgets ws) ≡ some_in_window site ws

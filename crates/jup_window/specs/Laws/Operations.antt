@@ -1,18 +1,18 @@
 -- Operations on boards are what a star asks for.
-use Rattle.std.proofs.Common.{◌≡◌, ℤ, ◌<◌, true, false, not, ◌&&◌, length, Option, Some, None, IsTrue, refl, ap, ◌∙◌, arith, int_lt, nat_le, nat_lt, ◌≤ℤ◌, ◌↔◌, ℕ, suc, ◌≤◌, Bool, ◌==◌, List, sym, subst, inl, inr, Ok, Err, Result, slice_get, ◌+◌}
+use Rattle.std.proofs.Common.{◌≡◌, ◌<◌, true, false, not, ◌&&◌, length, Option, Some, None, IsTrue, refl, ap, ◌∙◌, arith, nat_le, nat_lt, ◌↔◌, ℕ, suc, ◌≤◌, ◌==◌, List, sym, subst, inl, inr, Ok, Err, Result, slice_get, ◌+◌}
 use Rattle.std.specs.Option.{IsSomeAnd, option_and_then, option_map}
-use Rattle.std.proofs.lemmas.Bool.{and_parts, and_from, leb-true, le-leb, ltb-true, lt-ltb, not-true, not_from_false, false≢true, or_parts, or_from, cases_Bool, eq-eqb, ltb-false, leb-false, false_from_ne_true, eqb-true}
-use Rattle.std.proofs.lemmas.Int.{ints}
-use Rattle.jup_window.specs.Prelude.{small_length, longest_sequence, IsLawful, KeepsMeaning, SetOp, SetTo, NoSetOp, ToggleState, SliderState, IsValidSlide, Name, Item, Items, has_name, name_at, name_eq, name_eq_same, name_eq_refl, SeqOp, Insert, Delete, Relabel, NoSeqOp, is_no_relabel, Widget, Text, Labels, Toggle, Slider, WidgetOp, OnText, OnList, OnToggle, OnSlider, BoardOp, BoardEdit, EditFault, Command, InsertAt, DeleteAt, RelabelAt, SetValue, Char, Label, ToToggle, ToSlider}
+use Rattle.std.proofs.lemmas.Bool.{and_parts, and_from, leb-true, le-leb, ltb-true, lt-ltb, not-true, not_from_false, false≢true, cases_Bool, eq-eqb, ltb-false, leb-false, false_from_ne_true, eqb-true}
+use Rattle.jup_window.specs.Prelude.{small_length, longest_sequence, IsLawful, KeepsMeaning, Name, Item, Items, has_name, name_at, name_eq_same, name_eq_refl, SeqOp, Insert, Delete, Relabel, NoSeqOp, is_no_relabel, Widget, Text, Labels, WidgetOp, OnText, OnList, BoardOp, BoardEdit, EditFault, Command, InsertAt, DeleteAt, RelabelAt, SetValue, Char, Label}
 use Rattle.jup_seq.specs.Operations as seq
 use Rattle.jup_window.specs.Entries.{widget_at, at_id, change_widget}
 use Rattle.jup_window.specs.Widgets.{relabels_no_text}
-use Rattle.jup_window.specs.Commands.{is_outside, named, on_widget, insertion, deletion, relabel, map_ok, and_then_ok, named_widget, in_window, found_widget, command_place, IsFresh, shown_on, shown}
-use Rattle.jup_window.specs.Operations.{is_name, seq_accepts, slider_accepts, widget_accepts, accepts_in, accepts, next_name, AreLawful, boards, board_operations}
+use Rattle.jup_window.specs.Commands.{named, on_widget, insertion, deletion, relabel, map_ok, and_then_ok, named_widget, in_window, found_widget, command_place, IsFresh, shown_on, shown}
+use Rattle.jup_window.specs.Operations.{is_name, seq_accepts, widget_accepts, accepts_in, accepts, next_name, AreLawful, boards, board_operations}
 use Rattle.jup_window.specs.Laws.Entries.{change_widget-agree, at_id-map, has_site-held, same_place-refl}
-use Rattle.jup_window.specs.Kinds.{edit_of, is_next, bears_next, is_nothing, insertions, is_next_if_there, is_of_site, bears_site, count_of}
+use Rattle.jup_window.specs.declared.kinds.Setting.{Setting}
+use Rattle.jup_window.specs.Kinds.{IsSetting, setting_is, setting_bare, value_valid, valid_value, edit_of, is_next, bears_next, is_nothing, insertions, is_next_if_there, is_of_site, bears_site, count_of}
 use Rattle.jup_window.specs.Boards.{has_site}
-use Rattle.jup_window.specs.Laws.Widgets.{inserts_name, name_inserts, name_deletes}
+use Rattle.jup_window.specs.Laws.Widgets.{inserts_name, name_inserts, name_deletes, differ_from}
 use Rattle.jup_window.specs.Widgets as widget
 use Rattle.jup_window.specs.Laws.Widgets as widget_laws
 use Rattle.jup_window.specs.Boards as board
@@ -50,41 +50,19 @@ seq-accepts (Delete p n) x h = ap (λ o. is_name n o) h ∙ name_eq_refl n
 seq-accepts (Relabel p n v) x h = ap (λ o. is_name n o) h ∙ name_eq_refl n
 seq-accepts NoSeqOp x h = refl
 
--- not less is at least
-int_le-false : (a b : ℤ) → int_lt a b ≡ false → b ≤ℤ a
-int_le-false a b h = grind (arith, ints)
-
--- at least is not less
-int_lt-false : (a b : ℤ) → b ≤ℤ a → int_lt a b ≡ false
-int_lt-false a b h = grind (arith, ints)
-
--- what a slider accepts is allowed
-pub slider-valid : (o : SetOp ℤ) (x : SliderState) → slider_accepts o x ≡ true → IsValidSlide o x
-slider-valid (SetTo v) x h =
-    let parts = or_parts (int_lt v x.lo) (int_lt x.hi v) (not-true (is_outside v x) h) in (int_le-false v x.lo parts.0, int_le-false x.hi v parts.1)
-slider-valid NoSetOp x h = tt
-
--- and what is allowed it accepts
-slider-accepts : (o : SetOp ℤ) (x : SliderState) → IsValidSlide o x → slider_accepts o x ≡ true
-slider-accepts (SetTo v) x h =
-    not_from_false (is_outside v x) (or_from (int_lt v x.lo) (int_lt x.hi v) (int_lt-false v x.lo h.0) (int_lt-false x.hi v h.1))
-slider-accepts NoSetOp x h = refl
-
 -- what a widget accepts is valid
 widget-valid : (o : WidgetOp) (w : Widget) → widget_accepts o w ≡ true → widget.IsValid o w
 widget-valid (OnText o) (Text x) h = let parts = and_parts (is_no_relabel o) (seq_accepts o x) h in (parts.0, seq-valid o x parts.1)
 widget-valid (OnList o) (Labels x) h = seq-valid o x h
-widget-valid (OnToggle o) (Toggle x) h = widget_laws.toggle_valid o x
-widget-valid (OnSlider o) (Slider x) h = slider-valid o x h
-widget-valid o w h = absurd (false≢true h)
+widget-valid o w h = value_valid o w h
 
 -- and what is valid it accepts
 widget-accepts : (o : WidgetOp) (w : Widget) → widget.IsValid o w → widget_accepts o w ≡ true
 widget-accepts (OnText o) (Text x) h = and_from (is_no_relabel o) (seq_accepts o x) h.0 (seq-accepts o x h.1)
 widget-accepts (OnList o) (Labels x) h = seq-accepts o x h
-widget-accepts (OnToggle o) (Toggle x) h = refl
-widget-accepts (OnSlider o) (Slider x) h = slider-accepts o x h
-widget-accepts o w h = absurd h
+widget-accepts o (Text x) h = absurd h
+widget-accepts o (Labels x) h = absurd h
+widget-accepts o w h = valid_value o w tt h
 
 -- the same if the widget may be absent
 valid_in : (o : WidgetOp) (w : Option Widget) → accepts_in o w ≡ true → IsSomeAnd w (widget.IsValid o)
@@ -148,15 +126,6 @@ relabels_ok : {V : Type 0} (P : WidgetOp → Type 0) (f : SeqOp V → WidgetOp) 
 relabels_ok P f p v None op h e = absurd cc
 relabels_ok P f p v (Some y) op h e = let is : f (Relabel p y.name v) ≡ op = cc in subst P is (h y refl)
 
--- what is so of a value within the bounds is so of one that is accepted
-slides_ok : (P : WidgetOp → Type 0) (v : ℤ) (x : SliderState) (op : WidgetOp) → (is_outside v x ≡ false → P (OnSlider (SetTo v)))
-    → on_widget (SetValue 0 0 (ToSlider v)) (record { site = 0; number = 0 }) (Slider x) ≡ Ok op → P op
-slides_ok P v x op h e =
-    elim (cases_Bool (is_outside v x)) [
-      | inl out ↦ let wrong = rw out at e in absurd cc
-      | inr within ↦ let right = rw within at e in let is : OnSlider (SetTo v) ≡ op = cc in subst P is (h within)
-    ]
-
 -- what holds of each kind of operation that a command becomes holds of every one
 pub of_named : (n : Name) (P : Command → Widget → WidgetOp → Type 0)
     → ((win wid p v : ℕ) (x : Items ℕ) → p ≤ length x.items → length x.items < longest_sequence → P (InsertAt win wid p (Char v)) (Text x) (OnText (Insert p (record { name = n; value = v }))))
@@ -164,24 +133,20 @@ pub of_named : (n : Name) (P : Command → Widget → WidgetOp → Type 0)
     → ((win wid p : ℕ) (x : Items ℕ) (y : Item ℕ) → slice_get x.items p ≡ Some y → P (DeleteAt win wid p) (Text x) (OnText (Delete p y.name)))
     → ((win wid p : ℕ) (x : Items (List ℕ)) (y : Item (List ℕ)) → slice_get x.items p ≡ Some y → P (DeleteAt win wid p) (Labels x) (OnList (Delete p y.name)))
     → ((win wid p : ℕ) (v : List ℕ) (x : Items (List ℕ)) (y : Item (List ℕ)) → slice_get x.items p ≡ Some y → P (RelabelAt win wid p v) (Labels x) (OnList (Relabel p y.name v)))
-    → ((win wid : ℕ) (v : Bool) (x : ToggleState) → P (SetValue win wid (ToToggle v)) (Toggle x) (OnToggle (SetTo v)))
-    → ((win wid : ℕ) (v : ℤ) (x : SliderState) → is_outside v x ≡ false → P (SetValue win wid (ToSlider v)) (Slider x) (OnSlider (SetTo v)))
+    → ((win wid : ℕ) (s : Setting) (w : Widget) (op : WidgetOp) → IsSetting s w op → P (SetValue win wid s) w op)
     → (c : Command) (w : Widget) (op : WidgetOp) → on_widget c n w ≡ Ok op → P c w op
-of_named n P chars labels text list relabels toggle slider (InsertAt win wid p (Char v)) (Text x) op e =
+of_named n P chars labels text list relabels sets (InsertAt win wid p (Char v)) (Text x) op e =
     inserts_ok (λ o. P (InsertAt win wid p (Char v)) (Text x) o) (λ o. OnText o) p (record { name = n; value = v }) x op (chars win wid p v x) e
-of_named n P chars labels text list relabels toggle slider (InsertAt win wid p (Label v)) (Labels x) op e =
+of_named n P chars labels text list relabels sets (InsertAt win wid p (Label v)) (Labels x) op e =
     inserts_ok (λ o. P (InsertAt win wid p (Label v)) (Labels x) o) (λ o. OnList o) p (record { name = n; value = v }) x op (labels win wid p v x) e
-of_named n P chars labels text list relabels toggle slider (DeleteAt win wid p) (Text x) op e =
+of_named n P chars labels text list relabels sets (DeleteAt win wid p) (Text x) op e =
     deletes_ok (λ o. P (DeleteAt win wid p) (Text x) o) (λ o. OnText o) p (slice_get x.items p) op (text win wid p x) e
-of_named n P chars labels text list relabels toggle slider (DeleteAt win wid p) (Labels x) op e =
+of_named n P chars labels text list relabels sets (DeleteAt win wid p) (Labels x) op e =
     deletes_ok (λ o. P (DeleteAt win wid p) (Labels x) o) (λ o. OnList o) p (slice_get x.items p) op (list win wid p x) e
-of_named n P chars labels text list relabels toggle slider (RelabelAt win wid p v) (Labels x) op e =
+of_named n P chars labels text list relabels sets (RelabelAt win wid p v) (Labels x) op e =
     relabels_ok (λ o. P (RelabelAt win wid p v) (Labels x) o) (λ o. OnList o) p v (slice_get x.items p) op (relabels win wid p v x) e
-of_named n P chars labels text list relabels toggle slider (SetValue win wid (ToToggle v)) (Toggle x) op e =
-    let is : OnToggle (SetTo v) ≡ op = cc in subst (λ o. P (SetValue win wid (ToToggle v)) (Toggle x) o) is (toggle win wid v x)
-of_named n P chars labels text list relabels toggle slider (SetValue win wid (ToSlider v)) (Slider x) op e =
-    slides_ok (λ o. P (SetValue win wid (ToSlider v)) (Slider x) o) v x op (slider win wid v x) e
-of_named n P chars labels text list relabels toggle slider c w op e = absurd cc
+of_named n P chars labels text list relabels sets (SetValue win wid s) w op e = sets win wid s w op (setting_is s w op e)
+of_named n P chars labels text list relabels sets c w op e = absurd cc
 
 abbrev IsFreshOn : Command → Name → Widget → Type 0
 IsFreshOn (InsertAt win wid p v) n w = widget.holds n w ≡ false
@@ -198,8 +163,7 @@ valid_on c n w op fresh e =
     (λ win wid p x y there fresh. (refl, ap (λ o. option_map (λ (z : Item ℕ). z.name) o) there))
     (λ win wid p x y there fresh. ap (λ o. option_map (λ (z : Item (List ℕ)). z.name) o) there)
     (λ win wid p v x y there fresh. ap (λ o. option_map (λ (z : Item (List ℕ)). z.name) o) there)
-    (λ win wid v x fresh. tt)
-    (λ win wid v x within fresh. slider-valid (SetTo v) x (ap not within))
+    (λ win wid s w op set fresh. set.valid)
     c w op e fresh
 
 -- the widget that a command names, and the operation there
@@ -269,7 +233,7 @@ shown_on_widget : (c : Command) (n : Name) (w : Widget) (op : WidgetOp) → on_w
 shown_on_widget c n w op e =
     of_named n (λ c w o. widget.after o w ≡ shown_on c n w)
     (λ win wid p v x within short. refl) (λ win wid p v x within short. refl)
-    (λ win wid p x y there. refl) (λ win wid p x y there. refl) (λ win wid p v x y there. refl) (λ win wid v x. refl) (λ win wid v x within. refl)
+    (λ win wid p x y there. refl) (λ win wid p x y there. refl) (λ win wid p v x y there. refl) (λ win wid s w op set. set.shows)
     c w op e
 
 -- and the board
@@ -295,7 +259,7 @@ named_next c i k b op e =
     let found = named_from c (next_name i k) b op e in
     of_named (next_name i k) (λ c w o. bears_next i k (edit_in o) ≡ true)
     (λ win wid p v x within short. is_next-next_name i k) (λ win wid p v x within short. is_next-next_name i k)
-    (λ win wid p x y there. refl) (λ win wid p x y there. refl) (λ win wid p v x y there. refl) (λ win wid v x. refl) (λ win wid v x within. refl)
+    (λ win wid p x y there. refl) (λ win wid p x y there. refl) (λ win wid p v x y there. refl) (λ win wid s w op set. ap (λ m. is_next_if_there i k m) set.inserts)
     c found.widget op.op found.is
 
 -- an accepted command changes something
@@ -304,7 +268,7 @@ named_edit c n b op e =
     let found = named_from c n b op e in
     of_named n (λ c w o. is_nothing (edit_in o) ≡ false)
     (λ win wid p v x within short. refl) (λ win wid p v x within short. refl)
-    (λ win wid p x y there. refl) (λ win wid p x y there. refl) (λ win wid p v x y there. refl) (λ win wid v x. refl) (λ win wid v x within. refl)
+    (λ win wid p x y there. refl) (λ win wid p x y there. refl) (λ win wid p v x y there. refl) (λ win wid s w op set. set.changes)
     c found.widget op.op found.is
 
 -- a command does not see what room a board has
@@ -316,8 +280,7 @@ on_bare (InsertAt win wid p (Label v)) n (Labels x) = refl
 on_bare (DeleteAt win wid p) n (Text x) = refl
 on_bare (DeleteAt win wid p) n (Labels x) = refl
 on_bare (RelabelAt win wid p v) n (Labels x) = refl
-on_bare (SetValue win wid (ToToggle v)) n (Toggle x) = refl
-on_bare (SetValue win wid (ToSlider v)) n (Slider x) = refl
+on_bare (SetValue win wid s) n w = setting_bare s w
 on_bare c n w = refl
 
 -- nor a widget that may be refused
@@ -389,19 +352,13 @@ inserts_own e m is = (same_place-refl (board.edit_place e), name_inserts e.what 
 pub deletes_own : (e : BoardEdit) (m : Name) → effects.deleted_name e.what ≡ Some m → board.Deletes e (record { at = board.edit_place e; name = m })
 deletes_own e m is = (same_place-refl (board.edit_place e), name_deletes e.what m is)
 
--- names of different sites are apart
-apart_sites : (m n : Option Name) → ((j k : Name) → m ≡ Some j → n ≡ Some k → j.site ≡ k.site → ⊥) → widget.AreApartNames m n
-apart_sites (Some m) (Some n) h = false_from_ne_true (name_eq m n) (λ same. h m n refl refl (ap (λ j. j.site) (name_eq_same m n same)))
-apart_sites (Some m) None h = tt
-apart_sites None n h = tt
-
 -- operations whose insertions are of different sites are apart
 apart_from_sites : (c s : BoardOp)
     → ((m n : board.Placed) → board.Inserts (board.edit_of c) m → board.Inserts (board.edit_of s) n → m.name.site ≡ n.name.site → ⊥) → board.AreApart c s
 apart_from_sites c s h =
-    apart_sites (widget.inserted c.op) (widget.inserted s.op) (λ j k first second.
+    differ_from (widget.inserted c.op) (widget.inserted s.op) (λ j k first second same.
     h (record { at = board.place c; name = j }) (record { at = board.place s; name = k })
-    (inserts_own (board.edit_of c) j first) (inserts_own (board.edit_of s) k second))
+    (inserts_own (board.edit_of c) j first) (inserts_own (board.edit_of s) k second) (ap (λ n. n.site) same))
 
 -- a next name that is there is of the site, has the next number and is one insertion
 next_parts : (i k : ℕ) (o : Option Name) (n : Name) → is_next_if_there i k o ≡ true → o ≡ Some n → (n.site ≡ i) × (n.number ≡ suc k) × (count_of o ≡ 1)

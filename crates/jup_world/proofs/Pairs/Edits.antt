@@ -1,13 +1,13 @@
 -- A site and its link stay in step, edit by edit.
 use Rattle.std.proofs.Common.{◌≡◌, ℕ, ◌+◌, ◌≤◌, Bool, true, false, cond, List, [], ◌∷◌, ◌++◌, length, nat_eq, ap, sym, ◌∙◌, subst, arith, IsTrue, append_assoc, append-nil, length-append, ◌-◌, ◌⊎◌, take, drop, inl, inr, le_refl, take-append-drop, ◌<◌, Ok, leb-false}
 use Rattle.std.proofs.lemmas.Bool.{eqb-false}
-use Rattle.jup_world.specs.Prelude.{most_beyond, most_unacknowledged, AllApart, Msg, after_send, message, next_message, InStepAt, Message, IsCount, IsNumber, generated, received_operation, after_receive, sent, Operations, AreLawful, DownOp, Down, UpOp, ups, downs, LinkState, link_sent, operation_at, end_after, SiteOf, edit_answer, downs-append, ups-append}
+use Rattle.jup_world.specs.Prelude.{most_beyond, most_unacknowledged, AllApart, Msg, after_send, message, next_message, InStepAt, Message, IsCount, IsNumber, generated, received_operation, after_receive, sent, Operations, AreLawful, DownOp, Down, UpOp, ups, downs, LinkState, link_sent, operation_at, end_after, SiteOf, edit_answer, downs-append, ups-append, AllByRecursion}
 use Rattle.jup_link.specs.Laws.Steps.{small_le, client_lengths, server_sends, small_next, client_distinct, client_small, client_receives, length-after_receive, client_sends, client_generated}
-use Rattle.jup_world.specs.Traces.{Each, Turn, Own, Other, edits, own_edits, others, IsIn, through_others}
+use Rattle.jup_world.specs.Traces.{Turn, Own, Other, edits, own_edits, others, IsIn, through_others}
 use Rattle.jup_world.specs.Sound.{SameMeaning, RowStands, edits_sent, named_by, own_counts, ChangesKnown, ChangesHeld, HoldsKnown, Inherits, RawNamed, OrderNamed, Paired, server_past_all, clients_past, Shows, IsKnown}
 use Rattle.jup_world.specs.Worlds.{AttachedOf, with_edit}
 use Rattle.jup_world.proofs.Pairs.Grids.{column-more, own_edits-append, own_apart, others-append, meaning_one, same-meaning, row-past, column-shown, edits-append, each_shown, inserts_servers, inherits_clients, told_next, NextOther, next_other, row-more}
-use Rattle.jup_world.proofs.Known.{Each-append, inherits-end, edits_sent-append, named_by-append, Each-first, Each-second, Each-at, known_more, known_other, other_known, own_counts-more, all_changes_more, raw_named-more, raw_last, own_counts-above, own_known, known_own, raw_named-end}
+use Rattle.jup_world.proofs.Known.{All-append, inherits-end, edits_sent-append, named_by-append, All-first, All-second, All-at, known_more, known_other, other_known, own_counts-more, all_changes_more, raw_named-more, raw_last, own_counts-above, own_known, known_own, raw_named-end}
 use Rattle.jup_world.proofs.Answers.{answer_ok}
 
 -- The star takes an edit of another site: a site and its link stay in step.
@@ -83,10 +83,10 @@ module _ (O : Operations) (L : AreLawful O) where
           rest_named = order_named-other i past rest j e h.rest_named positive foreign next changes;
           board_known = h.board_known;
           from_known = subst (λ k. HoldsKnown O (own_counts O i k (λ j. named_by O i j past)) h.from) (sym not_named) h.from_known;
-          view_known = subst (λ es. Each (ChangesKnown O (own_counts O i a.site.named (λ j. named_by O i j past))) ((edits past ++ es) ++ h.raw)) (sym own_same) h.view_known;
-          falling_foreign = subst (λ s. Each (λ f. O.bears_site i f ≡ false) (edits_sent O s)) (sym stream)
-              (subst (λ es. Each (λ f. O.bears_site i f ≡ false) es) (sym (edits_sent-append O L (downs (a.down ++ l.outbox)) (message l.end op ∷ [])))
-              (Each-append (λ f. O.bears_site i f ≡ false) (edits_sent O (downs (a.down ++ l.outbox))) (O.t.edit_of op ∷ []) h.falling_foreign (L.not_of_site i (O.t.edit_of op) not_own, tt)));
+          view_known = subst (λ es. AllByRecursion (ChangesKnown O (own_counts O i a.site.named (λ j. named_by O i j past))) ((edits past ++ es) ++ h.raw)) (sym own_same) h.view_known;
+          falling_foreign = subst (λ s. AllByRecursion (λ f. O.bears_site i f ≡ false) (edits_sent O s)) (sym stream)
+              (subst (λ es. AllByRecursion (λ f. O.bears_site i f ≡ false) es) (sym (edits_sent-append O L (downs (a.down ++ l.outbox)) (message l.end op ∷ [])))
+              (All-append (λ f. O.bears_site i f ≡ false) (edits_sent O (downs (a.down ++ l.outbox))) (O.t.edit_of op ∷ []) h.falling_foreign (L.not_of_site i (O.t.edit_of op) not_own, tt)));
           positive = h.positive;
           site_number = h.site_number;
           link_number = h.link_number;
@@ -207,7 +207,7 @@ module _ (O : Operations) (L : AreLawful O) (most i : ℕ) (first : O.t.Content)
       ∙ same-meaning O L _ _ first row_next.1
     where
       known : (f : O.Edit) → IsIn f ((edits past ++ own_edits rest) ++ h.raw) → (n : O.t.Name) → O.t.changes f n → IsKnown O old_counts n
-      known f k = Each-at (ChangesKnown O (own_counts O i a.site.named (λ j. named_by O i j past))) ((edits past ++ own_edits rest) ++ h.raw) f k h.view_known
+      known f k = All-at (ChangesKnown O (own_counts O i a.site.named (λ j. named_by O i j past))) ((edits past ++ own_edits rest) ++ h.raw) f k h.view_known
 
   -- the ends are then in step
   stepped : InStepAt O.t 0 (O.t.after s h.from) (clients_past O h.site_ahead s) ss (O.t.after (received_operation O.t a.site.end m.heard m.op) a.site.board) held
@@ -224,19 +224,19 @@ module _ (O : Operations) (L : AreLawful O) (most i : ℕ) (first : O.t.Content)
       omega (arith, ap (named_by O i i) whole, named_by-append O L i i (told_next O L past rest) (drop (through_others 1 rest) rest))
 
   -- it knows all that its view changes
-  view_next : Each (ChangesKnown O new_counts) ((edits (told_next O L past rest) ++ own_edits (drop (through_others 1 rest) rest)) ++ h.raw)
+  view_next : AllByRecursion (ChangesKnown O new_counts) ((edits (told_next O L past rest) ++ own_edits (drop (through_others 1 rest) rest)) ++ h.raw)
   unfolding old_counts new_counts
   view_next =
       let all = all_changes_more O L old_counts new_counts more ((edits past ++ own_edits rest) ++ h.raw) h.view_known in
-      let list = Each-first (ChangesKnown O new_counts) (edits past ++ own_edits rest) h.raw all in
+      let list = All-first (ChangesKnown O new_counts) (edits past ++ own_edits rest) h.raw all in
       let parts = each_shown (ChangesKnown O new_counts) rest next.edit (others (drop (through_others 1 rest) rest)) next.others_are
-      (Each-second (ChangesKnown O new_counts) (edits past) (own_edits rest) list)
+      (All-second (ChangesKnown O new_counts) (edits past) (own_edits rest) list)
       (λ n d. known_here n (next.changes n d)) in
-      Each-append (ChangesKnown O new_counts) (edits (told_next O L past rest) ++ own_edits (drop (through_others 1 rest) rest)) h.raw
-      (subst (λ p. Each (ChangesKnown O new_counts) (p ++ own_edits (drop (through_others 1 rest) rest))) (sym told_is)
-      (Each-append (ChangesKnown O new_counts) (edits past ++ edits (take (through_others 1 rest) rest)) (own_edits (drop (through_others 1 rest) rest))
-      (Each-append (ChangesKnown O new_counts) (edits past) (edits (take (through_others 1 rest) rest)) (Each-first (ChangesKnown O new_counts) (edits past) (own_edits rest) list) parts.0) parts.1))
-      (Each-second (ChangesKnown O new_counts) (edits past ++ own_edits rest) h.raw all)
+      All-append (ChangesKnown O new_counts) (edits (told_next O L past rest) ++ own_edits (drop (through_others 1 rest) rest)) h.raw
+      (subst (λ p. AllByRecursion (ChangesKnown O new_counts) (p ++ own_edits (drop (through_others 1 rest) rest))) (sym told_is)
+      (All-append (ChangesKnown O new_counts) (edits past ++ edits (take (through_others 1 rest) rest)) (own_edits (drop (through_others 1 rest) rest))
+      (All-append (ChangesKnown O new_counts) (edits past) (edits (take (through_others 1 rest) rest)) (All-first (ChangesKnown O new_counts) (edits past) (own_edits rest) list) parts.0) parts.1))
+      (All-second (ChangesKnown O new_counts) (edits past ++ own_edits rest) h.raw all)
     where
       known_here : (n : O.t.Name) → IsKnown O (λ k. named_by O i k (told_next O L past rest)) n → IsKnown O new_counts n
       known_here n k = known_more O L (λ j. named_by O i j (told_next O L past rest)) new_counts n (own_counts-above O L i a.site.named (λ j. named_by O i j (told_next O L past rest)) own_told) k
@@ -269,7 +269,7 @@ module _ (O : Operations) (L : AreLawful O) (most i : ℕ) (first : O.t.Content)
         (from_held n (L.keeps.held_before h.from s n stepping.states.far_valid.0 x));
     board_known = λ n x. held_known n (L.keeps.held_before a.site.board (server_past_all O s h.site_ahead) n accepted (subst (λ o. O.t.holds (O.t.after o a.site.board) n) received_is x));
     view_known = view_next;
-    falling_foreign = subst (λ f. Each (λ e. O.bears_site i e ≡ false) (edits_sent O f)) (sym left) (subst (λ f. Each (λ e. O.bears_site i e ≡ false) (edits_sent O f)) comes h.falling_foreign).1;
+    falling_foreign = subst (λ f. AllByRecursion (λ e. O.bears_site i e ≡ false) (edits_sent O f)) (sym left) (subst (λ f. AllByRecursion (λ e. O.bears_site i e ≡ false) (edits_sent O f)) comes h.falling_foreign).1;
     positive = h.positive;
     site_number = h.site_number;
     link_number = h.link_number;
@@ -342,7 +342,7 @@ module _ (O : Operations) (L : AreLawful O) where
         let effect : O.t.content (O.t.after op a.site.board) ≡ O.t.meaning first (all ++ O.t.edit_of op ∷ []) =
         L.keeps.effect_one a.site.board op (client_distinct O.t L.lawful step) accepted
         ∙ ap (λ x. O.t.meaning x (O.t.edit_of op ∷ [])) h.shows
-        ∙ meaning_one O L first all (O.t.edit_of op) (λ n x f m d. fresh n x (Each-at (ChangesKnown O known_counts) all f m h.view_known n d) next) in
+        ∙ meaning_one O L first all (O.t.edit_of op) (λ n x f m d. fresh n x (All-at (ChangesKnown O known_counts) all f m h.view_known n d) next) in
         record {
           from = h.from;
           site_ahead = h.site_ahead ++ op ∷ [];
@@ -369,8 +369,8 @@ module _ (O : Operations) (L : AreLawful O) where
           rest_named = h.rest_named;
           board_known = λ n x. held_known n next more (L.keeps.held_before a.site.board op n accepted x);
           from_known = h.from_known;
-          view_known = subst (Each (ChangesKnown O more_counts)) (append_assoc (edits past ++ own_edits rest) h.raw (O.t.edit_of op ∷ []))
-              (Each-append (ChangesKnown O more_counts) all (O.t.edit_of op ∷ []) (all_changes_more O L known_counts more_counts more all h.view_known) (λ n x. held_known n next more (L.keeps.changes_held a.site.board op n accepted x), tt));
+          view_known = subst (AllByRecursion (ChangesKnown O more_counts)) (append_assoc (edits past ++ own_edits rest) h.raw (O.t.edit_of op ∷ []))
+              (All-append (ChangesKnown O more_counts) all (O.t.edit_of op ∷ []) (all_changes_more O L known_counts more_counts more all h.view_known) (λ n x. held_known n next more (L.keeps.changes_held a.site.board op n accepted x), tt));
           falling_foreign = h.falling_foreign;
           positive = h.positive;
           site_number = h.site_number;

@@ -1,10 +1,10 @@
 -- Edits past each other, as a site and the star send them.
 use Rattle.std.proofs.Common.{inl, inr, ◌≡◌, List, [], ◌∷◌, ◌++◌, refl, sym, ◌∙◌, append_assoc, append-nil, ℕ, take, drop, ap, zero, suc, subst, ◌⊎◌, ◌+◌, ◌≤◌, ◌<◌, Bool, true, false, cond, nat_eq, arith, eq-eqb, if◌then◌else◌, length, Some, None, option_to_list}
-use Rattle.jup_world.specs.Prelude.{Client, Server, row_operation, row_entries, AllApart, mirror, Msg, Message, sent, InStepAt, Link, Ack, generated, after_count, after_ack, answered, owes, Operations, AreLawful, Up, Down, UpAck, UpPing, DownAck, DownPong, ups, downs, LinkState, owed_down, link_acked, link_ponged, with_end, owed_up, ups-append, downs-append}
+use Rattle.jup_world.specs.Prelude.{Client, Server, row_operation, row_entries, AllApart, mirror, Msg, Message, sent, InStepAt, Link, Ack, generated, after_count, after_ack, answered, owes, Operations, AreLawful, Up, Down, UpAck, UpPing, DownAck, DownPong, ups, downs, LinkState, owed_down, link_acked, link_ponged, with_end, owed_up, ups-append, downs-append, AllByRecursion}
 use Rattle.jup_xform.specs.Rows.{SomeOf}
 use Rattle.jup_xform.specs.Laws.Grids.{AllApart-entry, IsLawful-mirror, row_operation-append}
 use Rattle.jup_link.specs.Laws.Steps.{first_up, first_down, client_acks, server_acks, client_counts, server_counts, length-after_count, generated-after_count}
-use Rattle.jup_world.specs.Traces.{IsIn, Turn, Own, Other, edits, own_edits, through_others, Each, others}
+use Rattle.jup_world.specs.Traces.{IsIn, Turn, Own, Other, edits, own_edits, through_others, others}
 use Rattle.jup_world.specs.Sound.{SameMeaning, StandsFor, server_past_all, clients_past, client_past_all, servers_past, RowStands, Shows, IsKnown, ChangesKnown, IsMoved, named_by, Inherits, RawNamed, OrderNamed, Paired, edits_sent}
 use Rattle.jup_world.specs.Worlds.{AttachedOf, pinged}
 use Rattle.jup_world.proofs.Known.{named_by-append, known_more, edits_sent-append}
@@ -195,10 +195,10 @@ module _ (O : Operations) (L : AreLawful O) where
 -- The operations of a queue, which represent entries of the order, and an operation past them.
 
 -- each of what is left of a list
-pub Each-drop : {A : Type 0} (P : A → Type 0) → (n : ℕ) (xs : List A) → Each P xs → Each P (drop n xs)
-Each-drop P zero xs h = h
-Each-drop P (suc n) [] h = tt
-Each-drop P (suc n) (x ∷ xs) h = Each-drop P n xs h.1
+pub All-drop : {A : Type 0} (P : A → Type 0) → (n : ℕ) (xs : List A) → AllByRecursion P xs → AllByRecursion P (drop n xs)
+All-drop P zero xs h = h
+All-drop P (suc n) [] h = tt
+All-drop P (suc n) (x ∷ xs) h = All-drop P n xs h.1
 
 module _ (O : Operations) (L : AreLawful O) where
   -- an operation past what is left of the star's means what it meant, anywhere after the star's
@@ -220,7 +220,7 @@ module _ (O : Operations) (L : AreLawful O) where
       (subst (λ fs. SameMeaning O (fs ++ O.t.edit_of (O.t.client_past c s) ∷ []) (fs ++ O.t.edit_of c ∷ [])) (append_assoc h.before (h.meant ∷ []) h.later ∙ sym h.stands) all)
 
   -- past all of them
-  pub row-same : (es : List O.Edit) (q : List O.Op) → Each (IsMoved O es) q → (c : O.Op) → SameMeaning O (es ++ O.t.edit_of (row_operation O.t.client_past c q) ∷ []) (es ++ O.t.edit_of c ∷ [])
+  pub row-same : (es : List O.Edit) (q : List O.Op) → AllByRecursion (IsMoved O es) q → (c : O.Op) → SameMeaning O (es ++ O.t.edit_of (row_operation O.t.client_past c q) ∷ []) (es ++ O.t.edit_of c ∷ [])
   row-same es [] h c = same-refl O L _
   row-same es (b ∷ bs) h c = same-trans O L _ _ _ (row-same es bs h.1 (O.t.client_past c b)) (moved-same es b h.0 c)
 
@@ -237,7 +237,7 @@ module _ (O : Operations) (L : AreLawful O) where
     is = ap (λ d. O.t.server_past d c) h.is ∙ sym (row_operation-append O.t.server_past h.applied h.past (c ∷ []));
   }
 
-  pub row-moved : (es : List O.Edit) (q : List O.Op) → Each (IsMoved O es) q → (c : O.Op) → Each (IsMoved O es) (row_entries O.t.client_past O.t.server_past c q)
+  pub row-moved : (es : List O.Edit) (q : List O.Op) → AllByRecursion (IsMoved O es) q → (c : O.Op) → AllByRecursion (IsMoved O es) (row_entries O.t.client_past O.t.server_past c q)
   row-moved es [] h c = tt
   row-moved es (b ∷ bs) h c = (moved-past es b h.0 c, row-moved es bs h.1 (O.t.client_past c b))
 
@@ -260,7 +260,7 @@ module _ (O : Operations) (L : AreLawful O) where
 
   module _ (counts : ℕ → ℕ) where
     -- what an operation changes is still changed by it past a queue, or is known
-    pub row-changes : (q : List O.Op) → Each (λ b. ChangesKnown O counts (O.t.edit_of b)) q → (c : O.Op) (n : O.t.Name) → O.t.changes (O.t.edit_of c) n
+    pub row-changes : (q : List O.Op) → AllByRecursion (λ b. ChangesKnown O counts (O.t.edit_of b)) q → (c : O.Op) (n : O.t.Name) → O.t.changes (O.t.edit_of c) n
         → O.t.changes (O.t.edit_of (row_operation O.t.client_past c q)) n ⊎ IsKnown O counts n
     row-changes [] h c n x = inl x
     row-changes (b ∷ bs) h c n x = elim (L.keeps.changes_client c b n x) [
@@ -269,16 +269,16 @@ module _ (O : Operations) (L : AreLawful O) where
     ]
 
     -- and what the queue changes past it is known
-    pub row-known : (q : List O.Op) → Each (λ b. ChangesKnown O counts (O.t.edit_of b)) q → (c : O.Op)
-        → Each (λ b. ChangesKnown O counts (O.t.edit_of b)) (row_entries O.t.client_past O.t.server_past c q)
+    pub row-known : (q : List O.Op) → AllByRecursion (λ b. ChangesKnown O counts (O.t.edit_of b)) q → (c : O.Op)
+        → AllByRecursion (λ b. ChangesKnown O counts (O.t.edit_of b)) (row_entries O.t.client_past O.t.server_past c q)
     row-known [] h c = tt
     row-known (b ∷ bs) h c = ((λ n x. h.0 n (L.keeps.changes_server b c n x)), row-known bs h.1 (O.t.client_past c b))
 
 -- The next edit that a site receives, and what may be concurrent with a site's own edits.
 
 -- what holds of a site's own edits and of the next of another holds up to that one
-pub each_shown : {E : Type 0} (Q : E → Type 0) → (ts : List (Turn E)) (e : E) (es : List E) → others ts ≡ e ∷ es → Each Q (own_edits ts) → Q e
-    → Each Q (edits (take (through_others 1 ts) ts)) × Each Q (own_edits (drop (through_others 1 ts) ts))
+pub each_shown : {E : Type 0} (Q : E → Type 0) → (ts : List (Turn E)) (e : E) (es : List E) → others ts ≡ e ∷ es → AllByRecursion Q (own_edits ts) → Q e
+    → AllByRecursion Q (edits (take (through_others 1 ts) ts)) × AllByRecursion Q (own_edits (drop (through_others 1 ts) ts))
 each_shown Q [] e es h k q = absurd (cc)
 each_shown Q (Own f ∷ ts) e es h k q = let rest = each_shown Q ts e es h k.1 q in ((k.0, rest.0), rest.1)
 each_shown Q (Other j f ∷ ts) e es h k q = let same : e ≡ f = cc in ((subst Q same q, tt), k)
@@ -443,7 +443,7 @@ module _ (O : Operations) (L : AreLawful O) where
       board_known = h.board_known;
       from_known = h.from_known;
       view_known = h.view_known;
-      falling_foreign = subst (Each (λ e. O.bears_site i e ≡ false)) (sym down_same) h.falling_foreign;
+      falling_foreign = subst (AllByRecursion (λ e. O.bears_site i e ≡ false)) (sym down_same) h.falling_foreign;
       positive = h.positive;
       site_number = h.site_number;
       link_number = h.link_number;

@@ -1,10 +1,10 @@
 -- A site keeps its place of the order.
 use Rattle.std.proofs.Common.{◌≡◌, ℕ, ◌+◌, ◌-◌, ◌≤◌, ◌⊎◌, inl, inr, Bool, true, false, cond, List, [], ◌∷◌, ◌++◌, length, nat_eq, refl, ap, sym, ◌∙◌, subst, arith, IsTrue, append_assoc, append-nil, length-append, le_refl, eq-eqb, zero, suc, take, drop, length-drop, add-one, Ok, take-append-drop, take-add, drop-drop, ◌<◌, Some, None}
 use Rattle.std.proofs.lemmas.List.{drop-append-le, take-append-le}
-use Rattle.jup_world.specs.Prelude.{most_beyond, AllApart, Msg, Message, IsCount, IsNumber, received_operation, after_receive, sent, InStepAt, after_count, Operations, AreLawful, Up, UpOp, UpAck, UpPing, Down, DownOp, DownAck, DownPong, LogFull, ups, downs, LinkState, operation_at, link_heard, link_sent, link_acked, link_ponged, link_fetched, StarOf, up_fault, entry, edit_answer, with_end, deliver_fault}
+use Rattle.jup_world.specs.Prelude.{most_beyond, AllApart, Msg, Message, IsCount, IsNumber, received_operation, after_receive, sent, InStepAt, after_count, Operations, AreLawful, Up, UpOp, UpAck, UpPing, Down, DownOp, DownAck, DownPong, LogFull, ups, downs, LinkState, operation_at, link_heard, link_sent, link_acked, link_ponged, link_fetched, StarOf, up_fault, entry, edit_answer, with_end, deliver_fault, AllByRecursion}
 use Rattle.jup_xform.specs.Laws.Grids.{length-row_entries}
 use Rattle.jup_link.specs.Laws.Steps.{small_next, server_receives, generated-after_receive, client_counts, server_counts}
-use Rattle.jup_world.specs.Traces.{Each, Turn, Own, Other, edits, own_edits, others, through_others, turns}
+use Rattle.jup_world.specs.Traces.{Turn, Own, Other, edits, own_edits, others, through_others, turns}
 use Rattle.jup_world.specs.Sound.{SameMeaning, StandsFor, client_past_all, servers_past, RowStands, Shows, edits_sent, named_by, IsKnown, own_counts, ChangesKnown, ChangesHeld, Inherits, RawNamed, OrderNamed, Paired, told_of, Standing, named_in, edits_in}
 use Rattle.jup_world.specs.Worlds.{AttachedOf, with_edit, one_taken, one_handed, with_fetched}
 use Rattle.jup_world.proofs.Pairs.Grids.{stands-now, column-taken, own_edits-append, inserts_clients, inherits_servers, others-append, told_next, edits-append, first_rising, first_falling, next_other, pair-link_settles, pair-site_settles, pair-up_acked, pair-up_asked, pair-down_acked, pair-streams}
@@ -145,7 +145,7 @@ module _ (O : Operations) (L : AreLawful O) where
       board_known = h.board_known;
       from_known = λ n x. subst (λ k. IsKnown O (own_counts O i k (λ j. named_by O i j past)) n) (sym (ap (named_by O i i) whole_taken ∙ named_own i (past ++ rest) (O.t.edit_of m.op)))
           (from_held n (L.keeps.held_before h.from c n stepping.states.near_valid.0 x));
-      view_known = subst (λ es. Each (ChangesKnown O (own_counts O i a.site.named (λ j. named_by O i j past))) es) (sym moved) h.view_known;
+      view_known = subst (λ es. AllByRecursion (ChangesKnown O (own_counts O i a.site.named (λ j. named_by O i j past))) es) (sym moved) h.view_known;
       falling_foreign = h.falling_foreign;
       positive = h.positive;
       site_number = h.site_number;
@@ -375,7 +375,7 @@ module _ (O : Operations) (L : AreLawful O) (most : ℕ) (first : O.t.Content) (
       let accepts = pair_fits O L most i first past rest s.board mine l a st.pair room m (downs (falling ++ drop gone l.outbox)) comes
       falling (drop gone l.outbox) refl head.0 head.1 head.2 in
       deliver_fits O L a.site m st.pair.goes_on accepts.0 accepts.1
-      (subst (λ k. O.bears_site k (O.t.edit_of m.op) ≡ false) (sym st.pair.site_number) (subst (λ f. Each (λ e. O.bears_site i e ≡ false) (edits_sent O f)) comes st.pair.falling_foreign).0)
+      (subst (λ k. O.bears_site k (O.t.edit_of m.op) ≡ false) (sym st.pair.site_number) (subst (λ f. AllByRecursion (λ e. O.bears_site i e ≡ false) (edits_sent O f)) comes st.pair.falling_foreign).0)
       accepts.2
   place-fits (DownAck k) gone falling comes =
       let step = subst (λ r. InStepAt O.t 0 st.pair.from st.pair.site_ahead st.pair.star_ahead a.site.board s.board a.site.end l.end (ups a.up) r) comes st.pair.in_step in

@@ -1,8 +1,8 @@
 -- A sound world is sound after each event.
 use Rattle.std.proofs.Common.{◌≡◌, ℕ, ◌+◌, ◌≤◌, List, [], ◌∷◌, ◌++◌, length, ap, sym, ◌∙◌, subst, Option, Some, option_map, append-nil, add-zero, arith, ◌<◌, drop, take, refl, take_all, drop_of_length-le, length-append, le_refl, Bool, true, false, cond, nat_eq, None, eq-eqb, eqb-true, ne_eqb, Ok, take-append-drop}
-use Rattle.jup_world.specs.Prelude.{most_beyond, Msg, sent, Operations, AreLawful, Down, DownOp, UpOp, LinkState, link_of, without, at_link, with_links, left, StarOf, opened_link, joined, link_fetched, fetched, operation_at, link_sent, link_heard, up_fault, entry, taken, opened_site, edit_answer, deliver_fault, downs, found, found-end, found-end_other, EditFault}
+use Rattle.jup_world.specs.Prelude.{most_beyond, Msg, sent, Operations, AreLawful, Down, DownOp, UpOp, LinkState, link_of, without, at_link, with_links, left, StarOf, opened_link, joined, link_fetched, fetched, operation_at, link_sent, link_heard, up_fault, entry, taken, opened_site, edit_answer, deliver_fault, downs, found, found-end, found-end_other, EditFault, AllByRecursion}
 use Rattle.jup_link.specs.Laws.Steps.{small_le, InStepAt-opened}
-use Rattle.jup_world.specs.Traces.{turns, made, order_of, joined_at, shown_count, Each, edits, own_edits, edit_made, entry_taken, join_seen, was_shown, Own, Other, turn}
+use Rattle.jup_world.specs.Traces.{turns, made, order_of, joined_at, shown_count, edits, own_edits, edit_made, entry_taken, join_seen, was_shown, Own, Other, turn}
 use Rattle.jup_world.specs.Worlds.{attached, at_site, without_site, WorldOf, AttachedOf, EventOf, ReplyOf, new_site, with_edit, one_handed, HappenedOf, one_taken}
 use Rattle.jup_world.specs.Sound.{IsSoundStar, StandsAt, IsSound, named_by, own_counts, ChangesKnown, HoldsKnown, Paired, told_of, Standing, SoundLinkAt}
 use Rattle.jup_world.specs.declared.events.Reply.TheVariants.{Joined, Made, Shown, Taken}
@@ -127,7 +127,7 @@ module _ (O : Operations) (L : AreLawful O) (most : ℕ) (first : O.t.Content) (
     rest_named = tt;
     board_known = knows;
     from_known = subst (λ k. HoldsKnown O (own_counts O i k (λ j. named_by O i j (turns i s.order))) s.board) (sym none_named) knows;
-    view_known = subst (Each (ChangesKnown O (own_counts O i 0 (λ j. named_by O i j (turns i s.order))))) (edits-turns 0 i s.order ∙ sym (all_nil (edits (turns i s.order))))
+    view_known = subst (AllByRecursion (ChangesKnown O (own_counts O i 0 (λ j. named_by O i j (turns i s.order))))) (edits-turns 0 i s.order ∙ sym (all_nil (edits (turns i s.order))))
         (all_changes_more O L (λ j. named_by O 0 j (turns 0 s.order)) (own_counts O i 0 (λ j. named_by O i j (turns i s.order))) counts (edits (turns 0 s.order)) h.order_known);
     falling_foreign = tt;
     positive = omega (arith, next);

@@ -1,11 +1,11 @@
 -- The counts of links and of traces.
 use Rattle.std.proofs.Common.{◌≡◌, ℕ, ◌+◌, Bool, true, false, List, [], ◌∷◌, ◌++◌, drop, refl, ap, sym, ◌∙◌, None, arith, length-append, append_assoc, leb-true, leb-false, if◌then◌else◌, ◌<◌, length, subst, Option, Some, option_map, take, take-append-drop, eq-eqb, cond, not, map, filter, nat_eq, append-nil, eqb-true}
 use Rattle.std.proofs.lemmas.Bool.{and_parts}
-use Rattle.jup_world.specs.Prelude.{answer_after, Ghosts, Msg, Link, IsCount, generated, accepts_count, after_ack, answered, owes, next_message, Comes, InStepAt, Operations, AreLawful, Down, DownOp, DownAck, DownPong, SiteBadOp as BadOp, UpOp, UpAck, UpPing, test, LinkState, link_acked, link_ponged, link_fetched, link_sent, link_heard, end_after, without, opened_link, operation_at, link_of, at_link, joined, running_test, heard_tests, deliver_tests, fits_shown, deliver_fault, ups, downs, found-end, found-end_other, EditFault}
+use Rattle.jup_world.specs.Prelude.{answer_after, Ghosts, Msg, Link, IsCount, generated, accepts_count, after_ack, answered, owes, next_message, Comes, InStepAt, Operations, AreLawful, Down, DownOp, DownAck, DownPong, SiteBadOp as BadOp, UpOp, UpAck, UpPing, test, LinkState, link_acked, link_ponged, link_fetched, link_sent, link_heard, end_after, without, opened_link, operation_at, link_of, at_link, joined, running_test, heard_tests, deliver_tests, fits_shown, deliver_fault, ups, downs, found-end, found-end_other, EditFault, AllByRecursion}
 use Rattle.jup_link.specs.Laws.Steps.{generated-after_count, generated-after_receive, client_generated}
 use Rattle.jup_star.proofs.FaultTests.{all_hold}
 use Rattle.jup_world.specs.Worlds.{AttachedOf, with_edit, one_taken, one_handed, pinged, WorldOf, EventOf, attached, at_site, without_site, Outcome, new_site, with_fetched, only_fetched, outcome, happens, run, ReplyOf, is_number, unchanged}
-use Rattle.jup_world.specs.Traces.{made, told_count, Counts, turns, joined_at, shown_count, CountsAt, AllCount, BacklogIsShort, Each, edit_made, gives, numbers_given, CountsItsEdits, IsTallied, Tallies}
+use Rattle.jup_world.specs.Traces.{made, told_count, Counts, turns, joined_at, shown_count, CountsAt, AllCount, BacklogIsShort, edit_made, gives, numbers_given, CountsItsEdits, IsTallied, Tallies}
 use Rattle.jup_world.specs.Sound.{Standing, IsSound}
 use Rattle.jup_world.specs.declared.events.Reply.TheVariants.{Joined, Made}
 use Rattle.jup_world.specs.Events.{Join, Edit as MakeEdit, Down as MoveDown, Ping as SendPing, JoinStray, Happened}
@@ -231,26 +231,26 @@ module _ (O : Operations) (L : AreLawful O) where
 -- # Each of a list
 
 -- with each element changed
-each-mapped : {A : Type 0} (P Q : A → Type 0) (f : A → A) → ((a : A) → P a → Q (f a)) → (xs : List A) → Each P xs → Each Q (map f xs)
+each-mapped : {A : Type 0} (P Q : A → Type 0) (f : A → A) → ((a : A) → P a → Q (f a)) → (xs : List A) → AllByRecursion P xs → AllByRecursion Q (map f xs)
 each-mapped P Q f h [] each = tt
 each-mapped P Q f h (x ∷ xs) each = (h x each.0, each-mapped P Q f h xs each.1)
 
 -- as it is
-each-implied : {A : Type 0} (P Q : A → Type 0) → ((a : A) → P a → Q a) → (xs : List A) → Each P xs → Each Q xs
+each-implied : {A : Type 0} (P Q : A → Type 0) → ((a : A) → P a → Q a) → (xs : List A) → AllByRecursion P xs → AllByRecursion Q xs
 each-implied P Q h [] each = tt
 each-implied P Q h (x ∷ xs) each = (h x each.0, each-implied P Q h xs each.1)
 
 -- some of them
-each-some : {A : Type 0} (P Q : A → Type 0) (keep : A → Bool) → ((a : A) → P a → Q a) → (xs : List A) → Each P xs → Each Q (filter keep xs)
+each-some : {A : Type 0} (P Q : A → Type 0) (keep : A → Bool) → ((a : A) → P a → Q a) → (xs : List A) → AllByRecursion P xs → AllByRecursion Q (filter keep xs)
 each-some P Q keep h [] each = tt
 each-some {A = A} P Q keep h (x ∷ xs) each = kept (keep x) (h x each.0) (each-some P Q keep h xs each.1)
   where
-    kept : (b : Bool) → Q x → Each Q (filter keep xs) → Each Q (cond b (x ∷ filter keep xs) (filter keep xs))
+    kept : (b : Bool) → Q x → AllByRecursion Q (filter keep xs) → AllByRecursion Q (cond b (x ∷ filter keep xs) (filter keep xs))
     kept true here rest = (here, rest)
     kept false here rest = rest
 
 -- and one more
-each-more : {A : Type 0} (P Q : A → Type 0) (y : A) → ((a : A) → P a → Q a) → (xs : List A) → Each P xs → Q y → Each Q (xs ++ y ∷ [])
+each-more : {A : Type 0} (P Q : A → Type 0) (y : A) → ((a : A) → P a → Q a) → (xs : List A) → AllByRecursion P xs → Q y → AllByRecursion Q (xs ++ y ∷ [])
 each-more P Q y h [] each last = (last, tt)
 each-more P Q y h (x ∷ xs) each last = (h x each.0, each-more P Q y h xs each.1 last)
 
@@ -266,7 +266,7 @@ module _ (O : Operations) where
 
   -- what an outcome leaves
   abbrev IsTallyOf : WorldOf O → EventOf O → Outcome O → Type 0
-  IsTallyOf w e o = (o.star.given ≡ w.star.given + gives o.reply) × Each (CountsItsEdits O (noted w e o.reply)) o.sites
+  IsTallyOf w e o = (o.star.given ≡ w.star.given + gives o.reply) × AllByRecursion (CountsItsEdits O (noted w e o.reply)) o.sites
 
   -- a site that made no edit at an event
   quiet_site : (w : WorldOf O) (e : EventOf O) (r : ReplyOf O) (a b : AttachedOf O) → edit_made a.site.number e r ≡ [] → b.site.number ≡ a.site.number → b.site.made ≡ a.site.made
@@ -297,13 +297,13 @@ module _ (O : Operations) where
       apart true e = absurd (let same = eqb-true i a.site.number e in let not_same : nat_eq a.site.number i ≡ true = eq-eqb a.site.number i (sym same) in cc)
 
   -- nothing changes
-  same_tally : (w : WorldOf O) (e : EventOf O) (r : ReplyOf O) → ((j : ℕ) → edit_made j e r ≡ []) → gives r ≡ 0 → Each (CountsItsEdits O w.trace) w.sites → IsTallyOf w e (unchanged O w r)
+  same_tally : (w : WorldOf O) (e : EventOf O) (r : ReplyOf O) → ((j : ℕ) → edit_made j e r ≡ []) → gives r ≡ 0 → AllByRecursion (CountsItsEdits O w.trace) w.sites → IsTallyOf w e (unchanged O w r)
   same_tally w e r none zero all = (omega (arith, zero), each-implied (CountsItsEdits O w.trace) (CountsItsEdits O (noted w e r)) (λ a. quiet_site w e r a a (none a.site.number) refl refl) w.sites all)
 
   -- one site changed, and made no edit
   one_changed : (w : WorldOf O) (e : EventOf O) (r : ReplyOf O) (i : ℕ) (f : AttachedOf O → AttachedOf O) → ((j : ℕ) → edit_made j e r ≡ [])
       → ((a : AttachedOf O) → (f a).site.number ≡ a.site.number) → ((a : AttachedOf O) → (f a).site.made ≡ a.site.made)
-      → Each (CountsItsEdits O w.trace) w.sites → Each (CountsItsEdits O (noted w e r)) (at_site i f w.sites)
+      → AllByRecursion (CountsItsEdits O w.trace) w.sites → AllByRecursion (CountsItsEdits O (noted w e r)) (at_site i f w.sites)
   one_changed w e r i f none number same = each-mapped (CountsItsEdits O w.trace) (CountsItsEdits O (noted w e r)) (λ a. if is_number i a then f a else a) (λ a. chosen a (is_number i a)) w.sites
     where
       chosen : (a : AttachedOf O) (b : Bool) → CountsItsEdits O w.trace a → CountsItsEdits O (noted w e r) (if b then f a else a)
@@ -311,8 +311,8 @@ module _ (O : Operations) where
       chosen a false = quiet_site w e r a a (none a.site.number) refl refl
 
   -- one site dropped
-  one_dropped : (w : WorldOf O) (e : EventOf O) (r : ReplyOf O) (i : ℕ) → ((j : ℕ) → edit_made j e r ≡ []) → Each (CountsItsEdits O w.trace) w.sites
-      → Each (CountsItsEdits O (noted w e r)) (without_site i w.sites)
+  one_dropped : (w : WorldOf O) (e : EventOf O) (r : ReplyOf O) (i : ℕ) → ((j : ℕ) → edit_made j e r ≡ []) → AllByRecursion (CountsItsEdits O w.trace) w.sites
+      → AllByRecursion (CountsItsEdits O (noted w e r)) (without_site i w.sites)
   one_dropped w e r i none = each-some (CountsItsEdits O w.trace) (CountsItsEdits O (noted w e r)) (λ a. not (is_number i a)) (λ a. quiet_site w e r a a (none a.site.number) refl refl) w.sites
 
   -- what changes nothing, or lets a link go, gives no number
@@ -328,7 +328,7 @@ module _ (O : Operations) where
   gone_gives w (IsDropped up fault brought f) = refl
 
   -- an event, by its outcome
-  step_tally : (w : WorldOf O) → Each (CountsItsEdits O w.trace) w.sites → made (w.star.given + 1) w.trace ≡ [] → (e : EventOf O) (o : Outcome O) → StepOf O w e o → IsTallyOf w e o
+  step_tally : (w : WorldOf O) → AllByRecursion (CountsItsEdits O w.trace) w.sites → made (w.star.given + 1) w.trace ≡ [] → (e : EventOf O) (o : Outcome O) → StepOf O w e o → IsTallyOf w e o
   step_tally w all new e o (Still why) = same_tally w e _ (still_silent O w why).no_edit (still_gives w why) all
   step_tally w all new e o (Enters none) = (
     refl,
@@ -378,7 +378,7 @@ module _ (O : Operations) where
   pub tallies : (w : WorldOf O) → IsTallied O w → Tallies O w
   tallies w is = record { given = is.given; made = λ i a found. one i a w.sites found is.made }
     where
-      one : (i : ℕ) (a : AttachedOf O) (sites : List (AttachedOf O)) → attached i sites ≡ Some a → Each (CountsItsEdits O w.trace) sites → a.site.made ≡ length (made i w.trace)
+      one : (i : ℕ) (a : AttachedOf O) (sites : List (AttachedOf O)) → attached i sites ≡ Some a → AllByRecursion (CountsItsEdits O w.trace) sites → a.site.made ≡ length (made i w.trace)
       one i a [] found all = absurd cc
       one i a (x ∷ later) found all = step (is_number i x) refl (λ h. one i a later h all.1) found
         where

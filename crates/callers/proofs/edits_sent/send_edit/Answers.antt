@@ -1,6 +1,6 @@
 use Rattle.std.proofs.Common.{◌≡◌, ◌∙◌, ◌+◌, ◌<◌, ◌⊎◌, ℕ, List, Option, Some, None, [], ◌∷◌, ◌++◌, length, take, subst, sym, ap, inl, inr, replicate}
 use Rattle.std.proofs.lemmas.List.{take_more, take_all}
-use Rattle.jup_wire.specs.Lines.{IsCount}
+use Rattle.jup_wire.specs.Fields.{IsCount}
 use Rattle.jup_gather.specs.Gathering.{message_lines, GathersAll}
 use Rattle.callers.proofs.Calls.{HasSent, one_more_sent, message_of, sent_whole}
 use Rattle.callers.proofs.edits_sent.send_edit.Goals as goal

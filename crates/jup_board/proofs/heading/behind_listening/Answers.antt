@@ -1,5 +1,4 @@
-use Rattle.std.proofs.Common.{◌≡◌, ◌≢◌, rules}
-use Rattle.std.specs.Prelude.{codes}
+use Rattle.std.proofs.Common.{◌≡◌, ◌≢◌, rules, codes}
 use Rattle.jup_board.proofs.Texts.{listening, uncut_listening, unspaced_listening, other_word}
 use Rattle.jup_board.proofs.heading.behind_listening.Goals as goal
 

@@ -1,5 +1,4 @@
-use Rattle.std.proofs.Common.{◌≡◌, ◌≢◌, rules}
-use Rattle.std.specs.Prelude.{codes}
+use Rattle.std.proofs.Common.{◌≡◌, ◌≢◌, rules, codes}
 use Rattle.jup_board.proofs.Texts.{order, uncut_order, unspaced_order, no_number, other_order}
 use Rattle.jup_board.proofs.heading.behind_order.Goals as goal
 

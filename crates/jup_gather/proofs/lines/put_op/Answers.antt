@@ -1,5 +1,4 @@
-use Rattle.std.proofs.Common.{◌∷◌, [], length, take, ap, arith, subst, sym, ◌∙◌}
-use Rattle.std.specs.Prelude.{map}
+use Rattle.std.proofs.Common.{◌∷◌, [], length, take, ap, arith, subst, sym, ◌∙◌, map}
 use Rattle.std.proofs.lemmas.List.{map-append, take_all}
 use Rattle.jup_gather.specs.Prelude.{Batch, Do, take_one_more}
 use Rattle.jup_gather.proofs.lines.put_op.Goals as goal

@@ -1,5 +1,4 @@
-use Rattle.std.proofs.Common.{◌∷◌, length, take}
-use Rattle.std.specs.Prelude.{map}
+use Rattle.std.proofs.Common.{◌∷◌, length, take, map}
 use Rattle.jup_gather.specs.Prelude.{Batch, Do}
 use Rattle.jup_gather.proofs.lines.put_op.Given as goal
 

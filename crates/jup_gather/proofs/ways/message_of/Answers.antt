@@ -1,5 +1,4 @@
-use Rattle.std.proofs.Common.{sym, ap, ◌∙◌}
-use Rattle.std.specs.Option.{ok_or}
+use Rattle.std.proofs.Common.{sym, ap, ◌∙◌, ok_or}
 use Rattle.jup_gather.specs.Prelude.{Whole}
 use Rattle.jup_gather.specs.Gathering.{message_given}
 use Rattle.jup_gather.proofs.ways.message_of.Goals as goal

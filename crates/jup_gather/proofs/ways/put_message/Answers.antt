@@ -1,5 +1,4 @@
-use Rattle.std.proofs.Common.{sym, ap, subst, ◌∙◌}
-use Rattle.std.specs.Prelude.{OnOk}
+use Rattle.std.proofs.Common.{sym, ap, subst, ◌∙◌, OnOk}
 use Rattle.jup_gather.specs.Gathering.{Piece, piece_lines, shape_piece}
 use Rattle.jup_gather.proofs.ways.put_message.Goals as goal
 

@@ -1,5 +1,4 @@
-use Rattle.std.proofs.Common.{◌≡◌, ◌≤◌, take}
-use Rattle.std.specs.Prelude.{count_by}
+use Rattle.std.proofs.Common.{◌≡◌, ◌≤◌, take, count_by}
 use Rattle.jup_rules.specs.Sessions.{is_pong}
 use Rattle.jup_rules.proofs.session.pongs_in.Given as goal
 

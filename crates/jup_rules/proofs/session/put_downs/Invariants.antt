@@ -1,5 +1,4 @@
-use Rattle.std.proofs.Common.{take}
-use Rattle.std.specs.List.{flat_map}
+use Rattle.std.proofs.Common.{take, flat_map}
 use Rattle.jup_rules.specs.Sessions.{down_lines}
 use Rattle.jup_rules.proofs.session.put_downs.Given as goal
 

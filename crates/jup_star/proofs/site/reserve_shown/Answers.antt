@@ -1,5 +1,4 @@
-use Rattle.std.proofs.Common.{rules, ◌≡◌, true, refl}
-use Rattle.std.specs.Prelude.{nat_le}
+use Rattle.std.proofs.Common.{rules, ◌≡◌, true, refl, nat_le}
 use Rattle.std.proofs.lemmas.Bool.{le-leb}
 use Rattle.jup_batch.specs.Boards as board
 use Rattle.jup_batch.specs.Laws.Boards.{inserts_where_room_lacks}

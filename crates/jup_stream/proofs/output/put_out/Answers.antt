@@ -1,4 +1,3 @@
-use Rattle.jup_stream.specs.Streams.{Put, put_as, Puts}
 use Rattle.jup_stream.proofs.Streams.{puts_dropped, puts_behind}
 use Rattle.jup_stream.proofs.output.put_out.Goals as goal
 

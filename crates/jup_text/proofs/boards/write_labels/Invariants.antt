@@ -1,7 +1,6 @@
 use Rattle.std.proofs.Common.{◌≡◌, ◌∷◌, ◌++◌, List, ℕ}
 use Rattle.std.specs.Fmt.{HasWritten, IsPlainFormatter}
-use Rattle.std.specs.List.{flat_map}
-use Rattle.jup_text.specs.Prelude.{Item}
+use Rattle.jup_text.specs.Prelude.{Item, flat_map}
 use Rattle.jup_text.specs.Words.{quoted}
 use Rattle.jup_text.proofs.boards.write_labels.Given as goal
 

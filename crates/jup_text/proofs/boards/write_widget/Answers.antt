@@ -1,18 +1,10 @@
-use Rattle.std.proofs.Common.{ℕ, List, [], ◌∷◌, ◌++◌, rules}
-use Rattle.std.specs.Prelude.{codes, decimal}
+use Rattle.std.proofs.Common.{ℕ, List, [], ◌∷◌, ◌++◌, rules, codes, decimal}
 use Rattle.std.specs.Fmt.{HasWritten}
-use Rattle.std.specs.List.{flat_map}
-use Rattle.std.proofs.Output.{has_written_of_eq}
 use Rattle.std.proofs.lemmas.Grind.{put_three}
-use Rattle.jup_text.specs.Prelude.{Item}
+use Rattle.jup_text.specs.Prelude.{Item, flat_map}
 use Rattle.jup_text.specs.Words.{quoted}
-use Rattle.jup_text.proofs.BoardLines.{labels_line, slider_line}
+use Rattle.jup_text.proofs.BoardLines.{labels_line}
 use Rattle.jup_text.proofs.boards.write_widget.Goals as goal
-
-pub returns-in-Slider : goal.returns-in-Slider
-returns-in-Slider g c plain ok =
-    rw c.in-Slider.is (rw (← c.lo-lo.ensures, ← c.hi-hi.ensures, ← c.value-value.ensures.value)
-    (has_written_of_eq _ _ _ _ _ (slider_line c.args.entry.now.0 c.lo-lo.result c.hi-hi.result c.value-value.result) (search rules)))
 
 pub returns-in_ok-write_labels-in-List : goal.returns-in_ok-write_labels-in-List
 returns-in_ok-write_labels-in-List g c plain ok =

@@ -1,5 +1,4 @@
-use Rattle.std.proofs.Common.{◌≡◌, ◌≢◌, ℕ, List, subst, rules}
-use Rattle.std.specs.Prelude.{codes}
+use Rattle.std.proofs.Common.{◌≡◌, ◌≢◌, ℕ, List, subst, rules, codes}
 use Rattle.jup_text.proofs.CommandWords.{HasHead, head_read, no_kind, no_window, no_widget, no_insertion, no_deletion, no_relabel, no_setting, other_kind}
 use Rattle.jup_text.proofs.commands.command_of.Goals as goal
 

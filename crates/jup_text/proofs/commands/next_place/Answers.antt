@@ -1,5 +1,4 @@
-use Rattle.std.proofs.Common.{ℕ}
-use Rattle.std.specs.Prelude.{decimal}
+use Rattle.std.proofs.Common.{ℕ, decimal}
 use Rattle.jup_text.specs.Prelude.{IsU32}
 use Rattle.jup_text.proofs.CommandWords.{no_first, number_word}
 use Rattle.jup_text.proofs.commands.next_place.Goals as goal

@@ -1,5 +1,4 @@
-use Rattle.std.proofs.Common.{◌≢◌, rules}
-use Rattle.std.specs.Prelude.{codes}
+use Rattle.std.proofs.Common.{◌≢◌, rules, codes}
 use Rattle.jup_text.proofs.CommandWords.{no_value, other_value}
 use Rattle.jup_text.proofs.commands.read_value.Goals as goal
 

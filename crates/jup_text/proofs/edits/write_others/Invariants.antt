@@ -1,6 +1,5 @@
-use Rattle.std.proofs.Common.{take}
+use Rattle.std.proofs.Common.{take, flat_map}
 use Rattle.std.specs.Fmt.{HasWritten, IsPlainFormatter}
-use Rattle.std.specs.List.{flat_map}
 use Rattle.jup_text.specs.Commands.{other_text}
 use Rattle.jup_text.proofs.edits.write_others.Given as goal
 

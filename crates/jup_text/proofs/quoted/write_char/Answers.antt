@@ -1,5 +1,4 @@
-use Rattle.std.proofs.Common.{◌≡◌, ◌≤◌, ◌++◌, ◌∷◌, [], inl, inr, sym, ap, ◌∙◌, arith, rules}
-use Rattle.std.specs.Prelude.{encode_utf8}
+use Rattle.std.proofs.Common.{◌≡◌, ◌≤◌, ◌++◌, ◌∷◌, [], inl, inr, sym, ap, ◌∙◌, arith, rules, encode_utf8}
 use Rattle.std.proofs.Output.{has_written_of_eq}
 use Rattle.std.proofs.lemmas.Str.{encode_ascii}
 use Rattle.jup_text.specs.Words.{quoted_char, hexadecimal}

@@ -1,5 +1,4 @@
-use Rattle.std.proofs.Common.{ℕ}
-use Rattle.std.specs.Prelude.{decimal}
+use Rattle.std.proofs.Common.{ℕ, decimal}
 use Rattle.jup_text.specs.Commands.{IsId}
 use Rattle.jup_text.proofs.CommandWords.{no_first, id_word}
 use Rattle.jup_text.proofs.words.next_id.Goals as goal

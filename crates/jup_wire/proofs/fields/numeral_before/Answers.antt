@@ -1,5 +1,5 @@
 use Rattle.std.proofs.Common.{◌≡◌, ◌+◌, ◌^◌, ◌<◌, List, ℕ, get_or, drop, Some, sym, ap, ◌∙◌, arith}
-use Rattle.jup_wire.specs.Lines.{with_rest}
+use Rattle.jup_wire.specs.Fields.{with_rest}
 use Rattle.jup_wire.proofs.Spellings.{range_from}
 use Rattle.jup_wire.proofs.Streams.{numeral_none, numeral_zeros, numeral_is}
 use Rattle.jup_wire.proofs.fields.numeral_before.Goals as goal

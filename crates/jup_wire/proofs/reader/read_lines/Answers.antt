@@ -1,6 +1,5 @@
 use Rattle.std.proofs.Common.{◌∷◌, ◌++◌, [], List, length, sym, ap, subst, ◌∙◌, arith, length-append}
-use Rattle.std.specs.List.{flat_map, AllByRecursion}
-use Rattle.jup_wire.specs.Prelude.{Line}
+use Rattle.jup_wire.specs.Prelude.{Line, flat_map, AllByRecursion}
 use Rattle.jup_wire.specs.Lines.{spelling, HasSpelling}
 use Rattle.jup_wire.proofs.Spellings.{split_parts}
 use Rattle.jup_wire.proofs.Streams.{open_text, lacks_all, spelled-append, one_line_more, fault_behind}

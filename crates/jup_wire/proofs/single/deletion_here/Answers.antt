@@ -1,6 +1,5 @@
-use Rattle.std.proofs.Common.{refl, ap, ◌++◌}
-use Rattle.std.specs.Prelude.{codes, decimal}
-use Rattle.jup_wire.specs.Lines.{name_text}
+use Rattle.std.proofs.Common.{refl, ap, ◌++◌, codes, decimal}
+use Rattle.jup_wire.specs.Fields.{name_text}
 use Rattle.jup_wire.proofs.Readings.{number_there, two_fields}
 use Rattle.jup_wire.proofs.single.deletion_here.Goals as goal
 

@@ -1,7 +1,6 @@
-use Rattle.std.proofs.Common.{◌≡◌, ◌++◌, ◌∷◌, refl, sym, ap, subst, ◌∙◌}
-use Rattle.std.specs.Prelude.{codes, decimal}
+use Rattle.std.proofs.Common.{◌≡◌, ◌++◌, ◌∷◌, refl, sym, ap, subst, ◌∙◌, codes, decimal}
 use Rattle.std.specs.Char.{IsScalar}
-use Rattle.jup_wire.specs.Lines.{name_text}
+use Rattle.jup_wire.specs.Fields.{name_text}
 use Rattle.jup_wire.proofs.Readings.{number_there, two_fields}
 use Rattle.jup_wire.proofs.single.insertion_here.Goals as goal
 

@@ -1,5 +1,4 @@
-use Rattle.std.proofs.Common.{arith}
-use Rattle.jup_app.proofs.Passes.{drained_none, drained_both, still_numbered, is_drained}
+use Rattle.jup_app.proofs.Passes.{drained_none, drained_both, is_drained}
 use Rattle.jup_app.proofs.runs.drain.drain.Goals as goal
 
 pub loop-init : goal.loop-init

@@ -1,4 +1,4 @@
-use Rattle.std.proofs.Common.{arith, true≢false, sym, ◌∙◌, ap, ◌≡◌, false, true, get_or, length, ◌<◌, ◌+◌, suc}
+use Rattle.std.proofs.Common.{arith, true≢false, sym, ◌∙◌, false, true, length, ◌<◌, ◌+◌}
 use Rattle.std.proofs.lemmas.List.{get_or_default}
 use Rattle.jup_app.specs.Prelude.{view_of}
 use Rattle.jup_app.specs.Runs.{EndsQuiet}

@@ -1,4 +1,4 @@
-use Rattle.std.proofs.Common.{rules, arith}
+use Rattle.std.proofs.Common.{arith}
 use Rattle.jup_app.proofs.Calls.{joined_none, joined_more}
 use Rattle.jup_app.proofs.runs.joiner.join_all.Goals as goal
 

@@ -1,6 +1,5 @@
-use Rattle.std.proofs.Common.{rules, arith, refl, sym, ap, ◌∙◌, subst, ◌≡◌, List, [], ◌∷◌, ◌++◌, append_assoc, All, Result, IfOk}
-use Rattle.std.specs.Vec.Iter.{into_iter_items}
-use Rattle.jup_app.specs.Prelude.{IsPassOf, Player, Halt}
+use Rattle.std.proofs.Common.{sym, ap, ◌∙◌, subst, ◌≡◌, [], ◌∷◌, ◌++◌, append_assoc, All, Result, IfOk}
+use Rattle.jup_app.specs.Prelude.{IsPassOf, Player, Halt, into_iter_items}
 use Rattle.jup_app.proofs.Calls.{taken_none, taken_more, all_tail}
 use Rattle.jup_app.proofs.runs.joiner.rejoin_all.Goals as goal
 

@@ -1,6 +1,5 @@
 use Rattle.std.proofs.Common.{◌≡◌, List, ◌++◌, Result, All, IfOk}
-use Rattle.std.specs.Vec.Iter.{into_iter_items}
-use Rattle.jup_app.specs.Prelude.{view_of, IsPassOf, Player, Halt}
+use Rattle.jup_app.specs.Prelude.{view_of, IsPassOf, Player, Halt, into_iter_items}
 use Rattle.jup_app.specs.Runs.{HasTaken}
 use Rattle.jup_app.proofs.runs.joiner.rejoin_all.Given as goal
 

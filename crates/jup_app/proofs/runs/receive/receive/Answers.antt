@@ -1,4 +1,4 @@
-use Rattle.std.proofs.Common.{[], arith, lit<, sym, ◌∙◌}
+use Rattle.std.proofs.Common.{[], lit<, sym, ◌∙◌}
 use Rattle.std.proofs.lemmas.List.{append-nil}
 use Rattle.jup_app.specs.Prelude.{most_fetched}
 use Rattle.jup_app.proofs.Passes.{got_nothing, got_through, handles_both, no_elements}

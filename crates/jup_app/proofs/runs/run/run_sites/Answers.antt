@@ -1,8 +1,7 @@
-use Rattle.std.proofs.Common.{arith, refl, sym, ap, ◌∙◌, subst, ◌≡◌, ◌<◌, ℕ, List, [], ◌∷◌, length, get_or, map}
-use Rattle.std.specs.Borrow.{Bor}
-use Rattle.jup_app.specs.Prelude.{Command, View, view_of, SiteEnd}
-use Rattle.jup_app.specs.Runs.{HasTaken, IsDrained, IsJob, IsRun}
-use Rattle.jup_app.proofs.Endings.{ran_passes, take_whole, get_or_map, map_length, run_ends}
+use Rattle.std.proofs.Common.{sym, ap, ◌∙◌, subst, List, [], length}
+use Rattle.jup_app.specs.Prelude.{Command, view_of, SiteEnd, Bor}
+use Rattle.jup_app.specs.Runs.{IsDrained}
+use Rattle.jup_app.proofs.Endings.{ran_passes, take_whole, run_ends}
 use Rattle.jup_app.proofs.WholeRuns.{agrees}
 use Rattle.jup_app.proofs.runs.run.run_sites.Goals as goal
 

@@ -1,6 +1,5 @@
 use Rattle.std.proofs.Common.{◌≡◌, List, ◌++◌, length}
-use Rattle.std.specs.Vec.Iter.{into_iter_items}
-use Rattle.jup_app.specs.Prelude.{BoardSite, HubEvent, view_of, IsPassOf}
+use Rattle.jup_app.specs.Prelude.{BoardSite, HubEvent, view_of, IsPassOf, into_iter_items}
 use Rattle.jup_app.specs.Runs.{HasMet, IsSame, AreJobs}
 use Rattle.jup_app.proofs.runs.seating.seat_all.Given as goal
 

@@ -7,11 +7,10 @@ use denote.Struct.Struct.{exits_of}
 use denote.Struct.Owning.{shape, fields, to}
 use denote.Param.Send.{IsSend, AllSend, owning_send, struct_send, sendable}
 use Rattle.std.specs.Prelude.{Option, None, Some}
-use Rattle.std.specs.declared.alloc.Global.{Global}
 use Rattle.std.proofs.Crossing as heap
 use Rattle.std_alloc.proofs.SendSync.{quiet, lies}
 use Rattle.std_heap.proofs.Global.TheSendSync as allocator
-use Rattle.jup_c.specs.Prelude.{Session}
+use Rattle.jup_c.specs.Prelude.{Session, Global}
 use Rattle.jup_embed.specs.contracts.client.Client as Client
 use Rattle.jup_embed.proofs.client.Client.TheSendSync.{the_send as client}
 use Rattle.jup_c.specs.Handles.{held}

@@ -1,5 +1,4 @@
-use Rattle.std.proofs.Common.{Ok, Some, ap, sym, subst, ◌∙◌}
-use Rattle.std.specs.Prelude.{IsTrue}
+use Rattle.std.proofs.Common.{Ok, Some, ap, sym, subst, ◌∙◌, IsTrue}
 use Rattle.jup_window.specs.Boards as board
 use Rattle.jup_layout.specs.Drafts.{is_free}
 use Rattle.jup_layout.proofs.Drafting.{window_refused, window_taken, allowed, free-more}

@@ -1,7 +1,5 @@
-use Rattle.std.proofs.Common.{◌∙◌, ap, sym}
-use Rattle.std.specs.Prelude.{Option, is_some}
-use Rattle.std.specs.Option.{option_map}
-use Rattle.jup_mixed.specs.Prelude.{board_batches, batch_laws, most_batches, Attached, bare_attached}
+use Rattle.std.proofs.Common.{◌∙◌, ap, sym, Option, is_some}
+use Rattle.jup_mixed.specs.Prelude.{board_batches, batch_laws, most_batches, Attached, bare_attached, option_map}
 use Rattle.jup_mixed.specs.contracts.mixed.Mixed.{the_view}
 use Rattle.jup_mixed.proofs.Worlds.{home-promises, home-made, home-backlog}
 use Rattle.jup_mixed.proofs.mixed.Mixed.site.Goals as goal

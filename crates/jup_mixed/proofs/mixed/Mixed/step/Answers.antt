@@ -1,6 +1,5 @@
 use Rattle.std.proofs.Common.{◌∙◌, ◌++◌, ◌∷◌, [], sym, ap, subst}
-use Rattle.std.specs.Option.{option_map}
-use Rattle.jup_mixed.specs.Prelude.{board_batches, bare_attached}
+use Rattle.jup_mixed.specs.Prelude.{board_batches, bare_attached, option_map}
 use Rattle.jup_mixed.specs.contracts.mixed.Mixed.{the_view}
 use Rattle.jup_mixed.specs.Mixed.{IsMix, BoardMixEvent, MixOrderIsKept}
 use Rattle.jup_mixed.proofs.Programs.{MixTrace, mix_answered, mix_ready, mix_played, mix_next, mix_keeps, mix_spared, mix_still}

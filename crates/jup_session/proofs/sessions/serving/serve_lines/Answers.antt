@@ -1,6 +1,5 @@
 use Rattle.jup_session.specs.Prelude.{view_of}
 use Rattle.jup_session.proofs.Accounts.{served_so, early_so}
-use Rattle.jup_session.proofs.Calls.{session_served}
 use Rattle.jup_session.proofs.sessions.serving.serve_lines.Goals as goal
 
 pub returns-in-Ok-clause-lines : goal.returns-in-Ok-clause-lines

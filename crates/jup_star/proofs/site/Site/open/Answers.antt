@@ -1,5 +1,4 @@
-use Rattle.std.proofs.Common.{◌≡◌, ◌∙◌, sym, arith}
-use Rattle.std.specs.Prelude.{false}
+use Rattle.std.proofs.Common.{◌≡◌, ◌∙◌, sym, arith, false}
 use Rattle.jup_batch.specs.Boards as board
 use Rattle.jup_star.specs.Prelude.{has_site}
 use Rattle.jup_window.specs.Laws.Entries.{has_site-bare, has_site-held}

@@ -1,5 +1,4 @@
-use Rattle.std.proofs.Common.{◌≢◌, ℕ, ◌∷◌, ◌++◌, sym, ap, subst, ◌∙◌, rules}
-use Rattle.std.specs.Prelude.{codes}
+use Rattle.std.proofs.Common.{◌≢◌, ℕ, ◌∷◌, ◌++◌, sym, ap, subst, ◌∙◌, rules, codes}
 use Rattle.jup_window.specs.Entries.{widget_fault}
 use Rattle.jup_text.specs.Commands.{IsId}
 use Rattle.jup_text.specs.Boards.{Draft, IsHeld}

@@ -1,5 +1,4 @@
-use Rattle.std.proofs.Common.{◌≢◌, ℕ, List, [], ◌∷◌, ◌++◌, map, sym, subst, arith, rules}
-use Rattle.std.specs.List.{flat_map}
+use Rattle.std.proofs.Common.{◌≢◌, ℕ, List, [], ◌∷◌, ◌++◌, map, sym, subst, arith, rules, flat_map}
 use Rattle.std.proofs.lemmas.List.{length-map}
 use Rattle.jup_text.specs.Words.{quoted_char}
 use Rattle.jup_text.proofs.Quotes.{HasRead, more_read, no_text_read}

@@ -1,5 +1,4 @@
-use Rattle.std.proofs.Common.{◌≡◌, ◌≢◌, [], ◌∷◌, ◌++◌, sym, ◌∙◌, arith, rules}
-use Rattle.std.specs.List.{flat_map}
+use Rattle.std.proofs.Common.{◌≡◌, ◌≢◌, [], ◌∷◌, ◌++◌, sym, ◌∙◌, arith, rules, flat_map}
 use Rattle.jup_text.specs.Words.{quoted}
 use Rattle.jup_text.proofs.BoardLines.{next_item, labels_next, numbered_next, labels_go_on, no_more_labels, no_label_next, labels_left, number_of, texts_next}
 use Rattle.jup_text.proofs.board_reader.widget_lines.read_labels.Goals as goal

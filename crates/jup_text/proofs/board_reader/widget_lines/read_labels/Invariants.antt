@@ -1,6 +1,5 @@
 use Rattle.std.proofs.Common.{◌≡◌, ◌∷◌, ◌++◌, length}
-use Rattle.std.specs.List.{flat_map, AllByRecursion}
-use Rattle.jup_text.specs.Prelude.{IsLabelText}
+use Rattle.jup_text.specs.Prelude.{IsLabelText, flat_map, AllByRecursion}
 use Rattle.jup_text.specs.Words.{quoted}
 use Rattle.jup_text.specs.Boards.{AreNumbered}
 use Rattle.jup_text.proofs.board_reader.widget_lines.read_labels.Given as goal

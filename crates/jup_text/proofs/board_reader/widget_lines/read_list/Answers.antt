@@ -1,5 +1,4 @@
-use Rattle.std.proofs.Common.{sym, ◌∙◌, rules}
-use Rattle.std.specs.Prelude.{decimal}
+use Rattle.std.proofs.Common.{sym, ◌∙◌, rules, decimal}
 use Rattle.jup_text.proofs.CommandWords.{id_word}
 use Rattle.jup_text.proofs.BoardLines.{same_fronts, labels_end, spaced_labels}
 use Rattle.jup_text.proofs.board_reader.widget_lines.read_list.Goals as goal

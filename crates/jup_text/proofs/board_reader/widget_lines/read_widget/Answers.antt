@@ -1,5 +1,5 @@
-use Rattle.std.proofs.Common.{◌≡◌, ◌≢◌, ℕ, List, get_or, sym, ap, ◌∙◌, arith, rules}
-use Rattle.std.specs.Prelude.{codes}
+use Rattle.std.proofs.Common.{◌≡◌, ◌≢◌, ℕ, List, get_or, sym, ap, ◌∙◌, arith, rules, codes}
+use Rattle.jup_wire.proofs.ByKind.{other_word}
 use Rattle.jup_text.proofs.BoardLines.{by_kind}
 use Rattle.jup_text.proofs.board_reader.widget_lines.read_widget.Goals as goal
 
@@ -9,8 +9,7 @@ returns-then-eq-clause-every c = λ word wid widget id held line.
     by_kind c.args.last c.args.kind.now c.args.rest.now wid widget word id held line
     (λ chars kind are rest. c.read_text.ensures.every wid chars id are rest)
     (λ labels kind are rest. absurd (omega (arith, ap (λ (bs : List ℕ). get_or bs 1 0) (sym is ∙ kind))))
-    (λ on kind rest. absurd (omega (arith, ap (λ (bs : List ℕ). get_or bs 1 0) (sym is ∙ kind))))
-    (λ lo hi value kind rest. absurd (omega (arith, ap (λ (bs : List ℕ). get_or bs 1 0) (sym is ∙ kind))))
+    (λ value kind rest. absurd ((other_word value).1 (sym kind ∙ is)))
 
 pub returns-then-eq-2-clause-every : goal.returns-then-eq-2-clause-every
 returns-then-eq-2-clause-every c = λ word wid widget id held line.
@@ -18,8 +17,7 @@ returns-then-eq-2-clause-every c = λ word wid widget id held line.
     by_kind c.args.last c.args.kind.now c.args.rest.now wid widget word id held line
     (λ chars kind are rest. absurd (omega (arith, ap (λ (bs : List ℕ). get_or bs 1 0) (sym is ∙ kind))))
     (λ labels kind are rest. c.read_list.ensures.every wid labels id are rest)
-    (λ on kind rest. absurd (omega (arith, ap (λ (bs : List ℕ). get_or bs 1 0) (sym is ∙ kind))))
-    (λ lo hi value kind rest. absurd (omega (arith, ap (λ (bs : List ℕ). get_or bs 1 0) (sym is ∙ kind))))
+    (λ value kind rest. absurd ((other_word value).2 (sym kind ∙ is)))
 
 pub returns-in_default-clause-every : goal.returns-in_default-clause-every
 returns-in_default-clause-every c = λ word wid widget id held line.
@@ -28,5 +26,4 @@ returns-in_default-clause-every c = λ word wid widget id held line.
     by_kind c.args.last c.args.kind.now c.args.rest.now wid widget word id held line
     (λ chars kind are rest. absurd (no_text kind))
     (λ labels kind are rest. absurd (no_list kind))
-    (λ on kind rest. let wrong = c.in_default.ensures.toggles kind wid on rest in absurd (search rules))
-    (λ lo hi value kind rest. let wrong = c.in_default.ensures.sliders kind wid lo hi value rest in absurd (search rules))
+    (λ value kind rest. let wrong = c.in_default.ensures.every wid value widget kind rest in absurd (search rules))

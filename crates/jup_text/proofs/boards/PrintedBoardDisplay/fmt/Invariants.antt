@@ -1,6 +1,5 @@
-use Rattle.std.proofs.Common.{take}
+use Rattle.std.proofs.Common.{take, flat_map}
 use Rattle.std.specs.Fmt.{HasWritten, IsPlainFormatter}
-use Rattle.std.specs.List.{flat_map}
 use Rattle.jup_text.specs.Boards.{window_lines}
 use Rattle.jup_text.proofs.boards.PrintedBoardDisplay.fmt.Given as goal
 

@@ -1,9 +1,8 @@
 use Rattle.std.proofs.Common.{ℕ, List, [], ◌∷◌, ◌++◌, map, sym, ap, ◌∙◌, append_assoc, append-nil, rules}
 use Rattle.std.specs.Fmt.{HasWritten}
-use Rattle.std.specs.List.{flat_map}
 use Rattle.std.proofs.Output.{has_written_append, has_written_of_eq}
 use Rattle.std.proofs.lemmas.List.{flat_map_more}
-use Rattle.jup_text.specs.Prelude.{Item}
+use Rattle.jup_text.specs.Prelude.{Item, flat_map}
 use Rattle.jup_text.specs.Words.{quoted_char}
 use Rattle.jup_text.proofs.quoted.QuotedDisplay.fmt.Goals as goal
 

@@ -1,6 +1,5 @@
-use Rattle.std.proofs.Common.{◌≡◌, ℕ, List, ◌++◌, map}
+use Rattle.std.proofs.Common.{◌≡◌, ℕ, List, ◌++◌, map, flat_map}
 use Rattle.std.specs.Fmt.{HasWritten, IsPlainFormatter}
-use Rattle.std.specs.List.{flat_map}
 use Rattle.jup_text.specs.Words.{quoted_char}
 use Rattle.jup_text.proofs.quoted.QuotedDisplay.fmt.Given as goal
 

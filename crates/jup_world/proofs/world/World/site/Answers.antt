@@ -1,5 +1,4 @@
-use Rattle.std.proofs.Common.{◌≡◌, ◌∙◌, List, sym, ap, subst, map, Some, None, is_some, false, rules}
-use Rattle.std.specs.Option.{option_map}
+use Rattle.std.proofs.Common.{◌≡◌, ◌∙◌, List, sym, ap, subst, map, Some, None, is_some, false, rules, option_map}
 use Rattle.jup_world.specs.Prelude.{board_batches, batch_laws, Attached}
 use Rattle.jup_world.specs.contracts.world.World.{the_view}
 use Rattle.jup_world.specs.Worlds.{attached, AreAscending}

@@ -1,4 +1,4 @@
-use Rattle.std.proofs.Common.{◌∙◌, sym, ap, Ok, Err, [], ◌∷◌, ◌++◌}
+use Rattle.std.proofs.Common.{◌∙◌, ap, Ok, Err, [], ◌∷◌, ◌++◌}
 use Rattle.jup_app.proofs.Passes.{works_made, declined_answer, handles_for}
 use Rattle.jup_app.proofs.Calls.{caught_handles}
 use Rattle.jup_app.proofs.runs.player.Player.answer.Goals as goal

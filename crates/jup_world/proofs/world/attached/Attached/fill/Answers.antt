@@ -1,5 +1,4 @@
-use Rattle.std.proofs.Common.{◌≡◌, ◌++◌, ◌∙◌, List, [], refl, sym, ap, subst, is_some}
-use Rattle.std.specs.Option.{option_to_list}
+use Rattle.std.proofs.Common.{◌≡◌, ◌++◌, ◌∙◌, List, [], refl, sym, ap, subst, is_some, option_to_list}
 use Rattle.jup_world.specs.Prelude.{BoardBatch, Down, link_of, fetched}
 use Rattle.jup_lane.specs.Lanes.{bytes_of_all, Way, messages, sent, Carries, downs}
 use Rattle.jup_world.specs.Insides.{bare_attached}

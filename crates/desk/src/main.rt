@@ -42,30 +42,52 @@ fn insert(letter: char) -> Command {
     }
 }
 
-// Both type, and then both hear. The boards of the star and of the two, as texts.
-fn meet(alloc: Global, star: &mut Star, one: &mut Site, two: &mut Site) -> anyhow::Result<Vec<u8>> {
+// Both type before either hears of the other.
+fn type_both(alloc: Global, star: &mut Star, one: &mut Site, two: &mut Site) -> anyhow::Result<()> {
     edit(alloc, star, one, &insert('a'))?;
-    edit(alloc, star, two, &insert('x'))?;
+    edit(alloc, star, two, &insert('x'))
+}
+
+// Both hear what the other typed.
+fn hear_both(alloc: Global, star: &mut Star, one: &mut Site, two: &mut Site) -> anyhow::Result<()> {
     hear(alloc, star, one)?;
-    hear(alloc, star, two)?;
+    hear(alloc, star, two)
+}
+
+// An empty text 1 in window 1.
+fn empty_text(alloc: Global) -> anyhow::Result<Board> {
+    let mut board = Board::new(alloc);
+    board.add_window(alloc, 1)?;
+    board.add_widget(1, 1, Widget::Text(Seq::new(alloc)))?;
+    Ok(board)
+}
+
+// Boards as texts, one after the other.
+fn texts_of(alloc: Global, boards: &[&Board]) -> anyhow::Result<Vec<u8>> {
     let mut text = Vec::new(alloc);
-    for board in [star.board(), one.board(), two.board()] {
+    for board in boards {
         write_board(alloc, board, &mut text)?;
     }
     Ok(text)
 }
 
+// Two sites meet at a star. The boards of the star and of the two, as texts.
+fn play(alloc: Global, star: &mut Star) -> anyhow::Result<Vec<u8>> {
+    let mut one = join(alloc, star)?;
+    let mut two = join(alloc, star)?;
+    type_both(alloc, star, &mut one, &mut two)?;
+    hear_both(alloc, star, &mut one, &mut two)?;
+    texts_of(alloc, &[star.board(), one.board(), two.board()])
+}
+
 fn main(rt: HostRuntime) -> anyhow::Result<()> {
     let alloc = rt.alloc();
-    let mut board = Board::new(alloc);
-    board.add_window(alloc, 1)?;
-    board.add_widget(1, 1, Widget::Text(Seq::new(alloc)))?;
+    let board = empty_text(alloc)?;
     if !is_short(&board) {
         return Ok(());
     }
     let mut star = Star::open(alloc, board, 1_000)?;
-    let (mut one, mut two) = (join(alloc, &mut star)?, join(alloc, &mut star)?);
-    let text = meet(alloc, &mut star, &mut one, &mut two)?;
+    let text = play(alloc, &mut star)?;
     rt.stdout().write_all(text.as_slice())?;
     Ok(())
 }

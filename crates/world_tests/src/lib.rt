@@ -32,6 +32,4 @@ mod random_joins;
 #[cfg(test)]
 mod scripts;
 #[cfg(test)]
-mod star_scripts;
-#[cfg(test)]
 mod worlds;

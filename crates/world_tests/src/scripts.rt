@@ -1,3 +1,4 @@
+//! Scripts, and two ends of a link. `tools/scripts` has the built `jupsim` play and refuse scripts by their texts.
 use crate::expect::{expect_eq, expect_that};
 use jup_script::{ScriptEnd, ScriptFault, run_script};
 use jup_setting::Slider;
@@ -45,41 +46,6 @@ impl<'a> Write for TakesFirst<'a> {
     }
 }
 
-// The replies to a script, and how it ended.
-pub(crate) fn play(alloc: Global, script: &str) -> (Vec<u8>, Result<(), ScriptEnd>) {
-    let mut replies = Vec::new(alloc);
-    let end = run_script(alloc, script.as_bytes(), &mut replies);
-    (replies, end)
-}
-
-// The script is played to its end, and prints this.
-pub(crate) fn prints(rt: &impl Abort, alloc: Global, script: &str, printed: &str) {
-    let (replies, end) = play(alloc, script);
-    expect_eq(rt, (script, end), (script, Ok(())));
-    expect_eq(
-        rt,
-        (script, replies.as_slice()),
-        (script, printed.as_bytes()),
-    );
-}
-
-// The script ends at this bad line, for what is wrong there, and prints what was due before.
-pub(crate) fn is_bad_at(
-    rt: &impl Abort,
-    alloc: Global,
-    script: &str,
-    end: ScriptEnd,
-    printed: &str,
-) {
-    let (replies, played) = play(alloc, script);
-    expect_eq(rt, (script, played), (script, Err(end)));
-    expect_eq(
-        rt,
-        (script, replies.as_slice()),
-        (script, printed.as_bytes()),
-    );
-}
-
 #[test]
 fn both_ends_show_the_clients_setting(rt: HostRuntime) {
     for &on in &[false, true] {
@@ -94,162 +60,6 @@ fn both_ends_show_the_clients_setting(rt: HostRuntime) {
         expect_eq(&rt, pair_slider(&slider, client, server), shown);
     }
     expect_eq(&rt, EditFault::BadValue.number(), 5);
-}
-
-#[test]
-fn a_pair_script_prints_both_ends(rt: HostRuntime) {
-    for &(script, printed) in &[
-        (
-            "pair toggle off\nclient on\nserver off\n",
-            "c s' on\ns c' on\n",
-        ),
-        (
-            "pair toggle on\nclient off\nserver on\n",
-            "c s' off\ns c' off\n",
-        ),
-        (
-            "pair slider 0 10 5\nclient 7\nserver 3\n",
-            "c s' 7\ns c' 7\n",
-        ),
-        (
-            "pair slider -10 0 -5\nclient -7\nserver 0\n",
-            "c s' -7\ns c' -7\n",
-        ),
-        (
-            "pair slider 5 5 5\nclient 5\nserver 5\n",
-            "c s' 5\ns c' 5\n",
-        ),
-    ] {
-        prints(&rt, rt.alloc(), script, printed);
-    }
-}
-
-// A carriage return is a character of its line, which is then no line of a script.
-#[test]
-fn a_line_that_ends_in_a_carriage_return_is_bad(rt: HostRuntime) {
-    for &(script, line, fault) in &[
-        ("pair toggle on\r\n", 1, ScriptFault::BadSwitch),
-        ("pair toggle on\nclient off\r\n", 2, ScriptFault::BadSwitch),
-        ("pair slider 0 10 5\r\n", 1, ScriptFault::BadInteger),
-        ("two\r\n", 1, ScriptFault::NoMode),
-        ("two\nstart \"\"\r\n", 2, ScriptFault::BadText),
-        ("star 1\r\n", 1, ScriptFault::BadLimit),
-        (
-            "star 1\nwindow 1\r\n",
-            2,
-            ScriptFault::Board(BoardLineFault::BadId),
-        ),
-        ("star 1\nshow\r\n", 2, ScriptFault::NoEvent),
-    ] {
-        is_bad_at(&rt, rt.alloc(), script, ScriptEnd::Bad(line, fault), "");
-    }
-}
-
-#[test]
-fn a_bad_line_of_a_pair_is_reported_with_its_number_and_fault(rt: HostRuntime) {
-    for &(script, line, fault) in &[
-        ("", 1, ScriptFault::Missing),
-        ("\n", 1, ScriptFault::NoMode),
-        ("pair", 1, ScriptFault::Unended),
-        ("pair\n", 1, ScriptFault::NoMode),
-        ("pair toggle\n", 1, ScriptFault::NoPair),
-        ("pair text a\n", 1, ScriptFault::NoPair),
-        ("pair toggle maybe\n", 1, ScriptFault::BadSwitch),
-        ("pair toggle on off\n", 1, ScriptFault::BadSwitch),
-        ("pair  toggle on\n", 1, ScriptFault::NoPair),
-        ("pair toggle on \n", 1, ScriptFault::BadSwitch),
-        ("pair slider 5 4 5\n", 1, ScriptFault::OutOfBounds),
-        ("pair slider 0 10 11\n", 1, ScriptFault::OutOfBounds),
-        ("pair slider 0 10\n", 1, ScriptFault::NoBounds),
-        ("pair slider 0 010 5\n", 1, ScriptFault::BadInteger),
-        ("pair slider -0 10 5\n", 1, ScriptFault::BadInteger),
-        ("pair slider 0 +10 5\n", 1, ScriptFault::BadInteger),
-        ("pair slider 0 2147483648 5\n", 1, ScriptFault::BadInteger),
-        ("pear toggle on\n", 1, ScriptFault::NoMode),
-        ("pair toggle on\nclient off", 2, ScriptFault::Unended),
-        ("pair toggle on\nserver off\n", 2, ScriptFault::NoSetting),
-        ("pair toggle on\nclient\n", 2, ScriptFault::NoSetting),
-        ("pair toggle on\nclient 1\n", 2, ScriptFault::BadSwitch),
-        (
-            "pair slider 0 10 5\nclient 11\n",
-            2,
-            ScriptFault::OutOfBounds,
-        ),
-        (
-            "pair slider 0 10 5\nclient on\n",
-            2,
-            ScriptFault::BadInteger,
-        ),
-        ("pair toggle on\nclient off\n", 3, ScriptFault::Missing),
-        (
-            "pair toggle on\nclient off\nclient on\n",
-            3,
-            ScriptFault::NoSetting,
-        ),
-        (
-            "pair toggle on\nclient off\nserver on",
-            3,
-            ScriptFault::Unended,
-        ),
-    ] {
-        is_bad_at(&rt, rt.alloc(), script, ScriptEnd::Bad(line, fault), "");
-    }
-}
-
-#[test]
-fn a_bad_line_of_two_ends_is_reported_with_its_number_and_fault(rt: HostRuntime) {
-    for &(script, line, fault) in &[
-        ("two \nstart \"\"\n", 1, ScriptFault::NoMode),
-        ("two\n", 2, ScriptFault::Missing),
-        ("two\nup\n", 2, ScriptFault::NoStart),
-        ("two\nstart \"a\n", 2, ScriptFault::BadText),
-        ("two\nstart \"a\"b\"\n", 2, ScriptFault::BadText),
-        ("two\nstart \"\\x\"\n", 2, ScriptFault::BadText),
-        ("two\nstart \"\\u{61}\"\n", 2, ScriptFault::BadText),
-        ("two\nstart \"\\u{0e9}\"\n", 2, ScriptFault::BadText),
-        ("two\nstart \"\\u{E9}\"\n", 2, ScriptFault::BadText),
-        ("two\nstart \"\\u{d800}\"\n", 2, ScriptFault::BadText),
-        ("two\nstart \"\\u{110000}\"\n", 2, ScriptFault::BadText),
-        ("two\nstart \"\u{e9}\"\n", 2, ScriptFault::BadText),
-        (
-            "two\nstart \"\"\nclient ins 0 \"ab\"\n",
-            3,
-            ScriptFault::BadChar,
-        ),
-        (
-            "two\nstart \"\"\nclient ins 00 \"a\"\n",
-            3,
-            ScriptFault::BadNumber,
-        ),
-        (
-            "two\nstart \"\"\nclient ins -1 \"a\"\n",
-            3,
-            ScriptFault::BadNumber,
-        ),
-        (
-            "two\nstart \"\"\nclient ins 4294967296 \"a\"\n",
-            3,
-            ScriptFault::BadNumber,
-        ),
-        (
-            "two\nstart \"\"\nclient ins 0\n",
-            3,
-            ScriptFault::NoTextEdit,
-        ),
-        ("two\nstart \"\"\nclient del\n", 3, ScriptFault::NoTextEdit),
-        ("two\nstart \"\"\nserver del x\n", 3, ScriptFault::BadNumber),
-        ("two\nstart \"\"\nup 1\n", 3, ScriptFault::NoEvent),
-        ("two\nstart \"\"\nshow", 3, ScriptFault::Unended),
-    ] {
-        is_bad_at(&rt, rt.alloc(), script, ScriptEnd::Bad(line, fault), "");
-    }
-}
-
-#[test]
-fn replies_that_were_due_come_before_a_bad_line(rt: HostRuntime) {
-    let script = "pair toggle on\nclient off\nserver on\nmore\n";
-    let end = ScriptEnd::Bad(4, ScriptFault::Surplus);
-    is_bad_at(&rt, rt.alloc(), script, end, "c s' off\ns c' off\n");
 }
 
 #[test]
@@ -428,15 +238,6 @@ fn what_is_wrong_with_a_line_has_a_text(rt: HostRuntime) {
     ] {
         expect_eq(&rt, (end, end.fault()), (end, None));
     }
-}
-
-#[test]
-fn a_two_script_prints_texts_in_their_one_spelling(rt: HostRuntime) {
-    let script =
-        "two\nstart \"\\\"\\\\ ~\\u{e9}\\u{0}\\u{1f600}\"\nserver del 7\nserver del 3\nclient ins 0 \"\\u{7f}\"\nshow\n";
-    let printed =
-        "refused 4\nmade\nmade\nclient \"\\u{7f}\\\"\\\\ ~\\u{e9}\\u{0}\\u{1f600}\"\nserver \"\\\"\\\\ \\u{e9}\\u{0}\\u{1f600}\"\nquiet no\n";
-    prints(&rt, rt.alloc(), script, printed);
 }
 
 // An event of two ends has this reply.

@@ -1,25 +1,14 @@
 //! Runs beside strangers that were worked out by hand.
-use crate::events::{joins, mixed_over, plays, read, strays, types};
+use crate::events::{joins, made, mixed_over, plays, read, strays, types};
 use crate::expect::{expect_eq, expect_that};
 use jup_mixed::{MixEvent, Mixed};
-use jup_seq::{SeqEdit, SeqOp};
+use jup_seq::SeqOp;
 use jup_star::{OpenFault, StarFault, Up};
 use jup_value::{Item, Name};
-use jup_window::BoardEdit;
 use jup_world::Reply;
-use jup_xform::{Few, OneOf};
 use std::alloc::Global;
 use std::process::Abort;
 use test_boards::board_of;
-
-fn reply_of(alloc: Global, number: u32, value: char) -> Reply {
-    let put = BoardEdit {
-        win: 1,
-        wid: 1,
-        what: OneOf::First(SeqEdit::Put(Name { site: 1, number }, value)),
-    };
-    Reply::Made(Few::from_slice(alloc, &[put]).unwrap())
-}
 
 // The site types into text 1, and its edit is the insertion of its item of this number.
 fn site_types(
@@ -31,7 +20,7 @@ fn site_types(
     number: u32,
 ) {
     let typed = types(alloc, place, value);
-    plays(rt, alloc, mixed, typed, reply_of(alloc, number, value));
+    plays(rt, alloc, mixed, typed, made(alloc, number, value));
 }
 
 fn inserts(site: u32, number: u32, value: char) -> SeqOp<char> {

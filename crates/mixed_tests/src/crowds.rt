@@ -195,16 +195,22 @@ impl Stranger {
     }
 }
 
+// The link that a reply gives.
+fn link_in(reply: &Reply) -> Option<u32> {
+    match reply {
+        Reply::Joined(link) => Some(*link),
+        _ => None,
+    }
+}
+
 // It joins. There are never more links than its four and the site's.
 fn joins(rt: &impl Abort, alloc: Global, mixed: &mut Mixed) -> Stranger {
     let joined_at = taken_by(mixed.star());
-    match step(rt, alloc, mixed, &MixEvent::JoinStray) {
-        Reply::Joined(link) => Stranger {
-            link,
-            joined_at,
-            ..ABSENT
-        },
-        _ => panic!(rt; "a join is refused"),
+    let reply = step(rt, alloc, mixed, &MixEvent::JoinStray);
+    Stranger {
+        link: link_in(&reply).expect(rt, "a join is taken"),
+        joined_at,
+        ..ABSENT
     }
 }
 

@@ -2,11 +2,12 @@
 use crate::expect::{expect_eq, expect_that};
 use jup_link::Msg;
 use jup_mixed::{MixEvent, Mixed};
-use jup_seq::SeqOp;
+use jup_seq::{SeqEdit, SeqOp};
 use jup_star::Up;
-use jup_window::{BoardOp, Command, Value, WidgetOp};
+use jup_value::Name;
+use jup_window::{BoardEdit, BoardOp, Command, Value, WidgetOp};
 use jup_world::Reply;
-use jup_xform::Few;
+use jup_xform::{Few, OneOf};
 use std::alloc::Global;
 use std::process::Abort;
 use test_boards::{alone, board_of, reads};
@@ -66,6 +67,20 @@ pub(crate) fn edits(alloc: Global, command: Command) -> MixEvent {
 /// The site types into text 1.
 pub(crate) fn types(alloc: Global, place: u32, value: char) -> MixEvent {
     edits(alloc, insert(place, value))
+}
+
+/// The site's insertion of its item of this number into text 1, as an edit.
+pub(crate) fn put(number: u32, value: char) -> BoardEdit {
+    BoardEdit {
+        win: 1,
+        wid: 1,
+        what: OneOf::First(SeqEdit::Put(Name { site: 1, number }, value)),
+    }
+}
+
+/// The reply to the site's insertion of its item of this number, which takes no memory.
+pub(crate) fn made(alloc: Global, number: u32, value: char) -> Reply {
+    Reply::Made(Few::from_slice(alloc, &[put(number, value)]).unwrap())
 }
 
 /// A stranger sends its `mine`-th edit of text 1, without having heard of any other.

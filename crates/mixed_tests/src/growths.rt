@@ -1,19 +1,19 @@
 //! Failed allocations in a star with strangers, each test for the call, or the kind of event, of its name. `./growths` makes one after another of the
 //! allocations between the two marks fail. An event that fails leaves all that is seen as before, and gives its answer if it is played again.
-use crate::events::{insert, mixed_over, strays};
+use crate::events::{insert, made, mixed_over, put, read, strays, types};
 use crate::expect::{expect_eq, expect_that};
 use jup_batch::BoardEdits;
 use jup_mixed::{MixEvent, MixHappened, Mixed};
-use jup_seq::{SeqEdit, SeqOp};
+use jup_seq::SeqOp;
 use jup_star::{OpenFault, StarFault, Up};
 use jup_text::write_board;
 use jup_value::{Item, Name};
-use jup_window::{BoardEdit, Command};
+use jup_window::Command;
 use jup_world::Reply;
-use jup_xform::{Few, OneOf};
+use jup_xform::Few;
 use std::alloc::Global;
 use std::process::Abort;
-use test_boards::{board_of, reads};
+use test_boards::board_of;
 use test_marks::{begin, end};
 
 // What a star with strangers shows: its board and the site's as they are printed, and its order and its trace in full. Then how many
@@ -110,13 +110,6 @@ fn first_stray(alloc: Global) -> MixEvent {
 fn type_xy(rt: &impl Abort, alloc: Global) -> (MixEvent, Reply) {
     let commands: [Command; 2] = [insert(0, 'x'), insert(1, 'y')];
     let commands = Few::from_slice(alloc, &commands).expect(rt, "memory");
-    let put = |number: u32, value: char| -> BoardEdit {
-        BoardEdit {
-            win: 1,
-            wid: 1,
-            what: OneOf::First(SeqEdit::Put(Name { site: 1, number }, value)),
-        }
-    };
     let edits: BoardEdits = Few::from_slice(alloc, &[put(1, 'x'), put(2, 'y')]).expect(
         rt, "memory",
     );
@@ -145,68 +138,83 @@ fn all_events(rt: &impl Abort, alloc: Global) -> Vec<MixHappened> {
     all
 }
 
+// Plays these events. Those of one kind are marked, or all of them if no kind is given.
+fn plays(
+    rt: &impl Abort,
+    alloc: Global,
+    mixed: &mut Mixed,
+    all: &[MixHappened],
+    kind: Option<Kind>,
+) {
+    for wanted in all {
+        let is_marked = kind.is_none() || kind == Some(kind_of(&wanted.event));
+        happens(rt, alloc, mixed, wanted, is_marked);
+    }
+    expect_eq(rt, mixed.trace(), all);
+    expect_that(rt, mixed.quiet());
+}
+
 // Plays all events, of which those of one kind are marked.
-fn plays(rt: &impl Abort, alloc: Global, kind: Kind) {
+fn marks(rt: &impl Abort, alloc: Global, kind: Kind) {
     let mut mixed = mixed_over(rt, alloc, "text 1 \"\"");
     let all = all_events(rt, alloc);
-    for wanted in all.as_slice() {
-        happens(
-            rt,
-            alloc,
-            &mut mixed,
-            wanted,
-            kind_of(&wanted.event) == kind,
-        );
-    }
-    expect_eq(rt, mixed.trace(), all.as_slice());
-    expect_that(rt, mixed.quiet() && reads(mixed.star().board(), "xys"));
-    let site = mixed.site().expect(rt, "the site is attached");
-    expect_that(rt, reads(site.board(), "xys"));
+    plays(rt, alloc, &mut mixed, all.as_slice(), Some(kind));
+    read(rt, &mixed, "xys", "xys");
 }
 
 #[test]
 fn step_edit(rt: HostRuntime) {
-    plays(&rt, rt.alloc(), Kind::Edit);
+    marks(&rt, rt.alloc(), Kind::Edit);
 }
 
 #[test]
 fn step_up(rt: HostRuntime) {
-    plays(&rt, rt.alloc(), Kind::Up);
+    marks(&rt, rt.alloc(), Kind::Up);
 }
 
 #[test]
 fn step_down(rt: HostRuntime) {
-    plays(&rt, rt.alloc(), Kind::Down);
+    marks(&rt, rt.alloc(), Kind::Down);
 }
 
 #[test]
 fn step_join_stray(rt: HostRuntime) {
-    plays(&rt, rt.alloc(), Kind::JoinStray);
+    marks(&rt, rt.alloc(), Kind::JoinStray);
 }
 
 #[test]
 fn step_stray(rt: HostRuntime) {
-    plays(&rt, rt.alloc(), Kind::Stray);
+    marks(&rt, rt.alloc(), Kind::Stray);
 }
 
 #[test]
 fn step_leave_stray(rt: HostRuntime) {
-    plays(&rt, rt.alloc(), Kind::LeaveStray);
+    marks(&rt, rt.alloc(), Kind::LeaveStray);
+}
+
+// Opens a star over a text "ab". The call is marked.
+fn open_marked(rt: &impl Abort, alloc: Global) -> Result<Mixed, OpenFault> {
+    let board = board_of(alloc, &["window 1", "text 1 \"ab\""]).expect(rt, "a board");
+    begin(alloc);
+    let opened = Mixed::open(alloc, board, 100);
+    end(alloc);
+    opened
+}
+
+fn is_open(rt: &impl Abort, mixed: &Mixed) {
+    expect_that(rt, mixed.quiet());
+    read(rt, mixed, "ab", "ab");
 }
 
 #[test]
 fn mixed_open(rt: HostRuntime) {
-    let lines = ["window 1", "text 1 \"ab\""];
-    let board = board_of(rt.alloc(), &lines).expect(&rt, "a board");
-    begin(rt.alloc());
-    let mut mixed = Mixed::open(rt.alloc(), board, 100);
-    end(rt.alloc());
-    if matches!(mixed, Err(OpenFault::NoMemory)) {
-        let again = board_of(rt.alloc(), &lines).expect(&rt, "a board");
-        mixed = Mixed::open(rt.alloc(), again, 100);
+    match open_marked(&rt, rt.alloc()) {
+        Ok(mixed) => is_open(&rt, &mixed),
+        Err(fault) => {
+            expect_eq(&rt, fault, OpenFault::NoMemory);
+            is_open(&rt, &mixed_over(&rt, rt.alloc(), "text 1 \"ab\""));
+        }
     }
-    let mixed = mixed.expect(&rt, "a layout and a limit");
-    expect_that(&rt, mixed.quiet() && reads(mixed.star().board(), "ab"));
 }
 
 // The deletion of the first item of the opening text, by the stranger.
@@ -215,26 +223,18 @@ fn stray_deletion(alloc: Global) -> MixEvent {
     strays(alloc, 2, 0, SeqOp::Delete { place: 0, name })
 }
 
-// One command of the site, and what it makes.
-fn type_one(rt: &impl Abort, alloc: Global, place: u32, number: u32, value: char) -> MixHappened {
-    let commands = Few::from_slice(alloc, &[insert(place, value)]).expect(rt, "memory");
-    let put = BoardEdit {
-        win: 1,
-        wid: 1,
-        what: OneOf::First(SeqEdit::Put(Name { site: 1, number }, value)),
-    };
-    let edits: BoardEdits = Few::from_slice(alloc, &[put]).expect(rt, "memory");
+// The site's insertion of its item of this number, with its reply.
+fn typed(alloc: Global, place: u32, number: u32, value: char) -> MixHappened {
     MixHappened {
-        event: MixEvent::Edit(commands),
-        reply: Reply::Made(edits),
+        event: types(alloc, place, value),
+        reply: made(alloc, number, value),
     }
 }
 
 // A stranger's deletion is taken between an edit of the site and its taking. The same again detaches the stranger, and the site edits on.
 fn strangers_row(rt: &impl Abort, alloc: Global) -> Vec<MixHappened> {
     let mut all = Vec::new(alloc);
-    all.push(type_one(rt, alloc, 2, 1, 'c'))
-        .expect(rt, "memory");
+    all.push(typed(alloc, 2, 1, 'c')).expect(rt, "memory");
     add(rt, &mut all, MixEvent::JoinStray, Reply::Joined(2));
     add(rt, &mut all, stray_deletion(alloc), Reply::Taken(0));
     add(rt, &mut all, MixEvent::Up, Reply::Taken(1));
@@ -242,8 +242,7 @@ fn strangers_row(rt: &impl Abort, alloc: Global) -> Vec<MixHappened> {
     let detached = Reply::Detached(StarFault::BadCount);
     add(rt, &mut all, stray_deletion(alloc), detached);
     add(rt, &mut all, stray_deletion(alloc), Reply::Nothing);
-    all.push(type_one(rt, alloc, 0, 2, 'd'))
-        .expect(rt, "memory");
+    all.push(typed(alloc, 0, 2, 'd')).expect(rt, "memory");
     add(rt, &mut all, MixEvent::Up, Reply::Taken(2));
     all
 }
@@ -253,11 +252,6 @@ fn strangers_row(rt: &impl Abort, alloc: Global) -> Vec<MixHappened> {
 fn step_of_the_strangers_row(rt: HostRuntime) {
     let mut mixed = mixed_over(&rt, rt.alloc(), "text 1 \"ab\"");
     let all = strangers_row(&rt, rt.alloc());
-    for wanted in all.as_slice() {
-        happens(&rt, rt.alloc(), &mut mixed, wanted, true);
-    }
-    expect_eq(&rt, mixed.trace(), all.as_slice());
-    expect_that(&rt, mixed.quiet() && reads(mixed.star().board(), "dbc"));
-    let site = mixed.site().expect(&rt, "the site is attached");
-    expect_that(&rt, reads(site.board(), "dbc"));
+    plays(&rt, rt.alloc(), &mut mixed, all.as_slice(), None);
+    read(&rt, &mixed, "dbc", "dbc");
 }

@@ -4,8 +4,6 @@
 ghost use Rattle.std.specs.Prelude.{◌≡◌};
 
 #[cfg(test)]
-mod attacks;
-#[cfg(test)]
 mod batched;
 #[cfg(test)]
 mod behind;
@@ -41,8 +39,6 @@ mod rule_growths;
 mod sessions;
 #[cfg(test)]
 mod sockets;
-#[cfg(test)]
-mod strangers;
 #[cfg(test)]
 mod texts;
 #[cfg(test)]

@@ -3,8 +3,7 @@
 use crate::expect::{expect_eq, expect_text};
 use crate::fakes::Impatient;
 use crate::handed_on::{Holding, OneLine};
-use crate::programs::{client_of, daemon_at, expect_success, run_client, serve};
-use crate::texts::lines;
+use crate::programs::{client_of, daemon_at, run_client};
 use jup_session::{daemon_main, daemon_words};
 use std::alloc::Global;
 use std::net::{Net, TcpListener, TcpStream};
@@ -36,26 +35,6 @@ fn serve_cut<R: Net<Listener = TcpListener, Stream = TcpStream> + Threads + Wait
 ) -> u8 {
     let mut out = OneLine { text };
     daemon_main(rt, alloc, words, TOGGLE, &mut out, errors)
-}
-
-#[test]
-fn an_order_of_300_edits_is_counted(rt: HostRuntime) {
-    let alloc = rt.alloc();
-    let daemon = daemon_at(&rt, alloc, "127.0.0.1:47021", "1000", "1");
-    let client = client_of(&rt, alloc, "127.0.0.1:47021");
-    let commands = lines(&rt, alloc, "", "set 1 3 on", 0..300, "sync\nquit\n");
-    let (told, other) = join(
-        &rt,
-        || serve(&rt, alloc, &daemon, TOGGLE),
-        || run_client(&rt, alloc, &client, commands.as_bytes()),
-    );
-    expect_eq(&rt, other, 0);
-    expect_success(
-        &rt,
-        &told,
-        0,
-        "listening 127.0.0.1:47021\norder 300\nwindow 1\ntoggle 3 on\n",
-    );
 }
 
 #[test]

@@ -4,8 +4,6 @@
 ghost use Rattle.std.specs.Prelude.{◌≡◌};
 
 #[cfg(test)]
-mod batches;
-#[cfg(test)]
 mod boards;
 #[cfg(test)]
 mod content;
@@ -23,8 +21,6 @@ mod ledger;
 mod messages;
 #[cfg(test)]
 mod more_growths;
-#[cfg(test)]
-mod pushes;
 #[cfg(test)]
 mod random_batches;
 #[cfg(test)]

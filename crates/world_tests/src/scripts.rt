@@ -95,6 +95,46 @@ fn a_line_that_is_no_text_is_bad(rt: HostRuntime) {
     );
 }
 
+// How a script ends that is to print nothing.
+fn end_of(rt: &impl Abort, alloc: Global, script: &str) -> Result<(), ScriptEnd> {
+    let mut replies = Vec::new(alloc);
+    let end = run_script(alloc, script.as_bytes(), &mut replies);
+    expect_that(rt, replies.is_empty());
+    end
+}
+
+// Two faults that have one text, which `tools/scripts` can't tell apart.
+#[test]
+fn a_fault_of_a_board_is_not_that_of_a_pair_or_of_a_start(rt: HostRuntime) {
+    for &(script, line, fault) in &[
+        ("pair toggle maybe\n", 1, ScriptFault::BadSwitch),
+        (
+            "star 1\nwindow 1\ntoggle 1 maybe\n",
+            3,
+            ScriptFault::Board(BoardLineFault::BadValue("`on` or `off` is due")),
+        ),
+        ("pair slider 0 10 11\n", 1, ScriptFault::OutOfBounds),
+        (
+            "star 1\nwindow 1\nslider 1 0 10 11\n",
+            3,
+            ScriptFault::Board(BoardLineFault::OutOfBounds),
+        ),
+        ("two\nstart \"a\n", 2, ScriptFault::BadText),
+        (
+            "star 1\nwindow 1\ntext 1 \"a\n",
+            3,
+            ScriptFault::Board(BoardLineFault::BadText),
+        ),
+    ] {
+        let end = end_of(&rt, rt.alloc(), script);
+        expect_eq(
+            &rt,
+            (script, end),
+            (script, Err(ScriptEnd::Bad(line, fault))),
+        );
+    }
+}
+
 #[test]
 fn each_read_of_a_script(rt: HostRuntime) {
     for len in 0..=PAIR.len() {

@@ -1,6 +1,6 @@
 -- Which ends have a second line, which explains them to people.
 use Rattle.std.specs.Prelude.{Bool, true, false}
-use Rattle.jup_rules.specs.Prelude.{ClientEnd, ClientFault, NoMemory as ClientNoMemory, Unconnected, ReadFailed, WriteFailed, DaemonEnd, Words, Layout, LongLayout, Io, DaemonNoMemory, Held}
+use Rattle.jup_rules.specs.Prelude.{ClientEnd, ClientFault, NoMemory as ClientNoMemory, Unconnected, ReadFailed, WriteFailed, DaemonEnd, Layout, LongLayout, Io, DaemonNoMemory, Held}
 use Rattle.jup_rules.specs.declared.ends.Attempt.{Attempt}
 use Rattle.jup_rules.specs.declared.ends.Attempt.TheVariants.{ReadLayout, Listen, Accept, Print}
 
@@ -21,7 +21,6 @@ attempt_is_explained Print = true
 
 -- a fault of the layout, and what was tried
 abbrev pub daemon_end_is_explained : DaemonEnd → Bool
-daemon_end_is_explained (Words error) = false
 daemon_end_is_explained (Layout fault) = true
 daemon_end_is_explained LongLayout = false
 daemon_end_is_explained (Io attempt) = attempt_is_explained attempt

@@ -1,20 +1,13 @@
 -- Why a daemon ends, by what was refused, and what it serves.
 use Rattle.std.specs.Prelude.{◌≡◌, ◌≢◌, ◌==◌, ◌⊎◌, ℕ, List, Some, Ok, Err, if◌then◌else◌}
-use Rattle.clap.specs.Values.{kind_of}
-use Rattle.clap.specs.declared.error.Error.{Error as WordsError}
-use Rattle.clap.specs.declared.error.kind.ErrorKind.TheVariants as words
 use Rattle.jup_window.specs.Boards.{Windows, bare}
 use Rattle.jup_window.specs.Entries.{EachWidget}
 use Rattle.jup_window.specs.Commands.{board_fault_number}
 use Rattle.jup_window.specs.declared.faults.BoardFault.TheVariants.{TooMany}
 use Rattle.jup_star.specs.Faults.{open_fault_number}
 use Rattle.jup_star.specs.Stars.{IsShort, BoardStar, star_open_fault, opened_star}
-use Rattle.jup_rules.specs.Prelude.{OpenFault, LayoutFault, DaemonEnd, Words, Layout, DaemonNoMemory as NoMemory}
+use Rattle.jup_rules.specs.Prelude.{OpenFault, LayoutFault, DaemonEnd, Layout, DaemonNoMemory as NoMemory}
 use Rattle.jup_layout.specs.Drafts.{Describes}
-
--- no memory is reported as such; other refusals of the words have their own text
-abbrev pub IsEndOfWords : WordsError → DaemonEnd → Type 0
-IsEndOfWords error end = (kind_of error ≡ words.OutOfMemory → end ≡ NoMemory) × (kind_of error ≢ words.OutOfMemory → end ≡ Words error)
 
 -- no memory has the line 0
 abbrev pub end_of_layout : LayoutFault → DaemonEnd

@@ -1,6 +1,6 @@
 -- How sessions end, and the numbers of ends.
 use Rattle.std.specs.Prelude.{ℕ, Option, Some, None}
-use Rattle.jup_rules.specs.Prelude.{Line, SessionFault, ClientEnd, ClientFault, NoMemory as ClientNoMemory, Unconnected, ReadFailed as ClientReadFailed, WriteFailed as ClientWriteFailed, DaemonEnd, Words, Layout, LongLayout, Io, DaemonNoMemory, Held, Ending, Stop, End, StopFault}
+use Rattle.jup_rules.specs.Prelude.{Line, SessionFault, ClientEnd, ClientFault, NoMemory as ClientNoMemory, Unconnected, ReadFailed as ClientReadFailed, WriteFailed as ClientWriteFailed, DaemonEnd, Layout, LongLayout, Io, DaemonNoMemory, Held, Ending, Stop, End, StopFault}
 use Rattle.jup_wire.specs.declared.line.Line.TheVariants.{Bye as ByeLine, Error}
 use Rattle.jup_wire.specs.Lines.{wire_fault_number}
 use Rattle.jup_hub.specs.Histories.{hub_fault_number}
@@ -37,7 +37,6 @@ client_end_status ClientWriteFailed = 1
 
 -- 1 for a failed read, write, bind or accept, 2 for the words, 3 for memory, 5 for the layout, 6 if the hub can't be closed
 abbrev pub daemon_end_status : DaemonEnd → ℕ
-daemon_end_status (Words error) = 2
 daemon_end_status (Layout fault) = 5
 daemon_end_status LongLayout = 5
 daemon_end_status (Io attempt) = 1

@@ -17,7 +17,7 @@ pub use Rattle.jup_rules.specs.declared.client.Request.TheVariants.{Bad, Batch, 
 pub use Rattle.jup_rules.specs.declared.ends.ClientEnd.{ClientEnd}
 pub use Rattle.jup_rules.specs.declared.ends.ClientEnd.TheVariants.{Fault as ClientFault, NoMemory, ReadFailed, Unconnected, WriteFailed}
 pub use Rattle.jup_rules.specs.declared.ends.DaemonEnd.{DaemonEnd}
-pub use Rattle.jup_rules.specs.declared.ends.DaemonEnd.TheVariants.{Held, Io, Layout, LongLayout, NoMemory as DaemonNoMemory, Words}
+pub use Rattle.jup_rules.specs.declared.ends.DaemonEnd.TheVariants.{Held, Io, Layout, LongLayout, NoMemory as DaemonNoMemory}
 pub use Rattle.jup_rules.specs.declared.ends.Ending.{Ending}
 pub use Rattle.jup_rules.specs.declared.ends.SessionFault.{SessionFault}
 pub use Rattle.jup_rules.specs.declared.ends.Stop.{Stop}

@@ -8,7 +8,6 @@ ghost use Rattle.jup_rules.specs.Ends.{last_line, standing, ending_of, ended_by,
 ghost use Rattle.jup_rules.specs.declared.ends.SessionFault.{SessionFault};
 
 use crate::cause_of;
-use clap::error::ErrorKind as WordsKind;
 use jup_gather::Gather;
 use jup_hub::HubFault;
 use jup_layout::{LayoutFault, layout};
@@ -18,7 +17,7 @@ use jup_wire::{Line, WireFault};
 use jup_xform::NoMemory;
 use std::alloc::{AllocError, Global};
 use std::io;
-use std::io::{ErrorKind, Write};
+use std::io::ErrorKind;
 use thiserror::Error;
 
 /// Why a session ends early.
@@ -328,10 +327,8 @@ impl Attempt {
 }
 
 /// Why the daemon ends early.
-#[derive(Debug, Drop, Error)]
+#[derive(Clone, Copy, Debug, Error)]
 pub enum DaemonEnd {
-    #[error("{0}")]
-    Words(clap::Error),
     #[error("layout {0}")]
     Layout(LayoutFault),
     #[error("layout too long")]
@@ -364,9 +361,7 @@ impl DaemonEnd {
         match self {
             DaemonEnd::Layout(fault) => Some(cause_of(fault.number)),
             DaemonEnd::Io(attempt) => attempt.cause(),
-            DaemonEnd::Words(_) | DaemonEnd::LongLayout | DaemonEnd::NoMemory | DaemonEnd::Held => {
-                None
-            }
+            DaemonEnd::LongLayout | DaemonEnd::NoMemory | DaemonEnd::Held => None,
         }
     }
 
@@ -377,7 +372,6 @@ impl DaemonEnd {
     {
         match self {
             DaemonEnd::Io(_) => 1,
-            DaemonEnd::Words(_) => 2,
             DaemonEnd::NoMemory => 3,
             DaemonEnd::Layout(_) | DaemonEnd::LongLayout => 5,
             DaemonEnd::Held => 6,
@@ -420,20 +414,6 @@ impl From<LayoutFault> for DaemonEnd {
     }
 }
 
-impl From<clap::Error> for DaemonEnd {
-    ghost use Rattle.jup_rules.specs.DaemonEnds.{IsEndOfWords};
-
-    ghost from_gives = { λ error made. IsEndOfWords error made };
-
-    fn from(error: clap::Error) -> DaemonEnd {
-        if error.kind() == WordsKind::OutOfMemory {
-            DaemonEnd::NoMemory
-        } else {
-            DaemonEnd::Words(error)
-        }
-    }
-}
-
 /// A star over the board of a layout, which takes at most so many edits.
 pub fn star_of_layout(alloc: Global, text: &[u8], limit: u32) -> Result<Star, DaemonEnd>
     requires { length text.now ≤ longest_input }
@@ -457,19 +437,4 @@ fn whole_layout(number: u32) -> DaemonEnd
     ensures { result ≡ DaemonEnd.Layout (record { line = 0; number = number }) }
 {
     DaemonEnd::Layout(LayoutFault { line: 0, number })
-}
-
-/// Prints on standard error why a program can't have the words after its name, and answers the exit status. That is 3 if
-/// an allocation failed, and otherwise 2, as for a refused command line: a word is not UTF-8.
-pub fn without_words<E: Write>(error: &io::Error, errors: &mut E) -> u8
-    ensures memory { error_kind error.now ≡ ErrorKind.OutOfMemory → result ≡ 3 }
-    ensures refused { error_kind error.now ≢ ErrorKind.OutOfMemory → result ≡ 2 }
-{
-    if error.kind() == ErrorKind::OutOfMemory {
-        let _ = writeln!(errors, "no memory");
-        3
-    } else {
-        let _ = writeln!(errors, "a word is no text");
-        2
-    }
 }

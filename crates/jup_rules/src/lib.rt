@@ -13,9 +13,7 @@ pub use behind::{Admission, Lag, is_far_behind, operations_in};
 pub use client::{
     Answer, Asking, ClientState, Given, Heard, Inbox, LinkEnd, Opening, Request, Told,
 };
-pub use ends::{
-    Attempt, ClientEnd, DaemonEnd, Ending, SessionFault, Stop, star_of_layout, without_words,
-};
+pub use ends::{Attempt, ClientEnd, DaemonEnd, Ending, SessionFault, Stop, star_of_layout};
 pub use session::{
     Awaits, Gatekeeper, Incoming, MOST_FETCHED, Next, Pongs, Ring, Said, check_greeting,
     count_read, hear_site, is_last_fetch, next_wait, pongs_in, put_downs, put_said, refused_fetch,

@@ -9,7 +9,7 @@ use Rattle.jup_board.specs.Boards.{IsPrintOf}
 use Rattle.jup_http.specs.declared.ending.Ending.{Ending}
 use Rattle.jup_http.specs.Frames.{answer_code}
 use Rattle.jup_service.specs.declared.end.ServiceEnd.{ServiceEnd}
-use Rattle.jup_service.specs.declared.end.ServiceEnd.TheVariants.{Words, NoOrigin, Io, BoardTaken, NoMemory, BadBoard, LongBoard, BadCaptions}
+use Rattle.jup_service.specs.declared.end.ServiceEnd.TheVariants.{NoOrigin, Io, BoardTaken, NoMemory, BadBoard, LongBoard, BadCaptions}
 use Rattle.jup_service.specs.declared.notices.Notice.{Notice}
 use Rattle.jup_service.specs.declared.notices.Notice.TheVariants.{SitesSpent, OrderFull, CannotAccept, CannotWrite}
 use Rattle.jup_service.specs.declared.notices.Told.{Told}
@@ -57,7 +57,6 @@ close_code None false = Some 1000
 abbrev pub service_end_status : ServiceEnd → ℕ
 service_end_status (Io _) = 1
 service_end_status BoardTaken = 1
-service_end_status Words = 2
 service_end_status NoOrigin = 2
 service_end_status NoMemory = 3
 service_end_status (BadBoard _ _) = 5

@@ -4,7 +4,6 @@ ghost use Rattle.std.specs.IoError.{error_kind};
 ghost use Rattle.jup_service.specs.Servers.{service_end_status};
 
 use crate::{CaptionFault, KeptFileFault};
-use clap::error::ErrorKind as WordsKind;
 use jup_board::{BoardEnd, LineFault};
 use std::alloc::AllocError;
 use std::io;
@@ -39,9 +38,6 @@ impl Attempt {
 /// Why a server ends early.
 #[derive(Clone, Copy, Debug, Error)]
 pub enum ServiceEnd {
-    /// The words are refused, or ask for help.
-    #[error("bad words")]
-    Words,
     #[error("no origin")]
     NoOrigin,
     #[error("io fault")]
@@ -73,15 +69,6 @@ impl ServiceEnd {
         }
     }
 
-    /// The end of a server whose words came to this.
-    pub fn of_words(error: &clap::Error) -> ServiceEnd {
-        if error.kind() == WordsKind::OutOfMemory {
-            ServiceEnd::NoMemory
-        } else {
-            ServiceEnd::Words
-        }
-    }
-
     /// The end of a server whose captions are refused at this line.
     pub fn of_captions(line: u32, fault: CaptionFault) -> ServiceEnd
         ensures memory { fault ≡ CaptionFault.NoMemory → result ≡ ServiceEnd.NoMemory }
@@ -101,7 +88,7 @@ impl ServiceEnd {
     {
         match self {
             ServiceEnd::Io(_) | ServiceEnd::BoardTaken => 1,
-            ServiceEnd::Words | ServiceEnd::NoOrigin => 2,
+            ServiceEnd::NoOrigin => 2,
             ServiceEnd::NoMemory => 3,
             ServiceEnd::BadBoard(..) | ServiceEnd::LongBoard | ServiceEnd::BadCaptions(..) => 5,
         }

@@ -10,7 +10,7 @@ use crate::operating::operate;
 use crate::session::Service;
 use crate::setup::{Door, OpenedBoard, Setup, prepare, slices};
 use crate::stop::Stop;
-use crate::telling::{tell, tell_words};
+use crate::telling::{tell, tell_unread};
 use jup_hub::{Hub, Pass};
 use jup_service::{Attempt, KeptFile, Notice, ServiceEnd, service_words};
 use jup_session::Bell;
@@ -54,7 +54,7 @@ pub fn web_main<
 {
     let told = match service_words(alloc, words) {
         Ok(told) => told,
-        Err(error) => return tell_words(rt, &error),
+        Err(unread) => return tell_unread(rt, &unread),
     };
     let served = match prepare(rt, alloc, &told) {
         Ok(setup) => serve(rt, alloc, setup, page, input),

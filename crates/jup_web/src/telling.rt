@@ -1,23 +1,26 @@
 //! What a server that ends early reports.
 ghost use Rattle.std.specs.Prelude.{◌≤◌};
 
+use jup_options::Unread;
 use jup_service::{Attempt, ServiceEnd};
 
-/// Reports what the words came to that ask for no server, and answers the exit status. Help goes to standard output.
-pub(crate) fn tell_words<R: Print + Eprint>(rt: &R, error: &clap::Error) -> u8
+/// Reports why the server has no arguments to work by, and returns the exit status. Help goes to standard output.
+pub(crate) fn tell_unread<R: Print + Eprint>(rt: &R, unread: &Unread) -> u8
     ensures { result ≤ 5 }
 {
-    match ServiceEnd::of_words(error) {
-        ServiceEnd::Words if error.use_stderr() => {
-            let _ = eprint!(rt; "{error}");
-            ServiceEnd::Words.status()
-        }
-        ServiceEnd::Words => match print!(rt; "{error}") {
-            Ok(()) => 0,
-            Err(_) => tell(rt, ServiceEnd::Io(Attempt::Print)),
+    match unread {
+        Unread::Help(text) => match print!(rt; "{text}") {
+            Ok(()) => {}
+            Err(_) => return tell(rt, ServiceEnd::Io(Attempt::Print)),
         },
-        end => tell(rt, end),
+        Unread::Refused(text) => {
+            let _ = eprint!(rt; "{text}");
+        }
+        Unread::NotText | Unread::NoMemory => {
+            let _ = eprintln!(rt; "{unread}");
+        }
     }
+    unread.status()
 }
 
 /// Reports why the server ends, and answers the exit status.
@@ -36,7 +39,7 @@ pub(crate) fn tell<R: Eprint>(rt: &R, end: ServiceEnd) -> u8
         ServiceEnd::NoOrigin => eprintln!(rt;
             "all addresses of the machine are listened at: tell by --origin under which one browsers come"
         ),
-        ServiceEnd::Words | ServiceEnd::NoMemory | ServiceEnd::LongBoard => Ok(()),
+        ServiceEnd::NoMemory | ServiceEnd::LongBoard => Ok(()),
     };
     end.status()
 }

@@ -4,11 +4,9 @@
 ghost use Rattle.std.specs.Prelude.{◌≡◌, ◌≤◌};
 
 use self::words::{Direction, read_words};
-use clap::error::ErrorKind;
 use jup_board::{BoardEnd, lay_out, print_layout};
 use jup_limits::LONGEST_INPUT;
 use std::process::ExitCode;
-use std::{env, io};
 
 mod words;
 
@@ -45,43 +43,10 @@ fn explain(rt: &HostRuntime, end: &BoardEnd) {
     };
 }
 
-// Prints what the words came to: help on standard output, all else on standard error.
-fn tell(rt: &HostRuntime, error: &clap::Error) -> u8
-    ensures { result ≤ 3 }
-{
-    match error.kind() {
-        ErrorKind::DisplayHelp => match print!(rt; "{error}") {
-            Ok(()) => 0,
-            Err(_) => tell_end(rt, "io fault\ncannot print", 1),
-        },
-        ErrorKind::OutOfMemory => tell_end(rt, "no memory", 3),
-        _ => {
-            let _ = eprint!(rt; "{error}");
-            2
-        }
-    }
-}
-
-fn tell_end(rt: &HostRuntime, text: &str, status: u8) -> u8
-    ensures { result ≡ status }
-{
-    let _ = eprintln!(rt; "{text}");
-    status
-}
-
 fn main(rt: HostRuntime) -> ExitCode {
-    let alloc = rt.alloc();
-    let words: io::Result<Vec<String>> = match env::args(&rt) {
-        Ok(words) => words.skip(1).collect(alloc).map_err(io::Error::from),
-        Err(error) => Err(error),
-    };
-    let status = match words {
-        Ok(words) => match read_words(alloc, &words) {
-            Ok(direction) => make(&rt, direction),
-            Err(error) => tell(&rt, &error),
-        },
-        Err(error) if error.kind() == io::ErrorKind::OutOfMemory => tell_end(&rt, "no memory", 3),
-        Err(_) => tell_end(&rt, "a word is no text", 2),
+    let status = match read_words(&rt) {
+        Ok(direction) => make(&rt, direction),
+        Err(unread) => unread.tell(&mut rt.stdout(), &mut rt.stderr()),
     };
     ExitCode::from(status)
 }

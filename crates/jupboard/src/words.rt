@@ -1,14 +1,17 @@
 //! The command line.
 
-use clap::{Arg, ArgAction, Command, Error};
-use std::alloc::{AllocError, Global};
+use jup_options::{CommandLine, OptionRow, Takes, Unread, arguments};
 
 /// What `--help` says first.
 const ABOUT: &str =
     "Makes a layout for jupd of a board as the programs print it, from standard input";
 
-/// What `--help` says of its option.
-const PRINT_HELP: &str = "The other way: prints the board of a layout";
+const OPTIONS: [OptionRow; 1] = [OptionRow {
+    name: "print",
+    takes: Takes::Nothing,
+    is_required: false,
+    help: "The other way: prints the board of a layout",
+}];
 
 /// What `--help` says last.
 const EXAMPLE: &str = "\
@@ -28,28 +31,17 @@ pub(crate) enum Direction {
     Print,
 }
 
-// The option `--print`.
-fn print_option<'a>(alloc: Global) -> Arg<'a> {
-    Arg::new(alloc, "print")
-        .long("print")
-        .action(ArgAction::SetTrue)
-        .help(PRINT_HELP)
-}
-
-// What is asked of the words.
-fn command<'a>(alloc: Global) -> Result<Command<'a>, AllocError> {
-    Command::new(alloc, "jupboard")
-        .no_binary_name(true)
-        .about(ABOUT)
-        .after_help(EXAMPLE)
-        .arg(print_option(alloc))
-}
-
 /// Reads the words after the program's name.
-pub(crate) fn read_words(alloc: Global, words: &[String]) -> Result<Direction, Error> {
-    let mut command = command(alloc)?;
-    let matches = command.try_get_matches_from_mut(words)?;
-    if matches.get_flag("print") {
+pub(crate) fn read_words(rt: &HostRuntime) -> Result<Direction, Unread> {
+    let line = CommandLine {
+        program: "jupboard",
+        about: ABOUT,
+        example: EXAMPLE,
+        options: &OPTIONS,
+    };
+    let words = arguments(rt)?;
+    let given = line.read(rt.alloc(), &words)?;
+    if given.has("print") {
         Ok(Direction::Print)
     } else {
         Ok(Direction::LayOut)

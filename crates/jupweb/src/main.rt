@@ -2,24 +2,18 @@
 #![tactic(auto)]
 
 use self::page::PAGE;
-use jup_session::{hold_streams, without_words};
+use jup_options::arguments;
+use jup_session::hold_streams;
 use jup_web::web_main;
 use std::process::ExitCode;
-use std::{env, io};
 
 mod page;
 
 fn main(rt: HostRuntime) -> ExitCode {
     let _held = hold_streams(&rt);
-    let alloc = rt.alloc();
-    let mut errors = rt.stderr();
-    let words: io::Result<Vec<String>> = match env::args(&rt) {
-        Ok(words) => words.skip(1).collect(alloc).map_err(io::Error::from),
-        Err(error) => Err(error),
-    };
-    let status = match words {
-        Ok(words) => web_main(&rt, alloc, &words, PAGE, rt.stdin()),
-        Err(error) => without_words(&error, &mut errors),
+    let status = match arguments(&rt) {
+        Ok(words) => web_main(&rt, rt.alloc(), &words, PAGE, rt.stdin()),
+        Err(unread) => unread.tell(&mut rt.stdout(), &mut rt.stderr()),
     };
     ExitCode::from(status)
 }

@@ -2,7 +2,8 @@
 
 use crate::expect::{expect_eq, expect_text};
 use crate::fakes::Impatient;
-use jup_session::{client_main, daemon_main, without_words};
+use jup_options::Unread;
+use jup_session::{client_main, daemon_main};
 use std::alloc::Global;
 use std::io::{ErrorKind, Read};
 use std::net::{Net, TcpListener, TcpStream};
@@ -95,9 +96,10 @@ fn a_program_that_cannot_have_its_words_says_why(rt: HostRuntime) {
         (ErrorKind::OutOfMemory, 3, "no memory\n"),
         (ErrorKind::InvalidData, 2, "a word is no text\n"),
     ] {
-        let mut errors = Vec::new(rt.alloc());
-        let answered = without_words(&io::Error::from(kind), &mut errors);
-        expect_eq(&rt, answered, status);
+        let (mut out, mut errors) = (Vec::new(rt.alloc()), Vec::new(rt.alloc()));
+        let unread = Unread::of_failure(&io::Error::from(kind));
+        expect_eq(&rt, unread.tell(&mut out, &mut errors), status);
+        expect_eq(&rt, out.len(), 0);
         expect_text(&rt, errors.as_slice(), text);
     }
 }

@@ -1,12 +1,12 @@
 //! `jup_session`, by `jup_app`: sessions over a hub, and the insides of the server and the client.
 ghost use Rattle.jup_hub.specs.Passes.{IsPassOf};
 
-use clap::Error;
 use jup_app::{
     Bell, ClientEnd, DaemonWords, Ending, Gate, Open, client_main, daemon_main, daemon_words,
     run_client, serve_link,
 };
 use jup_hub::{Hub, Pass};
+use jup_options::Unread;
 use std::alloc::Global;
 use std::io::{Read, Write};
 use std::net::{Net, TcpListener, TcpStream};
@@ -16,7 +16,7 @@ use std::time::Clock;
 
 /// The command line of the server, and a bell.
 pub fn calls() {
-    let _: fn(Global, &[String]) -> Result<DaemonWords, Error> = daemon_words;
+    let _: fn(Global, &[String]) -> Result<DaemonWords, Unread> = daemon_words;
     let _: fn() -> Bell = Bell::new;
 }
 

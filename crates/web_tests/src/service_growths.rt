@@ -2,7 +2,6 @@
 //! A call whose allocation fails reports it, and the same call then gives its answer.
 use crate::boards::BOARD;
 use crate::expect::{expect_eq, expect_that};
-use clap::error::ErrorKind;
 use jup_service::{
     Address, CaptionFault, ServiceEnd, check_captions, own_origins, service_words, star_of_printed,
 };
@@ -45,14 +44,14 @@ fn star_printed(rt: HostRuntime) {
     expect_that(&rt, star_of_printed(rt.alloc(), BOARD, 10).is_ok());
 }
 
-// The limit that the command line asks for.
-fn limit_told(alloc: Global, words: &[String]) -> Result<u32, ErrorKind> {
+// The limit that the command line asks for, or the exit status if it is refused.
+fn limit_told(alloc: Global, words: &[String]) -> Result<u32, u8> {
     begin(alloc);
     let told = service_words(alloc, words);
     end(alloc);
     match told {
         Ok(told) => Ok(told.limit),
-        Err(error) => Err(error.kind()),
+        Err(unread) => Err(unread.status()),
     }
 }
 
@@ -66,7 +65,7 @@ fn words_of_a_server(rt: HostRuntime) {
         words.push(text).expect(&rt, "memory");
     }
     let mut told = limit_told(rt.alloc(), &words);
-    if told == Err(ErrorKind::OutOfMemory) {
+    if told == Err(3) {
         told = limit_told(rt.alloc(), &words);
     }
     expect_eq(&rt, told, Ok(7));

@@ -3,7 +3,6 @@ ghost use Rattle.std.specs.Prelude.{◌≤◌};
 
 use super::run_client;
 use crate::hang_up;
-use clap::error::ErrorKind;
 use jup_intake::{Drained, Intake, drain};
 use jup_rules::{ClientEnd, Inbox, client_words};
 use std::alloc::Global;
@@ -36,19 +35,7 @@ pub fn client_main<
 {
     let addr = match client_words(alloc, words) {
         Ok(addr) => addr,
-        Err(error) if error.kind() == ErrorKind::OutOfMemory => {
-            return tell(errors, ClientEnd::NoMemory);
-        }
-        Err(error) if error.use_stderr() => {
-            let _ = write!(errors, "{error}");
-            return 2;
-        }
-        Err(help) => {
-            return match write!(out, "{help}") {
-                Ok(()) => 0,
-                Err(_) => tell(errors, ClientEnd::WriteFailed),
-            };
-        }
+        Err(unread) => return unread.tell(out, errors),
     };
     match run_over_socket(rt, alloc, addr.as_str(), input, out) {
         Ok(()) => 0,

@@ -35,12 +35,12 @@ pub fn daemon_main<
 {
     let told = match daemon_words(alloc, words) {
         Ok(told) => told,
-        Err(error) => return tell(&DaemonEnd::from(error), out, errors),
+        Err(unread) => return unread.tell(out, errors),
     };
     let Err(end) = serve(rt, alloc, &told, input, out, errors) else {
         return 0;
     };
-    let status = tell(&end, out, errors);
+    let status = tell(&end, errors);
     if matches!(end, DaemonEnd::Io(Attempt::Listen)) {
         let listen = &told.listen;
         let _ = writeln!(errors, "cannot listen at {listen}");

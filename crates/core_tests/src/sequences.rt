@@ -1,4 +1,4 @@
-//! Worked pairs of concurrent operations on a text, and each call once on a list of labels.
+//! Relabels beside other operations on a text, and each call once on a list of labels. `conformance/transforms` has the other pairs of concurrent operations.
 use crate::expect::{expect_eq, expect_that};
 use jup_seq::{ListOp, SeqEdit, SeqOp, Source, TextOp};
 use jup_value::{Item, Label, Name, Seq};
@@ -124,41 +124,6 @@ fn becomes(
     expect_that(rt, meet(alloc, start, c, s, end));
 }
 
-#[test]
-fn of_insertions_at_one_place_the_clients_comes_first(rt: HostRuntime) {
-    let ops = (insert(2, 1, 'X'), insert(2, 2, 'Y'));
-    let moved = (insert(2, 1, 'X'), insert(3, 2, 'Y'));
-    becomes(&rt, rt.alloc(), "abcd", ops, moved, "abXYcd");
-}
-
-#[test]
-fn insertion_moves_down_past_a_deletion_below_it(rt: HostRuntime) {
-    let ops = (insert(3, 1, 'X'), delete(1, 2));
-    let moved = (insert(2, 1, 'X'), delete(1, 2));
-    becomes(&rt, rt.alloc(), "abcd", ops, moved, "acXd");
-}
-
-#[test]
-fn deletion_moves_down_past_a_deletion_below_it(rt: HostRuntime) {
-    let ops = (delete(3, 4), delete(1, 2));
-    let moved = (delete(2, 4), delete(1, 2));
-    becomes(&rt, rt.alloc(), "abcd", ops, moved, "ac");
-}
-
-#[test]
-fn deletions_of_one_item_become_no_ops(rt: HostRuntime) {
-    let ops = (delete(1, 2), delete(1, 2));
-    let moved = (SeqOp::Nothing, SeqOp::Nothing);
-    becomes(&rt, rt.alloc(), "abcd", ops, moved, "acd");
-}
-
-#[test]
-fn deletion_moves_up_past_an_insertion_at_its_place(rt: HostRuntime) {
-    let ops = (delete(1, 2), insert(1, 2, 'Y'));
-    let moved = (delete(2, 2), insert(1, 2, 'Y'));
-    becomes(&rt, rt.alloc(), "abcd", ops, moved, "aYcd");
-}
-
 // A relabel and another operation on "pqr" end so, whichever of them is the client's.
 fn relabel_ends(
     rt: &impl Abort,
@@ -217,83 +182,6 @@ fn insertion_goes_across_a_queue(rt: HostRuntime) {
     expect_eq(&rt, op, insert(0, 1, 'a'));
     expect_eq(&rt, queue[0], delete(1, 1));
     expect_eq(&rt, queue[1], insert(1, 2, 'x'));
-}
-
-// A label of one letter.
-fn letter(rt: &impl Abort, letter: &[u8]) -> Label {
-    Label::read(letter).expect(rt, "a label")
-}
-
-// The labels p, q and r.
-fn labels(rt: &impl Abort, alloc: Global) -> Seq<Label> {
-    let mut list = Seq::new(alloc);
-    for &value in &[letter(rt, b"p"), letter(rt, b"q"), letter(rt, b"r")] {
-        let place = list.len();
-        let name = Name {
-            site: 0,
-            number: place.saturating_add(1),
-        };
-        let item = Item { name, value };
-        attempt(alloc, &SeqOp::Insert { place, item }, &mut list);
-    }
-    list
-}
-
-// Whether both ways round are valid and lead from these labels to one list, which is that.
-fn lists_meet(rt: &impl Abort, alloc: Global, c: ListOp, s: ListOp, end: &[Label]) -> bool {
-    let (mut moved_c, mut moved_s) = (c, s);
-    Transform::transform(&mut moved_c, &mut moved_s);
-    let (mut one, mut other) = (labels(rt, alloc), labels(rt, alloc));
-    let are_valid = attempt(alloc, &c, &mut one)
-        && attempt(alloc, &moved_s, &mut one)
-        && attempt(alloc, &s, &mut other)
-        && attempt(alloc, &moved_c, &mut other);
-    are_valid && shows(&one, end) && shows(&other, end)
-}
-
-// Whether a list has these labels.
-fn shows(list: &Seq<Label>, labels: &[Label]) -> bool {
-    let mut place = 0;
-    for label in labels {
-        if !list.get(place).is_some_and(|item| item.value == *label) {
-            return false;
-        }
-        place = place.saturating_add(1);
-    }
-    list.len() == place
-}
-
-// The relabel at a place of the item of the number.
-fn relabel_as(place: u32, number: u32, value: Label) -> ListOp {
-    SeqOp::Relabel {
-        place,
-        name: Name { site: 0, number },
-        value,
-    }
-}
-
-fn moves_past_a_deletion(rt: &impl Abort, alloc: Global, z: Label) {
-    let gone = SeqOp::Delete {
-        place: 0,
-        name: Name { site: 0, number: 1 },
-    };
-    let end = [letter(rt, b"q"), z];
-    expect_that(rt, lists_meet(rt, alloc, relabel_as(2, 3, z), gone, &end));
-}
-
-fn moves_past_an_insertion(rt: &impl Abort, alloc: Global, z: Label) {
-    let value = letter(rt, b"y");
-    let item = Item { name: FIRST, value };
-    let put = SeqOp::Insert { place: 1, item };
-    let end = [letter(rt, b"p"), value, z, letter(rt, b"r")];
-    expect_that(rt, lists_meet(rt, alloc, relabel_as(1, 2, z), put, &end));
-}
-
-#[test]
-fn relabel_of_a_list_moves_with_its_item(rt: HostRuntime) {
-    let z = letter(&rt, b"z");
-    moves_past_a_deletion(&rt, rt.alloc(), z);
-    moves_past_an_insertion(&rt, rt.alloc(), z);
 }
 
 const FIRST: Name = Name { site: 1, number: 1 };

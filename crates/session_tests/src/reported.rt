@@ -2,7 +2,7 @@
 
 use crate::expect::{expect_eq, expect_text};
 use crate::fakes::Impatient;
-use crate::handed_on::{Holding, OneLine};
+use crate::handed_on::Holding;
 use crate::programs::{client_of, daemon_at, run_client};
 use jup_session::{daemon_main, daemon_words};
 use std::alloc::Global;
@@ -23,34 +23,6 @@ fn serve_held<R: Net<Listener = TcpListener, Stream = TcpStream> + Threads + Wai
     let mut out = Holding::new(Vec::new(alloc), text);
     let mut errors = Vec::new(alloc);
     daemon_main(rt, alloc, words, TOGGLE, &mut out, &mut errors)
-}
-
-// A daemon that can print one line. Its status.
-fn serve_cut<R: Net<Listener = TcpListener, Stream = TcpStream> + Threads + Wait + Clock + Sync>(
-    rt: &R,
-    alloc: Global,
-    words: &[String],
-    text: &mut Vec<u8>,
-    errors: &mut Vec<u8>,
-) -> u8 {
-    let mut out = OneLine { text };
-    daemon_main(rt, alloc, words, TOGGLE, &mut out, errors)
-}
-
-#[test]
-fn a_report_that_can_not_be_printed_is_a_failed_write(rt: HostRuntime) {
-    let alloc = rt.alloc();
-    let daemon = daemon_at(&rt, alloc, "127.0.0.1:47022", "1000", "1");
-    let client = client_of(&rt, alloc, "127.0.0.1:47022");
-    let (mut text, mut errors) = (Vec::new(alloc), Vec::new(alloc));
-    let (status, other) = join(
-        &rt,
-        || serve_cut(&rt, alloc, &daemon, &mut text, &mut errors),
-        || run_client(&rt, alloc, &client, b"quit\n"),
-    );
-    expect_eq(&rt, (status, other), (1, 0));
-    expect_text(&rt, errors.as_slice(), "io fault\ncannot print\n");
-    expect_text(&rt, text.as_slice(), "listening 127.0.0.1:47022\n");
 }
 
 #[test]

@@ -4,20 +4,17 @@ ghost use Rattle.jup_window.specs.Entries.{EachWidget};
 ghost use Rattle.jup_star.specs.Stars.{IsShort};
 
 use crate::expect::{expect_eq, expect_that};
-use crate::stars::{
-    answers, edit_number, first_of, hears_one, insert, insertion, refusal_of_two, takes,
-};
+use crate::stars::{answers, first_of, hears_one, insert, insertion, refusal_of_two, takes};
 use jup_batch::BoardBatch;
 use jup_link::Msg;
 use jup_seq::{SeqEdit, SeqOp, TextOp};
-use jup_star::{Down, Entry, Made, Site, SiteFault, Star, StarFault, Up};
-use jup_text::write_board;
-use jup_value::{Item, Label, Name};
-use jup_window::{Board, BoardEdit, BoardOp, Command, EditFault, Setting, Value, WidgetOp};
+use jup_star::{Down, Entry, Made, Site, Star, Up};
+use jup_value::{Item, Name};
+use jup_window::{Board, BoardEdit, BoardOp, Command, Setting, WidgetOp};
 use jup_xform::{Batch, OneOf};
 use std::alloc::Global;
 use std::process::Abort;
-use test_boards::{alone, board_of, reads};
+use test_boards::{board_of, reads};
 
 const LIMIT: u32 = 100_000;
 
@@ -141,12 +138,6 @@ fn takes_both(rt: &impl Abort, alloc: Global, star: &mut Star, one: &Up, two: &U
     answers(rt, alloc, star, 2, two, Ok(Some(1)));
 }
 
-// One message waits for each site, which receives it.
-fn both_hear(rt: &impl Abort, alloc: Global, pair: &mut Pair) {
-    hears_one(rt, alloc, &mut pair.star, &mut pair.one);
-    hears_one(rt, alloc, &mut pair.star, &mut pair.two);
-}
-
 // The text 1 of the star and of both sites.
 fn all_read(rt: &impl Abort, pair: &Pair, letters: &str) {
     expect_that(rt, reads(pair.star.board(), letters));
@@ -198,86 +189,6 @@ fn a_batch_of_one_command_is_the_edit_of_that_command(rt: HostRuntime) {
     let single = made_single(&rt, alloc, insert(0, 'a'));
     expect_eq(&rt, &batched.up, &single.up);
     expect_eq(&rt, &batched.edit, &single.edit);
-}
-
-// The second batch of a site that has heard of no other has these operations.
-fn makes_second(
-    rt: &impl Abort,
-    alloc: Global,
-    site: &mut Site,
-    commands: &[Command],
-    ops: &[BoardOp],
-)
-    requires some { 1 ≤ length ops.now }
-    requires few { length ops.now ≤ 32 }
-{
-    let made = makes(rt, alloc, site, commands);
-    let op = batch_of(rt, alloc, ops);
-    let wanted = Msg {
-        mine: 1,
-        heard: 0,
-        op,
-    };
-    expect_eq(rt, made.up, Up::Op(wanted));
-}
-
-#[test]
-fn names_go_on_after_a_batch(rt: HostRuntime) {
-    let alloc = rt.alloc();
-    let mut site = site_over(&rt, alloc, "");
-    let first = [insert(0, 'a'), delete(0), insert(0, 'b')];
-    makes(&rt, alloc, &mut site, &first);
-    let second = [insert(1, 'c'), insert(2, 'd')];
-    let ops = [put(1, 1, 3, 'c'), put(2, 1, 4, 'd')];
-    makes_second(&rt, alloc, &mut site, &second, &ops);
-    expect_eq(&rt, site.backlog(), 2);
-}
-
-// The number of the refusal of a batch of commands by a site with this text, or 0.
-fn batch_refusal(rt: &impl Abort, alloc: Global, text: &str, commands: &[Command]) -> u32 {
-    let mut site = site_over(rt, alloc, text);
-    edit_number(site.edit_batch(alloc, commands).err())
-}
-
-#[test]
-fn batches_are_refused_by_number(rt: HostRuntime) {
-    let alloc = rt.alloc();
-    expect_eq(&rt, batch_refusal(&rt, alloc, "", &[delete(0)]), 4);
-    expect_eq(&rt, batch_refusal(&rt, alloc, "", &[]), 15);
-    expect_eq(
-        &rt,
-        batch_refusal(&rt, alloc, "", &[insert(0, 'a'); 33]),
-        15,
-    );
-    expect_eq(&rt, batch_refusal(&rt, alloc, "", &[insert(0, 'a'); 32]), 0);
-    expect_eq(
-        &rt,
-        batch_refusal(&rt, alloc, "", &[insert(0, 'a'), delete(1)]),
-        4,
-    );
-}
-
-// A site still has its opening text "pqr".
-fn has_made_nothing(rt: &impl Abort, site: &Site) {
-    expect_that(rt, reads(site.board(), "pqr"));
-    expect_eq(rt, site.backlog(), 0);
-}
-
-// A site makes the first of its edits.
-fn makes_first(rt: &impl Abort, alloc: Global, site: &mut Site) {
-    let made = site.edit(alloc, &insert(0, 'b')).expect(rt, "an edit");
-    let wanted = first_edit(alone(alloc, put(0, 1, 1, 'b')));
-    expect_eq(rt, made.up, Up::Op(wanted));
-}
-
-#[test]
-fn a_batch_refused_at_its_second_command_changes_nothing(rt: HostRuntime) {
-    let alloc = rt.alloc();
-    let mut site = site_over(&rt, alloc, "pqr");
-    let refused = site.edit_batch(alloc, &[insert(0, 'a'), delete(9)]);
-    expect_eq(&rt, edit_number(refused.err()), 4);
-    has_made_nothing(&rt, &site);
-    makes_first(&rt, alloc, &mut site);
 }
 
 #[test]
@@ -347,91 +258,6 @@ fn other_sites_are_sent_the_whole_batch_moved_past_earlier_ones(rt: HostRuntime)
     expect_eq(&rt, joins(&rt, alloc, &mut pair.star).number(), 3);
     race(&rt, alloc, &mut pair, &typed(), &erased());
     each_is_sent(&rt, alloc, &mut pair.star);
-}
-
-// Two batches on the text "pqr" meet, and all read so.
-fn meet(rt: &impl Abort, alloc: Global, one: &[Command], two: &[Command], letters: &str) {
-    let mut pair = pair_over(rt, alloc, "pqr");
-    race(rt, alloc, &mut pair, one, two);
-    both_hear(rt, alloc, &mut pair);
-    all_read(rt, &pair, letters);
-    expect_eq(rt, pair.star.order().len(), 2);
-}
-
-#[test]
-fn two_batches_on_one_text_meet(rt: HostRuntime) {
-    meet(&rt, rt.alloc(), &typed(), &erased(), "pXY");
-}
-
-#[test]
-fn two_batches_meet_in_the_other_order(rt: HostRuntime) {
-    meet(&rt, rt.alloc(), &erased(), &typed(), "pXY");
-}
-
-// A board, as it is printed.
-fn shows(rt: &impl Abort, alloc: Global, board: &Board, printed: &[u8]) {
-    let mut text = Vec::new(alloc);
-    write_board(alloc, board, &mut text).expect(rt, "memory");
-    expect_eq(rt, text.as_slice(), printed);
-}
-
-fn label(rt: &impl Abort, text: &[u8]) -> Label {
-    Label::read(text).expect(rt, "a label")
-}
-
-// The first item of the list is given this label.
-fn relabel_first(label: Label) -> Command {
-    Command::Relabel {
-        win: 1,
-        wid: 2,
-        place: 0,
-        label,
-    }
-}
-
-// An item with this label is put before the list.
-fn list_first(label: Label) -> Command {
-    Command::Insert {
-        win: 1,
-        wid: 2,
-        place: 0,
-        value: Value::Label(label),
-    }
-}
-
-// The slider is set.
-fn slide(value: i32) -> Command {
-    set(4, Setting::Slider(value))
-}
-
-// A batch on all four widgets.
-fn on_each(rt: &impl Abort) -> [Command; 4] {
-    let on = set(3, Setting::Toggle(true));
-    let relabel = relabel_first(label(rt, b"n"));
-    [insert(0, 'a'), on, relabel, slide(5)]
-}
-
-// A batch on the text, the list and the slider.
-fn on_three(rt: &impl Abort) -> [Command; 4] {
-    let listed = list_first(label(rt, b"red"));
-    [delete(0), listed, slide(7), insert(2, 'b')]
-}
-
-// The boards of the star and of both sites, as they are printed.
-fn all_show(rt: &impl Abort, alloc: Global, pair: &Pair, printed: &[u8]) {
-    shows(rt, alloc, pair.star.board(), printed);
-    shows(rt, alloc, pair.one.board(), printed);
-    shows(rt, alloc, pair.two.board(), printed);
-}
-
-#[test]
-fn batches_on_several_widgets_end_equal(rt: HostRuntime) {
-    let alloc = rt.alloc();
-    let mut pair = pair_over(&rt, alloc, "pqr");
-    race(&rt, alloc, &mut pair, &on_each(&rt), &on_three(&rt));
-    both_hear(&rt, alloc, &mut pair);
-    let printed = b"window 1\ntext 1 \"aqrb\"\nlist 2 \"red\" \"n\"\ntoggle 3 on\nslider 4 0 9 7\n";
-    all_show(&rt, alloc, &pair, printed);
 }
 
 // A site receives an edit, and owes nothing for it.

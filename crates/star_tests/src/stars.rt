@@ -8,7 +8,7 @@ use jup_link::Msg;
 use jup_seq::SeqOp;
 use jup_star::{Down, Entry, Made, OpenFault, Site, SiteFault, Star, StarFault, Up, is_short};
 use jup_value::{Item, Name, Seq};
-use jup_window::{Board, BoardOp, Command, EditFault, Setting, Value, Widget, WidgetOp};
+use jup_window::{Board, BoardOp, Command, EditFault, Value, Widget, WidgetOp};
 use std::alloc::Global;
 use std::marker::PhantomData;
 use std::process::Abort;
@@ -53,9 +53,9 @@ pub(crate) fn star_of_two(rt: &impl Abort, alloc: Global) -> Star {
     star
 }
 
-// The number that the next site is given.
-fn joins(rt: &impl Abort, alloc: Global, star: &mut Star) -> u32 {
-    star.join(alloc).expect(rt, "a free link").site
+// The next site joins.
+fn joins(rt: &impl Abort, alloc: Global, star: &mut Star) {
+    star.join(alloc).expect(rt, "a free link");
 }
 
 // A site with a board of its own, as a star would open it.
@@ -82,14 +82,6 @@ pub(crate) fn insert(place: u32, value: char) -> Command {
         wid: 1,
         place,
         value: Value::Char(value),
-    }
-}
-
-fn switch_on() -> Command {
-    Command::Set {
-        win: 1,
-        wid: 3,
-        setting: Setting::Toggle(true),
     }
 }
 
@@ -287,64 +279,6 @@ fn a_star_is_opened_on_a_layout_with_a_limit(rt: HostRuntime) {
     star_of_an_item_opens(&rt, alloc);
 }
 
-#[test]
-fn sixty_four_sites_join(rt: HostRuntime) {
-    let alloc = rt.alloc();
-    let mut star = open_star(&rt, alloc);
-    for _ in 0..64 {
-        joins(&rt, alloc, &mut star);
-    }
-    let more = star.join(alloc);
-    expect_eq(&rt, star_number(more.err()), 30);
-    expect_eq(&rt, star.leave(7), Ok(()));
-    expect_eq(&rt, joins(&rt, alloc, &mut star), 65);
-}
-
-// The next site is given this number, and leaves.
-fn comes_and_goes(rt: &impl Abort, alloc: Global, star: &mut Star, number: u32) {
-    expect_eq(rt, joins(rt, alloc, star), number);
-    expect_eq(rt, star.leave(number), Ok(()));
-}
-
-#[test]
-fn each_site_number_is_given_once(rt: HostRuntime) {
-    let alloc = rt.alloc();
-    let mut star = open_star(&rt, alloc);
-    for number in 1..65_536 {
-        comes_and_goes(&rt, alloc, &mut star, number);
-    }
-    let more = star.join(alloc);
-    expect_eq(&rt, star_number(more.err()), 31);
-}
-
-// The third site of a star, from which two have come and one has gone.
-fn third(rt: &impl Abort, alloc: Global, star: &mut Star) {
-    let joined = star.join(alloc).expect(rt, "a free link");
-    expect_eq(rt, (joined.site, joined.limit), (3, LIMIT));
-    expect_that(rt, reads(&joined.board, ""));
-}
-
-fn has_one_edit(rt: &impl Abort, made: &Made) {
-    expect_eq(rt, made.edit.as_slice().len(), 1);
-}
-
-// Site 1 leaves a star that has taken nothing.
-fn loses_one(rt: &impl Abort, star: &mut Star) {
-    expect_eq(rt, star.leave(1), Ok(()));
-    expect_eq(rt, (star.waiting(1), star.waiting(2)), (None, Some(0)));
-    expect_eq(rt, star.order().len(), 0);
-}
-
-#[test]
-fn an_edit_that_was_not_taken_leaves_with_its_site(rt: HostRuntime) {
-    let alloc = rt.alloc();
-    let mut star = star_of_two(&rt, alloc);
-    let (_site, made) = type_at_head(&rt, alloc, 1, 'a');
-    has_one_edit(&rt, &made);
-    loses_one(&rt, &mut star);
-    third(&rt, alloc, &mut star);
-}
-
 // Hands a site all that waits for it, and answers how many messages that were.
 fn deliver_all(rt: &impl Abort, alloc: Global, star: &mut Star, site: &mut Site) -> usize {
     let downs = star
@@ -362,21 +296,10 @@ pub(crate) fn hears_one(rt: &impl Abort, alloc: Global, star: &mut Star, site: &
     expect_eq(rt, deliver_all(rt, alloc, star, site), 1);
 }
 
-// A site that inserted a character at the head of its text, with what it made.
-fn type_at_head(rt: &impl Abort, alloc: Global, number: u32, value: char) -> (Site, Made) {
+// What a site made that inserted a character at the head of its text.
+fn typed_at_head(rt: &impl Abort, alloc: Global, number: u32, value: char) -> Made {
     let mut site = lone_site(rt, alloc, number);
-    let made = site.edit(alloc, &insert(0, value)).expect(rt, "an edit");
-    (site, made)
-}
-
-// Two sites that inserted at the head of one text before either heard of the other, what they made, and the
-// star, which took both edits.
-#[derive(Drop)]
-struct Race {
-    star: Star,
-    one: Site,
-    two: Site,
-    made: [Entry; 2],
+    site.edit(alloc, &insert(0, value)).expect(rt, "an edit")
 }
 
 // The star takes what a site made, at a place of its order. The entry there.
@@ -393,121 +316,16 @@ pub(crate) fn takes(
     Entry { site, edit }
 }
 
-fn run_race(rt: &impl Abort, alloc: Global) -> Race {
-    let mut star = star_of_two(rt, alloc);
-    let (one, a) = type_at_head(rt, alloc, 1, 'a');
-    let (two, x) = type_at_head(rt, alloc, 2, 'x');
-    let first = takes(rt, alloc, &mut star, 1, a, 0);
-    let second = takes(rt, alloc, &mut star, 2, x, 1);
-    Race {
-        star,
-        one,
-        two,
-        made: [first, second],
-    }
-}
-
+// Both sites edit before either hears of the other.
 #[test]
 fn the_order_has_edits_as_they_were_made(rt: HostRuntime) {
-    let race = run_race(&rt, rt.alloc());
-    expect_eq(&rt, race.star.order(), race.made.as_slice());
-}
-
-// The text of the star and of both sites.
-fn all_read(rt: &impl Abort, race: &Race, letters: &str) {
-    expect_that(rt, reads(race.star.board(), letters));
-    expect_that(rt, reads(race.one.board(), letters));
-    expect_that(rt, reads(race.two.board(), letters));
-}
-
-#[test]
-fn the_later_of_two_insertions_comes_first(rt: HostRuntime) {
-    let alloc = rt.alloc();
-    let mut race = run_race(&rt, alloc);
-    waits(&rt, &race.star, 1, Some(1));
-    hears_one(&rt, alloc, &mut race.star, &mut race.one);
-    hears_one(&rt, alloc, &mut race.star, &mut race.two);
-    all_read(&rt, &race, "xa");
-}
-
-// The star takes an edit of a site, so many times.
-fn edits_taken(rt: &impl Abort, alloc: Global, star: &mut Star, site: &mut Site, count: u32) {
-    for _ in 0..count {
-        let made = site.edit(alloc, &switch_on()).expect(rt, "an edit");
-        let taken = star.take(alloc, site.number(), &made.up);
-        expect_that(rt, taken.is_ok());
-    }
-}
-
-// What a site answers to the last message that waits for it.
-fn last_answer(rt: &impl Abort, alloc: Global, star: &mut Star, site: &mut Site) -> Option<Up> {
-    let mut last = None;
-    let downs = star.fetch(alloc, site.number(), 100).expect(rt, "memory");
-    for down in downs.as_slice() {
-        last = site
-            .deliver(alloc, down)
-            .expect(rt, "a message that is shown");
-    }
-    last
-}
-
-// A site of 64 edits receives the acknowledgement of them.
-fn is_acknowledged(rt: &impl Abort, alloc: Global, star: &mut Star, site: &mut Site) {
-    expect_eq(rt, site.backlog(), 64);
-    expect_eq(rt, last_answer(rt, alloc, star, site), None);
-    expect_eq(rt, site.backlog(), 0);
-}
-
-#[test]
-fn the_star_acknowledges_sixty_four_edits(rt: HostRuntime) {
     let alloc = rt.alloc();
     let mut star = star_of_two(&rt, alloc);
-    let mut site = lone_site(&rt, alloc, 1);
-    edits_taken(&rt, alloc, &mut star, &mut site, 63);
-    waits(&rt, &star, 1, Some(0));
-    edits_taken(&rt, alloc, &mut star, &mut site, 1);
-    waits(&rt, &star, 1, Some(1));
-    is_acknowledged(&rt, alloc, &mut star, &mut site);
-}
-
-// Site 2 answers that it has 64 edits, which the star takes.
-fn acknowledges(rt: &impl Abort, alloc: Global, star: &mut Star, site: &mut Site) {
-    let answer = last_answer(rt, alloc, star, site);
-    expect_eq(rt, answer, Some(Up::Ack(64)));
-    answers(rt, alloc, star, 2, &Up::Ack(64), Ok(None));
-}
-
-#[test]
-fn a_site_acknowledges_sixty_four_edits(rt: HostRuntime) {
-    let alloc = rt.alloc();
-    let mut star = star_of_two(&rt, alloc);
-    let mut one = lone_site(&rt, alloc, 1);
-    let mut two = lone_site(&rt, alloc, 2);
-    edits_taken(&rt, alloc, &mut star, &mut one, 64);
-    acknowledges(&rt, alloc, &mut star, &mut two);
-}
-
-// The number of the refusal of an edit by a site, or 0.
-fn refusal_of_switch(alloc: Global, site: &mut Site) -> u32 {
-    edit_number(site.edit(alloc, &switch_on()).err())
-}
-
-// A site of 1024 edits makes another only after an acknowledgement.
-fn goes_on_if_acknowledged(rt: &impl Abort, alloc: Global, site: &mut Site) {
-    expect_eq(rt, refusal_of_switch(alloc, site), 7);
-    expect_eq(rt, site.deliver(alloc, &Down::Ack(64)), Ok(None));
-    expect_eq(rt, refusal_of_switch(alloc, site), 0);
-    expect_eq(rt, site.backlog(), 961);
-}
-
-#[test]
-fn a_site_makes_1024_edits_without_an_acknowledgement(rt: HostRuntime) {
-    let alloc = rt.alloc();
-    let mut site = lone_site(&rt, alloc, 1);
-    for _ in 0..1024 {
-        expect_eq(&rt, refusal_of_switch(alloc, &mut site), 0);
-    }
-    goes_on_if_acknowledged(&rt, alloc, &mut site);
+    let first = typed_at_head(&rt, alloc, 1, 'a');
+    let second = typed_at_head(&rt, alloc, 2, 'x');
+    let first = takes(&rt, alloc, &mut star, 1, first, 0);
+    let second = takes(&rt, alloc, &mut star, 2, second, 1);
+    expect_eq(&rt, star.order(), [first, second].as_slice());
 }
 
 // Site 1 is sent the answer to its ping.

@@ -2,7 +2,7 @@
 ghost use Rattle.std.specs.Prelude.{◌≡◌, ◌≢◌, ◌≤◌};
 ghost use Rattle.std.specs.IoError.{error_kind};
 ghost use Rattle.clap.specs.Values.{kind_of};
-ghost use Rattle.clap.specs.declared.error.kind.ErrorKind.TheVariants.{OutOfMemory as ClapOutOfMemory};
+ghost use Rattle.clap.specs.declared.error.kind.ErrorKind.TheVariants.{DisplayHelp, DisplayVersion, OutOfMemory as ClapOutOfMemory};
 ghost use Rattle.jup_options.specs.Unread.{unread_status};
 
 use clap::error::ErrorKind as WordsKind;
@@ -31,6 +31,8 @@ impl Unread {
     /// What an error of `clap` comes to.
     pub fn of(alloc: Global, error: &clap::Error) -> Unread
         ensures memory { kind_of error.now ≡ ClapOutOfMemory → result ≡ Unread.NoMemory }
+        ensures refused { (kind_of error.now ≢ DisplayHelp) × (kind_of error.now ≢ DisplayVersion) → unread_status result ≢ 0 }
+        ensures help { kind_of error.now ≡ DisplayHelp → unread_status result ≢ 2 }
     {
         if error.kind() == WordsKind::OutOfMemory {
             return Unread::NoMemory;

@@ -1,6 +1,5 @@
 //! The inside of the program.
-ghost use Rattle.std.specs.Prelude.{◌≤◌, IfOk, vec_len};
-ghost use Rattle.jup_limits.specs.Limits.{longest_board, longest_input};
+ghost use Rattle.std.specs.Prelude.{◌≤◌, IfOk, IfSome, vec_len};
 
 use crate::{BoardEnd, layout_of_printed, printed_of_layout};
 use jup_limits::{LONGEST_BOARD, LONGEST_INPUT};
@@ -14,7 +13,9 @@ pub fn lay_out<I: Read + Drop, O: Write>(
     input: I,
     out: &mut O,
 ) -> Result<(), BoardEnd> {
-    let text = read_board(alloc, input)?;
+    let Some(text) = read_within(alloc, input, LONGEST_BOARD)? else {
+        return Err(BoardEnd::LongBoard);
+    };
     let layout = layout_of_printed(alloc, text.as_slice())?;
     write(layout.as_slice(), out)
 }
@@ -25,36 +26,25 @@ pub fn print_layout<I: Read + Drop, O: Write>(
     input: I,
     out: &mut O,
 ) -> Result<(), BoardEnd> {
-    let text = read_layout(alloc, input)?;
+    let Some(text) = read_within(alloc, input, LONGEST_INPUT)? else {
+        return Err(BoardEnd::LongInput);
+    };
     let board = printed_of_layout(alloc, text.as_slice())?;
     write(board.as_slice(), out)
 }
 
-fn read_board<I: Read + Drop>(alloc: Global, input: I) -> Result<Vec<u8>, BoardEnd>
-    ensures { IfOk result (λ text. vec_len text ≤ longest_board) }
+// The whole input, or nothing if it has more bytes than this.
+fn read_within<I: Read + Drop>(
+    alloc: Global,
+    input: I,
+    most: u64,
+) -> Result<Option<Vec<u8>>, BoardEnd>
+    ensures { IfOk result (λ read. IfSome read (λ text. vec_len text ≤ most)) }
 {
-    let text = read_most(alloc, input, LONGEST_BOARD + 1)?;
-    if text.len() as u64 > LONGEST_BOARD {
-        return Err(BoardEnd::LongBoard);
-    }
-    Ok(text)
-}
-
-fn read_layout<I: Read + Drop>(alloc: Global, input: I) -> Result<Vec<u8>, BoardEnd>
-    ensures { IfOk result (λ text. vec_len text ≤ longest_input) }
-{
-    let text = read_most(alloc, input, LONGEST_INPUT + 1)?;
-    if text.len() as u64 > LONGEST_INPUT {
-        return Err(BoardEnd::LongInput);
-    }
-    Ok(text)
-}
-
-// At most so many bytes of the input.
-fn read_most<I: Read + Drop>(alloc: Global, input: I, most: u64) -> Result<Vec<u8>, BoardEnd> {
     let mut text = Vec::new(alloc);
-    match input.take(most).read_to_end(&mut text) {
-        Ok(_) => Ok(text),
+    match input.take(most.saturating_add(1)).read_to_end(&mut text) {
+        Ok(_) if text.len() as u64 <= most => Ok(Some(text)),
+        Ok(_) => Ok(None),
         Err(error) => Err(BoardEnd::of_failure(BoardEnd::Unread, &error)),
     }
 }

@@ -1,13 +1,12 @@
 //! Failed allocations in sequences, operations, batches and boards, each test for the call of its name. `./growths` makes one after another of the
 //! allocations between the two marks fail. A call that fails leaves all as it was, and gives its answer if it is made again.
-use crate::batches::{insert_next, on_text, text_and_toggle};
 use crate::blocks::{counts, sequence_of};
 use crate::boards::toggle;
 use crate::expect::{expect_eq, expect_that};
 use crate::sequences::{attempt, insert, reads, text};
-use jup_seq::{SeqEdit, TextOp};
-use jup_value::{NoMemory, Seq};
-use jup_window::{Board, BoardFault, BoardOp, Widget};
+use jup_seq::{SeqEdit, SeqOp, TextOp};
+use jup_value::{Item, Name, NoMemory, Seq};
+use jup_window::{Board, BoardFault, BoardOp, Widget, WidgetOp};
 use jup_xform::{Batch, Few, Transform};
 use std::alloc::Global;
 use std::process::Abort;
@@ -73,9 +72,12 @@ fn seq_copy(rt: HostRuntime) {
     expect_that(&rt, counts(&copied, 0, 300));
 }
 
-// Two insertions.
+// The first two insertions of a site.
 fn two_insertions() -> [TextOp; 2] {
-    [insert(0, 1, 'X'), insert_next(1, 1, 'Y')]
+    let name = Name { site: 1, number: 2 };
+    let item = Item { name, value: 'Y' };
+    let second = SeqOp::Insert { place: 1, item };
+    [insert(0, 1, 'X'), second]
 }
 
 // Room for an operation is made in an empty text, which stays empty, and then the operation gives it these letters.
@@ -167,6 +169,21 @@ fn few_from_slice(rt: HostRuntime) {
         Err(_) => Few::from_slice(rt.alloc(), &[1u32, 2]).expect(&rt, "memory"),
     };
     expect_eq(&rt, few.as_slice(), [1u32, 2].as_slice());
+}
+
+// Window 1 has an empty text 1 and a toggle 2 that is off.
+fn text_and_toggle(rt: &impl Abort, alloc: Global) -> Board {
+    let mut board = Board::new(alloc);
+    board.add_window(alloc, 1).expect(rt, "it is new");
+    let text = Widget::Text(Seq::new(alloc));
+    board.add_widget(1, 1, text).expect(rt, "it is new");
+    board.add_widget(1, 2, toggle()).expect(rt, "it is new");
+    board
+}
+
+fn on_text(op: TextOp) -> BoardOp {
+    let op = WidgetOp::Text(op);
+    BoardOp { win: 1, wid: 1, op }
 }
 
 // A board of a text and a toggle, and no item.

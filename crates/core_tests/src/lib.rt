@@ -4,8 +4,6 @@
 ghost use Rattle.std.specs.Prelude.{◌≡◌};
 
 #[cfg(test)]
-mod batches;
-#[cfg(test)]
 mod blocks;
 #[cfg(test)]
 mod boards;
@@ -13,8 +11,6 @@ mod boards;
 mod expect;
 #[cfg(test)]
 mod growths;
-#[cfg(test)]
-mod naming;
 #[cfg(test)]
 mod plain_lists;
 #[cfg(test)]

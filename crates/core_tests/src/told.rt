@@ -1,4 +1,4 @@
-//! The texts that people read of each fault.
+//! The texts that people read of each fault, and the numbers that no program prints.
 use crate::expect::expect_eq;
 use jup_setting::BadBounds;
 use jup_value::{BadLabel, NoMemory};
@@ -37,14 +37,15 @@ fn each_fault_of_an_edit_has_its_text(rt: HostRuntime) {
 
 #[test]
 fn each_fault_of_a_board_and_of_a_value_has_its_text(rt: HostRuntime) {
-    for &(fault, due) in &[
-        (BoardFault::NoWindow, "no such window"),
-        (BoardFault::NoMemory, "no memory"),
-        (BoardFault::DoubleId, "the id is taken"),
-        (BoardFault::TooMany, "there are 64 already"),
-        (BoardFault::BadId, "0 is no id"),
+    for &(fault, number, due) in &[
+        (BoardFault::NoWindow, 1, "no such window"),
+        (BoardFault::NoMemory, 8, "no memory"),
+        (BoardFault::DoubleId, 10, "the id is taken"),
+        (BoardFault::TooMany, 11, "there are 64 already"),
+        (BoardFault::BadId, 12, "0 is no id"),
     ] {
         tells(&rt, rt.alloc(), &fault, due);
+        expect_eq(&rt, (due, fault.number()), (due, number));
     }
     let due = "a label has 1 to 48 bytes, each from a space to `~`";
     tells(&rt, rt.alloc(), &BadLabel, due);
@@ -55,4 +56,5 @@ fn each_fault_of_a_board_and_of_a_value_has_its_text(rt: HostRuntime) {
         "the value is not within the bounds",
     );
     tells(&rt, rt.alloc(), &NoMemory, "no memory");
+    expect_eq(&rt, [BadLabel.number(), BadBounds.number()], [14, 13]);
 }

@@ -1,38 +1,8 @@
-//! Which labels there are, when sequences are the same, and that the calls of a sequence succeed if memory is left.
+//! When sequences are the same, and that the calls of a sequence succeed if memory is left.
 use crate::expect::{expect_eq, expect_that};
-use jup_value::{BadLabel, Item, Label, Name, NoMemory, Seq};
+use jup_value::{Item, Label, Name, NoMemory, Seq};
 use std::alloc::Global;
 use std::process::Abort;
-
-#[test]
-fn label_has_1_to_48_bytes(rt: HostRuntime) {
-    let longest = [b'x'; 48];
-    let label = Label::read(&longest).expect(&rt, "a label");
-    expect_eq(&rt, label.bytes(), longest.as_slice());
-    for &text in &[b"".as_slice(), [b'x'; 49].as_slice()] {
-        expect_eq(
-            &rt,
-            (text.len(), Label::read(text)),
-            (text.len(), Err(BadLabel)),
-        );
-    }
-    expect_eq(&rt, BadLabel.number(), 14);
-}
-
-#[test]
-fn label_has_bytes_from_space_to_tilde(rt: HostRuntime) {
-    for &text in &[b" ".as_slice(), b"~".as_slice(), b"red ink".as_slice()] {
-        let label = Label::read(text).expect(&rt, "a label");
-        expect_eq(&rt, label.bytes(), text);
-    }
-    for &byte in &[0u8, 0x1f, 0x7f, 0xff] {
-        expect_eq(
-            &rt,
-            (byte, Label::read(&[b'x', byte]).is_err()),
-            (byte, true),
-        );
-    }
-}
 
 const FIRST: Item<char> = Item {
     name: Name { site: 1, number: 1 },

@@ -1,10 +1,7 @@
-//! Worlds over boards that are given as they are printed, the events that are played in them, and what
-//! they show.
-use crate::expect::{expect_eq, expect_that};
+//! Worlds over boards that are given as they are printed, and the events that are played in them.
 use jup_batch::BoardEdits;
-use jup_text::write_board;
-use jup_window::{Board, BoardEdit, Command, Setting, Value, WidgetEdit};
-use jup_world::{Event, Happened, Reply, World};
+use jup_window::{Board, BoardEdit, Command, Value, WidgetEdit};
+use jup_world::{Event, Reply, World};
 use jup_xform::Few;
 use std::alloc::Global;
 use std::process::Abort;
@@ -39,15 +36,6 @@ pub(crate) fn insert(place: u32, value: char) -> Command {
     }
 }
 
-// A deletion from text 1.
-pub(crate) fn delete(place: u32) -> Command {
-    Command::Delete {
-        win: 1,
-        wid: 1,
-        place,
-    }
-}
-
 // The site types into text 1.
 pub(crate) fn types(site: u32, place: u32, value: char) -> Event {
     Event::Edit(site, insert(place, value))
@@ -55,25 +43,18 @@ pub(crate) fn types(site: u32, place: u32, value: char) -> Event {
 
 // The site deletes from text 1.
 pub(crate) fn deletes(site: u32, place: u32) -> Event {
-    Event::Edit(site, delete(place))
+    let deletion = Command::Delete {
+        win: 1,
+        wid: 1,
+        place,
+    };
+    Event::Edit(site, deletion)
 }
 
 // The site makes one edit of these commands.
 pub(crate) fn batch(rt: &impl Abort, alloc: Global, site: u32, commands: &[Command]) -> Event {
     let commands = Few::from_slice(alloc, commands).expect(rt, "memory");
     Event::Batch(site, commands)
-}
-
-// The site sets widget 1.
-pub(crate) fn sets(site: u32, setting: Setting) -> Event {
-    Event::Edit(
-        site,
-        Command::Set {
-            win: 1,
-            wid: 1,
-            setting,
-        },
-    )
 }
 
 // These edits of widget 1.
@@ -95,14 +76,6 @@ pub(crate) fn reply_of(rt: &impl Abort, alloc: Global, what: WidgetEdit) -> Repl
     Reply::Made(edits(rt, alloc, &[what]))
 }
 
-// The event happens, has this reply, and is in the trace.
-pub(crate) fn gives(rt: &impl Abort, alloc: Global, world: &mut World, event: Event, reply: Reply) {
-    let replied = world.step(alloc, &event).expect(rt, "memory");
-    expect_eq(rt, (&event, &replied), (&event, &reply));
-    let happened = Happened { event, reply };
-    expect_eq(rt, world.trace().last(), Some(&happened));
-}
-
 // Delivers all that is on its way.
 pub(crate) fn drain(rt: &impl Abort, alloc: Global, world: &mut World) {
     world.drain(alloc).expect(rt, "memory");
@@ -117,31 +90,9 @@ fn shown(world: &World, number: u32) -> Option<&Board> {
     }
 }
 
-// What the star, as number 0, or a site shows, as it is printed.
-fn board_text(rt: &impl Abort, alloc: Global, world: &World, number: u32) -> Vec<u8> {
-    let board = shown(world, number).expect(rt, "a site of this number");
-    let mut text = Vec::new(alloc);
-    write_board(alloc, board, &mut text).expect(rt, "memory");
-    text
-}
-
-// The star, as number 0, or a site shows this board.
-fn shows(rt: &impl Abort, alloc: Global, world: &World, number: u32, printed: &str) {
-    let text = board_text(rt, alloc, world, number);
-    expect_eq(rt, (number, text.as_slice()), (number, printed.as_bytes()));
-}
-
 // Whether no message is on its way.
 pub(crate) fn is_quiet(world: &World) -> bool {
     world.quiet()
-}
-
-// The star and the first sites show this board, and nothing is on its way.
-pub(crate) fn all_show(rt: &impl Abort, alloc: Global, world: &World, sites: u32, printed: &str) {
-    for number in 0..=sites {
-        shows(rt, alloc, world, number, printed);
-    }
-    expect_that(rt, is_quiet(world));
 }
 
 // Whether the text 1 of the star, as number 0, or of a site reads so. It takes no memory.

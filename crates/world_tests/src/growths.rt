@@ -3,13 +3,14 @@
 use super::boards::{
     LIMIT, batch, drain, edits, insert, is_quiet, reads, reply_of, types, world_of,
 };
-use super::worlds::put;
 use crate::expect::{expect_eq, expect_that};
+use jup_seq::SeqEdit;
 use jup_star::OpenFault;
 use jup_text::write_board;
-use jup_window::Command;
+use jup_value::Name;
+use jup_window::{Command, WidgetEdit};
 use jup_world::{Event, Halted, Happened, Reply, World, room_for};
-use jup_xform::NoMemory;
+use jup_xform::{NoMemory, OneOf};
 use std::alloc::Global;
 use std::process::Abort;
 use test_boards::board_of;
@@ -119,6 +120,11 @@ fn kind_of(event: &Event) -> Kind {
         Event::PushUp(_, _) => Kind::PushUp,
         Event::PushDown(_, _) => Kind::PushDown,
     }
+}
+
+// A site has put in a character, as its insertion of this number.
+fn put(site: u32, number: u32, value: char) -> WidgetEdit {
+    OneOf::First(SeqEdit::Put(Name { site, number }, value))
 }
 
 // Site 1 types "a" and pings, site 2 makes one edit of "xy" at the same place. The bytes of a message are moved in parts.

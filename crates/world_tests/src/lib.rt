@@ -18,8 +18,6 @@ mod lanes;
 #[cfg(test)]
 mod ledger;
 #[cfg(test)]
-mod messages;
-#[cfg(test)]
 mod more_growths;
 #[cfg(test)]
 mod random_batches;

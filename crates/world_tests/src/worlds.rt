@@ -1,29 +1,18 @@
-//! What a world shows beside its boards: its order, its trace, what its sites wait for. Whole runs that were
+//! What a world has beside its boards: its order, its trace, and the board that it was opened with. Whole runs that were
 //! worked out by hand are scripts of `examples/` and of `tools/scripts`.
-use super::boards::{
-    LIMIT, all_show, batch, delete, deletes, drain, edits, gives, insert, is_quiet, sets, types,
-    world_of,
-};
+use super::boards::{LIMIT, deletes, drain, edits, is_quiet, types, world_of};
 use crate::expect::{expect_eq, expect_that};
 use jup_seq::SeqEdit;
 use jup_star::{Entry, OpenFault};
 use jup_value::Name;
-use jup_window::{Board, Setting, WidgetEdit};
+use jup_window::{Board, WidgetEdit};
 use jup_world::{Event, Reply, World};
 use jup_xform::OneOf;
 use std::alloc::Global;
 use std::process::Abort;
 use test_boards::board_of;
 
-pub(crate) fn put(site: u32, number: u32, value: char) -> WidgetEdit {
-    OneOf::First(SeqEdit::Put(Name { site, number }, value))
-}
-
 const FIRST: WidgetEdit = OneOf::First(SeqEdit::Deleted(Name { site: 0, number: 1 }));
-
-const ON: Setting = Setting::Toggle(true);
-
-const OFF: Setting = Setting::Toggle(false);
 
 // The star has taken these edits of widget 1, each of its site.
 fn took(rt: &impl Abort, alloc: Global, world: &World, all: &[(u32, &[WidgetEdit])]) {
@@ -56,11 +45,6 @@ fn went_on(rt: &impl Abort, world: &World, from: usize, events: &[(Event, Reply)
     for (happened, (event, reply)) in rest.zip(events) {
         expect_eq(rt, (&happened.event, &happened.reply), (event, reply));
     }
-}
-
-// How many edits of site 1 the star has not acknowledged.
-fn backlog(world: &World) -> Option<u32> {
-    world.site(1).map(|site| site.backlog())
 }
 
 // A first round moves a message down to each site, and a second finds nothing.
@@ -97,35 +81,6 @@ fn the_order_has_both_deletions_of_one_item(rt: HostRuntime) {
     let alloc = rt.alloc();
     let world = met(&rt, alloc, "text 1 \"z\"", deletes(1, 0), deletes(2, 0));
     took(&rt, alloc, &world, &[(1, &[FIRST]), (2, &[FIRST])]);
-}
-
-#[test]
-fn a_batch_that_undoes_itself_is_one_entry(rt: HostRuntime) {
-    let alloc = rt.alloc();
-    let mut world = world_of(&rt, alloc, LIMIT, "text 1 \"\"", 2);
-    let name = Name { site: 1, number: 1 };
-    let made = [put(1, 1, 'a'), OneOf::First(SeqEdit::Deleted(name))];
-    let undone = batch(&rt, alloc, 1, &[insert(0, 'a'), delete(0)]);
-    let reply = Reply::Made(edits(&rt, alloc, &made));
-    gives(&rt, alloc, &mut world, undone, reply);
-    gives(&rt, alloc, &mut world, Event::Up(1), Reply::Taken(0));
-    drain(&rt, alloc, &mut world);
-    all_show(&rt, alloc, &world, 2, "window 1\ntext 1 \"\"\n");
-    took(&rt, alloc, &world, &[(1, &made)]);
-}
-
-// The message that shows site 1 the setting of site 2 also tells it that the star has its own.
-#[test]
-fn a_message_down_acknowledges_what_the_star_took(rt: HostRuntime) {
-    let alloc = rt.alloc();
-    let mut world = world_of(&rt, alloc, LIMIT, "toggle 1 off", 2);
-    plays(&rt, alloc, &mut world, sets(1, ON));
-    plays(&rt, alloc, &mut world, Event::Up(1));
-    plays(&rt, alloc, &mut world, Event::Down(2));
-    plays(&rt, alloc, &mut world, sets(2, OFF));
-    plays(&rt, alloc, &mut world, Event::Up(2));
-    plays(&rt, alloc, &mut world, Event::Down(1));
-    expect_eq(&rt, backlog(&world), Some(0));
 }
 
 #[test]

@@ -83,7 +83,7 @@ def judge_greeting(words, row):
         client.link.lines.are_next("hello 3")
         client.link.send_lines(*row.text.split(" / "))
         client.link.end()
-        client.printed.are_next("site 7" if row.fault is None else f"fault {row.fault}")
+        client.printed.are_next(f"site {row.text.split()[1]}" if row.fault is None else f"fault {row.fault}")
         if row.fault is not None:
             client.ends(4)
 

@@ -1,4 +1,4 @@
-//! Refusals in their order, and each call once when it succeeds.
+//! What no program asks of a star and of a site, or shows of them.
 ghost use Rattle.jup_window.specs.Entries.{EachWidget};
 ghost use Rattle.jup_star.specs.Stars.{IsShort};
 
@@ -133,21 +133,17 @@ fn has_lost_two(rt: &impl Abort, alloc: Global, star: &mut Star) {
 }
 
 // The number of the fault that a star finds in an edit of site 2, after which it has lost that site alone.
-pub(crate) fn refusal_of_two(rt: &impl Abort, alloc: Global, msg: Msg<BoardBatch>) -> u32 {
+fn refusal_of_two(rt: &impl Abort, alloc: Global, msg: Msg<BoardBatch>) -> u32 {
     let mut star = star_of_two(rt, alloc);
     let refused = star.take(alloc, 2, &Up::Op(msg));
     has_lost_two(rt, alloc, &mut star);
     star_number(refused.err())
 }
 
+// No line spells a relabel of a text. `conformance/servers` has the strangers with other faults.
 #[test]
-fn a_stranger_is_refused_by_name_and_no_other_site_is(rt: HostRuntime) {
-    let nothing = BoardOp {
-        win: 1,
-        wid: 1,
-        op: WidgetOp::Text(SeqOp::Nothing),
-    };
-    let text_relabel = BoardOp {
+fn a_relabel_of_a_text_is_no_edit(rt: HostRuntime) {
+    let relabel = BoardOp {
         win: 1,
         wid: 1,
         op: WidgetOp::Text(SeqOp::Relabel {
@@ -156,18 +152,12 @@ fn a_stranger_is_refused_by_name_and_no_other_site_is(rt: HostRuntime) {
             value: 'a',
         }),
     };
-    for &(mine, heard, op, number) in &[
-        (1, 0, insertion(0, first_of(2)), 20),
-        (0, 5, insertion(0, first_of(2)), 21),
-        (0, 0, insertion(0, first_of(1)), 22),
-        (0, 0, insertion(99, first_of(2)), 23),
-        (0, 0, nothing, 24),
-        (0, 0, text_relabel, 24),
-    ] {
-        let op = alone(rt.alloc(), op);
-        let msg = Msg { mine, heard, op };
-        expect_eq(&rt, refusal_of_two(&rt, rt.alloc(), msg), number);
-    }
+    let msg = Msg {
+        mine: 0,
+        heard: 0,
+        op: alone(rt.alloc(), relabel),
+    };
+    expect_eq(&rt, refusal_of_two(&rt, rt.alloc(), msg), 24);
 }
 
 // The number of a site's fault, or 0.
@@ -179,7 +169,7 @@ fn site_number(fault: Option<SiteFault>) -> u32 {
 }
 
 // The number of an edit's refusal, or 0.
-pub(crate) fn edit_number(fault: Option<EditFault>) -> u32 {
+fn edit_number(fault: Option<EditFault>) -> u32 {
     match fault {
         Some(fault) => fault.number(),
         None => 0,
@@ -220,35 +210,12 @@ fn a_site_stops_at_a_bad_message(rt: HostRuntime) {
     }
 }
 
-// The number of the fault with which a star or a site is not opened, or 0.
+// The number of an opening's fault, or 0.
 fn open_number(fault: Option<OpenFault>) -> u32 {
     match fault {
         Some(fault) => fault.number(),
         None => 0,
     }
-}
-
-// The number of the fault with which a site is not opened, or 0.
-fn site_refusal(alloc: Global, number: u32, board: Board) -> u32 {
-    let site = Site::open(alloc, number, LIMIT, board);
-    open_number(site.err())
-}
-
-// A site is opened with the last number.
-fn last_site_opens(rt: &impl Abort, alloc: Global) {
-    let last = Site::open(alloc, 65_535, 16_777_216, with_item_of(rt, alloc, 1));
-    let last = last.expect(rt, "the last number");
-    expect_eq(rt, last.number(), 65_535);
-    expect_that(rt, reads(last.board(), "z"));
-}
-
-#[test]
-fn a_site_is_opened_with_a_number_that_its_board_does_not_bear(rt: HostRuntime) {
-    let alloc = rt.alloc();
-    expect_eq(&rt, site_refusal(alloc, 0, blank(&rt, alloc)), 51);
-    expect_eq(&rt, site_refusal(alloc, 1, with_item_of(&rt, alloc, 1)), 51);
-    expect_eq(&rt, site_refusal(alloc, 65_536, blank(&rt, alloc)), 51);
-    last_site_opens(&rt, alloc);
 }
 
 // The number of the fault with which a star is not opened, or 0.
@@ -296,12 +263,6 @@ pub(crate) fn hears_one(rt: &impl Abort, alloc: Global, star: &mut Star, site: &
     expect_eq(rt, deliver_all(rt, alloc, star, site), 1);
 }
 
-// What a site made that inserted a character at the head of its text.
-fn typed_at_head(rt: &impl Abort, alloc: Global, number: u32, value: char) -> Made {
-    let mut site = lone_site(rt, alloc, number);
-    site.edit(alloc, &insert(0, value)).expect(rt, "an edit")
-}
-
 // The star takes what a site made, at a place of its order. The entry there.
 pub(crate) fn takes(
     rt: &impl Abort,
@@ -314,38 +275,6 @@ pub(crate) fn takes(
     let Made { edit, up } = made;
     answers(rt, alloc, star, site, &up, Ok(Some(place)));
     Entry { site, edit }
-}
-
-// Both sites edit before either hears of the other.
-#[test]
-fn the_order_has_edits_as_they_were_made(rt: HostRuntime) {
-    let alloc = rt.alloc();
-    let mut star = star_of_two(&rt, alloc);
-    let first = typed_at_head(&rt, alloc, 1, 'a');
-    let second = typed_at_head(&rt, alloc, 2, 'x');
-    let first = takes(&rt, alloc, &mut star, 1, first, 0);
-    let second = takes(&rt, alloc, &mut star, 2, second, 1);
-    expect_eq(&rt, star.order(), [first, second].as_slice());
-}
-
-// Site 1 is sent the answer to its ping.
-fn fetches_pong(rt: &impl Abort, alloc: Global, star: &mut Star) {
-    let downs = star.fetch(alloc, 1, 1).expect(rt, "memory");
-    expect_eq(rt, downs.as_slice(), [Down::Pong(7)].as_slice());
-}
-
-// The number of the refusal of a fetch for a site, or 0.
-fn refusal_of_fetch(alloc: Global, star: &mut Star, site: u32) -> u32 {
-    star_number(star.fetch(alloc, site, 1).err())
-}
-
-#[test]
-fn a_ping_is_answered(rt: HostRuntime) {
-    let alloc = rt.alloc();
-    let mut star = star_of_two(&rt, alloc);
-    answers(&rt, alloc, &mut star, 1, &Up::Ping(7), Ok(None));
-    fetches_pong(&rt, alloc, &mut star);
-    expect_eq(&rt, refusal_of_fetch(alloc, &mut star, 9), 33);
 }
 
 // The next message to site 1, or none.
@@ -363,49 +292,4 @@ fn one_message_is_fetched_without_a_list(rt: HostRuntime) {
     gives(&rt, &mut star, Some(Down::Pong(7)));
     waits(&rt, &star, 1, Some(1));
     expect_eq(&rt, star_number(star.fetch_one(9).err()), 33);
-}
-
-// The deletion of the one item of the opening text.
-fn deletion_of_the_first() -> BoardOp {
-    let name = Name { site: 0, number: 1 };
-    BoardOp {
-        win: 1,
-        wid: 1,
-        op: WidgetOp::Text(SeqOp::Delete { place: 0, name }),
-    }
-}
-
-// Both sites of a star delete the one item of its text.
-fn star_with_two_deletions(rt: &impl Abort, alloc: Global) -> Star {
-    let board = board_of(alloc, &["window 1", "text 1 \"z\""]).expect(rt, "a board");
-    let mut star = Star::open(alloc, board, LIMIT).expect(rt, "a layout and a limit");
-    joins(rt, alloc, &mut star);
-    joins(rt, alloc, &mut star);
-    let deletion = first_message(alloc, deletion_of_the_first());
-    answers(rt, alloc, &mut star, 1, &deletion, Ok(Some(0)));
-    answers(rt, alloc, &mut star, 2, &deletion, Ok(Some(1)));
-    star
-}
-
-// A message to site 1 that bears a no-op on the text.
-fn no_op(alloc: Global) -> Down {
-    let nothing = BoardOp {
-        win: 1,
-        wid: 1,
-        op: WidgetOp::Text(SeqOp::Nothing),
-    };
-    Down::Op(Msg {
-        mine: 0,
-        heard: 1,
-        op: alone(alloc, nothing),
-    })
-}
-
-// What site 1 is sent for the second deletion bears a no-op.
-#[test]
-fn a_second_deletion_is_sent_as_a_no_op(rt: HostRuntime) {
-    let mut star = star_with_two_deletions(&rt, rt.alloc());
-    gives(&rt, &mut star, Some(no_op(rt.alloc())));
-    gives(&rt, &mut star, None);
-    expect_that(&rt, reads(star.board(), ""));
 }

@@ -1,4 +1,4 @@
-//! What tests share: boards, given as they are printed and read back; batches of one operation; and numbers and commands that look random.
+//! What tests share: boards, given as they are printed and read back; batches of one operation; and numbers that look random.
 #![tactic(auto)]
 
 ghost use Rattle.std.specs.Prelude.{◌≡◌, [], ◌∷◌, IfSome};
@@ -6,7 +6,6 @@ ghost use Rattle.jup_window.specs.Entries.{EachWidget};
 ghost use Rattle.jup_star.specs.Stars.{IsShort};
 
 mod dice;
-mod random_commands;
 
 pub use dice::Dice;
 use jup_batch::BoardBatch;
@@ -14,7 +13,6 @@ use jup_star::is_short;
 use jup_text::BoardReader;
 use jup_window::{Board, BoardOp, Widget};
 use jup_xform::Batch;
-pub use random_commands::{commands, each_kind};
 use std::alloc::Global;
 
 /// The board of these lines, which a star may be opened with; none if a line is bad or an allocation fails.

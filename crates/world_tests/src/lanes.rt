@@ -1,4 +1,4 @@
-//! One way of a link, byte by byte.
+//! One way of a link, by bytes, as no script moves them. `examples/` has the pushes of scripts.
 ghost use Rattle.jup_star.specs.Messages.{RelabelNoText};
 
 use crate::expect::{expect_eq, expect_that};
@@ -52,23 +52,6 @@ fn hand_over<M: Message>(rt: &impl Abort, alloc: Global, lane: &mut Lane<M>) -> 
     let first = lane.first(alloc).expect(rt, "memory")?;
     lane.drop_first(&first);
     Some(first)
-}
-
-#[test]
-fn a_message_is_pushed_in_two_parts(rt: HostRuntime) {
-    let alloc = rt.alloc();
-    let mut lane: Lane<Up> = Lane::new(alloc);
-    expect_that(&rt, lane.is_idle() && lane.is_stream_empty());
-    send(&rt, &mut lane, &Up::Op(first_edit(alloc)));
-    expect_eq(&rt, push(&rt, alloc, &mut lane, 36), 36);
-    expect_that(&rt, !lane.is_idle() && !lane.is_stream_empty());
-    expect_eq(&rt, push(&rt, alloc, &mut lane, 5), 1);
-    expect_eq(&rt, push(&rt, alloc, &mut lane, 5), 0);
-    expect_that(&rt, !lane.is_idle() && lane.is_stream_empty());
-    let first = Some(Up::Op(first_edit(alloc)));
-    expect_eq(&rt, hand_over(&rt, alloc, &mut lane), first);
-    expect_that(&rt, lane.is_idle());
-    expect_eq(&rt, hand_over(&rt, alloc, &mut lane), None);
 }
 
 #[test]

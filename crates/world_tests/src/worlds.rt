@@ -84,16 +84,6 @@ fn the_order_has_both_deletions_of_one_item(rt: HostRuntime) {
 }
 
 #[test]
-fn a_world_returns_the_board_that_it_was_opened_with(rt: HostRuntime) {
-    let alloc = rt.alloc();
-    let mut world = world_of(&rt, alloc, LIMIT, "text 1 \"ab\"", 2);
-    plays(&rt, alloc, &mut world, types(1, 1, 'x'));
-    plays(&rt, alloc, &mut world, Event::Up(1));
-    let opening = board_of(alloc, &["window 1", "text 1 \"ab\""]).expect(&rt, "a board");
-    expect_that(&rt, world.opening().same(&opening));
-}
-
-#[test]
 fn a_world_is_opened_on_a_layout_with_a_limit(rt: HostRuntime) {
     let alloc = rt.alloc();
     for &limit in &[0, 16_777_217] {
@@ -107,13 +97,17 @@ fn a_world_is_opened_on_a_layout_with_a_limit(rt: HostRuntime) {
 }
 
 #[test]
-fn a_trace_has_more_than_65536_events(rt: HostRuntime) {
+fn a_world_keeps_its_first_board_and_a_trace_of_more_than_65536_events(rt: HostRuntime) {
     let alloc = rt.alloc();
-    let mut world = world_of(&rt, alloc, LIMIT, "text 1 \"\"", 1);
+    let mut world = world_of(&rt, alloc, LIMIT, "text 1 \"ab\"", 1);
+    plays(&rt, alloc, &mut world, types(1, 1, 'x'));
+    plays(&rt, alloc, &mut world, Event::Up(1));
     for _ in 0..65_536 {
         let reply = world.step(alloc, &Event::Up(1)).expect(&rt, "memory");
         expect_eq(&rt, reply, Reply::Nothing);
     }
-    // The join is the first.
-    expect_eq(&rt, world.trace().len(), 65_537);
+    // The join, the edit and its delivery are the first three.
+    expect_eq(&rt, world.trace().len(), 65_539);
+    let opening = board_of(alloc, &["window 1", "text 1 \"ab\""]).expect(&rt, "a board");
+    expect_that(&rt, world.opening().same(&opening));
 }

@@ -43,12 +43,14 @@ pub(crate) fn types(site: u32, place: u32, value: char) -> Event {
 
 // The site deletes from text 1.
 pub(crate) fn deletes(site: u32, place: u32) -> Event {
-    let deletion = Command::Delete {
-        win: 1,
-        wid: 1,
-        place,
-    };
-    Event::Edit(site, deletion)
+    Event::Edit(
+        site,
+        Command::Delete {
+            win: 1,
+            wid: 1,
+            place,
+        },
+    )
 }
 
 // The site makes one edit of these commands.

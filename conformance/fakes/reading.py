@@ -39,11 +39,15 @@ class Lines:
                 if self.at < len(self.held):
                     raise Fault(43)
                 return None
-            self.held, self.at = self.held[self.at :] + data, 0
+            self.held, self.at = self.part() + data, 0
         if end < 0 or end - self.at >= LONGEST_LINE:
             raise Fault(41)
         line, self.at = self.held[self.at : end], end + 1
         return line.decode("latin-1")
+
+    def part(self):
+        """The part of a line that the next piece goes on with."""
+        return self.held[self.at :]
 
     def is_there(self):
         """Whether a line, or a part of one, has come."""

@@ -13,12 +13,12 @@ LAST_SITE, HIGHEST_LIMIT = 65_535, 16_777_216
 class Client:
     """A user's site over one link. `typed` is an iterator of its command lines, and `tell` takes what it prints."""
 
-    transforms, board, end, grammar, commands = Transforms, Board, End, Grammar, Commands
+    transforms, board, end, lines, grammar, commands = Transforms, Board, End, Lines, Grammar, Commands
     most_commands, most_unacknowledged = 32, 1024
 
     def __init__(self, connection, typed, tell):
         self.connection, self.typed, self.tell = connection, typed, tell
-        self.board, self.end, self.lines = self.board(), self.end(True, self.transforms()), Lines(connection)
+        self.board, self.end, self.lines = self.board(), self.end(True, self.transforms()), self.lines(connection)
         self.grammar, self.gathering, self.commands = self.grammar(), Gathering(), self.commands()
         self.site, self.limit, self.pings, self.insertions = 0, 0, 0, 0
 

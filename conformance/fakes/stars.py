@@ -142,11 +142,11 @@ class Star:
 class Session:
     """One link. This thread reads, and another one writes."""
 
-    grammar = Grammar
+    lines, grammar = Lines, Grammar
 
     def __init__(self, star, connection):
         self.star, self.connection, self.seat, self.writer = star, connection, None, None
-        self.lines, self.gathering, self.grammar = Lines(connection), Gathering(), self.grammar()
+        self.lines, self.gathering, self.grammar = self.lines(connection), Gathering(), self.grammar()
 
     def serve(self):
         ending = "bye"

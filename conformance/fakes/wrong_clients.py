@@ -3,7 +3,7 @@ from boards import Board, Fault
 from ends import End, Transforms
 from reading import Commands, Grammar
 from sites import Client
-from wrong_servers import CountsOperations, GridOfOnes, NeverAcknowledges, QueueKept, TextOrder, TieTurned, ZerosRead
+from wrong_servers import CountsOperations, GridOfOnes, NeverAcknowledges, PartsLost, QueueKept, TextOrder, TieTurned, ZerosRead
 
 
 class TieBySite(Transforms):
@@ -206,6 +206,7 @@ WAYS = {
     "many-ids": of(board=ManyIds),
     "taken-names": of(board=TakenNames),
     "names-of-each-widget": of(board=NamesOfEachWidget),
+    "pieces": of(lines=PartsLost),
     "zeros": of(grammar=ZerosRead),
     "labels": of(commands=LongLabels),
     "echo": Echoes,

@@ -5,7 +5,7 @@ import time
 
 from boards import LONGEST, Board, Fault
 from ends import End, Transforms
-from reading import Grammar
+from reading import Grammar, Lines
 from stars import Seat, Session, Star
 
 
@@ -180,6 +180,13 @@ class NoLock(Star):
         super().do(seat, ops, moved)
 
 
+class PartsLost(Lines):
+    """It forgets the part of a line that a piece ends with."""
+
+    def part(self):
+        return b""
+
+
 class ZerosRead(Grammar):
     """It reads 007 as 7."""
 
@@ -253,8 +260,8 @@ def of_star(**parts):
     return type("WrongStar", (Star,), parts), Session
 
 
-def of_grammar(grammar):
-    return Star, type("WrongSession", (Session,), {"grammar": grammar})
+def of_session(**parts):
+    return Star, type("WrongSession", (Session,), parts)
 
 
 WAYS = {
@@ -276,8 +283,9 @@ WAYS = {
     "locked-write": of_star(seat=WritesWhileLocked),
     "echo": (Echoes, Session),
     "no-lock": (NoLock, Session),
-    "zeros": of_grammar(ZerosRead),
-    "places": of_grammar(PlacesCut),
+    "pieces": of_session(lines=PartsLost),
+    "zeros": of_session(grammar=ZerosRead),
+    "places": of_session(grammar=PlacesCut),
     "late": (Star, TellsLate),
     "reads-on": (Star, ReadsForEver),
     "reads-all": (Star, ReadsAll),

@@ -1,19 +1,31 @@
 //! Failed allocations in lines, layouts, messages and printed texts, each test for the call of its name. `./growths` makes one after another of the
 //! allocations between the two marks fail. A call that fails leaves all as it was, and gives its answer if it is made again.
+use crate::boards::build;
 use crate::expect::{expect_eq, expect_that};
-use crate::gathering::{TOGGLED, TWO, message, push};
-use crate::layouts::{FOUR_WIDGETS, build};
+use crate::messages::{TOGGLED, TWO, push};
+use jup_batch::BoardBatch;
 use jup_gather::{Gather, Gathered, lines_of_op};
 use jup_layout::{LayoutFault, board_of, layout, lines_of};
-use jup_seq::SeqEdit;
+use jup_link::Msg;
+use jup_seq::{SeqEdit, SeqOp};
 use jup_text::{BoardReader, Untaken, read_quoted, write_board, write_edit};
-use jup_value::Name;
-use jup_window::{Board, BoardEdit, WidgetEdit};
+use jup_value::{Item, Name};
+use jup_window::{Board, BoardEdit, BoardOp, WidgetEdit, WidgetOp, Within};
 use jup_wire::{Fed, Line, Reader, WireFault, write};
-use jup_xform::{Few, NoMemory, OneOf};
+use jup_xform::{Batch, Few, NoMemory, OneOf};
 use std::alloc::Global;
+use std::marker::PhantomData;
 use std::process::Abort;
 use test_marks::{begin, end};
+
+const FOUR_WIDGETS: &[u8] = b"window 1
+text 1
+char 0.1 122
+list 2
+item 0.2 red
+toggle 3 off
+slider 4 0 10 5
+";
 
 // Appends a line's bytes.
 fn append(alloc: Global, line: &Line, written: &mut Vec<u8>) -> Result<(), NoMemory> {
@@ -159,6 +171,34 @@ fn gather_push(rt: HostRuntime) {
     let next = push(&rt, rt.alloc(), &mut gather, &Line::Do(TOGGLED));
     expect_eq(&rt, next, Gathered::Held);
     expect_that(&rt, gather.part());
+}
+
+// The k-th of some operations, from 1: a character is put at the front of a text.
+fn insertion(k: u32) -> BoardOp {
+    let item = Item {
+        name: Name { site: 1, number: k },
+        value: 'a',
+    };
+    BoardOp {
+        win: 1,
+        wid: 1,
+        op: WidgetOp::Text(SeqOp::Insert { place: 0, item }),
+    }
+}
+
+// A message of so many operations.
+fn message(rt: &impl Abort, alloc: Global, count: u32) -> Msg<BoardBatch> {
+    let _of: Within = PhantomData;
+    let mut ops = Vec::new(alloc);
+    for k in 1..=count {
+        ops.push(insertion(k)).expect(rt, "memory");
+    }
+    assert!(rt; 1 <= ops.len() && ops.len() <= 32);
+    Msg {
+        mine: 5,
+        heard: 7,
+        op: Batch::new(ops),
+    }
 }
 
 #[test]

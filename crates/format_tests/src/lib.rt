@@ -1,23 +1,17 @@
-//! Lines of a link and messages of them, layouts, and printed texts, by their public calls.
+//! Lines of a link and messages of them, layouts, and printed texts, by their public calls: what no built program shows of them.
 #![tactic(auto)]
 
 ghost use Rattle.std.specs.Prelude.{◌≡◌};
 
 #[cfg(test)]
-mod expect;
+mod boards;
 #[cfg(test)]
-mod gathering;
+mod expect;
 #[cfg(test)]
 mod growths;
 #[cfg(test)]
-mod layouts;
-#[cfg(test)]
 mod lines;
 #[cfg(test)]
-mod printed_boards;
-#[cfg(test)]
-mod singles;
-#[cfg(test)]
-mod texts;
+mod messages;
 #[cfg(test)]
 mod told;

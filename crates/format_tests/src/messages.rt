@@ -1,13 +1,67 @@
-//! The message of one operation, read from bytes written by hand.
-use crate::expect::expect_eq;
+//! Lines out of their place among those of messages, and messages of one operation that are read in place.
+use crate::expect::{expect_eq, expect_that};
 use crate::lines::name;
+use jup_gather::{Gather, Gathered};
 use jup_seq::SeqOp;
 use jup_setting::SetOp;
 use jup_value::Item;
 use jup_window::{BoardOp, WidgetOp, Within};
-use jup_wire::{LoneEdit, read_single};
+use jup_wire::{Line, LoneEdit, read_single};
+use std::alloc::Global;
 use std::marker::PhantomData;
 use std::process::Abort;
+
+pub(crate) const TOGGLED: BoardOp = BoardOp {
+    win: 1,
+    wid: 3,
+    op: WidgetOp::Toggle(SetOp::Set(true)),
+};
+
+pub(crate) const TWO: Line = Line::Batch {
+    mine: 5,
+    heard: 7,
+    count: 2,
+};
+
+// What a gathering gives for a line.
+pub(crate) fn push(rt: &impl Abort, alloc: Global, gather: &mut Gather, line: &Line) -> Gathered {
+    gather.push(alloc, line).expect(rt, "memory")
+}
+
+// A gathering gives this for a line.
+fn gives(rt: &impl Abort, alloc: Global, gather: &mut Gather, line: &Line, due: Gathered) {
+    expect_eq(rt, push(rt, alloc, gather, line), due);
+}
+
+// A line is misplaced, and so is every line after it, whichever comes.
+fn is_stopped_by(rt: &impl Abort, alloc: Global, gather: &mut Gather, misplaced: &Line) {
+    gives(rt, alloc, gather, misplaced, Gathered::Misplaced);
+    for &line in &[Line::Ping(7), TWO, Line::Do(TOGGLED), Line::Bye] {
+        gives(rt, alloc, gather, &line, Gathered::Misplaced);
+        expect_that(rt, !gather.part());
+    }
+}
+
+#[test]
+fn no_line_has_a_place_after_one_that_has_none(rt: HostRuntime) {
+    let alloc = rt.alloc();
+    let mut gather = Gather::new();
+    gives(&rt, alloc, &mut gather, &TWO, Gathered::Held);
+    let toggled = Line::Do(TOGGLED);
+    gives(&rt, alloc, &mut gather, &toggled, Gathered::Held);
+    expect_that(&rt, gather.part());
+    is_stopped_by(&rt, alloc, &mut gather, &Line::Ping(1));
+    is_stopped_by(&rt, alloc, &mut Gather::new(), &toggled);
+    // A batch of no operation, and one of too many.
+    for &count in &[0, 33] {
+        let line = Line::Batch {
+            mine: 0,
+            heard: 0,
+            count,
+        };
+        is_stopped_by(&rt, alloc, &mut Gather::new(), &line);
+    }
+}
 
 // The bytes are read as this message, or as none.
 fn expect_single(rt: &impl Abort, bytes: &[u8], due: Option<LoneEdit>) {
@@ -39,25 +93,17 @@ fn inserted() -> Option<LoneEdit> {
 }
 
 #[test]
-fn an_insertion_is_read_and_what_comes_after_it_is_left(rt: HostRuntime) {
+fn one_operation_is_read_and_what_comes_after_it_is_left(rt: HostRuntime) {
     let whole = b"batch 5 0 1\ndo 2 31 text ins 10 4.17 233\n".as_slice();
     expect_single(&rt, whole, inserted());
     let more = b"batch 5 0 1\ndo 2 31 text ins 10 4.17 233\nba".as_slice();
     expect_single(&rt, more, inserted());
-}
-
-#[test]
-fn a_deletion_is_read(rt: HostRuntime) {
     let op = WidgetOp::Text(SeqOp::Delete {
         place: 0,
         name: name(0, 99),
     });
     let whole = b"batch 0 7 1\ndo 2 31 text del 0 0.99\nbye\n".as_slice();
     expect_single(&rt, whole, single(0, 7, op, 36));
-}
-
-#[test]
-fn an_operation_on_another_widget_is_read(rt: HostRuntime) {
     let toggled = WidgetOp::Toggle(SetOp::Set(true));
     let whole = b"batch 5 0 1\ndo 2 31 toggle set on\nack 3\n".as_slice();
     expect_single(&rt, whole, single(5, 0, toggled, 34));
@@ -82,14 +128,7 @@ fn any_other_message_is_left_to_be_read_line_by_line(rt: HostRuntime) {
         b"batch 5 0 1\ndo 1 1 text del 0 0.9".as_slice(),
         b"batch 5 0 1\ndo 1 3 toggle set on".as_slice(),
         b"batch 5 0 1\n".as_slice(),
-    ] {
-        expect_single(&rt, bytes, None);
-    }
-}
-
-#[test]
-fn what_is_spelled_otherwise_is_no_message(rt: HostRuntime) {
-    for &bytes in &[
+        // It is spelled otherwise.
         b"batch 05 0 1\ndo 1 1 text del 0 0.9\n".as_slice(),
         b"batch 5 0 1\r\ndo 1 1 text del 0 0.9\n".as_slice(),
         b"batch 5 0 1\nack 3\n".as_slice(),

@@ -10,8 +10,6 @@ mod bells;
 #[cfg(test)]
 mod bursts;
 #[cfg(test)]
-mod causes;
-#[cfg(test)]
 mod exact;
 #[cfg(test)]
 mod expect;

@@ -1,4 +1,4 @@
-//! Each read of a session fails in turn, and each write of a session and of a client. `tools/programs` has links and streams of the built programs fail.
+//! Each read and each write of a session fails in turn. `tools/programs` has links and streams of the built programs fail.
 
 use crate::expect::{expect_eq, expect_text, expect_that};
 use crate::fakes::{Endless, FailsAfter, FailsAt, OneByOne};
@@ -68,42 +68,17 @@ fn a_write_that_fails_after_the_greeting(rt: HostRuntime) {
 
 const LINK: &[u8] = b"welcome 1 100\nwindow 1\ntext 1\ntoggle 3 off\nready\npong 1\n";
 
-// How a client ends whose link takes so many writes.
-fn end_after(alloc: Global, writes: u32) -> Result<(), ClientEnd> {
-    let mut out = Vec::new(alloc);
-    let text = &mut Vec::new(alloc);
-    let link = FailsAt { writes, text };
-    let commands: &[u8] = b"sync\nquit\n";
-    run_client(alloc, commands, &mut out, LINK, link)
-}
-
-// How a client ends that can print so many times.
-fn end_printing(alloc: Global, writes: u32) -> Result<(), ClientEnd> {
-    let mut to = Vec::new(alloc);
-    let text = &mut Vec::new(alloc);
-    let mut printed = FailsAt { writes, text };
-    let commands: &[u8] = b"sync\nquit\n";
-    run_client(alloc, commands, &mut printed, LINK, &mut to)
-}
-
-// It greets, pings and says bye; it prints its site, the sync, and bye.
 #[test]
-fn each_write_of_a_client(rt: HostRuntime) {
-    for writes in 0..3 {
-        let failed = Err(ClientEnd::WriteFailed);
-        expect_eq(
-            &rt,
-            (writes, end_after(rt.alloc(), writes)),
-            (writes, failed),
-        );
-        expect_eq(
-            &rt,
-            (writes, end_printing(rt.alloc(), writes)),
-            (writes, failed),
-        );
-    }
-    expect_eq(&rt, end_after(rt.alloc(), 3), Ok(()));
-    expect_eq(&rt, end_printing(rt.alloc(), 3), Ok(()));
+fn a_client_whose_link_takes_no_greeting_ends(rt: HostRuntime) {
+    let (mut text, mut out) = (Vec::new(rt.alloc()), Vec::new(rt.alloc()));
+    let link = FailsAt {
+        writes: 0,
+        text: &mut text,
+    };
+    let commands: &[u8] = b"sync\nquit\n";
+    let end = run_client(rt.alloc(), commands, &mut out, LINK, link);
+    expect_eq(&rt, end, Err(ClientEnd::WriteFailed));
+    expect_eq(&rt, out.len(), 0);
 }
 
 #[test]

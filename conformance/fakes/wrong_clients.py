@@ -1,4 +1,6 @@
 """Clients that are wrong on purpose. Each replaces one part of the right client by one that is wrong in one way."""
+import itertools
+
 from boards import Board, Fault
 from ends import End, Transforms
 from reading import Commands, Grammar
@@ -60,6 +62,25 @@ class LongLabels(Commands):
     """A label has up to 49 bytes."""
 
     longest_label = 49
+
+
+class CutsLines(Client):
+    """It takes a line of more than 4,096 bytes for several."""
+
+    most = 4096
+
+    def __init__(self, connection, typed, tell):
+        super().__init__(connection, itertools.chain.from_iterable(map(self.parts, typed)), tell)
+
+    def parts(self, line):
+        return [line[at : at + self.most] for at in range(0, len(line), self.most)] or [line]
+
+
+class QuitsAnywhere(Client):
+    """It quits at `quit` within a batch too."""
+
+    def __init__(self, connection, typed, tell):
+        super().__init__(connection, itertools.takewhile(lambda it: it != "quit", typed), tell)
 
 
 class Echoes(Client):
@@ -209,6 +230,8 @@ WAYS = {
     "pieces": of(lines=PartsLost),
     "zeros": of(grammar=ZerosRead),
     "labels": of(commands=LongLabels),
+    "cut-lines": CutsLines,
+    "quit-anywhere": QuitsAnywhere,
     "echo": Echoes,
     "late": TellsLate,
     "names-used-up": NamesUsedUp,

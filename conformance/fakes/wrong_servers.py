@@ -256,6 +256,21 @@ class EndsWithBye(Session):
             raise
 
 
+class EndsEarly(Session):
+    """It writes late. Once the site has sent `bye`, it writes its last line alone."""
+
+    has_heard_bye = False
+
+    def goes_on(self, line):
+        self.has_heard_bye = line == "bye"
+        return super().goes_on(line)
+
+    def send(self, text):
+        time.sleep(0.1)
+        if not self.has_heard_bye or text == "bye\n":
+            super().send(text)
+
+
 def of_star(**parts):
     return type("WrongStar", (Star,), parts), Session
 
@@ -291,4 +306,5 @@ WAYS = {
     "reads-all": (Star, ReadsAll),
     "slow-lost": (Star, LosesWhoIsSlow),
     "bye-first": (Star, EndsWithBye),
+    "bye-alone": (Star, EndsEarly),
 }

@@ -1,14 +1,10 @@
-//! Each read and each write in turn fails: of a session, of a client, and of a daemon's layout.
+//! Each read and each write of a session fails in turn. `tools/programs` has links and streams of the built programs fail.
 
-use crate::clients::GREETED;
-use crate::expect::{expect_eq, expect_that};
-use crate::fakes::{Endless, FailsAfter, FailsAt};
-use crate::programs::{LAYOUT, daemon_at, expect_failure, serve};
+use crate::expect::{expect_eq, expect_text, expect_that};
+use crate::fakes::{Endless, FailsAfter, FailsAt, OneByOne};
 use crate::sessions::{TYPED, expect_end, ran, write_fails};
 use jup_session::{ClientEnd, Ending, Open, run_client};
 use std::alloc::Global;
-use std::io::Read;
-use std::process::Abort;
 
 // The beginning of a text, of so many bytes.
 fn first_bytes(text: &[u8], len: usize) -> FailsAfter<'_> {
@@ -70,89 +66,29 @@ fn a_write_that_fails_after_the_greeting(rt: HostRuntime) {
     }
 }
 
-// How a client of this link ends whose input is `sync` and `quit`.
-fn end_over<I: Read + Drop>(alloc: Global, from: I) -> Result<(), ClientEnd> {
-    let (mut to, mut out) = (Vec::new(alloc), Vec::new(alloc));
-    let commands: &[u8] = b"sync\nquit\n";
-    run_client(alloc, commands, &mut out, from, &mut to)
-}
-
 const LINK: &[u8] = b"welcome 1 100\nwindow 1\ntext 1\ntoggle 3 off\nready\npong 1\n";
 
 #[test]
-fn each_read_of_a_link_by_a_client(rt: HostRuntime) {
-    for len in 0..LINK.len() {
-        let end = end_over(rt.alloc(), first_bytes(LINK, len));
-        expect_eq(&rt, (len, end), (len, Err(ClientEnd::ReadFailed)));
-    }
-    expect_eq(&rt, end_over(rt.alloc(), LINK), Ok(()));
-}
-
-// How a client ends whose user's input fails after so many bytes, and what it printed.
-fn printed_after(alloc: Global, len: usize) -> (Result<(), ClientEnd>, Vec<u8>) {
-    let (mut to, mut out) = (Vec::new(alloc), Vec::new(alloc));
-    let typed = first_bytes(b"set 1 3 on\nquit\n", len);
-    let end = run_client(alloc, typed, &mut out, GREETED.as_bytes(), &mut to);
-    (end, out)
-}
-
-#[test]
-fn each_read_of_commands(rt: HostRuntime) {
-    for len in 0..16 {
-        let (end, out) = printed_after(rt.alloc(), len);
-        let due = if len < 11 {
-            "site 1\n"
-        } else {
-            "site 1\nmade set 1 3 on\n"
-        };
-        expect_eq(&rt, (len, end), (len, Err(ClientEnd::ReadFailed)));
-        expect_eq(&rt, (len, out.as_slice()), (len, due.as_bytes()));
-    }
-}
-
-// How a client ends whose link takes so many writes.
-fn end_after(alloc: Global, writes: u32) -> Result<(), ClientEnd> {
-    let mut out = Vec::new(alloc);
-    let text = &mut Vec::new(alloc);
-    let link = FailsAt { writes, text };
+fn a_client_whose_link_takes_no_greeting_ends(rt: HostRuntime) {
+    let (mut text, mut out) = (Vec::new(rt.alloc()), Vec::new(rt.alloc()));
+    let link = FailsAt {
+        writes: 0,
+        text: &mut text,
+    };
     let commands: &[u8] = b"sync\nquit\n";
-    run_client(alloc, commands, &mut out, LINK, link)
-}
-
-// How a client ends that can print so many times.
-fn end_printing(alloc: Global, writes: u32) -> Result<(), ClientEnd> {
-    let mut to = Vec::new(alloc);
-    let text = &mut Vec::new(alloc);
-    let mut printed = FailsAt { writes, text };
-    let commands: &[u8] = b"sync\nquit\n";
-    run_client(alloc, commands, &mut printed, LINK, &mut to)
-}
-
-// It greets, pings and says bye; it prints its site, the sync, and bye.
-#[test]
-fn each_write_of_a_client(rt: HostRuntime) {
-    for writes in 0..3 {
-        let failed = Err(ClientEnd::WriteFailed);
-        expect_eq(
-            &rt,
-            (writes, end_after(rt.alloc(), writes)),
-            (writes, failed),
-        );
-        expect_eq(
-            &rt,
-            (writes, end_printing(rt.alloc(), writes)),
-            (writes, failed),
-        );
-    }
-    expect_eq(&rt, end_after(rt.alloc(), 3), Ok(()));
-    expect_eq(&rt, end_printing(rt.alloc(), 3), Ok(()));
+    let end = run_client(rt.alloc(), commands, &mut out, LINK, link);
+    expect_eq(&rt, end, Err(ClientEnd::WriteFailed));
+    expect_eq(&rt, out.len(), 0);
 }
 
 #[test]
-fn each_read_of_a_layout(rt: HostRuntime) {
-    let words = daemon_at(&rt, rt.alloc(), "127.0.0.1:47012", "100", "2");
-    for len in 0..=LAYOUT.len() {
-        let told = serve(&rt, rt.alloc(), &words, first_bytes(LAYOUT.as_bytes(), len));
-        expect_failure(&rt, &told, 1, "", "io fault\ncannot read the layout\n");
-    }
+fn a_read_of_commands_that_is_interrupted_is_made_again(rt: HostRuntime) {
+    let (mut to, mut out) = (Vec::new(rt.alloc()), Vec::new(rt.alloc()));
+    let commands = OneByOne {
+        text: b"set 1 3 on\nquit\n",
+        is_next: false,
+    };
+    let end = run_client(rt.alloc(), commands, &mut out, LINK, &mut to);
+    expect_eq(&rt, end, Ok(()));
+    expect_text(&rt, out.as_slice(), "site 1\nmade set 1 3 on\nbye\n");
 }

@@ -1,12 +1,10 @@
-//! Readers, writers and listeners that fail, and gates that stay shut or count.
+//! Readers and writers that fail, and gates that stay shut or count.
 
 use jup_session::Gate;
 use std::io;
 use std::io::{ErrorKind, Read, Write};
-use std::net::{Net, SocketAddr, TcpListener, TcpStream};
-use std::sync::Wait;
 use std::sync::atomic::{AtomicU32, Ordering};
-use std::thread::{Threads, sleep};
+use std::thread::sleep;
 use std::time::{Clock, Duration};
 
 /// Gives its text, and then fails.
@@ -193,41 +191,5 @@ impl Gate for Counting {
 
     fn answered(&self, _site: u32, nth: u32) {
         self.told.store(nth, Ordering::SeqCst);
-    }
-}
-
-/// A runtime whose listeners wait for nobody: an accept fails unless somebody has connected.
-#[derive(Drop)]
-pub(crate) struct Impatient<'a, R> {
-    pub(crate) rt: &'a R,
-}
-
-impl<'a, R: Threads> Threads for Impatient<'a, R> {}
-
-impl<'a, R: Wait> Wait for Impatient<'a, R> {}
-
-impl<'a, R: Clock> Clock for Impatient<'a, R> {
-    fn monotonic(&self) -> io::Result<Duration> {
-        self.rt.monotonic()
-    }
-
-    fn since_1970(&self) -> io::Result<Duration> {
-        self.rt.since_1970()
-    }
-}
-
-impl<'a, R: Net<Listener = TcpListener, Stream = TcpStream>> Net for Impatient<'a, R> {
-    type Stream = TcpStream;
-
-    type Listener = TcpListener;
-
-    fn bind(&self, addr: SocketAddr) -> io::Result<TcpListener> {
-        let listener = self.rt.bind(addr)?;
-        listener.set_nonblocking(true)?;
-        Ok(listener)
-    }
-
-    fn connect(&self, addr: SocketAddr) -> io::Result<TcpStream> {
-        self.rt.connect(addr)
     }
 }

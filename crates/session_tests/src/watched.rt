@@ -1,11 +1,10 @@
-//! A gate that looks at the hub, and lines that are handed on once they are flushed.
+//! A gate that looks at the hub.
 ghost use Rattle.jup_hub.specs.Passes.{IsPassOf};
 
-use crate::expect::{expect_eq, expect_text};
-use crate::handed_on::Holding;
-use crate::sessions::{EMPTY_TEXT, TYPED, TYPED_ANSWER, open_hub};
+use crate::expect::expect_eq;
+use crate::sessions::{EMPTY_TEXT, TYPED, open_hub};
 use jup_hub::{Hub, Pass};
-use jup_session::{Bell, Ending, Gate, Open, serve_link};
+use jup_session::{Bell, Ending, Gate, serve_link};
 use std::sync::atomic::{AtomicU32, Ordering};
 use std::sync::{Mutex, Wait};
 
@@ -62,15 +61,4 @@ fn the_gate_is_informed_once_the_hub_has_taken(rt: HostRuntime) {
     let (_, ending) = serve_link(&rt, alloc, TYPED, &mut to, &hub, pass, &Bell::new(), &gate);
     expect_eq(&rt, ending, Ending::Bye);
     expect_eq(&rt, gate.takes.load(Ordering::SeqCst), 1);
-}
-
-#[test]
-fn a_session_flushes_its_lines(rt: HostRuntime) {
-    let alloc = rt.alloc();
-    let (hub, pass) = open_hub(&rt, alloc, EMPTY_TEXT, 100);
-    let mut written = Vec::new(alloc);
-    let to = Holding::new(Vec::new(alloc), &mut written);
-    let (_, ending) = serve_link(&rt, alloc, TYPED, to, &hub, pass, &Bell::new(), &Open);
-    expect_eq(&rt, ending, Ending::Bye);
-    expect_text(&rt, written.as_slice(), TYPED_ANSWER);
 }

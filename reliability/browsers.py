@@ -1,9 +1,11 @@
-"""Shared code of the scripts that run a `jupweb` on a free port of loopback, and of peers that reach it by WebSockets.
+"""Shared code of the scripts that run a `jupweb` on loopback, and of peers that reach it by WebSockets.
 
-Each script takes the path of a built `jupweb`. Without it `./run` builds one.
+Each script takes the path of a built `jupweb`. Without it `./run` builds one. `tools/requests`, `tools/frames` and `tools/serving` take this code too.
 """
 import base64
+import concurrent.futures
 import contextlib
+import io
 import os
 import re
 import socket
@@ -11,12 +13,19 @@ import struct
 import subprocess
 import sys
 import tempfile
+import time
 
-from peers import free_port, program
+from peers import program
 
 BOARD = b'window 1\ntext 1 "Hi"\nlist 2 "buy bread" "call Ann"\ntoggle 3 off\nslider 4 0 10 5\n'
 # The opcodes of frames, with the bit of a message's last frame.
 TEXT, BINARY, CLOSE, PING, PONG = 0x81, 0x82, 0x88, 0x89, 0x8A
+# How many rows of a table are played at a time. Fewer connections than a server takes are open then.
+SIDE_BY_SIDE = 32
+# How many seconds pass between two pieces of bytes, so that a server reads each by itself.
+PAUSE = 0.005
+# Bytes that are cut in two at each place, and the places at which longer ones are cut.
+LONGEST_CUT, FIRST_CUTS = 300, 20
 
 
 def jupweb():
@@ -27,19 +36,21 @@ def jupweb():
 class Server:
     """A `jupweb` that keeps a board in a file. The end of the `with` kills it."""
 
-    def __init__(self, board=BOARD, folder=None, words=(), before=()):
-        self.port = free_port()
+    def __init__(self, board=BOARD, folder=None, words=(), before=(), host="127.0.0.1"):
         self.folder = folder or tempfile.mkdtemp(prefix="jupweb-")
         self.file = f"{self.folder}/a.board"
         if board is not None:
             with open(self.file, "wb") as file:
                 file.write(board)
-        words = [*before, jupweb(), "--listen", f"127.0.0.1:{self.port}", "--board", self.file, *words]
+        words = [*before, jupweb(), "--listen", f"{host}:0", "--board", self.file, *words]
         self.process = subprocess.Popen(words, stdin=subprocess.PIPE, stdout=subprocess.PIPE, stderr=subprocess.PIPE)
         self.first = self.process.stdout.readline()
+        # The program prints the port that the system has chosen.
+        self.address = self.first.decode().strip().removeprefix("listening ")
+        self.port = int(self.address.rpartition(":")[2] or 0)
 
     def __enter__(self):
-        assert self.first == b"listening 127.0.0.1:%d\n" % self.port, (self.first, self.process.stderr.read())
+        assert self.port and self.first.startswith(b"listening "), (self.first, self.process.stderr.read())
         return self
 
     def __exit__(self, *_):
@@ -75,6 +86,19 @@ def frame(first, payload, mask=True, length=None):
 
 def close_frame(code, reason=b""):
     return frame(CLOSE, struct.pack(">H", code) + reason)
+
+
+def next_frame(file):
+    """The next frame of a server, its first byte and its payload; `None` at the end."""
+    head = file.read(2)
+    if len(head) < 2:
+        return None
+    size = head[1]
+    if size == 126:
+        (size,) = struct.unpack(">H", file.read(2))
+    elif size == 127:
+        (size,) = struct.unpack(">Q", file.read(8))
+    return head[0], file.read(size)
 
 
 def upgrade(port, host=None, origin=None, version="13", key=None):
@@ -115,15 +139,7 @@ class Browser:
 
     def next(self):
         """The next frame, its first byte and its payload; `None` at the end."""
-        head = self.file.read(2)
-        if len(head) < 2:
-            return None
-        size = head[1]
-        if size == 126:
-            (size,) = struct.unpack(">H", self.file.read(2))
-        elif size == 127:
-            (size,) = struct.unpack(">Q", self.file.read(8))
-        return head[0], self.file.read(size)
+        return next_frame(self.file)
 
     def rest(self):
         """All frames to the end."""
@@ -143,6 +159,8 @@ class Browser:
                 self.send(frame(PONG, it[1]))
             elif it[0] == TEXT:
                 self.text += it[1]
+            elif it[0] != PONG:
+                raise AssertionError(f"the server sent a frame that begins with {it[0]:#x}")
         line, _, self.text = self.text.partition(b"\n")
         return line + b"\n"
 
@@ -152,8 +170,8 @@ class Browser:
         first = self.line()
         if first.startswith(b"welcome "):
             self.site = int(first.split()[1])
-            while self.line() != b"ready\n":
-                pass
+            while (line := self.line()) != b"ready\n":
+                assert line, "the link has ended"
         return first
 
     def edit(self, value=97):
@@ -191,3 +209,65 @@ def asked(port, data, wait=15):
 def status_of(answer):
     found = re.match(rb"HTTP/1\.1 (\d+)", answer)
     return int(found[1]) if found else None
+
+
+def frames_of(data):
+    """The frames that a server has sent. They are unmasked, and each length is in its shortest form."""
+    file = io.BytesIO(data)
+    found = list(iter(lambda: next_frame(file), None))
+    expect(data, b"".join(frame(first, payload, mask=False) for first, payload in found))
+    return found
+
+
+def expect(found, due):
+    if found != due:
+        raise AssertionError(f"expected {due!r:.300}, but got {found!r:.300}")
+
+
+def play_cut(data, play):
+    """Plays bytes by a call that takes their pieces: whole, cut in two at each place, and byte by byte. Long bytes are cut in two at their first places alone."""
+    at_most = len(data) if len(data) <= LONGEST_CUT else FIRST_CUTS
+    bytewise = [[data[at : at + 1] for at in range(len(data))]] if at_most == len(data) else []
+    for pieces in [[data], *([data[:at], data[at:]] for at in range(1, at_most)), *bytewise]:
+        try:
+            play(pieces)
+        except AssertionError as fault:
+            raise AssertionError(f"in {len(pieces)} pieces, the first of {len(pieces[0])} bytes: {fault}") from None
+
+
+def send_pieces(link, pieces):
+    for number, piece in enumerate(pieces):
+        if number:
+            time.sleep(PAUSE)
+        link.sendall(piece)
+
+
+def fault_of(row):
+    """What is wrong with a row of a table: a name, and a call that plays it and raises what is wrong. It is empty if nothing is."""
+    name, play = row
+    try:
+        play()
+    except (AssertionError, OSError, ValueError, struct.error, subprocess.TimeoutExpired) as fault:
+        return f"{name}: {fault}"
+    return ""
+
+
+def judge(tool, rows):
+    """Plays rows at the same time, and prints what is wrong with each, and how many passed. Returns the exit status of the tool."""
+    with concurrent.futures.ThreadPoolExecutor(SIDE_BY_SIDE) as pool:
+        faults = list(pool.map(fault_of, rows))
+    wrong = [it for it in faults if it]
+    for fault in wrong:
+        print(f"{tool}: failed: {fault}", flush=True)
+    print(f"{len(faults) - len(wrong)} passed, {len(wrong)} failed")
+    return 1 if wrong or not faults else 0
+
+
+def judge_at(tool, server, rows):
+    """Judges the rows that a call makes for a server."""
+    try:
+        with server:
+            return judge(tool, rows(server))
+    except AssertionError as fault:
+        print(f"{tool}: failed: the server does not start: {fault}\n0 passed, 1 failed")
+        return 1

@@ -1,16 +1,10 @@
-//! The heads of requests, the frames of WebSockets, answers, and what a server of browsers decides, by their public calls.
+//! What a server of browsers reads, sends and decides, by public calls, as far as no built program shows it. `tools/requests`, `tools/frames` and `tools/serving` try the rest on the built `jupweb`.
 #![tactic(auto)]
 
 #[cfg(test)]
-mod answers;
-#[cfg(test)]
-mod boards;
-#[cfg(test)]
-mod captions;
+mod decisions;
 #[cfg(test)]
 mod expect;
-#[cfg(test)]
-mod foreign;
 #[cfg(test)]
 mod frames;
 #[cfg(test)]
@@ -18,16 +12,6 @@ mod growths;
 #[cfg(test)]
 mod heads;
 #[cfg(test)]
-mod notices;
-#[cfg(test)]
-mod opening;
-#[cfg(test)]
-mod origins;
-#[cfg(test)]
 mod readers;
 #[cfg(test)]
 mod service_growths;
-#[cfg(test)]
-mod texts;
-#[cfg(test)]
-mod words;

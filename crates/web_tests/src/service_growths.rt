@@ -1,12 +1,14 @@
 //! Calls whose allocation fails, each in the test of its name. `./growths` fails one allocation after another between the two marks.
 //! A call whose allocation fails reports it, and the same call then gives its answer.
-use crate::boards::BOARD;
 use crate::expect::{expect_eq, expect_that};
 use jup_service::{
     Address, CaptionFault, ServiceEnd, check_captions, own_origins, service_words, star_of_printed,
 };
 use std::alloc::Global;
 use test_marks::{begin, end};
+
+const BOARD: &[u8] =
+    b"window 1\ntext 1 \"Hi\"\nlist 2 \"buy bread\"\ntoggle 3 off\nslider 4 0 10 5\n";
 
 #[test]
 fn captions_check(rt: HostRuntime) {

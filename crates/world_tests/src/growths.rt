@@ -1,4 +1,4 @@
-//! Failed allocations in worlds, each test for the call, or the kind of event, of its name. `./growths` makes one after another of the allocations
+//! Failed allocations in worlds, each test for the call of its name. `./growths` makes one after another of the allocations
 //! between the two marks fail. An event that fails leaves all that is seen as before, and gives its answer if it is played again.
 use super::boards::{
     LIMIT, batch, drain, edits, insert, is_quiet, reads, reply_of, types, world_of,
@@ -79,12 +79,10 @@ fn is_spared(rt: &impl Abort, event: &Event, was: &Seen, now: &Seen) {
     wait_as_before(rt, fetched, was.waiting[1], now.waiting[1]);
 }
 
-// The event happens, with this reply. If it is marked, and an allocation fails, all is as before.
-fn happens(rt: &impl Abort, alloc: Global, world: &mut World, wanted: &Happened, is_marked: bool) {
+// The event happens, with this reply. If an allocation fails, all is as before.
+fn happens(rt: &impl Abort, alloc: Global, world: &mut World, wanted: &Happened) {
     let was = look_at(rt, alloc, world);
-    if is_marked {
-        begin(alloc);
-    }
+    begin(alloc);
     let mut reply = world.step(alloc, &wanted.event);
     end(alloc);
     if reply.is_err() {
@@ -93,33 +91,6 @@ fn happens(rt: &impl Abort, alloc: Global, world: &mut World, wanted: &Happened,
     }
     let reply = reply.expect(rt, "memory");
     expect_eq(rt, (&wanted.event, &reply), (&wanted.event, &wanted.reply));
-}
-
-#[derive(Clone, Copy, Drop, PartialEq, Eq)]
-enum Kind {
-    Join,
-    Leave,
-    Edit,
-    Batch,
-    Up,
-    Down,
-    Ping,
-    PushUp,
-    PushDown,
-}
-
-fn kind_of(event: &Event) -> Kind {
-    match event {
-        Event::Join => Kind::Join,
-        Event::Leave(_) => Kind::Leave,
-        Event::Edit(_, _) => Kind::Edit,
-        Event::Batch(_, _) => Kind::Batch,
-        Event::Up(_) => Kind::Up,
-        Event::Down(_) => Kind::Down,
-        Event::Ping(_, _) => Kind::Ping,
-        Event::PushUp(_, _) => Kind::PushUp,
-        Event::PushDown(_, _) => Kind::PushDown,
-    }
 }
 
 // A site has put in a character, as its insertion of this number.
@@ -174,69 +145,18 @@ fn all_events(rt: &impl Abort, alloc: Global) -> Vec<Happened> {
     all
 }
 
-// Plays all events, of which those of one kind are marked.
-fn plays(rt: &impl Abort, alloc: Global, kind: Kind) {
-    let mut world = world_of(rt, alloc, LIMIT, "text 1 \"\"", 0);
-    let all = all_events(rt, alloc);
+#[test]
+fn world_step(rt: HostRuntime) {
+    let mut world = world_of(&rt, rt.alloc(), LIMIT, "text 1 \"\"", 0);
+    let all = all_events(&rt, rt.alloc());
     for wanted in all.as_slice() {
-        happens(
-            rt,
-            alloc,
-            &mut world,
-            wanted,
-            kind_of(&wanted.event) == kind,
-        );
+        happens(&rt, rt.alloc(), &mut world, wanted);
     }
-    expect_eq(rt, world.trace(), all.as_slice());
+    expect_eq(&rt, world.trace(), all.as_slice());
     expect_that(
-        rt,
+        &rt,
         is_quiet(&world) && reads(&world, 0, "xya") && reads(&world, 1, "xya"),
     );
-}
-
-#[test]
-fn step_join(rt: HostRuntime) {
-    plays(&rt, rt.alloc(), Kind::Join);
-}
-
-#[test]
-fn step_leave(rt: HostRuntime) {
-    plays(&rt, rt.alloc(), Kind::Leave);
-}
-
-#[test]
-fn step_edit(rt: HostRuntime) {
-    plays(&rt, rt.alloc(), Kind::Edit);
-}
-
-#[test]
-fn step_batch(rt: HostRuntime) {
-    plays(&rt, rt.alloc(), Kind::Batch);
-}
-
-#[test]
-fn step_up(rt: HostRuntime) {
-    plays(&rt, rt.alloc(), Kind::Up);
-}
-
-#[test]
-fn step_down(rt: HostRuntime) {
-    plays(&rt, rt.alloc(), Kind::Down);
-}
-
-#[test]
-fn step_ping(rt: HostRuntime) {
-    plays(&rt, rt.alloc(), Kind::Ping);
-}
-
-#[test]
-fn step_push_up(rt: HostRuntime) {
-    plays(&rt, rt.alloc(), Kind::PushUp);
-}
-
-#[test]
-fn step_push_down(rt: HostRuntime) {
-    plays(&rt, rt.alloc(), Kind::PushDown);
 }
 
 #[test]

@@ -1,56 +1,12 @@
-//! Failed allocations in scripts, in two ends and in one way of a link, each test for the call of its name, as in `growths`.
+//! Failed allocations in two ends and in one way of a link, each test for the call of its name, as in `growths`.
 use super::lanes::{first_edit, send};
 use crate::expect::{expect_eq, expect_that};
 use jup_lane::Lane;
-use jup_script::{ScriptEnd, run_script};
 use jup_star::{Down, Up};
 use jup_world::{Two, TwoEdit, TwoEvent, TwoReply};
 use std::alloc::Global;
 use std::process::Abort;
 use test_marks::{begin, end};
-
-const STAR: &str =
-    "star 100\nwindow 1\ntext 1 \"\"\njoin\njoin\nedit 1 ins 1 1 0 char \"a\"\nedit 2 ins 1 1 0 char \"x\"\n\
-    up 1\nup 2\ndrain\nshow\n";
-
-const STAR_DUE: &str =
-    "joined 1\njoined 2\nmade ins 1 1 1.1 \"a\"\nmade ins 1 1 2.1 \"x\"\ntaken 0\ntaken 1\ndrained\n\
-    star\nwindow 1\ntext 1 \"xa\"\nsite 1\nwindow 1\ntext 1 \"xa\"\nsite 2\nwindow 1\ntext 1 \"xa\"\nquiet yes\n";
-
-const TWO: &str = "two\nstart \"ab\"\nclient ins 1 \"x\"\nserver del 1\nup\ndown\nshow\n";
-
-const TWO_DUE: &str = "made\nmade\nmoved\nmoved\nclient \"ax\"\nserver \"ax\"\nquiet yes\n";
-
-// A script is played, and again from its start if an allocation failed; what it printed by then is the beginning of what is due.
-fn is_played(rt: &impl Abort, alloc: Global, script: &str, due: &str) {
-    let mut replies = Vec::with_capacity(alloc, 1_024).expect(rt, "memory");
-    begin(alloc);
-    let mut ended = run_script(alloc, script.as_bytes(), &mut replies);
-    end(alloc);
-    if ended == Err(ScriptEnd::NoMemory) {
-        expect_that(rt, due.as_bytes().starts_with(replies.as_slice()));
-        replies.clear();
-        ended = run_script(alloc, script.as_bytes(), &mut replies);
-    }
-    expect_eq(rt, ended, Ok(()));
-    expect_eq(rt, replies.as_slice(), due.as_bytes());
-}
-
-#[test]
-fn script_of_a_star(rt: HostRuntime) {
-    is_played(&rt, rt.alloc(), STAR, STAR_DUE);
-}
-
-#[test]
-fn script_of_two_ends(rt: HostRuntime) {
-    is_played(&rt, rt.alloc(), TWO, TWO_DUE);
-}
-
-#[test]
-fn script_of_a_pair(rt: HostRuntime) {
-    let script = "pair slider 0 10 5\nclient 7\nserver 3\n";
-    is_played(&rt, rt.alloc(), script, "c s' 7\ns c' 7\n");
-}
 
 #[test]
 fn two_open(rt: HostRuntime) {

@@ -130,8 +130,17 @@ more_fields BadMethod = (codes "allow", codes "GET") ∷ []
 more_fields NoUpgrade = []
 more_fields OtherVersion = (codes "upgrade", codes "websocket") ∷ (codes "sec-websocket-version", codes "13") ∷ []
 
+-- the connection ends; an answer with a line `upgrade` names it here too (RFC 9110, section 7.8)
+abbrev pub connection_of : Refusal → List ℕ
+connection_of BadHead = codes "close"
+connection_of Foreign = codes "close"
+connection_of NoPage = codes "close"
+connection_of BadMethod = codes "close"
+connection_of NoUpgrade = codes "close"
+connection_of OtherVersion = codes "upgrade, close"
+
 abbrev pub refusal_fields : Refusal → Fields
-refusal_fields refusal = more_fields refusal ++ (codes "content-length", codes "0") ∷ (codes "connection", codes "close") ∷ []
+refusal_fields refusal = more_fields refusal ++ (codes "content-length", codes "0") ∷ (codes "connection", connection_of refusal) ∷ []
 
 -- ---- a body
 

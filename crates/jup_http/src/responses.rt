@@ -56,6 +56,6 @@ pub fn refusal_head(refusal: Refusal) -> &'static str
         Refusal::BadMethod =>
             "HTTP/1.1 405 Method Not Allowed\r\nallow: GET\r\ncontent-length: 0\r\nconnection: close\r\n\r\n",
         Refusal::OtherVersion =>
-            "HTTP/1.1 426 Upgrade Required\r\nupgrade: websocket\r\nsec-websocket-version: 13\r\ncontent-length: 0\r\nconnection: close\r\n\r\n",
+            "HTTP/1.1 426 Upgrade Required\r\nupgrade: websocket\r\nsec-websocket-version: 13\r\ncontent-length: 0\r\nconnection: upgrade, close\r\n\r\n",
     }
 }

@@ -1,13 +1,11 @@
 //! Serves the board of a file to browsers and to clients.
 #![tactic(auto)]
 
-use self::page::PAGE;
 use jup_options::arguments;
+use jup_page::PAGE;
 use jup_session::hold_streams;
 use jup_web::web_main;
 use std::process::ExitCode;
-
-mod page;
 
 fn main(rt: HostRuntime) -> ExitCode {
     let _held = hold_streams(&rt);

@@ -13,67 +13,56 @@ use test_marks::{begin, end};
 // More bytes than a new buffer has room for.
 const PAYLOAD: [u8; 100] = [b'a'; 100];
 
-// A buffer with one byte, and no room for a frame.
-fn started(rt: &impl Abort, alloc: Global) -> Vec<u8> {
-    let mut out = Vec::with_capacity(alloc, 1).expect(rt, "memory");
-    out.push(b'!').expect(rt, "memory");
-    out
+// A frame that a server sends.
+#[derive(Clone, Copy)]
+enum Sent {
+    Text,
+    Ping,
+    Pong,
+    Close,
 }
 
-// A refused call has left the byte alone.
-fn is_refused(rt: &impl Abort, put: Result<(), AllocError>, out: &Vec<u8>) -> bool {
-    if put.is_err() {
-        expect_eq(rt, out.len(), 1);
+fn put(sent: Sent, out: &mut Vec<u8>) -> Result<(), AllocError> {
+    match sent {
+        Sent::Text => put_text(&PAYLOAD, out),
+        Sent::Ping => put_ping(&PAYLOAD, out),
+        Sent::Pong => put_pong(&PAYLOAD, out),
+        Sent::Close => put_close(Some(1_000), out),
     }
-    put.is_err()
+}
+
+// Puts a frame behind one byte, where there is no room for it. A call that is refused leaves the byte alone.
+fn expect_put(rt: &impl Abort, alloc: Global, sent: Sent, due: usize) {
+    let mut out = Vec::with_capacity(alloc, 1).expect(rt, "memory");
+    out.push(b'!').expect(rt, "memory");
+    begin(alloc);
+    let is_put = put(sent, &mut out).is_ok();
+    end(alloc);
+    if !is_put {
+        expect_eq(rt, out.len(), 1);
+        put(sent, &mut out).expect(rt, "memory");
+    }
+    expect_eq(rt, out.len(), due);
 }
 
 #[test]
 fn text_put(rt: HostRuntime) {
-    let mut out = started(&rt, rt.alloc());
-    begin(rt.alloc());
-    let put = put_text(&PAYLOAD, &mut out);
-    end(rt.alloc());
-    if is_refused(&rt, put, &out) {
-        put_text(&PAYLOAD, &mut out).expect(&rt, "memory");
-    }
-    expect_eq(&rt, out.len(), 103);
+    expect_put(&rt, rt.alloc(), Sent::Text, 103);
 }
 
 #[test]
 fn ping_put(rt: HostRuntime) {
-    let mut out = started(&rt, rt.alloc());
-    begin(rt.alloc());
-    let put = put_ping(&PAYLOAD, &mut out);
-    end(rt.alloc());
-    if is_refused(&rt, put, &out) {
-        put_ping(&PAYLOAD, &mut out).expect(&rt, "memory");
-    }
-    expect_eq(&rt, out.len(), 103);
+    expect_put(&rt, rt.alloc(), Sent::Ping, 103);
 }
 
 #[test]
 fn pong_put(rt: HostRuntime) {
-    let mut out = started(&rt, rt.alloc());
-    begin(rt.alloc());
-    let put = put_pong(&PAYLOAD, &mut out);
-    end(rt.alloc());
-    if is_refused(&rt, put, &out) {
-        put_pong(&PAYLOAD, &mut out).expect(&rt, "memory");
-    }
-    expect_eq(&rt, out.len(), 103);
+    expect_put(&rt, rt.alloc(), Sent::Pong, 103);
 }
 
 #[test]
 fn close_put(rt: HostRuntime) {
-    let mut out = started(&rt, rt.alloc());
-    begin(rt.alloc());
-    let put = put_close(Some(1_000), &mut out);
-    end(rt.alloc());
-    if is_refused(&rt, put, &out) {
-        put_close(Some(1_000), &mut out).expect(&rt, "memory");
-    }
-    expect_eq(&rt, out.len(), 5);
+    expect_put(&rt, rt.alloc(), Sent::Close, 5);
 }
 
 #[test]
@@ -131,6 +120,7 @@ fn writer_new(rt: HostRuntime) {
         Err(AllocError) => MessageWriter::new(rt.alloc(), io::sink()).expect(&rt, "memory"),
     };
     expect_eq(&rt, writer.write(b"bye\n").ok(), Some(4));
+    expect_eq(&rt, writer.write(b"").ok(), Some(0));
 }
 
 #[test]

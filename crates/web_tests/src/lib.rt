@@ -1,12 +1,8 @@
-//! What a server of browsers reads, sends and decides, by public calls, as far as no built program shows it. `tools/requests`, `tools/frames` and `tools/serving` try the rest on the built `jupweb`.
+//! What a server of browsers does if a read, a write or an allocation fails, and what it takes for no head, by public calls. `tools/requests`, `tools/frames` and `tools/serving` try the rest on the built `jupweb`.
 #![tactic(auto)]
 
 #[cfg(test)]
-mod decisions;
-#[cfg(test)]
 mod expect;
-#[cfg(test)]
-mod frames;
 #[cfg(test)]
 mod growths;
 #[cfg(test)]

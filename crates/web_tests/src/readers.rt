@@ -1,18 +1,8 @@
-//! A WebSocket over a reader and a writer of bytes that fail, and frames that the program does not send.
+//! A WebSocket over a reader and a writer of bytes that fail.
 use crate::expect::{expect_eq, expect_that};
-use jup_http::{MessageReader, MessageWriter, put_ping};
+use jup_http::MessageReader;
 use std::io;
 use std::io::{ErrorKind, Read, Write};
-
-// The program sends pings without a payload. This one is that of RFC 6455, section 5.7.
-#[test]
-fn frames_that_the_program_does_not_send(rt: HostRuntime) {
-    let mut out = Vec::new(rt.alloc());
-    put_ping(b"Hello", &mut out).expect(&rt, "there is memory");
-    expect_that(&rt, out.as_slice() == b"\x89\x05Hello".as_slice());
-    let mut writer = MessageWriter::new(rt.alloc(), io::sink()).expect(&rt, "there is memory");
-    expect_eq(&rt, writer.write(b"").ok(), Some(0));
-}
 
 // Gives a byte and then an error, by turns.
 #[derive(Drop)]

@@ -23,10 +23,11 @@ fn captions_check(rt: HostRuntime) {
     expect_eq(&rt, check_captions(rt.alloc(), text), Ok(()));
 }
 
+// A browser leaves out the port 80 of an origin.
 #[test]
 fn origins_own(rt: HostRuntime) {
     let at = Address {
-        port: 1,
+        port: 80,
         is_loopback: true,
         is_wildcard: false,
     };
@@ -34,7 +35,12 @@ fn origins_own(rt: HostRuntime) {
     let _origins = own_origins(rt.alloc(), "127.0.0.1", at, Some("http://a"));
     end(rt.alloc());
     let origins = own_origins(rt.alloc(), "127.0.0.1", at, Some("http://a"));
-    expect_eq(&rt, origins.expect(&rt, "memory").len(), 3);
+    let origins = origins.expect(&rt, "memory");
+    expect_eq(&rt, origins.len(), 3);
+    let due = ["http://a", "http://127.0.0.1", "http://localhost"];
+    for (origin, due) in origins.iter().zip(due) {
+        expect_eq(&rt, origin.as_str().as_bytes(), due.as_bytes());
+    }
 }
 
 #[test]

@@ -1,6 +1,8 @@
-//! The page. `tools/embed` makes this file of page/jupweb.html.
+//! The page of `jupweb`. `tools/embed` makes this file of page/jupweb.html.
+#![tactic(auto)]
 
-pub(crate) const PAGE: &[u8] = br#"<!doctype html>
+/// What a browser gets if the command line names no other page.
+pub const PAGE: &[u8] = br#"<!doctype html>
 <html lang="en">
 <head>
 <meta charset="utf-8">

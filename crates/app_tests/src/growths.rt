@@ -21,7 +21,7 @@ fn edits_taken(rt: &impl Abort, run: Result<RunEnd, RunFault>) -> Result<usize, 
 }
 
 fn two_sites<R: Threads + Wait + Sync + Abort>(rt: &R, alloc: Global) -> Result<usize, u32> {
-    let both = insertions(rt, alloc, 'a', 2);
+    let both = insertions(rt, alloc, 2);
     let board = blank(rt, alloc);
     begin(alloc);
     let run = run_two(rt, alloc, board, LIMIT, &both, &both, &Open);

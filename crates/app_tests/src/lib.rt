@@ -6,8 +6,8 @@ ghost use Rattle.std.specs.Prelude.{◌≡◌};
 #[cfg(test)]
 mod expect;
 #[cfg(test)]
+mod gates;
+#[cfg(test)]
 mod growths;
 #[cfg(test)]
 mod runs;
-#[cfg(test)]
-mod runs_gates;

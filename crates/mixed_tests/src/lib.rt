@@ -4,12 +4,10 @@
 ghost use Rattle.std.specs.Prelude.{◌≡◌};
 
 #[cfg(test)]
-mod attacks;
-#[cfg(test)]
 mod crowds;
-#[cfg(test)]
-mod events;
 #[cfg(test)]
 mod expect;
 #[cfg(test)]
 mod growths;
+#[cfg(test)]
+mod runs;

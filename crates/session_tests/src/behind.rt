@@ -3,7 +3,7 @@
 ghost use Rattle.jup_hub.specs.Passes.{IsPassOf};
 
 use crate::expect::{expect_eq, expect_text};
-use crate::sessions::{EMPTY_TEXT, GREETING, close, first_edit, open_hub};
+use crate::sessions::{EMPTY_TEXT, GREETING, close, first_edit, open_hub, ran};
 use jup_hub::{Hub, Pass};
 use jup_session::{Bell, Ending, Open, serve_link};
 use std::alloc::Global;
@@ -146,42 +146,23 @@ fn expect_answer(rt: &impl Abort, alloc: Global, came: &Came, answer: &str) {
     expect_text(rt, came.written.as_slice(), written.as_str());
 }
 
+// It is left if it is too far behind. If not, the session rests after a take that was long, and seven times as long after a costly one. By its clock
+// each take is of ten milliseconds.
 #[test]
-fn a_site_that_is_too_far_behind_is_left(rt: HostRuntime) {
-    for &text in &[EDIT, PING] {
-        let came = session_of(&rt, rt.alloc(), MOST + 1, text);
-        expect_eq(&rt, (came.ending, came.taken), (Ending::Fault(71), 0));
-        expect_answer(&rt, rt.alloc(), &came, "error 71\n");
-    }
-}
-
-#[test]
-fn a_site_that_is_not_too_far_behind_stays(rt: HostRuntime) {
-    let came = session_of(&rt, rt.alloc(), MOST, EDIT);
-    expect_eq(
-        &rt,
-        (came.ending, came.taken, came.slept),
-        (Ending::Bye, 1, 500),
-    );
-    expect_answer(&rt, rt.alloc(), &came, "bye\n");
-}
-
-// A take that took ten milliseconds, by a clock that says so of each.
-#[test]
-fn a_session_rests_after_a_long_take_and_seven_times_as_long_after_a_costly_one(rt: HostRuntime) {
-    for &(behind, text, slept) in &[
-        (NOT_LONG, ONE, 0),
-        (NOT_LONG + 1, ONE, 500),
-        (MOST, FOUR, 500),
-        (MOST, FIVE, 70_000),
+fn a_site_that_lags_is_left_or_its_session_rests(rt: HostRuntime) {
+    let left = (Ending::Fault(71), 0, 0);
+    for &(behind, text, came, answer) in &[
+        (MOST + 1, EDIT, left, "error 71\n"),
+        (MOST + 1, PING, left, "error 71\n"),
+        (MOST, EDIT, (Ending::Bye, 1, 500), "bye\n"),
+        (NOT_LONG, ONE, (Ending::Bye, 1, 0), "pong 1\nbye\n"),
+        (NOT_LONG + 1, ONE, (Ending::Bye, 1, 500), "pong 1\nbye\n"),
+        (MOST, FOUR, (Ending::Bye, 1, 500), "pong 1\nbye\n"),
+        (MOST, FIVE, (Ending::Bye, 1, 70_000), "pong 1\nbye\n"),
     ] {
-        let came = session_of(&rt, rt.alloc(), behind, text);
-        expect_eq(
-            &rt,
-            (came.ending, came.taken, came.slept),
-            (Ending::Bye, 1, slept),
-        );
-        expect_answer(&rt, rt.alloc(), &came, "pong 1\nbye\n");
+        let found = session_of(&rt, rt.alloc(), behind, text);
+        expect_eq(&rt, (found.ending, found.taken, found.slept), came);
+        expect_answer(&rt, rt.alloc(), &found, answer);
     }
 }
 
@@ -242,7 +223,6 @@ fn expect_given_up<R: Threads + Wait + Clock + Sync + Abort>(
     takes_a_byte: bool,
     answer: &str,
 ) {
-    let (hub, pass) = open_hub(rt, alloc, EMPTY_TEXT, 100);
     let (bell, given_up) = (Bell::new(), AtomicU64::new(0));
     let from = Silent {
         rt,
@@ -257,22 +237,19 @@ fn expect_given_up<R: Threads + Wait + Clock + Sync + Abort>(
         is_stuck: false,
         given_up: &given_up,
     };
-    let (_, ending) = serve_link(rt, alloc, from, to, &hub, pass, &bell, &Open);
-    expect_eq(rt, ending, Ending::Fault(71));
+    let left = ran(rt, alloc, from, to, &bell, &Open);
+    expect_eq(rt, left.ending, Ending::Fault(71));
     let written = format!(in alloc; "{GREETING}{answer}").expect(rt, "there is memory");
     expect_text(rt, text.as_slice(), written.as_str());
     expect_eq(rt, given_up.load(Ordering::SeqCst), 1);
 }
 
-// No last line is written, since the line before it may be cut.
+// The link takes nothing, or a byte at a time. No last line is written, since the line before it may be cut.
 #[test]
-fn a_link_that_takes_nothing_is_left_once_its_site_is_too_far_behind(rt: HostRuntime) {
-    expect_given_up(&rt, rt.alloc(), false, "");
-}
-
-#[test]
-fn a_link_that_takes_a_byte_at_a_time_is_left_too(rt: HostRuntime) {
-    expect_given_up(&rt, rt.alloc(), true, "pon");
+fn a_link_that_takes_little_is_left_once_its_site_is_too_far_behind(rt: HostRuntime) {
+    for &(takes_a_byte, answer) in &[(false, ""), (true, "pon")] {
+        expect_given_up(&rt, rt.alloc(), takes_a_byte, answer);
+    }
 }
 
 /// Gives a greeting. Then another site makes an edit, by which this one is too far behind, and it gives nothing until the half that writes has ended.

@@ -2,8 +2,8 @@
 
 use crate::expect::expect_eq;
 use crate::fakes::OneByOne;
-use crate::sessions::{EMPTY_TEXT, open_hub};
-use jup_session::{Bell, Ending, Gate, Open, serve_link};
+use crate::sessions::ran;
+use jup_session::{Bell, Ending, Gate, Open};
 use std::alloc::Global;
 use std::io::Read;
 use std::process::Abort;
@@ -29,11 +29,9 @@ fn rings_of<R: Threads + Wait + Clock + Sync + Abort, I: Read + Drop>(
     alloc: Global,
     from: I,
 ) -> u64 {
-    let (hub, pass) = open_hub(rt, alloc, EMPTY_TEXT, 100);
-    let bell = Bell::new();
-    let mut to = Vec::new(alloc);
-    let (_, ending) = serve_link(rt, alloc, from, &mut to, &hub, pass, &bell, &Open);
-    expect_eq(rt, ending, Ending::Bye);
+    let (bell, mut to) = (Bell::new(), Vec::new(alloc));
+    let left = ran(rt, alloc, from, &mut to, &bell, &Open);
+    expect_eq(rt, left.ending, Ending::Bye);
     rings(rt, &bell)
 }
 
@@ -68,14 +66,11 @@ impl<'a, R: Wait> Gate for Waking<'a, R> {
 
 #[test]
 fn the_others_are_woken_before_a_gate_is_waited_for(rt: HostRuntime) {
-    let alloc = rt.alloc();
-    let (hub, pass) = open_hub(&rt, alloc, EMPTY_TEXT, 100);
-    let bell = Bell::new();
+    let (bell, mut to) = (Bell::new(), Vec::new(rt.alloc()));
     let gate = Waking {
         rt: &rt,
         bell: &bell,
     };
-    let mut to = Vec::new(alloc);
-    let (_, ending) = serve_link(&rt, alloc, BURST, &mut to, &hub, pass, &bell, &gate);
-    expect_eq(&rt, ending, Ending::Bye);
+    let left = ran(&rt, rt.alloc(), BURST, &mut to, &bell, &gate);
+    expect_eq(&rt, left.ending, Ending::Bye);
 }

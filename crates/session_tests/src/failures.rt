@@ -2,8 +2,8 @@
 
 use crate::expect::{expect_eq, expect_text, expect_that};
 use crate::fakes::{Endless, FailsAfter, FailsAt, OneByOne};
-use crate::sessions::{TYPED, expect_end, ran, write_fails};
-use jup_session::{ClientEnd, Ending, Open, run_client};
+use crate::sessions::{TYPED, ran, write_fails};
+use jup_session::{Bell, ClientEnd, Ending, Open, run_client};
 use std::alloc::Global;
 
 // The beginning of a text, of so many bytes.
@@ -30,9 +30,11 @@ fn due_after(len: usize) -> (&'static str, usize) {
 fn each_read_of_a_session(rt: HostRuntime) {
     expect_eq(&rt, TYPED.len(), 56);
     for len in 0..56 {
-        let left = ran(&rt, rt.alloc(), first_bytes(TYPED, len), &Open);
-        let (written, taken) = due_after(len);
-        expect_end(&rt, &left, Ending::Fault(70), written);
+        let (from, mut written) = (first_bytes(TYPED, len), Vec::new(rt.alloc()));
+        let left = ran(&rt, rt.alloc(), from, &mut written, &Bell::new(), &Open);
+        let (due, taken) = due_after(len);
+        expect_eq(&rt, (len, left.ending), (len, Ending::Fault(70)));
+        expect_text(&rt, written.as_slice(), due);
         expect_eq(&rt, (len, left.taken, left.waiting), (len, taken, None));
     }
 }

@@ -2,8 +2,8 @@
 
 use crate::expect::{expect_eq, expect_text};
 use crate::programs::{client_of, client_status, daemon_at};
-use crate::sessions::{EMPTY_TEXT, TYPED, TYPED_ANSWER, open_hub};
-use jup_session::{Bell, ClientEnd, Ending, Open, daemon_main, run_client, serve_link};
+use crate::sessions::{TYPED, TYPED_ANSWER, ran};
+use jup_session::{Bell, ClientEnd, Ending, Open, daemon_main, run_client};
 use std::alloc::Global;
 use std::io;
 use std::io::Write;
@@ -65,11 +65,10 @@ fn a_client_flushes_what_it_sends_and_prints(rt: HostRuntime) {
 #[test]
 fn a_session_flushes_its_lines(rt: HostRuntime) {
     let alloc = rt.alloc();
-    let (hub, pass) = open_hub(&rt, alloc, EMPTY_TEXT, 100);
     let mut written = Vec::new(alloc);
     let to = Holding::new(Vec::new(alloc), &mut written);
-    let (_, ending) = serve_link(&rt, alloc, TYPED, to, &hub, pass, &Bell::new(), &Open);
-    expect_eq(&rt, ending, Ending::Bye);
+    let left = ran(&rt, alloc, TYPED, to, &Bell::new(), &Open);
+    expect_eq(&rt, left.ending, Ending::Bye);
     expect_text(&rt, written.as_slice(), TYPED_ANSWER);
 }
 

@@ -55,51 +55,37 @@ pub(crate) fn close(rt: &impl Abort, hub: Hub, pass: Pass) -> Star
     closed.star
 }
 
-// What a session left behind.
+// What a session left behind, beside what it wrote.
 #[derive(Drop)]
 pub(crate) struct Left {
     pub(crate) ending: Ending,
-    pub(crate) written: Vec<u8>,
     pub(crate) board: Vec<u8>,
     pub(crate) taken: usize,
     pub(crate) waiting: Option<usize>,
 }
 
 // Runs a session on an empty text, alone.
-pub(crate) fn ran<R: Threads + Wait + Clock + Sync + Abort, I: Read + Drop, G: Gate>(
-    rt: &R,
-    alloc: Global,
-    from: I,
-    gate: &G,
-) -> Left {
+pub(crate) fn ran<
+    R: Threads + Wait + Clock + Sync + Abort,
+    I: Read + Drop,
+    O: io::Write + Send + Drop,
+    G: Gate,
+>(rt: &R, alloc: Global, from: I, to: O, bell: &Bell, gate: &G) -> Left {
     let (hub, pass) = open_hub(rt, alloc, EMPTY_TEXT, 100);
-    let mut written = Vec::new(alloc);
-    let (pass, ending) = serve_link(
-        rt,
-        alloc,
-        from,
-        &mut written,
-        &hub,
-        pass,
-        &Bell::new(),
-        gate,
-    );
-    let star = close(rt, hub, pass);
+    let (pass, ending) = serve_link(rt, alloc, from, to, &hub, pass, bell, gate);
+    left_in(rt, alloc, &close(rt, hub, pass), ending)
+}
+
+// What a session with this ending left in the star.
+fn left_in(rt: &impl Abort, alloc: Global, star: &Star, ending: Ending) -> Left {
     let mut board = Vec::new(alloc);
     write_board(alloc, star.board(), &mut board).expect(rt, "there is memory");
     Left {
         ending,
-        written,
         board,
         taken: star.order().len(),
         waiting: star.waiting(1),
     }
-}
-
-// It ended so, and wrote this.
-pub(crate) fn expect_end(rt: &impl Abort, left: &Left, ending: Ending, written: &str) {
-    expect_eq(rt, left.ending, ending);
-    expect_text(rt, left.written.as_slice(), written);
 }
 
 pub(crate) const TYPED: &[u8] = b"hello 3\nbatch 0 0 1\ndo 1 1 text ins 0 1.1 97\nping 7\nbye\n";
@@ -117,10 +103,11 @@ fn operations_of_one_message_are_one_edit(rt: HostRuntime) {
         text: PAIR,
         is_next: false,
     };
-    let left = ran(&rt, rt.alloc(), from, &gate);
-    expect_end(&rt, &left, Ending::Bye, CUT_ANSWER);
+    let mut written = Vec::new(rt.alloc());
+    let left = ran(&rt, rt.alloc(), from, &mut written, &Bell::new(), &gate);
+    expect_eq(&rt, (left.ending, left.taken), (Ending::Bye, 1));
+    expect_text(&rt, written.as_slice(), CUT_ANSWER);
     expect_text(&rt, left.board.as_slice(), "window 1\ntext 1 \"ab\"\n");
-    expect_eq(&rt, left.taken, 1);
     expect_eq(&rt, gate.asked.load(Ordering::SeqCst), 1);
     expect_eq(&rt, gate.told.load(Ordering::SeqCst), 1);
 }
@@ -150,7 +137,6 @@ fn read_while_slow<R: Threads + Wait + Clock + Sync + Abort>(
     text: &[u8],
     written: &mut Vec<u8>,
 ) -> u32 {
-    let (hub, pass) = open_hub(rt, alloc, EMPTY_TEXT, 100);
     let (given, seen) = (AtomicU32::new(0), AtomicU32::new(0));
     let from = LineByLine {
         text,
@@ -163,8 +149,8 @@ fn read_while_slow<R: Threads + Wait + Clock + Sync + Abort>(
         given: &given,
         seen: &seen,
     };
-    let (_, ending) = serve_link(rt, alloc, from, to, &hub, pass, &Bell::new(), &Open);
-    expect_eq(rt, ending, Ending::Bye);
+    let left = ran(rt, alloc, from, to, &Bell::new(), &Open);
+    expect_eq(rt, left.ending, Ending::Bye);
     seen.load(Ordering::SeqCst)
 }
 
@@ -184,7 +170,6 @@ fn a_site_is_owed_at_most_1024_pongs(rt: HostRuntime) {
 #[test]
 fn a_ping_that_waits_ends_with_its_session(rt: HostRuntime) {
     let alloc = rt.alloc();
-    let (hub, pass) = open_hub(&rt, alloc, EMPTY_TEXT, 100);
     let text = lines(&rt, alloc, "hello 3\n", "ping #", 0..2_000, "bye\n");
     let given = AtomicU32::new(0);
     let from = LineByLine {
@@ -197,8 +182,8 @@ fn a_ping_that_waits_ends_with_its_session(rt: HostRuntime) {
         given: &given,
         lines: 1_026,
     };
-    let (_, ending) = serve_link(&rt, alloc, from, to, &hub, pass, &Bell::new(), &Open);
-    expect_eq(&rt, ending, Ending::Fault(71));
+    let left = ran(&rt, alloc, from, to, &Bell::new(), &Open);
+    expect_eq(&rt, left.ending, Ending::Fault(71));
 }
 
 /// Greets. Then another pass leaves for the first site, and a ping comes.
@@ -285,16 +270,13 @@ pub(crate) fn write_fails<R: Threads + Wait + Clock + Sync + Abort, I: Read + Dr
 #[test]
 fn a_gate_that_stays_shut(rt: HostRuntime) {
     let gate = Counting::new(0);
-    let left = ran(&rt, rt.alloc(), TYPED, &gate);
-    expect_end(
-        &rt,
-        &left,
-        Ending::Fault(60),
-        "welcome 1 100\nwindow 1\ntext 1\nready\nerror 60\n",
-    );
+    let mut written = Vec::new(rt.alloc());
+    let left = ran(&rt, rt.alloc(), TYPED, &mut written, &Bell::new(), &gate);
+    expect_eq(&rt, (left.ending, left.taken), (Ending::Fault(60), 0));
+    let due = "welcome 1 100\nwindow 1\ntext 1\nready\nerror 60\n";
+    expect_text(&rt, written.as_slice(), due);
     expect_eq(&rt, gate.asked.load(Ordering::SeqCst), 100_001);
     expect_eq(&rt, gate.told.load(Ordering::SeqCst), 0);
-    expect_eq(&rt, left.taken, 0);
 }
 
 pub(crate) const GREETING: &str = "welcome 1 100\nwindow 1\ntext 1\nready\n";

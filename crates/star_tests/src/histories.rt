@@ -2,24 +2,26 @@
 ghost use Rattle.jup_window.specs.Entries.{EachWidget};
 ghost use Rattle.jup_star.specs.Stars.{IsShort};
 
-use crate::contents::{Content, keeps_orders, names_on};
+use crate::contents::{Content, items_of, keeps_orders};
 use crate::expect::{expect_eq, expect_that};
 use crate::honest_sites::Honest;
 use crate::served::Served;
-use crate::strangers::Stranger;
 use jup_star::Star;
-use jup_value::Name;
+use jup_value::Item;
 use jup_window::Board;
 use std::alloc::Global;
 use std::process::Abort;
 use std::sync::Wait;
-use test_boards::{Dice, board_of};
+use test_boards::{Dice, Stranger, board_of};
 
 // How many honest sites there are in the end.
 const SITES: usize = 3;
 
 // After how many steps the orders of a moment are kept, and a site joins while there are fewer.
 const EACH: u32 = 25;
+
+// Once in so many times a stranger says the next number in place of the right one.
+const SLIPS: u32 = 12;
 
 // More rounds than it takes until nothing is on its way.
 const MOST_ROUNDS: u32 = 2_000;
@@ -35,12 +37,6 @@ fn open_star(rt: &impl Abort, alloc: Global, limit: u32) -> Star {
     Star::open(alloc, board(rt, alloc), limit).expect(rt, "a layout and a limit")
 }
 
-fn open(rt: &impl Abort, alloc: Global, limit: u32) -> Served {
-    let star = open_star(rt, alloc, limit);
-    let twin = open_star(rt, alloc, limit);
-    Served::open(rt, alloc, star, twin)
-}
-
 /// A hub with its callers, and what is compared.
 #[derive(Drop)]
 struct History {
@@ -50,32 +46,70 @@ struct History {
     sites: Vec<Honest>,
     strangers: [Stranger; 2],
     // The orders of the star's items at some earlier moments.
-    kept: Vec<Vec<Name>>,
+    kept: Vec<Vec<Item<char>>>,
+    counts: Counts,
+}
+
+/// What is counted of a history.
+#[derive(Clone, Copy)]
+struct Counts {
+    // How many messages of strangers were accepted, and how many refused.
+    accepted: u32,
+    refused: u32,
     // How often an honest site lost its link, and how often one was level with the star.
     lost: u32,
     level: u32,
+    // How many edits the order has.
+    taken: usize,
 }
 
 // The star shows what its order means.
 fn star_shows(rt: &impl Abort, alloc: Global, opening: &Board, star: &Star) {
     let mut due = Content::of(rt, alloc, opening);
     for entry in star.order() {
-        due.take_all(rt, alloc, entry.edit.as_slice());
+        due.take_all(rt, entry.edit.as_slice());
     }
     expect_that(rt, Content::of(rt, alloc, star.board()).same(&due));
 }
 
+// A stranger sends a message, and whether that is accepted. If it is refused, the link is gone.
+fn sends<R: Abort + Wait>(
+    rt: &R,
+    alloc: Global,
+    dice: &mut Dice,
+    stranger: &mut Stranger,
+    served: &mut Served,
+) -> bool {
+    let up = stranger
+        .message(alloc, dice, served.star())
+        .expect(rt, "memory");
+    let is_accepted = served.takes(rt, alloc, stranger.link, &up).is_ok();
+    if is_accepted {
+        stranger.counts(&up);
+    } else {
+        stranger.link = 0;
+    }
+    is_accepted
+}
+
 impl History {
     fn open(rt: &impl Abort, alloc: Global, limit: u32) -> History {
+        let star = open_star(rt, alloc, limit);
+        let twin = open_star(rt, alloc, limit);
         History {
             opening: board(rt, alloc),
             limit: limit as usize,
-            served: open(rt, alloc, limit),
+            served: Served::open(rt, alloc, star, twin),
             sites: Vec::new(alloc),
-            strangers: [Stranger::new(), Stranger::new()],
+            strangers: [Stranger::new(SLIPS), Stranger::new(SLIPS)],
             kept: Vec::new(alloc),
-            lost: 0,
-            level: 0,
+            counts: Counts {
+                accepted: 0,
+                refused: 0,
+                lost: 0,
+                level: 0,
+                taken: 0,
+            },
         }
     }
 
@@ -93,7 +127,7 @@ impl History {
         };
         let had_link = honest.has_link;
         if had_link && dice.once_in(150) {
-            self.served.leaves(rt, honest.number());
+            self.served.leaves(rt, honest.site.number());
             honest.has_link = false;
         } else if !had_link && dice.once_in(40) {
             *honest = Honest::joins(rt, alloc, &mut self.served);
@@ -101,22 +135,36 @@ impl History {
             honest.goes_on(rt, alloc, dice, &mut self.served, self.limit);
         }
         if had_link && !honest.has_link {
-            self.lost = self.lost.saturating_add(1);
+            self.counts.lost = self.counts.lost.saturating_add(1);
         }
     }
 
+    // A stranger joins if it has no link. Otherwise it sends a message, or fetches and forgets, or leaves.
     fn stranger_goes_on<R: Abort + Wait>(&mut self, rt: &R, alloc: Global, dice: &mut Dice) {
         let at = dice.roll(2) as usize;
-        if let Some(stranger) = self.strangers.get_mut(at) {
-            stranger.goes_on(rt, alloc, dice, &mut self.served);
+        let Some(stranger) = self.strangers.get_mut(at) else {
+            return;
+        };
+        if stranger.link == 0 {
+            let joined = self.served.joins(rt, alloc);
+            stranger.joins(joined.site, self.served.star());
+        } else if dice.once_in(60) {
+            self.served.leaves(rt, stranger.link);
+            stranger.link = 0;
+        } else if dice.once_in(8) {
+            let _forgotten = self.served.fetches(rt, alloc, stranger.link, 100);
+        } else if sends(rt, alloc, dice, stranger, &mut self.served) {
+            self.counts.accepted = self.counts.accepted.saturating_add(1);
+        } else {
+            self.counts.refused = self.counts.refused.saturating_add(1);
         }
     }
 
     // What holds at every moment.
     fn is_well(&self, rt: &impl Abort, alloc: Global) {
         star_shows(rt, alloc, &self.opening, self.served.star());
-        let names = names_on(rt, alloc, self.served.star().board());
-        expect_that(rt, keeps_orders(&names, &self.kept));
+        let items = items_of(rt, alloc, self.served.star().board());
+        expect_that(rt, keeps_orders(&items, &self.kept));
         for honest in &self.sites {
             honest.is_well(rt, alloc, &self.opening, &self.served);
         }
@@ -124,8 +172,8 @@ impl History {
 
     // The orders of this moment are kept.
     fn keeps(&mut self, rt: &impl Abort, alloc: Global) {
-        let names = names_on(rt, alloc, self.served.star().board());
-        self.kept.push(names).expect(rt, "memory");
+        let items = items_of(rt, alloc, self.served.star().board());
+        self.kept.push(items).expect(rt, "memory");
         for honest in &mut self.sites {
             honest.keeps(rt, alloc);
         }
@@ -146,16 +194,14 @@ impl History {
             .all(|honest| honest.is_drained(&self.served))
     }
 
-    // Each site with a link is level with the star. How many there are.
-    fn are_level(&self, rt: &impl Abort) -> u32 {
-        let mut level: u32 = 0;
+    // Each site with a link is level with the star.
+    fn are_level(&mut self, rt: &impl Abort) {
         for honest in &self.sites {
             if honest.has_link {
                 honest.is_level(rt, &self.served);
-                level = level.saturating_add(1);
+                self.counts.level = self.counts.level.saturating_add(1);
             }
         }
-        level
     }
 
     // All that is on its way comes, while the strangers are silent. Then each site with a link is level with the star.
@@ -167,7 +213,7 @@ impl History {
             self.moves(rt, alloc);
         }
         expect_that(rt, self.is_drained());
-        self.level = self.level.saturating_add(self.are_level(rt));
+        self.are_level(rt);
     }
 
     // So many steps, each of an honest site or of a stranger. The sites join one after another.
@@ -186,32 +232,11 @@ impl History {
             self.is_well(rt, alloc);
         }
         self.drains(rt, alloc);
-    }
-
-    // What a test asks of it: how many messages of strangers were accepted, and how many refused, among others.
-    fn counts(&self) -> Counts {
-        let [one, two] = &self.strangers;
-        Counts {
-            accepted: one.accepted.saturating_add(two.accepted),
-            refused: one.refused.saturating_add(two.refused),
-            lost: self.lost,
-            level: self.level,
-            taken: self.served.taken(),
-        }
+        self.counts.taken = self.served.taken();
     }
 }
 
-// What is counted of a history that was played.
-#[derive(Clone, Copy)]
-struct Counts {
-    accepted: u32,
-    refused: u32,
-    lost: u32,
-    level: u32,
-    taken: usize,
-}
-
-// A history of some rounds of so many steps each.
+// What is counted of a history of some rounds of so many steps each.
 fn played<R: Abort + Wait>(
     rt: &R,
     alloc: Global,
@@ -225,7 +250,7 @@ fn played<R: Abort + Wait>(
     for _ in 0..count {
         history.plays(rt, alloc, &mut dice, steps);
     }
-    history.counts()
+    history.counts
 }
 
 // After each of six rounds the sites with a link are level with the star. Strangers are heard and refused.

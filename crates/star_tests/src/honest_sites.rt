@@ -1,25 +1,21 @@
 //! An honest site of a hub, and what it checks of itself: the clauses of `honest_sites_agree`, computed here from what happened.
-use crate::contents::{Content, is_one_order, keeps_orders, names_on};
+use crate::contents::{Content, is_one_order, items_of, keeps_orders};
 use crate::expect::{expect_eq, expect_that};
 use crate::served::Served;
 use jup_batch::BoardEdits;
-use jup_star::{Down, Entry, Site, Up};
-use jup_value::Name;
-use jup_window::{Board, Command, Setting, Value};
+use jup_hub::HubFault;
+use jup_star::{Down, Entry, Site, StarFault, Up};
+use jup_value::Item;
+use jup_window::Board;
 use std::alloc::Global;
 use std::process::Abort;
 use std::sync::Wait;
-use test_boards::Dice;
-
-// Fault numbers: the order is full; there is no such link.
-const LOG_FULL: u32 = 32;
-
-const NO_LINK: u32 = 33;
+use test_boards::{Dice, any_command};
 
 /// A site, and all that was sent to it and by it.
 #[derive(Drop)]
 pub(crate) struct Honest {
-    site: Site,
+    pub site: Site,
     /// How many edits the order had at its join.
     since: usize,
     made: Vec<BoardEdits>,
@@ -31,39 +27,20 @@ pub(crate) struct Honest {
     handed: usize,
     pub has_link: bool,
     /// The orders of its items at some earlier moments.
-    kept: Vec<Vec<Name>>,
-}
-
-// An insertion, a deletion or a setting that the board allows.
-fn command(dice: &mut Dice, board: &Board) -> Command {
-    let (win, wid) = (1, 1);
-    let length = board.widget(1, 1).map_or(0, |text| text.item_count());
-    match dice.roll(5) {
-        0 => Command::Set {
-            win,
-            wid: 2,
-            setting: Setting::Toggle(dice.once_in(2)),
-        },
-        1 | 2 if length > 0 => Command::Delete {
-            win,
-            wid,
-            place: dice.roll(length),
-        },
-        _ => Command::Insert {
-            win,
-            wid,
-            place: dice.roll(length.saturating_add(1)),
-            value: Value::Char('h'),
-        },
-    }
+    kept: Vec<Vec<Item<char>>>,
 }
 
 // What is due for a message up: a place at the end of the order, if it is an edit and the order is not full.
-fn answer_due(has_link: bool, up: &Up, order: usize, limit: usize) -> Result<Option<u32>, u32> {
+fn answer_due(
+    has_link: bool,
+    up: &Up,
+    order: usize,
+    limit: usize,
+) -> Result<Option<u32>, HubFault> {
     match up {
-        _ if !has_link => Err(NO_LINK),
+        _ if !has_link => Err(HubFault::Star(StarFault::NoLink)),
         Up::Op(_) if order < limit => Ok(u32::try_from(order).ok()),
-        Up::Op(_) => Err(LOG_FULL),
+        Up::Op(_) => Err(HubFault::Star(StarFault::LogFull)),
         Up::Ack(_) | Up::Ping(_) => Ok(None),
     }
 }
@@ -87,13 +64,9 @@ impl Honest {
         }
     }
 
-    pub(crate) fn number(&self) -> u32 {
-        self.site.number()
-    }
-
-    /// It makes an edit, unless it has made as many as the limit allows, and sends it.
+    // It makes an edit, unless it has made as many as the limit allows, and sends it.
     fn edits(&mut self, rt: &impl Abort, alloc: Global, dice: &mut Dice) {
-        let command = command(dice, self.site.board());
+        let command = any_command(dice, self.site.board());
         if let Ok(made) = self.site.edit(alloc, &command) {
             self.made.push(made.edit).expect(rt, "memory");
             self.sent.push(made.up).expect(rt, "memory");
@@ -189,13 +162,13 @@ impl Honest {
         let mut content = Content::of(rt, alloc, opening);
         let mut own: usize = 0;
         for entry in order.iter().take(self.told(order)) {
-            content.take_all(rt, alloc, entry.edit.as_slice());
+            content.take_all(rt, entry.edit.as_slice());
             if entry.site == self.site.number() {
                 own = own.saturating_add(1);
             }
         }
         for edit in self.made.iter().skip(own) {
-            content.take_all(rt, alloc, edit.as_slice());
+            content.take_all(rt, edit.as_slice());
         }
         content
     }
@@ -220,7 +193,10 @@ impl Honest {
         self.has_one_order(rt, alloc, served.star().board());
         let linked = served.star().waiting(self.site.number()).is_some();
         expect_eq(rt, linked, self.has_link);
-        self.counts(rt);
+        let backlog = self.site.backlog();
+        expect_that(rt, backlog <= 1024);
+        let known = (backlog as usize).saturating_add(self.acknowledged());
+        expect_eq(rt, known, self.made.len());
     }
 
     fn shows_its_view(&self, rt: &impl Abort, alloc: Global, opening: &Board, order: &[Entry]) {
@@ -230,26 +206,16 @@ impl Honest {
     }
 
     fn has_one_order(&self, rt: &impl Abort, alloc: Global, star_board: &Board) {
-        let names = names_on(rt, alloc, self.site.board());
-        expect_that(rt, keeps_orders(&names, &self.kept));
-        let star_names = names_on(rt, alloc, star_board);
-        expect_that(rt, !self.has_link || is_one_order(&names, &star_names));
-    }
-
-    fn counts(&self, rt: &impl Abort) {
-        let backlog = self.site.backlog();
-        expect_that(rt, backlog <= 1024);
-        expect_eq(
-            rt,
-            (backlog as usize).saturating_add(self.acknowledged()),
-            self.made.len(),
-        );
+        let items = items_of(rt, alloc, self.site.board());
+        expect_that(rt, keeps_orders(&items, &self.kept));
+        let star_items = items_of(rt, alloc, star_board);
+        expect_that(rt, !self.has_link || is_one_order(&items, &star_items));
     }
 
     /// It remembers the order of its items.
     pub(crate) fn keeps(&mut self, rt: &impl Abort, alloc: Global) {
-        let names = names_on(rt, alloc, self.site.board());
-        self.kept.push(names).expect(rt, "memory");
+        let items = items_of(rt, alloc, self.site.board());
+        self.kept.push(items).expect(rt, "memory");
     }
 
     // Whether the order has just its edits of this site, in order.

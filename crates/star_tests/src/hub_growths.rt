@@ -1,10 +1,12 @@
-//! Failed allocations in the hub, each test for the call of its name, as in `growths`: a call that fails is no event.
+//! Failed allocations in the hub, each test for the call of its name, as in `growths`: a call that fails is no event. And what else no program shows
+//! of such a call: what other passes then have news of, and how many events there were.
 ghost use Rattle.jup_hub.specs.Passes.{IsPassOf};
 
 use crate::expect::{expect_eq, expect_that};
-use crate::hubs::{close, hub_of, open_hub, shows, star_of, takes, tells_of_one, told_of};
+use crate::first_edits::{star_of, told_of};
+use crate::hubs::{close, ends, hub_of, open_hub, takes, tells_of_one};
 use jup_hub::{Closed, Hub, HubFault, Pass};
-use jup_star::{Downs, StarFault};
+use jup_star::StarFault;
 use std::alloc::Global;
 use std::process::Abort;
 use std::sync::Wait;
@@ -23,7 +25,7 @@ fn hub_open(rt: HostRuntime) {
         Ok(opened) => opened,
         Err(star) => {
             expect_eq(&rt, star.waiting(1), Some(0));
-            expect_that(&rt, reads(star.board(), ""));
+            expect_that(&rt, reads(star.board(), "pqr"));
             open_hub(&rt, rt.alloc(), star)
         }
     };
@@ -59,13 +61,17 @@ fn joins_first<R: Abort + Wait>(rt: &R, alloc: Global, hub: &Hub, a: &mut Pass, 
     expect_eq(rt, number, Ok(1));
 }
 
+// The second joins by the other pass.
 #[test]
 fn hub_join_site(rt: HostRuntime) {
-    let (hub, mut a) = hub_of(&rt, rt.alloc(), 0);
+    let alloc = rt.alloc();
+    let (hub, mut a) = hub_of(&rt, alloc, 0);
     let mut b = hub.split(&mut a);
-    joins_first(&rt, rt.alloc(), &hub, &mut a, &mut b);
+    joins_first(&rt, alloc, &hub, &mut a, &mut b);
     expect_that(&rt, hub.news(&mut b));
-    expect_eq(&rt, close(&rt, hub, a).events, 1);
+    expect_eq(&rt, next_number(&rt, alloc, &hub, &mut b), Ok(2));
+    hub.rejoin(&mut a, b);
+    ends(&rt, alloc, hub, a, 2, &[]);
 }
 
 // The first edit is taken by a pass. If an allocation failed first, the other pass has no news of it.
@@ -84,59 +90,103 @@ fn takes_first<R: Abort + Wait>(rt: &R, alloc: Global, hub: &Hub, a: &mut Pass, 
     expect_eq(rt, place, Ok(Some(0)));
 }
 
+// The other pass has news of it once, and takes the second. A call is no news to its own pass.
 #[test]
 fn hub_take(rt: HostRuntime) {
-    let (hub, mut a) = hub_of(&rt, rt.alloc(), 2);
+    let alloc = rt.alloc();
+    let (hub, mut a) = hub_of(&rt, alloc, 2);
     let mut b = hub.split(&mut a);
-    takes_first(&rt, rt.alloc(), &hub, &mut a, &mut b);
+    takes_first(&rt, alloc, &hub, &mut a, &mut b);
     expect_that(&rt, hub.news(&mut b));
-    expect_eq(&rt, close(&rt, hub, a).events, 1);
+    expect_that(&rt, !hub.news(&mut b));
+    expect_that(&rt, !hub.news(&mut a));
+    takes(&rt, alloc, &hub, &mut b, 2, 1);
+    hub.rejoin(&mut a, b);
+    ends(&rt, alloc, hub, a, 2, &[1, 2]);
 }
 
-// What a pass fetches for site 2, again if an allocation failed.
-fn fetched<R: Abort + Wait>(rt: &R, alloc: Global, hub: &Hub, pass: &mut Pass) -> Downs
+// A pass fetches just the first edit for site 2, again if an allocation failed.
+fn is_told<R: Abort + Wait>(rt: &R, alloc: Global, hub: &Hub, pass: &mut Pass)
     requires { IsPassOf hub.now pass.old }
     ensures { IsPassOf hub.now pass.new }
 {
     begin(alloc);
-    let downs = hub.fetch(rt, alloc, pass, 2, 10);
+    let mut downs = hub.fetch(rt, alloc, pass, 2, 10);
     end(alloc);
-    match downs {
-        Ok(downs) => downs,
-        Err(_) => hub.fetch(rt, alloc, pass, 2, 10).expect(rt, "memory"),
+    if downs.is_err() {
+        downs = hub.fetch(rt, alloc, pass, 2, 10);
+    }
+    expect_that(rt, tells_of_one(alloc, &downs.expect(rt, "memory")));
+}
+
+// A fetch for site 9, which has no link, is refused. Site 1 leaves.
+fn lets_one_leave<R: Abort + Wait>(rt: &R, alloc: Global, hub: &Hub, pass: &mut Pass)
+    requires { IsPassOf hub.now pass.old }
+    ensures { IsPassOf hub.now pass.new }
+{
+    let none = hub.fetch(rt, alloc, pass, 9, 1);
+    expect_eq(rt, none.err(), Some(HubFault::Star(StarFault::NoLink)));
+    expect_eq(rt, hub.leave(rt, pass, 1), Ok(()));
+}
+
+// A pass that is split from another fetches what that took. A call that is refused is an event too.
+#[test]
+fn hub_fetch(rt: HostRuntime) {
+    let alloc = rt.alloc();
+    let (hub, mut a) = hub_of(&rt, alloc, 2);
+    takes(&rt, alloc, &hub, &mut a, 1, 0);
+    let mut b = hub.split(&mut a);
+    is_told(&rt, alloc, &hub, &mut b);
+    lets_one_leave(&rt, alloc, &hub, &mut b);
+    hub.rejoin(&mut a, b);
+    let star = ends(&rt, alloc, hub, a, 4, &[1]);
+    expect_eq(&rt, (star.waiting(1), star.waiting(2)), (None, Some(0)));
+    expect_that(&rt, reads(star.board(), "apqr"));
+}
+
+// Whether the hub's board shows this text, by a call of a pass.
+fn shows<R: Wait>(
+    rt: &R,
+    alloc: Global,
+    hub: &Hub,
+    pass: &mut Pass,
+    text: &str,
+) -> Result<bool, HubFault>
+    requires { IsPassOf hub.now pass.old }
+    ensures { IsPassOf hub.now pass.new }
+{
+    match hub.board(rt, alloc, pass) {
+        Ok(board) => Ok(reads(&board, text)),
+        Err(fault) => Err(fault),
     }
 }
 
-#[test]
-fn hub_fetch(rt: HostRuntime) {
-    let (hub, mut a) = hub_of(&rt, rt.alloc(), 2);
-    takes(&rt, rt.alloc(), &hub, &mut a, 1, 0);
-    let downs = fetched(&rt, rt.alloc(), &hub, &mut a);
-    expect_that(&rt, tells_of_one(rt.alloc(), &downs));
-    let Closed { star, events } = close(&rt, hub, a);
-    expect_eq(&rt, (star.waiting(2), events), (Some(0), 2));
-}
-
-// The hub's board shows the first edit, at the second call if an allocation failed in the first.
-fn shows_first<R: Abort + Wait>(rt: &R, alloc: Global, hub: &Hub, pass: &mut Pass)
+// The hub's board shows this text, at the second call if an allocation failed in the first.
+fn is_shown<R: Abort + Wait>(rt: &R, alloc: Global, hub: &Hub, pass: &mut Pass, text: &str)
     requires { IsPassOf hub.now pass.old }
     ensures { IsPassOf hub.now pass.new }
 {
     begin(alloc);
-    let mut has_text = shows(rt, alloc, hub, pass, "a");
+    let mut has_text = shows(rt, alloc, hub, pass, text);
     end(alloc);
     if has_text == Err(NO_MEMORY) {
-        has_text = shows(rt, alloc, hub, pass, "a");
+        has_text = shows(rt, alloc, hub, pass, text);
     }
     expect_eq(rt, has_text, Ok(true));
 }
 
+// The board is the star's, is no event, and is no news of an event to the pass that asks for it.
 #[test]
 fn hub_board(rt: HostRuntime) {
-    let (hub, mut a) = hub_of(&rt, rt.alloc(), 1);
-    takes(&rt, rt.alloc(), &hub, &mut a, 1, 0);
+    let alloc = rt.alloc();
+    let (hub, mut a) = hub_of(&rt, alloc, 2);
     let mut b = hub.split(&mut a);
-    shows_first(&rt, rt.alloc(), &hub, &mut a);
+    is_shown(&rt, alloc, &hub, &mut b, "pqr");
+    takes(&rt, alloc, &hub, &mut a, 1, 0);
+    is_shown(&rt, alloc, &hub, &mut b, "apqr");
+    expect_that(&rt, hub.news(&mut b));
+    is_shown(&rt, alloc, &hub, &mut a, "apqr");
     expect_that(&rt, !hub.news(&mut b));
-    expect_eq(&rt, close(&rt, hub, a).events, 1);
+    let star = ends(&rt, alloc, hub, a, 1, &[1]);
+    expect_eq(&rt, star.waiting(2), Some(1));
 }

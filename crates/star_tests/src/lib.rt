@@ -4,11 +4,11 @@
 ghost use Rattle.std.specs.Prelude.{◌≡◌};
 
 #[cfg(test)]
-mod batches;
-#[cfg(test)]
 mod contents;
 #[cfg(test)]
 mod expect;
+#[cfg(test)]
+mod first_edits;
 #[cfg(test)]
 mod growths;
 #[cfg(test)]
@@ -21,9 +21,5 @@ mod hub_growths;
 mod hubs;
 #[cfg(test)]
 mod served;
-#[cfg(test)]
-mod stars;
-#[cfg(test)]
-mod strangers;
 #[cfg(test)]
 mod told;

@@ -2,7 +2,7 @@
 //! Each reply of the hub is the star's.
 use crate::expect::{expect_eq, expect_that};
 use crate::hubs::open_hub;
-use jup_hub::{Hub, Pass};
+use jup_hub::{Hub, HubFault, Pass};
 use jup_star::{Down, Joined, Star, Up};
 use std::alloc::Global;
 use std::marker::Model;
@@ -57,18 +57,17 @@ impl Served {
         joined
     }
 
-    /// A message of a site comes: its place in the order, or the number of its fault.
+    /// A message of a site comes.
     pub(crate) fn takes<R: Abort + Wait>(
         &mut self,
         rt: &R,
         alloc: Global,
         site: u32,
         up: &Up,
-    ) -> Result<Option<u32>, u32> {
-        let taken = self.hub.take(rt, alloc, &mut self.pass, site, up);
-        let answer = taken.map_err(|fault| fault.number());
+    ) -> Result<Option<u32>, HubFault> {
+        let answer = self.hub.take(rt, alloc, &mut self.pass, site, up);
         let due = self.twin.take(alloc, site, up);
-        expect_eq(rt, answer, due.map_err(|fault| fault.number()));
+        expect_eq(rt, answer, due.map_err(HubFault::Star));
         answer
     }
 
@@ -88,7 +87,7 @@ impl Served {
                 downs.into_messages()
             }
             (Err(fault), Err(due)) => {
-                expect_eq(rt, fault.number(), due.number());
+                expect_eq(rt, fault, HubFault::Star(due));
                 Vec::new(alloc)
             }
             _ => panic!(rt; "the hub answers as its star"),
@@ -99,10 +98,6 @@ impl Served {
     pub(crate) fn leaves<R: Abort + Wait>(&mut self, rt: &R, site: u32) {
         let left = self.hub.leave(rt, &mut self.pass, site);
         let due = self.twin.leave(site);
-        expect_eq(
-            rt,
-            left.map_err(|fault| fault.number()),
-            due.map_err(|fault| fault.number()),
-        );
+        expect_eq(rt, left, due.map_err(HubFault::Star));
     }
 }

@@ -1,64 +1,19 @@
-//! The texts that people read of each fault of a link, a site, a star and a hub.
+//! What is printed of a fault: its text. `tools/pages` compares the texts of all faults with the table in `docs/WIRE.md`.
 use crate::expect::expect_eq;
 use jup_hub::HubFault;
 use jup_link::LinkFault;
 use jup_star::{OpenFault, SiteFault, StarFault};
-use std::alloc::Global;
-use std::fmt::Display;
-use std::process::Abort;
 
-// The text of a fault is this.
-fn tells<R: Abort, F: Display>(rt: &R, alloc: Global, fault: &F, due: &str) {
-    let told = format!(in alloc; "{fault}").expect(rt, "memory");
-    expect_eq(rt, told.as_str(), due);
-}
+const DUE: &str = "the site has no link, the order is full, the count of events is spent, \
+    the insertion bears a name of this site, not a number or a board of this site, \
+    not a count that may be acknowledged";
 
 // The hub's text for a refusal of the star is the star's.
 #[test]
-fn each_fault_of_a_star_has_its_text(rt: HostRuntime) {
-    for &(fault, due) in &[
-        (StarFault::NoMemory, "no memory"),
-        (StarFault::BadCount, "not the next operation"),
-        (StarFault::BadAck, "not a count that may be acknowledged"),
-        (StarFault::BadName, "not the next name of the site"),
-        (StarFault::BadOp, "the operation does not fit the board"),
-        (StarFault::NotAnEdit, "the operation is no edit"),
-        (StarFault::Full, "all links are taken"),
-        (StarFault::SitesSpent, "all site numbers are spent"),
-        (StarFault::LogFull, "the order is full"),
-        (StarFault::NoLink, "the site has no link"),
-    ] {
-        tells(&rt, rt.alloc(), &fault, due);
-        tells(&rt, rt.alloc(), &HubFault::Star(fault), due);
-    }
-    let due = "the count of events is spent";
-    tells(&rt, rt.alloc(), &HubFault::Spent, due);
-}
-
-#[test]
-fn each_fault_of_a_site_and_of_a_link_has_its_text(rt: HostRuntime) {
-    for &(fault, due) in &[
-        (SiteFault::NoMemory, "no memory"),
-        (SiteFault::BadCount, "not the next operation"),
-        (SiteFault::BadAck, "not a count that may be acknowledged"),
-        (
-            SiteFault::BadName,
-            "the insertion bears a name of this site",
-        ),
-        (SiteFault::BadOp, "the operation does not fit the board"),
-        (SiteFault::Stopped, "the site has stopped"),
-    ] {
-        tells(&rt, rt.alloc(), &fault, due);
-    }
-    for &(fault, due) in &[
-        (OpenFault::NoMemory, "no memory"),
-        (OpenFault::BadLimit, "the limit is not 1 to 16,777,216"),
-        (OpenFault::BadSite, "not a number or a board of this site"),
-    ] {
-        tells(&rt, rt.alloc(), &fault, due);
-    }
-    let due = "not the next operation";
-    tells(&rt, rt.alloc(), &LinkFault::BadCount, due);
-    let due = "not a count that may be acknowledged";
-    tells(&rt, rt.alloc(), &LinkFault::BadAck, due);
+fn a_fault_is_printed_by_its_text(rt: HostRuntime) {
+    let (star, of_star) = (StarFault::NoLink, HubFault::Star(StarFault::LogFull));
+    let (hub, site) = (HubFault::Spent, SiteFault::BadName);
+    let (opening, link) = (OpenFault::BadSite, LinkFault::BadAck);
+    let told = format!(in rt.alloc(); "{star}, {of_star}, {hub}, {site}, {opening}, {link}");
+    expect_eq(&rt, told.expect(&rt, "memory").as_str(), DUE);
 }

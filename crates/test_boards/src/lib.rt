@@ -1,12 +1,14 @@
-//! What tests share: boards, given as they are printed and read back; batches of one operation; and numbers that look random.
+//! What tests share: boards, given as they are printed and read back; batches of one operation; numbers that look random; and what a crowd does.
 #![tactic(auto)]
 
 ghost use Rattle.std.specs.Prelude.{◌≡◌, [], ◌∷◌, IfSome};
 ghost use Rattle.jup_window.specs.Entries.{EachWidget};
 ghost use Rattle.jup_star.specs.Stars.{IsShort};
 
+mod crowd;
 mod dice;
 
+pub use crowd::{Stranger, any_command};
 pub use dice::Dice;
 use jup_batch::BoardBatch;
 use jup_star::is_short;

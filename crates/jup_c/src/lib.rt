@@ -231,7 +231,11 @@ pub extern "C" fn jup_ask(
 /// The oldest change that was not told: 1, or 0 where there is none.
 #[tactic(auto, using(crate::proofs::Calls::tells_inside, crate::proofs::Calls::nothing_inside))]
 #[unsafe(no_mangle)]
-pub extern "C" fn jup_next_change(alloc: Global, client: &mut JupClient, out: &mut PlainChange) -> u32
+pub extern "C" fn jup_next_change(
+    alloc: Global,
+    client: &mut JupClient,
+    out: &mut PlainChange,
+) -> u32
     ensures told { result ≡ 1 → TellsInside out.new client.old.inside client.new.inside }
     ensures none { result ≢ 1 → changes_inside client.old.inside ≡ [] }
     ensures same { result ≢ 1 → client.new.inside ≡ client.old.inside }

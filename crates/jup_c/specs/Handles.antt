@@ -7,9 +7,9 @@ use base.Stored.{Coded}
 use denote.RawPtr.{Ptr, block_ptr, null_ptr}
 use Rattle.std_heap.specs.contracts.GlobalAllocator.TheImpl.{ghosts}
 use Rattle.std_alloc.specs.Box.Ownership.{box_owns}
-use Rattle.jup_c.specs.Prelude.{Command, BoardOp, Hello, line_bytes, HasRead, Greeting, Session, stage_of, Feeds, MakesEdit, JupCommand, JupChange, Global}
+use Rattle.jup_c.specs.Prelude.{Command, BoardOp, Hello, line_bytes, HasRead, Greeting, Session, stage_of, Feeds, MakesEdit, PlainCommand, PlainChange, Global}
 use Rattle.jup_embed.specs.contracts.client.Client.{the_row}
-use Rattle.jup_c.specs.Numbers.{stage_number, no_stage, stage_fault, SpellAll, Shows}
+use Rattle.jup_embed.specs.Numbers.{stage_number, no_stage, stage_fault, SpellAll, Shows}
 
 -- What a handle owns: nothing where its word is null, and else the client that the word points to, with the right to free it.
 
@@ -49,7 +49,7 @@ EditsInside commands (Some c) (Some d) = MakesEdit commands c d
 EditsInside commands old new = ⊥
 
 -- a client was there, and made an edit of the commands that these numbers spell
-abbrev pub EditsSpelled : List JupCommand → Option Session → Option Session → Type 0
+abbrev pub EditsSpelled : List PlainCommand → Option Session → Option Session → Type 0
 EditsSpelled told old new = (commands : List Command) × SpellAll told commands × EditsInside commands old new
 
 -- how far the session is, and the number of the fault that ended it
@@ -67,6 +67,6 @@ changes_inside None = []
 changes_inside (Some c) = c.changes
 
 -- a client was there, and told the oldest change that it had not told, in these numbers
-abbrev pub TellsInside : JupChange → Option Session → Option Session → Type 0
+abbrev pub TellsInside : PlainChange → Option Session → Option Session → Type 0
 TellsInside change (Some c) (Some d) = (op : BoardOp) × Shows change op × (c ≡ record d { changes = op ∷ d.changes })
 TellsInside change old new = ⊥

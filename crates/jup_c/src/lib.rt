@@ -1,32 +1,27 @@
 //! The client of `jup_embed` for C. The header `c/jup.h` declares these functions and says what each does.
 #![tactic(auto)]
 
-mod changes;
-mod commands;
 mod handle;
-mod kinds;
-mod numbers;
-mod views;
 
-ghost use Rattle.std.specs.Prelude.{◌≡◌, ◌≢◌, ◌≤◌, [], length, take, drop, None, Some, IfSome};
+ghost use Rattle.std.specs.Prelude.{◌≡◌, ◌≢◌, ◌≤◌, [], length, take, drop, None};
 ghost use Rattle.jup_c.specs.Handles.{IsFresh, waiting_in, after_taking, FeedsInside, EditsInside, EditsSpelled, TellsInside, stage_inside, fault_inside, changes_inside};
 
-pub use changes::JupChange;
-use changes::change_of;
-pub use commands::JupCommand;
-use commands::{NO_COMMAND, command_of, read_commands};
 pub use handle::JupClient;
 use jup_batch::MOST_COMMANDS;
-use jup_embed::{Client, copy_label, copy_text, widget_view, window_view};
-use jup_rules::told_text;
-use jup_window::{Command, EditFault};
-use numbers::{
-    BAD_PLACE, CLOSED, NO_MEMORY, NO_STAGE, NO_WIDGET, NO_WINDOW, NOT_OPEN, UNTOLD, fault_of_stage,
-    number_of_edit, number_of_end, number_of_stage,
+use jup_embed::{
+    BAD_PLACE, CLOSED, Client, NO_MEMORY, NO_STAGE, NO_WIDGET, NO_WINDOW, NOT_OPEN, PlainChange,
+    PlainCommand, PlainWidget, copy_bytes, copy_label, copy_text, end_number, outcome_number,
+    read_commands, widget_view, window_view,
 };
+use jup_window::{Command, EditFault};
 use std::alloc::Global;
-pub use views::JupWidget;
-use views::{copy_bytes, widget_of};
+
+// A command in the place of one that was not read yet.
+const NO_COMMAND: Command = Command::Delete {
+    win: 0,
+    wid: 0,
+    place: 0,
+};
 
 /// Opens a client, in the place of the one that was there. Where `watch` is not 0, the changes of its board are kept until they are
 /// asked for.
@@ -71,8 +66,8 @@ pub extern "C" fn jup_stage(alloc: Global, client: &mut JupClient, fault: &mut u
     };
     let stage = held.as_ref().stage();
     client.put(held);
-    *fault = fault_of_stage(stage);
-    number_of_stage(stage)
+    *fault = stage.fault_number();
+    stage.number()
 }
 
 /// Takes bytes that the server sent. A fault ends the session.
@@ -88,7 +83,7 @@ pub extern "C" fn jup_feed(alloc: Global, client: &mut JupClient, bytes: &[u8]) 
     client.put(held);
     match fed {
         Ok(()) => 0,
-        Err(end) => number_of_end(end),
+        Err(end) => end_number(end),
     }
 }
 
@@ -127,12 +122,12 @@ pub extern "C" fn jup_take(alloc: Global, client: &mut JupClient, to: &mut [u8])
 /// Makes one edit of 1 to 32 commands. A refusal changes nothing.
 #[tactic(auto, using(crate::proofs::Calls::edits_spelled))]
 #[unsafe(no_mangle)]
-pub extern "C" fn jup_edit(alloc: Global, client: &mut JupClient, commands: &[JupCommand]) -> u32
+pub extern "C" fn jup_edit(alloc: Global, client: &mut JupClient, commands: &[PlainCommand]) -> u32
     ensures made { result ≡ 0 → EditsSpelled commands.now client.old.inside client.new.inside }
     ensures refused { result ≢ 0 → client.new.inside ≡ client.old.inside }
 {
     match commands {
-        [one] => match command_of(one) {
+        [one] => match one.command() {
             Ok(command) => edit(alloc, client, &[command]),
             Err(fault) => fault,
         },
@@ -141,7 +136,7 @@ pub extern "C" fn jup_edit(alloc: Global, client: &mut JupClient, commands: &[Ju
 }
 
 #[tactic(auto, using(crate::proofs::Calls::edits_spelled))]
-fn edit_many(alloc: Global, client: &mut JupClient, commands: &[JupCommand]) -> u32
+fn edit_many(alloc: Global, client: &mut JupClient, commands: &[PlainCommand]) -> u32
     ensures made { result ≡ 0 → EditsSpelled commands.now client.old.inside client.new.inside }
     ensures refused { result ≢ 0 → client.new.inside ≡ client.old.inside }
 {
@@ -167,7 +162,7 @@ fn edit(alloc: Global, client: &mut JupClient, commands: &[Command]) -> u32
     };
     let edited = held.as_mut().edit(alloc, commands);
     client.put(held);
-    number_of_edit(edited)
+    outcome_number(edited)
 }
 
 /// Asks the server for all that it has.
@@ -178,7 +173,7 @@ pub extern "C" fn jup_ping(alloc: Global, client: &mut JupClient) -> u32 {
     };
     let asked = held.as_mut().ping(alloc);
     client.put(held);
-    number_of_edit(asked)
+    outcome_number(asked)
 }
 
 /// Whether the server has answered the last ping: 1, or 0.
@@ -202,7 +197,7 @@ pub extern "C" fn jup_bye(alloc: Global, client: &mut JupClient) -> u32 {
     };
     let said = held.as_mut().bye(alloc);
     client.put(held);
-    number_of_edit(said)
+    outcome_number(said)
 }
 
 /// Does what a line asks for, as the program `jup` takes it. What that prints is copied as far as there is room, and `told` is its
@@ -221,35 +216,26 @@ pub extern "C" fn jup_ask(
     let Some(mut held) = client.take(alloc) else {
         return CLOSED;
     };
-    let (text, fault) = ask(alloc, held.as_mut(), line);
+    let asked = held.as_mut().ask(alloc, line);
     client.put(held);
-    if let Some(text) = text {
-        *told = text.len();
-        copy_bytes(text.as_slice(), to);
-    }
-    fault
-}
-
-// What a line makes the client tell, and 0 or the number of a fault.
-fn ask(alloc: Global, client: &mut Client, line: &[u8]) -> (Option<Vec<u8>>, u32) {
-    let told = match client.command(alloc, line) {
-        Ok(Some(told)) => told,
-        Ok(None) => return (None, 0),
-        Err(fault) => return (None, number_of_edit(Err(fault))),
-    };
-    let Some(board) = client.board() else {
-        return (None, NOT_OPEN);
-    };
-    match told_text(alloc, &told, board) {
-        Ok(text) => (Some(text), 0),
-        Err(_) => (None, UNTOLD),
+    match asked {
+        Ok(text) => {
+            *told = text.len();
+            copy_bytes(text.as_slice(), to);
+            0
+        }
+        Err(fault) => fault,
     }
 }
 
 /// The oldest change that was not told: 1, or 0 where there is none.
 #[tactic(auto, using(crate::proofs::Calls::tells_inside, crate::proofs::Calls::nothing_inside))]
 #[unsafe(no_mangle)]
-pub extern "C" fn jup_next_change(alloc: Global, client: &mut JupClient, out: &mut JupChange) -> u32
+pub extern "C" fn jup_next_change(
+    alloc: Global,
+    client: &mut JupClient,
+    out: &mut PlainChange,
+) -> u32
     ensures told { result ≡ 1 → TellsInside out.new client.old.inside client.new.inside }
     ensures none { result ≢ 1 → changes_inside client.old.inside ≡ [] }
     ensures same { result ≢ 1 → client.new.inside ≡ client.old.inside }
@@ -261,7 +247,7 @@ pub extern "C" fn jup_next_change(alloc: Global, client: &mut JupClient, out: &m
     client.put(held);
     match change {
         Some(op) => {
-            *out = change_of(&op);
+            *out = PlainChange::of(&op);
             1
         }
         None => 0,
@@ -329,7 +315,7 @@ pub extern "C" fn jup_widget_at(
     client: &mut JupClient,
     window: usize,
     index: usize,
-    out: &mut JupWidget,
+    out: &mut PlainWidget,
 ) -> u32
     ensures { client.new.inside ≡ client.old.inside }
 {
@@ -343,7 +329,7 @@ pub extern "C" fn jup_widget_at(
     client.put(held);
     match view {
         Some(view) => {
-            *out = widget_of(&view);
+            *out = PlainWidget::of(&view);
             0
         }
         None => NO_WIDGET,

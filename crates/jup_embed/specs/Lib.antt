@@ -1,3 +1,4 @@
+pub mod Numbers
 pub mod Prelude
 pub mod Sessions
 pub mod Views

@@ -1,7 +1,7 @@
 -- A session as its client sees it.
 use Rattle.std.specs.Prelude.{ℕ, Bool, true, false, List, [], Option, Some, None, ◌≡◌, Result, Ok, Err, ◌⊎◌, ◌++◌, ◌∷◌, ◌||◌, if◌then◌else◌, length}
 use Rattle.std.specs.List.{flat_map}
-use Rattle.jup_embed.specs.Prelude.{BoardOp, Command, EditFault, edit_fault_number, Made, Line, WireFault, line_bytes, Said, ClientEnd, Heard, ClientState, NoMemory, Wire, Request, Told, Answer, end_of_fault, Phase, EmbedFault}
+use Rattle.jup_embed.specs.Prelude.{BoardOp, Command, EditFault, Made, Line, WireFault, line_bytes, Said, ClientEnd, Heard, ClientState, NoMemory, Wire, Request, Told, Answer, end_of_fault, Phase, EmbedFault}
 use Rattle.jup_batch.specs.Boards.{Windows, after}
 use Rattle.jup_star.specs.Sites.{BoardSite, EditAnswers, edit_reply, is_edit_memory}
 use Rattle.jup_wire.specs.Streams.{Progress, HasRead}
@@ -9,7 +9,6 @@ use Rattle.jup_gather.specs.Gathering.{piece_lines}
 use Rattle.jup_rules.specs.declared.client.Opening.{Opening}
 use Rattle.jup_rules.specs.Clients.{Hears, IsGreeted, HearsWelcome, Answers, Begun, IsHeld, ComesTo}
 use Rattle.jup_rules.specs.Sessions.{said_piece}
-use Rattle.jup_rules.specs.Ends.{client_end_number}
 use Rattle.jup_embed.specs.declared.client.Stage.{Stage}
 use Rattle.jup_embed.specs.declared.phase.Phase.TheVariants as phase
 use Rattle.jup_embed.specs.declared.client.Stage.TheVariants as stage
@@ -89,12 +88,6 @@ pub record Session : Type 0 where
   pub watched : Bool
   pub asked : Option Begun
   pub synced : Bool
-
-abbrev pub embed_fault_number : EmbedFault → ℕ
-embed_fault_number fault.NotOpen = 91
-embed_fault_number (fault.Over end) = client_end_number end
-embed_fault_number (fault.Edit refused) = edit_fault_number refused
-embed_fault_number fault.NoMemory = 8
 
 abbrev pub stage_of : Phase → Stage
 stage_of phase.Greeting = stage.Greeting
@@ -237,6 +230,10 @@ abbrev pub Commands : Result (Option Told) EmbedFault → List ℕ → Session �
 Commands (Ok told) line c d = (asked : Option Request) × ((lines : List (List ℕ)) → IsHeld lines c.asked → ComesTo (lines ++ line ∷ []) asked d.asked)
     × DoesAsked (Ok told) asked (record c { asked = d.asked }) d
 Commands (Err refused) line c d = d ≡ record c { asked = d.asked }
+
+-- the same, whatever the client answers
+abbrev pub DoesLine : List ℕ → Session → Session → Type 0
+DoesLine line c d = (answer : Result (Option Told) EmbedFault) × Commands answer line c d
 
 -- Copies of the board of an open session. A copy takes each operation that the client tells.
 

@@ -1,6 +1,6 @@
 //! Why a call of a client is refused.
 ghost use Rattle.std.specs.Prelude.{◌≡◌};
-ghost use Rattle.jup_embed.specs.Sessions.{embed_fault_number};
+ghost use Rattle.jup_embed.specs.Numbers.{embed_fault_number};
 
 use jup_rules::ClientEnd;
 use jup_window::EditFault;

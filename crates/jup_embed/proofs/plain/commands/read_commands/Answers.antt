@@ -1,6 +1,6 @@
 use Rattle.std.proofs.Common.{arith, refl}
-use Rattle.jup_c.proofs.Calls.{one_more, first_wrong}
-use Rattle.jup_c.proofs.commands.read_commands.Goals as goal
+use Rattle.jup_embed.proofs.Numbers.{one_more, first_wrong}
+use Rattle.jup_embed.proofs.plain.commands.read_commands.Goals as goal
 
 pub returns-in-Err-clause-refused : goal.returns-in-Err-clause-refused
 returns-in-Err-clause-refused c = λ _.

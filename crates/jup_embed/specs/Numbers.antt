@@ -3,28 +3,27 @@ use Rattle.std.specs.Prelude.{ℕ, ◌==◌, ◌||◌, nat_le, if◌then◌else�
 use Rattle.std.specs.Char.{IsScalar}
 use Rattle.jup_limits.specs.Limits.{longest_label}
 use Rattle.jup_value.specs.Labels.{IsLabelText}
-use Rattle.jup_c.specs.Prelude.{Command, BoardOp, JupCommand, JupChange}
+use Rattle.jup_window.specs.Prelude.{Insert, Delete, Relabel}
 use Rattle.jup_window.specs.declared.commands.Value.{Value}
+use Rattle.jup_window.specs.declared.commands.Value.TheVariants.{Char, Label}
+use Rattle.jup_window.specs.declared.commands.Command.TheVariants.{Insert as InsertAt, Delete as DeleteAt, Relabel as RelabelAt, Set as SetValue}
 use Rattle.jup_window.specs.declared.kinds.Setting.{Setting}
+use Rattle.jup_window.specs.declared.kinds.WidgetOp.{WidgetOp}
+use Rattle.jup_window.specs.declared.kinds.WidgetOp.TheVariants.{Text as OnText, List as OnList}
 use Rattle.jup_window.specs.Commands.{command_place}
+use Rattle.jup_window.specs.Kinds.{setting_kind, setting_number, op_setting, IsToldBy}
+use Rattle.jup_wire.specs.Kinds.{kind_number, value_numbers}
 use Rattle.jup_rules.specs.Ends.{client_end_number}
+use Rattle.jup_embed.specs.Prelude.{Command, BoardOp, edit_fault_number, EmbedFault}
+use Rattle.jup_embed.specs.declared.refusals.EmbedFault.TheVariants as fault
 use Rattle.jup_embed.specs.declared.client.Stage.{Stage}
 use Rattle.jup_embed.specs.declared.client.Stage.TheVariants.{Greeting, Opening, Open, Over}
 use Rattle.jup_embed.specs.declared.board_view.WidgetKind.{WidgetKind}
-use Rattle.jup_embed.specs.declared.board_view.WidgetKind.TheVariants.{Text, List as Labels}
-use Rattle.jup_wire.specs.Kinds.{kind_number, value_numbers}
-use Rattle.jup_embed.specs.declared.refusals.EmbedFault.TheVariants.{NotOpen, Over as WasOver, Edit, NoMemory}
-use Rattle.jup_embed.specs.declared.board_view.WidgetView.{WidgetView}
 use Rattle.jup_embed.specs.declared.board_view.WidgetKind.TheVariants as widget
-use Rattle.jup_c.specs.declared.views.JupWidget.{JupWidget}
-use Rattle.jup_embed.specs.Prelude.{edit_fault_number}
-use Rattle.jup_window.specs.Prelude.{Insert, Delete, Relabel}
-use Rattle.jup_embed.specs.declared.refusals.EmbedFault.{EmbedFault}
-use Rattle.jup_window.specs.declared.kinds.WidgetOp.{WidgetOp}
-use Rattle.jup_window.specs.declared.kinds.WidgetOp.TheVariants.{Text as OnText, List as OnList}
-use Rattle.jup_window.specs.declared.commands.Command.TheVariants.{Insert as InsertAt, Delete as DeleteAt, Relabel as RelabelAt, Set as SetValue}
-use Rattle.jup_window.specs.declared.commands.Value.TheVariants.{Char, Label}
-use Rattle.jup_window.specs.Kinds.{setting_kind, setting_number, op_setting, IsToldBy}
+use Rattle.jup_embed.specs.declared.board_view.WidgetView.{WidgetView}
+use Rattle.jup_embed.specs.declared.plain.commands.PlainCommand.{PlainCommand}
+use Rattle.jup_embed.specs.declared.plain.changes.PlainChange.{PlainChange}
+use Rattle.jup_embed.specs.declared.plain.widgets.PlainWidget.{PlainWidget}
 
 -- The numbers of c/jup.h: of each kind of commands, of changes and of widgets, of each stage, and of each answer.
 
@@ -51,8 +50,8 @@ change_kind other = set_kind (op_setting other)
 
 -- what a widget is
 abbrev pub widget_kind : WidgetKind → ℕ
-widget_kind (Text count) = 1
-widget_kind (Labels count) = 2
+widget_kind (widget.Text count) = 1
+widget_kind (widget.List count) = 2
 widget_kind (widget.Value value) = kind_number value
 widget_kind widget.Unknown = 0
 
@@ -67,15 +66,19 @@ stage_number (Over end) = 3
 abbrev pub no_stage : ℕ
 no_stage = 4
 
--- the answers of the library itself, and that of a label that is none
+-- why a call is refused
+abbrev pub embed_fault_number : EmbedFault → ℕ
+embed_fault_number fault.NotOpen = 91
+embed_fault_number (fault.Over end) = client_end_number end
+embed_fault_number (fault.Edit refused) = edit_fault_number refused
+embed_fault_number fault.NoMemory = 8
+
+-- the answers that only clients in other programs have, and that of a label that is none
 abbrev pub bad_label : ℕ
 bad_label = 14
 
 abbrev pub closed : ℕ
 closed = 90
-
-abbrev pub not_open : ℕ
-not_open = 91
 
 abbrev pub bad_command : ℕ
 bad_command = 92
@@ -92,69 +95,67 @@ abbrev pub stage_fault : Stage → ℕ
 stage_fault (Over end) = end_answer (client_end_number end)
 stage_fault other = 0
 
--- of a refused call
+-- of a refused call: the number of its fault, and the answer of the end if the session is over
 abbrev pub refusal_answer : EmbedFault → ℕ
-refusal_answer NotOpen = not_open
-refusal_answer (WasOver end) = end_answer (client_end_number end)
-refusal_answer (Edit refused) = edit_fault_number refused
-refusal_answer NoMemory = 8
+refusal_answer (fault.Over end) = end_answer (client_end_number end)
+refusal_answer refused = embed_fault_number refused
 
 -- of a call that was done or refused
 abbrev pub answer : Result (Unit {0}) EmbedFault → ℕ
 answer (Ok done) = 0
 answer (Err refused) = refusal_answer refused
 
--- Commands, changes and widgets as C passes them, in numbers.
+-- Commands, changes and widgets in numbers.
 
 -- the bytes that a command has of a label
-abbrev pub label_bytes : JupCommand → List ℕ
+abbrev pub label_bytes : PlainCommand → List ℕ
 label_bytes told = take told.label_len told.label
 
 -- a command has this label
-pub record HasLabel (told : JupCommand) (label : List ℕ) : Type 0 where
+pub record HasLabel (told : PlainCommand) (label : List ℕ) : Type 0 where
   pub fits : told.label_len ≤ length told.label
   pub bytes : label_bytes told ≡ label
   pub text : IsLabelText label
 
-abbrev pub HasValue : JupCommand → Value → Type 0
+abbrev pub HasValue : PlainCommand → Value → Type 0
 HasValue told (Char value) = (told.value ≡ pos value) × IsScalar value
 HasValue told (Label label) = HasLabel told label
 
 -- the fields that the kind of the command uses beside the ids
-abbrev pub HasFields : JupCommand → Command → Type 0
+abbrev pub HasFields : PlainCommand → Command → Type 0
 HasFields told (InsertAt win wid place value) = (told.place ≡ place) × HasValue told value
 HasFields told (DeleteAt win wid place) = told.place ≡ place
 HasFields told (RelabelAt win wid place label) = (told.place ≡ place) × HasLabel told label
 HasFields told (SetValue win wid setting) = IsToldBy setting told.value
 
 -- these numbers spell the command
-pub record Spells (told : JupCommand) (command : Command) : Type 0 where
+pub record Spells (told : PlainCommand) (command : Command) : Type 0 where
   pub kind : told.kind ≡ command_kind command
   pub ids : (told.win, told.wid) ≡ command_place command
   pub fields : HasFields told command
 
 -- the answer for numbers that are no command: what is wrong is the label, if their kind has one
-abbrev pub wrong_part : JupCommand → ℕ
+abbrev pub wrong_part : PlainCommand → ℕ
 wrong_part told = if told.kind == 2 || told.kind == 4 then bad_label else bad_command
 
 -- these numbers are no command, and this is the answer
-pub record IsWrong (fault : ℕ) (told : JupCommand) : Type 0 where
+pub record IsWrong (fault : ℕ) (told : PlainCommand) : Type 0 where
   pub none : (command : Command) → Spells told command → ⊥
   pub answer : fault ≡ wrong_part told
 
 -- these numbers spell the commands, one after the other
-abbrev pub SpellAll : List JupCommand → List Command → Type 0
+abbrev pub SpellAll : List PlainCommand → List Command → Type 0
 SpellAll [] [] = Unit {0}
 SpellAll (told ∷ rest) (command ∷ commands) = Spells told command × SpellAll rest commands
 SpellAll told commands = ⊥
 
 -- of these numbers the first that are no command have this answer
-abbrev pub IsFirstWrong : ℕ → List JupCommand → Type 0
+abbrev pub IsFirstWrong : ℕ → List PlainCommand → Type 0
 IsFirstWrong fault [] = ⊥
 IsFirstWrong fault (told ∷ rest) = IsWrong fault told ⊎ ((command : Command) × Spells told command × IsFirstWrong fault rest)
 
 -- a change of which only the kind and the ids of the widget are known
-abbrev pub bare_change : ℕ → BoardOp → JupChange
+abbrev pub bare_change : ℕ → BoardOp → PlainChange
 bare_change kind op = record { kind = kind; win = op.win; wid = op.wid; place = 0; site = 0; number = 0; value = pos 0; label_len = 0; label = replicate longest_label 0 }
 
 -- where it was in the text or the list, and 0 in other widgets
@@ -191,7 +192,7 @@ change_label (OnList (Relabel place name label)) = label
 change_label other = []
 
 -- a change shows what this operation did
-pub record Shows (change : JupChange) (op : BoardOp) : Type 0 where
+pub record Shows (change : PlainChange) (op : BoardOp) : Type 0 where
   pub kind : change.kind ≡ change_kind op.op
   pub win : change.win ≡ op.win
   pub wid : change.wid ≡ op.wid
@@ -221,7 +222,7 @@ widget_value (widget.Value value) = (value_numbers value).2
 widget_value other = pos 0
 
 -- a widget in numbers is this widget
-pub record IsWidget (widget : JupWidget) (view : WidgetView) : Type 0 where
+pub record IsWidget (widget : PlainWidget) (view : WidgetView) : Type 0 where
   pub kind : widget.kind ≡ widget_kind view.kind
   pub win : widget.win ≡ view.win
   pub wid : widget.wid ≡ view.wid

@@ -1,0 +1,17 @@
+//! The client's values in plain numbers, for callers in languages without enums. `c/jup.h` has these numbers by name.
+
+mod changes;
+mod commands;
+mod kinds;
+mod numbers;
+mod texts;
+mod widgets;
+
+pub use changes::PlainChange;
+pub use commands::{PlainCommand, read_commands};
+pub use numbers::{
+    BAD_PLACE, CLOSED, NO_MEMORY, NO_STAGE, NO_WIDGET, NO_WINDOW, NOT_OPEN, end_number,
+    outcome_number,
+};
+pub use texts::copy_bytes;
+pub use widgets::PlainWidget;

@@ -1,14 +1,13 @@
 -- What numbers say.
-use Rattle.std.proofs.Common.{◌≢◌, arith, ◌≡◌, ℕ, sym, refl, subst, List, [], ◌∷◌, zero, suc, ◌+◌, ◌<◌, take, length, slice_index_or, slice_set, inl, inr, add-one}
+use Rattle.std.proofs.Common.{◌≢◌, arith, ◌≡◌, ℕ, sym, subst, List, [], ◌∷◌, zero, suc, ◌+◌, ◌<◌, take, length, slice_index_or, slice_set, inl, inr, add-one}
 use Rattle.jup_window.specs.declared.faults.EditFault.TheVariants.{NoWindow, NoWidget, WrongKind, BadPlace, BadValue, LongText, Backlog, NoMemory, Spent, BadBatch, Stopped}
-use Rattle.jup_embed.specs.Prelude.{Command, EditFault, edit_fault_number, ClientEnd, EmbedFault}
-use Rattle.jup_embed.specs.declared.refusals.EmbedFault.TheVariants as fault
+use Rattle.jup_embed.specs.Prelude.{Command, EditFault, edit_fault_number}
 use Rattle.jup_embed.specs.declared.plain.commands.PlainCommand.{PlainCommand}
-use Rattle.jup_embed.specs.Numbers.{embed_fault_number, SpellAll, Spells, IsWrong, IsFirstWrong}
+use Rattle.jup_embed.specs.Numbers.{SpellAll, Spells, IsWrong, IsFirstWrong}
 
--- No fault has the number 0, but a server can end a session with it.
+-- No fault of an edit has the number 0.
 
-some_fault : (refused : EditFault) → edit_fault_number refused ≢ 0
+pub some_fault : (refused : EditFault) → edit_fault_number refused ≢ 0
 some_fault NoWindow = λ e. omega (arith, e)
 some_fault NoWidget = λ e. omega (arith, e)
 some_fault WrongKind = λ e. omega (arith, e)
@@ -20,12 +19,6 @@ some_fault NoMemory = λ e. omega (arith, e)
 some_fault Spent = λ e. omega (arith, e)
 some_fault BadBatch = λ e. omega (arith, e)
 some_fault Stopped = λ e. omega (arith, e)
-
-pub some_number : (refused : EmbedFault) → ((end : ClientEnd) → refused ≡ fault.Over end → ⊥) → embed_fault_number refused ≢ 0
-some_number fault.NotOpen goes_on = λ e. omega (arith, e)
-some_number (fault.Over end) goes_on = absurd (goes_on end refl)
-some_number (fault.Edit refused) goes_on = some_fault refused
-some_number fault.NoMemory goes_on = λ e. omega (arith, e)
 
 -- Commands that are read one after the other.
 

@@ -16,7 +16,7 @@ use Rattle.jup_rules.specs.declared.client.Told.TheVariants.{Synced, Bye as Said
 use Rattle.jup_rules.specs.declared.client.Told.TheVariants as told
 use Rattle.jup_rules.specs.Clients.{saying, IsHeld, ComesTo, AnswersEdit, Answers, edit_answer, telling, Hears, HearsDown, down_heard, heard_answer}
 use Rattle.jup_embed.specs.declared.phase.Phase.TheVariants as phase
-use Rattle.jup_embed.specs.Sessions.{kept, operations_in, operations_said, said_bytes, PhaseHears, Session, HearsLine, HearsLines, EditedIn, MakesEdit, AnsweredIn, IsDone, DoesAsked, Commands, DoesLine, still_synced, KeepsRest, RefusesLine, HearsUpTo, ReadsOn, Ends, board_in, Feeds, LacksUntold, KeepsCopies}
+use Rattle.jup_embed.specs.Sessions.{kept, operations_in, operations_said, said_bytes, PhaseHears, Session, HearsLine, HearsLines, EditedIn, MakesEdit, AnsweredIn, IsDone, DoesAsked, Commands, still_synced, KeepsRest, RefusesLine, HearsUpTo, ReadsOn, Ends, board_in, Feeds, LacksUntold, KeepsCopies}
 use Rattle.jup_embed.specs.Views.{values_of}
 use Rattle.jup_rules.specs.Prelude.{BoardBatch, UpPing, Down, SiteFault}
 use Rattle.jup_batch.specs.Prelude.{boards}
@@ -148,9 +148,6 @@ commanded_so line asked (Ok told) c m d comes same stays does = (
   λ lines held. subst (λ a. ComesTo (lines ++ line ∷ []) asked a) (sym stays) (comes lines held),
   subst (λ (s : Session). DoesAsked (Ok told) asked s d) (same ∙ ap (λ a. record c { asked = a }) (sym stays)) does,
 )
-
-pub line_done : (answer : Result (Option Told) EmbedFault) (line : List ℕ) (c d : Session) → Commands answer line c d → DoesLine line c d
-line_done answer line c d commands = (answer, commands)
 
 hears_behind : (lines : List Line) (line : Line) (a b c : Session) → HearsLines lines a b → HearsLine line b c → HearsLines (lines ++ line ∷ []) a c
 hears_behind [] line a b c none one = (c, subst (λ (s : Session). HearsLine line s c) none one, refl)

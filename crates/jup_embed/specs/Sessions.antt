@@ -231,10 +231,6 @@ Commands (Ok told) line c d = (asked : Option Request) × ((lines : List (List �
     × DoesAsked (Ok told) asked (record c { asked = d.asked }) d
 Commands (Err refused) line c d = d ≡ record c { asked = d.asked }
 
--- the same, whatever the client answers
-abbrev pub DoesLine : List ℕ → Session → Session → Type 0
-DoesLine line c d = (answer : Result (Option Told) EmbedFault) × Commands answer line c d
-
 -- Copies of the board of an open session. A copy takes each operation that the client tells.
 
 -- what a copy lacks of the board is what the client has not told

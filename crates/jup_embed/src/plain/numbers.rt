@@ -55,7 +55,7 @@ pub fn end_number(end: ClientEnd) -> u32
 }
 
 /// 0 of a call that was done, or the number of its fault.
-#[tactic(auto, using(crate::proofs::Numbers::some_number))]
+#[tactic(auto, using(crate::proofs::Numbers::some_fault))]
 pub fn outcome_number(outcome: Result<(), EmbedFault>) -> u32
     ensures answer { result ≡ answer outcome }
     ensures refused { result ≢ 0 → IsErr outcome }
@@ -64,7 +64,9 @@ pub fn outcome_number(outcome: Result<(), EmbedFault>) -> u32
     match outcome {
         Ok(()) => 0,
         Err(EmbedFault::Over(end)) => end_number(end),
-        Err(fault) => fault.number(),
+        Err(EmbedFault::Edit(fault)) => fault.number(),
+        Err(EmbedFault::NotOpen) => NOT_OPEN,
+        Err(EmbedFault::NoMemory) => NO_MEMORY,
     }
 }
 

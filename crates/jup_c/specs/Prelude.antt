@@ -1,11 +1,10 @@
 -- What files of this crate cite most: names of the crates below. Declares nothing.
 pub use Rattle.jup_window.specs.declared.board_operations.BoardOp.{BoardOp}
-pub use Rattle.jup_window.specs.declared.commands.Command.{Command}
 pub use Rattle.jup_wire.specs.declared.line.Line.TheVariants.{Hello}
 pub use Rattle.jup_wire.specs.Lines.{line_bytes}
 pub use Rattle.jup_wire.specs.Streams.{HasRead}
 pub use Rattle.jup_embed.specs.declared.phase.Phase.TheVariants.{Greeting}
-pub use Rattle.jup_embed.specs.Sessions.{Feeds, MakesEdit, Session, stage_of}
+pub use Rattle.jup_embed.specs.Sessions.{Feeds, Session, stage_of}
 pub use Rattle.jup_embed.specs.declared.plain.changes.PlainChange.{PlainChange}
 pub use Rattle.jup_embed.specs.declared.plain.commands.PlainCommand.{PlainCommand}
 pub use Rattle.std.specs.declared.alloc.Global.{Global}

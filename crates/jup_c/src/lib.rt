@@ -4,24 +4,16 @@
 mod handle;
 
 ghost use Rattle.std.specs.Prelude.{◌≡◌, ◌≢◌, ◌≤◌, [], length, take, drop, None};
-ghost use Rattle.jup_c.specs.Handles.{IsFresh, waiting_in, after_taking, FeedsInside, EditsInside, EditsSpelled, TellsInside, stage_inside, fault_inside, changes_inside};
+ghost use Rattle.jup_embed.specs.Numbers.{closed};
+ghost use Rattle.jup_c.specs.Handles.{IsFresh, waiting_in, after_taking, FeedsInside, EditsInside, TellsInside, stage_inside, fault_inside, changes_inside};
 
 pub use handle::JupClient;
-use jup_batch::MOST_COMMANDS;
 use jup_embed::{
     BAD_PLACE, CLOSED, Client, NO_MEMORY, NO_STAGE, NO_WIDGET, NO_WINDOW, NOT_OPEN, PlainChange,
     PlainCommand, PlainWidget, copy_bytes, copy_label, copy_text, end_number, outcome_number,
-    read_commands, widget_view, window_view,
+    widget_view, window_view,
 };
-use jup_window::{Command, EditFault};
 use std::alloc::Global;
-
-// A command in the place of one that was not read yet.
-const NO_COMMAND: Command = Command::Delete {
-    win: 0,
-    wid: 0,
-    place: 0,
-};
 
 /// Opens a client, in the place of the one that was there. Where `watch` is not 0, the changes of its board are kept until they are
 /// asked for.
@@ -120,49 +112,20 @@ pub extern "C" fn jup_take(alloc: Global, client: &mut JupClient, to: &mut [u8])
 }
 
 /// Makes one edit of 1 to 32 commands. A refusal changes nothing.
-#[tactic(auto, using(crate::proofs::Calls::edits_spelled))]
+#[tactic(auto, using(crate::proofs::Calls::edits_inside, crate::proofs::Calls::over_inside, crate::proofs::Calls::none_over))]
 #[unsafe(no_mangle)]
 pub extern "C" fn jup_edit(alloc: Global, client: &mut JupClient, commands: &[PlainCommand]) -> u32
-    ensures made { result ≡ 0 → EditsSpelled commands.now client.old.inside client.new.inside }
-    ensures refused { result ≢ 0 → client.new.inside ≡ client.old.inside }
-{
-    match commands {
-        [one] => match one.command() {
-            Ok(command) => edit(alloc, client, &[command]),
-            Err(fault) => fault,
-        },
-        commands => edit_many(alloc, client, commands),
-    }
-}
-
-#[tactic(auto, using(crate::proofs::Calls::edits_spelled))]
-fn edit_many(alloc: Global, client: &mut JupClient, commands: &[PlainCommand]) -> u32
-    ensures made { result ≡ 0 → EditsSpelled commands.now client.old.inside client.new.inside }
-    ensures refused { result ≢ 0 → client.new.inside ≡ client.old.inside }
-{
-    if commands.len() > MOST_COMMANDS {
-        return EditFault::BadBatch.number();
-    }
-    let mut all = [NO_COMMAND; MOST_COMMANDS];
-    let read = &mut all[..commands.len()];
-    let fault = read_commands(commands, read);
-    if fault != 0 {
-        return fault;
-    }
-    edit(alloc, client, read)
-}
-
-#[tactic(auto, using(crate::proofs::Calls::edits_inside))]
-fn edit(alloc: Global, client: &mut JupClient, commands: &[Command]) -> u32
     ensures made { result ≡ 0 → EditsInside commands.now client.old.inside client.new.inside }
     ensures refused { result ≢ 0 → client.new.inside ≡ client.old.inside }
+    ensures nobody { client.old.inside ≡ None → result ≡ closed }
+    ensures over { fault_inside client.old.inside ≢ 0 → result ≡ fault_inside client.old.inside }
 {
     let Some(mut held) = client.take(alloc) else {
         return CLOSED;
     };
-    let edited = held.as_mut().edit(alloc, commands);
+    let outcome = held.as_mut().edit_plain(alloc, commands);
     client.put(held);
-    outcome_number(edited)
+    outcome
 }
 
 /// Asks the server for all that it has.

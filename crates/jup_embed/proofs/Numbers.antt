@@ -3,7 +3,8 @@ use Rattle.std.proofs.Common.{◌≢◌, arith, ◌≡◌, ℕ, sym, subst, List
 use Rattle.jup_window.specs.declared.faults.EditFault.TheVariants.{NoWindow, NoWidget, WrongKind, BadPlace, BadValue, LongText, Backlog, NoMemory, Spent, BadBatch, Stopped}
 use Rattle.jup_embed.specs.Prelude.{Command, EditFault, edit_fault_number}
 use Rattle.jup_embed.specs.declared.plain.commands.PlainCommand.{PlainCommand}
-use Rattle.jup_embed.specs.Numbers.{SpellAll, Spells, IsWrong, IsFirstWrong}
+use Rattle.jup_embed.specs.Sessions.{Session, MakesEdit}
+use Rattle.jup_embed.specs.Numbers.{SpellAll, Spells, IsWrong, IsFirstWrong, MakesSpelled}
 
 -- No fault of an edit has the number 0.
 
@@ -46,3 +47,8 @@ first_wrong zero (first ∷ from) to told fault within before is = inl is
 first_wrong (suc k) (first ∷ from) [] told fault within before is = absurd before
 first_wrong (suc k) (first ∷ from) (command ∷ to) told fault within before is =
     inr (command, before.0, first_wrong k from to told fault (omega (arith, within)) before.1 is)
+
+-- An edit of commands that numbers spell.
+
+pub spelled_edit : (told : List PlainCommand) (commands : List Command) (c d : Session) → SpellAll told commands → MakesEdit commands c d → MakesSpelled told c d
+spelled_edit told commands c d are edits = (commands, are, edits)

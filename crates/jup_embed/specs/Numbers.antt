@@ -15,6 +15,7 @@ use Rattle.jup_window.specs.Kinds.{setting_kind, setting_number, op_setting, IsT
 use Rattle.jup_wire.specs.Kinds.{kind_number, value_numbers}
 use Rattle.jup_rules.specs.Ends.{client_end_number}
 use Rattle.jup_embed.specs.Prelude.{Command, BoardOp, edit_fault_number, EmbedFault}
+use Rattle.jup_embed.specs.Sessions.{Session, MakesEdit}
 use Rattle.jup_embed.specs.declared.refusals.EmbedFault.TheVariants as fault
 use Rattle.jup_embed.specs.declared.client.Stage.{Stage}
 use Rattle.jup_embed.specs.declared.client.Stage.TheVariants.{Greeting, Opening, Open, Over}
@@ -148,6 +149,10 @@ abbrev pub SpellAll : List PlainCommand → List Command → Type 0
 SpellAll [] [] = Unit {0}
 SpellAll (told ∷ rest) (command ∷ commands) = Spells told command × SpellAll rest commands
 SpellAll told commands = ⊥
+
+-- an edit of the commands that these numbers spell
+abbrev pub MakesSpelled : List PlainCommand → Session → Session → Type 0
+MakesSpelled told c d = (commands : List Command) × SpellAll told commands × MakesEdit commands c d
 
 -- of these numbers the first that are no command have this answer
 abbrev pub IsFirstWrong : ℕ → List PlainCommand → Type 0

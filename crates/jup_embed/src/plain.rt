@@ -8,7 +8,7 @@ mod texts;
 mod widgets;
 
 pub use changes::PlainChange;
-pub use commands::{PlainCommand, read_commands};
+pub use commands::PlainCommand;
 pub use numbers::{
     BAD_PLACE, CLOSED, NO_MEMORY, NO_STAGE, NO_WIDGET, NO_WINDOW, NOT_OPEN, end_number,
     outcome_number,

@@ -90,11 +90,10 @@ fn stranger_goes_on(
 
 // What the site makes next: an edit of one or two commands, both of the board as it is.
 fn edit(rt: &impl Abort, alloc: Global, dice: &mut Dice, board: &Board) -> MixEvent {
-    let (one, two) = (any_command(dice, board), any_command(dice, board));
     let commands = if dice.once_in(2) {
-        Few::from_slice(alloc, &[one])
+        Few::from_slice(alloc, &[any_command(dice, board)])
     } else {
-        Few::from_slice(alloc, &[one, two])
+        Few::from_slice(alloc, &[any_command(dice, board), any_command(dice, board)])
     };
     MixEvent::Edit(commands.expect(rt, "memory"))
 }

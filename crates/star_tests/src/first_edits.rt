@@ -50,11 +50,15 @@ pub(crate) fn insertion(site: u32) -> BoardOp {
     on_text(SeqOp::Insert { place: 0, item })
 }
 
+// The deletion of the p after that insertion.
+fn deletion() -> BoardOp {
+    let name = Name { site: 0, number: 1 };
+    on_text(SeqOp::Delete { place: 1, name })
+}
+
 /// That insertion and then the deletion of the p, as one edit.
 pub(crate) fn replacement(rt: &impl Abort, alloc: Global, site: u32) -> BoardBatch {
-    let name = Name { site: 0, number: 1 };
-    let deletion = on_text(SeqOp::Delete { place: 1, name });
-    Batch::from_slice(alloc, &[insertion(site), deletion]).expect(rt, "memory")
+    Batch::from_slice(alloc, &[insertion(site), deletion()]).expect(rt, "memory")
 }
 
 /// The message of an edit that is the first on a link.

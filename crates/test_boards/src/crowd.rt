@@ -146,13 +146,13 @@ impl Stranger {
 
     // An edit of one operation, and at times of one more insertion.
     fn batch(&self, alloc: Global, dice: &mut Dice, board: &Board) -> Result<BoardBatch, NoMemory> {
-        let first = on_text(self.operation(dice, board));
+        let first = self.operation(dice, board);
         if !dice.once_in(4) {
-            return Ok(alone(alloc, first));
+            return Ok(alone(alloc, on_text(first)));
         }
-        let named = self.named.saturating_add(all_insertions(&[first]));
-        let next = on_text(self.insertion(dice, board, named));
-        Batch::from_slice(alloc, &[first, next])
+        let named = all_insertions(&[on_text(first)]);
+        let next = self.insertion(dice, board, self.named.saturating_add(named));
+        Batch::from_slice(alloc, &[on_text(first), on_text(next)])
     }
 
     /// What it sends next to this star: mostly an edit.

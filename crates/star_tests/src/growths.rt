@@ -165,24 +165,30 @@ fn edits(rt: &impl Abort, alloc: Global, commands: &[Command], letters: &str) {
     expect_that(rt, reads(site.board(), letters) && site.backlog() == 1);
 }
 
+const INSERTION: Command = Command::Insert {
+    win: 1,
+    wid: 1,
+    place: 0,
+    value: Value::Char('a'),
+};
+
+const DELETION: Command = Command::Delete {
+    win: 1,
+    wid: 1,
+    place: 1,
+};
+
+const SWITCH: Command = Command::Set {
+    win: 1,
+    wid: 3,
+    setting: Setting::Toggle(true),
+};
+
 // By `edit`, and by `edit_batch`.
 #[test]
 fn site_edit(rt: HostRuntime) {
-    let (win, wid) = (1, 1);
-    let insertion = Command::Insert {
-        win,
-        wid,
-        place: 0,
-        value: Value::Char('a'),
-    };
-    let deletion = Command::Delete { win, wid, place: 1 };
-    let switch = Command::Set {
-        win,
-        wid: 3,
-        setting: Setting::Toggle(true),
-    };
-    edits(&rt, rt.alloc(), &[insertion], "apqr");
-    edits(&rt, rt.alloc(), &[insertion, deletion, switch], "aqr");
+    edits(&rt, rt.alloc(), &[INSERTION], "apqr");
+    edits(&rt, rt.alloc(), &[INSERTION, DELETION, SWITCH], "aqr");
 }
 
 // A site receives an edit of site 2, and shows it. If an allocation failed first, it showed nothing of it.

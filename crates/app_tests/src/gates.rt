@@ -128,7 +128,7 @@ fn crosswise(rt: HostRuntime) {
         first: AtomicU64::new(0),
         second: AtomicU64::new(0),
     };
-    let end = ran_two(&rt, alloc, &script, &gate);
+    let end = ran_two(&rt, alloc, &script, &script, &gate);
     has(&rt, &end, 2, 4, 4);
     expect_eq(&rt, first_sites(&end), (Some(2), Some(1)));
 }

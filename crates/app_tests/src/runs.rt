@@ -31,8 +31,15 @@ const INSERTION: Command = Command::Insert {
     value: Value::Char('a'),
 };
 
-/// The deletion of an item where there is none.
+/// The deletion of the text's first item.
 const DELETION: Command = Command::Delete {
+    win: 1,
+    wid: 1,
+    place: 0,
+};
+
+/// The deletion of an item where there is none.
+const FAR_DELETION: Command = Command::Delete {
     win: 1,
     wid: 1,
     place: 1_000,
@@ -67,7 +74,7 @@ pub(crate) fn scripts(
 fn mixed_script(rt: &impl Abort, alloc: Global) -> Vec<Command> {
     let _within: Within = PhantomData;
     let mut script = Vec::new(alloc);
-    script.push(DELETION).expect(rt, "memory");
+    script.push(FAR_DELETION).expect(rt, "memory");
     for k in 0..2_200u32 {
         let setting = Setting::Toggle(k % 2 == 0);
         let (win, wid) = (1, 2);
@@ -80,14 +87,15 @@ fn mixed_script(rt: &impl Abort, alloc: Global) -> Vec<Command> {
     script
 }
 
-// The outcome of a run of two sites with one script on the blank board.
+// The outcome of a run of two sites on the blank board.
 pub(crate) fn ran_two<R: Threads + Wait + Sync + Abort, G: Gate + Sync>(
     rt: &R,
     alloc: Global,
-    script: &[Command],
+    first: &[Command],
+    second: &[Command],
     gate: &G,
 ) -> RunEnd {
-    let run = run_two(rt, alloc, blank(rt, alloc), LIMIT, script, script, gate);
+    let run = run_two(rt, alloc, blank(rt, alloc), LIMIT, first, second, gate);
     run.expect(rt, "a run that ends")
 }
 
@@ -147,10 +155,28 @@ fn tells_the_order(end: &SiteEnd, order: &[Entry]) -> bool {
 fn two_sites_agree(rt: HostRuntime) {
     let alloc = rt.alloc();
     let script = mixed_script(&rt, alloc);
-    let end = ran_two(&rt, alloc, &script, &Open);
+    let end = ran_two(&rt, alloc, &script, &script, &Open);
     has(&rt, &end, 2, 4_400, 400);
     for site in &end.sites {
         expect_eq(&rt, site.replies.len(), 2_201);
+        expect_that(&rt, tells_the_order(site, end.star.order()));
+    }
+}
+
+// How many replies each of the first two sites got.
+fn replies(end: &RunEnd) -> (Option<usize>, Option<usize>) {
+    let mut counts = end.sites.iter().map(|site| site.replies.len());
+    (counts.next(), counts.next())
+}
+
+// The first deletion finds an empty text, and the second the inserted letter.
+#[test]
+fn a_site_without_commands_agrees(rt: HostRuntime) {
+    let script = [DELETION, INSERTION, DELETION];
+    let end = ran_two(&rt, rt.alloc(), &script, &[], &Open);
+    has(&rt, &end, 2, 2, 0);
+    expect_eq(&rt, replies(&end), (Some(3), Some(0)));
+    for site in end.sites.iter().take(1) {
         expect_that(&rt, tells_the_order(site, end.star.order()));
     }
 }

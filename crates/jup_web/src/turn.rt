@@ -28,25 +28,30 @@ impl<'a, R: Wait> InTurn<'a, R> {
         }
     }
 
-    // Puts all that is given, while nothing else goes out. A write that takes less than all has waited for a second, so there are only so
-    // many of them.
+    // Puts all that is given, while nothing else goes out.
     fn put(&mut self, buf: &[u8]) -> io::Result<usize>
         ensures { IfOk result (λ n. n ≡ length buf.now) }
     {
         let _mine = self.turn.lock(self.rt);
-        let mut rest = buf;
-        for _ in 0..BROWSER_PATIENCE {
-            match self.to.write(rest) {
-                Ok(len) if len == rest.len() => return Ok(buf.len()),
-                Ok(len) => rest = &rest[len..],
-                Err(error) if is_interrupted(&error) => {}
-                Err(error) => return Err(error),
-            }
-        }
-        // A flush after such a write gives a socket up.
-        self.to.flush()?;
-        Err(io::Error::from(ErrorKind::TimedOut))
+        put_whole(&mut self.to, buf)?;
+        Ok(buf.len())
     }
+}
+
+// Puts all that is given. A write that takes less than all has waited for a second, so there are only so many of them.
+fn put_whole(to: &mut Outgoing<'_>, buf: &[u8]) -> io::Result<()> {
+    let mut rest = buf;
+    for _ in 0..BROWSER_PATIENCE {
+        match to.write(rest) {
+            Ok(len) if len == rest.len() => return Ok(()),
+            Ok(len) => rest = &rest[len..],
+            Err(error) if is_interrupted(&error) => {}
+            Err(error) => return Err(error),
+        }
+    }
+    // A flush after such a write gives a socket up.
+    to.flush()?;
+    Err(io::Error::from(ErrorKind::TimedOut))
 }
 
 impl<'a, R: Wait> Write for InTurn<'a, R> {

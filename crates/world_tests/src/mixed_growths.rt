@@ -1,7 +1,7 @@
 //! Failed allocations in a star with strangers, each test for the call of its name. `./growths` makes one after another of the allocations between
 //! two marks fail. An event that fails leaves all that is seen as before, and gives its answer if it is played again.
 use crate::expect::{expect_eq, expect_that};
-use crate::runs::{deleting_twice, filling, refusals, typing};
+use crate::mixed_runs::{deleting_twice, filling, refusals, typing};
 use jup_mixed::{MixEvent, MixHappened, Mixed};
 use jup_star::OpenFault;
 use jup_text::write_board;

@@ -74,7 +74,7 @@ impl Unsent {
         ensures same { self.new.bytes ≡ self.old.bytes }
         ensures room { OnOk result (MOST_MESSAGE ≤ self.new.room) }
     {
-        self.text.reserve(MOST_MESSAGE).map_err(|_| NoMemory)
+        Ok(self.text.reserve(MOST_MESSAGE)?)
     }
 
     /// Puts the lines of what the client says, if anything. There is room for them.

@@ -159,9 +159,5 @@ fn origins_of(
 
 /// The bytes of texts.
 pub(crate) fn slices(alloc: Global, texts: &[String]) -> Result<Vec<&[u8]>, AllocError> {
-    let mut slices = Vec::new(alloc);
-    for text in texts {
-        slices.push(text.as_bytes())?;
-    }
-    Ok(slices)
+    texts.iter().map(|text| text.as_bytes()).collect(alloc)
 }

@@ -48,7 +48,7 @@ pub(crate) fn serve_connection<R: Threads + Wait + Clock + Eprint + Sync>(
             }
         }
         Ok((_, Head::Request(request))) => {
-            let _ = answer(service, stream, request);
+            let _ = answer(rt, service, stream, request);
         }
         Err(_) => {}
     }
@@ -131,13 +131,18 @@ fn serve_lines<R: Threads + Wait + Clock + Eprint + Sync>(
 }
 
 // Answers a request that does not ask for a link.
-fn answer(service: &Service<'_>, stream: &TcpStream, request: Request) -> io::Result<()> {
+fn answer<R: Wait>(
+    rt: &R,
+    service: &Service<'_>,
+    stream: &TcpStream,
+    request: Request,
+) -> io::Result<()> {
     let mut to = Outgoing::new(stream, BROWSER_PATIENCE);
     match request {
         Request::Page => send(service.alloc, &mut to, Media::Html, service.page),
         Request::Captions => send(service.alloc, &mut to, Media::Plain, service.captions),
         Request::Who => {
-            let links = service.connections.count_links();
+            let links = service.connections.count_links(rt);
             let text = format!(in service.alloc; "{links}\n")?;
             send(service.alloc, &mut to, Media::Plain, text.as_bytes())
         }

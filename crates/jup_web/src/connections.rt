@@ -2,7 +2,6 @@
 
 use std::array;
 use std::net::{Shutdown, TcpStream};
-use std::sync::atomic::{AtomicU64, Ordering};
 use std::sync::{Mutex, Wait};
 
 /// Connections that may be open at a time: 64 links, and as many that ask for a page or have not shown yet what they are.
@@ -13,14 +12,14 @@ const MOST_OPEN: usize = 128;
 pub(crate) struct Connections {
     sockets: Mutex<[Option<TcpStream>; MOST_OPEN]>,
     /// How many of them are links.
-    links: AtomicU64,
+    links: Mutex<u32>,
 }
 
 impl Connections {
     pub(crate) fn new() -> Connections {
         Connections {
             sockets: Mutex::new(array::from_fn(|_| None)),
-            links: AtomicU64::new(0),
+            links: Mutex::new(0),
         }
     }
 
@@ -53,15 +52,17 @@ impl Connections {
         }
     }
 
-    pub(crate) fn begin_link(&self) {
-        self.links.fetch_add(1, Ordering::SeqCst);
+    pub(crate) fn begin_link<R: Wait>(&self, rt: &R) {
+        let mut links = self.links.lock(rt);
+        *links = links.saturating_add(1);
     }
 
-    pub(crate) fn end_link(&self) {
-        self.links.fetch_sub(1, Ordering::SeqCst);
+    pub(crate) fn end_link<R: Wait>(&self, rt: &R) {
+        let mut links = self.links.lock(rt);
+        *links = links.saturating_sub(1);
     }
 
-    pub(crate) fn count_links(&self) -> u64 {
-        self.links.load(Ordering::SeqCst)
+    pub(crate) fn count_links<R: Wait>(&self, rt: &R) -> u32 {
+        *self.links.lock(rt)
     }
 }

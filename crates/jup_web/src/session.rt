@@ -35,7 +35,7 @@ pub(crate) fn run_session<
 >(rt: &R, service: &Service<'_>, reader: I, writer: O, pass: Pass)
     requires { IsPassOf service.now.hub.now pass }
 {
-    service.connections.begin_link();
+    service.connections.begin_link(rt);
     let (_, ending) = serve_link(
         rt,
         service.alloc,
@@ -46,7 +46,7 @@ pub(crate) fn run_session<
         service.bell,
         &Open,
     );
-    service.connections.end_link();
+    service.connections.end_link(rt);
     if let Ending::Fault(number) = ending {
         if let Some(notice) = notice_of(number) {
             service.notices.tell(rt, notice);

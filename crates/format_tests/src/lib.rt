@@ -1,4 +1,5 @@
-//! Lines of a link and messages of them, layouts, printed texts, and what a server of browsers reads and writes, by their public calls: what no built program shows of them.
+//! Lines of a link and messages of them, layouts, printed texts, and what a server of browsers reads and writes.
+//! These are tests of public calls, for what no built program shows.
 //! `tools/requests`, `tools/frames` and `tools/serving` try on the built `jupweb` the rest of what it reads and writes.
 #![tactic(auto)]
 

@@ -37,7 +37,6 @@ pub enum Stage {
 }
 
 /// A client of one session: it reads what its server sent, keeps what is to be sent, and has the site whose board the user edits.
-#[derive(Drop)]
 pub struct Client {
     reader: Reader,
     phase: Phase,
@@ -47,6 +46,21 @@ pub struct Client {
     is_synced: bool,
     // The checker learns of the types within a line from a field that names them.
     within: PhantomData<(Within, Line)>,
+}
+
+// Written out: a crate that drops a client then proves one call. It would prove a derived drop again, and those of all parts.
+impl Drop for Client {
+    fn drop(self) {
+        let Client {
+            reader: _,
+            phase: _,
+            unsent: _,
+            changes: _,
+            asking: _,
+            is_synced: _,
+            within: _,
+        } = self;
+    }
 }
 
 impl Model for Client {

@@ -71,7 +71,7 @@ impl Hub {
         ensures both { view_of pass.new ≡ joined_with (view_of pass.old) (view_of other) }
         ensures differ { AllApart (tallies (view_of pass.new)) }
     {
-        let Pass { seat, length } = other;
+        let (seat, length) = other.into_parts();
         self.table.shared.join_seat::<Passes>(&mut pass.seat, seat);
         // That all numbers differ is learned from the table: the load changes no view.
         self.table.shared.load::<Learn>(&mut pass.seat, 0);
@@ -175,7 +175,7 @@ impl Hub {
             × (r.events ≡ length log)) }
         ensures held { IfErr result (λ r. (r.0 ≡ self) × IsPassOf r.0 r.1 × (view_of r.1 ≡ view_of pass)) }
     {
-        let Pass { mut seat, length } = pass;
+        let (mut seat, length) = pass.into_parts();
         match try_turn(&self.table.shared, &mut seat) {
             Some(desk) => Ok(Closed {
                 star: desk.star,

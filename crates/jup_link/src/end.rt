@@ -16,7 +16,7 @@ use std::marker::Model;
 ///
 /// Contracts see its `link`, which has all that, and `spare`, the number of operations that the queue
 /// has room for.
-#[derive(Debug, Drop)]
+#[derive(Debug)]
 pub struct End<T> {
     side: Side,
     received: u32,
@@ -24,6 +24,20 @@ pub struct End<T> {
     generated: u32,
     unanswered: u32,
     outgoing: VecDeque<T>,
+}
+
+// Written out: a crate that drops an end then proves one call. It would prove a derived drop again, and those of all parts.
+impl<T: Drop> Drop for End<T> {
+    fn drop(self) {
+        let End {
+            side: _,
+            received: _,
+            acknowledged: _,
+            generated: _,
+            unanswered: _,
+            outgoing: _,
+        } = self;
+    }
 }
 
 impl<T> Model for End<T> {

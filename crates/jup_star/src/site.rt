@@ -54,7 +54,6 @@ pub struct Delivered {
 ///
 /// Contracts see it without the room that it keeps. Memory aside, each call has one reply and leaves one
 /// site. A call that is refused because an allocation failed changes nothing.
-#[derive(Drop)]
 pub struct Site {
     number: u32,
     limit: u32,
@@ -65,6 +64,22 @@ pub struct Site {
     stopped: bool,
     // The checker learns of the types within operations and edits from a field that names them.
     within: PhantomData<(Within, BoardBatch, Msg<BoardBatch>, BoardEdits)>,
+}
+
+// Written out: a crate that drops a site then proves one call. It would prove a derived drop again, and those of all parts.
+impl Drop for Site {
+    fn drop(self) {
+        let Site {
+            number: _,
+            limit: _,
+            board: _,
+            end: _,
+            made: _,
+            named: _,
+            stopped: _,
+            within: _,
+        } = self;
+    }
 }
 
 impl Model for Site {

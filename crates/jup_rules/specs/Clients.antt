@@ -40,10 +40,6 @@ most_fetched = 64
 abbrev pub most_pongs : ℕ
 most_pongs = 1024
 
--- sessions that a daemon may be asked to serve
-abbrev pub most_sessions : ℕ
-most_sessions = 1024
-
 -- reads of a link, or of a user's commands
 abbrev pub most_reads : ℕ
 most_reads = 4294967295

@@ -1,5 +1,5 @@
 //! What the two ends of a link and their programs decide: what a line means, and which lines a message is. They also decide how a session
-//! ends, with which number and exit status, and what a command line asks for. Nothing here reads or writes.
+//! ends, with which number and exit status. Nothing here reads or writes.
 #![tactic(auto)]
 
 mod batch_part;
@@ -19,6 +19,4 @@ pub use session::{
     count_read, hear_site, is_last_fetch, next_wait, pongs_in, put_downs, put_said, refused_fetch,
     ring_after,
 };
-pub use words::{
-    DaemonWords, TypedLine, cause_of, client_words, daemon_words, report_text, told_text,
-};
+pub use words::{TypedLine, cause_of, report_text, told_text};

@@ -1,9 +1,8 @@
 -- The account of a whole session.
-use Rattle.std.proofs.Common.{◌≡◌, ◌∙◌, sym, ap, subst, ℕ, inl, inr, Bool, List, [], ◌∷◌, ◌++◌, map, Option, Some, None, refl, append_assoc, append-nil, count_by, arith, true, false, IsTrue, not, ◌+◌, ◌≤◌, length, take, IfSome, option_map, flat_map}
+use Rattle.std.proofs.Common.{◌≡◌, ◌∙◌, sym, ap, subst, ℕ, inl, inr, Bool, List, [], ◌∷◌, ◌++◌, map, Option, Some, None, refl, append_assoc, append-nil, count_by, arith, true, false, IsTrue, not, flat_map}
 use Rattle.std.specs.Io.KnownBytes.{Consumes, Appends, Keeps}
 use Rattle.std.proofs.KnownBytes.{Consumes-nil, Consumes-trans}
 use Rattle.std.proofs.lemmas.Fmt.{decimal_digit}
-use Rattle.std.proofs.lemmas.List.{take_all, length-take}
 use Rattle.jup_session.specs.Prelude.{BoardBatch, Up, Line, Hello, Error, line_bytes, View, HubEvent, Tally, Ending, Said, SaysUp, SaysBye as Bye, NoMemory, HasHeard, Keeper, ending_of, last_line, standing, Sourced, HandsOn, Put, PutsLines, IsFlushed, WritesFront, fresh_put, puts_more}
 use Rattle.jup_wire.specs.Streams.{HasRead, Progress}
 use Rattle.jup_wire.proofs.Streams.{one_read}
@@ -231,13 +230,3 @@ no_room_so from old new v ending failed is wrote = record {
   has_lines = NoRoom refl is refl;
   wrote = subst (λ e. WritesFront old new (flat_map line_bytes (last_line e ∷ [])) (not failed)) (sym is) (subst (λ l. WritesFront old new l (not failed)) (sym (append-nil (line_bytes (Error 8)))) wrote);
 }
-
--- How much of a layout is read.
-
--- one more byte than a layout may have is asked for: if fewer came they are all
-pub read_whole : (most limit : ℕ) (remaining : Option (List ℕ)) (before text : List ℕ) → limit ≡ most + 1 → before ≡ [] → IfSome (option_map (take limit) remaining) (λ bytes. text ≡ before ++ bytes)
-    → length text ≤ most → IfSome remaining (λ bytes. text ≡ bytes)
-read_whole most limit None before text asked none read short = tt
-read_whole most limit (Some bytes) before text asked none read short =
-    let is : text ≡ take limit bytes = read ∙ ap (λ (l : List ℕ). l ++ take limit bytes) none in
-    is ∙ take_all limit bytes (omega (arith, ap length is, length-take limit bytes, asked))

@@ -1,9 +1,9 @@
 //! Serves the board of a file to browsers and to clients.
 #![tactic(auto)]
 
+use jup_io::hold_streams;
 use jup_options::arguments;
 use jup_page::PAGE;
-use jup_session::hold_streams;
 use jup_web::web_main;
 use std::process::ExitCode;
 

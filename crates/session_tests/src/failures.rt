@@ -3,7 +3,8 @@
 use crate::expect::{expect_eq, expect_text, expect_that};
 use crate::fakes::{Endless, FailsAfter, FailsAt, OneByOne};
 use crate::sessions::{TYPED, ran, write_fails};
-use jup_session::{Bell, ClientEnd, Ending, Open, run_client};
+use jup_programs::{ClientEnd, run_client};
+use jup_session::{Bell, Ending, Open};
 use std::alloc::Global;
 
 // The beginning of a text, of so many bytes.

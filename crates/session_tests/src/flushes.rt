@@ -3,7 +3,8 @@
 use crate::expect::{expect_eq, expect_text};
 use crate::programs::{client_of, client_status, daemon_at};
 use crate::sessions::{TYPED, TYPED_ANSWER, ran};
-use jup_session::{Bell, ClientEnd, Ending, Open, daemon_main, run_client};
+use jup_programs::{ClientEnd, daemon_main, run_client};
+use jup_session::{Bell, Ending, Open};
 use std::alloc::Global;
 use std::io;
 use std::io::Write;

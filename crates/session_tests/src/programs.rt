@@ -2,7 +2,7 @@
 
 use crate::expect::{expect_eq, expect_text};
 use jup_options::Unread;
-use jup_session::client_main;
+use jup_programs::client_main;
 use std::alloc::Global;
 use std::io::ErrorKind;
 use std::net::{Net, TcpListener, TcpStream};

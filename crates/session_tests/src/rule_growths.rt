@@ -4,9 +4,10 @@ use crate::expect::{expect_eq, expect_text, expect_that};
 use crate::programs::client_of;
 use crate::sessions::first_edit;
 use jup_gather::Gather;
+use jup_programs::client_words;
 use jup_rules::{
     Admission, Asking, DaemonEnd, Given, Inbox, Lag, LinkEnd, Request, SessionFault, Told,
-    TypedLine, client_words, hear_site, report_text, star_of_layout, told_text,
+    TypedLine, hear_site, report_text, star_of_layout, told_text,
 };
 use jup_star::{Down, Star, Up};
 use jup_window::{Board, EditFault};

@@ -1,4 +1,4 @@
-//! `jup_session`, by `jup_app`: sessions over a hub, and the insides of the server and the client.
+//! `jup_session` and `jup_programs`, by `jup_app`: sessions over a hub, and the insides of the server and the client.
 ghost use Rattle.jup_hub.specs.Passes.{IsPassOf};
 
 use jup_app::{

@@ -4,10 +4,12 @@ ghost use Rattle.jup_limits.specs.Limits.{longest_input};
 ghost use Rattle.jup_hub.specs.Passes.{IsPassOf};
 
 use super::telling::tell;
-use crate::{Bell, Open, Outgoing, hang_up, serve_link};
+use crate::options::{DaemonWords, daemon_words};
 use jup_hub::{Hub, Pass};
+use jup_intake::hang_up;
 use jup_limits::LONGEST_INPUT;
-use jup_rules::{Attempt, DaemonEnd, DaemonWords, daemon_words, report_text, star_of_layout};
+use jup_rules::{Attempt, DaemonEnd, report_text, star_of_layout};
+use jup_session::{Bell, Open, Outgoing, serve_link};
 use jup_star::Star;
 use std::alloc::Global;
 use std::io::{Read, Write};

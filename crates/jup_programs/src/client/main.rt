@@ -2,9 +2,9 @@
 ghost use Rattle.std.specs.Prelude.{◌≤◌};
 
 use super::run_client;
-use crate::hang_up;
-use jup_intake::{Drained, Intake, drain};
-use jup_rules::{ClientEnd, Inbox, client_words};
+use crate::options::client_words;
+use jup_intake::{Drained, Intake, drain, hang_up};
+use jup_rules::{ClientEnd, Inbox};
 use std::alloc::Global;
 use std::io::{Read, Write};
 use std::net::{Net, TcpListener, TcpStream};

@@ -1,7 +1,7 @@
 use Rattle.std.proofs.Common.{◌≡◌, IfSome, arith, subst}
 use Rattle.jup_limits.specs.Limits.{longest_input}
-use Rattle.jup_session.proofs.Accounts.{read_whole}
-use Rattle.jup_session.proofs.daemon.serving.read_layout.Goals as goal
+use Rattle.jup_programs.proofs.Layouts.{read_whole}
+use Rattle.jup_programs.proofs.daemon.serving.read_layout.Goals as goal
 
 pub returns-clause-whole : goal.returns-clause-whole
 returns-clause-whole g c =

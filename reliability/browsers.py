@@ -236,10 +236,12 @@ def play_cut(data, play):
 
 
 def send_pieces(link, pieces):
-    for number, piece in enumerate(pieces):
-        if number:
-            time.sleep(PAUSE)
-        link.sendall(piece)
+    """Sends pieces one by one. A server that has ended its link closes the socket once nothing comes for a second, and the rest is not sent then. What it said before that can still be read."""
+    with contextlib.suppress(BrokenPipeError, ConnectionResetError):
+        for number, piece in enumerate(pieces):
+            if number:
+                time.sleep(PAUSE)
+            link.sendall(piece)
 
 
 def fault_of(row):

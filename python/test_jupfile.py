@@ -29,7 +29,7 @@ import stars
 
 WORD = re.compile(r"\S+\s*")
 # How many seconds pass between two looks, after how many of them the server reads what came, and how many everything has at the end.
-LOOK, SLOW, AT_THE_END = 0.25, 2, 60
+LOOK, SLOW, AT_THE_END = 0.25, 2, 40
 # How many steps from a change a save may make a difference.
 NEAR = 6
 # What a step does: it looks at a file or changes it, or it sends, waits or hears.

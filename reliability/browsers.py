@@ -24,6 +24,8 @@ TEXT, BINARY, CLOSE, PING, PONG = 0x81, 0x82, 0x88, 0x89, 0x8A
 SIDE_BY_SIDE = 32
 # How many seconds pass between two pieces of bytes, so that a server reads each by itself.
 PAUSE = 0.005
+# A server that has ended a link closes its socket after a second without a byte. It has no reason to if the sender was held up for fewer seconds than these.
+LINGERS = 0.9
 # Bytes that are cut in two at each place, and the places at which longer ones are cut.
 LONGEST_CUT, FIRST_CUTS = 300, 20
 
@@ -236,12 +238,17 @@ def play_cut(data, play):
 
 
 def send_pieces(link, pieces):
-    """Sends pieces one by one. A server that has ended its link closes the socket once nothing comes for a second, and the rest is not sent then. What it said before that can still be read."""
-    with contextlib.suppress(BrokenPipeError, ConnectionResetError):
-        for number, piece in enumerate(pieces):
-            if number:
-                time.sleep(PAUSE)
+    """Sends pieces one by one. If the machine holds the sender up for so long that a server which has ended its link closes the socket, the rest is not sent. What the server said before can still be read."""
+    begun = time.monotonic()
+    for number, piece in enumerate(pieces):
+        if number:
+            time.sleep(PAUSE)
+        try:
             link.sendall(piece)
+        except (BrokenPipeError, ConnectionResetError):
+            if time.monotonic() - begun < number * PAUSE + LINGERS:
+                raise
+            return
 
 
 def fault_of(row):

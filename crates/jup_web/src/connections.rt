@@ -27,7 +27,7 @@ impl Connections {
     pub(crate) fn enter<R: Wait>(&self, rt: &R, stream: &TcpStream) -> Option<usize> {
         let handle = stream.try_clone().ok()?;
         let mut sockets = self.sockets.lock(rt);
-        let place = sockets.iter().position(|socket| socket.is_none())?;
+        let place = sockets.iter().position(Option::is_none)?;
         *sockets.get_mut(place)? = Some(handle);
         Some(place)
     }
@@ -41,7 +41,7 @@ impl Connections {
     }
 
     pub(crate) fn are_none<R: Wait>(&self, rt: &R) -> bool {
-        self.sockets.lock(rt).iter().all(|socket| socket.is_none())
+        self.sockets.lock(rt).iter().all(Option::is_none)
     }
 
     /// Shuts a side of each socket, or both.

@@ -159,5 +159,5 @@ fn origins_of(
 
 /// The bytes of texts.
 pub(crate) fn slices(alloc: Global, texts: &[String]) -> Result<Vec<&[u8]>, AllocError> {
-    texts.iter().map(|text| text.as_bytes()).collect(alloc)
+    texts.iter().map(String::as_bytes).collect(alloc)
 }

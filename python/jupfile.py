@@ -53,9 +53,8 @@ def tell(words: str) -> None:
 
 def counted(old: str, new: str) -> str:
     """How much two texts differ, in words."""
-    hunks = texts.difference(old, new)
-    gone = sum(it.end - it.start for it in hunks)
-    return f"{texts.size(hunks) - gone} characters in, {gone} out"
+    come, gone = texts.size(texts.difference(old, new))
+    return f"{come} characters in, {gone} out"
 
 
 class Lost(Exception):
@@ -285,7 +284,7 @@ class Sharing:
         self.link, self.file, self.kept = link, file, kept
         # Whether the file has a text that was taken, and whether this is the first of it.
         self.is_fit, self.is_first = False, True
-        self.shared = texts.Shared(*self.resume(kept.state), kept.state.versions, time.monotonic())
+        self.shared = texts.Shared(*self.resume(kept.state), kept.state.versions, kept.state.cuts, time.monotonic())
         self.keep()
 
     def resume(self, state: local.State) -> tuple[str, str]:
@@ -322,27 +321,27 @@ class Sharing:
 
     def take_file(self, now: float) -> bool:
         """Takes what was saved. Returns whether there was something."""
-        data = self.file.saved(now)
-        if data is None:
+        found = self.file.saved(now)
+        if found is None:
             return False
         if not self.file.is_there():
             # The file is written again.
             self.is_fit, self.is_first = True, False
             return False
         try:
-            text = texts.read_text(data)
+            text = texts.read_text(found[0])
         except texts.Unfit as why:
             self.is_fit = False
             tell(f"not taken, and left as it is until it is saved again: {why}")
             return False
         if not self.is_first and self.is_fit and text == self.shared.file:
             return False
-        self.take(text)
+        self.take(text, found[1])
         return True
 
-    def take(self, text: str) -> None:
+    def take(self, text: str, origin: texts.Origin) -> None:
         before = self.shared.mine
-        self.shared.saved(text, self.file.waiting.quiet)
+        self.shared.saved(text, origin)
         if before != self.shared.mine:
             tell(f"saved: {counted(before, self.shared.mine)}")
         if self.is_first and any(it.start < it.end for it in texts.difference(text, self.shared.mine)):
@@ -352,15 +351,15 @@ class Sharing:
     def take_strays(self, now: float) -> bool:
         """Takes what was saved into files that were replaced meanwhile. Returns whether there was something."""
         is_taken = False
-        for versions, data in self.file.strays(now):
+        for versions, data, origin in self.file.strays(now):
             try:
                 text = texts.read_text(data)
             except texts.Unfit as why:
                 tell(f"not taken from an editor that had the file open while it was written: {why}. {self.kept.keep_copy(data)} has it")
                 continue
             before = self.shared.mine
-            self.shared.strayed(versions, text)
-            versions.append(text)
+            self.shared.strayed(versions, text, origin)
+            versions[:] = [text]
             is_taken = True
             if before != self.shared.mine:
                 tell(f"saved while the file was written: {counted(before, self.shared.mine)}")
@@ -388,7 +387,7 @@ class Sharing:
     def keep(self, *coming: str) -> None:
         """Keeps what both sides have and are to have, and the versions of the file, with one that comes."""
         versions = self.file.versions([*self.shared.read_lately(), *coming])
-        self.kept.keep(local.State(self.link.past(), self.shared.mine, versions))
+        self.kept.keep(local.State(self.link.past(), self.shared.mine, versions, self.shared.cuts))
         self.kept_signs = self.signs()
 
     def signs(self) -> tuple:
@@ -396,8 +395,9 @@ class Sharing:
         return self.shared.board, self.shared.mine, self.shared.read_lately(), len(self.link.unsure), len(self.link.unwanted), dict(self.link.saved)
 
     def is_equal(self) -> bool:
-        """Whether the file, the board and what is kept are the same."""
-        return self.link.is_settled and self.is_fit and self.shared.file == self.shared.mine == self.shared.board == self.kept.state.mine
+        """Whether the file, the board and what is kept are the same, and nobody is saving."""
+        is_quiet = self.file.waiting.is_quiet() and self.link.is_settled and self.is_fit
+        return is_quiet and self.shared.file == self.shared.mine == self.shared.board == self.kept.state.mine
 
 
 class Program:

@@ -20,14 +20,15 @@ from collections.abc import Iterator
 from typing import NamedTuple
 
 import copies
+import texts
 
 # How many seconds pass between two writes of the file.
 PAUSE = 0.2
-# After how many seconds without a change a file counts as saved, and as saved shorter, emptied or deleted, since an editor may not have written all of it yet.
+# After how many seconds without a change a file is read, and a shorter one, since an editor may not have written all of it yet.
 SETTLED, SHORTER = 0.1, 1.0
-# After how many seconds of changes a file counts as saved although it is shorter.
+# After how many seconds of changes a file is read although it is shorter.
 LONGEST = 2.0
-# How many seconds a file is watched that another has replaced.
+# How many seconds a file is watched that another has replaced, from the last change of it.
 WATCHED = 5.0
 # How many characters the versions have together that are kept beside the file, in any case the last two.
 MOST_KEPT = 1_000_000
@@ -132,21 +133,28 @@ class Waiting:
             self.quiet = now
         if found != self.coming:
             self.coming, self.since = found, now
-        is_shorter = found is None or found.size == 0 or self.taken is not None and found.size < self.taken.size
-        wait = SHORTER if is_shorter and now - self.quiet < LONGEST else SETTLED
+        wait = SHORTER if self.is_shorter() and now - self.quiet < LONGEST else SETTLED
         return found != self.taken and now - self.since >= wait
+
+    def is_shorter(self) -> bool:
+        return self.coming is None or self.coming.size == 0 or self.taken is not None and self.coming.size < self.taken.size
 
     def is_quiet(self) -> bool:
         return self.coming == self.taken
 
+    def take(self, now: float) -> texts.Origin:
+        """The file was read."""
+        then, self.taken, self.quiet = self.quiet, self.coming, now
+        return texts.Origin(self.taken.inode if self.taken else 0, then, self.since)
+
 
 class Replaced(NamedTuple):
-    """A file that another has replaced. It is watched until a moment for an editor that saved it just then or still has it open, and has read one of the versions."""
+    """A file that another has replaced. It is watched for an editor that saved it just then or still has it open, and has read one of the versions."""
 
     path: str
     versions: list[str]
     waiting: Waiting
-    until: float
+    whole: texts.Whole
 
 
 class LocalFile:
@@ -158,19 +166,18 @@ class LocalFile:
         # It is not known whether somebody is writing the file: each size counts as shorter than this one.
         self.waiting = Waiting(Sign(0, sys.maxsize, 0), now)
         found = glob.glob(f"{glob.escape(room)}/was.*")
-        self.replaced = [Replaced(it, list(versions), Waiting(Sign(*map(int, it.rsplit(".", 3)[1:])), now), now + WATCHED) for it in found]
-        self.written = 0.0
+        self.replaced = [Replaced(it, list(versions), Waiting(Sign(*map(int, it.rsplit(".", 3)[1:])), now), texts.Whole(versions)) for it in found]
+        self.whole, self.written = texts.Whole(versions), 0.0
 
-    def saved(self, now: float) -> bytes | None:
+    def saved(self, now: float) -> tuple[bytes, texts.Origin] | None:
         """What somebody has saved since the last look."""
         found = sign_of(self.path)
         if not self.waiting.is_due(found, now):
             return None
         data = read(self.path)
-        if sign_of(self.path) != found:
+        if sign_of(self.path) != found or found and not self.whole.has_come(data, self.waiting.since, now):
             return None
-        self.waiting.taken = found
-        return data
+        return data, self.waiting.take(now)
 
     def is_there(self) -> bool:
         """Whether the last look found the file."""
@@ -193,7 +200,7 @@ class LocalFile:
         except FileNotFoundError:
             return False
         if is_written:
-            self.waiting, self.written = Waiting(mine, now), now
+            self.waiting, self.whole, self.written = Waiting(mine, now), texts.Whole([text]), now
         return is_written
 
     def replace(self, new: str, before: Sign, versions: list[str], now: float) -> bool:
@@ -201,19 +208,21 @@ class LocalFile:
         is_written = put_in_place(new, was, self.path)
         if sign_of(was):
             self.replaced = [it for it in self.replaced if it.path != was]
-            self.replaced.append(Replaced(was, versions, Waiting(before, now), now + WATCHED))
+            self.replaced.append(Replaced(was, versions, Waiting(before, now), texts.Whole(versions)))
         return is_written
 
-    def strays(self, now: float) -> Iterator[tuple[list[str], bytes]]:
+    def strays(self, now: float) -> Iterator[tuple[list[str], bytes, texts.Origin]]:
         """What somebody saved into a file that was replaced meanwhile, each with the versions that they may have read."""
         for it in self.replaced:
-            if it.waiting.is_due(sign_of(it.path), now):
-                it.waiting.taken = it.waiting.coming
-                yield it.versions, read(it.path)
+            if not it.waiting.is_due(sign_of(it.path), now):
+                continue
+            data = read(it.path)
+            if it.whole.has_come(data, it.waiting.since, now):
+                yield it.versions, data, it.waiting.take(now)
 
     def forget_replaced(self, now: float) -> None:
         """Deletes the replaced files that were watched for long enough. What was saved into them has been kept."""
-        for it in [it for it in self.replaced if it.until < now and it.waiting.is_quiet() and sign_of(it.path) == it.waiting.taken]:
+        for it in [it for it in self.replaced if it.waiting.since + WATCHED < now and it.waiting.is_quiet() and sign_of(it.path) == it.waiting.taken]:
             os.unlink(it.path)
             self.replaced.remove(it)
 
@@ -224,18 +233,20 @@ class LocalFile:
 
 
 class State(NamedTuple):
-    """What is kept: what the link left, what both sides were to have, and the versions of the file that are in it already."""
+    """What is kept: what the link left, what both sides were to have, and the versions of the file that are in it already. `cuts` are the saves that may be half written, by the inode of their file."""
 
     past: copies.Past | None
     mine: str
     versions: list[str]
+    cuts: dict[int, texts.Cut]
 
     def to_json(self, board: str) -> str:
         past = self.past and {name: it.runs() if name == "copy" else list(it.items()) if isinstance(it, dict) else it for name, it in self.past._asdict().items()}
-        return json.dumps({"board": board, "past": past, "mine": self.mine, "versions": self.versions})
+        cuts = [[inode, it._asdict()] for inode, it in self.cuts.items()]
+        return json.dumps({"board": board, "past": past, "mine": self.mine, "versions": self.versions, "cuts": cuts})
 
 
-NOTHING = State(None, "", [""])
+NOTHING = State(None, "", [""], {})
 
 
 def past_of(found: dict | None) -> copies.Past | None:
@@ -244,6 +255,13 @@ def past_of(found: dict | None) -> copies.Past | None:
     gone, again = ({tuple(name): char for name, char in found[it]} for it in ("gone", "again"))
     ends = list(map(tuple, found["ends"]))
     return copies.Past(found["site"], found["taken"], copies.copy_of(found["copy"]), gone, again, ends, dict(found["saved"]))
+
+
+def latest(versions: list[str]) -> list[str]:
+    """The last versions, of which there are not too many."""
+    while len(versions) > 2 and sum(map(len, versions)) > MOST_KEPT:
+        versions = versions[1:]
+    return versions
 
 
 class Kept:
@@ -271,14 +289,13 @@ class Kept:
         if found["board"] != self.board:
             self.other_board = found["board"]
             return NOTHING
-        return State(past_of(found["past"]), found["mine"], found["versions"])
+        cuts = {inode: texts.Cut(**it) for inode, it in found.get("cuts", [])}
+        return State(past_of(found["past"]), found["mine"], found["versions"], cuts)
 
     def keep(self, state: State) -> None:
         """Keeps a state. Of the versions it keeps the last."""
-        versions = state.versions
-        while len(versions) > 2 and sum(map(len, versions)) > MOST_KEPT:
-            versions = versions[1:]
-        self.state = state._replace(versions=versions)
+        cuts = {inode: it._replace(versions=latest(it.versions)) for inode, it in state.cuts.items()}
+        self.state = state._replace(versions=latest(state.versions), cuts=cuts)
         write_whole(f"{self.room}/state.new", self.state.to_json(self.board).encode(), OWN)
         os.replace(f"{self.room}/state.new", f"{self.room}/state")
         self.sync_folder()

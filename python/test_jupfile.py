@@ -202,14 +202,19 @@ class World:
         return self.seen
 
     def save(self, text, by_rename=False):
-        """An editor saves. No two saves have one time, as on a machine whose clock ticks often enough."""
+        """An editor saves."""
         path = f"{self.path}.saving" if by_rename else self.path
         with open(path, "w", encoding="utf-8", newline="") as file:
-            file.write(text)
-        self.saves += 1
-        os.utime(path, ns=(self.saves * 10**9, self.saves * 10**9))
+            self.write(file, text)
         if by_rename:
             os.rename(path, self.path)
+
+    def write(self, file, text):
+        """An editor writes into an open file. No two writes have one time, as on a machine whose clock ticks often enough."""
+        file.write(text)
+        file.flush()
+        self.saves += 1
+        os.utime(file.fileno(), ns=(self.saves * 10**9, self.saves * 10**9))
 
     def other_reads(self):
         self.other.read()
@@ -238,6 +243,29 @@ def inserts(*words, at=1, by_rename=False, is_stale=False):
         world.save("".join(pieces), by_rename)
 
     return act
+
+
+def half_of(*words, at=1, pause=None, share=2):
+    """The editor begins to save the file with words more, and stops after a half, or after another share of it. If a pause is given, it goes on after that."""
+
+    def act(world):
+        pieces = WORD.findall(world.file())
+        pieces[at:at] = [f"{it}\n" for it in words]
+        text = "".join(pieces)
+        world.put |= set(words)
+        world.pen, world.rest = open(world.path, "w", encoding="utf-8", newline=""), text[len(text) // share :]
+        world.write(world.pen, text[: len(text) // share])
+        if pause is not None:
+            world.looks = 0
+            world.script.appendleft((pause, rest))
+
+    return act
+
+
+def rest(world):
+    """The editor saves the rest, into the file that it has open."""
+    with world.pen:
+        world.write(world.pen, world.rest)
 
 
 def reads(world):
@@ -446,6 +474,9 @@ CROWDED = [(8, inserts(*LONG_WORDS)), (0, crowd_comes), (5, others_insert("xa"))
 LOST = [(8, server_saves), (0, inserts(*LONG_WORDS)), (6, server_is_killed), (4, inserts("one", at=3)), (4, others_insert("two"))]
 DELETED = [(8, others_insert("two")), (2, others_delete("two"))]
 SENT, WRITTEN = [(8, inserts(*LONG_WORDS[:2]))], [(8, others_insert("two"))]
+# An editor pauses in the middle of a save, for so many looks that the half of the file counts as saved.
+PAUSE, MOST_PAUSE = 14, 19
+PAUSED = [(8, half_of("one")), (3, others_insert("two")), (PAUSE - 4, rest), (4, inserts("three", at=3))]
 
 
 class Steps(unittest.TestCase):
@@ -527,6 +558,27 @@ class Steps(unittest.TestCase):
 
     def test_saved_and_killed_then(self):
         self.check_saves(WRITTEN, after=self.begun(WRITTEN), kills=8)
+
+    def test_an_editor_pauses_in_the_middle_of_a_save(self):
+        others = ([], [(1, others_insert("two", at=4))], [(5, others_insert("two", at=2))], [(2, others_delete("gamma"))], [(4, others_delete("delta"))])
+        for share, pause, between in itertools.product((2, 4, 1000), range(6, MOST_PAUSE), others):
+            script = [(8, half_of("one", share=share)), *between, (pause - sum(looks + 1 for looks, _ in between), rest)]
+            self.check(play(TEXT, script, {}), share, pause, between)
+
+    def test_nobody_sees_a_half_soon(self):
+        for looks in range(12):
+            seen = []
+            script = [(8, deletes("beta")), (looks, half_of("one")), (PAUSE - 6, lambda world: seen.append(world.text())), (0, rest)]
+            self.check(play(TEXT, script, {}), looks)
+            self.assertIn("delta", seen[0], looks)
+
+    def test_an_editor_pauses_at_each_step(self):
+        changes = self.steps_of(WRITTEN, CHANGES, after=self.begun(WRITTEN))
+        for step, share in itertools.product(range(min(changes) - NEAR, max(changes) + NEAR), (2, 1000)):
+            self.check(play(TEXT, WRITTEN, {step: half_of("one", pause=PAUSE, share=share)}), step, share)
+
+    def test_killed_at_each_step_while_an_editor_pauses(self):
+        self.check_kills(PAUSED, (is_read, is_lost), after=self.begun(PAUSED))
 
     def test_without_a_swap(self):
         before, local.SWAP = local.SWAP, None

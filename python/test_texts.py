@@ -108,7 +108,7 @@ class Differences(unittest.TestCase):
     def test_a_long_word_is_compared_by_characters(self):
         old = "春眠不覚暁処処聞啼鳥夜来風雨声花落知多少" * 3
         new = old[:10] + "X" + old[10:30] + old[31:]
-        self.assertEqual(texts.size(texts.difference(old, new)), 2)
+        self.assertEqual(texts.size(texts.difference(old, new)), (1, 1))
 
     def test_long_texts_take_no_long_time(self):
         for name, old, new in Chance(2).long_pairs():
@@ -191,6 +191,11 @@ class Merges(unittest.TestCase):
                 self.assertLess(time.process_time() - start, 2 * MOST_SECONDS)
 
 
+def origin(then, inode=1):
+    """The file was saved after a moment, and had the text immediately."""
+    return texts.Origin(inode, then, then)
+
+
 class Versions(unittest.TestCase):
     def test_an_old_version_that_was_saved(self):
         versions = ["a\nb\n", "a\nb\ntheirs\n"]
@@ -198,34 +203,136 @@ class Versions(unittest.TestCase):
         self.assertEqual(texts.started_from(versions, "a\nmine\nb\ntheirs\n"), versions[1])
         self.assertEqual(texts.started_from(["a\n", "a\n"], "b\n"), "a\n")
 
+    def test_what_is_half_written_comes_from_the_version_of_which_it_is_a_part(self):
+        self.assertEqual(texts.started_from(["", "a\nb\nc\nd\n"], "a\nmine"), "a\nb\nc\nd\n")
+
     def test_what_others_did_stays_if_an_editor_had_not_read_it(self):
-        shared = texts.Shared("a\nb\n", "a\nb\n", ["a\nb\n"], 0.0)
+        shared = texts.Shared("a\nb\n", "a\nb\n", ["a\nb\n"], {}, 0.0)
         shared.changed("a\nb\ntheirs\n")
         shared.wrote(1.0)
-        shared.saved("a\nmine\nb\n", 2.0)
+        shared.saved("a\nmine\nb\n", origin(2.0))
         self.assertEqual(shared.mine, "a\nmine\nb\ntheirs\n")
         self.assertEqual(shared.file, "a\nmine\nb\n")
 
     def test_what_others_did_can_be_deleted_later(self):
-        shared = texts.Shared("a\nb\n", "a\nb\n", ["a\nb\n"], 0.0)
+        shared = texts.Shared("a\nb\n", "a\nb\n", ["a\nb\n"], {}, 0.0)
         shared.changed("a\nb\ntheirs\n")
         shared.wrote(1.0)
-        shared.saved("a\nb\n", 1.0 + texts.READ_AGO)
+        shared.saved("a\nb\n", origin(1.0 + texts.READ_AGO))
         self.assertEqual(shared.mine, "a\nb\n")
 
     def test_a_version_that_is_there_again(self):
-        shared = texts.Shared("a\nb\n", "a\nb\n", ["a\n", "a\nb\n"], 0.0)
-        shared.saved("a\nb\n", 0.1)
+        shared = texts.Shared("a\nb\n", "a\nb\n", ["a\n", "a\nb\n"], {}, 0.0)
+        shared.saved("a\nb\n", origin(0.1))
         self.assertEqual(shared.read_lately(), ["a\n", "a\nb\n"])
-        shared.saved("a\nmine\n", 0.2)
+        shared.saved("a\nmine\n", origin(0.2))
         self.assertEqual(shared.mine, "a\nb\nmine\n")
         self.assertEqual(shared.read_lately(), ["a\nmine\n"])
 
     def test_what_was_typed_while_nothing_ran(self):
-        shared = texts.Shared("a\nb\n", "a\nb\n", ["a\nb\n"], 0.0)
-        shared.saved("a\nmine\nb\n", 0.1)
+        shared = texts.Shared("a\nb\n", "a\nb\n", ["a\nb\n"], {}, 0.0)
+        shared.saved("a\nmine\nb\n", origin(0.1))
         shared.changed("b\ntheirs\n")
         self.assertEqual(shared.mine, "mine\nb\ntheirs\n")
+
+
+class HalfWritten(unittest.TestCase):
+    """A file that an editor writes in place, and in which it pauses. """
+
+    WHOLE = "a\nmine\nb\nc\nd\n"
+
+    def begun(self, half, others="a\nb\ntheirs\nc\nd\n"):
+        """A half was saved, after others had inserted a word or done something else."""
+        shared = texts.Shared("a\nb\nc\nd\n", "a\nb\nc\nd\n", ["a\nb\nc\nd\n"], {}, 0.0)
+        shared.changed(others)
+        shared.saved(half, origin(1.0))
+        return shared
+
+    def test_the_rest_comes(self):
+        for half in ("", "a\n", "a\nmi", "a\nmine\nb\n", "a\nmine\nb\nc"):
+            with self.subTest(half):
+                shared = self.begun(half)
+                shared.changed(f"0\n{shared.mine}")
+                shared.saved(self.WHOLE, origin(3.0))
+                self.assertEqual(sorted(shared.mine.split()), sorted("0 a mine b theirs c d".split()))
+                self.assertEqual(shared.file, self.WHOLE)
+
+    def test_what_others_deleted_before_stays_deleted(self):
+        shared = self.begun("a\nmine\n", others="a\nb\nd\n")
+        shared.saved(self.WHOLE, origin(3.0))
+        self.assertEqual(shared.mine, "a\nmine\nb\nd\n")
+
+    def test_it_comes_in_several_parts(self):
+        shared = self.begun("a\n")
+        for at, end in enumerate((4, 7, 9, len(self.WHOLE))):
+            shared.saved(self.WHOLE[:end], origin(2.0 + at))
+            shared.changed(f"{at}\n{shared.mine}")
+        self.assertEqual(shared.mine, "3\n2\n1\n0\na\nmine\nb\ntheirs\nc\nd\n")
+        self.assertEqual(shared.cuts, {})
+
+    def test_it_comes_into_a_file_that_was_replaced(self):
+        shared = self.begun("a\nmi")
+        shared.changed(f"0\n{shared.mine}")
+        shared.wrote(2.5)
+        shared.strayed(["a\nmi"], self.WHOLE, origin(3.0))
+        self.assertEqual(shared.mine, "0\na\nmine\nb\ntheirs\nc\nd\n")
+
+    def test_the_end_was_deleted(self):
+        for text, inode in [("a\nnew\n", 1), ("a\nmine\nb\nnew\n", 1), ("a\nmine\nb\nnew\n", 2)]:
+            with self.subTest(text, inode=inode):
+                shared = self.begun("a\nmine\nb\n", others="a\nb\nc\nd\n")
+                shared.saved(text, origin(3.0, inode))
+                self.assertEqual(shared.mine, text)
+
+    def test_what_comes_later_is_new(self):
+        shared = self.begun("a\nmine\n", others="a\nb\nd\n")
+        shared.saved(self.WHOLE, origin(1.0 + texts.READ_AGO))
+        self.assertEqual(shared.mine, self.WHOLE)
+
+    def test_a_start_still_knows_it(self):
+        before = self.begun("a\nmi")
+        shared = texts.Shared(before.mine, before.mine, before.read_lately(), before.cuts, 100.0)
+        shared.saved("a\nmi", origin(101.0))
+        shared.saved(self.WHOLE, origin(102.0))
+        self.assertEqual(shared.mine, "a\nmine\nb\ntheirs\nc\nd\n")
+
+
+class Whole(unittest.TestCase):
+    """Which of the texts that a file has, one after the other, count as whole, and when."""
+
+    def come(self, *states, had=("a\nb\nc\nd\n",)):
+        """When each of these states came, each with its moment and bytes, if at most one was there at a look. A look comes each half second."""
+        whole, found = texts.Whole(list(had)), []
+        for (since, data), end in zip(states, [*(it[0] for it in states[1:]), 100.0]):
+            looks = (since + 0.5 * at for at in range(1, 200) if since + 0.5 * at <= end)
+            found.append(next((now for now in looks if whole.has_come(data, since, now)), None))
+        return found
+
+    def test_a_text_with_its_end_has_come(self):
+        self.assertEqual(self.come((1.0, b"a\nb\nd\n")), [1.5])
+        self.assertEqual(self.come((1.0, b"a\nb\nc\nd\ne\n")), [1.5])
+        self.assertEqual(self.come((1.0, b"a\nb\nc\nx\n")), [1.5])
+        self.assertEqual(self.come((1.0, b"a\nb\nlong\n")), [1.5])
+
+    def test_a_text_without_its_end_waits(self):
+        self.assertEqual(self.come((1.0, b"a\nb\n")), [1.0 + texts.CUT])
+        self.assertEqual(self.come((1.0, b"")), [1.0 + texts.CUT])
+        self.assertEqual(self.come((1.0, "a\nb\né".encode()[:-1])), [1.0 + texts.CUT])
+
+    def test_the_rest_comes(self):
+        self.assertEqual(self.come((1.0, b"a\nmine\nb\n"), (3.0, b"a\nmine\nb\nc\nd\n")), [None, 3.5])
+        self.assertEqual(self.come((1.0, b""), (3.0, b"a\nb\n"), (5.0, b"a\nb\nc\n")), [None, None, 1.0 + texts.LONGEST_CUT])
+
+    def test_it_was_whole_if_nobody_goes_on_there(self):
+        self.assertEqual(self.come((1.0, b"a\nb\n"), (3.0, b"a\nmine\nb\n")), [None, 3.5])
+        self.assertEqual(self.come((1.0, b"a\nb\n"), (3.0, b"a\n")), [None, 3.0 + texts.CUT])
+
+    def test_what_has_come_is_what_the_file_had(self):
+        self.assertEqual(self.come((1.0, b"a\nb\nc\n"), (3.0, b"a\nb\n"), had=("a\nb\n",)), [1.5, 3.0 + texts.CUT])
+
+    def test_a_file_may_have_had_one_of_several_texts(self):
+        self.assertEqual(self.come((1.0, b"mine\n"), had=("", "a\nb\n")), [1.5])
+        self.assertEqual(self.come((1.0, b"a\nb\n"), had=("", "a\nb\nc\n")), [1.0 + texts.CUT])
 
 
 class Files(unittest.TestCase):

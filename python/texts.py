@@ -19,6 +19,8 @@ Grains = tuple[re.Pattern[str], ...]
 MOST_ROUNDS = 3
 # From how many characters on a changed word is compared by characters, as where a language has no spaces.
 LONG_WORD = 32
+# After how many seconds without a change a file counts as saved although it has lost its end, and after how many it does although it still grows.
+CUT, LONGEST_CUT = 3.0, 5.0
 # How many seconds an editor may take from reading a file to saving it without reading it again.
 READ_AGO = 5.0
 # How many characters may differ for single characters to be compared, and how many steps that may take for each character.
@@ -77,9 +79,16 @@ def apply(old: str, hunks: Iterable[Hunk]) -> str:
     return "".join([*pieces, old[at:]])
 
 
-def size(hunks: Iterable[Hunk]) -> int:
-    """How many characters hunks delete and insert."""
-    return sum(end - start + len(text) for start, end, text in hunks)
+def size(hunks: Iterable[Hunk]) -> tuple[int, int]:
+    """How many characters hunks insert, and how many they delete."""
+    hunks = list(hunks)
+    return sum(len(it.text) for it in hunks), sum(it.end - it.start for it in hunks)
+
+
+def has_lost_its_end(old: str, new: str) -> bool:
+    """Whether `new` has less in the place of the last characters of `old`, as a file that is half written."""
+    hunks = difference(old, new)
+    return bool(hunks) and hunks[-1].end == len(old) and len(hunks[-1].text) < len(old) - hunks[-1].start
 
 
 def merge(base: str, mine: str, theirs: str) -> str:
@@ -97,11 +106,12 @@ def merge(base: str, mine: str, theirs: str) -> str:
 
 
 def started_from(versions: list[str], saved: str) -> str:
-    """Which of the versions of a file an editor had read that then saved this: the one that it changed least, and of several the last."""
+    """Which of the versions of a file an editor had read that then saved this: the one into which it inserted least. Of several it is the one of which the editor deleted least, and of several the last. So a file that is half written comes from the version of which it is a part."""
     best, least = versions[-1], size(difference(versions[-1], saved))
     for version in reversed(versions[:-1]):
         # A difference has at least as many characters as one text is longer than the other.
-        if abs(len(version) - len(saved)) < least and (found := size(difference(version, saved))) < least:
+        more = len(saved) - len(version)
+        if (max(more, 0), max(-more, 0)) < least and (found := size(difference(version, saved))) < least:
             best, least = version, found
     return best
 
@@ -347,33 +357,81 @@ def _both(mine: _Side, theirs: _Side) -> str:
 # What a file and a text of a board are to become.
 
 
+class Whole:
+    """Tells a whole text from one that is half written. The file had one of the texts `had`, and has `half` since the moment `begun`, if it may be half written."""
+
+    def __init__(self, had: list[str]) -> None:
+        self.had, self.half, self.begun = list(had), None, 0.0
+
+    def has_come(self, data: bytes, since: float, now: float) -> bool:
+        """Whether bytes that the file has since a moment count as whole. They may end within a character."""
+        text = data.decode("utf-8", "replace")
+        if self.half is not None and not text.startswith(self.half):
+            # Nobody went on there, so it was whole.
+            self.had, self.half = [self.half], None
+        if self.half is None:
+            self.begun = since
+        if (text == self.half or self.is_cut(text)) and now - since < CUT and now - self.begun < LONGEST_CUT:
+            self.half = text
+            return False
+        self.had, self.half = [text], None
+        return True
+
+    def is_cut(self, text: str) -> bool:
+        return has_lost_its_end(started_from(self.had, text), text)
+
+
+class Origin(NamedTuple):
+    """The inode of the file into which somebody saved a text, and when. At the moment `then` the file still had what was taken before, and at `since` it had the text."""
+
+    inode: int
+    then: float
+    since: float
+
+
+class Cut(NamedTuple):
+    """Somebody saved a text, which the file had since a moment. It has lost its end, so the rest is perhaps still to be written. They may have read one of `versions`. Both sides were to have `before`, and are to have `wanted` by this alone."""
+
+    since: float
+    versions: list[str]
+    before: str
+    wanted: str
+
+
 class Shared:
     """A file and a text of a board on their way to be equal.
 
-    `board` is what the board has, and `mine` what both are to have. The last of `versions` is what the file has, and those before it are what an editor may have read that has not saved yet. Each has the moment from which the file had it.
+    `board` is what the board has, and `mine` what both are to have. The last of `versions` is what the file has, and those before it are what an editor may have read that has not saved yet. Each has the moment from which the file had it. `cuts` are the saves that may be half written, by the inode of their file.
     """
 
-    def __init__(self, board: str, mine: str, versions: list[str], now: float) -> None:
+    def __init__(self, board: str, mine: str, versions: list[str], cuts: dict[int, Cut], now: float) -> None:
         """A start: the board had `board`, and both were to have `mine`."""
         self.board, self.mine = board, mine
         self.versions = [(now, it) for it in versions]
+        self.cuts = {inode: it._replace(since=now) for inode, it in cuts.items()}
 
     @property
     def file(self) -> str:
         """What the file has."""
         return self.versions[-1][1]
 
-    def saved(self, text: str, then: float) -> None:
-        """Somebody saved the file after a moment. What they changed of the version that they had read is to be done to both. A version that was there already stays one of several."""
-        self.forget_old(then)
+    def saved(self, text: str, origin: Origin) -> None:
+        """Somebody saved the file. What they changed of the version that they had read is to be done to both. A version that was there already stays one of several."""
+        self.forget_old(origin.then)
         lately = self.read_lately()
-        self.strayed(lately, text)
+        self.strayed(lately, text, origin)
         others = [it for it in self.versions if it[1] != text] if text in lately else []
-        self.versions = [*others, (then, text)]
+        self.versions = [*others, (origin.then, text)]
 
-    def strayed(self, versions: list[str], text: str) -> None:
-        """Somebody saved this text, and had read one of these versions."""
-        self.mine = merge(started_from(versions, text), text, self.mine)
+    def strayed(self, versions: list[str], text: str, origin: Origin) -> None:
+        """Somebody saved this text, and had read one of these versions. If the file had a text that may have been half written, this one counts as saved in its place."""
+        cut = self.cuts.pop(origin.inode, Cut(origin.since, versions, self.mine, self.mine))
+        read = started_from(cut.versions, text)
+        wanted = merge(read, text, cut.before)
+        # What the second text inserts comes first, so that it goes on right where the first one ended.
+        self.mine = merge(cut.wanted, self.mine, wanted)
+        if has_lost_its_end(read, text):
+            self.cuts[origin.inode] = Cut(origin.since, list(cut.versions), cut.before, wanted)
 
     def read_lately(self) -> list[str]:
         """The versions of the file that an editor may have read."""
@@ -388,6 +446,7 @@ class Shared:
         self.versions.append((now, self.mine))
 
     def forget_old(self, then: float) -> None:
-        """Forgets the versions that had been replaced long before a moment."""
+        """Forgets the versions that had been replaced long before a moment, and what was cut long before it."""
         later = [at for at, _ in self.versions[1:]]
         self.versions = [it for it, end in zip(self.versions, [*later, then]) if end > then - READ_AGO]
+        self.cuts = {inode: it for inode, it in self.cuts.items() if it.since > then - READ_AGO}

@@ -1,4 +1,4 @@
-//! Sites, the star and the hub that shares one among threads, by their public calls.
+//! Sites, the star, the hub that shares one among threads, and whole runs of a hub, by their public calls.
 #![tactic(auto)]
 
 ghost use Rattle.std.specs.Prelude.{◌≡◌};
@@ -10,6 +10,8 @@ mod expect;
 #[cfg(test)]
 mod first_edits;
 #[cfg(test)]
+mod gates;
+#[cfg(test)]
 mod growths;
 #[cfg(test)]
 mod histories;
@@ -19,6 +21,10 @@ mod honest_sites;
 mod hub_growths;
 #[cfg(test)]
 mod hubs;
+#[cfg(test)]
+mod run_growths;
+#[cfg(test)]
+mod runs;
 #[cfg(test)]
 mod served;
 #[cfg(test)]

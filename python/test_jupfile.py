@@ -1,4 +1,4 @@
-"""Kills `jupfile` at every step that it makes, starts it again, and sees that each word is there once.
+"""Kills `jupfile` at every step that it makes, starts it again, and sees that each word is there once. It also has an editor save at each step, or pause in the middle of a save.
 
 All of it runs in one process, with a clock of its own: `jupfile`, a server, the editor of the file and another client. The server is the plain one of conformance/fakes. The client is the library if JUP_LIBRARY names it, and else the plain one of conformance/fakes.
 A step is a call that looks at a file or changes it, or sends, waits or hears. A file that is written can also be cut in the middle.

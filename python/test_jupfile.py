@@ -560,7 +560,7 @@ class Steps(unittest.TestCase):
         self.check_saves(WRITTEN, after=self.begun(WRITTEN), kills=8)
 
     def test_an_editor_pauses_in_the_middle_of_a_save(self):
-        others = ([], [(1, others_insert("two", at=4))], [(5, others_insert("two", at=2))], [(12, others_insert("two", at=2))], [(2, others_delete("gamma"))], [(4, others_delete("delta"))])
+        others = ([], [(1, others_insert("two", at=4))], [(5, others_insert("two", at=2))], [(12, others_insert("two", at=2))], [(13, others_insert("two", at=3))], [(2, others_delete("gamma"))], [(4, others_delete("delta"))])
         for share, pause, between in itertools.product((2, 4, 1000), range(6, MOST_PAUSE), others):
             script = [(8, half_of("one", share=share)), *between, (pause - sum(looks + 1 for looks, _ in between), rest)]
             self.check(play(TEXT, script, {}), share, pause, between)

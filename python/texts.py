@@ -371,6 +371,7 @@ class Whole:
             self.had, self.half = [self.half], None
         if self.half is None:
             self.begun = since
+        # A text that waits was cut when it came, so it is not compared again.
         if (text == self.half or self.is_cut(text)) and now - since < CUT and now - self.begun < LONGEST_CUT:
             self.half = text
             return False

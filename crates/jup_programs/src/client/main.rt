@@ -3,8 +3,8 @@ ghost use Rattle.std.specs.Prelude.{◌≤◌};
 
 use super::run_client;
 use crate::options::client_words;
-use jup_intake::{Drained, Intake, drain, hang_up};
 use jup_rules::{ClientEnd, Inbox};
+use jup_stream::{Drained, Intake, drain, hang_up};
 use std::alloc::Global;
 use std::io::{Read, Write};
 use std::net::{Net, TcpListener, TcpStream};

@@ -7,6 +7,7 @@
 export const MOST_OPERATIONS = 32;
 export const MOST_ITEMS = 65536;
 export const MOST_WAITING = 1024;
+export const MOST_LETTERS = 48; // of a label
 const MOST_WIDGETS = 64;
 const ACKNOWLEDGE_AFTER = 64;
 const LINE_LIMIT = 256;
@@ -34,7 +35,7 @@ const fail = (number) => {
 const NUM = "(0|[1-9][0-9]*)";
 const NAME = "((?:0|[1-9][0-9]*)\\.(?:0|[1-9][0-9]*))";
 const INT = "(0|-?[1-9][0-9]*)";
-const LABEL = "([ -~]{1,48})";
+const LABEL = `([ -~]{1,${MOST_LETTERS}})`;
 const SETTING = "(on|off)";
 const whole = (shape) => new RegExp(`^${shape}$`);
 const LABEL_SHAPE = whole(LABEL);
@@ -272,8 +273,9 @@ function change({ items, names }, op) {
 
 const BOARD_WORDS = new Set(["window", "text", "list", "toggle", "slider", "char", "item"]);
 
-// `send` takes text of whole lines that goes to the server. `told` is called with what happened: "ready" once the board is there,
-// "changed" with each operation of others after it is applied, and "pong" with its number.
+// `send` takes text of whole lines that goes to the server. `told` is called with "ready" once the board is there, and with "pong" and its
+// number. After an edit of others is applied, it is called with "came", the operations as the server sent them (`raw`), and how many edits of
+// this site the server had `heard`. Then it is called with "changed" and each operation as it was applied.
 export class Site {
   stage = "welcome"; // then "board", "open" and "stopped"
   board = new Board();
@@ -447,6 +449,7 @@ export class Site {
     });
     this.board.applyAll(comes);
     this.heard += 1;
+    this.#told("came", { raw: ops, heard });
     for (const op of comes) if (op.verb !== "no") this.#told("changed", op);
     this.#acknowledge();
   }

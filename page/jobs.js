@@ -22,6 +22,20 @@ export class Job {
     return this.steps.filter(({ value }) => value !== undefined).map(({ value }) => value);
   }
 
+  // How many characters are still to be deleted.
+  get deletions() {
+    return this.steps.length - this.rest.length;
+  }
+
+  // The server has not taken these edits, the last of the job: their operations, and `after`, what the first of them came after. They are
+  // made again.
+  takeBack(edits) {
+    if (edits.length === 0) return;
+    const steps = edits.flatMap(({ ops }) => ops).map(({ verb, name, value }) => (verb === "ins" ? { value } : { name }));
+    this.steps.unshift(...steps);
+    this.after = edits[0].after;
+  }
+
   // The commands of the next edit. Items that others have deleted are passed over. What a full text has no room for comes last.
   next() {
     const { win, wid, widget } = this.view;

@@ -11,9 +11,12 @@ const MOST_SENT = 32768;
 const BEAT = 5000;
 const QUIET = 20000;
 const SILENT = 15000;
-// How long to wait before joining again: at first, at most, and if the server has no room.
-const FIRST_WAIT = 500;
-const LONGEST_WAIT = 15000;
+// How long to wait before joining again, from one try to the next. Each wait is up to a fifth longer or shorter, so that pages come one
+// after the other.
+const WAITS = [500, 1000, 2000, 4000, 5000];
+const SPREAD = 0.2;
+// How long a user's act waits after the last try.
+const HURRY = 1000;
 
 // Runs a task after those that wait, in a hidden page too, where timers are slow.
 const channel = new MessageChannel();
@@ -24,7 +27,7 @@ export function later(task) {
   channel.port2.postMessage(null);
 }
 
-// `told` is called with "ready" and "confirmed", and with "heard" after lines were taken. It is called with "changed" and an operation
+// `told` is called with "ready" and "confirmed", and with "heard" after lines were taken. It is called with what the site says of edits
 // of others, and with "lost" and the number of the fault, if there was one.
 export class Link {
   confirmed = 0; // how many of the site's edits the server has taken for certain
@@ -36,7 +39,9 @@ export class Link {
   #isDue = false; // whether a task takes them
   #unsent = "";
   #asked = null; // the ping that is not answered: its number, and how many edits were made before it
-  #cameAt = 0;
+  #aliveAt = 0; // when something came last, or went out
+  #unwritten = 0; // how many bytes the socket had still to write when that was looked at
+  #triedAt = 0;
   #tries = 0;
   #retry = 0;
 
@@ -60,7 +65,9 @@ export class Link {
     this.#unheard = [];
     this.#unsent = "";
     this.#asked = null;
-    this.#cameAt = performance.now();
+    this.#aliveAt = performance.now();
+    this.#triedAt = this.#aliveAt;
+    this.#unwritten = 0;
     this.confirmed = 0;
     this.site = new Site((text) => this.#send(text), (what, it) => this.#happened(what, it));
     socket.addEventListener("open", ifMine(() => this.site.greet()));
@@ -68,9 +75,9 @@ export class Link {
     socket.addEventListener("close", ifMine(() => this.#lose()));
   }
 
-  // Joins again now, if the link is lost.
+  // Joins again now, if the link is lost. It tries once a second at most.
   hurry() {
-    if (this.#socket === null && !this.hasLeft) this.open();
+    if (this.#socket === null && !this.hasLeft && performance.now() - this.#triedAt >= HURRY) this.open();
   }
 
   edit(commands) {
@@ -106,7 +113,7 @@ export class Link {
   }
 
   #came(piece) {
-    this.#cameAt = performance.now();
+    this.#aliveAt = performance.now();
     this.#unheard.push(...this.#lines.take(piece));
     if (!this.#isDue) this.#hear();
   }
@@ -148,11 +155,14 @@ export class Link {
     this.#asked = { number: this.site.ping(), made: this.site.made, at: performance.now() };
   }
 
-  // A link can end without a word, as where a network breaks.
+  // A link can end without a word, as where a network breaks. One that still takes what is written is alive.
   #beat() {
     if (this.#socket === null) return;
     const now = performance.now();
-    const silence = now - this.#cameAt;
+    const { bufferedAmount } = this.#socket;
+    if (bufferedAmount < this.#unwritten) this.#aliveAt = now;
+    this.#unwritten = bufferedAmount;
+    const silence = now - this.#aliveAt;
     const isAwaited = this.isOpen ? this.#asked !== null && now - this.#asked.at > SILENT : true;
     if (isAwaited && silence > SILENT) this.#lose();
     else if (this.isOpen && this.#asked === null && silence > QUIET) this.#ping();
@@ -165,9 +175,9 @@ export class Link {
     socket.close();
     if (this.hasLeft) return;
     const hasNoRoom = fault === FAULT.Full || fault === FAULT.SitesSpent;
-    const wait = hasNoRoom ? LONGEST_WAIT : Math.min(FIRST_WAIT * 2 ** this.#tries, LONGEST_WAIT);
+    const wait = hasNoRoom ? WAITS.at(-1) : WAITS[Math.min(this.#tries, WAITS.length - 1)];
     this.#tries += 1;
-    this.#retry = setTimeout(() => this.open(), wait);
+    this.#retry = setTimeout(() => this.open(), wait * (1 - SPREAD + 2 * SPREAD * Math.random()));
     this.#told("lost", fault);
   }
 }

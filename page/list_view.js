@@ -1,125 +1,241 @@
 // The view of a list.
-import { isLabel } from "./core.js";
-import { difference, placeOf } from "./texts.js";
-import { View, make } from "./view.js";
+import { MOST_OPERATIONS } from "./core.js";
+import { Relabels, faultOf, linesOf } from "./labels.js";
+import { Foot } from "./list_foot.js";
+import { Row } from "./list_row.js";
+import { counted, placeOf } from "./texts.js";
+import { View, arrange, flash, make } from "./view.js";
 
-const HINT = "An item has 1 to 48 characters: letters without accents, digits, spaces and the signs of a keyboard.";
+// For how many milliseconds a press may be meant for what was there before others moved it.
+const MOVED = 500;
 
 export class ListView extends View {
   #rows = new Map(); // by the names of their items
+  #shown = []; // all rows in their order, also those of items that others have deleted
+  #relabels = new Relabels();
   #isOpen = true;
+  #count = 0; // how many rows were made
+  #isVoid = false; // whether the press that goes on does nothing
 
   constructor(...given) {
     super(...given);
-    const caption = this.name.textContent;
     this.name.id = `${this.id}-caption`;
-    this.list = make("ol", { role: "list", "aria-labelledby": this.name.id });
-    this.hint = make("p", { id: `${this.id}-hint`, className: "hint", textContent: HINT, hidden: true });
-    this.field = make("input", {
-      type: "text", id: this.id, maxLength: 48, placeholder: "add an item", ariaLabel: `Add to ${caption}`, autocomplete: "off", enterKeyHint: "done",
-      keydown: (event) => event.key === "Enter" && !event.isComposing && this.#add(),
-      input: () => this.#judge(this.field, true),
-    });
-    const add = make("button", { type: "button", textContent: "+", ariaLabel: `Add the item to ${caption}`, click: () => this.#add() });
-    this.element = make("div", { className: "widget", role: "group", "aria-labelledby": this.name.id, keydown: (event) => this.#walk(event) },
-      make("span", { className: "caption" }, this.name, this.mark, this.waits), this.list, make("div", { className: "row" }, this.field, add), this.hint);
+    this.list = make("ol", { role: "list", tabIndex: -1, "aria-labelledby": this.name.id });
+    this.foot = new Foot(this, this.id);
+    this.element = make("div", { className: "widget", role: "group", "aria-labelledby": this.name.id, keydown: (event) => event.isComposing || this.#key(event) },
+      this.head(this.name, this.copy), this.list, this.foot.element);
+    for (const kind of ["mousedown", "click"]) this.element.addEventListener(kind, (event) => this.#guard(event), true);
+    this.named();
     this.draw();
+  }
+
+  named() {
+    super.named();
+    this.foot.named(this.name.textContent);
   }
 
   setOpen(isOpen) {
     this.#isOpen = isOpen;
-    for (const field of this.element.querySelectorAll("input")) field.readOnly = !isOpen;
-    for (const button of this.element.querySelectorAll("button")) button.ariaDisabled = String(!isOpen);
+    for (const it of [...this.#shown, this.foot]) it.setOpen(isOpen);
   }
 
-  // Each row goes to the item at its place, so that the cursor stays in its row.
+  // ---- What others do ----
+
+  // Each row goes to the item at its place. A draft stays, and goes only to an item with the label that it began with.
   forgetNames() {
-    const byElement = new Map([...this.#rows.values()].map((row) => [row.element, row]));
-    const rows = [...this.list.children].map((element) => byElement.get(element));
+    const { items } = this.widget;
+    this.#relabels = new Relabels();
     this.#rows = new Map();
-    this.widget.items.slice(0, rows.length).forEach((item, at) => this.#rows.set(item.name, Object.assign(rows[at], { name: item.name })));
-    for (const row of rows.slice(this.widget.items.length)) row.element.remove();
+    this.#shown.filter((row) => !row.isGhost).forEach((row, at) => {
+      const item = items[at];
+      if (item && (!row.isDraft || item.value === row.label)) this.#rows.set(item.name, Object.assign(row, { name: item.name }));
+      else this.#lose(row);
+    });
+  }
+
+  // An edit of others came with this operation, when the server had `heard` edits of this page.
+  came({ verb, name, value }, heard) {
+    const row = this.#rows.get(name);
+    if (!row) return;
+    if (verb === "del" && this.#relabels.isOpen(name, heard)) row.loses();
+    const base = verb === "rel" ? this.#relabels.came(name, value, heard) : null;
+    if (base !== null) row.races(base, value);
+  }
+
+  confirmed(count) {
+    this.#relabels.confirmed(count);
   }
 
   draw() {
     const { items, names } = this.widget;
-    for (const row of this.#rows.values()) if (!names.has(row.name)) this.#remove(row);
-    let next = this.list.firstChild;
-    for (const item of items) {
-      const row = this.#rows.get(item.name) ?? this.#row(item);
-      if (row.element === next) next = next.nextSibling;
-      else this.list.insertBefore(row.element, next);
-      this.#relabel(row, item.value);
-    }
+    const [before, height] = [this.#shown, this.isChanged ? this.list.offsetHeight : 0];
+    for (const row of before) if (!row.isGhost && !names.has(row.name)) this.#lose(row);
+    for (const item of items) (this.#rows.get(item.name) ?? this.#make(item)).show(item.value);
+    this.#shown = this.#order(items);
+    this.#keepFocus(before);
+    arrange(this.list, this.#shown.map(({ element }) => element));
+    if (this.isChanged) this.#moved(before, height);
   }
 
-  #row({ name, value }) {
-    const field = make("input", { type: "text", maxLength: 48, value, autocomplete: "off", ariaLabel: `Item of ${this.name.textContent}`, readOnly: !this.#isOpen });
-    const remove = make("button", { type: "button", textContent: "\u00d7", ariaLabel: `Delete ${value}`, ariaDisabled: String(!this.#isOpen) });
-    const row = { name, field, remove, element: make("li", { className: "row" }, field, remove) };
-    const typed = () => this.#judge(field) && this.#edit("rel", row, field.value);
-    field.addEventListener("input", (event) => event.isComposing || typed());
-    field.addEventListener("compositionend", typed);
-    field.addEventListener("blur", () => this.#restore(row));
-    remove.addEventListener("click", () => this.#edit("del", row) && this.draw());
-    this.#rows.set(name, row);
+  #make(item) {
+    this.#count += 1;
+    const row = new Row(this, `${this.id}-hint-${this.#count}`, item);
+    row.setOpen(this.#isOpen);
+    this.#rows.set(item.name, row);
     return row;
   }
 
-  #relabel({ field, remove }, value) {
-    remove.ariaLabel = `Delete ${value}`;
-    if (field.value === value || field.ariaInvalid === "true") return;
-    const { head, tail } = difference(field.value, value);
-    field.setRangeText(value.slice(head, value.length - tail), head, field.value.length - tail, "preserve");
-  }
-
-  // Takes a row away. If the cursor is in it, it goes to a neighbour.
-  #remove(row) {
-    const isFocused = row.element.contains(document.activeElement);
-    const neighbour = row.element.nextElementSibling ?? row.element.previousElementSibling;
-    const isButton = document.activeElement === row.remove;
+  // The item of a row is gone.
+  #lose(row) {
     this.#rows.delete(row.name);
-    row.element.remove();
-    if (isFocused) (neighbour?.querySelector(isButton ? "button" : "input") ?? this.field).focus();
+    if (row.isKept) row.haunt();
+    else row.forget();
   }
 
-  #edit(verb, row, value) {
+  // The rows of the items, in order. A row without an item stays after the one that it was after.
+  #order(items) {
+    const behind = new Map([[null, []]]);
+    let last = null;
+    for (const row of this.#shown) {
+      if (row.isGhost) behind.get(last).push(row);
+      else if (this.#rows.get(row.name) === row) behind.set((last = row), []);
+    }
+    return [...behind.get(null), ...items.map(({ name }) => this.#rows.get(name)).flatMap((row) => [row, ...(behind.get(row) ?? [])])];
+  }
+
+  // The focus goes from a row that is taken away to the row after it, but into no field and onto no button.
+  #keepFocus(before) {
+    const at = before.findIndex(({ element }) => element.contains(document.activeElement));
+    if (at < 0 || this.#shown.includes(before[at])) return;
+    const next = [...before.slice(at + 1), ...before.slice(0, at).reverse()].find((row) => this.#shown.includes(row));
+    (next?.element ?? this.list).focus();
+  }
+
+  #moved(before, height) {
+    const first = this.#shown.findIndex((row, at) => row !== before[at]);
+    const isSame = first < 0 && this.#shown.length === before.length;
+    if (isSame && this.list.offsetHeight === height) return;
+    const moved = isSame || first >= 0 ? this.#shown.slice(Math.max(first, 0)) : [];
+    for (const it of [...moved, this.foot]) it.movedAt = performance.now();
+  }
+
+  // A press hits what was there when others moved it, or nothing, and so does the second of a double click on a button. A key hits what
+  // has the focus.
+  #guard(event) {
+    if (event.detail === 0) return;
+    const hit = [...this.#shown, this.foot].find(({ element }) => element.contains(event.target));
+    const isSecond = event.detail > 1 && event.target.closest("button") !== null;
+    if (event.type === "mousedown") this.#isVoid = isSecond || (hit !== undefined && performance.now() - hit.movedAt < MOVED);
+    if (!this.#isVoid) return;
+    event.preventDefault();
+    event.stopPropagation();
+    if (!isSecond) flash(hit.element);
+  }
+
+  // ---- What the user does ----
+
+  relabel(row, label) {
     const place = placeOf(this.widget.items, row.name, 0);
-    return place >= 0 && this.edit([{ verb, place, value }]);
+    const before = this.widget.items[place]?.value;
+    if (place < 0 || !this.edit([{ verb: "rel", place, value: label }])) return false;
+    this.#relabels.made(row.name, this.page.made - 1, before);
+    row.show(label);
+    return true;
   }
 
-  #add() {
-    const { value } = this.field;
-    if (!this.#judge(this.field) || !this.edit([{ verb: "ins", place: this.widget.items.length, value }])) return;
-    this.field.value = "";
+  // Deletes an item. Returns where it was, or -1 if it is still there.
+  remove(row) {
+    const place = placeOf(this.widget.items, row.name, 0);
+    if (place < 0 || !this.edit([{ verb: "del", place }])) return -1;
+    row.forget();
+    this.draw();
+    return place;
+  }
+
+  // Deletes an item whose label the user has taken away.
+  removeEmptied(row) {
+    const { label } = row;
+    const place = this.remove(row);
+    if (place >= 0) this.page.notices.add({ view: this, words: `\u201c${label}\u201d is deleted, since you emptied it.`, choices: { "Add it again": () => this.#insert(place, [label]) } });
+  }
+
+  // Takes away a row whose item is gone.
+  drop(row) {
+    row.forget();
     this.draw();
   }
 
-  // Whether a field has a label. The view says so if it has none.
-  #judge(field, isEmptyFine = false) {
-    const isGood = isLabel(field.value) || (isEmptyFine && field.value === "");
-    field.ariaInvalid = String(!isGood);
-    if (isGood) field.removeAttribute("aria-describedby");
-    else field.setAttribute("aria-describedby", this.hint.id);
-    this.hint.hidden = isGood;
-    return isGood;
+  // Makes an item of a row whose item is gone.
+  addAgain(row, label) {
+    const before = this.#shown.slice(0, this.#shown.indexOf(row)).findLast((it) => !it.isGhost);
+    const ops = this.edit([{ verb: "ins", place: before ? placeOf(this.widget.items, before.name, 0) + 1 : 0, value: label }]);
+    if (!ops) return false;
+    Object.assign(row, { name: ops[0].name, label, isGhost: false });
+    this.#rows.set(row.name, row);
+    this.draw();
+    return true;
   }
 
-  // A field that the cursor leaves shows its item again.
-  #restore({ name, field }) {
-    const item = this.widget.items[placeOf(this.widget.items, name, 0)];
-    if (!item) return;
-    field.value = item.value;
-    this.#judge(field);
-  }
-
-  // The arrow keys and Enter go from row to row.
-  #walk(event) {
-    const fields = [...this.element.querySelectorAll("input")];
-    const at = fields.indexOf(event.target);
-    const way = { ArrowUp: -1, ArrowDown: 1, Enter: 1 }[event.key];
-    if (at < 0 || !way || event.isComposing || !fields[at + way]) return;
+  // Several lines that are pasted become an item each. The first stays in the field of a row.
+  pasted(event, field, row) {
+    const text = event.clipboardData.getData("text/plain");
+    const lines = linesOf(field.value.slice(0, field.selectionStart) + text + field.value.slice(field.selectionEnd));
+    if (lines.length < 2 || field.readOnly) return;
     event.preventDefault();
-    fields[at + way].focus();
+    field.value = row ? lines.shift() : "";
+    field.dispatchEvent(new InputEvent("input"));
+    this.#insert(row && !row.isGhost ? placeOf(this.widget.items, row.name, 0) + 1 : this.widget.items.length, lines);
+  }
+
+  // Inserts labels. Those that can't be items, or are refused, are offered.
+  #insert(place, labels) {
+    const left = labels.filter((it) => faultOf(it) === "");
+    const bad = labels.filter((it) => faultOf(it) !== "");
+    for (let at = Math.min(place, this.widget.items.length); left.length > 0; ) {
+      const commands = left.slice(0, MOST_OPERATIONS).map((value, more) => ({ verb: "ins", place: at + more, value }));
+      if (!this.edit(commands)) break;
+      at += commands.length;
+      left.splice(0, commands.length);
+    }
+    this.draw();
+    const rest = [...left, ...bad];
+    if (rest.length > 0) this.page.notices.add({ view: this, words: `${counted(rest.length, "line")} could not be added.`, text: rest.join("\n") });
+  }
+
+  append(label) {
+    const isMade = this.edit([{ verb: "ins", place: this.widget.items.length, value: label }]) !== null;
+    if (isMade) this.draw();
+    return isMade;
+  }
+
+  sendDrafts() {
+    for (const row of [...this.#shown]) row.send();
+  }
+
+  get drafts() {
+    return [...this.#shown, this.foot].filter((it) => it.isDraft).map(({ field }) => field.value);
+  }
+
+  close() {
+    for (const row of this.#shown) row.forget();
+    this.foot.clear();
+  }
+
+  #key(event) {
+    if (event.target !== this.foot.field) return this.#walk(event);
+    if (event.key === "Enter") return this.foot.add();
+    return event.key === "Escape" ? this.foot.clear() : this.#walk(event);
+  }
+
+  // The arrow keys and Enter go from row to row. From a row that has the focus itself they go to its field.
+  #walk(event) {
+    const way = { ArrowUp: -1, ArrowDown: 1, Enter: 1 }[event.key];
+    const row = this.#shown.find(({ element, field }) => event.target === element || event.target === field);
+    if (!way || !(row || event.target === this.foot.field)) return;
+    const fields = [...this.#shown, this.foot].map(({ field }) => field);
+    const next = event.target === row?.element ? row.field : fields[fields.indexOf(event.target) + way];
+    event.preventDefault();
+    if (event.key === "Enter" && row && !row.isGood) return;
+    next?.focus();
   }
 }

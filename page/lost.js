@@ -1,5 +1,5 @@
 // What a server may not have taken, found again as text to copy.
-import { counted, shownAs, textOf } from "./texts.js";
+import { counted, difference, shownAs, textOf } from "./texts.js";
 
 const key = ({ win, wid }) => `${win}.${wid}`;
 const isOf = (site, name) => name.startsWith(`${site}.`);
@@ -29,42 +29,64 @@ export function missing(edits, site, board) {
   return edits.slice(1 + edits.findLastIndex((ops) => ops.some(isThere)));
 }
 
-// The edits of a killed server's site that a board of its next run may lack. A widget that shows the same as before lacks nothing.
+// The edits of a killed server's site that a board of its next run may lack. A widget that shows the same as before lacks nothing, and one
+// that shows less lacks only what it does not show.
 export function maybeMissing(edits, old, now) {
-  const shows = (board, it) => {
-    const { kind, items, value } = board.widget(...it.split(".").map(Number)) ?? {};
-    return JSON.stringify([kind, items?.map((item) => item.value), value]);
+  const tests = new Map();
+  const isLacking = (op) => {
+    if (!tests.has(key(op))) tests.set(key(op), lackOf(old.widget(op.win, op.wid), now.widget(op.win, op.wid)));
+    return tests.get(key(op))(op);
   };
-  const touched = [...new Set(edits.flat().map(key))];
-  const isOther = new Set(touched.filter((it) => shows(old, it) !== shows(now, it)));
-  return edits.map((ops) => ops.filter((op) => isOther.has(key(op))));
+  return edits.map((ops) => ops.filter(isLacking));
 }
 
-// What the edits did, in words, widget by widget. `board` is the one that they were made on, and `rests` maps the key of a text to
-// characters that were to follow. `caption` names a widget by its key and its kind.
-export function wordsOf(edits, board, rests, caption) {
-  const touched = new Map();
-  for (const op of edits.flat()) touched.set(key(op), [...(touched.get(key(op)) ?? []), op]);
-  for (const it of rests.keys()) if (!touched.has(it)) touched.set(it, []);
-  const parts = [];
-  for (const [it, ops] of touched) {
-    const widget = board.widget(...it.split(".").map(Number));
-    const words = widgetWords(widget, ops, rests.get(it) ?? []);
-    if (words !== "") parts.push(`${caption(it, widget.kind)}:\n${words}`);
+// Tests whether an operation on a widget may be lacking in what the widget is now.
+function lackOf(was, is) {
+  if (was.kind !== is?.kind) return () => true;
+  if (was.kind === "text") return lackOfText(was, is);
+  if (was.kind !== "list") return () => was.value !== is.value;
+  const [before, labels] = [was.items.map(({ value }) => value), is.items.map(({ value }) => value)];
+  if (JSON.stringify(before) === JSON.stringify(labels)) return () => false;
+  const lacking = new Set(was.items.filter(({ value }) => !labels.includes(value)).map(({ name }) => name));
+  return ({ verb, name }) => verb === "del" || lacking.has(name);
+}
+
+function lackOfText(was, is) {
+  const [before, shown] = [textOf(was.items), textOf(is.items)];
+  if (before === shown) return () => false;
+  const { head, tail } = difference(before, shown);
+  const names = new Set();
+  let offset = 0;
+  for (const { name, value } of was.items) {
+    if (offset >= head && offset < before.length - tail) names.add(name);
+    offset += shownAs(value).length;
   }
-  return parts.join("\n\n");
+  return ({ verb, name }) => verb === "del" || names.has(name);
 }
 
-function widgetWords(widget, ops, rest) {
+// What the edits did, in words, by the keys of the widgets. `board` is the one that they were made on, and `rests` maps the key of a text
+// to a job on it that has steps to go.
+export function wordsOf(edits, board, rests) {
+  const touched = new Map(Array.from(rests.keys(), (it) => [it, []]));
+  for (const op of edits.flat()) touched.set(key(op), [...(touched.get(key(op)) ?? []), op]);
+  const words = new Map();
+  for (const [it, ops] of touched) {
+    const found = widgetWords(board.widget(...it.split(".").map(Number)), ops, rests.get(it));
+    if (found !== "") words.set(it, found);
+  }
+  return words;
+}
+
+function widgetWords(widget, ops, job) {
   if (widget.kind === "toggle") return ops.at(-1).value ? "on" : "off";
   if (widget.kind === "slider") return String(ops.at(-1).value);
   const namesOf = (...verbs) => new Set(ops.filter((op) => verbs.includes(op.verb)).map((op) => op.name));
   const made = namesOf("ins", "rel");
   const own = namesOf("ins");
-  const gone = [...namesOf("del")].filter((name) => !own.has(name));
+  const gone = [...namesOf("del")].filter((name) => !own.has(name)).length + (job?.deletions ?? 0);
   const lines = widget.kind === "list" ? widget.items.filter((it) => made.has(it.name)).map((it) => it.value) : runsOf(widget.items, made);
-  if (rest.length > 0) lines.push((lines.pop() ?? "") + rest.map(shownAs).join(""));
-  if (gone.length > 0) lines.push(`(${counted(gone.length, widget.kind === "list" ? "item" : "character")} deleted)`);
+  if (job?.rest.length > 0) lines.push((lines.pop() ?? "") + job.rest.map(shownAs).join(""));
+  if (gone > 0) lines.push(`(${counted(gone, widget.kind === "list" ? "item" : "character")} deleted)`);
   return lines.join("\n");
 }
 

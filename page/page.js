@@ -1,14 +1,15 @@
-// The page: its link, and a view of each widget.
+// The page: what its link tells, the edits and jobs of its views, and what its head says.
 import { FAULT, Fault, MOST_OPERATIONS, MOST_WAITING } from "./core.js";
 import { Drawing } from "./drawing.js";
 import { Link, later } from "./link.js";
-import { isSameRun, maybeMissing, missing, wordsOf } from "./lost.js";
-import { ListView } from "./list_view.js";
-import { SliderView, ToggleView } from "./setting_views.js";
-import { Offer, Status } from "./status.js";
-import { TextView } from "./text_view.js";
-import { counted, readCaptions, reasonOf, shownAs } from "./texts.js";
-import { make } from "./view.js";
+import { isSameRun } from "./lost.js";
+import { openMenu } from "./menu.js";
+import { Held, Notices } from "./notices.js";
+import { Status } from "./status.js";
+import { counted, reasonOf, shownAs } from "./texts.js";
+import { Untaken } from "./untaken.js";
+import { found } from "./view.js";
+import { Windows } from "./windows.js";
 
 // Jobs of at most so many steps are done while the user waits. Longer ones are done in pieces of so many milliseconds.
 const SHORT = 256;
@@ -18,124 +19,171 @@ const SPARE = 64;
 const NEEDED = SHORT / MOST_OPERATIONS;
 // How often the page asks how many are connected.
 const WHO = 5000;
-// A server that is killed loses what it took in its last two seconds, so the page remembers its edits for longer than that.
-const REMEMBERED = 4000;
-
-const VIEWS = { text: TextView, list: ListView, toggle: ToggleView, slider: SliderView };
-const KINDS = { text: "Text", list: "List", toggle: "Toggle", slider: "Slider" };
+// The refusals that a user can meet. Any other fault of an edit is a mistake of the page.
+const REFUSALS = new Set([FAULT.LongText, FAULT.Backlog, FAULT.NoMemory, FAULT.Spent, FAULT.LogFull]);
 const isFull = (fault) => fault === FAULT.Spent || fault === FAULT.LogFull;
 
-// The text at an address beside the page's own, or "" if the server does not give it.
+// The text at an address beside the page's own, or null if the server does not give it.
 async function textAt(name) {
   try {
     const answer = await fetch(new URL(name, location.href), { cache: "no-store" });
-    return answer.ok ? await answer.text() : "";
+    return answer.ok ? await answer.text() : null;
   } catch {
-    return "";
+    return null;
   }
 }
 
 class Page {
-  views = new Map(); // by keys like "1.2": the ids of the window and of the widget
-  #captions;
+  drafts = new Held(() => this.#tell()); // what is typed and not sent
+  notices = new Notices(() => this.#tell());
+  #windows;
+  #drawing;
   #jobs = [];
-  #edits = []; // edits of this page that may be lost: `ops`, their `view`, their `number`, and `at`, when they were confirmed
+  #untaken = new Untaken(this);
   #shown = null; // the site whose board is shown
-  #lost = null; // edits that the next board may lack, the rest of jobs, and the site that made them
+  #reasons = new Map(); // the notices that say why something was refused, by their words
   #isReadOnly = false; // whether the server takes no more edits
+  #isWaiting = false; // whether the server has no room for this page
   #isWorking = false; // whether a task goes on with jobs
-  #drawing = new Drawing(this.views);
   #status = new Status();
-  #offer = new Offer(() => this.#dismissed());
 
   constructor(captions) {
-    this.#captions = captions;
+    this.#windows = new Windows(this, captions);
+    this.#drawing = new Drawing(this.views);
     const address = new URL("ws", location.href);
     address.protocol = address.protocol.replace("http", "ws");
     this.link = new Link(address.href, (what, it) => this[what](it));
-    addEventListener("pagehide", () => this.link.leave());
-    addEventListener("pageshow", (event) => event.persisted && this.#comeBack());
-    addEventListener("beforeunload", (event) => this.#isSaved() || event.preventDefault());
-    addEventListener("online", () => this.link.hurry());
-    document.addEventListener("visibilitychange", () => document.hidden || this.link.hurry());
+    this.#listen();
+    openMenu(this, (isTelling) => (this.#status.isTelling = isTelling));
     setInterval(() => this.#countLinks(), WHO);
   }
 
+  #listen() {
+    addEventListener("pagehide", () => this.#leave());
+    addEventListener("pageshow", (event) => event.persisted && this.#comeBack());
+    addEventListener("beforeunload", (event) => this.#isSaved() || event.preventDefault());
+    addEventListener("online", () => this.link.hurry());
+    document.addEventListener("visibilitychange", () => (document.hidden ? this.#hide() : this.link.hurry()));
+    for (const act of ["keydown", "pointerdown"]) document.addEventListener(act, () => this.link.isOpen || this.link.hurry());
+    document.addEventListener("beforeinput", (event) => event.inputType.startsWith("history") && this.#refuseHistory(event));
+    found("try-now").addEventListener("click", () => this.link.hurry());
+    found("notice-count").addEventListener("click", () => this.notices.show());
+  }
+
+  get views() {
+    return this.#windows.views;
+  }
+
+  get board() {
+    return this.link.site.board;
+  }
+
+  // How many edits this page has made.
+  get made() {
+    return this.link.site.made;
+  }
+
   captionOf(key, kind) {
-    return this.#captions.get(key) ?? `${KINDS[kind] ?? "Window"} ${key.split(".").at(-1)}`;
+    return this.#windows.captionOf(key, kind);
   }
 
   // ---- What the link tells ----
 
   ready() {
     const { site } = this.link;
-    const isSame = this.#shown !== null && isSameRun(this.#shown, site);
+    const isFirst = this.#shown === null;
+    const isSame = !isFirst && isSameRun(this.#shown, site);
     this.#shown = site;
-    if (this.#hasSameWidgets()) for (const view of this.views.values()) view.rebind(site.board.widget(view.win, view.wid), isSame);
-    else this.#build();
+    this.#isWaiting = false;
+    this.#windows.show(this.board, isSame);
     this.#drawing.now();
+    this.#jobs = this.#untaken.settle(isSame);
     this.#setOpen();
-    this.#offerLost(isSame);
-    this.#status.announce("Connected");
-    if (!this.#isReadOnly) this.#status.note("");
+    if (!this.#isReadOnly) for (const element of this.#reasons.values()) this.notices.end(element);
+    if (isFirst) this.#offerKept();
+    else this.#readCaptions();
+    this.#status.announce("link", "Connected");
     this.#countLinks();
+    this.#work();
+  }
+
+  came({ raw, heard }) {
+    for (const op of raw) this.views.get(`${op.win}.${op.wid}`).came(op, heard);
   }
 
   changed(op) {
-    this.views.get(`${op.win}.${op.wid}`).changed();
+    const view = this.views.get(`${op.win}.${op.wid}`);
+    view.changed();
+    this.#status.announce("changes", `Others changed ${view.name.textContent}`);
   }
 
   heard() {
     this.#drawing.soon();
     this.#work();
+    this.#untaken.lookAgain();
   }
 
   confirmed() {
-    const now = performance.now();
-    for (const edit of this.#edits.filter(({ number, at }) => at === null && number <= this.link.confirmed)) {
-      edit.at = now;
-      edit.view.awaits(-1);
-    }
-    this.#edits = this.#edits.filter(({ at }) => at === null || now - at < REMEMBERED);
+    this.#untaken.confirmed(this.link.confirmed);
+    for (const view of this.views.values()) view.confirmed(this.link.confirmed);
     this.#tell();
   }
 
   lost(fault) {
-    const isNew = document.body.dataset.stage !== "lost";
+    const isNew = this.#shown !== null && !["lost", "waiting"].includes(document.body.dataset.stage);
     this.#isReadOnly = isFull(fault);
-    if (fault !== undefined) this.#status.note(reasonOf(fault));
-    if (this.#edits.length + this.#jobs.length > 0) this.#keepLost();
+    this.#isWaiting = fault === FAULT.Full;
+    if (fault !== undefined && !this.#isWaiting) this.#explain(reasonOf(fault));
+    this.#untaken.lose(this.link.site, this.#jobs);
+    this.#jobs = [];
     this.#setOpen();
     this.#status.count(0);
-    if (isNew) this.#status.announce("The connection is lost. This page joins again by itself");
+    if (isNew) this.#status.announce("link", "The connection is lost. This page joins again by itself");
   }
 
   // ---- Edits ----
 
-  // Makes an edit for a view. Returns its operations, or null if it is refused.
-  edit(view, commands) {
+  // Makes an edit for a view, perhaps one of a job. Returns its operations, or null if it is refused.
+  edit(view, commands, job = null) {
     if (!this.#takesEdits) return null;
+    const after = job?.after;
     try {
       const ops = this.link.edit(commands);
-      this.#edits.push({ ops, view, number: this.link.site.made, at: null });
-      view.awaits(1);
+      this.#untaken.add({ ops, view, job, after });
       this.#tell();
       return ops;
     } catch (fault) {
-      if (!(fault instanceof Fault)) throw fault;
-      this.#refuse(fault.number, view, commands);
+      if (!(fault instanceof Fault) || !REFUSALS.has(fault.number)) throw fault;
+      this.#refuse(fault.number, view, job);
       return null;
     }
   }
 
-  // What a refused edit was to bring is offered, unless a job does so.
-  #refuse(fault, view, commands) {
-    this.#status.note(reasonOf(fault));
-    const values = commands.filter(({ verb }) => verb !== "del").map(({ value }) => value);
-    if (view.widget.kind !== "text" && values.length > 0) this.#offer.add(`${this.captionOf(view.key, view.widget.kind)}:\n${values.map(wordOf).join("\n")}`);
-    if (!isFull(fault)) return;
+  // What a refused edit was to bring stays in its field, or is offered if a job was to bring it.
+  #refuse(fault, view, job) {
+    const text = job?.rest.map(shownAs).join("") ?? "";
+    if (text === "") this.#explain(reasonOf(fault), view);
+    else this.notices.add({ view, words: reasonOf(fault), text });
+    if (isFull(fault)) this.#closeForGood();
+  }
+
+  #closeForGood() {
     this.#isReadOnly = true;
     this.#setOpen();
+  }
+
+  #explain(words, view = null) {
+    if (!this.#reasons.get(words)?.isConnected) this.#reasons.set(words, this.notices.add({ view, words }));
+  }
+
+  // A browser's undo finds its old text no more once others have edited.
+  #refuseHistory(event) {
+    if (this.link.site.heard === 0) return;
+    event.preventDefault();
+    const view = [...this.views.values()].find(({ element }) => element.contains(event.target));
+    const words = "Others have edited this board, so the browser can\u2019t undo.";
+    view?.remark(words);
+    this.#status.announce("undo", words);
   }
 
   // Whether a job is done while its user waits.
@@ -173,18 +221,17 @@ class Page {
     return this.link.site.backlog + edits <= MOST_WAITING;
   }
 
-  // Makes the next edit of a job. If it is refused, the rest of the job is offered.
+  // Makes the next edit of a job. Returns its operations, or null if it is refused.
   #next(job) {
     const commands = job.next();
-    const ops = commands.length > 0 ? this.edit(job.view, commands) : [];
-    if (ops === null) return this.#offerRest(job);
-    job.made(ops);
+    const ops = commands.length > 0 ? this.edit(job.view, commands, job) : [];
+    if (ops !== null) job.made(ops);
     return ops;
   }
 
   // Goes on with jobs as long as the server keeps up.
   #work() {
-    if (this.#isWorking || this.#jobs.length === 0) return;
+    if (this.#isWorking || this.#jobs.length === 0 || !this.link.isOpen) return;
     const end = performance.now() + JOB_SLICE;
     while (this.#jobs.length > 0 && this.#hasRoom(SPARE) && performance.now() < end) {
       const [job] = this.#jobs;
@@ -206,69 +253,36 @@ class Page {
     this.#work();
   }
 
-  // ---- What was not taken ----
+  // ---- What waits for its user ----
 
   #isSaved() {
-    return this.#lost === null && this.#jobs.length === 0 && this.link.confirmed === this.link.site.made;
+    const isSent = !this.#untaken.isPending && this.#jobs.length === 0 && this.link.confirmed === this.made;
+    return isSent && this.drafts.count === 0 && !this.notices.isOffering;
   }
 
-  #keepLost() {
-    const now = performance.now();
-    const edits = this.#edits.filter(({ at }) => at === null || now - at < REMEMBERED);
-    for (const { view, at } of edits) if (at === null) view.awaits(-1);
-    this.#lost = { old: this.link.site, edits, rests: new Map(this.#jobs.map((job) => [job.view.key, job.rest])) };
-    this.#edits = [];
-    this.#jobs = [];
+  // Offers what an earlier page of this tab has kept.
+  #offerKept() {
+    for (const { key, words, text } of this.notices.kept()) this.notices.add({ view: this.views.get(key), words, text });
   }
 
-  // A board of the same run of the server shows which edits were taken. One of another run may lack the last that were confirmed, too.
-  #offerLost(isSame) {
-    if (this.#lost === null) return;
-    const { old, edits, rests } = this.#lost;
-    const { board } = this.link.site;
-    this.#lost = null;
-    const unconfirmed = edits.filter(({ at }) => at === null);
-    const untaken = isSame ? missing(unconfirmed.map(({ ops }) => ops), old.site, board) : maybeMissing(edits.map(({ ops }) => ops), old.board, board);
-    this.#offer.add(wordsOf(untaken, old.board, rests, (key, kind) => this.captionOf(key, kind)));
+  // The tab is hidden, left, or shown again.
+  #hide() {
+    for (const view of this.views.values()) view.sendDrafts();
   }
 
-  // Offers the characters that a job was to insert. Returns null, as what was made.
-  #offerRest({ view, rest }) {
-    if (rest.length > 0) this.#offer.add(`${this.captionOf(view.key, "text")}:\n${rest.map(shownAs).join("")}`);
-    return null;
+  #leave() {
+    const words = "You typed this here, and it was not sent.";
+    this.notices.keep([...this.views.values()].flatMap(({ key, drafts }) => drafts.map((text) => ({ key, words, text }))));
+    this.link.leave();
   }
 
-  #dismissed() {
-    this.#status.note("");
-    (document.querySelector("main textarea, main input") ?? document.body).focus();
+  #comeBack() {
+    this.notices.keep();
+    this.lost();
+    this.link.comeBack();
   }
 
   // ---- What is shown ----
-
-  #hasSameWidgets() {
-    const shape = (widget) => [widget?.kind, widget?.low, widget?.high].join();
-    const { board } = this.link.site;
-    const count = [...board.windows.values()].reduce((sum, widgets) => sum + widgets.size, 0);
-    return count > 0 && count === this.views.size && [...this.views.values()].every(({ win, wid, widget }) => shape(widget) === shape(board.widget(win, wid)));
-  }
-
-  #build() {
-    this.views.clear();
-    const windows = [...this.link.site.board.windows].map(([win, widgets]) => this.#window(win, widgets));
-    document.title = [...this.#captions.values(), "Gidzvruka"][0];
-    document.getElementById("board").replaceChildren(...(windows.length > 0 ? windows : [make("p", { textContent: "This board has no windows." })]));
-  }
-
-  #window(win, widgets) {
-    const heading = make("h2", { id: `window-${win}`, textContent: this.captionOf(String(win)) });
-    const section = make("section", { "aria-labelledby": heading.id }, heading);
-    for (const [wid, widget] of widgets) {
-      const view = new VIEWS[widget.kind](this, win, wid, widget);
-      this.views.set(view.key, view);
-      section.append(view.element);
-    }
-    return section;
-  }
 
   drawSoon() {
     this.#drawing.soon();
@@ -281,28 +295,33 @@ class Page {
 
   // Says in the head of the page how things are.
   #tell() {
-    const { site, confirmed, isOpen } = this.link;
+    this.#status.tell({ ...this.#state, notices: this.notices.count });
+  }
+
+  get #state() {
     const left = this.#jobs.reduce((sum, job) => sum + job.steps.length, 0);
-    const waiting = site.made - confirmed;
-    if (!isOpen) this.#status.tell("lost", "connection lost, joining again \u2026");
-    else if (left > 0) this.#status.tell("sending", `${counted(left, "character")} to go`);
-    else if (waiting > 0) this.#status.tell("sending", `${counted(waiting, "edit")} not confirmed yet`);
-    else if (this.#isReadOnly) this.#status.tell("full", "read only: the board is full");
-    else this.#status.tell("open", "all edits confirmed");
+    const waiting = this.made - this.link.confirmed;
+    if (this.#isWaiting) return { stage: "waiting", words: "64 people are here. You come in when one leaves" };
+    if (!this.link.isOpen) return { stage: "lost", words: "Offline" };
+    if (left > 0) return { stage: "sending", words: `${counted(left, "character")} to go` };
+    if (waiting > 0) return { stage: "sending", words: "Sending \u2026", slowly: `Sending \u2026 ${counted(waiting, "edit")} wait`, since: this.#untaken.oldest };
+    if (this.#isReadOnly) return { stage: "full", words: "Read only: the board is full" };
+    return this.drafts.count > 0 ? { stage: "draft", words: counted(this.drafts.count, "draft") } : { stage: "open", words: "Sent" };
+  }
+
+  async #readCaptions() {
+    const text = await textAt("captions");
+    if (text !== null) this.#windows.caption(text);
   }
 
   async #countLinks() {
     if (document.hidden || !this.link.isOpen) return;
-    const count = Number.parseInt(await textAt("who"), 10);
-    this.#status.count(this.link.isOpen ? count : 0);
-  }
-
-  #comeBack() {
-    this.lost();
-    this.link.comeBack();
+    const [count, state] = (await textAt("who"))?.split("\n") ?? [];
+    this.#status.count(this.link.isOpen ? Number.parseInt(count, 10) : 0);
+    if (state !== "full" || this.#isReadOnly) return;
+    this.#explain(reasonOf(FAULT.LogFull));
+    this.#closeForGood();
   }
 }
 
-const wordOf = (value) => (typeof value === "boolean" ? (value ? "on" : "off") : String(value));
-
-new Page(readCaptions(await textAt("captions")));
+new Page((await textAt("captions")) ?? "");

@@ -5,7 +5,8 @@ export class ToggleView extends View {
   constructor(...given) {
     super(...given);
     this.box = make("input", { type: "checkbox", role: "switch", id: this.id, change: () => this.edit([{ verb: "set", value: this.box.checked }]) || this.draw() });
-    this.element = make("div", { className: "widget across" }, this.label({ htmlFor: this.id }), this.box);
+    this.element = make("div", { className: "widget across" }, this.head(this.label()), this.box);
+    this.named();
     this.draw();
   }
 
@@ -22,11 +23,18 @@ export class SliderView extends View {
   constructor(...given) {
     super(...given);
     const { low: min, high: max } = this.widget;
-    this.range = make("input", { type: "range", id: this.id, min, max, step: 1, input: () => this.#dragged(), change: () => this.#set(this.range) });
-    this.number = make("input", { type: "number", min, max, step: 1, ariaLabel: `${this.name.textContent}, as a number`, change: () => this.#set(this.number) });
-    this.element = make("div", { className: "widget" }, this.label({ htmlFor: this.id }),
-      make("div", { className: "row wraps" }, bound(min), this.range, bound(max), this.number));
+    this.range = make("input", { type: "range", id: this.id, min, max, step: 1, input: () => this.#dragged(), change: () => this.#set(Number(this.range.value)) });
+    this.number = make("input", { type: "number", min, max, step: "any", change: () => this.#typed(), input: () => (this.hint.hidden = true) });
+    this.hint = make("p", { className: "hint", textContent: `${min} to ${max}`, role: "status", hidden: true });
+    this.element = make("div", { className: "widget" }, this.head(this.label()),
+      make("div", { className: "row wraps" }, bound(min), this.range, bound(max), this.number), this.hint);
+    this.named();
     this.draw();
+  }
+
+  named() {
+    super.named();
+    this.number.ariaLabel = `${this.name.textContent}, as a number`;
   }
 
   setOpen(isOpen) {
@@ -37,13 +45,23 @@ export class SliderView extends View {
   // However fast it is dragged, it makes an edit a frame at most.
   #dragged() {
     this.number.value = this.range.value;
-    this.frame ??= requestAnimationFrame(() => this.#set(this.range));
+    this.frame ??= requestAnimationFrame(() => this.#set(Number(this.range.value)));
   }
 
-  #set({ value, valueAsNumber }) {
+  // A number that is typed becomes the nearest that the slider has. What is no number changes nothing.
+  #typed() {
+    const { low, high, value } = this.widget;
+    const typed = this.number.valueAsNumber;
+    const nearest = Number.isNaN(typed) ? value : Math.min(high, Math.max(low, Math.round(typed)));
+    this.hint.hidden = Number.isNaN(typed) || nearest === Math.round(typed);
+    this.number.value = nearest;
+    this.#set(nearest);
+  }
+
+  #set(value) {
     cancelAnimationFrame(this.frame);
     this.frame = null;
-    if (value !== "" && Number.isInteger(valueAsNumber) && valueAsNumber !== this.widget.value) this.edit([{ verb: "set", value: valueAsNumber }]);
+    if (value !== this.widget.value) this.edit([{ verb: "set", value }]);
     this.draw();
   }
 

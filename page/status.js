@@ -1,73 +1,69 @@
-// What the page says about its link, and what it offers as text to copy.
+// What the head of the page says, and what a screen reader reads out.
+import { counted } from "./texts.js";
+import { found } from "./view.js";
 
 // After how many milliseconds the page says that an edit is on its way, so that its words do not flicker.
 const CALM = 200;
-
-const found = (id) => document.getElementById(id);
+// After how many it says how many.
+const SLOW = 2000;
+// How many milliseconds are between two sentences to a reader of the screen.
+const BETWEEN = 5000;
 
 export class Status {
-  #words = "";
-  #saying = null; // the timer after which the words are shown
+  isTelling = true; // whether changes of others are said
+  #now = null; // how things are
+  #timers = []; // after which more is shown
+  #said = new Map(); // sentences that are still to be said, by what they are about
+  #sayAt = 0; // when the next can be said
+  #sayer = null;
 
-  // Says how things are. `stage` is one of connecting, open, sending, full and lost.
-  tell(stage, words) {
+  // Says how things are. `stage` is one of connecting, open, sending, draft, full, waiting and lost. `since` is when the oldest
+  // edit was made that waits, and `slowly` are the words if that is long ago. Notices come in place of good news.
+  tell({ stage, words, notices, since = null, slowly = words }) {
     document.body.dataset.stage = stage;
-    this.#words = words;
-    if (stage === "sending") this.#saying ??= setTimeout(() => this.#show(), CALM);
-    else this.#show();
+    found("state").hidden = stage === "open" && notices > 0;
+    found("notice-count").hidden = notices === 0;
+    found("notice-count").textContent = counted(notices, "notice");
+    found("try-now").hidden = stage !== "lost" && stage !== "waiting";
+    const isSame = since !== null && this.#now?.since === since;
+    this.#now = { words, since, slowly };
+    if (!isSame) this.#wait();
+    if (since === null || performance.now() - since >= CALM) this.#show();
+  }
+
+  #wait() {
+    this.#timers.forEach(clearTimeout);
+    const { since } = this.#now;
+    this.#timers = since === null ? [] : [CALM, SLOW].map((wait) => setTimeout(() => this.#show(), Math.ceil(since + wait - performance.now()) + 1));
   }
 
   #show() {
-    clearTimeout(this.#saying);
-    this.#saying = null;
-    found("state").textContent = this.#words;
+    const { words, since, slowly } = this.#now;
+    const isSlow = since !== null && performance.now() - since >= SLOW;
+    if (isSlow) this.announce("edits", slowly);
+    found("state").textContent = isSlow ? slowly : words;
   }
 
-  // Says what went wrong, or nothing.
-  note(words) {
-    found("note").textContent = words;
-    found("note").hidden = words === "";
+  // Says something to a reader of the screen alone, one sentence at a time. A later one about the same takes the place of an earlier.
+  announce(about, words) {
+    if (about === "changes" && !this.isTelling) return;
+    this.#said.delete(about);
+    this.#said.set(about, words);
+    this.#sayer ??= setTimeout(() => this.#sayNext(), Math.max(0, this.#sayAt - performance.now()));
   }
 
-  // Says something to a reader of the screen alone.
-  announce(words) {
+  #sayNext() {
+    this.#sayer = null;
+    const [first] = this.#said;
+    if (!first) return;
+    const [about, words] = first;
+    this.#said.delete(about);
     found("news").textContent = words;
+    this.#sayAt = performance.now() + BETWEEN;
+    if (this.#said.size > 0) this.#sayer = setTimeout(() => this.#sayNext(), BETWEEN);
   }
 
   count(links) {
     found("who").textContent = links > 0 ? `${links} connected` : "";
-  }
-}
-
-export class Offer {
-  constructor(dismissed) {
-    found("copy").addEventListener("click", () => this.#copy());
-    found("dismiss").addEventListener("click", () => {
-      this.#show("");
-      dismissed();
-    });
-  }
-
-  // Offers words beside those that are offered already.
-  add(words) {
-    const { value } = found("untaken");
-    if (words !== "") this.#show(value === "" ? words : `${value}\n\n${words}`);
-  }
-
-  #show(words) {
-    found("untaken").value = words;
-    found("offer").hidden = words === "";
-    found("copy").textContent = "Copy";
-  }
-
-  // A browser gives the clipboard only to pages that came by TLS or from this machine. Elsewhere it copies what is selected.
-  async #copy() {
-    found("untaken").select();
-    try {
-      await navigator.clipboard.writeText(found("untaken").value);
-    } catch {
-      document.execCommand("copy");
-    }
-    found("copy").textContent = "Copied";
   }
 }

@@ -1,6 +1,6 @@
 // The view of a text.
 import { Job } from "./jobs.js";
-import { difference, placeOf, scalarsOf, shownAs, textOf } from "./texts.js";
+import { counted, difference, placeOf, scalarsOf, shownAs, textOf } from "./texts.js";
 import { View, make } from "./view.js";
 
 // A paste of more characters is made by the page, since a browser can take seconds to put it into an area.
@@ -11,17 +11,22 @@ const COMPOSED = 1000;
 // The area shows `shown`, which is the text of `items`. Within a composition it can show more, and is not drawn.
 export class TextView extends View {
   caret = null; // where a job of this view has come to
+  #later = 0; // how many changes of others come after the word that is composed
+  #height = ""; // the height that the area keeps while others type
 
   constructor(...given) {
     super(...given);
     this.area = make("textarea", {
-      id: this.id, rows: 3,
+      id: this.id, rows: 3, dir: "auto",
       input: (event) => (event.isComposing ? this.#composes() : this.#typed()),
+      focus: () => this.#sizeAgain(),
       paste: (event) => this.#pasted(event),
       compositionstart: () => (this.isHeld = true),
       compositionend: () => this.#composed(),
     });
-    this.element = make("div", { className: "widget" }, this.label({ htmlFor: this.id }), this.area);
+    this.element = make("div", { className: "widget" }, this.head(this.label(), this.copy), this.area);
+    new IntersectionObserver(([{ isIntersecting }]) => isIntersecting || this.#sizeAgain()).observe(this.area);
+    this.named();
     this.#reset(0);
   }
 
@@ -50,15 +55,25 @@ export class TextView extends View {
     this.pause = setTimeout(() => this.items !== null && this.#typed(), COMPOSED);
   }
 
+  changed() {
+    super.changed();
+    if (!this.isHeld) return;
+    this.#later += 1;
+    this.after.textContent = `${counted(this.#later, "change")} ${this.#later === 1 ? "comes" : "come"} after this word`;
+  }
+
   #composed() {
     clearTimeout(this.pause);
     this.isHeld = false;
+    this.#later = 0;
+    this.after.textContent = "";
     if (this.items !== null) this.#typed();
     this.page.drawSoon();
   }
 
   // The user changed the area as a browser does it.
   #typed() {
+    this.#sizeAgain();
     const { value, selectionEnd } = this.area;
     const { head, tail } = difference(this.shown, value, selectionEnd);
     if (value !== this.shown) this.#replace(head, this.shown.length - tail, value.slice(head, value.length - tail));
@@ -121,25 +136,66 @@ export class TextView extends View {
 
   // The same if all items have other names: the cursor stays at the characters that it was at.
   #showAgain() {
-    const { selectionStart, selectionEnd, selectionDirection } = this.area;
-    const { length } = this.shown;
-    const { head, tail } = this.#put();
-    const moved = (offset) => (offset <= head ? offset : offset >= length - tail ? offset + this.shown.length - length : head);
+    const { selectionStart, selectionEnd, selectionDirection, value } = this.area;
+    this.#keep([...this.widget.items], textOf(this.widget.items));
+    const { head, tail } = difference(value, this.shown);
+    this.#change(0, value, this.shown);
+    const moved = (offset) => (offset <= head ? offset : offset >= value.length - tail ? offset + this.shown.length - value.length : head);
     this.#select(moved(selectionStart), moved(selectionEnd), selectionDirection);
   }
 
-  // Puts the widget's text into the area.
+  // Puts the widget's text into the area. While others type, the area keeps its height and its first visible line.
   #put() {
-    const was = this.area.value;
+    const { area } = this;
+    const was = area.value;
+    const [before, now] = this.isChanged ? this.#anchor(this.#place(this.#topOffset())) : [0, 0];
+    const top = this.#offset(before);
     this.#keep([...this.widget.items], textOf(this.widget.items));
-    const { head, tail } = difference(was, this.shown);
-    if (was !== this.shown) this.area.setRangeText(this.shown.slice(head, this.shown.length - tail), head, was.length - tail, "preserve");
-    return { head, tail };
+    if (was === this.shown) return;
+    const { scrollHeight } = area;
+    if (this.isChanged) this.#keepHeight();
+    const isInFront = this.#change(0, was.slice(0, top), this.shown.slice(0, this.#offset(now)));
+    if (isInFront) area.scrollTop += area.scrollHeight - scrollHeight;
+    this.#change(this.#offset(now), was.slice(top), this.shown.slice(this.#offset(now)));
+  }
+
+  // Makes one text of another that begins at an offset of the area. Returns whether they differ.
+  #change(offset, was, is) {
+    if (was === is) return false;
+    const { head, tail } = difference(was, is);
+    this.area.setRangeText(is.slice(head, is.length - tail), offset + head, offset + was.length - tail, "preserve");
+    return true;
+  }
+
+  #keepHeight() {
+    const { area } = this;
+    const { top, bottom, height } = area.getBoundingClientRect();
+    if (this.#height !== "" || area.style.height !== "" || bottom < 0 || top > innerHeight) return;
+    this.#height = `${height}px`;
+    area.style.height = this.#height;
+  }
+
+  // The area takes the height of its text again, unless its user has given it another.
+  #sizeAgain() {
+    if (this.#height !== "" && this.area.style.height === this.#height) this.area.style.height = "";
+    this.#height = "";
+  }
+
+  // The offset of the first character of the area in view. A browser that can't tell is taken to show the text from its begin.
+  #topOffset() {
+    const { area } = this;
+    const { left, top } = area.getBoundingClientRect();
+    const edge = Math.max(top, document.querySelector("header").offsetHeight);
+    if (area.scrollTop === 0 && edge === top) return 0;
+    const { paddingLeft, lineHeight } = getComputedStyle(area);
+    const found = document.caretPositionFromPoint?.(left + area.clientLeft + Number.parseFloat(paddingLeft) + 1, edge + area.clientTop + Number.parseFloat(lineHeight) / 2);
+    return found?.offsetNode === area ? found.offset : 0;
   }
 
   #select(start, end, direction) {
     const { area } = this;
-    if (document.activeElement === area && (start !== area.selectionStart || end !== area.selectionEnd)) area.setSelectionRange(start, end, direction);
+    const isSame = start === area.selectionStart && end === area.selectionEnd && (start === end || direction === area.selectionDirection);
+    if (document.activeElement === area && !isSame) area.setSelectionRange(start, end, direction);
   }
 
   // The place after the last item in front of a place that the widget still has.
@@ -154,11 +210,16 @@ export class TextView extends View {
 
   // The place of the first item from a place on that the widget still has.
   #before(place) {
+    return this.#anchor(place)[1];
+  }
+
+  // The same item: where it was, and where it is.
+  #anchor(place) {
     const { items, names } = this.widget;
     for (let at = place; at < this.items.length; at++) {
       const { name } = this.items[at];
-      if (names.has(name)) return placeOf(items, name, at);
+      if (names.has(name)) return [at, placeOf(items, name, at)];
     }
-    return items.length;
+    return [this.items.length, items.length];
   }
 }

@@ -2,7 +2,9 @@
 import assert from "node:assert/strict";
 import test from "node:test";
 import { Board, MOST_ITEMS, Site, readLine } from "../core.js";
+import { asJson, asPrinted, asText, copyOf } from "../files.js";
 import { Job } from "../jobs.js";
+import { Relabels, faultOf, linesOf, merged, plain } from "../labels.js";
 import { isSameRun, maybeMissing, missing, wordsOf } from "../lost.js";
 import { counted, difference, placeOf, readCaptions, scalarsOf, textOf } from "../texts.js";
 
@@ -96,6 +98,128 @@ test("a job fills a text, and leaves what has no room", () => {
   assert.deepEqual(job.rest, [52, 53]);
 });
 
+test("a job makes again what the server has not taken", () => {
+  const { site } = joined(2, "window 1", "text 1", "char 0.1 97", "char 0.2 98");
+  const job = new Job(textView(site), 1, "0.1", [{ name: "0.2" }, ...insertions("0123456789".repeat(7))]);
+  const { after } = job;
+  const ops = site.edit(job.next());
+  job.made(ops);
+  const { after: second } = job;
+  const more = site.edit(job.next());
+  job.made(more);
+  // A new site joins with the board that has the first edit alone.
+  const { site: later } = joined(3, "window 1", "text 1", "char 0.1 97", ...ops.slice(1).map(({ name, value }) => `char ${name} ${value}`));
+  job.view = textView(later);
+  job.takeBack([{ ops: more, after: second }]);
+  assert.equal(shownAfter(later, job), `a${"0123456789".repeat(7)}`);
+  assert.equal(after, "0.1");
+});
+
+test("what a job has left is counted", () => {
+  const { site } = joined(2, "window 1", "text 1", "char 0.1 97", "char 0.2 98");
+  const job = new Job(textView(site), 1, "0.1", [{ name: "0.1" }, { name: "0.2" }, ...insertions("xyz")]);
+  assert.deepEqual([job.deletions, job.rest], [2, [120, 121, 122]]);
+});
+
+test("a label has the signs of a keyboard", () => {
+  assert.equal(plain("\u2018Ann\u2019s\u2019 \u201cbig\u201d \u2013 \u2014 wait\u2026\u00a0now"), "'Ann's' \"big\" - - wait... now");
+  assert.equal(plain("K\u00e4se \u20ac"), "K\u00e4se \u20ac");
+});
+
+test("what can't be in a label is named", () => {
+  assert.equal(faultOf("two loaves, 1.20 (brown) ~"), "");
+  assert.equal(faultOf(""), "");
+  assert.match(faultOf("K\u00e4se"), /\u201c\u00e4\u201d/);
+  // A letter and its accent are one, and so is a family.
+  assert.match(faultOf("e\u0301"), /\u201ce\u0301\u201d/);
+  assert.match(faultOf("\u{1f468}\u200d\u{1f469}\u200d\u{1f467}"), /\u201c\u{1f468}\u200d\u{1f469}\u200d\u{1f467}\u201d/u);
+  assert.equal(faultOf("x".repeat(48)), "");
+  assert.equal(faultOf("x".repeat(49)), "49 of 48 characters");
+});
+
+test("lines become items", () => {
+  assert.deepEqual(linesOf("  milk \r\n\r\n\u201ceggs\u201d\n \ntea"), ["milk", '"eggs"', "tea"]);
+});
+
+test("two changes of one label", () => {
+  assert.equal(merged("bread", "bread, the brown one", "two loaves of bread"), "two loaves of bread, the brown one");
+  assert.equal(merged("bread", "two loaves of bread", "bread, the brown one"), "two loaves of bread, the brown one");
+  assert.equal(merged("bread", "rolls", "bread"), "rolls");
+  assert.equal(merged("bread", "bread", "rolls"), "rolls");
+  assert.equal(merged("bread", "rolls", "rolls"), "rolls");
+  // Both at one place, one within the other, and one that takes all away.
+  assert.equal(merged("bread", "breads", "bread!"), null);
+  assert.equal(merged("bread", "rolls", "brown bread"), null);
+  assert.equal(merged("bread", "", "bread!"), null);
+  // Two that touch, and take away something each.
+  assert.equal(merged("milk 1 l", "milk 2 l", "oat milk 1 l"), "oat milk 2 l");
+  assert.equal(merged("abcd", "Xcd", "abY"), "XY");
+});
+
+test("two changes of one label at random: both orders give one label, and all that both typed is in it", () => {
+  let state = 7;
+  const random = (end) => (state = (Math.imul(state, 1664525) + 1013904223) >>> 0, Math.floor((state / 4294967296) * end));
+  const count = (text, letter) => text.split(letter).length;
+  let both = 0;
+  for (let i = 0; i < 20000; i++) {
+    const base = Array.from({ length: 2 + random(10) }, () => "ab "[random(3)]).join("");
+    const change = (letter) => {
+      const start = random(base.length + 1);
+      return base.slice(0, start) + letter.repeat(random(4)) + base.slice(start + random(base.length - start + 1));
+    };
+    const [mine, theirs] = [change("X"), change("Y")];
+    const label = merged(base, mine, theirs);
+    assert.equal(label, merged(base, theirs, mine));
+    if (label === null) continue;
+    both += 1;
+    assert.equal(count(label, "X"), count(mine, "X"));
+    assert.equal(count(label, "Y"), count(theirs, "Y"));
+  }
+  assert.ok(both > 5000);
+});
+
+test("a label of others that this site's own replaces is told once, with what both changed", () => {
+  const relabels = new Relabels();
+  relabels.made("0.1", 0, "bread");
+  relabels.made("0.1", 3, "rolls");
+  // The server had none of this site's edits, and then the first three.
+  assert.equal(relabels.came("0.1", "brown bread", 0), "bread");
+  assert.equal(relabels.came("0.1", "white bread", 0), "brown bread");
+  assert.equal(relabels.came("0.1", "rye", 3), "rolls");
+  assert.equal(relabels.came("0.1", "oats", 4), null);
+  assert.equal(relabels.came("0.2", "milk", 0), null);
+});
+
+test("labels that the server has taken are forgotten", () => {
+  const relabels = new Relabels();
+  relabels.made("0.1", 0, "bread");
+  relabels.made("0.2", 1, "milk");
+  relabels.confirmed(1);
+  assert.deepEqual([relabels.isOpen("0.1", 0), relabels.isOpen("0.2", 0), relabels.isOpen("0.2", 2)], [false, true, false]);
+});
+
+const WHOLE = ["window 1", "text 1", "char 0.1 72", "char 0.2 10", "char 0.3 233", "char 0.4 34", "list 2", 'item 0.5 "x" \\ y', "item 0.6 tea", "toggle 3 on", "slider 4 -5 10 7", "window 9", "text 1"];
+
+test("a board is a file", () => {
+  const board = boardOf(...WHOLE);
+  const captionOf = (key, kind) => ({ 1: "Party", "1.1": "Notes" })[key] ?? `${kind ?? "Window"} ${key}`;
+  assert.equal(asText(board, captionOf), 'Party\n=====\n\nNotes:\nH\n\u00e9"\n\nlist 1.2:\n- "x" \\ y\n- tea\n\ntoggle 1.3: on\n\nslider 1.4: 7\n\nWindow 9\n========\n\ntext 9.1:\n\n');
+  assert.equal(asPrinted(board), 'window 1\ntext 1 "H\\u{a}\\u{e9}\\""\nlist 2 "\\"x\\" \\\\ y" "tea"\ntoggle 3 on\nslider 4 -5 10 7\nwindow 9\ntext 1 ""\n');
+  const { windows } = JSON.parse(asJson(board, captionOf));
+  assert.deepEqual(windows.map(({ id, caption }) => [id, caption]), [[1, "Party"], [9, "Window 9"]]);
+  assert.deepEqual(windows[0].widgets, [
+    { id: 1, kind: "text", caption: "Notes", value: 'H\n\u00e9"' },
+    { id: 2, kind: "list", caption: "list 1.2", items: ['"x" \\ y', "tea"] },
+    { id: 3, kind: "toggle", caption: "toggle 1.3", value: true },
+    { id: 4, kind: "slider", caption: "slider 1.4", low: -5, high: 10, value: 7 },
+  ]);
+});
+
+test("a text and a list are copied as they are", () => {
+  const board = boardOf(...WHOLE);
+  assert.deepEqual([copyOf(board.widget(1, 1)), copyOf(board.widget(1, 2))], ['H\n\u00e9"', '"x" \\ y\ntea']);
+});
+
 test("a board of the same run has items of the sites that were", () => {
   const old = { site: 3, board: boardOf("window 1", "text 1", "char 0.1 97", "char 2.1 98") };
   assert.ok(isSameRun(old, { site: 4, board: old.board }));
@@ -121,6 +245,20 @@ test("after another run a widget that shows the same lacks nothing", () => {
   assert.deepEqual(maybeMissing(edits, old, boardOf("window 2")), edits);
 });
 
+test("after another run a text lacks only what it does not show", () => {
+  const old = boardOf("window 1", "text 1", "char 0.1 97", "char 3.1 98", "char 3.2 99", "char 0.2 100");
+  const typed = (number) => ({ win: 1, wid: 1, kind: "text", verb: "ins", name: `3.${number}` });
+  // The new text is "abd": it has the "b" already.
+  const now = boardOf("window 1", "text 1", "char 0.1 97", "char 0.2 98", "char 0.3 100");
+  assert.deepEqual(maybeMissing([[typed(1)], [typed(2)]], old, now), [[], [typed(2)]]);
+});
+
+test("after another run a list lacks only labels that it does not have", () => {
+  const old = boardOf("window 1", "list 1", "item 3.1 milk", "item 3.2 tea");
+  const added = (number) => ({ win: 1, wid: 1, kind: "list", verb: "ins", name: `3.${number}` });
+  assert.deepEqual(maybeMissing([[added(1), added(2)]], old, boardOf("window 1", "list 1", "item 0.1 milk")), [[added(2)]]);
+});
+
 test("what is missing is offered in words", () => {
   const { site } = joined(3, "window 1", "text 1", "char 0.1 97", "char 0.2 98", "list 2", "item 0.3 milk", "item 0.4 eggs", "toggle 3 off", "slider 4 0 10 5");
   const at = (wid, command) => ({ win: 1, wid, ...command });
@@ -131,6 +269,6 @@ test("what is missing is offered in words", () => {
     [at(2, { verb: "rel", place: 0, value: "oat milk" }), at(2, { verb: "rel", place: 1, value: "egg" }), at(2, { verb: "del", place: 1 }), at(2, { verb: "ins", place: 1, value: "tea" })],
     [at(3, { verb: "set", value: true }), at(4, { verb: "set", value: 7 })],
   ].map((commands) => site.edit(commands));
-  const words = wordsOf(edits, site.board, new Map([["1.1", [33]]]), (key, kind) => `${kind} ${key}`);
-  assert.equal(words, "text 1.1:\nx\ny!\n(1 character deleted)\n\nlist 1.2:\noat milk\ntea\n(1 item deleted)\n\ntoggle 1.3:\non\n\nslider 1.4:\n7");
+  const words = wordsOf(edits, site.board, new Map([["1.1", { rest: [33], deletions: 2 }]]));
+  assert.deepEqual(Object.fromEntries(words), { "1.1": "x\ny!\n(3 characters deleted)", "1.2": "oat milk\ntea\n(1 item deleted)", "1.3": "on", "1.4": "7" });
 });

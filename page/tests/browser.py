@@ -84,6 +84,7 @@ class Target:
         with contextlib.suppress(OSError, ValueError):
             while text := self.socket.receive():
                 message = json.loads(text)
+                self.meet(message)
                 with self.news:
                     if "id" in message:
                         self.answers[message["id"]] = message
@@ -91,12 +92,19 @@ class Target:
                         self.events.append(message)
                     self.news.notify_all()
 
+    def meet(self, message):
+        """Does at once what a message needs. It runs in the thread that hears, so it waits for no answer."""
+
+    def send(self, method, **given):
+        """Sends a call, and returns its number. The one that calls it has `news`."""
+        self.count += 1
+        self.socket.send(json.dumps({"id": self.count, "method": method, "params": given}))
+        return self.count
+
     def call(self, method, **given):
         """Calls a method of DevTools, and returns its result."""
         with self.news:
-            self.count += 1
-            number = self.count
-            self.socket.send(json.dumps({"id": number, "method": method, "params": given}))
+            number = self.send(method, **given)
             if not self.news.wait_for(lambda: number in self.answers, PATIENCE):
                 raise Late(f"no answer of the browser to {method}")
             answer = self.answers.pop(number)
@@ -114,6 +122,16 @@ class Tab(Target):
             self.call(f"{domain}.enable")
         self.call("Emulation.setFocusEmulationEnabled", enabled=True)
 
+    def meet(self, message):
+        """A page that asks whether to leave it is left."""
+        if message.get("method") == "Page.javascriptDialogOpening":
+            with self.news:
+                self.send("Page.handleJavaScriptDialog", accept=True)
+
+    def asked(self):
+        """How many times a page has asked whether to leave it."""
+        return sum(it["method"] == "Page.javascriptDialogOpening" and it["params"]["type"] == "beforeunload" for it in list(self.events))
+
     def run(self, code):
         """Evaluates an expression of JavaScript, and returns its value, or that of its promise."""
         answer = self.call("Runtime.evaluate", expression=code, returnByValue=True, awaitPromise=True)
@@ -121,8 +139,9 @@ class Tab(Target):
             raise RuntimeError(answer["exceptionDetails"].get("exception", {}).get("description", str(answer)))
         return answer["result"].get("value")
 
-    def until(self, code, seconds=PATIENCE):
+    def until(self, code, seconds=None):
         """Waits until an expression is true, and returns its value."""
+        seconds = seconds or PATIENCE
         end = time.monotonic() + seconds
         while not (found := self.run(code)):
             if time.monotonic() > end:
@@ -132,6 +151,18 @@ class Tab(Target):
 
     def open(self, url):
         self.call("Page.navigate", url=url)
+
+    def reload(self):
+        """Loads the page again. What was set in its window is gone."""
+        self.run("window.isOld = true")
+        self.call("Page.reload")
+        end = time.monotonic() + PATIENCE
+        while time.monotonic() < end:
+            with contextlib.suppress(RuntimeError):
+                if not self.run("window.isOld"):
+                    return
+            time.sleep(0.02)
+        raise Late("the page is not loaded again")
 
     def type(self, text, pause=0.0):
         """Presses the key of each character."""
@@ -147,11 +178,19 @@ class Tab(Target):
         self.call("Input.dispatchKeyEvent", commands=list(commands), **typed, **key)
         self.call("Input.dispatchKeyEvent", type="keyUp", **key)
 
-    def click(self, element):
+    def middle(self, element):
+        """Where the middle of an element is, which an expression gives. It is scrolled into view."""
+        return self.run(f"(() => {{ const it = {element}; it.scrollIntoView({{ block: 'center' }}); const b = it.getBoundingClientRect(); return [b.x + b.width / 2, b.y + b.height / 2]; }})()")
+
+    def click_at(self, place, times=1):
+        """Clicks at a place, as often as a user does in quick succession: the second click of a double click is counted as such."""
+        for count in range(1, times + 1):
+            for kind in ("mousePressed", "mouseReleased"):
+                self.call("Input.dispatchMouseEvent", type=kind, x=place[0], y=place[1], button="left", clickCount=count)
+
+    def click(self, element, times=1):
         """Clicks in the middle of an element, which an expression gives."""
-        x, y = self.run(f"(() => {{ const it = {element}; it.scrollIntoView({{ block: 'center' }}); const b = it.getBoundingClientRect(); return [b.x + b.width / 2, b.y + b.height / 2]; }})()")
-        for kind in ("mousePressed", "mouseReleased"):
-            self.call("Input.dispatchMouseEvent", type=kind, x=x, y=y, button="left", clickCount=1)
+        self.click_at(self.middle(element), times)
 
     def shot(self, path):
         with open(path, "wb") as file:

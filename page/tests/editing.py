@@ -1,14 +1,9 @@
 """Two people edit one board in two tabs, of which one is 160 ms away: every kind of edit."""
-import threading
 import time
 
 from browser import CONTROL, SHIFT
-from stage import AREA, STATE, after_cursor, expect, expect_that, focus, selected
+from stage import ADD, AREA, FIELDS, RANGES, STATE, TOGGLE, after_cursor, expect, expect_that, focus, selected, together
 
-ADD = "document.querySelector('.row > input[id]')"
-ROWS = "[...document.querySelectorAll('ol input')]"
-TOGGLE = "document.querySelector('[role=switch]')"
-RANGES = "[...document.querySelectorAll('[type=range]')]"
 # Edits at random on all widgets, by the events that a browser makes of a user's.
 AT_RANDOM = """(async (seed) => {
   let state = seed;
@@ -32,15 +27,6 @@ AT_RANDOM = """(async (seed) => {
   }
   return true;
 })"""
-
-
-def together(*steps):
-    """Does steps at the same time."""
-    threads = [threading.Thread(target=it) for it in steps]
-    for it in threads:
-        it.start()
-    for it in threads:
-        it.join()
 
 
 def opens(stage):
@@ -148,16 +134,16 @@ def composed(stage):
 
 def lists(stage):
     stage.a.click(ADD)
-    stage.b.click(f"{ROWS}[0]")
+    stage.b.click(f"{FIELDS}[0]")
     stage.b.press("a", CONTROL, ["selectAll"])
     together(lambda: stage.a.type("milk\neggs\n"), lambda: stage.b.type("brown bread", 0.01))
     expect(stage.agreed()[1], ["brown bread", "call Ann", "milk", "eggs"], "the list")
-    stage.b.click(f"{ROWS}[2]")
+    stage.b.click(f"{FIELDS}[2]")
     stage.b.press("End")
     together(lambda: stage.a.click("document.querySelectorAll('li button')[1]"), lambda: stage.b.type("!"))
     expect(stage.agreed()[1], ["brown bread", "milk!", "eggs"], "the list")
     expect(stage.b.run("document.activeElement.value"), "milk!", "the field with the cursor")
-    stage.a.click(f"{ROWS}[1]")
+    stage.a.click(f"{FIELDS}[1]")
     stage.b.click("document.querySelectorAll('li button')[1]")
     expect(stage.agreed()[1], ["brown bread", "eggs"], "the list")
     for it in stage.tabs:

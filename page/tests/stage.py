@@ -1,14 +1,16 @@
 """What the parts of the page's tests share: a server, two tabs of which one is far away, and what they show."""
 import contextlib
+import json
 import os
 import signal
 import socket
 import subprocess
 import sys
 import tempfile
+import threading
 import time
 
-from browser import Late
+from browser import CONTROL, Late
 from lag import Lag
 
 TOP = os.path.dirname(os.path.dirname(os.path.dirname(os.path.abspath(__file__))))
@@ -38,14 +40,31 @@ CAPTIONS = """1 "Party"
 2 "Later"
 2.1 "More \\"notes\\""
 """
-# The texts, the labels of lists, the toggles and the sliders that a page shows, in their order.
+# The texts, the labels of lists, the toggles and the sliders that a page shows, in their order. An item that others have deleted is not among them.
 SHOWN = """[...document.querySelectorAll('main .widget')].map((it) => {
-  const [area, list, box, range] = ['textarea', 'ol', '[role=switch]', '[type=range]'].map((kind) => it.querySelector(kind));
-  return area ? area.value : list ? [...list.querySelectorAll('input')].map((field) => field.value) : box ? box.checked : Number(range.value);
+  const [area, list, box, range] = ['textarea:not(.notice textarea)', 'ol', '[role=switch]', '[type=range]'].map((kind) => it.querySelector(kind));
+  return area ? area.value : list ? [...list.querySelectorAll('li:not(.ghost) input')].map((field) => field.value) : box ? box.checked : Number(range.value);
 })"""
 STATE = "document.body?.dataset.stage"
-AREA = "document.querySelectorAll('main textarea')[0]"
-OTHER_AREA = "document.querySelectorAll('main textarea')[1]"
+# The areas of texts. A notice in a widget may have an area too, which comes after that of the widget.
+AREAS = "document.querySelectorAll('main .widget textarea:not(.notice textarea)')"
+AREA, OTHER_AREA = f"{AREAS}[0]", f"{AREAS}[1]"
+# The first list: what adds an item, the fields of its items, and what is said of the field that adds.
+ADD = "document.querySelector('.row > input[id]')"
+PLUS = f"{ADD}.parentElement.querySelector('button')"
+ROWS = "[...document.querySelectorAll('ol > li')]"
+FIELDS = "[...document.querySelectorAll('ol input')]"
+ADD_HINT = f"([...{ADD}.closest('.widget').querySelectorAll('.hint')].find((it) => !it.closest('li') && it.checkVisibility())?.textContent ?? '')"
+TOGGLE = "document.querySelector('[role=switch]')"
+RANGES = "[...document.querySelectorAll('[type=range]')]"
+NUMBERS = "[...document.querySelectorAll('[type=number]')]"
+# The head of the page, and the notices.
+WORDS = "document.getElementById('state')?.textContent"
+COUNT = "document.getElementById('notice-count')"
+NOTICES = "[...document.querySelectorAll('.notice')]"
+# How many notices the head tells of, in its words, and the texts that notices offer.
+COUNTED = f"({COUNT}?.checkVisibility() ? {COUNT}.textContent.trim() : '')"
+OFFERED = f"{NOTICES}.flatMap((it) => [...it.querySelectorAll('textarea[readonly]')].map((area) => area.value))"
 
 
 def expect(found, wanted, what):
@@ -61,17 +80,17 @@ def expect_that(is_so, what):
 class Server:
     """A `jupweb` with a board of its own, at an address that it keeps when it is started again."""
 
-    def __init__(self, program, board=BOARD, limit=LIMIT, origin=None):
+    def __init__(self, program, board=BOARD, limit=LIMIT, origin=None, page=None):
         self.folder = tempfile.TemporaryDirectory(prefix="page-")
-        self.board = f"{self.folder.name}/board"
-        captions = f"{self.folder.name}/captions"
-        for path, text in ((self.board, board), (captions, CAPTIONS)):
+        self.board, self.captions = f"{self.folder.name}/board", f"{self.folder.name}/captions"
+        for path, text in ((self.board, board), (self.captions, CAPTIONS)):
             with open(path, "w", encoding="utf-8") as file:
                 file.write(text)
         self.address = free_address()
         self.port = int(self.address.split(":")[1])
-        self.words = [program, "--listen", self.address, "--board", self.board, "--limit", str(limit), "--captions", captions]
+        self.words = [program, "--listen", self.address, "--board", self.board, "--limit", str(limit), "--captions", self.captions]
         self.words += ["--origin", f"http://{origin}"] if origin else []
+        self.words += ["--page", page] if page else []
         self.start()
 
     @property
@@ -154,6 +173,83 @@ class Stage:
     def agrees_on(self, *texts):
         """Tests that both come to show these widgets first."""
         expect(self.agreed()[: len(texts)], list(texts), "what both tabs show")
+
+
+def row(label):
+    """The row of an item."""
+    return f"{ROWS}.find((it) => it.querySelector('input').value === {json.dumps(label)})"
+
+
+def button(words, within="document"):
+    """The button in sight with these words."""
+    return f"[...({within})?.querySelectorAll('button') ?? []].find((it) => it.textContent.trim() === {json.dumps(words)} && it.checkVisibility())"
+
+
+def named(name):
+    """The button with a name for readers of the screen."""
+    return f"[...document.querySelectorAll('button')].find((it) => it.ariaLabel === {json.dumps(name)} && it.checkVisibility())"
+
+
+def hint(label):
+    """What is said of the draft of an item."""
+    return f"({row(label)}?.querySelector('.hint:not([hidden])')?.textContent ?? '')"
+
+
+def select_all(tab):
+    tab.press("a", CONTROL, ["selectAll"])
+
+
+def retype(tab, field, text):
+    """Clicks into a field, and types in place of all that it has."""
+    tab.click(field)
+    select_all(tab)
+    tab.type(text)
+
+
+def put(tab, text):
+    """Puts a text in place of what is selected, as an input method does it: at once."""
+    tab.call("Input.insertText", text=text)
+
+
+def paste(tab, text, element):
+    """Pastes a text into a field in place of all that it has, by the clipboard of the browser."""
+    tab.run(f"(() => {{ const it = document.createElement('textarea'); it.id = 'for-a-copy'; document.body.append(it); it.value = {json.dumps(text)}; it.focus(); it.select(); }})()")
+    tab.press("c", CONTROL, ["copy"])
+    tab.run("document.getElementById('for-a-copy').remove()")
+    tab.click(element)
+    select_all(tab)
+    tab.press("v", CONTROL, ["paste"])
+
+
+def clipboard(tab):
+    """What the clipboard of the browser has."""
+    tab.run("(() => { const it = document.createElement('textarea'); it.id = 'for-a-copy'; document.body.append(it); it.focus(); })()")
+    tab.press("v", CONTROL, ["paste"])
+    return tab.run("(() => { const it = document.getElementById('for-a-copy'); it.remove(); return it.value; })()")
+
+
+def leave(tab):
+    """Leaves the field with the cursor."""
+    tab.run("document.activeElement.blur()")
+
+
+def together(*steps):
+    """Does steps at the same time. The first fault of one is the fault of all."""
+    faults = []
+
+    def does(step):
+        try:
+            step()
+        except Exception as fault:  # noqa: BLE001
+            faults.append(fault)
+
+    threads = [threading.Thread(target=does, args=(it,)) for it in steps]
+    for it in threads:
+        it.start()
+    for it in threads:
+        it.join()
+    if faults:
+        raise faults[0]
 
 
 def focus(tab, start=None, end=None, area=AREA):

@@ -2,7 +2,7 @@
 import time
 
 from browser import SHIFT
-from stage import (ADD, ADD_HINT, COUNT, COUNTED, FIELDS, NOTICES, PLUS, ROWS, STATE, WORDS, button, expect, expect_that, hint, leave, named, paste, put, retype, row, select_all, together)
+from stage import (ADD, ADD_HINT, COUNTED, FIELDS, GHOST, LABELS, PLUS, ROWS, STATE, WORDS, button, expect, expect_that, hint, leave, paste, put, retype, row, select_all, together)
 
 ITEMS = ["bread", "milk", "eggs", "tea", "salt", "rice", "beans", "honey"]
 BOARD = "window 1\ntext 1 \"Hi\"\nlist 2 " + " ".join(f'"{it}"' for it in ITEMS) + "\ntext 3 \"\"\n"
@@ -11,8 +11,6 @@ SEEN = 0.5
 # A press within this time after others moved the rows is ignored. It is a little less than the page has.
 AT_ONCE = 0.45
 GAPS = (0, 0.02, 0.15, 0.3)
-LABELS = f"{FIELDS}.filter((it) => !it.closest('.ghost')).map((it) => it.value)"
-GHOST = "document.querySelector('li.ghost')"
 FOCUS = "document.activeElement"
 HAS_FIELD_OR_BUTTON = f"['INPUT', 'TEXTAREA', 'BUTTON'].includes({FOCUS}.tagName)"
 

@@ -55,6 +55,9 @@ PLUS = f"{ADD}.parentElement.querySelector('button')"
 ROWS = "[...document.querySelectorAll('ol > li')]"
 FIELDS = "[...document.querySelectorAll('ol input')]"
 ADD_HINT = f"([...{ADD}.closest('.widget').querySelectorAll('.hint')].find((it) => !it.closest('li') && it.checkVisibility())?.textContent ?? '')"
+# What the first list shows, and the row of an item that others have deleted.
+LABELS = f"{FIELDS}.filter((it) => !it.closest('.ghost')).map((it) => it.value)"
+GHOST = "document.querySelector('li.ghost')"
 TOGGLE = "document.querySelector('[role=switch]')"
 RANGES = "[...document.querySelectorAll('[type=range]')]"
 NUMBERS = "[...document.querySelectorAll('[type=number]')]"
@@ -178,6 +181,11 @@ class Stage:
 def row(label):
     """The row of an item."""
     return f"{ROWS}.find((it) => it.querySelector('input').value === {json.dumps(label)})"
+
+
+def row_with(words):
+    """The row of an item that has these words."""
+    return f"{ROWS}.find((it) => !it.matches('.ghost') && ` ${{it.querySelector('input').value}} `.includes({json.dumps(f' {words} ')}))"
 
 
 def button(words, within="document"):

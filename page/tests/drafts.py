@@ -1,7 +1,7 @@
 """Items of a list are drafts while they are typed: two at one item, items that others delete meanwhile, what can't be in an item, and what a click hits."""
 import time
 
-from browser import SHIFT
+from browser import SHIFT, Late
 from stage import (ADD, ADD_HINT, COUNTED, FIELDS, GHOST, LABELS, PLUS, ROWS, STATE, WORDS, button, expect, expect_that, hint, leave, paste, put, retype, row, select_all, together)
 
 ITEMS = ["bread", "milk", "eggs", "tea", "salt", "rice", "beans", "honey"]
@@ -375,7 +375,7 @@ def rows_that_moved(stage):
             break
         labels = stage.agreed()[1]
     else:
-        raise AssertionError("no click came soon enough")
+        raise Late("no click came soon enough after the rows moved")
     list_is(stage, labels)
     time.sleep(0.6)
     stage.a.click(cross(labels[1]))

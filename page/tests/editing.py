@@ -2,31 +2,40 @@
 import time
 
 from browser import CONTROL, SHIFT
-from stage import ADD, AREA, FIELDS, RANGES, STATE, TOGGLE, after_cursor, expect, expect_that, focus, selected, together
+from stage import (
+    ADD, ADD_HINT, AREA, FIELDS, NUMBERS, RANGES, ROWS, STATE, TOGGLE, Differs, after_cursor, expect, expect_that, focus, put, select_all, selected, together,
+)
 
 # Edits at random on all widgets, by the events that a browser makes of a user's.
 AT_RANDOM = """(async (seed) => {
   let state = seed;
   const random = (end) => (state = (state * 1103515245 + 12345) & 0x7fffffff, Math.floor(state / 0x80000000 * end));
   const all = (kind) => [...document.querySelectorAll('main ' + kind)];
+  const write = (field, text) => { field.focus(); field.value = text; send(field, 'input'); };
   const send = (element, kind) => element.dispatchEvent(new InputEvent(kind, { bubbles: true }));
   for (let i = 0; i < 120; i++) {
-    const area = all('textarea')[random(2)];
+    const area = all('textarea:not(.notice textarea)')[random(2)];
     const at = random(area.value.length + 1);
     area.setRangeText('ab\\u{1f600}d'.slice(0, random(5)), at, Math.min(area.value.length, at + random(4)), 'end');
     send(area, 'input');
-    const rows = all('ol li');
+    const rows = all('ol li:not(.ghost)');
     const row = rows[random(rows.length)];
     const kind = random(6);
-    if (kind === 0) { const field = all('.row > input[id]')[0]; field.value = 'item ' + random(100); field.nextElementSibling.click(); }
-    if (kind === 1 && row) row.querySelector('button').click();
-    if (kind === 2 && row) { row.querySelector('input').value = 'label ' + random(100); send(row.querySelector('input'), 'input'); }
+    if (kind === 0) { const field = all('.row > input[id]')[0]; write(field, 'item ' + random(100)); field.parentElement.querySelector('button').click(); }
+    if (kind === 1 && row) row.querySelector('[aria-label^=Delete]').click();
+    if (kind === 2 && row) { write(row.querySelector('input'), 'label ' + random(100)); row.querySelector('input').blur(); }
     if (kind === 3) all('[role=switch]')[0].click();
     if (kind === 4) { const range = all('[type=range]')[random(2)]; range.value = Number(range.min) + random(range.max - range.min + 1); send(range, 'change'); }
     await new Promise((done) => setTimeout(done, random(15)));
   }
   return true;
 })"""
+# Decides about one row that has something to choose. Says whether there was one.
+DECIDE = """(() => {
+  const found = [...document.querySelectorAll('li button')].find((it) => ['Take theirs', 'Keep mine', 'Drop'].includes(it.textContent.trim()) && it.checkVisibility());
+  found?.click();
+  return found !== undefined;
+})()"""
 
 
 def opens(stage):
@@ -132,33 +141,38 @@ def composed(stage):
     expect_that("\u65e5\u672c" in text and "\u306b" not in text and "during " in text, f"the word and what others typed are in {text!r}")
 
 
+def cross(at):
+    return f"{ROWS}[{at}].querySelector('[aria-label^=Delete]')"
+
+
 def lists(stage):
     stage.a.click(ADD)
     stage.b.click(f"{FIELDS}[0]")
-    stage.b.press("a", CONTROL, ["selectAll"])
-    together(lambda: stage.a.type("milk\neggs\n"), lambda: stage.b.type("brown bread", 0.01))
+    select_all(stage.b)
+    together(lambda: stage.a.type("milk\neggs\n"), lambda: stage.b.type("brown bread\n", 0.01))
     expect(stage.agreed()[1], ["brown bread", "call Ann", "milk", "eggs"], "the list")
     stage.b.click(f"{FIELDS}[2]")
     stage.b.press("End")
-    together(lambda: stage.a.click("document.querySelectorAll('li button')[1]"), lambda: stage.b.type("!"))
-    expect(stage.agreed()[1], ["brown bread", "milk!", "eggs"], "the list")
+    together(lambda: stage.a.click(cross(1)), lambda: stage.b.type("!"))
+    stage.b.until(f"{FIELDS}.length === 3")
     expect(stage.b.run("document.activeElement.value"), "milk!", "the field with the cursor")
-    stage.a.click(f"{FIELDS}[1]")
-    stage.b.click("document.querySelectorAll('li button')[1]")
+    stage.b.press("Enter")
+    expect(stage.agreed()[1], ["brown bread", "milk!", "eggs"], "the list")
+    stage.a.click(f"{FIELDS}[0]")
+    stage.b.click(cross(1))
     expect(stage.agreed()[1], ["brown bread", "eggs"], "the list")
-    for it in stage.tabs:
-        expect_that(it.run("document.activeElement.closest('li') !== null"), "the focus goes to the next row")
+    expect(stage.a.run("document.activeElement.value"), "brown bread", "the field with the cursor")
 
 
 def labels(stage):
     stage.a.click(ADD)
-    stage.a.call("Input.insertText", text="caf\u00e9")
+    put(stage.a, "caf\u00e9")
     stage.a.press("Enter")
-    expect(stage.a.run(f"[{ADD}.value, {ADD}.ariaInvalid, document.querySelector('.hint').hidden]"), ["caf\u00e9", "true", False], "a label that is none")
+    expect(stage.a.run(f"[{ADD}.value, {ADD}.ariaInvalid, {ADD_HINT} !== '']"), ["caf\u00e9", "true", True], "a label that is none")
     stage.a.press("Backspace")
     stage.a.type("e\n")
     expect(stage.agreed()[1], ["brown bread", "eggs", "cafe"], "the list")
-    expect_that(stage.a.run("document.querySelector('.hint').hidden"), "the hint is gone")
+    expect(stage.a.run(ADD_HINT), "", "the hint")
 
 
 def toggles_and_sliders(stage):
@@ -167,8 +181,8 @@ def toggles_and_sliders(stage):
     for _ in range(3):
         stage.b.press("ArrowRight")
     expect(stage.agreed()[2:4], [True, 8], "the toggle and the slider")
-    stage.a.run("document.querySelectorAll('[type=number]')[1].focus()")
-    stage.a.press("a", CONTROL, ["selectAll"])
+    stage.a.run(f"{NUMBERS}[1].focus()")
+    select_all(stage.a)
     stage.a.type("-42\n")
     expect(stage.agreed()[5], -42, "a number that is typed")
     together(lambda: stage.a.click(TOGGLE), lambda: stage.b.click(TOGGLE))
@@ -180,7 +194,20 @@ def toggles_and_sliders(stage):
 
 def at_random(stage):
     together(lambda: stage.a.run(f"{AT_RANDOM}(11)"), lambda: stage.b.run(f"{AT_RANDOM}(77)"))
+    time.sleep(1)
+    for it in stage.tabs:
+        while it.run(DECIDE):
+            time.sleep(0.1)
     stage.agreed()
+
+
+def goes_to(tab, element):
+    """Presses Tab until an element has the focus."""
+    for _ in range(60):
+        if tab.run(f"document.activeElement === {element}"):
+            return
+        tab.press("Tab")
+    raise Differs(f"Tab does not go to {element}")
 
 
 def by_keyboard(stage):
@@ -188,12 +215,10 @@ def by_keyboard(stage):
     tab = stage.a
     tab.open(stage.server.url)
     tab.until(f"{STATE} === 'open'")
-    tab.press("Tab")
-    expect_that(tab.run(f"document.activeElement === {AREA}"), "Tab goes to the first text")
-    tab.press("a", CONTROL, ["selectAll"])
+    goes_to(tab, AREA)
+    select_all(tab)
     tab.type("typed")
-    while not tab.run(f"document.activeElement === {ADD}"):
-        tab.press("Tab")
+    goes_to(tab, ADD)
     tab.type("by key\n")
     tab.press("ArrowUp")
     expect(tab.run("document.activeElement.value"), "by key", "the row above")
@@ -203,11 +228,10 @@ def by_keyboard(stage):
     tab.press("ArrowDown")
     tab.press("Tab", SHIFT)
     expect_that(tab.run("document.activeElement.tagName === 'BUTTON'"), "Tab goes back to the button before")
-    while not tab.run(f"document.activeElement === {TOGGLE}"):
-        tab.press("Tab")
+    goes_to(tab, TOGGLE)
     was = tab.run(f"{TOGGLE}.checked")
     tab.press(" ")
-    tab.press("Tab")
+    goes_to(tab, f"{RANGES}[0]")
     tab.press("Home")
     shown = stage.agreed()
     expect([shown[0], shown[1][-1], shown[2], shown[3]], ["typed", "by keys", not was, 0], "what keys made")

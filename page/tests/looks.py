@@ -85,7 +85,7 @@ def focus_order(stage):
     tab = stage.a
     tab.open(stage.server.url)
     tab.until(f"{STATE} === 'open'")
-    count = tab.run("window.controls = [...document.querySelectorAll('main textarea, main input, main button')], controls.length")
+    count = tab.run("window.controls = [...document.querySelectorAll('textarea, input, button')].filter((it) => it.checkVisibility()), controls.length")
     for at in range(count):
         tab.press("Tab")
         expect(tab.run("controls.indexOf(document.activeElement)"), at, "the control with the focus")

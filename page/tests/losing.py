@@ -1,9 +1,13 @@
 """A link that is lost, a server that starts again, and a board that takes no more edits."""
 import time
 
-from stage import AREA, STATE, expect, expect_that, focus
+from stage import ADD, AREA, COUNTED, NOTICES, OFFERED, STATE, WORDS, button, clipboard, expect, expect_that, focus
 
-OFFER = "document.getElementById('offer').hidden ? null : document.getElementById('untaken').value"
+# All that the notices at a widget say and offer, and the widgets of a text and of a list.
+SAID = "[...%s.closest('.widget').querySelectorAll('.notice')].map((it) => [it.textContent, ...[...it.querySelectorAll('textarea')].map((area) => area.value)].join('\\n')).join('\\n')"
+OF_TEXT, OF_LIST = SAID % AREA, SAID % ADD
+# How many people a board takes.
+PEOPLE = 64
 # A server keeps the board within two seconds of a change.
 KEPT = 3
 
@@ -21,14 +25,14 @@ def a_server_that_stops(stage):
     stage.server.stop()
     for it in stage.tabs:
         it.until(f"{STATE} === 'lost'")
-        expect_that("lost" in it.run("document.getElementById('state').textContent"), "the page says so")
+        expect(it.run(WORDS), "Offline", "what the page says")
         expect_that(it.run(f"{AREA}.readOnly"), "a text cannot be edited")
     stage.picture(stage.a, "lost")
     expect_that('text 1 "Hi there"' in stage.server.kept(), "the board is kept")
     stage.server.start()
     for it in stage.tabs:
         it.until(f"{STATE} === 'open'")
-        expect(it.run(OFFER), None, "what is offered")
+        expect(it.run(f"[{OFFERED}, {COUNTED}]"), [[], ""], "what is offered, and the notices in the head")
     expect(cursor(stage.a), [True, 3, 8], "focus and selection")
     stage.a.type("you")
     stage.agrees_on("Hi you")
@@ -40,7 +44,7 @@ def a_killed_server(stage):
     stage.lag.held = {"up"}
     focus(stage.b)
     stage.b.type(" and more")
-    stage.b.until("document.getElementById('state').textContent === '9 edits not confirmed yet'")
+    stage.b.until(f"{WORDS} === 'Sending \u2026 9 edits wait'")
     stage.server.kill()
     stage.lag.cut()
     stage.b.until(f"{STATE} === 'lost'")
@@ -48,12 +52,13 @@ def a_killed_server(stage):
     stage.server.start()
     stage.b.until(f"{STATE} === 'open'")
     stage.agrees_on("Hi you")
-    expect(stage.b.run(OFFER), "Notes:\n and more", "what is offered")
+    expect(stage.b.run(f"[{OFFERED}.length, {COUNTED}]"), [1, "1 notice"], "how many texts are offered, and the notices in the head")
+    expect_that(" and more" in stage.b.run(OF_TEXT), "what was not taken is offered at the text")
     stage.picture(stage.b, "offered")
-    stage.b.click("document.getElementById('copy')")
-    stage.b.until("document.getElementById('copy').textContent === 'Copied'")
-    stage.b.click("document.getElementById('dismiss')")
-    expect(stage.b.run(OFFER), None, "what is offered")
+    stage.b.click(button("Copy", f"{NOTICES}[0]"))
+    expect_that(" and more" in clipboard(stage.b), "what is offered is copied")
+    stage.b.click(button("Dismiss", f"{NOTICES}[0]"))
+    expect(stage.b.run(f"[{NOTICES}.length, {COUNTED}]"), [0, ""], "the notices")
 
 
 def a_lost_link(stage):
@@ -63,7 +68,7 @@ def a_lost_link(stage):
     stage.b.type(" taken")
     stage.a.until(f"{AREA}.value === 'Hi you taken'")
     stage.lag.held = {"up", "down"}
-    stage.b.run("document.querySelector('.row > input[id]').focus()")
+    stage.b.run(f"{ADD}.focus()")
     stage.b.type("late\n")
     focus(stage.b, 0)
     stage.b.type("lost ")
@@ -72,9 +77,10 @@ def a_lost_link(stage):
     stage.b.until(f"{STATE} === 'lost'")
     stage.b.until(f"{STATE} === 'open'")
     stage.agrees_on("Hi you taken", ["buy bread", "call Ann"])
-    expect(stage.b.run(OFFER), "Who brings what:\nlate\n\nNotes:\nlost ", "what is offered")
-    expect(cursor(stage.b), [True, 1, 1], "focus and cursor")
-    stage.b.run("document.getElementById('dismiss').click()")
+    of_text, of_list = stage.b.run(OF_TEXT), stage.b.run(OF_LIST)
+    expect_that("lost " in of_text and "taken" not in of_text, f"what was not taken is offered at the text, and no more: {of_text!r}")
+    expect_that("late" in of_list, f"what was not taken is offered at the list: {of_list!r}")
+    expect([stage.b.run(COUNTED), cursor(stage.b)], ["2 notices", [True, 1, 1]], "the notices in the head, focus and cursor")
 
 
 def a_full_order(stage):
@@ -87,13 +93,14 @@ def a_full_order(stage):
     stage.a.until(f"{STATE} === 'open'")
     stage.lag.held = set()
     stage.b.until(f"{STATE} === 'full'")
-    expect(stage.b.run(OFFER), "Notes:\n xyz", "what is offered")
+    expect_that(" xyz" in stage.b.run(OF_TEXT), "what was refused is offered at the text")
     stage.a.type("56")
-    expect([stage.a.run(STATE), stage.a.run(OFFER)], ["full", "Notes:\n5"], "what is offered of an edit beyond the limit")
+    expect(stage.a.run(f"[{STATE}, {OFFERED}.length]"), ["full", 1], "the stage after an edit beyond the limit, and how many texts are offered")
+    expect_that("5" in "".join(stage.a.run(OFFERED)), "an edit beyond the limit is offered")
     stage.agrees_on("Hi 1234")
     for it in stage.tabs:
         expect_that(it.run(f"{AREA}.readOnly"), "a text cannot be edited")
-        expect_that("no more edits" in it.run("document.getElementById('note').textContent"), "the page says why")
+        expect_that("no more edits" in it.run("document.body.innerText"), "the page says why")
 
 
 def a_full_text(stage):
@@ -101,7 +108,25 @@ def a_full_text(stage):
     focus(stage.a)
     stage.a.call("Input.insertText", text="0123456789")
     expect(stage.agreed()[0][-8:], "aa012345", "the end of the text")
-    expect(stage.a.run(OFFER), "Notes:\n6789", "what is offered")
+    offered = stage.a.run(OFFERED)
+    expect([len(offered), "6789" in "".join(offered), "5" in "".join(offered)], [1, True, False], "how many texts are offered, and whether what has no room is, and nothing else")
+
+
+def a_board_with_64_people(stage):
+    """One more waits until one leaves, and comes in by itself."""
+    stage.b.open("about:blank")
+    stage.a.run(f"""(async () => {{
+      const others = Array.from({{ length: {PEOPLE - 1} }}, () => new WebSocket(new URL('ws', location.href).href.replace('http', 'ws')));
+      window.others = others;
+      await Promise.all(others.map((it) => new Promise((done) => {{ it.onopen = () => it.send('hello 3\\n'); it.onmessage = done; }})));
+    }})()""")
+    stage.b.open(stage.server.url)
+    stage.b.until(f"{STATE} === 'waiting'")
+    expect_that("64" in stage.b.run(WORDS), "the page says how many are there")
+    expect(stage.b.run(f"{button('Try now')} !== undefined"), True, "whether it can be tried now")
+    stage.picture(stage.b, "waiting")
+    stage.a.run("others.pop().close()")
+    stage.b.until(f"{STATE} === 'open'", 10 + stage.slack)
 
 
 PARTS = {
@@ -109,6 +134,7 @@ PARTS = {
     "a killed server: what it had not taken is offered": a_killed_server,
     "a lost link: what the server had not taken is offered": a_lost_link,
 }
+FULL_HOUSE_PARTS = {"a board with 64 people": a_board_with_64_people}
 FULL_PARTS = {"a full order: what was refused is offered": a_full_order}
 FULL_LIMIT = 5
 LONG_PARTS = {"a full text: what has no room is offered": a_full_text}

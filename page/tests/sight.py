@@ -85,7 +85,7 @@ def notices(stage):
     notice = "document.querySelector('.widget .notice')"
     expect_that(tab.run(f"{notice} !== null && {AREA}.closest('.widget').contains({notice})"), "the notice is at the text of which it tells")
     offered = tab.run(OFFERED)
-    expect([len(offered), " and more" in offered[0]], [1, True], "how many texts are offered, and whether it is what was typed")
+    expect([len(offered), " and more" in "".join(offered)], [1, True], "how many texts are offered, and whether it is what was typed")
     leave(tab)
     tab.run("scrollTo(0, document.documentElement.scrollHeight)")
     expect(tab.run(f"[{COUNTED}, {is_in_view(COUNT)}, {is_in_view(notice)}]"), ["1 notice", True, False], "the head's button, whether it is in view, and whether the notice is")
@@ -321,7 +321,7 @@ def coarse(stage):
 
 def what_is_heard(stage):
     """The one region that is read out has a sentence in five seconds at most while another types, for as many seconds as this."""
-    seconds = 20
+    seconds = 15
     tab = stage.a
     expect(tab.run("[...document.querySelectorAll('[aria-live], [role=status], [role=alert], [role=log]')].filter((it) => it.id !== 'news' && !it.closest('.notice, #notices')).map((it) => it.id || it.className)"), [], "what else is read out")
     tab.run("window.heard = [], new MutationObserver(() => { const said = document.getElementById('news').textContent; if (said) heard.push(said); }).observe(document.getElementById('news'), { childList: true, subtree: true, characterData: true })")

@@ -2,7 +2,7 @@
 import time
 
 from browser import SHIFT, Late
-from stage import (ADD, ADD_HINT, COUNTED, FIELDS, GHOST, LABELS, PLUS, ROWS, STATE, WORDS, button, expect, expect_that, hint, leave, paste, put, retype, row, select_all, together)
+from stage import (ADD, ADD_HINT, COUNTED, FIELDS, GHOST, LABELS, NOTICES, OFFERED, PLUS, ROWS, STATE, WORDS, button, expect, expect_that, hint, leave, paste, put, retype, row, select_all, together)
 
 ITEMS = ["bread", "milk", "eggs", "tea", "salt", "rice", "beans", "honey"]
 BOARD = "window 1\ntext 1 \"Hi\"\nlist 2 " + " ".join(f'"{it}"' for it in ITEMS) + "\ntext 3 \"\"\n"
@@ -93,7 +93,7 @@ def overlapping(stage):
 
 
 def overlapping_at_once(stage):
-    """Both replace the same word and leave at the same time. One of them has what stands, and can take what the other wrote."""
+    """Both replace the same word and leave at the same time. One of them is asked, and can take what the other wrote."""
     for tab, new in zip(stage.tabs, ("oat bread", "rye bread"), strict=True):
         retype(tab, field("bread"), new)
     together(lambda: leave(stage.a), lambda: leave(stage.b))
@@ -102,9 +102,6 @@ def overlapping_at_once(stage):
         time.sleep(0.05)
     asked = [it.run(f"{button('Take theirs')} !== undefined") for it in stage.tabs]
     expect(asked.count(True), 1, "how many are asked")
-    stands = ["oat bread", "rye bread"][asked.index(True)]
-    for it in stage.tabs:
-        it.until(f"{LABELS}[0] === '{stands}' || {hint('oat bread')} !== ''")
     stage.tabs[asked.index(True)].click(button("Take theirs"))
     list_is(stage, [["rye bread", "oat bread"][asked.index(True)], *ITEMS[1:]])
 
@@ -316,7 +313,7 @@ def emptied(stage):
 
 def added_by_leaving(stage):
     """A good label is added by leaving, by Enter and by +."""
-    for at, step in enumerate([lambda: leave(stage.a), lambda: stage.a.press("Enter"), lambda: stage.a.click(PLUS), lambda: stage.a.press("Tab")]):
+    for at, step in enumerate([lambda: leave(stage.a), lambda: stage.a.press("Enter"), lambda: stage.a.click(PLUS), lambda: (stage.a.press("Tab"), stage.a.press("Tab"))]):
         stage.a.click(ADD)
         stage.a.type(f" more {at} ")
         others_see(stage.b, [*ITEMS, *(f"more {it}" for it in range(at))])
@@ -415,18 +412,18 @@ def keys_after_a_deletion(stage):
 
 
 def asks_before_it_is_left(stage):
-    """A page with a draft asks whether to leave it."""
+    """A page with a draft asks whether to leave it. If it is left anyway, what was typed is offered on the next visit of the tab."""
     tab = stage.a
-    retype(tab, field("milk"), "cream")
-    tab.reload()
-    expect(tab.asked(), 1, "how many times the page asked")
-    tab.until(f"{STATE} === 'open'")
-    tab.click(ADD)
-    put(tab, "K\u00e4se")
-    leave(tab)
-    tab.reload()
-    expect(tab.asked(), 2, "how many times the page asked")
-    tab.until(f"{STATE} === 'open'")
+    for count, (element, typed) in enumerate([(field("milk"), "cream"), (ADD, "K\u00e4se")], 1):
+        tab.click(element)
+        select_all(tab)
+        put(tab, typed)
+        tab.reload()
+        expect(tab.asked(), count, "how many times the page asked")
+        tab.until(f"{STATE} === 'open'")
+        expect_that(any(typed in it for it in tab.run(OFFERED)), f"what was typed is offered: {tab.run(OFFERED)}")
+        tab.click(button("Dismiss", f"{NOTICES}[0]"))
+        expect(tab.run(f"[{NOTICES}.length, {LABELS}]"), [0, ITEMS], "the notices, and the list")
     tab.click(ADD)
     tab.reload()
     expect(tab.asked(), 2, "how many times the page asked, the last time without a draft")

@@ -1,7 +1,7 @@
 """A link that is lost, a server that starts again, and a board that takes no more edits."""
 import time
 
-from stage import ADD, AREA, COUNTED, NOTICES, OFFERED, STATE, WORDS, button, clipboard, expect, expect_that, focus
+from stage import ADD, AREA, COUNTED, NOTICES, OFFERED, STATE, WORDS, button, copied, expect, expect_that, focus
 
 # All that the notices at a widget say and offer, and the widgets of a text and of a list.
 SAID = "[...%s.closest('.widget').querySelectorAll('.notice')].map((it) => [it.textContent, ...[...it.querySelectorAll('textarea')].map((area) => area.value)].join('\\n')).join('\\n')"
@@ -56,7 +56,7 @@ def a_killed_server(stage):
     expect_that(" and more" in stage.b.run(OF_TEXT), "what was not taken is offered at the text")
     stage.picture(stage.b, "offered")
     stage.b.click(button("Copy", f"{NOTICES}[0]"))
-    expect_that(" and more" in clipboard(stage.b), "what is offered is copied")
+    copied(stage.b, " and more")
     stage.b.click(button("Dismiss", f"{NOTICES}[0]"))
     expect(stage.b.run(f"[{NOTICES}.length, {COUNTED}]"), [0, ""], "the notices")
 

@@ -7,7 +7,7 @@ import time
 
 import pdf
 from looks import CONTROLS, tree
-from stage import (ADD, AREA, COUNT, COUNTED, NOTICES, NUMBERS, OFFERED, RANGES, STATE, TOGGLE, WORDS, button, clipboard, expect, expect_that, focus, leave, named, put, retype, select_all)
+from stage import (ADD, AREA, COUNT, COUNTED, NOTICES, NUMBERS, OFFERED, RANGES, STATE, TOGGLE, WORDS, button, copied, expect, expect_that, focus, leave, named, put, retype, select_all)
 
 # A server keeps the board within two seconds of a change.
 KEPT = 3
@@ -94,7 +94,7 @@ def notices(stage):
     tab.until(is_in_view(f"{notice}.querySelector('.notice-words')"))
     expect(tab.run(f"{notice}.contains(document.activeElement)"), True, "whether the focus is at the notice")
     tab.click(button("Copy", notice))
-    expect_that(" and more" in clipboard(tab), "what is offered is copied")
+    copied(tab, " and more")
     opened_again(tab)
     expect(tab.asked(), 1, "how many times the page asked whether to leave it")
     expect(tab.run(f"[{OFFERED}, {COUNTED}]"), [offered, "1 notice"], "what is offered after the tab was loaded again, and the head")
@@ -174,7 +174,7 @@ def an_empty_board(stage):
     said = tab.run("document.querySelector('main').textContent")
     expect_that("Nothing here yet" in said, f"the page says that nothing is there: {said!r}")
     expect_that("text 1" in said or "--board" in said, f"it says how widgets are added: {said!r}")
-    expect(tab.run("[document.querySelectorAll('.widget').length, document.getElementById('title').textContent]"), [0, "Party"], "the widgets, and the title")
+    expect(tab.run("[document.querySelectorAll('.widget').length, document.getElementById('title').textContent]"), [0, "Board"], "the widgets, and the title")
 
 
 # ---- Print and files ----
@@ -255,19 +255,20 @@ def copies(stage):
     """A text and a list can be copied as they are."""
     tab = stage.a
     tab.click(named("Copy Notes"))
-    expect(clipboard(tab), "Hi", "the text that was copied")
+    copied(tab, "Hi")
     tab.click(named("Copy Who brings what"))
-    expect(clipboard(tab), "buy bread\ncall Ann", "the list that was copied")
+    copied(tab, "buy bread\ncall Ann")
     expect(tab.run(f"[{named('Copy Notes')}.textContent.trim() !== '', {named('Copy Notes')}.closest('.widget').contains({AREA})]"), [True, True], "whether the button has words, and is at its text")
 
 
 # ---- Large, coarse, and heard ----
 
-# What sticks out of the page, or out of the widget that it is in.
-OUT = """[...document.querySelectorAll('header *, main *')].filter((it) => it.checkVisibility() && !it.closest('.unseen, option')).filter((it) => {
+# What sticks out of the page, or out of the section that it is in, with its text.
+OUT = """[...document.querySelectorAll('header *, main *')].filter((it) => it.checkVisibility() && !it.closest('.unseen')).filter((it) => {
   const box = it.getBoundingClientRect();
-  const around = it.closest('.widget')?.closest('section')?.getBoundingClientRect();
-  return box.width > 1 && (box.right > innerWidth + 1 || box.x < -1 || (around && box.right > around.right + 1));
+  const edge = it.closest('main section')?.getBoundingClientRect().right ?? document.documentElement.clientWidth;
+  const isClipped = getComputedStyle(it).overflowX !== 'visible' || it.children.length > 0;
+  return box.x < -1 || box.right > edge + 1 || (!isClipped && box.x + it.scrollWidth > edge + 1);
 }).map((it) => `${it.tagName}.${it.className || it.id || it.type}`)"""
 
 
@@ -281,7 +282,7 @@ def large(stage):
         tab.call("Emulation.setDeviceMetricsOverride", width=width, height=640, deviceScaleFactor=1, mobile=False)
         tab.until(f"innerWidth === {width}")
         tab.run("document.documentElement.style.fontSize = '200%'")
-        expect(tab.run(f"[document.documentElement.scrollWidth <= {width}, {OUT}]"), [True, []], f"whether {width} pixels are enough, and what sticks out")
+        expect(tab.run(f"[document.documentElement.scrollWidth <= document.documentElement.clientWidth, {OUT}]"), [True, []], f"whether {width} pixels are enough, and what sticks out")
     stage.picture(tab, "large")
 
 
@@ -313,7 +314,8 @@ def coarse(stage):
     tab.call("Emulation.setTouchEmulationEnabled", enabled=True)
     expect(tab.run("matchMedia('(pointer: coarse)').matches"), True, "whether the pointer is a finger")
     tab.click("document.getElementById('menu-button')")
-    small = """[...document.querySelectorAll('textarea, input, button')].filter((it) => it.checkVisibility()).map((it) => [it, it.getBoundingClientRect()])
+    # A box that is ticked may be pressed anywhere on the label around it.
+    small = """[...document.querySelectorAll('textarea, input, button')].filter((it) => it.checkVisibility()).map((it) => [it, (it.type === 'checkbox' && it.labels[0]?.contains(it) ? it.labels[0] : it).getBoundingClientRect()])
       .filter(([it, box]) => box.height < 44 || (box.width < 44)).map(([it, box]) => `${it.tagName} ${it.id || it.ariaLabel || it.textContent}: ${box.width} x ${box.height}`)"""
     expect(tab.run(small), [], "what is too small for a finger")
     tab.call("Emulation.setTouchEmulationEnabled", enabled=False)
@@ -323,7 +325,7 @@ def what_is_heard(stage):
     """The one region that is read out has a sentence in five seconds at most while another types, for as many seconds as this."""
     seconds = 15
     tab = stage.a
-    expect(tab.run("[...document.querySelectorAll('[aria-live], [role=status], [role=alert], [role=log]')].filter((it) => it.id !== 'news' && !it.closest('.notice, #notices')).map((it) => it.id || it.className)"), [], "what else is read out")
+    expect(tab.run("[...document.querySelectorAll('[aria-live], [role=status], [role=alert], [role=log]')].filter((it) => it.id !== 'news' && !it.closest('.notice, #notices, .hint')).map((it) => it.id || it.className)"), [], "what else is read out")
     tab.run("window.heard = [], new MutationObserver(() => { const said = document.getElementById('news').textContent; if (said) heard.push(said); }).observe(document.getElementById('news'), { childList: true, subtree: true, characterData: true })")
     focus(stage.b)
     end = time.monotonic() + seconds

@@ -21,6 +21,8 @@ LIMIT = 1_000_000
 # How many seconds a piece takes each way to the tab that is far away.
 ONE_WAY = 0.08
 PATIENCE = 180
+# How many seconds a page may take for what it does by itself.
+SOON = 20
 # How long two tabs have to show the same before that counts.
 STEADY = 0.5
 BOARD = """window 1
@@ -234,6 +236,14 @@ def clipboard(tab):
     tab.run("(() => { const it = document.createElement('textarea'); it.id = 'for-a-copy'; document.body.append(it); it.focus(); })()")
     tab.press("v", CONTROL, ["paste"])
     return tab.run("(() => { const it = document.getElementById('for-a-copy'); it.remove(); return it.value; })()")
+
+
+def copied(tab, text):
+    """Tests that the clipboard comes to have a text, and no more but spaces around it. A page may take a while to copy."""
+    end = time.monotonic() + SOON
+    while (found := clipboard(tab)).strip() != text.strip():
+        expect_that(time.monotonic() < end, f"{text!r} is copied, and not {found!r}")
+        time.sleep(0.1)
 
 
 def leave(tab):

@@ -1,6 +1,6 @@
 """What others do changes nothing under a person's hands: lines, carets, selections and what is in view stay where they are."""
 from browser import SHIFT
-from stage import ADD, AREA, AREAS, CAPTIONS, OTHER_AREA, STATE, expect, expect_that, focus, leave, put, row, selected
+from stage import ADD, AREA, AREAS, CAPTIONS, OTHER_AREA, SOON, STATE, expect, expect_that, focus, leave, put, row, selected
 
 LINES = [f"line {it} of a long text" for it in range(200)]
 LONG_BOARD = "window 1\ntext 1 \"" + "\\u{a}".join(LINES) + "\"\nlist 2 \"bread\" \"milk\"\ntoggle 3 off\nslider 4 0 10 5\nwindow 2\ntext 1 \"one\\u{a}two\\u{a}three\"\nslider 2 -100 100 0\n"
@@ -173,8 +173,9 @@ def other_captions(stage):
     stage.server.start()
     for it in stage.tabs:
         it.until("document.querySelectorAll('[role=switch]').length === 2")
-        captions = it.run("[document.getElementById('title')?.textContent, document.querySelector('main h2').textContent, document.querySelector('main .caption > :first-child').textContent, document.title]")
-        expect(captions, ["Dinner", "Dinner", "Minutes", "Dinner"], "the title and the captions")
+        it.until(f"document.querySelector('main h2').textContent === 'Dinner'", SOON)
+        captions = it.run("[document.getElementById('title').textContent, document.title, document.querySelector('main .caption > :first-child').textContent]")
+        expect(captions, ["Dinner", "Dinner", "Minutes"], "the titles and the caption")
     expect([hands(it) for it in stage.tabs], was, "the fields with the focus")
     stage.b.type("er\n")
     expect(stage.agreed()[1], ["bread", "milk", "pepper"], "the list")

@@ -93,7 +93,7 @@ class Target:
                     self.news.notify_all()
 
     def meet(self, message):
-        """Does at once what a message needs. It runs in the thread that hears, so it waits for no answer."""
+        """Does what a message needs immediately. It runs in the thread that hears, so it waits for no answer."""
 
     def send(self, method, **given):
         """Sends a call, and returns its number. The one that calls it has `news`."""

@@ -173,7 +173,7 @@ def deleted_with_a_focused_button(stage):
 # ---- What can't be in an item ----
 
 
-# What is typed, what the field then shows, and what is said of it.
+# What is typed, what the field then shows, and what the hint names.
 UNFIT = [
     ("K\u00e4se", "K\u00e4se", "\u00e4"),
     ("Ann\u2019s \u2013 2 \u20ac", "Ann's - 2 \u20ac", "\u20ac"),

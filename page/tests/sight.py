@@ -123,7 +123,7 @@ TRIES = """window.tried = [], window.WebSocket = class extends WebSocket {
 
 
 def lost_and_tried(stage):
-    """A lost link is tried again soon and then every five seconds, and at once by a button, a key or a click."""
+    """A lost link is tried again soon and then every five seconds, and immediately by a button, a key or a click."""
     tab = stage.a
     tab.run(TRIES)
     stage.server.stop()
@@ -273,7 +273,7 @@ OUT = """[...document.querySelectorAll('header *, main *')].filter((it) => it.ch
 
 
 def large(stage):
-    """Texts of twice the size on a wide and on a narrow screen, as with a zoom of 400 %: nothing sticks out, and nothing has to be scrolled to the side."""
+    """Texts of twice the size fit on a wide screen, and on a narrow one, as with a zoom of 400 %. Nothing sticks out, and nothing has to be scrolled to the side."""
     tab = stage.a
     tab.click(ADD)
     put(tab, "K\u00e4se and " + "x" * 40)
@@ -287,7 +287,7 @@ def large(stage):
 
 
 def forced_colours(stage):
-    """Where the system chooses the colours, each control has an edge, and states are told by words and shapes."""
+    """Where the system chooses the colours, each control has an edge, and words and shapes tell states."""
     tab = stage.a
     tab.call("Emulation.setEmulatedMedia", features=[{"name": "forced-colors", "value": "active"}])
     expect(tab.run("matchMedia('(forced-colors: active)').matches"), True, "whether the system chooses the colours")
@@ -314,8 +314,8 @@ def coarse(stage):
     tab.call("Emulation.setTouchEmulationEnabled", enabled=True)
     expect(tab.run("matchMedia('(pointer: coarse)').matches"), True, "whether the pointer is a finger")
     tab.click("document.getElementById('menu-button')")
-    # A box that is ticked may be pressed anywhere on the label around it.
-    small = """[...document.querySelectorAll('textarea, input, button')].filter((it) => it.checkVisibility()).map((it) => [it, (it.type === 'checkbox' && it.labels[0]?.contains(it) ? it.labels[0] : it).getBoundingClientRect()])
+    # A box that is ticked may be pressed on its label too.
+    small = """[...document.querySelectorAll('textarea, input, button')].filter((it) => it.checkVisibility()).map((it) => [it, (it.type === 'checkbox' && it.role !== 'switch' ? it.labels[0] : it).getBoundingClientRect()])
       .filter(([it, box]) => box.height < 44 || (box.width < 44)).map(([it, box]) => `${it.tagName} ${it.id || it.ariaLabel || it.textContent}: ${box.width} x ${box.height}`)"""
     expect(tab.run(small), [], "what is too small for a finger")
     tab.call("Emulation.setTouchEmulationEnabled", enabled=False)

@@ -51,7 +51,7 @@ STATE = "document.body?.dataset.stage"
 # The areas of texts. A notice in a widget may have an area too, which comes after that of the widget.
 AREAS = "document.querySelectorAll('main .widget textarea:not(.notice textarea)')"
 AREA, OTHER_AREA = f"{AREAS}[0]", f"{AREAS}[1]"
-# The first list: what adds an item, the fields of its items, and what is said of the field that adds.
+# The first list: what adds an item, the fields of its items, and the hint at the field that adds.
 ADD = "document.querySelector('.row > input[id]')"
 PLUS = f"{ADD}.parentElement.querySelector('button')"
 ROWS = "[...document.querySelectorAll('ol > li')]"
@@ -67,7 +67,7 @@ NUMBERS = "[...document.querySelectorAll('[type=number]')]"
 WORDS = "document.getElementById('state')?.textContent"
 COUNT = "document.getElementById('notice-count')"
 NOTICES = "[...document.querySelectorAll('.notice')]"
-# How many notices the head tells of, in its words, and the texts that notices offer.
+# How many notices the head counts, in its words, and the texts that notices offer.
 COUNTED = f"({COUNT}?.checkVisibility() ? {COUNT}.textContent.trim() : '')"
 OFFERED = f"{NOTICES}.flatMap((it) => [...it.querySelectorAll('textarea[readonly]')].map((area) => area.value))"
 
@@ -201,7 +201,7 @@ def named(name):
 
 
 def hint(label):
-    """What is said of the draft of an item."""
+    """What the hint at an item says."""
     return f"({row(label)}?.querySelector('.hint:not([hidden])')?.textContent ?? '')"
 
 
@@ -217,7 +217,7 @@ def retype(tab, field, text):
 
 
 def put(tab, text):
-    """Puts a text in place of what is selected, as an input method does it: at once."""
+    """Puts a text in place of what is selected, all of it in one event, as an input method does it."""
     tab.call("Input.insertText", text=text)
 
 

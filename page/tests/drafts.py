@@ -10,6 +10,8 @@ BOARD = "window 1\ntext 1 \"Hi\"\nlist 2 " + " ".join(f'"{it}"' for it in ITEMS)
 SEEN = 0.5
 # A press within this time after others moved the rows is ignored. It is a little less than the page has.
 AT_ONCE = 0.45
+# After this time it is taken again.
+LATER = 0.8
 GAPS = (0, 0.02, 0.15, 0.3)
 FOCUS = "document.activeElement"
 HAS_FIELD_OR_BUTTON = f"['INPUT', 'TEXTAREA', 'BUTTON'].includes({FOCUS}.tagName)"
@@ -351,6 +353,7 @@ def twice_on_a_cross(stage):
     """A double click on × deletes one item."""
     stage.a.click(cross("milk"), 2)
     stage.agreed()
+    time.sleep(LATER)
     stage.b.click(cross("tea"), 2)
     list_is(stage, ["bread", "eggs", *ITEMS[4:]])
     for it in stage.tabs:
@@ -374,7 +377,7 @@ def rows_that_moved(stage):
     else:
         raise Late("no click came soon enough after the rows moved")
     list_is(stage, labels)
-    time.sleep(0.6)
+    time.sleep(LATER)
     stage.a.click(cross(labels[1]))
     list_is(stage, [labels[0], *labels[2:]])
 

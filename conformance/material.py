@@ -211,7 +211,9 @@ def table_board(window):
 
 
 def layout(limit):
-    """The layout that a server of this limit opens with, as text, and for each window the number of items before those of its transcript."""
+    """The layout that a server of this limit opens with, as text, and for each window the number of items before those of its transcript. It raises Differs if the limit is none of the kit's."""
+    if limit not in LIMITS:
+        raise Differs(f"the kit has no parts for the limit {limit}: start the server with the limit {LIMIT} and the layout that `run layout` prints")
     boards = [it.board for it in transcripts("servers") if it.limit == limit]
     if limit == LIMIT:
         boards += [Board(table_board(it)) for it in (LINES_WINDOW, *TRANSFORM_WINDOWS)]

@@ -3,8 +3,10 @@
 use crate::expect::{expect_eq, expect_that};
 use jup_service::{
     Address, CaptionFault, ServiceEnd, check_captions, own_origins, service_words, star_of_printed,
+    who_text,
 };
-use std::alloc::Global;
+use std::alloc::{AllocError, Global};
+use std::process::Abort;
 use test_marks::{begin, end};
 
 const BOARD: &[u8] =
@@ -50,6 +52,24 @@ fn star_printed(rt: HostRuntime) {
     end(rt.alloc());
     expect_that(&rt, matches!(&opened, Ok(_) | Err(ServiceEnd::NoMemory)));
     expect_that(&rt, star_of_printed(rt.alloc(), BOARD, 10).is_ok());
+}
+
+// The answer, or that there is no memory.
+fn expect_who(rt: &impl Abort, alloc: Global, is_full: bool, due: &str) {
+    begin(alloc);
+    let made = who_text(alloc, 12, is_full);
+    end(alloc);
+    let text = match made {
+        Ok(text) => text,
+        Err(AllocError) => who_text(alloc, 12, is_full).expect(rt, "memory"),
+    };
+    expect_eq(rt, text.as_str(), due);
+}
+
+#[test]
+fn who_is_there(rt: HostRuntime) {
+    expect_who(&rt, rt.alloc(), false, "12\n");
+    expect_who(&rt, rt.alloc(), true, "12\nfull\n");
 }
 
 // The limit that the command line asks for, or the exit status if it is refused.

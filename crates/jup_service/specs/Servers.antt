@@ -82,6 +82,13 @@ with_told t OrderFull b = record t { order = b }
 with_told t CannotAccept b = record t { accept = b }
 with_told t CannotWrite b = record t { write = b }
 
+-- Who is connected.
+
+-- the number of links in a line; and a line `full` after it if the order is known to be full
+abbrev pub who_text : ℕ → Bool → List ℕ
+who_text links false = decimal links ++ codes "\n"
+who_text links true = decimal links ++ codes "\nfull\n"
+
 -- What the first bytes of a connection begin.
 
 -- how each request begins

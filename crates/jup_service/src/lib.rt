@@ -1,6 +1,6 @@
 //! What a server of browsers decides: its command line and its end, which bytes begin a request, and whose pages may send requests. Also
-//! how long it waits for a client, what it reports to its operator once, the board that a file keeps, and captions. Nothing here opens a
-//! socket.
+//! how long it waits for a client, what it reports to its operator once, the board that a file keeps, captions, and who is connected.
+//! Nothing here opens a socket.
 #![tactic(auto)]
 
 mod captions;
@@ -13,6 +13,7 @@ mod opening;
 mod origins;
 mod patience;
 mod star;
+mod who;
 mod words;
 
 pub use captions::{CaptionFault, check_captions};
@@ -25,4 +26,5 @@ pub use opening::{Opening, opening_of};
 pub use origins::{Address, own_origins};
 pub use patience::{LONGEST_SILENCE, Presence, head_wait};
 pub use star::star_of_printed;
+pub use who::who_text;
 pub use words::{ServiceWords, service_words};

@@ -72,6 +72,18 @@ impl Told {
         !was
     }
 
+    /// Whether the server has reported a notice that is not over.
+    pub fn has(&self, notice: Notice) -> bool
+        ensures { result ≡ is_told self.now notice }
+    {
+        match notice {
+            Notice::SitesSpent => self.sites,
+            Notice::OrderFull => self.order,
+            Notice::CannotAccept => self.accept,
+            Notice::CannotWrite => self.write,
+        }
+    }
+
     /// What the notice reports is over. If it comes back, the server has to report it again.
     pub fn clear(&mut self, notice: Notice)
         ensures { self.new ≡ with_told self.old notice false }

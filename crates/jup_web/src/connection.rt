@@ -12,7 +12,7 @@ use jup_http::{
 };
 use jup_hub::Pass;
 use jup_io::is_interrupted;
-use jup_service::{LONGEST_SILENCE, Opening, close_code, head_wait, opening_of};
+use jup_service::{LONGEST_SILENCE, Notice, Opening, close_code, head_wait, opening_of, who_text};
 use jup_session::{Outgoing, hang_up};
 use std::alloc::{AllocError, Global};
 use std::io;
@@ -143,7 +143,8 @@ fn answer<R: Wait>(
         Request::Captions => send(service.alloc, &mut to, Media::Plain, service.captions),
         Request::Who => {
             let links = service.connections.count_links(rt);
-            let text = format!(in service.alloc; "{links}\n")?;
+            let is_full = service.notices.has(rt, Notice::OrderFull);
+            let text = who_text(service.alloc, links, is_full)?;
             send(service.alloc, &mut to, Media::Plain, text.as_bytes())
         }
         Request::Refused(refusal) => to.write_all(refusal_head(refusal).as_bytes()),

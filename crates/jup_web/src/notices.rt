@@ -25,6 +25,11 @@ impl Notices {
         }
     }
 
+    /// Whether it has reported a notice that is not over.
+    pub(crate) fn has<R: Wait>(&self, rt: &R, notice: Notice) -> bool {
+        self.told.lock(rt).has(notice)
+    }
+
     /// What the notice reports is over.
     pub(crate) fn clear<R: Wait>(&self, rt: &R, notice: Notice) {
         self.told.lock(rt).clear(notice);

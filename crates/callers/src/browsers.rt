@@ -2,15 +2,15 @@
 ghost use Rattle.std.specs.Prelude.{◌≡◌, IfOk, IfSome};
 ghost use Rattle.jup_http.specs.Streams.{start, brings};
 
-use jup_http::{MessageReader, Request, read_request, refusal_head};
+use jup_http::{MessageReader, Request, read_request, refusal_body, refusal_head};
 use std::alloc::Global;
 use std::io;
 use std::io::Read;
 
-/// The immediate answer to the first bytes of a connection, if there is one: a request that is refused.
-pub fn answer_refused(bytes: &[u8], origins: &[&[u8]]) -> Option<&'static str> {
+/// The head and the body of the immediate answer to the first bytes of a connection, if there is one: a request that is refused.
+pub fn answer_refused(bytes: &[u8], origins: &[&[u8]]) -> Option<(&'static str, &'static str)> {
     match read_request(bytes, origins) {
-        Some(Request::Refused(refusal)) => Some(refusal_head(refusal)),
+        Some(Request::Refused(refusal)) => Some((refusal_head(refusal), refusal_body(refusal))),
         _ => None,
     }
 }

@@ -1,4 +1,4 @@
-//! Bytes that are no head of a request. The built program answers them as it answers a link without an upgrade.
+//! Bytes that are no head of a request.
 use crate::expect::expect_eq;
 use jup_http::{LONGEST_HEAD, Refusal, Request, read_request};
 use std::process::Abort;

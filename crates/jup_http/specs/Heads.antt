@@ -10,7 +10,7 @@ use Rattle.websocket.specs.Handshake.{requested_key, IsValidKey, accept_key_of}
 use Rattle.jup_http.specs.declared.request.Request.{Request}
 use Rattle.jup_http.specs.declared.request.Request.TheVariants.{Page, Captions, Who, Link, Refused}
 use Rattle.jup_http.specs.declared.refusal.Refusal.{Refusal}
-use Rattle.jup_http.specs.declared.refusal.Refusal.TheVariants.{BadHead, Foreign, NoPage, BadMethod, NoUpgrade, OtherVersion}
+use Rattle.jup_http.specs.declared.refusal.Refusal.TheVariants.{BadHead, Foreign, NoPage, BadMethod, NoUpgrade, OtherVersion, Busy}
 use Rattle.jup_http.specs.declared.responses.Media.{Media}
 use Rattle.jup_http.specs.declared.responses.Media.TheVariants.{Html, Plain}
 
@@ -68,6 +68,7 @@ status_of NoPage = 404
 status_of BadMethod = 405
 status_of NoUpgrade = 400
 status_of OtherVersion = 426
+status_of Busy = 503
 
 -- why an upgrade is refused: for its version, or since it is none
 abbrev pub upgrade_refusal : HandshakeError → Refusal
@@ -120,8 +121,9 @@ reason_of NoPage = codes "404 Not Found"
 reason_of BadMethod = codes "405 Method Not Allowed"
 reason_of NoUpgrade = codes "400 Bad Request"
 reason_of OtherVersion = codes "426 Upgrade Required"
+reason_of Busy = codes "503 Service Unavailable"
 
--- the methods that there are (RFC 9110, section 15.5.6), and the version (RFC 6455, section 4.2.2)
+-- the methods that there are (RFC 9110, section 15.5.6), the version (RFC 6455, section 4.2.2), and the seconds after which a browser may try again (RFC 9110, section 10.2.3)
 abbrev pub more_fields : Refusal → Fields
 more_fields BadHead = []
 more_fields Foreign = []
@@ -129,6 +131,7 @@ more_fields NoPage = []
 more_fields BadMethod = (codes "allow", codes "GET") ∷ []
 more_fields NoUpgrade = []
 more_fields OtherVersion = (codes "upgrade", codes "websocket") ∷ (codes "sec-websocket-version", codes "13") ∷ []
+more_fields Busy = (codes "retry-after", codes "5") ∷ []
 
 -- the connection ends; an answer with a line `upgrade` names it here too (RFC 9110, section 7.8)
 abbrev pub connection_of : Refusal → List ℕ
@@ -138,15 +141,35 @@ connection_of NoPage = codes "close"
 connection_of BadMethod = codes "close"
 connection_of NoUpgrade = codes "close"
 connection_of OtherVersion = codes "upgrade, close"
+connection_of Busy = codes "close"
 
-abbrev pub refusal_fields : Refusal → Fields
-refusal_fields refusal = more_fields refusal ++ (codes "content-length", codes "0") ∷ (codes "connection", connection_of refusal) ∷ []
-
--- ---- a body
-
+-- the type of a body
 abbrev pub media_type : Media → List ℕ
 media_type Html = codes "text/html; charset=utf-8"
 media_type Plain = codes "text/plain; charset=utf-8"
+
+-- ---- a refusal
+
+-- a sentence for the person at the browser
+abbrev pub refusal_body : Refusal → List ℕ
+refusal_body BadHead = codes "The server can't read this request.\n"
+refusal_body Foreign = codes "The server does not know this address as its own: start the server with --origin ORIGIN, the address that people type, as https://board.example.\n"
+refusal_body NoPage = codes "There is nothing at this address: the board is at /.\n"
+refusal_body BadMethod = codes "The server answers GET alone.\n"
+refusal_body NoUpgrade = codes "This address is for WebSockets alone: the board is at /.\n"
+refusal_body OtherVersion = codes "The server speaks version 13 of WebSockets alone.\n"
+refusal_body Busy = codes "The server has as many connections as it can serve: try again in a few seconds.\n"
+
+-- nobody keeps the sentence, or takes it for another type
+abbrev pub refusal_fields : Refusal → Fields
+refusal_fields refusal =
+    more_fields refusal ++ (codes "content-type", media_type Plain) ∷ (codes "content-length", decimal (length (refusal_body refusal)))
+    ∷ (codes "cache-control", codes "no-store") ∷ (codes "x-content-type-options", codes "nosniff") ∷ (codes "connection", connection_of refusal) ∷ []
+
+abbrev pub refusal_head : Refusal → List ℕ
+refusal_head refusal = head_of (reason_of refusal) (refusal_fields refusal)
+
+-- ---- a body
 
 -- what a page may do (Content Security Policy): its own code and colours, images in it, a link to its own server, and no page may frame it
 abbrev pub policy : List ℕ

@@ -26,7 +26,7 @@ pub use origins::is_origin;
 pub use reader::MessageReader;
 pub use refusal::Refusal;
 pub use request::{LONGEST_HEAD, MOST_FIELDS, Request, read_request};
-pub use responses::{Media, body_head, refusal_head};
+pub use responses::{Media, body_head, refusal_body, refusal_head};
 pub use sending::{put_close, put_ping, put_pong, put_text};
 pub use stream::{Event, FrameStream, Unframed};
 pub use writer::{LONGEST_SENT, MessageWriter};

@@ -17,6 +17,8 @@ pub enum Refusal {
     NoUpgrade,
     /// Another version of WebSockets.
     OtherVersion,
+    /// The server has as many connections as it serves at a time. It refuses whatever is asked.
+    Busy,
 }
 
 impl Refusal {
@@ -30,6 +32,7 @@ impl Refusal {
             Refusal::NoPage => 404,
             Refusal::BadMethod => 405,
             Refusal::OtherVersion => 426,
+            Refusal::Busy => 503,
         }
     }
 }

@@ -1,7 +1,7 @@
 //! The heads of answers.
 ghost use Rattle.std.specs.Prelude.{◌≡◌, ◌++◌, IfOk, codes, string_bytes};
 ghost use Rattle.websocket.specs.Headers.{crlf};
-ghost use Rattle.jup_http.specs.Heads.{head_of, reason_of, refusal_fields, media_type, guard_lines, body_fields};
+ghost use Rattle.jup_http.specs.Heads.{head_of, refusal_head, refusal_body, media_type, guard_lines, body_fields};
 
 use crate::Refusal;
 use std::alloc::{AllocError, Global};
@@ -40,22 +40,41 @@ pub fn body_head(alloc: Global, media: Media, len: usize) -> Result<String, Allo
     format!(in alloc; "HTTP/1.1 200 OK\r\ncontent-type: {name}\r\ncontent-length: {len}\r\n{guard}")
 }
 
-/// The whole answer to a request that is refused.
+/// The head of the answer to a request that is refused. The body after it is `refusal_body`; an answer to HEAD has none.
 pub fn refusal_head(refusal: Refusal) -> &'static str
-    ensures { result.now ≡ head_of (reason_of refusal) (refusal_fields refusal) }
+    ensures { result.now ≡ refusal_head refusal }
 {
     match refusal {
         Refusal::BadHead =>
-            "HTTP/1.1 400 Bad Request\r\ncontent-length: 0\r\nconnection: close\r\n\r\n",
-        Refusal::NoUpgrade =>
-            "HTTP/1.1 400 Bad Request\r\ncontent-length: 0\r\nconnection: close\r\n\r\n",
+            "HTTP/1.1 400 Bad Request\r\ncontent-type: text/plain; charset=utf-8\r\ncontent-length: 36\r\ncache-control: no-store\r\nx-content-type-options: nosniff\r\nconnection: close\r\n\r\n",
         Refusal::Foreign =>
-            "HTTP/1.1 403 Forbidden\r\ncontent-length: 0\r\nconnection: close\r\n\r\n",
+            "HTTP/1.1 403 Forbidden\r\ncontent-type: text/plain; charset=utf-8\r\ncontent-length: 145\r\ncache-control: no-store\r\nx-content-type-options: nosniff\r\nconnection: close\r\n\r\n",
         Refusal::NoPage =>
-            "HTTP/1.1 404 Not Found\r\ncontent-length: 0\r\nconnection: close\r\n\r\n",
+            "HTTP/1.1 404 Not Found\r\ncontent-type: text/plain; charset=utf-8\r\ncontent-length: 53\r\ncache-control: no-store\r\nx-content-type-options: nosniff\r\nconnection: close\r\n\r\n",
         Refusal::BadMethod =>
-            "HTTP/1.1 405 Method Not Allowed\r\nallow: GET\r\ncontent-length: 0\r\nconnection: close\r\n\r\n",
+            "HTTP/1.1 405 Method Not Allowed\r\nallow: GET\r\ncontent-type: text/plain; charset=utf-8\r\ncontent-length: 30\r\ncache-control: no-store\r\nx-content-type-options: nosniff\r\nconnection: close\r\n\r\n",
+        Refusal::NoUpgrade =>
+            "HTTP/1.1 400 Bad Request\r\ncontent-type: text/plain; charset=utf-8\r\ncontent-length: 57\r\ncache-control: no-store\r\nx-content-type-options: nosniff\r\nconnection: close\r\n\r\n",
         Refusal::OtherVersion =>
-            "HTTP/1.1 426 Upgrade Required\r\nupgrade: websocket\r\nsec-websocket-version: 13\r\ncontent-length: 0\r\nconnection: upgrade, close\r\n\r\n",
+            "HTTP/1.1 426 Upgrade Required\r\nupgrade: websocket\r\nsec-websocket-version: 13\r\ncontent-type: text/plain; charset=utf-8\r\ncontent-length: 50\r\ncache-control: no-store\r\nx-content-type-options: nosniff\r\nconnection: upgrade, close\r\n\r\n",
+        Refusal::Busy =>
+            "HTTP/1.1 503 Service Unavailable\r\nretry-after: 5\r\ncontent-type: text/plain; charset=utf-8\r\ncontent-length: 80\r\ncache-control: no-store\r\nx-content-type-options: nosniff\r\nconnection: close\r\n\r\n",
+    }
+}
+
+/// The body of the answer to a request that is refused: a sentence for the person at the browser.
+pub fn refusal_body(refusal: Refusal) -> &'static str
+    ensures { result.now ≡ refusal_body refusal }
+{
+    match refusal {
+        Refusal::BadHead => "The server can't read this request.\n",
+        Refusal::Foreign =>
+            "The server does not know this address as its own: start the server with --origin ORIGIN, the address that people type, as https://board.example.\n",
+        Refusal::NoPage => "There is nothing at this address: the board is at /.\n",
+        Refusal::BadMethod => "The server answers GET alone.\n",
+        Refusal::NoUpgrade => "This address is for WebSockets alone: the board is at /.\n",
+        Refusal::OtherVersion => "The server speaks version 13 of WebSockets alone.\n",
+        Refusal::Busy =>
+            "The server has as many connections as it can serve: try again in a few seconds.\n",
     }
 }

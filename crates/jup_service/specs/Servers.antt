@@ -8,11 +8,15 @@ use Rattle.jup_star.specs.Stars.{BoardStar, opened_star}
 use Rattle.jup_board.specs.Boards.{IsPrintOf}
 use Rattle.jup_http.specs.declared.ending.Ending.{Ending}
 use Rattle.jup_http.specs.Frames.{answer_code}
+use Rattle.jup_http.specs.declared.refusal.Refusal.{Refusal}
+use Rattle.jup_http.specs.declared.refusal.Refusal.TheVariants.{Busy}
 use Rattle.jup_service.specs.declared.end.ServiceEnd.{ServiceEnd}
 use Rattle.jup_service.specs.declared.end.ServiceEnd.TheVariants.{NoOrigin, Io, BoardTaken, NoMemory, BadBoard, LongBoard, BadCaptions}
 use Rattle.jup_service.specs.declared.notices.Notice.{Notice}
 use Rattle.jup_service.specs.declared.notices.Notice.TheVariants.{SitesSpent, OrderFull, CannotAccept, CannotWrite}
 use Rattle.jup_service.specs.declared.notices.Told.{Told}
+use Rattle.jup_service.specs.declared.opening.Opening.{Opening}
+use Rattle.jup_service.specs.declared.opening.Opening.TheVariants.{Request, Lines}
 use Rattle.jup_service.specs.declared.origins.Address.{Address}
 
 -- Captions of windows and widgets, a line each.
@@ -94,6 +98,12 @@ who_text links true = decimal links ++ codes "\nfull\n"
 -- how each request begins
 abbrev pub method : List ℕ
 method = codes "GET "
+
+-- the refusal of a connection too many, by what has come of it: lines get none, and what may become a request gets one
+abbrev pub surplus_refusal : Option Opening → Option Refusal
+surplus_refusal (Some Lines) = None
+surplus_refusal (Some Request) = Some Busy
+surplus_refusal None = Some Busy
 
 -- The origins under which a server's own pages send requests.
 

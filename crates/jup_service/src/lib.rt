@@ -22,7 +22,7 @@ pub use command::{Command, command_of};
 pub use end::{Attempt, ServiceEnd};
 pub use kept_file::{KeptFile, KeptFileFault};
 pub use notices::{Notice, Told, notice_of};
-pub use opening::{Opening, opening_of};
+pub use opening::{Opening, opening_of, surplus_refusal};
 pub use origins::{Address, own_origins};
 pub use patience::{LONGEST_SILENCE, Presence, head_wait};
 pub use star::star_of_printed;

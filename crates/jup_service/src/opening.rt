@@ -1,7 +1,9 @@
 //! What the first bytes of a connection begin.
 ghost use Rattle.std.specs.Prelude.{◌≡◌, ◌↔◌, ◌<◌, length, Some, IsNone};
 ghost use Rattle.std.specs.Io.{StartsWith};
-ghost use Rattle.jup_service.specs.Servers.{method};
+ghost use Rattle.jup_service.specs.Servers.{method, surplus_refusal};
+
+use jup_http::Refusal;
 
 /// How each request of HTTP begins that is taken for one.
 const METHOD: &[u8] = b"GET ";
@@ -27,4 +29,14 @@ pub fn opening_of(bytes: &[u8]) -> Option<Opening>
         return None;
     }
     Some(Opening::Lines)
+}
+
+/// How a server refuses a connection too many, whose first bytes begin this, or do not show it yet. The lines of a session get no answer.
+pub fn surplus_refusal(opening: Option<Opening>) -> Option<Refusal>
+    ensures { result ≡ surplus_refusal opening }
+{
+    match opening {
+        Some(Opening::Lines) => None,
+        Some(Opening::Request) | None => Some(Refusal::Busy),
+    }
 }

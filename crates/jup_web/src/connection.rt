@@ -1,5 +1,6 @@
 //! One connection: a request of HTTP, a session over a WebSocket, or a session by lines.
-ghost use Rattle.std.specs.Prelude.{◌≤◌, length, IfOk};
+ghost use Rattle.std.specs.Prelude.{◌≡◌, ◌≤◌, ◌++◌, length, IfOk, string_bytes};
+ghost use Rattle.jup_http.specs.Heads.{refusal_head, refusal_body};
 ghost use Rattle.jup_hub.specs.Passes.{IsPassOf};
 
 use crate::browser::{BrowserBytes, UntilStopped};
@@ -7,17 +8,19 @@ use crate::session::{Service, run_session};
 use crate::stop::Stop;
 use crate::turn::{BROWSER_PATIENCE, InTurn};
 use jup_http::{
-    Ending, LONGEST_HEAD, Media, MessageReader, MessageWriter, Request, body_head, put_close,
-    read_request, refusal_head,
+    Ending, LONGEST_HEAD, Media, MessageReader, MessageWriter, Refusal, Request, body_head,
+    put_close, read_request, refusal_body, refusal_head,
 };
 use jup_hub::Pass;
-use jup_io::is_interrupted;
-use jup_service::{LONGEST_SILENCE, Notice, Opening, close_code, head_wait, opening_of, who_text};
+use jup_io::{has_waited, is_interrupted};
+use jup_service::{
+    LONGEST_SILENCE, Notice, Opening, close_code, head_wait, opening_of, surplus_refusal, who_text,
+};
 use jup_session::{Outgoing, hang_up};
 use std::alloc::{AllocError, Global};
 use std::io;
 use std::io::{ErrorKind, Read, Write};
-use std::net::TcpStream;
+use std::net::{Shutdown, TcpStream};
 use std::sync::{Mutex, Wait};
 use std::thread::Threads;
 use std::time::{Clock, Duration, Instant};
@@ -147,7 +150,9 @@ fn answer<R: Wait>(
             let text = who_text(service.alloc, links, is_full)?;
             send(service.alloc, &mut to, Media::Plain, text.as_bytes())
         }
-        Request::Refused(refusal) => to.write_all(refusal_head(refusal).as_bytes()),
+        Request::Refused(refusal) => {
+            to.write_all(refusal_text(service.alloc, refusal)?.as_bytes())
+        }
         Request::Link(_) => Ok(()),
     }
 }
@@ -156,6 +161,31 @@ fn send<O: Write>(alloc: Global, to: &mut O, media: Media, body: &[u8]) -> io::R
     let head = body_head(alloc, media, body.len())?;
     to.write_all(head.as_bytes())?;
     to.write_all(body)
+}
+
+// The whole answer to a request that is refused.
+fn refusal_text(alloc: Global, refusal: Refusal) -> Result<String, AllocError>
+    ensures { IfOk result (λ text. string_bytes text ≡ refusal_head refusal ++ refusal_body refusal) }
+{
+    let head = refusal_head(refusal);
+    let body = refusal_body(refusal);
+    format!(in alloc; "{head}{body}")
+}
+
+/// Answers a connection too many, without a wait: it reads what has come, and writes what the socket takes without one.
+pub(crate) fn turn_away(alloc: Global, mut stream: &TcpStream) -> io::Result<()> {
+    stream.set_nonblocking(true)?;
+    let mut first = [0u8; LONGEST_HEAD];
+    let len = match stream.read(&mut first) {
+        Ok(len) => len,
+        Err(error) if has_waited(&error) => 0,
+        Err(error) => return Err(error),
+    };
+    if let Some(refusal) = surplus_refusal(opening_of(&first[..len])) {
+        let text = refusal_text(alloc, refusal)?;
+        let _ = stream.write(text.as_bytes())?;
+    }
+    stream.shutdown(Shutdown::Write)
 }
 
 // Accepts a WebSocket.

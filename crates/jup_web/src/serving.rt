@@ -2,7 +2,7 @@
 ghost use Rattle.std.specs.Prelude.{◌≤◌, IfOk};
 ghost use Rattle.jup_hub.specs.Passes.{IsPassOf};
 
-use crate::connection::serve_connection;
+use crate::connection::{serve_connection, turn_away};
 use crate::connections::Connections;
 use crate::keeping::{KeptBoard, board_text, keep};
 use crate::notices::Notices;
@@ -271,7 +271,7 @@ fn accept_all<R: Threads + Wait + Clock + Eprint + Sync>(
     )
 }
 
-// The next connection that can be served, with its place among those that are open. `None` after a stop.
+// The next connection that can be served, with its place among those that are open. Those too many are turned away. `None` after a stop.
 fn next_connection<R: Wait + Clock + Eprint>(
     rt: &R,
     service: &Service<'_>,
@@ -287,6 +287,7 @@ fn next_connection<R: Wait + Clock + Eprint>(
                 if let Some(place) = service.connections.enter(rt, &stream) {
                     return Some((place, stream));
                 }
+                let _ = turn_away(service.alloc, &stream);
             }
             Err(_) => {
                 service.notices.tell(rt, Notice::CannotAccept);

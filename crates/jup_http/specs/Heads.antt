@@ -1,5 +1,5 @@
 -- The heads of requests and answers.
-use Rattle.std.specs.Prelude.{◌≡◌, ℕ, ◌⊎◌, Bool, true, false, cond, not, ◌&&◌, ◌||◌, ◌==◌, List, [], ◌∷◌, take, drop, length, codes, bytes_eq, count_by, Result, Ok, Err, MatchBool, ◌++◌, decimal}
+use Rattle.std.specs.Prelude.{◌≡◌, ℕ, ◌≤◌, ◌⊎◌, Bool, true, false, cond, not, ◌&&◌, ◌||◌, ◌==◌, List, [], ◌∷◌, take, drop, length, map, codes, bytes_eq, count_by, Result, Ok, Err, MatchBool, ◌++◌, decimal}
 use Rattle.std.specs.Char.{is_ascii_alphanumeric}
 use Rattle.std.specs.List.{list_all, list_any, flat_map}
 use denote.Ref.{Bor}
@@ -7,6 +7,9 @@ use Rattle.websocket.specs.declared.handshake.failure.HandshakeError.{HandshakeE
 use Rattle.websocket.specs.declared.handshake.failure.HandshakeError.TheVariants.{WrongHttpMethod, WrongHttpVersion, MissingConnectionUpgradeHeader, MissingUpgradeWebSocketHeader, MissingSecWebSocketVersionHeader, MissingSecWebSocketKey, InvalidSecWebSocketKey, SecWebSocketAcceptKeyMismatch, SecWebSocketSubProtocolError, UnexpectedExtension, Http, InvalidHeader, OutOfMemory}
 use Rattle.websocket.specs.Headers.{Fields, eq_ignore_case, crlf, field_line}
 use Rattle.websocket.specs.Handshake.{requested_key, IsValidKey, accept_key_of}
+use Rattle.httparse.specs.Grammar.{RequestHead, ReadsRequest}
+use Rattle.httparse.specs.Spans.{name_and_value}
+use Rattle.jup_http.specs.Frames.{most_fields}
 use Rattle.jup_http.specs.declared.request.Request.{Request}
 use Rattle.jup_http.specs.declared.request.Request.TheVariants.{Page, Captions, Who, Link, Refused}
 use Rattle.jup_http.specs.declared.refusal.Refusal.{Refusal}
@@ -107,6 +110,14 @@ Asks origins method target minor fields request =
     (MatchBool (bytes_eq method (codes "GET")) (AsksTarget target (requested_key method minor fields) request)
     (request ≡ Refused BadMethod))
     (request ≡ Refused Foreign)
+
+-- a head of at most 64 header lines is in front of these bytes, and asks for this
+pub record IsAsked (bytes : List ℕ) (origins : List (Bor (List ℕ))) (request : Request) : Type 0 where
+  pub head : RequestHead
+  pub rest : List ℕ
+  pub reads : ReadsRequest bytes head rest
+  pub few : length head.fields ≤ most_fields
+  pub asks : Asks origins head.method head.target head.minor (map name_and_value head.fields) request
 
 -- The head of an answer (RFC 9112, sections 4 and 5): a status line, header lines, an empty line.
 

@@ -1,11 +1,11 @@
 //! What the head of a request asks for.
-ghost use Rattle.std.specs.Prelude.{◌≡◌, ◌≤◌, ◌<◌, ℕ, List, length, take, map, IsNone, IsSomeAnd};
+ghost use Rattle.std.specs.Prelude.{◌≡◌, ◌≤◌, ◌<◌, ◌⊎◌, ℕ, List, length, take, map, IsNone, IfSome, IsSomeAnd};
 ghost use Rattle.httparse.specs.Grammar.{RequestHead, ReadsRequest, MayBecomeRequest};
 ghost use Rattle.httparse.specs.Spans.{span_bytes, name_and_value, IsRequestWithin};
 ghost use Rattle.websocket.specs.Headers.{fields_of};
 ghost use Rattle.websocket.specs.Handshake.{requested_key};
 ghost use Rattle.jup_http.specs.Frames.{longest_head, most_fields};
-ghost use Rattle.jup_http.specs.Heads.{Asks, AsksTarget, AsksLink, upgrade_refusal};
+ghost use Rattle.jup_http.specs.Heads.{Asks, AsksTarget, AsksLink, IsAsked, upgrade_refusal};
 
 use crate::Refusal;
 use crate::origins::is_own;
@@ -39,6 +39,8 @@ pub fn read_request(bytes: &[u8], origins: &[&[u8]]) -> Option<Request>
     // A head of at most 64 header lines is read as it is, whatever follows it.
     ensures head { (h : RequestHead) (rest : List ℕ) → ReadsRequest bytes.now h rest → length h.fields ≤ most_fields
         → IsSomeAnd result (Asks origins.now h.method h.target h.minor (map name_and_value h.fields)) }
+    // It gives what such a head asks for. All other bytes are refused.
+    ensures asked { IfSome result (λ request. IsAsked bytes.now origins.now request ⊎ (request ≡ Request.Refused Refusal.BadHead)) }
     // It waits for more only while more bytes can complete a head.
     ensures unfinished { IsNone result → MayBecomeRequest bytes.now }
     ensures bounded { IsNone result → length bytes.now < longest_head }

@@ -1,5 +1,7 @@
 //! The board that a file keeps.
-ghost use Rattle.std.specs.Prelude.{◌≡◌, IfOk, IfSome};
+ghost use Rattle.std.specs.Prelude.{◌≡◌, ◌≤◌, List, length, Ok, None, false, IfOk, IfSome};
+ghost use Rattle.jup_hub.specs.declared.view.HubEvent.{HubEvent};
+ghost use Rattle.jup_hub.specs.Histories.{Meets, having_seen, longest};
 ghost use Rattle.jup_hub.specs.Passes.{view_of, IsPassOf};
 ghost use Rattle.jup_web.specs.Keeping.{IsTextAt};
 
@@ -50,6 +52,9 @@ pub fn take_news<R: Wait>(
     requires { IsPassOf hub.now pass.old }
     ensures pass { IsPassOf hub.now pass.new }
     ensures text { IfOk result (λ news. IfSome news (λ text. IsTextAt text.items (view_of pass.new))) }
+    // It gives nothing only if no text is due, and no event came after all that the pass had seen.
+    ensures none { (log : List HubEvent) × Meets (view_of pass.old) log × (view_of pass.new ≡ having_seen log (view_of pass.old))
+        × (result ≡ Ok None → (is_due ≡ false) × (length log ≤ longest (view_of pass.old).seen)) }
 {
     let has_news = hub.news(pass);
     if !has_news && !is_due {
@@ -71,6 +76,8 @@ pub(crate) struct KeptBoard<'a> {
 }
 
 impl<'a> KeptBoard<'a> {
+    ghost use Rattle.std.specs.Prelude.{true, false};
+
     /// The file has this text.
     pub(crate) fn new(file: &'a KeptFile, text: Vec<u8>) -> KeptBoard<'a> {
         KeptBoard {
@@ -91,7 +98,10 @@ impl<'a> KeptBoard<'a> {
         files: &F,
         notices: &Notices,
         text: Vec<u8>,
-    ) {
+    )
+        ensures written { self.new.is_due ≡ false → self.new.text.items ≡ text.items }
+        ensures owed { self.new.is_due ≡ true → self.new.text ≡ self.old.text }
+    {
         self.is_due = true;
         if text != self.text {
             if self.file.save(files, text.as_slice()).is_err() {

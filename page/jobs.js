@@ -41,19 +41,21 @@ export class Job {
     const { win, wid, widget } = this.view;
     const commands = [];
     let room = MOST_ITEMS - widget.items.length;
-    let place = this.#placeOfInsertion(widget.items);
+    const start = this.#placeOfInsertion(widget.items);
     const gone = []; // the places of the items that are deleted
-    this.place = place;
+    const goneBefore = (place) => gone.filter((it) => it < place).length;
+    let inserted = 0;
+    this.place = start;
     this.#taken = 0;
     for (const { name, value } of this.steps.slice(0, MOST_OPERATIONS)) {
       const isInsertion = name === undefined;
       if (isInsertion && room-- <= 0 && commands.length > 0) break;
       this.#taken += 1;
-      if (isInsertion) commands.push({ verb: "ins", win, wid, place: place++, value });
+      if (isInsertion) commands.push({ verb: "ins", win, wid, place: start - goneBefore(start) + inserted++, value });
       else {
         const found = placeOf(widget.items, name, this.#near);
         if (found < 0) continue;
-        commands.push({ verb: "del", win, wid, place: found - gone.filter((it) => it < found).length });
+        commands.push({ verb: "del", win, wid, place: found - goneBefore(found) });
         gone.push(found);
         this.#near = found;
         room += 1;

@@ -346,6 +346,7 @@ def twice_on_plus(stage):
         it.type("pepper")
         it.click(PLUS, 2)
         stage.agreed()
+        time.sleep(LATER)
     list_is(stage, [*ITEMS, "pepper", "pepper"])
 
 

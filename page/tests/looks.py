@@ -5,10 +5,10 @@ from stage import OTHER_AREA, STATE, expect, expect_that
 CONTROLS = ("textbox", "button", "switch", "slider", "spinbutton", "checkbox", "link", "combobox")
 # What a reader of the screen meets on the board of the tests, in this order.
 TREE = [
-    ("heading", "Gidzvruka"), ("main", ""), ("region", "Party"), ("heading", "Party"), ("textbox", "Notes"), ("group", "Who brings what"), ("list", "Who brings what"),
-    ("textbox", "Item of Who brings what"), ("button", "Delete buy bread"), ("textbox", "Item of Who brings what"), ("button", "Delete call Ann"), ("textbox", "Add to Who brings what"),
-    ("button", "Add the item to Who brings what"), ("switch", "Everything is paid"), ("slider", "Guests"), ("spinbutton", "Guests, as a number"), ("region", "Later"), ("heading", "Later"),
-    ("textbox", 'More "notes"'), ("slider", "Slider 2"), ("spinbutton", "Slider 2, as a number"),
+    ("heading", "Party"), ("button", "Menu"), ("button", "Close"), ("main", ""), ("region", "Party"), ("heading", "Party"), ("button", "Copy Notes"), ("textbox", "Notes"), ("group", "Who brings what"),
+    ("button", "Copy Who brings what"), ("list", "Who brings what"), ("textbox", "Item of Who brings what"), ("button", "Delete buy bread"), ("textbox", "Item of Who brings what"), ("button", "Delete call Ann"),
+    ("textbox", "Add to Who brings what"), ("button", "Add the item to Who brings what"), ("switch", "Everything is paid"), ("slider", "Guests"), ("spinbutton", "Guests, as a number"), ("region", "Later"),
+    ("heading", "Later"), ("button", 'Copy More "notes"'), ("textbox", 'More "notes"'), ("slider", "Slider 2"), ("spinbutton", "Slider 2, as a number"),
 ]
 ROLES = {it for it, _ in TREE} | set(CONTROLS)
 # The least contrast of text, and of the edge of a control, as the guidelines WCAG 2.2 at level AA have them. So is the least size of a control.

@@ -81,6 +81,13 @@ test("a job goes on where others have moved and deleted its items", () => {
   assert.equal(shownAfter(site, job), ">ax");
 });
 
+test("a job inserts where the item was that others have deleted", () => {
+  const { site } = joined(2, "window 1", "text 1", "char 0.1 97", "char 0.2 98", "char 0.3 99");
+  const job = new Job(textView(site), 2, "0.2", [{ name: "0.3" }, ...insertions("xy")]);
+  for (const line of ["batch 0 0 1", "do 1 1 text del 1 0.2"]) site.hear(line);
+  assert.equal(shownAfter(site, job), "axy");
+});
+
 test("a job deletes items in any order", () => {
   const { site, sent } = joined(2, "window 1", "text 1", "char 0.1 97", "char 0.2 98", "char 0.3 99", "char 0.4 100");
   const job = new Job(textView(site), 0, null, [{ name: "0.2" }, { name: "0.4" }, { name: "0.1" }, ...insertions("x")]);

@@ -33,6 +33,10 @@ export class Foot {
     this.#plus.ariaDisabled = String(!isOpen);
   }
 
+  get hasFocus() {
+    return document.activeElement === this.field;
+  }
+
   get isDraft() {
     return this.#label !== "";
   }
@@ -62,7 +66,7 @@ export class Foot {
     const fault = faultOf(this.#label);
     this.field.ariaInvalid = String(fault !== "");
     this.#hints.show(fault === "" ? [] : [{ words: fault, choices: {} }]);
-    notices.hold(this.element, fault !== "" && document.activeElement !== this.field);
+    notices.hold(this.element, fault !== "" && !this.hasFocus);
     drafts.hold(this, this.isDraft);
   }
 }

@@ -208,8 +208,13 @@ export class ListView extends View {
     return isMade;
   }
 
-  sendDrafts() {
+  hide() {
     for (const row of [...this.#shown]) row.send();
+  }
+
+  sendDrafts() {
+    for (const row of this.#shown.filter(({ hasFocus }) => !hasFocus)) row.send();
+    if (!this.foot.hasFocus) this.foot.add();
   }
 
   get drafts() {

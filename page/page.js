@@ -83,6 +83,11 @@ class Page {
     return this.link.site.made;
   }
 
+  // Says something to a reader of the screen.
+  announce(about, words) {
+    this.#status.announce(about, words);
+  }
+
   captionOf(key, kind) {
     return this.#windows.captionOf(key, kind);
   }
@@ -100,6 +105,7 @@ class Page {
     this.#jobs = this.#untaken.settle(isSame);
     this.#setOpen();
     if (!this.#isReadOnly) for (const element of this.#reasons.values()) this.notices.end(element);
+    for (const view of this.views.values()) view.sendDrafts();
     if (isFirst) this.#offerKept();
     else this.#readCaptions();
     this.#status.announce("link", "Connected");
@@ -181,9 +187,7 @@ class Page {
     if (this.link.site.heard === 0) return;
     event.preventDefault();
     const view = [...this.views.values()].find(({ element }) => element.contains(event.target));
-    const words = "Others have edited this board, so the browser can\u2019t undo.";
-    view?.remark(words);
-    this.#status.announce("undo", words);
+    view?.remark("Others have edited this board, so the browser can\u2019t undo.");
   }
 
   // Whether a job is done while its user waits.
@@ -267,7 +271,7 @@ class Page {
 
   // The tab is hidden, left, or shown again.
   #hide() {
-    for (const view of this.views.values()) view.sendDrafts();
+    for (const view of this.views.values()) view.hide();
   }
 
   #leave() {

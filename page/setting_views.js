@@ -25,7 +25,7 @@ export class SliderView extends View {
     const { low: min, high: max } = this.widget;
     this.range = make("input", { type: "range", id: this.id, min, max, step: 1, input: () => this.#dragged(), change: () => this.#set(Number(this.range.value)) });
     this.number = make("input", { type: "number", min, max, step: "any", change: () => this.#typed(), input: () => (this.hint.hidden = true) });
-    this.hint = make("p", { className: "hint", textContent: `${min} to ${max}`, role: "status", hidden: true });
+    this.hint = make("p", { className: "hint", textContent: `${min} to ${max}`, hidden: true });
     this.element = make("div", { className: "widget" }, this.head(this.label()),
       make("div", { className: "row wraps" }, bound(min), this.range, bound(max), this.number), this.hint);
     this.named();
@@ -54,6 +54,7 @@ export class SliderView extends View {
     const typed = this.number.valueAsNumber;
     const nearest = Number.isNaN(typed) ? value : Math.min(high, Math.max(low, Math.round(typed)));
     this.hint.hidden = Number.isNaN(typed) || nearest === Math.round(typed);
+    if (!this.hint.hidden) this.page.announce("bounds", this.hint.textContent);
     this.number.value = nearest;
     this.#set(nearest);
   }

@@ -12,6 +12,7 @@ const BETWEEN = 5000;
 export class Status {
   isTelling = true; // whether changes of others are said
   #now = null; // how things are
+  #wasSlow = false; // whether edits waited for long
   #timers = []; // after which more is shown
   #said = new Map(); // sentences that are still to be said, by what they are about
   #sayAt = 0; // when the next can be said
@@ -40,7 +41,8 @@ export class Status {
   #show() {
     const { words, since, slowly } = this.#now;
     const isSlow = since !== null && performance.now() - since >= SLOW;
-    if (isSlow) this.announce("edits", slowly);
+    if (isSlow || this.#wasSlow) this.announce("edits", isSlow ? slowly : words);
+    this.#wasSlow = isSlow;
     found("state").textContent = isSlow ? slowly : words;
   }
 

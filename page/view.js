@@ -80,6 +80,7 @@ export class View {
 
   // Says something beside the caption for a while.
   remark(words) {
+    this.page.announce("remark", words);
     this.after.textContent = words;
     setTimeout(() => this.after.textContent === words && (this.after.textContent = ""), REMARK);
   }
@@ -112,6 +113,9 @@ export class View {
   confirmed() {}
 
   // The tab is hidden: what is typed goes to the server, as far as it can.
+  hide() {}
+
+  // The link is there again: what was left without it goes to the server.
   sendDrafts() {}
 
   // What is typed and not sent.

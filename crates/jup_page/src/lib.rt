@@ -6,7 +6,7 @@ pub const PAGE: &[u8] = br#"<!doctype html>
 <html lang="en">
 <head>
 <meta charset="utf-8">
-<meta http-equiv="Content-Security-Policy" content="default-src 'none'; script-src 'sha256-M/9zNzZkRnsMgtcGvtoCOE4543/Rw+PgFRpmI+Up5Fg='; style-src 'sha256-3aa5ylGO3iwQFWyWgqMwLnUDXDx6j98VZ887LmrJhUY='; img-src data:; connect-src 'self'; base-uri 'none'; form-action 'none'">
+<meta http-equiv="Content-Security-Policy" content="default-src 'none'; script-src 'sha256-+JlvdQ6c5kGaJeZXvpSZjvp8zok1r/xcebP6XkIQo5o='; style-src 'sha256-3aa5ylGO3iwQFWyWgqMwLnUDXDx6j98VZ887LmrJhUY='; img-src data:; connect-src 'self'; base-uri 'none'; form-action 'none'">
 <meta name="viewport" content="width=device-width, initial-scale=1">
 <meta name="color-scheme" content="light dark">
 <title>Gidzvruka</title>
@@ -152,11 +152,8 @@ const LINE_LIMIT=256;
 const LAST_PLACE=4294967295;
 const FAULT={NoWindow:1,NoWidget:2,WrongKind:3,BadPlace:4,BadValue:5,LongText:6,Backlog:7,NoMemory:8,Spent:9,DoubleId:10,TooMany:11,BadId:12,BadBounds:13,BadBatch:15,BadCount:20,BadAck:21,BadName:22,BadOp:23,Stopped:25,Full:30,SitesSpent:31,LogFull:32,BadLine:40,LongLine:41,BadVersion:42,Misplaced:44,BadItemName:45,BadLimit:50,BadSite:51,};
 class Fault extends Error{constructor(number){super(`fault ${number}`);
-this.number=number;
-}
-}
-const fail=(number)=>{throw new Fault(number);
-};
+this.number=number;}}
+const fail=(number)=>{throw new Fault(number);};
 const NUM="(0|[1-9][0-9]*)";
 const NAME="((?:0|[1-9][0-9]*)\\.(?:0|[1-9][0-9]*))";
 const INT="(0|-?[1-9][0-9]*)";
@@ -174,64 +171,51 @@ const int=(text)=>(text.length<=11&&Number(text)===(Number(text)|0)?Number(text)
 const scalar=(text)=>(isScalar(num(text))?num(text):fail(FAULT.BadLine));
 const setting=(text)=>text==="on";
 function name(text){text.split(".").forEach(num);
-return text;
-}
+return text;}
 const WORDS={hello:[whole(NUM),(version)=>num(version)===3||fail(FAULT.BadVersion)],welcome:[whole(`${NUM} ${NUM}`),(site,limit)=>({site:num(site),limit:num(limit)})],window:[whole(NUM),(it)=>({id:id(it)})],text:[whole(NUM),(it)=>({id:id(it)})],list:[whole(NUM),(it)=>({id:id(it)})],toggle:[whole(`${NUM} ${SETTING}`),(it,value)=>({id:id(it),value:setting(value)})],slider:[whole(`${NUM} ${INT} ${INT} ${INT}`),(it,low,high,value)=>({id:id(it),low:int(low),high:int(high),value:int(value)})],char:[whole(`${NAME} ${NUM}`),(it,value)=>({name:name(it),value:scalar(value)})],item:[whole(`${NAME} ${LABEL}`),(it,value)=>({name:name(it),value})],batch:[whole(`${NUM} ${NUM} ${NUM}`),readBatch],do:[whole(`${NUM} ${NUM} (text|list|toggle|slider) (ins|del|rel|set|no)(?: (.*))?`),readOperation],ack:[whole(NUM),(it)=>({number:num(it)})],ping:[whole(NUM),(it)=>({number:num(it)})],pong:[whole(NUM),(it)=>({number:num(it)})],error:[whole(NUM),(it)=>({number:num(it)})],ready:[null,()=>({})],bye:[null,()=>({})],};
 const BODIES={"text ins":[whole(`${NUM} ${NAME} ${NUM}`),(place,it,value)=>({place:num(place),name:name(it),value:scalar(value)})],"text del":[whole(`${NUM} ${NAME}`),(place,it)=>({place:num(place),name:name(it)})],"list ins":[whole(`${NUM} ${NAME} ${LABEL}`),(place,it,value)=>({place:num(place),name:name(it),value})],"list del":[whole(`${NUM} ${NAME}`),(place,it)=>({place:num(place),name:name(it)})],"list rel":[whole(`${NUM} ${NAME} ${LABEL}`),(place,it,value)=>({place:num(place),name:name(it),value})],"toggle set":[whole(SETTING),(value)=>({value:setting(value)})],"slider set":[whole(INT),(value)=>({value:int(value)})],};
 function readBatch(mine,heard,count){const read={mine:num(mine),heard:num(heard),count:num(count)};
-return read.count>=1&&read.count<=MOST_OPERATIONS?read:fail(FAULT.BadLine);
-}
+return read.count>=1&&read.count<=MOST_OPERATIONS?read:fail(FAULT.BadLine);}
 function readOperation(win,wid,kind,verb,rest){const op={win:id(win),wid:id(wid),kind,verb};
 if(verb==="no")return rest===undefined?{op}:fail(FAULT.BadLine);
 const[shape,fields]=BODIES[`${kind} ${verb}`]??fail(FAULT.BadLine);
-return{op:{...op,...fields(...matched(shape,rest??"").slice(1))}};
-}
+return{op:{...op,...fields(...matched(shape,rest??"").slice(1))}};}
 function readLine(line){if(line.length>=LINE_LIMIT)fail(FAULT.LongLine);
 const[word]=line.split(" ",1);
 const[shape,fields]=Object.hasOwn(WORDS,word)?WORDS[word]:fail(FAULT.BadLine);
 if(shape===null)return line===word?{word}:fail(FAULT.BadLine);
-return{word,...fields(...matched(shape,line.slice(word.length + 1)).slice(1))};
-}
+return{word,...fields(...matched(shape,line.slice(word.length + 1)).slice(1))};}
 function operationLine(op){const words=["do",op.win,op.wid,op.kind,op.verb];
 if(op.verb==="set")words.push(op.kind==="toggle"?(op.value?"on":"off"):op.value);
 else if(op.verb!=="no")words.push(op.place,op.name);
 if(op.verb==="ins"||op.verb==="rel")words.push(op.value);
-return words.join(" ");
-}
+return words.join(" ");}
 class Lines{rest="";
 take(piece){const lines=(this.rest + piece).split("\n");
 this.rest=lines.pop();
 if(this.rest.length<LINE_LIMIT)return lines;
-return[...lines,this.rest];
-}
-}
+return[...lines,this.rest];}}
 const moved=(op,place)=>(place===op.place?op:{...op,place:Math.min(place,LAST_PLACE)});
 const nothing=({win,wid,kind})=>({win,wid,kind,verb:"no"});
 function past(op,other){if(other.verb==="rel")return op;
 if(other.verb==="del"){if(op.verb!=="ins"&&op.name===other.name)return nothing(op);
-return other.place<op.place?moved(op,op.place - 1):op;
-}
+return other.place<op.place?moved(op,op.place - 1):op;}
 const isPushed=op.verb==="ins"?other.place<op.place:other.place<=op.place;
-return isPushed?moved(op,op.place + 1):op;
-}
+return isPushed?moved(op,op.place + 1):op;}
 function transform(client,server){if(client.win!==server.win||client.wid!==server.wid||client.verb==="no"||server.verb==="no")return[client,server];
 if(client.verb==="set")return[client,nothing(server)];
 if(client.verb==="rel"&&server.verb==="rel")return[client,client.name===server.name?nothing(server):server];
 if(client.verb==="ins"&&server.verb==="ins"&&client.place===server.place)return[client,moved(server,server.place + 1)];
-return[past(client,server),past(server,client)];
-}
+return[past(client,server),past(server,client)];}
 function transformEdits(client,server){const servers=[...server];
 const clients=client.map((op)=>{let own=op;
 for(let i=0;i<servers.length;i++)[own,servers[i]]=transform(own,servers[i]);
-return own;
-});
-return[clients,servers];
-}
+return own;});
+return[clients,servers];}
 class Board{windows=new Map();
 #window=null;
 #widget=null;
-widget(win,wid){return this.windows.get(win)?.get(wid);
-}
+widget(win,wid){return this.windows.get(win)?.get(wid);}
 readLine(line){if(line.word==="window")return this.#addWindow(line.id);
 if(line.word==="char"||line.word==="item")return this.#addItem(line);
 if(!this.#window)fail(FAULT.Misplaced);
@@ -239,17 +223,14 @@ const{id,word:kind,...rest}=line;
 if(kind==="slider"&&(rest.value<rest.low||rest.value>rest.high))fail(FAULT.BadBounds);
 testId(this.#window,id);
 this.#widget=kind==="text"||kind==="list"?{kind,items:[],names:new Set()}:{kind,...rest};
-return this.#window.set(id,this.#widget);
-}
+return this.#window.set(id,this.#widget);}
 #addWindow(win){testId(this.windows,win);
 this.#window=new Map();
-return this.windows.set(win,this.#window);
-}
+return this.windows.set(win,this.#window);}
 #addItem(line){if(this.#widget?.kind!==(line.word==="char"?"text":"list"))fail(FAULT.Misplaced);
 if(this.#widget.names.has(line.name))fail(FAULT.BadItemName);
 this.#widget.names.add(line.name);
-return this.#widget.items.push({name:line.name,value:line.value});
-}
+return this.#widget.items.push({name:line.name,value:line.value});}
 applyAll(steps,operation=(op)=>op,test=()=>{}){const ops=[];
 const reverts=[];
 const names=new Set();
@@ -257,44 +238,33 @@ try{for(const step of steps){const op=operation(step);
 if(op.verb==="ins"&&names.has(op.name))fail(FAULT.BadOp);
 reverts.push(this.#apply(op));
 if(op.verb==="ins"||op.verb==="del")names.add(op.name);
-ops.push(op);
-}
+ops.push(op);}
 test();
-return ops;
-}catch(fault){for(const revert of reverts.reverse())this.#apply(revert);
-throw fault;
-}
-}
+return ops;}catch(fault){for(const revert of reverts.reverse())this.#apply(revert);
+throw fault;}}
 #apply(op){if(op.verb==="no")return op;
 const widget=this.widget(op.win,op.wid);
 if(widget?.kind!==op.kind)fail(FAULT.BadOp);
 if(op.verb==="set")return set(widget,op);
-return op.verb==="ins"?insert(widget,op):change(widget,op);
-}
-}
+return op.verb==="ins"?insert(widget,op):change(widget,op);}}
 function testId(taken,id){if(id===0)fail(FAULT.BadId);
 if(taken.has(id))fail(FAULT.DoubleId);
-if(taken.size>=MOST_WIDGETS)fail(FAULT.TooMany);
-}
+if(taken.size>=MOST_WIDGETS)fail(FAULT.TooMany);}
 function set(widget,op){if(widget.kind==="slider"&&(op.value<widget.low||op.value>widget.high))fail(FAULT.BadOp);
 const before=widget.value;
 widget.value=op.value;
-return{...op,value:before};
-}
+return{...op,value:before};}
 function insert({items,names},op){if(op.place>items.length||names.has(op.name))fail(FAULT.BadOp);
 items.splice(op.place,0,{name:op.name,value:op.value});
 names.add(op.name);
-return{...op,verb:"del"};
-}
+return{...op,verb:"del"};}
 function change({items,names},op){const before=items[op.place];
 if(before?.name!==op.name)fail(FAULT.BadOp);
 if(op.verb==="rel"){items[op.place]={name:op.name,value:op.value};
-return{...op,value:before.value};
-}
+return{...op,value:before.value};}
 items.splice(op.place,1);
 names.delete(op.name);
-return{...op,verb:"ins",value:before.value};
-}
+return{...op,verb:"ins",value:before.value};}
 const BOARD_WORDS=new Set(["window","text","list","toggle","slider","char","item"]);
 class Site{stage="welcome";
 board=new Board();
@@ -313,27 +283,18 @@ heard=0;
 #send;
 #told;
 constructor(send,told=()=>{}){this.#send=send;
-this.#told=told;
-}
-greet(){this.#send("hello 3\n");
-}
+this.#told=told;}
+greet(){this.#send("hello 3\n");}
 hear(line){if(this.stage==="stopped")return;
-try{this.#take(readLine(line));
-}catch(fault){this.stop();
-throw fault;
-}
-}
-stop(){this.stage="stopped";
-}
+try{this.#take(readLine(line));}catch(fault){this.stop();
+throw fault;}}
+stop(){this.stage="stopped";}
 ping(){this.#pings +=1;
 this.#send(`ping ${this.#pings}\n`);
-return this.#pings;
-}
+return this.#pings;}
 bye(){this.#saidBye=true;
-this.#send("bye\n");
-}
-get backlog(){return this.#waiting.length;
-}
+this.#send("bye\n");}
+get backlog(){return this.#waiting.length;}
 edit(commands){if(this.stage!=="open")fail(FAULT.Stopped);
 if(commands.length<1||commands.length>MOST_OPERATIONS)fail(FAULT.BadBatch);
 const ops=this.#apply(commands);
@@ -342,17 +303,12 @@ const lines=[`batch ${this.made} ${this.heard} ${ops.length}`,...ops.map(operati
 this.made +=1;
 this.#unanswered=0;
 this.#send(`${lines.join("\n")}\n`);
-return ops;
-}
+return ops;}
 #apply(commands){const insertions=this.#insertions;
-try{return this.board.applyAll(commands,(command)=>this.#operation(command),()=>this.#testRoom());
-}catch(fault){this.#insertions=insertions;
-throw fault;
-}
-}
+try{return this.board.applyAll(commands,(command)=>this.#operation(command),()=>this.#testRoom());}catch(fault){this.#insertions=insertions;
+throw fault;}}
 #testRoom(){if(this.#waiting.length>=MOST_WAITING)fail(FAULT.Backlog);
-if(this.made>=this.limit)fail(FAULT.Spent);
-}
+if(this.made>=this.limit)fail(FAULT.Spent);}
 #operation({verb,win,wid,place,value,kind}){if(!this.board.windows.has(win))fail(FAULT.NoWindow);
 const widget=this.board.widget(win,wid)??fail(FAULT.NoWidget);
 const op={win,wid,kind:widget.kind,verb};
@@ -361,30 +317,24 @@ if(verb==="set")return{...op,value};
 if(place>widget.items.length -(verb==="ins"?0:1))fail(FAULT.BadPlace);
 if(verb==="ins"){if(widget.items.length>=MOST_ITEMS)fail(FAULT.LongText);
 this.#insertions +=1;
-return{...op,place,name:`${this.site}.${this.#insertions}`,value};
-}
+return{...op,place,name:`${this.site}.${this.#insertions}`,value};}
 const found={...op,place,name:widget.items[place].name};
-return verb==="rel"?{...found,value}:found;
-}
+return verb==="rel"?{...found,value}:found;}
 #take(line){if(this.#coming)return this.#takeOperation(line);
 if(line.word==="error")fail(line.number);
 if(this.stage==="welcome")return this.#takeWelcome(line);
-return this.stage==="board"?this.#takeBoard(line):this.#takeMessage(line);
-}
+return this.stage==="board"?this.#takeBoard(line):this.#takeMessage(line);}
 #takeWelcome({word,site,limit}){if(word!=="welcome")fail(FAULT.Misplaced);
-Object.assign(this,{site,limit,stage:"board"});
-}
+Object.assign(this,{site,limit,stage:"board"});}
 #takeBoard(line){if(line.word!=="ready"){if(!BOARD_WORDS.has(line.word))fail(FAULT.Misplaced);
 this.#lines.push(line);
-return;
-}
+return;}
 for(const it of this.#lines)this.board.readLine(it);
 if(this.limit<1||this.limit>16777216)fail(FAULT.BadLimit);
 if(this.site<1||this.site>65535||this.#lines.some((it)=>it.name&&this.#isOwn(it.name)))fail(FAULT.BadSite);
 this.#lines=[];
 this.stage="open";
-this.#told("ready");
-}
+this.#told("ready");}
 #takeMessage(line){switch(line.word){case "batch":
 this.#coming={...line,ops:[]};
 break;
@@ -399,54 +349,43 @@ if(!this.#saidBye)fail(FAULT.Misplaced);
 this.stop();
 break;
 default:
-fail(FAULT.Misplaced);
-}
-}
+fail(FAULT.Misplaced);}}
 #takeOperation(line){if(line.word!=="do")fail(FAULT.Misplaced);
 const{mine,heard,count,ops}=this.#coming;
 ops.push(line.op);
 if(ops.length<count)return;
 this.#coming=null;
-this.#receive(mine,heard,ops);
-}
+this.#receive(mine,heard,ops);}
 #receive(mine,heard,ops){if(mine!==this.heard)fail(FAULT.BadCount);
 this.#drop(heard);
 if(ops.some((op)=>op.verb==="ins"&&this.#isOwn(op.name)))fail(FAULT.BadName);
 let comes=ops;
 this.#waiting=this.#waiting.map((edit)=>{const[own,others]=transformEdits(edit,comes);
 comes=others;
-return own;
-});
+return own;});
 this.board.applyAll(comes);
 this.heard +=1;
 this.#told("came",{raw:ops,heard});
 for(const op of comes)if(op.verb!=="no")this.#told("changed",op);
-this.#acknowledge();
-}
+this.#acknowledge();}
 #acknowledge(){this.#unanswered +=1;
 if(this.#unanswered<ACKNOWLEDGE_AFTER)return;
 this.#unanswered=0;
-this.#send(`ack ${this.heard}\n`);
-}
+this.#send(`ack ${this.heard}\n`);}
 #drop(count){if(count<this.#acknowledged||count>this.made)fail(FAULT.BadAck);
 this.#waiting.splice(0,count - this.#acknowledged);
-this.#acknowledged=count;
-}
-#isOwn(itemName){return itemName.startsWith(`${this.site}.`);
-}
-}
+this.#acknowledged=count;}
+#isOwn(itemName){return itemName.startsWith(`${this.site}.`);}}
 function testFits(widget,verb,value,kind){if(verb==="set")return testSetting(widget,value);
 const isText=widget.kind==="text";
 if(!isText&&widget.kind!=="list")fail(FAULT.WrongKind);
 if(verb==="rel"&&isText)fail(FAULT.WrongKind);
 if(verb==="ins"&&kind&&kind!==(isText?"char":"item"))fail(FAULT.WrongKind);
 if(verb!=="del"&&!(isText?isScalar(value):isLabel(value)))fail(FAULT.WrongKind);
-return undefined;
-}
+return undefined;}
 function testSetting(widget,value){const type={toggle:"boolean",slider:"number"}[widget.kind];
 if(typeof value!==type)fail(FAULT.WrongKind);
-if(widget.kind==="slider"&&(value<widget.low||value>widget.high))fail(FAULT.BadValue);
-}
+if(widget.kind==="slider"&&(value<widget.low||value>widget.high))fail(FAULT.BadValue);}
 const LINES_SLICE=8;
 const LINES_BETWEEN=16;
 const MOST_SENT=32768;
@@ -460,8 +399,7 @@ const channel=new MessageChannel();
 const tasks=[];
 channel.port1.onmessage=()=>tasks.shift()();
 function later(task){tasks.push(task);
-channel.port2.postMessage(null);
-}
+channel.port2.postMessage(null);}
 class Link{confirmed=0;
 #address;
 #told;
@@ -479,10 +417,8 @@ class Link{confirmed=0;
 constructor(address,told){this.#address=address;
 this.#told=told;
 setInterval(()=>this.#beat(),BEAT);
-this.open();
-}
-get isOpen(){return this.site.stage==="open";
-}
+this.open();}
+get isOpen(){return this.site.stage==="open";}
 open(){clearTimeout(this.#retry);
 const socket=new WebSocket(this.#address);
 const ifMine=(step)=>(event)=>socket===this.#socket&&step(event);
@@ -498,60 +434,45 @@ this.confirmed=0;
 this.site=new Site((text)=>this.#send(text),(what,it)=>this.#happened(what,it));
 socket.addEventListener("open",ifMine(()=>this.site.greet()));
 socket.addEventListener("message",ifMine((event)=>this.#came(event.data)));
-socket.addEventListener("close",ifMine(()=>this.#lose()));
-}
-hurry(){if(this.#socket===null&&!this.hasLeft&&performance.now()- this.#triedAt>=HURRY)this.open();
-}
+socket.addEventListener("close",ifMine(()=>this.#lose()));}
+hurry(){if(this.#socket===null&&!this.hasLeft&&performance.now()- this.#triedAt>=HURRY)this.open();}
 edit(commands){const ops=this.site.edit(commands);
 this.#ask();
-return ops;
-}
+return ops;}
 leave(){this.hasLeft=true;
 if(!this.isOpen)return;
 this.site.bye();
 this.#flush();
-this.#socket.close();
-}
+this.#socket.close();}
 comeBack(){if(!this.hasLeft)return;
 this.hasLeft=false;
-this.open();
-}
+this.open();}
 #send(text){if(this.#unsent==="")queueMicrotask(()=>this.#flush());
 this.#unsent +=text;
-if(this.#unsent.length>MOST_SENT)this.#flush();
-}
+if(this.#unsent.length>MOST_SENT)this.#flush();}
 #flush(){if(this.#unsent!==""&&this.#socket?.readyState===WebSocket.OPEN)this.#socket.send(this.#unsent);
-this.#unsent="";
-}
+this.#unsent="";}
 #came(piece){this.#aliveAt=performance.now();
 this.#unheard.push(...this.#lines.take(piece));
-if(!this.#isDue)this.#hear();
-}
+if(!this.#isDue)this.#hear();}
 #hear(){const{site}=this;
 const lines=this.#unheard;
 const end=performance.now()+ LINES_SLICE;
 let count=0;
-try{while(count<lines.length&&(count % LINES_BETWEEN>0||performance.now()<end))site.hear(lines[count++]);
-}catch(fault){if(!(fault instanceof Fault))throw fault;
-this.#lose(lines[count - 1]==="bye"?undefined:fault.number);
-}
+try{while(count<lines.length&&(count % LINES_BETWEEN>0||performance.now()<end))site.hear(lines[count++]);}catch(fault){if(!(fault instanceof Fault))throw fault;
+this.#lose(lines[count - 1]==="bye"?undefined:fault.number);}
 lines.splice(0,count);
 this.#isDue=lines.length>0;
 if(this.#isDue)later(()=>this.#hear());
-this.#told("heard");
-}
+this.#told("heard");}
 #happened(what,it){if(what==="ready")this.#tries=0;
 if(what!=="pong")this.#told(what,it);
 else if(it===this.#asked?.number){this.confirmed=this.#asked.made;
 this.#asked=null;
 this.#told("confirmed");
-this.#ask();
-}
-}
-#ask(){if(this.isOpen&&this.#asked===null&&this.confirmed<this.site.made)this.#ping();
-}
-#ping(){this.#asked={number:this.site.ping(),made:this.site.made,at:performance.now()};
-}
+this.#ask();}}
+#ask(){if(this.isOpen&&this.#asked===null&&this.confirmed<this.site.made)this.#ping();}
+#ping(){this.#asked={number:this.site.ping(),made:this.site.made,at:performance.now()};}
 #beat(){if(this.#socket===null)return;
 const now=performance.now();
 const{bufferedAmount}=this.#socket;
@@ -560,8 +481,7 @@ this.#unwritten=bufferedAmount;
 const silence=now - this.#aliveAt;
 const isAwaited=this.isOpen?this.#asked!==null&&now - this.#asked.at>SILENT:true;
 if(isAwaited&&silence>SILENT)this.#lose();
-else if(this.isOpen&&this.#asked===null&&silence>QUIET)this.#ping();
-}
+else if(this.isOpen&&this.#asked===null&&silence>QUIET)this.#ping();}
 #lose(fault){const socket=this.#socket;
 this.#socket=null;
 this.site.stop();
@@ -571,9 +491,7 @@ const hasNoRoom=fault===FAULT.Full||fault===FAULT.SitesSpent;
 const wait=hasNoRoom?WAITS.at(-1):WAITS[Math.min(this.#tries,WAITS.length - 1)];
 this.#tries +=1;
 this.#retry=setTimeout(()=>this.open(),wait*(1 - SPREAD + 2*SPREAD*Math.random()));
-this.#told("lost",fault);
-}
-}
+this.#told("lost",fault);}}
 const SHARE=3;
 const SHORTEST_PAUSE=16;
 const LONGEST_PAUSE=500;
@@ -581,13 +499,11 @@ class Drawing{#views;
 #timer=null;
 #drawnAt=0;
 #pause=SHORTEST_PAUSE;
-constructor(views){this.#views=views;
-}
+constructor(views){this.#views=views;}
 soon(){if(this.#timer!==null)return;
 const wait=this.#drawnAt + this.#pause - performance.now();
 if(wait<=0)this.now();
-else this.#timer=setTimeout(()=>this.now(),wait);
-}
+else this.#timer=setTimeout(()=>this.now(),wait);}
 now(){clearTimeout(this.#timer);
 this.#timer=null;
 const stale=[...this.#views.values()].filter((view)=>view.isStale);
@@ -595,95 +511,74 @@ if(stale.length===0)return;
 const begun=performance.now();
 for(const view of stale)view.update();
 this.#drawnAt=performance.now();
-requestAnimationFrame((frame)=>later(()=>this.#pauseFor(this.#drawnAt - begun + performance.now()- frame)));
-}
-#pauseFor(cost){this.#pause=Math.min(LONGEST_PAUSE,Math.max(SHORTEST_PAUSE,SHARE*cost));
-}
-}
+requestAnimationFrame((frame)=>later(()=>this.#pauseFor(this.#drawnAt - begun + performance.now()- frame)));}
+#pauseFor(cost){this.#pause=Math.min(LONGEST_PAUSE,Math.max(SHORTEST_PAUSE,SHARE*cost));}}
 const shownAs=(value)=>(value===13?"\u240d":value===0?"\u2400":String.fromCodePoint(value));
 function textOf(items){let text="";
 for(const{value}of items)text +=shownAs(value);
-return text;
-}
+return text;}
 const scalarsOf=(text)=>Array.from(text,(it)=>(isScalar(it.codePointAt(0))?it.codePointAt(0):0xfffd));
 const isFirstHalf=(code)=>code>=0xd800&&code<0xdc00;
 const isSecondHalf=(code)=>code>=0xdc00&&code<0xe000;
 function difference(was,is,cursor=is.length){const shortest=Math.min(was.length,is.length);
 const atEnd=(most,from)=>{let count=from;
 while(count<most&&was.charCodeAt(was.length - 1 - count)===is.charCodeAt(is.length - 1 - count))count +=1;
-return count;
-};
+return count;};
 let tail=atEnd(Math.min(shortest,is.length - cursor),0);
 let head=0;
 while(head<shortest - tail&&was.charCodeAt(head)===is.charCodeAt(head))head +=1;
 tail=atEnd(shortest - head,tail);
 if(head>0&&isFirstHalf(was.charCodeAt(head - 1)))head -=1;
 if(tail>0&&isSecondHalf(was.charCodeAt(was.length - tail)))tail -=1;
-return{head,tail};
-}
+return{head,tail};}
 function placeOf(items,name,near){const from=Math.min(near,items.length);
 for(let away=0;away<=items.length;away++){if(items[from + away]?.name===name)return from + away;
-if(items[from - away]?.name===name)return from - away;
-}
-return -1;
-}
+if(items[from - away]?.name===name)return from - away;}
+return -1;}
 function readCaptions(text){const captions=new Map();
-for(const[,key,quoted]of text.matchAll(/^(\d+(?:\.\d+)?) "(.*)"$/gm)){captions.set(key,quoted.replace(/\\u\{(\w{1,6})\}|\\(.)/g,(_,hex,plain)=>plain??shownAs(Number.parseInt(hex,16))));
-}
-return captions;
-}
+for(const[,key,quoted]of text.matchAll(/^(\d+(?:\.\d+)?) "(.*)"$/gm)){captions.set(key,quoted.replace(/\\u\{(\w{1,6})\}|\\(.)/g,(_,hex,plain)=>plain??shownAs(Number.parseInt(hex,16))));}
+return captions;}
 const counted=(count,thing)=>`${count.toLocaleString("en")} ${thing}${count === 1 ? "" : "s"}`;
 const REASONS={[FAULT.LongText]:"A text or a list has at most 65,536 items.",[FAULT.Backlog]:"Too much waits for the server. Try again in a moment.",[FAULT.NoMemory]:"The server is out of memory.",[FAULT.Spent]:"The board takes no more edits. You can still read it.",[FAULT.Full]:"64 others are connected, and no more can be. This page joins when one has left.",[FAULT.SitesSpent]:"The server has no number left for a new connection. It has to be started again.",[FAULT.LogFull]:"The board takes no more edits. You can still read it.",};
 const reasonOf=(number)=>REASONS[number]??`The server and this page did not understand each other (fault ${number}).`;
 const key=({win,wid})=>`${win}.${wid}`;
 const isOf=(site,name)=>name.startsWith(`${site}.`);
-function*itemsOf(board){for(const[win,widgets]of board.windows){for(const[wid,{items}]of widgets)for(const item of items??[])yield[`${win}.${wid} ${item.name}`,item];
-}
-}
+function*itemsOf(board){for(const[win,widgets]of board.windows){for(const[wid,{items}]of widgets)for(const item of items??[])yield[`${win}.${wid} ${item.name}`,item];}}
 function isSameRun(old,now){if(now.site<=old.site)return false;
 const names=new Set();
 for(const[at,{name}]of itemsOf(old.board))if(!isOf(0,name))names.add(at);
 if(names.size===0)return true;
 for(const[at]of itemsOf(now.board))if(names.has(at))return true;
-return false;
-}
+return false;}
 function missing(edits,site,board){const values=new Map();
 for(const[at,{name,value}]of itemsOf(board))if(isOf(site,name))values.set(at,value);
 const isThere=(op)=>op.verb==="ins"&&values.get(`${key(op)} ${op.name}`)===op.value;
-return edits.slice(1 + edits.findLastIndex((ops)=>ops.some(isThere)));
-}
+return edits.slice(1 + edits.findLastIndex((ops)=>ops.some(isThere)));}
 function maybeMissing(edits,old,now){const tests=new Map();
 const isLacking=(op)=>{if(!tests.has(key(op)))tests.set(key(op),lackOf(old.widget(op.win,op.wid),now.widget(op.win,op.wid)));
-return tests.get(key(op))(op);
-};
-return edits.map((ops)=>ops.filter(isLacking));
-}
+return tests.get(key(op))(op);};
+return edits.map((ops)=>ops.filter(isLacking));}
 function lackOf(was,is){if(was.kind!==is?.kind)return()=>true;
 if(was.kind==="text")return lackOfText(was,is);
 if(was.kind!=="list")return()=>was.value!==is.value;
 const[before,labels]=[was.items.map(({value})=>value),is.items.map(({value})=>value)];
 if(JSON.stringify(before)===JSON.stringify(labels))return()=>false;
 const lacking=new Set(was.items.filter(({value})=>!labels.includes(value)).map(({name})=>name));
-return({verb,name})=>verb==="del"||lacking.has(name);
-}
+return({verb,name})=>verb==="del"||lacking.has(name);}
 function lackOfText(was,is){const[before,shown]=[textOf(was.items),textOf(is.items)];
 if(before===shown)return()=>false;
 const{head,tail}=difference(before,shown);
 const names=new Set();
 let offset=0;
 for(const{name,value}of was.items){if(offset>=head&&offset<before.length - tail)names.add(name);
-offset +=shownAs(value).length;
-}
-return({verb,name})=>verb==="del"||names.has(name);
-}
+offset +=shownAs(value).length;}
+return({verb,name})=>verb==="del"||names.has(name);}
 function wordsOf(edits,board,rests){const touched=new Map(Array.from(rests.keys(),(it)=>[it,[]]));
 for(const op of edits.flat())touched.set(key(op),[...(touched.get(key(op))??[]),op]);
 const words=new Map();
 for(const[it,ops]of touched){const found=widgetWords(board.widget(...it.split(".").map(Number)),ops,rests.get(it));
-if(found!=="")words.set(it,found);
-}
-return words;
-}
+if(found!=="")words.set(it,found);}
+return words;}
 function widgetWords(widget,ops,job){if(widget.kind==="toggle")return ops.at(-1).value?"on":"off";
 if(widget.kind==="slider")return String(ops.at(-1).value);
 const namesOf=(...verbs)=>new Set(ops.filter((op)=>verbs.includes(op.verb)).map((op)=>op.name));
@@ -693,51 +588,38 @@ const gone=[...namesOf("del")].filter((name)=>!own.has(name)).length +(job?.dele
 const lines=widget.kind==="list"?widget.items.filter((it)=>made.has(it.name)).map((it)=>it.value):runsOf(widget.items,made);
 if(job?.rest.length>0)lines.push((lines.pop()??"")+ job.rest.map(shownAs).join(""));
 if(gone>0)lines.push(`(${counted(gone, widget.kind === "list" ? "item" : "character")} deleted)`);
-return lines.join("\n");
-}
+return lines.join("\n");}
 function runsOf(items,names){const runs=[];
 items.forEach((item,at)=>{if(!names.has(item.name))return;
 if(at>0&&names.has(items[at - 1].name))runs.at(-1).push(item);
-else runs.push([item]);
-});
-return runs.map(textOf);
-}
+else runs.push([item]);});
+return runs.map(textOf);}
 function asText(board,captionOf){const parts=[];
 for(const[win,widgets]of board.windows){const caption=captionOf(String(win));
 parts.push(`${caption}\n${"=".repeat(Array.from(caption).length)}`);
-for(const[wid,widget]of widgets)parts.push(captionOf(`${win}.${wid}`,widget.kind)+ ":" + contentsOf(widget));
-}
-return `${parts.join("\n\n")}\n`;
-}
+for(const[wid,widget]of widgets)parts.push(captionOf(`${win}.${wid}`,widget.kind)+ ":" + contentsOf(widget));}
+return `${parts.join("\n\n")}\n`;}
 function contentsOf(widget){if(widget.kind==="text")return `\n${charactersOf(widget)}`;
 if(widget.kind==="list")return widget.items.map(({value})=>`\n- ${value}`).join("");
-return ` ${settingOf(widget)}`;
-}
+return ` ${settingOf(widget)}`;}
 const charactersOf=({items})=>items.map(({value})=>String.fromCodePoint(value)).join("");
 const settingOf=({kind,value})=>(kind==="toggle"?(value?"on":"off"):String(value));
 const copyOf=(widget)=>(widget.kind==="text"?charactersOf(widget):widget.items.map(({value})=>value).join("\n"));
 function asPrinted(board){const lines=[];
 for(const[win,widgets]of board.windows){lines.push(`window ${win}`);
-for(const[wid,widget]of widgets)lines.push([widget.kind,wid,...printedWords(widget)].join(" "));
-}
-return lines.map((line)=>`${line}\n`).join("");
-}
+for(const[wid,widget]of widgets)lines.push([widget.kind,wid,...printedWords(widget)].join(" "));}
+return lines.map((line)=>`${line}\n`).join("");}
 function printedWords(widget){if(widget.kind==="text")return[quoted(charactersOf(widget))];
 if(widget.kind==="list")return widget.items.map(({value})=>quoted(value));
-return widget.kind==="toggle"?[settingOf(widget)]:[widget.low,widget.high,widget.value];
-}
+return widget.kind==="toggle"?[settingOf(widget)]:[widget.low,widget.high,widget.value];}
 function quoted(text){const spelled=Array.from(text,(it)=>{if(it==='"'||it==="\\")return `\\${it}`;
-return it>=" "&&it<="~"?it:`\\u{${it.codePointAt(0).toString(16)}}`;
-});
-return `"${spelled.join("")}"`;
-}
+return it>=" "&&it<="~"?it:`\\u{${it.codePointAt(0).toString(16)}}`;});
+return `"${spelled.join("")}"`;}
 function asJson(board,captionOf){const windows=Array.from(board.windows,([id,widgets])=>({id,caption:captionOf(String(id)),widgets:Array.from(widgets,([wid,widget])=>({id:wid,kind:widget.kind,caption:captionOf(`${id}.${wid}`,widget.kind),...fieldsOf(widget)})),}));
-return `${JSON.stringify({ windows }, null, 2)}\n`;
-}
+return `${JSON.stringify({ windows }, null, 2)}\n`;}
 function fieldsOf(widget){if(widget.kind==="text")return{value:charactersOf(widget)};
 if(widget.kind==="list")return{items:widget.items.map(({value})=>value)};
-return widget.kind==="toggle"?{value:widget.value}:{low:widget.low,high:widget.high,value:widget.value};
-}
+return widget.kind==="toggle"?{value:widget.value}:{low:widget.low,high:widget.high,value:widget.value};}
 const GLOW=1500;
 const FLASH=600;
 const REMARK=6000;
@@ -747,32 +629,24 @@ const found=(id)=>document.getElementById(id);
 function make(tag,attributes={},...children){const element=document.createElement(tag);
 for(const[name,value]of Object.entries(attributes)){if(typeof value==="function")element.addEventListener(name,value);
 else if(name in element)element[name]=value;
-else element.setAttribute(name,value);
-}
+else element.setAttribute(name,value);}
 element.append(...children);
-return element;
-}
+return element;}
 function arrange(parent,children){const kept=new Set(children);
 for(const it of[...parent.children])if(!kept.has(it))it.remove();
 let next=parent.firstChild;
 for(const it of children){if(it===next)next=next.nextSibling;
-else parent.insertBefore(it,next);
-}
-}
+else parent.insertBefore(it,next);}}
 const isLeft=(elements,{relatedTarget})=>!elements.some((it)=>it.contains(relatedTarget)||it.contains(document.activeElement));
-async function copy(text,button){try{await navigator.clipboard.writeText(text);
-}catch{const area=make("textarea",{value:text,className:"unseen"});
+async function copy(text,button){try{await navigator.clipboard.writeText(text);}catch{const area=make("textarea",{value:text,className:"unseen"});
 button.after(area);
 area.select();
 document.execCommand("copy");
 area.remove();
-button.focus();
-}
+button.focus();}
 button.textContent="Copied";
-setTimeout(()=>(button.textContent="Copy"),GLOW);
-}
-function flash(element){if(!prefersCalm.matches)element.animate([{outline:"3px solid"},{outline:"3px solid transparent"}],FLASH);
-}
+setTimeout(()=>(button.textContent="Copy"),GLOW);}
+function flash(element){if(!prefersCalm.matches)element.animate([{outline:"3px solid"},{outline:"3px solid transparent"}],FLASH);}
 class View{isStale=false;
 #unconfirmed=0;
 #marker=null;
@@ -781,50 +655,39 @@ this.mark=make("span",{className:"mark",ariaHidden:"true"});
 this.waits=make("span",{className:"waits",ariaHidden:"true",textContent:"not confirmed",hidden:true});
 this.name=make("span",{dir:"auto"});
 this.after=make("span",{className:"after"});
-this.copy=make("button",{type:"button",className:"quiet",textContent:"Copy",click:()=>copy(copyOf(this.widget),this.copy)});
-}
-head(caption,...more){return make("div",{className:"caption"},caption,this.mark,this.waits,this.after,...more);
-}
-remark(words){this.after.textContent=words;
-setTimeout(()=>this.after.textContent===words&&(this.after.textContent=""),REMARK);
-}
-label(){return make("label",{htmlFor:this.id},this.name);
-}
+this.copy=make("button",{type:"button",className:"quiet",textContent:"Copy",click:()=>copy(copyOf(this.widget),this.copy)});}
+head(caption,...more){return make("div",{className:"caption"},caption,this.mark,this.waits,this.after,...more);}
+remark(words){this.page.announce("remark",words);
+this.after.textContent=words;
+setTimeout(()=>this.after.textContent===words&&(this.after.textContent=""),REMARK);}
+label(){return make("label",{htmlFor:this.id},this.name);}
 named(){const caption=this.page.captionOf(this.key,this.widget.kind);
 this.name.textContent=caption;
-this.copy.ariaLabel=`Copy ${caption}`;
-}
+this.copy.ariaLabel=`Copy ${caption}`;}
 rebind(widget,isSame){this.widget=widget;
 this.isStale=true;
 if(!isSame)this.forgetNames();
-this.named();
-}
+this.named();}
 forgetNames(){}
 came(){}
 confirmed(){}
+hide(){}
 sendDrafts(){}
-get drafts(){return[];
-}
+get drafts(){return[];}
 close(){}
-edit(commands){return this.page.edit(this,commands.map((command)=>({...command,win:this.win,wid:this.wid})));
-}
+edit(commands){return this.page.edit(this,commands.map((command)=>({...command,win:this.win,wid:this.wid})));}
 awaits(more){this.#unconfirmed +=more;
 if(this.#unconfirmed>0)this.#marker??=setTimeout(()=>(this.waits.hidden=false),LATE);
 else{clearTimeout(this.#marker);
 this.#marker=null;
-this.waits.hidden=true;
-}
-}
+this.waits.hidden=true;}}
 changed(){this.isStale=true;
-this.isChanged=true;
-}
+this.isChanged=true;}
 update(){if(!this.isStale||this.isHeld)return;
 this.isStale=false;
 this.draw();
 if(this.isChanged&&!prefersCalm.matches)this.mark.animate([{opacity:1},{opacity:0}],GLOW);
-this.isChanged=false;
-}
-}
+this.isChanged=false;}}
 const SEEN="gidzvruka seen";
 function openMenu(page,isTelling){const captionOf=(key,kind)=>page.captionOf(key,kind);
 const files={"Download as text":()=>download("board.txt","text/plain",asText(page.board,captionOf)),"Download the printed board":()=>download("board.board","text/plain",asPrinted(page.board)),"Download as JSON":()=>download("board.json","application/json",asJson(page.board,captionOf)),Print:()=>print(),};
@@ -834,82 +697,58 @@ found("menu-own").append(...buttons,make("p",{className:"check"},tells,make("lab
 document.addEventListener("keydown",(event)=>event.key==="?"&&!isTyping(event.target)&&found("menu").showPopover());
 addEventListener("beforeprint",()=>toPaper(page));
 addEventListener("afterprint",()=>document.querySelectorAll("pre.paper").forEach((it)=>it.remove()));
-welcome();
-}
+welcome();}
 const isTyping=(element)=>element.matches("textarea, input:not([type=checkbox], [type=range])");
 function download(name,type,text){const href=URL.createObjectURL(new Blob([text],{type:`${type};charset=utf-8`}));
 make("a",{href,download:name}).click();
-setTimeout(()=>URL.revokeObjectURL(href),60000);
-}
-function toPaper(page){for(const view of page.views.values())view.area?.after(make("pre",{className:"paper",dir:"auto",textContent:view.area.value}));
-}
-function welcome(){const seen=(step)=>{try{return step(localStorage);
-}catch{return null;
-}
-};
+setTimeout(()=>URL.revokeObjectURL(href),60000);}
+function toPaper(page){for(const view of page.views.values())view.area?.after(make("pre",{className:"paper",dir:"auto",textContent:view.area.value}));}
+function welcome(){const seen=(step)=>{try{return step(localStorage);}catch{return null;}};
 found("welcome").hidden=seen((store)=>store.getItem(SEEN))!==null;
 found("welcome-close").addEventListener("click",()=>{found("welcome").hidden=true;
 seen((store)=>store.setItem(SEEN,"yes"));
-found("title").focus();
-});
-}
+found("title").focus();});}
 const KEPT="gidzvruka offers";
 class Held{#held=new Set();
 #told;
-constructor(told){this.#told=told;
-}
-get count(){return this.#held.size;
-}
-[Symbol.iterator](){return this.#held.values();
-}
+constructor(told){this.#told=told;}
+get count(){return this.#held.size;}
+[Symbol.iterator](){return this.#held.values();}
 hold(it,isHeld){if(this.#held.has(it)===isHeld)return;
 if(isHeld)this.#held.add(it);
 else this.#held.delete(it);
-this.#told();
-}
-}
+this.#told();}}
 class Notices extends Held{#place=found("notices");
 #offers=new Map();
-get isOffering(){return this.#offers.size>0||[...this].some((it)=>!it.matches(".notice"));
-}
+get isOffering(){return this.#offers.size>0||[...this].some((it)=>!it.matches(".notice"));}
 add({view=null,words,text="",choices={}}){const element=make("article",{className:"notice",tabIndex:-1},make("p",{className:"notice-words",role:"alert",textContent:words}));
 const buttons=Object.entries({...choices,Dismiss:()=>{}}).map(([name,click])=>make("button",{type:"button",textContent:name,click:()=>(this.end(element),click())}));
 if(text!==""){const copies=make("button",{type:"button",textContent:"Copy",click:()=>copy(text,copies)});
 element.append(make("textarea",{rows:3,readOnly:true,value:text,ariaLabel:words}));
 buttons.unshift(copies);
-this.#offers.set(element,{key:view?.key??"",words,text});
-}
+this.#offers.set(element,{key:view?.key??"",words,text});}
 element.append(make("p",{className:"row wraps"},...buttons));
 (view?.element??this.#place).append(element);
 this.hold(element,true);
 this.keep();
-return element;
-}
-adopt(element){this.#place.append(...element.querySelectorAll(".notice"));
-}
+return element;}
+adopt(element){this.#place.append(...element.querySelectorAll(".notice"));}
 show(){const[first]=[...this].sort((one,other)=>(one.compareDocumentPosition(other)&Node.DOCUMENT_POSITION_FOLLOWING?-1:1));
 first?.scrollIntoView({block:"center"});
-first?.focus();
-}
-keep(more=[]){try{sessionStorage.setItem(KEPT,JSON.stringify([...this.#offers.values(),...more]));
-}catch{}
-}
-kept(){try{return JSON.parse(sessionStorage.getItem(KEPT))??[];
-}catch{return[];
-}
-}
+first?.focus();}
+keep(more=[]){try{sessionStorage.setItem(KEPT,JSON.stringify([...this.#offers.values(),...more]));}catch{}}
+kept(){try{return JSON.parse(sessionStorage.getItem(KEPT))??[];}catch{return[];}}
 end(element){if(element.contains(document.activeElement))found("title").focus();
 element.remove();
 this.#offers.delete(element);
 this.hold(element,false);
-this.keep();
-}
-}
+this.keep();}}
 const CALM=200;
 const SLOW=2000;
 const BETWEEN=5000;
 class Status{isTelling=true;
 #now=null;
+#wasSlow=false;
 #timers=[];
 #said=new Map();
 #sayAt=0;
@@ -922,22 +761,19 @@ found("try-now").hidden=stage!=="lost"&&stage!=="waiting";
 const isSame=since!==null&&this.#now?.since===since;
 this.#now={words,since,slowly};
 if(!isSame)this.#wait();
-if(since===null||performance.now()- since>=CALM)this.#show();
-}
+if(since===null||performance.now()- since>=CALM)this.#show();}
 #wait(){this.#timers.forEach(clearTimeout);
 const{since}=this.#now;
-this.#timers=since===null?[]:[CALM,SLOW].map((wait)=>setTimeout(()=>this.#show(),Math.ceil(since + wait - performance.now())+ 1));
-}
+this.#timers=since===null?[]:[CALM,SLOW].map((wait)=>setTimeout(()=>this.#show(),Math.ceil(since + wait - performance.now())+ 1));}
 #show(){const{words,since,slowly}=this.#now;
 const isSlow=since!==null&&performance.now()- since>=SLOW;
-if(isSlow)this.announce("edits",slowly);
-found("state").textContent=isSlow?slowly:words;
-}
+if(isSlow||this.#wasSlow)this.announce("edits",isSlow?slowly:words);
+this.#wasSlow=isSlow;
+found("state").textContent=isSlow?slowly:words;}
 announce(about,words){if(about==="changes"&&!this.isTelling)return;
 this.#said.delete(about);
 this.#said.set(about,words);
-this.#sayer??=setTimeout(()=>this.#sayNext(),Math.max(0,this.#sayAt - performance.now()));
-}
+this.#sayer??=setTimeout(()=>this.#sayNext(),Math.max(0,this.#sayAt - performance.now()));}
 #sayNext(){this.#sayer=null;
 const[first]=this.#said;
 if(!first)return;
@@ -945,11 +781,8 @@ const[about,words]=first;
 this.#said.delete(about);
 found("news").textContent=words;
 this.#sayAt=performance.now()+ BETWEEN;
-if(this.#said.size>0)this.#sayer=setTimeout(()=>this.#sayNext(),BETWEEN);
-}
-count(links){found("who").textContent=links>0?`${links} connected`:"";
-}
-}
+if(this.#said.size>0)this.#sayer=setTimeout(()=>this.#sayNext(),BETWEEN);}
+count(links){found("who").textContent=links>0?`${links} connected`:"";}}
 const REMEMBERED=4000;
 const LOOK_AGAIN=300;
 const LOST="The server may not have this. Look at the board, and copy what is missing there.";
@@ -958,52 +791,39 @@ class Untaken{#page;
 #lost=null;
 #offered=null;
 #looker=null;
-constructor(page){this.#page=page;
-}
+constructor(page){this.#page=page;}
 add(edit){this.#edits.push({...edit,number:this.#page.made,made:performance.now(),at:null});
-edit.view.awaits(1);
-}
-get oldest(){return this.#edits.find(({at})=>at===null)?.made??null;
-}
-get isPending(){return this.#lost!==null;
-}
+edit.view.awaits(1);}
+get oldest(){return this.#edits.find(({at})=>at===null)?.made??null;}
+get isPending(){return this.#lost!==null;}
 confirmed(count){const now=performance.now();
 for(const edit of this.#edits.filter(({number,at})=>at===null&&number<=count)){edit.at=now;
-edit.view.awaits(-1);
-}
-this.#edits=this.#recent();
-}
+edit.view.awaits(-1);}
+this.#edits=this.#recent();}
 #recent(){const now=performance.now();
-return this.#edits.filter(({at})=>at===null||now - at<REMEMBERED);
-}
+return this.#edits.filter(({at})=>at===null||now - at<REMEMBERED);}
 lose(old,jobs){const edits=this.#recent();
 if(edits.length + jobs.length===0)return;
 for(const{view,at}of edits)if(at===null)view.awaits(-1);
 this.#lost={old,edits,jobs};
-this.#edits=[];
-}
+this.#edits=[];}
 settle(isSame){if(this.#lost===null)return[];
 const{old,edits,jobs}=this.#lost;
 this.#lost=null;
-return isSame?this.#settleSame(old,edits,jobs):this.#settleOther(old,edits,jobs);
-}
+return isSame?this.#settleSame(old,edits,jobs):this.#settleOther(old,edits,jobs);}
 #settleSame(old,edits,jobs){const unconfirmed=edits.filter(({at})=>at===null);
 const untaken=new Set(missing(unconfirmed.map(({ops})=>ops),old.site,this.#page.board));
 const left=unconfirmed.filter(({ops})=>untaken.has(ops));
 for(const job of jobs)job.takeBack(left.filter((it)=>it.job===job));
 this.#offer(left.filter(({job})=>!jobs.includes(job)).map(({ops})=>ops),old);
-return jobs.filter((job)=>!job.isDone);
-}
+return jobs.filter((job)=>!job.isDone);}
 #settleOther(old,edits,jobs){const rests=new Map(jobs.map((job)=>[job.view.key,job]));
 this.#offer(maybeMissing(edits.map(({ops})=>ops),old.board,this.#page.board),old,rests);
-return[];
-}
+return[];}
 #offer(edits,old,rests=new Map()){const{notices,views}=this.#page;
 const made=Array.from(wordsOf(edits,old.board,rests),([key,text])=>notices.add({view:views.get(key),words:LOST,text}));
-this.#offered=made.length>0?{edits,old,notices:made}:null;
-}
-lookAgain(){if(this.#offered!==null)this.#looker??=setTimeout(()=>this.#look(),LOOK_AGAIN);
-}
+this.#offered=made.length>0?{edits,old,notices:made}:null;}
+lookAgain(){if(this.#offered!==null)this.#looker??=setTimeout(()=>this.#look(),LOOK_AGAIN);}
 #look(){this.#looker=null;
 const{link,board,notices}=this.#page;
 if(this.#offered===null||!link.isOpen||!isSameRun(this.#offered.old,link.site))return;
@@ -1011,72 +831,55 @@ const{edits,old,notices:made}=this.#offered;
 const left=missing(edits,old.site,board);
 if(left.length===edits.length)return;
 for(const element of made.filter((it)=>it.isConnected))notices.end(element);
-this.#offer(left,old);
-}
-}
+this.#offer(left,old);}}
 const PLAIN=[[/[\u2018-\u201b\u2032]/g,"'"],[/[\u201c-\u201f\u2033]/g,'"'],[/[\u2010-\u2015\u2212]/g,"-"],[/\u2026/g,"..."],[/[\t\u00a0\u2007-\u200a\u202f]/g," "],];
 const plain=(text)=>PLAIN.reduce((it,[shape,by])=>it.replace(shape,by),text);
 function faultOf(text){const letters=Array.from(new Intl.Segmenter().segment(text),({segment})=>segment);
 const other=letters.find((it)=>!isLabel(it));
 if(other!==undefined)return `An item can\u2019t have \u201c${other}\u201d. It takes letters without accents, digits, spaces and the signs of a keyboard.`;
-return text.length>MOST_LETTERS?`${text.length} of ${MOST_LETTERS} characters`:"";
-}
+return text.length>MOST_LETTERS?`${text.length} of ${MOST_LETTERS} characters`:"";}
 const linesOf=(text)=>plain(text).split(/[\r\n]+/).map((it)=>it.trim()).filter((it)=>it!=="");
 function merged(base,mine,theirs){if(mine===theirs||theirs===base)return mine;
 if(mine===base)return theirs;
 const[own,other]=[changeOf(base,mine),changeOf(base,theirs)];
 if(isBefore(own,other))return put(put(base,other),own);
-return isBefore(other,own)?put(put(base,own),other):null;
-}
+return isBefore(other,own)?put(put(base,own),other):null;}
 function changeOf(base,now){const{head,tail}=difference(base,now);
-return{start:head,end:base.length - tail,text:now.slice(head,now.length - tail)};
-}
-function isBefore(one,other){return one.end<other.start||(one.end===other.start&&one.end>one.start&&other.end>other.start);
-}
+return{start:head,end:base.length - tail,text:now.slice(head,now.length - tail)};}
+function isBefore(one,other){return one.end<other.start||(one.end===other.start&&one.end>one.start&&other.end>other.start);}
 const put=(text,{start,end,text:it})=>text.slice(0,start)+ it + text.slice(end);
 class Relabels{#open=new Map();
-made(name,number,before){this.#open.set(name,[...(this.#open.get(name)??[]),{number,before}]);
-}
-confirmed(count){for(const name of this.#open.keys())this.#later(name,count);
-}
+made(name,number,before){this.#open.set(name,[...(this.#open.get(name)??[]),{number,before}]);}
+confirmed(count){for(const name of this.#open.keys())this.#later(name,count);}
 came(name,theirs,heard){const[first]=this.#later(name,heard);
 if(!first)return null;
 const{before}=first;
 first.before=theirs;
-return before;
-}
-isOpen(name,heard){return this.#later(name,heard).length>0;
-}
+return before;}
+isOpen(name,heard){return this.#later(name,heard).length>0;}
 #later(name,count){const open=(this.#open.get(name)??[]).filter(({number})=>number>=count);
 if(open.length>0)this.#open.set(name,open);
 else this.#open.delete(name);
-return open;
-}
-}
+return open;}}
 function putPlain(field){const typed=field.value;
 const cursor=plain(typed.slice(0,field.selectionEnd)).length;
 if(plain(typed)===typed)return;
 field.value=plain(typed);
-field.setSelectionRange(cursor,cursor);
-}
+field.setSelectionRange(cursor,cursor);}
 class Hints{element=make("div");
 #field;
 #id;
 #shown="";
 constructor(field,id){this.#field=field;
-this.#id=id;
-}
+this.#id=id;}
 show(hints){const shown=JSON.stringify(hints.map(({words,choices})=>[words,Object.keys(choices)]));
 if(shown===this.#shown)return;
 this.#shown=shown;
 this.element.replaceChildren(...hints.map((it)=>hintOf(this.#id,it)));
 if(hints.length>0)this.#field.setAttribute("aria-describedby",this.#id);
-else this.#field.removeAttribute("aria-describedby");
-}
-}
+else this.#field.removeAttribute("aria-describedby");}}
 function hintOf(id,{words,choices}){const buttons=Object.entries(choices).map(([name,click])=>make("button",{type:"button",textContent:name,mousedown:(event)=>event.preventDefault(),click}));
-return make("div",{className:"row wraps"},make("p",{id,className:"hint",textContent:words}),...buttons);
-}
+return make("div",{className:"row wraps"},make("p",{id,className:"hint",textContent:words}),...buttons);}
 class Row{isGhost=false;
 movedAt=-Infinity;
 #list;
@@ -1090,101 +893,76 @@ Object.assign(this,{name,label:value});
 this.field=make("input",{type:"text",value,autocomplete:"off",dir:"auto",ariaLabel:`Item of ${list.name.textContent}`,focus:()=>(this.#base??=this.label),input:(event)=>event.isComposing||this.#typed(),compositionend:()=>this.#typed(),paste:(event)=>list.pasted(event,this.field,this),keydown:(event)=>event.key==="Escape"&&!event.isComposing&&this.#drop(),});
 this.remove=make("button",{type:"button",textContent:"\u00d7",ariaLabel:`Delete ${value}`,click:()=>list.remove(this)});
 this.#hints=new Hints(this.field,id);
-this.element=make("li",{tabIndex:-1,focusout:(event)=>isLeft([this.field,this.#hints.element],event)&&this.#leave()},make("div",{className:"row"},this.field,this.remove),this.#hints.element);
-}
-get hasFocus(){return document.activeElement===this.field;
-}
-get isDraft(){return this.#base!==null&&(this.field.value!==this.#base||(this.isGhost&&this.#isLost));
-}
-get isKept(){return this.#base!==null;
-}
-get #fault(){return this.isDraft?faultOf(this.#mine):"";
-}
-get #mine(){return plain(this.field.value).trim();
-}
-get isGood(){return this.#fault==="";
-}
+this.element=make("li",{tabIndex:-1,focusout:(event)=>isLeft([this.field,this.#hints.element],event)&&this.#leave()},make("div",{className:"row"},this.field,this.remove),this.#hints.element);}
+get hasFocus(){return document.activeElement===this.field;}
+get isDraft(){return this.#base!==null&&(this.field.value!==this.#base||(this.isGhost&&this.#isLost));}
+get isKept(){return this.#base!==null;}
+get #fault(){return this.isDraft?faultOf(this.#mine):"";}
+get #mine(){return plain(this.field.value).trim();}
+get isGood(){return this.#fault==="";}
 setOpen(isOpen){this.field.readOnly=!isOpen;
-this.remove.ariaDisabled=String(!isOpen);
-}
+this.remove.ariaDisabled=String(!isOpen);}
 show(label){if(label===this.label&&!this.isGhost)return;
 Object.assign(this,{label,isGhost:false});
 if(this.#base===null)this.field.value=label;
 this.remove.ariaLabel=`Delete ${label}`;
-this.tell();
-}
+this.tell();}
 haunt(){this.isGhost=true;
 this.#isAsked=false;
-this.tell();
-}
+this.tell();}
 forget(){this.#base=null;
 this.#offers=[];
 this.isGhost=false;
-this.tell();
-}
+this.tell();}
 loses(){this.#isLost=true;
-this.#base??=this.label;
-}
+this.#base??=this.label;}
 races(base,theirs){const label=merged(base,this.label,theirs);
 if(label===this.label)return;
 if(label===null||faultOf(label)!==""||!this.#list.relabel(this,label))this.#offers.push(theirs);
-this.tell();
-}
+this.tell();}
 send(){if(!this.isDraft||this.isGhost||!this.isGood)return;
 const label=merged(this.#base,this.#mine,this.label);
 this.#isAsked=label===null||faultOf(label)!=="";
 if(!this.#isAsked)this.#put(label);
-this.tell();
-}
+this.tell();}
 #put(label){if(label==="")this.#list.removeEmptied(this);
-else if(label===this.label||this.#list.relabel(this,label))this.#end();
-}
+else if(label===this.label||this.#list.relabel(this,label))this.#end();}
 #typed(){putPlain(this.field);
 this.#isAsked=false;
-this.tell();
-}
+this.tell();}
 #leave(){this.send();
 if(this.isDraft)this.tell();
 else if(this.isGhost)this.#list.drop(this);
-else this.#end();
-}
+else this.#end();}
 #end(){this.#base=this.hasFocus?this.label:null;
 this.#isAsked=false;
 this.field.value=this.label;
-this.tell();
-}
+this.tell();}
 #drop(){if(this.isGhost)this.#list.drop(this);
-else this.#end();
-}
+else this.#end();}
 #keepMine(){this.#base=this.label;
-this.send();
-}
+this.send();}
 #addAgain(){const label=this.#mine===""?this.label:this.#mine;
 if(faultOf(label)!==""||!this.#list.addAgain(this,label))return;
 this.#isLost=false;
-this.#end();
-}
+this.#end();}
 #choose(offer,isTaken){if(isTaken&&!this.#list.relabel(this,offer))return;
 this.#offers.splice(this.#offers.indexOf(offer),1);
-this.tell();
-}
+this.tell();}
 tell(){const isWrong=this.#fault!==""||this.#isAsked;
 this.element.classList.toggle("ghost",this.isGhost);
 this.field.ariaInvalid=String(isWrong);
 this.remove.hidden=this.isGhost;
 this.#hints.show([...this.#hintsNow()]);
 this.#list.page.notices.hold(this.element,this.#offers.length>0||((isWrong||(this.isGhost&&this.isDraft))&&!this.hasFocus));
-this.#list.page.drafts.hold(this,this.isDraft);
-}
+this.#list.page.drafts.hold(this,this.isDraft);}
 *#hintsNow(){const theirs=`Others wrote \u201c${this.label}\u201d`;
 const choices=(keep,take)=>({"Keep mine":keep,"Take theirs":take});
 if(this.#fault!=="")yield{words:this.#fault,choices:this.hasFocus||this.isGhost?{}:{Drop:()=>this.#drop()}};
 if(this.isGhost)yield{words:"Deleted by others",choices:{"Add it again":()=>this.#addAgain(),Drop:()=>this.#drop()}};
 else if(this.#isAsked)yield{words:theirs,choices:choices(()=>this.#keepMine(),()=>this.#drop())};
 else if(this.#base!==null&&this.label!==this.#base)yield{words:theirs,choices:{}};
-for(const it of this.#offers)yield{words:`Others wrote \u201c${it}\u201d at the same time`,choices:choices(()=>this.#choose(it,false),()=>this.#choose(it,true))};
-}
-}
+for(const it of this.#offers)yield{words:`Others wrote \u201c${it}\u201d at the same time`,choices:choices(()=>this.#choose(it,false),()=>this.#choose(it,true))};}}
 class Foot{movedAt=-Infinity;
 #list;
 #plus;
@@ -1193,35 +971,26 @@ constructor(list,id){this.#list=list;
 this.field=make("input",{type:"text",id,placeholder:"add an item",autocomplete:"off",dir:"auto",enterKeyHint:"done",input:(event)=>event.isComposing||this.#typed(),compositionend:()=>this.#typed(),paste:(event)=>list.pasted(event,this.field),});
 this.#plus=make("button",{type:"button",textContent:"+",click:()=>this.add()});
 this.#hints=new Hints(this.field,`${id}-hint`);
-this.element=make("div",{className:"foot",focusout:(event)=>isLeft([this.element],event)&&this.add()},make("div",{className:"row"},this.field,this.#plus),this.#hints.element);
-}
+this.element=make("div",{className:"foot",focusout:(event)=>isLeft([this.element],event)&&this.add()},make("div",{className:"row"},this.field,this.#plus),this.#hints.element);}
 named(caption){this.field.ariaLabel=`Add to ${caption}`;
-this.#plus.ariaLabel=`Add the item to ${caption}`;
-}
+this.#plus.ariaLabel=`Add the item to ${caption}`;}
 setOpen(isOpen){this.field.readOnly=!isOpen;
-this.#plus.ariaDisabled=String(!isOpen);
-}
-get isDraft(){return this.#label!=="";
-}
-get #label(){return plain(this.field.value).trim();
-}
+this.#plus.ariaDisabled=String(!isOpen);}
+get hasFocus(){return document.activeElement===this.field;}
+get isDraft(){return this.#label!=="";}
+get #label(){return plain(this.field.value).trim();}
 add(){if(this.isDraft&&faultOf(this.#label)===""&&this.#list.append(this.#label))this.field.value="";
-this.#tell();
-}
+this.#tell();}
 clear(){this.field.value="";
-this.#tell();
-}
+this.#tell();}
 #typed(){putPlain(this.field);
-this.#tell();
-}
+this.#tell();}
 #tell(){const{notices,drafts}=this.#list.page;
 const fault=faultOf(this.#label);
 this.field.ariaInvalid=String(fault!=="");
 this.#hints.show(fault===""?[]:[{words:fault,choices:{}}]);
-notices.hold(this.element,fault!==""&&document.activeElement!==this.field);
-drafts.hold(this,this.isDraft);
-}
-}
+notices.hold(this.element,fault!==""&&!this.hasFocus);
+drafts.hold(this,this.isDraft);}}
 const MOVED=500;
 class ListView extends View{#rows=new Map();
 #shown=[];
@@ -1236,30 +1005,23 @@ this.foot=new Foot(this,this.id);
 this.element=make("div",{className:"widget",role:"group","aria-labelledby":this.name.id,keydown:(event)=>event.isComposing||this.#key(event)},this.head(this.name,this.copy),this.list,this.foot.element);
 for(const kind of["mousedown","click"])this.element.addEventListener(kind,(event)=>this.#guard(event),true);
 this.named();
-this.draw();
-}
+this.draw();}
 named(){super.named();
-this.foot.named(this.name.textContent);
-}
+this.foot.named(this.name.textContent);}
 setOpen(isOpen){this.#isOpen=isOpen;
-for(const it of[...this.#shown,this.foot])it.setOpen(isOpen);
-}
+for(const it of[...this.#shown,this.foot])it.setOpen(isOpen);}
 forgetNames(){const{items}=this.widget;
 this.#relabels=new Relabels();
 this.#rows=new Map();
 this.#shown.filter((row)=>!row.isGhost).forEach((row,at)=>{const item=items[at];
 if(item&&(!row.isDraft||item.value===row.label))this.#rows.set(item.name,Object.assign(row,{name:item.name}));
-else this.#lose(row);
-});
-}
+else this.#lose(row);});}
 came({verb,name,value},heard){const row=this.#rows.get(name);
 if(!row)return;
 if(verb==="del"&&this.#relabels.isOpen(name,heard))row.loses();
 const base=verb==="rel"?this.#relabels.came(name,value,heard):null;
-if(base!==null)row.races(base,value);
-}
-confirmed(count){this.#relabels.confirmed(count);
-}
+if(base!==null)row.races(base,value);}
+confirmed(count){this.#relabels.confirmed(count);}
 draw(){const{items,names}=this.widget;
 const[before,height]=[this.#shown,this.isChanged?this.list.offsetHeight:0];
 for(const row of before)if(!row.isGhost&&!names.has(row.name))this.#lose(row);
@@ -1267,36 +1029,29 @@ for(const item of items)(this.#rows.get(item.name)??this.#make(item)).show(item.
 this.#shown=this.#order(items);
 this.#keepFocus(before);
 arrange(this.list,this.#shown.map(({element})=>element));
-if(this.isChanged)this.#moved(before,height);
-}
+if(this.isChanged)this.#moved(before,height);}
 #make(item){this.#count +=1;
 const row=new Row(this,`${this.id}-hint-${this.#count}`,item);
 row.setOpen(this.#isOpen);
 this.#rows.set(item.name,row);
-return row;
-}
+return row;}
 #lose(row){this.#rows.delete(row.name);
 if(row.isKept)row.haunt();
-else row.forget();
-}
+else row.forget();}
 #order(items){const behind=new Map([[null,[]]]);
 let last=null;
 for(const row of this.#shown){if(row.isGhost)behind.get(last).push(row);
-else if(this.#rows.get(row.name)===row)behind.set((last=row),[]);
-}
-return[...behind.get(null),...items.map(({name})=>this.#rows.get(name)).flatMap((row)=>[row,...(behind.get(row)??[])])];
-}
+else if(this.#rows.get(row.name)===row)behind.set((last=row),[]);}
+return[...behind.get(null),...items.map(({name})=>this.#rows.get(name)).flatMap((row)=>[row,...(behind.get(row)??[])])];}
 #keepFocus(before){const at=before.findIndex(({element})=>element.contains(document.activeElement));
 if(at<0||this.#shown.includes(before[at]))return;
 const next=[...before.slice(at + 1),...before.slice(0,at).reverse()].find((row)=>this.#shown.includes(row));
-(next?.element??this.list).focus();
-}
+(next?.element??this.list).focus();}
 #moved(before,height){const first=this.#shown.findIndex((row,at)=>row!==before[at]);
 const isSame=first<0&&this.#shown.length===before.length;
 if(isSame&&this.list.offsetHeight===height)return;
 const moved=isSame||first>=0?this.#shown.slice(Math.max(first,0)):[];
-for(const it of[...moved,this.foot])it.movedAt=performance.now();
-}
+for(const it of[...moved,this.foot])it.movedAt=performance.now();}
 #guard(event){if(event.detail===0)return;
 const hit=[...this.#shown,this.foot].find(({element})=>element.contains(event.target));
 const isSecond=event.detail>1&&event.target.closest("button")!==null;
@@ -1304,70 +1059,58 @@ if(event.type==="mousedown")this.#isVoid=isSecond||(hit!==undefined&&performance
 if(!this.#isVoid)return;
 event.preventDefault();
 event.stopPropagation();
-if(!isSecond)flash(hit.element);
-}
+if(!isSecond)flash(hit.element);}
 relabel(row,label){const place=placeOf(this.widget.items,row.name,0);
 const before=this.widget.items[place]?.value;
 if(place<0||!this.edit([{verb:"rel",place,value:label}]))return false;
 this.#relabels.made(row.name,this.page.made - 1,before);
 row.show(label);
-return true;
-}
+return true;}
 remove(row){const place=placeOf(this.widget.items,row.name,0);
 if(place<0||!this.edit([{verb:"del",place}]))return -1;
 row.forget();
 this.draw();
-return place;
-}
+return place;}
 removeEmptied(row){const{label}=row;
 const place=this.remove(row);
-if(place>=0)this.page.notices.add({view:this,words:`\u201c${label}\u201d is deleted, since you emptied it.`,choices:{"Add it again":()=>this.#insert(place,[label])}});
-}
+if(place>=0)this.page.notices.add({view:this,words:`\u201c${label}\u201d is deleted, since you emptied it.`,choices:{"Add it again":()=>this.#insert(place,[label])}});}
 drop(row){row.forget();
-this.draw();
-}
+this.draw();}
 addAgain(row,label){const before=this.#shown.slice(0,this.#shown.indexOf(row)).findLast((it)=>!it.isGhost);
 const ops=this.edit([{verb:"ins",place:before?placeOf(this.widget.items,before.name,0)+ 1:0,value:label}]);
 if(!ops)return false;
 Object.assign(row,{name:ops[0].name,label,isGhost:false});
 this.#rows.set(row.name,row);
 this.draw();
-return true;
-}
+return true;}
 pasted(event,field,row){const text=event.clipboardData.getData("text/plain");
 const lines=linesOf(field.value.slice(0,field.selectionStart)+ text + field.value.slice(field.selectionEnd));
 if(lines.length<2||field.readOnly)return;
 event.preventDefault();
 field.value=row?lines.shift():"";
 field.dispatchEvent(new InputEvent("input"));
-this.#insert(row&&!row.isGhost?placeOf(this.widget.items,row.name,0)+ 1:this.widget.items.length,lines);
-}
+this.#insert(row&&!row.isGhost?placeOf(this.widget.items,row.name,0)+ 1:this.widget.items.length,lines);}
 #insert(place,labels){const left=labels.filter((it)=>faultOf(it)==="");
 const bad=labels.filter((it)=>faultOf(it)!=="");
 for(let at=Math.min(place,this.widget.items.length);left.length>0;){const commands=left.slice(0,MOST_OPERATIONS).map((value,more)=>({verb:"ins",place:at + more,value}));
 if(!this.edit(commands))break;
 at +=commands.length;
-left.splice(0,commands.length);
-}
+left.splice(0,commands.length);}
 this.draw();
 const rest=[...left,...bad];
-if(rest.length>0)this.page.notices.add({view:this,words:`${counted(rest.length, "line")} could not be added.`,text:rest.join("\n")});
-}
+if(rest.length>0)this.page.notices.add({view:this,words:`${counted(rest.length, "line")} could not be added.`,text:rest.join("\n")});}
 append(label){const isMade=this.edit([{verb:"ins",place:this.widget.items.length,value:label}])!==null;
 if(isMade)this.draw();
-return isMade;
-}
-sendDrafts(){for(const row of[...this.#shown])row.send();
-}
-get drafts(){return[...this.#shown,this.foot].filter((it)=>it.isDraft).map(({field})=>field.value);
-}
+return isMade;}
+hide(){for(const row of[...this.#shown])row.send();}
+sendDrafts(){for(const row of this.#shown.filter(({hasFocus})=>!hasFocus))row.send();
+if(!this.foot.hasFocus)this.foot.add();}
+get drafts(){return[...this.#shown,this.foot].filter((it)=>it.isDraft).map(({field})=>field.value);}
 close(){for(const row of this.#shown)row.forget();
-this.foot.clear();
-}
+this.foot.clear();}
 #key(event){if(event.target!==this.foot.field)return this.#walk(event);
 if(event.key==="Enter")return this.foot.add();
-return event.key==="Escape"?this.foot.clear():this.#walk(event);
-}
+return event.key==="Escape"?this.foot.clear():this.#walk(event);}
 #walk(event){const way={ArrowUp:-1,ArrowDown:1,Enter:1}[event.key];
 const row=this.#shown.find(({element,field})=>event.target===element||event.target===field);
 if(!way||!(row||event.target===this.foot.field))return;
@@ -1375,73 +1118,55 @@ const fields=[...this.#shown,this.foot].map(({field})=>field);
 const next=event.target===row?.element?row.field:fields[fields.indexOf(event.target)+ way];
 event.preventDefault();
 if(event.key==="Enter"&&row&&!row.isGood)return;
-next?.focus();
-}
-}
+next?.focus();}}
 class ToggleView extends View{constructor(...given){super(...given);
 this.box=make("input",{type:"checkbox",role:"switch",id:this.id,change:()=>this.edit([{verb:"set",value:this.box.checked}])||this.draw()});
 this.element=make("div",{className:"widget across"},this.head(this.label()),this.box);
 this.named();
-this.draw();
-}
-setOpen(isOpen){this.box.ariaDisabled=String(!isOpen);
-}
-draw(){this.box.checked=this.widget.value;
-}
-}
+this.draw();}
+setOpen(isOpen){this.box.ariaDisabled=String(!isOpen);}
+draw(){this.box.checked=this.widget.value;}}
 class SliderView extends View{constructor(...given){super(...given);
 const{low:min,high:max}=this.widget;
 this.range=make("input",{type:"range",id:this.id,min,max,step:1,input:()=>this.#dragged(),change:()=>this.#set(Number(this.range.value))});
 this.number=make("input",{type:"number",min,max,step:"any",change:()=>this.#typed(),input:()=>(this.hint.hidden=true)});
-this.hint=make("p",{className:"hint",textContent:`${min} to ${max}`,role:"status",hidden:true});
+this.hint=make("p",{className:"hint",textContent:`${min} to ${max}`,hidden:true});
 this.element=make("div",{className:"widget"},this.head(this.label()),make("div",{className:"row wraps"},bound(min),this.range,bound(max),this.number),this.hint);
 this.named();
-this.draw();
-}
+this.draw();}
 named(){super.named();
-this.number.ariaLabel=`${this.name.textContent}, as a number`;
-}
+this.number.ariaLabel=`${this.name.textContent}, as a number`;}
 setOpen(isOpen){this.range.ariaDisabled=String(!isOpen);
-this.number.readOnly=!isOpen;
-}
+this.number.readOnly=!isOpen;}
 #dragged(){this.number.value=this.range.value;
-this.frame??=requestAnimationFrame(()=>this.#set(Number(this.range.value)));
-}
+this.frame??=requestAnimationFrame(()=>this.#set(Number(this.range.value)));}
 #typed(){const{low,high,value}=this.widget;
 const typed=this.number.valueAsNumber;
 const nearest=Number.isNaN(typed)?value:Math.min(high,Math.max(low,Math.round(typed)));
 this.hint.hidden=Number.isNaN(typed)||nearest===Math.round(typed);
+if(!this.hint.hidden)this.page.announce("bounds",this.hint.textContent);
 this.number.value=nearest;
-this.#set(nearest);
-}
+this.#set(nearest);}
 #set(value){cancelAnimationFrame(this.frame);
 this.frame=null;
 if(value!==this.widget.value)this.edit([{verb:"set",value}]);
-this.draw();
-}
+this.draw();}
 draw(){const isTyped=document.activeElement===this.number&&this.number.value!==this.shown;
 this.range.value=this.widget.value;
 if(!isTyped)this.number.value=this.widget.value;
-this.shown=this.range.value;
-}
-}
+this.shown=this.range.value;}}
 const bound=(value)=>make("span",{className:"bound",textContent:value,ariaHidden:"true"});
 class Job{#taken=0;
 #near=0;
 constructor(view,place,after,steps){Object.assign(this,{view,place,after,steps});
-this.#near=place;
-}
-get isDone(){return this.steps.length===0;
-}
-get rest(){return this.steps.filter(({value})=>value!==undefined).map(({value})=>value);
-}
-get deletions(){return this.steps.length - this.rest.length;
-}
+this.#near=place;}
+get isDone(){return this.steps.length===0;}
+get rest(){return this.steps.filter(({value})=>value!==undefined).map(({value})=>value);}
+get deletions(){return this.steps.length - this.rest.length;}
 takeBack(edits){if(edits.length===0)return;
 const steps=edits.flatMap(({ops})=>ops).map(({verb,name,value})=>(verb==="ins"?{value}:{name}));
 this.steps.unshift(...steps);
-this.after=edits[0].after;
-}
+this.after=edits[0].after;}
 next(){const{win,wid,widget}=this.view;
 const commands=[];
 let room=MOST_ITEMS - widget.items.length;
@@ -1460,20 +1185,14 @@ if(found<0)continue;
 commands.push({verb:"del",win,wid,place:found - goneBefore(found)});
 gone.push(found);
 this.#near=found;
-room +=1;
-}
-}
-return commands;
-}
+room +=1;}}
+return commands;}
 made(ops){this.steps.splice(0,this.#taken);
 const last=ops.findLast((op)=>op.verb==="ins");
-if(last)Object.assign(this,{after:last.name,place:last.place + 1});
-}
+if(last)Object.assign(this,{after:last.name,place:last.place + 1});}
 #placeOfInsertion(items){if(this.after===null)return 0;
 const found=placeOf(items,this.after,this.place - 1);
-return found>=0?found + 1:Math.min(this.place,items.length);
-}
-}
+return found>=0?found + 1:Math.min(this.place,items.length);}}
 const LONG_PASTE=512;
 const COMPOSED=1000;
 class TextView extends View{caret=null;
@@ -1484,44 +1203,34 @@ this.area=make("textarea",{id:this.id,rows:3,dir:"auto",input:(event)=>(event.is
 this.element=make("div",{className:"widget"},this.head(this.label(),this.copy),this.area);
 new IntersectionObserver(([{isIntersecting}])=>isIntersecting||this.#sizeAgain()).observe(this.area);
 this.named();
-this.#reset(0);
-}
-setOpen(isOpen){this.area.readOnly=!isOpen||this.page.isBusyWith(this);
-}
-forgetNames(){this.items=null;
-}
+this.#reset(0);}
+setOpen(isOpen){this.area.readOnly=!isOpen||this.page.isBusyWith(this);}
+forgetNames(){this.items=null;}
 #keep(items,shown){this.items=items;
-this.shown=shown;
-}
+this.shown=shown;}
 #reset(cursor){this.#keep([...this.widget.items],textOf(this.widget.items));
 this.area.value=this.shown;
-this.area.setSelectionRange(cursor,cursor);
-}
+this.area.setSelectionRange(cursor,cursor);}
 #composes(){clearTimeout(this.pause);
-this.pause=setTimeout(()=>this.items!==null&&this.#typed(),COMPOSED);
-}
+this.pause=setTimeout(()=>this.items!==null&&this.#typed(),COMPOSED);}
 changed(){super.changed();
 if(!this.isHeld)return;
 this.#later +=1;
-this.after.textContent=`${counted(this.#later, "change")} ${this.#later === 1 ? "comes" : "come"} after this word`;
-}
+this.after.textContent=`${counted(this.#later, "change")} ${this.#later === 1 ? "comes" : "come"} after this word`;}
 #composed(){clearTimeout(this.pause);
 this.isHeld=false;
 this.#later=0;
 this.after.textContent="";
 if(this.items!==null)this.#typed();
-this.page.drawSoon();
-}
+this.page.drawSoon();}
 #typed(){this.#sizeAgain();
 const{value,selectionEnd}=this.area;
 const{head,tail}=difference(this.shown,value,selectionEnd);
-if(value!==this.shown)this.#replace(head,this.shown.length - tail,value.slice(head,value.length - tail));
-}
+if(value!==this.shown)this.#replace(head,this.shown.length - tail,value.slice(head,value.length - tail));}
 #pasted(event){const text=event.clipboardData.getData("text/plain").replace(/\r\n?/g,"\n");
 if(text.length<=LONG_PASTE||this.area.readOnly)return;
 event.preventDefault();
-this.#replace(this.area.selectionStart,this.area.selectionEnd,text);
-}
+this.#replace(this.area.selectionStart,this.area.selectionEnd,text);}
 #replace(start,end,text){const[from,to]=[this.#place(start),this.#place(end)];
 const values=scalarsOf(text);
 const gone=this.items.slice(from,to).reverse();
@@ -1529,37 +1238,29 @@ const steps=[...gone.map(({name})=>({name})),...values.map((value)=>({value}))];
 const job=new Job(this,from,this.items[from - 1]?.name??null,steps);
 if(!this.page.isShort(job)){this.#reset(start);
 this.page.begin(job);
-return;
-}
+return;}
 const ops=this.page.run(job);
 if(ops===null){this.#reset(start);
-return;
-}
+return;}
 const come=ops.filter((op)=>op.verb==="ins").map(({name,value})=>({name,value}));
 this.#keep([...this.items.slice(0,from),...come,...this.items.slice(to)],this.area.value);
-if(values.map(shownAs).join("")!==text)this.#show();
-}
-#place(offset){return this.shown.length===this.items.length?offset:Array.from(this.shown.slice(0,offset)).length;
-}
-#offset(place){return this.shown.length===this.items.length?place:textOf(this.items.slice(0,place)).length;
-}
+if(values.map(shownAs).join("")!==text)this.#show();}
+#place(offset){return this.shown.length===this.items.length?offset:Array.from(this.shown.slice(0,offset)).length;}
+#offset(place){return this.shown.length===this.items.length?place:textOf(this.items.slice(0,place)).length;}
 draw(){if(this.items===null)this.#showAgain();
-else this.#show();
-}
+else this.#show();}
 #show(){const{selectionStart,selectionEnd,selectionDirection}=this.area;
 const end=this.caret??this.#after(this.#place(selectionEnd));
 const start=this.caret!==null||selectionStart===selectionEnd?end:Math.min(this.#before(this.#place(selectionStart)),end);
 this.caret=null;
 this.#put();
-this.#select(this.#offset(start),this.#offset(end),selectionDirection);
-}
+this.#select(this.#offset(start),this.#offset(end),selectionDirection);}
 #showAgain(){const{selectionStart,selectionEnd,selectionDirection,value}=this.area;
 this.#keep([...this.widget.items],textOf(this.widget.items));
 const{head,tail}=difference(value,this.shown);
 this.#change(0,value,this.shown);
 const moved=(offset)=>(offset<=head?offset:offset>=value.length - tail?offset + this.shown.length - value.length:head);
-this.#select(moved(selectionStart),moved(selectionEnd),selectionDirection);
-}
+this.#select(moved(selectionStart),moved(selectionEnd),selectionDirection);}
 #put(){const{area}=this;
 const was=area.value;
 const[before,now]=this.isChanged?this.#anchor(this.#place(this.#topOffset())):[0,0];
@@ -1570,49 +1271,37 @@ const{scrollHeight}=area;
 if(this.isChanged)this.#keepHeight();
 const isInFront=this.#change(0,was.slice(0,top),this.shown.slice(0,this.#offset(now)));
 if(isInFront)area.scrollTop +=area.scrollHeight - scrollHeight;
-this.#change(this.#offset(now),was.slice(top),this.shown.slice(this.#offset(now)));
-}
+this.#change(this.#offset(now),was.slice(top),this.shown.slice(this.#offset(now)));}
 #change(offset,was,is){if(was===is)return false;
 const{head,tail}=difference(was,is);
 this.area.setRangeText(is.slice(head,is.length - tail),offset + head,offset + was.length - tail,"preserve");
-return true;
-}
+return true;}
 #keepHeight(){const{area}=this;
 const{top,bottom,height}=area.getBoundingClientRect();
 if(this.#height!==""||area.style.height!==""||bottom<0||top>innerHeight)return;
 this.#height=`${height}px`;
-area.style.height=this.#height;
-}
+area.style.height=this.#height;}
 #sizeAgain(){if(this.#height!==""&&this.area.style.height===this.#height)this.area.style.height="";
-this.#height="";
-}
+this.#height="";}
 #topOffset(){const{area}=this;
 const{left,top}=area.getBoundingClientRect();
 const edge=Math.max(top,document.querySelector("header").offsetHeight);
 if(area.scrollTop===0&&edge===top)return 0;
 const{paddingLeft,lineHeight}=getComputedStyle(area);
 const found=document.caretPositionFromPoint?.(left + area.clientLeft + Number.parseFloat(paddingLeft)+ 1,edge + area.clientTop + Number.parseFloat(lineHeight)/ 2);
-return found?.offsetNode===area?found.offset:0;
-}
+return found?.offsetNode===area?found.offset:0;}
 #select(start,end,direction){const{area}=this;
 const isSame=start===area.selectionStart&&end===area.selectionEnd&&(start===end||direction===area.selectionDirection);
-if(document.activeElement===area&&!isSame)area.setSelectionRange(start,end,direction);
-}
+if(document.activeElement===area&&!isSame)area.setSelectionRange(start,end,direction);}
 #after(place){const{items,names}=this.widget;
 for(let at=place - 1;at>=0;at--){const{name}=this.items[at];
-if(names.has(name))return placeOf(items,name,at)+ 1;
-}
-return 0;
-}
-#before(place){return this.#anchor(place)[1];
-}
+if(names.has(name))return placeOf(items,name,at)+ 1;}
+return 0;}
+#before(place){return this.#anchor(place)[1];}
 #anchor(place){const{items,names}=this.widget;
 for(let at=place;at<this.items.length;at++){const{name}=this.items[at];
-if(names.has(name))return[at,placeOf(items,name,at)];
-}
-return[this.items.length,items.length];
-}
-}
+if(names.has(name))return[at,placeOf(items,name,at)];}
+return[this.items.length,items.length];}}
 const VIEWS={text:TextView,list:ListView,toggle:ToggleView,slider:SliderView};
 const KINDS={text:"Text",list:"List",toggle:"Toggle",slider:"Slider"};
 const EMPTY="Nothing here yet";
@@ -1623,28 +1312,23 @@ class Windows{views=new Map();
 #captions;
 #sections=new Map();
 constructor(page,captions){this.#page=page;
-this.#captions=readCaptions(captions);
-}
-captionOf(key,kind){return this.#captions.get(key)??`${KINDS[kind] ?? "Window"} ${key.split(".").at(-1)}`;
-}
+this.#captions=readCaptions(captions);}
+captionOf(key,kind){return this.#captions.get(key)??`${KINDS[kind] ?? "Window"} ${key.split(".").at(-1)}`;}
 caption(text){this.#captions=readCaptions(text);
 for(const view of this.views.values())view.named();
-this.#name();
-}
+this.#name();}
 show(board,isSame){const before=new Map(this.views);
 this.views.clear();
 const sections=Array.from(board.windows,([win,widgets])=>this.#window(win,widgets,before,isSame));
 for(const[key,view]of before)if(this.views.get(key)!==view)this.#drop(view);
 arrange(found("board"),this.views.size>0?sections:[this.#nothing()]);
-this.#name();
-}
+this.#name();}
 #window(win,widgets,before,isSame){const heading=make("h2",{id:`window-${win}`,dir:"auto"});
 const section=this.#sections.get(win)??make("section",{"aria-labelledby":heading.id},heading);
 this.#sections.set(win,section);
 const views=Array.from(widgets,([wid,widget])=>this.#view(win,wid,widget,before,isSame));
 arrange(section,[section.firstChild,...views.map(({element})=>element)]);
-return section;
-}
+return section;}
 #view(win,wid,widget,before,isSame){const shape=({kind,low,high})=>[kind,low,high].join();
 const key=`${win}.${wid}`;
 const old=before.get(key);
@@ -1652,21 +1336,16 @@ const isKept=old!==undefined&&shape(old.widget)===shape(widget);
 const view=isKept?old:new VIEWS[widget.kind](this.#page,win,wid,widget);
 if(isKept)view.rebind(widget,isSame);
 this.views.set(key,view);
-return view;
-}
+return view;}
 #drop(view){const{notices}=this.#page;
 for(const text of view.drafts)notices.add({words:view.name.textContent,text});
 notices.adopt(view.element);
-view.close();
-}
-#nothing(){return make("section",{},make("h2",{textContent:EMPTY}),make("p",{textContent:ADVICE}),make("pre",{textContent:EXAMPLE}));
-}
+view.close();}
+#nothing(){return make("section",{},make("h2",{textContent:EMPTY}),make("p",{textContent:ADVICE}),make("pre",{textContent:EXAMPLE}));}
 #name(){const wins=[...this.#page.board.windows.keys()];
 for(const win of wins)this.#sections.get(win).firstChild.textContent=this.captionOf(String(win));
 found("title").textContent=this.#captions.get(String(wins[0]))??"Board";
-document.title=found("title").textContent;
-}
-}
+document.title=found("title").textContent;}}
 const SHORT=256;
 const JOB_SLICE=8;
 const SPARE=64;
@@ -1675,10 +1354,7 @@ const WHO=5000;
 const REFUSALS=new Set([FAULT.LongText,FAULT.Backlog,FAULT.NoMemory,FAULT.Spent,FAULT.LogFull]);
 const isFull=(fault)=>fault===FAULT.Spent||fault===FAULT.LogFull;
 async function textAt(name){try{const answer=await fetch(new URL(name,location.href),{cache:"no-store"});
-return answer.ok?await answer.text():null;
-}catch{return null;
-}
-}
+return answer.ok?await answer.text():null;}catch{return null;}}
 class Page{drafts=new Held(()=>this.#tell());
 notices=new Notices(()=>this.#tell());
 #windows;
@@ -1698,8 +1374,7 @@ address.protocol=address.protocol.replace("http","ws");
 this.link=new Link(address.href,(what,it)=>this[what](it));
 this.#listen();
 openMenu(this,(isTelling)=>(this.#status.isTelling=isTelling));
-setInterval(()=>this.#countLinks(),WHO);
-}
+setInterval(()=>this.#countLinks(),WHO);}
 #listen(){addEventListener("pagehide",()=>this.#leave());
 addEventListener("pageshow",(event)=>event.persisted&&this.#comeBack());
 addEventListener("beforeunload",(event)=>this.#isSaved()||event.preventDefault());
@@ -1708,16 +1383,12 @@ document.addEventListener("visibilitychange",()=>(document.hidden?this.#hide():t
 for(const act of["keydown","pointerdown"])document.addEventListener(act,()=>this.link.isOpen||this.link.hurry());
 document.addEventListener("beforeinput",(event)=>event.inputType.startsWith("history")&&this.#refuseHistory(event));
 found("try-now").addEventListener("click",()=>this.link.hurry());
-found("notice-count").addEventListener("click",()=>this.notices.show());
-}
-get views(){return this.#windows.views;
-}
-get board(){return this.link.site.board;
-}
-get made(){return this.link.site.made;
-}
-captionOf(key,kind){return this.#windows.captionOf(key,kind);
-}
+found("notice-count").addEventListener("click",()=>this.notices.show());}
+get views(){return this.#windows.views;}
+get board(){return this.link.site.board;}
+get made(){return this.link.site.made;}
+announce(about,words){this.#status.announce(about,words);}
+captionOf(key,kind){return this.#windows.captionOf(key,kind);}
 ready(){const{site}=this.link;
 const isFirst=this.#shown===null;
 const isSame=!isFirst&&isSameRun(this.#shown,site);
@@ -1728,26 +1399,22 @@ this.#drawing.now();
 this.#jobs=this.#untaken.settle(isSame);
 this.#setOpen();
 if(!this.#isReadOnly)for(const element of this.#reasons.values())this.notices.end(element);
+for(const view of this.views.values())view.sendDrafts();
 if(isFirst)this.#offerKept();
 else this.#readCaptions();
 this.#status.announce("link","Connected");
 this.#countLinks();
-this.#work();
-}
-came({raw,heard}){for(const op of raw)this.views.get(`${op.win}.${op.wid}`).came(op,heard);
-}
+this.#work();}
+came({raw,heard}){for(const op of raw)this.views.get(`${op.win}.${op.wid}`).came(op,heard);}
 changed(op){const view=this.views.get(`${op.win}.${op.wid}`);
 view.changed();
-this.#status.announce("changes",`Others changed ${view.name.textContent}`);
-}
+this.#status.announce("changes",`Others changed ${view.name.textContent}`);}
 heard(){this.#drawing.soon();
 this.#work();
-this.#untaken.lookAgain();
-}
+this.#untaken.lookAgain();}
 confirmed(){this.#untaken.confirmed(this.link.confirmed);
 for(const view of this.views.values())view.confirmed(this.link.confirmed);
-this.#tell();
-}
+this.#tell();}
 lost(fault){const isNew=this.#shown!==null&&!["lost","waiting"].includes(document.body.dataset.stage);
 this.#isReadOnly=isFull(fault);
 this.#isWaiting=fault===FAULT.Full;
@@ -1756,99 +1423,69 @@ this.#untaken.lose(this.link.site,this.#jobs);
 this.#jobs=[];
 this.#setOpen();
 this.#status.count(0);
-if(isNew)this.#status.announce("link","The connection is lost. This page joins again by itself");
-}
+if(isNew)this.#status.announce("link","The connection is lost. This page joins again by itself");}
 edit(view,commands,job=null){if(!this.#takesEdits)return null;
 const after=job?.after;
 try{const ops=this.link.edit(commands);
 this.#untaken.add({ops,view,job,after});
 this.#tell();
-return ops;
-}catch(fault){if(!(fault instanceof Fault)||!REFUSALS.has(fault.number))throw fault;
+return ops;}catch(fault){if(!(fault instanceof Fault)||!REFUSALS.has(fault.number))throw fault;
 this.#refuse(fault.number,view,job);
-return null;
-}
-}
+return null;}}
 #refuse(fault,view,job){const text=job?.rest.map(shownAs).join("")??"";
 if(text==="")this.#explain(reasonOf(fault),view);
 else this.notices.add({view,words:reasonOf(fault),text});
-if(isFull(fault))this.#closeForGood();
-}
+if(isFull(fault))this.#closeForGood();}
 #closeForGood(){this.#isReadOnly=true;
-this.#setOpen();
-}
-#explain(words,view=null){if(!this.#reasons.get(words)?.isConnected)this.#reasons.set(words,this.notices.add({view,words}));
-}
+this.#setOpen();}
+#explain(words,view=null){if(!this.#reasons.get(words)?.isConnected)this.#reasons.set(words,this.notices.add({view,words}));}
 #refuseHistory(event){if(this.link.site.heard===0)return;
 event.preventDefault();
 const view=[...this.views.values()].find(({element})=>element.contains(event.target));
-const words="Others have edited this board, so the browser can\u2019t undo.";
-view?.remark(words);
-this.#status.announce("undo",words);
-}
-isShort(job){return job.steps.length<=SHORT&&!this.isBusyWith(job.view)&&this.#hasRoom(NEEDED);
-}
+view?.remark("Others have edited this board, so the browser can\u2019t undo.");}
+isShort(job){return job.steps.length<=SHORT&&!this.isBusyWith(job.view)&&this.#hasRoom(NEEDED);}
 run(job){const all=[];
 while(!job.isDone){const ops=this.#next(job);
 if(ops===null)return null;
-all.push(...ops);
-}
-return all;
-}
+all.push(...ops);}
+return all;}
 begin(job){this.#jobs.push(job);
 this.#setOpen();
-this.#work();
-}
-get #takesEdits(){return this.link.isOpen&&!this.#isReadOnly;
-}
-isBusyWith(view){return this.#jobs.some((job)=>job.view===view);
-}
-#hasRoom(edits){return this.link.site.backlog + edits<=MOST_WAITING;
-}
+this.#work();}
+get #takesEdits(){return this.link.isOpen&&!this.#isReadOnly;}
+isBusyWith(view){return this.#jobs.some((job)=>job.view===view);}
+#hasRoom(edits){return this.link.site.backlog + edits<=MOST_WAITING;}
 #next(job){const commands=job.next();
 const ops=commands.length>0?this.edit(job.view,commands,job):[];
 if(ops!==null)job.made(ops);
-return ops;
-}
+return ops;}
 #work(){if(this.#isWorking||this.#jobs.length===0||!this.link.isOpen)return;
 const end=performance.now()+ JOB_SLICE;
 while(this.#jobs.length>0&&this.#hasRoom(SPARE)&&performance.now()<end){const[job]=this.#jobs;
 const ops=this.#next(job);
 Object.assign(job.view,{isStale:true,caret:job.place});
 if(ops===null||job.isDone){this.#jobs.shift();
-this.#setOpen();
-}
-}
+this.#setOpen();}}
 this.#drawing.soon();
 this.#tell();
 this.#isWorking=this.#jobs.length>0&&this.#hasRoom(SPARE);
-if(this.#isWorking)later(()=>this.#goOn());
-}
+if(this.#isWorking)later(()=>this.#goOn());}
 #goOn(){this.#isWorking=false;
-this.#work();
-}
+this.#work();}
 #isSaved(){const isSent=!this.#untaken.isPending&&this.#jobs.length===0&&this.link.confirmed===this.made;
-return isSent&&this.drafts.count===0&&!this.notices.isOffering;
-}
-#offerKept(){for(const{key,words,text}of this.notices.kept())this.notices.add({view:this.views.get(key),words,text});
-}
-#hide(){for(const view of this.views.values())view.sendDrafts();
-}
+return isSent&&this.drafts.count===0&&!this.notices.isOffering;}
+#offerKept(){for(const{key,words,text}of this.notices.kept())this.notices.add({view:this.views.get(key),words,text});}
+#hide(){for(const view of this.views.values())view.hide();}
 #leave(){const words="You typed this here, and it was not sent.";
 this.notices.keep([...this.views.values()].flatMap(({key,drafts})=>drafts.map((text)=>({key,words,text}))));
-this.link.leave();
-}
+this.link.leave();}
 #comeBack(){this.notices.keep();
 this.lost();
-this.link.comeBack();
-}
-drawSoon(){this.#drawing.soon();
-}
+this.link.comeBack();}
+drawSoon(){this.#drawing.soon();}
 #setOpen(){for(const view of this.views.values())view.setOpen(this.#takesEdits);
-this.#tell();
-}
-#tell(){this.#status.tell({...this.#state,notices:this.notices.count});
-}
+this.#tell();}
+#tell(){this.#status.tell({...this.#state,notices:this.notices.count});}
 get #state(){const left=this.#jobs.reduce((sum,job)=>sum + job.steps.length,0);
 const waiting=this.made - this.link.confirmed;
 if(this.#isWaiting)return{stage:"waiting",words:"64 people are here. You come in when one leaves"};
@@ -1856,19 +1493,15 @@ if(!this.link.isOpen)return{stage:"lost",words:"Offline"};
 if(left>0)return{stage:"sending",words:`${counted(left, "character")} to go`};
 if(waiting>0)return{stage:"sending",words:"Sending \u2026",slowly:`Sending \u2026 ${counted(waiting, "edit")} wait`,since:this.#untaken.oldest};
 if(this.#isReadOnly)return{stage:"full",words:"Read only: the board is full"};
-return this.drafts.count>0?{stage:"draft",words:counted(this.drafts.count,"draft")}:{stage:"open",words:"Sent"};
-}
+return this.drafts.count>0?{stage:"draft",words:counted(this.drafts.count,"draft")}:{stage:"open",words:"Sent"};}
 async #readCaptions(){const text=await textAt("captions");
-if(text!==null)this.#windows.caption(text);
-}
+if(text!==null)this.#windows.caption(text);}
 async #countLinks(){if(document.hidden||!this.link.isOpen)return;
 const[count,state]=(await textAt("who"))?.split("\n")??[];
 this.#status.count(this.link.isOpen?Number.parseInt(count,10):0);
 if(state!=="full"||this.#isReadOnly)return;
 this.#explain(reasonOf(FAULT.LogFull));
-this.#closeForGood();
-}
-}
+this.#closeForGood();}}
 new Page((await textAt("captions"))??"");
 </script>
 </body>

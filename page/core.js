@@ -274,8 +274,8 @@ function change({ items, names }, op) {
 const BOARD_WORDS = new Set(["window", "text", "list", "toggle", "slider", "char", "item"]);
 
 // `send` takes text of whole lines that goes to the server. `told` is called with "ready" once the board is there, and with "pong" and its
-// number. After an edit of others is applied, it is called with "came", the operations as the server sent them (`raw`), and how many edits of
-// this site the server had `heard`. Then it is called with "changed" and each operation as it was applied.
+// number. After an edit of others is applied, it is called with "came": the operations as the server sent them (`raw`), and how many edits of
+// this site it had `heard`. Then it is called with "changed" and each operation as it was applied.
 export class Site {
   stage = "welcome"; // then "board", "open" and "stopped"
   board = new Board();

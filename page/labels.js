@@ -25,13 +25,12 @@ export function faultOf(text) {
 // The lines of a text that several items can be made of, each without spaces at its ends.
 export const linesOf = (text) => plain(text).split(/[\r\n]+/).map((it) => it.trim()).filter((it) => it !== "");
 
-// The label that has the changes of both, or null if they changed one place. Both began with `base`.
+// The label that has the changes of both, or null if they changed one place, or took all away together. Both began with `base`.
 export function merged(base, mine, theirs) {
   if (mine === theirs || theirs === base) return mine;
   if (mine === base) return theirs;
-  const [own, other] = [changeOf(base, mine), changeOf(base, theirs)];
-  if (isBefore(own, other)) return put(put(base, other), own);
-  return isBefore(other, own) ? put(put(base, own), other) : null;
+  const [first, second] = [changeOf(base, mine), changeOf(base, theirs)].sort((one, other) => one.start - other.start || one.end - other.end);
+  return isBefore(first, second) ? put(put(base, second), first) || null : null;
 }
 
 function changeOf(base, now) {

@@ -108,8 +108,8 @@ export class Row {
     this.tell();
   }
 
-  // Others have deleted the item. What is typed stays.
-  haunt() {
+  // Others have deleted the item. The row stays, with what is typed.
+  outlive() {
     this.isGhost = true;
     this.#isAsked = false;
     this.tell();

@@ -88,7 +88,7 @@ export class ListView extends View {
   // The item of a row is gone.
   #lose(row) {
     this.#rows.delete(row.name);
-    if (row.isKept) row.haunt();
+    if (row.isKept) row.outlive();
     else row.forget();
   }
 

@@ -158,6 +158,8 @@ test("two changes of one label", () => {
   assert.equal(merged("bread", "breads", "bread!"), null);
   assert.equal(merged("bread", "rolls", "brown bread"), null);
   assert.equal(merged("bread", "", "bread!"), null);
+  assert.equal(merged("ab", "a", "b"), null);
+  assert.equal(merged("ab", "", "ab"), "");
   // Two that touch, and take away something each.
   assert.equal(merged("milk 1 l", "milk 2 l", "oat milk 1 l"), "oat milk 2 l");
   assert.equal(merged("abcd", "Xcd", "abY"), "XY");

@@ -6,7 +6,7 @@ pub const PAGE: &[u8] = br#"<!doctype html>
 <html lang="en">
 <head>
 <meta charset="utf-8">
-<meta http-equiv="Content-Security-Policy" content="default-src 'none'; script-src 'sha256-+JlvdQ6c5kGaJeZXvpSZjvp8zok1r/xcebP6XkIQo5o='; style-src 'sha256-3aa5ylGO3iwQFWyWgqMwLnUDXDx6j98VZ887LmrJhUY='; img-src data:; connect-src 'self'; base-uri 'none'; form-action 'none'">
+<meta http-equiv="Content-Security-Policy" content="default-src 'none'; script-src 'sha256-zkO14OFkXNwoRZSRejjCt1nm/Y3CHTxIxx67BnU2KvI='; style-src 'sha256-3aa5ylGO3iwQFWyWgqMwLnUDXDx6j98VZ887LmrJhUY='; img-src data:; connect-src 'self'; base-uri 'none'; form-action 'none'">
 <meta name="viewport" content="width=device-width, initial-scale=1">
 <meta name="color-scheme" content="light dark">
 <title>Gidzvruka</title>
@@ -841,9 +841,8 @@ return text.length>MOST_LETTERS?`${text.length} of ${MOST_LETTERS} characters`:"
 const linesOf=(text)=>plain(text).split(/[\r\n]+/).map((it)=>it.trim()).filter((it)=>it!=="");
 function merged(base,mine,theirs){if(mine===theirs||theirs===base)return mine;
 if(mine===base)return theirs;
-const[own,other]=[changeOf(base,mine),changeOf(base,theirs)];
-if(isBefore(own,other))return put(put(base,other),own);
-return isBefore(other,own)?put(put(base,own),other):null;}
+const[first,second]=[changeOf(base,mine),changeOf(base,theirs)].sort((one,other)=>one.start - other.start||one.end - other.end);
+return isBefore(first,second)?put(put(base,second),first)||null:null;}
 function changeOf(base,now){const{head,tail}=difference(base,now);
 return{start:head,end:base.length - tail,text:now.slice(head,now.length - tail)};}
 function isBefore(one,other){return one.end<other.start||(one.end===other.start&&one.end>one.start&&other.end>other.start);}
@@ -907,7 +906,7 @@ Object.assign(this,{label,isGhost:false});
 if(this.#base===null)this.field.value=label;
 this.remove.ariaLabel=`Delete ${label}`;
 this.tell();}
-haunt(){this.isGhost=true;
+outlive(){this.isGhost=true;
 this.#isAsked=false;
 this.tell();}
 forget(){this.#base=null;
@@ -1036,7 +1035,7 @@ row.setOpen(this.#isOpen);
 this.#rows.set(item.name,row);
 return row;}
 #lose(row){this.#rows.delete(row.name);
-if(row.isKept)row.haunt();
+if(row.isKept)row.outlive();
 else row.forget();}
 #order(items){const behind=new Map([[null,[]]]);
 let last=null;

@@ -24,7 +24,7 @@ pub use Rattle.jup_hub.specs.declared.view.HubEvent.{HubEvent}
 pub use Rattle.jup_hub.specs.declared.view.Tally.{Tally}
 pub use Rattle.jup_hub.specs.declared.view.View.{View}
 pub use Rattle.jup_hub.specs.Passes.{IsPassOf, view_of}
-pub use Rattle.jup_rules.specs.Clients.{most_fetched}
+pub use Rattle.jup_rules.specs.Sessions.{most_fetched}
 pub use Rattle.jup_app.specs.declared.runs.drain.SiteEnd.{SiteEnd}
 pub use Rattle.jup_app.specs.declared.runs.halt.Halt.{Halt}
 pub use Rattle.jup_app.specs.declared.runs.player.Player.{Player}

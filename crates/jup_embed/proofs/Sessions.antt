@@ -12,17 +12,17 @@ use Rattle.jup_star.specs.Sites.{EditAnswers, edit_reply, site_edited, is_edit_m
 use Rattle.jup_wire.specs.Streams.{Progress}
 use Rattle.jup_wire.proofs.Streams.{take_one_more}
 use Rattle.jup_gather.specs.Gathering.{down_in, message_given}
-use Rattle.jup_rules.specs.declared.client.Told.TheVariants.{Synced, Bye as SaidBye}
-use Rattle.jup_rules.specs.declared.client.Told.TheVariants as told
-use Rattle.jup_rules.specs.Clients.{saying, IsHeld, ComesTo, AnswersEdit, Answers, edit_answer, telling, Hears, HearsDown, down_heard, heard_answer}
+use Rattle.jup_client.specs.declared.client.Told.TheVariants.{Synced, Bye as SaidBye}
+use Rattle.jup_client.specs.declared.client.Told.TheVariants as told
+use Rattle.jup_client.specs.Clients.{saying, IsHeld, ComesTo, AnswersEdit, Answers, edit_answer, telling, Hears, HearsDown, down_heard, heard_answer}
 use Rattle.jup_embed.specs.declared.phase.Phase.TheVariants as phase
 use Rattle.jup_embed.specs.Sessions.{kept, operations_in, operations_said, said_bytes, PhaseHears, Session, HearsLine, HearsLines, EditedIn, MakesEdit, AnsweredIn, IsDone, DoesAsked, Commands, still_synced, KeepsRest, RefusesLine, HearsUpTo, ReadsOn, Ends, board_in, Feeds, LacksUntold, KeepsCopies}
 use Rattle.jup_embed.specs.Views.{values_of}
-use Rattle.jup_rules.specs.Prelude.{BoardBatch, UpPing, Down, SiteFault}
+use Rattle.jup_client.specs.Prelude.{BoardBatch, UpPing, Down, SiteFault}
 use Rattle.jup_batch.specs.Prelude.{boards}
-use Rattle.jup_rules.specs.declared.session.Said.TheVariants.{Up as SaysUp, Bye as SaysBye}
-use Rattle.jup_rules.specs.declared.client.Request.TheVariants.{Sync, Quit, Edit, Batch, Show, Bad}
-use Rattle.jup_rules.specs.declared.ends.ClientEnd.TheVariants.{Fault}
+use Rattle.jup_stream.specs.declared.saying.Said.TheVariants.{Up as SaysUp, Bye as SaysBye}
+use Rattle.jup_client.specs.declared.asking.Request.TheVariants.{Sync, Quit, Edit, Batch, Show, Bad}
+use Rattle.jup_client.specs.declared.ends.ClientEnd.TheVariants.{Fault}
 
 -- Lists, joined.
 

@@ -13,7 +13,7 @@ use Rattle.jup_window.specs.declared.kinds.WidgetOp.TheVariants.{Text as OnText,
 use Rattle.jup_window.specs.Commands.{command_place}
 use Rattle.jup_window.specs.Kinds.{setting_kind, setting_number, op_setting, IsToldBy}
 use Rattle.jup_wire.specs.Kinds.{kind_number, value_numbers}
-use Rattle.jup_rules.specs.Ends.{client_end_number}
+use Rattle.jup_client.specs.Ends.{client_end_number}
 use Rattle.jup_embed.specs.Prelude.{Command, BoardOp, edit_fault_number, EmbedFault}
 use Rattle.jup_embed.specs.Sessions.{Session, MakesEdit}
 use Rattle.jup_embed.specs.declared.refusals.EmbedFault.TheVariants as fault

@@ -6,16 +6,16 @@ use Rattle.jup_batch.specs.Boards.{Windows, after}
 use Rattle.jup_star.specs.Sites.{BoardSite, EditAnswers, edit_reply, is_edit_memory}
 use Rattle.jup_wire.specs.Streams.{Progress, HasRead}
 use Rattle.jup_gather.specs.Gathering.{piece_lines}
-use Rattle.jup_rules.specs.declared.client.Opening.{Opening}
-use Rattle.jup_rules.specs.Clients.{Hears, IsGreeted, HearsWelcome, Answers, Begun, IsHeld, ComesTo}
-use Rattle.jup_rules.specs.Sessions.{said_piece}
+use Rattle.jup_client.specs.declared.opening.Opening.{Opening}
+use Rattle.jup_client.specs.Clients.{Hears, IsGreeted, HearsWelcome, Answers, Begun, IsHeld, ComesTo}
+use Rattle.jup_stream.specs.Saying.{said_piece}
 use Rattle.jup_embed.specs.declared.client.Stage.{Stage}
 use Rattle.jup_embed.specs.declared.phase.Phase.TheVariants as phase
 use Rattle.jup_embed.specs.declared.client.Stage.TheVariants as stage
 use Rattle.jup_embed.specs.declared.refusals.EmbedFault.TheVariants as fault
-use Rattle.jup_rules.specs.Prelude.{BoardBatch, UpOp}
-use Rattle.jup_rules.specs.declared.session.Said.TheVariants.{Up as SaysUp}
-use Rattle.jup_rules.specs.declared.client.Request.TheVariants.{Sync}
+use Rattle.jup_client.specs.Prelude.{BoardBatch, UpOp}
+use Rattle.jup_stream.specs.declared.saying.Said.TheVariants.{Up as SaysUp}
+use Rattle.jup_client.specs.declared.asking.Request.TheVariants.{Sync}
 
 -- The operations that a board took and that the client has not told its user.
 

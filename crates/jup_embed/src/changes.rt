@@ -3,8 +3,8 @@ ghost use Rattle.std.specs.Prelude.{◌≡◌, ◌≤◌, ◌+◌, ◌++◌, ◌
 ghost use Rattle.jup_embed.specs.Sessions.{kept, operations_in, operations_said};
 
 use jup_batch::{BoardBatch, MOST_COMMANDS};
-use jup_rules::Said;
 use jup_star::Up;
+use jup_stream::Said;
 use jup_window::{BoardOp, Within};
 use jup_xform::NoMemory;
 use std::alloc::Global;

@@ -5,10 +5,10 @@ ghost use Rattle.jup_wire.specs.Streams.{HasRead};
 ghost use Rattle.jup_wire.specs.declared.line.Line.TheVariants.{Hello};
 ghost use Rattle.jup_batch.specs.Boards.{Windows, after, bare};
 ghost use Rattle.jup_star.specs.Sites.{EditAnswers};
-ghost use Rattle.jup_rules.specs.declared.ends.ClientEnd.{ClientEnd as AnyEnd};
-ghost use Rattle.jup_rules.specs.declared.client.Told.TheVariants.{Synced, Bye as SaidBye};
-ghost use Rattle.jup_rules.specs.declared.client.Request.TheVariants.{Sync, Quit};
-ghost use Rattle.jup_rules.specs.declared.session.Said.TheVariants.{Up as SaysUp};
+ghost use Rattle.jup_client.specs.declared.ends.ClientEnd.{ClientEnd as AnyEnd};
+ghost use Rattle.jup_client.specs.declared.client.Told.TheVariants.{Synced, Bye as SaidBye};
+ghost use Rattle.jup_client.specs.declared.asking.Request.TheVariants.{Sync, Quit};
+ghost use Rattle.jup_stream.specs.declared.saying.Said.TheVariants.{Up as SaysUp};
 ghost use Rattle.jup_embed.specs.declared.phase.Phase.TheVariants.{Greeting as InGreeting, Over as IsOver};
 ghost use Rattle.jup_embed.specs.Sessions.{LacksUntold, KeepsCopies, stage_of, board_in, site_in, still_synced, refusal_of, HearsLine, HearsLines, Feeds, KeepsRest, RefusesLine, HearsUpTo, Ends, EditedIn, MakesEdit, RefusesEdit, RefusesAt, AnsweredIn, IsDone, Asks, DoesAsked, Commands};
 
@@ -16,8 +16,9 @@ use crate::changes::Changes;
 use crate::phase::Phase;
 use crate::refusals::EmbedFault;
 use crate::unsent::Unsent;
-use jup_rules::{Answer, Asking, ClientEnd, Heard, Request, Said, SessionFault, Told};
+use jup_client::{Answer, Asking, ClientEnd, Heard, Request, Told};
 use jup_star::{Made, Site};
+use jup_stream::{Said, StreamFault};
 use jup_window::{Board, BoardOp, Command, EditFault, Within};
 use jup_wire::{Line, Reader};
 use jup_xform::NoMemory;
@@ -204,7 +205,7 @@ impl Client {
         let fed = self.reader.feed(alloc, bytes)?;
         self.hear_all(alloc, fed.lines.as_slice())?;
         match fed.fault {
-            Some(fault) => Err(SessionFault::Wire(fault).into()),
+            Some(fault) => Err(StreamFault::Wire(fault).into()),
             None => Ok(()),
         }
     }

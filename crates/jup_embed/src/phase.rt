@@ -3,7 +3,7 @@ ghost use Rattle.std.specs.Prelude.{◌≡◌};
 ghost use Rattle.jup_embed.specs.Sessions.{PhaseHears, nothing_heard};
 ghost use Rattle.jup_embed.specs.declared.phase.Phase.TheVariants.{Open};
 
-use jup_rules::{ClientEnd, ClientState, Heard, Opening};
+use jup_client::{ClientEnd, ClientState, Heard, Opening};
 use jup_window::Within;
 use jup_wire::Line;
 use std::alloc::Global;

@@ -2,7 +2,7 @@
 ghost use Rattle.std.specs.Prelude.{◌≡◌};
 ghost use Rattle.jup_embed.specs.Numbers.{embed_fault_number};
 
-use jup_rules::ClientEnd;
+use jup_client::ClientEnd;
 use jup_window::EditFault;
 use jup_xform::NoMemory;
 use thiserror::Error;

@@ -5,7 +5,7 @@ ghost use Rattle.jup_wire.specs.declared.line.Line.TheVariants.{Hello};
 ghost use Rattle.jup_embed.specs.Sessions.{said_bytes};
 
 use jup_gather::{MOST_MESSAGE, write_message};
-use jup_rules::Said;
+use jup_stream::Said;
 use jup_wire::{Line, write_reserved};
 use jup_xform::NoMemory;
 use std::alloc::Global;

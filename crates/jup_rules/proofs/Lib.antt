@@ -1,3 +1,2 @@
-pub mod Clients
 mod Lagging
 mod Sessions

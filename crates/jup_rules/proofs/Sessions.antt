@@ -3,12 +3,13 @@ use Rattle.std.proofs.Common.{◌≡◌, Bool, true, false, List, [], ◌∷◌,
 use Rattle.std.proofs.lemmas.Bool.{false≢true}
 use Rattle.std.proofs.Math.Nat.{min-le_left, min-le_right, le-min, le_antisymm}
 use Rattle.std.proofs.lemmas.List.Sums.{sum_by-append}
-use Rattle.jup_rules.specs.Prelude.{BoardBatch, UpOp, UpAck, UpPing, Up, Line, Gathered, Said, SaysUp, SaysBye, SessionFault}
+use Rattle.jup_rules.specs.Prelude.{BoardBatch, UpOp, UpAck, UpPing, Up, Line, Gathered, Said, SaysUp, SaysBye, StreamFault}
 use Rattle.jup_wire.specs.declared.line.Line.TheVariants as wire
 use Rattle.jup_gather.specs.Gathering.{Piece, Alone, Gathers, up_in, message_given}
 use Rattle.jup_gather.proofs.Gathering.{one_piece}
 use Rattle.jup_rules.specs.declared.session.Awaits.TheVariants.{Gate}
-use Rattle.jup_rules.specs.Sessions.{said_piece, said_heard, IsSaidBy, IsUnsaid, IsRefused, HasSaid, Keeper, says_edit, counted, HasHeard, incoming_of, edits_with, next_of, edits_after, Leads}
+use Rattle.jup_stream.specs.Saying.{said_piece}
+use Rattle.jup_rules.specs.Sessions.{said_heard, IsSaidBy, IsUnsaid, IsRefused, HasSaid, Keeper, says_edit, counted, HasHeard, incoming_of, edits_with, next_of, edits_after, Leads}
 use Rattle.jup_gather.specs.declared.gathered.Gathered.TheVariants.{Whole, Plain, Held, Misplaced}
 
 -- What a line of a site is that is refused.
@@ -38,7 +39,7 @@ is_said (Plain other) = (refl, λ held. cc, λ said is. not_said other said refl
 is_said Held = refl
 is_said Misplaced = (refl, λ held. cc, λ said is. cc)
 
-unsaid : (held new : Option (List Line)) (line : Line) (gathered : Gathered) (fault : SessionFault) → Gathers held line gathered new → IsSaidBy gathered (Err fault) → IsUnsaid held line
+unsaid : (held new : Option (List Line)) (line : Line) (gathered : Gathered) (fault : StreamFault) → Gathers held line gathered new → IsSaidBy gathered (Err fault) → IsUnsaid held line
 unsaid None new line gathered fault step none = tt
 unsaid (Some part) new line (Whole m) fault step none = absurd (none.2 (SaysUp (UpOp m)) refl)
 unsaid (Some part) new line (Plain plain) fault step none = λ said more later is e.
@@ -48,7 +49,7 @@ unsaid (Some part) new line Held fault step none = absurd (none.1 refl)
 unsaid (Some part) new line Misplaced fault step none = λ said more later is. step.0 more (said_piece said) later is
 
 -- of a line that was gathered a refusal says that by it no site says anything
-pub refused_unsaid : (held new : Option (List Line)) (line : Line) (gathered : Gathered) (result : Result (Option Said) SessionFault) → Gathers held line gathered new → IsSaidBy gathered result
+pub refused_unsaid : (held new : Option (List Line)) (line : Line) (gathered : Gathered) (result : Result (Option Said) StreamFault) → Gathers held line gathered new → IsSaidBy gathered result
     → IfErr result (λ fault. IsRefused fault held line new)
 refused_unsaid held new line gathered (Ok said) step is = tt
 refused_unsaid held new line gathered (Err fault) step is = inr (is.0, unsaid held new line gathered fault step is)
@@ -89,7 +90,7 @@ same_incoming edits n (UpOp msg) is = ap (λ (k : ℕ). record { up = UpOp msg; 
 same_incoming edits n (UpAck count) is = refl
 same_incoming edits n (UpPing number) is = refl
 
-pub leads : (lines : List Line) (saids : List Said) (old : Keeper) (line : Line) (said : Result (Option Said) SessionFault) (held : Option (List Line)) → HasHeard lines saids old
+pub leads : (lines : List Line) (saids : List Said) (old : Keeper) (line : Line) (said : Result (Option Said) StreamFault) (held : Option (List Line)) → HasHeard lines saids old
     → IfOk said (λ s. (ls : List Line) (ss : List Said) → HasSaid ls ss old.0 → HasSaid (ls ++ line ∷ []) (ss ++ option_to_list s) held)
     → IfErr said (λ fault. IsRefused fault old.0 line held)
     → Leads lines saids old line (next_of old.1 said) (held, edits_after old.1 said)

@@ -1,9 +1,10 @@
 -- What a session makes of the lines of a site.
 use Rattle.std.specs.Prelude.{◌≡◌, ◌≢◌, ◌⊎◌, Bool, true, false, List, [], ◌∷◌, ◌++◌, map, Option, Some, None, Result, Ok, Err, ℕ, ◌+◌, min, count_by}
-use Rattle.jup_rules.specs.Prelude.{BoardBatch, Up, Down, DownOp, DownAck, DownPong, UpOp, UpAck, UpPing, Line, Gathered, Star, Said, SaysUp, SaysBye, SessionFault, Ending}
+use Rattle.jup_rules.specs.Prelude.{BoardBatch, Up, Down, DownOp, DownAck, DownPong, UpOp, UpAck, UpPing, Line, Gathered, Star, Said, SaysUp, SaysBye, StreamFault, Misplaced, NoMemory, Ending}
 use Rattle.jup_wire.specs.declared.line.Line.TheVariants as line
-use Rattle.jup_gather.specs.Gathering.{Piece, Alone, IsPiece, piece_lines, HasGathered, pieces_of, up_piece, down_piece}
-use Rattle.jup_rules.specs.declared.ends.SessionFault.TheVariants.{NoMemory, Misplaced, Hub, GateShut}
+use Rattle.jup_gather.specs.Gathering.{IsPiece, piece_lines, HasGathered, pieces_of, down_piece}
+use Rattle.jup_stream.specs.Saying.{said_piece}
+use Rattle.jup_rules.specs.declared.ends.SessionFault.TheVariants.{Hub, Stream, GateShut}
 use Rattle.jup_rules.specs.declared.ends.Ending.TheVariants.{Bye, Gone}
 use Rattle.jup_rules.specs.declared.session.Awaits.{Awaits}
 use Rattle.jup_rules.specs.declared.session.Awaits.TheVariants.{Gate, Pongs, Nothing}
@@ -17,12 +18,17 @@ use Rattle.jup_hub.specs.declared.fault.HubFault.{HubFault}
 use Rattle.jup_gather.specs.declared.gathered.Gathered.TheVariants.{Held, Plain}
 use Rattle.jup_star.specs.declared.faults.StarFault.TheVariants.{NoLink}
 
--- What a site says and what it hears, as the pieces that a link carries: an edit is several lines, and all else is one.
+-- What sessions bound by themselves. No message and no state depends on it.
 
--- what a site says
-abbrev pub said_piece : Said → Piece
-said_piece (SaysUp up) = up_piece up
-said_piece SaysBye = Alone line.Bye
+-- messages that one fetch asks for
+abbrev pub most_fetched : ℕ
+most_fetched = 64
+
+-- pongs that a site may be owed
+abbrev pub most_pongs : ℕ
+most_pongs = 1024
+
+-- What a site says and what it hears.
 
 -- the lines of a message to a site
 abbrev pub down_lines : Down BoardBatch → List Line
@@ -35,14 +41,14 @@ is_pong (DownOp msg) = false
 is_pong (DownAck count) = false
 
 -- what a site says by the message up that lines are, or by what they are instead; what else no site says is misplaced
-abbrev pub said_heard : Result (Up BoardBatch) Gathered → Result (Option Said) SessionFault
+abbrev pub said_heard : Result (Up BoardBatch) Gathered → Result (Option Said) StreamFault
 said_heard (Ok up) = Ok (Some (SaysUp up))
 said_heard (Err Held) = Ok None
 said_heard (Err (Plain line.Bye)) = Ok (Some SaysBye)
 said_heard (Err other) = Err Misplaced
 
 -- what lines give is this: a site says nothing yet if they are held, and what else no site says is misplaced
-abbrev pub IsSaidBy : Gathered → Result (Option Said) SessionFault → Type 0
+abbrev pub IsSaidBy : Gathered → Result (Option Said) StreamFault → Type 0
 IsSaidBy gathered (Ok (Some said)) = pieces_of gathered ≡ said_piece said ∷ []
 IsSaidBy gathered (Ok None) = gathered ≡ Held
 IsSaidBy gathered (Err fault) = (fault ≡ Misplaced) × (gathered ≢ Held) × ((said : Said) → pieces_of gathered ≢ said_piece said ∷ [])
@@ -57,7 +63,7 @@ IsUnsaid None line = Unit {0}
 IsUnsaid (Some part) line = (said : Said) (more later : List Line) → IsPiece (said_piece said) → part ++ line ∷ more ≢ piece_lines (said_piece said) ++ later
 
 -- why a line of a site is refused: an allocation failed, which changes nothing; or by that line no site says anything
-abbrev pub IsRefused : SessionFault → Option (List Line) → Line → Option (List Line) → Type 0
+abbrev pub IsRefused : StreamFault → Option (List Line) → Line → Option (List Line) → Type 0
 IsRefused fault old line new = ((fault ≡ NoMemory) × (new ≡ old)) ⊎ ((fault ≡ Misplaced) × IsUnsaid old line)
 
 -- What comes next in a session by what its site says: what each message waits for, and what follows once the star has answered.
@@ -99,14 +105,14 @@ abbrev pub incoming_of : ℕ → Up BoardBatch → Incoming
 incoming_of edits up = record { up = up; awaits = awaits_of edits up }
 
 -- what comes next if a site that sent so many edits has said this by a line, or if the line was refused
-abbrev pub next_of : ℕ → Result (Option Said) SessionFault → Next
+abbrev pub next_of : ℕ → Result (Option Said) StreamFault → Next
 next_of edits (Ok None) = NextLine
 next_of edits (Ok (Some (SaysUp up))) = Take (incoming_of edits up)
 next_of edits (Ok (Some SaysBye)) = End Bye
-next_of edits (Err fault) = End (ending_of fault)
+next_of edits (Err fault) = End (ending_of (Stream fault))
 
 -- and how many edits it has sent then
-abbrev pub edits_after : ℕ → Result (Option Said) SessionFault → ℕ
+abbrev pub edits_after : ℕ → Result (Option Said) StreamFault → ℕ
 edits_after edits (Ok None) = edits
 edits_after edits (Ok (Some (SaysUp up))) = edits_with edits up
 edits_after edits (Ok (Some SaysBye)) = edits
@@ -119,7 +125,7 @@ Leads lines saids old line NextLine new = HasHeard (lines ++ line ∷ []) saids 
 Leads lines saids old line (Take incoming) new = HasHeard (lines ++ line ∷ []) (saids ++ SaysUp incoming.up ∷ []) new
     × (incoming ≡ incoming_of (count_by says_edit saids) incoming.up)
 Leads lines saids old line (End ending) new = ((ending ≡ Bye) × HasHeard (lines ++ line ∷ []) (saids ++ SaysBye ∷ []) new)
-    ⊎ ((fault : SessionFault) × (ending ≡ ending_of fault) × IsRefused fault old.0 line new.0)
+    ⊎ ((fault : StreamFault) × (ending ≡ ending_of (Stream fault)) × IsRefused fault old.0 line new.0)
 
 -- how a session ends whose message waited in vain: the gate stayed shut, or the session had ended before enough pongs were written
 abbrev pub in_vain : Awaits → Ending

@@ -1,46 +1,36 @@
-//! What a session decides: which messages the lines of its site are, what comes next, whom it wakes, what it fetches, and how many pongs and reads it
+//! What a session decides: which messages the lines of its site are, what comes next, whom it wakes, what it fetches, and how many pongs it
 //! grants.
 ghost use Rattle.std.specs.List.{flat_map};
 ghost use Rattle.std.specs.Option.{option_to_list};
-ghost use Rattle.std.specs.Prelude.{◌≡◌, ◌≢◌, IsOk, List, [], ◌∷◌, ◌++◌, OnOk, IfOk, IfErr, Some, IsSomeAnd, ◌<◌, ◌↔◌, IsTrue, IfNone, IfSome, ◌+◌, ◌-◌, ◌≤◌, if◌then◌else◌, count_by, ◌⊎◌, min, IsNone};
+ghost use Rattle.std.specs.Prelude.{◌≡◌, ◌≢◌, IsOk, List, [], ◌∷◌, ◌++◌, OnOk, IfOk, IfErr, Some, IsSomeAnd, ◌<◌, ◌↔◌, IsTrue, IfNone, IfSome, ◌+◌, ◌-◌, ◌≤◌, if◌then◌else◌, count_by};
 ghost use Rattle.jup_star.specs.declared.faults.StarFault.TheVariants.{NoLink};
 ghost use Rattle.jup_wire.specs.declared.line.Line.{Line};
 ghost use Rattle.jup_wire.specs.declared.line.Line.TheVariants.{Hello};
-ghost use Rattle.jup_gather.specs.Gathering.{piece_lines};
 ghost use Rattle.jup_hub.specs.declared.fault.HubFault.TheVariants.{Star};
-ghost use Rattle.jup_rules.specs.Clients.{most_fetched, most_pongs, most_reads};
 ghost use Rattle.jup_rules.specs.Ends.{ending_of};
-ghost use Rattle.jup_rules.specs.Sessions.{HasHeard, Leads, incoming_of, edits_with, next_of, edits_after, outcome, said_piece, said_heard, down_lines, IsSaidBy, HasSaid, IsRefused, is_pong};
-ghost use Rattle.jup_rules.specs.declared.ends.SessionFault.{SessionFault};
-ghost use Rattle.jup_rules.specs.declared.ends.SessionFault.TheVariants.{Misplaced};
-ghost use Rattle.jup_rules.specs.declared.session.Said.{Said};
+ghost use Rattle.jup_rules.specs.Sessions.{most_fetched, most_pongs, HasHeard, Leads, incoming_of, edits_with, next_of, edits_after, outcome, said_heard, down_lines, IsSaidBy, HasSaid, IsRefused, is_pong};
+ghost use Rattle.jup_stream.specs.declared.faults.StreamFault.{StreamFault};
+ghost use Rattle.jup_stream.specs.declared.faults.StreamFault.TheVariants.{Misplaced};
+ghost use Rattle.jup_stream.specs.declared.saying.Said.{Said};
 
-use crate::{Ending, SessionFault, Stop};
+use crate::{Ending, SessionFault};
 use jup_gather::{Gather, Gathered, message_of, put_message};
 use jup_hub::HubFault;
 use jup_star::{Down, StarFault, Up};
+use jup_stream::{Said, Stop, StreamFault};
 use jup_wire::{Line, LineSink};
 use std::alloc::Global;
 use std::marker::Model;
 
 /// Whether a session may begin with this line: it is the greeting, and any other is misplaced.
-pub fn check_greeting(first: &Line) -> Result<(), SessionFault>
+pub fn check_greeting(first: &Line) -> Result<(), StreamFault>
     ensures hello { first.now ≡ Hello → IsOk result }
     ensures other { first.now ≢ Hello → result ≡ Err Misplaced }
 {
     match first {
         Line::Hello => Ok(()),
-        _ => Err(SessionFault::Misplaced),
+        _ => Err(StreamFault::Misplaced),
     }
-}
-
-/// What a site says by its link, after its greeting.
-#[derive(Debug, Drop, PartialEq, Eq)]
-pub enum Said {
-    /// A message to the star.
-    Up(Up),
-    /// Nothing more comes.
-    Bye,
 }
 
 /// Hears the next line of a site after its greeting, and answers what the site says by the lines up to it;
@@ -50,7 +40,7 @@ pub fn hear_site(
     gather: &mut Gather,
     alloc: Global,
     line: &Line,
-) -> Result<Option<Said>, SessionFault>
+) -> Result<Option<Said>, StreamFault>
     // Whatever came before: what the site said so far is what all the lines so far say.
     ensures said { IfOk result (λ said. (lines : List Line) (saids : List Said)
         → HasSaid lines saids gather.old
@@ -59,36 +49,26 @@ pub fn hear_site(
 {
     match gather.push(alloc, line) {
         Ok(gathered) => said_by(gathered),
-        Err(_) => Err(SessionFault::NoMemory),
+        Err(_) => Err(StreamFault::NoMemory),
     }
 }
 
 // What a site says by what its lines give.
-fn said_by(gathered: Gathered) -> Result<Option<Said>, SessionFault>
+fn said_by(gathered: Gathered) -> Result<Option<Said>, StreamFault>
     ensures { IsSaidBy gathered result }
 {
     said_heard(message_of(gathered))
 }
 
 // The same, by the message to the star that they are, or by what they are instead.
-fn said_heard(heard: Result<Up, Gathered>) -> Result<Option<Said>, SessionFault>
+fn said_heard(heard: Result<Up, Gathered>) -> Result<Option<Said>, StreamFault>
     ensures { result ≡ said_heard heard }
 {
     match heard {
         Ok(up) => Ok(Some(Said::Up(up))),
         Err(Gathered::Held) => Ok(None),
         Err(Gathered::Plain(Line::Bye)) => Ok(Some(Said::Bye)),
-        Err(_) => Err(SessionFault::Misplaced),
-    }
-}
-
-/// Puts the lines of what a site says.
-pub fn put_said<S: LineSink>(sink: &mut S, said: &Said) -> Result<(), S::Fault>
-    ensures { OnOk result (S.takes sink.old (piece_lines (said_piece said.now)) sink.new) }
-{
-    match said {
-        Said::Up(up) => put_message(sink, up),
-        Said::Bye => sink.put(Line::Bye),
+        Err(_) => Err(StreamFault::Misplaced),
     }
 }
 
@@ -186,7 +166,7 @@ impl Gatekeeper {
     }
 
     // What comes next once the site has said this.
-    fn next(&mut self, said: Result<Option<Said>, SessionFault>) -> Next
+    fn next(&mut self, said: Result<Option<Said>, StreamFault>) -> Next
         ensures next { result ≡ next_of self.old.1 said }
         ensures counted { self.new ≡ (self.old.0, edits_after self.old.1 said) }
     {
@@ -218,7 +198,7 @@ impl Gatekeeper {
     pub fn end(&self, stop: Stop) -> Ending
         ensures early { stop ≡ Stop.End → IsSomeAnd self.now.0 (λ part. part ≢ []) → result ≡ Ending.Fault 43 }
         ensures gone { stop ≡ Stop.End → self.now.0 ≡ Some [] → result ≡ Ending.Gone }
-        ensures fault { (fault : SessionFault) → stop ≡ Stop.Fault fault → result ≡ ending_of fault }
+        ensures fault { (fault : StreamFault) → stop ≡ Stop.Fault fault → result ≡ ending_of (SessionFault.Stream fault) }
     {
         Ending::behind(&self.gather, stop)
     }
@@ -279,7 +259,7 @@ pub struct Pongs {
 
 impl Model for Pongs {
     ghost use Rattle.std.specs.Prelude.{ℕ, ◌≤◌};
-    ghost use Rattle.jup_rules.specs.Clients.{most_pongs};
+    ghost use Rattle.jup_rules.specs.Sessions.{most_pongs};
 
     ghost Value = { ℕ };
 
@@ -338,34 +318,4 @@ fn is_pong(down: &Down) -> bool
     ensures { result ≡ is_pong down.now }
 {
     matches!(down, Down::Pong(_))
-}
-
-/// Counts one more read. Refused if 4,294,967,295 were made.
-pub fn count_read(reads: u32) -> Result<u32, SessionFault>
-    ensures counted { IfOk result (λ count. (reads < most_reads) × (count ≡ reads + 1)) }
-    ensures spent { IfErr result (λ fault. (reads ≡ most_reads) × (fault ≡ SessionFault.ReadsSpent)) }
-{
-    reads.checked_add(1).ok_or(SessionFault::ReadsSpent)
-}
-
-/// Milliseconds that a peer may be silent.
-const LONGEST_SILENCE: u64 = 1_000;
-
-/// Milliseconds that its last bytes may take in total.
-const LONGEST_ENDING: u64 = 10_000;
-
-/// Bytes that may come.
-const MOST_LAST_BYTES: u64 = 4_194_304;
-
-/// How many milliseconds the next read of a peer's last bytes may wait, once `bytes` came in the `elapsed` milliseconds since the end of what was
-/// sent to it. `None` if the peer was given long enough: after 10 seconds or 4 MiB in total. Without these bounds a peer that sends
-/// a byte now and then would keep the daemon.
-pub fn next_wait(elapsed: u64, bytes: u64) -> Option<u64>
-    ensures over { IsNone result ↔ ((10000 ≤ elapsed) ⊎ (4194304 ≤ bytes)) }
-    ensures wait { IfSome result (λ wait. wait ≡ min 1000 (10000 - elapsed)) }
-{
-    if elapsed >= LONGEST_ENDING || bytes >= MOST_LAST_BYTES {
-        return None;
-    }
-    Some(LONGEST_SILENCE.min(LONGEST_ENDING - elapsed))
 }

@@ -13,21 +13,22 @@ use Rattle.jup_gather.specs.Gathering.{IsPiece}
 use Rattle.jup_hub.specs.Histories.{Meets, tally, after_split, having_called, with_call}
 use Rattle.jup_honest.specs.Sites.{Step, Edit, Deliver, Ping, Called, IsCausalThrough, SiteRun, now, start, AreDrained}
 use Rattle.jup_rules.specs.declared.ends.Ending.TheVariants.{Gone}
-use Rattle.jup_rules.specs.declared.client.Told.TheVariants as told
-use Rattle.jup_rules.specs.Sessions.{says_edit, counted, said_piece}
+use Rattle.jup_client.specs.declared.client.Told.TheVariants as told
+use Rattle.jup_stream.specs.Saying.{said_piece}
+use Rattle.jup_rules.specs.Sessions.{says_edit, counted}
 use Rattle.jup_socket.specs.Sockets.{said_lines, all_said}
 use Rattle.jup_socket.proofs.Sockets.{mapped_lines}
 use Rattle.jup_session.specs.ExactSessions.{IsFresh, IsServed, Served, bytes_read}
 use Rattle.jup_session.specs.Sessions.{lines_brought, AreFetchesFor, welcome_lines, AreTakesOf, Stopped, Heard, AreCallsFor, HasLeft}
 use Rattle.jup_served.specs.Sessions.{Ended, ServesSite, IsClientRun, IsServedRun, IsSessionHub}
 use Rattle.jup_served.proofs.Runs.{lines_spelled}
-use Rattle.jup_session.specs.Prelude.{BoardStar, Hello, line_bytes, board_lines, SessionFault, HasHeard, Keeper, HandsOn, Stops}
+use Rattle.jup_session.specs.Prelude.{BoardStar, Hello, line_bytes, board_lines, StreamFault, HasHeard, Keeper, HandsOn, Stops}
 use Rattle.jup_rules.specs.Prelude.{UpOp, DownOp, DownPong}
 use Rattle.jup_honest.specs.Prelude.{Msg, Commands, entry, IsLegal}
 use Rattle.jup_star.specs.Prelude.{Server, Toggle as ToggleWidget}
 use Rattle.jup_batch.specs.Prelude.{OnToggle as ToggleOp, SetValue as SetCommand}
 use Rattle.jup_window.specs.Prelude.{SetTo, NoSetOp as SetNothing}
-use Rattle.jup_rules.specs.declared.ends.Stop.TheVariants.{End, Fault}
+use Rattle.jup_stream.specs.declared.faults.Stop.TheVariants.{End, Fault}
 use Rattle.jup_window.specs.declared.kinds.Setting.TheVariants.{Toggle as ToggleSetting}
 
 -- A session whose client says some messages, all of which are taken, and then closes its way up.
@@ -70,7 +71,7 @@ at_end = record {
 }
 
 -- which is no fault
-pub no_fault : (fault : SessionFault) → End ≡ Fault fault → ⊥
+pub no_fault : (fault : StreamFault) → End ≡ Fault fault → ⊥
 no_fault fault e = cc
 
 -- what was heard by the lines of messages

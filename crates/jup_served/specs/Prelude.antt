@@ -17,12 +17,12 @@ pub use Rattle.jup_world.specs.Worlds.{IsOpening}
 pub use Rattle.jup_hub.specs.declared.view.HubEvent.{HubEvent}
 pub use Rattle.jup_hub.specs.declared.view.Tally.{Tally}
 pub use Rattle.jup_hub.specs.declared.view.View.{View}
-pub use Rattle.jup_rules.specs.declared.client.Answer.{Answer}
-pub use Rattle.jup_rules.specs.declared.client.ClientState.{ClientState}
-pub use Rattle.jup_rules.specs.declared.client.Heard.{Heard as ClientHeard}
+pub use Rattle.jup_client.specs.declared.client.Answer.{Answer}
+pub use Rattle.jup_client.specs.declared.client.ClientState.{ClientState}
+pub use Rattle.jup_client.specs.declared.client.Heard.{Heard as ClientHeard}
 pub use Rattle.jup_rules.specs.declared.ends.Ending.{Ending}
-pub use Rattle.jup_rules.specs.declared.session.Said.{Said}
-pub use Rattle.jup_rules.specs.declared.session.Said.TheVariants.{Up as SaysUp}
+pub use Rattle.jup_stream.specs.declared.saying.Said.{Said}
+pub use Rattle.jup_stream.specs.declared.saying.Said.TheVariants.{Up as SaysUp}
 pub use Rattle.jup_rules.specs.Ends.{last_line}
 pub use Rattle.jup_stream.specs.Streams.{Sourced}
 pub use Rattle.std.specs.List.{AllByRecursion, flat_map}

@@ -5,12 +5,12 @@ use Rattle.jup_star.specs.Stars.{opened_star}
 use Rattle.jup_wire.specs.Lines.{spelling, HasSpelling}
 use Rattle.jup_hub.specs.Histories.{is_among, tallies, calls_by, BeginsWith, Meets, IsLegal, AllTallied, AllApart, calls_of_others}
 use Rattle.jup_honest.specs.Sites.{IsCausalThrough, SiteRun, opening, calls, start, now, Step, Edit, Deliver, Ping, Called}
-use Rattle.jup_rules.specs.Clients.{AnswersEdit, Answers, Delivers}
+use Rattle.jup_client.specs.Clients.{AnswersEdit, Answers, Delivers}
 use Rattle.jup_socket.specs.Sockets.{all_said, said_lines, Received}
 use Rattle.jup_session.specs.Sessions.{IsCallFor, IsSession, HasMadeNone}
 use Rattle.jup_session.specs.ExactSessions.{IsFresh, IsServed, Served, IsExact, bytes_read, bytes_written}
 use Rattle.jup_session.specs.Prelude.{Hello}
-use Rattle.jup_rules.specs.declared.client.Request.TheVariants.{Sync}
+use Rattle.jup_client.specs.declared.asking.Request.TheVariants.{Sync}
 
 -- A session that has ended, and the site that it served.
 

@@ -8,9 +8,9 @@ ghost use Rattle.jup_star.specs.Stars.{opened_star};
 ghost use Rattle.jup_hub.specs.declared.view.HubEvent.{HubEvent};
 ghost use Rattle.jup_hub.specs.declared.view.View.{View};
 ghost use Rattle.jup_hub.specs.Histories.{calls_in, Meets};
-ghost use Rattle.jup_rules.specs.declared.client.ClientState.{ClientState};
-ghost use Rattle.jup_rules.specs.declared.session.Said.{Said};
-ghost use Rattle.jup_rules.specs.declared.session.Said.TheVariants.{Up as SaysUp};
+ghost use Rattle.jup_client.specs.declared.client.ClientState.{ClientState};
+ghost use Rattle.jup_stream.specs.declared.saying.Said.{Said};
+ghost use Rattle.jup_stream.specs.declared.saying.Said.TheVariants.{Up as SaysUp};
 ghost use Rattle.jup_world.specs.Worlds.{IsOpening};
 ghost use Rattle.jup_session.specs.Sessions.{HasMadeNone};
 ghost use Rattle.jup_honest.specs.Sites.{SiteRun, IsHonest, calls, start, now, AreDrained};
@@ -42,7 +42,7 @@ pub fn served_sites_are_honest()
         → Meets v log → length log ≡ calls_in (all_tallies sessions) → IsSessionHub board limit sessions log }
 {}
 
-/// A client of `jup_rules` goes through a run of its site: it answers edits and syncs, and hears messages, as its
+/// A client of `jup_client` goes through a run of its site: it answers edits and syncs, and hears messages, as its
 /// calls promise, and no allocation fails. Then it shows the board of the site, and says just the messages that the
 /// site sent.
 ///

@@ -3,13 +3,14 @@ use Rattle.std.proofs.Common.{◌≡◌, ◌∙◌, sym, ap, subst, ℕ, inl, in
 use Rattle.std.specs.Io.KnownBytes.{Consumes, Appends, Keeps}
 use Rattle.std.proofs.KnownBytes.{Consumes-nil, Consumes-trans}
 use Rattle.std.proofs.lemmas.Fmt.{decimal_digit}
-use Rattle.jup_session.specs.Prelude.{BoardBatch, Up, Line, Hello, Error, line_bytes, View, HubEvent, Tally, Ending, Said, SaysUp, SaysBye as Bye, NoMemory, HasHeard, Keeper, ending_of, last_line, standing, Sourced, HandsOn, Put, PutsLines, IsFlushed, WritesFront, fresh_put, puts_more}
+use Rattle.jup_session.specs.Prelude.{BoardBatch, Up, Line, Hello, Error, line_bytes, View, HubEvent, Tally, Ending, Said, SaysUp, SaysBye as Bye, Stream, NoMemory, HasHeard, Keeper, ending_of, last_line, standing, Sourced, HandsOn, Put, PutsLines, IsFlushed, WritesFront, fresh_put, puts_more}
 use Rattle.jup_wire.specs.Streams.{HasRead, Progress}
 use Rattle.jup_wire.proofs.Streams.{one_read}
 use Rattle.jup_gather.specs.Gathering.{Piece, up_in, up_way}
 use Rattle.jup_gather.proofs.Gathering.{one_gathering}
 use Rattle.jup_hub.specs.Histories.{after_split, tally, split_from, joined_with}
-use Rattle.jup_rules.specs.Sessions.{counted, says_edit, said_piece}
+use Rattle.jup_stream.specs.Saying.{said_piece}
+use Rattle.jup_rules.specs.Sessions.{counted, says_edit}
 use Rattle.jup_io.specs.Appends.{appends_kept}
 use Rattle.jup_stream.proofs.Streams.{written_of}
 use Rattle.jup_session.specs.ExactSessions.{IsFresh, IsTurnedAway, NoLine, NoGreeting, NoJoin, EndsEarly, TurnedAway, Unwelcome, IsServed, HasLines, NoRoom, Early, Served, IsExact, bytes_away, lines_away, bytes_early, lines_early, bytes_over, lines_over, bytes_heard, lines_heard, bytes_of, lines_of, bytes_read, lines_read, bytes_written, BeginWith, IsWelcomed, BothHalves}
@@ -223,7 +224,7 @@ pub not_twice : (b : Bool) → IsTrue (not (not b)) → IsTrue b
 not_twice true e = refl
 not_twice false e = e
 
-pub no_room_so : (from old new : Option (List ℕ)) (v : View) (ending : Ending) (failed : Bool) → ending ≡ ending_of NoMemory → WritesFront old new (line_bytes (Error 8)) (not failed)
+pub no_room_so : (from old new : Option (List ℕ)) (v : View) (ending : Ending) (failed : Bool) → ending ≡ ending_of (Stream NoMemory) → WritesFront old new (line_bytes (Error 8)) (not failed)
     → IsExact from old new v v ending failed
 no_room_so from old new v ending failed is wrote = record {
   lines = last_line ending ∷ [];

@@ -1,15 +1,15 @@
 -- The calls of a session, part by part.
-use Rattle.std.proofs.Common.{◌≡◌, ℕ, ◌⊎◌, inl, inr, Bool, true, false, List, [], ◌∷◌, ◌++◌, Option, Some, None, Result, Ok, Err, MatchBool, refl, sym, ap, ◌∙◌, subst, append_assoc, append-nil, flat_map, IfErr, true≢false, IsTrue, ◌≢◌, IsOk, is_ok}
+use Rattle.std.proofs.Common.{◌≡◌, ℕ, ◌⊎◌, inl, inr, Bool, true, false, List, [], ◌∷◌, ◌++◌, Option, Some, None, Result, Ok, Err, MatchBool, refl, sym, ap, ◌∙◌, subst, append_assoc, append-nil, flat_map, true≢false, IsTrue, ◌≢◌, IsOk, is_ok}
 use Rattle.std.specs.List.{AllByRecursion}
 use Rattle.std.proofs.lemmas.List.Concat.{flat_map-append}
-use Rattle.jup_session.specs.Prelude.{BoardBatch, Up, Joined as JoinedSite, NoLink, Call, Join, Take, Fetch, Leave, StarReply, JoinedReply, Taken, Fetched, Down, BoardStar, bare_joined, Line, Hello, HubFault, HubEvent, Tally, View, Made, Ending, Incoming, Ring, SessionFault, Hub, WriteFailed, Misplaced, NoMemory, Stop, Said, SaysUp, SaysBye, down_lines, HasHeard, Leads, outcome, Keeper, ending_of, ended_by, last_line, Put, PutsLines, puts_more, Sourced, HandsOn, Stops}
+use Rattle.jup_session.specs.Prelude.{BoardBatch, Up, Joined as JoinedSite, NoLink, Call, Join, Take, Fetch, Leave, StarReply, JoinedReply, Taken, Fetched, Down, BoardStar, bare_joined, Line, Hello, HubFault, HubEvent, Tally, View, Made, Ending, Incoming, Ring, Stream, StreamFault, WriteFailed, Misplaced, NoMemory, Stop, Said, SaysUp, SaysBye, down_lines, HasHeard, Leads, outcome, Keeper, ending_of, ended_by, last_line, Put, PutsLines, puts_more, Sourced, HandsOn, Stops}
 use Rattle.jup_star.specs.declared.calls.StarReply.TheVariants.{Left}
 use Rattle.jup_hub.specs.Histories.{is_out_of_memory, entry, tally, tallies, after_split, split_from, joined_with, having_seen, Called, ComesToAsk, IsSpent}
 use Rattle.jup_rules.specs.declared.session.Awaits.TheVariants.{Gate, Pongs}
 use Rattle.jup_rules.specs.declared.session.Next.TheVariants.{Line as NextLine, Take as NextTake}
 use Rattle.jup_stream.specs.Streams.{puts_none}
 use Rattle.jup_stream.proofs.Streams.{hands_none, hands_more}
-use Rattle.jup_session.specs.Sessions.{HasAnswered, HasToWait, HasCalled, followed_by, IsHandled, IsCallFor, AreCallsFor, AreTalliesFor, HasLeft, IsFull, SomeLeft, FollowsJoin, IsSession, Makes, Serves, Leaves, HasMadeNone, HasServed, IsJoinOf, Joins, BothServe, GivesBack, IsLeaveOf, Departs, brought, lines_brought, IsFetchFor, Forwards, Brings, IsOfWriting, TellsFault, told_line, Wrote, welcome_lines, IsTaken, AreTakesOf, Hears, Over, Stopped, ByLine, Untaken, Spent, Behind, HearsAll, Heard}
+use Rattle.jup_session.specs.Sessions.{HasAnswered, HasToWait, HasCalled, followed_by, IsHandled, IsCallFor, AreCallsFor, AreTalliesFor, HasLeft, IsFull, SomeLeft, FollowsJoin, IsSession, Makes, Serves, Leaves, HasMadeNone, HasServed, IsJoinOf, Joins, BothServe, GivesBack, IsLeaveOf, Departs, brought, lines_brought, IsFetchFor, Forwards, Brings, TellsFault, told_line, Wrote, welcome_lines, IsTaken, AreTakesOf, Hears, Over, Stopped, ByLine, Untaken, Spent, Behind, HearsAll, Heard}
 use Rattle.jup_session.specs.ExactSessions.{Enters, IsTurnedAway, NoLine, NoGreeting, NoJoin, IsWelcomed, EndsEarly, TurnedAway, Unwelcome}
 use Rattle.jup_hub.specs.Prelude.{StarFault, is_no_memory}
 use Rattle.jup_hub.specs.declared.fault.HubFault.TheVariants.{Star, Spent as HubSpent}
@@ -366,14 +366,6 @@ pub wrote_so : (site : ℕ) (u v w : View) (a b c : Put) (told : Option Ending) 
     → Wrote site u a w c told
 wrote_so site u v w a b c told forwards departs fault put = record { between = v; middle = b; forwards = forwards; departs = departs; fault = fault; put = put }
 
--- faults of the writing half
-pub of_hub : (fault : SessionFault) (hub : HubFault) → fault ≡ Hub hub → IsOfWriting fault
-of_hub fault hub is = subst IsOfWriting (sym is) tt
-
-pub of_write : (r : Result (Unit {0}) SessionFault) → IfErr r (λ fault. fault ≡ WriteFailed) → IfErr r IsOfWriting
-of_write (Ok u) is = tt
-of_write (Err fault) is = subst IsOfWriting (sym is) tt
-
 -- How a session begins, and how it may end there.
 
 -- there is no first line
@@ -381,12 +373,12 @@ pub away_line : (a b : Sourced) (v : View) (stop : Stop) (ending : Ending) → S
 away_line a b v stop ending stops is = NoLine stop stops refl is
 
 -- the first line is no greeting
-pub away_greeting : (a b : Sourced) (v : View) (line : Line) (fault : SessionFault) (r : Result (Unit {0}) SessionFault) (ending : Ending) → HandsOn a (line ∷ []) b → r ≡ Err fault
-    → (line ≡ Hello → IsOk r) → (line ≢ Hello → r ≡ Err Misplaced) → ending ≡ ending_of fault → IsTurnedAway a v b v ending
+pub away_greeting : (a b : Sourced) (v : View) (line : Line) (fault : StreamFault) (r : Result (Unit {0}) StreamFault) (ending : Ending) → HandsOn a (line ∷ []) b → r ≡ Err fault
+    → (line ≡ Hello → IsOk r) → (line ≢ Hello → r ≡ Err Misplaced) → ending ≡ ending_of (Stream fault) → IsTurnedAway a v b v ending
 away_greeting a b v line fault r ending handed err hello other is =
     let not_hello : line ≢ Hello = λ e. absurd (true≢false (sym (hello e) ∙ ap (λ x. is_ok x) err)) in
     let at : fault ≡ Misplaced = (let same : Err fault ≡ Err Misplaced = sym err ∙ other not_hello in cc) in
-    NoGreeting line handed not_hello refl (is ∙ ap ending_of at)
+    NoGreeting line handed not_hello refl (is ∙ ap (λ f. ending_of (Stream f)) at)
 
 pub away_session : (a b : Sourced) (v w : View) (ending : Ending) → IsTurnedAway a v b w ending → IsSession v w
 away_session a b v w ending (NoLine stop stops same is) = session_same v w same
@@ -406,8 +398,8 @@ pub welcomed_so : (a b : Sourced) (v w : View) (p q : Put) (joined : JoinedSite)
 welcomed_so a b v w p q joined hello enters put = (welcome_lines joined, record { hello = hello; joined = joined; site_is = refl; enters = enters; lines_are = refl }, put)
 
 -- if the welcome is cut off, the site leaves
-pub unwelcome_early : (a b : Sourced) (v u w : View) (p q : Put) (joined : JoinedSite) (fault : SessionFault) (ending : Ending) → HandsOn a (Hello ∷ []) b → Enters joined v u → Departs joined.site u w
-    → IsTrue q.failed → fault ≡ WriteFailed → ending ≡ ending_of fault → PutsLines p (welcome_lines joined) q → (lines : List Line) × EndsEarly a v b w ending q.failed lines × PutsLines p lines q
+pub unwelcome_early : (a b : Sourced) (v u w : View) (p q : Put) (joined : JoinedSite) (fault : StreamFault) (ending : Ending) → HandsOn a (Hello ∷ []) b → Enters joined v u → Departs joined.site u w
+    → IsTrue q.failed → fault ≡ WriteFailed → ending ≡ ending_of (Stream fault) → PutsLines p (welcome_lines joined) q → (lines : List Line) × EndsEarly a v b w ending q.failed lines × PutsLines p lines q
 unwelcome_early a b v u w p q joined fault ending hello enters departs failed at is put = (
   welcome_lines joined,
   Unwelcome (record {
@@ -416,7 +408,7 @@ unwelcome_early a b v u w p q joined fault ending hello enters departs failed at
     welcomed = record { hello = hello; joined = joined; site_is = refl; enters = enters; lines_are = refl };
     departs = departs;
     failed_is = failed;
-    ending_is = is ∙ ap ending_of at;
+    ending_is = is ∙ ap (λ f. ending_of (Stream f)) at;
   }),
   put,
 )
@@ -522,5 +514,5 @@ heard_serves site a c v x ending (inr h) = makes_same (IsCallFor site) v x h.pas
 pub heard_all : (site : ℕ) (a c : Sourced) (v x : View) (ending : Ending) → HearsAll site a v c x ending → Heard site a v c x ending
 heard_all site a c v x ending h = inl h
 
-pub heard_nothing : (site : ℕ) (a : Sourced) (v : View) (ending : Ending) → ending ≡ ending_of NoMemory → Heard site a v a v ending
+pub heard_nothing : (site : ℕ) (a : Sourced) (v : View) (ending : Ending) → ending ≡ ending_of (Stream NoMemory) → Heard site a v a v ending
 heard_nothing site a v ending is = inr (record { source = refl; pass = refl; memory = is })

@@ -1,7 +1,7 @@
 -- What a session does, byte for byte.
 use Rattle.std.proofs.Common.{◌≡◌, ◌≢◌, ℕ, Bool, not, List, [], ◌∷◌, ◌++◌, Option, Ok, Err, IsTrue, inl, inr}
 use Rattle.std.specs.List.{flat_map, AllByRecursion}
-use Rattle.jup_session.specs.Prelude.{Joined, Join, JoinedReply, bare_joined, Line, Hello, line_bytes, HubFault, HubEvent, View, Made, Ending, Stop, Hub, NoMemory, Misplaced, WriteFailed, ending_of, ended_by, last_line, standing, Keeper, WritesFront, Sourced, HandsOn, Stops}
+use Rattle.jup_session.specs.Prelude.{Joined, Join, JoinedReply, bare_joined, Line, Hello, line_bytes, HubFault, HubEvent, View, Made, Ending, Stop, Hub, Stream, NoMemory, Misplaced, WriteFailed, ending_of, ended_by, last_line, standing, Keeper, WritesFront, Sourced, HandsOn, Stops}
 use Rattle.jup_wire.specs.Streams.{HasRead}
 use Rattle.jup_hub.specs.Histories.{tally, after_split, Called}
 use Rattle.jup_session.specs.Sessions.{GivesBack, IsLeaveOf, Departs, lines_brought, AreFetchesFor, TellsFault, welcome_lines, Heard, Over, Stopped, ByLine, Untaken, Spent, Behind}
@@ -21,7 +21,7 @@ Enters joined v w = Called Join (JoinedReply (bare_joined (Ok joined))) v w
 -- why the site does not join: there is no first line, or it is no greeting, or the hub refuses the join
 pub data IsTurnedAway (a : Sourced) (v : View) (b : Sourced) (w : View) (ending : Ending) : Type 0 where
   NoLine : (stop : Stop) → Stops a stop b → w ≡ v → ending ≡ ended_by stop → IsTurnedAway a v b w ending
-  NoGreeting : (line : Line) → HandsOn a (line ∷ []) b → line ≢ Hello → w ≡ v → ending ≡ ending_of Misplaced → IsTurnedAway a v b w ending
+  NoGreeting : (line : Line) → HandsOn a (line ∷ []) b → line ≢ Hello → w ≡ v → ending ≡ ending_of (Stream Misplaced) → IsTurnedAway a v b w ending
   NoJoin : (fault : HubFault) → HandsOn a (Hello ∷ []) b → Made (λ r. JoinedReply (bare_joined r)) Join v w (Err fault) → ending ≡ ending_of (Hub fault) → IsTurnedAway a v b w ending
 
 -- the site said hello and joined under this number, and the session is to write these lines
@@ -39,7 +39,7 @@ pub record IsUnwelcome (a : Sourced) (v : View) (b : Sourced) (w : View) (ending
   pub welcomed : IsWelcomed site a v b behind lines
   pub departs : Departs site behind w
   pub failed_is : IsTrue failed
-  pub ending_is : ending ≡ ending_of WriteFailed
+  pub ending_is : ending ≡ ending_of (Stream WriteFailed)
 
 -- A session that ends before both halves begin. Its lines are the last line alone, or the welcome, which is cut off
 pub data EndsEarly (a : Sourced) (v : View) (b : Sourced) (w : View) (ending : Ending) (failed : Bool) (lines : List Line) : Type 0 where
@@ -82,7 +82,7 @@ pub record IsServed (a : Sourced) (v x : View) (ending : Ending) (lines : List L
 -- The lines that a session is to write, by the bytes of its reader and by the answers of its hub. If it has no room for any line, it reads nothing, and
 -- the one line reports that it is out of memory. Otherwise the session ends early, or both halves serve the site
 pub data HasLines (from : Option (List ℕ)) (v x : View) (ending : Ending) (failed : Bool) (lines : List Line) : Type 0 where
-  NoRoom : x ≡ v → ending ≡ ending_of NoMemory → lines ≡ last_line ending ∷ [] → HasLines from v x ending failed lines
+  NoRoom : x ≡ v → ending ≡ ending_of (Stream NoMemory) → lines ≡ last_line ending ∷ [] → HasLines from v x ending failed lines
   Early : (start last : Sourced) → IsFresh from start → EndsEarly start v last x ending failed lines → HasLines from v x ending failed lines
   Served : (start : Sourced) → IsFresh from start → IsServed start v x ending lines → HasLines from v x ending failed lines
 

@@ -20,12 +20,14 @@ pub use Rattle.jup_hub.specs.declared.view.View.{View}
 pub use Rattle.jup_hub.specs.Passes.{IsPassOf, Made, view_of}
 pub use Rattle.jup_rules.specs.declared.ends.Ending.{Ending}
 pub use Rattle.jup_rules.specs.declared.ends.SessionFault.{SessionFault}
-pub use Rattle.jup_rules.specs.declared.ends.SessionFault.TheVariants.{Hub, Misplaced, NoMemory, WriteFailed}
-pub use Rattle.jup_rules.specs.declared.ends.Stop.{Stop}
+pub use Rattle.jup_rules.specs.declared.ends.SessionFault.TheVariants.{Hub, Stream}
+pub use Rattle.jup_stream.specs.declared.faults.Stop.{Stop}
 pub use Rattle.jup_rules.specs.declared.session.Incoming.{Incoming}
 pub use Rattle.jup_rules.specs.declared.session.Ring.{Ring}
-pub use Rattle.jup_rules.specs.declared.session.Said.{Said}
-pub use Rattle.jup_rules.specs.declared.session.Said.TheVariants.{Bye as SaysBye, Up as SaysUp}
+pub use Rattle.jup_stream.specs.declared.saying.Said.{Said}
+pub use Rattle.jup_stream.specs.declared.saying.Said.TheVariants.{Bye as SaysBye, Up as SaysUp}
 pub use Rattle.jup_rules.specs.Ends.{ended_by, ending_of, last_line, standing}
 pub use Rattle.jup_rules.specs.Sessions.{HasHeard, Keeper, Leads, down_lines, outcome}
+pub use Rattle.jup_stream.specs.declared.faults.StreamFault.{StreamFault}
+pub use Rattle.jup_stream.specs.declared.faults.StreamFault.TheVariants.{Misplaced, NoMemory, ReadsSpent, WriteFailed}
 pub use Rattle.jup_stream.specs.Streams.{HandsOn, IsFlushed, Put, PutsLines, Sourced, Stops, WritesFront, fresh_put, puts_more, puts_sent}

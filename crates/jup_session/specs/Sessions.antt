@@ -1,17 +1,17 @@
 -- What a session hears, writes and asks of its hub.
 use Rattle.std.specs.Prelude.{◌≡◌, ℕ, ◌⊎◌, List, [], ◌∷◌, ◌++◌, length, Ok, Err, Option, Some, None, Result, ◌≢◌, IsSomeAnd}
 use Rattle.std.specs.List.{AllByRecursion, flat_map}
-use Rattle.jup_session.specs.Prelude.{BoardBatch, NoLink, Call, Join, Take, Fetch, Leave, StarReply, JoinedReply, Fetched, Taken, Joined, Down, Up, BoardStar, Line, board_lines, HubEvent, Tally, View, HubFault, Made, Ending, SessionFault, Hub, NoMemory, WriteFailed, Incoming, Ring, Said, SaysUp, SaysBye, Stop, ending_of, last_line, down_lines, outcome, HasHeard, Leads, Keeper, Put, PutsLines, Sourced, HandsOn, Stops}
+use Rattle.jup_session.specs.Prelude.{BoardBatch, NoLink, Call, Join, Take, Fetch, Leave, StarReply, JoinedReply, Fetched, Taken, Joined, Down, Up, BoardStar, Line, board_lines, HubEvent, Tally, View, HubFault, Made, Ending, SessionFault, Hub, Stream, StreamFault, NoMemory, ReadsSpent, WriteFailed, Incoming, Ring, Said, SaysUp, SaysBye, Stop, ending_of, last_line, down_lines, outcome, HasHeard, Leads, Keeper, Put, PutsLines, Sourced, HandsOn, Stops}
 use Rattle.jup_wire.specs.declared.line.Line.TheVariants as line
 use Rattle.jup_hub.specs.Histories.{IsLegal, calls_by, tally}
-use Rattle.jup_rules.specs.declared.ends.SessionFault.TheVariants.{FarBehind, ReadsSpent}
+use Rattle.jup_rules.specs.declared.ends.SessionFault.TheVariants.{FarBehind}
 use Rattle.jup_rules.specs.declared.session.Awaits.{Awaits}
 use Rattle.jup_rules.specs.declared.session.Awaits.TheVariants.{Gate, Pongs, Nothing}
 use Rattle.jup_rules.specs.declared.ends.Ending.TheVariants.{Gone, Fault as EndsByFault}
 use Rattle.jup_rules.specs.declared.session.Next.TheVariants.{Take as NextTake, End as NextEnd}
 use Rattle.jup_rules.specs.Sessions.{in_vain}
 use Rattle.jup_rules.specs.Prelude.{UpAck as Ack}
-use Rattle.jup_rules.specs.declared.ends.Stop.TheVariants.{End, Fault}
+use Rattle.jup_stream.specs.declared.faults.Stop.TheVariants.{End, Fault}
 
 -- What a session calls of its hub.
 
@@ -196,8 +196,8 @@ pub record Brings (site : ℕ) (v w : View) (downs : List (Down BoardBatch)) : T
 -- far behind
 abbrev pub IsOfWriting : SessionFault → Type 0
 IsOfWriting (Hub fault) = Unit {0}
-IsOfWriting NoMemory = Unit {0}
-IsOfWriting WriteFailed = Unit {0}
+IsOfWriting (Stream NoMemory) = Unit {0}
+IsOfWriting (Stream WriteFailed) = Unit {0}
 IsOfWriting FarBehind = Unit {0}
 IsOfWriting fault = ⊥
 
@@ -285,7 +285,7 @@ pub record Hears (site : ℕ) (a : Sourced) (v : View) (b : Sourced) (w : View) 
 pub record EndsBehind (keeper : Keeper) (stop : Stop) (ending : Ending) : Type 0 where
   pub early : stop ≡ End → IsSomeAnd keeper.0 (λ part. part ≢ []) → ending ≡ EndsByFault 43
   pub gone : stop ≡ End → keeper.0 ≡ Some [] → ending ≡ Gone
-  pub fault : (fault : SessionFault) → stop ≡ Fault fault → ending ≡ ending_of fault
+  pub fault : (fault : StreamFault) → stop ≡ Fault fault → ending ≡ ending_of (Stream fault)
 
 -- Why a session ends after these messages. No further line comes, or the next line ends it, which is a bye or is refused. Or the message that this line
 -- completes was not taken, by the star's answer or since it waited in vain. Or there were as many lines as a session can have. Or the hub was not called for the
@@ -297,7 +297,7 @@ pub data Over (site : ℕ) (b c : Sourced) (w x : View) (keeper : Keeper) (endin
   Untaken : (line : Line) (later : Keeper) (incoming : Incoming) → HandsOn b (line ∷ []) c
       → ((lines : List Line) (saids : List Said) → HasHeard lines saids keeper → Leads lines saids keeper line (NextTake incoming) later)
       → IsHandled site incoming w x (Err ending) → Over site b c w x keeper ending
-  Spent : c ≡ b → x ≡ w → ending ≡ ending_of ReadsSpent → Over site b c w x keeper ending
+  Spent : c ≡ b → x ≡ w → ending ≡ ending_of (Stream ReadsSpent) → Over site b c w x keeper ending
   Behind : (line : Line) (later : Keeper) (incoming : Incoming) → HandsOn b (line ∷ []) c
       → ((lines : List Line) (saids : List Said) → HasHeard lines saids keeper → Leads lines saids keeper line (NextTake incoming) later)
       → x ≡ w → ending ≡ ending_of FarBehind → Over site b c w x keeper ending
@@ -314,7 +314,7 @@ pub record HearsAll (site : ℕ) (a : Sourced) (v : View) (c : Sourced) (x : Vie
 pub record HearsNothing (a : Sourced) (v : View) (c : Sourced) (x : View) (ending : Ending) : Type 0 where
   pub source : c ≡ a
   pub pass : x ≡ v
-  pub memory : ending ≡ ending_of NoMemory
+  pub memory : ending ≡ ending_of (Stream NoMemory)
 
 abbrev pub Heard : ℕ → Sourced → View → Sourced → View → Ending → Type 0
 Heard site a v c x ending = HearsAll site a v c x ending ⊎ HearsNothing a v c x ending

@@ -5,7 +5,7 @@ ghost use Rattle.jup_hub.specs.declared.view.View.{View};
 ghost use Rattle.jup_wire.specs.declared.line.Line.{Line};
 ghost use Rattle.jup_wire.specs.Streams.{HasRead, Progress};
 ghost use Rattle.jup_rules.specs.declared.ends.Ending.{Ending};
-ghost use Rattle.jup_rules.specs.declared.session.Said.{Said};
+ghost use Rattle.jup_stream.specs.declared.saying.Said.{Said};
 ghost use Rattle.jup_rules.specs.Sessions.{HasHeard, Keeper};
 ghost use Rattle.jup_session.specs.ExactSessions.{IsExact, bytes_read, lines_read, bytes_written, BeginWith};
 

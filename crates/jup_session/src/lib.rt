@@ -6,7 +6,7 @@ mod laws;
 mod sessions;
 
 pub use gate::{Gate, Open, pass_gate, take_edit};
+pub use jup_net::hang_up;
 pub use jup_rules::Ending;
-pub use jup_stream::hang_up;
 pub use laws::one_session;
 pub use sessions::{Bell, Outgoing, Session, serve_link, serve_session};

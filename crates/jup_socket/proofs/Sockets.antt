@@ -17,11 +17,11 @@ use Rattle.jup_gather.specs.Gathering.{Piece, Message, Alone, piece_lines, all_l
 use Rattle.jup_gather.proofs.Gathering.{one_piece}
 use Rattle.jup_honest.specs.Sites.{Step, Connection, after, Begins, IsReliable, IsReliableThrough, IsCausalThrough, SiteRun, IsHonest, opening, calls, start, now, sent_as_made, sent_as_handed}
 use Rattle.jup_honest.proofs.Backlogs.{causal_through}
-use Rattle.jup_rules.specs.declared.client.Told.TheVariants as told
-use Rattle.jup_rules.specs.Sessions.{said_piece}
-use Rattle.jup_rules.specs.Clients.{telling, edit_answer, AnswersEdit, heard_answer, Delivers, IsOpened}
+use Rattle.jup_client.specs.declared.client.Told.TheVariants as told
+use Rattle.jup_stream.specs.Saying.{said_piece}
+use Rattle.jup_client.specs.Clients.{telling, edit_answer, AnswersEdit, heard_answer, Delivers, IsOpened}
 use Rattle.jup_socket.specs.Sockets.{IsWithinBoard, all_said, said_lines, UpSocket, IsLast, greeting, messages_down, written_down, DownSocket, AtSocket, AtSocketThrough, said_of_answer, said_of_heard, IsEditStep, IsDeliverStep}
-use Rattle.jup_rules.specs.Prelude.{BoardBatch, UpOp, UpAck, UpPing, DownOp, DownAck, DownPong, SiteFault, LayoutFault}
+use Rattle.jup_client.specs.Prelude.{BoardBatch, UpOp, UpAck, UpPing, DownOp, DownAck, DownPong, SiteFault, LayoutFault}
 use Rattle.jup_honest.specs.Prelude.{Commands, Windows, board_batches, IsOpening, IsLegal}
 use Rattle.jup_world.specs.Prelude.{highest_limit, Item, Name, EditFault, bare, SiteBadOp as BadOp, edit_answer as site_answer, opened_site}
 use Rattle.jup_layout.specs.Prelude.{Widget, Text, Labels, Windows as BoardWindows}

@@ -10,7 +10,8 @@ use Rattle.jup_wire.specs.Streams.{Progress, HasRead}
 use Rattle.jup_layout.specs.Drafts.{board_lines}
 use Rattle.jup_gather.specs.Gathering.{piece_lines, HasGathered, down_piece}
 use Rattle.jup_honest.specs.Sites.{Step, Connection, after, sent_as_made, sent_as_handed}
-use Rattle.jup_rules.specs.Sessions.{said_piece, down_lines, HasSaid}
+use Rattle.jup_stream.specs.Saying.{said_piece}
+use Rattle.jup_rules.specs.Sessions.{down_lines, HasSaid}
 
 -- The two ways of a link as the bytes that its ends wrote and read.
 

@@ -2,7 +2,7 @@
 //!
 //! [`sockets_are_reliable`] is a theorem. If the bytes that either end has read are the first of those that the
 //! other wrote, the link is reliable, so that all of `jup_honest` holds. [`clients_are_honest`] says that a
-//! client of `jup_rules` takes the steps of its site.
+//! client of `jup_client` takes the steps of its site.
 #![tactic(auto)]
 
 mod promises;

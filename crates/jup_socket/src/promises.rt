@@ -4,11 +4,11 @@ ghost use Rattle.std.specs.Prelude.{◌≡◌, ◌≤◌, ◌<◌, length, Resul
 ghost use Rattle.jup_limits.specs.Limits.{highest_limit};
 ghost use Rattle.jup_batch.specs.Boards.{BoardBatch, Commands, bare};
 ghost use Rattle.jup_star.specs.declared.messages.Down.{Down};
-ghost use Rattle.jup_rules.specs.declared.ends.ClientEnd.{ClientEnd};
-ghost use Rattle.jup_rules.specs.declared.client.Answer.{Answer};
-ghost use Rattle.jup_rules.specs.declared.client.Heard.{Heard};
-ghost use Rattle.jup_rules.specs.declared.client.ClientState.{ClientState};
-ghost use Rattle.jup_rules.specs.Clients.{AnswersEdit, Delivers, IsOpened};
+ghost use Rattle.jup_client.specs.declared.ends.ClientEnd.{ClientEnd};
+ghost use Rattle.jup_client.specs.declared.client.Answer.{Answer};
+ghost use Rattle.jup_client.specs.declared.client.Heard.{Heard};
+ghost use Rattle.jup_client.specs.declared.client.ClientState.{ClientState};
+ghost use Rattle.jup_client.specs.Clients.{AnswersEdit, Delivers, IsOpened};
 ghost use Rattle.jup_socket.specs.Sockets.{IsEditStep, IsDeliverStep, AtSocket, AtSocketThrough, DownSocket};
 ghost use Rattle.jup_hub.specs.Histories.{IsLegal};
 ghost use Rattle.jup_layout.specs.Drafts.{board_lines, IsBoard, board_with};
@@ -38,7 +38,7 @@ pub fn sockets_are_reliable()
         → length (board_lines answer.board) < 4294967295 → board_with s.received.body ≡ Ok (bare answer.board) }
 {}
 
-/// What a client of `jup_rules` does for an edit, and for a message that it hears, is a step of its site. It
+/// What a client of `jup_client` does for an edit, and for a message that it hears, is a step of its site. It
 /// says the messages that the site sends in that step. If an allocation fails, it ends instead, and its site
 /// stays as it was. The site that it opens from its greeting is the one with which the run begins.
 ///

@@ -4,11 +4,11 @@ use Rattle.std.specs.Io.KnownBytes.{Consumes, Keeps, IsAtEnd, Appends}
 use Rattle.std.proofs.KnownBytes.{Consumes-nil, Consumes-trans, Consumes-kept}
 use Rattle.jup_io.specs.Appends.{appends_kept}
 use Rattle.jup_wire.specs.Streams.{Progress, HasRead, ending_at}
-use Rattle.jup_rules.specs.declared.ends.SessionFault.TheVariants.{Wire, NoMemory, ReadsSpent, ReadFailed}
+use Rattle.jup_stream.specs.declared.faults.StreamFault.TheVariants.{Wire, NoMemory, ReadsSpent, ReadFailed}
 use Rattle.jup_stream.specs.Streams.{Sourced, sourced, ReadsOn, HandsOn, Stops, stop_of, Put, put_as, fresh_put, Puts, IsFlushed, WritesFront}
-use Rattle.jup_rules.specs.Prelude.{Line}
-use Rattle.jup_rules.specs.declared.ends.Stop.{Stop}
-use Rattle.jup_rules.specs.declared.ends.Stop.TheVariants.{Fault}
+use Rattle.jup_wire.specs.declared.line.Line.{Line}
+use Rattle.jup_stream.specs.declared.faults.Stop.{Stop}
+use Rattle.jup_stream.specs.declared.faults.Stop.TheVariants.{Fault}
 use Rattle.jup_wire.specs.declared.faults.WireFault.{WireFault}
 
 -- How lines are read.

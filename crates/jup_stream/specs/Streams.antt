@@ -6,13 +6,17 @@ use Rattle.std.proofs.KnownBytes.{Appends-nil, Appends-trans}
 use Rattle.jup_wire.specs.declared.reader.Fed.{Fed}
 use Rattle.jup_wire.specs.Streams.{Progress, HasRead, ending_at}
 use Rattle.jup_wire.specs.Lines.{line_bytes}
-use Rattle.jup_rules.specs.declared.ends.SessionFault.TheVariants.{Wire, NoMemory, ReadsSpent, ReadFailed}
-use Rattle.jup_rules.specs.Prelude.{Line}
-use Rattle.jup_rules.specs.declared.ends.Stop.{Stop}
-use Rattle.jup_rules.specs.declared.ends.Stop.TheVariants.{End, Fault}
+use Rattle.jup_stream.specs.declared.faults.StreamFault.TheVariants.{Wire, NoMemory, ReadsSpent, ReadFailed}
+use Rattle.jup_wire.specs.declared.line.Line.{Line}
+use Rattle.jup_stream.specs.declared.faults.Stop.{Stop}
+use Rattle.jup_stream.specs.declared.faults.Stop.TheVariants.{End, Fault}
 use Rattle.jup_wire.specs.declared.faults.WireFault.{WireFault}
 
 -- What a source of lines has read, and what it has handed on of that.
+
+-- reads of a link, or of a user's commands
+abbrev pub most_reads : ℕ
+most_reads = 4294967295
 
 -- the bytes that the reader has left, if they are known, how the bytes read so far were taken, and those lines that are still to be handed on
 pub record Sourced : Type 0 where

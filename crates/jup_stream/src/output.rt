@@ -4,8 +4,8 @@ ghost use Rattle.jup_wire.specs.Lines.{line_bytes};
 ghost use Rattle.jup_wire.specs.Streams.{HasRoom};
 ghost use Rattle.jup_stream.specs.Streams.{put_as, Puts, PutsLines, IsFlushed, WritesFront, fresh_put};
 
+use crate::StreamFault;
 use jup_io::write_whole;
-use jup_rules::SessionFault;
 use jup_wire::{LONGEST, Line, LineSink, MOST, write_reserved};
 use std::alloc::Global;
 use std::convert::Infallible;
@@ -59,8 +59,8 @@ impl<O: Write + Drop> Output<O> {
     }
 
     /// Writes what is gathered, and has the writer pass it on. It is refused once a write has failed.
-    pub fn send(&mut self) -> Result<(), SessionFault>
-        ensures fault { IfErr result (λ fault. fault ≡ SessionFault.WriteFailed) }
+    pub fn send(&mut self) -> Result<(), StreamFault>
+        ensures fault { IfErr result (λ fault. fault ≡ StreamFault.WriteFailed) }
         ensures puts { Puts self.old [] self.new }
         ensures well { IsOk result → IsFalse self.new.failed }
         ensures failed { IsErr result → IsTrue self.new.failed }
@@ -68,7 +68,7 @@ impl<O: Write + Drop> Output<O> {
     {
         send_out(&mut self.to, &mut self.text, &mut self.has_failed);
         if self.has_failed {
-            return Err(SessionFault::WriteFailed);
+            return Err(StreamFault::WriteFailed);
         }
         Ok(())
     }

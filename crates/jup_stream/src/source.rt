@@ -1,13 +1,12 @@
 //! The lines of a reader, read piece by piece.
-ghost use Rattle.std.specs.Prelude.{◌≡◌, ◌≤◌, ◌+◌, ℕ, List, [], ◌∷◌, ◌++◌, length, take, drop, IfOk, IfErr, OnOk, OnErr, IfSome, IfNone, IsSome, IsNone, IsTrue, IsFalse};
+ghost use Rattle.std.specs.Prelude.{◌≡◌, ◌≤◌, ◌<◌, ◌+◌, ℕ, List, [], ◌∷◌, ◌++◌, length, take, drop, IfOk, IfErr, OnOk, OnErr, IfSome, IfNone, IsSome, IsNone, IsTrue, IsFalse};
 ghost use Rattle.std.specs.Io.KnownBytes.{Consumes, Keeps, IsAtEnd};
 ghost use Rattle.jup_wire.specs.declared.line.Line.{Line};
 ghost use Rattle.jup_wire.specs.Streams.{HasRead, ending_at};
-ghost use Rattle.jup_rules.specs.Clients.{most_reads};
-ghost use Rattle.jup_stream.specs.Streams.{ReadsOn, HandsOn, Stops, stop_of};
+ghost use Rattle.jup_stream.specs.Streams.{most_reads, ReadsOn, HandsOn, Stops, stop_of};
 
+use crate::{Stop, StreamFault};
 use jup_io::is_interrupted;
-use jup_rules::{SessionFault, Stop, count_read};
 use jup_window::Within;
 use jup_wire::{Fed, Line, Reader, WireFault};
 use jup_xform::NoMemory;
@@ -72,7 +71,7 @@ impl<I: Read + Drop> Source<I> {
         self.fill(alloc)?;
         match self.hand_on() {
             Some(line) => Ok(line),
-            None => Err(Stop::Fault(SessionFault::ReadsSpent)),
+            None => Err(Stop::Fault(StreamFault::ReadsSpent)),
         }
     }
 
@@ -87,12 +86,12 @@ impl<I: Read + Drop> Source<I> {
     }
 
     /// Counts a read that somebody else makes with those of this source.
-    pub fn count_read(&mut self) -> Result<(), SessionFault>
+    pub fn count_read(&mut self) -> Result<(), StreamFault>
         ensures same { self.new ≡ self.old }
-        ensures fault { IfErr result (λ fault. fault ≡ SessionFault.ReadsSpent) }
+        ensures fault { IfErr result (λ fault. fault ≡ StreamFault.ReadsSpent) }
     {
         if !count(&mut self.reads) {
-            return Err(SessionFault::ReadsSpent);
+            return Err(StreamFault::ReadsSpent);
         }
         Ok(())
     }
@@ -134,7 +133,7 @@ impl<I: Read + Drop> Source<I> {
                 return Ok(());
             }
             if let Some(fault) = self.fault() {
-                return Err(Stop::Fault(SessionFault::Wire(fault)));
+                return Err(Stop::Fault(StreamFault::Wire(fault)));
             }
             if let Err(stop) = self.read(alloc) {
                 return Err(stop);
@@ -143,7 +142,7 @@ impl<I: Read + Drop> Source<I> {
         if self.has_line() {
             return Ok(());
         }
-        Err(Stop::Fault(SessionFault::ReadsSpent))
+        Err(Stop::Fault(StreamFault::ReadsSpent))
     }
 
     // One read, whose lines are next. One that was interrupted gives none.
@@ -153,7 +152,7 @@ impl<I: Read + Drop> Source<I> {
         ensures stop { IfErr result (λ stop. Stops self.old stop self.new) }
     {
         if !count(&mut self.reads) {
-            return Err(Stop::Fault(SessionFault::ReadsSpent));
+            return Err(Stop::Fault(StreamFault::ReadsSpent));
         }
         let mut piece = [0u8; PIECE];
         let len = match read_once(&mut self.from, &mut piece) {
@@ -167,9 +166,17 @@ impl<I: Read + Drop> Source<I> {
                 self.given = 0;
                 Ok(())
             }
-            Err(NoMemory) => Err(Stop::Fault(SessionFault::NoMemory)),
+            Err(NoMemory) => Err(Stop::Fault(StreamFault::NoMemory)),
         }
     }
+}
+
+/// Counts one more read. Refused if 4,294,967,295 were made.
+pub fn count_read(reads: u32) -> Result<u32, StreamFault>
+    ensures counted { IfOk result (λ count. (reads < most_reads) × (count ≡ reads + 1)) }
+    ensures spent { IfErr result (λ fault. (reads ≡ most_reads) × (fault ≡ StreamFault.ReadsSpent)) }
+{
+    reads.checked_add(1).ok_or(StreamFault::ReadsSpent)
 }
 
 // Counts one more read, if it may be made. Whether it may.
@@ -187,12 +194,12 @@ fn count(reads: &mut u32) -> bool
 }
 
 // One read, and how many bytes it gave. One that was interrupted gave none. `None` at the end of the bytes.
-fn read_once<I: Read + Drop>(from: &mut I, piece: &mut [u8]) -> Result<Option<usize>, SessionFault>
+fn read_once<I: Read + Drop>(from: &mut I, piece: &mut [u8]) -> Result<Option<usize>, StreamFault>
     requires { 1 ≤ length piece.old }
     ensures len { IfOk result (λ len. IfSome len (λ n. n ≤ length piece.new)) }
     ensures bytes { IfOk result (λ len. IfSome len (λ n. Consumes (I.remaining from.old) (I.remaining from.new) (take n piece.new))) }
     ensures end { IfOk result (λ len. IfNone len (Keeps (I.remaining from.old) (I.remaining from.new) × IsAtEnd (I.remaining from.new))) }
-    ensures failed { IfErr result (λ fault. fault ≡ SessionFault.ReadFailed) }
+    ensures failed { IfErr result (λ fault. fault ≡ StreamFault.ReadFailed) }
     ensures none_lost { OnErr result (Keeps (I.remaining from.old) (I.remaining from.new)) }
     ensures same { length piece.new ≡ length piece.old }
 {
@@ -203,7 +210,7 @@ fn read_once<I: Read + Drop>(from: &mut I, piece: &mut [u8]) -> Result<Option<us
             if is_interrupted(&error) {
                 Ok(Some(0))
             } else {
-                Err(SessionFault::ReadFailed)
+                Err(StreamFault::ReadFailed)
             }
         }
     }
@@ -240,6 +247,6 @@ fn end_of(reader: &Reader) -> Stop
 {
     match reader.finish() {
         Ok(()) => Stop::End,
-        Err(fault) => Stop::Fault(SessionFault::Wire(fault)),
+        Err(fault) => Stop::Fault(StreamFault::Wire(fault)),
     }
 }

@@ -3,7 +3,8 @@
 use crate::expect::{expect_eq, expect_text, expect_that};
 use crate::fakes::{Endless, FailsAfter, FailsAt, OneByOne};
 use crate::sessions::{TYPED, ran, write_fails};
-use jup_programs::{ClientEnd, run_client};
+use jup_cli::run_client;
+use jup_client::ClientEnd;
 use jup_session::{Bell, Ending, Open};
 use std::alloc::Global;
 

@@ -3,7 +3,9 @@
 use crate::expect::{expect_eq, expect_text};
 use crate::programs::{client_of, client_status, daemon_at};
 use crate::sessions::{TYPED, TYPED_ANSWER, ran};
-use jup_programs::{ClientEnd, daemon_main, run_client};
+use jup_cli::run_client;
+use jup_client::ClientEnd;
+use jup_daemon::daemon_main;
 use jup_session::{Bell, Ending, Open};
 use std::alloc::Global;
 use std::io;

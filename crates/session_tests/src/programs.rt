@@ -1,8 +1,8 @@
 //! The words of the programs. `tools/programs` tries the built ones.
 
 use crate::expect::{expect_eq, expect_text};
+use jup_cli::client_main;
 use jup_options::Unread;
-use jup_programs::client_main;
 use std::alloc::Global;
 use std::io::ErrorKind;
 use std::net::{Net, TcpListener, TcpStream};

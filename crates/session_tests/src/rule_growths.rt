@@ -3,13 +3,14 @@
 use crate::expect::{expect_eq, expect_text, expect_that};
 use crate::programs::client_of;
 use crate::sessions::first_edit;
+use jup_cli::client_words;
+use jup_client::{Asking, Request, Told, TypedLine, told_text};
+use jup_daemon::{DaemonEnd, report_text, star_of_layout};
 use jup_gather::Gather;
-use jup_programs::client_words;
-use jup_rules::{
-    Admission, Asking, DaemonEnd, Given, Inbox, Lag, LinkEnd, Request, SessionFault, Told,
-    TypedLine, hear_site, report_text, star_of_layout, told_text,
-};
+use jup_net::{Given, Inbox, LinkEnd};
+use jup_rules::{Admission, Lag, hear_site};
 use jup_star::{Down, Star, Up};
+use jup_stream::StreamFault;
 use jup_window::{Board, EditFault};
 use jup_wire::Line;
 use std::alloc::Global;
@@ -114,7 +115,7 @@ fn site_heard(rt: HostRuntime) {
     begin(rt.alloc());
     let mut said = hear_site(&mut gather, rt.alloc(), &two);
     end(rt.alloc());
-    if said == Err(SessionFault::NoMemory) {
+    if said == Err(StreamFault::NoMemory) {
         expect_that(&rt, !gather.part());
         said = hear_site(&mut gather, rt.alloc(), &two);
     }

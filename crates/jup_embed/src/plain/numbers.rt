@@ -1,12 +1,12 @@
 //! The numbers of outcomes: 0 of a call that was done, the numbers of faults that all programs share, and from 90 on those of clients in other
 //! programs alone. And the numbers of stages.
 ghost use Rattle.std.specs.Prelude.{◌≢◌, ◌≡◌, IsErr, IsOk};
-ghost use Rattle.jup_rules.specs.Ends.{client_end_number};
+ghost use Rattle.jup_client.specs.Ends.{client_end_number};
 ghost use Rattle.jup_embed.specs.Numbers.{stage_number, stage_fault, end_answer, answer};
 
 use crate::client::Stage;
 use crate::refusals::EmbedFault;
-use jup_rules::ClientEnd;
+use jup_client::ClientEnd;
 
 /// No window has this index.
 pub const NO_WINDOW: u32 = 1;

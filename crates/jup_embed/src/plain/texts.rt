@@ -4,7 +4,7 @@ ghost use Rattle.jup_embed.specs.Sessions.{KeepsCopies};
 
 use super::numbers::{NOT_OPEN, UNTOLD, outcome_number};
 use crate::client::Client;
-use jup_rules::told_text;
+use jup_client::told_text;
 use std::alloc::Global;
 
 impl Client {

@@ -15,7 +15,7 @@ use jup_hub::{Hub, Pass};
 use jup_layout::put_board;
 use jup_rules::{Ending, SessionFault, check_greeting};
 use jup_star::Joined;
-use jup_stream::{Output, Source};
+use jup_stream::{Output, Source, StreamFault};
 use jup_wire::Line;
 use std::alloc::Global;
 use std::io::{Read, Write};
@@ -97,9 +97,9 @@ fn read_greeting<I: Read + Drop>(alloc: Global, source: &mut Source<I>) -> Resul
 
 // Sends the site its number, the limit and the board. It takes no memory: a line is made when it is put, so a peer
 // that does not read costs no more than its copy of the board.
-fn welcome<O: Write + Drop>(output: &mut Output<O>, joined: &Joined) -> Result<(), SessionFault>
+fn welcome<O: Write + Drop>(output: &mut Output<O>, joined: &Joined) -> Result<(), StreamFault>
     ensures lines { PutsLines output.old (welcome_lines joined.now) output.new }
-    ensures fault { IfErr result (λ fault. fault ≡ SessionFault.WriteFailed) }
+    ensures fault { IfErr result (λ fault. fault ≡ StreamFault.WriteFailed) }
     ensures failed { IsErr result → IsTrue output.new.failed }
     ensures flushed { IsFlushed output.new }
 {

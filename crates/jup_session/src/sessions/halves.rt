@@ -9,8 +9,8 @@ use super::reading::read_half;
 use super::writing::{Wrote, write_half};
 use crate::Gate;
 use jup_hub::Pass;
-use jup_rules::{Ending, SessionFault};
-use jup_stream::{Output, Source};
+use jup_rules::Ending;
+use jup_stream::{Output, Source, StreamFault};
 use std::io::{Read, Write};
 use std::snapshot::Snapshot;
 use std::sync::Wait;
@@ -109,7 +109,7 @@ pub(crate) fn both_halves<
                 Err(refused) => {
                     link.end(rt);
                     let wrote = (refused.value)();
-                    let heard = SessionFault::NoMemory.into();
+                    let heard = StreamFault::NoMemory.into();
                     Halves {
                         source,
                         pass,

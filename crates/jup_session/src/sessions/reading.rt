@@ -7,8 +7,8 @@ use super::due::Due;
 use super::link::SessionLink;
 use crate::{Gate, take_edit};
 use jup_hub::{HubFault, Pass};
-use jup_rules::{Awaits, Ending, Gatekeeper, Incoming, Next, Ring, SessionFault, ring_after};
-use jup_stream::Source;
+use jup_rules::{Awaits, Ending, Gatekeeper, Incoming, Next, Ring, ring_after};
+use jup_stream::{Source, StreamFault};
 use std::io::Read;
 use std::sync::Wait;
 use std::time::Clock;
@@ -70,7 +70,7 @@ fn hear_all<R: Wait + Clock, I: Read + Drop, G: Gate>(
         }
         leave_turn(rt, link, &incoming.up, turn, due);
     }
-    SessionFault::ReadsSpent.into()
+    StreamFault::ReadsSpent.into()
 }
 
 // What comes of a message: whom it rings, or how the session ends.

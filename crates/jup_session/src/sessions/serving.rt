@@ -17,8 +17,8 @@ use super::watch::Watch;
 use super::watched::Watched;
 use crate::Gate;
 use jup_hub::{Hub, Pass};
-use jup_rules::{Ending, Pongs, SessionFault};
-use jup_stream::{Output, Source, write_bytes};
+use jup_rules::{Ending, Pongs};
+use jup_stream::{Output, Source, StreamFault, write_bytes};
 use std::alloc::Global;
 use std::io::{Read, Write};
 use std::sync::atomic::AtomicBool;
@@ -102,7 +102,7 @@ pub fn serve_session<
             let has_failed = tell_of_memory(&mut writer);
             Session {
                 pass,
-                ending: SessionFault::NoMemory.into(),
+                ending: StreamFault::NoMemory.into(),
                 writer,
                 has_failed,
             }

@@ -5,6 +5,7 @@ use super::Bell;
 use super::share::Share;
 use jup_rules::{Admission, Lag, SessionFault, is_far_behind, operations_in};
 use jup_star::{Down, Up};
+use jup_stream::StreamFault;
 use std::alloc::Global;
 use std::sync::{Mutex, Wait};
 
@@ -60,13 +61,13 @@ impl<'a> Watch<'a> {
     }
 
     /// Notes messages that were fetched for the site.
-    pub(crate) fn fetch<R: Wait>(&self, rt: &R, downs: &[Down]) -> Result<(), SessionFault>
-        ensures { IfErr result (λ fault. fault ≡ SessionFault.NoMemory) }
+    pub(crate) fn fetch<R: Wait>(&self, rt: &R, downs: &[Down]) -> Result<(), StreamFault>
+        ensures { IfErr result (λ fault. fault ≡ StreamFault.NoMemory) }
     {
         let mut lag = self.lag.lock(rt);
         for down in downs {
             if lag.fetch(down).is_err() {
-                return Err(SessionFault::NoMemory);
+                return Err(StreamFault::NoMemory);
             }
         }
         Ok(())

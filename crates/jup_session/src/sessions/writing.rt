@@ -14,7 +14,7 @@ use jup_rules::{
     Ending, MOST_FETCHED, SessionFault, is_last_fetch, pongs_in, put_downs, refused_fetch,
 };
 use jup_star::{Down, Downs};
-use jup_stream::Output;
+use jup_stream::{Output, StreamFault};
 use std::io::Write;
 use std::sync::Wait;
 
@@ -218,10 +218,10 @@ fn hand_on<R: Wait, O: Write + Drop>(
 
 // Writes messages, in order.
 #[tactic(auto, using(jup_stream::specs::Streams::puts_sent, jup_stream::specs::Streams::puts_none))]
-fn write_downs<O: Write + Drop>(output: &mut Output<O>, downs: &[Down]) -> Result<(), SessionFault>
+fn write_downs<O: Write + Drop>(output: &mut Output<O>, downs: &[Down]) -> Result<(), StreamFault>
     ensures put { PutsLines output.old (flat_map down_lines downs.now) output.new }
     ensures flushed { IsFlushed output.old → IsFlushed output.new }
-    ensures fault { IfErr result IsOfWriting }
+    ensures fault { IfErr result (λ fault. fault ≡ StreamFault.WriteFailed) }
 {
     if downs.is_empty() {
         return Ok(());

@@ -1,10 +1,10 @@
 use Rattle.std.proofs.Common.{◌∙◌, ap, sym, subst, IfNone, IfSome, take}
 use Rattle.std.specs.Io.KnownBytes.{Keeps, Consumes, IsAtEnd}
-use Rattle.jup_rules.specs.declared.ends.SessionFault.TheVariants.{ReadsSpent}
+use Rattle.jup_stream.specs.declared.faults.StreamFault.TheVariants.{ReadsSpent}
 use Rattle.jup_stream.specs.Streams.{Sourced, sourced, waiting_of, ReadsOn, Stops}
 use Rattle.jup_stream.proofs.Streams.{reads_piece, stops_end, stops_failed, stops_spent}
 use Rattle.jup_stream.proofs.source.Source.read.Goals as goal
-use Rattle.jup_rules.specs.declared.ends.Stop.TheVariants.{Fault}
+use Rattle.jup_stream.specs.declared.faults.Stop.TheVariants.{Fault}
 
 pub returns-then-not-count-clause-stop : goal.returns-then-not-count-clause-stop
 returns-then-not-count-clause-stop g c =

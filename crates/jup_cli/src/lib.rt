@@ -1,0 +1,11 @@
+//! The inside of `jup`: its command line, and a client of one link, which does what its user types.
+#![tactic(auto)]
+
+mod commands;
+mod connecting;
+mod options;
+mod running;
+
+pub use connecting::client_main;
+pub use options::client_words;
+pub use running::run_client;

@@ -1,0 +1,3 @@
+pub mod Clients
+pub mod Ends
+pub mod Prelude

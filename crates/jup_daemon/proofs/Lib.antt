@@ -1,0 +1,2 @@
+mod Layouts
+mod Reports

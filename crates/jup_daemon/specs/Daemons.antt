@@ -1,0 +1,12 @@
+-- What a daemon may be asked for, and what it prints at its end.
+use Rattle.std.specs.Prelude.{ℕ, List, [], ◌∷◌, ◌++◌, length, codes, decimal}
+use Rattle.jup_star.specs.Stars.{BoardStar}
+use Rattle.jup_text.specs.Boards.{line_of, board_text}
+
+-- sessions that it may be asked to serve
+abbrev pub most_sessions : ℕ
+most_sessions = 1024
+
+-- how many edits were taken, and then the board
+abbrev pub report_text : BoardStar → List ℕ
+report_text star = line_of (codes "order" ∷ decimal (length star.order) ∷ []) ++ board_text star.board

@@ -1,0 +1,16 @@
+//! What a daemon says that ends early.
+ghost use Rattle.std.specs.Prelude.{◌≤◌};
+
+use crate::DaemonEnd;
+use std::io::Write;
+
+/// Prints why on standard error, and answers the exit status.
+pub(crate) fn tell<E: Write>(end: &DaemonEnd, errors: &mut E) -> u8
+    ensures { result ≤ 6 }
+{
+    let _ = writeln!(errors, "{end}");
+    if let Some(cause) = end.cause() {
+        let _ = writeln!(errors, "{cause}");
+    }
+    end.status()
+}

@@ -1,0 +1,17 @@
+//! A link over a socket: how a thread of its own reads it, while nobody takes what it brings, and how it is closed.
+//!
+//! A client's link is read also while its user thinks. One thread runs [`drain`]. Another reads what came by a
+//! [`Drained`], and [`leaves`](Intake::leave) the [`Intake`] at its end. [`hang_up`] closes a link so that its last line arrives.
+#![tactic(auto)]
+
+mod drained;
+mod draining;
+mod hangup;
+mod inbox;
+mod intake;
+
+pub use drained::Drained;
+pub use draining::drain;
+pub use hangup::{hang_up, next_wait};
+pub use inbox::{Given, Inbox, LinkEnd};
+pub use intake::Intake;

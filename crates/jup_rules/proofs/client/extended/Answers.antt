@@ -1,7 +1,0 @@
-use Rattle.std.proofs.Common.{subst}
-use Rattle.jup_rules.specs.Clients.{HasTold}
-use Rattle.jup_rules.proofs.Clients.{refused_still}
-use Rattle.jup_rules.proofs.client.extended.Goals as goal
-
-pub returns-in-Err : goal.returns-in-Err
-returns-in-Err c = λ lines told. refused_still lines c.args.line.now c.in-Err.fault (subst (λ b. HasTold lines b) c.in-Err.is told)

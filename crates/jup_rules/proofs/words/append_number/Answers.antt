@@ -1,6 +1,0 @@
-use Rattle.std.proofs.Common.{◌≡◌, ◌++◌, ◌∙◌, ℕ, List, OnOk, subst}
-use Rattle.jup_rules.proofs.words.append_number.Goals as goal
-
-pub returns : goal.returns
-returns c =
-    subst (λ (line : List ℕ). OnOk c.append.result (c.append.new.text.items ≡ c.args.text.now.items ++ line)) (c.as_bytes.ensures.value ∙ c.in-Ok.ensures.ok) c.append.ensures

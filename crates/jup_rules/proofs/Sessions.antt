@@ -1,15 +1,16 @@
 -- What a line of a site leads to.
-use Rattle.std.proofs.Common.{◌≡◌, Bool, true, false, List, [], ◌∷◌, ◌++◌, Option, Some, None, Result, Ok, Err, IfErr, inr, refl, sym, ap, ◌∙◌, ℕ, ◌+◌, ◌-◌, ◌≤◌, IfOk, inl, subst, append-nil, arith, count_by, option_to_list}
+use Rattle.std.proofs.Common.{◌≡◌, Bool, true, false, List, [], ◌∷◌, ◌++◌, map, Option, Some, None, Result, Ok, Err, IfErr, inr, refl, sym, ap, ◌∙◌, ℕ, ◌+◌, ◌-◌, ◌≤◌, IfOk, inl, subst, append-nil, arith, count_by, option_to_list}
 use Rattle.std.proofs.lemmas.Bool.{false≢true}
 use Rattle.std.proofs.Math.Nat.{min-le_left, min-le_right, le-min, le_antisymm}
+use Rattle.std.proofs.lemmas.List.{map-append}
 use Rattle.std.proofs.lemmas.List.Sums.{sum_by-append}
 use Rattle.jup_rules.specs.Prelude.{BoardBatch, UpOp, UpAck, UpPing, Up, Line, Gathered, Said, SaysUp, SaysBye, StreamFault}
 use Rattle.jup_wire.specs.declared.line.Line.TheVariants as wire
-use Rattle.jup_gather.specs.Gathering.{Piece, Alone, Gathers, up_in, message_given}
+use Rattle.jup_gather.specs.Gathering.{Piece, Alone, Gathers, HasGathered, pieces_of, up_in, message_given}
 use Rattle.jup_gather.proofs.Gathering.{one_piece}
 use Rattle.jup_rules.specs.declared.session.Awaits.TheVariants.{Gate}
 use Rattle.jup_stream.specs.Saying.{said_piece}
-use Rattle.jup_rules.specs.Sessions.{said_heard, IsSaidBy, IsUnsaid, IsRefused, HasSaid, Keeper, says_edit, counted, HasHeard, incoming_of, edits_with, next_of, edits_after, Leads}
+use Rattle.jup_rules.specs.Sessions.{said_by, IsSaidBy, IsUnsaid, IsRefused, HasSaid, Keeper, says_edit, counted, HasHeard, incoming_of, edits_with, next_of, edits_after, Leads}
 use Rattle.jup_gather.specs.declared.gathered.Gathered.TheVariants.{Whole, Plain, Held, Misplaced}
 
 -- What a line of a site is that is refused.
@@ -29,7 +30,7 @@ not_said l (SaysUp (UpPing k)) not is = let same : l ≡ wire.Ping k = cc in fal
 not_said l SaysBye not is = let same : l ≡ wire.Bye = cc in false≢true (sym not ∙ ap says same)
 
 -- what a site says by what lines give
-pub is_said : (gathered : Gathered) → IsSaidBy gathered (said_heard (message_given up_in gathered))
+pub is_said : (gathered : Gathered) → IsSaidBy gathered (said_by (message_given up_in gathered))
 unfolding says
 is_said (Whole m) = refl
 is_said (Plain (wire.Ack n)) = refl
@@ -47,6 +48,19 @@ unsaid (Some part) new line (Plain plain) fault step none = λ said more later i
     none.2 said (ap (λ l. Alone l ∷ []) step.2 ∙ ap (λ (p : Piece). p ∷ []) same.0)
 unsaid (Some part) new line Held fault step none = absurd (none.1 refl)
 unsaid (Some part) new line Misplaced fault step none = λ said more later is. step.0 more (said_piece said) later is
+
+-- of a line that was gathered: what the site said so far is what all the lines so far say
+pub said_so : (gathered : Gathered) (result : Result (Option Said) StreamFault) (old new : Option (List Line)) (line : Line) → IsSaidBy gathered result
+    → ((lines : List Line) (pieces : List Piece) → HasGathered lines pieces old → HasGathered (lines ++ line ∷ []) (pieces ++ pieces_of gathered) new)
+    → IfOk result (λ said. (lines : List Line) (saids : List Said) → HasSaid lines saids old → HasSaid (lines ++ line ∷ []) (saids ++ option_to_list said) new)
+said_so gathered (Ok (Some said)) old new line is more = λ lines saids has.
+    subst (λ (ps : List Piece). HasGathered (lines ++ line ∷ []) ps new) (ap (λ (ps : List Piece). map said_piece saids ++ ps) is ∙ sym (map-append said_piece saids (said ∷ [])))
+    (more lines (map said_piece saids) has)
+said_so gathered (Ok None) old new line is more = λ lines saids has.
+    subst (λ (ps : List Piece). HasGathered (lines ++ line ∷ []) ps new)
+    (ap (λ (g : Gathered). map said_piece saids ++ pieces_of g) is ∙ append-nil (map said_piece saids) ∙ ap (λ (ss : List Said). map said_piece ss) (sym (append-nil saids)))
+    (more lines (map said_piece saids) has)
+said_so gathered (Err fault) old new line is more = tt
 
 -- of a line that was gathered a refusal says that by it no site says anything
 pub refused_unsaid : (held new : Option (List Line)) (line : Line) (gathered : Gathered) (result : Result (Option Said) StreamFault) → Gathers held line gathered new → IsSaidBy gathered result

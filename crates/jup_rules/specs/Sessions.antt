@@ -41,11 +41,11 @@ is_pong (DownOp msg) = false
 is_pong (DownAck count) = false
 
 -- what a site says by the message up that lines are, or by what they are instead; what else no site says is misplaced
-abbrev pub said_heard : Result (Up BoardBatch) Gathered → Result (Option Said) StreamFault
-said_heard (Ok up) = Ok (Some (SaysUp up))
-said_heard (Err Held) = Ok None
-said_heard (Err (Plain line.Bye)) = Ok (Some SaysBye)
-said_heard (Err other) = Err Misplaced
+abbrev pub said_by : Result (Up BoardBatch) Gathered → Result (Option Said) StreamFault
+said_by (Ok up) = Ok (Some (SaysUp up))
+said_by (Err Held) = Ok None
+said_by (Err (Plain line.Bye)) = Ok (Some SaysBye)
+said_by (Err other) = Err Misplaced
 
 -- what lines give is this: a site says nothing yet if they are held, and what else no site says is misplaced
 abbrev pub IsSaidBy : Gathered → Result (Option Said) StreamFault → Type 0

@@ -8,7 +8,7 @@ ghost use Rattle.jup_wire.specs.declared.line.Line.{Line};
 ghost use Rattle.jup_wire.specs.declared.line.Line.TheVariants.{Hello};
 ghost use Rattle.jup_hub.specs.declared.fault.HubFault.TheVariants.{Star};
 ghost use Rattle.jup_rules.specs.Ends.{ending_of};
-ghost use Rattle.jup_rules.specs.Sessions.{most_fetched, most_pongs, HasHeard, Leads, incoming_of, edits_with, next_of, edits_after, outcome, said_heard, down_lines, IsSaidBy, HasSaid, IsRefused, is_pong};
+ghost use Rattle.jup_rules.specs.Sessions.{most_fetched, most_pongs, HasHeard, Leads, incoming_of, edits_with, next_of, edits_after, outcome, said_by, down_lines, HasSaid, IsRefused, is_pong};
 ghost use Rattle.jup_stream.specs.declared.faults.StreamFault.{StreamFault};
 ghost use Rattle.jup_stream.specs.declared.faults.StreamFault.TheVariants.{Misplaced};
 ghost use Rattle.jup_stream.specs.declared.saying.Said.{Said};
@@ -48,21 +48,14 @@ pub fn hear_site(
     ensures refused { IfErr result (λ fault. IsRefused fault gather.old line.now gather.new) }
 {
     match gather.push(alloc, line) {
-        Ok(gathered) => said_by(gathered),
+        Ok(gathered) => said_by(message_of(gathered)),
         Err(_) => Err(StreamFault::NoMemory),
     }
 }
 
-// What a site says by what its lines give.
-fn said_by(gathered: Gathered) -> Result<Option<Said>, StreamFault>
-    ensures { IsSaidBy gathered result }
-{
-    said_heard(message_of(gathered))
-}
-
-// The same, by the message to the star that they are, or by what they are instead.
-fn said_heard(heard: Result<Up, Gathered>) -> Result<Option<Said>, StreamFault>
-    ensures { result ≡ said_heard heard }
+// What a site says by the message to the star that its lines are, or by what they are instead.
+fn said_by(heard: Result<Up, Gathered>) -> Result<Option<Said>, StreamFault>
+    ensures { result ≡ said_by heard }
 {
     match heard {
         Ok(up) => Ok(Some(Said::Up(up))),

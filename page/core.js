@@ -204,22 +204,25 @@ export class Board {
     return this.#widget.items.push({ name: line.name, value: line.value });
   }
 
-  // Applies one operation after another, and returns them. `operation` makes each of its step, on the board as it then is, and `test`
-  // may refuse them all at the end. After a fault the board is as it was.
+  // Applies one operation after another. Returns each as `op`, with the `value` that it replaced or deleted, and the name of the item to the
+  // `left` of its place, or null. `operation` makes each of its step, on the board as it then is, and `test` may refuse them all at the
+  // end. After a fault the board is as it was.
   applyAll(steps, operation = (op) => op, test = () => {}) {
-    const ops = [];
+    const took = [];
     const reverts = [];
     const names = new Set(); // those that an operation has inserted or deleted
     try {
       for (const step of steps) {
         const op = operation(step);
         if (op.verb === "ins" && names.has(op.name)) fail(FAULT.BadOp);
-        reverts.push(this.#apply(op));
+        const left = this.widget(op.win, op.wid)?.items?.[op.place - 1]?.name ?? null;
+        const revert = this.#apply(op);
+        reverts.push(revert);
         if (op.verb === "ins" || op.verb === "del") names.add(op.name);
-        ops.push(op);
+        took.push({ op, value: revert.value, left });
       }
       test();
-      return ops;
+      return took;
     } catch (fault) {
       for (const revert of reverts.reverse()) this.#apply(revert);
       throw fault;
@@ -273,9 +276,11 @@ function change({ items, names }, op) {
 
 const BOARD_WORDS = new Set(["window", "text", "list", "toggle", "slider", "char", "item"]);
 
-// `send` takes text of whole lines that goes to the server. `told` is called with "ready" once the board is there, and with "pong" and its
-// number. After an edit of others is applied, it is called with "came": the operations as the server sent them (`raw`), and how many edits of
-// this site it had `heard`. Then it is called with "changed" and each operation as it was applied.
+// `send` takes text of whole lines that goes to the server. `told` is called with what happened:
+// - "ready" once the board is there, and "pong" with its number
+// - "made" with an edit of its own: what `applyAll` returned (`took`), and how many edits it had made before (`nth`)
+// - "came" with an edit of others after it is applied: as it was sent (`raw`), as it was applied (`took`), and its `heard`. Then "changed"
+//   with each operation of it.
 export class Site {
   stage = "welcome"; // then "board", "open" and "stopped"
   board = new Board();
@@ -339,12 +344,15 @@ export class Site {
   edit(commands) {
     if (this.stage !== "open") fail(FAULT.Stopped);
     if (commands.length < 1 || commands.length > MOST_OPERATIONS) fail(FAULT.BadBatch);
-    const ops = this.#apply(commands);
+    const took = this.#apply(commands);
+    const ops = took.map(({ op }) => op);
+    const nth = this.made;
     this.#waiting.push(ops);
-    const lines = [`batch ${this.made} ${this.heard} ${ops.length}`, ...ops.map(operationLine)];
+    const lines = [`batch ${nth} ${this.heard} ${ops.length}`, ...ops.map(operationLine)];
     this.made += 1;
     this.#unanswered = 0;
     this.#send(`${lines.join("\n")}\n`);
+    this.#told("made", { took, nth });
     return ops;
   }
 
@@ -447,11 +455,11 @@ export class Site {
       comes = others;
       return own;
     });
-    this.board.applyAll(comes);
+    const took = this.board.applyAll(comes);
     this.heard += 1;
-    this.#told("came", { raw: ops, heard });
-    for (const op of comes) if (op.verb !== "no") this.#told("changed", op);
     this.#acknowledge();
+    this.#told("came", { raw: ops, took, heard });
+    for (const op of comes) if (op.verb !== "no") this.#told("changed", op);
   }
 
   #acknowledge() {

@@ -18,7 +18,7 @@ function contentsOf(widget) {
 }
 
 const charactersOf = ({ items }) => items.map(({ value }) => String.fromCodePoint(value)).join("");
-const settingOf = ({ kind, value }) => (kind === "toggle" ? (value ? "on" : "off") : String(value));
+export const settingOf = ({ kind, value }) => (kind === "toggle" ? (value ? "on" : "off") : String(value));
 
 // A text or a list as what a user copies of it.
 export const copyOf = (widget) => (widget.kind === "text" ? charactersOf(widget) : widget.items.map(({ value }) => value).join("\n"));

@@ -7,14 +7,21 @@ export class Job {
   #taken = 0; // how many steps the next edit has
   #near = 0; // where the last item was that it deleted
 
-  // All insertions come after the item named `after`, or in front of all items if that is null. `place` is where they come.
-  constructor(view, place, after, steps) {
+  // All insertions come after the item named `after`, or in front of all items if that is null. `place` is where they come. Undo takes
+  // all of it back at once. If it is one edit, `how` can be as `note` of an undo takes it.
+  constructor(view, place, after, steps, how = null) {
     Object.assign(this, { view, place, after, steps });
+    this.how = typeof how === "string" && steps.length > MOST_OPERATIONS ? this : (how ?? this);
     this.#near = place;
   }
 
   get isDone() {
     return this.steps.length === 0;
+  }
+
+  // How many characters it has to go.
+  get left() {
+    return this.steps.length;
   }
 
   // The characters that are still to be inserted.
@@ -70,6 +77,14 @@ export class Job {
     const last = ops.findLast((op) => op.verb === "ins");
     if (last) Object.assign(this, { after: last.name, place: last.place + 1 });
   }
+
+  // Its view shows what is made so far.
+  show() {
+    Object.assign(this.view, { isStale: true, caret: this.place });
+  }
+
+  // It is done, or refused.
+  end() {}
 
   #placeOfInsertion(items) {
     if (this.after === null) return 0;

@@ -50,8 +50,20 @@ const put = (text, { start, end, text: it }) => text.slice(0, start) + it + text
 export class Relabels {
   #open = new Map(); // by the name of an item: the edits' numbers, from 0 on, and the label `before` each
 
-  made(name, number, before) {
-    this.#open.set(name, [...(this.#open.get(name) ?? []), { number, before }]);
+  // `step` is what an undo knows the relabel by.
+  made(name, number, before, step) {
+    this.#open.set(name, [...(this.#open.get(name) ?? []), { number, before, step }]);
+  }
+
+  // The item has another name now.
+  rename(old, name) {
+    if (this.#open.has(old)) this.#open.set(name, this.#open.get(old));
+    this.#open.delete(old);
+  }
+
+  // What was sent of an item is not the user's label any more.
+  forget(name) {
+    this.#open.delete(name);
   }
 
   // The server has taken so many edits for certain.
@@ -59,14 +71,14 @@ export class Relabels {
     for (const name of this.#open.keys()) this.#later(name, count);
   }
 
-  // Others relabelled an item before the server had more than `heard` edits of this site. Returns the label that both sides changed,
-  // or null if this site has not. From then on it is theirs that this site's label stands on.
+  // Others relabelled an item before the server had more than `heard` edits of this site. Returns the label that both sides changed
+  // (`base`) and the step, or null if this site has not. From then on it is theirs that this site's label stands on.
   came(name, theirs, heard) {
     const [first] = this.#later(name, heard);
     if (!first) return null;
-    const { before } = first;
+    const { before: base, step } = first;
     first.before = theirs;
-    return before;
+    return { base, step };
   }
 
   isOpen(name, heard) {

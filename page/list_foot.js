@@ -51,7 +51,8 @@ export class Foot {
     this.#tell();
   }
 
-  clear() {
+  // Takes the draft back.
+  takeBack() {
     this.field.value = "";
     this.#tell();
   }

@@ -1,5 +1,6 @@
 // A row of a list: the field of an item, and what its user has typed there and not sent.
 import { faultOf, merged, plain } from "./labels.js";
+import { Handle } from "./list_handle.js";
 import { isLeft, make } from "./view.js";
 
 // Makes the plain characters of typographic ones as they are typed.
@@ -48,6 +49,7 @@ export class Row {
   #isLost = false; // whether others deleted the item when a label of this page was on its way to it
   #isAsked = false; // whether the user has to choose between the draft and the label of others
   #offers = []; // labels of others that the server took before this page's own
+  #by = "others"; // who gave the item its label, or deleted it, last
   #hints;
 
   constructor(list, id, { name, value }) {
@@ -59,12 +61,19 @@ export class Row {
       input: (event) => event.isComposing || this.#typed(),
       compositionend: () => this.#typed(),
       paste: (event) => list.pasted(event, this.field, this),
-      keydown: (event) => event.key === "Escape" && !event.isComposing && this.#drop(),
+      keydown: (event) => event.key === "Escape" && !event.isComposing && this.takeBack(),
     });
-    this.remove = make("button", { type: "button", textContent: "\u00d7", ariaLabel: `Delete ${value}`, click: () => list.remove(this) });
+    this.handle = new Handle(list, this);
+    this.remove = make("button", { type: "button", textContent: "\u00d7", click: () => list.remove(this) });
     this.#hints = new Hints(this.field, id);
     this.element = make("li", { tabIndex: -1, focusout: (event) => isLeft([this.field, this.#hints.element], event) && this.#leave() },
-      make("div", { className: "row" }, this.field, this.remove), this.#hints.element);
+      make("div", { className: "row" }, this.handle.element, this.field, this.remove), this.#hints.element);
+    this.#name();
+  }
+
+  #name() {
+    this.handle.label = this.label;
+    this.remove.ariaLabel = `Delete ${this.label}`;
   }
 
   get hasFocus() {
@@ -96,19 +105,34 @@ export class Row {
 
   setOpen(isOpen) {
     this.field.readOnly = !isOpen;
-    this.remove.ariaDisabled = String(!isOpen);
+    for (const it of [this.handle.element, this.remove]) it.ariaDisabled = String(!isOpen);
   }
 
   // The list has this label for the item.
-  show(label) {
+  show(label, by = "others") {
     if (label === this.label && !this.isGhost) return;
     Object.assign(this, { label, isGhost: false });
+    this.#by = by;
     if (this.#base === null) this.field.value = label;
-    this.remove.ariaLabel = `Delete ${label}`;
+    this.#name();
     this.tell();
   }
 
-  // Others have deleted the item. The row stays, with what is typed.
+  // An undo or a redo gave the item this label. A cursor alone does not keep the field from showing it.
+  putBack(label) {
+    const hasCursor = this.#base !== null && !this.isDraft;
+    if (hasCursor) this.#base = null;
+    this.show(label, "undo");
+    if (hasCursor) this.#end();
+  }
+
+  // An undo or a redo deletes the item. What is typed stays.
+  isTakenAway() {
+    this.#by = "undo";
+    if (!this.isDraft) this.#base = null;
+  }
+
+  // The item is deleted, and not by the user's own key or pointer. What is typed stays.
   outlive() {
     this.isGhost = true;
     this.#isAsked = false;
@@ -130,10 +154,10 @@ export class Row {
   }
 
   // The server took a label of others before this page's own, which has replaced it. `base` is what both changed.
-  races(base, theirs) {
+  races(base, theirs, step) {
     const label = merged(base, this.label, theirs);
     if (label === this.label) return;
-    if (label === null || faultOf(label) !== "" || !this.#list.relabel(this, label)) this.#offers.push(theirs);
+    if (label === null || faultOf(label) !== "" || !this.#list.relabel(this, label, step)) this.#offers.push(theirs);
     this.tell();
   }
 
@@ -174,7 +198,7 @@ export class Row {
   }
 
   // Takes the draft back.
-  #drop() {
+  takeBack() {
     if (this.isGhost) this.#list.drop(this);
     else this.#end();
   }
@@ -202,18 +226,18 @@ export class Row {
     const isWrong = this.#fault !== "" || this.#isAsked;
     this.element.classList.toggle("ghost", this.isGhost);
     this.field.ariaInvalid = String(isWrong);
-    this.remove.hidden = this.isGhost;
+    for (const it of [this.handle.element, this.remove]) it.hidden = this.isGhost;
     this.#hints.show([...this.#hintsNow()]);
     this.#list.page.notices.hold(this.element, this.#offers.length > 0 || ((isWrong || (this.isGhost && this.isDraft)) && !this.hasFocus));
     this.#list.page.drafts.hold(this, this.isDraft);
   }
 
   *#hintsNow() {
-    const theirs = `Others wrote \u201c${this.label}\u201d`;
+    const theirs = `${this.#by === "undo" ? "Undo wrote" : "Others wrote"} \u201c${this.label}\u201d`;
     const choices = (keep, take) => ({ "Keep mine": keep, "Take theirs": take });
-    if (this.#fault !== "") yield { words: this.#fault, choices: this.hasFocus || this.isGhost ? {} : { Drop: () => this.#drop() } };
-    if (this.isGhost) yield { words: "Deleted by others", choices: { "Add it again": () => this.#addAgain(), Drop: () => this.#drop() } };
-    else if (this.#isAsked) yield { words: theirs, choices: choices(() => this.#keepMine(), () => this.#drop()) };
+    if (this.#fault !== "") yield { words: this.#fault, choices: this.hasFocus || this.isGhost ? {} : { Drop: () => this.takeBack() } };
+    if (this.isGhost) yield { words: `Deleted by ${this.#by}`, choices: { "Add it again": () => this.#addAgain(), Drop: () => this.takeBack() } };
+    else if (this.#isAsked) yield { words: theirs, choices: choices(() => this.#keepMine(), () => this.takeBack()) };
     else if (this.#base !== null && this.label !== this.#base) yield { words: theirs, choices: {} };
     for (const it of this.#offers) yield { words: `Others wrote \u201c${it}\u201d at the same time`, choices: choices(() => this.#choose(it, false), () => this.#choose(it, true)) };
   }

@@ -8,6 +8,7 @@ import { View, arrange, flash, make } from "./view.js";
 
 // For how many milliseconds a press may be meant for what was there before others moved it.
 const MOVED = 500;
+const ARROWS = { ArrowUp: -1, ArrowDown: 1 };
 
 export class ListView extends View {
   #rows = new Map(); // by the names of their items
@@ -55,11 +56,52 @@ export class ListView extends View {
 
   // An edit of others came with this operation, when the server had `heard` edits of this page.
   came({ verb, name, value }, heard) {
-    const row = this.#rows.get(name);
+    if (verb === "del") this.follow();
+    const row = this.#rows.get(name) ?? this.#rows.get(this.page.nameOf(this, name));
     if (!row) return;
-    if (verb === "del" && this.#relabels.isOpen(name, heard)) row.loses();
-    const base = verb === "rel" ? this.#relabels.came(name, value, heard) : null;
-    if (base !== null) row.races(base, value);
+    if (verb === "del" && row.name === name && this.#relabels.isOpen(name, heard)) row.loses();
+    const race = verb === "rel" ? this.#relabels.came(row.name, value, heard) : null;
+    if (race !== null) row.races(race.base, value, race.step);
+  }
+
+  // A row goes with its item to the name that the item has now.
+  follow() {
+    const { names } = this.widget;
+    for (const row of [...this.#rows.values()]) {
+      const name = names.has(row.name) ? row.name : this.page.nameOf(this, row.name);
+      if (name !== row.name && names.has(name)) this.#rename(row, name);
+    }
+  }
+
+  #rename(row, name) {
+    const other = this.#rows.get(name);
+    if (other) this.#lose(other);
+    this.#rows.delete(row.name);
+    this.#relabels.rename(row.name, name);
+    this.#rows.set(name, Object.assign(row, { name }));
+  }
+
+  tookBack(ops) {
+    super.tookBack();
+    this.follow();
+    for (const { verb, name, value } of ops) {
+      this.#relabels.forget(name);
+      if (verb === "rel") this.#rows.get(name)?.putBack(value);
+      if (verb === "del") this.#rows.get(name)?.isTakenAway();
+    }
+  }
+
+  reveal(name) {
+    this.update();
+    const element = this.#rows.get(name)?.element ?? this.element;
+    element.scrollIntoView({ block: "nearest" });
+    flash(element);
+  }
+
+  drops(field) {
+    const it = [...this.#shown, this.foot].find((draft) => draft.field === field && draft.isDraft);
+    it?.takeBack();
+    return it !== undefined;
   }
 
   confirmed(count) {
@@ -125,22 +167,66 @@ export class ListView extends View {
     if (event.detail === 0) return;
     const hit = [...this.#shown, this.foot].find(({ element }) => element.contains(event.target));
     const isSecond = event.detail > 1 && event.target.closest("button") !== null;
-    if (event.type === "mousedown") this.#isVoid = isSecond || (hit !== undefined && performance.now() - hit.movedAt < MOVED);
+    if (event.type === "mousedown") this.#isVoid = isSecond || (hit !== undefined && this.hasJustMoved(hit));
     if (!this.#isVoid) return;
     event.preventDefault();
     event.stopPropagation();
     if (!isSecond) flash(hit.element);
   }
 
+  // Whether others moved a row a moment ago.
+  hasJustMoved(row) {
+    return performance.now() - row.movedAt < MOVED;
+  }
+
   // ---- What the user does ----
 
-  relabel(row, label) {
+  // A label that a race made of the user's belongs to the same `step`.
+  relabel(row, label, step = {}) {
     const place = placeOf(this.widget.items, row.name, 0);
     const before = this.widget.items[place]?.value;
-    if (place < 0 || !this.edit([{ verb: "rel", place, value: label }])) return false;
-    this.#relabels.made(row.name, this.page.made - 1, before);
+    if (place < 0 || !this.edit([{ verb: "rel", place, value: label }], step)) return false;
+    this.#relabels.made(row.name, this.page.editCount - 1, before, step);
     row.show(label);
     return true;
+  }
+
+  // Moves an item up (-1) or down (1) by one.
+  #moveBy(row, way) {
+    const place = placeOf(this.widget.items, row.name, 0);
+    if (place >= 0) this.#move(row, place, place + way);
+  }
+
+  // Moves an item to below a row, or to the front if that is null. If the item of that row is gone, it comes below the one before.
+  moveBelow(row, above) {
+    const { items, names } = this.widget;
+    const last = this.#shown.slice(0, this.#shown.indexOf(above) + 1).findLast((it) => it !== row && names.has(it.name));
+    const place = placeOf(items, row.name, 0);
+    const at = last ? placeOf(items, last.name, 0) : -1;
+    if (place >= 0) this.#move(row, place, at < place ? at + 1 : at);
+  }
+
+  // Moves an item from one place to another, which is counted without it.
+  #move(row, place, to) {
+    const { items } = this.widget;
+    const { value } = items[place];
+    const ops = place !== to && items[to] ? this.edit([{ verb: "del", place }, { verb: "ins", place: to, value }]) : null;
+    if (ops !== null) this.#rename(row, ops[1].name);
+    this.draw();
+    row.element.scrollIntoView({ block: "nearest" });
+    this.page.say("move", `${value}, ${placeOf(items, row.name, to) + 1} of ${items.length}`);
+  }
+
+  // The row above a height of the window, or null.
+  rowAbove(height) {
+    const middle = ({ element }) => element.getBoundingClientRect().top + element.offsetHeight / 2;
+    return this.#shown.findLast((row) => middle(row) < height) ?? null;
+  }
+
+  // Shows where a row would land: below another, or in front if that is null.
+  markLanding(above) {
+    for (const row of this.#shown) row.element.classList.toggle("lands", row === above);
+    this.list.classList.toggle("lands", above === null);
   }
 
   // Deletes an item. Returns where it was, or -1 if it is still there.
@@ -191,9 +277,10 @@ export class ListView extends View {
   #insert(place, labels) {
     const left = labels.filter((it) => faultOf(it) === "");
     const bad = labels.filter((it) => faultOf(it) !== "");
+    const step = {};
     for (let at = Math.min(place, this.widget.items.length); left.length > 0; ) {
       const commands = left.slice(0, MOST_OPERATIONS).map((value, more) => ({ verb: "ins", place: at + more, value }));
-      if (!this.edit(commands)) break;
+      if (!this.edit(commands, step)) break;
       at += commands.length;
       left.splice(0, commands.length);
     }
@@ -223,18 +310,23 @@ export class ListView extends View {
 
   close() {
     for (const row of this.#shown) row.forget();
-    this.foot.clear();
+    this.foot.takeBack();
   }
 
   #key(event) {
+    const row = this.#shown.find(({ element }) => element.contains(event.target));
+    if (event.key in ARROWS && row && (event.altKey || event.target === row.handle.element)) {
+      event.preventDefault();
+      return this.#moveBy(row, ARROWS[event.key]);
+    }
     if (event.target !== this.foot.field) return this.#walk(event);
     if (event.key === "Enter") return this.foot.add();
-    return event.key === "Escape" ? this.foot.clear() : this.#walk(event);
+    return event.key === "Escape" ? this.foot.takeBack() : this.#walk(event);
   }
 
   // The arrow keys and Enter go from row to row. From a row that has the focus itself they go to its field.
   #walk(event) {
-    const way = { ArrowUp: -1, ArrowDown: 1, Enter: 1 }[event.key];
+    const way = { ...ARROWS, Enter: 1 }[event.key];
     const row = this.#shown.find(({ element, field }) => event.target === element || event.target === field);
     if (!way || !(row || event.target === this.foot.field)) return;
     const fields = [...this.#shown, this.foot].map(({ field }) => field);

@@ -6,6 +6,7 @@ import { isSameRun } from "./lost.js";
 import { openMenu } from "./menu.js";
 import { Held, Notices } from "./notices.js";
 import { Status } from "./status.js";
+import { TakingBack } from "./taking_back.js";
 import { counted, reasonOf, shownAs } from "./texts.js";
 import { Untaken } from "./untaken.js";
 import { found } from "./view.js";
@@ -36,13 +37,14 @@ async function textAt(name) {
 class Page {
   drafts = new Held(() => this.#tell()); // what is typed and not sent
   notices = new Notices(() => this.#tell());
+  takingBack = new TakingBack(this);
   #windows;
   #drawing;
   #jobs = [];
   #untaken = new Untaken(this);
   #shown = null; // the site whose board is shown
   #reasons = new Map(); // the notices that say why something was refused, by their words
-  #isReadOnly = false; // whether the server takes no more edits
+  isReadOnly = false; // whether the server takes no more edits
   #isWaiting = false; // whether the server has no room for this page
   #isWorking = false; // whether a task goes on with jobs
   #status = new Status();
@@ -65,7 +67,6 @@ class Page {
     addEventListener("online", () => this.link.hurry());
     document.addEventListener("visibilitychange", () => (document.hidden ? this.#hide() : this.link.hurry()));
     for (const act of ["keydown", "pointerdown"]) document.addEventListener(act, () => this.link.isOpen || this.link.hurry());
-    document.addEventListener("beforeinput", (event) => event.inputType.startsWith("history") && this.#refuseHistory(event));
     found("try-now").addEventListener("click", () => this.link.hurry());
     found("notice-count").addEventListener("click", () => this.notices.show());
   }
@@ -79,13 +80,13 @@ class Page {
   }
 
   // How many edits this page has made.
-  get made() {
+  get editCount() {
     return this.link.site.made;
   }
 
-  // Says something to a reader of the screen.
-  announce(about, words) {
-    this.#status.announce(about, words);
+  // The name that an item of a view has now.
+  nameOf(view, name) {
+    return this.takingBack.nameOf(view, name);
   }
 
   captionOf(key, kind) {
@@ -96,15 +97,17 @@ class Page {
 
   ready() {
     const { site } = this.link;
-    const isFirst = this.#shown === null;
-    const isSame = !isFirst && isSameRun(this.#shown, site);
+    const old = this.#shown;
+    const isFirst = old === null;
+    const isSame = !isFirst && isSameRun(old, site);
     this.#shown = site;
     this.#isWaiting = false;
     this.#windows.show(this.board, isSame);
+    if (!isFirst) this.takingBack.joined(old.board, isSame);
     this.#drawing.now();
     this.#jobs = this.#untaken.settle(isSame);
     this.#setOpen();
-    if (!this.#isReadOnly) for (const element of this.#reasons.values()) this.notices.end(element);
+    if (!this.isReadOnly) for (const element of this.#reasons.values()) this.notices.end(element);
     for (const view of this.views.values()) view.sendDrafts();
     if (isFirst) this.#offerKept();
     else this.#readCaptions();
@@ -113,8 +116,14 @@ class Page {
     this.#work();
   }
 
-  came({ raw, heard }) {
-    for (const op of raw) this.views.get(`${op.win}.${op.wid}`).came(op, heard);
+  made(it) {
+    this.takingBack.made(it);
+  }
+
+  came(it) {
+    this.takingBack.came(it);
+    for (const op of it.raw) this.views.get(`${op.win}.${op.wid}`).came(op, it.heard);
+    this.takingBack.mend();
   }
 
   changed(op) {
@@ -124,6 +133,7 @@ class Page {
   }
 
   heard() {
+    this.takingBack.mend();
     this.#drawing.soon();
     this.#work();
     this.#untaken.lookAgain();
@@ -137,9 +147,10 @@ class Page {
 
   lost(fault) {
     const isNew = this.#shown !== null && !["lost", "waiting"].includes(document.body.dataset.stage);
-    this.#isReadOnly = isFull(fault);
+    this.isReadOnly = isFull(fault);
     this.#isWaiting = fault === FAULT.Full;
     if (fault !== undefined && !this.#isWaiting) this.#explain(reasonOf(fault));
+    this.takingBack.lost();
     this.#untaken.lose(this.link.site, this.#jobs);
     this.#jobs = [];
     this.#setOpen();
@@ -149,12 +160,13 @@ class Page {
 
   // ---- Edits ----
 
-  // Makes an edit for a view, perhaps one of a job. Returns its operations, or null if it is refused.
-  edit(view, commands, job = null) {
-    if (!this.#takesEdits) return null;
+  // Makes an edit for a view, perhaps one of a job. Returns its operations, or null if it is refused. `how` is as `note` of an undo takes it.
+  edit(view, commands, how = null, job = null) {
+    if (!this.takesEdits) return null;
     const after = job?.after;
     try {
       const ops = this.link.edit(commands);
+      this.takingBack.note(how);
       this.#untaken.add({ ops, view, job, after });
       this.#tell();
       return ops;
@@ -174,7 +186,7 @@ class Page {
   }
 
   #closeForGood() {
-    this.#isReadOnly = true;
+    this.isReadOnly = true;
     this.#setOpen();
   }
 
@@ -182,17 +194,9 @@ class Page {
     if (!this.#reasons.get(words)?.isConnected) this.#reasons.set(words, this.notices.add({ view, words }));
   }
 
-  // A browser's undo finds its old text no more once others have edited.
-  #refuseHistory(event) {
-    if (this.link.site.heard === 0) return;
-    event.preventDefault();
-    const view = [...this.views.values()].find(({ element }) => element.contains(event.target));
-    view?.remark("Others have edited this board, so the browser can\u2019t undo.");
-  }
-
   // Whether a job is done while its user waits.
   isShort(job) {
-    return job.steps.length <= SHORT && !this.isBusyWith(job.view) && this.#hasRoom(NEEDED);
+    return job.left <= SHORT && !this.isBusyWith(job.view) && this.#hasRoom(NEEDED);
   }
 
   // Does a short job. Returns its operations, or null if one of its edits is refused.
@@ -213,8 +217,21 @@ class Page {
     this.#work();
   }
 
-  get #takesEdits() {
-    return this.link.isOpen && !this.#isReadOnly;
+  // Stops a job, if it goes on.
+  stop(job) {
+    if (!this.#jobs.includes(job)) return;
+    this.#jobs = this.#jobs.filter((it) => it !== job);
+    job.end();
+    this.#setOpen();
+  }
+
+  get takesEdits() {
+    return this.link.isOpen && !this.isReadOnly;
+  }
+
+  // Whether an edit of the page's own can be made now.
+  get isReady() {
+    return this.takesEdits && this.#hasRoom(NEEDED);
   }
 
   isBusyWith(view) {
@@ -228,7 +245,7 @@ class Page {
   // Makes the next edit of a job. Returns its operations, or null if it is refused.
   #next(job) {
     const commands = job.next();
-    const ops = commands.length > 0 ? this.edit(job.view, commands, job) : [];
+    const ops = commands.length > 0 ? this.edit(job.view, commands, job.how, job) : [];
     if (ops !== null) job.made(ops);
     return ops;
   }
@@ -240,11 +257,8 @@ class Page {
     while (this.#jobs.length > 0 && this.#hasRoom(SPARE) && performance.now() < end) {
       const [job] = this.#jobs;
       const ops = this.#next(job);
-      Object.assign(job.view, { isStale: true, caret: job.place });
-      if (ops === null || job.isDone) {
-        this.#jobs.shift();
-        this.#setOpen();
-      }
+      job.show();
+      if (ops === null || job.isDone) this.stop(job);
     }
     this.#drawing.soon();
     this.#tell();
@@ -260,7 +274,7 @@ class Page {
   // ---- What waits for its user ----
 
   #isSaved() {
-    const isSent = !this.#untaken.isPending && this.#jobs.length === 0 && this.link.confirmed === this.made;
+    const isSent = !this.#untaken.isPending && this.#jobs.length === 0 && this.link.confirmed === this.editCount;
     return isSent && this.drafts.count === 0 && !this.notices.isOffering;
   }
 
@@ -292,8 +306,15 @@ class Page {
     this.#drawing.soon();
   }
 
+  // Says something to a reader of the screen, and beside the caption of a view.
+  say(about, words, view = null) {
+    view?.remark(words);
+    this.#status.announce(about, words);
+  }
+
   #setOpen() {
-    for (const view of this.views.values()) view.setOpen(this.#takesEdits);
+    for (const view of this.views.values()) view.setOpen(this.takesEdits);
+    this.takingBack.tell();
     this.#tell();
   }
 
@@ -303,13 +324,13 @@ class Page {
   }
 
   get #state() {
-    const left = this.#jobs.reduce((sum, job) => sum + job.steps.length, 0);
-    const waiting = this.made - this.link.confirmed;
+    const left = this.#jobs.reduce((sum, job) => sum + job.left, 0);
+    const waiting = this.editCount - this.link.confirmed;
     if (this.#isWaiting) return { stage: "waiting", words: "64 people are here. You come in when one leaves" };
     if (!this.link.isOpen) return { stage: "lost", words: "Offline" };
     if (left > 0) return { stage: "sending", words: `${counted(left, "character")} to go` };
     if (waiting > 0) return { stage: "sending", words: "Sending \u2026", slowly: `Sending \u2026 ${counted(waiting, "edit")} wait`, since: this.#untaken.oldest };
-    if (this.#isReadOnly) return { stage: "full", words: "Read only: the board is full" };
+    if (this.isReadOnly) return { stage: "full", words: "Read only: the board is full" };
     return this.drafts.count > 0 ? { stage: "draft", words: counted(this.drafts.count, "draft") } : { stage: "open", words: "Sent" };
   }
 
@@ -322,7 +343,7 @@ class Page {
     if (document.hidden || !this.link.isOpen) return;
     const [count, state] = (await textAt("who"))?.split("\n") ?? [];
     this.#status.count(this.link.isOpen ? Number.parseInt(count, 10) : 0);
-    if (state !== "full" || this.#isReadOnly) return;
+    if (state !== "full" || this.isReadOnly) return;
     this.#explain(reasonOf(FAULT.LogFull));
     this.#closeForGood();
   }

@@ -20,10 +20,12 @@ export class ToggleView extends View {
 }
 
 export class SliderView extends View {
+  #drag = null; // the step of the drag that goes on
+
   constructor(...given) {
     super(...given);
     const { low: min, high: max } = this.widget;
-    this.range = make("input", { type: "range", id: this.id, min, max, step: 1, input: () => this.#dragged(), change: () => this.#set(Number(this.range.value)) });
+    this.range = make("input", { type: "range", id: this.id, min, max, step: 1, pointerdown: () => (this.#drag = {}), input: () => this.#dragged(), change: () => this.#dropped() });
     this.number = make("input", { type: "number", min, max, step: "any", change: () => this.#typed(), input: () => (this.hint.hidden = true) });
     this.hint = make("p", { className: "hint", textContent: `${min} to ${max}`, hidden: true });
     this.element = make("div", { className: "widget" }, this.head(this.label()),
@@ -48,13 +50,18 @@ export class SliderView extends View {
     this.frame ??= requestAnimationFrame(() => this.#set(Number(this.range.value)));
   }
 
+  #dropped() {
+    this.#set(Number(this.range.value));
+    this.#drag = null;
+  }
+
   // A number that is typed becomes the nearest that the slider has. What is no number changes nothing.
   #typed() {
     const { low, high, value } = this.widget;
     const typed = this.number.valueAsNumber;
     const nearest = Number.isNaN(typed) ? value : Math.min(high, Math.max(low, Math.round(typed)));
     this.hint.hidden = Number.isNaN(typed) || nearest === Math.round(typed);
-    if (!this.hint.hidden) this.page.announce("bounds", this.hint.textContent);
+    if (!this.hint.hidden) this.page.say("bounds", this.hint.textContent);
     this.number.value = nearest;
     this.#set(nearest);
   }
@@ -62,13 +69,23 @@ export class SliderView extends View {
   #set(value) {
     cancelAnimationFrame(this.frame);
     this.frame = null;
-    if (value !== this.widget.value) this.edit([{ verb: "set", value }]);
+    if (value !== this.widget.value) this.edit([{ verb: "set", value }], this.#drag);
     this.draw();
+  }
+
+  get #isTyped() {
+    return document.activeElement === this.number && this.number.value !== this.shown;
+  }
+
+  drops(field) {
+    if (field !== this.number || !this.#isTyped) return false;
+    this.number.value = this.shown;
+    return true;
   }
 
   // A number that is being typed stays.
   draw() {
-    const isTyped = document.activeElement === this.number && this.number.value !== this.shown;
+    const isTyped = this.#isTyped;
     this.range.value = this.widget.value;
     if (!isTyped) this.number.value = this.widget.value;
     this.shown = this.range.value;

@@ -7,10 +7,14 @@ import { View, make } from "./view.js";
 const LONG_PASTE = 512;
 // After how many milliseconds without a key others see what is being composed. On a phone every word is composed.
 const COMPOSED = 1000;
+// What goes on in the last step of an undo, by the kind of the event.
+const HOW = { insertText: "type", insertLineBreak: "type", deleteContentBackward: "delete", deleteContentForward: "delete" };
+const DRAGS = ["deleteByDrag", "insertFromDrop"];
 
 // The area shows `shown`, which is the text of `items`. Within a composition it can show more, and is not drawn.
 export class TextView extends View {
   caret = null; // where a job of this view has come to
+  #word = {}; // the step of the word that is composed
   #later = 0; // how many changes of others come after the word that is composed
   #height = ""; // the height that the area keeps while others type
 
@@ -18,10 +22,10 @@ export class TextView extends View {
     super(...given);
     this.area = make("textarea", {
       id: this.id, rows: 3, dir: "auto",
-      input: (event) => (event.isComposing ? this.#composes() : this.#typed()),
+      input: (event) => (event.isComposing ? this.#composes() : this.#typed(this.#howOf(event))),
       focus: () => this.#sizeAgain(),
       paste: (event) => this.#pasted(event),
-      compositionstart: () => (this.isHeld = true),
+      compositionstart: () => this.#beginsWord(),
       compositionend: () => this.#composed(),
     });
     this.element = make("div", { className: "widget" }, this.head(this.label(), this.copy), this.area);
@@ -50,9 +54,14 @@ export class TextView extends View {
     this.area.setSelectionRange(cursor, cursor);
   }
 
+  #beginsWord() {
+    this.isHeld = true;
+    this.#word = {};
+  }
+
   #composes() {
     clearTimeout(this.pause);
-    this.pause = setTimeout(() => this.items !== null && this.#typed(), COMPOSED);
+    this.pause = setTimeout(() => this.items !== null && this.#typed(this.#word), COMPOSED);
   }
 
   changed() {
@@ -67,16 +76,21 @@ export class TextView extends View {
     this.isHeld = false;
     this.#later = 0;
     this.after.textContent = "";
-    if (this.items !== null) this.#typed();
+    if (this.items !== null) this.#typed(this.#word);
     this.page.drawSoon();
   }
 
+  // A drag takes a text away and puts it elsewhere, which is one step.
+  #howOf({ inputType }) {
+    return DRAGS.includes(inputType) ? this.page.takingBack.drag : HOW[inputType];
+  }
+
   // The user changed the area as a browser does it.
-  #typed() {
+  #typed(how) {
     this.#sizeAgain();
     const { value, selectionEnd } = this.area;
     const { head, tail } = difference(this.shown, value, selectionEnd);
-    if (value !== this.shown) this.#replace(head, this.shown.length - tail, value.slice(head, value.length - tail));
+    if (value !== this.shown) this.#replace(head, this.shown.length - tail, value.slice(head, value.length - tail), how);
   }
 
   #pasted(event) {
@@ -87,13 +101,13 @@ export class TextView extends View {
   }
 
   // The user replaced a part of what was shown by a text.
-  #replace(start, end, text) {
+  #replace(start, end, text, how) {
     const [from, to] = [this.#place(start), this.#place(end)];
     const values = scalarsOf(text);
     // The last item goes first, since that is fastest in a long text.
     const gone = this.items.slice(from, to).reverse();
     const steps = [...gone.map(({ name }) => ({ name })), ...values.map((value) => ({ value }))];
-    const job = new Job(this, from, this.items[from - 1]?.name ?? null, steps);
+    const job = new Job(this, from, this.items[from - 1]?.name ?? null, steps, how);
     if (!this.page.isShort(job)) {
       // What is made of it is shown as it is made.
       this.#reset(start);
@@ -122,6 +136,14 @@ export class TextView extends View {
   draw() {
     if (this.items === null) this.#showAgain();
     else this.#show();
+  }
+
+  // The cursor goes there, if it is in this text.
+  reveal(name) {
+    const place = name ? placeOf(this.widget.items, name, 0) + 1 : 0;
+    if (name !== undefined) Object.assign(this, { caret: place, isStale: true });
+    this.update();
+    super.reveal();
   }
 
   // Shows the widget's text. The cursor stays after the item that was before it, and a selection stays on its items.

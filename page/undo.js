@@ -92,6 +92,11 @@ export class Undo {
     return this.#undone.length > 0;
   }
 
+  // The `how` of the step that `undo` takes back.
+  get how() {
+    return this.#done.at(-1)?.how ?? null;
+  }
+
   // The name that an item has now, if this site or others moved it or this site brought it back.
   nameOf(at, name) {
     return this.#things.get(idOf(at, name))?.heir.name ?? name;
@@ -544,6 +549,11 @@ class Plan {
 
   get isDone() {
     return this.isFull || this.left === 0;
+  }
+
+  // The widget that it begins with.
+  get key() {
+    return keyOf(this.#tasks[0].thing);
   }
 
   // The commands of the next edit on the present board. There are none if the plan is done.

@@ -20,7 +20,7 @@ export class Untaken {
 
   // An edit with its operations, its `view`, the `job` that made it, and `after`, what the insertions of that job then came after.
   add(edit) {
-    this.#edits.push({ ...edit, number: this.#page.made, made: performance.now(), at: null });
+    this.#edits.push({ ...edit, number: this.#page.editCount, made: performance.now(), at: null });
     edit.view.awaits(1);
   }
 

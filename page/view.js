@@ -25,12 +25,18 @@ export function make(tag, attributes = {}, ...children) {
   return element;
 }
 
-// Gives an element these children in this order. One that is in its place already is not touched, so that it keeps the focus.
+// Gives an element these children in this order. The one with the focus is not moved, since it would lose it: others go around it.
 export function arrange(parent, children) {
   const kept = new Set(children);
   for (const it of [...parent.children]) if (!kept.has(it)) it.remove();
+  const fixed = children.find((element) => element.parentElement === parent && element.contains(document.activeElement));
   let next = parent.firstChild;
   for (const it of children) {
+    while (it === fixed && it !== next) {
+      const after = next.nextSibling;
+      parent.append(next);
+      next = after;
+    }
     if (it === next) next = next.nextSibling;
     else parent.insertBefore(it, next);
   }
@@ -80,7 +86,6 @@ export class View {
 
   // Says something beside the caption for a while.
   remark(words) {
-    this.page.announce("remark", words);
     this.after.textContent = words;
     setTimeout(() => this.after.textContent === words && (this.after.textContent = ""), REMARK);
   }
@@ -109,6 +114,25 @@ export class View {
   // An edit of others came with an operation, as the server sent it, when it had `heard` edits of this page.
   came() {}
 
+  // Items may have other names: others moved them, or a repair did.
+  follow() {}
+
+  // An undo or a redo did this.
+  tookBack() {
+    this.isStale = true;
+  }
+
+  // Takes back what is typed in a field and not sent. Returns whether there was something.
+  drops() {
+    return false;
+  }
+
+  // Shows where an undo came to: at the item with a name, or in front of all if that is null.
+  reveal() {
+    this.update();
+    this.element.scrollIntoView({ block: "nearest" });
+  }
+
   // The server has taken so many edits of this page for certain.
   confirmed() {}
 
@@ -126,8 +150,9 @@ export class View {
   // The board has the widget no more.
   close() {}
 
-  edit(commands) {
-    return this.page.edit(this, commands.map((command) => ({ ...command, win: this.win, wid: this.wid })));
+  // `how` is as `note` of an undo takes it.
+  edit(commands, how = null) {
+    return this.page.edit(this, commands.map((command) => ({ ...command, win: this.win, wid: this.wid })), how);
   }
 
   // More of its edits wait to be confirmed, or fewer. The mark of that does not flicker.

@@ -187,16 +187,28 @@ test("two changes of one label at random: both orders give one label, and all th
   assert.ok(both > 5000);
 });
 
-test("a label of others that this site's own replaces is told once, with what both changed", () => {
+test("a label of others that this site's own replaces is told once, with what both changed and the step", () => {
   const relabels = new Relabels();
-  relabels.made("0.1", 0, "bread");
-  relabels.made("0.1", 3, "rolls");
+  const [one, other] = [{}, {}];
+  relabels.made("0.1", 0, "bread", one);
+  relabels.made("0.1", 3, "rolls", other);
+  const tells = (race, base, step) => assert.ok(race?.base === base && race.step === step, JSON.stringify(race));
   // The server had none of this site's edits, and then the first three.
-  assert.equal(relabels.came("0.1", "brown bread", 0), "bread");
-  assert.equal(relabels.came("0.1", "white bread", 0), "brown bread");
-  assert.equal(relabels.came("0.1", "rye", 3), "rolls");
+  tells(relabels.came("0.1", "brown bread", 0), "bread", one);
+  tells(relabels.came("0.1", "white bread", 0), "brown bread", one);
+  tells(relabels.came("0.1", "rye", 3), "rolls", other);
   assert.equal(relabels.came("0.1", "oats", 4), null);
   assert.equal(relabels.came("0.2", "milk", 0), null);
+});
+
+test("a label goes with an item that is moved, and is forgotten once an undo has taken it back", () => {
+  const relabels = new Relabels();
+  relabels.made("0.1", 0, "bread", {});
+  relabels.rename("0.1", "1.5");
+  assert.equal(relabels.isOpen("0.1", 0), false);
+  assert.equal(relabels.came("1.5", "brown bread", 0)?.base, "bread");
+  relabels.forget("1.5");
+  assert.equal(relabels.came("1.5", "white bread", 0), null);
 });
 
 test("labels that the server has taken are forgotten", () => {

@@ -7,8 +7,8 @@ export class Job {
   #taken = 0; // how many steps the next edit has
   #near = 0; // where the last item was that it deleted
 
-  // All insertions come after the item named `after`, or in front of all items if that is null. `place` is where they come. Undo takes
-  // all of it back at once. If it is one edit, `how` can be as `note` of an undo takes it.
+  // All insertions come after the item named `after`, or in front of all items if that is null. `place` is where they come. All of it is
+  // one step of an undo. If it is one edit, `how` can be as `note` of an undo takes it.
   constructor(view, place, after, steps, how = null) {
     Object.assign(this, { view, place, after, steps });
     this.how = typeof how === "string" && steps.length > MOST_OPERATIONS ? this : (how ?? this);

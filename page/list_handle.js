@@ -9,7 +9,7 @@ export class Handle {
   #list;
   #row;
   #end = null; // ends the drag that goes on
-  #above = undefined; // the row below which it would land, or null for the front
+  #above = null; // the rows below which it would land, once it was dragged
 
   constructor(list, row) {
     this.#list = list;
@@ -43,7 +43,7 @@ export class Handle {
   #move(height) {
     if (height < EDGE) scrollBy(0, -SCROLL);
     if (height > innerHeight - EDGE) scrollBy(0, SCROLL);
-    this.#above = this.#list.rowAbove(height);
+    this.#above = this.#list.rowsAbove(height);
     this.#list.markLanding(this.#above);
   }
 
@@ -51,9 +51,9 @@ export class Handle {
     const above = this.#above;
     this.#end();
     this.#end = null;
-    this.#above = undefined;
+    this.#above = null;
     this.#row.element.classList.remove("dragged");
-    this.#list.markLanding();
-    if (isDropped && above !== undefined) this.#list.moveBelow(this.#row, above);
+    this.#list.markLanding(null);
+    if (isDropped && above !== null) this.#list.moveBelow(this.#row, above);
   }
 }

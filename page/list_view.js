@@ -197,10 +197,10 @@ export class ListView extends View {
     if (place >= 0) this.#move(row, place, place + way);
   }
 
-  // Moves an item to below a row, or to the front if that is null. If the item of that row is gone, it comes below the one before.
-  moveBelow(row, above) {
+  // Moves an item to below the last of these rows whose item is still there, or to the front.
+  moveBelow(row, rows) {
     const { items, names } = this.widget;
-    const last = this.#shown.slice(0, this.#shown.indexOf(above) + 1).findLast((it) => it !== row && names.has(it.name));
+    const last = rows.findLast((it) => it !== row && names.has(it.name));
     const place = placeOf(items, row.name, 0);
     const at = last ? placeOf(items, last.name, 0) : -1;
     if (place >= 0) this.#move(row, place, at < place ? at + 1 : at);
@@ -217,16 +217,16 @@ export class ListView extends View {
     this.page.say("move", `${value}, ${placeOf(items, row.name, to) + 1} of ${items.length}`);
   }
 
-  // The row above a height of the window, or null.
-  rowAbove(height) {
+  // The rows above a height of the window.
+  rowsAbove(height) {
     const middle = ({ element }) => element.getBoundingClientRect().top + element.offsetHeight / 2;
-    return this.#shown.findLast((row) => middle(row) < height) ?? null;
+    return this.#shown.slice(0, 1 + this.#shown.findLastIndex((row) => middle(row) < height));
   }
 
-  // Shows where a row would land: below another, or in front if that is null.
-  markLanding(above) {
-    for (const row of this.#shown) row.element.classList.toggle("lands", row === above);
-    this.list.classList.toggle("lands", above === null);
+  // Shows that a row would land below the last of these, or in front if there are none.
+  markLanding(rows) {
+    for (const row of this.#shown) row.element.classList.toggle("lands", row === rows?.at(-1));
+    this.list.classList.toggle("lands", rows?.length === 0);
   }
 
   // Deletes an item. Returns where it was, or -1 if it is still there.

@@ -29,7 +29,7 @@ class Playback {
   #board;
   #does;
 
-  // `does.made` is told the operations of each edit, and `does.ended` when it is done or refused.
+  // `does.made` gets the operations of each edit. `does.ended` is called when it is done or refused.
   constructor(way, plan, view, board, does) {
     Object.assign(this, { way, plan, view });
     this.#board = board;

@@ -5,8 +5,8 @@ from stage import OTHER_AREA, STATE, expect, expect_that
 CONTROLS = ("textbox", "button", "switch", "slider", "spinbutton", "checkbox", "link", "combobox")
 # What a reader of the screen meets on the board of the tests, in this order.
 TREE = [
-    ("heading", "Party"), ("button", "Menu"), ("button", "Close"), ("main", ""), ("region", "Party"), ("heading", "Party"), ("button", "Copy Notes"), ("textbox", "Notes"), ("group", "Who brings what"),
-    ("button", "Copy Who brings what"), ("list", "Who brings what"), ("textbox", "Item of Who brings what"), ("button", "Delete buy bread"), ("textbox", "Item of Who brings what"), ("button", "Delete call Ann"),
+    ("heading", "Party"), ("button", "Undo"), ("button", "Redo"), ("button", "Menu"), ("button", "Close"), ("main", ""), ("region", "Party"), ("heading", "Party"), ("button", "Copy Notes"), ("textbox", "Notes"), ("group", "Who brings what"),
+    ("button", "Copy Who brings what"), ("list", "Who brings what"), ("button", "Move buy bread"), ("textbox", "Item of Who brings what"), ("button", "Delete buy bread"), ("button", "Move call Ann"), ("textbox", "Item of Who brings what"), ("button", "Delete call Ann"),
     ("textbox", "Add to Who brings what"), ("button", "Add the item to Who brings what"), ("switch", "Everything is paid"), ("slider", "Guests"), ("spinbutton", "Guests, as a number"), ("region", "Later"),
     ("heading", "Later"), ("button", 'Copy More "notes"'), ("textbox", 'More "notes"'), ("slider", "Slider 2"), ("spinbutton", "Slider 2, as a number"),
 ]

@@ -34,11 +34,13 @@ def alt(tab, key):
     tab.press(key, ALT)
 
 
-def moves(tab, label, key, times=1):
-    """Moves an item by keys, with the cursor in its field."""
+def moves(tab, label, key, times=1, stays=False):
+    """Moves an item by keys, with the cursor in its field. A cursor that stays there would keep the field as it is."""
     tab.run(f"{field(label)}.focus()")
     for _ in range(times):
         alt(tab, key)
+    if not stays:
+        leave(tab)
 
 
 def by_the_keys(stage):
@@ -113,10 +115,10 @@ def edge(tab, label, share):
     return tab.run(f"(() => {{ const b = {row(label)}.getBoundingClientRect(); return [b.x + 20, b.y + {share} * b.height]; }})()")
 
 
-def drags(tab, label, place, by=MOUSE, meanwhile=lambda: None):
-    """Drags the handle of an item to a place, and drops it there."""
+def drags(tab, label, target, share, by=MOUSE, meanwhile=lambda: None):
+    """Drags the handle of an item to the row of another, at a share of its height, and drops it there."""
     send, press, move, release = by
-    start = tab.middle(handle(label))
+    start, place = tab.middle(handle(label)), edge(tab, target, share)
     send(tab, press, start)
     for share in (0.3, 0.7, 1):
         send(tab, move, [a + share * (b - a) for a, b in zip(start, place, strict=True)])
@@ -133,19 +135,19 @@ def by_a_pointer(stage):
         if by is FINGER:
             tab.call("Emulation.setTouchEmulationEnabled", enabled=True)
         look = lambda: lines.append(tab.run(LANDING))  # noqa: E731
-        drags(tab, "milk", edge(tab, "tea", 0.8), by, look)
+        drags(tab, "milk", "tea", 0.8, by, look)
         list_is(stage, "bread", "eggs", "tea", "milk", "salt")
-        drags(tab, "milk", edge(tab, "bread", 0.2), by, look)
+        drags(tab, "milk", "bread", 0.2, by, look)
         list_is(stage, "milk", "bread", "eggs", "tea", "salt")
-        drags(tab, "milk", edge(tab, "bread", 0.8), by, look)
+        drags(tab, "milk", "bread", 0.8, by, look)
         list_is(stage, *ITEMS)
-        expect(tab.run("[document.querySelectorAll('.lands, .dragged').length, scrollY]"), [0, 0], "what still shows a drag, and how far the page is scrolled")
+        expect(tab.run("document.querySelectorAll('.lands, .dragged').length"), 0, "what still shows a drag")
     expect(lines, [["tea"], ["front"], ["bread"]] * 2, "where the lines were")
     tab.call("Emulation.setTouchEmulationEnabled", enabled=False)
     # A press alone, a drop at its place, and Escape move nothing.
     tab.click(handle("milk"))
-    drags(tab, "milk", edge(tab, "milk", 0.8))
-    drags(tab, "milk", edge(tab, "salt", 0.8), meanwhile=lambda: tab.press("Escape"))
+    drags(tab, "milk", "milk", 0.8)
+    drags(tab, "milk", "salt", 0.8, meanwhile=lambda: tab.press("Escape"))
     list_is(stage, *ITEMS)
     expect(stage.a.run("document.getElementById('undo').ariaDisabled === 'false'"), True, "whether the moves can be undone")
     for _ in range(6):
@@ -163,15 +165,15 @@ def dropped_by_name(stage):
         stage.b.type("pepper\n")
         list_is_of(stage.a, ["milk", "eggs", "tea", "salt", "pepper"])
 
-    drags(stage.a, "milk", edge(stage.a, "tea", 0.8), meanwhile=changes)
+    drags(stage.a, "milk", "tea", 0.8, meanwhile=changes)
     list_is(stage, "eggs", "tea", "milk", "salt", "pepper")
     time.sleep(LATER)
     # The item that it was to come below is gone: it comes below the one before.
-    drags(stage.a, "eggs", edge(stage.a, "salt", 0.8), meanwhile=lambda: (stage.b.run(f"{cross('salt')}.click()"), list_is_of(stage.a, ["eggs", "tea", "milk", "pepper"])))
+    drags(stage.a, "eggs", "salt", 0.8, meanwhile=lambda: (stage.b.run(f"{cross('salt')}.click()"), list_is_of(stage.a, ["eggs", "tea", "milk", "pepper"])))
     list_is(stage, "tea", "milk", "eggs", "pepper")
     # The item itself is gone: nothing comes.
     time.sleep(LATER)
-    drags(stage.a, "tea", edge(stage.a, "eggs", 0.8), meanwhile=lambda: (stage.b.run(f"{cross('tea')}.click()"), list_is_of(stage.a, ["milk", "eggs", "pepper"])))
+    drags(stage.a, "tea", "eggs", 0.8, meanwhile=lambda: (stage.b.run(f"{cross('tea')}.click()"), list_is_of(stage.a, ["milk", "eggs", "pepper"])))
     list_is(stage, "milk", "eggs", "pepper")
 
 
@@ -184,7 +186,7 @@ def in_both_orders(stage, one, other):
 
 def both_move(stage):
     """Both move one item: it is there once, where the first moved it, with the cursors of both."""
-    found = list(in_both_orders(stage, lambda tab: moves(tab, "milk", "ArrowUp"), lambda tab: moves(tab, "milk", "ArrowDown", 3)))
+    found = list(in_both_orders(stage, lambda tab: moves(tab, "milk", "ArrowUp", stays=True), lambda tab: moves(tab, "milk", "ArrowDown", 3, stays=True)))
     expect(found, [["milk", "bread", "eggs", "tea", "salt"], ["bread", "eggs", "tea", "milk", "salt"]], "the lists")
     expect([it.run(f"{FOCUS}.value") for it in stage.tabs], ["milk", "milk"], "the fields with the cursors")
     for it in stage.tabs:
@@ -193,9 +195,10 @@ def both_move(stage):
 
 def one_relabels(stage):
     """One moves and one relabels: it is there once, moved and with the label."""
-    for labels in in_both_orders(stage, lambda tab: moves(tab, "milk", "ArrowDown"), lambda tab: relabels(tab, "milk", "oat milk")):
+    for labels in in_both_orders(stage, lambda tab: moves(tab, "milk", "ArrowDown"), lambda tab: (relabels(tab, "milk", "oat milk"), leave(tab))):
         expect(labels, ["bread", "eggs", "oat milk", "tea", "salt"], "the list")
         relabels(stage.a, "oat milk", "milk")
+        leave(stage.a)
         moves(stage.a, "milk", "ArrowUp")
         list_is(stage, *ITEMS)
     for it in stage.tabs:
@@ -238,10 +241,10 @@ def undone(stage):
     by_keys(tab)
     list_is(stage, "bread", "eggs", "milk", "tea", "salt")
     says(tab, "Undone: 1 move in Who brings what")
-    expect(tab.run(f"{FOCUS}.value"), "milk", "the field with the cursor")
     by_keys(tab, "Redo")
     list_is(stage, "bread", "eggs", "tea", "milk", "salt")
     relabels(stage.b, "milk", "oat milk")
+    leave(stage.b)
     list_is(stage, "bread", "eggs", "tea", "oat milk", "salt")
     by_keys(tab)
     by_keys(tab)
@@ -270,7 +273,7 @@ def while_others_edit(stage):
         stage.a.run(f"{field('bread')}.focus()")
         stage.a.press("Home")
         stage.a.type("brown ")
-        stage.a.press("Enter")
+        leave(stage.a)
 
     unknown_to_b(stage, labels, labels_and_moves)
     list_is(stage, "milk", "brown bread and jam", "eggs", "tea", "salt")

@@ -16,7 +16,7 @@ BY_A_MENU = """(() => {
 })()"""
 UNDO, REDO = "document.getElementById('undo')", "document.getElementById('redo')"
 NEWS = "document.getElementById('news').textContent"
-# What is said beside the captions.
+# The remarks beside the captions.
 REMARKS = "[...document.querySelectorAll('main .after')].map((it) => it.textContent).filter((it) => it !== '')"
 # How many seconds end a step of typing, and a little more.
 PAUSE = 1.2
@@ -63,7 +63,7 @@ def relabels(tab, old, new):
 
 
 def typed_in_front(stage, undo):
-    """What others typed behind it stays."""
+    """What others typed after it stays."""
     focus(stage.a)
     stage.a.type("Hello")
     stage.agreed()

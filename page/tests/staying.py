@@ -1,5 +1,5 @@
 """What others do changes nothing under a person's hands: lines, carets, selections and what is in view stay where they are."""
-from browser import CONTROL, SHIFT
+from browser import SHIFT
 from stage import ADD, AREA, AREAS, CAPTIONS, OTHER_AREA, SOON, STATE, expect, expect_that, focus, leave, put, row, selected
 
 LINES = [f"line {it} of a long text" for it in range(200)]
@@ -132,22 +132,6 @@ def a_composed_word(stage):
     expect(stage.a.run(f"{CAPTION}.includes('after this word')"), False, "whether the caption still says so")
 
 
-def a_browsers_undo(stage):
-    """A browser's undo works until others edit. Then it is refused, with words, and no text changes."""
-    focus(stage.a)
-    put(stage.a, "abc")
-    stage.agreed()
-    stage.a.press("z", CONTROL, ["undo"])
-    expect_that("abc" not in stage.agreed()[0], "a browser's undo takes back what was typed")
-    put(stage.a, "xyz")
-    focus(stage.b, 0)
-    stage.b.type("others ")
-    text = stage.agreed()[0]
-    stage.a.press("z", CONTROL, ["undo"])
-    stage.a.until(f"{CAPTION}.includes('undo')", 10)
-    expect(stage.agreed()[0], text, "the text after the undo that is refused")
-
-
 def hands(tab):
     """What has the focus, by its value, and the selection in it."""
     return tab.run("[document.activeElement.value, document.activeElement.selectionStart, document.activeElement.selectionEnd, document.activeElement.selectionDirection]")
@@ -207,7 +191,6 @@ PARTS = {
     "nothing moves below a text that is out of view": what_is_out_of_view,
     "a selection made backward": backward,
     "a composed word tells what waits": a_composed_word,
-    "a browser's undo is refused once others have edited": a_browsers_undo,
     "a link that comes back": the_link_comes_back,
     "captions and widgets that are others after a restart": other_captions,
 }

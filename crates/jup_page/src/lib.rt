@@ -6,7 +6,7 @@ pub const PAGE: &[u8] = br#"<!doctype html>
 <html lang="en">
 <head>
 <meta charset="utf-8">
-<meta http-equiv="Content-Security-Policy" content="default-src 'none'; script-src 'sha256-zkO14OFkXNwoRZSRejjCt1nm/Y3CHTxIxx67BnU2KvI='; style-src 'sha256-3aa5ylGO3iwQFWyWgqMwLnUDXDx6j98VZ887LmrJhUY='; img-src data:; connect-src 'self'; base-uri 'none'; form-action 'none'">
+<meta http-equiv="Content-Security-Policy" content="default-src 'none'; script-src 'sha256-FlfoDid5oLPvIwHcq4mBiweOKiSN5HwzS2l4EMUMi4A='; style-src 'sha256-vSFyX0Owb+ORC1+EN2lueU/+8Yd5DaoReA99puYY4R0='; img-src data:; connect-src 'self'; base-uri 'none'; form-action 'none'">
 <meta name="viewport" content="width=device-width, initial-scale=1">
 <meta name="color-scheme" content="light dark">
 <title>Gidzvruka</title>
@@ -68,7 +68,12 @@ main section{background:var(--card);border:1px solid var(--line);border-radius:.
 .row{display:flex;align-items:center;gap:.4rem;}
 .wraps{flex-wrap:wrap;}
 ol{list-style:none;display:grid;gap:.4rem;}
-li{border-radius:.4rem;}
+ol,li{position:relative;}
+li{border-radius:.4rem;scroll-margin-bottom:4rem;}
+.handle{flex:none;color:var(--faint);cursor:grab;touch-action:none;}
+.dragged{opacity:.6;}
+li.lands::after,ol.lands::before{content:"";position:absolute;inset:auto 0 -.3rem;border-top:3px solid var(--accent);}
+ol.lands::before{inset:-.3rem 0 auto;}
 li:focus-visible{outline:3px solid var(--accent);outline-offset:1px;}
 .ghost input{opacity:.7;text-decoration:line-through;text-decoration-color:var(--bad);}
 .foot{position:sticky;bottom:0;padding:.2rem 0;background:var(--card);}
@@ -121,6 +126,8 @@ input[role=switch]::after{background:ButtonText !important;}
 <p id="state">connecting &hellip;</p>
 <button id="notice-count" type="button" hidden></button>
 <button id="try-now" type="button" hidden>Try now</button>
+<button id="undo" type="button" aria-label="Undo" title="Undo (Ctrl-Z)" aria-disabled="true">&#8630;</button>
+<button id="redo" type="button" aria-label="Redo" title="Redo (Ctrl-Y)" aria-disabled="true">&#8631;</button>
 <button id="menu-button" type="button" popovertarget="menu" aria-label="Menu">&#8942;</button>
 </header>
 <section id="menu" popover aria-labelledby="menu-caption">
@@ -130,6 +137,8 @@ input[role=switch]::after{background:ButtonText !important;}
 <dl>
 <dt>Enter, &uarr;, &darr;</dt><dd>send what is typed in an item, and go to the next or the one before</dd>
 <dt>Escape</dt><dd>take back what is typed in an item</dd>
+<dt>Ctrl-Z, Ctrl-Y</dt><dd>undo what you did last on this board, and do it again</dd>
+<dt>Alt-&uarr;, Alt-&darr;</dt><dd>move an item</dd>
 <dt>Tab, then Space</dt><dd>go to a button, and press it: delete, add, copy, choose</dd>
 <dt>Space, &larr;, &rarr;</dt><dd>set a toggle or a slider</dd>
 <dt>?</dt><dd>show this, outside a text</dd>
@@ -231,16 +240,18 @@ return this.windows.set(win,this.#window);}
 if(this.#widget.names.has(line.name))fail(FAULT.BadItemName);
 this.#widget.names.add(line.name);
 return this.#widget.items.push({name:line.name,value:line.value});}
-applyAll(steps,operation=(op)=>op,test=()=>{}){const ops=[];
+applyAll(steps,operation=(op)=>op,test=()=>{}){const took=[];
 const reverts=[];
 const names=new Set();
 try{for(const step of steps){const op=operation(step);
 if(op.verb==="ins"&&names.has(op.name))fail(FAULT.BadOp);
-reverts.push(this.#apply(op));
+const left=this.widget(op.win,op.wid)?.items?.[op.place - 1]?.name??null;
+const revert=this.#apply(op);
+reverts.push(revert);
 if(op.verb==="ins"||op.verb==="del")names.add(op.name);
-ops.push(op);}
+took.push({op,value:revert.value,left});}
 test();
-return ops;}catch(fault){for(const revert of reverts.reverse())this.#apply(revert);
+return took;}catch(fault){for(const revert of reverts.reverse())this.#apply(revert);
 throw fault;}}
 #apply(op){if(op.verb==="no")return op;
 const widget=this.widget(op.win,op.wid);
@@ -297,12 +308,15 @@ this.#send("bye\n");}
 get backlog(){return this.#waiting.length;}
 edit(commands){if(this.stage!=="open")fail(FAULT.Stopped);
 if(commands.length<1||commands.length>MOST_OPERATIONS)fail(FAULT.BadBatch);
-const ops=this.#apply(commands);
+const took=this.#apply(commands);
+const ops=took.map(({op})=>op);
+const nth=this.made;
 this.#waiting.push(ops);
-const lines=[`batch ${this.made} ${this.heard} ${ops.length}`,...ops.map(operationLine)];
+const lines=[`batch ${nth} ${this.heard} ${ops.length}`,...ops.map(operationLine)];
 this.made +=1;
 this.#unanswered=0;
 this.#send(`${lines.join("\n")}\n`);
+this.#told("made",{took,nth});
 return ops;}
 #apply(commands){const insertions=this.#insertions;
 try{return this.board.applyAll(commands,(command)=>this.#operation(command),()=>this.#testRoom());}catch(fault){this.#insertions=insertions;
@@ -363,11 +377,11 @@ let comes=ops;
 this.#waiting=this.#waiting.map((edit)=>{const[own,others]=transformEdits(edit,comes);
 comes=others;
 return own;});
-this.board.applyAll(comes);
+const took=this.board.applyAll(comes);
 this.heard +=1;
-this.#told("came",{raw:ops,heard});
-for(const op of comes)if(op.verb!=="no")this.#told("changed",op);
-this.#acknowledge();}
+this.#acknowledge();
+this.#told("came",{raw:ops,took,heard});
+for(const op of comes)if(op.verb!=="no")this.#told("changed",op);}
 #acknowledge(){this.#unanswered +=1;
 if(this.#unanswered<ACKNOWLEDGE_AFTER)return;
 this.#unanswered=0;
@@ -634,8 +648,12 @@ element.append(...children);
 return element;}
 function arrange(parent,children){const kept=new Set(children);
 for(const it of[...parent.children])if(!kept.has(it))it.remove();
+const fixed=children.find((element)=>element.parentElement===parent&&element.contains(document.activeElement));
 let next=parent.firstChild;
-for(const it of children){if(it===next)next=next.nextSibling;
+for(const it of children){while(it===fixed&&it!==next){const after=next.nextSibling;
+parent.append(next);
+next=after;}
+if(it===next)next=next.nextSibling;
 else parent.insertBefore(it,next);}}
 const isLeft=(elements,{relatedTarget})=>!elements.some((it)=>it.contains(relatedTarget)||it.contains(document.activeElement));
 async function copy(text,button){try{await navigator.clipboard.writeText(text);}catch{const area=make("textarea",{value:text,className:"unseen"});
@@ -657,8 +675,7 @@ this.name=make("span",{dir:"auto"});
 this.after=make("span",{className:"after"});
 this.copy=make("button",{type:"button",className:"quiet",textContent:"Copy",click:()=>copy(copyOf(this.widget),this.copy)});}
 head(caption,...more){return make("div",{className:"caption"},caption,this.mark,this.waits,this.after,...more);}
-remark(words){this.page.announce("remark",words);
-this.after.textContent=words;
+remark(words){this.after.textContent=words;
 setTimeout(()=>this.after.textContent===words&&(this.after.textContent=""),REMARK);}
 label(){return make("label",{htmlFor:this.id},this.name);}
 named(){const caption=this.page.captionOf(this.key,this.widget.kind);
@@ -670,12 +687,17 @@ if(!isSame)this.forgetNames();
 this.named();}
 forgetNames(){}
 came(){}
+follow(){}
+tookBack(){this.isStale=true;}
+drops(){return false;}
+reveal(){this.update();
+this.element.scrollIntoView({block:"nearest"});}
 confirmed(){}
 hide(){}
 sendDrafts(){}
 get drafts(){return[];}
 close(){}
-edit(commands){return this.page.edit(this,commands.map((command)=>({...command,win:this.win,wid:this.wid})));}
+edit(commands,how=null){return this.page.edit(this,commands.map((command)=>({...command,win:this.win,wid:this.wid})),how);}
 awaits(more){this.#unconfirmed +=more;
 if(this.#unconfirmed>0)this.#marker??=setTimeout(()=>(this.waits.hidden=false),LATE);
 else{clearTimeout(this.#marker);
@@ -783,6 +805,404 @@ found("news").textContent=words;
 this.#sayAt=performance.now()+ BETWEEN;
 if(this.#said.size>0)this.#sayer=setTimeout(()=>this.#sayNext(),BETWEEN);}
 count(links){found("who").textContent=links>0?`${links} connected`:"";}}
+const MOST_STEPS=1000;
+const MOST_RECORDS=131072;
+const PAUSE=1000;
+const LONGEST_RUN=100;
+const LINE_FEED=10;
+const FEWEST_NAMES=4096;
+const MOST_LABELS=8;
+const keyOf=({win,wid})=>`${win}.${wid}`;
+const idOf=(at,name=at.name)=>(name===undefined?keyOf(at):`${keyOf(at)} ${name}`);
+const sidesOf=({before,after},way)=>(way==="undo"?[after,before]:[before,after]);
+const isMove=(op,next,labels)=>
+op.kind==="list"&&op.verb==="del"&&next?.verb==="ins"&&keyOf(op)===keyOf(next)&&labels.includes(next.value);
+const GROWTH={ins:1,del:-1};
+const NONE=[];
+class Thing{where=0;
+isAway=false;
+isLost=false;
+by=null;
+open=NONE;
+nth=-1;
+heir=this;
+labels=NONE;
+constructor({win,wid,kind},name,value){Object.assign(this,{win,wid,kind,name,now:{value,version:0}});
+this.become(this.now);}
+become(now){this.now=now;
+if(this.kind==="list")this.labels=[...this.labels.slice(-MOST_LABELS),now.value];}}
+class Undo{#done=[];
+#undone=[];
+#playing=new Set();
+#things=new Map();
+#gone=new Map();
+#torn=new Set();
+#records=0;
+#versions=0;
+#nth=-1;
+#isTyping=false;
+#mostNames=FEWEST_NAMES;
+get canUndo(){return this.#done.length>0;}
+get canRedo(){return this.#undone.length>0;}
+get how(){return this.#done.at(-1)?.how??null;}
+nameOf(at,name){return this.#things.get(idOf(at,name))?.heir.name??name;}
+note({took,nth},how=null,time=0){const step=this.#stepOf(took,how,time);
+step.time=time;
+this.#nth=nth;
+this.#isTyping=true;
+for(const it of this.#undone.splice(0))this.#records -=it.records.length;
+for(let at=0;at<took.length;at++){if(!isMove(took[at].op,took[at + 1]?.op,[took[at].value]))this.#record(step,took[at],nth);
+else this.#recordMove(step,took[at],took[++at],nth);}
+while(this.#done.length>MOST_STEPS||(this.#records>MOST_RECORDS&&this.#done.length>1)){this.#records -=this.#done.shift().records.length;}
+this.#forget();}
+end(){this.#isTyping=false;}
+#stepOf(took,how,time){const last=this.#done.at(-1);
+const step=typeof how==="string"?this.#goesOn(last,took,how,time)&&last:how&&this.#done.findLast((it)=>it.how===how);
+if(!step)this.#done.push({records:[],how,time});
+return step||this.#done.at(-1);}
+#goesOn(last,took,how,time){if(last?.how!==how||!this.#isTyping||time - last.time>PAUSE||last.records.length + took.length>LONGEST_RUN)return false;
+const{kind,thing}=last.records.at(-1);
+const[{op,left}]=took;
+if(keyOf(op)!==keyOf(thing)||took.some((it)=>it.op.verb!==kind))return false;
+if(kind==="ins")return left===thing.name&&thing.now.value!==LINE_FEED;
+const gap=this.#gone.get(idOf(thing));
+return left===gap||op.name===gap;}
+#record(step,it,nth){const{op,value}=it;
+const thing=this.#thingOf(op,op.verb==="ins"?op.value:value);
+thing.nth=nth;
+if(op.verb==="rel"||op.verb==="set")return this.#recordValue(step,thing,it,nth);
+const record=this.#add(step,{kind:op.verb,thing,version:thing.now.version});
+if(op.verb==="del")this.#takeAway(thing,it,{record,way:"user"});
+return record;}
+#recordValue(step,thing,{op},nth){const before=thing.now;
+thing.become({value:op.value,version:this.#newVersion()});
+const last=step.records.at(-1);
+const goesOn=op.verb==="set"&&last?.thing===thing&&last.after.version===before.version;
+const record=goesOn?last:this.#add(step,{kind:op.verb,thing,before});
+record.after=thing.now;
+return this.#await(thing,{nth,record,way:"user"});}
+#recordMove(step,{op,value,left},to,nth){const thing=this.#thingOf(op,value);
+const before={name:op.name,version:thing.where};
+this.#gone.set(idOf(op),left);
+this.#rename(thing,to.op.name);
+Object.assign(thing,{where:this.#newVersion(),nth});
+this.#add(step,{kind:"mov",thing,before,after:{name:thing.name,version:thing.where}});}
+#add(step,what){const record={...what,isUndone:false};
+step.records.push(record);
+this.#records +=1;
+return record;}
+#newVersion(){return ++this.#versions;}
+#thingOf(op,value){const id=idOf(op);
+if(!this.#things.has(id))this.#things.set(id,new Thing(op,op.name,value));
+return this.#things.get(id);}
+#rename(thing,name){thing.name=name;
+this.#things.set(idOf(thing,name),thing);}
+#takeAway(thing,{left},by){this.#gone.set(idOf(thing),left);
+Object.assign(thing,{isAway:true,by});}
+#bringBack(thing,{op}){this.#gone.set(idOf(thing),op.name);
+this.#rename(thing,op.name);
+thing.isAway=false;}
+#await(thing,change){thing.open=[...thing.open.filter(({nth})=>nth>change.nth - MOST_WAITING),change];}
+came({raw,took,heard}){raw.forEach((op,at)=>{if(op.verb==="no"||op.verb==="ins")return;
+const{op:applied,value,left}=took[at];
+const isVoid=applied.verb==="no";
+const thing=this.#things.get(idOf(op));
+if(op.verb==="del"&&!isVoid)this.#gone.set(idOf(op),left);
+if(isMove(op,raw[at + 1],thing?.labels??[value]))this.#theyMove(this.#thingOf(op,value),raw[at + 1].name,isVoid,heard);
+else if(op.verb==="del")this.#theyDelete(thing,op.name);
+else if(thing)this.#theyChange(thing,op.value,isVoid,heard);});
+this.#forget();}
+#theyDelete(thing,name){if(!thing)return;
+Object.assign(thing,{isAway:true,isLost:true});
+if(thing.name!==name)this.#torn.add(thing);}
+#theyMove(thing,name,isVoid,heard){if(isVoid&&!thing.isAway)this.#giveUp(thing);
+this.#rename(thing,name);
+thing.where=this.#newVersion();
+if(isVoid||thing.open.some(({nth})=>nth>=heard))this.#torn.add(thing);}
+#giveUp(thing){const{name,now,nth,labels}=thing;
+const copy=Object.assign(new Thing(thing,name,now.value),{isAway:true,isLost:true,nth,labels,heir:thing});
+this.#things.set(idOf(copy),copy);
+this.#torn.add(copy);}
+#theyChange(thing,value,isVoid,heard){const theirs={value,version:this.#newVersion()};
+if(thing.kind==="list"&&value===thing.now.value)this.#torn.add(thing);
+else if(isVoid)this.#slip(thing,theirs,heard);
+else thing.become(theirs);}
+#slip(thing,theirs,heard){thing.open=thing.open.filter(({nth})=>nth>=heard);
+let now=theirs;
+for(const{record,way}of thing.open){const[from,to]=sidesOf(record,way);
+if(way==="user"&&now.version!==to.version)record.before=now;
+if(way==="user"||now.version===from.version)now=to;}
+const isOther=now.version!==thing.now.version;
+thing.become(theirs);
+thing.become(now);
+this.#torn.add(thing);
+if(thing.isAway&&thing.by)this.#slipUnder(thing,thing.by,isOther);}
+#slipUnder(thing,{record,way},isOther){if(way==="user")record.version=thing.now.version;
+else if(isOther&&!thing.isLost){thing.isAway=false;
+record.isUndone=!record.isUndone;}}
+rejoin(old,now){this.#torn.clear();
+this.end();
+this.#nth=-1;
+for(const[win,widgets]of old.windows){for(const[wid,{items}]of widgets){const{names}=now.widget(win,wid);
+items?.forEach(({name},at)=>names.has(name)||this.#gone.set(idOf({win,wid,name}),items[at - 1]?.name??null));}}
+for(const[id,thing]of this.#things){const[,name]=id.split(" ");
+if(now.widget(thing.win,thing.wid).names?.has(name))thing.name=name;}
+const draft=new Draft(now,0);
+for(const thing of new Set(this.#things.values())){const found=draft.valueOf(thing);
+const isAway=found===undefined;
+Object.assign(thing,{open:NONE,by:null,nth:-1,isAway,isLost:isAway&&(thing.isLost||!thing.isAway)});
+if(!isAway&&found!==thing.now.value)thing.become({value:found,version:this.#newVersion()});}}
+undo(){return this.#plan(this.#done,"undo");}
+redo(){return this.#plan(this.#undone,"redo");}
+#plan(steps,way){const step=steps.pop();
+if(!step)return null;
+this.end();
+this.#playing.add(step);
+return new Plan(way==="undo"?step.records.toReversed():[...step.records],{put:(record,draft)=>this.#put(record,way,draft),made:(record,took,nth)=>this.#made(record,way,took,nth),end:(left)=>this.#end(step,steps,way,new Set(left)),});}
+#end(step,steps,way,left){if(!this.#playing.delete(step))return;
+if(left.size>0)steps.push({...step,records:step.records.filter((it)=>left.has(it)),how:null});
+const records=step.records.filter((it)=>!left.has(it));
+const isUndo=way==="undo";
+const to=isUndo?this.#undone:this.#done;
+if(records.some(({isUndone})=>isUndone===isUndo))to.push({...step,records,how:null});
+else this.#records -=records.length;}
+#put(record,way,draft){const{kind,thing}=record;
+if(record.isUndone!==(way==="redo")||thing.isLost)return true;
+if(kind==="ins"||kind==="del"){const comes=(kind==="ins")===(way==="redo");
+if(comes)return!thing.isAway||this.#insert(thing,thing.name,draft);
+if(!thing.isAway&&thing.now.version===record.version)draft.delete(thing);
+return true;}
+const[from,to]=sidesOf(record,way);
+if(thing.isAway||(kind==="mov"?thing.where:thing.now.version)!==from.version)return true;
+if(kind!=="mov")return draft.change(thing,to.value);
+if(draft.roomFor(thing)<0)return false;
+draft.delete(thing);
+return this.#insert(thing,to.name,draft);}
+#insert(thing,name,draft){let place=-1;
+for(let it=name;place<0&&it!==null&&it!==undefined;it=this.#gone.get(idOf(thing,it)))place=draft.after(thing,it);
+return draft.insert(thing,Math.max(place,0),name);}
+#made(record,way,took,nth){const{kind,thing}=record;
+const[it,next]=took;
+record.isUndone=way==="undo";
+this.#nth=thing.nth=nth;
+if(kind==="mov")this.#moveBack(thing,sidesOf(record,way),it,next);
+else if(it.op.verb==="ins")this.#bringBack(thing,it);
+else if(it.op.verb==="del")this.#takeAway(thing,it,{record,way});
+else{thing.become(sidesOf(record,way)[1]);
+this.#await(thing,{nth,record,way});}}
+#moveBack(thing,[from,to],{left},{op}){from.name=thing.name;
+this.#gone.set(idOf(thing),left);
+this.#gone.set(idOf(thing,to.name),op.name);
+this.#rename(thing,op.name);
+to.name=op.name;
+thing.where=to.version;}
+mend(){if(this.#torn.size===0)return null;
+return new Plan(Array.from(this.#torn,(thing)=>({kind:"fix",thing})),{put:({thing},draft)=>this.#fix(thing,draft),made:({thing},[it],nth)=>this.#fixed(thing,it,nth),end:()=>{},});}
+#fix(thing,draft){const found=draft.valueOf(thing);
+if(found===undefined&&!thing.isAway)return this.#insert(thing,thing.name,draft);
+if(found!==undefined&&thing.isAway)draft.delete(thing);
+else if(found!==undefined&&found!==thing.now.value)draft.change(thing,thing.now.value);
+else this.#torn.delete(thing);
+return true;}
+#fixed(thing,it,nth){this.#nth=thing.nth=nth;
+this.#torn.delete(thing);
+if(it.op.verb==="ins")this.#bringBack(thing,it);
+if(it.op.verb==="del")this.#gone.set(idOf(thing),it.left);}
+#forget(){if(this.#names<this.#mostNames)return;
+const taken=Math.max(-1,this.#nth - MOST_WAITING);
+const things=new Set([...this.#things.values()].filter((it)=>it.nth>taken||this.#torn.has(it)));
+const gone=new Set();
+const follow=(thing,name=thing.name)=>{for(let it=name,id;this.#gone.has((id=idOf(thing,it)))&&!gone.has(id);it=this.#gone.get(id))gone.add(id);};
+for(const{records}of[...this.#done,...this.#undone,...this.#playing]){for(const{kind,thing,before,after}of records){things.add(thing);
+if(kind==="mov")for(const{name}of[before,after])follow(thing,name);}}
+for(const thing of things)follow(thing);
+for(const[id,thing]of this.#things)if(!things.has(thing))this.#things.delete(id);
+for(const id of this.#gone.keys())if(!gone.has(id))this.#gone.delete(id);
+this.#mostNames=Math.max(FEWEST_NAMES,2*this.#names);}
+get #names(){return this.#things.size + this.#gone.size;}}
+class Draft{commands=[];
+things=new Set();
+#board;
+#marks=new Map();
+constructor(board,near){this.#board=board;
+this.near=near;}
+after(at,name=at.name){const mark=this.#marks.get(idOf(at,name));
+if(mark!==undefined)return this.#moved(at,this.commands[mark].place +(this.commands[mark].verb==="ins"?1:0),mark + 1);
+const{items,names}=this.#widget(at);
+if(!names.has(name))return -1;
+this.near=placeOf(items,name,this.near);
+return this.#moved(at,this.near + 1,0);}
+#moved(at,place,from){const isBelow=(it,gap)=>it.win===at.win&&it.wid===at.wid&&it.place<gap;
+return this.commands.slice(from).reduce((gap,it)=>(isBelow(it,gap)?gap +(GROWTH[it.verb]??0):gap),place);}
+valueOf(thing){const{names,items,value}=this.#widget(thing);
+if(thing.name===undefined)return value;
+if(!names.has(thing.name))return undefined;
+this.near=placeOf(items,thing.name,this.near);
+return items[this.near].value;}
+delete(thing){this.#put(thing,{verb:"del",place:this.after(thing)- 1},thing.name);}
+roomFor(thing){const here=this.commands.filter((it)=>keyOf(it)===keyOf(thing));
+return here.reduce((room,{verb})=>room -(GROWTH[verb]??0),MOST_ITEMS - this.#widget(thing).items.length);}
+insert(thing,place,name){if(this.roomFor(thing)<1)return false;
+this.#put(thing,{verb:"ins",place,value:thing.now.value},name);
+return true;}
+change(thing,value){if(thing.name===undefined)this.#put(thing,{verb:"set",value});
+else this.#put(thing,{verb:"rel",place:this.after(thing)- 1,value});
+return true;}
+#put(thing,command,name){if(name!==undefined)this.#marks.set(idOf(thing,name),this.commands.length);
+this.things.add(thing);
+this.commands.push({win:thing.win,wid:thing.wid,...command});}
+#widget({win,wid}){return this.#board.widget(win,wid);}}
+class Plan{isFull=false;
+#tasks;
+#does;
+#at=0;
+#next={parts:[],at:0};
+#near=0;
+#skipped=0;
+#counts=new Map();
+#last=null;
+constructor(tasks,does){this.#tasks=tasks;
+this.#does=does;}
+get left(){return this.#tasks.length - this.#at;}
+get isDone(){return this.isFull||this.left===0;}
+get key(){return keyOf(this.#tasks[0].thing);}
+next(board){const draft=new Draft(board,this.#near);
+const parts=[];
+let at=this.#at;
+for(;at<this.#tasks.length;at++){const task=this.#tasks[at];
+const begin=draft.commands.length;
+const isLater=draft.things.has(task.thing)||begin +(task.kind==="mov"?2:1)>MOST_OPERATIONS;
+const hasRoom=isLater||this.#does.put(task,draft);
+this.isFull=!hasRoom&&begin===0;
+if(isLater||!hasRoom)break;
+if(draft.commands.length>begin)parts.push({task,begin});}
+this.#next={parts,at};
+this.#near=draft.near;
+if(parts.length===0)this.#goOn();
+return draft.commands;}
+made({took,nth}){const{parts}=this.#next;
+parts.forEach(({task,begin},at)=>this.#does.made(task,took.slice(begin,parts[at + 1]?.begin),nth));
+for(const{task}of parts)this.#count(keyOf(task.thing),task.kind);
+this.#last=took.at(-1);
+this.#goOn();}
+#count(key,kind){const it=this.#counts.get(key + kind)??{key,kind,count:0};
+it.count +=1;
+this.#counts.set(key + kind,it);}
+#goOn(){const{parts,at}=this.#next;
+this.#skipped +=at - this.#at - parts.length;
+this.#at=at;
+this.#next={parts:[],at};}
+finish(){this.#does.end(this.#tasks.slice(this.#at));
+return{did:[...this.#counts.values()],skipped:this.#skipped,isFull:this.isFull,place:this.#last&&placeOn(this.#last)};}}
+const placeOn=({op,left})=>({key:keyOf(op),after:op.verb==="del"?left:op.name});
+const NO_STEP=Symbol("no step");
+const KEYS={z:"undo",y:"redo"};
+const MENUS={historyUndo:"undo",historyRedo:"redo"};
+const DONE={undo:"Undone",redo:"Done again"};
+const NOTHING={undo:"There is nothing to undo",redo:"There is nothing to do again"};
+const RESTARTED="The server was started again, so there is nothing to undo";
+const OFFLINE="Undo works again once the link is back";
+const OTHERS="Others have changed this since";
+const NO_ROOM="There was no room for the rest";
+const UNITS={ins:"item",del:"item",rel:"label",mov:"move"};
+class Playback{how=NO_STEP;
+rest=[];
+#board;
+#does;
+constructor(way,plan,view,board,does){Object.assign(this,{way,plan,view});
+this.#board=board;
+this.#does=does;}
+get isDone(){return this.plan.isDone;}
+get left(){return this.plan.left;}
+next(){return this.plan.next(this.#board);}
+made(ops){if(ops.length>0)this.#does.made(this.plan,ops);}
+show(){}
+end(){this.#does.ended(this);}}
+class TakingBack{drag=null;
+#page;
+#undo=new Undo();
+#made=null;
+#job=null;
+#nothing=NOTHING.undo;
+constructor(page){this.#page=page;
+document.addEventListener("keydown",(event)=>this.#key(event));
+document.addEventListener("beforeinput",(event)=>this.#menu(event));
+for(const kind of["pointerdown","focusout"])document.addEventListener(kind,()=>this.#undo.end());
+document.addEventListener("dragstart",()=>(this.drag={}));
+document.addEventListener("dragend",()=>(this.drag=null));
+for(const way of["undo","redo"]){found(way).addEventListener("mousedown",(event)=>event.preventDefault());
+found(way).addEventListener("click",()=>this.#act(way));}}
+made(it){this.#made=it;}
+note(how){if(how===NO_STEP)return;
+this.#undo.note(this.#made,how,performance.now());
+this.#nothing=NOTHING.undo;
+this.tell();}
+came(it){this.#undo.came(it);}
+nameOf(view,name){return this.#undo.nameOf(view,name);}
+mend(){const plan=this.#page.isReady&&this.#undo.mend();
+if(!plan)return;
+while(!plan.isDone){const commands=plan.next(this.#page.board);
+const ops=commands.length>0?this.#page.edit(this.#viewOf(commands[0]),commands,NO_STEP):[];
+if(ops===null)return;
+if(ops.length>0)plan.made(this.#made);
+for(const view of this.#viewsOf(ops).keys()){view.isStale=true;
+view.follow();}}
+this.#page.drawSoon();}
+joined(old,isSame){if(isSame)this.#undo.rejoin(old,this.#page.board);
+else{if(this.#undo.canUndo||this.#undo.canRedo)this.#nothing=RESTARTED;
+this.#undo=new Undo();}
+this.tell();}
+lost(){this.#page.stop(this.#job);}
+#key(event){if(/^(Arrow|Page|Home|End)/.test(event.key))this.#undo.end();
+if(event.isComposing||event.altKey||!(event.ctrlKey||event.metaKey))return;
+const letter=/^[a-z]$/i.test(event.key)?event.key.toLowerCase():event.code.slice(3).toLowerCase();
+const way=letter==="z"&&event.shiftKey?"redo":KEYS[letter];
+if(way===undefined)return;
+event.preventDefault();
+this.#act(way);}
+#menu(event){const way=MENUS[event.inputType];
+if(way===undefined)return;
+event.preventDefault();
+if(!event.isComposing)this.#act(way);}
+tell(){const isIdle=this.#page.takesEdits&&this.#job===null;
+found("undo").ariaDisabled=String(!(isIdle&&this.#undo.canUndo));
+found("redo").ariaDisabled=String(!(isIdle&&this.#undo.canRedo));}
+#act(way){const{activeElement}=document;
+const at=[...this.#page.views.values()].find(({element})=>element.contains(activeElement));
+if(this.#job!==null||(way==="undo"&&at?.drops(activeElement)))return;
+if(!this.#page.takesEdits)return this.#say(this.#page.isReadOnly?reasonOf(FAULT.LogFull):OFFLINE,at);
+if(way==="undo")this.#page.stop(this.#undo.how);
+const plan=way==="undo"?this.#undo.undo():this.#undo.redo();
+if(plan===null)return this.#say(way==="undo"?this.#nothing:NOTHING.redo,at);
+this.#play(way,plan);}
+#play(way,plan){const job=new Playback(way,plan,this.#page.views.get(plan.key),this.#page.board,{made:(it,ops)=>this.#playbackMade(it,ops),ended:(it)=>this.#ended(it),});
+this.#job=job;
+if(!this.#page.isShort(job))this.#page.begin(job);
+else{this.#page.run(job);
+job.end();}
+this.tell();}
+#playbackMade(plan,ops){plan.made(this.#made);
+for(const[view,some]of this.#viewsOf(ops))view.tookBack(some);}
+#ended({way,plan}){this.#job=null;
+const ending=plan.finish();
+const{key,after}=ending.place??{key:plan.key};
+const view=this.#page.views.get(key);
+view.reveal(after);
+this.#page.drawSoon();
+this.#say(this.#sentence(way,ending),view);
+this.tell();}
+#say(words,view){if(words!=="")this.#page.say("undo",words,view);}
+#sentence(way,{did,skipped,isFull}){if(did.length===0)return isFull?reasonOf(FAULT.LongText):skipped>0?OTHERS:"";
+const phrases=Array.from(Map.groupBy(did,({key})=>key),([key,some])=>this.#phrase(this.#page.views.get(key),some));
+const words=`${DONE[way]}: ${phrases.join(", ")}`;
+return isFull?`${words}. ${NO_ROOM}`:words;}
+#phrase({widget,name},did){const caption=name.textContent;
+if(did[0].kind==="set")return `${caption}, now ${settingOf(widget)}`;
+const counts=Map.groupBy(did,({kind})=>(widget.kind==="text"?"character":UNITS[kind]));
+const sum=(some)=>some.reduce((total,{count})=>total + count,0);
+return `${Array.from(counts, ([unit, some]) => counted(sum(some), unit)).join(" and ")} in ${caption}`;}
+#viewOf({win,wid}){return this.#page.views.get(`${win}.${wid}`);}
+#viewsOf(ops){return Map.groupBy(ops,(op)=>this.#viewOf(op));}}
 const REMEMBERED=4000;
 const LOOK_AGAIN=300;
 const LOST="The server may not have this. Look at the board, and copy what is missing there.";
@@ -792,7 +1212,7 @@ class Untaken{#page;
 #offered=null;
 #looker=null;
 constructor(page){this.#page=page;}
-add(edit){this.#edits.push({...edit,number:this.#page.made,made:performance.now(),at:null});
+add(edit){this.#edits.push({...edit,number:this.#page.editCount,made:performance.now(),at:null});
 edit.view.awaits(1);}
 get oldest(){return this.#edits.find(({at})=>at===null)?.made??null;}
 get isPending(){return this.#lost!==null;}
@@ -848,18 +1268,52 @@ return{start:head,end:base.length - tail,text:now.slice(head,now.length - tail)}
 function isBefore(one,other){return one.end<other.start||(one.end===other.start&&one.end>one.start&&other.end>other.start);}
 const put=(text,{start,end,text:it})=>text.slice(0,start)+ it + text.slice(end);
 class Relabels{#open=new Map();
-made(name,number,before){this.#open.set(name,[...(this.#open.get(name)??[]),{number,before}]);}
+made(name,number,before,step){this.#open.set(name,[...(this.#open.get(name)??[]),{number,before,step}]);}
+rename(old,name){if(this.#open.has(old))this.#open.set(name,this.#open.get(old));
+this.#open.delete(old);}
+forget(name){this.#open.delete(name);}
 confirmed(count){for(const name of this.#open.keys())this.#later(name,count);}
 came(name,theirs,heard){const[first]=this.#later(name,heard);
 if(!first)return null;
-const{before}=first;
+const{before:base,step}=first;
 first.before=theirs;
-return before;}
+return{base,step};}
 isOpen(name,heard){return this.#later(name,heard).length>0;}
 #later(name,count){const open=(this.#open.get(name)??[]).filter(({number})=>number>=count);
 if(open.length>0)this.#open.set(name,open);
 else this.#open.delete(name);
 return open;}}
+const EDGE=80;
+const SCROLL=12;
+class Handle{#list;
+#row;
+#end=null;
+#above=null;
+constructor(list,row){this.#list=list;
+this.#row=row;
+this.element=make("button",{type:"button",className:"handle",textContent:"\u2195",title:"Drag, or press an arrow key",mousedown:(event)=>event.preventDefault(),pointerdown:(event)=>event.button===0&&this.#grasp(event.pointerId),});}
+set label(label){this.element.ariaLabel=`Move ${label}`;}
+#grasp(pointer){if(this.#end||this.element.ariaDisabled==="true"||this.#list.hasJustMoved(this.#row))return;
+const ending=new AbortController();
+const listen=(kind,step)=>addEventListener(kind,step,{signal:ending.signal,capture:true});
+const ifMine=(step)=>(event)=>event.pointerId===pointer&&step(event);
+this.#end=()=>ending.abort();
+this.#row.element.classList.add("dragged");
+listen("pointermove",ifMine(({clientY})=>this.#move(clientY)));
+listen("pointerup",ifMine(()=>this.#release(true)));
+listen("pointercancel",ifMine(()=>this.#release(false)));
+listen("keydown",(event)=>event.key==="Escape"&&this.#release(false));}
+#move(height){if(height<EDGE)scrollBy(0,-SCROLL);
+if(height>innerHeight - EDGE)scrollBy(0,SCROLL);
+this.#above=this.#list.rowsAbove(height);
+this.#list.markLanding(this.#above);}
+#release(isDropped){const above=this.#above;
+this.#end();
+this.#end=null;
+this.#above=null;
+this.#row.element.classList.remove("dragged");
+this.#list.markLanding(null);
+if(isDropped&&above!==null)this.#list.moveBelow(this.#row,above);}}
 function putPlain(field){const typed=field.value;
 const cursor=plain(typed.slice(0,field.selectionEnd)).length;
 if(plain(typed)===typed)return;
@@ -886,13 +1340,18 @@ movedAt=-Infinity;
 #isLost=false;
 #isAsked=false;
 #offers=[];
+#by="others";
 #hints;
 constructor(list,id,{name,value}){this.#list=list;
 Object.assign(this,{name,label:value});
-this.field=make("input",{type:"text",value,autocomplete:"off",dir:"auto",ariaLabel:`Item of ${list.name.textContent}`,focus:()=>(this.#base??=this.label),input:(event)=>event.isComposing||this.#typed(),compositionend:()=>this.#typed(),paste:(event)=>list.pasted(event,this.field,this),keydown:(event)=>event.key==="Escape"&&!event.isComposing&&this.#drop(),});
-this.remove=make("button",{type:"button",textContent:"\u00d7",ariaLabel:`Delete ${value}`,click:()=>list.remove(this)});
+this.field=make("input",{type:"text",value,autocomplete:"off",dir:"auto",ariaLabel:`Item of ${list.name.textContent}`,focus:()=>(this.#base??=this.label),input:(event)=>event.isComposing||this.#typed(),compositionend:()=>this.#typed(),paste:(event)=>list.pasted(event,this.field,this),keydown:(event)=>event.key==="Escape"&&!event.isComposing&&this.takeBack(),});
+this.handle=new Handle(list,this);
+this.remove=make("button",{type:"button",textContent:"\u00d7",click:()=>list.remove(this)});
 this.#hints=new Hints(this.field,id);
-this.element=make("li",{tabIndex:-1,focusout:(event)=>isLeft([this.field,this.#hints.element],event)&&this.#leave()},make("div",{className:"row"},this.field,this.remove),this.#hints.element);}
+this.element=make("li",{tabIndex:-1,focusout:(event)=>isLeft([this.field,this.#hints.element],event)&&this.#leave()},make("div",{className:"row"},this.handle.element,this.field,this.remove),this.#hints.element);
+this.#name();}
+#name(){this.handle.label=this.label;
+this.remove.ariaLabel=`Delete ${this.label}`;}
 get hasFocus(){return document.activeElement===this.field;}
 get isDraft(){return this.#base!==null&&(this.field.value!==this.#base||(this.isGhost&&this.#isLost));}
 get isKept(){return this.#base!==null;}
@@ -900,12 +1359,19 @@ get #fault(){return this.isDraft?faultOf(this.#mine):"";}
 get #mine(){return plain(this.field.value).trim();}
 get isGood(){return this.#fault==="";}
 setOpen(isOpen){this.field.readOnly=!isOpen;
-this.remove.ariaDisabled=String(!isOpen);}
-show(label){if(label===this.label&&!this.isGhost)return;
+for(const it of[this.handle.element,this.remove])it.ariaDisabled=String(!isOpen);}
+show(label,by="others"){if(label===this.label&&!this.isGhost)return;
 Object.assign(this,{label,isGhost:false});
+this.#by=by;
 if(this.#base===null)this.field.value=label;
-this.remove.ariaLabel=`Delete ${label}`;
+this.#name();
 this.tell();}
+putBack(label){const hasCursor=this.#base!==null&&!this.isDraft;
+if(hasCursor)this.#base=null;
+this.show(label,"undo");
+if(hasCursor)this.#end();}
+isTakenAway(){this.#by="undo";
+if(!this.isDraft)this.#base=null;}
 outlive(){this.isGhost=true;
 this.#isAsked=false;
 this.tell();}
@@ -915,9 +1381,9 @@ this.isGhost=false;
 this.tell();}
 loses(){this.#isLost=true;
 this.#base??=this.label;}
-races(base,theirs){const label=merged(base,this.label,theirs);
+races(base,theirs,step){const label=merged(base,this.label,theirs);
 if(label===this.label)return;
-if(label===null||faultOf(label)!==""||!this.#list.relabel(this,label))this.#offers.push(theirs);
+if(label===null||faultOf(label)!==""||!this.#list.relabel(this,label,step))this.#offers.push(theirs);
 this.tell();}
 send(){if(!this.isDraft||this.isGhost||!this.isGood)return;
 const label=merged(this.#base,this.#mine,this.label);
@@ -937,7 +1403,7 @@ else this.#end();}
 this.#isAsked=false;
 this.field.value=this.label;
 this.tell();}
-#drop(){if(this.isGhost)this.#list.drop(this);
+takeBack(){if(this.isGhost)this.#list.drop(this);
 else this.#end();}
 #keepMine(){this.#base=this.label;
 this.send();}
@@ -951,15 +1417,15 @@ this.tell();}
 tell(){const isWrong=this.#fault!==""||this.#isAsked;
 this.element.classList.toggle("ghost",this.isGhost);
 this.field.ariaInvalid=String(isWrong);
-this.remove.hidden=this.isGhost;
+for(const it of[this.handle.element,this.remove])it.hidden=this.isGhost;
 this.#hints.show([...this.#hintsNow()]);
 this.#list.page.notices.hold(this.element,this.#offers.length>0||((isWrong||(this.isGhost&&this.isDraft))&&!this.hasFocus));
 this.#list.page.drafts.hold(this,this.isDraft);}
-*#hintsNow(){const theirs=`Others wrote \u201c${this.label}\u201d`;
+*#hintsNow(){const theirs=`${this.#by === "undo" ? "Undo wrote" : "Others wrote"} \u201c${this.label}\u201d`;
 const choices=(keep,take)=>({"Keep mine":keep,"Take theirs":take});
-if(this.#fault!=="")yield{words:this.#fault,choices:this.hasFocus||this.isGhost?{}:{Drop:()=>this.#drop()}};
-if(this.isGhost)yield{words:"Deleted by others",choices:{"Add it again":()=>this.#addAgain(),Drop:()=>this.#drop()}};
-else if(this.#isAsked)yield{words:theirs,choices:choices(()=>this.#keepMine(),()=>this.#drop())};
+if(this.#fault!=="")yield{words:this.#fault,choices:this.hasFocus||this.isGhost?{}:{Drop:()=>this.takeBack()}};
+if(this.isGhost)yield{words:`Deleted by ${this.#by}`,choices:{"Add it again":()=>this.#addAgain(),Drop:()=>this.takeBack()}};
+else if(this.#isAsked)yield{words:theirs,choices:choices(()=>this.#keepMine(),()=>this.takeBack())};
 else if(this.#base!==null&&this.label!==this.#base)yield{words:theirs,choices:{}};
 for(const it of this.#offers)yield{words:`Others wrote \u201c${it}\u201d at the same time`,choices:choices(()=>this.#choose(it,false),()=>this.#choose(it,true))};}}
 class Foot{movedAt=-Infinity;
@@ -980,7 +1446,7 @@ get isDraft(){return this.#label!=="";}
 get #label(){return plain(this.field.value).trim();}
 add(){if(this.isDraft&&faultOf(this.#label)===""&&this.#list.append(this.#label))this.field.value="";
 this.#tell();}
-clear(){this.field.value="";
+takeBack(){this.field.value="";
 this.#tell();}
 #typed(){putPlain(this.field);
 this.#tell();}
@@ -991,6 +1457,7 @@ this.#hints.show(fault===""?[]:[{words:fault,choices:{}}]);
 notices.hold(this.element,fault!==""&&!this.hasFocus);
 drafts.hold(this,this.isDraft);}}
 const MOVED=500;
+const ARROWS={ArrowUp:-1,ArrowDown:1};
 class ListView extends View{#rows=new Map();
 #shown=[];
 #relabels=new Relabels();
@@ -1015,11 +1482,32 @@ this.#rows=new Map();
 this.#shown.filter((row)=>!row.isGhost).forEach((row,at)=>{const item=items[at];
 if(item&&(!row.isDraft||item.value===row.label))this.#rows.set(item.name,Object.assign(row,{name:item.name}));
 else this.#lose(row);});}
-came({verb,name,value},heard){const row=this.#rows.get(name);
+came({verb,name,value},heard){if(verb==="del")this.follow();
+const row=this.#rows.get(name)??this.#rows.get(this.page.nameOf(this,name));
 if(!row)return;
-if(verb==="del"&&this.#relabels.isOpen(name,heard))row.loses();
-const base=verb==="rel"?this.#relabels.came(name,value,heard):null;
-if(base!==null)row.races(base,value);}
+if(verb==="del"&&row.name===name&&this.#relabels.isOpen(name,heard))row.loses();
+const race=verb==="rel"?this.#relabels.came(row.name,value,heard):null;
+if(race!==null)row.races(race.base,value,race.step);}
+follow(){const{names}=this.widget;
+for(const row of[...this.#rows.values()]){const name=names.has(row.name)?row.name:this.page.nameOf(this,row.name);
+if(name!==row.name&&names.has(name))this.#rename(row,name);}}
+#rename(row,name){const other=this.#rows.get(name);
+if(other)this.#lose(other);
+this.#rows.delete(row.name);
+this.#relabels.rename(row.name,name);
+this.#rows.set(name,Object.assign(row,{name}));}
+tookBack(ops){super.tookBack();
+this.follow();
+for(const{verb,name,value}of ops){this.#relabels.forget(name);
+if(verb==="rel")this.#rows.get(name)?.putBack(value);
+if(verb==="del")this.#rows.get(name)?.isTakenAway();}}
+reveal(name){this.update();
+const element=this.#rows.get(name)?.element??this.element;
+element.scrollIntoView({block:"nearest"});
+flash(element);}
+drops(field){const it=[...this.#shown,this.foot].find((draft)=>draft.field===field&&draft.isDraft);
+it?.takeBack();
+return it!==undefined;}
 confirmed(count){this.#relabels.confirmed(count);}
 draw(){const{items,names}=this.widget;
 const[before,height]=[this.#shown,this.isChanged?this.list.offsetHeight:0];
@@ -1054,17 +1542,36 @@ for(const it of[...moved,this.foot])it.movedAt=performance.now();}
 #guard(event){if(event.detail===0)return;
 const hit=[...this.#shown,this.foot].find(({element})=>element.contains(event.target));
 const isSecond=event.detail>1&&event.target.closest("button")!==null;
-if(event.type==="mousedown")this.#isVoid=isSecond||(hit!==undefined&&performance.now()- hit.movedAt<MOVED);
+if(event.type==="mousedown")this.#isVoid=isSecond||(hit!==undefined&&this.hasJustMoved(hit));
 if(!this.#isVoid)return;
 event.preventDefault();
 event.stopPropagation();
 if(!isSecond)flash(hit.element);}
-relabel(row,label){const place=placeOf(this.widget.items,row.name,0);
+hasJustMoved(row){return performance.now()- row.movedAt<MOVED;}
+relabel(row,label,step={}){const place=placeOf(this.widget.items,row.name,0);
 const before=this.widget.items[place]?.value;
-if(place<0||!this.edit([{verb:"rel",place,value:label}]))return false;
-this.#relabels.made(row.name,this.page.made - 1,before);
+if(place<0||!this.edit([{verb:"rel",place,value:label}],step))return false;
+this.#relabels.made(row.name,this.page.editCount - 1,before,step);
 row.show(label);
 return true;}
+#moveBy(row,way){const place=placeOf(this.widget.items,row.name,0);
+if(place>=0)this.#move(row,place,place + way);}
+moveBelow(row,rows){const{items,names}=this.widget;
+const last=rows.findLast((it)=>it!==row&&names.has(it.name));
+const place=placeOf(items,row.name,0);
+const at=last?placeOf(items,last.name,0):-1;
+if(place>=0)this.#move(row,place,at<place?at + 1:at);}
+#move(row,place,to){const{items}=this.widget;
+const{value}=items[place];
+const ops=place!==to&&items[to]?this.edit([{verb:"del",place},{verb:"ins",place:to,value}]):null;
+if(ops!==null)this.#rename(row,ops[1].name);
+this.draw();
+row.element.scrollIntoView({block:"nearest"});
+this.page.say("move",`${value}, ${placeOf(items, row.name, to) + 1} of ${items.length}`);}
+rowsAbove(height){const middle=({element})=>element.getBoundingClientRect().top + element.offsetHeight / 2;
+return this.#shown.slice(0,1 + this.#shown.findLastIndex((row)=>middle(row)<height));}
+markLanding(rows){for(const row of this.#shown)row.element.classList.toggle("lands",row===rows?.at(-1));
+this.list.classList.toggle("lands",rows?.length===0);}
 remove(row){const place=placeOf(this.widget.items,row.name,0);
 if(place<0||!this.edit([{verb:"del",place}]))return -1;
 row.forget();
@@ -1091,8 +1598,9 @@ field.dispatchEvent(new InputEvent("input"));
 this.#insert(row&&!row.isGhost?placeOf(this.widget.items,row.name,0)+ 1:this.widget.items.length,lines);}
 #insert(place,labels){const left=labels.filter((it)=>faultOf(it)==="");
 const bad=labels.filter((it)=>faultOf(it)!=="");
+const step={};
 for(let at=Math.min(place,this.widget.items.length);left.length>0;){const commands=left.slice(0,MOST_OPERATIONS).map((value,more)=>({verb:"ins",place:at + more,value}));
-if(!this.edit(commands))break;
+if(!this.edit(commands,step))break;
 at +=commands.length;
 left.splice(0,commands.length);}
 this.draw();
@@ -1106,11 +1614,14 @@ sendDrafts(){for(const row of this.#shown.filter(({hasFocus})=>!hasFocus))row.se
 if(!this.foot.hasFocus)this.foot.add();}
 get drafts(){return[...this.#shown,this.foot].filter((it)=>it.isDraft).map(({field})=>field.value);}
 close(){for(const row of this.#shown)row.forget();
-this.foot.clear();}
-#key(event){if(event.target!==this.foot.field)return this.#walk(event);
+this.foot.takeBack();}
+#key(event){const row=this.#shown.find(({element})=>element.contains(event.target));
+if(event.key in ARROWS&&row&&(event.altKey||event.target===row.handle.element)){event.preventDefault();
+return this.#moveBy(row,ARROWS[event.key]);}
+if(event.target!==this.foot.field)return this.#walk(event);
 if(event.key==="Enter")return this.foot.add();
-return event.key==="Escape"?this.foot.clear():this.#walk(event);}
-#walk(event){const way={ArrowUp:-1,ArrowDown:1,Enter:1}[event.key];
+return event.key==="Escape"?this.foot.takeBack():this.#walk(event);}
+#walk(event){const way={...ARROWS,Enter:1}[event.key];
 const row=this.#shown.find(({element,field})=>event.target===element||event.target===field);
 if(!way||!(row||event.target===this.foot.field))return;
 const fields=[...this.#shown,this.foot].map(({field})=>field);
@@ -1125,9 +1636,10 @@ this.named();
 this.draw();}
 setOpen(isOpen){this.box.ariaDisabled=String(!isOpen);}
 draw(){this.box.checked=this.widget.value;}}
-class SliderView extends View{constructor(...given){super(...given);
+class SliderView extends View{#drag=null;
+constructor(...given){super(...given);
 const{low:min,high:max}=this.widget;
-this.range=make("input",{type:"range",id:this.id,min,max,step:1,input:()=>this.#dragged(),change:()=>this.#set(Number(this.range.value))});
+this.range=make("input",{type:"range",id:this.id,min,max,step:1,pointerdown:()=>(this.#drag={}),input:()=>this.#dragged(),change:()=>this.#dropped()});
 this.number=make("input",{type:"number",min,max,step:"any",change:()=>this.#typed(),input:()=>(this.hint.hidden=true)});
 this.hint=make("p",{className:"hint",textContent:`${min} to ${max}`,hidden:true});
 this.element=make("div",{className:"widget"},this.head(this.label()),make("div",{className:"row wraps"},bound(min),this.range,bound(max),this.number),this.hint);
@@ -1139,27 +1651,35 @@ setOpen(isOpen){this.range.ariaDisabled=String(!isOpen);
 this.number.readOnly=!isOpen;}
 #dragged(){this.number.value=this.range.value;
 this.frame??=requestAnimationFrame(()=>this.#set(Number(this.range.value)));}
+#dropped(){this.#set(Number(this.range.value));
+this.#drag=null;}
 #typed(){const{low,high,value}=this.widget;
 const typed=this.number.valueAsNumber;
 const nearest=Number.isNaN(typed)?value:Math.min(high,Math.max(low,Math.round(typed)));
 this.hint.hidden=Number.isNaN(typed)||nearest===Math.round(typed);
-if(!this.hint.hidden)this.page.announce("bounds",this.hint.textContent);
+if(!this.hint.hidden)this.page.say("bounds",this.hint.textContent);
 this.number.value=nearest;
 this.#set(nearest);}
 #set(value){cancelAnimationFrame(this.frame);
 this.frame=null;
-if(value!==this.widget.value)this.edit([{verb:"set",value}]);
+if(value!==this.widget.value)this.edit([{verb:"set",value}],this.#drag);
 this.draw();}
-draw(){const isTyped=document.activeElement===this.number&&this.number.value!==this.shown;
+get #isTyped(){return document.activeElement===this.number&&this.number.value!==this.shown;}
+drops(field){if(field!==this.number||!this.#isTyped)return false;
+this.number.value=this.shown;
+return true;}
+draw(){const isTyped=this.#isTyped;
 this.range.value=this.widget.value;
 if(!isTyped)this.number.value=this.widget.value;
 this.shown=this.range.value;}}
 const bound=(value)=>make("span",{className:"bound",textContent:value,ariaHidden:"true"});
 class Job{#taken=0;
 #near=0;
-constructor(view,place,after,steps){Object.assign(this,{view,place,after,steps});
+constructor(view,place,after,steps,how=null){Object.assign(this,{view,place,after,steps});
+this.how=typeof how==="string"&&steps.length>MOST_OPERATIONS?this:(how??this);
 this.#near=place;}
 get isDone(){return this.steps.length===0;}
+get left(){return this.steps.length;}
 get rest(){return this.steps.filter(({value})=>value!==undefined).map(({value})=>value);}
 get deletions(){return this.steps.length - this.rest.length;}
 takeBack(edits){if(edits.length===0)return;
@@ -1189,16 +1709,21 @@ return commands;}
 made(ops){this.steps.splice(0,this.#taken);
 const last=ops.findLast((op)=>op.verb==="ins");
 if(last)Object.assign(this,{after:last.name,place:last.place + 1});}
+show(){Object.assign(this.view,{isStale:true,caret:this.place});}
+end(){}
 #placeOfInsertion(items){if(this.after===null)return 0;
 const found=placeOf(items,this.after,this.place - 1);
 return found>=0?found + 1:Math.min(this.place,items.length);}}
 const LONG_PASTE=512;
 const COMPOSED=1000;
+const HOW={insertText:"type",insertLineBreak:"type",deleteContentBackward:"delete",deleteContentForward:"delete"};
+const DRAGS=["deleteByDrag","insertFromDrop"];
 class TextView extends View{caret=null;
+#word={};
 #later=0;
 #height="";
 constructor(...given){super(...given);
-this.area=make("textarea",{id:this.id,rows:3,dir:"auto",input:(event)=>(event.isComposing?this.#composes():this.#typed()),focus:()=>this.#sizeAgain(),paste:(event)=>this.#pasted(event),compositionstart:()=>(this.isHeld=true),compositionend:()=>this.#composed(),});
+this.area=make("textarea",{id:this.id,rows:3,dir:"auto",input:(event)=>(event.isComposing?this.#composes():this.#typed(this.#howOf(event))),focus:()=>this.#sizeAgain(),paste:(event)=>this.#pasted(event),compositionstart:()=>this.#beginsWord(),compositionend:()=>this.#composed(),});
 this.element=make("div",{className:"widget"},this.head(this.label(),this.copy),this.area);
 new IntersectionObserver(([{isIntersecting}])=>isIntersecting||this.#sizeAgain()).observe(this.area);
 this.named();
@@ -1210,8 +1735,10 @@ this.shown=shown;}
 #reset(cursor){this.#keep([...this.widget.items],textOf(this.widget.items));
 this.area.value=this.shown;
 this.area.setSelectionRange(cursor,cursor);}
+#beginsWord(){this.isHeld=true;
+this.#word={};}
 #composes(){clearTimeout(this.pause);
-this.pause=setTimeout(()=>this.items!==null&&this.#typed(),COMPOSED);}
+this.pause=setTimeout(()=>this.items!==null&&this.#typed(this.#word),COMPOSED);}
 changed(){super.changed();
 if(!this.isHeld)return;
 this.#later +=1;
@@ -1220,21 +1747,22 @@ this.after.textContent=`${counted(this.#later, "change")} ${this.#later === 1 ? 
 this.isHeld=false;
 this.#later=0;
 this.after.textContent="";
-if(this.items!==null)this.#typed();
+if(this.items!==null)this.#typed(this.#word);
 this.page.drawSoon();}
-#typed(){this.#sizeAgain();
+#howOf({inputType}){return DRAGS.includes(inputType)?this.page.takingBack.drag:HOW[inputType];}
+#typed(how){this.#sizeAgain();
 const{value,selectionEnd}=this.area;
 const{head,tail}=difference(this.shown,value,selectionEnd);
-if(value!==this.shown)this.#replace(head,this.shown.length - tail,value.slice(head,value.length - tail));}
+if(value!==this.shown)this.#replace(head,this.shown.length - tail,value.slice(head,value.length - tail),how);}
 #pasted(event){const text=event.clipboardData.getData("text/plain").replace(/\r\n?/g,"\n");
 if(text.length<=LONG_PASTE||this.area.readOnly)return;
 event.preventDefault();
 this.#replace(this.area.selectionStart,this.area.selectionEnd,text);}
-#replace(start,end,text){const[from,to]=[this.#place(start),this.#place(end)];
+#replace(start,end,text,how){const[from,to]=[this.#place(start),this.#place(end)];
 const values=scalarsOf(text);
 const gone=this.items.slice(from,to).reverse();
 const steps=[...gone.map(({name})=>({name})),...values.map((value)=>({value}))];
-const job=new Job(this,from,this.items[from - 1]?.name??null,steps);
+const job=new Job(this,from,this.items[from - 1]?.name??null,steps,how);
 if(!this.page.isShort(job)){this.#reset(start);
 this.page.begin(job);
 return;}
@@ -1248,6 +1776,10 @@ if(values.map(shownAs).join("")!==text)this.#show();}
 #offset(place){return this.shown.length===this.items.length?place:textOf(this.items.slice(0,place)).length;}
 draw(){if(this.items===null)this.#showAgain();
 else this.#show();}
+reveal(name){const place=name?placeOf(this.widget.items,name,0)+ 1:0;
+if(name!==undefined)Object.assign(this,{caret:place,isStale:true});
+this.update();
+super.reveal();}
 #show(){const{selectionStart,selectionEnd,selectionDirection}=this.area;
 const end=this.caret??this.#after(this.#place(selectionEnd));
 const start=this.caret!==null||selectionStart===selectionEnd?end:Math.min(this.#before(this.#place(selectionStart)),end);
@@ -1356,13 +1888,14 @@ async function textAt(name){try{const answer=await fetch(new URL(name,location.h
 return answer.ok?await answer.text():null;}catch{return null;}}
 class Page{drafts=new Held(()=>this.#tell());
 notices=new Notices(()=>this.#tell());
+takingBack=new TakingBack(this);
 #windows;
 #drawing;
 #jobs=[];
 #untaken=new Untaken(this);
 #shown=null;
 #reasons=new Map();
-#isReadOnly=false;
+isReadOnly=false;
 #isWaiting=false;
 #isWorking=false;
 #status=new Status();
@@ -1380,52 +1913,59 @@ addEventListener("beforeunload",(event)=>this.#isSaved()||event.preventDefault()
 addEventListener("online",()=>this.link.hurry());
 document.addEventListener("visibilitychange",()=>(document.hidden?this.#hide():this.link.hurry()));
 for(const act of["keydown","pointerdown"])document.addEventListener(act,()=>this.link.isOpen||this.link.hurry());
-document.addEventListener("beforeinput",(event)=>event.inputType.startsWith("history")&&this.#refuseHistory(event));
 found("try-now").addEventListener("click",()=>this.link.hurry());
 found("notice-count").addEventListener("click",()=>this.notices.show());}
 get views(){return this.#windows.views;}
 get board(){return this.link.site.board;}
-get made(){return this.link.site.made;}
-announce(about,words){this.#status.announce(about,words);}
+get editCount(){return this.link.site.made;}
+nameOf(view,name){return this.takingBack.nameOf(view,name);}
 captionOf(key,kind){return this.#windows.captionOf(key,kind);}
 ready(){const{site}=this.link;
-const isFirst=this.#shown===null;
-const isSame=!isFirst&&isSameRun(this.#shown,site);
+const old=this.#shown;
+const isFirst=old===null;
+const isSame=!isFirst&&isSameRun(old,site);
 this.#shown=site;
 this.#isWaiting=false;
 this.#windows.show(this.board,isSame);
+if(!isFirst)this.takingBack.joined(old.board,isSame);
 this.#drawing.now();
 this.#jobs=this.#untaken.settle(isSame);
 this.#setOpen();
-if(!this.#isReadOnly)for(const element of this.#reasons.values())this.notices.end(element);
+if(!this.isReadOnly)for(const element of this.#reasons.values())this.notices.end(element);
 for(const view of this.views.values())view.sendDrafts();
 if(isFirst)this.#offerKept();
 else this.#readCaptions();
 this.#status.announce("link","Connected");
 this.#countLinks();
 this.#work();}
-came({raw,heard}){for(const op of raw)this.views.get(`${op.win}.${op.wid}`).came(op,heard);}
+made(it){this.takingBack.made(it);}
+came(it){this.takingBack.came(it);
+for(const op of it.raw)this.views.get(`${op.win}.${op.wid}`).came(op,it.heard);
+this.takingBack.mend();}
 changed(op){const view=this.views.get(`${op.win}.${op.wid}`);
 view.changed();
 this.#status.announce("changes",`Others changed ${view.name.textContent}`);}
-heard(){this.#drawing.soon();
+heard(){this.takingBack.mend();
+this.#drawing.soon();
 this.#work();
 this.#untaken.lookAgain();}
 confirmed(){this.#untaken.confirmed(this.link.confirmed);
 for(const view of this.views.values())view.confirmed(this.link.confirmed);
 this.#tell();}
 lost(fault){const isNew=this.#shown!==null&&!["lost","waiting"].includes(document.body.dataset.stage);
-this.#isReadOnly=isFull(fault);
+this.isReadOnly=isFull(fault);
 this.#isWaiting=fault===FAULT.Full;
 if(fault!==undefined&&!this.#isWaiting)this.#explain(reasonOf(fault));
+this.takingBack.lost();
 this.#untaken.lose(this.link.site,this.#jobs);
 this.#jobs=[];
 this.#setOpen();
 this.#status.count(0);
 if(isNew)this.#status.announce("link","The connection is lost. This page joins again by itself");}
-edit(view,commands,job=null){if(!this.#takesEdits)return null;
+edit(view,commands,how=null,job=null){if(!this.takesEdits)return null;
 const after=job?.after;
 try{const ops=this.link.edit(commands);
+this.takingBack.note(how);
 this.#untaken.add({ops,view,job,after});
 this.#tell();
 return ops;}catch(fault){if(!(fault instanceof Fault)||!REFUSALS.has(fault.number))throw fault;
@@ -1435,14 +1975,10 @@ return null;}}
 if(text==="")this.#explain(reasonOf(fault),view);
 else this.notices.add({view,words:reasonOf(fault),text});
 if(isFull(fault))this.#closeForGood();}
-#closeForGood(){this.#isReadOnly=true;
+#closeForGood(){this.isReadOnly=true;
 this.#setOpen();}
 #explain(words,view=null){if(!this.#reasons.get(words)?.isConnected)this.#reasons.set(words,this.notices.add({view,words}));}
-#refuseHistory(event){if(this.link.site.heard===0)return;
-event.preventDefault();
-const view=[...this.views.values()].find(({element})=>element.contains(event.target));
-view?.remark("Others have edited this board, so the browser can\u2019t undo.");}
-isShort(job){return job.steps.length<=SHORT&&!this.isBusyWith(job.view)&&this.#hasRoom(NEEDED);}
+isShort(job){return job.left<=SHORT&&!this.isBusyWith(job.view)&&this.#hasRoom(NEEDED);}
 run(job){const all=[];
 while(!job.isDone){const ops=this.#next(job);
 if(ops===null)return null;
@@ -1451,27 +1987,31 @@ return all;}
 begin(job){this.#jobs.push(job);
 this.#setOpen();
 this.#work();}
-get #takesEdits(){return this.link.isOpen&&!this.#isReadOnly;}
+stop(job){if(!this.#jobs.includes(job))return;
+this.#jobs=this.#jobs.filter((it)=>it!==job);
+job.end();
+this.#setOpen();}
+get takesEdits(){return this.link.isOpen&&!this.isReadOnly;}
+get isReady(){return this.takesEdits&&this.#hasRoom(NEEDED);}
 isBusyWith(view){return this.#jobs.some((job)=>job.view===view);}
 #hasRoom(edits){return this.link.site.backlog + edits<=MOST_WAITING;}
 #next(job){const commands=job.next();
-const ops=commands.length>0?this.edit(job.view,commands,job):[];
+const ops=commands.length>0?this.edit(job.view,commands,job.how,job):[];
 if(ops!==null)job.made(ops);
 return ops;}
 #work(){if(this.#isWorking||this.#jobs.length===0||!this.link.isOpen)return;
 const end=performance.now()+ JOB_SLICE;
 while(this.#jobs.length>0&&this.#hasRoom(SPARE)&&performance.now()<end){const[job]=this.#jobs;
 const ops=this.#next(job);
-Object.assign(job.view,{isStale:true,caret:job.place});
-if(ops===null||job.isDone){this.#jobs.shift();
-this.#setOpen();}}
+job.show();
+if(ops===null||job.isDone)this.stop(job);}
 this.#drawing.soon();
 this.#tell();
 this.#isWorking=this.#jobs.length>0&&this.#hasRoom(SPARE);
 if(this.#isWorking)later(()=>this.#goOn());}
 #goOn(){this.#isWorking=false;
 this.#work();}
-#isSaved(){const isSent=!this.#untaken.isPending&&this.#jobs.length===0&&this.link.confirmed===this.made;
+#isSaved(){const isSent=!this.#untaken.isPending&&this.#jobs.length===0&&this.link.confirmed===this.editCount;
 return isSent&&this.drafts.count===0&&!this.notices.isOffering;}
 #offerKept(){for(const{key,words,text}of this.notices.kept())this.notices.add({view:this.views.get(key),words,text});}
 #hide(){for(const view of this.views.values())view.hide();}
@@ -1482,23 +2022,26 @@ this.link.leave();}
 this.lost();
 this.link.comeBack();}
 drawSoon(){this.#drawing.soon();}
-#setOpen(){for(const view of this.views.values())view.setOpen(this.#takesEdits);
+say(about,words,view=null){view?.remark(words);
+this.#status.announce(about,words);}
+#setOpen(){for(const view of this.views.values())view.setOpen(this.takesEdits);
+this.takingBack.tell();
 this.#tell();}
 #tell(){this.#status.tell({...this.#state,notices:this.notices.count});}
-get #state(){const left=this.#jobs.reduce((sum,job)=>sum + job.steps.length,0);
-const waiting=this.made - this.link.confirmed;
+get #state(){const left=this.#jobs.reduce((sum,job)=>sum + job.left,0);
+const waiting=this.editCount - this.link.confirmed;
 if(this.#isWaiting)return{stage:"waiting",words:"64 people are here. You come in when one leaves"};
 if(!this.link.isOpen)return{stage:"lost",words:"Offline"};
 if(left>0)return{stage:"sending",words:`${counted(left, "character")} to go`};
 if(waiting>0)return{stage:"sending",words:"Sending \u2026",slowly:`Sending \u2026 ${counted(waiting, "edit")} wait`,since:this.#untaken.oldest};
-if(this.#isReadOnly)return{stage:"full",words:"Read only: the board is full"};
+if(this.isReadOnly)return{stage:"full",words:"Read only: the board is full"};
 return this.drafts.count>0?{stage:"draft",words:counted(this.drafts.count,"draft")}:{stage:"open",words:"Sent"};}
 async #readCaptions(){const text=await textAt("captions");
 if(text!==null)this.#windows.caption(text);}
 async #countLinks(){if(document.hidden||!this.link.isOpen)return;
 const[count,state]=(await textAt("who"))?.split("\n")??[];
 this.#status.count(this.link.isOpen?Number.parseInt(count,10):0);
-if(state!=="full"||this.#isReadOnly)return;
+if(state!=="full"||this.isReadOnly)return;
 this.#explain(reasonOf(FAULT.LogFull));
 this.#closeForGood();}}
 new Page((await textAt("captions"))??"");

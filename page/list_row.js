@@ -49,7 +49,8 @@ export class Row {
   #isLost = false; // whether others deleted the item when a label of this page was on its way to it
   #isAsked = false; // whether the user has to choose between the draft and the label of others
   #offers = []; // labels of others that the server took before this page's own
-  #by = "others"; // who gave the item its label, or deleted it, last
+  #labelledBy = "Others"; // who changed the label last: others, or an undo of this page
+  #deletedBy = "others";
   #hints;
 
   constructor(list, id, { name, value }) {
@@ -109,10 +110,11 @@ export class Row {
   }
 
   // The list has this label for the item.
-  show(label, by = "others") {
+  show(label, by = "Others") {
     if (label === this.label && !this.isGhost) return;
     Object.assign(this, { label, isGhost: false });
-    this.#by = by;
+    this.#labelledBy = by;
+    this.#deletedBy = "others";
     if (this.#base === null) this.field.value = label;
     this.#name();
     this.tell();
@@ -122,13 +124,13 @@ export class Row {
   putBack(label) {
     const hasCursor = this.#base !== null && !this.isDraft;
     if (hasCursor) this.#base = null;
-    this.show(label, "undo");
+    this.show(label, "Undo");
     if (hasCursor) this.#end();
   }
 
   // An undo or a redo deletes the item. What is typed stays.
   isTakenAway() {
-    this.#by = "undo";
+    this.#deletedBy = "undo";
     if (!this.isDraft) this.#base = null;
   }
 
@@ -233,10 +235,10 @@ export class Row {
   }
 
   *#hintsNow() {
-    const theirs = `${this.#by === "undo" ? "Undo wrote" : "Others wrote"} \u201c${this.label}\u201d`;
+    const theirs = `${this.#labelledBy} wrote \u201c${this.label}\u201d`;
     const choices = (keep, take) => ({ "Keep mine": keep, "Take theirs": take });
     if (this.#fault !== "") yield { words: this.#fault, choices: this.hasFocus || this.isGhost ? {} : { Drop: () => this.takeBack() } };
-    if (this.isGhost) yield { words: `Deleted by ${this.#by}`, choices: { "Add it again": () => this.#addAgain(), Drop: () => this.takeBack() } };
+    if (this.isGhost) yield { words: `Deleted by ${this.#deletedBy}`, choices: { "Add it again": () => this.#addAgain(), Drop: () => this.takeBack() } };
     else if (this.#isAsked) yield { words: theirs, choices: choices(() => this.#keepMine(), () => this.takeBack()) };
     else if (this.#base !== null && this.label !== this.#base) yield { words: theirs, choices: {} };
     for (const it of this.#offers) yield { words: `Others wrote \u201c${it}\u201d at the same time`, choices: choices(() => this.#choose(it, false), () => this.#choose(it, true)) };

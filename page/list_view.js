@@ -56,28 +56,32 @@ export class ListView extends View {
 
   // An edit of others came with this operation, when the server had `heard` edits of this page.
   came({ verb, name, value }, heard) {
-    if (verb === "del") this.follow();
-    const row = this.#rows.get(name) ?? this.#rows.get(this.page.nameOf(this, name));
+    const now = this.page.nameOf(this, name);
+    const row = this.#rows.get(name) ?? this.#rows.get(now);
     if (!row) return;
+    if (verb === "del") this.#follows(row, now);
     if (verb === "del" && row.name === name && this.#relabels.isOpen(name, heard)) row.loses();
     const race = verb === "rel" ? this.#relabels.came(row.name, value, heard) : null;
     if (race !== null) row.races(race.base, value, race.step);
   }
 
-  // A row goes with its item to the name that the item has now.
+  // Rows go with their items to the names that these have now.
   follow() {
-    const { names } = this.widget;
-    for (const row of [...this.#rows.values()]) {
-      const name = names.has(row.name) ? row.name : this.page.nameOf(this, row.name);
-      if (name !== row.name && names.has(name)) this.#rename(row, name);
-    }
+    for (const row of [...this.#rows.values()]) if (!this.widget.names.has(row.name)) this.#follows(row, this.page.nameOf(this, row.name));
   }
 
+  #follows(row, name) {
+    const { names } = this.widget;
+    if (!names.has(row.name) && names.has(name)) this.#rename(row, name);
+  }
+
+  // Of two rows of one item, one with the cursor or a draft stays.
   #rename(row, name) {
     const other = this.#rows.get(name);
+    this.#relabels.rename(row.name, name);
+    if (other?.isKept && !row.isKept) return this.#lose(row);
     if (other) this.#lose(other);
     this.#rows.delete(row.name);
-    this.#relabels.rename(row.name, name);
     this.#rows.set(name, Object.assign(row, { name }));
   }
 

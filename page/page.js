@@ -38,13 +38,13 @@ class Page {
   drafts = new Held(() => this.#tell()); // what is typed and not sent
   notices = new Notices(() => this.#tell());
   takingBack = new TakingBack(this);
+  isReadOnly = false; // whether the server takes no more edits
   #windows;
   #drawing;
   #jobs = [];
   #untaken = new Untaken(this);
   #shown = null; // the site whose board is shown
   #reasons = new Map(); // the notices that say why something was refused, by their words
-  isReadOnly = false; // whether the server takes no more edits
   #isWaiting = false; // whether the server has no room for this page
   #isWorking = false; // whether a task goes on with jobs
   #status = new Status();
@@ -160,7 +160,8 @@ class Page {
 
   // ---- Edits ----
 
-  // Makes an edit for a view, perhaps one of a job. Returns its operations, or null if it is refused. `how` is as `note` of an undo takes it.
+  // Makes an edit for a view, perhaps one of a job. Returns its operations, or null if it is refused. `how` is as `note` of an undo takes
+  // it.
   edit(view, commands, how = null, job = null) {
     if (!this.takesEdits) return null;
     const after = job?.after;

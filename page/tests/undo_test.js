@@ -765,6 +765,23 @@ test("an undo says what it did, and where", () => {
   assert.deepEqual(a.back("undo").did, [{ key: "1.4", kind: "set", count: 1 }, { key: "1.1", kind: "del", count: 1 }]);
 });
 
+test("what is taken back next is known, by how it was noted and by its widget", () => {
+  const { a } = stage();
+  const how = {};
+  assert.equal(a.undo.how, null);
+  a.add("tea");
+  assert.equal(a.undo.how, null);
+  a.edit([{ ...SLIDER, verb: "set", value: 1 }], how);
+  assert.equal(a.undo.how, how);
+  for (const key of ["1.4", "1.2"]) {
+    const plan = a.undo.undo();
+    assert.equal(plan.key, key);
+    a.play(plan);
+    assert.equal(plan.key, key);
+    plan.finish();
+  }
+});
+
 test("20,000 pasted characters are undone in few edits, as fast as they came", () => {
   const { star, a, b, all } = stage();
   const long = "abcdefghij".repeat(2000);

@@ -320,6 +320,20 @@ def drags(tab, element, start, end):
     tab.call("Input.dispatchMouseEvent", type="mouseReleased", clickCount=1, **at(end))
 
 
+def a_label_in_a_race(stage):
+    """A label is undone before one of others is known that was first: theirs stays, nobody is asked, and no further step comes of it."""
+    unknown_to_b(stage, lambda: relabels(stage.a, "bread", "brown bread"), lambda: (relabels(stage.b, "bread", "bread and jam"), by_keys(stage.b)))
+    for it in stage.tabs:
+        leave(it)
+    list_is(stage, ["brown bread", "milk", "eggs"])
+    expect(stage.b.run(f"[{UNDO}.ariaDisabled, {REDO}.ariaDisabled, {button('Take theirs')} === undefined]"), ["true", "false", True], "whether B has nothing to undo, and is asked nothing")
+    # A label that stands goes together with theirs, and both are one step.
+    unknown_to_b(stage, lambda: (relabels(stage.a, "milk", "oat milk"), leave(stage.a)), lambda: (relabels(stage.b, "milk", "milk and honey"), leave(stage.b)))
+    list_is(stage, ["brown bread", "oat milk and honey", "eggs"])
+    by_keys(stage.b)
+    list_is(stage, ["brown bread", "oat milk", "eggs"])
+
+
 def beside_a_draft(stage):
     """With a draft in the field, an undo first takes that back."""
     relabels(stage.a, "bread", "rolls")
@@ -475,6 +489,7 @@ PARTS = {
     "undo of a paste that goes on": a_paste_that_goes_on,
     "undo of typing, step by step": steps_of_typing,
     "undo of one act": steps_of_one_act,
+    "undo of a label in a race": a_label_in_a_race,
     "undo beside a draft": beside_a_draft,
     "undo of a row with the cursor": a_row_with_the_cursor,
     "nothing to undo": nothing_to_undo,

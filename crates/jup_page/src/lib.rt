@@ -6,7 +6,7 @@ pub const PAGE: &[u8] = br#"<!doctype html>
 <html lang="en">
 <head>
 <meta charset="utf-8">
-<meta http-equiv="Content-Security-Policy" content="default-src 'none'; script-src 'sha256-FlfoDid5oLPvIwHcq4mBiweOKiSN5HwzS2l4EMUMi4A='; style-src 'sha256-vSFyX0Owb+ORC1+EN2lueU/+8Yd5DaoReA99puYY4R0='; img-src data:; connect-src 'self'; base-uri 'none'; form-action 'none'">
+<meta http-equiv="Content-Security-Policy" content="default-src 'none'; script-src 'sha256-8BrjAq8tTrSOt36soPjsK9F+sxruAa+RhByTynHvphk='; style-src 'sha256-2J0scaMTUjMUSUoSuONkA9TAZ83uO5wYEEv5NNC81ac='; img-src data:; connect-src 'self'; base-uri 'none'; form-action 'none'">
 <meta name="viewport" content="width=device-width, initial-scale=1">
 <meta name="color-scheme" content="light dark">
 <title>Gidzvruka</title>
@@ -32,12 +32,13 @@ h2{font-size:1rem;}
 [hidden]{display:none !important;}
 .unseen{position:absolute;width:1px;height:1px;overflow:hidden;clip-path:inset(50%);white-space:nowrap;}
 header{
-position:sticky;top:0;z-index:1;display:flex;flex-wrap:wrap;gap:.1rem 1rem;align-items:baseline;
+position:sticky;top:0;z-index:1;display:flex;flex-wrap:wrap;gap:.1rem .6rem;align-items:center;
 padding:.6rem max(1rem,env(safe-area-inset-right)) .6rem max(1rem,env(safe-area-inset-left));background:var(--card);border-bottom:1px solid var(--line);
 }
 #title:focus{outline:none;}
 #who,#state{color:var(--faint);font-size:.9rem;}
 #who{margin-right:auto;}
+#tools{margin-left:auto;}
 #state{font-variant-numeric:tabular-nums;}
 #state::before{content:"";display:inline-block;width:.6rem;height:.6rem;margin-right:.45rem;border-radius:50%;background:var(--bad);transition:background .1s;}
 [data-stage=open] #state::before{background:var(--good);}
@@ -70,7 +71,9 @@ main section{background:var(--card);border:1px solid var(--line);border-radius:.
 ol{list-style:none;display:grid;gap:.4rem;}
 ol,li{position:relative;}
 li{border-radius:.4rem;scroll-margin-bottom:4rem;}
-.handle{flex:none;color:var(--faint);cursor:grab;touch-action:none;}
+.handle{flex:none;min-width:1.6rem;padding:0;color:var(--faint);cursor:grab;touch-action:none;}
+li > .row{flex-wrap:wrap;}
+li > .row > input[type=text]{flex:1 1 5rem;width:0;}
 .dragged{opacity:.6;}
 li.lands::after,ol.lands::before{content:"";position:absolute;inset:auto 0 -.3rem;border-top:3px solid var(--accent);}
 ol.lands::before{inset:-.3rem 0 auto;}
@@ -98,7 +101,7 @@ input[type=number]{flex:none;width:min(6rem,100%);}
 .bound{color:var(--faint);font-size:.9rem;}
 .paper{display:none;}
 @media (pointer:coarse){
-button,.quiet,textarea,input:is([type=text],[type=number],[type=range]){min-width:44px;min-height:44px;}
+button,.quiet,.handle,textarea,input:is([type=text],[type=number],[type=range]){min-width:44px;min-height:44px;}
 #tells{width:44px;height:44px;}
 input[role=switch]{width:78px;height:44px;border-radius:22px;}
 input[role=switch]::after{width:32px;height:32px;top:5px;left:5px;}
@@ -126,9 +129,11 @@ input[role=switch]::after{background:ButtonText !important;}
 <p id="state">connecting &hellip;</p>
 <button id="notice-count" type="button" hidden></button>
 <button id="try-now" type="button" hidden>Try now</button>
+<div class="row" id="tools">
 <button id="undo" type="button" aria-label="Undo" title="Undo (Ctrl-Z)" aria-disabled="true">&#8630;</button>
 <button id="redo" type="button" aria-label="Redo" title="Redo (Ctrl-Y)" aria-disabled="true">&#8631;</button>
 <button id="menu-button" type="button" popovertarget="menu" aria-label="Menu">&#8942;</button>
+</div>
 </header>
 <section id="menu" popover aria-labelledby="menu-caption">
 <h2 id="menu-caption">This board</h2>
@@ -1340,7 +1345,8 @@ movedAt=-Infinity;
 #isLost=false;
 #isAsked=false;
 #offers=[];
-#by="others";
+#labelledBy="Others";
+#deletedBy="others";
 #hints;
 constructor(list,id,{name,value}){this.#list=list;
 Object.assign(this,{name,label:value});
@@ -1360,17 +1366,18 @@ get #mine(){return plain(this.field.value).trim();}
 get isGood(){return this.#fault==="";}
 setOpen(isOpen){this.field.readOnly=!isOpen;
 for(const it of[this.handle.element,this.remove])it.ariaDisabled=String(!isOpen);}
-show(label,by="others"){if(label===this.label&&!this.isGhost)return;
+show(label,by="Others"){if(label===this.label&&!this.isGhost)return;
 Object.assign(this,{label,isGhost:false});
-this.#by=by;
+this.#labelledBy=by;
+this.#deletedBy="others";
 if(this.#base===null)this.field.value=label;
 this.#name();
 this.tell();}
 putBack(label){const hasCursor=this.#base!==null&&!this.isDraft;
 if(hasCursor)this.#base=null;
-this.show(label,"undo");
+this.show(label,"Undo");
 if(hasCursor)this.#end();}
-isTakenAway(){this.#by="undo";
+isTakenAway(){this.#deletedBy="undo";
 if(!this.isDraft)this.#base=null;}
 outlive(){this.isGhost=true;
 this.#isAsked=false;
@@ -1421,10 +1428,10 @@ for(const it of[this.handle.element,this.remove])it.hidden=this.isGhost;
 this.#hints.show([...this.#hintsNow()]);
 this.#list.page.notices.hold(this.element,this.#offers.length>0||((isWrong||(this.isGhost&&this.isDraft))&&!this.hasFocus));
 this.#list.page.drafts.hold(this,this.isDraft);}
-*#hintsNow(){const theirs=`${this.#by === "undo" ? "Undo wrote" : "Others wrote"} \u201c${this.label}\u201d`;
+*#hintsNow(){const theirs=`${this.#labelledBy} wrote \u201c${this.label}\u201d`;
 const choices=(keep,take)=>({"Keep mine":keep,"Take theirs":take});
 if(this.#fault!=="")yield{words:this.#fault,choices:this.hasFocus||this.isGhost?{}:{Drop:()=>this.takeBack()}};
-if(this.isGhost)yield{words:`Deleted by ${this.#by}`,choices:{"Add it again":()=>this.#addAgain(),Drop:()=>this.takeBack()}};
+if(this.isGhost)yield{words:`Deleted by ${this.#deletedBy}`,choices:{"Add it again":()=>this.#addAgain(),Drop:()=>this.takeBack()}};
 else if(this.#isAsked)yield{words:theirs,choices:choices(()=>this.#keepMine(),()=>this.takeBack())};
 else if(this.#base!==null&&this.label!==this.#base)yield{words:theirs,choices:{}};
 for(const it of this.#offers)yield{words:`Others wrote \u201c${it}\u201d at the same time`,choices:choices(()=>this.#choose(it,false),()=>this.#choose(it,true))};}}
@@ -1482,19 +1489,21 @@ this.#rows=new Map();
 this.#shown.filter((row)=>!row.isGhost).forEach((row,at)=>{const item=items[at];
 if(item&&(!row.isDraft||item.value===row.label))this.#rows.set(item.name,Object.assign(row,{name:item.name}));
 else this.#lose(row);});}
-came({verb,name,value},heard){if(verb==="del")this.follow();
-const row=this.#rows.get(name)??this.#rows.get(this.page.nameOf(this,name));
+came({verb,name,value},heard){const now=this.page.nameOf(this,name);
+const row=this.#rows.get(name)??this.#rows.get(now);
 if(!row)return;
+if(verb==="del")this.#follows(row,now);
 if(verb==="del"&&row.name===name&&this.#relabels.isOpen(name,heard))row.loses();
 const race=verb==="rel"?this.#relabels.came(row.name,value,heard):null;
 if(race!==null)row.races(race.base,value,race.step);}
-follow(){const{names}=this.widget;
-for(const row of[...this.#rows.values()]){const name=names.has(row.name)?row.name:this.page.nameOf(this,row.name);
-if(name!==row.name&&names.has(name))this.#rename(row,name);}}
+follow(){for(const row of[...this.#rows.values()])if(!this.widget.names.has(row.name))this.#follows(row,this.page.nameOf(this,row.name));}
+#follows(row,name){const{names}=this.widget;
+if(!names.has(row.name)&&names.has(name))this.#rename(row,name);}
 #rename(row,name){const other=this.#rows.get(name);
+this.#relabels.rename(row.name,name);
+if(other?.isKept&&!row.isKept)return this.#lose(row);
 if(other)this.#lose(other);
 this.#rows.delete(row.name);
-this.#relabels.rename(row.name,name);
 this.#rows.set(name,Object.assign(row,{name}));}
 tookBack(ops){super.tookBack();
 this.follow();
@@ -1889,13 +1898,13 @@ return answer.ok?await answer.text():null;}catch{return null;}}
 class Page{drafts=new Held(()=>this.#tell());
 notices=new Notices(()=>this.#tell());
 takingBack=new TakingBack(this);
+isReadOnly=false;
 #windows;
 #drawing;
 #jobs=[];
 #untaken=new Untaken(this);
 #shown=null;
 #reasons=new Map();
-isReadOnly=false;
 #isWaiting=false;
 #isWorking=false;
 #status=new Status();

@@ -218,7 +218,8 @@ def a_long_paste(stage):
     focus(stage.a, area=OTHER_AREA)
     stage.a.run("window.edits = 0, window.send = WebSocket.prototype.send, WebSocket.prototype.send = function (text) { edits += text.split('batch ').length - 1; return send.call(this, text); }")
     pasting = takes(stage.a, lambda: stage.a.run(pasted(text, OTHER_AREA)))
-    expect(stage.a.run(f"{OTHER_AREA}.value.length"), PASTED, "how many characters are pasted")
+    # The last of it is drawn a moment later.
+    stage.a.until(f"{OTHER_AREA}.value.length === {PASTED}", 60)
     # Others type in it, and that stays.
     focus(stage.b, 7, area=OTHER_AREA)
     stage.b.until(f"{OTHER_AREA}.value.length === {PASTED}", 120)

@@ -4,7 +4,7 @@ import time
 from browser import SHIFT
 from drafts import cross, field
 from stage import ADD, LABELS, STATE, button, expect, expect_that, leave, row, select_all
-from undoing import NEWS, by_keys, relabels, says, unknown_to_b
+from undoing import NEWS, by_keys, each_way, relabels, says, unknown_to_b
 
 ALT = 1
 ITEMS = ["bread", "milk", "eggs", "tea", "salt"]
@@ -233,29 +233,34 @@ def one_deletes(stage):
 ALT_DOWN = f"{handle('milk')}.dispatchEvent(new KeyboardEvent('keydown', {{ key: 'ArrowDown', bubbles: true, cancelable: true }}))"
 
 
-def undone(stage):
-    """A move is undone and made again. If others moved the item later, it stays. If they relabelled it, it comes back with the label."""
+def undone(stage, undo):
+    """A move is undone and made again. An item that others moved later, or at the same time and first, stays there. One that they relabelled comes back with the label."""
     tab = stage.a
     moves(tab, "milk", "ArrowDown", 2)
     list_is(stage, "bread", "eggs", "tea", "milk", "salt")
-    by_keys(tab)
+    undo(tab)
     list_is(stage, "bread", "eggs", "milk", "tea", "salt")
     says(tab, "Undone: 1 move in Who brings what")
-    by_keys(tab, "Redo")
+    undo(tab, "Redo")
     list_is(stage, "bread", "eggs", "tea", "milk", "salt")
     relabels(stage.b, "milk", "oat milk")
     leave(stage.b)
     list_is(stage, "bread", "eggs", "tea", "oat milk", "salt")
-    by_keys(tab)
-    by_keys(tab)
+    undo(tab)
+    undo(tab)
     list_is(stage, "bread", "oat milk", "eggs", "tea", "salt")
     moves(tab, "eggs", "ArrowUp")
     list_is(stage, "bread", "eggs", "oat milk", "tea", "salt")
     moves(stage.b, "eggs", "ArrowUp")
     list_is(stage, "eggs", "bread", "oat milk", "tea", "salt")
-    by_keys(tab)
+    undo(tab)
     says(tab, "Others have changed this since")
     list_is(stage, "eggs", "bread", "oat milk", "tea", "salt")
+    unknown_to_b(stage, lambda: moves(tab, "tea", "ArrowUp"), lambda: moves(stage.b, "tea", "ArrowDown"))
+    list_is(stage, "eggs", "bread", "tea", "oat milk", "salt")
+    undo(stage.b)
+    says(stage.b, "Others have changed this since")
+    list_is(stage, "eggs", "bread", "tea", "oat milk", "salt")
 
 
 def while_others_edit(stage):
@@ -288,6 +293,6 @@ PARTS = {
     "moving what the other moves": both_move,
     "moving what the other relabels": one_relabels,
     "moving what the other deletes": one_deletes,
-    "moving, undone": undone,
+    **each_way(undone),
     "moving with a label on its way": while_others_edit,
 }

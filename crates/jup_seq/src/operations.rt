@@ -1,9 +1,8 @@
 //! Insertions into sequences, deletions from them, and other values for their items.
-ghost use Rattle.std.specs.Prelude.{◌≡◌, ℕ, ◌↔◌, ◌+◌, ◌<◌, ◌≤◌, length, false, refl, IsTrue, Ok, OnOk, OnErr};
+ghost use Rattle.std.specs.Prelude.{◌≡◌, ℕ, ◌↔◌, ◌+◌, ◌-◌, ◌<◌, ◌≤◌, if◌then◌else◌, nat_le, nat_lt, length, false, refl, IsTrue, Ok, OnOk, OnErr};
 ghost use Rattle.jup_value.specs.Items.{has_name, name_at};
 ghost use Rattle.jup_value.specs.declared.names.Name.{Name as ItemName};
-ghost use Rattle.jup_seq.specs.declared.operations.SeqOp.TheVariants.{Relabel};
-ghost use Rattle.jup_seq.specs.Operations.{bare, IsSmall, HasDistinctNames, KeepsOrder, IsValid, after, HasRoom, AreApart, is_no_relabel, inserted_by, deleted_by, client_past, server_past, Content, content, meaning, edit_of};
+ghost use Rattle.jup_seq.specs.Operations.{bare, IsSmall, HasDistinctNames, KeepsOrder, IsValid, after, HasRoom, AreApart, is_no_relabel, inserted_by, deleted_by, next_place, client_past, server_past, Content, content, meaning, edit_of};
 ghost use Rattle.jup_seq.specs.Names.{Holds, InsertsName, DeletesName, ChangesName, IsFresh};
 ghost use Rattle.jup_seq.specs.Laws.Squares as laws;
 ghost use Rattle.jup_seq.specs.Laws.EditLists as edit_lists;
@@ -103,88 +102,58 @@ fn stands_at<V: Copy>(state: &Seq<V>, place: u32, name: Name) -> bool
     state.get(place).is_some_and(|item| item.name == name)
 }
 
-// A client's relabel past a server's operation.
-fn relabel_past<V: Copy>(place: u32, name: Name, value: V, other: &SeqOp<V>) -> SeqOp<V>
-    ensures { result ≡ client_past (Relabel place name value) other.now }
+// Moves the places of two insertions.
+fn part(client: &mut u32, server: &mut u32)
+    ensures client { client.new ≡ (if nat_le client.old server.old then client.old else next_place client.old) }
+    ensures server { server.new ≡ (if nat_lt server.old client.old then server.old else next_place server.old) }
 {
-    match other {
-        SeqOp::Insert { place: at, .. } if *at <= place => {
-            SeqOp::Relabel {
-                place: place.saturating_add(1),
-                name,
-                value,
-            }
-        }
-        SeqOp::Delete { name: gone, .. } if *gone == name => SeqOp::Nothing,
-        SeqOp::Delete { place: at, .. } if *at < place => {
-            SeqOp::Relabel {
-                place: place - 1,
-                name,
-                value,
-            }
-        }
-        _ => SeqOp::Relabel { place, name, value },
+    // At one place the client's item comes first.
+    if *client <= *server {
+        *server = server.saturating_add(1);
+    } else {
+        *client = client.saturating_add(1);
     }
 }
 
-impl<V: Copy> SeqOp<V> {
-    // A client's operation past a server's.
-    fn past_server(&self, other: &SeqOp<V>) -> SeqOp<V>
-        ensures { result ≡ client_past self.now other.now }
-    {
-        match (self, other) {
-            (SeqOp::Insert { place, item }, SeqOp::Insert { place: at, .. }) if at < place => {
-                SeqOp::Insert {
-                    place: place.saturating_add(1),
-                    item: *item,
-                }
-            }
-            (SeqOp::Insert { place, item }, SeqOp::Delete { place: at, .. }) if at < place => {
-                SeqOp::Insert {
-                    place: *place - 1,
-                    item: *item,
-                }
-            }
-            (SeqOp::Delete { place, name }, SeqOp::Insert { place: at, .. }) if at <= place => {
-                SeqOp::Delete {
-                    place: place.saturating_add(1),
-                    name: *name,
-                }
-            }
-            (SeqOp::Delete { name, .. }, SeqOp::Delete { name: gone, .. }) if name == gone => {
-                SeqOp::Nothing
-            }
-            (SeqOp::Delete { place, name }, SeqOp::Delete { place: at, .. }) if at < place => {
-                SeqOp::Delete {
-                    place: *place - 1,
-                    name: *name,
-                }
-            }
-            (SeqOp::Relabel { place, name, value }, _) => relabel_past(
-                *place, *name, *value, other,
-            ),
-            _ => *self,
-        }
+// Moves the places of an insertion and a deletion: an insertion up to the place of the deletion comes before its item.
+fn meet(inserted: &mut u32, deleted: &mut u32)
+    ensures inserted { inserted.new ≡ (if nat_le inserted.old deleted.old then inserted.old else inserted.old - 1) }
+    ensures deleted { deleted.new ≡ (if nat_le inserted.old deleted.old then next_place deleted.old else deleted.old) }
+{
+    if *inserted <= *deleted {
+        *deleted = deleted.saturating_add(1);
+    } else {
+        *inserted -= 1;
     }
+}
 
-    // A server's operation past a client's: of two insertions at one place it goes to the right, and of two
-    // relabels of one item it is dropped.
-    fn past_client(&self, other: &SeqOp<V>) -> SeqOp<V>
-        ensures { result ≡ server_past self.now other.now }
-    {
-        match (self, other) {
-            (SeqOp::Insert { place, .. }, SeqOp::Insert { place: at, .. }) if place < at => *self,
-            (SeqOp::Insert { place, item }, SeqOp::Insert { .. }) => {
-                SeqOp::Insert {
-                    place: place.saturating_add(1),
-                    item: *item,
-                }
-            }
-            (SeqOp::Relabel { name, .. }, SeqOp::Relabel { name: again, .. }) if name == again => {
-                SeqOp::Nothing
-            }
-            _ => self.past_server(other),
-        }
+// Moves the places of two deletions of different items.
+fn close_up(client: &mut u32, server: &mut u32)
+    ensures client { client.new ≡ (if nat_lt server.old client.old then client.old - 1 else client.old) }
+    ensures server { server.new ≡ (if nat_lt client.old server.old then server.old - 1 else server.old) }
+{
+    if *server < *client {
+        *client -= 1;
+    } else if *client < *server {
+        *server -= 1;
+    }
+}
+
+// Moves the place of a relabel past an insertion.
+fn make_way(inserted: u32, place: &mut u32)
+    ensures { place.new ≡ (if nat_le inserted place.old then next_place place.old else place.old) }
+{
+    if inserted <= *place {
+        *place = place.saturating_add(1);
+    }
+}
+
+// Moves the place of a relabel past the deletion of another item.
+fn follow(deleted: u32, place: &mut u32)
+    ensures { place.new ≡ (if nat_lt deleted place.old then place.old - 1 else place.old) }
+{
+    if deleted < *place {
+        *place -= 1;
     }
 }
 
@@ -292,9 +261,32 @@ impl<V: Copy> Transform for SeqOp<V> {
     }
 
     fn transform(c: &mut SeqOp<V>, s: &mut SeqOp<V>) {
-        let client = c.past_server(s);
-        *s = s.past_client(c);
-        *c = client;
+        match (&mut *c, &mut *s) {
+            (SeqOp::Nothing, _) | (_, SeqOp::Nothing) => {}
+            (SeqOp::Insert { place, .. }, SeqOp::Insert { place: at, .. }) => part(place, at),
+            (SeqOp::Insert { place, .. }, SeqOp::Delete { place: at, .. }) => meet(place, at),
+            (SeqOp::Delete { place: at, .. }, SeqOp::Insert { place, .. }) => meet(place, at),
+            (SeqOp::Insert { place, .. }, SeqOp::Relabel { place: at, .. }) => make_way(*place, at),
+            (SeqOp::Relabel { place: at, .. }, SeqOp::Insert { place, .. }) => make_way(*place, at),
+            (SeqOp::Delete { name, .. }, SeqOp::Delete { name: gone, .. }) if name == gone => {
+                *c = SeqOp::Nothing;
+                *s = SeqOp::Nothing;
+            }
+            (SeqOp::Delete { place, .. }, SeqOp::Delete { place: at, .. }) => close_up(place, at),
+            (SeqOp::Delete { name: gone, .. }, SeqOp::Relabel { name, .. }) if name == gone => {
+                *s = SeqOp::Nothing;
+            }
+            (SeqOp::Delete { place, .. }, SeqOp::Relabel { place: at, .. }) => follow(*place, at),
+            (SeqOp::Relabel { name, .. }, SeqOp::Delete { name: gone, .. }) if name == gone => {
+                *c = SeqOp::Nothing;
+            }
+            (SeqOp::Relabel { place: at, .. }, SeqOp::Delete { place, .. }) => follow(*place, at),
+            (SeqOp::Relabel { name, .. }, SeqOp::Relabel { name: again, .. }) => {
+                if name == again {
+                    *s = SeqOp::Nothing;
+                }
+            }
+        }
     }
 
     /// It takes no memory and is never refused.

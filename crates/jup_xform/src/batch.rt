@@ -327,9 +327,11 @@ impl<T: Single> Transform for Batch<T> {
     }
 
     fn transform(c: &mut Batch<T>, s: &mut Batch<T>) {
-        match &mut c.ops.store {
-            Store::One(one) => cross_store(&mut one[..], &mut s.ops.store),
-            Store::More(list) => cross_store(list.as_mut_slice(), &mut s.ops.store),
+        match (&mut c.ops.store, &mut s.ops.store) {
+            // The grid of two single operations, as in typing, is one square.
+            (Store::One(one), Store::One(other)) => T::transform(&mut one[0], &mut other[0]),
+            (Store::One(one), other) => cross_store(&mut one[..], other),
+            (Store::More(list), other) => cross_store(list.as_mut_slice(), other),
         }
     }
 

@@ -5,7 +5,7 @@ use Rattle.jup_window.specs.Entries.{EachWidget}
 use Rattle.jup_window.specs.Commands.{board_fault_number}
 use Rattle.jup_window.specs.declared.faults.BoardFault.TheVariants.{TooMany}
 use Rattle.jup_star.specs.Faults.{open_fault_number}
-use Rattle.jup_star.specs.Stars.{IsShort, BoardStar, star_open_fault, opened_star}
+use Rattle.jup_star.specs.Stars.{IsShort, BoardStar, star_open_fault, opened_counting}
 use Rattle.jup_star.specs.declared.faults.OpenFault.{OpenFault}
 use Rattle.jup_layout.specs.declared.layouts.LayoutFault.{LayoutFault}
 use Rattle.jup_layout.specs.Drafts.{Describes}
@@ -45,11 +45,11 @@ daemon_end_is_explained Held = false
 abbrev pub end_of_layout : LayoutFault → DaemonEnd
 end_of_layout fault = if fault.line == 0 then NoMemory else Layout fault
 
--- the star over the board of a layout, with this limit
+-- the star over the board of a layout, with this limit, which only counts its order
 pub record IsStarOf (text : List ℕ) (limit : ℕ) (star : BoardStar) : Type 0 where
   pub windows : Windows
   pub described : Describes text (Ok windows)
-  pub is : star ≡ opened_star windows limit
+  pub is : star ≡ opened_counting windows limit
 
 -- why no star is opened over the board of a layout: a sequence is too long for one, or a star refuses the board or the limit
 pub record IsUnopened (text : List ℕ) (limit number : ℕ) : Type 0 where

@@ -125,7 +125,7 @@ impl From<LayoutFault> for DaemonEnd {
     }
 }
 
-/// A star over the board of a layout, which takes at most so many edits.
+/// A star over the board of a layout, which takes at most so many edits and only counts them.
 pub fn star_of_layout(alloc: Global, text: &[u8], limit: u32) -> Result<Star, DaemonEnd>
     requires { length text.now ≤ longest_input }
     ensures star { IfOk result (λ star. IsStarOf text.now limit star) }
@@ -136,7 +136,7 @@ pub fn star_of_layout(alloc: Global, text: &[u8], limit: u32) -> Result<Star, Da
     if !is_short(&board) {
         return Err(whole_layout(BoardFault::TooMany.number()));
     }
-    match Star::open(alloc, board, limit) {
+    match Star::open_counting(alloc, board, limit) {
         Ok(star) => Ok(star),
         Err(OpenFault::NoMemory) => Err(DaemonEnd::NoMemory),
         Err(fault) => Err(whole_layout(fault.number())),

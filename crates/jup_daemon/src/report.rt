@@ -12,7 +12,7 @@ pub fn report_text(alloc: Global, star: &Star) -> Result<Vec<u8>, NoMemory>
     ensures { IfOk result (λ text. text.items ≡ texts.report_text star.now) }
 {
     let mut text = Vec::new(alloc);
-    append_count(alloc, star.order().len(), &mut text)?;
+    append_count(alloc, star.order_len(), &mut text)?;
     write_board(alloc, star.board(), &mut text)?;
     Ok(text)
 }

@@ -8,7 +8,7 @@ use crate::{Attempt, DaemonEnd, DaemonWords, daemon_words, report_text, star_of_
 use jup_hub::{Hub, Pass};
 use jup_limits::LONGEST_INPUT;
 use jup_net::hang_up;
-use jup_session::{Bell, Open, Outgoing, serve_link};
+use jup_session::{Bell, Open, Outgoing, Serving};
 use jup_star::Star;
 use std::alloc::Global;
 use std::io::{Read, Write};
@@ -197,6 +197,12 @@ fn session<R: Threads + Wait + Clock + Sync>(
 {
     let _ = stream.set_nodelay(true);
     let to = Outgoing::new(stream, Outgoing::PATIENCE);
-    let _ = serve_link(rt, alloc, stream, to, hub, pass, bell, &Open);
+    let serving = Serving {
+        alloc,
+        hub,
+        bell,
+        gate: &Open,
+    };
+    let _ = serving.serve(rt, stream, to, pass);
     hang_up(rt, stream);
 }

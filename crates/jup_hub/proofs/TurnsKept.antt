@@ -12,7 +12,7 @@ use Rattle.atomic_table.proofs.Lists.{at_set, set_else}
 use Rattle.jup_hub.specs.Prelude.{BoardStar, Call, StarReply, Desk, HubEvent, View}
 use Rattle.jup_star.specs.Stars.{reply_of}
 use Rattle.jup_hub.specs.Histories.{entry, star_through, IsLegal, tallies, newcomer, spent, after_split, split_from, joined_with, at_turn, having_seen, with_call, having_called, Meets}
-use Rattle.jup_hub.specs.Turns.{desk_after, HasTurn, Fits, Kept, SeatState, tried, decided, gave, looked, learned}
+use Rattle.jup_hub.specs.Turns.{desk_after, HasTurn, Fits, Kept, SeatState, tried, decided, gave, looked, saw, learned}
 use Rattle.jup_hub.proofs.Histories.{same_or_not, same_test, other_test, IsLegal-more, calls_by-more, calls_by-other, BeginsWithAll-more, BeginsWithAll-whole, BeginsWithAll-append, AllTallied-append, AllTallied-other, IsNew-owned, AllApart-append, AllOwned-append, AllOwned-moves}
 
 -- where an element is in a list with one more
@@ -74,6 +74,10 @@ module _ (star : BoardStar) where
   meets : (s : TableState) (r : Rule s) (j : ℕ) (v : View) → get_elem? s.views j ≡ some v → v.is_live ≡ true → Meets v r.log
   meets s r j v at live = let f = r.each_seat j v at live in record { legal = subst (λ (z : BoardStar). IsLegal z r.log) (sym f.opened) r.legal; begins = f.begins; tallied = f.tallied; apart = f.apart }
 
+  -- a pass that has seen the history of all calls
+  fits_whole : (s : TableState) (r : Rule s) (j : ℕ) (v : View) → Fits star r.log r.owner (turn s) r.holder j v → Fits star r.log r.owner (turn s) r.holder j (having_seen r.log v)
+  fits_whole s r j v f = record { opened = f.opened; has_turn = f.has_turn; begins = BeginsWithAll-whole r.log; tallied = f.tallied; apart = f.apart; owned = f.owned; unborn = f.unborn }
+
   -- the table is made
   pub opens : Rule (opening (0 ∷ 0 ∷ []) (Some (record { star = star; count = 0 }) ∷ []) (newcomer star))
   opens = record {
@@ -125,8 +129,18 @@ module _ (star : BoardStar) where
     having_seen r.log v,
     keeps,
     tt,
-    unmoved s r 0 id me.1 (having_seen r.log v) (λ _. record { opened = f.opened; has_turn = f.has_turn; begins = BeginsWithAll-whole r.log; tallied = f.tallied; apart = f.apart; owned = f.owned; unborn = f.unborn }),
+    unmoved s r 0 id me.1 (having_seen r.log v) (λ _. fits_whole s r id v f),
     (r.log, meets s r id v at live, r.count, refl),
+  )
+
+  -- a look by the pass that has the turn
+  pub sees : (slots id : ℕ) (me : SeatState) → me.0.is_live ≡ true → Allows Rule slots id me 0 (λ n. n) (saw (step slots 0 0 0 none) me)
+  sees slots id me live s r _ at _ = let v : View = me.0 in let f = r.each_seat id v at live in (
+    having_seen r.log v,
+    keeps,
+    tt,
+    unmoved s r 0 id me.1 (having_seen r.log v) (λ _. fits_whole s r id v f),
+    λ log is. ap (λ (l : List HubEvent). (having_seen l v, me.1)) (sym (subst (HasTurn star r.log r.owner (turn s) r.holder id) is f.has_turn).2),
   )
 
   -- a look by which nothing is seen

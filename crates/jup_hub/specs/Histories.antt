@@ -1,7 +1,6 @@
 -- Histories of calls, and what passes know of them.
 use Rattle.std.specs.Prelude.{◌≡◌, ℕ, ◌+◌, Bool, false, not, ◌||◌, List, [], ◌∷◌, ◌++◌, length, filter, max, true, Option, None, Result, Ok, Err, refl}
 use Rattle.std.specs.Str.{bytes_eq}
-use Rattle.jup_batch.specs.Boards.{Windows}
 use Rattle.jup_hub.specs.Prelude.{Call, StarReply, StarFault, BoardStar, lacks_memory, is_no_memory, HubEvent, Tally, View, HubFault, Star, Spent}
 use Rattle.jup_star.specs.declared.star.Joined.{Joined}
 use Rattle.jup_star.specs.Stars.{reply_of, star_after, asks_memory, opened_star, bare_joined}
@@ -123,10 +122,6 @@ pub record Meets (v : View) (log : List HubEvent) : Type 0 where
   pub begins : BeginsWithAll log v.seen
   pub tallied : AllTallied log (tallies v)
   pub apart : AllApart (tallies v)
-
--- the board is that of the star after a legal history, which begins with all that the pass has seen
-abbrev pub MeetsBoard : Windows → View → Type 0
-MeetsBoard board v = (log : List HubEvent) × Meets v log × (board ≡ (star_through v.opening log).board)
 
 -- A call, with its reply. The pass w has then seen one legal history, which begins with all that the pass v had seen and ends with this call
 pub record Called (call : Call) (reply : StarReply) (v w : View) : Type 0 where

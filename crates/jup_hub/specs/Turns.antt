@@ -77,6 +77,10 @@ gave st m stored m' = m' ≡ (at_turn None m.0, [])
 abbrev pub looked : TableStep → SeatState → ℕ → SeatState → Type 0
 looked st m found m' = (log : List HubEvent) × Meets m.0 log × (found ≡ length log) × (m' ≡ (having_seen log m.0, m.1))
 
+-- a look at the count by the pass that has the turn: it has then seen the history of all calls
+abbrev pub saw : TableStep → SeatState → ℕ → SeatState → Type 0
+saw st m found m' = (log : List HubEvent) → m.0.turn ≡ Some log → m' ≡ (having_seen log m.0, m.1)
+
 -- a look at the count by which nothing is seen: the pass fits the history of all calls
 abbrev pub learned : TableStep → SeatState → ℕ → SeatState → Type 0
 learned st m found m' = (log : List HubEvent) × Meets m.0 log × (m' ≡ m)

@@ -5,6 +5,7 @@ ghost use Rattle.jup_star.specs.declared.faults.StarFault.{StarFault as TheStarF
 ghost use Rattle.jup_star.specs.declared.calls.Call.{Call};
 ghost use Rattle.jup_star.specs.declared.calls.StarReply.{StarReply};
 
+use crate::doors::Door;
 use jup_star::{Star, StarFault};
 
 /// A call on a star. The hub makes all four in the same way, so the way is proved once.
@@ -16,6 +17,9 @@ pub(crate) trait Ask {
 
     /// What it answered, as a history bears it.
     ghost reply: { Result Self.Answer TheStarFault → StarReply };
+
+    /// At which door it waits for the turn.
+    fn door(&self) -> Door;
 
     fn ask(&self, star: &mut Star) -> Result<Self::Answer, StarFault>
         ensures { Answers (call self.now) star.old star.new (reply result) };

@@ -6,6 +6,7 @@ ghost use Rattle.jup_star.specs.declared.calls.StarReply.TheVariants.{Joined as 
 ghost use Rattle.jup_hub.specs.Histories.{lacks_memory-bare_joined};
 
 use crate::ask::Ask;
+use crate::doors::Door;
 use jup_star::{Downs, Joined, Star, StarFault, Up};
 use std::alloc::Global;
 
@@ -22,6 +23,10 @@ impl Ask for Joining {
     ghost reply = { λ r. JoinedReply (bare_joined r) };
 
     ghost tells_memory = { lacks_memory-bare_joined };
+
+    fn door(&self) -> Door {
+        Door::Others
+    }
 
     fn ask(&self, star: &mut Star) -> Result<Joined, StarFault> {
         star.join(self.alloc)
@@ -44,6 +49,10 @@ impl<'a> Ask for Taking<'a> {
 
     ghost tells_memory = { λ r. refl };
 
+    fn door(&self) -> Door {
+        Door::Takes
+    }
+
     fn ask(&self, star: &mut Star) -> Result<Option<u32>, StarFault> {
         star.take(self.alloc, self.site, self.up)
     }
@@ -65,6 +74,10 @@ impl Ask for Fetching {
 
     ghost tells_memory = { λ r. refl };
 
+    fn door(&self) -> Door {
+        Door::Others
+    }
+
     fn ask(&self, star: &mut Star) -> Result<Downs, StarFault> {
         star.fetch(self.alloc, self.site, self.max)
     }
@@ -83,6 +96,10 @@ impl Ask for Leaving {
     ghost reply = { λ r. Left r };
 
     ghost tells_memory = { λ r. refl };
+
+    fn door(&self) -> Door {
+        Door::Others
+    }
 
     fn ask(&self, star: &mut Star) -> Result<(), StarFault> {
         star.leave(self.site)

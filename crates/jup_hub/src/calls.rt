@@ -5,23 +5,25 @@ ghost use Rattle.jup_star.specs.declared.calls.StarReply.TheVariants.{Joined as 
 ghost use Rattle.jup_batch.specs.Boards.{bare};
 ghost use Rattle.jup_star.specs.Stars.{bare_joined};
 ghost use Rattle.jup_hub.specs.declared.view.HubEvent.{HubEvent};
-ghost use Rattle.jup_hub.specs.Histories.{star_through, AllApart, newcomer, after_split, split_from, joined_with, having_seen, longest, tallies, Meets, MeetsBoard, is_out_of_memory};
+ghost use Rattle.jup_hub.specs.Histories.{star_through, AllApart, newcomer, after_split, split_from, joined_with, having_seen, longest, tallies, Meets, is_out_of_memory};
 ghost use Rattle.jup_hub.specs.Passes.{opening_of, view_of, IsPassOf, Made};
+ghost use Rattle.jup_hub.specs.Turns.{IsIdle, IsHubTable, Takes};
 
 use crate::ask::Ask;
 use crate::asks::{Fetching, Joining, Leaving, Taking};
 use crate::desk::Desk;
+use crate::doors::{Door, Doors};
 use crate::fault::{HubFault, hub_answer, lacks_memory};
 use crate::hub::{Closed, Hub, Pass};
 use crate::rule::{Learn, Look, Passes};
-use crate::turns::{give_turn, settle, take_turn, try_turn};
+use crate::turns::{HubSeat, give_turn, see_all, settle, take_turn, try_turn, try_turns};
 use atomic_table::{Refused, Table};
 use jup_star::{Downs, Joined, Star, StarFault, Up};
 use jup_window::Board;
 use std::alloc::{AllocFailed, Global};
 use std::marker::Brand;
 use std::snapshot::Snapshot;
-use std::sync::Wait;
+use std::sync::{MutexGuard, Wait};
 
 impl Hub {
     /// A hub over a star, with its first pass. If an allocation fails, it gives the star back.
@@ -37,7 +39,10 @@ impl Hub {
             return Err(desk.star);
         }
         match Table::new(alloc, &[0, 0], slots, &about) {
-            Ok((table, seat)) => Ok((Hub { table }, Pass { seat, length: 0 })),
+            Ok((table, seat)) => {
+                let doors = Doors::new();
+                Ok((Hub { table, doors }, Pass { seat, length: 0 }))
+            }
             Err(Refused { mut slots }) => {
                 let Some(Some(desk)) = slots.pop() else {
                     unreachable!()
@@ -136,19 +141,23 @@ impl Hub {
         self.act(rt, pass, &Leaving { site })
     }
 
-    /// A copy of the star's board, as it is after all calls so far. It waits for the turn, and is no event. It is refused only if an
-    /// allocation fails.
+    /// A copy of the star's board, as it is after all calls so far. The pass has then seen these calls. It waits for the turn, and is no
+    /// event. It is refused only if an allocation fails.
     pub fn board<R: Wait>(&self, rt: &R, alloc: Global, pass: &mut Pass) -> Result<Board, HubFault>
         requires { IsPassOf self.now pass.old }
         ensures pass { IsPassOf self.now pass.new }
-        ensures same { view_of pass.new ≡ view_of pass.old }
-        ensures board { IfOk result (λ b. MeetsBoard (bare b) (view_of pass.old)) }
+        ensures met { (log : List HubEvent) × Meets (view_of pass.old) log
+            × (view_of pass.new ≡ having_seen log (view_of pass.old))
+            × IfOk result (λ b. bare b ≡ (star_through (opening_of self.now) log).board) }
         ensures err { IfErr result (λ fault. fault ≡ HubFault.Star StarFault.NoMemory) }
     {
         let table = &self.table.shared;
-        let desk = take_turn(rt, table, &mut pass.seat);
+        let (door, desk) = self.win_turn(rt, &mut pass.seat, Door::Others);
+        see_all(table, &mut pass.seat);
+        pass.length = desk.count;
         let copied = desk.star.board().copy(alloc);
         give_turn(table, &mut pass.seat, desk);
+        drop(door);
         copied.map_err(|_| HubFault::Star(StarFault::NoMemory))
     }
 
@@ -185,6 +194,29 @@ impl Hub {
         }
     }
 
+    // Waits for the turn. A take tries for it before it goes to its door, whose guard comes with the turn; all others go there immediately.
+    fn win_turn<R: Wait>(
+        &self,
+        rt: &R,
+        seat: &mut HubSeat,
+        door: Door,
+    ) -> (Option<MutexGuard<'_, ()>>, Desk)
+        requires table { IsHubTable self.now.table.shared.table_id × (seat.old.table_id ≡ self.now.table.shared.table_id) }
+        requires idle { IsIdle seat.old.me }
+        ensures table { seat.new.table_id ≡ seat.old.table_id }
+        ensures turn { Takes seat.old.me seat.new.me result.1 }
+    {
+        let table = &self.table.shared;
+        if door == Door::Takes {
+            if let Some(desk) = try_turns(table, seat) {
+                return (None, desk);
+            }
+        }
+        let guard = self.doors.lock(rt, door);
+        let desk = take_turn(rt, table, seat);
+        (Some(guard), desk)
+    }
+
     // Waits for the turn, makes one call on the star and gives the turn up.
     fn act<A: Ask, R: Wait>(&self, rt: &R, pass: &mut Pass, ask: &A) -> Result<A::Answer, HubFault>
         requires { IsPassOf self.now pass.old }
@@ -192,7 +224,7 @@ impl Hub {
         ensures made { Made A.reply (A.call ask.now) (view_of pass.old) (view_of pass.new) result }
     {
         let table = &self.table.shared;
-        let mut desk = take_turn(rt, table, &mut pass.seat);
+        let (door, mut desk) = self.win_turn(rt, &mut pass.seat, ask.door());
         if desk.count == u64::MAX {
             give_turn(table, &mut pass.seat, desk);
             return Err(HubFault::Spent);
@@ -204,6 +236,7 @@ impl Hub {
             pass.length = desk.count + 1;
             settle::<A, Brand>(table, &mut pass.seat, desk, ask, &answer);
         }
+        drop(door);
         hub_answer(answer)
     }
 }

@@ -3,6 +3,7 @@ ghost use Rattle.std.specs.Prelude.{◌≡◌, [], None, true};
 ghost use Rattle.jup_hub.specs.Histories.{longest};
 
 use crate::desk::Desk;
+use crate::doors::Doors;
 use crate::rule::Turns;
 use crate::view::View;
 use atomic_table::{Seat, Table};
@@ -16,6 +17,7 @@ use std::snapshot::Snapshot;
 /// the count of events is spent. Each thread calls with a [`Pass`] of its own.
 pub struct Hub {
     pub(crate) table: Table<Option<Desk>, View, Snapshot<Star>, Turns, Global>,
+    pub(crate) doors: Doors,
     ghost two_words: { table.shared.table_id.words ≡ 2 },
     ghost one_slot: { table.shared.table_id.slots ≡ 1 },
 }
@@ -23,7 +25,7 @@ pub struct Hub {
 // Written out: a crate that drops a hub then proves one call. It would prove a derived drop again, and those of all parts.
 impl Drop for Hub {
     fn drop(self) {
-        let Hub { table: _ } = self;
+        let Hub { table: _, doors: _ } = self;
     }
 }
 

@@ -9,6 +9,7 @@ mod ask;
 mod asks;
 mod calls;
 mod desk;
+mod doors;
 mod fault;
 mod hub;
 mod rule;

@@ -4,7 +4,7 @@
 //! copy of the count. The pass that has the turn takes the star out, calls it, stores the count and puts the
 //! star back. The store of the count is the step at which the call becomes one of the history.
 ghost use Rattle.jup_hub.specs.Histories.{newcomer, spent, after_split, split_from, joined_with};
-ghost use Rattle.jup_hub.specs.Turns.{Kept, tried, decided, gave, looked, learned};
+ghost use Rattle.jup_hub.specs.Turns.{Kept, tried, decided, gave, looked, saw, learned};
 
 use crate::desk::Desk;
 use crate::view::View;
@@ -41,6 +41,13 @@ pub struct Look;
 
 impl Play<Option<Desk>, View> for Look {
     ghost then = { looked };
+}
+
+/// A look at the count by the pass that has the turn.
+pub struct See;
+
+impl Play<Option<Desk>, View> for See {
+    ghost then = { saw };
 }
 
 /// A look at the count by which the pass has seen no more.

@@ -1,12 +1,12 @@
 //! The steps of a turn: to win it, to decide a call, to give it up.
 ghost use Rattle.std.specs.Prelude.{◌≡◌, ◌+◌, ◌<◌, ◌^◌, [], Some, None, length, MatchOption};
 ghost use Rattle.jup_star.specs.Stars.{reply_of, star_after};
-ghost use Rattle.jup_hub.specs.Histories.{at_turn, having_called, with_call};
+ghost use Rattle.jup_hub.specs.Histories.{at_turn, having_called, having_seen, with_call};
 ghost use Rattle.jup_hub.specs.Turns.{desk_after, whole, star_now, IsIdle, IsAtTurn, IsHubTable, Takes};
 
 use crate::ask::Ask;
 use crate::desk::Desk;
-use crate::rule::{Decide, Deed, Give, Try, Turns};
+use crate::rule::{Decide, Deed, Give, See, Try, Turns};
 use crate::view::View;
 use atomic_table::{Seat, Shared};
 use jup_star::{Star, StarFault};
@@ -35,7 +35,7 @@ pub(crate) fn try_turn(table: &HubTable, seat: &mut HubSeat) -> Option<Desk>
 }
 
 // Tries some times in a row: a turn is short, and a core that is given away comes back late.
-fn try_turns(table: &HubTable, seat: &mut HubSeat) -> Option<Desk>
+pub(crate) fn try_turns(table: &HubTable, seat: &mut HubSeat) -> Option<Desk>
     requires table { IsHubTable table.now.table_id × (seat.old.table_id ≡ table.now.table_id) }
     requires idle { IsIdle seat.old.me }
     ensures table { seat.new.table_id ≡ seat.old.table_id }
@@ -64,6 +64,16 @@ pub(crate) fn take_turn<R: Wait>(rt: &R, table: &HubTable, seat: &mut HubSeat) -
         thread::yield_now();
     }
     unreachable!()
+}
+
+// The pass that has the turn has then seen the history of all calls. The look leaves the table as it is.
+pub(crate) fn see_all(table: &HubTable, seat: &mut HubSeat)
+    requires table { IsHubTable table.now.table_id × (seat.old.table_id ≡ table.now.table_id) }
+    requires turn { IsAtTurn seat.old.me }
+    ensures table { seat.new.table_id ≡ seat.old.table_id }
+    ensures seen { let v = seat.old.me.0 in seat.new.me ≡ (having_seen (whole v) v, seat.old.me.1) }
+{
+    table.load::<See>(seat, 0);
 }
 
 // Puts the star back into its slot, and gives the turn up.

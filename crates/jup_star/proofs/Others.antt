@@ -3,7 +3,7 @@ use Rattle.std.proofs.Common.{◌≡◌, refl, ap, List, [], ◌∷◌, ◌++◌
 use Rattle.jup_star.specs.Prelude.{highest_limit, most_unacknowledged, Msg, Ack, sent, Message, generated, after_send, next_message, operation_count, AllMessages, InStep, Operations, AreLawful, BoardBatch, board_batches, batch_laws as board_laws, Up, Op as UpOp, UpAck, UpPing, Down, DownOp, DownAck, DownPong, StarFault, Take}
 use Rattle.jup_link.specs.Links.{message, MessagesApart}
 use Rattle.jup_link.specs.Laws.InStep.{MessagesApart-from}
-use Rattle.jup_link.specs.Laws.Steps.{InStep-room, InStep-server_edit, InStep-server_generated, small_le}
+use Rattle.jup_link.specs.Laws.Steps as steps
 use Rattle.jup_star.specs.declared.calls.StarReply.{StarReply}
 use Rattle.jup_star.specs.declared.calls.StarReply.TheVariants.{Taken}
 use Rattle.jup_star.specs.Messages.{ups, downs}
@@ -42,12 +42,12 @@ module _ (O : Operations) (L : AreLawful O) where
       let down : List (Message O.Op) = downs (far.down ++ l.outbox) in
       let few : operation_count up ≤ most_unacknowledged = sends.few in
       let all_sent : generated l.end ≡ far.end.received + operation_count down =
-      InStep-server_generated O.t L.lawful 0 far.board board far.end l.end up down in_step in
+      steps.InStep-server_generated O.t L.lawful 0 far.board board far.end l.end up down in_step in
       let room : O.t.is_small (1 + (operation_count up + operation_count down) + operation_count down) board =
-      small_le O.t L.lawful _ (most_batches - count) board (omega (arith, few, all_sent)) small in
+      steps.small_le O.t L.lawful _ (most_batches - count) board (omega (arith, few, all_sent)) small in
       let next : InStep O.t 0 far.board (O.t.after op board) far.end (after_send l.end op) up (down ++ message l.end op ∷ []) =
-      InStep-server_edit O.t L.lawful 0 far.board board far.end l.end up down op
-      (InStep-room O.t L.lawful 0 1 far.board board far.end l.end up down in_step room) valid (others_apart i j op up other own sends.own) (omega arith) in
+      steps.InStep-server_edit O.t L.lawful 0 far.board board far.end l.end up down op
+      (steps.InStep-room O.t L.lawful 0 1 far.board board far.end l.end up down in_step room) valid (others_apart i j op up other own sends.own) (omega arith) in
       let stream : downs (far.down ++ (l.outbox ++ DownOp (next_message l.end op) ∷ [])) ≡ down ++ message l.end op ∷ [] =
       ap downs (sym (append_assoc far.down l.outbox (DownOp (next_message l.end op) ∷ []))) ∙ downs-append (far.down ++ l.outbox) (DownOp (next_message l.end op) ∷ []) in
       subst (λ ms. InStep O.t 0 far.board (O.t.after op board) far.end (after_send l.end op) up ms) (sym stream) next

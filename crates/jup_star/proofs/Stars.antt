@@ -3,19 +3,19 @@ use Rattle.std.proofs.Common.{◌≡◌, sym, subst, ℕ, zero, suc, ◌+◌, �
 use Rattle.std.proofs.lemmas.Bool.{and_from, and_parts, le-leb}
 use Rattle.std.proofs.Math.ListN.{set}
 use Rattle.std.proofs.lemmas.List.{length-append, length-map, length-set, map-set, length-drop}
-use Rattle.jup_star.specs.Prelude.{highest_limit, last_site, most_attached, most_operations, most_ordered, Side, Client, Server, row_operation, past, opposite, Msg, IsCount, EndLink, generated, owes, unheard, Widget, Text, Labels, BoardBatch, boards, board_batches, batch_laws, BoardEdits, accepts, Up, StarFault, NoMemory, NoLink, BadOp, Take, Fetch, Leave, Entry, Op}
+use Rattle.jup_star.specs.Prelude.{highest_limit, last_site, most_attached, most_operations, most_ordered, Side, Client, Server, row_operation, past, opposite, Msg, IsCount, EndLink, generated, owes, unheard, Widget, Text, Labels, BoardBatch, boards, board_batches, batch_laws, BoardEdits, accepts, Up, StarFault, NoMemory, NoLink, BadOp, Take, Fetch, Leave, Op}
 use Rattle.jup_xform.specs.Batches.{before_last}
 use Rattle.jup_link.specs.Laws.Steps.{small_next}
 use Rattle.jup_window.specs.Entries.{Each, EachWidget}
 use Rattle.jup_window.specs.Widgets as widget
 use Rattle.jup_window.specs.Boards as one
-use Rattle.jup_batch.specs.Boards.{room_client, room_server, shape_client, shape_server, length_client, length_server}
 use Rattle.jup_batch.specs.Boards as board
 use Rattle.jup_star.specs.declared.link.Link.{Link}
 use Rattle.jup_star.specs.declared.calls.StarReply.TheVariants.{Taken, Fetched, Left}
-use Rattle.jup_star.specs.Stars.{IsShort, most_batches, is_of, opened_link, link_sent, link_heard, IsNew, AreApart, IsBounded, AreBounded, entry, links_after, opened_star, taken_edit, left, with_links, joined, BoardLink, BoardStar, IsStar, IsPlace, link_acked, link_ponged, link_fetched, link_of, without, at_link, CanHear, IsHeardBy, bare_link, up_fault, taken, place_taken, fetched, Answers, reply_of, star_after, asks_memory, is_no_memory, take_asks, fetch_asks, end_after, operation_at, AllCount, early_fault}
+use Rattle.jup_star.specs.Orders.{OrderState, with_entry}
+use Rattle.jup_star.specs.Stars.{IsShort, most_batches, is_of, opened_link, link_sent, link_heard, IsNew, AreApart, IsBounded, AreBounded, entry, links_after, new_star, taken_edit, left, with_links, joined, BoardLink, BoardStar, IsStar, IsPlace, link_acked, link_ponged, link_fetched, link_of, without, at_link, CanHear, IsHeardBy, bare_link, up_fault, taken, place_taken, fetched, Answers, reply_of, star_after, asks_memory, is_no_memory, take_asks, fetch_asks, end_after, operation_at, AllCount, early_fault}
 use Rattle.jup_star.proofs.LinkChanges.{below_at, of_at, bounded_at, bounded_set, bounded_without, apart_without, apart_set, apart_map, length_without, set_place, heard_bounded, send_bounded, cond_site, set_at_link, without_set, found_at, paid_generated, received_generated, found_some}
-use Rattle.jup_star.proofs.FaultTests.{early_number, early_count, early_room, early_not_memory, up_early, up_late}
+use Rattle.jup_star.proofs.FaultTests as tests
 
 -- Boards of which each sequence is short, and what is known of an opening.
 
@@ -91,8 +91,8 @@ board_small b short = each_map _ _ (λ ws. each_map IsShort (widget.IsSmall (bef
 -- What of every star each call keeps.
 
 -- a star that is opened
-pub new_star : (b : board.Windows) (limit : ℕ) → limit ≤ highest_limit → EachWidget IsShort b → IsStar (opened_star (board.bare b) limit)
-new_star b limit low short = record {
+pub opened : (keeps : Bool) (b : board.Windows) (limit : ℕ) → limit ≤ highest_limit → EachWidget IsShort b → IsStar (new_star keeps (board.bare b) limit)
+opened keeps b limit low short = record {
   limited = low;
   counted = omega arith;
   given = omega arith;
@@ -301,8 +301,8 @@ leave_left i s t l found is = rw found (refl, is)
 
 -- an operation that was given room has it past any others
 room_past : (side : Side) (x : board.Windows) (o e : BoardBatch) → board.HasRoom o 0 x → board.HasRoom (past boards side o e) 0 x
-room_past Client x o e room = room_client 0 x o e room
-room_past Server x o e room = room_server 0 x o e room
+room_past Client x o e room = board.room_client 0 x o e room
+room_past Server x o e room = board.room_server 0 x o e room
 
 room_row : (side : Side) (x : board.Windows) (o : BoardBatch) (es : List BoardBatch) → board.HasRoom o 0 x → board.HasRoom (row_operation (past boards side) o es) 0 x
 room_row side x o [] room = room
@@ -313,8 +313,8 @@ room_operation x e m room = room_row (opposite e.side) x m.op (unheard e m.heard
 
 -- and its shape and its length
 shape_past : (side : Side) (o e : BoardBatch) → board.shape (past boards side o e) ≡ board.shape o
-shape_past Client o e = shape_client o e
-shape_past Server o e = shape_server o e
+shape_past Client o e = board.shape_client o e
+shape_past Server o e = board.shape_server o e
 
 shape_row : (side : Side) (o : BoardBatch) (es : List BoardBatch) → board.shape (row_operation (past boards side) o es) ≡ board.shape o
 shape_row side o [] = refl
@@ -324,8 +324,8 @@ pub shape_operation : (e : EndLink BoardBatch) (m : Msg BoardBatch) → board.sh
 shape_operation e m = shape_row (opposite e.side) m.op (unheard e m.heard)
 
 length_past : (side : Side) (o e : BoardBatch) → length (past boards side o e) ≡ length o
-length_past Client o e = length_client o e
-length_past Server o e = length_server o e
+length_past Client o e = board.length_client o e
+length_past Server o e = board.length_server o e
 
 length_row : (side : Side) (o : BoardBatch) (es : List BoardBatch) → length (row_operation (past boards side) o es) ≡ length o
 length_row side o [] = refl
@@ -378,8 +378,12 @@ counted_all a n (l ∷ ls) few all = ((let sent = all.0.sent in omega arith), co
 -- How a star takes an edit: each way that the call ends.
 
 -- a star with another board, links and order
-abbrev pub star_with : BoardStar → board.Windows → List BoardLink → List (Entry BoardEdits) → BoardStar
-star_with s b ls o = record s { board = b; links = ls; order = o }
+abbrev pub star_with : BoardStar → board.Windows → List BoardLink → OrderState BoardEdits → BoardStar
+star_with s b ls o = record s { board = b; links = ls; order = o.entries; keeps = o.keeps }
+
+-- the order of a star
+abbrev pub state : BoardStar → OrderState BoardEdits
+state s = record { entries = s.order; keeps = s.keeps }
 
 -- what was checked at the place of a link holds of that link
 pub checked : (i at limit count n : ℕ) (ls : List Link) (here : Link) (l : BoardLink) (m : Msg BoardBatch) (r : Option StarFault) → IsPlace i (map bare_link ls) at
@@ -395,61 +399,61 @@ pub edit_detached : (s : BoardStar) (i : ℕ) (m : Msg BoardBatch) (l : BoardLin
     → Some e ≡ early_fault board_batches s.limit (length s.order) l m → ls ≡ without i s.links
     → Answers (Take i (Op m)) s (with_links s ls) (Taken (Err e))
 edit_detached s i m l e ls found early links =
-    take_detached i (Op m) s _ l e found (up_early s l m e (sym early)) (early_not_memory s.limit (length s.order) l m e early) (ap (with_links s) links)
+    take_detached i (Op m) s _ l e found (tests.up_early s l m e (sym early)) (tests.early_not_memory s.limit (length s.order) l m e early) (ap (with_links s) links)
 
 -- an allocation failed
-pub edit_waits : (s : BoardStar) (i : ℕ) (m : Msg BoardBatch) (l : BoardLink) (b : board.Windows) (ls : List BoardLink) (o : List (Entry BoardEdits)) → link_of i s.links ≡ Some l
-    → None ≡ early_fault board_batches s.limit (length s.order) l m → b ≡ s.board → ls ≡ s.links → o ≡ s.order
+pub edit_waits : (s : BoardStar) (i : ℕ) (m : Msg BoardBatch) (l : BoardLink) (b : board.Windows) (ls : List BoardLink) (o : OrderState BoardEdits) → link_of i s.links ≡ Some l
+    → None ≡ early_fault board_batches s.limit (length s.order) l m → b ≡ s.board → ls ≡ s.links → o ≡ state s
     → Answers (Take i (Op m)) s (star_with s b ls o) (Taken (Err NoMemory))
 edit_waits s i m l b ls o found early board links order =
     take_asks_memory i (Op m) s _ l found (ap (λ (f : Option StarFault). is_none f) (sym early)) (rw (board, links, order) refl)
 
-pub waits_star : (s : BoardStar) (b : board.Windows) (ls : List BoardLink) (o : List (Entry BoardEdits)) → IsStar s → b ≡ s.board → ls ≡ s.links → o ≡ s.order
+pub waits_star : (s : BoardStar) (b : board.Windows) (ls : List BoardLink) (o : OrderState BoardEdits) → IsStar s → b ≡ s.board → ls ≡ s.links → o ≡ state s
     → IsStar (star_with s b ls o)
 waits_star s b ls o star board links order = rw (board, links, order) star
 
 -- its operation does not fit the board
-left_with : (s : BoardStar) (i : ℕ) (b : board.Windows) (ls : List BoardLink) (o : List (Entry BoardEdits)) → b ≡ s.board → ls ≡ without i s.links → o ≡ s.order
+left_with : (s : BoardStar) (i : ℕ) (b : board.Windows) (ls : List BoardLink) (o : OrderState BoardEdits) → b ≡ s.board → ls ≡ without i s.links → o ≡ state s
     → star_with s b ls o ≡ left i s
 left_with s i b ls o board links order = rw (board, links, order) refl
 
-pub edit_misfits : (s : BoardStar) (i : ℕ) (m n : Msg BoardBatch) → m ≡ n → (l : BoardLink) (b : board.Windows) (ls : List BoardLink) (o : List (Entry BoardEdits)) → link_of i s.links ≡ Some l
+pub edit_misfits : (s : BoardStar) (i : ℕ) (m n : Msg BoardBatch) → m ≡ n → (l : BoardLink) (b : board.Windows) (ls : List BoardLink) (o : OrderState BoardEdits) → link_of i s.links ≡ Some l
     → None ≡ early_fault board_batches s.limit (length s.order) l m → accepts (operation_at board_batches l.end m) s.board ≡ false
-    → b ≡ s.board → ls ≡ without i s.links → o ≡ s.order
+    → b ≡ s.board → ls ≡ without i s.links → o ≡ state s
     → Answers (Take i (Op n)) s (star_with s b ls o) (Taken (Err BadOp))
 edit_misfits s i m n told l b ls o found early misfits board links order =
-    subst (λ x. Answers (Take i (Op x)) s (star_with s b ls o) (Taken (Err BadOp))) told (take_detached i (Op m) s _ l BadOp found (up_late s l m false (sym early) misfits) refl (left_with s i b ls o board links order))
+    subst (λ x. Answers (Take i (Op x)) s (star_with s b ls o) (Taken (Err BadOp))) told (take_detached i (Op m) s _ l BadOp found (tests.up_late s l m false (sym early) misfits) refl (left_with s i b ls o board links order))
 
-pub misfits_star : (s : BoardStar) (i : ℕ) (b : board.Windows) (ls : List BoardLink) (o : List (Entry BoardEdits)) → IsStar s → b ≡ s.board → ls ≡ without i s.links → o ≡ s.order
+pub misfits_star : (s : BoardStar) (i : ℕ) (b : board.Windows) (ls : List BoardLink) (o : OrderState BoardEdits) → IsStar s → b ≡ s.board → ls ≡ without i s.links → o ≡ state s
     → IsStar (star_with s b ls o)
 misfits_star s i b ls o star board links order = subst IsStar (sym (left_with s i b ls o board links order)) (left_star i s star)
 
 -- it is taken
-taken_with : (s : BoardStar) (i : ℕ) (m : Msg BoardBatch) (op : BoardBatch) (b : board.Windows) (ls : List BoardLink) (o : List (Entry BoardEdits))
-    → b ≡ board.after op s.board → ls ≡ links_after board_batches i m op s.links → o ≡ s.order ++ entry board_batches i m ∷ []
+taken_with : (s : BoardStar) (i : ℕ) (m : Msg BoardBatch) (op : BoardBatch) (b : board.Windows) (ls : List BoardLink) (o : OrderState BoardEdits)
+    → b ≡ board.after op s.board → ls ≡ links_after board_batches i m op s.links → o ≡ with_entry (entry board_batches i m) (state s)
     → star_with s b ls o ≡ taken_edit board_batches i m op s
 taken_with s i m op b ls o board links order = rw (board, links, order) refl
 
-pub edit_taken : (s : BoardStar) (i : ℕ) (m n : Msg BoardBatch) → m ≡ n → (l : BoardLink) (b : board.Windows) (ls : List BoardLink) (o : List (Entry BoardEdits)) → link_of i s.links ≡ Some l
+pub edit_taken : (s : BoardStar) (i : ℕ) (m n : Msg BoardBatch) → m ≡ n → (l : BoardLink) (b : board.Windows) (ls : List BoardLink) (o : OrderState BoardEdits) → link_of i s.links ≡ Some l
     → None ≡ early_fault board_batches s.limit (length s.order) l m → accepts (operation_at board_batches l.end m) s.board ≡ true
     → b ≡ board.after (operation_at board_batches l.end m) s.board → ls ≡ links_after board_batches i m (operation_at board_batches l.end m) s.links
-    → o ≡ s.order ++ entry board_batches i m ∷ []
+    → o ≡ with_entry (entry board_batches i m) (state s)
     → Answers (Take i (Op n)) s (star_with s b ls o) (Taken (Ok (Some (length s.order))))
 edit_taken s i m n told l b ls o found early fits board links order =
-    subst (λ x. Answers (Take i (Op x)) s (star_with s b ls o) (Taken (Ok (Some (length s.order))))) told (take_taken i (Op m) s _ l found (up_late s l m true (sym early) fits) (taken_with s i m (operation_at board_batches l.end m) b ls o board links order))
+    subst (λ x. Answers (Take i (Op x)) s (star_with s b ls o) (Taken (Ok (Some (length s.order))))) told (take_taken i (Op m) s _ l found (tests.up_late s l m true (sym early) fits) (taken_with s i m (operation_at board_batches l.end m) b ls o board links order))
 
-pub edit_star : (s : BoardStar) (i at : ℕ) (m : Msg BoardBatch) (l : BoardLink) (b : board.Windows) (ls : List BoardLink) (o : List (Entry BoardEdits)) → IsStar s → IsPlace i s.links at
+pub edit_star : (s : BoardStar) (i at : ℕ) (m : Msg BoardBatch) (l : BoardLink) (b : board.Windows) (ls : List BoardLink) (o : OrderState BoardEdits) → IsStar s → IsPlace i s.links at
     → link_of i s.links ≡ Some l → None ≡ early_fault board_batches s.limit (length s.order) l m → accepts (operation_at board_batches l.end m) s.board ≡ true
     → b ≡ board.after (operation_at board_batches l.end m) s.board → ls ≡ links_after board_batches i m (operation_at board_batches l.end m) s.links
-    → o ≡ s.order ++ entry board_batches i m ∷ []
+    → o ≡ with_entry (entry board_batches i m) (state s)
     → IsStar (star_with s b ls o)
 edit_star s i at m l b ls o star place found early fits board links order =
     let P : BoardLink → Type 0 = λ k. IsCount k.end m.heard in
-    let count = subst P (sym (found_get i s.links at l place found)) (early_count s.limit (length s.order) l m (sym early)) in
+    let count = subst P (sym (found_get i s.links at l place found)) (tests.early_count s.limit (length s.order) l m (sym early)) in
     let valid = (batch_laws.decides (operation_at board_batches l.end m) s.board).0 fits in
     let few : length m.op ≤ most_operations = rw length_operation at valid.few in
     subst IsStar (sym (taken_with s i m (operation_at board_batches l.end m) b ls o board links order))
-    (taken_star i at m (operation_at board_batches l.end m) s l place (early_room s.limit (length s.order) l m (sym early)) count few valid star)
+    (taken_star i at m (operation_at board_batches l.end m) s l place (tests.early_room s.limit (length s.order) l m (sym early)) count few valid star)
 
 -- the link of the site can hear an edit without an early fault
 pub heard_by : (s : BoardStar) (i at : ℕ) (m : Msg BoardBatch) (l : BoardLink) → IsStar s → IsPlace i s.links at → link_of i s.links ≡ Some l
@@ -458,7 +462,7 @@ heard_by s i at m l star place found early =
     let P : BoardLink → Type 0 = λ k. IsBounded s.given (length s.order) k in
     let bounded = subst P (found_get i s.links at l place found) (bounded_at _ _ s.links at l (below_at i s.links at place) star.bounded) in
     let named = bounded.insertions in let counted = star.counted in let limited = star.limited in
-    record { number = early_number _ _ l m (sym early); count = early_count _ _ l m (sym early); named = omega arith }
+    record { number = tests.early_number _ _ l m (sym early); count = tests.early_count _ _ l m (sym early); named = omega arith }
 
 -- no link has sent too much
 pub all_count : (s : BoardStar) → IsStar s → AllCount s.links

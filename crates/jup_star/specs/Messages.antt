@@ -1,7 +1,7 @@
 -- What streams and outboxes carry.
 use Rattle.std.specs.Prelude.{List, [], ◌∷◌, ℕ, IsTrue}
 use Rattle.std.specs.List.{AllByRecursion}
-use Rattle.jup_star.specs.Prelude.{Message, Ack, sent, BoardBatch, Up, Op as UpOp, UpAck, UpPing, Down, DownOp, DownAck, DownPong, Entry}
+use Rattle.jup_star.specs.Prelude.{Message, Ack, sent, BoardBatch, Up, Op as UpOp, UpAck, UpPing, Down, DownOp, DownAck, DownPong}
 use Rattle.jup_window.specs.Widgets.{relabels_no_text}
 
 -- What streams carry for the two ends of a link: pings and pongs are none of it.
@@ -20,16 +20,11 @@ downs (DownOp m ∷ ds) = sent m ∷ downs ds
 downs (DownAck n ∷ ds) = Ack n ∷ downs ds
 downs (DownPong k ∷ ds) = downs ds
 
--- Outboxes and orders as contracts see them.
+-- Outboxes as contracts see them.
 
 -- messages that wait to be fetched, oldest first, and how many more there is room for
 pub record OutboxState (Operation : Type 0) : Type 0 where
   pub messages : List (Down Operation)
-  pub spare : ℕ
-
--- the entries of a star, and how many more there is room for
-pub record OrderState (Edit : Type 0) : Type 0 where
-  pub entries : List (Entry Edit)
   pub spare : ℕ
 
 -- Batches and messages that bear no relabel of a text: no board takes one, so none is sent, and no line bears one.

@@ -71,13 +71,15 @@ module _ (O : Operations) where
 
 -- The star, and what each call answers and leaves. The definitions are for any operations: the star's are those on boards.
 
--- how many edits it takes over its lifetime, its board, how many site numbers it gave, its links, and the edits that it took in order
+-- how many edits it takes over its lifetime, its board, how many site numbers it gave, its links, and the edits that it took in order.
+-- Then whether it keeps these, or only counts them
 pub record StarState (Operation State Edit : Type 0) : Type 0 where
   pub limit : ℕ
   pub board : State
   pub given : ℕ
   pub links : List (LinkState Operation)
   pub order : List (Entry Edit)
+  pub keeps : Bool
 
 -- the link of a site
 abbrev pub link_of : {Operation : Type 0} → ℕ → List (LinkState Operation) → Option (LinkState Operation)
@@ -97,8 +99,19 @@ module _ {Operation State Edit : Type 0} where
   with_links s links = record s { links = links }
 
   -- a new star
+  abbrev pub new_star : Bool → State → ℕ → StarState Operation State Edit
+  new_star keeps board limit = record { limit = limit; board = board; given = 0; links = []; order = []; keeps = keeps }
+
+  -- one that keeps its order, and one that only counts it
   abbrev pub opened_star : State → ℕ → StarState Operation State Edit
-  opened_star board limit = record { limit = limit; board = board; given = 0; links = []; order = [] }
+  opened_star board limit = new_star true board limit
+
+  abbrev pub opened_counting : State → ℕ → StarState Operation State Edit
+  opened_counting board limit = new_star false board limit
+
+  -- the entries that it keeps of its order
+  abbrev pub kept_order : StarState Operation State Edit → List (Entry Edit)
+  kept_order s = if s.keeps then s.order else []
 
   -- why a join is refused, and the star after one that is not
   abbrev pub join_fault : StarState Operation State Edit → Option StarFault
@@ -415,4 +428,4 @@ AllCount (l ∷ ls) = (generated l.end < 4294967295) × AllCount ls
 
 -- a star without the room that it and its links keep
 abbrev pub bare_star : Inside → BoardStar
-bare_star s = record { limit = s.limit; board = bare s.board; given = s.given; links = map bare_link s.links.items; order = s.order.entries }
+bare_star s = record { limit = s.limit; board = bare s.board; given = s.given; links = map bare_link s.links.items; order = s.order.state.entries; keeps = s.order.state.keeps }

@@ -8,18 +8,21 @@
 #![tactic(auto, unfolding(crate::specs::Stars::reply_of, crate::specs::Stars::star_after, crate::specs::Stars::asks_memory))]
 
 mod calls;
+mod count;
 mod edits;
 mod ends;
 mod faults;
 mod link;
 mod links;
 mod messages;
+mod noted;
 mod openings;
 mod order;
 mod outbox;
 mod site;
 mod star;
 mod take;
+mod taken;
 
 pub use calls::{Call, StarReply};
 pub use faults::{OpenFault, SiteFault, StarFault};

@@ -5,7 +5,7 @@ ghost use Rattle.jup_batch.specs.Boards.{bare};
 ghost use Rattle.jup_window.specs.Entries.{EachWidget};
 ghost use Rattle.jup_star.specs.Faults.{fault_of};
 ghost use Rattle.jup_window.specs.Commands.{map_ok};
-ghost use Rattle.jup_star.specs.Stars.{IsShort, OthersStayInStep, link_of, opened_star, Answers, bare_joined, lacks_memory, star_open_fault};
+ghost use Rattle.jup_star.specs.Stars.{IsShort, OthersStayInStep, link_of, new_star, opened_star, opened_counting, kept_order, Answers, bare_joined, lacks_memory, star_open_fault};
 ghost use Rattle.jup_star.specs.Messages.{DownRelabelsNoText};
 ghost use Rattle.jup_star.specs.declared.messages.Up.TheVariants.{Op, Ack, Ping};
 ghost use Rattle.jup_star.specs.declared.calls.Call.TheVariants.{Join, Take, Fetch, Leave};
@@ -80,6 +80,25 @@ impl Star {
         ensures refusal { fault_of result ≡ star_open_fault (bare board) limit }
         ensures opened { IfOk result (λ star. star ≡ opened_star (bare board) limit) }
     {
+        Star::open_as(alloc, board, limit, true)
+    }
+
+    /// A star as [`open`](Star::open) gives, with the same refusals. It keeps only the number of edits that it
+    /// took, so an edit costs it no memory beyond its board and its links. A program that serves opens this one.
+    pub fn open_counting(alloc: Global, board: Board, limit: u32) -> Result<Star, OpenFault>
+        requires short { EachWidget IsShort board }
+        ensures refusal { fault_of result ≡ star_open_fault (bare board) limit }
+        ensures opened { IfOk result (λ star. star ≡ opened_counting (bare board) limit) }
+    {
+        Star::open_as(alloc, board, limit, false)
+    }
+
+    // A star that keeps its order, or only counts it.
+    fn open_as(alloc: Global, board: Board, limit: u32, keeps: bool) -> Result<Star, OpenFault>
+        requires short { EachWidget IsShort board }
+        ensures refusal { fault_of result ≡ star_open_fault (bare board) limit }
+        ensures opened { IfOk result (λ star. star ≡ new_star keeps (bare board) limit) }
+    {
         if limit < 1 || limit > HIGHEST_LIMIT {
             return Err(OpenFault::BadLimit);
         }
@@ -91,7 +110,7 @@ impl Star {
             board,
             given: 0,
             links: Vec::new(alloc),
-            order: Order::new(alloc),
+            order: Order::new(alloc, keeps),
         })
     }
 
@@ -171,22 +190,20 @@ impl Star {
         }
         let prepared = reserve_edit(
             alloc,
+            site,
             msg,
             &mut self.board,
             &mut self.links,
             &mut self.order,
         )?;
-        let entry = Entry {
-            site,
-            edit: prepared.edits,
-        };
         if !carry_out(
             &mut self.board,
             &mut self.links,
             &mut self.order,
             at,
+            site,
             prepared.msg,
-            entry,
+            prepared.entry,
         ) {
             detach(&mut self.links, site);
             return Err(StarFault::BadOp);
@@ -266,11 +283,18 @@ impl Star {
         Some(self.links[at].waiting())
     }
 
-    /// The edits that were taken, in order.
+    /// The edits that were taken, in order. A star of [`open_counting`](Star::open_counting) keeps none of them.
     pub fn order(&self) -> &[Entry]
-        ensures { result.now ≡ self.now.order }
+        ensures { result.now ≡ kept_order self.now }
     {
         self.order.as_slice()
+    }
+
+    /// How many edits were taken, also by a star that keeps none of them.
+    pub fn order_len(&self) -> usize
+        ensures { result ≡ length self.now.order }
+    {
+        self.order.len()
     }
 
     /// The board after the edits that were taken.

@@ -1,15 +1,16 @@
 //! How a star takes an edit.
-ghost use Rattle.std.specs.Prelude.{◌≡◌, ◌≤◌, ◌<◌, true, false, [], ◌∷◌, ◌++◌, map, slice_set, vec_len, OnOk, IfOk};
-ghost use Rattle.jup_batch.specs.Boards.{bare, after, edit_of, shape, HasRoom, board_batches, accepts};
+ghost use Rattle.std.specs.Prelude.{◌≡◌, ◌≤◌, ◌<◌, true, false, length, map, slice_set, vec_len, OnOk, IfOk};
+ghost use Rattle.jup_batch.specs.Boards.{bare, after, shape, HasRoom, board_batches, accepts};
+ghost use Rattle.jup_star.specs.Memory.{coming};
+ghost use Rattle.jup_star.specs.Orders.{with_entry};
+ghost use Rattle.jup_star.specs.Stars as star;
 ghost use Rattle.jup_star.specs.Stars.{operation_at, link_heard, without, link_of, AreApart, links_after, BoardLink, IsPlace, IsHeardBy, bare_link, AllHaveRoom, OthersHaveRoom, AllCount};
 
-use crate::Entry;
-use crate::edits::edits_of;
 use crate::ends::copy_of;
 use crate::link::Link;
 use crate::links::{reserve_all, send_others};
-use crate::order::Order;
-use jup_batch::{BoardBatch, BoardEdits};
+use crate::order::{NewEntry, Order};
+use jup_batch::BoardBatch;
 use jup_link::Msg;
 use jup_window::Board;
 use jup_xform::{NoMemory, Transform};
@@ -19,40 +20,34 @@ use std::alloc::Global;
 #[derive(Drop)]
 pub(crate) struct Prepared {
     pub(crate) msg: Msg<BoardBatch>,
-    pub(crate) edits: BoardEdits,
+    pub(crate) entry: NewEntry,
 }
 
 /// Makes all room that an edit will need, and all copies.
 pub(crate) fn reserve_edit(
     alloc: Global,
+    site: u32,
     msg: &Msg<BoardBatch>,
     board: &mut Board,
     links: &mut Vec<Link>,
     order: &mut Order,
 ) -> Result<Prepared, NoMemory>
+    requires { length order.old.state.entries < 18446744073709551615 }
     ensures board { bare board.new ≡ bare board.old }
     ensures links { map bare_link links.new.items ≡ map bare_link links.old.items }
-    ensures order { order.new.entries ≡ order.old.entries }
+    ensures order { order.new.state ≡ order.old.state }
     ensures board_room { OnOk result (HasRoom msg.now.op 0 board.new) }
     ensures link_room { OnOk result (AllHaveRoom (shape msg.now.op) links.new.items) }
     ensures order_room { OnOk result (1 ≤ order.new.spare) }
     ensures msg { IfOk result (λ prepared. prepared.msg ≡ msg.now) }
-    ensures edits { IfOk result (λ prepared. prepared.edits ≡ edit_of msg.now.op) }
+    ensures entry { IfOk result (λ prepared. coming prepared.entry ≡ record { entry = star.entry board_batches site msg.now; keeps = order.old.state.keeps }) }
 {
     msg.op.reserve(alloc, 0, board)?;
     order.reserve_one()?;
     reserve_all(alloc, links, &msg.op)?;
-    prepare(alloc, msg)
-}
-
-// Makes the copies that an edit will need.
-fn prepare(alloc: Global, msg: &Msg<BoardBatch>) -> Result<Prepared, NoMemory>
-    ensures msg { IfOk result (λ prepared. prepared.msg ≡ msg.now) }
-    ensures edits { IfOk result (λ prepared. prepared.edits ≡ edit_of msg.now.op) }
-{
     Ok(Prepared {
         msg: copy_of(alloc, msg)?,
-        edits: edits_of(alloc, &msg.op)?,
+        entry: order.entry_of(alloc, site, msg)?,
     })
 }
 
@@ -85,36 +80,37 @@ pub(crate) fn carry_out(
     links: &mut Vec<Link>,
     order: &mut Order,
     at: usize,
+    site: u32,
     msg: Msg<BoardBatch>,
-    entry: Entry,
+    entry: NewEntry,
 ) -> bool
-    requires place { IsPlace entry.site (map bare_link links.old.items) at }
+    requires place { IsPlace site (map bare_link links.old.items) at }
     requires below { at < vec_len links.old }
-    requires heard { IsHeardBy entry.site msg (map bare_link links.old.items) }
-    requires edit { entry.edit ≡ edit_of msg.op }
+    requires heard { IsHeardBy site msg (map bare_link links.old.items) }
+    requires entry { coming entry ≡ record { entry = star.entry board_batches site msg; keeps = order.old.state.keeps } }
     requires apart { AreApart (map bare_link links.old.items) }
     requires counted { AllCount (map bare_link links.old.items) }
     requires board_room { HasRoom msg.op 0 board.old }
     requires link_room { AllHaveRoom (shape msg.op) links.old.items }
     requires order_room { 1 ≤ order.old.spare }
 
-    ensures fits { (l : BoardLink) → link_of entry.site (map bare_link links.old.items) ≡ Some l
+    ensures fits { (l : BoardLink) → link_of site (map bare_link links.old.items) ≡ Some l
         → result ≡ accepts (operation_at board_batches l.end msg) (bare board.old) }
-    ensures others { result ≡ false → without entry.site (map bare_link links.new.items) ≡ without entry.site (map bare_link links.old.items) }
+    ensures others { result ≡ false → without site (map bare_link links.new.items) ≡ without site (map bare_link links.old.items) }
     ensures same_board { result ≡ false → bare board.new ≡ bare board.old }
-    ensures same_order { result ≡ false → order.new.entries ≡ order.old.entries }
-    ensures board { result ≡ true → (l : BoardLink) → link_of entry.site (map bare_link links.old.items) ≡ Some l
+    ensures same_order { result ≡ false → order.new.state ≡ order.old.state }
+    ensures board { result ≡ true → (l : BoardLink) → link_of site (map bare_link links.old.items) ≡ Some l
         → bare board.new ≡ after (operation_at board_batches l.end msg) (bare board.old) }
-    ensures links { result ≡ true → (l : BoardLink) → link_of entry.site (map bare_link links.old.items) ≡ Some l
-        → map bare_link links.new.items ≡ links_after board_batches entry.site msg (operation_at board_batches l.end msg) (map bare_link links.old.items) }
-    ensures order { result ≡ true → order.new.entries ≡ order.old.entries ++ entry ∷ [] }
+    ensures links { result ≡ true → (l : BoardLink) → link_of site (map bare_link links.old.items) ≡ Some l
+        → map bare_link links.new.items ≡ links_after board_batches site msg (operation_at board_batches l.end msg) (map bare_link links.old.items) }
+    ensures order { result ≡ true → order.new.state ≡ with_entry (star.entry board_batches site msg) order.old.state }
 {
-    let op = hear_at(links, at, entry.site, msg);
+    let op = hear_at(links, at, site, msg);
     if !fits(&op, board) {
         return false;
     }
     op.apply(board);
-    send_others(links, entry.site, &op);
+    send_others(links, site, &op);
     order.push(entry);
     true
 }

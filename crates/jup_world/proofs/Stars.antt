@@ -1,7 +1,7 @@
 -- A star stays sound.
 use Rattle.std.proofs.Common.{◌≡◌, ℕ, ◌+◌, ◌<◌, ◌≤◌, inl, Bool, true, false, List, nat_eq, refl, ap, sym, ◌∙◌, subst, Option, Some, None, option_map, arith, eq-eqb, eqb-true, ne_eqb, ◌⊎◌, ◌-◌, inr, cond, [], ◌∷◌, ◌++◌, length, IsTrue, add-zero, length-append, if◌then◌else◌}
 use Rattle.std.proofs.lemmas.Bool.{ltb-true}
-use Rattle.jup_world.specs.Prelude.{most_beyond, row_operation, row_entries, past, opposite, Msg, Link, unheard, answered, after_ack, owes, Operations, AreLawful, Entry, Up, UpOp, UpAck, UpPing, BadOp, LinkState, opened_link, link_acked, link_ponged, link_fetched, StarOf, opened_star, link_of, at_link, with_links, left, joined, fetched, operation_at, link_heard, link_sent, fits_board, up_fault, place_taken, taken, links_after, entry, test, found-map, found-map_other, found-without, found-without_other, found-end, found-end_other, AllByRecursion}
+use Rattle.jup_world.specs.Prelude.{most_beyond, row_operation, row_entries, past, opposite, Msg, Link, unheard, answered, after_ack, owes, Operations, AreLawful, Entry, Up, UpOp, UpAck, UpPing, BadOp, LinkState, opened_link, link_acked, link_ponged, link_fetched, StarOf, new_star, link_of, at_link, with_links, left, joined, fetched, operation_at, link_heard, link_sent, fits_board, up_fault, place_taken, taken, links_after, entry, test, found-map, found-map_other, found-without, found-without_other, found-end, found-end_other, AllByRecursion}
 use Rattle.jup_link.specs.Laws.Steps.{small_next}
 use Rattle.jup_star.specs.Stars.{early_tests}
 use Rattle.jup_star.proofs.FaultTests.{link_site, inserted_at, taken_valid, AllHold, all_hold}
@@ -17,8 +17,8 @@ use Rattle.jup_world.proofs.Known.{All-append, All-at, All-map, known_more, chan
 
 module _ (O : Operations) (L : AreLawful O) where
   -- a new star
-  pub star-opened : (most limit : ℕ) (board : O.State) → O.t.is_distinct board → O.t.is_small most board → limit + most_beyond ≤ most → most ≤ 4294967295
-      → ((n : O.t.Name) → O.t.holds board n → O.site_of n ≡ 0) → IsSoundStar O most (O.t.content board) (opened_star board limit)
+  pub star-opened : {keeps : Bool} (most limit : ℕ) (board : O.State) → O.t.is_distinct board → O.t.is_small most board → limit + most_beyond ≤ most → most ≤ 4294967295
+      → ((n : O.t.Name) → O.t.holds board n → O.site_of n ≡ 0) → IsSoundStar O most (O.t.content board) (new_star keeps board limit)
   star-opened most limit board distinct small room counted layout = record {
     content_is = sym (L.keeps.meaning_none (O.t.content board));
     distinct = distinct;

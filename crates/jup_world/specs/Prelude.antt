@@ -32,7 +32,7 @@ pub use Rattle.jup_star.specs.declared.star.Joined.{Joined as JoinedSite}
 pub use Rattle.jup_star.specs.Faults.{first_fault, test}
 pub use Rattle.jup_star.specs.Messages.{downs, ups}
 pub use Rattle.jup_star.specs.Sites.{BoardSite, SiteOf, SiteState, deliver_fault, deliver_tests, edit_answer, edited, fits_shown, heard_tests, opened_site, owed_up, received, running_test, sent_back, with_end}
-pub use Rattle.jup_star.specs.Stars.{Answers, BoardStar, IsShort, LinkState, StarOf, at_link, bare_joined, end_after, entry, fetched, fits_board, is_no_memory, join_fault, joined, joining, left, link_acked, link_fetched, link_heard, link_of, link_ponged, link_sent, links_after, most_batches, opened_link, opened_star, operation_at, owed_down, place_taken, taken, up_fault, with_links, without}
+pub use Rattle.jup_star.specs.Stars.{Answers, BoardStar, IsShort, LinkState, StarOf, at_link, bare_joined, end_after, entry, fetched, fits_board, is_no_memory, join_fault, joined, joining, left, link_acked, link_fetched, link_heard, link_of, link_ponged, link_sent, links_after, most_batches, new_star, opened_link, opened_star, operation_at, owed_down, place_taken, taken, up_fault, with_links, without}
 pub use Rattle.jup_star.proofs.LinkChanges.{found, found-end, found-end_other, found-map, found-map_other, found-without, found-without_other}
 pub use Rattle.jup_star.proofs.Others.{downs-append, ups-append}
 pub use Rattle.jup_lane.proofs.Trays.{downs_laws, ups_laws}

@@ -214,6 +214,7 @@ module _ (O : Operations) where
   -- All that holds of a world at every moment; `most` is how small its opening board is.
   pub record IsSound (most : ℕ) (w : WorldOf O) : Type 0 where
     pub order_is : order_of O w.trace ≡ w.star.order
+    pub keeps : w.star.keeps ≡ true
     pub star : IsSoundStar most (O.t.content w.opening) w.star
     pub stand : (i : ℕ) → StandsAt most (O.t.content w.opening) (turns i w.star.order) w.star.board (made i w.trace) (joined_at O i w.trace) (shown_count i w.trace) i
         (link_of i w.star.links) (attached i w.sites)

@@ -1,5 +1,5 @@
 -- What is read off a trace, and what it says of sites.
-use Rattle.std.specs.Prelude.{ℕ, zero, suc, cond, List, [], ◌∷◌, nat_eq, ◌+◌, Bool, false, ◌||◌, ◌++◌, length, take, drop, ◌≡◌, ◌⊎◌, Some, ◌<◌, ◌≤◌, Option, None, ◌&&◌, not, is_some}
+use Rattle.std.specs.Prelude.{ℕ, zero, suc, cond, List, [], ◌∷◌, nat_eq, ◌+◌, Bool, true, false, ◌||◌, ◌++◌, length, take, drop, ◌≡◌, ◌⊎◌, Some, ◌<◌, ◌≤◌, Option, None, ◌&&◌, not, is_some}
 use Rattle.jup_world.specs.Prelude.{answer_after, most_unacknowledged, generated, Operations, Entry, Up, UpOp, UpAck, UpPing, Down, DownOp, DownAck, DownPong, entry, LinkState, link_of, EditFault, AllByRecursion}
 use Rattle.jup_world.specs.declared.events.Reply.{Reply}
 use Rattle.jup_world.specs.declared.events.Reply.TheVariants.{Joined, Made, Taken, Shown}
@@ -214,6 +214,7 @@ module _ (O : Operations) where
     -- the star's order is the one that the trace gives
     pub order : w.star.order ≡ order_of O w.trace
     -- the star's content is the meaning of that order, and a site's is the meaning of what has reached it and of what it made
+    pub keeps : w.star.keeps ≡ true
     pub star_content : O.t.content w.star.board ≡ O.t.meaning (O.t.content w.opening) (edits (turns 0 (order_of O w.trace)))
     pub site_content : (i : ℕ) (a : AttachedOf O) → attached i w.sites ≡ Some a → O.t.content a.site.board ≡ O.t.meaning (O.t.content w.opening) (view O i w.trace)
     -- if no message is on its way, all boards are equal, and the order has every edit of each attached site once, in its order

@@ -1,5 +1,5 @@
 //! A star with its sites and the messages on their way between them, and what has happened.
-ghost use Rattle.std.specs.Prelude.{◌≡◌, ◌⊎◌, ◌↔◌, ◌+◌, ◌<◌, ◌≤◌, false, [], ◌∷◌, ◌++◌, length, vec_len, None, Some, is_some, map, IsTrue, IfOk, IfErr, IfSome, OnOk, OnErr};
+ghost use Rattle.std.specs.Prelude.{◌≡◌, ◌⊎◌, ◌↔◌, ◌+◌, ◌<◌, ◌≤◌, true, false, [], ◌∷◌, ◌++◌, length, vec_len, None, Some, is_some, map, IsTrue, IfOk, IfErr, IfSome, OnOk, OnErr};
 ghost use Rattle.std.specs.Vec.{vec_capacity};
 ghost use Rattle.std.specs.Option.{option_copied, option_map};
 ghost use Rattle.jup_window.specs.Entries.{EachWidget};
@@ -175,6 +175,7 @@ impl World {
         ensures order { result.now.order ≡ order_of (plain_trace self.now.trace) }
         ensures content { content result.now.board ≡ meaning (content self.now.opening) (edits (turns 0 (order_of (plain_trace self.now.trace)))) }
         ensures given { result.now.given ≡ numbers_given (plain_trace self.now.trace) }
+        ensures keeps { result.now.keeps ≡ true }
     {
         &self.star
     }

@@ -26,7 +26,17 @@ fn board(rt: &impl Abort, alloc: Global) -> Board
 
 /// A star over this board, with some sites attached.
 pub(crate) fn star_of(rt: &impl Abort, alloc: Global, sites: u32) -> Star {
-    let mut star = Star::open(alloc, board(rt, alloc), LIMIT).expect(rt, "a layout and a limit");
+    let star = Star::open(alloc, board(rt, alloc), LIMIT).expect(rt, "a layout and a limit");
+    with_sites(rt, alloc, star, sites)
+}
+
+/// The same star, which only counts its order.
+pub(crate) fn counting_star_of(rt: &impl Abort, alloc: Global, sites: u32) -> Star {
+    let star = Star::open_counting(alloc, board(rt, alloc), LIMIT);
+    with_sites(rt, alloc, star.expect(rt, "a layout and a limit"), sites)
+}
+
+fn with_sites(rt: &impl Abort, alloc: Global, mut star: Star, sites: u32) -> Star {
     for _ in 0..sites {
         expect_that(rt, star.join(alloc).is_ok());
     }

@@ -1,7 +1,9 @@
 //! Failed allocations in ends, sites and the star, each test for the calls of its name. `./growths` makes one after another of the allocations between
 //! two marks fail. A call that fails leaves all as it was, and gives its answer if it is made again.
 use crate::expect::{expect_eq, expect_that};
-use crate::first_edits::{first, first_site, insertion, replacement, star_of, told_of};
+use crate::first_edits::{
+    counting_star_of, first, first_site, insertion, replacement, star_of, told_of,
+};
 use jup_link::End;
 use jup_star::{Down, Downs, Made, Site, SiteFault, Star, StarFault, Up};
 use jup_window::{Command, EditFault, Setting, Value};
@@ -80,14 +82,21 @@ fn has(rt: &impl Abort, star: &Star, letters: &str, taken: usize, waiting: usize
     expect_eq(rt, (letters, reads(star.board(), letters)), (letters, true));
     expect_eq(
         rt,
-        (star.order().len(), star.waiting(2)),
+        (star.order_len(), star.waiting(2)),
         (taken, Some(waiting)),
     );
 }
 
 // A star of two sites takes the first message of one, and then has this text and so many entries. If an allocation failed first, nothing was taken.
-fn takes(rt: &impl Abort, alloc: Global, site: u32, up: &Up, letters: &str, taken: usize) {
-    let mut star = star_of(rt, alloc, 2);
+fn takes(
+    rt: &impl Abort,
+    alloc: Global,
+    mut star: Star,
+    site: u32,
+    up: &Up,
+    letters: &str,
+    taken: usize,
+) {
     begin(alloc);
     let mut place = star.take(alloc, site, up);
     end(alloc);
@@ -104,10 +113,20 @@ fn takes(rt: &impl Abort, alloc: Global, site: u32, up: &Up, letters: &str, take
 #[test]
 fn star_take(rt: HostRuntime) {
     let alloc = rt.alloc();
-    takes(&rt, alloc, 1, &told_of(alloc, 1), "apqr", 1);
+    let told = told_of(alloc, 1);
+    takes(&rt, alloc, star_of(&rt, alloc, 2), 1, &told, "apqr", 1);
     let replaced = Up::Op(first(replacement(&rt, alloc, 1)));
-    takes(&rt, alloc, 1, &replaced, "aqr", 1);
-    takes(&rt, alloc, 2, &Up::Ping(7), "pqr", 0);
+    takes(&rt, alloc, star_of(&rt, alloc, 2), 1, &replaced, "aqr", 1);
+    let ping = Up::Ping(7);
+    takes(&rt, alloc, star_of(&rt, alloc, 2), 2, &ping, "pqr", 0);
+}
+
+#[test]
+fn counting_star_take(rt: HostRuntime) {
+    let alloc = rt.alloc();
+    let star = counting_star_of(&rt, alloc, 2);
+    let replaced = Up::Op(first(replacement(&rt, alloc, 1)));
+    takes(&rt, alloc, star, 1, &replaced, "aqr", 1);
 }
 
 // What is fetched for site 2. If an allocation failed first, it still waited.

@@ -175,7 +175,7 @@ fn is_shown<R: Abort + Wait>(rt: &R, alloc: Global, hub: &Hub, pass: &mut Pass, 
     expect_eq(rt, has_text, Ok(true));
 }
 
-// The board is the star's, is no event, and is no news of an event to the pass that asks for it.
+// The board is the star's, and is no event. The pass that asks for it has then seen what it has.
 #[test]
 fn hub_board(rt: HostRuntime) {
     let alloc = rt.alloc();
@@ -184,7 +184,7 @@ fn hub_board(rt: HostRuntime) {
     is_shown(&rt, alloc, &hub, &mut b, "pqr");
     takes(&rt, alloc, &hub, &mut a, 1, 0);
     is_shown(&rt, alloc, &hub, &mut b, "apqr");
-    expect_that(&rt, hub.news(&mut b));
+    expect_that(&rt, !hub.news(&mut b));
     is_shown(&rt, alloc, &hub, &mut a, "apqr");
     expect_that(&rt, !hub.news(&mut b));
     let star = ends(&rt, alloc, hub, a, 1, &[1]);

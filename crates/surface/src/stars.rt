@@ -21,11 +21,13 @@ pub fn site_calls() {
 /// The calls of a star that answer values.
 pub fn star_calls() {
     let _: fn(Global, Board, u32) -> Result<Star, OpenFault> = Star::open;
+    let _: fn(Global, Board, u32) -> Result<Star, OpenFault> = Star::open_counting;
     let _: fn(&mut Star, Global) -> Result<Joined, StarFault> = Star::join;
     let _: fn(&mut Star, Global, u32, &Up) -> Result<Option<u32>, StarFault> = Star::take;
     let _: fn(&mut Star, Global, u32, u32) -> Result<Downs, StarFault> = Star::fetch;
     let _: fn(&mut Star, u32) -> Result<(), StarFault> = Star::leave;
     let _: fn(&Star, u32) -> Option<usize> = Star::waiting;
+    let _: fn(&Star) -> usize = Star::order_len;
 }
 
 /// The numbers of the faults, and the messages of a fetch.

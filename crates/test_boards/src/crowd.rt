@@ -28,7 +28,7 @@ fn name_at(board: &Board, place: u32) -> Option<Name> {
 
 // How many edits the star has taken.
 fn taken_by(star: &Star) -> u32 {
-    u32::try_from(star.order().len()).unwrap_or(u32::MAX)
+    u32::try_from(star.order_len()).unwrap_or(u32::MAX)
 }
 
 /// An insertion, a deletion or a setting that the board allows.

@@ -89,6 +89,7 @@ module _ (O : Operations) (L : AreLawful O) where
       → ((n : O.t.Name) → O.t.holds board n → O.site_of n ≡ 0) → IsSound O most (opened_world O board limit)
   sound-opened most limit board distinct small room counted layout = record {
     order_is = refl;
+    keeps = refl;
     star = star-opened O L most limit board distinct small room counted layout;
     stand = λ i. tt;
     no_edit = λ i g. refl;
@@ -131,6 +132,7 @@ module _ (O : Operations) (L : AreLawful O) where
   pub sound-promises : (most : ℕ) (w : WorldOf O) → IsSound O most w → AreLinked O w → Promises O w
   sound-promises most w s links = record {
     order = sym s.order_is;
+    keeps = s.keeps;
     star_content = s.star.content_is ∙ ap (λ os. O.t.meaning (O.t.content w.opening) (edits (turns 0 os))) (sym s.order_is);
     site_content = λ i a fa. (let st = standing_of O L most w s i a fa in shows_view most w s i st.0 a st.1);
     equal = λ q i a fa. (let st = standing_of O L most w s i a fa in level most w s i st.0 a st.1 (q i st.0 a st.2 fa));
@@ -147,6 +149,7 @@ module _ (O : Operations) (L : AreLawful O) where
       → IsSound O most (only_fetched O w i n l)
   sound-fetched most w s i n l a fl fa = record {
     order_is = s.order_is;
+    keeps = s.keeps;
     star = star-fetched O L most (O.t.content w.opening) w.star s.star i n;
     stand = at_one (λ k. k.site) (λ b. b.site.number)
         (λ j ol oa. StandsAt O most (O.t.content w.opening) (turns j w.star.order) w.star.board (made j w.trace) (joined_at O j w.trace) (shown_count j w.trace) j ol oa)

@@ -34,6 +34,7 @@ module _ (O : Operations) (L : AreLawful O) where
       let showns : (i : ℕ) → shown_count i (w.trace ++ h ∷ []) ≡ shown_count i w.trace = λ i. shown-end i w.trace h ∙ ap (λ k. shown_count i w.trace + k) (q.no_shown i) ∙ add-zero (shown_count i w.trace) in
       record {
         order_is = order-end O w.trace h ∙ ap (λ es. order_of O w.trace ++ es) (q.no_entry w.trace (order_of O w.trace)) ∙ append-nil (order_of O w.trace) ∙ s.order_is;
+        keeps = s.keeps;
         star = star;
         stand = λ i. subst (λ es. StandsAt O most (O.t.content w.opening) (turns i w.star.order) w.star.board es (joined_at O i (w.trace ++ h ∷ [])) (shown_count i (w.trace ++ h ∷ [])) i (found (λ l. l.site) i links) (attached i sites)) (sym (mades i))
             (subst (λ k. StandsAt O most (O.t.content w.opening) (turns i w.star.order) w.star.board (made i w.trace) k (shown_count i (w.trace ++ h ∷ [])) i (found (λ l. l.site) i links) (attached i sites)) (sym (joins i))
@@ -200,6 +201,7 @@ module _ (O : Operations) (L : AreLawful O) where
         let showns : (j : ℕ) → shown_count j (w.trace ++ h ∷ []) ≡ shown_count j w.trace = λ j. shown-end j w.trace h ∙ add-zero (shown_count j w.trace) in
         record {
           order_is = order-end O w.trace h ∙ append-nil (order_of O w.trace) ∙ s.order_is;
+          keeps = s.keeps;
           star = star-joined O L most (O.t.content w.opening) w.star s.star;
           stand = λ j. subst (λ es. StandsAt O most (O.t.content w.opening) (turns j w.star.order) w.star.board es (joined_at O j (w.trace ++ h ∷ [])) (shown_count j (w.trace ++ h ∷ [])) j (link_of j (joined w.star).links) (attached j (w.sites ++ new_site O w i ∷ []))) (sym (mades j))
               (subst (λ k. StandsAt O most (O.t.content w.opening) (turns j w.star.order) w.star.board (made j w.trace) k (shown_count j (w.trace ++ h ∷ [])) j (link_of j (joined w.star).links) (attached j (w.sites ++ new_site O w i ∷ []))) (sym (joins j))
@@ -240,6 +242,7 @@ module _ (O : Operations) (L : AreLawful O) where
       let h : Happened O.Command O.Op O.Edit EditFault = record { event = event; reply = reply } in
       record {
         order_is = order-end O w.trace h ∙ ap (λ es. order_of O w.trace ++ es) e ∙ append-nil (order_of O w.trace) ∙ s.order_is;
+        keeps = s.keeps;
         star = star;
         stand = λ i. subst (λ es. StandsAt O most (O.t.content w.opening) (turns i w.star.order) w.star.board es (joined_at O i (w.trace ++ h ∷ [])) (shown_count i (w.trace ++ h ∷ [])) i (found (λ l. l.site) i links) (attached i sites)) (sym (made-end i w.trace h))
             (subst (λ k. StandsAt O most (O.t.content w.opening) (turns i w.star.order) w.star.board (made i w.trace ++ edit_made i event reply) k (shown_count i (w.trace ++ h ∷ [])) i (found (λ l. l.site) i links) (attached i sites)) (sym (joined-end O i w.trace h))
@@ -407,6 +410,7 @@ module _ (O : Operations) (L : AreLawful O) (most : ℕ) (w : WorldOf O) (s : Is
         → IsSound O most (after_event O L w (taken O i (UpOp m) l w.star) (at_site i (one_taken O) w.sites) e (Taken (length w.star.order)))
     sound-brought told here = record {
       order_is = told;
+      keeps = s.keeps;
       star = star-taken O L most (O.t.content w.opening) w.star s.star i l fl m none;
       stand = λ j. renamed j _ _
           (at_all (λ k. k.site) (λ b. b.site.number) (λ j ol oa. Stands j (made j w.trace) (joined_at O j w.trace) (shown_count j w.trace) ol oa)

@@ -1,10 +1,13 @@
-//! Reads and writes that are tried again after a failure that is none, bytes that are written whole, and standard streams that were closed.
+//! Reads and writes that are tried again after a failure that is none, and bytes that are written whole. Also writers whose peer can be given up, and
+//! standard streams that were closed.
 #![tactic(auto)]
 
 mod again;
+mod giving_up;
 mod streams;
 mod whole;
 
 pub use again::{has_waited, is_interrupted};
+pub use giving_up::{GiveUp, Lasting};
 pub use streams::hold_streams;
 pub use whole::write_whole;

@@ -96,6 +96,7 @@ pub record IsExact (from old new : Option (List ℕ)) (v x : View) (ending : End
 -- The bytes that a session read and wrote, and the lines and messages of those that it read.
 
 module _ {a b : Sourced} {v w : View} {ending : Ending} where
+  -- the bytes of a session that turned its peer away, and the lines of them that it looked at
   abbrev pub bytes_away : IsTurnedAway a v b w ending → List ℕ
   bytes_away (NoLine stop stops same is) = stops.reads.bytes
   bytes_away (NoGreeting line handed other same is) = handed.bytes
@@ -107,6 +108,7 @@ module _ {a b : Sourced} {v w : View} {ending : Ending} where
   lines_away (NoJoin fault handed made is) = Hello ∷ []
 
 module _ {a b : Sourced} {v w : View} {ending : Ending} {failed : Bool} {lines : List Line} where
+  -- the same of a session that ended before it served
   abbrev pub bytes_early : EndsEarly a v b w ending failed lines → List ℕ
   bytes_early (TurnedAway away is) = bytes_away away
   bytes_early (Unwelcome un) = un.welcomed.hello.bytes
@@ -133,6 +135,7 @@ module _ {site : ℕ} {b c : Sourced} {w x : View} {keeper : Keeper} {ending : E
   lines_over (Behind line later incoming handed leads same is) = line ∷ []
 
 module _ {site : ℕ} {a c : Sourced} {v x : View} {ending : Ending} where
+  -- the same of the reading half; it read nothing if it could not begin
   abbrev pub bytes_heard : Heard site a v c x ending → List ℕ
   bytes_heard (inl h) = h.hears.handed.bytes ++ bytes_over h.over
   bytes_heard (inr h) = []
@@ -142,6 +145,7 @@ module _ {site : ℕ} {a c : Sourced} {v x : View} {ending : Ending} where
   lines_heard (inr h) = []
 
 module _ {from : Option (List ℕ)} {v x : View} {ending : Ending} {failed : Bool} {lines : List Line} where
+  -- the same of any session
   abbrev pub bytes_of : HasLines from v x ending failed lines → List ℕ
   bytes_of (NoRoom same is are) = []
   bytes_of (Early start last fresh ends) = bytes_early ends

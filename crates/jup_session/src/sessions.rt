@@ -18,4 +18,4 @@ mod writing;
 
 pub use bell::Bell;
 pub use outgoing::Outgoing;
-pub use serving::{Session, serve_link, serve_session};
+pub use serving::{Serving, Session, serve_link, serve_session};

@@ -3,9 +3,9 @@
 ghost use Rattle.jup_hub.specs.Passes.{IsPassOf};
 
 use crate::expect::{expect_eq, expect_text};
-use crate::sessions::{EMPTY_TEXT, GREETING, close, first_edit, open_hub, ran};
+use crate::sessions::{EMPTY_TEXT, GREETING, close, first_edit, open_hub, ran, ran_over};
 use jup_hub::{Hub, Pass};
-use jup_session::{Bell, Ending, Open, serve_link};
+use jup_session::{Bell, Ending, GiveUp, Open, serve_link};
 use std::alloc::Global;
 use std::io;
 use std::io::{ErrorKind, Read, Write};
@@ -184,14 +184,13 @@ impl<'a, R: Wait> Read for Silent<'a, R> {
     }
 }
 
-/// Takes a greeting, and then a byte of each write or nothing at all. Each such write takes long: meanwhile others make operations. Notes whether a
-/// flush gave it up.
+/// Takes a greeting, and then a byte of each write or nothing at all. Each such write takes long: meanwhile others make operations. Notes how often it
+/// was given up.
 #[derive(Drop)]
 struct Stuck<'a> {
     bell: &'a Bell,
     text: &'a mut Vec<u8>,
     takes_a_byte: bool,
-    is_stuck: bool,
     given_up: &'a AtomicU64,
 }
 
@@ -200,7 +199,6 @@ impl<'a> Write for Stuck<'a> {
         if self.text.is_empty() || buf.is_empty() {
             return self.text.write(buf);
         }
-        self.is_stuck = true;
         self.bell.count(MOST / 2);
         if self.takes_a_byte {
             return self.text.write(&buf[..1]);
@@ -209,18 +207,23 @@ impl<'a> Write for Stuck<'a> {
     }
 
     fn flush(&mut self) -> io::Result<()> {
-        if self.is_stuck {
-            self.given_up.fetch_add(1, Ordering::SeqCst);
-        }
         Ok(())
     }
 }
 
-// What was written by a session that owes a pong, at such a writer. The third write that takes long is the last, and a flush gives the writer up.
-fn expect_given_up<R: Threads + Wait + Clock + Sync + Abort>(
+impl<'a> GiveUp for Stuck<'a> {
+    fn give_up(&mut self) {
+        self.given_up.fetch_add(1, Ordering::SeqCst);
+    }
+}
+
+// What is written by a session that owes a pong, at such a writer, and how often the writer is given up. The third write that takes long is the last.
+// A session over any writer never gives it up.
+fn expect_left<R: Threads + Wait + Clock + Sync + Abort>(
     rt: &R,
     alloc: Global,
     takes_a_byte: bool,
+    over_any: bool,
     answer: &str,
 ) {
     let (bell, given_up) = (Bell::new(), AtomicU64::new(0));
@@ -234,21 +237,32 @@ fn expect_given_up<R: Threads + Wait + Clock + Sync + Abort>(
         bell: &bell,
         text: &mut text,
         takes_a_byte,
-        is_stuck: false,
         given_up: &given_up,
     };
-    let left = ran(rt, alloc, from, to, &bell, &Open);
+    let left = if over_any {
+        ran(rt, alloc, from, to, &bell, &Open)
+    } else {
+        ran_over(rt, alloc, from, to, &bell)
+    };
     expect_eq(rt, left.ending, Ending::Fault(71));
     let written = format!(in alloc; "{GREETING}{answer}").expect(rt, "there is memory");
     expect_text(rt, text.as_slice(), written.as_str());
-    expect_eq(rt, given_up.load(Ordering::SeqCst), 1);
+    expect_eq(rt, given_up.load(Ordering::SeqCst), u64::from(!over_any));
 }
 
 // The link takes nothing, or a byte at a time. No last line is written, since the line before it may be cut.
 #[test]
-fn a_link_that_takes_little_is_left_once_its_site_is_too_far_behind(rt: HostRuntime) {
+fn a_link_that_takes_little_is_given_up_once_its_site_is_too_far_behind(rt: HostRuntime) {
     for &(takes_a_byte, answer) in &[(false, ""), (true, "pon")] {
-        expect_given_up(&rt, rt.alloc(), takes_a_byte, answer);
+        expect_left(&rt, rt.alloc(), takes_a_byte, false, answer);
+    }
+}
+
+// The session ends in the same way, and gives nothing up.
+#[test]
+fn any_other_writer_is_left_and_not_given_up(rt: HostRuntime) {
+    for &(takes_a_byte, answer) in &[(false, ""), (true, "pon")] {
+        expect_left(&rt, rt.alloc(), takes_a_byte, true, answer);
     }
 }
 

@@ -36,7 +36,7 @@ fn layout_star(rt: HostRuntime) {
     let star = made.ok().expect(&rt, "a layout");
     expect_that(
         &rt,
-        star.order().is_empty() && star.board().windows().len() == 1,
+        star.order_len() == 0 && star.board().windows().len() == 1,
     );
 }
 

@@ -8,7 +8,7 @@ use jup_hub::{Hub, Pass};
 use jup_layout::layout;
 use jup_link::Msg;
 use jup_seq::SeqOp;
-use jup_session::{Bell, Ending, Gate, Open, serve_link};
+use jup_session::{Bell, Ending, Gate, GiveUp, Open, Serving, serve_link};
 use jup_star::{Star, Up, is_short};
 use jup_text::write_board;
 use jup_value::{Item, Name};
@@ -74,6 +74,23 @@ pub(crate) fn ran<
     let (hub, pass) = open_hub(rt, alloc, EMPTY_TEXT, 100);
     let (pass, ending) = serve_link(rt, alloc, from, to, &hub, pass, bell, gate);
     left_in(rt, alloc, &close(rt, hub, pass), ending)
+}
+
+// The same, over a writer whose peer can be given up.
+pub(crate) fn ran_over<
+    R: Threads + Wait + Clock + Sync + Abort,
+    I: Read + Drop,
+    O: GiveUp + Send + Drop,
+>(rt: &R, alloc: Global, from: I, to: O, bell: &Bell) -> Left {
+    let (hub, pass) = open_hub(rt, alloc, EMPTY_TEXT, 100);
+    let serving = Serving {
+        alloc,
+        hub: &hub,
+        bell,
+        gate: &Open,
+    };
+    let session = serving.serve(rt, from, to, pass);
+    left_in(rt, alloc, &close(rt, hub, session.pass), session.ending)
 }
 
 // What a session with this ending left in the star.

@@ -1,7 +1,7 @@
-//! A socket whose peer takes nothing.
+//! A socket whose peer takes nothing, or is given up.
 
 use crate::expect::{expect_eq, expect_that};
-use jup_session::Outgoing;
+use jup_session::{GiveUp, Outgoing};
 use std::io::{ErrorKind, Read, Write};
 use std::net::{Net, TcpListener, TcpStream};
 use std::process::Abort;
@@ -45,4 +45,25 @@ fn a_write_fails_whose_peer_takes_nothing(rt: HostRuntime) {
     let mut from = &near;
     expect_eq(&rt, from.read(&mut [0u8; 1]).ok(), Some(0));
     drop(far);
+}
+
+// Both sides of its socket end, with nothing written. A flush alone ends nothing.
+#[test]
+fn a_peer_that_is_given_up_has_no_link(rt: HostRuntime) {
+    let (near, far) = both_ends(&rt, "127.0.0.1:47032");
+    let limit = Some(Duration::from_secs(10));
+    expect_that(&rt, near.set_read_timeout(limit).is_ok());
+    expect_that(&rt, far.set_read_timeout(limit).is_ok());
+    let mut to = Outgoing::new(&near, Outgoing::PATIENCE);
+    expect_eq(&rt, to.write(b"a").ok(), Some(1));
+    expect_that(&rt, to.flush().is_ok());
+    expect_eq(&rt, to.write(b"b").ok(), Some(1));
+    to.give_up();
+    expect_that(&rt, to.write(b"c").is_err());
+    let (mut from_near, mut from_far) = (&near, &far);
+    expect_eq(&rt, from_near.read(&mut [0u8; 1]).ok(), Some(0));
+    let mut came = [0u8; 2];
+    expect_that(&rt, from_far.read_exact(&mut came).is_ok());
+    expect_eq(&rt, came, *b"ab");
+    expect_eq(&rt, from_far.read(&mut [0u8; 1]).ok(), Some(0));
 }

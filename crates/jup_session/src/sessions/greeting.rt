@@ -11,6 +11,7 @@ ghost use Rattle.jup_session.specs.Sessions.{welcome_lines, Joins, IsSession};
 use super::ending::tell;
 use super::leaving::leave;
 use super::watch::Watch;
+use crate::{Gate, Serving};
 use jup_hub::{Hub, Pass};
 use jup_layout::put_board;
 use jup_rules::{Ending, SessionFault, check_greeting};
@@ -22,17 +23,16 @@ use std::io::{Read, Write};
 use std::sync::Wait;
 
 /// Greets the site, and answers its number. If no session begins, the site was sent the reason.
-pub(crate) fn begin<R: Wait, I: Read + Drop, O: Write + Drop>(
+pub(crate) fn begin<R: Wait, I: Read + Drop, O: Write + Drop, G: Gate>(
     rt: &R,
-    alloc: Global,
+    serving: &Serving<'_, G>,
+    watch: &Watch<'_>,
     source: &mut Source<I>,
     output: &mut Output<O>,
-    hub: &Hub,
     pass: &mut Pass,
-    watch: &Watch<'_>,
 ) -> Result<u32, Ending>
-    requires { IsPassOf hub.now pass.old }
-    ensures pass { IsPassOf hub.now pass.new }
+    requires { IsPassOf serving.now.hub.now pass.old }
+    ensures pass { IsPassOf serving.now.hub.now pass.new }
     ensures joined { IfOk result (λ site. Joins site (view_of pass.old) (view_of pass.new)) }
     ensures over { OnErr result (IsSession (view_of pass.old) (view_of pass.new)) }
     ensures welcomed { IfOk result (λ site. (lines : List Line) × IsWelcomed site source.old (view_of pass.old) source.new (view_of pass.new) lines
@@ -41,7 +41,7 @@ pub(crate) fn begin<R: Wait, I: Read + Drop, O: Write + Drop>(
         × PutsLines output.old lines output.new) }
     ensures flushed { IsFlushed output.new }
 {
-    let joined = match greet(rt, alloc, source, hub, pass) {
+    let joined = match greet(rt, serving.alloc, source, serving.hub, pass) {
         Ok(joined) => joined,
         Err(ending) => {
             tell(output, ending);
@@ -50,7 +50,7 @@ pub(crate) fn begin<R: Wait, I: Read + Drop, O: Write + Drop>(
     };
     watch.join(rt);
     if let Err(fault) = welcome(output, &joined) {
-        leave(rt, alloc, hub, pass, joined.site);
+        leave(rt, serving.alloc, serving.hub, pass, joined.site);
         return Err(fault.into());
     }
     Ok(joined.site)

@@ -17,9 +17,9 @@ pub(crate) struct SessionLink<'a> {
     /// How far the site is behind.
     pub(crate) watch: &'a Watch<'a>,
     /// Whether one half has ended.
-    pub(crate) is_over: &'a AtomicBool,
+    pub(crate) is_over: AtomicBool,
     /// The pongs that the session owes the site.
-    pub(crate) pongs: &'a Mutex<Pongs>,
+    pub(crate) pongs: Mutex<Pongs>,
     pub(crate) site: u32,
 }
 

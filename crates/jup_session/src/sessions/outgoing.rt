@@ -1,6 +1,6 @@
 //! The writing side of a link's socket.
 
-use jup_io::{has_waited, is_interrupted};
+use jup_io::{GiveUp, has_waited, is_interrupted};
 use std::io;
 use std::io::{ErrorKind, Write};
 use std::net::{Shutdown, TcpStream};
@@ -9,16 +9,13 @@ use std::time::Duration;
 /// Writes to a socket, and fails once the peer has taken no byte for some seconds. A write that fails ends the socket's other side
 /// too: the half of the session that reads is then woken.
 ///
-/// A write waits for a second at most, and then it is interrupted or takes less than all. So a caller can give the peer up: a flush after
-/// such a write fails, and ends the socket as a write that fails does.
+/// A write waits for a second at most, and then it is interrupted or takes less than all. So a caller can give the peer up between two writes.
 #[derive(Drop)]
 pub struct Outgoing<'a> {
     stream: &'a TcpStream,
     patience: u32,
     /// Seconds of waiting since the peer last took a byte.
     waited: u32,
-    /// Whether the last write took less than all.
-    is_waiting: bool,
 }
 
 impl<'a> Outgoing<'a> {
@@ -34,7 +31,6 @@ impl<'a> Outgoing<'a> {
             stream,
             patience,
             waited: 0,
-            is_waiting: false,
         }
     }
 
@@ -44,12 +40,7 @@ impl<'a> Outgoing<'a> {
         if self.waited < self.patience {
             return io::Error::from(ErrorKind::Interrupted);
         }
-        self.give_up()
-    }
-
-    // Ends both sides of the socket.
-    fn give_up(&self) -> io::Error {
-        let _ = self.stream.shutdown(Shutdown::Both);
+        self.give_up();
         io::Error::from(ErrorKind::TimedOut)
     }
 }
@@ -57,26 +48,28 @@ impl<'a> Outgoing<'a> {
 impl<'a> Write for Outgoing<'a> {
     fn write(&mut self, buf: &[u8]) -> io::Result<usize> {
         let mut to = self.stream;
-        self.is_waiting = true;
         match to.write(buf) {
             Ok(len) => {
                 self.waited = 0;
-                self.is_waiting = len < buf.len();
                 Ok(len)
             }
             Err(error) if has_waited(&error) => Err(self.wait_on()),
             Err(error) if is_interrupted(&error) => Err(error),
             Err(error) => {
-                let _ = self.give_up();
+                self.give_up();
                 Err(error)
             }
         }
     }
 
     fn flush(&mut self) -> io::Result<()> {
-        if self.is_waiting {
-            return Err(self.give_up());
-        }
         Ok(())
+    }
+}
+
+impl<'a> GiveUp for Outgoing<'a> {
+    /// Ends both sides of the socket.
+    fn give_up(&mut self) {
+        let _ = self.stream.shutdown(Shutdown::Both);
     }
 }

@@ -17,6 +17,7 @@ use super::watch::Watch;
 use super::watched::Watched;
 use crate::Gate;
 use jup_hub::{Hub, Pass};
+use jup_io::{GiveUp, Lasting};
 use jup_rules::{Ending, Pongs};
 use jup_stream::{Output, Source, StreamFault, write_bytes};
 use std::alloc::Global;
@@ -25,6 +26,19 @@ use std::sync::atomic::AtomicBool;
 use std::sync::{Mutex, Wait};
 use std::thread::Threads;
 use std::time::Clock;
+
+/// What a server has for each of its sessions.
+#[derive(Drop)]
+pub struct Serving<'a, G: Gate> {
+    /// Where a session takes its memory from.
+    pub alloc: Global,
+    /// The hub whose star the site of a session joins.
+    pub hub: &'a Hub,
+    /// Where sites wait for news.
+    pub bell: &'a Bell,
+    /// Asked before an edit of a site is taken.
+    pub gate: &'a G,
+}
 
 /// What a session gives back.
 #[derive(Drop)]
@@ -36,10 +50,52 @@ pub struct Session<O: Write + Drop> {
     pub has_failed: bool,
 }
 
-/// Runs a session: greets the site, then takes what it sends, and sends what the hub has for it.
-///
-/// It reads in this thread, and writes in one of its own. It makes at most one join of the hub, and then calls for the site that
-/// joined alone, which has left when this returns.
+impl<'a, G: Gate> Serving<'a, G> {
+    /// Runs a session: greets the site, then takes what it sends, and sends what the hub has for it. If a write takes less than all while the site is
+    /// too far behind, the session gives the writer's peer up.
+    ///
+    /// It reads in this thread, and writes in one of its own. It makes at most one join of the hub, and then calls for the site that
+    /// joined alone, which has left when this returns. If contracts can name the bytes of the reader and of the writer, they say which bytes
+    /// the session read, what it took by them, and which it wrote.
+    pub fn serve<R: Threads + Wait + Clock + Sync, I: Read + Drop, O: GiveUp + Send + Drop>(
+        &self,
+        rt: &R,
+        reader: I,
+        writer: O,
+        pass: Pass,
+    ) -> Session<O>
+        requires { IsPassOf self.now.hub.now pass }
+        ensures pass { IsPassOf self.now.hub.now result.pass }
+        ensures session { IsSession (view_of pass) (view_of result.pass) }
+        ensures exact { IsExact (I.remaining reader) (O.contents writer) (O.contents result.writer) (view_of pass) (view_of result.pass) result.ending result.has_failed }
+    {
+        let watch = Watch::new(self.alloc, self.bell);
+        match Output::new(self.alloc, Watched::new(rt, &watch, writer)) {
+            Ok(output) => {
+                let served = serve_lines(rt, self, &watch, reader, output, pass);
+                let has_failed = served.output.has_failed();
+                Session {
+                    pass: served.pass,
+                    ending: served.ending,
+                    writer: served.output.into_writer().into_inner(),
+                    has_failed,
+                }
+            }
+            Err(watched) => {
+                let mut writer = watched.into_inner();
+                let has_failed = tell_of_memory(&mut writer);
+                Session {
+                    pass,
+                    ending: StreamFault::NoMemory.into(),
+                    writer,
+                    has_failed,
+                }
+            }
+        }
+    }
+}
+
+/// Runs a session as [`Serving::serve`] does, over any writer. Its peer is never given up.
 pub fn serve_link<
     R: Threads + Wait + Clock + Sync,
     I: Read + Drop,
@@ -63,8 +119,7 @@ pub fn serve_link<
     (session.pass, session.ending)
 }
 
-/// The same, and gives back the writer. If contracts can name the bytes of the reader and of the writer, they say which bytes the
-/// session read, what it took by them, and which it wrote.
+/// The same, and gives back the writer.
 pub fn serve_session<
     R: Threads + Wait + Clock + Sync,
     I: Read + Drop,
@@ -85,28 +140,23 @@ pub fn serve_session<
     ensures session { IsSession (view_of pass) (view_of result.pass) }
     ensures exact { IsExact (I.remaining reader) (O.contents writer) (O.contents result.writer) (view_of pass) (view_of result.pass) result.ending result.has_failed }
 {
-    let watch = Watch::new(alloc, bell);
-    match Output::new(alloc, Watched::new(rt, &watch, writer)) {
-        Ok(output) => {
-            let served = serve_lines(rt, alloc, reader, output, hub, pass, bell, &watch, gate);
-            let has_failed = served.output.has_failed();
-            Session {
-                pass: served.pass,
-                ending: served.ending,
-                writer: served.output.into_writer().into_inner(),
-                has_failed,
-            }
-        }
-        Err(watched) => {
-            let mut writer = watched.into_inner();
-            let has_failed = tell_of_memory(&mut writer);
-            Session {
-                pass,
-                ending: StreamFault::NoMemory.into(),
-                writer,
-                has_failed,
-            }
-        }
+    let serving = Serving {
+        alloc,
+        hub,
+        bell,
+        gate,
+    };
+    let Session {
+        pass,
+        ending,
+        writer,
+        has_failed,
+    } = serving.serve(rt, reader, Lasting(writer), pass);
+    Session {
+        pass,
+        ending,
+        writer: writer.0,
+        has_failed,
     }
 }
 
@@ -132,27 +182,33 @@ struct Served<O: Write + Drop> {
 // A session that has room for its lines.
 fn serve_lines<R: Threads + Wait + Clock + Sync, I: Read + Drop, O: Write + Send + Drop, G: Gate>(
     rt: &R,
-    alloc: Global,
+    serving: &Serving<'_, G>,
+    watch: &Watch<'_>,
     reader: I,
     mut output: Output<O>,
-    hub: &Hub,
     mut pass: Pass,
-    bell: &Bell,
-    watch: &Watch<'_>,
-    gate: &G,
 ) -> Served<O>
-    requires pass { IsPassOf hub.now pass }
-    ensures pass { IsPassOf hub.now result.pass }
+    requires pass { IsPassOf serving.now.hub.now pass }
+    ensures pass { IsPassOf serving.now.hub.now result.pass }
     ensures session { IsSession (view_of pass) (view_of result.pass) }
     ensures lines { (lines : List Line) × HasLines (I.remaining reader) (view_of pass) (view_of result.pass) result.ending result.output.failed lines
         × PutsLines output lines result.output }
     ensures flushed { IsFlushed result.output }
 {
     let mut source = Source::new(reader);
-    match begin(rt, alloc, &mut source, &mut output, hub, &mut pass, watch) {
-        Ok(site) => serve_site(
-            rt, alloc, source, output, hub, pass, site, bell, watch, gate,
-        ),
+    match begin(rt, serving, watch, &mut source, &mut output, &mut pass) {
+        Ok(site) => {
+            let link = SessionLink {
+                alloc: serving.alloc,
+                hub: serving.hub,
+                bell: serving.bell,
+                watch,
+                is_over: AtomicBool::new(false),
+                pongs: Mutex::new(Pongs::new()),
+                site,
+            };
+            serve_halves(rt, &link, source, output, pass, serving.gate)
+        }
         Err(ending) => Served {
             pass,
             ending,
@@ -161,46 +217,12 @@ fn serve_lines<R: Threads + Wait + Clock + Sync, I: Read + Drop, O: Write + Send
     }
 }
 
-// The session of a site that has joined, after the greeting.
-fn serve_site<R: Threads + Wait + Clock + Sync, I: Read + Drop, O: Write + Send + Drop, G: Gate>(
-    rt: &R,
-    alloc: Global,
-    source: Source<I>,
-    output: Output<O>,
-    hub: &Hub,
-    pass: Pass,
-    site: u32,
-    bell: &Bell,
-    watch: &Watch<'_>,
-    gate: &G,
-) -> Served<O>
-    requires pass { IsPassOf hub.now pass }
-    requires flushed { IsFlushed output }
-    ensures pass { IsPassOf hub.now result.pass }
-    ensures served { BothServe site (view_of pass) (view_of result.pass) }
-    ensures halves { (lines : List Line) × BothHalves site source (view_of pass) (view_of result.pass) result.ending lines × PutsLines output lines result.output }
-    ensures flushed { IsFlushed result.output }
-{
-    let is_over = AtomicBool::new(false);
-    let pongs = Mutex::new(Pongs::new());
-    let link = SessionLink {
-        alloc,
-        hub,
-        bell,
-        watch,
-        is_over: &is_over,
-        pongs: &pongs,
-        site,
-    };
-    serve_halves(rt, source, output, &link, pass, gate)
-}
-
 // Both halves, and the last line.
 fn serve_halves<R: Threads + Wait + Clock + Sync, I: Read + Drop, O: Write + Send + Drop, G: Gate>(
     rt: &R,
+    link: &SessionLink<'_>,
     source: Source<I>,
     output: Output<O>,
-    link: &SessionLink<'_>,
     mut pass: Pass,
     gate: &G,
 ) -> Served<O>

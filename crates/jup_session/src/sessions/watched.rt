@@ -2,13 +2,14 @@
 ghost use Rattle.std.specs.Prelude.{◌≡◌};
 
 use super::watch::Watch;
+use jup_io::GiveUp;
 use std::io;
 use std::io::{ErrorKind, Write};
 use std::sync::Wait;
 
-/// Writes to another writer. After each write that took less than all it fails if the site is too far behind.
+/// Writes to another writer. If the site is too far behind after a write that took less than all, it gives the site up, and fails.
 #[derive(Drop)]
-pub(crate) struct Watched<'a, R: Wait, O: Write + Drop> {
+pub(crate) struct Watched<'a, R: Wait, O: GiveUp + Drop> {
     rt: &'a R,
     watch: &'a Watch<'a>,
     to: O,
@@ -16,7 +17,7 @@ pub(crate) struct Watched<'a, R: Wait, O: Write + Drop> {
     is_waiting: bool,
 }
 
-impl<'a, R: Wait, O: Write + Drop> Watched<'a, R, O> {
+impl<'a, R: Wait, O: GiveUp + Drop> Watched<'a, R, O> {
     pub(crate) fn new(rt: &'a R, watch: &'a Watch<'a>, to: O) -> Watched<'a, R, O>
         ensures { result.to ≡ to }
     {
@@ -37,13 +38,12 @@ impl<'a, R: Wait, O: Write + Drop> Watched<'a, R, O> {
     }
 }
 
-impl<'a, R: Wait, O: Write + Drop> Write for Watched<'a, R, O> {
+impl<'a, R: Wait, O: GiveUp + Drop> Write for Watched<'a, R, O> {
     ghost contents = { λ w. O.contents w.to };
 
     fn write(&mut self, buf: &[u8]) -> io::Result<usize> {
         if self.is_waiting && self.watch.is_far_behind(self.rt) {
-            // A flush after such a write gives a socket up.
-            let _ = self.to.flush();
+            self.to.give_up();
             return Err(io::Error::from(ErrorKind::TimedOut));
         }
         let taken = self.to.write(buf);

@@ -1,7 +1,7 @@
 use Rattle.std.proofs.Common.{◌∙◌, ap, not, subst}
 use Rattle.jup_session.specs.Prelude.{view_of, Error, line_bytes, WritesFront, fresh_put}
 use Rattle.jup_session.proofs.Accounts.{exact_so, no_room_so}
-use Rattle.jup_session.proofs.sessions.serving.serve_session.Goals as goal
+use Rattle.jup_session.proofs.sessions.serving.Serving.serve.Goals as goal
 
 pub returns-in-Ok-clause-exact : goal.returns-in-Ok-clause-exact
 returns-in-Ok-clause-exact g c =

@@ -1,8 +1,10 @@
 //! A WebSocket over a reader and a writer of bytes that fail.
 use crate::expect::{expect_eq, expect_that};
-use jup_http::MessageReader;
+use jup_http::{MessageReader, MessageWriter};
+use jup_io::GiveUp;
 use std::io;
 use std::io::{ErrorKind, Read, Write};
+use std::sync::atomic::{AtomicU64, Ordering};
 
 // Gives a byte and then an error, by turns.
 #[derive(Drop)]
@@ -77,4 +79,44 @@ fn a_pong_that_is_cut_off_fails_a_read(rt: HostRuntime) {
     expect_that(&rt, reader.read(&mut found).is_err());
     expect_eq(&rt, reader.read(&mut found).ok(), Some(1));
     expect_eq(&rt, found, [b'a', 0]);
+}
+
+// Takes what it is given, and notes how often it was given up.
+#[derive(Drop)]
+struct Peer<'a> {
+    taken: &'a mut Vec<u8>,
+    given_up: &'a AtomicU64,
+}
+
+impl<'a> Write for Peer<'a> {
+    fn write(&mut self, buf: &[u8]) -> io::Result<usize> {
+        self.taken.write(buf)
+    }
+
+    fn flush(&mut self) -> io::Result<()> {
+        Ok(())
+    }
+}
+
+impl<'a> GiveUp for Peer<'a> {
+    fn give_up(&mut self) {
+        self.given_up.fetch_add(1, Ordering::SeqCst);
+    }
+}
+
+// Who gives a link by messages up gives up the writer of its frames, which gets no frame by that. A flush does not.
+#[test]
+fn a_writer_of_messages_gives_its_own_up(rt: HostRuntime) {
+    let (mut taken, given_up) = (Vec::new(rt.alloc()), AtomicU64::new(0));
+    let peer = Peer {
+        taken: &mut taken,
+        given_up: &given_up,
+    };
+    let mut writer = MessageWriter::new(rt.alloc(), peer).expect(&rt, "there is memory");
+    expect_that(&rt, writer.flush().is_ok());
+    expect_eq(&rt, given_up.load(Ordering::SeqCst), 0);
+    writer.give_up();
+    expect_eq(&rt, given_up.load(Ordering::SeqCst), 1);
+    drop(writer);
+    expect_eq(&rt, taken.as_slice().len(), 0);
 }

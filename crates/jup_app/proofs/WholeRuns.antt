@@ -488,6 +488,7 @@ module _ (board : Windows) (limit n : ℕ) (scripts : List (List Command)) (star
   agrees =
       let w : BoardWorld = assembled_world board limit n is.logs is.later in
       record {
+        keeps = ap (λ (t : BoardStar). t.keeps) (sym is.star_is) ∙ promised.keeps;
         equal = λ k d within. let inside : k < n = omega (arith, within, is.count) in
             promised.equal quiet (suc k) (link_with (get_or ends k d).site []) (is.sites k d inside) ∙ ap (λ (t : BoardStar). t.board) is.star_is;
         content = ap (λ (t : BoardStar). content t.board) (sym is.star_is) ∙ promised.star_content

@@ -1,5 +1,5 @@
 -- Runs in threads, and the run of the core that each is.
-use Rattle.std.specs.Prelude.{◌≡◌, ℕ, zero, suc, ◌<◌, ◌≤◌, cond, eqb, List, [], ◌∷◌, ◌++◌, drop, Option, None, Result, Ok, Err, map, ◌+◌, length, get_or, Some, slice_index_or, IfOk}
+use Rattle.std.specs.Prelude.{◌≡◌, ℕ, zero, suc, ◌<◌, ◌≤◌, cond, eqb, List, [], ◌∷◌, ◌++◌, drop, Option, None, Result, Ok, Err, map, ◌+◌, length, get_or, Some, slice_index_or, IfOk, true}
 use Rattle.jup_app.specs.Prelude.{Command, EditFault, BoardBatch, BoardEdits, Commands, board_batches, Windows, content, meaning, Call, Join, Take, Fetch, Leave, StarReply, Fetched, JoinedReply, Joined, OrderEntry, edit_answer, deliver_fault, BoardSite, opened_site, Happened, BoardAttached, BoardEvent, BoardReply, BoardWorld, with_edit, one_taken, one_handed, opened_world, attached, run, turns, edits, own_edits, HubEvent, View, Hub, Tally, view_of, IsPassOf, most_fetched, SiteEnd, Player, Halt, Job, AllByRecursion, Bor}
 use Rattle.jup_batch.specs.Boards.{edit_of}
 use Rattle.jup_star.specs.declared.calls.StarReply.TheVariants as reply
@@ -450,6 +450,8 @@ accepted (Err f ∷ rs) = accepted rs
 
 -- At the end of a run on a board:
 pub record AllAgree (board : Windows) (star : BoardStar) (ends : List SiteEnd) : Type 0 where
+  -- the star keeps its order
+  pub keeps : star.keeps ≡ true
   -- all sites show the star's board
   pub equal : (k : ℕ) (d : SiteEnd) → k < length ends → (get_or ends k d).site.board ≡ star.board
   -- it shows what the edits of the order make of the board, each item that was inserted and not deleted, each last setting

@@ -28,17 +28,17 @@ MayFollow draft (line ∷ lines) = ArePlain line × (IsNext draft line × ((next
 
 -- ---- the lines of windows
 
-abbrev window_text : ℕ → List ℕ
+abbrev pub window_text : ℕ → List ℕ
 window_text win = join_with_byte 32 (codes "window" ∷ decimal win ∷ [])
 
-abbrev widget_text : ℕ × Widget → List ℕ
+abbrev pub widget_text : ℕ × Widget → List ℕ
 widget_text entry = join_with_byte 32 (widget_words entry.0 entry.1)
 
-abbrev widgets_then : List (ℕ × Widget) → List (List ℕ) → List (List ℕ)
+abbrev pub widgets_then : List (ℕ × Widget) → List (List ℕ) → List (List ℕ)
 widgets_then [] more = more
 widgets_then (v ∷ vs) more = widget_text v ∷ widgets_then vs more
 
-abbrev lines_of : Windows → List (List ℕ)
+abbrev pub lines_of : Windows → List (List ℕ)
 lines_of [] = []
 lines_of (w ∷ ws) = window_text w.0 ∷ widgets_then w.1 (lines_of ws)
 
@@ -47,7 +47,7 @@ widgets_spelled [] more = refl
 widgets_spelled (v ∷ vs) more =
     ap (λ (t : List ℕ). widget_line v ++ t) (widgets_spelled vs more) ∙ sym (append_assoc (widget_line v) (flat_map widget_line vs) (lines_text more))
 
-lines_spelled : (ws : Windows) → lines_text (lines_of ws) ≡ board_text ws
+pub lines_spelled : (ws : Windows) → lines_text (lines_of ws) ≡ board_text ws
 lines_spelled [] = refl
 lines_spelled (w ∷ ws) =
     ap (λ (t : List ℕ). (window_text w.0 ++ 10 ∷ []) ++ t) (widgets_spelled w.1 (lines_of ws) ∙ ap (λ (t : List ℕ). flat_map widget_line w.1 ++ t) (lines_spelled ws))
@@ -66,15 +66,15 @@ size_within (line ∷ lines) =
 
 -- ---- a line is that of one entry
 
-no_window : (line : List ℕ) (win wid : ℕ) (widget : Widget) → line ≡ codes "window" ++ 32 ∷ decimal win → IsLineOf line wid widget → ⊥
+pub no_window : (line : List ℕ) (win wid : ℕ) (widget : Widget) → line ≡ codes "window" ++ 32 ∷ decimal win → IsLineOf line wid widget → ⊥
 no_window line win wid widget is widget_is =
     let first = first_of line wid widget widget_is in
     first.other (same_parts 32 first.kind (codes "window") (decimal wid ++ first.behind) (decimal win) first.word window_word (sym first.spelled ∙ is)).0
 
-same_window : (win id : ℕ) → IsId id → window_text id ≡ codes "window" ++ 32 ∷ decimal win → win ≡ id
+pub same_window : (win id : ℕ) → IsId id → window_text id ≡ codes "window" ++ 32 ∷ decimal win → win ≡ id
 same_window win id small same = small_decimal win id small (sym (append_cancel_left (codes "window ") (decimal id) (decimal win) same))
 
-same_widget : (line : List ℕ) (wid id : ℕ) (x y : Widget) → IsId id → IsLineOf line wid x → IsLineOf line id y → wid ≡ id
+pub same_widget : (line : List ℕ) (wid id : ℕ) (x y : Widget) → IsId id → IsLineOf line wid x → IsLineOf line id y → wid ≡ id
 same_widget line wid id x y small x_is y_is =
     let one = first_of line wid x x_is in
     let two = first_of line id y y_is in

@@ -1,2 +1,3 @@
 mod FollowingLines
+mod ReadingBack
 mod Texts

@@ -244,10 +244,10 @@ order_first line more is = ap (λ (t : List ℕ). get_or (t ++ more) 0 0) is.spe
 no_board : (windows : Windows) (byte : ℕ) → get_or (board_text windows) 0 0 ≡ byte → 0 < byte → byte < 119 → ⊥
 no_board windows byte e some low = elim (board_first windows byte e) [ inl none ↦ absurd (omega (arith, none, some)) | inr window ↦ absurd (omega (arith, window, low)) ]
 
-order_otherwise : (windows : Windows) → BeginsOtherwise IsOrder (board_text windows)
+pub order_otherwise : (windows : Windows) → BeginsOtherwise IsOrder (board_text windows)
 order_otherwise windows line more is same = no_board windows 111 (ap (λ (t : List ℕ). get_or t 0 0) same ∙ order_first line more is) (omega arith) (omega arith)
 
-listening_otherwise : (order : List ℕ) (windows : Windows) → (order ≡ []) ⊎ IsOrder order → BeginsOtherwise IsListening (order ++ board_text windows)
+pub listening_otherwise : (order : List ℕ) (windows : Windows) → (order ≡ []) ⊎ IsOrder order → BeginsOtherwise IsListening (order ++ board_text windows)
 listening_otherwise order windows (inl none) line more is same =
     no_board windows 108 (ap (λ (t : List ℕ). get_or (t ++ board_text windows) 0 0) (sym none) ∙ ap (λ (t : List ℕ). get_or t 0 0) same ∙ listening_first line more is) (omega arith) (omega arith)
 listening_otherwise order windows (inr one) line more is same =

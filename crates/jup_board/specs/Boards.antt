@@ -5,6 +5,7 @@ use Rattle.std.proofs.lemmas.List.{append_assoc, append-nil}
 use Rattle.std.proofs.lemmas.List.Concat.{flat_map-append}
 use Rattle.jup_board.specs.Prelude.{most_entries, IsU32, Name, Widget, Windows, IsId, Line}
 use Rattle.jup_window.specs.Boards as board
+use Rattle.jup_window.specs.Entries.{AreOver}
 use Rattle.jup_text.specs.Boards.{board_text, Draft, IsTaken, IsHeld}
 use Rattle.jup_wire.specs.declared.line.Line.TheVariants.{Char, Item}
 use Rattle.jup_wire.specs.Lines.{HasSpelling, is_spelled, line_bytes}
@@ -62,6 +63,14 @@ pub record IsPrinted (text : List ℕ) : Type 0 where
   pub is_heading : IsHeading heading
   pub printable : ArePrintable windows
   pub whole : text ≡ heading ++ board_text windows
+
+-- ids ascend, up to 65,535
+abbrev pub Ascends : {A : Type 0} → List (ℕ × A) → Type 0
+Ascends entries = AreOver 0 entries × AllByRecursion (λ entry. IsId entry.0) entries
+
+-- so do those of the windows, and of the widgets of each, as on a board
+abbrev pub AreAscending : Windows → Type 0
+AreAscending windows = Ascends windows × AllByRecursion (λ window. Ascends window.1) windows
 
 -- ---- the board that a text prints
 

@@ -1,7 +1,9 @@
 //! A board from the text that it is printed as.
-ghost use Rattle.std.specs.Prelude.{◌<◌, ◌^◌, length, IfOk, IsOkUnless};
+ghost use Rattle.std.specs.Prelude.{◌≡◌, ◌<◌, ◌^◌, length, IfOk, IsOkUnless};
+ghost use Rattle.jup_text.specs.Boards.{board_text};
 ghost use Rattle.jup_board.specs.declared.ending.BoardEnd.TheVariants as ends;
-ghost use Rattle.jup_board.specs.Boards.{IsPrinted, IsPrintOf};
+ghost use Rattle.jup_board.specs.Prelude.{Windows};
+ghost use Rattle.jup_board.specs.Boards.{AreAscending, IsPrinted, IsPrintOf};
 
 use crate::heading::behind_heading;
 use crate::lines::BoardLines;
@@ -15,6 +17,8 @@ use std::alloc::Global;
 /// prints, may come before it. The items are named 0.1, 0.2 and so on in the order of the lines.
 pub fn read_printed(alloc: Global, text: &[u8]) -> Result<Board, BoardEnd>
     ensures board { IfOk result (λ made. IsPrintOf made text.now) }
+    // A board that is read from what another is printed as is printed as that.
+    ensures again { IfOk result (λ made. (windows : Windows) → AreAscending windows → text.now ≡ board_text windows → board_text made ≡ text.now) }
     ensures every { length text.now < 2 ^ 32 → IsPrinted text.now → IsOkUnless result ends.NoMemory }
 {
     let (rest, passed) = behind_heading(text);

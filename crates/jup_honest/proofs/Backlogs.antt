@@ -9,7 +9,7 @@ use Rattle.jup_star.specs.Sites.{after_fault, after_edit, site_open_fault}
 use Rattle.jup_world.specs.Traces.{turns, told_count, Counts}
 use Rattle.jup_world.specs.Sound.{IsSoundStar, Standing}
 use Rattle.jup_world.proofs.Stars.{link_here, link_there, at_here, at_there, inserts, next}
-use Rattle.jup_world.proofs.Sound.Tallies.{edit_counts, sent_counts, heard_counts, ponged_counts, acked_counts, handed_counts, no_operations}
+use Rattle.jup_world.proofs.Sound.Tallies as tallies
 use Rattle.jup_world.proofs.Worlds.{batch_none, layout_none}
 use Rattle.jup_honest.specs.Sites.{Step, Edit, Deliver, Ping, Called, history, Connection, fetched_in, fetched_with, after, through, new_connection, IsReliable, IsReliableThrough, SiteRun, IsHonest, opening, start, now, edits_among, made, IsAttached, IsBacklogShort, taken_with, Begins, IsCausal, IsCausalThrough}
 use Rattle.jup_honest.proofs.Steps.{legal-parts, honest-stands, CalledStar, call-grows, called-opened}
@@ -57,35 +57,35 @@ module _ (O : Operations) (L : AreLawful O) where
     })
 
     pub taken-counts : (l : LinkState O.Op) → link_of i s.links ≡ Some l → (u : Up O.Op) → up_fault O s l u ≡ None → CountsWith x ds (link_of i (taken O i u l s).links)
-    taken-counts l fl (UpOp m) none = subst (λ o. CountsWith x ds o) (sym (link_here O L most first s h i l fl m none)) (recounted (link_heard O m l) x [] ds (heard_counts O L l (told_site x ds) m (here l fl)))
-    taken-counts l fl (UpAck n) none = subst (λ o. CountsWith x ds o) (sym (at_here O L most first s h i (link_acked n) (λ k. refl) ∙ ap (option_map (link_acked n)) fl)) (acked_counts O L l (told_site x ds) n (here l fl))
-    taken-counts l fl (UpPing n) none = subst (λ o. CountsWith x ds o) (sym (at_here O L most first s h i (link_ponged n) (λ k. refl) ∙ ap (option_map (link_ponged n)) fl)) (ponged_counts O L l (told_site x ds) n (here l fl))
+    taken-counts l fl (UpOp m) none = subst (λ o. CountsWith x ds o) (sym (link_here O L most first s h i l fl m none)) (recounted (link_heard O m l) x [] ds (tallies.heard_counts O L l (told_site x ds) m (here l fl)))
+    taken-counts l fl (UpAck n) none = subst (λ o. CountsWith x ds o) (sym (at_here O L most first s h i (link_acked n) (λ k. refl) ∙ ap (option_map (link_acked n)) fl)) (tallies.acked_counts O L l (told_site x ds) n (here l fl))
+    taken-counts l fl (UpPing n) none = subst (λ o. CountsWith x ds o) (sym (at_here O L most first s h i (link_ponged n) (λ k. refl) ∙ ap (option_map (link_ponged n)) fl)) (tallies.ponged_counts O L l (told_site x ds) n (here l fl))
 
     pub taken_other-counts : (j : ℕ) → nat_eq j i ≡ false → (l : LinkState O.Op) → link_of j s.links ≡ Some l → (u : Up O.Op) → up_fault O s l u ≡ None → CountsWith x ds (link_of i (taken O j u l s).links)
     taken_other-counts j apart l fl (UpOp m) none = subst (λ o. CountsWith x ds o) (sym (link_there O L most first s h j l fl m none i apart)) (sent (link_of i s.links) c)
       where
         sent : (o : Option (LinkState O.Op)) → CountsWith x ds o → CountsWith x ds (option_map (λ k. link_sent (operation_at O l.end m) k) o)
         sent None c = tt
-        sent (Some k) c = sent_counts O L k (told_site x ds) (operation_at O l.end m) c
+        sent (Some k) c = tallies.sent_counts O L k (told_site x ds) (operation_at O l.end m) c
     taken_other-counts j apart l fl (UpAck n) none = subst (λ o. CountsWith x ds o) (sym (at_there O L most first s h j i (link_acked n) (λ k. refl) apart)) c
     taken_other-counts j apart l fl (UpPing n) none = subst (λ o. CountsWith x ds o) (sym (at_there O L most first s h j i (link_ponged n) (λ k. refl) apart)) c
 
   -- steps of the site
   pub edited-counts : (x : SiteOf O) (ds : List (Down O.Op)) (op : O.Op) (o : Option (LinkState O.Op)) → CountsWith x ds o → CountsWith (edited O op x) ds o
   edited-counts x ds op None c = tt
-  edited-counts x ds op (Some l) c = (let e = edit_counts O L l (told_site x ds) op c in record { short = e.short; told = e.told; sent = e.sent })
+  edited-counts x ds op (Some l) c = (let e = tallies.edit_counts O L l (told_site x ds) op c in record { short = e.short; told = e.told; sent = e.sent })
 
   pub handed-counts : (x : SiteOf O) (ds rest : List (Down O.Op)) (d : Down O.Op) → ds ≡ d ∷ rest → deliver_fault O d x ≡ None → (o : Option (LinkState O.Op)) → CountsWith x ds o → CountsWith (received O d x) rest o
   handed-counts x ds rest d e none None c = tt
   handed-counts x ds rest d e none (Some l) c =
-      (let g = handed_counts O L l (told_site x ds) 0 d rest (ap (λ z. z ++ l.outbox) e) none c in record { short = g.short; told = g.told; sent = g.sent })
+      (let g = tallies.handed_counts O L l (told_site x ds) 0 d rest (ap (λ z. z ++ l.outbox) e) none c in record { short = g.short; told = g.told; sent = g.sent })
 
   -- with nothing on its way
   pub level-counts : (most : ℕ) (first : O.t.Content) (since i shown : ℕ) (s : StarOf O) (mine : List O.Edit) (l : LinkState O.Op) (a : AttachedOf O)
       → Standing O most first (turns i s.order) s.board mine since shown i l a → Counts O l (told_site a.site a.down) → a.up ≡ [] → a.down ≡ [] → l.outbox ≡ [] → length a.site.end.outgoing < answer_after
   level-counts most first since i shown s mine l a st c up down outbox =
       let step = subst (λ r. InStepAt O.t 0 st.pair.from st.pair.site_ahead st.pair.star_ahead a.site.board s.board a.site.end l.end r (downs (a.down ++ l.outbox))) (ap ups up) st.pair.in_step in
-      let none : st.pair.site_ahead ≡ [] = no_operations O.t l.end.received l.end.acknowledged step.far_queue.before st.pair.site_ahead step.far_queue.comes in
+      let none : st.pair.site_ahead ≡ [] = tallies.no_operations O.t l.end.received l.end.acknowledged step.far_queue.before st.pair.site_ahead step.far_queue.comes in
       let told : a.site.end.acknowledged + l.end.unanswered ≡ l.end.received = sym (ap (λ x. told_count a.site.end.acknowledged x + l.end.unanswered) (ap (λ x. x ++ l.outbox) down ∙ outbox)) ∙ c.told in
       omega (arith, told, c.short, client_generated O.t st.pair.in_step, ap length none)
 
@@ -380,7 +380,7 @@ run-opens y is low =
     let s : BoardStar = star_through (opening y) y.before in
     let parts = legal-parts (opening y) y.before _ is.legal in
     let gives = join_gives s y.answer parts.1.0 in
-    let n : IsNamed y.limit s = through-named y.board y.limit y.before (opening y) (called-opened y.board y.limit is.opens is.limited)
+    let n : IsNamed y.limit s = through-named y.board y.limit y.before (opening y) (called-opened y.keeps y.board y.limit is.opens is.limited)
     (record { named = λ i above. layout_none i y.board (omega (arith, above)) is.opens.unsigned; limit_is = refl }) in
     subst (λ (j : Joined). site_open_fault j.site j.limit j.board ≡ None) (sym gives.0)
     (opens_with s (not_refused s y.answer parts.1.0) (omega (arith, low, n.limit_is)) (let high = is.limited in omega (arith, high, n.limit_is)) (n.named (s.given + 1) (omega arith)))

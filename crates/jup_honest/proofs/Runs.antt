@@ -15,8 +15,8 @@ use Rattle.jup_world.proofs.Sound.Traces.{named-turns, turns-append}
 use Rattle.jup_world.proofs.Pairs.Grids.{own_edits-append}
 use Rattle.jup_world.proofs.Pairs.Places.{told_end, told_within}
 use Rattle.jup_honest.specs.Sites.{Step, Edit, Deliver, Ping, Called, history, Connection, sent_as_made, sent_as_handed, taken_with, fetched_in, fetched_with, after, through, new_connection, Begins, IsReliable, IsReliableThrough, SiteRun, IsHonest, opening, start, now, edits_among, made, takes_of, fetches_of, IsOfHistory, calls, view, IsTakenUnlessFull, SitePromises, LinkPromises, StarShows, IsAttached, IsAnsweredWell, IsAccepted, GoesWell, AllGoesWell, AreDrained}
-use Rattle.jup_honest.proofs.Steps.{IsCalled, called-opened, called-through, legal-parts, honest-new, IsHonestAt, honest-gone, honest-joined, honest-left, honest-fetched, honest-fetched_other, honest-taken, honest-taken_other, honest-edited, honest-asked, honest-accepts, honest-handed, through-parts, IsGone, At, honest-stands, honest-answers, honest-heard}
-use Rattle.jup_world.specs.Prelude.{Link, owes, end_after, link_of, join_fault, joined, up_fault, most_batches, BoardStar, joining, LinkState, StarOf, opened_star, edit_answer, deliver_fault, sent_back, SiteOf, ups-append}
+use Rattle.jup_honest.proofs.Steps as honest
+use Rattle.jup_world.specs.Prelude.{Link, owes, end_after, link_of, join_fault, joined, up_fault, most_batches, BoardStar, joining, LinkState, StarOf, new_star, edit_answer, deliver_fault, sent_back, SiteOf, ups-append}
 
 -- An honest site is in step with the hub's star at every moment of its run.
 
@@ -63,11 +63,11 @@ link_at a = record { site = a.site; up = drop (length a.taken) a.sent; down = dr
 module _ (board : Windows) where
   -- it is in step with the star
   abbrev pub Stands : Connection → Type 0
-  Stands a = IsHonestAt board_batches most_batches (content board) a.since a.number a.star (made a) (edits_among a.handed) (link_at a)
+  Stands a = honest.IsHonestAt board_batches most_batches (content board) a.since a.number a.star (made a) (edits_among a.handed) (link_at a)
 
   -- with any star and streams
   abbrev Beside : Connection → BoardStar → List BoardEdits → ℕ → BoardAttached → Type 0
-  Beside a s mine shown x = IsHonestAt board_batches most_batches (content board) a.since a.number s mine shown x
+  Beside a s mine shown x = honest.IsHonestAt board_batches most_batches (content board) a.since a.number s mine shown x
 
   module _ (a : Connection) (h : Stands a) (f : IsReliable a) where
     -- it edits
@@ -80,7 +80,7 @@ module _ (board : Windows) where
         (sym (left_more a.sent a.taken (UpOp (next_message a.site.end op) ∷ []) f.up))
         (subst (λ es. Beside a a.star es (edits_among a.handed) (record { site = after_edit a.site (Ok op); up = drop (length a.taken) a.sent ++ UpOp (next_message a.site.end op) ∷ []; down = drop (length a.handed) a.fetched }))
         (sym (made-more a.sent (UpOp (next_message a.site.end op) ∷ [])))
-        (honest-edited board_batches batch_laws most_batches (content board) a.since a.number a.star (made a) (edits_among a.handed) (link_at a) h commands op ok)))
+        (honest.honest-edited board_batches batch_laws most_batches (content board) a.since a.number a.star (made a) (edits_among a.handed) (link_at a) h commands op ok)))
         (λ n e. subst (λ us. Stands (record a { sent = us })) (sym (append-nil a.sent)) h)
 
     -- it sends a ping
@@ -90,12 +90,12 @@ module _ (board : Windows) where
         (sym (left_more a.sent a.taken (UpPing k ∷ []) f.up))
         (subst (λ es. Beside a a.star es (edits_among a.handed) (record { site = a.site; up = drop (length a.taken) a.sent ++ UpPing k ∷ []; down = drop (length a.handed) a.fetched }))
         (sym (made-more a.sent (UpPing k ∷ []) ∙ append-nil (made a)))
-        (honest-asked board_batches batch_laws most_batches (content board) a.since a.number a.star (made a) (edits_among a.handed) (link_at a) h k))
+        (honest.honest-asked board_batches batch_laws most_batches (content board) a.since a.number a.star (made a) (edits_among a.handed) (link_at a) h k))
 
     -- the next message to it is accepted
     pub next-accepted : (d : Down BoardBatch) (rest : List (Down BoardBatch)) → a.fetched ≡ a.handed ++ d ∷ rest → deliver_fault board_batches d a.site ≡ None
     next-accepted d rest e =
-        honest-accepts board_batches batch_laws most_batches (content board) a.since a.number a.star (made a) (edits_among a.handed) (link_at a) h d rest (left_of a.fetched a.handed (d ∷ rest) e)
+        honest.honest-accepts board_batches batch_laws most_batches (content board) a.since a.number a.star (made a) (edits_among a.handed) (link_at a) h d rest (left_of a.fetched a.handed (d ∷ rest) e)
 
     -- it receives the message
     hand-stands : (d : Down BoardBatch) → IsReliable (after (Deliver d) a) → Stands (after (Deliver d) a)
@@ -130,14 +130,14 @@ module _ (board : Windows) where
             (subst (λ es. Beside a a.star es (edits_among a.handed + brings d)
             (record { site = after_fault board_batches d a.site None; up = drop (length a.taken) a.sent ++ option_to_list (sent_back board_batches d a.site); down = g.down.0 }))
             (sym (made-more a.sent (option_to_list (sent_back board_batches d a.site)) ∙ ap (λ es. made a ++ es) (no_edit d) ∙ append-nil (made a)))
-            (honest-handed board_batches batch_laws most_batches (content board) a.since a.number a.star (made a) (edits_among a.handed) (link_at a) h d g.down.0 (left_of a.fetched a.handed (d ∷ g.down.0) next)))))
+            (honest.honest-handed board_batches batch_laws most_batches (content board) a.since a.number a.star (made a) (edits_among a.handed) (link_at a) h d g.down.0 (left_of a.fetched a.handed (d ∷ g.down.0) next)))))
 
     -- someone joins
     join-stands : Beside a (after_join a.star (join_fault a.star)) (made a) (edits_among a.handed) (link_at a)
     join-stands = go (join_fault a.star)
       where
         go : (o : Option StarFault) → Beside a (after_join a.star o) (made a) (edits_among a.handed) (link_at a)
-        go None = honest-joined board_batches batch_laws most_batches (content board) a.since a.number a.star (made a) (edits_among a.handed) (link_at a) h
+        go None = honest.honest-joined board_batches batch_laws most_batches (content board) a.since a.number a.star (made a) (edits_among a.handed) (link_at a) h
         go (Some e) = h
 
     -- a link is gone
@@ -146,7 +146,7 @@ module _ (board : Windows) where
       where
         go : (o : Option BoardLink) → Beside a (after_leave j a.star o) (made a) (edits_among a.handed) (link_at a)
         go None = h
-        go (Some l) = honest-left board_batches batch_laws most_batches (content board) a.since a.number a.star (made a) (edits_among a.handed) (link_at a) h j
+        go (Some l) = honest.honest-left board_batches batch_laws most_batches (content board) a.since a.number a.star (made a) (edits_among a.handed) (link_at a) h j
 
     -- messages are fetched
     fetch-stands : (j max : ℕ) → Stands (record a { star = after_fetch j max a.star (link_of j a.star.links); fetched = fetched_with a.number (Fetch j max) (Fetched (fetch_result max (link_of j a.star.links))) a.fetched })
@@ -155,7 +155,7 @@ module _ (board : Windows) where
         -- for another
         other : nat_eq j a.number ≡ false → (o : Option BoardLink) → Beside a (after_fetch j max a.star o) (made a) (edits_among a.handed) (link_at a)
         other apart None = h
-        other apart (Some l) = honest-fetched_other board_batches batch_laws most_batches (content board) a.since a.number a.star (made a) (edits_among a.handed) (link_at a) h j max apart
+        other apart (Some l) = honest.honest-fetched_other board_batches batch_laws most_batches (content board) a.since a.number a.star (made a) (edits_among a.handed) (link_at a) h j max apart
 
         -- for it
         own : (o : Option BoardLink) → link_of a.number a.star.links ≡ o
@@ -164,7 +164,7 @@ module _ (board : Windows) where
         own (Some l) fl =
             subst (λ ds. Beside a (after_fetch a.number max a.star (Some l)) (made a) (edits_among a.handed) (record { site = a.site; up = drop (length a.taken) a.sent; down = ds }))
             (sym (left_more a.fetched a.handed (take max l.outbox) f.down))
-            (honest-fetched board_batches batch_laws most_batches (content board) a.since a.number a.star (made a) (edits_among a.handed) (link_at a) h max l fl)
+            (honest.honest-fetched board_batches batch_laws most_batches (content board) a.since a.number a.star (made a) (edits_among a.handed) (link_at a) h max l fl)
 
         cases : (b : Bool) → nat_eq j a.number ≡ b
             → Stands (record a { star = after_fetch j max a.star (link_of j a.star.links); fetched = cond b (a.fetched ++ fetched_in (Fetched (fetch_result max (link_of j a.star.links)))) a.fetched })
@@ -181,8 +181,8 @@ module _ (board : Windows) where
         -- of another
         other_at : nat_eq j a.number ≡ false → (l : BoardLink) → link_of j a.star.links ≡ Some l → (o : Option StarFault) → up_fault board_batches a.star l u ≡ o
             → Beside a (after_take j u a.star (Some l) o) (made a) (edits_among a.handed) (link_at a)
-        other_at apart l fl None none = honest-taken_other board_batches batch_laws most_batches (content board) a.since a.number a.star (made a) (edits_among a.handed) (link_at a) h j apart l fl u none
-        other_at apart l fl (Some fault) is = honest-left board_batches batch_laws most_batches (content board) a.since a.number a.star (made a) (edits_among a.handed) (link_at a) h j
+        other_at apart l fl None none = honest.honest-taken_other board_batches batch_laws most_batches (content board) a.since a.number a.star (made a) (edits_among a.handed) (link_at a) h j apart l fl u none
+        other_at apart l fl (Some fault) is = honest.honest-left board_batches batch_laws most_batches (content board) a.since a.number a.star (made a) (edits_among a.handed) (link_at a) h j
 
         other : nat_eq j a.number ≡ false → (o : Option BoardLink) → link_of j a.star.links ≡ o
             → Beside a (after_take j u a.star o (take_fault board_batches a.star u o)) (made a) (edits_among a.handed) (link_at a)
@@ -195,18 +195,18 @@ module _ (board : Windows) where
         own_at l fl b None none =
             subst (λ us. Beside a (after_take a.number u a.star (Some l) None) (made a) (edits_among a.handed) (record { site = a.site; up = us; down = drop (length a.handed) a.fetched }))
             (ap (drop 1) waits ∙ sym (left_of a.sent (a.taken ++ u ∷ []) b.0 b.1))
-            (honest-taken board_batches batch_laws most_batches (content board) a.since a.number a.star (made a) (edits_among a.handed) (link_at a) h l fl u b.0 waits none)
+            (honest.honest-taken board_batches batch_laws most_batches (content board) a.since a.number a.star (made a) (edits_among a.handed) (link_at a) h l fl u b.0 waits none)
           where
             waits : drop (length a.taken) a.sent ≡ u ∷ b.0
             waits = left_of a.sent a.taken (u ∷ b.0) (next_left a.sent a.taken u b)
         own_at l fl b (Some fault) is =
-            honest-gone board_batches batch_laws most_batches (content board) a.since a.number (after_take a.number u a.star (Some l) (Some fault)) (made a) (edits_among a.handed) (link_at a)
-            (honest-left board_batches batch_laws most_batches (content board) a.since a.number a.star (made a) (edits_among a.handed) (link_at a) h a.number)
+            honest.honest-gone board_batches batch_laws most_batches (content board) a.since a.number (after_take a.number u a.star (Some l) (Some fault)) (made a) (edits_among a.handed) (link_at a)
+            (honest.honest-left board_batches batch_laws most_batches (content board) a.since a.number a.star (made a) (edits_among a.handed) (link_at a) h a.number)
             (found-without (λ k. k.site) a.number a.star.links) (drop (length (a.taken ++ u ∷ [])) a.sent)
 
         own : Begins a.sent (a.taken ++ u ∷ []) → (o : Option BoardLink) → link_of a.number a.star.links ≡ o
             → Stands (record a { star = after_take a.number u a.star o (take_fault board_batches a.star u o); taken = a.taken ++ u ∷ [] })
-        own b None gone = honest-gone board_batches batch_laws most_batches (content board) a.since a.number a.star (made a) (edits_among a.handed) (link_at a) h gone (drop (length (a.taken ++ u ∷ [])) a.sent)
+        own b None gone = honest.honest-gone board_batches batch_laws most_batches (content board) a.since a.number a.star (made a) (edits_among a.handed) (link_at a) h gone (drop (length (a.taken ++ u ∷ [])) a.sent)
         own b (Some l) fl = own_at l fl b (up_fault board_batches a.star l u) refl
 
         cases : (b : Bool) → nat_eq j a.number ≡ b → IsReliable (record a { taken = cond b (a.taken ++ u ∷ []) a.taken })
@@ -261,22 +261,22 @@ join_gives s j is = go (join_fault s) refl is
     go (Some x) e f = absurd cc
 
 -- the star before the join of a run
-pub before-called : (y : SiteRun) → IsHonest y → IsCalled board_batches batch_laws most_batches (content y.board) (star_through (opening y) y.before)
-before-called y is = called-through y.board y.before (opening y) (called-opened y.board y.limit is.opens is.limited)
+pub before-called : (y : SiteRun) → IsHonest y → honest.IsCalled board_batches batch_laws most_batches (content y.board) (star_through (opening y) y.before)
+before-called y is = honest.called-through y.board y.before (opening y) (honest.called-opened y.keeps y.board y.limit is.opens is.limited)
 
 -- as the site joins
 pub start-stands : (y : SiteRun) → IsHonest y → Stands y.board (start y)
 start-stands y is =
     let s : BoardStar = star_through (opening y) y.before in
-    let parts = legal-parts (opening y) y.before _ is.legal in
+    let parts = honest.legal-parts (opening y) y.before _ is.legal in
     let gives = join_gives s y.answer parts.1.0 in
     subst (λ j. Stands y.board (new_connection s j)) (sym gives.0)
     (subst (λ t. Stands y.board (record (new_connection s (joining s)) { star = t })) (sym gives.1)
-    (honest-new board_batches batch_laws most_batches (content y.board) s (before-called y is)))
+    (honest.honest-new board_batches batch_laws most_batches (content y.board) s (before-called y is)))
 
 -- and at every later moment
 pub run-legal : (y : SiteRun) → IsHonest y → IsLegal (start y).star (history y.steps)
-run-legal y is = (legal-parts (opening y) y.before _ is.legal).1.1
+run-legal y is = (honest.legal-parts (opening y) y.before _ is.legal).1.1
 
 pub run-stands : (y : SiteRun) → IsHonest y → Stands y.board (now y)
 run-stands y is = through-stands y.board y.steps (start y) (start-stands y is) (run-legal y is) is.reliable
@@ -334,7 +334,7 @@ module _ (O : Operations) (L : AreLawful O) (most : ℕ) (first : O.t.Content) (
 -- # Without its link
 
 module _ (O : Operations) (L : AreLawful O) (most : ℕ) (first : O.t.Content) (order : List (OrderEntry O.Edit)) (mine : List O.Edit) (since shown i : ℕ) (site : SiteOf O) (down : List (Down O.Op))
-    (g : IsGone O most first order mine since shown i site down) where
+    (g : honest.IsGone O most first order mine since shown i site down) where
   -- a longer order brings it no more
   pub gone-told : take (told_of O since shown (turns i order)) (turns i order) ≡ take (told_of O since shown (turns i g.last.order)) (turns i g.last.order)
   gone-told =
@@ -356,7 +356,7 @@ module _ (O : Operations) (L : AreLawful O) (most : ℕ) (first : O.t.Content) (
 module _ (board : Windows) (a : Connection) (h : Stands board a) where
   -- the site at its place
   stands : (l : BoardLink) → IsAttached a l → Standing board_batches most_batches (content board) (turns a.number a.star.order) a.star.board (made a) a.since (edits_among a.handed) a.number l (link_at a)
-  stands l fl = honest-stands board_batches batch_laws most_batches (content board) a.since a.number a.star (made a) (edits_among a.handed) (link_at a) h l fl
+  stands l fl = honest.honest-stands board_batches batch_laws most_batches (content board) a.since a.number a.star (made a) (edits_among a.handed) (link_at a) h l fl
 
   -- the next message of it is taken, or the order is full
   pub next-taken : (l : BoardLink) → IsAttached a l → (u : Up BoardBatch) (us : List (Up BoardBatch)) → a.sent ≡ a.taken ++ u ∷ us → IsTakenUnlessFull a.star u (reply_of (Take a.number u) a.star)
@@ -364,12 +364,12 @@ module _ (board : Windows) (a : Connection) (h : Stands board a) where
   next-taken l fl u us e = subst (λ o. IsTakenUnlessFull a.star u (Taken (take_result a.star u (take_fault board_batches a.star u o)))) (sym fl) (answer u (left_of a.sent a.taken (u ∷ us) e))
     where
       answer : (u : Up BoardBatch) → (link_at a).up ≡ u ∷ us → IsTakenUnlessFull a.star u (Taken (take_result a.star u (up_fault board_batches a.star l u)))
-      answer (UpOp m) w = elim (honest-answers board_batches batch_laws most_batches (content board) a.since a.number a.star (made a) (edits_among a.handed) (link_at a) h l fl m us w) [
+      answer (UpOp m) w = elim (honest.honest-answers board_batches batch_laws most_batches (content board) a.since a.number a.star (made a) (edits_among a.handed) (link_at a) h l fl m us w) [
         | inl c ↦ subst (λ o. IsTakenUnlessFull a.star (UpOp m) (Taken (take_result a.star (UpOp m) o))) (sym c.0) ((λ room. refl), (λ full. absurd (omega (arith, c.1, full))))
         | inr c ↦ subst (λ o. IsTakenUnlessFull a.star (UpOp m) (Taken (take_result a.star (UpOp m) o))) (sym c.0) ((λ room. absurd (omega (arith, c.1, room))), (λ full. refl))
       ]
       answer (UpAck n) w = subst (λ o. IsTakenUnlessFull a.star (UpAck n) (Taken (take_result a.star (UpAck n) o)))
-          (sym (honest-heard board_batches batch_laws most_batches (content board) a.since a.number a.star (made a) (edits_among a.handed) (link_at a) h l fl n us w)) refl
+          (sym (honest.honest-heard board_batches batch_laws most_batches (content board) a.since a.number a.star (made a) (edits_among a.handed) (link_at a) h l fl n us w)) refl
       answer (UpPing k) w = refl
 
   -- the next message to it is accepted
@@ -384,11 +384,11 @@ module _ (board : Windows) (a : Connection) (h : Stands board a) where
     content = shows (link_of a.number a.star.links) h.stands;
   }
     where
-      running : (o : Option BoardLink) → At board_batches batch_laws most_batches (content board) a.since a.number a.star (made a) (edits_among a.handed) (link_at a) o → a.site.stopped ≡ false
+      running : (o : Option BoardLink) → honest.At board_batches batch_laws most_batches (content board) a.since a.number a.star (made a) (edits_among a.handed) (link_at a) o → a.site.stopped ≡ false
       running None g = g.stands.pair.goes_on
       running (Some l) st = st.pair.goes_on
 
-      shows : (o : Option BoardLink) → At board_batches batch_laws most_batches (content board) a.since a.number a.star (made a) (edits_among a.handed) (link_at a) o
+      shows : (o : Option BoardLink) → honest.At board_batches batch_laws most_batches (content board) a.since a.number a.star (made a) (edits_among a.handed) (link_at a) o
           → content a.site.board ≡ meaning (content board) (view a)
       shows None g = gone-view board_batches batch_laws most_batches (content board) a.star.order (made a) a.since (edits_among a.handed) a.number a.site (link_at a).down g
       shows (Some l) st = stands-view board_batches batch_laws most_batches (content board) a.since a.number (edits_among a.handed) a.star (made a) l (link_at a) st
@@ -460,7 +460,7 @@ star-through (Ping k ∷ ms) a = star-through ms (after (Ping k) a)
 star-through (Called e ∷ ms) a = star-through ms (after (Called e) a)
 
 pub run-star : (y : SiteRun) → (now y).star ≡ star_through (opening y) (calls y)
-run-star y = star-through y.steps (start y) ∙ sym (through-parts (opening y) y.before _)
+run-star y = star-through y.steps (start y) ∙ sym (honest.through-parts (opening y) y.before _)
 
 -- what was brought to it and fetched from it too
 more_taken : (i : ℕ) (c : Call) (us : List (Up BoardBatch)) → taken_with i c us ≡ us ++ taken_with i c []
@@ -512,6 +512,7 @@ runs-agree y z one two both =
     ∙ sym ((run-link z two both.two both.two_attached).equal both.two_drained)
   where
     same : star_through (opening y) (calls y) ≡ star_through (opening z) (calls z)
-    same = ap (λ b. star_through (opened_star b y.limit) (calls y)) both.board
-        ∙ ap (λ n. star_through (opened_star z.board n) (calls y)) both.limit
+    same = ap (λ b. star_through (new_star y.keeps b y.limit) (calls y)) both.board
+        ∙ ap (λ n. star_through (new_star y.keeps z.board n) (calls y)) both.limit
+        ∙ ap (λ k. star_through (new_star k z.board z.limit) (calls y)) both.keeps
         ∙ ap (λ es. star_through (opening z) es) both.calls

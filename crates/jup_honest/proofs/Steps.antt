@@ -11,9 +11,9 @@ use Rattle.jup_world.proofs.Sound.Traces.{turns-append, length-turns}
 use Rattle.jup_world.proofs.Pairs.Grids.{own_edits-append, pair-asked}
 use Rattle.jup_world.proofs.Stars.{star-taken, keeps_order, still_known, none_back, star-opened, star-acked, star-ponged, star-fetched, star-left, star-joined, valid, inserts, next, same, changes, link_here, link_there, at_here, at_there}
 use Rattle.jup_world.proofs.Orders.{Follows, follows-same}
-use Rattle.jup_world.proofs.Pairs.Places.{stand-makes, stand-pair, place-taken, place-acked, place-asked, place-sent, place-shown, place-told, place-answered, place-fetched, place-fits, place-accepted, place-ack_fits}
+use Rattle.jup_world.proofs.Pairs.Places as places
 use Rattle.jup_world.proofs.Sound.Steps.{stands-new}
-use Rattle.jup_world.specs.Prelude.{highest_limit, most_beyond, LinkState, StarOf, opened_star, link_of, join_fault, up_fault, joined, left, fetched, taken, entry, most_batches, BoardStar, operation_at, opened_link, link_acked, link_ponged, link_fetched, link_sent, SiteOf, edit_answer, sent_back, deliver_fault, opened_site}
+use Rattle.jup_world.specs.Prelude.{highest_limit, most_beyond, LinkState, StarOf, new_star, link_of, join_fault, up_fault, joined, left, fetched, taken, entry, most_batches, BoardStar, operation_at, opened_link, link_acked, link_ponged, link_fetched, link_sent, SiteOf, edit_answer, sent_back, deliver_fault, opened_site}
 
 -- A star is sound after any calls, no matter who makes them.
 
@@ -112,9 +112,9 @@ pub called-through : (board : Windows) (es : List HubEvent) (s : BoardStar) → 
 called-through board [] s h = h
 called-through board (e ∷ es) s h = called-through board es (star_after e.call s) (call-grows board e.call s h).called
 
--- a star as it is opened
-pub called-opened : (board : Windows) (limit : ℕ) → IsOpening board → limit ≤ highest_limit → CalledStar board (opened_star board limit)
-called-opened board limit opens limited = record {
+-- a star as it is opened, whether it keeps its order or not
+pub called-opened : (keeps : Bool) (board : Windows) (limit : ℕ) → IsOpening board → limit ≤ highest_limit → CalledStar board (new_star keeps board limit)
+called-opened keeps board limit opens limited = record {
   star = star-opened board_batches batch_laws most_batches limit board opens.distinct (board_small board opens.short) (let low = limited in omega arith) (omega arith)
       (λ n held. only_site-held 0 board n opens.unsigned held);
   no_entry = λ j above. refl;
@@ -180,22 +180,22 @@ module _ (O : Operations) (L : AreLawful O) (most : ℕ) (first : O.t.Content) (
   module _ (s : StarOf O) (sound : IsSoundStar O most first s) (mine : List O.Edit) (shown : ℕ) (l : LinkState O.Op) (a : AttachedOf O) (st : Stood s mine shown l a) where
     stood-edited : (command : O.Command) (op : O.Op) → edit_answer O command a.site ≡ Ok op → Stood s (mine ++ O.t.edit_of op ∷ []) shown l (with_edit O op a)
     stood-edited command op ok =
-        stand-makes O L most first (turns i s.order) s.board mine since shown i l a st command op ok (omega (arith, length-turns i s.order, sound-fits s sound)) sound.counted
+        places.stand-makes O L most first (turns i s.order) s.board mine since shown i l a st command op ok (omega (arith, length-turns i s.order, sound-fits s sound)) sound.counted
 
     stood-asked : (k : ℕ) → Stood s mine shown l (pinged O k a)
     stood-asked k =
-        stand-pair O L most first (turns i s.order) s.board mine since shown i l a st s.board mine l (pinged O k a)
+        places.stand-pair O L most first (turns i s.order) s.board mine since shown i l a st s.board mine l (pinged O k a)
         (pair-asked O L most i first _ _ s.board mine l a st.pair k)
 
     stood-accepts : (d : Down O.Op) (falling : List (Down O.Op)) → a.down ≡ d ∷ falling → deliver_fault O d a.site ≡ None
-    stood-accepts d falling e = place-fits O L most first s mine i since shown l a st (sound-fits s sound) d 0 falling (ap (λ x. downs (x ++ l.outbox)) e)
+    stood-accepts d falling e = places.place-fits O L most first s mine i since shown l a st (sound-fits s sound) d 0 falling (ap (λ x. downs (x ++ l.outbox)) e)
 
     handed_one : (d : Down O.Op) (falling : List (Down O.Op)) → downs (a.down ++ l.outbox) ≡ downs (d ∷ (falling ++ l.outbox)) → Stood s mine (shown + brings d) l (one_handed O d falling a)
-    handed_one (DownOp m) falling comes = place-shown O L most first s mine i since shown l a st (sound-fits s sound) m 0 falling comes
+    handed_one (DownOp m) falling comes = places.place-shown O L most first s mine i since shown l a st (sound-fits s sound) m 0 falling comes
     handed_one (DownAck n) falling comes = subst (λ k. Stood s mine k l (one_handed O (DownAck n) falling a)) (sym (add-zero shown))
-        (place-told O L most first s mine i since shown l a st (sound-fits s sound) n 0 falling comes)
+        (places.place-told O L most first s mine i since shown l a st (sound-fits s sound) n 0 falling comes)
     handed_one (DownPong n) falling comes = subst (λ k. Stood s mine k l (one_handed O (DownPong n) falling a)) (sym (add-zero shown))
-        (place-answered O L most first s mine i since shown l a st (sound-fits s sound) n 0 falling comes)
+        (places.place-answered O L most first s mine i since shown l a st (sound-fits s sound) n 0 falling comes)
 
     stood-handed : (d : Down O.Op) (falling : List (Down O.Op)) → a.down ≡ d ∷ falling → Stood s mine (shown + brings d) l (one_handed O d falling a)
     stood-handed d falling e = handed_one d falling (ap (λ x. downs (x ++ l.outbox)) e)
@@ -276,7 +276,7 @@ module _ (O : Operations) (L : AreLawful O) (most : ℕ) (first : O.t.Content) (
       given = h.given;
       stands = subst (λ o. At s mine shown (with_fetched O n l a) o)
           (sym (at_here O L most first s h.star i (link_fetched n) (λ k. refl) ∙ ap (option_map (link_fetched n)) fl))
-          (place-fetched O L most first s mine i since shown l a (honest-stands l fl) honest-fits n);
+          (places.place-fetched O L most first s mine i since shown l a (honest-stands l fl) honest-fits n);
     }
 
     -- the star takes its oldest message
@@ -285,21 +285,21 @@ module _ (O : Operations) (L : AreLawful O) (most : ℕ) (first : O.t.Content) (
       star = star-taken O L most first s h.star i l fl m none;
       given = h.given;
       stands = subst (λ o. At (taken O i (UpOp m) l s) mine shown (one_taken O a) o) (sym (link_here O L most first s h.star i l fl m none))
-          (place-taken O L most first s mine i since shown l a (honest-stands l fl) honest-fits m us e);
+          (places.place-taken O L most first s mine i since shown l a (honest-stands l fl) honest-fits m us e);
     }
     honest-taken l fl (UpAck n) us e none = record {
       star = star-acked O L most first s h.star i n;
       given = h.given;
       stands = subst (λ o. At s mine shown (one_taken O a) o)
           (sym (at_here O L most first s h.star i (link_acked n) (λ k. refl) ∙ ap (option_map (link_acked n)) fl))
-          (place-acked O L most first s mine i since shown l a (honest-stands l fl) honest-fits n us e);
+          (places.place-acked O L most first s mine i since shown l a (honest-stands l fl) honest-fits n us e);
     }
     honest-taken l fl (UpPing n) us e none = record {
       star = star-ponged O L most first s h.star i n;
       given = h.given;
       stands = subst (λ o. At s mine shown (one_taken O a) o)
           (sym (at_here O L most first s h.star i (link_ponged n) (λ k. refl) ∙ ap (option_map (link_ponged n)) fl))
-          (place-asked O L most first s mine i since shown l a (honest-stands l fl) honest-fits n us e);
+          (places.place-asked O L most first s mine i since shown l a (honest-stands l fl) honest-fits n us e);
     }
 
     -- the star takes a message of another, and sends an edit to it
@@ -313,7 +313,7 @@ module _ (O : Operations) (L : AreLawful O) (most : ℕ) (first : O.t.Content) (
         sent : (o : Option (LinkState O.Op)) → At s mine shown a o → At (taken O j (UpOp m) l s) mine shown a (option_map (λ k. link_sent (operation_at O l.end m) k) o)
         sent None g = gone-longer s.order (entry O j m) mine shown a g
         sent (Some k) st =
-            place-sent O L most first s mine i since shown k a st honest-fits h.star.counted j m (operation_at O l.end m)
+            places.place-sent O L most first s mine i since shown k a st honest-fits h.star.counted j m (operation_at O l.end m)
             (valid O L most first s h.star j l fl m none)
             (same O L most first s h.star j l fl m none)
             (inserts O L most first s h.star j l fl m none)
@@ -335,10 +335,10 @@ module _ (O : Operations) (L : AreLawful O) (most : ℕ) (first : O.t.Content) (
     -- its oldest message is taken, or the order is full
     pub honest-answers : (l : LinkState O.Op) → link_of i s.links ≡ Some l → (m : Msg O.Op) (us : List (Up O.Op)) → a.up ≡ UpOp m ∷ us
         → ((up_fault O s l (UpOp m) ≡ None) × (length s.order < s.limit)) ⊎ ((up_fault O s l (UpOp m) ≡ Some LogFull) × (s.limit ≤ length s.order))
-    honest-answers l fl m us e = place-accepted O L most first s mine i since shown l a (honest-stands l fl) honest-fits m us e
+    honest-answers l fl m us e = places.place-accepted O L most first s mine i since shown l a (honest-stands l fl) honest-fits m us e
 
     pub honest-heard : (l : LinkState O.Op) → link_of i s.links ≡ Some l → (n : ℕ) (us : List (Up O.Op)) → a.up ≡ UpAck n ∷ us → up_fault O s l (UpAck n) ≡ None
-    honest-heard l fl n us e = place-ack_fits O L most first s mine i since shown l a (honest-stands l fl) honest-fits n us e
+    honest-heard l fl n us e = places.place-ack_fits O L most first s mine i since shown l a (honest-stands l fl) honest-fits n us e
 
     -- it edits
     pub honest-edited : (command : O.Command) (op : O.Op) → edit_answer O command a.site ≡ Ok op → HonestAt s (mine ++ O.t.edit_of op ∷ []) shown (with_edit O op a)

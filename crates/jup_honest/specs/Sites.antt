@@ -1,12 +1,12 @@
 -- A site of a hub: its steps, its runs, and what it relies on.
-use Rattle.std.specs.Prelude.{◌≡◌, ℕ, ◌≤◌, cond, nat_eq, List, [], ◌∷◌, ◌++◌, length, option_to_list, Option, Result, Ok, Err, ◌⊎◌, suc, ◌+◌, ◌<◌, false, take, drop, Some, None}
+use Rattle.std.specs.Prelude.{◌≡◌, ℕ, Bool, ◌≤◌, cond, nat_eq, List, [], ◌∷◌, ◌++◌, length, option_to_list, Option, Result, Ok, Err, ◌⊎◌, suc, ◌+◌, ◌<◌, false, take, drop, Some, None}
 use Rattle.jup_honest.specs.Prelude.{BoardBatch, Commands, Windows, BoardEdits, content, meaning, board_batches, Up, UpPing, UpOp, UpAck, Down, Joined, Call, Join, Take, Fetch, Leave, StarReply, Fetched, JoinedReply, Taken, DownOp, DownAck, DownPong, LogFull, ups, IsOpening, HubEvent, entry, star_through, IsLegal}
 use Rattle.jup_star.specs.declared.site.Made.{Made}
 use Rattle.jup_star.specs.Sites.{edit_reply, site_edited, deliver_reply, site_delivered}
 use Rattle.jup_star.specs.Stars.{star_after, BoardLink, reply_of}
 use Rattle.jup_world.specs.Traces.{Turn, turns, edits, own_edits}
 use Rattle.jup_world.specs.Sound.{edits_sent, edits_in, told_of}
-use Rattle.jup_world.specs.Prelude.{highest_limit, answer_after, most_unacknowledged, SiteFault, opened_site, BoardSite, sent_back, BoardStar, opened_star, link_of, EditFault}
+use Rattle.jup_world.specs.Prelude.{highest_limit, answer_after, most_unacknowledged, SiteFault, opened_site, BoardSite, sent_back, BoardStar, new_star, link_of, EditFault}
 
 -- A site and the hub that it joined: what may happen at either, what passed between them, and when the link is reliable.
 
@@ -132,11 +132,12 @@ IsCausalThrough (step ∷ steps) c = IsCausal c × IsCausalThrough steps (after 
 
 -- The run of a site at a hub: a history of the hub in which the site joined, and what the site did meanwhile.
 
--- what the hub's star was opened with, and the calls before the site joined. Then the number under which it was joined, the answer
--- with which the site was opened, and all steps since
+-- what the hub's star was opened with, whether it keeps its order, and the calls before the site joined. Then the number under which
+-- it was joined, the answer with which the site was opened, and all steps since
 pub record SiteRun : Type 0 where
   pub board : Windows
   pub limit : ℕ
+  pub keeps : Bool
   pub before : List HubEvent
   pub by : List ℕ
   pub answer : Joined
@@ -144,7 +145,7 @@ pub record SiteRun : Type 0 where
 
 -- the star as it was opened
 abbrev pub opening : SiteRun → BoardStar
-opening run = opened_star run.board run.limit
+opening run = new_star run.keeps run.board run.limit
 
 -- the whole history
 abbrev pub calls : SiteRun → List HubEvent
@@ -292,6 +293,7 @@ AllGoesWell (step ∷ steps) c = GoesWell step c × AllGoesWell steps (after ste
 pub record AreDrained (run other : SiteRun) : Type 0 where
   pub board : run.board ≡ other.board
   pub limit : run.limit ≡ other.limit
+  pub keeps : run.keeps ≡ other.keeps
   pub calls : calls run ≡ calls other
   pub one : BoardLink
   pub one_attached : IsAttached (now run) one

@@ -1,6 +1,6 @@
 //! What an honest site of a running hub relies on, whatever all others send.
 
-ghost use Rattle.std.specs.Prelude.{◌≡◌, ◌≤◌, None, length, List, ◌∷◌, []};
+ghost use Rattle.std.specs.Prelude.{◌≡◌, ◌≢◌, ◌≤◌, ℕ, None, map, List, ◌∷◌, []};
 ghost use Rattle.jup_star.specs.Sites.{site_open_fault};
 ghost use Rattle.jup_star.specs.Stars.{BoardLink};
 ghost use Rattle.jup_hub.specs.declared.view.HubEvent.{HubEvent};
@@ -47,10 +47,10 @@ pub fn honest_sites_agree()
 {}
 
 /// There is such a run: the site and a stranger set one toggle at the same time, and the site sends a ping. In
-/// the end nothing is on its way. So nobody can make the premises of [`honest_sites_agree`] impossible to meet.
+/// the end nothing is on its way, and the order has the stranger's entry and the site's. So nobody can make the premises of [`honest_sites_agree`] impossible to meet.
 ///
 /// It does nothing: its contract is the theorem.
 pub fn honest_runs_exist()
     ensures exists { (run : SiteRun) × (l : BoardLink) × IsHonest run × IsAttached (now run) l × IsDrained (now run) l
-        × (length (now run).star.order ≡ 2) }
+        × (stranger : ℕ) × (stranger ≢ run.answer.site) × (map (λ e. e.site) (now run).star.order ≡ stranger ∷ run.answer.site ∷ []) }
 {}

@@ -25,10 +25,12 @@ use Rattle.jup_http.specs.declared.held.Held.{Held}
 use Rattle.jup_http.specs.declared.reader.MessageReader.{MessageReader}
 use Rattle.jup_http.specs.declared.frame.Kind.TheVariants as Kinds
 use Rattle.jup_http.specs.declared.frame.Frame.TheVariants as Frames
-use Rattle.jup_http.specs.Streams.{Told, brought, Standing, Step, step, tells, data_in, data_of, brings, FitsPlace, broken, between, over, begins, ends_control, Sent, wire, IsSent, kind_with, Brings, IsTaken, AreTaken, ping}
+use Rattle.jup_http.specs.Streams.{Told, brought, Standing, Step, step, tells, data_in, data_of, brings, FitsPlace, broken, closed, between, over, begins, ends_control, Sent, wire, IsSent, kind_with, Brings, IsTaken, AreTaken, ping}
 use Rattle.jup_http.specs.Events.{told_by_option, standing}
 use Rattle.jup_http.specs.Frames.{longest_control, after_byte, after_bytes, text_of, begun, extended, data_of as data_frame, masked_of, frame_of, kind_after, message_after, held_bytes, pong_frame}
-use Rattle.jup_http.specs.Readers.{untaken, payloads_left, due, told_left, Takes, IsDealtWith, pong_to, pongs_to, Hears, HearsInPart}
+use Rattle.jup_http.specs.declared.ending.Ending.{Ending}
+use Rattle.jup_http.specs.declared.ending.Ending.TheVariants as Closes
+use Rattle.jup_http.specs.Readers.{untaken, payloads_left, due, told_left, Takes, IsDealtWith, pong_to, pongs_to, Hears, HearsInPart, ending_after, EndsBy}
 
 -- Bytes that are taken one after the other.
 
@@ -315,6 +317,30 @@ pub gave_none : (a b : Option (List Told)) (w x : Option (List ℕ)) (n : ℕ) (
 gave_none a b w x zero buf h none = h
 gave_none a b w x (suc n) buf h none = absurd (omega arith)
 
+-- ---- how the frames ended before, and then
+
+ending_after-append : (e : Option Ending) (xs ys : List Told) → ending_after e (xs ++ ys) ≡ ending_after (ending_after e xs) ys
+ending_after-append e [] ys = refl
+ending_after-append e (brought b ∷ xs) ys = ending_after-append e xs ys
+ending_after-append e (ping payload ∷ xs) ys = ending_after-append e xs ys
+ending_after-append e (closed code ∷ xs) ys = ending_after-append (Some (Closes.Closed code)) xs ys
+ending_after-append e (broken b ∷ xs) ys = ending_after-append (Some (Closes.Broken b)) xs ys
+
+pub ends_both : (a b c : Option (List Told)) (e f g : Option Ending) → EndsBy a b e f → EndsBy b c f g → EndsBy a c e g
+ends_both a b c e f g h k = record {
+  told = h.told ++ k.told;
+  first = takes_both a b c h.told k.told h.first k.first;
+  ending = k.ending ∙ ap (λ x. ending_after x k.told) h.ending ∙ sym (ending_after-append e h.told k.told);
+}
+
+pub ends_as_before : (a b : Option (List Told)) (e f : Option Ending) → Takes a b [] → f ≡ e → EndsBy a b e f
+ends_as_before a b e f keeps same = record { told = []; first = keeps; ending = same }
+
+-- data ends nothing
+ends_no_data : (e : Option Ending) (bs : List ℕ) → ending_after e (map brought bs) ≡ e
+ends_no_data e [] = refl
+ends_no_data e (b ∷ bs) = ends_no_data e bs
+
 -- ---- one step
 
 no_pongs : (bs : List ℕ) → pongs_to (map brought bs) ≡ []
@@ -432,6 +458,45 @@ pub gives_other : (s next : Standing) (untaken rest given : List ℕ) (e : Optio
     → Hears (Left (due p) s untaken known) (Left (due p) next rest known) w w given
 gives_other s next untaken rest given e p known w no_pong none first =
     rw none (gives_and_ends s next untaken rest given (told_by_option e) known w (data_of_event e) no_pong first)
+
+-- the first payloads were given, and then a ping waits
+pub ends_at_ping : (s next : Standing) (untaken rest given : List ℕ) (e : Option Event) (held : Held) (p : Option Held) (known : Option (List ℕ)) (was : Option Ending) → e ≡ Some (Ping held) → p ≡ None
+    → ((more : List ℕ) → tells s (untaken ++ more) ≡ map brought given ++ told_by_option e ++ tells next (rest ++ more))
+    → EndsBy (Left (due p) s untaken known) (Left (due (Some held)) next rest known) was was
+ends_at_ping s next untaken rest given e held p known was is none first =
+    record { told = map brought given; first = go; ending = sym (ends_no_data was given) }
+  where
+    go : Takes (Left (due p) s untaken known) (Left (due (Some held)) next rest known) (map brought given)
+    go = rw none (waits known)
+      where
+        waits : (k : Option (List ℕ)) → Takes (Left [] s untaken k) (Left (due (Some held)) next rest k) (map brought given)
+        waits None = tt
+        waits (Some xs) = first xs ∙ rw is (append_assoc (map brought given) (ping (held_bytes held) ∷ []) (tells next (rest ++ xs)))
+
+-- or a byte reported something else, by which the frames may have ended
+pub ends_at_other : (s next : Standing) (untaken rest given : List ℕ) (e : Option Event) (p : Option Held) (known : Option (List ℕ)) (was now : Option Ending) → p ≡ None
+    → now ≡ ending_after was (told_by_option e)
+    → ((more : List ℕ) → tells s (untaken ++ more) ≡ map brought given ++ told_by_option e ++ tells next (rest ++ more))
+    → EndsBy (Left (due p) s untaken known) (Left (due p) next rest known) was now
+ends_at_other s next untaken rest given e p known was now none ends first =
+    record {
+      told = map brought given ++ told_by_option e;
+      first = rw none (go known);
+      ending = ends ∙ ap (λ x. ending_after x (told_by_option e)) (sym (ends_no_data was given)) ∙ sym (ending_after-append was (map brought given) (told_by_option e));
+    }
+  where
+    go : (k : Option (List ℕ)) → Takes (Left [] s untaken k) (Left [] next rest k) (map brought given ++ told_by_option e)
+    go None = tt
+    go (Some xs) = first xs
+
+-- the ping that waited was answered, or is not to be
+pub ends_no_ping : (p q : Option Held) (held : Held) (s : Standing) (untaken : List ℕ) (known : Option (List ℕ)) (was now : Option Ending) → p ≡ Some held → q ≡ None → now ≡ was
+    → EndsBy (Left (due p) s untaken known) (Left (due q) s untaken known) was now
+ends_no_ping p q held s untaken known was now waited none same = record { told = ping (held_bytes held) ∷ []; first = rw (waited, none) (go known); ending = same }
+  where
+    go : (k : Option (List ℕ)) → Takes (Left (ping (held_bytes held) ∷ []) s untaken k) (Left [] s untaken k) (ping (held_bytes held) ∷ [])
+    go None = tt
+    go (Some xs) = refl
 
 one_pong : (held : Held) → pongs_to (ping (held_bytes held) ∷ []) ≡ pong_frame (held_bytes held)
 one_pong held = append-nil (pong_frame (held_bytes held))

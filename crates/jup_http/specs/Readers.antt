@@ -4,6 +4,8 @@ use Rattle.std.specs.List.{flat_map}
 use Rattle.std.specs.Io.KnownBytes.{Appends}
 use Rattle.jup_http.specs.declared.held.Held.{Held}
 use Rattle.jup_http.specs.declared.reader.MessageReader.{MessageReader}
+use Rattle.jup_http.specs.declared.ending.Ending.{Ending}
+use Rattle.jup_http.specs.declared.ending.Ending.TheVariants.{Closed, Broken}
 use Rattle.jup_http.specs.Events.{standing}
 use Rattle.jup_http.specs.Frames.{held_bytes, pong_frame}
 use Rattle.jup_http.specs.Streams.{Told, brought, ping, closed, broken, tells, brings, data_of}
@@ -30,6 +32,10 @@ told_left remaining r = option_map (λ xs. due r.ping ++ tells (standing r.strea
 -- what the reader has written, where that is known
 abbrev pub written : {I O : Type 0} → (O → Option (List ℕ)) → MessageReader I O → Option (List ℕ)
 written contents r = contents r.to
+
+-- how the frames have ended, once they have
+abbrev pub ended_by : {I O : Type 0} → MessageReader I O → Option Ending
+ended_by r = r.ending
 
 -- what is known begins with this, and loses it
 abbrev pub Takes : Option (List Told) → Option (List Told) → List Told → Type 0
@@ -68,3 +74,19 @@ pub record HearsInPart (old new : Option (List Told)) (before after : Option (Li
   pub given : data_of told ≡ []
   pub pongs : pongs_to told ≡ sent ++ unsent
   pub answered : Appends before after sent
+
+-- ---- how the frames end
+
+-- how they have ended once this was dealt with: by a close or a breach in it, and else as before
+abbrev pub ending_after : Option Ending → List Told → Option Ending
+ending_after e [] = e
+ending_after e (brought b ∷ told) = ending_after e told
+ending_after e (ping payload ∷ told) = ending_after e told
+ending_after e (closed code ∷ told) = ending_after (Some (Closed code)) told
+ending_after e (broken b ∷ told) = ending_after (Some (Broken b)) told
+
+-- what came next was dealt with, and the frames have ended by it if it ends them
+pub record EndsBy (old new : Option (List Told)) (before after : Option Ending) : Type 0 where
+  pub told : List Told
+  pub first : Takes old new told
+  pub ending : after ≡ ending_after before told

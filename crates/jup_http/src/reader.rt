@@ -55,7 +55,7 @@ fn unframe_part(
 
 impl<I: Read + Drop, O: Write + Drop> MessageReader<I, O> {
     ghost use Rattle.std.specs.Prelude.{[], Ok, None, IfOk, OnOk, OnErr, IsTrue, false, option_map};
-    ghost use Rattle.jup_http.specs.Readers.{payloads_left, told_left, written, untaken, Takes, IsDealtWith, Hears, HearsInPart};
+    ghost use Rattle.jup_http.specs.Readers.{payloads_left, told_left, written, ended_by, untaken, Takes, IsDealtWith, Hears, HearsInPart, EndsBy};
     ghost use Rattle.jup_http.specs.Streams.{start, brings};
 
     /// A reader of what comes by `from`. Contracts of reads speak of the payloads that are left, and of the pings to answer.
@@ -63,6 +63,7 @@ impl<I: Read + Drop, O: Write + Drop> MessageReader<I, O> {
         ensures payloads { IfOk result (λ reader. payloads_left I.remaining reader ≡ option_map (brings start) (I.remaining from)) }
         ensures told { IfOk result (λ reader. told_left I.remaining reader ≡ option_map (tells start) (I.remaining from)) }
         ensures written { IfOk result (λ reader. written O.contents reader ≡ O.contents to) }
+        ensures ending { IfOk result (λ reader. ended_by reader ≡ None) }
     {
         let pong = Vec::with_capacity(alloc, ROOM)?;
         Ok(MessageReader {
@@ -79,7 +80,9 @@ impl<I: Read + Drop, O: Write + Drop> MessageReader<I, O> {
     }
 
     /// How the frames ended, once they have.
-    pub fn ending(&self) -> Option<Ending> {
+    pub fn ending(&self) -> Option<Ending>
+        ensures { result ≡ ended_by self.now }
+    {
         self.ending
     }
 
@@ -88,6 +91,7 @@ impl<I: Read + Drop, O: Write + Drop> MessageReader<I, O> {
         requires { self.old.ping ≡ None }
         ensures within { result ≤ length buf.new }
         ensures heard { Hears (told_left I.remaining self.old) (told_left I.remaining self.new) (written O.contents self.old) (written O.contents self.new) (take result buf.new) }
+        ensures ended { EndsBy (told_left I.remaining self.old) (told_left I.remaining self.new) (ended_by self.old) (ended_by self.new) }
     {
         let unframed = unframe_part(&mut self.stream, &self.piece, self.start, self.end, buf);
         self.start += unframed.taken;
@@ -107,6 +111,7 @@ impl<I: Read + Drop, O: Write + Drop> MessageReader<I, O> {
         ensures keeps { Takes (told_left I.remaining self.old) (told_left I.remaining self.new) [] }
         ensures written { written O.contents self.new ≡ written O.contents self.old }
         ensures end { result ≡ Ok 0 → IsDealtWith (told_left I.remaining self.new) }
+        ensures ending { ended_by self.new ≡ ended_by self.old }
     {
         self.start = 0;
         self.end = 0;
@@ -120,6 +125,7 @@ impl<I: Read + Drop, O: Write + Drop> MessageReader<I, O> {
         ensures keeps { Takes (told_left I.remaining self.old) (told_left I.remaining self.new) [] }
         ensures written { written O.contents self.new ≡ written O.contents self.old }
         ensures end { result ≡ Ok false → IsDealtWith (told_left I.remaining self.new) }
+        ensures ending { ended_by self.new ≡ ended_by self.old }
     {
         if self.start < self.end || self.ping.is_some() {
             return Ok(true);
@@ -133,6 +139,7 @@ impl<I: Read + Drop, O: Write + Drop> MessageReader<I, O> {
         ensures idle { OnOk result (self.new.ping ≡ None) }
         ensures ok { OnOk result (Hears (told_left I.remaining self.old) (told_left I.remaining self.new) (written O.contents self.old) (written O.contents self.new) []) }
         ensures err { OnErr result (HearsInPart (told_left I.remaining self.old) (told_left I.remaining self.new) (written O.contents self.old) (written O.contents self.new)) }
+        ensures ended { EndsBy (told_left I.remaining self.old) (told_left I.remaining self.new) (ended_by self.old) (ended_by self.new) }
     {
         let Some(payload) = self.ping.take() else {
             return Ok(());
@@ -167,7 +174,7 @@ impl<I: Read + Drop, O: Write + Drop> Read for MessageReader<I, O> {
     ghost use Rattle.std.specs.Prelude.{◌<◌, IfOk, IfErr};
     ghost use Rattle.std.specs.Io.{ReadsAtMost};
     ghost use Rattle.std.specs.Io.KnownBytes.{ReadConsumes};
-    ghost use Rattle.jup_http.specs.Readers.{payloads_left, told_left, written, IsDealtWith, Hears, HearsInPart};
+    ghost use Rattle.jup_http.specs.Readers.{payloads_left, told_left, written, ended_by, IsDealtWith, Hears, HearsInPart, EndsBy};
 
     ghost remaining = { payloads_left I.remaining };
 
@@ -182,6 +189,7 @@ impl<I: Read + Drop, O: Write + Drop> Read for MessageReader<I, O> {
         ensures last { IfOk result (λ n. n ≡ 0 → 0 < length buf.new → IsDealtWith (told_left I.remaining self.new)) }
         ensures failed { IfErr result (λ _. HearsInPart (told_left I.remaining self.old) (told_left I.remaining self.new)
             (written O.contents self.old) (written O.contents self.new)) }
+        ensures ended { EndsBy (told_left I.remaining self.old) (told_left I.remaining self.new) (ended_by self.old) (ended_by self.new) }
     {
         if buf.is_empty() {
             return Ok(0);

@@ -5,6 +5,7 @@ ghost use Rattle.std.specs.Io.KnownBytes.{Appends};
 ghost use Rattle.jup_http.specs.Frames.{longest_sent, text_frame};
 
 use crate::put_text;
+use jup_io::GiveUp;
 use std::alloc::{AllocError, Global};
 use std::io;
 use std::io::Write;
@@ -60,5 +61,11 @@ impl<O: Write + Drop> Write for MessageWriter<O> {
 
     fn flush(&mut self) -> io::Result<()> {
         self.to.flush()
+    }
+}
+
+impl<O: GiveUp + Drop> GiveUp for MessageWriter<O> {
+    fn give_up(&mut self) {
+        self.to.give_up();
     }
 }

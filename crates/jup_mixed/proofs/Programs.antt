@@ -195,6 +195,7 @@ module _ (s : BoardStar) (a : Attached) (ready : IsReady s (Some (bare_attached 
         bare_attached a,
         fl,
         refl,
+        p,
         star ∙ (λ j. fetched_for a.site.number (p j) (q j) s) ∙ ap (λ n. fetched n 1 s) number,
         ap Some (site ∙ (λ j. record { site = a.site; up = messages ups a.up.way; down = (ap (λ (xs : List (Down BoardBatch)). refilled_from xs (ready (bare_attached a) refl).1.0.outbox) p ∙ ap (λ (xs : List (Down BoardBatch)). xs ++ take 1 (ready (bare_attached a) refl).1.0.outbox) (sym p)) j })),
       )
@@ -310,12 +311,12 @@ mix_answered m event h = all-replies board_batches batch_laws most_batches m h e
 pub mix_spared : (m : BoardMix) (event : BoardMixEvent) (t : BoardStar) (next : Option BoardAttached) (trace : MixTrace) → MixSpares event m.star m.site t next → trace ≡ m.trace
     → IsMixSpared m event (record { opening = m.opening; star = t; site = next; trace = trace })
 mix_spared m HomeDown t next trace (inl same) e = inl (λ j. record { opening = m.opening; star = same.0 j; site = same.1 j; trace = e j })
-mix_spared m HomeDown t next trace (inr more) e = inr (more.0, more.1, more.2, more.3, (λ j. record { opening = m.opening; star = more.4 j; site = more.5 j; trace = e j }))
+mix_spared m HomeDown t next trace (inr more) e = inr (more.0, more.1, more.2, more.3, more.4, (λ j. record { opening = m.opening; star = more.5 j; site = more.6 j; trace = e j }))
 mix_spared m event t next trace same e = λ j. record { opening = m.opening; star = same.0 j; site = same.1 j; trace = e j }
 
 pub mix_still : (m k : BoardMix) (event : BoardMixEvent) → IsMix m → IsMixSpared m event k → IsMix k
 mix_still m k HomeDown h (inl same) = subst IsMix (sym same) h
-mix_still m k HomeDown h (inr more) = subst IsMix (sym more.4) (mix-fetched board_batches batch_laws most_batches m h more.0 more.1 more.2 more.3 1)
+mix_still m k HomeDown h (inr more) = subst IsMix (sym more.5) (mix-fetched board_batches batch_laws most_batches m h more.0 more.1 more.2 more.3 1)
 mix_still m k event h same = subst IsMix (sym same) h
 
 -- as it is opened

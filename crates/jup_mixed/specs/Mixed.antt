@@ -300,7 +300,7 @@ MixPlays event star site reply next_star next_site =
 abbrev pub MixSpares : BoardMixEvent → BoardStar → Option BoardAttached → BoardStar → Option BoardAttached → Type 0
 MixSpares HomeDown star site next_star next_site =
     ((next_star ≡ star) × (next_site ≡ site))
-    ⊎ ((l : BoardLink) × (a : BoardAttached) × (link_of 1 star.links ≡ Some l) × (site ≡ Some a)
+    ⊎ ((l : BoardLink) × (a : BoardAttached) × (link_of 1 star.links ≡ Some l) × (site ≡ Some a) × (a.down ≡ [])
     × (next_star ≡ fetched 1 1 star) × (next_site ≡ Some (with_fetched board_batches 1 l a)))
 MixSpares event star site next_star next_site = (next_star ≡ star) × (next_site ≡ site)
 
@@ -308,7 +308,7 @@ MixSpares event star site next_star next_site = (next_star ≡ star) × (next_si
 abbrev pub IsMixSpared : BoardMix → BoardMixEvent → BoardMix → Type 0
 IsMixSpared m HomeDown k =
     (k ≡ m)
-    ⊎ ((l : BoardLink) × (a : BoardAttached) × (link_of 1 m.star.links ≡ Some l) × (m.site ≡ Some a)
+    ⊎ ((l : BoardLink) × (a : BoardAttached) × (link_of 1 m.star.links ≡ Some l) × (m.site ≡ Some a) × (a.down ≡ [])
     × (k ≡ record m { star = fetched 1 1 m.star; site = Some (with_fetched board_batches 1 l a) }))
 IsMixSpared m event k = k ≡ m
 

@@ -1,5 +1,5 @@
 //! A star with one site of this product, and links of strangers, which send any messages.
-ghost use Rattle.std.specs.Prelude.{◌≡◌, ◌⊎◌, ◌↔◌, ◌+◌, ◌∷◌, ◌++◌, ◌<◌, ◌≤◌, false, [], length, vec_len, None, Some, is_some, IsTrue, IfOk, IfErr, IfSome, OnOk, OnErr};
+ghost use Rattle.std.specs.Prelude.{◌≡◌, ◌⊎◌, ◌↔◌, ◌+◌, ◌∷◌, ◌++◌, ◌<◌, ◌≤◌, true, false, [], length, vec_len, None, Some, is_some, IsTrue, IfOk, IfErr, IfSome, OnOk, OnErr};
 ghost use Rattle.std.specs.Vec.{vec_capacity};
 ghost use Rattle.std.specs.Option.{option_map, option_copied};
 ghost use Rattle.jup_window.specs.Entries.{EachWidget};
@@ -150,6 +150,7 @@ impl Mixed {
     pub fn star(&self) -> &Star
         ensures star { result.now ≡ self.now.star }
         ensures content { content result.now.board ≡ meaning (content self.now.opening) (edits_in board_batches result.now.order) }
+        ensures keeps { result.now.keeps ≡ true }
     {
         &self.star
     }

@@ -1,7 +1,7 @@
 -- Each site of a hub is its session's own.
 use Rattle.std.proofs.Common.{◌≡◌, inl, inr, ℕ, ◌+◌, ◌<◌, ◌≤◌, Bool, true, false, cond, List, [], ◌∷◌, ◌++◌, nat_eq, None, Ok, refl, sym, ap, subst, ◌∙◌, eqb-true, arith, ◌⊎◌, length, IsTrue, Err}
 use Rattle.jup_served.specs.Prelude.{highest_limit, Windows, Joined, Call, Join, Take, Fetch, Leave, JoinedReply, Fetched, Taken, Left, StarReply, IsOpening, HubEvent, Tally, View, AllByRecursion}
-use Rattle.jup_star.specs.Stars.{link_of, joined, BoardStar, fetch_result, reply_of, star_after, opened_star}
+use Rattle.jup_star.specs.Stars.{link_of, joined, BoardStar, fetch_result, reply_of, star_after, new_star}
 use Rattle.jup_hub.specs.Histories.{star_through, IsLegal, calls_by, AllTallied, IsNew, AllApart, is_among, calls_in, Meets, tally, tallies}
 use Rattle.jup_hub.proofs.Histories.{no_others}
 use Rattle.jup_honest.specs.Sites.{fetched_in, fetched_with, fetches_of}
@@ -230,9 +230,9 @@ served_join s log serves new tallied = record {
     found : IsIn (join s serves) log × ((join s serves).by ≡ s.back.number)
     found = by_in s.back.number log (join s serves) (subst (IsIn (join s serves)) (sym (tallied.0 ∙ made_is s serves new)) (inl refl))
 
-pub owned : (board : Windows) (limit : ℕ) (sessions : List Ended) (log : List HubEvent) → IsSessionHub board limit sessions log → (s : Ended) → IsOneOf s sessions → (serves : ServesSite s)
+pub owned : (keeps : Bool) (board : Windows) (limit : ℕ) (sessions : List Ended) (log : List HubEvent) → IsSessionHub keeps board limit sessions log → (s : Ended) → IsOneOf s sessions → (serves : ServesSite s)
     → IsOwnedBy s (answer_of serves).site log
-owned board limit sessions log hub s one serves = all_in (λ e. IsCallFor (answer_of serves).site e.call → IsTrue (is_among e.by (tallies s.back))) log each
+owned keeps board limit sessions log hub s one serves = all_in (λ e. IsCallFor (answer_of serves).site e.call → IsTrue (is_among e.by (tallies s.back))) log each
   where
     mine : JoinsFor s.back.number (answer_of serves).site log
     mine = served_join s log serves (new_one s sessions one hub.new) (tallied_one log s sessions one hub.tallied)
@@ -242,16 +242,16 @@ owned board limit sessions log hub s one serves = all_in (λ e. IsCallFor (answe
         let found = found_in e sessions (none_other (all_tallies sessions) log hub.alone e is) in
         let theirs = session_join found.session log (new_one found.session sessions found.is_one hub.new) (tallied_one log found.session sessions found.is_one hub.tallied) e (answer_of serves).site is
         found.among asks in
-        let same = one_join board log (opened_star board limit) (called-opened board limit hub.opens hub.limited) hub.legal theirs.join mine.join (answer_of serves).site theirs.is_in mine.is_in
+        let same = one_join board log (new_star keeps board limit) (called-opened keeps board limit hub.opens hub.limited) hub.legal theirs.join mine.join (answer_of serves).site theirs.is_in mine.is_in
         theirs.is_join mine.is_join in
         let number : found.session.back.number ≡ s.back.number = sym theirs.by ∙ ap (λ (x : HubEvent). x.by) same ∙ mine.by in
         subst (λ (t : Ended). IsTrue (is_among e.by (tallies t.back))) (one_session found.session s sessions hub.apart found.is_one one number) found.among
 
 -- the pass that took in the passes of all sessions, and met a history of no further call
-pub closed : (board : Windows) (limit : ℕ) (sessions : List Ended) (v : View) (log : List HubEvent) → IsOpening board → limit ≤ highest_limit → v.opening ≡ opened_star board limit
+pub closed : (keeps : Bool) (board : Windows) (limit : ℕ) (sessions : List Ended) (v : View) (log : List HubEvent) → IsOpening board → limit ≤ highest_limit → v.opening ≡ new_star keeps board limit
     → v.kept ≡ all_tallies sessions → AllByRecursion (λ (s : Ended). HasMadeNone s.given) sessions → Meets v log → length log ≡ calls_in (all_tallies sessions)
-    → IsSessionHub board limit sessions log
-closed board limit sessions v log opens limited opening kept new meets long =
+    → IsSessionHub keeps board limit sessions log
+closed keeps board limit sessions v log opens limited opening kept new meets long =
     let tallied = subst (AllTallied log) kept meets.tallied.1 in
     let apart = subst AllApart kept meets.apart.1 in
     record {

@@ -212,7 +212,7 @@ module _ (run : SiteRun) (log : List HubEvent) (s : Ended) (is : IsServedRun run
   legal = (legal-parts (opening run) (calls run) is.moment.first.0 (subst (λ es. IsLegal (opening run) es) is.moment.first.1 (subst (λ o. IsLegal o log) is.moment.opened is.moment.meets.legal))).0
 
   opened : CalledStar run.board (opening run)
-  opened = called-opened run.board run.limit is.opens is.limited
+  opened = called-opened run.keeps run.board run.limit is.opens is.limited
 
   parts : IsLegal (opening run) run.before × IsLegal (star_through (opening run) run.before) (entry run.by Join (JoinedReply (Ok run.answer)) ∷ history run.steps)
   parts = legal-parts (opening run) run.before (entry run.by Join (JoinedReply (Ok run.answer)) ∷ history run.steps) legal
@@ -349,13 +349,13 @@ module _ (run : SiteRun) (log : List HubEvent) (s : Ended) (is : IsServedRun run
 
 -- Of a hub that sessions alone call, the run of each site that one of them serves is honest.
 
-pub hub_honest : (board : Windows) (limit : ℕ) (sessions : List Ended) (log : List HubEvent) → IsSessionHub board limit sessions log → (run : SiteRun) (s : Ended) → IsOneOf s sessions → IsServedRun run log s
+pub hub_honest : (keeps : Bool) (board : Windows) (limit : ℕ) (sessions : List Ended) (log : List HubEvent) → IsSessionHub keeps board limit sessions log → (run : SiteRun) (s : Ended) → IsOneOf s sessions → IsServedRun run log s
     → IsHonest run
-hub_honest board limit sessions log hub run s one is =
+hub_honest keeps board limit sessions log hub run s one is =
     served_honest run log s is
     (subst (λ i. IsOwnedBy s i (calls run)) (ap (λ (j : Joined). j.site) (sym is.moment.answer))
     (all_first (λ e. IsCallFor (answer_of is.serves).site e.call → IsTrue (is_among e.by (tallies s.back))) (calls run) is.moment.first.0
-    (subst (IsOwnedBy s (answer_of is.serves).site) is.moment.first.1 (owned board limit sessions log hub s one is.serves))))
+    (subst (IsOwnedBy s (answer_of is.serves).site) is.moment.first.1 (owned keeps board limit sessions log hub s one is.serves))))
 
 -- What a client of this product shows and says is what the run of its site has.
 

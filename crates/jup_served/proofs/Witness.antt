@@ -4,7 +4,7 @@ use Rattle.std.proofs.lemmas.List.Concat.{flat_map-append}
 use Rattle.std.proofs.lemmas.List.Elements.{All-nil}
 use Rattle.jup_served.specs.Prelude.{BoardBatch, bare, Windows, Up, Joined, Join, Leave, Take, Fetch, StarReply, JoinedReply, Taken, Fetched, Left, UpPing, Down, Line, Progress, HasRead, all-append, at_first, IsOpening, HubEvent, View, Said, SaysUp, Answer, ClientHeard, ClientState, last_line, Sourced, flat_map, AllByRecursion}
 use Rattle.jup_batch.specs.Boards.{edit_of}
-use Rattle.jup_star.specs.Stars.{BoardLink, reply_of, star_after, opened_star}
+use Rattle.jup_star.specs.Stars.{BoardLink, reply_of, star_after, opened_counting}
 use Rattle.jup_star.specs.Sites.{BoardSite, site_edited}
 use Rattle.jup_wire.specs.declared.line.Line.TheVariants.{Bye}
 use Rattle.jup_wire.specs.Lines.{spelling, HasSpelling}
@@ -259,7 +259,7 @@ abbrev joined : ℕ → Joined
 joined i = record { site = i; limit = 9; board = board }
 
 abbrev star : BoardStar
-star = opened_star board 9
+star = opened_counting board 9
 
 -- the numbers of the passes of both sessions, and of their writing halves
 abbrev one : List ℕ
@@ -316,7 +316,7 @@ steps_one =
     ∷ Deliver (DownOp (message 0 0 (switch false))) ∷ Deliver (DownPong 7) ∷ Called fetch_two ∷ []
 
 abbrev pub run_one : SiteRun
-run_one = record { board = board; limit = 9; before = []; by = one; answer = joined 1; steps = steps_one }
+run_one = record { board = board; limit = 9; keeps = false; before = []; by = one; answer = joined 1; steps = steps_one }
 
 abbrev pub steps_two : List Step
 steps_two =
@@ -324,7 +324,7 @@ steps_two =
     ∷ Deliver (DownOp (message 0 1 (switch true))) ∷ []
 
 abbrev pub run_two : SiteRun
-run_two = record { board = board; limit = 9; before = join_one ∷ []; by = two; answer = joined 2; steps = steps_two }
+run_two = record { board = board; limit = 9; keeps = false; before = join_one ∷ []; by = two; answer = joined 2; steps = steps_two }
 
 legal : IsLegal star log
 unfolding reply_of star_after
@@ -398,7 +398,7 @@ spelled_one = ((lit< tt, lit< tt), (lit< tt, ((lit< tt, tt), (tt, ((lit< tt, (li
 spelled_two : AllByRecursion HasSpelling (lines plan_two)
 spelled_two = ((lit< tt, lit< tt), (lit< tt, ((lit< tt, tt), (tt, ((lit< tt, (lit< tt, (lit≤ tt, lit≤ tt))), ((lit< tt, (lit< tt, tt)), (tt, tt)))))))
 
-pub hub : IsSessionHub board 9 (session_one ∷ session_two ∷ []) log
+pub hub : IsSessionHub false board 9 (session_one ∷ session_two ∷ []) log
 unfolding session_one session_two
 hub = record {
   opens = opens;
@@ -511,6 +511,7 @@ unfolding star_after link_one link_two
 drained = record {
   board = refl;
   limit = refl;
+  keeps = refl;
   calls = refl;
   one = link_one;
   one_attached = refl;

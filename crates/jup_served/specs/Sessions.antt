@@ -1,7 +1,7 @@
 -- Sessions, their sites and their clients.
 use Rattle.std.specs.Prelude.{◌≡◌, ℕ, Bool, List, ◌∷◌, Option, IsTrue, ◌≤◌, ◌++◌, ◌⊎◌, [], option_to_list, Ok}
 use Rattle.jup_served.specs.Prelude.{highest_limit, bare, BoardBatch, Windows, Joined, Up, UpPing, IsOpening, HubEvent, View, Tally, Ending, Answer, ClientHeard as Heard, ClientState, Said, SaysUp, Sourced, AllByRecursion, flat_map}
-use Rattle.jup_star.specs.Stars.{opened_star}
+use Rattle.jup_star.specs.Stars.{new_star}
 use Rattle.jup_wire.specs.Lines.{spelling, HasSpelling}
 use Rattle.jup_hub.specs.Histories.{is_among, tallies, calls_by, BeginsWith, Meets, IsLegal, AllTallied, AllApart, calls_of_others}
 use Rattle.jup_honest.specs.Sites.{IsCausalThrough, SiteRun, opening, calls, start, now, Step, Edit, Deliver, Ping, Called}
@@ -105,10 +105,10 @@ IsOneOf s (t ∷ sessions) = (t ≡ s) ⊎ IsOneOf s sessions
 
 -- The history of the hub is legal. Each session was given a pass that had made no call. Under each number of theirs the history has just the session's calls, and no two
 -- of these numbers are equal. No call is under another number
-pub record IsSessionHub (board : Windows) (limit : ℕ) (sessions : List Ended) (log : List HubEvent) : Type 0 where
+pub record IsSessionHub (keeps : Bool) (board : Windows) (limit : ℕ) (sessions : List Ended) (log : List HubEvent) : Type 0 where
   pub opens : IsOpening board
   pub limited : limit ≤ highest_limit
-  pub legal : IsLegal (opened_star board limit) log
+  pub legal : IsLegal (new_star keeps board limit) log
   pub new : AllByRecursion (λ (s : Ended). HasMadeNone s.given) sessions
   pub tallied : AllTallied log (all_tallies sessions)
   pub apart : AllApart (all_tallies sessions)

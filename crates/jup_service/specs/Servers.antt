@@ -1,10 +1,10 @@
 -- What a server of browsers decides.
-use Rattle.std.specs.Prelude.{◌≡◌, ◌⊎◌, ℕ, List, [], ◌∷◌, ◌++◌, decimal, Bool, true, false, Option, None, Some, ◌==◌, if◌then◌else◌, codes}
+use Rattle.std.specs.Prelude.{◌≡◌, ◌⊎◌, ℕ, List, [], ◌∷◌, ◌++◌, decimal, Bool, true, false, Option, None, Some, option_to_list, ◌==◌, if◌then◌else◌, codes}
 use Rattle.std.specs.List.{flat_map, AllByRecursion}
 use Rattle.jup_window.specs.Boards.{Windows, bare}
 use Rattle.jup_text.specs.Commands.{IsId}
 use Rattle.jup_text.specs.Words.{quoted, AreScalars}
-use Rattle.jup_star.specs.Stars.{BoardStar, opened_star}
+use Rattle.jup_star.specs.Stars.{BoardStar, opened_counting}
 use Rattle.jup_board.specs.Boards.{IsPrintOf}
 use Rattle.jup_http.specs.declared.ending.Ending.{Ending}
 use Rattle.jup_http.specs.Frames.{answer_code}
@@ -111,19 +111,20 @@ surplus_refusal None = Some Busy
 abbrev pub origin_of : List ℕ → ℕ → List ℕ
 origin_of host port = if port == 80 then codes "http://" ++ host else (codes "http://" ++ (host ++ (codes ":" ++ decimal port)))
 
--- the origin of the host that the server listens at, or on a loopback address that of `localhost`; a server at every address has none of these
-abbrev pub IsOriginAt : List ℕ → Address → List ℕ → Type 0
-IsOriginAt host at origin =
-    (at.is_wildcard ≡ false) × ((origin ≡ origin_of host at.port) ⊎ ((at.is_loopback ≡ true) × (origin ≡ origin_of (codes "localhost") at.port)))
+-- the origins at this address: its host and port, and at a loopback address the same with `localhost`. At an address that means all
+-- addresses there is none
+abbrev pub origins_at : List ℕ → Address → List (List ℕ)
+origins_at host at =
+    if at.is_wildcard then [] else origin_of host at.port ∷ (if at.is_loopback then origin_of (codes "localhost") at.port ∷ [] else [])
 
--- one of these, or the origin that the command line names
-abbrev pub IsOwnOrigin : List ℕ → Address → Option (List ℕ) → List ℕ → Type 0
-IsOwnOrigin host at told origin = (told ≡ Some origin) ⊎ IsOriginAt host at origin
+-- first the origin that the command line names, if it does
+abbrev pub server_origins : List ℕ → Address → Option (List ℕ) → List (List ℕ)
+server_origins host at told = option_to_list told ++ origins_at host at
 
 -- The star of a board that a file keeps.
 
--- a star without sites over the board that the text prints, with this limit
+-- a star without sites over the board that the text prints, with this limit, which only counts its order
 pub record IsStarOf (text : List ℕ) (limit : ℕ) (star : BoardStar) : Type 0 where
   pub windows : Windows
   pub printed : IsPrintOf windows text
-  pub is : star ≡ opened_star (bare windows) limit
+  pub is : star ≡ opened_counting (bare windows) limit

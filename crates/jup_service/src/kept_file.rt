@@ -1,11 +1,12 @@
 //! A file that keeps a text whole, also if a write is cut off.
-ghost use Rattle.std.specs.Prelude.{OnOk};
+ghost use Rattle.std.specs.Prelude.{◌≡◌, IfOk, OnOk};
 ghost use Rattle.std.specs.Io.KnownBytes.{Appends};
 
 use std::alloc::{AllocError, Global};
 use std::fs::{File, Files, OpenFile, OpenOptions, TryLockError};
 use std::io;
 use std::io::{Read, Write};
+use std::marker::Model;
 use std::path::{Path, PathBuf};
 
 /// A file that this program alone reads and writes. In its folder are its lock, and during a write the new text.
@@ -17,6 +18,28 @@ pub struct KeptFile {
     folder: PathBuf,
     /// The program holds it as long as it runs. The system releases it if the program is killed.
     lock: File,
+}
+
+/// A text that a kept file has: it was read from there, or written there. Only [`KeptFile`] makes one. Contracts see its bytes.
+#[derive(Drop)]
+pub struct FiledText {
+    text: Vec<u8>,
+}
+
+impl Model for FiledText {
+    ghost use Rattle.std.specs.Prelude.{ℕ, List};
+
+    ghost Value = { List ℕ };
+
+    ghost view = { λ filed. filed.text.items };
+}
+
+impl FiledText {
+    pub fn as_slice(&self) -> &[u8]
+        ensures { result.now ≡ self.now }
+    {
+        self.text.as_slice()
+    }
 }
 
 /// Why the program does not open a file.
@@ -46,7 +69,7 @@ impl KeptFile {
         rt: &R,
         alloc: Global,
         name: &str,
-    ) -> Result<(KeptFile, Vec<u8>), KeptFileFault> {
+    ) -> Result<(KeptFile, FiledText), KeptFileFault> {
         let path = rt.canonicalize(alloc, name)?;
         let lock = lock_beside(rt, alloc, &path)?;
         let text = read_text(rt, alloc, &path)?;
@@ -58,16 +81,19 @@ impl KeptFile {
             folder,
             lock,
         };
-        Ok((kept, text))
+        Ok((kept, FiledText { text }))
     }
 
     /// Replaces the file's text by this one, and keeps the file's mode. Whenever this is cut off, the file has one of the two texts,
     /// whole. The new text is written to a second file, and is on the disk before a rename gives it the file's name. On return the
     /// rename is on the disk too.
-    pub fn save<R: Files<File = File>>(&self, rt: &R, text: &[u8]) -> io::Result<()> {
-        self.write_fresh(rt, text)?;
+    pub fn save<R: Files<File = File>>(&self, rt: &R, text: Vec<u8>) -> io::Result<FiledText>
+        ensures { IfOk result (λ filed. filed ≡ text.items) }
+    {
+        self.write_fresh(rt, text.as_slice())?;
         rt.rename(self.fresh.as_str(), self.path.as_str())?;
-        File::open(rt, self.folder.as_str())?.sync_all()
+        File::open(rt, self.folder.as_str())?.sync_all()?;
+        Ok(FiledText { text })
     }
 
     // Writes the new text to the second file.

@@ -20,7 +20,7 @@ pub use captions::{CaptionFault, check_captions};
 pub use closing::close_code;
 pub use command::{Command, command_of};
 pub use end::{Attempt, ServiceEnd};
-pub use kept_file::{KeptFile, KeptFileFault};
+pub use kept_file::{FiledText, KeptFile, KeptFileFault};
 pub use notices::{Notice, Told, notice_of};
 pub use opening::{Opening, opening_of, surplus_refusal};
 pub use origins::{Address, own_origins};

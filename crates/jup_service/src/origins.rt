@@ -1,6 +1,6 @@
 //! The origins under which a server's own pages send requests.
-ghost use Rattle.std.specs.Prelude.{◌≡◌, IfOk, All, option_map, string_bytes};
-ghost use Rattle.jup_service.specs.Servers.{origin_of, IsOwnOrigin};
+ghost use Rattle.std.specs.Prelude.{◌≡◌, IfOk, map, option_map, string_bytes};
+ghost use Rattle.jup_service.specs.Servers.{origin_of, server_origins};
 
 use std::alloc::{AllocError, Global};
 
@@ -24,7 +24,7 @@ pub fn own_origins(
     at: Address,
     told: Option<&str>,
 ) -> Result<Vec<String>, AllocError>
-    ensures { IfOk result (λ origins. All (λ o. IsOwnOrigin host.now at (option_map (λ t. t.now) told.entry) (string_bytes o)) origins.items) }
+    ensures { IfOk result (λ origins. map string_bytes origins.items ≡ server_origins host.now at (option_map (λ t. t.now) told.entry)) }
 {
     let mut origins = Vec::new(alloc);
     if let Some(told) = told {

@@ -2,11 +2,10 @@
 use Rattle.std.specs.Prelude.{◌≡◌, ℕ, List}
 use Rattle.jup_window.specs.Boards.{Windows, bare}
 use Rattle.jup_text.specs.Boards.{board_text}
-use Rattle.jup_hub.specs.Histories.{MeetsBoard}
-use Rattle.jup_hub.specs.declared.view.View.{View}
+use Rattle.jup_star.specs.Stars.{BoardStar}
 
--- the text prints a board of the star, after a history that begins with all that the pass has seen
-pub record IsTextAt (text : List ℕ) (view : View) : Type 0 where
+-- the text prints the board of the star
+pub record IsTextOf (text : List ℕ) (star : BoardStar) : Type 0 where
   pub board : Windows
-  pub met : MeetsBoard (bare board) view
+  pub shown : bare board ≡ star.board
   pub printed : text ≡ board_text board

@@ -1,14 +1,14 @@
 //! The board that a file keeps.
-ghost use Rattle.std.specs.Prelude.{◌≡◌, ◌≤◌, List, length, Ok, None, false, IfOk, IfSome};
+ghost use Rattle.std.specs.Prelude.{◌≡◌, ◌≤◌, List, length, false, IfOk, MatchOption};
 ghost use Rattle.jup_hub.specs.declared.view.HubEvent.{HubEvent};
-ghost use Rattle.jup_hub.specs.Histories.{Meets, having_seen, longest};
-ghost use Rattle.jup_hub.specs.Passes.{view_of, IsPassOf};
-ghost use Rattle.jup_web.specs.Keeping.{IsTextAt};
+ghost use Rattle.jup_hub.specs.Histories.{Meets, having_seen, longest, star_through};
+ghost use Rattle.jup_hub.specs.Passes.{opening_of, view_of, IsPassOf};
+ghost use Rattle.jup_web.specs.Keeping.{IsTextOf};
 
 use crate::notices::Notices;
 use crate::session::Service;
 use jup_hub::{Hub, Pass};
-use jup_service::{KeptFile, Notice};
+use jup_service::{FiledText, KeptFile, Notice};
 use jup_text::write_board;
 use jup_xform::NoMemory;
 use std::alloc::Global;
@@ -19,7 +19,7 @@ use std::time::{Clock, Duration};
 /// Milliseconds between two looks for news.
 const PAUSE: u64 = 500;
 
-/// The board of a hub as it is printed, after all calls so far.
+/// The board of a hub as it is printed, after all calls so far. The pass has then seen these.
 pub fn board_text<R: Wait>(
     rt: &R,
     alloc: Global,
@@ -28,8 +28,8 @@ pub fn board_text<R: Wait>(
 ) -> Result<Vec<u8>, NoMemory>
     requires { IsPassOf hub.now pass.old }
     ensures pass { IsPassOf hub.now pass.new }
-    ensures same { view_of pass.new ≡ view_of pass.old }
-    ensures text { IfOk result (λ text. IsTextAt text.items (view_of pass.old)) }
+    ensures met { (log : List HubEvent) × Meets (view_of pass.old) log × (view_of pass.new ≡ having_seen log (view_of pass.old))
+        × IfOk result (λ text. IsTextOf text.items (star_through (opening_of hub.now) log)) }
 {
     let board = match hub.board(rt, alloc, pass) {
         Ok(board) => board,
@@ -51,10 +51,10 @@ pub fn take_news<R: Wait>(
 ) -> Result<Option<Vec<u8>>, NoMemory>
     requires { IsPassOf hub.now pass.old }
     ensures pass { IsPassOf hub.now pass.new }
-    ensures text { IfOk result (λ news. IfSome news (λ text. IsTextAt text.items (view_of pass.new))) }
     // It gives nothing only if no text is due, and no event came after all that the pass had seen.
-    ensures none { (log : List HubEvent) × Meets (view_of pass.old) log × (view_of pass.new ≡ having_seen log (view_of pass.old))
-        × (result ≡ Ok None → (is_due ≡ false) × (length log ≤ longest (view_of pass.old).seen)) }
+    ensures met { (log : List HubEvent) × Meets (view_of pass.old) log × (view_of pass.new ≡ having_seen log (view_of pass.old))
+        × IfOk result (λ news. MatchOption news ((is_due ≡ false) × (length log ≤ longest (view_of pass.old).seen))
+        (λ text. IsTextOf text.items (star_through (opening_of hub.now) log))) }
 {
     let has_news = hub.news(pass);
     if !has_news && !is_due {
@@ -70,7 +70,7 @@ pub fn take_news<R: Wait>(
 #[derive(Drop)]
 pub(crate) struct KeptBoard<'a> {
     file: &'a KeptFile,
-    text: Vec<u8>,
+    text: FiledText,
     /// Whether a board that should be in the file was not written.
     is_due: bool,
 }
@@ -79,7 +79,7 @@ impl<'a> KeptBoard<'a> {
     ghost use Rattle.std.specs.Prelude.{true, false};
 
     /// The file has this text.
-    pub(crate) fn new(file: &'a KeptFile, text: Vec<u8>) -> KeptBoard<'a> {
+    pub(crate) fn new(file: &'a KeptFile, text: FiledText) -> KeptBoard<'a> {
         KeptBoard {
             file,
             text,
@@ -99,17 +99,17 @@ impl<'a> KeptBoard<'a> {
         notices: &Notices,
         text: Vec<u8>,
     )
-        ensures written { self.new.is_due ≡ false → self.new.text.items ≡ text.items }
+        ensures written { self.new.is_due ≡ false → self.new.text ≡ text.items }
         ensures owed { self.new.is_due ≡ true → self.new.text ≡ self.old.text }
     {
         self.is_due = true;
-        if text != self.text {
-            if self.file.save(files, text.as_slice()).is_err() {
+        if text.as_slice() != self.text.as_slice() {
+            let Ok(filed) = self.file.save(files, text) else {
                 notices.tell(rt, Notice::CannotWrite);
                 return;
-            }
+            };
             notices.clear(rt, Notice::CannotWrite);
-            self.text = text;
+            self.text = filed;
         }
         self.is_due = false;
     }

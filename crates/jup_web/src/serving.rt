@@ -179,8 +179,8 @@ fn save_last<R: Wait, F: Files<File = File>>(
         Ok(text) => text,
         Err(NoMemory) => return Err(ServiceEnd::NoMemory),
     };
-    match file.save(files, text.as_slice()) {
-        Ok(()) => Ok(()),
+    match file.save(files, text) {
+        Ok(_) => Ok(()),
         Err(error) => Err(ServiceEnd::of_failure(Attempt::WriteBoard, &error)),
     }
 }

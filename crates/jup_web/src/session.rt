@@ -5,10 +5,11 @@ use crate::connections::Connections;
 use crate::notices::Notices;
 use crate::stop::Stop;
 use jup_hub::{Hub, Pass};
+use jup_io::GiveUp;
 use jup_service::notice_of;
-use jup_session::{Bell, Ending, Open, serve_link};
+use jup_session::{Bell, Ending, Open, Serving};
 use std::alloc::Global;
-use std::io::{Read, Write};
+use std::io::Read;
 use std::sync::Wait;
 use std::thread::Threads;
 use std::time::Clock;
@@ -31,23 +32,20 @@ pub(crate) struct Service<'a> {
 pub(crate) fn run_session<
     R: Threads + Wait + Clock + Eprint + Sync,
     I: Read + Drop,
-    O: Write + Send + Drop,
+    O: GiveUp + Send + Drop,
 >(rt: &R, service: &Service<'_>, reader: I, writer: O, pass: Pass)
     requires { IsPassOf service.now.hub.now pass }
 {
     service.connections.begin_link(rt);
-    let (_, ending) = serve_link(
-        rt,
-        service.alloc,
-        reader,
-        writer,
-        service.hub,
-        pass,
-        service.bell,
-        &Open,
-    );
+    let serving = Serving {
+        alloc: service.alloc,
+        hub: service.hub,
+        bell: service.bell,
+        gate: &Open,
+    };
+    let session = serving.serve(rt, reader, writer, pass);
     service.connections.end_link(rt);
-    if let Ending::Fault(number) = ending {
+    if let Ending::Fault(number) = session.ending {
         if let Some(notice) = notice_of(number) {
             service.notices.tell(rt, notice);
         }

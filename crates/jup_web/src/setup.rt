@@ -1,6 +1,6 @@
 //! What a server reads and finds out before it serves.
 use jup_service::{
-    Address, Attempt, KeptFile, ServiceEnd, ServiceWords, check_captions, own_origins,
+    Address, Attempt, FiledText, KeptFile, ServiceEnd, ServiceWords, check_captions, own_origins,
     star_of_printed,
 };
 use jup_star::Star;
@@ -22,7 +22,7 @@ pub(crate) struct Setup {
 pub(crate) struct OpenedBoard {
     pub(crate) file: KeptFile,
     /// What the file has.
-    pub(crate) text: Vec<u8>,
+    pub(crate) text: FiledText,
     pub(crate) star: Star,
 }
 

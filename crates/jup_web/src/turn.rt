@@ -1,7 +1,7 @@
 //! Whose turn it is to write to a socket that both halves of a session write to.
 ghost use Rattle.std.specs.Prelude.{◌≡◌, length, IfOk};
 
-use jup_io::is_interrupted;
+use jup_io::{GiveUp, is_interrupted};
 use jup_session::Outgoing;
 use std::io;
 use std::io::{ErrorKind, Write};
@@ -49,8 +49,7 @@ fn put_whole(to: &mut Outgoing<'_>, buf: &[u8]) -> io::Result<()> {
             Err(error) => return Err(error),
         }
     }
-    // A flush after such a write gives a socket up.
-    to.flush()?;
+    to.give_up();
     Err(io::Error::from(ErrorKind::TimedOut))
 }
 
@@ -61,5 +60,11 @@ impl<'a, R: Wait> Write for InTurn<'a, R> {
 
     fn flush(&mut self) -> io::Result<()> {
         self.to.flush()
+    }
+}
+
+impl<'a, R: Wait> GiveUp for InTurn<'a, R> {
+    fn give_up(&mut self) {
+        self.to.give_up();
     }
 }

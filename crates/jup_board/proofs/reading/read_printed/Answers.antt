@@ -2,8 +2,9 @@ use Rattle.std.proofs.Common.{◌≡◌, true, false, inl, inr, [], ◌∷◌, �
 use Rattle.std.proofs.lemmas.List.{length-append}
 use Rattle.jup_text.specs.declared.board_reader.Untaken.TheVariants.{BadLine, NoMemory}
 use Rattle.jup_text.specs.Boards.{Draft}
-use Rattle.jup_board.specs.Boards.{Lacks, IsReadTo, blank}
+use Rattle.jup_board.specs.Boards.{Lacks, IsReadTo, IsPrintOf, blank}
 use Rattle.jup_board.proofs.FollowingLines.{GoesOn, board_goes_on, read_none, read_more, line_left, next_left}
+use Rattle.jup_board.proofs.ReadingBack.{reads_back}
 use Rattle.jup_board.proofs.reading.read_printed.Goals as goal
 
 pub loop-reader-init : goal.loop-reader-init
@@ -44,3 +45,8 @@ returns-in-Err-BadLine-clause-every c = λ small printed.
     let left = next_left c.loop-reader.reader c.loop-reader.lines.rest.now c.in-Some.line.now c.next_line.new.self.rest.now (c.loop-reader.invariant.left small printed) next lacks in
     let missing = c.in-Err-BadLine.ensures.every left.0 in
     absurd (let no : BadLine ≡ NoMemory = sym c.in-Err-BadLine.field-0-is ∙ missing in cc)
+
+pub returns-clause-again : goal.returns-clause-again
+returns-clause-again c = λ windows ascending is.
+    let printed : IsPrintOf c.whole.result c.args.text.now = search rules in
+    reads_back windows c.whole.result c.args.text.now ascending is printed

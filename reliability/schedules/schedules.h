@@ -46,7 +46,8 @@ void write_decisions(const char *path);
 
 // ---- tasks.c ----
 
-typedef enum { READY, YIELDED, IN_FUTEX, SLEEPING, RECEIVING, SENDING, ACCEPTING, READING, JOINING, ENDED } State;
+// A thread that is SWITCHED was within code of the program, and one that has YIELDED asked for it itself.
+typedef enum { READY, SWITCHED, YIELDED, IN_FUTEX, SLEEPING, RECEIVING, SENDING, ACCEPTING, READING, JOINING, ENDED } State;
 
 typedef struct Link Link;
 typedef struct Client Client;
@@ -65,8 +66,7 @@ struct Task {
   void *(*start)(void *);
   void *argument;
   int priority, weight, decisions, yields;
-  uint64_t idle_since; // the idle time in which it has acted last, and how often in that
-  int idle_acts;
+  uint64_t begun, done; // the idle round in which it went on after its last yield, and the last one in which it came to the next
   char calls[LAST_CALLS][LONGEST_CALL];
   unsigned call_count;
   Client *client;

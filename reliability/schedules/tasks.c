@@ -10,9 +10,9 @@
 #include <string.h>
 #include <sys/syscall.h>
 
-enum { A_CALL = 1000, MOST_YIELDS = 100000, IDLE_ACTS = 3 };
+enum { A_CALL = 1000, MOST_YIELDS = 100000, IDLE_ROUNDS = 3 };
 
-static const char *const states[] = {"ready", "ready after a yield", "in a futex", "sleeping", "receiving", "sending", "accepting", "reading its input", "joining", "ended"};
+static const char *const states[] = {"ready", "switched within code", "ready after a yield", "in a futex", "sleeping", "receiving", "sending", "accepting", "reading its input", "joining", "ended"};
 
 // How the next task is chosen: each alike, the one of the highest priority, or by weights.
 typedef enum { ALIKE, BY_PRIORITY, BY_WEIGHT } Policy;
@@ -102,6 +102,7 @@ static bool can_act(const Task *task) {
   if (task->state != ENDED && task->until != NEVER && now >= task->until) return true;
   switch (task->state) {
     case READY:
+    case SWITCHED:
     case YIELDED: return true;
     case IN_FUTEX: return task->is_woken;
     case RECEIVING: return can_receive(task->link);
@@ -116,10 +117,10 @@ static bool can_act(const Task *task) {
 }
 
 static bool is_fresh(const Task *task) {
-  return task->client || task->state != YIELDED;
+  return task->client || (task->state != YIELDED && task->state != SWITCHED);
 }
 
-// Lists the tasks that can act. Those that have yielded are among them only if there is no other.
+// Lists the tasks that can act. Those that have yielded or were switched within code are among them only if there is no other.
 static int list_able(Task **able) {
   int count = 0, yielded = 0;
   static Task *second[MOST_TASKS];
@@ -128,7 +129,7 @@ static int list_able(Task **able) {
       if (is_fresh(&tasks[k])) able[count++] = &tasks[k];
       else second[yielded++] = &tasks[k];
     }
-  // One that has yielded gets its turn now and then, also while others can act.
+  // Such a one gets its turn now and then, also while others can act.
   if (yielded && (count == 0 || draw(&of_schedule, 8) == 0))
     for (int k = 0; k < yielded; k++) able[count++] = second[k];
   return count;
@@ -180,33 +181,31 @@ static Task *next_in_turn(const Task *after, Task **able, int count) {
   return able[0];
 }
 
-// An idle time begins when all that can act have yielded, and ends when one of them does something else, or when time goes on.
-static uint64_t idle_time;
+// An idle time begins when all that can act have yielded, and ends when one of them does something else, or when time goes on. In each of its rounds every
+// thread that can act goes from one yield to the next one, also if it is switched within code meanwhile. What it did there, the others see in the next round.
+static uint64_t idle_round;
+static int idle_rounds;
 
-static int idle_acts(const Task *task) {
-  return task->idle_since == idle_time ? task->idle_acts : 0;
+static void begin_round(int before) {
+  idle_round++;
+  idle_rounds = before;
 }
 
-static void count_idle_act(Task *task) {
-  task->idle_acts = idle_acts(task) + 1;
-  task->idle_since = idle_time;
-}
-
-// Whether each has acted often enough for time to go on. So none is held up in the midst of its work while time passes.
-static bool have_acted(Task **able, int count) {
+static bool is_round_over(Task **able, int count) {
   for (int k = 0; k < count; k++)
-    if (idle_acts(able[k]) < IDLE_ACTS) return false;
+    if (able[k]->state == SWITCHED || able[k]->done != idle_round) return false;
   return true;
 }
 
-// Lists the tasks that can act. If there are none, or if they do nothing but yield, time goes on before that.
+// Lists the tasks that can act. If there are none, or if they do nothing but yield, time goes on before that. It waits for each thread that is within code.
 static int list_after_waits(Task **able) {
   for (;;) {
     int count = list_able(able);
-    bool is_idle = count == 0 || !is_fresh(able[0]);
-    if (!is_idle) idle_time++;
-    if (!is_idle || !have_acted(able, count) || !go_on_in_time()) return count;
-    idle_time++;
+    if (count && is_fresh(able[0])) begin_round(0);
+    else if (is_round_over(able, count)) begin_round(idle_rounds + 1);
+    bool is_idle = count == 0 || idle_rounds >= IDLE_ROUNDS;
+    if (!is_idle || !go_on_in_time()) return count;
+    begin_round(0);
   }
 }
 
@@ -219,7 +218,7 @@ static Task *choose(Task *after, bool may_stay) {
   Task *drawn = may_stay && draw(&of_schedule, stay) ? after : draw_one(able, count);
   int told = decide(after, drawn->id, turn->id);
   Task *next = told < task_count && can_act(&tasks[told]) ? &tasks[told] : turn;
-  count_idle_act(next);
+  if (next->state != SWITCHED) next->begun = idle_round;
   return next;
 }
 
@@ -286,14 +285,14 @@ void point(const char *form, ...) {
 
 void yield_point(void) {
   if (++me->yields > MOST_YIELDS) give_up("LIVELOCK", "a thread has yielded 100,000 times in a row");
+  if (me->begun == idle_round) me->done = idle_round;
   act("yield", YIELDED);
 }
 
 void switch_within(const char *form, unsigned long place) {
   note(me, form, place);
   switch_count++;
-  // As one that has yielded: others act for a while.
-  me->state = YIELDED;
+  me->state = SWITCHED;
   hand_over(true);
   me->state = READY;
 }

@@ -6,7 +6,7 @@
 #include <string.h>
 #include <sys/syscall.h>
 
-enum { MOST_WAITING = 1024, MOST_MEETINGS = 64, LONGEST_LINE = 256 };
+enum { MOST_WAITING = 1024, MOST_MEETINGS = 64, LONGEST_LINE = 256, POURED_AT_A_TIME = 500 };
 
 Client *new_client(const char *name) {
   Client *client = calloc(1, sizeof *client);
@@ -94,9 +94,9 @@ static void flush(Client *client) {
   note(client->task, "sends %zu", length);
 }
 
-static void edit(Client *client, int operations) {
+static void edit(Client *client, int operations, bool is_of_settings) {
   Pipe lines = {0};
-  make_edit(client->site, operations, &lines);
+  make_edit(client->site, operations, is_of_settings, &lines);
   say(client, lines.bytes, lines.length);
   free(lines.bytes);
 }
@@ -206,12 +206,14 @@ static bool is_due(const Client *client) {
     // A browser sends nothing before its link is open.
     case HELLO: return client->has_begun ? is_open(client->site) : !client->is_browser || client->is_upgraded;
     case MEET: return !client->has_begun || *who_has_come(it->text) >= it->number;
-    case EDIT: return edits_waiting(client->site) < MOST_WAITING;
+    case EDIT:
+    case ADJUST: return edits_waiting(client->site) < MOST_WAITING;
     case SPEND: return !client->error && edits_waiting(client->site) < MOST_WAITING;
     case HEAR: return edits_heard(client->site) >= client->heard + it->number;
     case PONGS: return client->pongs >= client->pings;
     case SYNC: return !client->has_begun || client->pongs >= client->pings;
     case EXPECT: return client->has_expected;
+    case TAKEN: return !client->unsent.length && !client->link->up.length;
     case CLOSED: return is_closed(client);
     case BYE: return !client->has_begun || is_over(client);
     case GONE:
@@ -219,6 +221,8 @@ static bool is_due(const Client *client) {
     case PING:
     case BEAT:
     case RAW:
+    case POUR:
+    case STUCK:
     case HALF:
     case SHUT:
     case RESET:
@@ -311,8 +315,22 @@ static void meet(Client *client, const Command *it) {
 static void repeat(Client *client, const Command *it) {
   if (it->verb == PING) ping(client);
   else if (it->verb == BEAT) put_ping(&client->unsent);
-  else edit(client, it->other ? (int)it->other : 1);
+  else edit(client, it->other ? (int)it->other : 1, it->verb == ADJUST);
   if (++client->left >= it->number) finish_command(client);
+}
+
+static void pour(Client *client, const Command *it) {
+  do {
+    char *text = numbered(it->text, client->poured++);
+    say_line(client, text);
+    free(text);
+  } while (++client->left % POURED_AT_A_TIME && client->left < it->number);
+  if (client->left == it->number) finish_command(client);
+}
+
+static void expect_to_be_stuck(Client *client) {
+  if (!client->unsent.length) fail(client, "the program has taken all");
+  finish_command(client);
 }
 
 static void sync_with(Client *client) {
@@ -334,7 +352,7 @@ static void expect_refusal(Client *client, const Command *it) {
 // The first half of the bytes of an edit.
 static void say_half(Client *client) {
   Pipe lines = {0};
-  make_edit(client->site, 2, &lines);
+  make_edit(client->site, 2, false, &lines);
   say(client, lines.bytes, lines.length / 2);
   free(lines.bytes);
   finish_command(client);
@@ -386,12 +404,15 @@ static void do_command(Client *client) {
     case HELLO: return greet(client);
     case MEET: return meet(client, it);
     case EDIT:
+    case ADJUST:
     case PING:
     case BEAT: return repeat(client, it);
-    case SPEND: return edit(client, 1);
+    case SPEND: return edit(client, 1, false);
     case HEAR: client->heard += it->number; return finish_command(client);
     case SYNC: return sync_with(client);
     case RAW: say_line(client, it->text); return finish_command(client);
+    case POUR: return pour(client, it);
+    case STUCK: return expect_to_be_stuck(client);
     case HALF: return say_half(client);
     case BYE: return leave(client);
     case REFUSED: return expect_refusal(client, it);
@@ -404,6 +425,7 @@ static void do_command(Client *client) {
     case DISK: return act_beside(client, it);
     case PONGS:
     case EXPECT:
+    case TAKEN:
     case CLOSED:
     case GONE: return finish_command(client);
   }

@@ -20,7 +20,7 @@ CODE = re.compile(r"LOAD\s+0x\w+ 0x(\w+) 0x\w+ 0x\w+ 0x\w+ R E")
 INSTRUCTION = re.compile(r"\s*([0-9a-f]+):\t((?:[0-9a-f]{2} )+)\s*\t(.*)")
 # An atomic instruction. One that names its place from where it is itself is left out, since its copy would name another.
 ATOMIC = re.compile(r"(?:lock |xchg .*\()(?!.*\(%rip\))")
-SUMMARY = re.compile(r"runs (\d+) bad (\d+) schedules (\d+) steps (\d+) switches (\d+)")
+SUMMARY = re.compile(r"runs (\d+) bad (\d+) schedules (\d+) steps (\d+) switches (\d+) work (\d+)")
 BAD = re.compile(r"seed (\d+) verdict (\d+)( differs)?")
 # What a run that fails reports, up to the report of the next one.
 REPORT = re.compile(r"seed \d+: .*?(?=^seed \d+: |\Z)", re.DOTALL | re.MULTILINE)
@@ -70,17 +70,19 @@ def scenarios(word=""):
 
 @dataclasses.dataclass
 class Result:
-    """What came of some seeds: how many runs there were, those that were not well, and what all did."""
+    """What came of some seeds: how many runs there were, those that were not well, what all did, and how many milliseconds a processor worked."""
 
     runs: int = 0
     schedules: int = 0
     steps: int = 0
     switches: int = 0
+    work: int = 0
     bad: list = dataclasses.field(default_factory=list)
     report: str = ""
 
     def add(self, other):
-        self.runs, self.schedules, self.steps, self.switches = (getattr(self, it) + getattr(other, it) for it in ("runs", "schedules", "steps", "switches"))
+        for it in ("runs", "schedules", "steps", "switches", "work"):
+            setattr(self, it, getattr(self, it) + getattr(other, it))
         self.bad += other.bad
         self.report = self.report or other.report
 

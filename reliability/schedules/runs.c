@@ -142,6 +142,13 @@ static uint64_t count_different(uint64_t *hashes, uint64_t count) {
   return different;
 }
 
+// How long a processor has worked for the runs, in milliseconds.
+static long work_of_runs(void) {
+  struct rusage used;
+  getrusage(RUSAGE_CHILDREN, &used);
+  return (used.ru_utime.tv_sec + used.ru_stime.tv_sec) * 1000 + (used.ru_utime.tv_usec + used.ru_stime.tv_usec) / 1000;
+}
+
 // Prints a line for each run that was not well, and one about all. True in a process that goes on into the program.
 static bool run_all(uint64_t first, uint64_t count, bool is_twice) {
   uint64_t *hashes = calloc(count, sizeof *hashes), steps = 0, switches = 0, bad = 0;
@@ -162,7 +169,7 @@ static bool run_all(uint64_t first, uint64_t count, bool is_twice) {
     if (verdict || differs) printf("seed %lu verdict %d%s\n", first + k, verdict, differs ? " differs" : "");
     fflush(stdout);
   }
-  printf("runs %lu bad %lu schedules %lu steps %lu switches %lu\n", count, bad, count_different(hashes, count), steps, switches);
+  printf("runs %lu bad %lu schedules %lu steps %lu switches %lu work %ld\n", count, bad, count_different(hashes, count), steps, switches, work_of_runs());
   return false;
 }
 

@@ -9,9 +9,9 @@ enum { LONGEST = 1024, MOST_COMMANDS = 4096 };
 
 // The words of the commands, in the order of `Verb`.
 static const char *const verbs[] = {
-    "connect", "browse", "serve", "hello", "meet", "edit", "spend", "hear", "ping", "beat",
-    "pongs", "sync", "stall", "pause", "raw", "expect", "half", "shut", "reset", "closed",
-    "bye", "gone", "refused", "agree", "kept", "deaf", "listen", "mend", "type", "disk",
+    "connect", "browse", "serve", "hello", "meet", "edit", "adjust", "spend", "hear", "ping", "beat",
+    "pongs", "sync", "stall", "pause", "raw", "pour", "taken", "stuck", "expect", "half", "shut", "reset",
+    "closed", "bye", "gone", "refused", "agree", "kept", "deaf", "listen", "mend", "type", "disk",
 };
 
 static const char *path;
@@ -75,6 +75,7 @@ static void add_command(const char *line) {
     if (verb == AGREE) return add_agreement(second, number);
     return add(verb, number, 0, second);
   }
+  if (verb == POUR) return add(verb, atol(second), 0, after_words(line, 2));
   if (verb == RAW || verb == EXPECT || verb == TYPE || verb == DISK) return add(verb, 0, 0, *second ? after_words(line, 1) : NULL);
   sscanf(line, "%*s %ld %ld", &number, &other);
   add(verb, number, other, NULL);
@@ -99,12 +100,11 @@ static void begin_client(const char *line, bool are_several) {
   alike = are_several ? atoi(after_words(line, 2)) : 1;
 }
 
-// A text of a repeated command: $K is how often it was repeated before, and $J one more.
-static char *numbered(const char *text, int nth) {
+char *numbered(const char *text, int number) {
   char made[LONGEST], *to = made;
   for (; text && *text && to < made + LONGEST - 16; text++) {
     bool is_number = text[0] == '$' && (text[1] == 'K' || text[1] == 'J');
-    if (is_number) to += sprintf(to, "%d", nth + (*++text == 'J'));
+    if (is_number) to += sprintf(to, "%d", number + (*++text == 'J'));
     else *to++ = *text;
   }
   *to = 0;

@@ -171,6 +171,7 @@ typedef enum {
   HELLO,   // greets, and reads the board
   MEET,    // NAME COUNT: waits until so many clients have come to this meeting
   EDIT,    // COUNT OPERATIONS: makes edits of so many operations, of one if no number is given
+  ADJUST,  // COUNT OPERATIONS: the same, but the operations only set toggles and sliders
   SPEND,   // makes edits until the server refuses one since the order is full
   HEAR,    // COUNT: waits until so many more edits of others have come
   PING,    // COUNT: sends pings, and does not wait for the pongs
@@ -180,6 +181,9 @@ typedef enum {
   STALL,   // MS: sends and takes nothing
   PAUSE,   // MS: does nothing but take lines
   RAW,     // TEXT: sends this
+  POUR,    // COUNT TEXT: sends this so many times. $K in it is how many such texts it has sent before
+  TAKEN,   // waits until the program has taken all that it has sent
+  STUCK,   // fails if the program has taken all that it has sent
   EXPECT,  // TEXT: waits for a line that begins with this
   HALF,    // sends the first half of an edit
   SHUT,    // ends its bytes
@@ -204,6 +208,8 @@ typedef struct {
   int line;
 } Command;
 
+// A text in which $K is this number, and $J one more.
+char *numbered(const char *text, int number);
 // Makes the clients of a scenario, and sets what fails.
 void read_scenario(const char *path);
 
@@ -214,8 +220,8 @@ Site *new_site(Stream *draws);
 // Takes a line of the server: the welcome, the board up to `ready`, and then edits and acknowledgements. Returns what is wrong with it, or NULL.
 const char *take_line(Site *site, const char *line);
 bool is_open(const Site *site);
-// Makes an edit of so many operations at places that it draws, and appends its lines.
-void make_edit(Site *site, int operations, Pipe *to);
+// Makes an edit of so many operations at places that it draws, and appends its lines. It may have to consist of settings.
+void make_edit(Site *site, int operations, bool is_of_settings, Pipe *to);
 // Appends the acknowledgement that the site owes, if it owes one.
 void pay(Site *site, Pipe *to);
 long edits_heard(const Site *site);
@@ -252,6 +258,7 @@ struct Client {
   bool is_browser, is_upgraded, is_stalled, is_deaf, is_losing, is_lost, has_bye;
   int error;         // the number of the last line, if that is an error
   long pings, pongs; // how many it has sent, and received
+  int poured;        // how many texts it has poured
   long heard;        // how many edits of others its commands have asked for
   bool has_expected; // whether the line came that its command waits for
   Pipe agreed;       // its board, once all have agreed

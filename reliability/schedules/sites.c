@@ -295,8 +295,15 @@ static void draw_item(Site *site, const Widget *widget, Operation *it) {
   it->value = widget->kind == A_TEXT ? 'a' + (long)draw(site->draws, 26) : label_of(label);
 }
 
-static Operation draw_operation(Site *site) {
-  const Widget *widget = &site->widgets[draw(site->draws, site->widget_count)];
+static const Widget *draw_widget(Site *site, bool is_to_be_set) {
+  for (;;) {
+    const Widget *widget = &site->widgets[draw(site->draws, site->widget_count)];
+    if (!is_to_be_set || !is_sequence(widget->kind)) return widget;
+  }
+}
+
+static Operation draw_operation(Site *site, bool is_setting) {
+  const Widget *widget = draw_widget(site, is_setting);
   Operation it = {.window = widget->window, .widget = widget->id, .kind = widget->kind};
   if (is_sequence(widget->kind)) draw_item(site, widget, &it);
   else draw_setting(site, widget, &it);
@@ -314,14 +321,14 @@ static void put_operation(const Operation *it, Pipe *to) {
   put_bytes(to, "\n", 1);
 }
 
-void make_edit(Site *site, int operations, Pipe *to) {
+void make_edit(Site *site, int operations, bool is_of_settings, Pipe *to) {
   char line[LONGEST_LINE];
   if (site->waiting == site->room) site->queue = realloc(site->queue, (site->room = 2 * site->room + 16) * sizeof *site->queue);
   Edit *edit = &site->queue[site->waiting++];
   edit->count = operations;
   put_bytes(to, line, snprintf(line, sizeof line, "batch %ld %ld %d\n", site->made++, site->heard, operations));
   for (int k = 0; k < operations; k++) {
-    edit->operations[k] = draw_operation(site);
+    edit->operations[k] = draw_operation(site, is_of_settings);
     const char *wrong = apply(site, &edit->operations[k]);
     if (wrong) give_up("FAIL", wrong);
     put_operation(&edit->operations[k], to);

@@ -6,13 +6,15 @@ use Rattle.jup_stream.specs.Faults.{stream_fault_number}
 use Rattle.jup_hub.specs.Histories.{hub_fault_number}
 use Rattle.jup_rules.specs.declared.ends.SessionFault.TheVariants.{Hub, Stream, GateShut, FarBehind}
 use Rattle.jup_rules.specs.declared.ends.Ending.TheVariants.{Bye, Gone, Fault}
+use Rattle.jup_rules.specs.declared.ends.Untaken.{Untaken}
+use Rattle.jup_rules.specs.declared.ends.Untaken.TheVariants as untaken
 
 -- the number of a fault, as messages and printed texts have it
 abbrev pub session_fault_number : SessionFault → ℕ
 session_fault_number (Hub fault) = hub_fault_number fault
 session_fault_number (Stream fault) = stream_fault_number fault
 session_fault_number GateShut = 60
-session_fault_number FarBehind = 71
+session_fault_number (FarBehind far) = 71
 
 -- How a session ends: its last line, and which ending counts.
 
@@ -35,3 +37,9 @@ ending_of fault = Fault (session_fault_number fault)
 abbrev pub ended_by : Stop → Ending
 ended_by End = Gone
 ended_by (StopFault fault) = ending_of (Stream fault)
+
+-- how a session ends whose message was not taken, though the star was not asked
+abbrev pub ended_untaken : Untaken → Ending
+ended_untaken (untaken.FarBehind far) = ending_of (FarBehind far)
+ended_untaken (untaken.GateShut nth) = ending_of GateShut
+ended_untaken untaken.Over = Gone

@@ -1,9 +1,10 @@
 -- How far a site is behind, the operations of others that it has not acknowledged, and what one message may cost the others.
-use Rattle.std.specs.Prelude.{◌≡◌, ℕ, ◌+◌, ◌-◌, min, List, [], ◌∷◌, take, drop, length, sum, ◌*◌, if◌then◌else◌, nat_lt}
+use Rattle.std.specs.Prelude.{◌≡◌, ℕ, ◌+◌, ◌-◌, min, List, [], ◌∷◌, take, drop, length, sum, ◌*◌, if◌then◌else◌, nat_lt, Result, Ok, Err}
 use Rattle.jup_limits.specs.Limits.{most_behind}
 use Rattle.jup_rules.specs.Prelude.{BoardBatch, Down, DownOp, DownAck, DownPong, Up, UpOp, UpAck, UpPing}
 use Rattle.jup_rules.specs.declared.behind.Admission.{Admission}
-use Rattle.jup_rules.specs.declared.behind.Admission.TheVariants.{Light, Heavy, Long, Costly, FarBehind}
+use Rattle.jup_rules.specs.declared.behind.Admission.TheVariants.{Light, Heavy, Long, Costly}
+use Rattle.jup_rules.specs.declared.behind.FarBehind.{FarBehind}
 
 -- What is kept of a site: how many operations it knows of those that the server has taken. Some messages were fetched for it, and it has not acknowledged
 -- them: how many operations each has. And how many messages it acknowledged, and how many of these were not fetched yet
@@ -62,9 +63,13 @@ long_transforms = 1048576
 abbrev pub admission_at : ℕ → Admission
 admission_at cost = if nat_lt long_transforms cost then Costly else (if nat_lt heavy_transforms cost then Long else (if nat_lt light_transforms cost then Heavy else Light))
 
+-- whether a site that is so many operations behind may go on
+abbrev pub check_of : ℕ → Result (Unit {0}) FarBehind
+check_of behind = if nat_lt most_behind behind then Err (record { operations = behind }) else Ok tt
+
 -- what becomes of a message of so many operations whose site is so many behind: it costs a transform for each pair of them
-abbrev pub admission_of : ℕ → ℕ → Admission
-admission_of operations behind = if nat_lt most_behind behind then FarBehind else admission_at (operations * behind)
+abbrev pub admission_of : ℕ → ℕ → Result Admission FarBehind
+admission_of operations behind = if nat_lt most_behind behind then Err (record { operations = behind }) else Ok (admission_at (operations * behind))
 
 -- microseconds that a session rests after a take of so many: half a millisecond after a long one.
 -- After a costly one it rests seven times as long as that took, and at most two seconds
@@ -73,4 +78,3 @@ rest_of Light took = 0
 rest_of Heavy took = 0
 rest_of Long took = 500
 rest_of Costly took = min (7 * took) 2000000
-rest_of FarBehind took = 0

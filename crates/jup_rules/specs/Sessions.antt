@@ -4,7 +4,7 @@ use Rattle.jup_rules.specs.Prelude.{BoardBatch, Up, Down, DownOp, DownAck, DownP
 use Rattle.jup_wire.specs.declared.line.Line.TheVariants as line
 use Rattle.jup_gather.specs.Gathering.{IsPiece, piece_lines, HasGathered, pieces_of, down_piece}
 use Rattle.jup_stream.specs.Saying.{said_piece}
-use Rattle.jup_rules.specs.declared.ends.SessionFault.TheVariants.{Hub, Stream, GateShut}
+use Rattle.jup_rules.specs.declared.ends.SessionFault.TheVariants.{Hub, Stream}
 use Rattle.jup_rules.specs.declared.ends.Ending.TheVariants.{Bye, Gone}
 use Rattle.jup_rules.specs.declared.session.Awaits.{Awaits}
 use Rattle.jup_rules.specs.declared.session.Awaits.TheVariants.{Gate, Pongs, Nothing}
@@ -126,12 +126,6 @@ Leads lines saids old line (Take incoming) new = HasHeard (lines ++ line ∷ [])
     × (incoming ≡ incoming_of (count_by says_edit saids) incoming.up)
 Leads lines saids old line (End ending) new = ((ending ≡ Bye) × HasHeard (lines ++ line ∷ []) (saids ++ SaysBye ∷ []) new)
     ⊎ ((fault : StreamFault) × (ending ≡ ending_of (Stream fault)) × IsRefused fault old.0 line new.0)
-
--- how a session ends whose message waited in vain: the gate stayed shut, or the session had ended before enough pongs were written
-abbrev pub in_vain : Awaits → Ending
-in_vain (Gate nth) = ending_of GateShut
-in_vain Pongs = Gone
-in_vain Nothing = Gone
 
 -- whom a message wakes that the star took
 abbrev pub rung_by : Up BoardBatch → Ring

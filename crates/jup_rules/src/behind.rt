@@ -1,8 +1,7 @@
 //! How far a site may be behind, and what one message may cost the others.
-ghost use Rattle.std.specs.Prelude.{◌≡◌, ◌<◌, ◌↔◌, IsTrue, ℕ, ◌+◌, ◌-◌, ◌≤◌, List, [], ◌∷◌, ◌++◌, take, drop, sum, max, OnOk, OnErr};
+ghost use Rattle.std.specs.Prelude.{◌≡◌, ℕ, ◌+◌, ◌-◌, ◌≤◌, List, [], ◌∷◌, ◌++◌, take, drop, sum, max, OnOk, OnErr};
 ghost use Rattle.std.specs.VecDeque.{deque_len};
-ghost use Rattle.jup_limits.specs.Limits.{most_behind};
-ghost use Rattle.jup_rules.specs.Lags.{IsBehind, counted, behind_of, operations_in, heard_by, brought_by, admission_at, admission_of, rest_of};
+ghost use Rattle.jup_rules.specs.Lags.{IsBehind, counted, behind_of, operations_in, heard_by, brought_by, check_of, admission_at, admission_of, rest_of};
 
 use jup_limits::MOST_BEHIND;
 use jup_star::{Down, Up};
@@ -29,7 +28,13 @@ const RESTS: u64 = 7;
 /// Microseconds that it rests at most.
 const LONGEST_REST: u64 = 2_000_000;
 
-/// What becomes of a message before the star takes it.
+/// By how many operations a site is too far behind: more than 262,144.
+#[derive(Clone, Copy, Debug, PartialEq, Eq)]
+pub struct FarBehind {
+    pub operations: u64,
+}
+
+/// What a message of a site that is not too far behind waits for before the star takes it, and whether its session rests after that.
 #[derive(Clone, Copy, Debug, PartialEq, Eq)]
 pub enum Admission {
     /// It is taken immediately.
@@ -40,28 +45,27 @@ pub enum Admission {
     Long,
     /// As a heavy one, once no other session makes a costly take or rests after one. The session rests after it.
     Costly,
-    /// It is not taken, and the session ends: its site is too far behind.
-    FarBehind,
 }
 
-/// Whether a site that is so many operations behind has to go.
-pub fn is_far_behind(behind: u64) -> bool
-    ensures { IsTrue result ↔ (most_behind < behind) }
+// Refused if a site that is so many operations behind has to go.
+fn check(behind: u64) -> Result<(), FarBehind>
+    ensures { result ≡ check_of behind }
 {
-    behind > u64::from(MOST_BEHIND)
+    if behind > u64::from(MOST_BEHIND) {
+        return Err(FarBehind { operations: behind });
+    }
+    Ok(())
 }
 
-/// What becomes of a message of so many operations whose site is so many behind.
-fn admit(operations: u32, behind: u64) -> Admission
+// What becomes of a message of so many operations whose site is so many behind.
+fn admit(operations: u32, behind: u64) -> Result<Admission, FarBehind>
     ensures { result ≡ admission_of operations behind }
 {
-    if is_far_behind(behind) {
-        return Admission::FarBehind;
-    }
-    admission_at(u64::from(operations) * behind)
+    check(behind)?;
+    Ok(admission_at(u64::from(operations) * behind))
 }
 
-// What becomes of a message that costs so many transforms.
+// What a message waits for that costs so many transforms.
 fn admission_at(cost: u64) -> Admission
     ensures { result ≡ admission_at cost }
 {
@@ -82,7 +86,7 @@ impl Admission {
         ensures { result ≡ rest_of self took }
     {
         match self {
-            Admission::Light | Admission::Heavy | Admission::FarBehind => 0,
+            Admission::Light | Admission::Heavy => 0,
             Admission::Long => REST,
             Admission::Costly => took.saturating_mul(RESTS).min(LONGEST_REST),
         }
@@ -131,8 +135,8 @@ impl Lag {
     }
 
     /// Decides what becomes of a message of the site, where the server has taken so many operations. What the message acknowledges
-    /// counts first.
-    pub fn admit(&mut self, up: &Up, taken: u64) -> Admission
+    /// counts first. Refused if the site is too far behind.
+    pub fn admit(&mut self, up: &Up, taken: u64) -> Result<Admission, FarBehind>
         ensures kept { (besides : ℕ) (messages : List ℕ) → IsBehind besides messages self.old → IsBehind besides messages self.new }
         ensures acknowledged { self.new.acknowledged ≡ max self.old.acknowledged (heard_by up.now) }
         ensures admission { result ≡ admission_of (operations_in up.now) (behind_of taken self.new) }
@@ -190,6 +194,13 @@ impl Lag {
         self.known = hear(self.known, &mut self.unheard, fetched);
         self.early += more - fetched as u32;
         self.acknowledged += more;
+    }
+
+    /// Refused if the site is too far behind, where the server has taken so many operations.
+    pub fn check(&self, taken: u64) -> Result<(), FarBehind>
+        ensures { result ≡ check_of (behind_of taken self.now) }
+    {
+        check(self.behind(taken))
     }
 
     /// How many operations the site is behind, where the server has taken so many.

@@ -1,8 +1,9 @@
 //! Why sessions end, with their numbers.
 ghost use Rattle.std.specs.Prelude.{◌≡◌, ◌≢◌, [], Some, IsSomeAnd};
 ghost use Rattle.jup_stream.specs.declared.faults.StreamFault.{StreamFault};
-ghost use Rattle.jup_rules.specs.Ends.{last_line, standing, ending_of, ended_by, session_fault_number};
+ghost use Rattle.jup_rules.specs.Ends.{last_line, standing, ending_of, ended_by, ended_untaken, session_fault_number};
 
+use crate::FarBehind;
 use jup_gather::Gather;
 use jup_hub::HubFault;
 use jup_stream::{Stop, StreamFault};
@@ -22,7 +23,7 @@ pub enum SessionFault {
     GateShut,
     /// The site is more operations behind than a site of a running server may be.
     #[error("the site is too far behind")]
-    FarBehind,
+    FarBehind(FarBehind),
 }
 
 impl SessionFault {
@@ -34,7 +35,7 @@ impl SessionFault {
             SessionFault::Hub(fault) => fault.number(),
             SessionFault::Stream(fault) => fault.number(),
             SessionFault::GateShut => 60,
-            SessionFault::FarBehind => 71,
+            SessionFault::FarBehind(_) => 71,
         }
     }
 }
@@ -49,6 +50,16 @@ impl From<HubFault> for SessionFault {
     }
 }
 
+impl From<FarBehind> for SessionFault {
+    ghost use Rattle.jup_rules.specs.declared.ends.SessionFault.TheVariants.{FarBehind};
+
+    ghost from_gives = { λ far made. made ≡ FarBehind far };
+
+    fn from(far: FarBehind) -> SessionFault {
+        SessionFault::FarBehind(far)
+    }
+}
+
 impl From<StreamFault> for SessionFault {
     ghost use Rattle.jup_rules.specs.declared.ends.SessionFault.TheVariants.{Stream};
 
@@ -57,6 +68,17 @@ impl From<StreamFault> for SessionFault {
     fn from(fault: StreamFault) -> SessionFault {
         SessionFault::Stream(fault)
     }
+}
+
+/// Why a message of a site was not taken although the star was not asked.
+#[derive(Clone, Copy, Debug, PartialEq, Eq)]
+pub enum Untaken {
+    /// The site was too far behind.
+    FarBehind(FarBehind),
+    /// The gate stayed shut for this edit of the site: which one it is, from 1.
+    GateShut(u32),
+    /// The session ended before few enough pongs were owed.
+    Over,
 }
 
 /// How a session ended.
@@ -107,6 +129,18 @@ impl From<SessionFault> for Ending {
 
     fn from(fault: SessionFault) -> Ending {
         Ending::Fault(fault.number())
+    }
+}
+
+impl From<Untaken> for Ending {
+    ghost from_gives = { λ why made. made ≡ ended_untaken why };
+
+    fn from(why: Untaken) -> Ending {
+        match why {
+            Untaken::FarBehind(far) => SessionFault::FarBehind(far).into(),
+            Untaken::GateShut(_) => SessionFault::GateShut.into(),
+            Untaken::Over => Ending::Gone,
+        }
     }
 }
 

@@ -6,8 +6,8 @@ mod behind;
 mod ends;
 mod session;
 
-pub use behind::{Admission, Lag, is_far_behind, operations_in};
-pub use ends::{Ending, SessionFault};
+pub use behind::{Admission, FarBehind, Lag, operations_in};
+pub use ends::{Ending, SessionFault, Untaken};
 pub use session::{
     Awaits, Gatekeeper, Incoming, MOST_FETCHED, Next, Pongs, Ring, check_greeting, hear_site,
     is_last_fetch, pongs_in, put_downs, refused_fetch, ring_after,

@@ -85,20 +85,6 @@ pub enum Awaits {
     Nothing,
 }
 
-impl Awaits {
-    ghost use Rattle.jup_rules.specs.Sessions.{in_vain};
-
-    /// How a session ends whose message waits in vain: the gate stayed shut, or the session has ended.
-    pub fn in_vain(self) -> Ending
-        ensures { result ≡ in_vain self }
-    {
-        match self {
-            Awaits::Gate(_) => SessionFault::GateShut.into(),
-            Awaits::Pongs | Awaits::Nothing => Ending::Gone,
-        }
-    }
-}
-
 /// A message of a site on its way to the star.
 #[derive(Debug, Drop, PartialEq, Eq)]
 pub struct Incoming {

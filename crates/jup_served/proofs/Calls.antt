@@ -8,7 +8,8 @@ use Rattle.jup_hub.specs.Histories.{calls_by, AllTallied, IsNew, AllApart, is_am
 use Rattle.jup_honest.specs.Sites.{taken_with, takes_of, fetched_in, fetched_with, fetches_of}
 use Rattle.jup_rules.specs.Sessions.{HasSaid}
 use Rattle.jup_socket.specs.Sockets.{messages_down}
-use Rattle.jup_session.specs.Sessions.{AreTakesOf, brought, lines_brought, IsFetchFor, AreFetchesFor, HasCalled, Hears, Over, Stopped, ByLine, Untaken, Spent, Behind, Heard, HasMadeNone}
+use Rattle.jup_session.specs.Sessions.{AreTakesOf, brought, lines_brought, IsFetchFor, AreFetchesFor, EndsAt, Refused, Withheld, Hears, Over, Stopped, ByLine, AtMessage, Spent, Heard, HasMadeNone}
+use Rattle.jup_rules.specs.declared.ends.Untaken.{Untaken}
 use Rattle.jup_session.specs.ExactSessions.{bytes_over, bytes_heard}
 use Rattle.jup_session.proofs.Calls.{heard_serves}
 use Rattle.jup_served.specs.Sessions.{Ended, ServesSite, answer_of, writer_of, fetches_for}
@@ -163,7 +164,7 @@ takes_alone site (SaysBye ∷ saids) calls h = absurd h
 own_fetch : (site : ℕ) (c : Call) (r : StarReply) → IsFetchFor site c → fetched_with site c r [] ≡ brought r
 own_fetch site Join r h = absurd h
 own_fetch site (Take i up) r h = absurd h
-own_fetch site (Fetch i max) r h = here (nat_eq i site) (eq-eqb i site h) ∙ same r
+own_fetch site (Fetch i max) r h = here (nat_eq i site) (eq-eqb i site h.0) ∙ same r
   where
     here : (b : Bool) → b ≡ true → cond b (fetched_in r) [] ≡ fetched_in r
     here true e = refl
@@ -199,7 +200,18 @@ no_take i (Take j u) none = cases (nat_eq j i) refl
 no_take i (Fetch j max) none = refl
 no_take i (Leave j) none = refl
 
-no_fetch : (i : ℕ) (c : Call) (r : StarReply) → (IsFetchFor i c → ⊥) → fetched_with i c r [] ≡ []
+-- a fetch for this site, of however many messages
+abbrev pub IsFetchOf : ℕ → Call → Type 0
+IsFetchOf site (Fetch i max) = i ≡ site
+IsFetchOf site call = ⊥
+
+pub fetch_of : (site : ℕ) (c : Call) → IsFetchFor site c → IsFetchOf site c
+fetch_of site Join h = absurd h
+fetch_of site (Take i up) h = absurd h
+fetch_of site (Fetch i max) h = h.0
+fetch_of site (Leave i) h = absurd h
+
+no_fetch : (i : ℕ) (c : Call) (r : StarReply) → (IsFetchOf i c → ⊥) → fetched_with i c r [] ≡ []
 no_fetch i Join r none = refl
 no_fetch i (Take j u) r none = refl
 no_fetch i (Fetch j max) r none = cases (nat_eq j i) refl
@@ -229,7 +241,7 @@ takes_under n i (e ∷ es) all = cases (bytes_eq e.by n) refl (takes_under n i e
     cases true is later = ap (λ us. taken_with i e.call [] ++ us) later
     cases false is later = ap (λ us. us ++ takes_of i es) (no_take i e.call (λ take. other_number e.by n is (all.0 take))) ∙ later
 
-pub fetches_under : (n : List ℕ) (i : ℕ) (log : List HubEvent) → AllByRecursion (λ e. IsFetchFor i e.call → e.by ≡ n) log → fetches_of i log ≡ fetches_of i (calls_by n log)
+pub fetches_under : (n : List ℕ) (i : ℕ) (log : List HubEvent) → AllByRecursion (λ e. IsFetchOf i e.call → e.by ≡ n) log → fetches_of i log ≡ fetches_of i (calls_by n log)
 fetches_under n i [] all = refl
 fetches_under n i (e ∷ es) all = cases (bytes_eq e.by n) refl (fetches_under n i es all.1)
   where
@@ -279,15 +291,18 @@ one_taken site up reply w x c = record {
       ∙ ap (λ us. map (λ u. SaysUp u) us) (append-nil (taken_with site (Take site up) []) ∙ own_take site up (Take site up) refl));
 }
 
-may_take : (site : ℕ) (incoming : Incoming) (w x : View) (answer : Option (Result (Option ℕ) HubFault)) → HasCalled site incoming w x answer → MayTake site incoming.up w x
-may_take site incoming w x None h = not_taken site incoming.up w x h.0
-may_take site incoming w x (Some (Ok place)) h = one_taken site incoming.up (Taken (Ok place)) w x h
-may_take site incoming w x (Some (Err HubSpent)) h = not_taken site incoming.up w x h.0
-may_take site incoming w x (Some (Err (Star e))) h = go (is_no_memory e) h
+may_take : (site : ℕ) (incoming : Incoming) (w x : View) (answer : Result (Option ℕ) HubFault) → Made (λ r. Taken r) (Take site incoming.up) w x answer → MayTake site incoming.up w x
+may_take site incoming w x (Ok place) h = one_taken site incoming.up (Taken (Ok place)) w x h
+may_take site incoming w x (Err HubSpent) h = not_taken site incoming.up w x h.0
+may_take site incoming w x (Err (Star e)) h = go (is_no_memory e) h
   where
     go : (b : Bool) → MatchBool b ((x ≡ w) × ComesToAsk (Take site incoming.up) w) (Called (Take site incoming.up) (Taken (Err e)) w x) → MayTake site incoming.up w x
     go true k = not_taken site incoming.up w x k.0
     go false k = one_taken site incoming.up (Taken (Err e)) w x k
+
+at_message : (site : ℕ) (incoming : Incoming) (w x : View) (ending : Ending) (withheld : Option Untaken) → EndsAt site incoming w x ending withheld → MayTake site incoming.up w x
+at_message site incoming w x ending withheld (Refused answer made is none) = may_take site incoming w x answer made
+at_message site incoming w x ending withheld (Withheld why holds same is so) = not_taken site incoming.up w x same
 
 -- no further call was made
 took_all : (site : ℕ) (a b : Sourced) (v w x : View) (keeper : Keeper) (h : Hears site a v b w keeper) (rest : List ℕ) → x ≡ w → Took site a v x (h.handed.bytes ++ rest)
@@ -309,15 +324,14 @@ took_all site a b v w x keeper h rest same = record {
   bytes_are = refl;
 }
 
-took_over : (site : ℕ) (a b c : Sourced) (v w x : View) (keeper : Keeper) (ending : Ending) (h : Hears site a v b w keeper) (over : Over site b c w x keeper ending)
-    → Took site a v x (h.handed.bytes ++ bytes_over over)
-took_over site a b c v w x keeper ending h (Stopped stop stops same ends) = took_all site a b v w x keeper h stops.reads.bytes same
-took_over site a b c v w x keeper ending h (ByLine line later handed same leads) = took_all site a b v w x keeper h handed.bytes same
-took_over site a b c v w x keeper ending h (Spent at same is) = took_all site a b v w x keeper h [] same
-took_over site a b c v w x keeper ending h (Behind line later incoming handed leads same is) = took_all site a b v w x keeper h handed.bytes same
-took_over site a b c v w x keeper ending h (Untaken line later incoming handed leads handled) =
+took_over : (site : ℕ) (a b c : Sourced) (v w x : View) (keeper : Keeper) (ending : Ending) (withheld : Option Untaken) (h : Hears site a v b w keeper)
+    (over : Over site (length h.lines) b c w x keeper ending withheld) → Took site a v x (h.handed.bytes ++ bytes_over over)
+took_over site a b c v w x keeper ending withheld h (Stopped stop stops same ends none) = took_all site a b v w x keeper h stops.reads.bytes same
+took_over site a b c v w x keeper ending withheld h (ByLine line later handed same leads none) = took_all site a b v w x keeper h handed.bytes same
+took_over site a b c v w x keeper ending withheld h (Spent at same all is none) = took_all site a b v w x keeper h [] same
+took_over site a b c v w x keeper ending withheld h (AtMessage line later incoming handed leads ends) =
     let led = leads h.lines h.saids h.heard in
-    let may = may_take site incoming w x handled.answer handled.called in
+    let may = at_message site incoming w x ending withheld ends in
     record {
       lines = h.lines ++ line ∷ [];
       waiting = c.waiting;
@@ -346,9 +360,9 @@ took_over site a b c v w x keeper ending h (Untaken line later incoming handed l
     }
 
 -- the reading half, or a session that could not begin to read
-pub took : (site : ℕ) (a c : Sourced) (v x : View) (ending : Ending) (heard : Heard site a v c x ending) → Took site a v x (bytes_heard heard)
-took site a c v x ending (inl h) = took_over site a h.before c v h.pass x h.keeper ending h.hears h.over
-took site a c v x ending (inr h) = record {
+pub took : (site : ℕ) (a c : Sourced) (v x : View) (ending : Ending) (withheld : Option Untaken) (heard : Heard site a v c x ending withheld) → Took site a v x (bytes_heard heard)
+took site a c v x ending withheld (inl h) = took_over site a h.before c v h.pass x h.keeper ending withheld h.hears h.over
+took site a c v x ending withheld (inr h) = record {
   lines = [];
   waiting = a.waiting;
   progress = a.progress;
@@ -375,7 +389,7 @@ module _ (s : Ended) (serves : ServesSite s) where
 
   -- what its reading half took
   pub half : Took serves.served.site serves.served.greeted (after_split serves.served.behind) serves.served.halves.read (bytes_heard serves.served.halves.hears)
-  half = took serves.served.site serves.served.greeted serves.served.halves.last (after_split serves.served.behind) serves.served.halves.read serves.served.halves.heard serves.served.halves.hears
+  half = took serves.served.site serves.served.greeted serves.served.halves.last (after_split serves.served.behind) serves.served.halves.read serves.served.halves.heard s.undone.untaken serves.served.halves.hears
 
   -- the calls by which its site left
   abbrev pub departing : List HubEvent
@@ -390,7 +404,7 @@ module _ (s : Ended) (serves : ServesSite s) where
 
     read_kept : serves.served.halves.read.kept ≡ []
     read_kept =
-        (heard_serves serves.served.site serves.served.greeted serves.served.halves.last (after_split serves.served.behind) serves.served.halves.read serves.served.halves.heard serves.served.halves.hears).kept
+        (heard_serves serves.served.site serves.served.greeted serves.served.halves.last (after_split serves.served.behind) serves.served.halves.read serves.served.halves.heard s.undone.untaken serves.served.halves.hears).kept
         ∙ ap (λ (v : View). v.kept) serves.served.welcomed.enters.view ∙ new.1
 
     pub kept_is : s.back.kept ≡ tally (writer_of serves) (fetches_for serves ++ departing) ∷ []

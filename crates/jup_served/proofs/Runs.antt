@@ -25,7 +25,7 @@ use Rattle.jup_socket.proofs.Sockets.{all_first, up_reliable, down_reliable, edi
 use Rattle.jup_session.specs.Sessions.{IsCallFor, IsFetchFor, welcome_lines}
 use Rattle.jup_session.specs.ExactSessions.{bytes_of, bytes_heard}
 use Rattle.jup_served.specs.Sessions.{Ended, ServesSite, answer_of, writer_of, fetches_for, IsOwnedBy, IsServedRun, IsOneOf, IsSessionHub, IsClientStep, IsClientRun}
-use Rattle.jup_served.proofs.Calls.{IsIn, by_in, among_is, IsTakeFor, takes_both, fetches_both, fetches_are, under_one, takes_under, fetches_under, join, half, departing, made_is, kept_is}
+use Rattle.jup_served.proofs.Calls.{IsFetchOf, fetch_of, IsIn, by_in, among_is, IsTakeFor, takes_both, fetches_both, fetches_are, under_one, takes_under, fetches_under, join, half, departing, made_is, kept_is}
 use Rattle.jup_served.proofs.Hubs.{IsJoin, early_join, early_fetches, owned}
 use Rattle.jup_socket.specs.Prelude.{NoMemory}
 use Rattle.jup_layout.specs.Prelude.{Widget, Text, Labels}
@@ -103,26 +103,26 @@ take_is site (Take i up) h = h
 take_is site (Fetch i max) h = absurd h
 take_is site (Leave i) h = absurd h
 
-fetch_is : (site : ℕ) (c : Call) → IsFetchFor site c → IsCallFor site c
+fetch_is : (site : ℕ) (c : Call) → IsFetchOf site c → IsCallFor site c
 fetch_is site Join h = absurd h
 fetch_is site (Take i up) h = absurd h
 fetch_is site (Fetch i max) h = h
 fetch_is site (Leave i) h = absurd h
 
 -- no call is a take and a fetch
-not_both : (i j : ℕ) (c : Call) → IsTakeFor i c → IsFetchFor j c → ⊥
+not_both : (i j : ℕ) (c : Call) → IsTakeFor i c → IsFetchOf j c → ⊥
 not_both i j Join take fetch = take
 not_both i j (Take k up) take fetch = fetch
 not_both i j (Fetch k max) take fetch = take
 not_both i j (Leave k) take fetch = take
 
-takes_no_fetch : (i j : ℕ) (es : List HubEvent) → AllByRecursion (λ (e : HubEvent). IsTakeFor j e.call) es → AllByRecursion (λ (e : HubEvent). IsFetchFor i e.call → ⊥) es
+takes_no_fetch : (i j : ℕ) (es : List HubEvent) → AllByRecursion (λ (e : HubEvent). IsTakeFor j e.call) es → AllByRecursion (λ (e : HubEvent). IsFetchOf i e.call → ⊥) es
 takes_no_fetch i j [] all = tt
 takes_no_fetch i j (e ∷ es) all = ((λ fetch. not_both j i e.call all.0 fetch), takes_no_fetch i j es all.1)
 
 fetches_no_take : (i j : ℕ) (es : List HubEvent) → AllByRecursion (λ (e : HubEvent). IsFetchFor j e.call) es → AllByRecursion (λ (e : HubEvent). IsTakeFor i e.call → ⊥) es
 fetches_no_take i j [] all = tt
-fetches_no_take i j (e ∷ es) all = ((λ take. not_both i j e.call take all.0), fetches_no_take i j es all.1)
+fetches_no_take i j (e ∷ es) all = ((λ take. not_both i j e.call take (fetch_of j e.call all.0)), fetches_no_take i j es all.1)
 
 swapped : (Is : Call → Type 0) (n m : List ℕ) (es : List HubEvent) → AllByRecursion (λ (e : HubEvent). Is e.call → (e.by ≡ n) ⊎ (e.by ≡ m)) es
     → AllByRecursion (λ (e : HubEvent). Is e.call → (e.by ≡ m) ⊎ (e.by ≡ n)) es
@@ -238,9 +238,9 @@ module _ (run : SiteRun) (log : List HubEvent) (s : Ended) (is : IsServedRun run
   write_first = is.moment.stays
 
   -- what the reading half calls is no fetch, and what the writing half calls before the site leaves is no take
-  no_fetches : AllByRecursion (λ (e : HubEvent). IsFetchFor run.answer.site e.call → ⊥) (calls_by s.back.number (calls run))
-  no_fetches = all_first (λ (e : HubEvent). IsFetchFor run.answer.site e.call → ⊥) (calls_by s.back.number (calls run)) read_first.0
-      (subst (AllByRecursion (λ (e : HubEvent). IsFetchFor run.answer.site e.call → ⊥)) read_first.1
+  no_fetches : AllByRecursion (λ (e : HubEvent). IsFetchOf run.answer.site e.call → ⊥) (calls_by s.back.number (calls run))
+  no_fetches = all_first (λ (e : HubEvent). IsFetchOf run.answer.site e.call → ⊥) (calls_by s.back.number (calls run)) read_first.0
+      (subst (AllByRecursion (λ (e : HubEvent). IsFetchOf run.answer.site e.call → ⊥)) read_first.1
       ((λ fetch. fetch), takes_no_fetch run.answer.site is.serves.served.site (half s is.serves).calls (half s is.serves).alone))
 
   no_takes : AllByRecursion (λ (e : HubEvent). IsTakeFor run.answer.site e.call → ⊥) (calls_by (writer_of is.serves) (calls run))
@@ -275,10 +275,10 @@ module _ (run : SiteRun) (log : List HubEvent) (s : Ended) (is : IsServedRun run
         (either (IsTakeFor run.answer.site) (take_is run.answer.site) (calls run) owned) no_takes
 
     -- and so are the fetches
-    fetches_by : AllByRecursion (λ (e : HubEvent). IsFetchFor run.answer.site e.call → e.by ≡ writer_of is.serves) (calls run)
-    fetches_by = under_one (IsFetchFor run.answer.site) (writer_of is.serves) s.back.number (calls run)
-        (swapped (IsFetchFor run.answer.site) s.back.number (writer_of is.serves) (calls run)
-        (either (IsFetchFor run.answer.site) (fetch_is run.answer.site) (calls run) owned)) no_fetches
+    fetches_by : AllByRecursion (λ (e : HubEvent). IsFetchOf run.answer.site e.call → e.by ≡ writer_of is.serves) (calls run)
+    fetches_by = under_one (IsFetchOf run.answer.site) (writer_of is.serves) s.back.number (calls run)
+        (swapped (IsFetchOf run.answer.site) s.back.number (writer_of is.serves) (calls run)
+        (either (IsFetchOf run.answer.site) (fetch_is run.answer.site) (calls run) owned)) no_fetches
 
     -- nothing was taken for the site before it joined
     abbrev since : List HubEvent

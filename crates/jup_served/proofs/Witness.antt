@@ -18,8 +18,8 @@ use Rattle.jup_stream.specs.Saying.{said_piece}
 use Rattle.jup_rules.specs.Sessions.{says_edit, counted}
 use Rattle.jup_socket.specs.Sockets.{said_lines, all_said}
 use Rattle.jup_socket.proofs.Sockets.{mapped_lines}
-use Rattle.jup_session.specs.ExactSessions.{IsFresh, IsServed, Served, bytes_read}
-use Rattle.jup_session.specs.Sessions.{lines_brought, AreFetchesFor, welcome_lines, AreTakesOf, Stopped, Heard, AreCallsFor, HasLeft}
+use Rattle.jup_session.specs.ExactSessions.{IsFresh, IsServed, Served, all_done, bytes_read}
+use Rattle.jup_session.specs.Sessions.{lines_brought, AreFetchesFor, LastLeavesNothing, welcome_lines, AreTakesOf, Stopped, Heard, AreCallsFor, HasLeft}
 use Rattle.jup_served.specs.Sessions.{Ended, ServesSite, IsClientRun, IsServedRun, IsSessionHub}
 use Rattle.jup_served.proofs.Runs.{lines_spelled}
 use Rattle.jup_session.specs.Prelude.{BoardStar, Hello, line_bytes, board_lines, StreamFault, HasHeard, Keeper, HandsOn, Stops}
@@ -38,7 +38,7 @@ abbrev pub clean : Progress
 clean = record { part = []; fault = None }
 
 abbrev at_bytes : List ℕ → Sourced
-at_bytes bytes = record { known = Some bytes; progress = clean; waiting = [] }
+at_bytes bytes = record { known = Some bytes; progress = clean; waiting = []; reads = 0 }
 
 pub no_part : IsPart []
 no_part = record { short = lit≤ tt; open_ended = All-nil _ }
@@ -57,13 +57,13 @@ reads_lines before old ls spelled read =
     }
 
 abbrev hands_lines : (ls : List Line) (rest : List ℕ) → AllByRecursion HasSpelling ls → HandsOn (at_bytes (flat_map spelling ls ++ rest)) ls (at_bytes rest)
-hands_lines ls rest spelled = record { bytes = flat_map spelling ls; consumed = refl; goes_on = λ before old read. reads_lines before old ls spelled read }
+hands_lines ls rest spelled = record { bytes = flat_map spelling ls; consumed = refl; counted = lit≤ tt; goes_on = λ before old read. reads_lines before old ls spelled read }
 
 -- the end of the bytes
 abbrev at_end : Stops (at_bytes []) End (at_bytes [])
 at_end = record {
   middle = Some [];
-  reads = record { bytes = []; consumed = refl; goes_on = λ before lines read. subst (λ bs. HasRead bs (lines ++ []) clean) (sym (append-nil before)) read };
+  reads = record { bytes = []; consumed = refl; counted = lit≤ tt; goes_on = λ before lines read. subst (λ bs. HasRead bs (lines ++ []) clean) (sym (append-nil before)) read };
   lost = [];
   consumed = refl;
   none = refl;
@@ -125,6 +125,7 @@ module _ (p : Plan) where
     pub pieces : AllByRecursion IsPiece (map said_piece saids)
     pub takes : AreTakesOf p.joined.site saids p.takes
     pub fetches : AreFetchesFor p.joined.site p.fetches
+    pub last : LastLeavesNothing p.fetches
     pub reading : AreCallsFor p.joined.site p.takes
     pub writing : AreCallsFor p.joined.site (p.fetches ++ leave ∷ [])
     pub leaves : HasLeft (p.fetches ++ leave ∷ [])
@@ -142,7 +143,7 @@ module _ (p : Plan) where
     abbrev keeper : Keeper
     keeper = (Some [], counted (count_by says_edit saids))
 
-    abbrev hears : Heard p.joined.site (at_bytes (later_bytes ++ [])) (after_split behind) (at_bytes []) read Gone
+    abbrev hears : Heard p.joined.site (at_bytes (later_bytes ++ [])) (after_split behind) (at_bytes []) read Gone None
     hears = inl (record {
       before = at_bytes [];
       pass = read;
@@ -158,10 +159,10 @@ module _ (p : Plan) where
         kept = refl;
         takes = is.takes;
       };
-      over = Stopped End at_end refl (record { early = λ e part. absurd (part refl); gone = λ e f. refl; fault = λ fault e. absurd (no_fault fault e) });
+      over = Stopped End at_end refl (record { early = λ e part. absurd (part refl); gone = λ e f. refl; fault = λ fault e. absurd (no_fault fault e) }) refl;
     })
 
-    abbrev served : IsServed first_source given back Gone lines
+    abbrev served : IsServed first_source given back Gone false all_done lines
     served = record {
       site = p.joined.site;
       greeted = at_bytes (later_bytes ++ []);
@@ -189,6 +190,7 @@ module _ (p : Plan) where
         made = refl;
         kept = refl;
         alone = is.fetches;
+        all = is.last;
         gives_back = tt;
         departs = (refl, tt);
         lines_are = refl;
@@ -197,7 +199,7 @@ module _ (p : Plan) where
     }
 
     abbrev fresh : IsFresh (Some (first_bytes ++ (later_bytes ++ []))) first_source
-    fresh = record { known = refl; read = record { spelled = tt; rest = (refl, no_part) }; waiting = refl }
+    fresh = record { known = refl; read = record { spelled = tt; rest = (refl, no_part) }; waiting = refl; reads = refl }
 
     abbrev pub plain : Ended
     plain = record {
@@ -208,6 +210,7 @@ module _ (p : Plan) where
       back = back;
       ending = Gone;
       failed = false;
+      undone = all_done;
       calls = record {
         calls = join ∷ p.takes;
         others = tally (0 ∷ p.number) (p.fetches ++ leave ∷ []) ∷ [];
@@ -366,7 +369,8 @@ is_plain_one = record {
   spelled = ((lit< tt, (lit< tt, (lit≤ tt, lit≤ tt))), ((lit< tt, (lit< tt, tt)), (lit< tt, tt)));
   pieces = ((lit≤ tt, lit≤ tt), (refl, tt));
   takes = (refl, tt, (refl, tt, tt));
-  fetches = (refl, tt);
+  fetches = ((refl, refl), tt);
+  last = lit< tt;
   reading = (refl, (refl, tt));
   writing = (refl, (refl, tt));
   leaves = inr (inl tt);
@@ -379,7 +383,8 @@ is_plain_two = record {
   spelled = ((lit< tt, (lit< tt, (lit≤ tt, lit≤ tt))), ((lit< tt, (lit< tt, tt)), tt));
   pieces = ((lit≤ tt, lit≤ tt), tt);
   takes = (refl, tt, tt);
-  fetches = (refl, tt);
+  fetches = ((refl, refl), tt);
+  last = lit< tt;
   reading = (refl, tt);
   writing = (refl, (refl, tt));
   leaves = inr (inl tt);

@@ -8,6 +8,7 @@ use Rattle.jup_honest.specs.Sites.{IsCausalThrough, SiteRun, opening, calls, sta
 use Rattle.jup_client.specs.Clients.{AnswersEdit, Answers, Delivers}
 use Rattle.jup_socket.specs.Sockets.{all_said, said_lines, Received}
 use Rattle.jup_session.specs.Sessions.{IsCallFor, IsSession, HasMadeNone}
+use Rattle.jup_session.specs.declared.sessions.undone.Undone.{Undone}
 use Rattle.jup_session.specs.ExactSessions.{IsFresh, IsServed, Served, IsExact, bytes_read, bytes_written}
 use Rattle.jup_session.specs.Prelude.{Hello}
 use Rattle.jup_client.specs.declared.asking.Request.TheVariants.{Sync}
@@ -15,7 +16,7 @@ use Rattle.jup_client.specs.declared.asking.Request.TheVariants.{Sync}
 -- A session that has ended, and the site that it served.
 
 -- A session by its contract. It has the bytes of its reader, and what its writer held before and after, if these are known. Then it has
--- the pass that it was given, the one that it gave back, its ending, and whether a write failed
+-- the pass that it was given, the one that it gave back, its ending, whether a write failed, and what it left undone
 pub record Ended : Type 0 where
   pub from : Option (List ℕ)
   pub old : Option (List ℕ)
@@ -24,14 +25,15 @@ pub record Ended : Type 0 where
   pub back : View
   pub ending : Ending
   pub failed : Bool
+  pub undone : Undone
   pub calls : IsSession given back
-  pub exact : IsExact from old new given back ending failed
+  pub exact : IsExact from old new given back ending failed undone
 
 -- it welcomed a site, and both its halves served that
 pub record ServesSite (s : Ended) : Type 0 where
   pub start : Sourced
   pub fresh : IsFresh s.from start
-  pub served : IsServed start s.given s.back s.ending s.exact.lines
+  pub served : IsServed start s.given s.back s.ending s.failed s.undone s.exact.lines
   pub is : s.exact.has_lines ≡ Served start fresh served
 
 module _ {s : Ended} where

@@ -1,9 +1,9 @@
 -- The account of a whole session.
-use Rattle.std.proofs.Common.{◌≡◌, ◌∙◌, sym, ap, subst, ℕ, inl, inr, Bool, List, [], ◌∷◌, ◌++◌, map, Option, Some, None, refl, append_assoc, append-nil, count_by, arith, true, false, IsTrue, not, flat_map}
+use Rattle.std.proofs.Common.{◌≡◌, ◌∙◌, sym, ap, subst, ℕ, inl, inr, Bool, List, [], ◌∷◌, ◌++◌, length, map, Option, Some, None, refl, append_assoc, append-nil, count_by, arith, true, false, IsTrue, not, flat_map}
 use Rattle.std.specs.Io.KnownBytes.{Consumes, Appends, Keeps}
 use Rattle.std.proofs.KnownBytes.{Consumes-nil, Consumes-trans}
 use Rattle.std.proofs.lemmas.Fmt.{decimal_digit}
-use Rattle.jup_session.specs.Prelude.{BoardBatch, Up, Line, Hello, Error, line_bytes, View, HubEvent, Tally, Ending, Said, SaysUp, SaysBye as Bye, Stream, NoMemory, HasHeard, Keeper, ending_of, last_line, standing, Sourced, HandsOn, Put, PutsLines, IsFlushed, WritesFront, fresh_put, puts_more}
+use Rattle.jup_session.specs.Prelude.{BoardBatch, Up, Line, Hello, Error, line_bytes, View, HubEvent, Tally, Ending, Said, SaysUp, SaysBye as Bye, Hub, Stream, NoMemory, WriteFailed, HasHeard, Keeper, ending_of, last_line, standing, Sourced, HandsOn, Put, PutsLines, IsFlushed, WritesFront, fresh_put, puts_more}
 use Rattle.jup_wire.specs.Streams.{HasRead, Progress}
 use Rattle.jup_wire.proofs.Streams.{one_read}
 use Rattle.jup_gather.specs.Gathering.{Piece, up_in, up_way}
@@ -13,8 +13,12 @@ use Rattle.jup_stream.specs.Saying.{said_piece}
 use Rattle.jup_rules.specs.Sessions.{counted, says_edit}
 use Rattle.jup_io.specs.Appends.{appends_kept}
 use Rattle.jup_stream.proofs.Streams.{written_of}
-use Rattle.jup_session.specs.ExactSessions.{IsFresh, IsTurnedAway, NoLine, NoGreeting, NoJoin, EndsEarly, TurnedAway, Unwelcome, IsServed, HasLines, NoRoom, Early, Served, IsExact, bytes_away, lines_away, bytes_early, lines_early, bytes_over, lines_over, bytes_heard, lines_heard, bytes_of, lines_of, bytes_read, lines_read, bytes_written, BeginWith, IsWelcomed, BothHalves}
-use Rattle.jup_session.specs.Sessions.{Over, Stopped, ByLine, Untaken, Spent, Behind, Heard, lines_brought, told_line, untold_line, Wrote}
+use Rattle.jup_session.specs.ExactSessions.{IsFresh, IsTurnedAway, NoLine, NoGreeting, NoJoin, EndsEarly, TurnedAway, Unwelcome, IsServed, HasLines, NoRoom, Early, Served, IsExact, bytes_away, lines_away, bytes_early, lines_early, bytes_over, lines_over, bytes_heard, lines_heard, bytes_of, lines_of, bytes_read, lines_read, bytes_written, BeginWith, IsWelcomed, BothHalves, all_done}
+use Rattle.jup_rules.specs.declared.ends.SessionFault.{SessionFault}
+use Rattle.jup_rules.specs.declared.ends.SessionFault.TheVariants.{FarBehind, GateShut}
+use Rattle.jup_rules.specs.declared.ends.Untaken.{Untaken}
+use Rattle.jup_session.specs.declared.sessions.undone.Undone.{Undone}
+use Rattle.jup_session.specs.Sessions.{Over, Stopped, ByLine, AtMessage, Spent, Heard, FetchesAll, lines_brought, told_line, untold_line, Wrote}
 
 -- What the account of a session says of its bytes.
 
@@ -50,62 +54,61 @@ at_early : (from : Option (List ℕ)) (a b : Sourced) (v w : View) (ending : End
 at_early from a b v w ending failed lines fresh (TurnedAway away is) = at_away from a b v w ending fresh away
 at_early from a b v w ending failed lines fresh (Unwelcome un) = (b, at_more from [] [] (Hello ∷ []) a b (at_first from a fresh) un.welcomed.hello)
 
-at_over : (from : Option (List ℕ)) (bytes : List ℕ) (lines : List Line) (site : ℕ) (b c : Sourced) (w x : View) (keeper : Keeper) (ending : Ending) → At from bytes lines b
-    → (over : Over site b c w x keeper ending) → (s : Sourced) × At from (bytes ++ bytes_over over) (lines ++ lines_over over) s
-at_over from bytes lines site b c w x keeper ending at (Stopped stop stops same ends) = (record c { known = stops.middle }, at_more from bytes lines [] b (record c { known = stops.middle }) at stops.reads)
-at_over from bytes lines site b c w x keeper ending at (ByLine line later handed same leads) = (c, at_more from bytes lines (line ∷ []) b c at handed)
-at_over from bytes lines site b c w x keeper ending at (Untaken line later incoming handed leads handled) = (c, at_more from bytes lines (line ∷ []) b c at handed)
-at_over from bytes lines site b c w x keeper ending at (Spent same is pass) = (b, subst (λ l. At from l (lines ++ []) b) (sym (append-nil bytes)) (subst (λ l. At from bytes l b) (sym (append-nil lines)) at))
-at_over from bytes lines site b c w x keeper ending at (Behind line later incoming handed leads same is) = (c, at_more from bytes lines (line ∷ []) b c at handed)
+at_over : (from : Option (List ℕ)) (bytes : List ℕ) (lines : List Line) (site count : ℕ) (b c : Sourced) (w x : View) (keeper : Keeper) (ending : Ending) (withheld : Option Untaken) → At from bytes lines b
+    → (over : Over site count b c w x keeper ending withheld) → (s : Sourced) × At from (bytes ++ bytes_over over) (lines ++ lines_over over) s
+at_over from bytes lines site count b c w x keeper ending withheld at (Stopped stop stops same ends none) = (record c { known = stops.middle }, at_more from bytes lines [] b (record c { known = stops.middle }) at stops.reads)
+at_over from bytes lines site count b c w x keeper ending withheld at (ByLine line later handed same leads none) = (c, at_more from bytes lines (line ∷ []) b c at handed)
+at_over from bytes lines site count b c w x keeper ending withheld at (AtMessage line later incoming handed leads ends) = (c, at_more from bytes lines (line ∷ []) b c at handed)
+at_over from bytes lines site count b c w x keeper ending withheld at (Spent same pass all is none) = (b, subst (λ l. At from l (lines ++ []) b) (sym (append-nil bytes)) (subst (λ l. At from bytes l b) (sym (append-nil lines)) at))
 
-at_heard : (from : Option (List ℕ)) (bytes : List ℕ) (lines : List Line) (site : ℕ) (a c : Sourced) (v x : View) (ending : Ending) → At from bytes lines a
-    → (heard : Heard site a v c x ending) → (s : Sourced) × At from (bytes ++ bytes_heard heard) (lines ++ lines_heard heard) s
-at_heard from bytes lines site a c v x ending at (inl h) =
+at_heard : (from : Option (List ℕ)) (bytes : List ℕ) (lines : List Line) (site : ℕ) (a c : Sourced) (v x : View) (ending : Ending) (withheld : Option Untaken) → At from bytes lines a
+    → (heard : Heard site a v c x ending withheld) → (s : Sourced) × At from (bytes ++ bytes_heard heard) (lines ++ lines_heard heard) s
+at_heard from bytes lines site a c v x ending withheld at (inl h) =
     let first = at_more from bytes lines h.hears.lines a h.before at h.hears.handed in
-    let all = at_over from (bytes ++ h.hears.handed.bytes) (lines ++ h.hears.lines) site h.before c h.pass x h.keeper ending first h.over in (
+    let all = at_over from (bytes ++ h.hears.handed.bytes) (lines ++ h.hears.lines) site (length h.hears.lines) h.before c h.pass x h.keeper ending withheld first h.over in (
       all.0,
       subst (λ l. At from l (lines ++ (h.hears.lines ++ lines_over h.over)) all.0) (append_assoc bytes h.hears.handed.bytes (bytes_over h.over))
           (subst (λ l. At from ((bytes ++ h.hears.handed.bytes) ++ bytes_over h.over) l all.0) (append_assoc lines h.hears.lines (lines_over h.over)) all.1),
     )
-at_heard from bytes lines site a c v x ending at (inr h) = (a, subst (λ l. At from l (lines ++ []) a) (sym (append-nil bytes)) (subst (λ l. At from bytes l a) (sym (append-nil lines)) at))
+at_heard from bytes lines site a c v x ending withheld at (inr h) = (a, subst (λ l. At from l (lines ++ []) a) (sym (append-nil bytes)) (subst (λ l. At from bytes l a) (sym (append-nil lines)) at))
 
-module _ (from : Option (List ℕ)) (v x : View) (ending : Ending) (failed : Bool) where
-  at_served : (start : Sourced) (lines : List Line) (fresh : IsFresh from start) (served : IsServed start v x ending lines)
+module _ (from : Option (List ℕ)) (v x : View) (ending : Ending) (failed : Bool) (undone : Undone) where
+  at_served : (start : Sourced) (lines : List Line) (fresh : IsFresh from start) (served : IsServed start v x ending failed undone lines)
       → (s : Sourced) × At from (served.welcomed.hello.bytes ++ bytes_heard served.halves.hears) (Hello ∷ lines_heard served.halves.hears) s
   at_served start lines fresh served =
-      at_heard from served.welcomed.hello.bytes (Hello ∷ []) served.site served.greeted served.halves.last (after_split served.behind) served.halves.read served.halves.heard
+      at_heard from served.welcomed.hello.bytes (Hello ∷ []) served.site served.greeted served.halves.last (after_split served.behind) served.halves.read served.halves.heard undone.untaken
       (at_more from [] [] (Hello ∷ []) start served.greeted (at_first from start fresh) served.welcomed.hello) served.halves.hears
 
-  begins_read : (lines : List Line) (l : HasLines from v x ending failed lines) (given : List ℕ) → from ≡ Some given → BeginWith given (bytes_of l)
-  begins_read lines (NoRoom same is are) given e = (given, refl)
-  begins_read lines (Early start last fresh ends) given e = let at = at_early from start last v x ending failed lines fresh ends in known_begins from at.0.known (bytes_early ends) given at.1.0 e
+  begins_read : (lines : List Line) (l : HasLines from v x ending failed undone lines) (given : List ℕ) → from ≡ Some given → BeginWith given (bytes_of l)
+  begins_read lines (NoRoom same is done are) given e = (given, refl)
+  begins_read lines (Early start last fresh ends done) given e = let at = at_early from start last v x ending failed lines fresh ends in known_begins from at.0.known (bytes_early ends) given at.1.0 e
   begins_read lines (Served start fresh served) given e =
       let at = at_served start lines fresh served in known_begins from at.0.known (served.welcomed.hello.bytes ++ bytes_heard served.halves.hears) given at.1.0 e
 
-  begin_lines : (lines : List Line) (l : HasLines from v x ending failed lines) (others : List Line) (progress : Progress) → HasRead (bytes_of l) others progress → BeginWith others (lines_of l)
-  begin_lines lines (NoRoom same is are) others progress h = (others, refl)
-  begin_lines lines (Early start last fresh ends) others progress h =
+  begin_lines : (lines : List Line) (l : HasLines from v x ending failed undone lines) (others : List Line) (progress : Progress) → HasRead (bytes_of l) others progress → BeginWith others (lines_of l)
+  begin_lines lines (NoRoom same is done are) others progress h = (others, refl)
+  begin_lines lines (Early start last fresh ends done) others progress h =
       let at = at_early from start last v x ending failed lines fresh ends in at_lines from (bytes_early ends) (lines_early ends) others at.0 progress at.1 h
   begin_lines lines (Served start fresh served) others progress h =
       let at = at_served start lines fresh served in
       at_lines from (served.welcomed.hello.bytes ++ bytes_heard served.halves.hears) (Hello ∷ lines_heard served.halves.hears) others at.0 progress at.1 h
 
-pub account_read : (from old new : Option (List ℕ)) (v x : View) (ending : Ending) (failed : Bool) (e : IsExact from old new v x ending failed) (given : List ℕ) → from ≡ Some given
+pub account_read : (from old new : Option (List ℕ)) (v x : View) (ending : Ending) (failed : Bool) (undone : Undone) (e : IsExact from old new v x ending failed undone) (given : List ℕ) → from ≡ Some given
     → BeginWith given (bytes_read e)
-account_read from old new v x ending failed e given is = begins_read from v x ending failed e.lines e.has_lines given is
+account_read from old new v x ending failed undone e given is = begins_read from v x ending failed undone e.lines e.has_lines given is
 
-pub account_lines : (from old new : Option (List ℕ)) (v x : View) (ending : Ending) (failed : Bool) (e : IsExact from old new v x ending failed) (lines : List Line) (progress : Progress)
+pub account_lines : (from old new : Option (List ℕ)) (v x : View) (ending : Ending) (failed : Bool) (undone : Undone) (e : IsExact from old new v x ending failed undone) (lines : List Line) (progress : Progress)
     → HasRead (bytes_read e) lines progress → BeginWith lines (lines_read e)
-account_lines from old new v x ending failed e lines progress h = begin_lines from v x ending failed e.lines e.has_lines lines progress h
+account_lines from old new v x ending failed undone e lines progress h = begin_lines from v x ending failed undone e.lines e.has_lines lines progress h
 
 appended : (old new : Option (List ℕ)) (bytes held wrote : List ℕ) → Appends old new bytes → old ≡ Some held → new ≡ Some wrote → wrote ≡ held ++ bytes
 appended None new bytes held wrote h e f = absurd cc
 appended (Some xs) None bytes held wrote h e f = absurd h
 appended (Some xs) (Some ys) bytes held wrote h e f = let same : xs ≡ held = cc in let so : ys ≡ wrote = cc in sym so ∙ h ∙ ap (λ l. l ++ bytes) same
 
-pub account_written : (from old new : Option (List ℕ)) (v x : View) (ending : Ending) (failed : Bool) (e : IsExact from old new v x ending failed) (held wrote : List ℕ) → old ≡ Some held → new ≡ Some wrote
+pub account_written : (from old new : Option (List ℕ)) (v x : View) (ending : Ending) (failed : Bool) (undone : Undone) (e : IsExact from old new v x ending failed undone) (held wrote : List ℕ) → old ≡ Some held → new ≡ Some wrote
     → wrote ≡ held ++ bytes_written e
-account_written from old new v x ending failed e held wrote is so = appended old new (bytes_written e) held wrote e.wrote.3 is so
+account_written from old new v x ending failed undone e held wrote is so = appended old new (bytes_written e) held wrote e.wrote.3 is so
 
 -- ---- what a site says by lines
 
@@ -138,12 +141,22 @@ last_told : (told : Option Ending) (heard : Ending) → told_line told ++ untold
 last_told None heard = refl
 last_told (Some ending) heard = refl
 
+-- a write that has failed stays so
+pub stays_unsent : (site : ℕ) (b q r : Put) (calls : List HubEvent) (unsent : Option SessionFault) (xs ys : List Line) → FetchesAll b.failed calls unsent → PutsLines b xs q → PutsLines q ys r
+    → FetchesAll r.failed calls unsent
+stays_unsent site b q r calls None xs ys h one two = h
+stays_unsent site b q r calls (Some (Hub fault)) xs ys h one two = h
+stays_unsent site b q r calls (Some (Stream WriteFailed)) xs ys h one two = (two.stays (one.stays h).0).0
+stays_unsent site b q r calls (Some (Stream fault)) xs ys h one two = h
+stays_unsent site b q r calls (Some GateShut) xs ys h one two = h
+stays_unsent site b q r calls (Some (FarBehind far)) xs ys h one two = h
+
 -- both halves: the pass v is split into v' and t, and the pass u of the writing half is joined again
-pub both_halves_so : (site : ℕ) (a b : Sourced) (v v' t u w x : View) (p q r : Put) (heard : Ending) (told : Option Ending) (ending : Ending) → v' ≡ after_split v → t ≡ split_from v
-    → Heard site a v' b w heard → Wrote site t p u q told → x ≡ joined_with w u → ending ≡ standing told heard → PutsLines q (untold_line told heard) r
-    → (lines : List Line) × BothHalves site a v x ending lines × PutsLines p lines r
-both_halves_so site a b v v' t u w x p q r heard told ending split new hears wrote joined is put =
-    let f = wrote.forwards in let d = wrote.departs in
+pub both_halves_so : (site : ℕ) (a b : Sourced) (v v' t u w x : View) (p q r : Put) (heard : Ending) (withheld : Option Untaken) (told : Option Ending) (unsent : Option SessionFault) (ending : Ending)
+    → v' ≡ after_split v → t ≡ split_from v → Heard site a v' b w heard withheld → Wrote site t p u q told unsent → x ≡ joined_with w u → ending ≡ standing told heard
+    → PutsLines q (untold_line told heard) r → (lines : List Line) × BothHalves site a v x ending r.failed (record { untaken = withheld; unsent = unsent }) lines × PutsLines p lines r
+both_halves_so site a b v v' t u w x p q r heard withheld told unsent ending split new hears wrote joined is put =
+    let f = wrote.forwards.forwards in let d = wrote.departs in
     let made : u.made ≡ f.calls ++ (d.back.calls ++ d.leaves.calls) =
     d.leaves.made ∙ ap (λ (l : List HubEvent). l ++ d.leaves.calls) (d.back.made ∙ ap (λ (l : List HubEvent). l ++ d.back.calls) (f.made ∙ ap (λ (y : View). y.made ++ f.calls) new))
     ∙ append_assoc f.calls d.back.calls d.leaves.calls in
@@ -155,7 +168,7 @@ both_halves_so site a b v v' t u w x p q r heard told ending split new hears wro
         last = b;
         heard = heard;
         read = w;
-        hears = subst (λ (y : View). Heard site a y b w heard) split hears;
+        hears = subst (λ (y : View). Heard site a y b w heard withheld) split hears;
         told = told;
         fault = wrote.fault;
         ending_is = is;
@@ -168,6 +181,7 @@ both_halves_so site a b v v' t u w x p q r heard told ending split new hears wro
             ∙ ap (λ (l : List HubEvent). w.kept ++ tally (v.splits ∷ v.number) l ∷ u.kept) made
             ∙ ap (λ (l : List Tally). w.kept ++ tally (v.splits ∷ v.number) (f.calls ++ (d.back.calls ++ d.leaves.calls)) ∷ l) kept;
         alone = f.alone;
+        all = stays_unsent site wrote.middle q r f.calls unsent (told_line told) (untold_line told heard) wrote.forwards.all wrote.put put;
         gives_back = d.back.alone;
         departs = d.leaves.alone;
         lines_are = refl;
@@ -178,10 +192,11 @@ both_halves_so site a b v v' t u w x p q r heard told ending split new hears wro
     )
 
 -- a session whose site was welcomed
-pub served_so : (from : Option (List ℕ)) (site : ℕ) (start greeted : Sourced) (v u x : View) (p q r : Put) (ending : Ending) (failed : Bool) → IsFresh from start
-    → ((lines : List Line) × IsWelcomed site start v greeted u lines × PutsLines p lines q) → ((lines : List Line) × BothHalves site greeted u x ending lines × PutsLines q lines r)
-    → (lines : List Line) × HasLines from v x ending failed lines × PutsLines p lines r
-served_so from site start greeted v u x p q r ending failed fresh one two = (
+pub served_so : (from : Option (List ℕ)) (site : ℕ) (start greeted : Sourced) (v u x : View) (p q r : Put) (ending : Ending) (undone : Undone) → IsFresh from start
+    → ((lines : List Line) × IsWelcomed site start v greeted u lines × PutsLines p lines q)
+    → ((lines : List Line) × BothHalves site greeted u x ending r.failed undone lines × PutsLines q lines r)
+    → (lines : List Line) × HasLines from v x ending r.failed undone lines × PutsLines p lines r
+served_so from site start greeted v u x p q r ending undone fresh one two = (
   one.0 ++ two.0,
   Served start fresh (record {
     site = site;
@@ -197,14 +212,14 @@ served_so from site start greeted v u x p q r ending failed fresh one two = (
 )
 
 -- a session that ended early
-pub early_so : (from : Option (List ℕ)) (start last : Sourced) (v x : View) (p r : Put) (ending : Ending) (failed : Bool) → IsFresh from start
-    → ((lines : List Line) × EndsEarly start v last x ending failed lines × PutsLines p lines r) → (lines : List Line) × HasLines from v x ending failed lines × PutsLines p lines r
-early_so from start last v x p r ending failed fresh ends = (ends.0, Early start last fresh ends.1, ends.2)
+pub early_so : (from : Option (List ℕ)) (start last : Sourced) (v x : View) (p r : Put) (ending : Ending) (failed : Bool) (undone : Undone) → undone ≡ all_done → IsFresh from start
+    → ((lines : List Line) × EndsEarly start v last x ending failed lines × PutsLines p lines r) → (lines : List Line) × HasLines from v x ending failed undone lines × PutsLines p lines r
+early_so from start last v x p r ending failed undone done fresh ends = (ends.0, Early start last fresh ends.1 done, ends.2)
 
 -- what a session wrote
-pub exact_so : (from old new : Option (List ℕ)) (v x : View) (p r : Put) (ending : Ending) (failed : Bool) → p ≡ fresh_put old → new ≡ r.written → failed ≡ r.failed → IsFlushed r
-    → ((lines : List Line) × HasLines from v x ending r.failed lines × PutsLines p lines r) → IsExact from old new v x ending failed
-exact_so from old new v x p r ending failed fresh at is flushed has = subst (λ f. IsExact from old new v x ending f) (sym is) (record {
+pub exact_so : (from old new : Option (List ℕ)) (v x : View) (p r : Put) (ending : Ending) (failed : Bool) (undone : Undone) → p ≡ fresh_put old → new ≡ r.written → failed ≡ r.failed → IsFlushed r
+    → ((lines : List Line) × HasLines from v x ending r.failed undone lines × PutsLines p lines r) → IsExact from old new v x ending failed undone
+exact_so from old new v x p r ending failed undone fresh at is flushed has = subst (λ f. IsExact from old new v x ending f undone) (sym is) (record {
   lines = has.0;
   has_lines = has.1;
   wrote = subst (λ o. WritesFront old o (flat_map line_bytes has.0) (not r.failed)) (sym at)
@@ -224,10 +239,10 @@ pub not_twice : (b : Bool) → IsTrue (not (not b)) → IsTrue b
 not_twice true e = refl
 not_twice false e = e
 
-pub no_room_so : (from old new : Option (List ℕ)) (v : View) (ending : Ending) (failed : Bool) → ending ≡ ending_of (Stream NoMemory) → WritesFront old new (line_bytes (Error 8)) (not failed)
-    → IsExact from old new v v ending failed
-no_room_so from old new v ending failed is wrote = record {
+pub no_room_so : (from old new : Option (List ℕ)) (v : View) (ending : Ending) (failed : Bool) (undone : Undone) → undone ≡ all_done → ending ≡ ending_of (Stream NoMemory)
+    → WritesFront old new (line_bytes (Error 8)) (not failed) → IsExact from old new v v ending failed undone
+no_room_so from old new v ending failed undone done is wrote = record {
   lines = last_line ending ∷ [];
-  has_lines = NoRoom refl is refl;
+  has_lines = NoRoom refl is done refl;
   wrote = subst (λ e. WritesFront old new (flat_map line_bytes (last_line e ∷ [])) (not failed)) (sym is) (subst (λ l. WritesFront old new l (not failed)) (sym (append-nil (line_bytes (Error 8)))) wrote);
 }

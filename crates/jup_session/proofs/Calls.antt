@@ -1,15 +1,18 @@
 -- The calls of a session, part by part.
-use Rattle.std.proofs.Common.{◌≡◌, ℕ, ◌⊎◌, inl, inr, Bool, true, false, List, [], ◌∷◌, ◌++◌, Option, Some, None, Result, Ok, Err, MatchBool, refl, sym, ap, ◌∙◌, subst, append_assoc, append-nil, flat_map, true≢false, IsTrue, ◌≢◌, IsOk, is_ok}
+use Rattle.std.proofs.Common.{◌≡◌, ℕ, ◌⊎◌, inl, inr, Bool, true, false, List, [], ◌∷◌, ◌++◌, length, length-append, ◌+◌, ◌<◌, Option, Some, None, Result, Ok, Err, MatchBool, refl, sym, ap, ◌∙◌, subst, append_assoc, append-nil, flat_map, true≢false, IsTrue, ◌≢◌, IsOk, is_ok}
 use Rattle.std.specs.List.{AllByRecursion}
 use Rattle.std.proofs.lemmas.List.Concat.{flat_map-append}
 use Rattle.jup_session.specs.Prelude.{BoardBatch, Up, Joined as JoinedSite, NoLink, Call, Join, Take, Fetch, Leave, StarReply, JoinedReply, Taken, Fetched, Down, BoardStar, bare_joined, Line, Hello, HubFault, HubEvent, Tally, View, Made, Ending, Incoming, Ring, Stream, StreamFault, WriteFailed, Misplaced, NoMemory, Stop, Said, SaysUp, SaysBye, down_lines, HasHeard, Leads, outcome, Keeper, ending_of, ended_by, last_line, Put, PutsLines, puts_more, Sourced, HandsOn, Stops}
 use Rattle.jup_star.specs.declared.calls.StarReply.TheVariants.{Left}
 use Rattle.jup_hub.specs.Histories.{is_out_of_memory, entry, tally, tallies, after_split, split_from, joined_with, having_seen, Called, ComesToAsk, IsSpent}
-use Rattle.jup_rules.specs.declared.session.Awaits.TheVariants.{Gate, Pongs}
+use Rattle.jup_rules.specs.Sessions.{most_fetched}
+use Rattle.jup_rules.specs.Ends.{ended_untaken}
+use Rattle.jup_rules.specs.declared.ends.SessionFault.{SessionFault}
+use Rattle.jup_rules.specs.declared.ends.Untaken.{Untaken}
 use Rattle.jup_rules.specs.declared.session.Next.TheVariants.{Line as NextLine, Take as NextTake}
 use Rattle.jup_stream.specs.Streams.{puts_none}
 use Rattle.jup_stream.proofs.Streams.{hands_none, hands_more}
-use Rattle.jup_session.specs.Sessions.{HasAnswered, HasToWait, HasCalled, followed_by, IsHandled, IsCallFor, AreCallsFor, AreTalliesFor, HasLeft, IsFull, SomeLeft, FollowsJoin, IsSession, Makes, Serves, Leaves, HasMadeNone, HasServed, IsJoinOf, Joins, BothServe, GivesBack, IsLeaveOf, Departs, brought, lines_brought, IsFetchFor, Forwards, Brings, TellsFault, told_line, Wrote, welcome_lines, IsTaken, AreTakesOf, Hears, Over, Stopped, ByLine, Untaken, Spent, Behind, HearsAll, Heard}
+use Rattle.jup_session.specs.Sessions.{HasAnswered, HasTaken, IsWithheld, EndsAt, Refused, Withheld, IsCallFor, AreCallsFor, AreTalliesFor, HasLeft, IsFull, SomeLeft, FollowsJoin, IsSession, Makes, Serves, Leaves, HasMadeNone, HasServed, IsJoinOf, Joins, BothServe, GivesBack, IsLeaveOf, Departs, brought, lines_brought, IsFetchFor, LeavesNothing, LastLeavesNothing, FetchesAll, Forwards, ForwardsAll, Brings, Answers, StopsFetching, TellsFault, told_line, Wrote, welcome_lines, IsTaken, AreTakesOf, Hears, Over, Stopped, ByLine, AtMessage, Spent, HearsAll, Heard}
 use Rattle.jup_session.specs.ExactSessions.{Enters, IsTurnedAway, NoLine, NoGreeting, NoJoin, IsWelcomed, EndsEarly, TurnedAway, Unwelcome}
 use Rattle.jup_hub.specs.Prelude.{StarFault, is_no_memory}
 use Rattle.jup_hub.specs.declared.fault.HubFault.TheVariants.{Star, Spent as HubSpent}
@@ -102,28 +105,25 @@ pub serves_answered : (site : ℕ) (up : Up BoardBatch) (v w : View) (answer : O
 serves_answered site up v w (Some answer) made = makes_call (IsCallFor site) (λ r. Taken r) (Take site up) v w answer refl made
 serves_answered site up v w None same = makes_same (IsCallFor site) v w same
 
--- what was called for a message
-pub serves_handled : (site : ℕ) (incoming : Incoming) (v w : View) (followed : Result Ring Ending) → IsHandled site incoming v w followed → Serves site v w
-serves_handled site incoming v w followed h = go h.answer h.called
-  where
-    go : (answer : Option (Result (Option ℕ) HubFault)) → HasCalled site incoming v w answer → Serves site v w
-    go (Some answer) c = serves_answered site incoming.up v w (Some answer) c
-    go None c = serves_answered site incoming.up v w None c.0
+-- a message that was not taken
+pub serves_ends : (site : ℕ) (incoming : Incoming) (v w : View) (ending : Ending) (withheld : Option Untaken) → EndsAt site incoming v w ending withheld → Serves site v w
+serves_ends site incoming v w ending withheld (Refused answer made is none) = serves_answered site incoming.up v w (Some answer) made
+serves_ends site incoming v w ending withheld (Withheld why holds same is so) = makes_same (IsCallFor site) v w same
 
--- what came of an edit
-pub edit_called : (site nth : ℕ) (incoming : Incoming) (v w : View) (answer : Option (Result (Option ℕ) HubFault)) → incoming.awaits ≡ Gate nth → HasAnswered site incoming.up v w answer
-    → HasCalled site incoming v w answer
-edit_called site nth incoming v w (Some answer) gate answered = answered
-edit_called site nth incoming v w None gate answered = (answered, subst HasToWait (sym gate) tt)
+refuses : (up : Up BoardBatch) (fault : HubFault) → (ending : Ending) × (outcome up (Err fault) ≡ Err ending)
+refuses up HubSpent = (_, refl)
+refuses up (Star NoLink) = (_, refl)
+refuses up (Star e) = (_, refl)
 
--- of a ping that waited in vain
-pub ping_left : (site : ℕ) (incoming : Incoming) (v : View) → incoming.awaits ≡ Pongs → HasCalled site incoming v v None
-ping_left site incoming v pongs = (refl, subst HasToWait (sym pongs) tt)
+-- what came of a message that the hub was called for: after one that was refused the session ends
+pub taken_so : (site : ℕ) (incoming : Incoming) (v w : View) (answer : Result (Option ℕ) HubFault) (r : Result Ring Ending) (ring : Ring) → HasAnswered site incoming.up v w (Some answer)
+    → r ≡ outcome incoming.up answer → r ≡ Ok ring → HasTaken site incoming v w
+taken_so site incoming v w (Ok place) r ring made is so = (place, made)
+taken_so site incoming v w (Err fault) r ring made is so = let e = refuses incoming.up fault in let no : Err e.0 ≡ Ok ring = sym e.1 ∙ sym is ∙ so in absurd cc
 
--- and of any message
-pub handled_so : (site : ℕ) (incoming : Incoming) (v w : View) (answer : Option (Result (Option ℕ) HubFault)) (followed : Result Ring Ending) → HasCalled site incoming v w answer
-    → followed ≡ followed_by incoming answer → IsHandled site incoming v w followed
-handled_so site incoming v w answer followed called is = record { answer = answer; called = called; follows = is }
+pub refused_so : (site : ℕ) (incoming : Incoming) (v w : View) (answer : Result (Option ℕ) HubFault) (r : Result Ring Ending) (ending last : Ending) (withheld : Option Untaken)
+    → HasAnswered site incoming.up v w (Some answer) → r ≡ outcome incoming.up answer → r ≡ Err ending → last ≡ ending → withheld ≡ None → EndsAt site incoming v w last withheld
+refused_so site incoming v w answer r ending last withheld made is so at none = Refused answer made (sym is ∙ so ∙ ap (λ e. Err e) (sym at)) none
 
 full : (v w : View) → w ≡ v → IsSpent v → IsFull w.opening (tally w.number w.made)
 full v w e h = subst (λ (x : View). IsFull x.opening (tally x.number x.made)) (sym e) (h.0, h.1.legal, h.1.tallied.0, h.2)
@@ -324,13 +324,13 @@ forwards_more site u v w a b c downs before brings put = forwards_both site u v 
 pub forwards_in_vain : (site : ℕ) (u v w : View) (a b : Put) → Forwards site u a v b → Brings site v w [] → Forwards site u a w b
 forwards_in_vain site u v w a b before brings = forwards_more site u v w a b b [] before brings (puts_none b)
 
-fetched : (site max : ℕ) (reply : StarReply) (v w : View) → Called (Fetch site max) reply v w → Brings site v w (brought reply)
-fetched site max reply v w c = record {
-  calls = entry v.number (Fetch site max) reply ∷ [];
+fetched : (site : ℕ) (reply : StarReply) (v w : View) → Called (Fetch site most_fetched) reply v w → Brings site v w (brought reply)
+fetched site reply v w c = record {
+  calls = entry v.number (Fetch site most_fetched) reply ∷ [];
   number = ap (λ (x : View). x.number) c.view;
   made = ap (λ (x : View). x.made) c.view;
   kept = ap (λ (x : View). x.kept) c.view;
-  alone = (refl, tt);
+  alone = ((refl, refl), tt);
   lines = append-nil (flat_map down_lines (brought reply));
 }
 
@@ -339,32 +339,77 @@ pub brings_none : (site : ℕ) (v w : View) → w ≡ v → Brings site v w []
 brings_none site v w e = subst (λ (x : View). Brings site v x []) (sym e) (record { calls = []; number = refl; made = sym (append-nil v.made); kept = refl; alone = tt; lines = refl })
 
 -- a fetch that was answered
-pub brings_downs : (site max : ℕ) (v w : View) (downs : List (Down BoardBatch)) → Made (λ r. Fetched r) (Fetch site max) v w (Ok downs) → Brings site v w downs
-brings_downs site max v w downs m = fetched site max (Fetched (Ok downs)) v w m
+pub answers_downs : (site max : ℕ) (v w : View) (downs : List (Down BoardBatch)) → max ≡ most_fetched → Made (λ r. Fetched r) (Fetch site max) v w (Ok downs) → Answers site v w downs
+unfolding fetched
+answers_downs site max v w downs is m =
+    let c : Called (Fetch site most_fetched) (Fetched (Ok downs)) v w = subst (λ k. Called (Fetch site k) (Fetched (Ok downs)) v w) is m in
+    record { brings = fetched site (Fetched (Ok downs)) v w c; few = λ less. less }
+
+-- one that found no link
+pub answers_unlinked : (site max : ℕ) (v w : View) (fault : HubFault) → max ≡ most_fetched → fault ≡ Star NoLink → Made (λ r. Fetched r) (Fetch site max) v w (Err fault) → Answers site v w []
+unfolding fetched
+answers_unlinked site max v w fault at is m =
+    let c : Called (Fetch site most_fetched) (Fetched (Err NoLink)) v w =
+    subst (λ k. Called (Fetch site k) (Fetched (Err NoLink)) v w) at (subst (λ (e : HubFault). Made (λ a. Fetched a) (Fetch site max) v w (Err e)) is m) in
+    record { brings = fetched site (Fetched (Err NoLink)) v w c; few = λ less. tt }
 
 -- one that was refused
-pub brings_nothing : (site max : ℕ) (v w : View) (fault : HubFault) → Made (λ r. Fetched r) (Fetch site max) v w (Err fault) → Brings site v w []
-brings_nothing site max v w HubSpent m = brings_none site v w m.0
-brings_nothing site max v w (Star e) m = go (is_no_memory e) m
+pub brings_nothing : (site max : ℕ) (v w : View) (fault : HubFault) → max ≡ most_fetched → Made (λ r. Fetched r) (Fetch site max) v w (Err fault) → Brings site v w []
+brings_nothing site max v w HubSpent at m = brings_none site v w m.0
+brings_nothing site max v w (Star e) at m = go (is_no_memory e) m
   where
     go : (b : Bool) → MatchBool b ((w ≡ v) × ComesToAsk (Fetch site max) v) (Called (Fetch site max) (Fetched (Err e)) v w) → Brings site v w []
     go true h = brings_none site v w h.0
-    go false h = fetched site max (Fetched (Err e)) v w h
+    go false h = fetched site (Fetched (Err e)) v w (subst (λ k. Called (Fetch site k) (Fetched (Err e)) v w) at h)
 
 fetches_for : (site : ℕ) (call : Call) → IsFetchFor site call → IsCallFor site call
 fetches_for site Join is = absurd is
 fetches_for site (Take i up) is = absurd is
-fetches_for site (Fetch i max) is = is
+fetches_for site (Fetch i max) is = is.0
 fetches_for site (Leave i) is = absurd is
+
+last_behind : (x : HubEvent) (es : List HubEvent) → LastLeavesNothing es → LastLeavesNothing (x ∷ es)
+last_behind x [] h = absurd h
+last_behind x (e ∷ es) h = h
+
+last_later : (xs ys : List HubEvent) → LastLeavesNothing ys → LastLeavesNothing (xs ++ ys)
+last_later [] ys h = h
+last_later (x ∷ xs) ys h = last_behind x (xs ++ ys) (last_later xs ys h)
+
+-- what is fetched after other fetches
+later_all : (failed : Bool) (xs ys : List HubEvent) (unsent : Option SessionFault) → FetchesAll failed ys unsent → FetchesAll failed (xs ++ ys) unsent
+later_all failed xs ys None h = last_later xs ys h
+later_all failed xs ys (Some fault) h = h
+
+-- the fetches before those that bring all
+pub forwards_all : (site : ℕ) (u v w : View) (a b c : Put) (unsent : Option SessionFault) → Forwards site u a v b → ForwardsAll site v b w c unsent → ForwardsAll site u a w c unsent
+unfolding forwards_both
+forwards_all site u v w a b c unsent before f = record {
+  forwards = forwards_both site u v w a b c before f.forwards;
+  all = later_all c.failed before.calls f.forwards.calls unsent f.all;
+}
+
+-- the half stops for a fault
+pub forwards_until : (site : ℕ) (v w : View) (a b : Put) (fault : SessionFault) → Forwards site v a w b → StopsFetching b.failed fault → ForwardsAll site v a w b (Some fault)
+forwards_until site v w a b fault f stops = record { forwards = f; all = stops }
+
+-- the last fetch, and what it brought is put
+pub forwards_last : (site : ℕ) (u v w : View) (a b c : Put) (downs : List (Down BoardBatch)) → Forwards site u a v b → Answers site v w downs → length downs < most_fetched
+    → PutsLines b (flat_map down_lines downs) c → ForwardsAll site u a w c None
+unfolding forwards_more forwards_both
+forwards_last site u v w a b c downs before answers less put = record {
+  forwards = forwards_more site u v w a b c downs before answers.brings put;
+  all = last_later before.calls answers.brings.calls (answers.few less);
+}
 
 -- all that was called for a site
 pub forwards_serves : (site : ℕ) (v w : View) (a b : Put) → Forwards site v a w b → Serves site v w
 forwards_serves site v w a b f = makes_too (IsFetchFor site) (IsCallFor site) v w (fetches_for site) (record { calls = f.calls; number = f.number; made = f.made; kept = f.kept; alone = f.alone })
 
 -- the whole half
-pub wrote_so : (site : ℕ) (u v w : View) (a b c : Put) (told : Option Ending) → Forwards site u a v b → Departs site v w → TellsFault told → PutsLines b (told_line told) c
-    → Wrote site u a w c told
-wrote_so site u v w a b c told forwards departs fault put = record { between = v; middle = b; forwards = forwards; departs = departs; fault = fault; put = put }
+pub wrote_so : (site : ℕ) (u v w : View) (a b c : Put) (told : Option Ending) (unsent : Option SessionFault) → ForwardsAll site u a v b unsent → Departs site v w → TellsFault told unsent
+    → PutsLines b (told_line told) c → Wrote site u a w c told unsent
+wrote_so site u v w a b c told unsent forwards departs fault put = record { between = v; middle = b; forwards = forwards; departs = departs; fault = fault; put = put }
 
 -- How a session begins, and how it may end there.
 
@@ -423,68 +468,68 @@ takes_more site (SaysUp u ∷ saids) [] up e h is taken = absurd h
 takes_more site (SaysUp u ∷ saids) (x ∷ es) up e h is taken = (h.0, h.1, takes_more site saids es up e h.2 is taken)
 takes_more site (SaysBye ∷ saids) calls up e h is taken = absurd h
 
+-- so many lines were handed on
+abbrev pub HearsLines : ℕ → ℕ → Sourced → View → Sourced → View → Keeper → Type 0
+HearsLines count site a v b w keeper = (h : Hears site a v b w keeper) × (length h.lines ≡ count)
+
+one_more : (lines : List Line) (line : Line) (count : ℕ) → length lines ≡ count → length (lines ++ line ∷ []) ≡ count + 1
+one_more lines line count is = length-append lines (line ∷ []) ∙ ap (λ n. n + 1) is
+
 -- no line was handed on yet
-pub hears_none : (site : ℕ) (a : Sourced) (v : View) (keeper : Keeper) → HasHeard [] [] keeper → Hears site a v a v keeper
-hears_none site a v keeper heard = record {
-  lines = [];
-  saids = [];
-  calls = [];
-  handed = hands_none a;
-  heard = heard;
-  number = refl;
-  made = sym (append-nil v.made);
-  kept = refl;
-  takes = tt;
-}
+pub hears_none : (site : ℕ) (a : Sourced) (v : View) (keeper : Keeper) → HasHeard [] [] keeper → HearsLines 0 site a v a v keeper
+hears_none site a v keeper heard = (
+  record {
+    lines = [];
+    saids = [];
+    calls = [];
+    handed = hands_none a;
+    heard = heard;
+    number = refl;
+    made = sym (append-nil v.made);
+    kept = refl;
+    takes = tt;
+  },
+  refl,
+)
 
 -- one line more, by which the site says nothing yet
-pub hears_line : (site : ℕ) (a b c : Sourced) (v w : View) (before after : Keeper) (line : Line) → Hears site a v b w before → HandsOn b (line ∷ []) c
-    → ((lines : List Line) (saids : List Said) → HasHeard lines saids before → Leads lines saids before line NextLine after) → Hears site a v c w after
-hears_line site a b c v w before after line h handed leads = record {
-  lines = h.lines ++ line ∷ [];
-  saids = h.saids;
-  calls = h.calls;
-  handed = hands_more a b c h.lines line h.handed handed;
-  heard = leads h.lines h.saids h.heard;
-  number = h.number;
-  made = h.made;
-  kept = h.kept;
-  takes = h.takes;
-}
-
-refuses : (up : Up BoardBatch) (fault : HubFault) → (ending : Ending) × (outcome up (Err fault) ≡ Err ending)
-refuses up HubSpent = (_, refl)
-refuses up (Star NoLink) = (_, refl)
-refuses up (Star e) = (_, refl)
-
--- a message after which the session goes on was taken
-handled_well : (site : ℕ) (incoming : Incoming) (v w : View) (ring : Ring) → IsHandled site incoming v w (Ok ring) → (place : Option ℕ) × Called (Take site incoming.up) (Taken (Ok place)) v w
-handled_well site incoming v w ring h = go h.answer h.called h.follows
-  where
-    go : (answer : Option (Result (Option ℕ) HubFault)) → HasCalled site incoming v w answer → Ok ring ≡ followed_by incoming answer
-        → (place : Option ℕ) × Called (Take site incoming.up) (Taken (Ok place)) v w
-    go None called is = absurd cc
-    go (Some (Ok place)) called is = (place, called)
-    go (Some (Err fault)) called is = let r = refuses incoming.up fault in let no : Ok ring ≡ Err r.0 = is ∙ r.1 in absurd cc
+pub hears_line : (site count : ℕ) (a b c : Sourced) (v w : View) (before after : Keeper) (line : Line) → HearsLines count site a v b w before → HandsOn b (line ∷ []) c
+    → ((lines : List Line) (saids : List Said) → HasHeard lines saids before → Leads lines saids before line NextLine after) → HearsLines (count + 1) site a v c w after
+hears_line site count a b c v w before after line (h, is) handed leads = (
+  record {
+    lines = h.lines ++ line ∷ [];
+    saids = h.saids;
+    calls = h.calls;
+    handed = hands_more a b c h.lines line h.handed handed;
+    heard = leads h.lines h.saids h.heard;
+    number = h.number;
+    made = h.made;
+    kept = h.kept;
+    takes = h.takes;
+  },
+  one_more h.lines line count is,
+)
 
 -- and one by which it says a message, which was taken
-pub hears_take : (site : ℕ) (a b c : Sourced) (v w x : View) (before after : Keeper) (line : Line) (incoming : Incoming) (ring : Ring) → Hears site a v b w before → HandsOn b (line ∷ []) c
+pub hears_take : (site count : ℕ) (a b c : Sourced) (v w x : View) (before after : Keeper) (line : Line) (incoming : Incoming) → HearsLines count site a v b w before → HandsOn b (line ∷ []) c
     → ((lines : List Line) (saids : List Said) → HasHeard lines saids before → Leads lines saids before line (NextTake incoming) after)
-    → IsHandled site incoming w x (Ok ring) → Hears site a v c x after
-hears_take site a b c v w x before after line incoming ring h handed leads handled =
-    let taken = handled_well site incoming w x ring handled in
+    → HasTaken site incoming w x → HearsLines (count + 1) site a v c x after
+hears_take site count a b c v w x before after line incoming (h, counted) handed leads taken =
     let e : HubEvent = entry w.number (Take site incoming.up) (Taken (Ok taken.0)) in
-    let view = taken.1.view in record {
-      lines = h.lines ++ line ∷ [];
-      saids = h.saids ++ SaysUp incoming.up ∷ [];
-      calls = h.calls ++ e ∷ [];
-      handed = hands_more a b c h.lines line h.handed handed;
-      heard = (leads h.lines h.saids h.heard).0;
-      number = ap (λ (y : View). y.number) view ∙ h.number;
-      made = ap (λ (y : View). y.made) view ∙ ap (λ (l : List HubEvent). l ++ e ∷ []) h.made ∙ append_assoc v.made h.calls (e ∷ []);
-      kept = ap (λ (y : View). y.kept) view ∙ h.kept;
-      takes = takes_more site h.saids h.calls incoming.up e h.takes refl tt;
-    }
+    let view = taken.1.view in (
+      record {
+        lines = h.lines ++ line ∷ [];
+        saids = h.saids ++ SaysUp incoming.up ∷ [];
+        calls = h.calls ++ e ∷ [];
+        handed = hands_more a b c h.lines line h.handed handed;
+        heard = (leads h.lines h.saids h.heard).0;
+        number = ap (λ (y : View). y.number) view ∙ h.number;
+        made = ap (λ (y : View). y.made) view ∙ ap (λ (l : List HubEvent). l ++ e ∷ []) h.made ∙ append_assoc v.made h.calls (e ∷ []);
+        kept = ap (λ (y : View). y.kept) view ∙ h.kept;
+        takes = takes_more site h.saids h.calls incoming.up e h.takes refl tt;
+      },
+      one_more h.lines line count counted,
+    )
 
 -- ---- all that was called for a site
 
@@ -495,24 +540,23 @@ takes_for site (SaysUp up ∷ saids) [] h = absurd h
 takes_for site (SaysUp up ∷ saids) (x ∷ es) h = (subst (IsCallFor site) (sym h.0) refl, takes_for site saids es h.2)
 takes_for site (SaysBye ∷ saids) calls h = absurd h
 
-over_serves : (site : ℕ) (b c : Sourced) (w x : View) (keeper : Keeper) (ending : Ending) → Over site b c w x keeper ending → Serves site w x
-over_serves site b c w x keeper ending (Stopped stop stops same ends) = makes_same (IsCallFor site) w x same
-over_serves site b c w x keeper ending (ByLine line later handed same leads) = makes_same (IsCallFor site) w x same
-over_serves site b c w x keeper ending (Untaken line later incoming handed leads handled) = serves_handled site incoming w x (Err ending) handled
-over_serves site b c w x keeper ending (Spent at same is) = makes_same (IsCallFor site) w x same
-over_serves site b c w x keeper ending (Behind line later incoming handed leads same is) = makes_same (IsCallFor site) w x same
+over_serves : (site count : ℕ) (b c : Sourced) (w x : View) (keeper : Keeper) (ending : Ending) (withheld : Option Untaken) → Over site count b c w x keeper ending withheld → Serves site w x
+over_serves site count b c w x keeper ending withheld (Stopped stop stops same ends none) = makes_same (IsCallFor site) w x same
+over_serves site count b c w x keeper ending withheld (ByLine line later handed same leads none) = makes_same (IsCallFor site) w x same
+over_serves site count b c w x keeper ending withheld (AtMessage line later incoming handed leads ends) = serves_ends site incoming w x ending withheld ends
+over_serves site count b c w x keeper ending withheld (Spent at same all is none) = makes_same (IsCallFor site) w x same
 
-pub heard_serves : (site : ℕ) (a c : Sourced) (v x : View) (ending : Ending) → Heard site a v c x ending → Serves site v x
-heard_serves site a c v x ending (inl h) =
+pub heard_serves : (site : ℕ) (a c : Sourced) (v x : View) (ending : Ending) (withheld : Option Untaken) → Heard site a v c x ending withheld → Serves site v x
+heard_serves site a c v x ending withheld (inl h) =
     makes_both (IsCallFor site) v h.pass x
     (record { calls = h.hears.calls; number = h.hears.number; made = h.hears.made; kept = h.hears.kept; alone = takes_for site h.hears.saids h.hears.calls h.hears.takes })
-    (over_serves site h.before c h.pass x h.keeper ending h.over)
-heard_serves site a c v x ending (inr h) = makes_same (IsCallFor site) v x h.pass
+    (over_serves site (length h.hears.lines) h.before c h.pass x h.keeper ending withheld h.over)
+heard_serves site a c v x ending withheld (inr h) = makes_same (IsCallFor site) v x h.pass
 
 -- ---- both ways in which the reading half ends
 
-pub heard_all : (site : ℕ) (a c : Sourced) (v x : View) (ending : Ending) → HearsAll site a v c x ending → Heard site a v c x ending
-heard_all site a c v x ending h = inl h
+pub heard_all : (site : ℕ) (a c : Sourced) (v x : View) (ending : Ending) (withheld : Option Untaken) → HearsAll site a v c x ending withheld → Heard site a v c x ending withheld
+heard_all site a c v x ending withheld h = inl h
 
-pub heard_nothing : (site : ℕ) (a : Sourced) (v : View) (ending : Ending) → ending ≡ ending_of (Stream NoMemory) → Heard site a v a v ending
-heard_nothing site a v ending is = inr (record { source = refl; pass = refl; memory = is })
+pub heard_nothing : (site : ℕ) (a : Sourced) (v : View) (ending : Ending) (withheld : Option Untaken) → ending ≡ ending_of (Stream NoMemory) → withheld ≡ None → Heard site a v a v ending withheld
+heard_nothing site a v ending withheld is none = inr (record { source = refl; pass = refl; memory = is; taken = none })

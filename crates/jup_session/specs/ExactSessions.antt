@@ -1,10 +1,12 @@
 -- What a session does, byte for byte.
-use Rattle.std.proofs.Common.{◌≡◌, ◌≢◌, ℕ, Bool, not, List, [], ◌∷◌, ◌++◌, Option, Ok, Err, IsTrue, inl, inr}
+use Rattle.std.proofs.Common.{◌≡◌, ◌≢◌, ℕ, Bool, not, List, [], ◌∷◌, ◌++◌, Option, None, Ok, Err, IsTrue, inl, inr}
 use Rattle.std.specs.List.{flat_map, AllByRecursion}
 use Rattle.jup_session.specs.Prelude.{Joined, Join, JoinedReply, bare_joined, Line, Hello, line_bytes, HubFault, HubEvent, View, Made, Ending, Stop, Hub, Stream, NoMemory, Misplaced, WriteFailed, ending_of, ended_by, last_line, standing, Keeper, WritesFront, Sourced, HandsOn, Stops}
 use Rattle.jup_wire.specs.Streams.{HasRead}
 use Rattle.jup_hub.specs.Histories.{tally, after_split, Called}
-use Rattle.jup_session.specs.Sessions.{GivesBack, IsLeaveOf, Departs, lines_brought, AreFetchesFor, TellsFault, welcome_lines, Heard, Over, Stopped, ByLine, Untaken, Spent, Behind}
+use Rattle.jup_rules.specs.declared.ends.Untaken.{Untaken}
+use Rattle.jup_session.specs.declared.sessions.undone.Undone.{Undone}
+use Rattle.jup_session.specs.Sessions.{GivesBack, IsLeaveOf, Departs, lines_brought, AreFetchesFor, FetchesAll, TellsFault, welcome_lines, Heard, Over, Stopped, ByLine, AtMessage, Spent}
 
 -- What a session reads, takes and writes, byte for byte.
 
@@ -13,6 +15,7 @@ pub record IsFresh (from : Option (List ℕ)) (start : Sourced) : Type 0 where
   pub known : start.known ≡ from
   pub read : HasRead [] [] start.progress
   pub waiting : start.waiting ≡ []
+  pub reads : start.reads ≡ 0
 
 -- the site joined, and the hub answered this
 abbrev pub Enters : Joined → View → View → Type 0
@@ -49,14 +52,15 @@ pub data EndsEarly (a : Sourced) (v : View) (b : Sourced) (w : View) (ending : E
 -- Both halves of a session, from the pass v, which has joined the site, to the pass x.
 -- In: under its own number are takes of just the messages that the lines read spell, in order, up to the reason why there are no more.
 -- Out: under one number more are fetches, and then the calls that give back and leave. The lines are those of the messages that these fetches brought, in order,
--- and the last line. The ending is what the reading half heard, unless the writing half reported a fault
-pub record BothHalves (site : ℕ) (a : Sourced) (v x : View) (ending : Ending) (lines : List Line) : Type 0 where
+-- and the last line. The fetches bring all that waits, unless the half stopped for a fault. The ending is what the reading half heard, unless the writing half
+-- reported such a fault
+pub record BothHalves (site : ℕ) (a : Sourced) (v x : View) (ending : Ending) (failed : Bool) (undone : Undone) (lines : List Line) : Type 0 where
   pub last : Sourced
   pub heard : Ending
   pub read : View
-  pub hears : Heard site a (after_split v) last read heard
+  pub hears : Heard site a (after_split v) last read heard undone.untaken
   pub told : Option Ending
-  pub fault : TellsFault told
+  pub fault : TellsFault told undone.unsent
   pub ending_is : ending ≡ standing told heard
   pub fetches : List HubEvent
   pub back : List HubEvent
@@ -64,33 +68,38 @@ pub record BothHalves (site : ℕ) (a : Sourced) (v x : View) (ending : Ending) 
   pub made : x.made ≡ read.made
   pub kept : x.kept ≡ read.kept ++ tally (v.splits ∷ v.number) (fetches ++ (back ++ leaves)) ∷ []
   pub alone : AreFetchesFor site fetches
+  pub all : FetchesAll failed fetches undone.unsent
   pub gives_back : AllByRecursion (λ e. GivesBack site e.call) back
   pub departs : AllByRecursion (λ e. IsLeaveOf site e.call) leaves
   pub lines_are : lines ≡ lines_brought fetches ++ last_line ending ∷ []
 
 -- a session that welcomed its site, and served it by both halves
-pub record IsServed (a : Sourced) (v x : View) (ending : Ending) (lines : List Line) : Type 0 where
+pub record IsServed (a : Sourced) (v x : View) (ending : Ending) (failed : Bool) (undone : Undone) (lines : List Line) : Type 0 where
   pub site : ℕ
   pub greeted : Sourced
   pub behind : View
   pub first : List Line
   pub later : List Line
   pub welcomed : IsWelcomed site a v greeted behind first
-  pub halves : BothHalves site greeted behind x ending later
+  pub halves : BothHalves site greeted behind x ending failed undone later
   pub lines_are : lines ≡ first ++ later
+
+-- a session that left nothing undone
+abbrev pub all_done : Undone
+all_done = record { untaken = None; unsent = None }
 
 -- The lines that a session is to write, by the bytes of its reader and by the answers of its hub. If it has no room for any line, it reads nothing, and
 -- the one line reports that it is out of memory. Otherwise the session ends early, or both halves serve the site
-pub data HasLines (from : Option (List ℕ)) (v x : View) (ending : Ending) (failed : Bool) (lines : List Line) : Type 0 where
-  NoRoom : x ≡ v → ending ≡ ending_of (Stream NoMemory) → lines ≡ last_line ending ∷ [] → HasLines from v x ending failed lines
-  Early : (start last : Sourced) → IsFresh from start → EndsEarly start v last x ending failed lines → HasLines from v x ending failed lines
-  Served : (start : Sourced) → IsFresh from start → IsServed start v x ending lines → HasLines from v x ending failed lines
+pub data HasLines (from : Option (List ℕ)) (v x : View) (ending : Ending) (failed : Bool) (undone : Undone) (lines : List Line) : Type 0 where
+  NoRoom : x ≡ v → ending ≡ ending_of (Stream NoMemory) → undone ≡ all_done → lines ≡ last_line ending ∷ [] → HasLines from v x ending failed undone lines
+  Early : (start last : Sourced) → IsFresh from start → EndsEarly start v last x ending failed lines → undone ≡ all_done → HasLines from v x ending failed undone lines
+  Served : (start : Sourced) → IsFresh from start → IsServed start v x ending failed undone lines → HasLines from v x ending failed undone lines
 
 -- A session, from the pass v to the pass x, over a reader with these bytes and a writer that held `old`. The writer then holds the bytes of the session's
 -- lines as well: all of them, or a front if a write failed
-pub record IsExact (from old new : Option (List ℕ)) (v x : View) (ending : Ending) (failed : Bool) : Type 0 where
+pub record IsExact (from old new : Option (List ℕ)) (v x : View) (ending : Ending) (failed : Bool) (undone : Undone) : Type 0 where
   pub lines : List Line
-  pub has_lines : HasLines from v x ending failed lines
+  pub has_lines : HasLines from v x ending failed undone lines
   pub wrote : WritesFront old new (flat_map line_bytes lines) (not failed)
 
 -- The bytes that a session read and wrote, and the lines and messages of those that it read.
@@ -117,56 +126,54 @@ module _ {a b : Sourced} {v w : View} {ending : Ending} {failed : Bool} {lines :
   lines_early (TurnedAway away is) = lines_away away
   lines_early (Unwelcome un) = Hello ∷ []
 
-module _ {site : ℕ} {b c : Sourced} {w x : View} {keeper : Keeper} {ending : Ending} where
+module _ {site count : ℕ} {b c : Sourced} {w x : View} {keeper : Keeper} {ending : Ending} {withheld : Option Untaken} where
   -- the bytes after those of the messages that were taken
-  abbrev pub bytes_over : Over site b c w x keeper ending → List ℕ
-  bytes_over (Stopped stop stops same ends) = stops.reads.bytes
-  bytes_over (ByLine line later handed same leads) = handed.bytes
-  bytes_over (Untaken line later incoming handed leads handled) = handed.bytes
-  bytes_over (Spent at same is) = []
-  bytes_over (Behind line later incoming handed leads same is) = handed.bytes
+  abbrev pub bytes_over : Over site count b c w x keeper ending withheld → List ℕ
+  bytes_over (Stopped stop stops same ends none) = stops.reads.bytes
+  bytes_over (ByLine line later handed same leads none) = handed.bytes
+  bytes_over (AtMessage line later incoming handed leads ends) = handed.bytes
+  bytes_over (Spent at same all is none) = []
 
   -- the line that ended the session
-  abbrev pub lines_over : Over site b c w x keeper ending → List Line
-  lines_over (Stopped stop stops same ends) = []
-  lines_over (ByLine line later handed same leads) = line ∷ []
-  lines_over (Untaken line later incoming handed leads handled) = line ∷ []
-  lines_over (Spent at same is) = []
-  lines_over (Behind line later incoming handed leads same is) = line ∷ []
+  abbrev pub lines_over : Over site count b c w x keeper ending withheld → List Line
+  lines_over (Stopped stop stops same ends none) = []
+  lines_over (ByLine line later handed same leads none) = line ∷ []
+  lines_over (AtMessage line later incoming handed leads ends) = line ∷ []
+  lines_over (Spent at same all is none) = []
 
-module _ {site : ℕ} {a c : Sourced} {v x : View} {ending : Ending} where
+module _ {site : ℕ} {a c : Sourced} {v x : View} {ending : Ending} {withheld : Option Untaken} where
   -- the same of the reading half; it read nothing if it could not begin
-  abbrev pub bytes_heard : Heard site a v c x ending → List ℕ
+  abbrev pub bytes_heard : Heard site a v c x ending withheld → List ℕ
   bytes_heard (inl h) = h.hears.handed.bytes ++ bytes_over h.over
   bytes_heard (inr h) = []
 
-  abbrev pub lines_heard : Heard site a v c x ending → List Line
+  abbrev pub lines_heard : Heard site a v c x ending withheld → List Line
   lines_heard (inl h) = h.hears.lines ++ lines_over h.over
   lines_heard (inr h) = []
 
-module _ {from : Option (List ℕ)} {v x : View} {ending : Ending} {failed : Bool} {lines : List Line} where
+module _ {from : Option (List ℕ)} {v x : View} {ending : Ending} {failed : Bool} {undone : Undone} {lines : List Line} where
   -- the same of any session
-  abbrev pub bytes_of : HasLines from v x ending failed lines → List ℕ
-  bytes_of (NoRoom same is are) = []
-  bytes_of (Early start last fresh ends) = bytes_early ends
+  abbrev pub bytes_of : HasLines from v x ending failed undone lines → List ℕ
+  bytes_of (NoRoom same is done are) = []
+  bytes_of (Early start last fresh ends done) = bytes_early ends
   bytes_of (Served start fresh served) = served.welcomed.hello.bytes ++ bytes_heard served.halves.hears
 
-  abbrev pub lines_of : HasLines from v x ending failed lines → List Line
-  lines_of (NoRoom same is are) = []
-  lines_of (Early start last fresh ends) = lines_early ends
+  abbrev pub lines_of : HasLines from v x ending failed undone lines → List Line
+  lines_of (NoRoom same is done are) = []
+  lines_of (Early start last fresh ends done) = lines_early ends
   lines_of (Served start fresh served) = Hello ∷ lines_heard served.halves.hears
 
-module _ {from old new : Option (List ℕ)} {v x : View} {ending : Ending} {failed : Bool} where
+module _ {from old new : Option (List ℕ)} {v x : View} {ending : Ending} {failed : Bool} {undone : Undone} where
   -- the bytes that the session read, except a piece that a failed allocation lost
-  abbrev pub bytes_read : IsExact from old new v x ending failed → List ℕ
+  abbrev pub bytes_read : IsExact from old new v x ending failed undone → List ℕ
   bytes_read e = bytes_of e.has_lines
 
   -- the lines of them that it looked at
-  abbrev pub lines_read : IsExact from old new v x ending failed → List Line
+  abbrev pub lines_read : IsExact from old new v x ending failed undone → List Line
   lines_read e = lines_of e.has_lines
 
   -- the bytes that its writer took
-  abbrev pub bytes_written : IsExact from old new v x ending failed → List ℕ
+  abbrev pub bytes_written : IsExact from old new v x ending failed undone → List ℕ
   bytes_written e = e.wrote.0
 
 -- these begin with those

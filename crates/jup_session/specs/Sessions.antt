@@ -1,15 +1,19 @@
 -- What a session hears, writes and asks of its hub.
-use Rattle.std.specs.Prelude.{◌≡◌, ℕ, ◌⊎◌, List, [], ◌∷◌, ◌++◌, length, Ok, Err, Option, Some, None, Result, ◌≢◌, IsSomeAnd}
+use Rattle.std.specs.Prelude.{◌≡◌, ◌<◌, ℕ, ◌⊎◌, List, [], ◌∷◌, ◌++◌, length, Ok, Err, Option, Some, None, Result, ◌≢◌, IsSomeAnd, Bool, IsTrue}
 use Rattle.std.specs.List.{AllByRecursion, flat_map}
 use Rattle.jup_session.specs.Prelude.{BoardBatch, NoLink, Call, Join, Take, Fetch, Leave, StarReply, JoinedReply, Fetched, Taken, Joined, Down, Up, BoardStar, Line, board_lines, HubEvent, Tally, View, HubFault, Made, Ending, SessionFault, Hub, Stream, StreamFault, NoMemory, ReadsSpent, WriteFailed, Incoming, Ring, Said, SaysUp, SaysBye, Stop, ending_of, last_line, down_lines, outcome, HasHeard, Leads, Keeper, Put, PutsLines, Sourced, HandsOn, Stops}
 use Rattle.jup_wire.specs.declared.line.Line.TheVariants as line
-use Rattle.jup_hub.specs.Histories.{IsLegal, calls_by, tally}
+use Rattle.jup_hub.specs.Histories.{IsLegal, calls_by, tally, Called}
 use Rattle.jup_rules.specs.declared.ends.SessionFault.TheVariants.{FarBehind}
-use Rattle.jup_rules.specs.declared.session.Awaits.{Awaits}
-use Rattle.jup_rules.specs.declared.session.Awaits.TheVariants.{Gate, Pongs, Nothing}
+use Rattle.jup_rules.specs.declared.session.Awaits.TheVariants.{Gate, Pongs}
 use Rattle.jup_rules.specs.declared.ends.Ending.TheVariants.{Gone, Fault as EndsByFault}
 use Rattle.jup_rules.specs.declared.session.Next.TheVariants.{Take as NextTake, End as NextEnd}
-use Rattle.jup_rules.specs.Sessions.{in_vain}
+use Rattle.jup_rules.specs.Sessions.{most_fetched}
+use Rattle.jup_rules.specs.Ends.{ended_untaken}
+use Rattle.jup_rules.specs.declared.ends.Untaken.{Untaken}
+use Rattle.jup_rules.specs.declared.ends.Untaken.TheVariants as untaken
+use Rattle.jup_limits.specs.Limits.{most_behind}
+use Rattle.jup_hub.specs.declared.fault.HubFault.TheVariants.{Star}
 use Rattle.jup_rules.specs.Prelude.{UpAck as Ack}
 use Rattle.jup_stream.specs.declared.faults.Stop.TheVariants.{End, Fault}
 
@@ -166,13 +170,39 @@ brought reply = []
 abbrev pub lines_brought : List HubEvent → List Line
 lines_brought calls = flat_map (λ e. flat_map down_lines (brought e.reply)) calls
 
--- a fetch for this site
+-- a fetch for this site, of as many messages as one asks for
 abbrev pub IsFetchFor : ℕ → Call → Type 0
-IsFetchFor site (Fetch i max) = i ≡ site
+IsFetchFor site (Fetch i max) = (i ≡ site) × (max ≡ most_fetched)
 IsFetchFor site call = ⊥
 
 abbrev pub AreFetchesFor : ℕ → List HubEvent → Type 0
 AreFetchesFor site calls = AllByRecursion (λ e. IsFetchFor site e.call) calls
+
+-- a fetch leaves nothing that waits: it brings fewer messages than it asks for, or finds that the site has no link
+abbrev pub LeavesNothing : StarReply → Type 0
+LeavesNothing (Fetched (Ok downs)) = length downs < most_fetched
+LeavesNothing (Fetched (Err NoLink)) = Unit {0}
+LeavesNothing reply = ⊥
+
+-- of these fetches the last one leaves nothing
+abbrev pub LastLeavesNothing : List HubEvent → Type 0
+LastLeavesNothing [] = ⊥
+LastLeavesNothing (e ∷ []) = LeavesNothing e.reply
+LastLeavesNothing (e ∷ f ∷ es) = LastLeavesNothing (f ∷ es)
+
+-- Why the writing half stops fetching, where a write has failed or not. The hub refuses a fetch for another reason than that the site has no link. Or there is
+-- no memory to note what a fetch brought. Or a write failed, or the site is too far behind
+abbrev pub StopsFetching : Bool → SessionFault → Type 0
+StopsFetching failed (Hub fault) = fault ≢ Star NoLink
+StopsFetching failed (Stream NoMemory) = Unit {0}
+StopsFetching failed (Stream WriteFailed) = IsTrue failed
+StopsFetching failed (FarBehind far) = most_behind < far.operations
+StopsFetching failed fault = ⊥
+
+-- all that waits for the site is fetched, unless the half stops for this fault
+abbrev pub FetchesAll : Bool → List HubEvent → Option SessionFault → Type 0
+FetchesAll failed fetches None = LastLeavesNothing fetches
+FetchesAll failed fetches (Some fault) = StopsFetching failed fault
 
 -- The pass made fetches for the site and no other call. The session put the lines of the messages that these brought, in order, and nothing else
 pub record Forwards (site : ℕ) (v : View) (a : Put) (w : View) (b : Put) : Type 0 where
@@ -183,6 +213,11 @@ pub record Forwards (site : ℕ) (v : View) (a : Put) (w : View) (b : Put) : Typ
   pub alone : AreFetchesFor site calls
   pub put : PutsLines a (lines_brought calls) b
 
+-- these fetches bring all that waits, unless a fault stops them
+pub record ForwardsAll (site : ℕ) (v : View) (a : Put) (w : View) (b : Put) (unsent : Option SessionFault) : Type 0 where
+  pub forwards : Forwards site v a w b
+  pub all : FetchesAll b.failed forwards.calls unsent
+
 -- one fetch brought these messages, or none if it was refused or not made
 pub record Brings (site : ℕ) (v w : View) (downs : List (Down BoardBatch)) : Type 0 where
   pub calls : List HubEvent
@@ -192,19 +227,15 @@ pub record Brings (site : ℕ) (v w : View) (downs : List (Down BoardBatch)) : T
   pub alone : AreFetchesFor site calls
   pub lines : lines_brought calls ≡ flat_map down_lines downs
 
--- By which faults the writing half ends a session. A fetch was refused, or there was no memory to note what it brought. Or a write failed, or the site is too
--- far behind
-abbrev pub IsOfWriting : SessionFault → Type 0
-IsOfWriting (Hub fault) = Unit {0}
-IsOfWriting (Stream NoMemory) = Unit {0}
-IsOfWriting (Stream WriteFailed) = Unit {0}
-IsOfWriting FarBehind = Unit {0}
-IsOfWriting fault = ⊥
+-- the hub answered the fetch; if that brought few messages, it leaves nothing
+pub record Answers (site : ℕ) (v w : View) (downs : List (Down BoardBatch)) : Type 0 where
+  pub brings : Brings site v w downs
+  pub few : length downs < most_fetched → LastLeavesNothing brings.calls
 
 -- the ending that the writing half reports to the site itself is that of such a fault
-abbrev pub TellsFault : Option Ending → Type 0
-TellsFault None = Unit {0}
-TellsFault (Some ending) = (fault : SessionFault) × IsOfWriting fault × (ending ≡ ending_of fault)
+abbrev pub TellsFault : Option Ending → Option SessionFault → Type 0
+TellsFault None unsent = Unit {0}
+TellsFault (Some ending) unsent = IsSomeAnd unsent (λ fault. ending ≡ ending_of fault)
 
 -- the last line, if the writing half writes it
 abbrev pub told_line : Option Ending → List Line
@@ -216,43 +247,38 @@ abbrev pub untold_line : Option Ending → Ending → List Line
 untold_line None ending = last_line ending ∷ []
 untold_line (Some told) ending = []
 
--- the writing half: it forwarded, departed, and reported a fault of its own
-pub record Wrote (site : ℕ) (v : View) (a : Put) (w : View) (b : Put) (told : Option Ending) : Type 0 where
+-- the writing half: it forwarded all, unless it stopped for a fault, departed, and reported such a fault of its own
+pub record Wrote (site : ℕ) (v : View) (a : Put) (w : View) (b : Put) (told : Option Ending) (unsent : Option SessionFault) : Type 0 where
   pub between : View
   pub middle : Put
-  pub forwards : Forwards site v a between middle
+  pub forwards : ForwardsAll site v a between middle unsent
   pub departs : Departs site between w
-  pub fault : TellsFault told
+  pub fault : TellsFault told unsent
   pub put : PutsLines middle (told_line told) b
 
--- What comes of a message of a site: whether the hub was called for it, and what follows from its answer.
+-- What comes of a message of a site.
 
 -- the hub was called once, to take this for the site, and that is its answer; or it was not called
 abbrev pub HasAnswered : ℕ → Up BoardBatch → View → View → Option (Result (Option ℕ) HubFault) → Type 0
 HasAnswered site up v w (Some answer) = Made (λ r. Taken r) (Take site up) v w answer
 HasAnswered site up v w None = w ≡ v
 
--- whether a message has to wait before it is taken
-abbrev pub HasToWait : Awaits → Type 0
-HasToWait (Gate nth) = Unit {0}
-HasToWait Pongs = Unit {0}
-HasToWait Nothing = ⊥
+-- Why the hub was not called for a message: the site was too far behind, the gate stayed shut for the edit that it is, or it is a ping and the session ended
+-- before few enough pongs were owed
+abbrev pub IsWithheld : Incoming → Untaken → Type 0
+IsWithheld incoming (untaken.FarBehind far) = most_behind < far.operations
+IsWithheld incoming (untaken.GateShut nth) = incoming.awaits ≡ Gate nth
+IsWithheld incoming untaken.Over = incoming.awaits ≡ Pongs
 
--- the hub was called for a message, unless the message waited in vain
-abbrev pub HasCalled : ℕ → Incoming → View → View → Option (Result (Option ℕ) HubFault) → Type 0
-HasCalled site incoming v w (Some answer) = HasAnswered site incoming.up v w (Some answer)
-HasCalled site incoming v w None = HasAnswered site incoming.up v w None × HasToWait incoming.awaits
+-- the hub was called to take a message, and took it
+abbrev pub HasTaken : ℕ → Incoming → View → View → Type 0
+HasTaken site incoming v w = (place : Option ℕ) × Called (Take site incoming.up) (Taken (Ok place)) v w
 
--- what follows from the answer, or from waiting in vain
-abbrev pub followed_by : Incoming → Option (Result (Option ℕ) HubFault) → Result Ring Ending
-followed_by incoming (Some answer) = outcome incoming.up answer
-followed_by incoming None = Err (in_vain incoming.awaits)
-
--- what came of a message: the hub was called for it once, or not at all, and that is what follows
-pub record IsHandled (site : ℕ) (incoming : Incoming) (v w : View) (followed : Result Ring Ending) : Type 0 where
-  pub answer : Option (Result (Option ℕ) HubFault)
-  pub called : HasCalled site incoming v w answer
-  pub follows : followed ≡ followed_by incoming answer
+-- how a session ends at a message that was not taken
+pub data EndsAt (site : ℕ) (incoming : Incoming) (v w : View) (ending : Ending) (withheld : Option Untaken) : Type 0 where
+  Refused : (answer : Result (Option ℕ) HubFault) → Made (λ r. Taken r) (Take site incoming.up) v w answer → outcome incoming.up answer ≡ Err ending → withheld ≡ None
+      → EndsAt site incoming v w ending withheld
+  Withheld : (why : Untaken) → IsWithheld incoming why → w ≡ v → ending ≡ ended_untaken why → withheld ≡ Some why → EndsAt site incoming v w ending withheld
 
 -- What the reading half of a session hears, and the calls that it makes of its hub for that.
 
@@ -287,34 +313,36 @@ pub record EndsBehind (keeper : Keeper) (stop : Stop) (ending : Ending) : Type 0
   pub gone : stop ≡ End → keeper.0 ≡ Some [] → ending ≡ Gone
   pub fault : (fault : StreamFault) → stop ≡ Fault fault → ending ≡ ending_of (Stream fault)
 
--- Why a session ends after these messages. No further line comes, or the next line ends it, which is a bye or is refused. Or the message that this line
--- completes was not taken, by the star's answer or since it waited in vain. Or there were as many lines as a session can have. Or the hub was not called for the
--- message that this line completes, since the site is too far behind
-pub data Over (site : ℕ) (b c : Sourced) (w x : View) (keeper : Keeper) (ending : Ending) : Type 0 where
-  Stopped : (stop : Stop) → Stops b stop c → x ≡ w → EndsBehind keeper stop ending → Over site b c w x keeper ending
+-- lines that one session hears
+abbrev pub most_lines : ℕ
+most_lines = 18446744073709551615
+
+-- Why a session ends after so many lines. No further line comes, or the next line ends it, which is a bye or is refused. Or the message that this line
+-- completes was not taken, by the star's answer or since it was withheld. Or there were as many lines as a session hears
+pub data Over (site count : ℕ) (b c : Sourced) (w x : View) (keeper : Keeper) (ending : Ending) (withheld : Option Untaken) : Type 0 where
+  Stopped : (stop : Stop) → Stops b stop c → x ≡ w → EndsBehind keeper stop ending → withheld ≡ None → Over site count b c w x keeper ending withheld
   ByLine : (line : Line) (later : Keeper) → HandsOn b (line ∷ []) c → x ≡ w
-      → ((lines : List Line) (saids : List Said) → HasHeard lines saids keeper → Leads lines saids keeper line (NextEnd ending) later) → Over site b c w x keeper ending
-  Untaken : (line : Line) (later : Keeper) (incoming : Incoming) → HandsOn b (line ∷ []) c
+      → ((lines : List Line) (saids : List Said) → HasHeard lines saids keeper → Leads lines saids keeper line (NextEnd ending) later) → withheld ≡ None
+      → Over site count b c w x keeper ending withheld
+  AtMessage : (line : Line) (later : Keeper) (incoming : Incoming) → HandsOn b (line ∷ []) c
       → ((lines : List Line) (saids : List Said) → HasHeard lines saids keeper → Leads lines saids keeper line (NextTake incoming) later)
-      → IsHandled site incoming w x (Err ending) → Over site b c w x keeper ending
-  Spent : c ≡ b → x ≡ w → ending ≡ ending_of (Stream ReadsSpent) → Over site b c w x keeper ending
-  Behind : (line : Line) (later : Keeper) (incoming : Incoming) → HandsOn b (line ∷ []) c
-      → ((lines : List Line) (saids : List Said) → HasHeard lines saids keeper → Leads lines saids keeper line (NextTake incoming) later)
-      → x ≡ w → ending ≡ ending_of FarBehind → Over site b c w x keeper ending
+      → EndsAt site incoming w x ending withheld → Over site count b c w x keeper ending withheld
+  Spent : c ≡ b → x ≡ w → count ≡ most_lines → ending ≡ ending_of (Stream ReadsSpent) → withheld ≡ None → Over site count b c w x keeper ending withheld
 
 -- all that the session heard and took, and why that ended
-pub record HearsAll (site : ℕ) (a : Sourced) (v : View) (c : Sourced) (x : View) (ending : Ending) : Type 0 where
+pub record HearsAll (site : ℕ) (a : Sourced) (v : View) (c : Sourced) (x : View) (ending : Ending) (withheld : Option Untaken) : Type 0 where
   pub before : Sourced
   pub pass : View
   pub keeper : Keeper
   pub hears : Hears site a v before pass keeper
-  pub over : Over site before c pass x keeper ending
+  pub over : Over site (length hears.lines) before c pass x keeper ending withheld
 
 -- the session could not start a thread, so it read nothing and took nothing
-pub record HearsNothing (a : Sourced) (v : View) (c : Sourced) (x : View) (ending : Ending) : Type 0 where
+pub record HearsNothing (a : Sourced) (v : View) (c : Sourced) (x : View) (ending : Ending) (withheld : Option Untaken) : Type 0 where
   pub source : c ≡ a
   pub pass : x ≡ v
   pub memory : ending ≡ ending_of (Stream NoMemory)
+  pub taken : withheld ≡ None
 
-abbrev pub Heard : ℕ → Sourced → View → Sourced → View → Ending → Type 0
-Heard site a v c x ending = HearsAll site a v c x ending ⊎ HearsNothing a v c x ending
+abbrev pub Heard : ℕ → Sourced → View → Sourced → View → Ending → Option Untaken → Type 0
+Heard site a v c x ending withheld = HearsAll site a v c x ending withheld ⊎ HearsNothing a v c x ending withheld

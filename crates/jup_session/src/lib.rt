@@ -8,6 +8,6 @@ mod sessions;
 pub use gate::{Gate, Open, pass_gate, take_edit};
 pub use jup_io::GiveUp;
 pub use jup_net::hang_up;
-pub use jup_rules::Ending;
+pub use jup_rules::{Ending, FarBehind, SessionFault, Untaken};
 pub use laws::one_session;
-pub use sessions::{Bell, Outgoing, Serving, Session, serve_link, serve_session};
+pub use sessions::{Bell, Outgoing, Serving, Session, Undone, serve_link, serve_session};

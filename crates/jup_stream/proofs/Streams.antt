@@ -1,11 +1,11 @@
 -- How lines are read, and bytes are put.
-use Rattle.std.proofs.Common.{arith, slice_get, drop, zero, suc, ◌+◌, ◌≡◌, ◌∙◌, sym, ap, subst, ℕ, inl, inr, List, [], ◌∷◌, ◌++◌, Option, Some, Result, Ok, Err, OnOk, OnErr, is_ok, refl, append_assoc, append-nil, rules, not, Bool, true, false, IsTrue, IsFalse, true≢false}
+use Rattle.std.proofs.Common.{arith, slice_get, drop, zero, suc, ◌+◌, ◌-◌, ◌≤◌, ◌<◌, ◌≢◌, length, length-drop, ◌≡◌, ◌∙◌, sym, ap, subst, ℕ, inl, inr, List, [], ◌∷◌, ◌++◌, Option, Some, Result, Ok, Err, OnOk, OnErr, is_ok, refl, append_assoc, append-nil, rules, not, Bool, true, false, IsTrue, IsFalse, true≢false}
 use Rattle.std.specs.Io.KnownBytes.{Consumes, Keeps, IsAtEnd, Appends}
 use Rattle.std.proofs.KnownBytes.{Consumes-nil, Consumes-trans, Consumes-kept}
 use Rattle.jup_io.specs.Appends.{appends_kept}
 use Rattle.jup_wire.specs.Streams.{Progress, HasRead, ending_at}
 use Rattle.jup_stream.specs.declared.faults.StreamFault.TheVariants.{Wire, NoMemory, ReadsSpent, ReadFailed}
-use Rattle.jup_stream.specs.Streams.{Sourced, sourced, ReadsOn, HandsOn, Stops, stop_of, Put, put_as, fresh_put, Puts, IsFlushed, WritesFront}
+use Rattle.jup_stream.specs.Streams.{most_reads, Sourced, sourced, ReadsOn, HandsOn, Stops, stop_of, Put, put_as, fresh_put, Puts, IsFlushed, WritesFront}
 use Rattle.jup_wire.specs.declared.line.Line.{Line}
 use Rattle.jup_stream.specs.declared.faults.Stop.{Stop}
 use Rattle.jup_stream.specs.declared.faults.Stop.TheVariants.{Fault}
@@ -17,23 +17,35 @@ pub reads_none : (a : Sourced) → ReadsOn a a
 reads_none a = record {
   bytes = [];
   consumed = Consumes-nil a.known;
+  counted = omega arith;
   goes_on = λ before lines h. subst (λ l. HasRead l (lines ++ a.waiting) a.progress) (sym (append-nil before)) h;
+}
+
+-- reads that gave nothing
+reads_counted : (w : Option (List ℕ)) (p : Progress) (waiting : List Line) (reads more : ℕ) → reads ≤ more → ReadsOn (sourced w p waiting reads) (sourced w p waiting more)
+reads_counted w p waiting reads more counted = record {
+  bytes = [];
+  consumed = Consumes-nil w;
+  counted = counted;
+  goes_on = λ before lines h. subst (λ l. HasRead l (lines ++ waiting) p) (sym (append-nil before)) h;
 }
 
 pub reads_both : (a b c : Sourced) → ReadsOn a b → ReadsOn b c → ReadsOn a c
 reads_both a b c one two = record {
   bytes = one.bytes ++ two.bytes;
   consumed = Consumes-trans a.known b.known c.known one.bytes two.bytes one.consumed two.consumed;
+  counted = omega (arith, one.counted, two.counted);
   goes_on = λ before lines h. subst (λ l. HasRead l (lines ++ c.waiting) c.progress) (append_assoc before one.bytes two.bytes) (two.goes_on (before ++ one.bytes) lines (one.goes_on before lines h));
 }
 
 -- one piece, if no line waits
-pub reads_piece : (w w' : Option (List ℕ)) (p p' : Progress) (waiting waiting' : List Line) (piece : List ℕ) → waiting ≡ [] → Consumes w w' piece
+pub reads_piece : (w w' : Option (List ℕ)) (p p' : Progress) (waiting waiting' : List Line) (piece : List ℕ) (reads more : ℕ) → waiting ≡ [] → reads ≤ more → Consumes w w' piece
     → ((before : List ℕ) (lines : List Line) → HasRead before lines p → HasRead (before ++ piece) (lines ++ waiting') p')
-    → ReadsOn (sourced w p waiting) (sourced w' p' waiting')
-reads_piece w w' p p' waiting waiting' piece none consumed fed = record {
+    → ReadsOn (sourced w p waiting reads) (sourced w' p' waiting' more)
+reads_piece w w' p p' waiting waiting' piece reads more none counted consumed fed = record {
   bytes = piece;
   consumed = consumed;
+  counted = counted;
   goes_on = λ before lines h. fed before lines (subst (λ l. HasRead before l p) (ap (λ l. lines ++ l) none ∙ append-nil lines) h);
 }
 
@@ -42,6 +54,7 @@ pub hands_more : (a b c : Sourced) (lines : List Line) (line : Line) → HandsOn
 hands_more a b c handed line one two = record {
   bytes = one.bytes ++ two.bytes;
   consumed = Consumes-trans a.known b.known c.known one.bytes two.bytes one.consumed two.consumed;
+  counted = omega (arith, one.counted, two.counted);
   goes_on = λ before lines h.
       subst (λ l. HasRead l (lines ++ ((handed ++ line ∷ []) ++ c.waiting)) c.progress) (append_assoc before one.bytes two.bytes)
       (subst (λ l. HasRead ((before ++ one.bytes) ++ two.bytes) l c.progress) (append_assoc lines handed (line ∷ c.waiting) ∙ ap (λ l. lines ++ l) (sym (append_assoc handed (line ∷ []) c.waiting)))
@@ -59,28 +72,29 @@ keeps_consumes : (w w' : Option (List ℕ)) → Keeps w w' → Consumes w w' []
 keeps_consumes w w' k = Consumes-kept w w w' [] (Consumes-nil w) k
 
 -- the bytes are at an end
-pub stops_end : (w w' : Option (List ℕ)) (p : Progress) (waiting : List Line) (stop : Stop) → waiting ≡ [] → stop ≡ stop_of (ending_at p.fault p.part) → Keeps w w' → IsAtEnd w'
-    → Stops (sourced w p waiting) stop (sourced w' p waiting)
-stops_end w w' p waiting stop none is kept over = subst (λ s. Stops (sourced w p waiting) s (sourced w' p waiting)) (sym is) (go (ending_at p.fault p.part) refl)
+pub stops_end : (w w' : Option (List ℕ)) (p : Progress) (waiting : List Line) (reads more : ℕ) (stop : Stop) → waiting ≡ [] → reads ≤ more → stop ≡ stop_of (ending_at p.fault p.part) → Keeps w w' → IsAtEnd w'
+    → Stops (sourced w p waiting reads) stop (sourced w' p waiting more)
+stops_end w w' p waiting reads more stop none counted is kept over = subst (λ s. Stops (sourced w p waiting reads) s (sourced w' p waiting more)) (sym is) (go (ending_at p.fault p.part) refl)
   where
-    go : (r : Result (Unit {0}) WireFault) → ending_at p.fault p.part ≡ r → Stops (sourced w p waiting) (stop_of r) (sourced w' p waiting)
-    go (Ok u) e = record { middle = w; reads = reads_none (sourced w p waiting); lost = []; consumed = keeps_consumes w w' kept; none = none; why = (e, over, refl) }
-    go (Err fault) e = record { middle = w; reads = reads_none (sourced w p waiting); lost = []; consumed = keeps_consumes w w' kept; none = none; why = (e, inr over, refl) }
+    go : (r : Result (Unit {0}) WireFault) → ending_at p.fault p.part ≡ r → Stops (sourced w p waiting reads) (stop_of r) (sourced w' p waiting more)
+    go (Ok u) e = record { middle = w; reads = reads_counted w p waiting reads more counted; lost = []; consumed = keeps_consumes w w' kept; none = none; why = (e, over, refl) }
+    go (Err fault) e = record { middle = w; reads = reads_counted w p waiting reads more counted; lost = []; consumed = keeps_consumes w w' kept; none = none; why = (e, inr over, refl) }
 
 -- a read failed
-pub stops_failed : (w w' : Option (List ℕ)) (p : Progress) (waiting : List Line) → waiting ≡ [] → Keeps w w'
-    → Stops (sourced w p waiting) (Fault ReadFailed) (sourced w' p waiting)
-stops_failed w w' p waiting none kept = record { middle = w; reads = reads_none (sourced w p waiting); lost = []; consumed = keeps_consumes w w' kept; none = none; why = refl }
+pub stops_failed : (w w' : Option (List ℕ)) (p : Progress) (waiting : List Line) (reads more : ℕ) → waiting ≡ [] → reads ≤ more → Keeps w w'
+    → Stops (sourced w p waiting reads) (Fault ReadFailed) (sourced w' p waiting more)
+stops_failed w w' p waiting reads more none counted kept =
+    record { middle = w; reads = reads_counted w p waiting reads more counted; lost = []; consumed = keeps_consumes w w' kept; none = none; why = refl }
 
--- no more reads are made
-pub stops_spent : (a : Sourced) → a.waiting ≡ [] → Stops a (Fault ReadsSpent) a
-stops_spent a none = record { middle = a.known; reads = reads_none a; lost = []; consumed = Consumes-nil a.known; none = none; why = refl }
+-- all reads were made
+pub stops_spent : (a : Sourced) → a.waiting ≡ [] → a.reads ≡ most_reads → Stops a (Fault ReadsSpent) a
+stops_spent a none spent = record { middle = a.known; reads = reads_none a; lost = []; consumed = Consumes-nil a.known; none = none; why = (refl, spent) }
 
 -- an allocation failed for a piece
-pub stops_memory : (w w' : Option (List ℕ)) (p p' : Progress) (waiting : List Line) (piece : List ℕ) → waiting ≡ [] → Consumes w w' piece → p' ≡ p
-    → Stops (sourced w p waiting) (Fault NoMemory) (sourced w' p' waiting)
-stops_memory w w' p p' waiting piece none consumed same = subst (λ q. Stops (sourced w p waiting) (Fault NoMemory) (sourced w' q waiting)) (sym same)
-    (record { middle = w; reads = reads_none (sourced w p waiting); lost = piece; consumed = consumed; none = none; why = tt })
+pub stops_memory : (w w' : Option (List ℕ)) (p p' : Progress) (waiting : List Line) (piece : List ℕ) (reads more : ℕ) → waiting ≡ [] → reads ≤ more → Consumes w w' piece → p' ≡ p
+    → Stops (sourced w p waiting reads) (Fault NoMemory) (sourced w' p' waiting more)
+stops_memory w w' p p' waiting piece reads more none counted consumed same = subst (λ q. Stops (sourced w p waiting reads) (Fault NoMemory) (sourced w' q waiting more)) (sym same)
+    (record { middle = w; reads = reads_counted w p waiting reads more counted; lost = piece; consumed = consumed; none = none; why = tt })
 
 -- the bytes have a fault
 pub stops_fault : (a : Sourced) (fault : WireFault) → a.waiting ≡ [] → a.progress.fault ≡ Some fault → Stops a (Fault (Wire fault)) a
@@ -104,10 +118,11 @@ stops_after a b c stop one two = record {
 }
 
 -- a line that waits is handed on
-pub hands_first : (a b : Sourced) (line : Line) → b.known ≡ a.known → b.progress ≡ a.progress → a.waiting ≡ line ∷ b.waiting → HandsOn a (line ∷ []) b
-hands_first a b line known progress waiting = record {
+pub hands_first : (a b : Sourced) (line : Line) → b.known ≡ a.known → b.progress ≡ a.progress → b.reads ≡ a.reads → a.waiting ≡ line ∷ b.waiting → HandsOn a (line ∷ []) b
+hands_first a b line known progress reads waiting = record {
   bytes = [];
   consumed = subst (λ k. Consumes a.known k []) (sym known) (Consumes-nil a.known);
+  counted = omega (arith, reads);
   goes_on = λ before lines h.
       subst (λ l. HasRead l (lines ++ line ∷ b.waiting) b.progress) (sym (append-nil before))
       (subst (λ p. HasRead before (lines ++ line ∷ b.waiting) p) (sym progress) (subst (λ l. HasRead before (lines ++ l) a.progress) waiting h));
@@ -121,6 +136,10 @@ pub drop_get : {A : Type 0} (xs : List A) (n : ℕ) (x : A) → slice_get xs n �
 drop_get [] n x e = absurd cc
 drop_get (y ∷ xs) zero x e = let same : y ≡ x = cc in ap (λ z. z ∷ xs) same
 drop_get (y ∷ xs) (suc n) x e = drop_get xs n x e ∙ ap (λ m. x ∷ drop m (y ∷ xs)) (let is : suc (n + 1) ≡ suc n + 1 = omega arith in is)
+
+-- and there are some before the end
+pub drop_some : {A : Type 0} (xs : List A) (n : ℕ) → n < length xs → drop n xs ≢ []
+drop_some xs n less none = let left : length xs - n ≡ 0 = sym (length-drop n xs) ∙ ap length none in omega (arith, less, left)
 
 -- How an output puts bytes.
 

@@ -1,5 +1,5 @@
 -- What is read and what is written.
-use Rattle.std.proofs.Common.{◌≡◌, ◌⊎◌, ℕ, List, [], ◌++◌, drop, Option, Some, None, Result, Ok, Err, ◌∙◌, sym, ap, subst, Bool, true, false, IsTrue, IsFalse, refl, true≢false, append_assoc, append-nil, flat_map}
+use Rattle.std.proofs.Common.{◌≡◌, ◌≤◌, ◌⊎◌, ℕ, List, [], ◌++◌, drop, Option, Some, None, Result, Ok, Err, ◌∙◌, sym, ap, subst, Bool, true, false, IsTrue, IsFalse, refl, true≢false, append_assoc, append-nil, flat_map}
 use Rattle.std.specs.Io.KnownBytes.{Consumes, IsAtEnd, Appends}
 use Rattle.std.proofs.lemmas.List.Concat.{flat_map-append}
 use Rattle.std.proofs.KnownBytes.{Appends-nil, Appends-trans}
@@ -18,14 +18,16 @@ use Rattle.jup_wire.specs.declared.faults.WireFault.{WireFault}
 abbrev pub most_reads : ℕ
 most_reads = 4294967295
 
--- the bytes that the reader has left, if they are known, how the bytes read so far were taken, and those lines that are still to be handed on
+-- The bytes that the reader has left, if they are known, how the bytes read so far were taken, and those lines that are still to be handed on. Then
+-- how many reads were made
 pub record Sourced : Type 0 where
   pub known : Option (List ℕ)
   pub progress : Progress
   pub waiting : List Line
+  pub reads : ℕ
 
-abbrev pub sourced : Option (List ℕ) → Progress → List Line → Sourced
-sourced known progress waiting = record { known = known; progress = progress; waiting = waiting }
+abbrev pub sourced : Option (List ℕ) → Progress → List Line → ℕ → Sourced
+sourced known progress waiting reads = record { known = known; progress = progress; waiting = waiting; reads = reads }
 
 -- the lines of a piece that were not handed on yet, and its fault
 abbrev pub waiting_of : Option Fed → ℕ → List Line
@@ -40,19 +42,20 @@ fault_of (Some fed) = fed.fault
 pub record ReadsOn (a b : Sourced) : Type 0 where
   pub bytes : List ℕ
   pub consumed : Consumes a.known b.known bytes
+  pub counted : a.reads ≤ b.reads
   pub goes_on : (before : List ℕ) (lines : List Line) → HasRead before (lines ++ a.waiting) a.progress → HasRead (before ++ bytes) (lines ++ b.waiting) b.progress
 
 -- these lines were handed on
 abbrev pub HandsOn : Sourced → List Line → Sourced → Type 0
 HandsOn a lines b = ReadsOn a (record b { waiting = lines ++ b.waiting })
 
--- why no further line comes. The bytes are at an end, between lines or within one; they have a fault; a read failed; an allocation failed; or no more reads are made
+-- why no further line comes. The bytes are at an end, between lines or within one; they have a fault; a read failed; an allocation failed; or all reads were made
 abbrev pub IsWhy : Stop → Sourced → List ℕ → Type 0
 IsWhy End b lost = (ending_at b.progress.fault b.progress.part ≡ Ok tt) × IsAtEnd b.known × (lost ≡ [])
 IsWhy (Fault (Wire fault)) b lost = (ending_at b.progress.fault b.progress.part ≡ Err fault) × ((b.progress.fault ≡ Some fault) ⊎ IsAtEnd b.known) × (lost ≡ [])
 IsWhy (Fault NoMemory) b lost = Unit {0}
 IsWhy (Fault ReadFailed) b lost = lost ≡ []
-IsWhy (Fault ReadsSpent) b lost = lost ≡ []
+IsWhy (Fault ReadsSpent) b lost = (lost ≡ []) × (b.reads ≡ most_reads)
 IsWhy (Fault fault) b lost = ⊥
 
 -- No further line comes. All lines were handed on; if an allocation failed for a piece that was read, its bytes are lost

@@ -1,5 +1,5 @@
 //! The lines of a reader, read piece by piece.
-ghost use Rattle.std.specs.Prelude.{◌≡◌, ◌≤◌, ◌<◌, ◌+◌, ℕ, List, [], ◌∷◌, ◌++◌, length, take, drop, IfOk, IfErr, OnOk, OnErr, IfSome, IfNone, IsSome, IsNone, IsTrue, IsFalse};
+ghost use Rattle.std.specs.Prelude.{◌≡◌, ◌≢◌, ◌≤◌, ◌<◌, ◌+◌, ℕ, List, [], ◌∷◌, ◌++◌, length, take, drop, IfOk, IfErr, OnOk, OnErr, IfSome, IfNone, IsSome, IsNone, IsTrue, IsFalse};
 ghost use Rattle.std.specs.Io.KnownBytes.{Consumes, Keeps, IsAtEnd};
 ghost use Rattle.jup_wire.specs.declared.line.Line.{Line};
 ghost use Rattle.jup_wire.specs.Streams.{HasRead, ending_at};
@@ -19,8 +19,8 @@ const PIECE: usize = 1_024;
 
 /// What comes by a link, as lines.
 ///
-/// Contracts see the bytes that the reader has left, if these are known. They see how the bytes read so far were taken, and the
-/// lines of them that are still to be handed on.
+/// Contracts see the bytes that the reader has left, if these are known. They see how the bytes read so far were taken, the lines of
+/// them that are still to be handed on, and how many reads were made.
 #[derive(Drop)]
 pub struct Source<I: Read + Drop> {
     from: I,
@@ -40,7 +40,7 @@ impl<I: Read + Drop> Model for Source<I> {
 
     ghost Value = { Sourced };
 
-    ghost view = { λ s. sourced (I.remaining s.from) s.reader (waiting_of s.fed s.given) };
+    ghost view = { λ s. sourced (I.remaining s.from) s.reader (waiting_of s.fed s.given) s.reads };
 
     ghost invariant = { λ s. s.reader.fault ≡ fault_of s.fed };
 }
@@ -51,6 +51,7 @@ impl<I: Read + Drop> Source<I> {
         ensures known { result.known ≡ I.remaining from }
         ensures read { HasRead [] [] result.progress }
         ensures waiting { result.waiting ≡ [] }
+        ensures reads { result.reads ≡ 0 }
     {
         Source {
             from,
@@ -63,7 +64,7 @@ impl<I: Read + Drop> Source<I> {
     }
 
     /// The next line: those of the last piece, then its fault, then those of further pieces.
-    #[tactic(auto, using(crate::proofs::Streams::hands_after, crate::proofs::Streams::stops_after, crate::proofs::Streams::stops_spent))]
+    #[tactic(auto, using(crate::proofs::Streams::hands_after))]
     pub fn next_line(&mut self, alloc: Global) -> Result<Line, Stop>
         ensures line { IfOk result (λ line. HandsOn self.old (line ∷ []) self.new) }
         ensures stop { IfErr result (λ stop. Stops self.old stop self.new) }
@@ -71,13 +72,15 @@ impl<I: Read + Drop> Source<I> {
         self.fill(alloc)?;
         match self.hand_on() {
             Some(line) => Ok(line),
-            None => Err(Stop::Fault(StreamFault::ReadsSpent)),
+            None => unreachable!(),
         }
     }
 
     /// Whether a line is there without a read.
+    #[tactic(auto, using(crate::proofs::Streams::drop_some))]
     pub fn has_line(&self) -> bool
-        ensures { IsFalse result → self.now.waiting ≡ [] }
+        ensures none { IsFalse result → self.now.waiting ≡ [] }
+        ensures some { IsTrue result → self.now.waiting ≢ [] }
     {
         match &self.fed {
             Some(fed) => self.given < fed.lines.as_slice().len(),
@@ -85,10 +88,11 @@ impl<I: Read + Drop> Source<I> {
         }
     }
 
-    /// Counts a read that somebody else makes with those of this source.
+    /// Counts a read that somebody else makes with those of this source. Refused if all were made.
     pub fn count_read(&mut self) -> Result<(), StreamFault>
-        ensures same { self.new ≡ self.old }
-        ensures fault { IfErr result (λ fault. fault ≡ StreamFault.ReadsSpent) }
+        ensures same { self.new ≡ record self.old { reads = self.new.reads } }
+        ensures counted { OnOk result (self.new.reads ≡ self.old.reads + 1) }
+        ensures spent { IfErr result (λ fault. (fault ≡ StreamFault.ReadsSpent) × (self.old.reads ≡ most_reads) × (self.new.reads ≡ self.old.reads)) }
     {
         if !count(&mut self.reads) {
             return Err(StreamFault::ReadsSpent);
@@ -126,6 +130,7 @@ impl<I: Read + Drop> Source<I> {
     #[tactic(auto, using(crate::proofs::Streams::reads_both, crate::proofs::Streams::stops_after, crate::proofs::Streams::stops_spent, crate::proofs::Streams::stops_fault))]
     fn fill(&mut self, alloc: Global) -> Result<(), Stop>
         ensures on { OnOk result (ReadsOn self.old self.new) }
+        ensures some { OnOk result (self.new.waiting ≢ []) }
         ensures stop { IfErr result (λ stop. Stops self.old stop self.new) }
     {
         for _ in 0..u64::MAX {
@@ -139,16 +144,16 @@ impl<I: Read + Drop> Source<I> {
                 return Err(stop);
             }
         }
-        if self.has_line() {
-            return Ok(());
-        }
-        Err(Stop::Fault(StreamFault::ReadsSpent))
+        // Each turn counted a read.
+        unreachable!()
     }
 
     // One read, whose lines are next. One that was interrupted gives none.
     fn read(&mut self, alloc: Global) -> Result<(), Stop>
         requires { self.old.waiting ≡ [] }
         ensures on { OnOk result (ReadsOn self.old self.new) }
+        ensures counted { OnOk result (self.new.reads ≡ self.old.reads + 1) }
+        ensures bounded { OnOk result (self.new.reads ≤ most_reads) }
         ensures stop { IfErr result (λ stop. Stops self.old stop self.new) }
     {
         if !count(&mut self.reads) {
@@ -181,7 +186,7 @@ pub fn count_read(reads: u32) -> Result<u32, StreamFault>
 
 // Counts one more read, if it may be made. Whether it may.
 fn count(reads: &mut u32) -> bool
-    ensures counted { IsTrue result → reads.new ≡ reads.old + 1 }
+    ensures counted { IsTrue result → (reads.old < most_reads) × (reads.new ≡ reads.old + 1) }
     ensures spent { IsFalse result → (reads.old ≡ most_reads) × (reads.new ≡ reads.old) }
 {
     match count_read(*reads) {

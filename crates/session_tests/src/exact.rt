@@ -23,7 +23,7 @@ fn serve_bytes<R: Threads + Wait + Clock + Sync>(
     pass: Pass,
 ) -> Session<Vec<u8>>
     requires { IsPassOf hub.now pass }
-    ensures { IsExact (Some said.now) (Some to.items) (Some result.writer.items) (view_of pass) (view_of result.pass) result.ending result.has_failed }
+    ensures { IsExact (Some said.now) (Some to.items) (Some result.writer.items) (view_of pass) (view_of result.pass) result.ending result.has_failed result.undone }
 {
     serve_session(rt, alloc, said, to, hub, pass, &Bell::new(), &Open)
 }
@@ -39,6 +39,7 @@ fn expect_written<R: Threads + Wait + Clock + Sync + Abort>(
     let (hub, pass) = open_hub(rt, alloc, EMPTY_TEXT, 100);
     let session = serve_bytes(rt, alloc, said, Vec::new(alloc), &hub, pass);
     expect_eq(rt, (session.ending, session.has_failed), (ending, false));
+    expect_eq(rt, (session.undone.untaken, session.undone.unsent), (None, None));
     expect_text(rt, session.writer.as_slice(), written);
 }
 

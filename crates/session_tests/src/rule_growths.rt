@@ -208,12 +208,12 @@ fn lag_fetch(rt: HostRuntime) {
     expect_eq(
         &rt,
         (lag.admit(&Up::Ping(1), 6), lag.behind(6)),
-        (Admission::Light, 1),
+        (Ok(Admission::Light), 1),
     );
     expect_eq(
         &rt,
         (lag.admit(&Up::Ack(1), 6), lag.behind(6)),
-        (Admission::Light, 0),
+        (Ok(Admission::Light), 0),
     );
 }
 

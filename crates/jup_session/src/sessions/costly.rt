@@ -1,11 +1,10 @@
 //! Takes that cost the others much.
-ghost use Rattle.std.specs.Prelude.{◌≡◌, IfErr};
-ghost use Rattle.jup_rules.specs.declared.ends.SessionFault.TheVariants.{FarBehind};
-ghost use Rattle.jup_rules.specs.Ends.{ending_of};
+ghost use Rattle.std.specs.Prelude.{◌<◌, IfErr};
+ghost use Rattle.jup_limits.specs.Limits.{most_behind};
 
 use super::due::Due;
 use super::link::SessionLink;
-use jup_rules::{Admission, Ending, SessionFault};
+use jup_rules::{Admission, FarBehind};
 use jup_star::Up;
 use std::sync::{MutexGuard, Wait};
 use std::thread;
@@ -28,11 +27,10 @@ pub(crate) fn enter<'a, R: Wait + Clock>(
     link: &SessionLink<'a>,
     up: &Up,
     due: &mut Due,
-) -> Result<Option<HeavyTurn<'a>>, Ending>
-    ensures { IfErr result (λ ending. ending ≡ ending_of FarBehind) }
+) -> Result<Option<HeavyTurn<'a>>, FarBehind>
+    ensures { IfErr result (λ far. most_behind < far.operations) }
 {
-    match link.watch.admit(rt, up) {
-        Admission::FarBehind => Err(SessionFault::FarBehind.into()),
+    match link.watch.admit(rt, up)? {
         Admission::Light => Ok(None),
         Admission::Costly => enter_costly(rt, link, due),
         admission => Ok(Some(begin(rt, link, admission, None))),
@@ -45,14 +43,12 @@ fn enter_costly<'a, R: Wait + Clock>(
     rt: &R,
     link: &SessionLink<'a>,
     due: &mut Due,
-) -> Result<Option<HeavyTurn<'a>>, Ending>
-    ensures { IfErr result (λ ending. ending ≡ ending_of FarBehind) }
+) -> Result<Option<HeavyTurn<'a>>, FarBehind>
+    ensures { IfErr result (λ far. most_behind < far.operations) }
 {
     due.ring(rt, link);
     let costly = link.bell.share().wait_for_costly(rt);
-    if link.watch.is_far_behind(rt) {
-        return Err(SessionFault::FarBehind.into());
-    }
+    link.watch.check(rt)?;
     Ok(Some(begin(rt, link, Admission::Costly, Some(costly))))
 }
 
@@ -102,7 +98,7 @@ pub(crate) fn leave_turn<R: Wait + Clock>(
             due.ring(rt, link);
             thread::sleep(rt, rest);
         }
-        Admission::Light | Admission::Heavy | Admission::FarBehind => drop(heavy),
+        Admission::Light | Admission::Heavy => drop(heavy),
     }
     drop(costly);
 }

@@ -2,10 +2,10 @@
 ghost use Rattle.std.specs.Prelude.{◌≡◌};
 ghost use Rattle.jup_hub.specs.Passes.{view_of, IsPassOf};
 ghost use Rattle.jup_stream.specs.Streams.{IsFlushed};
-ghost use Rattle.jup_session.specs.Sessions.{Wrote as HasWritten, Heard, HasMadeNone, HasServed};
+ghost use Rattle.jup_session.specs.Sessions.{Wrote as HasWritten, Heard as HasHeard, HasMadeNone, HasServed};
 
 use super::link::SessionLink;
-use super::reading::read_half;
+use super::reading::{Heard, read_half};
 use super::writing::{Wrote, write_half};
 use crate::Gate;
 use jup_hub::Pass;
@@ -23,7 +23,7 @@ use std::time::Clock;
 pub(crate) struct Halves<I: Read + Drop, O: Write + Drop> {
     pub(crate) source: Source<I>,
     pub(crate) pass: Pass,
-    pub(crate) heard: Ending,
+    pub(crate) heard: Heard,
     pub(crate) wrote: Wrote<O>,
 }
 
@@ -41,7 +41,7 @@ impl<'a, O: Write + Drop> Promise<Wrote<O>> for Writing<'a, O> {
     ghost use Rattle.jup_session.specs.Sessions.{Wrote as HasWritten, HasServed};
 
     ghost kept_by = { λ p r. IsPassOf p.link.now.hub.now r.pass × HasServed p.link.now.site (view_of r.pass)
-        × HasWritten p.link.now.site (view_of p.pass.value) p.output.value (view_of r.pass) r.output r.told × IsFlushed r.output };
+        × HasWritten p.link.now.site (view_of p.pass.value) p.output.value (view_of r.pass) r.output r.told r.unsent × IsFlushed r.output };
 }
 
 /// The reading half runs here, the writing half in a thread of its own. Where that can't be started nothing is read, and the writing
@@ -67,8 +67,8 @@ pub(crate) fn both_halves<
     ensures one { IsPassOf link.now.hub.now result.pass }
     ensures two { IsPassOf link.now.hub.now result.wrote.pass }
     ensures served { HasServed link.now.site (view_of result.wrote.pass) }
-    ensures hears { Heard link.now.site source (view_of pass) result.source (view_of result.pass) result.heard }
-    ensures wrote { HasWritten link.now.site (view_of theirs) output (view_of result.wrote.pass) result.wrote.output result.wrote.told }
+    ensures hears { HasHeard link.now.site source (view_of pass) result.source (view_of result.pass) result.heard.ending result.heard.untaken }
+    ensures wrote { HasWritten link.now.site (view_of theirs) output (view_of result.wrote.pass) result.wrote.output result.wrote.told result.wrote.unsent }
     ensures flushed { IsFlushed result.wrote.output }
 {
     thread::scope(
@@ -78,8 +78,8 @@ pub(crate) fn both_halves<
             requires { IsPassOf link.now.hub.now pass × IsPassOf link.now.hub.now theirs × HasMadeNone (view_of theirs) × IsFlushed output }
             ensures { IsPassOf link.entry.now.hub.now result.pass × IsPassOf link.entry.now.hub.now result.wrote.pass
                 × HasServed link.entry.now.site (view_of result.wrote.pass)
-                × Heard link.entry.now.site source (view_of pass) result.source (view_of result.pass) result.heard
-                × HasWritten link.entry.now.site (view_of theirs) output (view_of result.wrote.pass) result.wrote.output result.wrote.told
+                × HasHeard link.entry.now.site source (view_of pass) result.source (view_of result.pass) result.heard.ending result.heard.untaken
+                × HasWritten link.entry.now.site (view_of theirs) output (view_of result.wrote.pass) result.wrote.output result.wrote.told result.wrote.unsent
                 × IsFlushed result.wrote.output }
         {
             let promise = Writing {
@@ -92,7 +92,7 @@ pub(crate) fn both_halves<
                 move || -> Wrote<O>
                     requires { IsPassOf link.now.hub.now theirs × HasMadeNone (view_of theirs) × IsFlushed output }
                     ensures { IsPassOf link.entry.now.hub.now result.pass × HasServed link.entry.now.site (view_of result.pass)
-                        × HasWritten link.entry.now.site (view_of theirs) output (view_of result.pass) result.output result.told × IsFlushed result.output }
+                        × HasWritten link.entry.now.site (view_of theirs) output (view_of result.pass) result.output result.told result.unsent × IsFlushed result.output }
                 { write_half(rt, output, link, theirs) },
             );
             match child {
@@ -109,7 +109,7 @@ pub(crate) fn both_halves<
                 Err(refused) => {
                     link.end(rt);
                     let wrote = (refused.value)();
-                    let heard = StreamFault::NoMemory.into();
+                    let heard = Ending::from(StreamFault::NoMemory).into();
                     Halves {
                         source,
                         pass,

@@ -1,36 +1,72 @@
 //! The half of a session that reads and takes.
+ghost use Rattle.std.specs.Prelude.{◌≡◌, IfOk, IfErr, Some};
 ghost use Rattle.jup_hub.specs.Passes.{view_of, IsPassOf};
-ghost use Rattle.jup_session.specs.Sessions.{HasCalled, IsHandled, HearsAll};
+ghost use Rattle.jup_session.specs.Sessions.{EndsAt, HasAnswered, HasTaken, HearsAll, IsWithheld};
 
 use super::costly::{enter, leave_turn};
 use super::due::Due;
 use super::link::SessionLink;
 use crate::{Gate, take_edit};
 use jup_hub::{HubFault, Pass};
-use jup_rules::{Awaits, Ending, Gatekeeper, Incoming, Next, Ring, ring_after};
+use jup_rules::{Awaits, Ending, Gatekeeper, Incoming, Next, Ring, Untaken, ring_after};
 use jup_stream::{Source, StreamFault};
 use std::io::Read;
 use std::sync::Wait;
 use std::time::Clock;
 
-/// Takes what the site sends, up to the ending, which it answers.
+/// How the reading half ended.
+#[derive(Clone, Copy)]
+pub(crate) struct Heard {
+    pub(crate) ending: Ending,
+    /// Why the last message was not taken although the star was not asked; `None` if there was none such.
+    pub(crate) untaken: Option<Untaken>,
+}
+
+impl From<Ending> for Heard {
+    ghost use Rattle.std.specs.Prelude.{None};
+
+    ghost from_gives = { λ ending made. (made.ending ≡ ending) × (made.untaken ≡ None) };
+
+    fn from(ending: Ending) -> Heard {
+        Heard {
+            ending,
+            untaken: None,
+        }
+    }
+}
+
+impl From<Untaken> for Heard {
+    ghost use Rattle.std.specs.Prelude.{Some};
+    ghost use Rattle.jup_rules.specs.Ends.{ended_untaken};
+
+    ghost from_gives = { λ why made. (made.ending ≡ ended_untaken why) × (made.untaken ≡ Some why) };
+
+    fn from(why: Untaken) -> Heard {
+        Heard {
+            ending: why.into(),
+            untaken: Some(why),
+        }
+    }
+}
+
+/// Takes what the site sends, and answers how that ended.
 pub(crate) fn read_half<R: Wait + Clock, I: Read + Drop, G: Gate>(
     rt: &R,
     source: &mut Source<I>,
     link: &SessionLink<'_>,
     pass: &mut Pass,
     gate: &G,
-) -> Ending
+) -> Heard
     requires { IsPassOf link.now.hub.now pass.old }
     ensures pass { IsPassOf link.now.hub.now pass.new }
-    ensures hears { HearsAll link.now.site source.old (view_of pass.old) source.new (view_of pass.new) result }
+    ensures hears { HearsAll link.now.site source.old (view_of pass.old) source.new (view_of pass.new) result.ending result.untaken }
 {
     let mut due = Due::new();
-    let ending = hear_all(rt, source, link, pass, gate, &mut due);
+    let heard = hear_all(rt, source, link, pass, gate, &mut due);
     // Noted before anybody is woken: the other half then sees it.
     link.end(rt);
     due.ring(rt, link);
-    ending
+    heard
 }
 
 // Takes message after message, each once its last line is there and the site is not too far behind.
@@ -41,10 +77,10 @@ fn hear_all<R: Wait + Clock, I: Read + Drop, G: Gate>(
     pass: &mut Pass,
     gate: &G,
     due: &mut Due,
-) -> Ending
+) -> Heard
     requires { IsPassOf link.now.hub.now pass.old }
     ensures pass { IsPassOf link.now.hub.now pass.new }
-    ensures hears { HearsAll link.now.site source.old (view_of pass.old) source.new (view_of pass.new) result }
+    ensures hears { HearsAll link.now.site source.old (view_of pass.old) source.new (view_of pass.new) result.ending result.untaken }
 {
     let mut keeper = Gatekeeper::new();
     for _ in 0..u64::MAX {
@@ -53,28 +89,27 @@ fn hear_all<R: Wait + Clock, I: Read + Drop, G: Gate>(
         }
         let line = match source.next_line(link.alloc) {
             Ok(line) => line,
-            Err(stop) => return keeper.end(stop),
+            Err(stop) => return keeper.end(stop).into(),
         };
         let incoming = match keeper.hear(link.alloc, &line) {
             Next::Line => continue,
             Next::Take(incoming) => incoming,
-            Next::End(ending) => return ending,
+            Next::End(ending) => return ending.into(),
         };
         let turn = match enter(rt, link, &incoming.up, due) {
             Ok(turn) => turn,
-            Err(ending) => return ending,
+            Err(far) => return Untaken::FarBehind(far).into(),
         };
         match handle(rt, link, pass, gate, &incoming, due) {
             Ok(ring) => due.add(ring),
-            Err(ending) => return ending,
+            Err(heard) => return heard,
         }
         leave_turn(rt, link, &incoming.up, turn, due);
     }
-    StreamFault::ReadsSpent.into()
+    Ending::from(StreamFault::ReadsSpent).into()
 }
 
 // What comes of a message: whom it rings, or how the session ends.
-#[tactic(auto, using(crate::proofs::Calls::handled_so))]
 fn handle<R: Wait, G: Gate>(
     rt: &R,
     link: &SessionLink<'_>,
@@ -82,19 +117,22 @@ fn handle<R: Wait, G: Gate>(
     gate: &G,
     incoming: &Incoming,
     due: &mut Due,
-) -> Result<Ring, Ending>
+) -> Result<Ring, Heard>
     requires { IsPassOf link.now.hub.now pass.old }
     ensures pass { IsPassOf link.now.hub.now pass.new }
-    ensures handled { IsHandled link.now.site incoming.now (view_of pass.old) (view_of pass.new) result }
+    ensures taken { IfOk result (λ ring. HasTaken link.now.site incoming.now (view_of pass.old) (view_of pass.new)) }
+    ensures ends { IfErr result (λ heard. EndsAt link.now.site incoming.now (view_of pass.old) (view_of pass.new) heard.ending heard.untaken) }
 {
     match take(rt, link, pass, gate, incoming, due) {
-        Some(answer) => ring_after(&incoming.up, answer),
-        None => Err(incoming.awaits.in_vain()),
+        Ok(answer) => match ring_after(&incoming.up, answer) {
+            Ok(ring) => Ok(ring),
+            Err(ending) => Err(ending.into()),
+        },
+        Err(why) => Err(why.into()),
     }
 }
 
-// Has the hub take a message, once what it waits for has come. `None` if that does not come.
-#[tactic(auto, using(crate::proofs::Calls::edit_called, crate::proofs::Calls::ping_left))]
+// Has the hub take a message, once what it waits for has come. Refused if that does not come.
 fn take<R: Wait, G: Gate>(
     rt: &R,
     link: &SessionLink<'_>,
@@ -102,10 +140,11 @@ fn take<R: Wait, G: Gate>(
     gate: &G,
     incoming: &Incoming,
     due: &mut Due,
-) -> Option<Result<Option<u32>, HubFault>>
+) -> Result<Result<Option<u32>, HubFault>, Untaken>
     requires { IsPassOf link.now.hub.now pass.old }
     ensures pass { IsPassOf link.now.hub.now pass.new }
-    ensures called { HasCalled link.now.site incoming.now (view_of pass.old) (view_of pass.new) result }
+    ensures called { IfOk result (λ answer. HasAnswered link.now.site incoming.now.up (view_of pass.old) (view_of pass.new) (Some answer)) }
+    ensures withheld { IfErr result (λ why. IsWithheld incoming.now why × (view_of pass.new ≡ view_of pass.old)) }
 {
     let up = &incoming.up;
     match incoming.awaits {
@@ -119,10 +158,11 @@ fn take<R: Wait, G: Gate>(
             nth,
             up,
             || due.ring(rt, link),
-        ),
-        Awaits::Pongs if !take_ping(rt, link, due) => None,
+        )
+        .ok_or(Untaken::GateShut(nth)),
+        Awaits::Pongs if !take_ping(rt, link, due) => Err(Untaken::Over),
         Awaits::Pongs | Awaits::Nothing => {
-            Some(link.hub.take(rt, link.alloc, pass, link.site, up))
+            Ok(link.hub.take(rt, link.alloc, pass, link.site, up))
         }
     }
 }

@@ -8,13 +8,13 @@ ghost use Rattle.jup_stream.specs.Streams.{PutsLines, IsFlushed, WritesFront};
 ghost use Rattle.jup_session.specs.ExactSessions.{BothHalves, HasLines, IsExact};
 ghost use Rattle.jup_session.specs.Sessions.{BothServe, IsSession};
 
-use super::Bell;
 use super::ending::tell_untold;
 use super::greeting::begin;
 use super::halves::both_halves;
 use super::link::SessionLink;
 use super::watch::Watch;
 use super::watched::Watched;
+use super::{Bell, Undone};
 use crate::Gate;
 use jup_hub::{Hub, Pass};
 use jup_io::{GiveUp, Lasting};
@@ -48,6 +48,7 @@ pub struct Session<O: Write + Drop> {
     pub writer: O,
     /// Whether a write has failed. The writer lacks the lines from there on.
     pub has_failed: bool,
+    pub undone: Undone,
 }
 
 impl<'a, G: Gate> Serving<'a, G> {
@@ -67,7 +68,7 @@ impl<'a, G: Gate> Serving<'a, G> {
         requires { IsPassOf self.now.hub.now pass }
         ensures pass { IsPassOf self.now.hub.now result.pass }
         ensures session { IsSession (view_of pass) (view_of result.pass) }
-        ensures exact { IsExact (I.remaining reader) (O.contents writer) (O.contents result.writer) (view_of pass) (view_of result.pass) result.ending result.has_failed }
+        ensures exact { IsExact (I.remaining reader) (O.contents writer) (O.contents result.writer) (view_of pass) (view_of result.pass) result.ending result.has_failed result.undone }
     {
         let watch = Watch::new(self.alloc, self.bell);
         match Output::new(self.alloc, Watched::new(rt, &watch, writer)) {
@@ -79,6 +80,7 @@ impl<'a, G: Gate> Serving<'a, G> {
                     ending: served.ending,
                     writer: served.output.into_writer().into_inner(),
                     has_failed,
+                    undone: served.undone,
                 }
             }
             Err(watched) => {
@@ -89,6 +91,7 @@ impl<'a, G: Gate> Serving<'a, G> {
                     ending: StreamFault::NoMemory.into(),
                     writer,
                     has_failed,
+                    undone: Undone::NOTHING,
                 }
             }
         }
@@ -138,7 +141,7 @@ pub fn serve_session<
     requires { IsPassOf hub.now pass }
     ensures pass { IsPassOf hub.now result.pass }
     ensures session { IsSession (view_of pass) (view_of result.pass) }
-    ensures exact { IsExact (I.remaining reader) (O.contents writer) (O.contents result.writer) (view_of pass) (view_of result.pass) result.ending result.has_failed }
+    ensures exact { IsExact (I.remaining reader) (O.contents writer) (O.contents result.writer) (view_of pass) (view_of result.pass) result.ending result.has_failed result.undone }
 {
     let serving = Serving {
         alloc,
@@ -151,12 +154,14 @@ pub fn serve_session<
         ending,
         writer,
         has_failed,
+        undone,
     } = serving.serve(rt, reader, Lasting(writer), pass);
     Session {
         pass,
         ending,
         writer: writer.0,
         has_failed,
+        undone,
     }
 }
 
@@ -177,6 +182,7 @@ struct Served<O: Write + Drop> {
     pass: Pass,
     ending: Ending,
     output: Output<O>,
+    undone: Undone,
 }
 
 // A session that has room for its lines.
@@ -191,7 +197,7 @@ fn serve_lines<R: Threads + Wait + Clock + Sync, I: Read + Drop, O: Write + Send
     requires pass { IsPassOf serving.now.hub.now pass }
     ensures pass { IsPassOf serving.now.hub.now result.pass }
     ensures session { IsSession (view_of pass) (view_of result.pass) }
-    ensures lines { (lines : List Line) × HasLines (I.remaining reader) (view_of pass) (view_of result.pass) result.ending result.output.failed lines
+    ensures lines { (lines : List Line) × HasLines (I.remaining reader) (view_of pass) (view_of result.pass) result.ending result.output.failed result.undone lines
         × PutsLines output lines result.output }
     ensures flushed { IsFlushed result.output }
 {
@@ -213,6 +219,7 @@ fn serve_lines<R: Threads + Wait + Clock + Sync, I: Read + Drop, O: Write + Send
             pass,
             ending,
             output,
+            undone: Undone::NOTHING,
         },
     }
 }
@@ -230,18 +237,24 @@ fn serve_halves<R: Threads + Wait + Clock + Sync, I: Read + Drop, O: Write + Sen
     requires flushed { IsFlushed output }
     ensures pass { IsPassOf link.now.hub.now result.pass }
     ensures served { BothServe link.now.site (view_of pass) (view_of result.pass) }
-    ensures halves { (lines : List Line) × BothHalves link.now.site source (view_of pass) (view_of result.pass) result.ending lines × PutsLines output lines result.output }
+    ensures halves { (lines : List Line) × BothHalves link.now.site source (view_of pass) (view_of result.pass) result.ending result.output.failed result.undone lines × PutsLines output lines result.output }
     ensures flushed { IsFlushed result.output }
 {
     let theirs = link.hub.split(&mut pass);
     let halves = both_halves(rt, source, output, link, pass, theirs, gate);
     let mut pass = halves.pass;
-    link.hub.rejoin(&mut pass, halves.wrote.pass);
-    let mut output = halves.wrote.output;
-    let ending = tell_untold(&mut output, halves.wrote.told, halves.heard);
+    let heard = halves.heard;
+    let wrote = halves.wrote;
+    link.hub.rejoin(&mut pass, wrote.pass);
+    let mut output = wrote.output;
+    let ending = tell_untold(&mut output, wrote.told, heard.ending);
     Served {
         pass,
         ending,
         output,
+        undone: Undone {
+            untaken: heard.untaken,
+            unsent: wrote.unsent,
+        },
     }
 }

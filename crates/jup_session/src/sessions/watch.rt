@@ -1,9 +1,10 @@
 //! How far the site of a session is behind, as both halves see it.
-ghost use Rattle.std.specs.Prelude.{◌≡◌, IfErr};
+ghost use Rattle.std.specs.Prelude.{◌≡◌, ◌<◌, IfErr};
+ghost use Rattle.jup_limits.specs.Limits.{most_behind};
 
 use super::Bell;
 use super::share::Share;
-use jup_rules::{Admission, Lag, SessionFault, is_far_behind, operations_in};
+use jup_rules::{Admission, FarBehind, Lag, operations_in};
 use jup_star::{Down, Up};
 use jup_stream::StreamFault;
 use std::alloc::Global;
@@ -33,23 +34,17 @@ impl<'a> Watch<'a> {
         *self.lag.lock(rt) = Lag::new(self.alloc, self.share.taken());
     }
 
-    /// Whether the site is too far behind, so that its session ends.
-    pub(crate) fn is_far_behind<R: Wait>(&self, rt: &R) -> bool {
-        is_far_behind(self.lag.lock(rt).behind(self.share.taken()))
-    }
-
     /// Refused if the site is too far behind.
-    pub(crate) fn check<R: Wait>(&self, rt: &R) -> Result<(), SessionFault>
-        ensures { IfErr result (λ fault. fault ≡ SessionFault.FarBehind) }
+    pub(crate) fn check<R: Wait>(&self, rt: &R) -> Result<(), FarBehind>
+        ensures { IfErr result (λ far. most_behind < far.operations) }
     {
-        if self.is_far_behind(rt) {
-            return Err(SessionFault::FarBehind);
-        }
-        Ok(())
+        self.lag.lock(rt).check(self.share.taken())
     }
 
-    /// Decides what becomes of a message of the site.
-    pub(crate) fn admit<R: Wait>(&self, rt: &R, up: &Up) -> Admission {
+    /// Decides what becomes of a message of the site. Refused if the site is too far behind.
+    pub(crate) fn admit<R: Wait>(&self, rt: &R, up: &Up) -> Result<Admission, FarBehind>
+        ensures { IfErr result (λ far. most_behind < far.operations) }
+    {
         self.lag.lock(rt).admit(up, self.share.taken())
     }
 

@@ -42,7 +42,7 @@ impl<'a, R: Wait, O: GiveUp + Drop> Write for Watched<'a, R, O> {
     ghost contents = { λ w. O.contents w.to };
 
     fn write(&mut self, buf: &[u8]) -> io::Result<usize> {
-        if self.is_waiting && self.watch.is_far_behind(self.rt) {
+        if self.is_waiting && self.watch.check(self.rt).is_err() {
             self.to.give_up();
             return Err(io::Error::from(ErrorKind::TimedOut));
         }

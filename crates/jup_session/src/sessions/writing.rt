@@ -1,10 +1,11 @@
 //! The half of a session that fetches and writes.
-ghost use Rattle.std.specs.Prelude.{◌≡◌, ◌↔◌, [], IsTrue, IfOk, IfErr, IfSome, OnErr, IfNone};
+ghost use Rattle.std.specs.Prelude.{◌≡◌, ◌<◌, ◌↔◌, [], Bool, Some, IsTrue, IfOk, IfErr, IfSome, OnErr, IfNone, length};
+ghost use Rattle.std.specs.Result.{result_err};
 ghost use Rattle.std.specs.List.{flat_map};
 ghost use Rattle.jup_hub.specs.Passes.{view_of, IsPassOf};
-ghost use Rattle.jup_rules.specs.Sessions.{down_lines};
+ghost use Rattle.jup_rules.specs.Sessions.{down_lines, most_fetched};
 ghost use Rattle.jup_stream.specs.Streams.{PutsLines, IsFlushed};
-ghost use Rattle.jup_session.specs.Sessions.{Brings, Forwards, IsOfWriting, TellsFault, Wrote as HasWritten, told_line, Leaves, HasMadeNone, HasServed};
+ghost use Rattle.jup_session.specs.Sessions.{Answers, Brings, Forwards, ForwardsAll, StopsFetching, TellsFault, Wrote as HasWritten, told_line, Leaves, HasMadeNone, HasServed};
 
 use super::ending::tell;
 use super::leaving::leave;
@@ -26,6 +27,14 @@ enum AfterFetch {
     Gone,
 }
 
+/// How the writing half came to its last fetch.
+#[derive(Clone, Copy)]
+struct Forwarded {
+    left: Result<AfterFetch, SessionFault>,
+    /// Whether the other half had ended before that. Then its ending counts.
+    is_over: bool,
+}
+
 /// What the writing half gives back.
 #[derive(Drop)]
 pub(crate) struct Wrote<O: Write + Drop> {
@@ -33,6 +42,8 @@ pub(crate) struct Wrote<O: Write + Drop> {
     pub(crate) output: Output<O>,
     /// The ending that it reported to the site itself: a fault of its own.
     pub(crate) told: Option<Ending>,
+    /// The fault for which it did not fetch all that waited; `None` if it did.
+    pub(crate) unsent: Option<SessionFault>,
 }
 
 /// Writes what the hub has for the site until the other half has ended, and leaves. It reports a fault of its own to the site
@@ -48,17 +59,22 @@ pub(crate) fn write_half<R: Wait, O: Write + Drop>(
     requires flushed { IsFlushed output }
     ensures pass { IsPassOf link.now.hub.now result.pass }
     ensures served { HasServed link.now.site (view_of result.pass) }
-    ensures wrote { HasWritten link.now.site (view_of pass) output (view_of result.pass) result.output result.told }
+    ensures wrote { HasWritten link.now.site (view_of pass) output (view_of result.pass) result.output result.told result.unsent }
     ensures flushed { IsFlushed result.output }
 {
-    let left = forward_all(rt, &mut output, link, &mut pass);
-    let is_gone = is_gone(&left);
+    let forwarded = forward_all(rt, &mut output, link, &mut pass);
+    let is_gone = is_gone(&forwarded.left);
     if !is_gone {
         leave(rt, link.alloc, link.hub, &mut pass, link.site);
     }
-    let told = tell_fault(&mut output, left);
+    let told = tell_fault(&mut output, &forwarded);
     link.end(rt);
-    Wrote { pass, output, told }
+    Wrote {
+        pass,
+        output,
+        told,
+        unsent: forwarded.left.err(),
+    }
 }
 
 // Whether the site has no link any more.
@@ -68,23 +84,19 @@ fn is_gone(left: &Result<AfterFetch, SessionFault>) -> bool
     matches!(left, Ok(AfterFetch::Gone))
 }
 
-// Reports a fault to the site, and answers the ending that it reported.
-fn tell_fault<O: Write + Drop>(
-    output: &mut Output<O>,
-    left: Result<AfterFetch, SessionFault>,
-) -> Option<Ending>
-    requires { IfErr left IsOfWriting }
+// Reports a fault to the site, unless the other half had ended before, and answers the ending that it reported.
+fn tell_fault<O: Write + Drop>(output: &mut Output<O>, forwarded: &Forwarded) -> Option<Ending>
     ensures put { PutsLines output.old (told_line result) output.new }
-    ensures fault { TellsFault result }
+    ensures fault { TellsFault result (result_err forwarded.now.left) }
     ensures flushed { IsFlushed output.old → IsFlushed output.new }
 {
-    match left {
-        Ok(_) => None,
-        Err(fault) => {
+    match forwarded.left {
+        Err(fault) if !forwarded.is_over => {
             let ending = fault.into();
             tell(output, ending);
             Some(ending)
         }
+        _ => None,
     }
 }
 
@@ -94,14 +106,13 @@ fn forward_all<R: Wait, O: Write + Drop>(
     output: &mut Output<O>,
     link: &SessionLink<'_>,
     pass: &mut Pass,
-) -> Result<AfterFetch, SessionFault>
+) -> Forwarded
     requires pass { IsPassOf link.now.hub.now pass.old }
     requires flushed { IsFlushed output.old }
     ensures pass { IsPassOf link.now.hub.now pass.new }
-    ensures forwards { Forwards link.now.site (view_of pass.old) output.old (view_of pass.new) output.new }
+    ensures forwards { ForwardsAll link.now.site (view_of pass.old) output.old (view_of pass.new) output.new (result_err result.left) }
     ensures flushed { IsFlushed output.new }
-    ensures gone { result ≡ Ok AfterFetch.Gone → Leaves link.now.site (view_of pass.old) (view_of pass.new) }
-    ensures fault { IfErr result IsOfWriting }
+    ensures gone { result.left ≡ Ok AfterFetch.Gone → Leaves link.now.site (view_of pass.old) (view_of pass.new) }
 {
     let mut seen = 0;
     for _ in rt.forever() {
@@ -110,34 +121,40 @@ fn forward_all<R: Wait, O: Write + Drop>(
         let is_over = link.is_over();
         let has_news = link.hub.news(pass);
         if is_over {
-            return Ok(forward_last(rt, output, link, pass));
+            // What fails from here on is no fault any more: the ending of the other half counts.
+            let left = forward(rt, output, link, pass);
+            return Forwarded { left, is_over };
         }
-        link.watch.check(rt)?;
-        if has_news {
-            let _ = forward(rt, output, link, pass)?;
+        if let Err(fault) = forward_news(rt, output, link, pass, has_news) {
+            return Forwarded {
+                left: Err(fault),
+                is_over,
+            };
         }
     }
     unreachable!()
 }
 
-// The last turn. What fails in it is no fault any more: the ending of the other half counts.
-fn forward_last<R: Wait, O: Write + Drop>(
+// Forwards what is new, if anything. Refused if the site is too far behind.
+fn forward_news<R: Wait, O: Write + Drop>(
     rt: &R,
     output: &mut Output<O>,
     link: &SessionLink<'_>,
     pass: &mut Pass,
-) -> AfterFetch
+    has_news: bool,
+) -> Result<(), SessionFault>
     requires pass { IsPassOf link.now.hub.now pass.old }
     requires flushed { IsFlushed output.old }
     ensures pass { IsPassOf link.now.hub.now pass.new }
     ensures forwards { Forwards link.now.site (view_of pass.old) output.old (view_of pass.new) output.new }
+    ensures stopped { IfErr result (λ fault. ForwardsAll link.now.site (view_of pass.old) output.old (view_of pass.new) output.new (Some fault)) }
     ensures flushed { IsFlushed output.new }
-    ensures gone { result ≡ AfterFetch.Gone → Leaves link.now.site (view_of pass.old) (view_of pass.new) }
 {
-    match forward(rt, output, link, pass) {
-        Ok(outbox) => outbox,
-        Err(_) => AfterFetch::Empty,
+    link.watch.check(rt)?;
+    if has_news {
+        let _ = forward(rt, output, link, pass)?;
     }
+    Ok(())
 }
 
 // Fetches and writes until a fetch gives less than it asked for.
@@ -150,10 +167,9 @@ fn forward<R: Wait, O: Write + Drop>(
     requires pass { IsPassOf link.now.hub.now pass.old }
     requires flushed { IsFlushed output.old }
     ensures pass { IsPassOf link.now.hub.now pass.new }
-    ensures forwards { Forwards link.now.site (view_of pass.old) output.old (view_of pass.new) output.new }
+    ensures forwards { ForwardsAll link.now.site (view_of pass.old) output.old (view_of pass.new) output.new (result_err result) }
     ensures flushed { IsFlushed output.new }
     ensures gone { result ≡ Ok AfterFetch.Gone → Leaves link.now.site (view_of pass.old) (view_of pass.new) }
-    ensures fault { IfErr result IsOfWriting }
 {
     for _ in rt.forever() {
         let downs = match fetch(rt, link, pass) {
@@ -162,8 +178,10 @@ fn forward<R: Wait, O: Write + Drop>(
             Err(fault) => return Err(fault),
         };
         let messages = downs.as_slice();
-        if hand_on(rt, output, link, messages)? {
-            return Ok(AfterFetch::Empty);
+        match hand_on(rt, output, link, messages) {
+            Ok(true) => return Ok(AfterFetch::Empty),
+            Ok(false) => {}
+            Err(fault) => return Err(fault),
         }
     }
     unreachable!()
@@ -178,11 +196,11 @@ fn fetch<R: Wait>(
 ) -> Result<Option<Downs>, SessionFault>
     requires { IsPassOf link.now.hub.now pass.old }
     ensures pass { IsPassOf link.now.hub.now pass.new }
-    ensures brings { IfOk result (λ fetched. IfSome fetched (λ downs. Brings link.now.site (view_of pass.old) (view_of pass.new) downs)) }
-    ensures nothing { IfOk result (λ fetched. IfNone fetched (Brings link.now.site (view_of pass.old) (view_of pass.new) [])) }
+    ensures brings { IfOk result (λ fetched. IfSome fetched (λ downs. Answers link.now.site (view_of pass.old) (view_of pass.new) downs)) }
+    ensures nothing { IfOk result (λ fetched. IfNone fetched (Answers link.now.site (view_of pass.old) (view_of pass.new) [])) }
     ensures refused { OnErr result (Brings link.now.site (view_of pass.old) (view_of pass.new) []) }
     ensures gone { result ≡ Ok None → Leaves link.now.site (view_of pass.old) (view_of pass.new) }
-    ensures fault { IfErr result IsOfWriting }
+    ensures fault { IfErr result (λ fault. (failed : Bool) → StopsFetching failed fault) }
 {
     link.watch.check(rt)?;
     match link
@@ -207,7 +225,8 @@ fn hand_on<R: Wait, O: Write + Drop>(
 ) -> Result<bool, SessionFault>
     ensures put { PutsLines output.old (flat_map down_lines downs.now) output.new }
     ensures flushed { IsFlushed output.old → IsFlushed output.new }
-    ensures fault { IfErr result IsOfWriting }
+    ensures last { IfOk result (λ is_last. IsTrue is_last → length downs.now < most_fetched) }
+    ensures fault { IfErr result (StopsFetching output.new.failed) }
 {
     let noted = link.watch.fetch(rt, downs);
     write_downs(output, downs)?;
@@ -221,7 +240,7 @@ fn hand_on<R: Wait, O: Write + Drop>(
 fn write_downs<O: Write + Drop>(output: &mut Output<O>, downs: &[Down]) -> Result<(), StreamFault>
     ensures put { PutsLines output.old (flat_map down_lines downs.now) output.new }
     ensures flushed { IsFlushed output.old → IsFlushed output.new }
-    ensures fault { IfErr result (λ fault. fault ≡ StreamFault.WriteFailed) }
+    ensures fault { IfErr result (λ fault. (fault ≡ StreamFault.WriteFailed) × IsTrue output.new.failed) }
 {
     if downs.is_empty() {
         return Ok(());

@@ -1,5 +1,5 @@
 use Rattle.jup_session.specs.Prelude.{view_of}
-use Rattle.jup_session.proofs.Calls.{leaves_after, forwards_none, forwards_news, forwards_both, forwards_serves}
+use Rattle.jup_session.proofs.Calls.{leaves_after, forwards_none, forwards_news, forwards_both, forwards_all, forwards_serves}
 use Rattle.jup_session.proofs.sessions.writing.forward_all.Goals as goal
 
 pub loop-init : goal.loop-init
@@ -13,38 +13,33 @@ pub returns-then-is_over-clause-forwards : goal.returns-then-is_over-clause-forw
 returns-then-is_over-clause-forwards g c =
     let site = c.args.link.now.site in
     let met = c.news-has_news.ensures.met in
-    forwards_both site (view_of c.args.pass.now) (view_of c.news-has_news.new.pass) (view_of c.forward_last.new.pass) c.args.output.now c.loop.output c.forward_last.new.output
+    forwards_all site (view_of c.args.pass.now) (view_of c.news-has_news.new.pass) (view_of c.forward-left.new.pass) c.args.output.now c.loop.output c.forward-left.new.output _
     (forwards_news site (view_of c.args.pass.now) (view_of c.loop.pass) (view_of c.news-has_news.new.pass) c.args.output.now c.loop.output met.0 c.loop.invariant.forwards met.2)
-    c.forward_last.ensures.forwards
+    c.forward-left.ensures.forwards
 
 pub returns-then-is_over-clause-gone : goal.returns-then-is_over-clause-gone
 returns-then-is_over-clause-gone g c = λ gone.
     let site = c.args.link.now.site in
     let met = c.news-has_news.ensures.met in
     let news = forwards_news site (view_of c.args.pass.now) (view_of c.loop.pass) (view_of c.news-has_news.new.pass) c.args.output.now c.loop.output met.0 c.loop.invariant.forwards met.2 in
-    leaves_after site (view_of c.args.pass.now) (view_of c.news-has_news.new.pass) (view_of c.forward_last.new.pass)
-    (forwards_serves site (view_of c.args.pass.now) (view_of c.news-has_news.new.pass) c.args.output.now c.loop.output news) (c.forward_last.ensures.gone (cc))
+    leaves_after site (view_of c.args.pass.now) (view_of c.news-has_news.new.pass) (view_of c.forward-left.new.pass)
+    (forwards_serves site (view_of c.args.pass.now) (view_of c.news-has_news.new.pass) c.args.output.now c.loop.output news) (c.forward-left.ensures.gone (cc))
 
-pub returns-in_err-check-clause-forwards : goal.returns-in_err-check-clause-forwards
-returns-in_err-check-clause-forwards g c =
-    let met = c.news-has_news.ensures.met in
-    forwards_news c.args.link.now.site (view_of c.args.pass.now) (view_of c.loop.pass) (view_of c.news-has_news.new.pass) c.args.output.now c.loop.output met.0 c.loop.invariant.forwards met.2
-
-pub returns-in_err-forward-clause-forwards : goal.returns-in_err-forward-clause-forwards
-returns-in_err-forward-clause-forwards g c =
+pub returns-in-Err-clause-forwards : goal.returns-in-Err-clause-forwards
+returns-in-Err-clause-forwards g c =
     let site = c.args.link.now.site in
     let met = c.news-has_news.ensures.met in
-    forwards_both site (view_of c.args.pass.now) (view_of c.news-has_news.new.pass) (view_of c.forward.new.pass) c.args.output.now c.loop.output c.forward.new.output
+    forwards_all site (view_of c.args.pass.now) (view_of c.news-has_news.new.pass) (view_of c.forward_news.new.pass) c.args.output.now c.loop.output c.forward_news.new.output _
     (forwards_news site (view_of c.args.pass.now) (view_of c.loop.pass) (view_of c.news-has_news.new.pass) c.args.output.now c.loop.output met.0 c.loop.invariant.forwards met.2)
-    c.forward.ensures.forwards
+    c.in-Err.ensures.stopped
 
-pub loop-preserved-then-has_news : goal.loop-preserved-then-has_news
-loop-preserved-then-has_news g c =
+pub loop-preserved : goal.loop-preserved
+loop-preserved g c =
     let site = c.args.link.now.site in
     let met = c.news-has_news.ensures.met in record {
-      pass = c.forward.ensures.pass;
-      forwards = forwards_both site (view_of c.args.pass.now) (view_of c.news-has_news.new.pass) (view_of c.forward.new.pass) c.args.output.now c.loop.output c.forward.new.output
+      pass = c.forward_news.ensures.pass;
+      forwards = forwards_both site (view_of c.args.pass.now) (view_of c.news-has_news.new.pass) (view_of c.forward_news.new.pass) c.args.output.now c.loop.output c.forward_news.new.output
           (forwards_news site (view_of c.args.pass.now) (view_of c.loop.pass) (view_of c.news-has_news.new.pass) c.args.output.now c.loop.output met.0 c.loop.invariant.forwards met.2)
-          c.forward.ensures.forwards;
-      flushed = c.forward.ensures.flushed;
+          c.forward_news.ensures.forwards;
+      flushed = c.forward_news.ensures.flushed;
     }

@@ -12,7 +12,7 @@ use Rattle.jup_rules.specs.declared.ends.Untaken.{Untaken}
 use Rattle.jup_rules.specs.declared.session.Next.TheVariants.{Line as NextLine, Take as NextTake}
 use Rattle.jup_stream.specs.Streams.{puts_none}
 use Rattle.jup_stream.proofs.Streams.{hands_none, hands_more}
-use Rattle.jup_session.specs.Sessions.{HasAnswered, HasTaken, IsWithheld, EndsAt, Refused, Withheld, IsCallFor, AreCallsFor, AreTalliesFor, HasLeft, IsFull, SomeLeft, FollowsJoin, IsSession, Makes, Serves, Leaves, HasMadeNone, HasServed, IsJoinOf, Joins, BothServe, GivesBack, IsLeaveOf, Departs, brought, lines_brought, IsFetchFor, LeavesNothing, LastLeavesNothing, FetchesAll, Forwards, ForwardsAll, Brings, Answers, StopsFetching, TellsFault, told_line, Wrote, welcome_lines, IsTaken, AreTakesOf, Hears, Over, Stopped, ByLine, AtMessage, Spent, HearsAll, Heard}
+use Rattle.jup_session.specs.Sessions.{HasAnswered, HasTaken, IsWithheld, IsShutFor, EndsAt, Refused, Withheld, IsCallFor, AreCallsFor, AreTalliesFor, HasLeft, IsFull, SomeLeft, FollowsJoin, IsSession, Makes, Serves, Leaves, HasMadeNone, HasServed, IsJoinOf, Joins, BothServe, GivesBack, IsLeaveOf, Departs, brought, lines_brought, IsFetchFor, LeavesNothing, LastLeavesNothing, FetchesAll, Forwards, ForwardsAll, Brings, Answers, StopsFetching, TellsFault, told_line, Wrote, welcome_lines, IsTaken, AreTakesOf, Hears, Over, Stopped, ByLine, AtMessage, Spent, HearsAll, Heard}
 use Rattle.jup_session.specs.ExactSessions.{Enters, IsTurnedAway, NoLine, NoGreeting, NoJoin, IsWelcomed, EndsEarly, TurnedAway, Unwelcome}
 use Rattle.jup_hub.specs.Prelude.{StarFault, is_no_memory}
 use Rattle.jup_hub.specs.declared.fault.HubFault.TheVariants.{Star, Spent as HubSpent}
@@ -124,6 +124,13 @@ taken_so site incoming v w (Err fault) r ring made is so = let e = refuses incom
 pub refused_so : (site : ℕ) (incoming : Incoming) (v w : View) (answer : Result (Option ℕ) HubFault) (r : Result Ring Ending) (ending last : Ending) (withheld : Option Untaken)
     → HasAnswered site incoming.up v w (Some answer) → r ≡ outcome incoming.up answer → r ≡ Err ending → last ≡ ending → withheld ≡ None → EndsAt site incoming v w last withheld
 refused_so site incoming v w answer r ending last withheld made is so at none = Refused answer made (sym is ∙ so ∙ ap (λ e. Err e) (sym at)) none
+
+-- no gate withheld a message that was taken, or that was withheld for another reason
+pub shut_for_none : (shut : ℕ → ℕ → Type 0) (site : ℕ) (withheld : Option Untaken) → withheld ≡ None → IsShutFor shut site withheld
+shut_for_none shut site withheld is = subst (λ (u : Option Untaken). IsShutFor shut site u) (sym is) tt
+
+pub shut_for : (shut : ℕ → ℕ → Type 0) (site : ℕ) (why : Untaken) (withheld : Option Untaken) → IsShutFor shut site (Some why) → withheld ≡ Some why → IsShutFor shut site withheld
+shut_for shut site why withheld holds is = subst (λ (u : Option Untaken). IsShutFor shut site u) (sym is) holds
 
 full : (v w : View) → w ≡ v → IsSpent v → IsFull w.opening (tally w.number w.made)
 full v w e h = subst (λ (x : View). IsFull x.opening (tally x.number x.made)) (sym e) (h.0, h.1.legal, h.1.tallied.0, h.2)

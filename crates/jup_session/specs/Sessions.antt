@@ -263,12 +263,17 @@ abbrev pub HasAnswered : ℕ → Up BoardBatch → View → View → Option (Res
 HasAnswered site up v w (Some answer) = Made (λ r. Taken r) (Take site up) v w answer
 HasAnswered site up v w None = w ≡ v
 
--- Why the hub was not called for a message: the site was too far behind, the gate stayed shut for the edit that it is, or it is a ping and the session ended
+-- Why the hub was not called for a message. The site was too far behind, or the gate stayed shut for this edit. Or the message is a ping, and the session ended
 -- before few enough pongs were owed
 abbrev pub IsWithheld : Incoming → Untaken → Type 0
 IsWithheld incoming (untaken.FarBehind far) = most_behind < far.operations
 IsWithheld incoming (untaken.GateShut nth) = incoming.awaits ≡ Gate nth
 IsWithheld incoming untaken.Over = incoming.awaits ≡ Pongs
+
+-- if a message was withheld by the gate, that was shut for the edit of this site
+abbrev pub IsShutFor : (ℕ → ℕ → Type 0) → ℕ → Option Untaken → Type 0
+IsShutFor shut site (Some (untaken.GateShut nth)) = shut site nth
+IsShutFor shut site other = Unit {0}
 
 -- the hub was called to take a message, and took it
 abbrev pub HasTaken : ℕ → Incoming → View → View → Type 0

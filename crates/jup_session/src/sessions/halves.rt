@@ -2,7 +2,7 @@
 ghost use Rattle.std.specs.Prelude.{◌≡◌};
 ghost use Rattle.jup_hub.specs.Passes.{view_of, IsPassOf};
 ghost use Rattle.jup_stream.specs.Streams.{IsFlushed};
-ghost use Rattle.jup_session.specs.Sessions.{Wrote as HasWritten, Heard as HasHeard, HasMadeNone, HasServed};
+ghost use Rattle.jup_session.specs.Sessions.{Wrote as HasWritten, Heard as HasHeard, IsShutFor, HasMadeNone, HasServed};
 
 use super::link::SessionLink;
 use super::reading::{Heard, read_half};
@@ -68,6 +68,7 @@ pub(crate) fn both_halves<
     ensures two { IsPassOf link.now.hub.now result.wrote.pass }
     ensures served { HasServed link.now.site (view_of result.wrote.pass) }
     ensures hears { HasHeard link.now.site source (view_of pass) result.source (view_of result.pass) result.heard.ending result.heard.untaken }
+    ensures shut { IsShutFor (G.is_shut gate.now) link.now.site result.heard.untaken }
     ensures wrote { HasWritten link.now.site (view_of theirs) output (view_of result.wrote.pass) result.wrote.output result.wrote.told result.wrote.unsent }
     ensures flushed { IsFlushed result.wrote.output }
 {
@@ -79,6 +80,7 @@ pub(crate) fn both_halves<
             ensures { IsPassOf link.entry.now.hub.now result.pass × IsPassOf link.entry.now.hub.now result.wrote.pass
                 × HasServed link.entry.now.site (view_of result.wrote.pass)
                 × HasHeard link.entry.now.site source (view_of pass) result.source (view_of result.pass) result.heard.ending result.heard.untaken
+                × IsShutFor (G.is_shut gate.entry.now) link.entry.now.site result.heard.untaken
                 × HasWritten link.entry.now.site (view_of theirs) output (view_of result.wrote.pass) result.wrote.output result.wrote.told result.wrote.unsent
                 × IsFlushed result.wrote.output }
         {

@@ -1,7 +1,7 @@
 //! The half of a session that reads and takes.
 ghost use Rattle.std.specs.Prelude.{◌≡◌, IfOk, IfErr, Some};
 ghost use Rattle.jup_hub.specs.Passes.{view_of, IsPassOf};
-ghost use Rattle.jup_session.specs.Sessions.{EndsAt, HasAnswered, HasTaken, HearsAll, IsWithheld};
+ghost use Rattle.jup_session.specs.Sessions.{EndsAt, HasAnswered, HasTaken, HearsAll, IsShutFor, IsWithheld};
 
 use super::costly::{enter, leave_turn};
 use super::due::Due;
@@ -60,6 +60,7 @@ pub(crate) fn read_half<R: Wait + Clock, I: Read + Drop, G: Gate>(
     requires { IsPassOf link.now.hub.now pass.old }
     ensures pass { IsPassOf link.now.hub.now pass.new }
     ensures hears { HearsAll link.now.site source.old (view_of pass.old) source.new (view_of pass.new) result.ending result.untaken }
+    ensures shut { IsShutFor (G.is_shut gate.now) link.now.site result.untaken }
 {
     let mut due = Due::new();
     let heard = hear_all(rt, source, link, pass, gate, &mut due);
@@ -70,6 +71,7 @@ pub(crate) fn read_half<R: Wait + Clock, I: Read + Drop, G: Gate>(
 }
 
 // Takes message after message, each once its last line is there and the site is not too far behind.
+#[tactic(auto, using(crate::proofs::Calls::shut_for_none, crate::proofs::Calls::shut_for))]
 fn hear_all<R: Wait + Clock, I: Read + Drop, G: Gate>(
     rt: &R,
     source: &mut Source<I>,
@@ -81,6 +83,7 @@ fn hear_all<R: Wait + Clock, I: Read + Drop, G: Gate>(
     requires { IsPassOf link.now.hub.now pass.old }
     ensures pass { IsPassOf link.now.hub.now pass.new }
     ensures hears { HearsAll link.now.site source.old (view_of pass.old) source.new (view_of pass.new) result.ending result.untaken }
+    ensures shut { IsShutFor (G.is_shut gate.now) link.now.site result.untaken }
 {
     let mut keeper = Gatekeeper::new();
     for _ in 0..u64::MAX {
@@ -110,6 +113,7 @@ fn hear_all<R: Wait + Clock, I: Read + Drop, G: Gate>(
 }
 
 // What comes of a message: whom it rings, or how the session ends.
+#[tactic(auto, using(crate::proofs::Calls::shut_for_none, crate::proofs::Calls::shut_for))]
 fn handle<R: Wait, G: Gate>(
     rt: &R,
     link: &SessionLink<'_>,
@@ -122,6 +126,7 @@ fn handle<R: Wait, G: Gate>(
     ensures pass { IsPassOf link.now.hub.now pass.new }
     ensures taken { IfOk result (λ ring. HasTaken link.now.site incoming.now (view_of pass.old) (view_of pass.new)) }
     ensures ends { IfErr result (λ heard. EndsAt link.now.site incoming.now (view_of pass.old) (view_of pass.new) heard.ending heard.untaken) }
+    ensures shut { IfErr result (λ heard. IsShutFor (G.is_shut gate.now) link.now.site heard.untaken) }
 {
     match take(rt, link, pass, gate, incoming, due) {
         Ok(answer) => match ring_after(&incoming.up, answer) {
@@ -145,6 +150,7 @@ fn take<R: Wait, G: Gate>(
     ensures pass { IsPassOf link.now.hub.now pass.new }
     ensures called { IfOk result (λ answer. HasAnswered link.now.site incoming.now.up (view_of pass.old) (view_of pass.new) (Some answer)) }
     ensures withheld { IfErr result (λ why. IsWithheld incoming.now why × (view_of pass.new ≡ view_of pass.old)) }
+    ensures shut { IfErr result (λ why. IsShutFor (G.is_shut gate.now) link.now.site (Some why)) }
 {
     let up = &incoming.up;
     match incoming.awaits {

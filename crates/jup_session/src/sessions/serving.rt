@@ -1,12 +1,12 @@
 //! One session, from its first line to its last.
-ghost use Rattle.std.specs.Prelude.{◌≡◌, not, List};
+ghost use Rattle.std.specs.Prelude.{◌≡◌, ℕ, not, List};
 ghost use Rattle.jup_hub.specs.Passes.{view_of, IsPassOf};
 ghost use Rattle.jup_wire.specs.declared.line.Line.{Line};
 ghost use Rattle.jup_wire.specs.declared.line.Line.TheVariants.{Error};
 ghost use Rattle.jup_wire.specs.Lines.{line_bytes};
 ghost use Rattle.jup_stream.specs.Streams.{PutsLines, IsFlushed, WritesFront};
 ghost use Rattle.jup_session.specs.ExactSessions.{BothHalves, HasLines, IsExact};
-ghost use Rattle.jup_session.specs.Sessions.{BothServe, IsSession};
+ghost use Rattle.jup_session.specs.Sessions.{BothServe, IsSession, IsShutFor};
 
 use super::ending::tell_untold;
 use super::greeting::begin;
@@ -69,6 +69,7 @@ impl<'a, G: Gate> Serving<'a, G> {
         ensures pass { IsPassOf self.now.hub.now result.pass }
         ensures session { IsSession (view_of pass) (view_of result.pass) }
         ensures exact { IsExact (I.remaining reader) (O.contents writer) (O.contents result.writer) (view_of pass) (view_of result.pass) result.ending result.has_failed result.undone }
+        ensures shut { (site : ℕ) × IsShutFor (G.is_shut self.now.gate.now) site result.undone.untaken }
     {
         let watch = Watch::new(self.alloc, self.bell);
         match Output::new(self.alloc, Watched::new(rt, &watch, writer)) {
@@ -142,6 +143,7 @@ pub fn serve_session<
     ensures pass { IsPassOf hub.now result.pass }
     ensures session { IsSession (view_of pass) (view_of result.pass) }
     ensures exact { IsExact (I.remaining reader) (O.contents writer) (O.contents result.writer) (view_of pass) (view_of result.pass) result.ending result.has_failed result.undone }
+    ensures shut { (site : ℕ) × IsShutFor (G.is_shut gate.now) site result.undone.untaken }
 {
     let serving = Serving {
         alloc,
@@ -199,6 +201,7 @@ fn serve_lines<R: Threads + Wait + Clock + Sync, I: Read + Drop, O: Write + Send
     ensures session { IsSession (view_of pass) (view_of result.pass) }
     ensures lines { (lines : List Line) × HasLines (I.remaining reader) (view_of pass) (view_of result.pass) result.ending result.output.failed result.undone lines
         × PutsLines output lines result.output }
+    ensures shut { (site : ℕ) × IsShutFor (G.is_shut serving.now.gate.now) site result.undone.untaken }
     ensures flushed { IsFlushed result.output }
 {
     let mut source = Source::new(reader);
@@ -238,6 +241,7 @@ fn serve_halves<R: Threads + Wait + Clock + Sync, I: Read + Drop, O: Write + Sen
     ensures pass { IsPassOf link.now.hub.now result.pass }
     ensures served { BothServe link.now.site (view_of pass) (view_of result.pass) }
     ensures halves { (lines : List Line) × BothHalves link.now.site source (view_of pass) (view_of result.pass) result.ending result.output.failed result.undone lines × PutsLines output lines result.output }
+    ensures shut { IsShutFor (G.is_shut gate.now) link.now.site result.undone.untaken }
     ensures flushed { IsFlushed result.output }
 {
     let theirs = link.hub.split(&mut pass);

@@ -182,7 +182,7 @@ both_halves_so site a b v v' t u w x p q r heard withheld told unsent ending spl
             ∙ ap (λ (l : List Tally). w.kept ++ tally (v.splits ∷ v.number) (f.calls ++ (d.back.calls ++ d.leaves.calls)) ∷ l) kept;
         alone = f.alone;
         all = stays_unsent site wrote.middle q r f.calls unsent (told_line told) (untold_line told heard) wrote.forwards.all wrote.put put;
-        gives_back = d.back.alone;
+        gives_back = d.back.gives;
         departs = d.leaves.alone;
         lines_are = refl;
       },

@@ -1,18 +1,19 @@
 -- The calls of a session, part by part.
-use Rattle.std.proofs.Common.{◌≡◌, ℕ, ◌⊎◌, inl, inr, Bool, true, false, List, [], ◌∷◌, ◌++◌, length, length-append, ◌+◌, ◌<◌, Option, Some, None, Result, Ok, Err, MatchBool, refl, sym, ap, ◌∙◌, subst, append_assoc, append-nil, flat_map, true≢false, IsTrue, ◌≢◌, IsOk, is_ok}
+use Rattle.std.proofs.Common.{◌≡◌, ℕ, ◌⊎◌, inl, inr, Bool, true, false, List, [], ◌∷◌, ◌++◌, length, length-append, ◌+◌, ◌<◌, ◌≤◌, max, arith, slice_get, zero, suc, Option, Some, None, Result, Ok, Err, MatchBool, refl, sym, ap, ◌∙◌, subst, append_assoc, append-nil, flat_map, true≢false, IsTrue, ◌≢◌, IsOk, is_ok}
 use Rattle.std.specs.List.{AllByRecursion}
 use Rattle.std.proofs.lemmas.List.Concat.{flat_map-append}
 use Rattle.jup_session.specs.Prelude.{BoardBatch, Up, Joined as JoinedSite, NoLink, Call, Join, Take, Fetch, Leave, StarReply, JoinedReply, Taken, Fetched, Down, BoardStar, bare_joined, Line, Hello, HubFault, HubEvent, Tally, View, Made, Ending, Incoming, Ring, Stream, StreamFault, WriteFailed, Misplaced, NoMemory, Stop, Said, SaysUp, SaysBye, down_lines, HasHeard, Leads, outcome, Keeper, ending_of, ended_by, last_line, Put, PutsLines, puts_more, Sourced, HandsOn, Stops}
 use Rattle.jup_star.specs.declared.calls.StarReply.TheVariants.{Left}
 use Rattle.jup_hub.specs.Histories.{is_out_of_memory, entry, tally, tallies, after_split, split_from, joined_with, having_seen, Called, ComesToAsk, IsSpent}
 use Rattle.jup_rules.specs.Sessions.{most_fetched}
-use Rattle.jup_rules.specs.Ends.{ended_untaken}
+use Rattle.jup_rules.specs.Prelude.{DownOp, DownAck, DownPong}
+use Rattle.jup_star.specs.Prelude.{Msg}
 use Rattle.jup_rules.specs.declared.ends.SessionFault.{SessionFault}
 use Rattle.jup_rules.specs.declared.ends.Untaken.{Untaken}
 use Rattle.jup_rules.specs.declared.session.Next.TheVariants.{Line as NextLine, Take as NextTake}
 use Rattle.jup_stream.specs.Streams.{puts_none}
 use Rattle.jup_stream.proofs.Streams.{hands_none, hands_more}
-use Rattle.jup_session.specs.Sessions.{HasAnswered, HasTaken, IsWithheld, IsShutFor, EndsAt, Refused, Withheld, IsCallFor, AreCallsFor, AreTalliesFor, HasLeft, IsFull, SomeLeft, FollowsJoin, IsSession, Makes, Serves, Leaves, HasMadeNone, HasServed, IsJoinOf, Joins, BothServe, GivesBack, IsLeaveOf, Departs, brought, lines_brought, IsFetchFor, LeavesNothing, LastLeavesNothing, FetchesAll, Forwards, ForwardsAll, Brings, Answers, StopsFetching, TellsFault, told_line, Wrote, welcome_lines, IsTaken, AreTakesOf, Hears, Over, Stopped, ByLine, AtMessage, Spent, HearsAll, Heard}
+use Rattle.jup_session.specs.Sessions.{HasAnswered, HasTaken, IsShutFor, EndsAt, Refused, Withheld, IsCallFor, AreCallsFor, AreTalliesFor, HasLeft, IsFull, SomeLeft, FollowsJoin, IsSession, Makes, Serves, Leaves, HasMadeNone, HasServed, IsJoinOf, Joins, BothServe, received_with, GivesBackBy, GivesBack, Returns, IsLeaveOf, Departs, brought, lines_brought, IsFetchFor, LastLeavesNothing, FetchesAll, Forwards, ForwardsAll, Brings, Answers, StopsFetching, TellsFault, told_line, Wrote, welcome_lines, IsTaken, AreTakesOf, Hears, Over, Stopped, ByLine, AtMessage, Spent, HearsAll, Heard}
 use Rattle.jup_session.specs.ExactSessions.{Enters, IsTurnedAway, NoLine, NoGreeting, NoJoin, IsWelcomed, EndsEarly, TurnedAway, Unwelcome}
 use Rattle.jup_hub.specs.Prelude.{StarFault, is_no_memory}
 use Rattle.jup_hub.specs.declared.fault.HubFault.TheVariants.{Star, Spent as HubSpent}
@@ -265,32 +266,113 @@ session_served site v u w j b = record {
 
 -- How a site leaves.
 
-gives_for : (site : ℕ) (call : Call) → GivesBack site call → IsCallFor site call
-gives_for site Join is = absurd is
-gives_for site (Take i (Op msg)) is = absurd is
-gives_for site (Take i (Ack count)) is = is
-gives_for site (Take i (Ping number)) is = absurd is
-gives_for site (Fetch i max) is = is
-gives_for site (Leave i) is = absurd is
+gives_for : (site received : ℕ) (call : Call) → GivesBackBy site received call → IsCallFor site call
+gives_for site received Join is = absurd is
+gives_for site received (Take i (Op msg)) is = absurd is
+gives_for site received (Take i (Ack count)) is = is.0
+gives_for site received (Take i (Ping number)) is = absurd is
+gives_for site received (Fetch i max) is = is.0
+gives_for site received (Leave i) is = absurd is
 
--- the session fetches messages and drops them
-pub gives_fetched : (site max : ℕ) (v w : View) (r : Result (List (Down BoardBatch)) HubFault) → Made (λ a. Fetched a) (Fetch site max) v w r → Makes (GivesBack site) v w
-gives_fetched site max v w r m = makes_call (GivesBack site) (λ a. Fetched a) (Fetch site max) v w r refl m
+all_given : (site received : ℕ) (es : List HubEvent) → GivesBack site received es → AllByRecursion (λ e. IsCallFor site e.call) es
+all_given site received [] g = tt
+all_given site received (e ∷ es) g = (gives_for site received e.call g.0, all_given site (max received (received_with (brought e.reply))) es g.1)
 
--- and acknowledges them
-pub gives_acknowledged : (site count : ℕ) (v w : View) (r : Result (Option ℕ) HubFault) → Made (λ a. Taken a) (Take site (Ack count)) v w r → Makes (GivesBack site) v w
-gives_acknowledged site count v w r m = makes_call (GivesBack site) (λ a. Taken a) (Take site (Ack count)) v w r refl m
+-- more may have been received before
+given_after : (site received more : ℕ) (call : Call) → received ≤ more → GivesBackBy site received call → GivesBackBy site more call
+given_after site received more Join le is = absurd is
+given_after site received more (Take i (Op msg)) le is = absurd is
+given_after site received more (Take i (Ack count)) le is = (is.0, omega (arith, is.1, le))
+given_after site received more (Take i (Ping number)) le is = absurd is
+given_after site received more (Fetch i max) le is = is
+given_after site received more (Leave i) le is = absurd is
+
+gives_after : (site received more : ℕ) (es : List HubEvent) → received ≤ more → GivesBack site received es → GivesBack site more es
+gives_after site received more [] le g = tt
+gives_after site received more (e ∷ es) le g =
+    (given_after site received more e.call le g.0, gives_after site (max received (received_with (brought e.reply))) (max more (received_with (brought e.reply))) es (omega (arith, le)) g.1)
+
+-- first some are given back, then others
+gives_both : (site received other : ℕ) (xs ys : List HubEvent) → other ≤ received → GivesBack site received xs → GivesBack site other ys → GivesBack site received (xs ++ ys)
+gives_both site received other [] ys le one two = gives_after site other received ys le two
+gives_both site received other (x ∷ xs) ys le one two = (one.0, gives_both site (max received (received_with (brought x.reply))) other xs ys (omega (arith, le)) one.1 two)
+
+pub returns_none : (site received : ℕ) (v : View) → Returns site received v v
+returns_none site received v = record { calls = []; number = refl; made = sym (append-nil v.made); kept = refl; gives = tt }
+
+returns_same : (site received : ℕ) (v w : View) → w ≡ v → Returns site received v w
+returns_same site received v w e = subst (λ (x : View). Returns site received v x) (sym e) (returns_none site received v)
+
+pub returns_both : (site : ℕ) (u v w : View) → Returns site 0 u v → Returns site 0 v w → Returns site 0 u w
+returns_both site u v w one two = record {
+  calls = one.calls ++ two.calls;
+  number = two.number ∙ one.number;
+  made = two.made ∙ ap (λ (l : List HubEvent). l ++ two.calls) one.made ∙ append_assoc u.made one.calls two.calls;
+  kept = two.kept ∙ one.kept;
+  gives = gives_both site 0 0 one.calls two.calls (omega arith) one.gives two.gives;
+}
+
+-- one call, and more after it
+returns_one : (site received : ℕ) (call : Call) (reply : StarReply) (u v w : View) → GivesBackBy site received call → Called call reply u v → Returns site (max received (received_with (brought reply))) v w
+    → Returns site received u w
+returns_one site received call reply u v w is c later = record {
+  calls = entry u.number call reply ∷ later.calls;
+  number = later.number ∙ ap (λ (x : View). x.number) c.view;
+  made = later.made ∙ ap (λ (x : View). x.made ++ later.calls) c.view ∙ append_assoc u.made (entry u.number call reply ∷ []) later.calls;
+  kept = later.kept ∙ ap (λ (x : View). x.kept) c.view;
+  gives = (is, later.gives);
+}
+
+-- the session fetches messages and drops them, and acknowledges what it fetched
+pub returns_round : (site max' : ℕ) (u v w : View) (downs : List (Down BoardBatch)) → max' ≡ most_fetched → Made (λ a. Fetched a) (Fetch site max') u v (Ok downs)
+    → Returns site (received_with downs) v w → Returns site 0 u w
+returns_round site max' u v w downs at c later = returns_one site 0 (Fetch site max') (Fetched (Ok downs)) u v w (refl, at) c (later_from later)
+  where
+    later_from : Returns site (received_with downs) v w → Returns site (max 0 (received_with downs)) v w
+    later_from r = record { calls = r.calls; number = r.number; made = r.made; kept = r.kept; gives = gives_after site (received_with downs) (max 0 (received_with downs)) r.calls (omega arith) r.gives }
+
+-- a fetch that is refused
+pub returns_refused : (site max' : ℕ) (v w : View) (fault : HubFault) → max' ≡ most_fetched → Made (λ a. Fetched a) (Fetch site max') v w (Err fault) → Returns site 0 v w
+returns_refused site max' v w HubSpent at m = returns_same site 0 v w m.0
+returns_refused site max' v w (Star e) at m = go (is_no_memory e) m
+  where
+    go : (b : Bool) → MatchBool b ((w ≡ v) × ComesToAsk (Fetch site max') v) (Called (Fetch site max') (Fetched (Err e)) v w) → Returns site 0 v w
+    go true h = returns_same site 0 v w h.0
+    go false h = returns_one site 0 (Fetch site max') (Fetched (Err e)) v w w (refl, at) h (returns_none site _ w)
+
+-- an acknowledgement, whatever the hub answers
+pub returns_acknowledged : (site received count : ℕ) (v w : View) (r : Result (Option ℕ) HubFault) → count ≤ received → Made (λ a. Taken a) (Take site (Ack count)) v w r → Returns site received v w
+returns_acknowledged site received count v w (Ok x) le m = returns_one site received (Take site (Ack count)) (Taken (Ok x)) v w w (refl, le) m (returns_none site _ w)
+returns_acknowledged site received count v w (Err HubSpent) le m = returns_same site received v w m.0
+returns_acknowledged site received count v w (Err (Star e)) le m = go (is_no_memory e) m
+  where
+    go : (b : Bool) → MatchBool b ((w ≡ v) × ComesToAsk (Take site (Ack count)) v) (Called (Take site (Ack count)) (Taken (Err e)) v w) → Returns site received v w
+    go true h = returns_same site received v w h.0
+    go false h = returns_one site received (Take site (Ack count)) (Taken (Err e)) v w w (refl, le) h (returns_none site _ w)
+
+-- an edit among messages is received with them
+received_later : (down : Down BoardBatch) (downs : List (Down BoardBatch)) → received_with downs ≤ received_with (down ∷ downs)
+received_later (DownOp msg) downs = omega arith
+received_later (DownAck count) downs = omega arith
+received_later (DownPong number) downs = omega arith
+
+pub received_at : (downs : List (Down BoardBatch)) (n : ℕ) (msg : Msg BoardBatch) → slice_get downs n ≡ Some (DownOp msg) → msg.mine + 1 ≤ received_with downs
+received_at [] n msg e = absurd cc
+received_at (DownOp m ∷ downs) zero msg e = let same : m ≡ msg = cc in let mine : m.mine ≡ msg.mine = ap (λ (x : Msg BoardBatch). x.mine) same in omega (arith, mine)
+received_at (DownAck count ∷ downs) zero msg e = absurd cc
+received_at (DownPong number ∷ downs) zero msg e = absurd cc
+received_at (down ∷ downs) (suc n) msg e = let later = received_at downs n msg e in let more = received_later down downs in omega (arith, later, more)
 
 -- the site leaves after that
-pub departs_so : (site : ℕ) (u v w : View) (r : Result (Unit {0}) HubFault) → Makes (GivesBack site) u v → Made (λ a. Left a) (Leave site) v w r → Departs site u w
+pub departs_so : (site : ℕ) (u v w : View) (r : Result (Unit {0}) HubFault) → Returns site 0 u v → Made (λ a. Left a) (Leave site) v w r → Departs site u w
 departs_so site u v w r back m = record { between = v; back = back; leaves = makes_call (IsLeaveOf site) (λ a. Left a) (Leave site) v w r refl m }
 
-pub leaves_so : (site : ℕ) (u v w : View) → Makes (GivesBack site) u v → Leaves site v w → Leaves site u w
-leaves_so site u v w back l = leaves_after site u v w (makes_too (GivesBack site) (IsCallFor site) u v (gives_for site) back) l
+pub leaves_so : (site : ℕ) (u v w : View) → Returns site 0 u v → Leaves site v w → Leaves site u w
+leaves_so site u v w back l = leaves_after site u v w (record { calls = back.calls; number = back.number; made = back.made; kept = back.kept; alone = all_given site 0 back.calls back.gives }) l
 
 -- a site that had left already
 pub departs_none : (site : ℕ) (v : View) → Departs site v v
-departs_none site v = record { between = v; back = makes_none (GivesBack site) v; leaves = makes_none (IsLeaveOf site) v }
+departs_none site v = record { between = v; back = returns_none site 0 v; leaves = makes_none (IsLeaveOf site) v }
 
 -- What fetches bring, and what is put for that.
 

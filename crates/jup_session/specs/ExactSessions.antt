@@ -69,7 +69,7 @@ pub record BothHalves (site : ℕ) (a : Sourced) (v x : View) (ending : Ending) 
   pub kept : x.kept ≡ read.kept ++ tally (v.splits ∷ v.number) (fetches ++ (back ++ leaves)) ∷ []
   pub alone : AreFetchesFor site fetches
   pub all : FetchesAll failed fetches undone.unsent
-  pub gives_back : AllByRecursion (λ e. GivesBack site e.call) back
+  pub gives_back : GivesBack site 0 back
   pub departs : AllByRecursion (λ e. IsLeaveOf site e.call) leaves
   pub lines_are : lines ≡ lines_brought fetches ++ last_line ending ∷ []
 

@@ -1,7 +1,7 @@
 -- What a session hears, writes and asks of its hub.
-use Rattle.std.specs.Prelude.{◌≡◌, ◌<◌, ℕ, ◌⊎◌, List, [], ◌∷◌, ◌++◌, length, Ok, Err, Option, Some, None, Result, ◌≢◌, IsSomeAnd, Bool, IsTrue}
+use Rattle.std.specs.Prelude.{◌≡◌, ◌<◌, ◌≤◌, ◌+◌, max, ℕ, ◌⊎◌, List, [], ◌∷◌, ◌++◌, length, Ok, Err, Option, Some, None, Result, ◌≢◌, IsSomeAnd, Bool, IsTrue}
 use Rattle.std.specs.List.{AllByRecursion, flat_map}
-use Rattle.jup_session.specs.Prelude.{BoardBatch, NoLink, Call, Join, Take, Fetch, Leave, StarReply, JoinedReply, Fetched, Taken, Joined, Down, Up, BoardStar, Line, board_lines, HubEvent, Tally, View, HubFault, Made, Ending, SessionFault, Hub, Stream, StreamFault, NoMemory, ReadsSpent, WriteFailed, Incoming, Ring, Said, SaysUp, SaysBye, Stop, ending_of, last_line, down_lines, outcome, HasHeard, Leads, Keeper, Put, PutsLines, Sourced, HandsOn, Stops}
+use Rattle.jup_session.specs.Prelude.{BoardBatch, NoLink, Call, Join, Take, Fetch, Leave, StarReply, JoinedReply, Fetched, Taken, Joined, Down, Up, BoardStar, Line, board_lines, HubEvent, Tally, View, HubFault, Made, Ending, SessionFault, Hub, Stream, StreamFault, NoMemory, ReadsSpent, WriteFailed, Incoming, Said, SaysUp, SaysBye, Stop, ending_of, last_line, down_lines, outcome, HasHeard, Leads, Keeper, Put, PutsLines, Sourced, HandsOn, Stops}
 use Rattle.jup_wire.specs.declared.line.Line.TheVariants as line
 use Rattle.jup_hub.specs.Histories.{IsLegal, calls_by, tally, Called}
 use Rattle.jup_rules.specs.declared.ends.SessionFault.TheVariants.{FarBehind}
@@ -14,7 +14,7 @@ use Rattle.jup_rules.specs.declared.ends.Untaken.{Untaken}
 use Rattle.jup_rules.specs.declared.ends.Untaken.TheVariants as untaken
 use Rattle.jup_limits.specs.Limits.{most_behind}
 use Rattle.jup_hub.specs.declared.fault.HubFault.TheVariants.{Star}
-use Rattle.jup_rules.specs.Prelude.{UpAck as Ack}
+use Rattle.jup_rules.specs.Prelude.{UpAck as Ack, DownOp, DownAck, DownPong}
 use Rattle.jup_stream.specs.declared.faults.Stop.TheVariants.{End, Fault}
 
 -- What a session calls of its hub.
@@ -136,11 +136,36 @@ pub record BothServe (site : ℕ) (v w : View) : Type 0 where
 
 -- How a site leaves its hub.
 
--- messages that wait for the site are fetched, of which nothing is written, and acknowledged in its place
-abbrev pub GivesBack : ℕ → Call → Type 0
-GivesBack site (Fetch i max) = i ≡ site
-GivesBack site (Take i (Ack count)) = i ≡ site
-GivesBack site call = ⊥
+-- the messages that a reply brings
+abbrev pub brought : StarReply → List (Down BoardBatch)
+brought (Fetched (Ok downs)) = downs
+brought reply = []
+
+-- how many messages a site has received once it received these, by the numbers of the edits among them
+abbrev pub received_with : List (Down BoardBatch) → ℕ
+received_with [] = 0
+received_with (DownOp msg ∷ downs) = max (msg.mine + 1) (received_with downs)
+received_with (DownAck count ∷ downs) = received_with downs
+received_with (DownPong number ∷ downs) = received_with downs
+
+-- a fetch for the site, or an acknowledgement in its place of messages that were fetched
+abbrev pub GivesBackBy : ℕ → ℕ → Call → Type 0
+GivesBackBy site received (Fetch i max) = (i ≡ site) × (max ≡ most_fetched)
+GivesBackBy site received (Take i (Ack count)) = (i ≡ site) × (count ≤ received)
+GivesBackBy site received call = ⊥
+
+-- Messages that wait for the site are fetched, of which nothing is written. No message is acknowledged in its place that was not fetched here before
+abbrev pub GivesBack : ℕ → ℕ → List HubEvent → Type 0
+GivesBack site received [] = Unit {0}
+GivesBack site received (e ∷ es) = GivesBackBy site received e.call × GivesBack site (max received (received_with (brought e.reply))) es
+
+-- the pass made such calls, and no other
+pub record Returns (site received : ℕ) (v w : View) : Type 0 where
+  pub calls : List HubEvent
+  pub number : w.number ≡ v.number
+  pub made : w.made ≡ v.made ++ calls
+  pub kept : w.kept ≡ v.kept
+  pub gives : GivesBack site received calls
 
 -- the site leaves
 abbrev pub IsLeaveOf : ℕ → Call → Type 0
@@ -150,7 +175,7 @@ IsLeaveOf site call = ⊥
 -- what waits for the site is given back, and then the site leaves
 pub record Departs (site : ℕ) (v w : View) : Type 0 where
   pub between : View
-  pub back : Makes (GivesBack site) v between
+  pub back : Returns site 0 v between
   pub leaves : Makes (IsLeaveOf site) between w
 
 -- What the server writes to a site that has joined.
@@ -160,11 +185,6 @@ abbrev pub welcome_lines : Joined → List Line
 welcome_lines joined = line.Welcome joined.site joined.limit ∷ (board_lines joined.board ++ line.Ready ∷ [])
 
 -- The calls that the writing half of a session makes of its hub, and what it writes for them.
-
--- the messages that a reply brings
-abbrev pub brought : StarReply → List (Down BoardBatch)
-brought (Fetched (Ok downs)) = downs
-brought reply = []
 
 -- the lines of the messages that calls brought, one message after the other, in the order of the calls
 abbrev pub lines_brought : List HubEvent → List Line

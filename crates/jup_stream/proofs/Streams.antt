@@ -1,5 +1,5 @@
 -- How lines are read, and bytes are put.
-use Rattle.std.proofs.Common.{arith, slice_get, drop, zero, suc, ◌+◌, ◌-◌, ◌≤◌, ◌<◌, ◌≢◌, length, length-drop, ◌≡◌, ◌∙◌, sym, ap, subst, ℕ, inl, inr, List, [], ◌∷◌, ◌++◌, Option, Some, Result, Ok, Err, OnOk, OnErr, is_ok, refl, append_assoc, append-nil, rules, not, Bool, true, false, IsTrue, IsFalse, true≢false}
+use Rattle.std.proofs.Common.{arith, slice_get, drop, zero, suc, ◌+◌, ◌-◌, ◌≤◌, ◌<◌, ◌≢◌, length, length-drop, ◌≡◌, ◌∙◌, sym, ap, subst, ℕ, inl, inr, List, [], ◌∷◌, ◌++◌, Option, Some, Result, Ok, Err, OnOk, OnErr, is_ok, refl, append_assoc, append-nil, rules, not, Bool, IsTrue, IsFalse, true≢false}
 use Rattle.std.specs.Io.KnownBytes.{Consumes, Keeps, IsAtEnd, Appends}
 use Rattle.std.proofs.KnownBytes.{Consumes-nil, Consumes-trans, Consumes-kept}
 use Rattle.jup_io.specs.Appends.{appends_kept}

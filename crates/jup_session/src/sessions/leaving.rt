@@ -1,6 +1,6 @@
 //! How a site leaves for which much may wait.
 ghost use Rattle.jup_hub.specs.Passes.{view_of, IsPassOf};
-ghost use Rattle.jup_session.specs.Sessions.{GivesBack, Departs, Makes, Leaves};
+ghost use Rattle.jup_session.specs.Sessions.{Departs, Leaves, Returns, received_with};
 
 use jup_hub::{Hub, Pass};
 use jup_rules::{MOST_FETCHED, is_last_fetch};
@@ -23,7 +23,7 @@ pub(crate) fn leave<R: Wait>(rt: &R, alloc: Global, hub: &Hub, pass: &mut Pass, 
 fn give_back<R: Wait>(rt: &R, alloc: Global, hub: &Hub, pass: &mut Pass, site: u32)
     requires { IsPassOf hub.now pass.old }
     ensures pass { IsPassOf hub.now pass.new }
-    ensures gives { Makes (GivesBack site) (view_of pass.old) (view_of pass.new) }
+    ensures gives { Returns site 0 (view_of pass.old) (view_of pass.new) }
 {
     for _ in rt.forever() {
         if !give_some(rt, alloc, hub, pass, site) {
@@ -37,7 +37,7 @@ fn give_back<R: Wait>(rt: &R, alloc: Global, hub: &Hub, pass: &mut Pass, site: u
 fn give_some<R: Wait>(rt: &R, alloc: Global, hub: &Hub, pass: &mut Pass, site: u32) -> bool
     requires { IsPassOf hub.now pass.old }
     ensures pass { IsPassOf hub.now pass.new }
-    ensures gives { Makes (GivesBack site) (view_of pass.old) (view_of pass.new) }
+    ensures gives { Returns site 0 (view_of pass.old) (view_of pass.new) }
 {
     let Ok(downs) = hub.fetch(rt, alloc, pass, site, MOST_FETCHED) else {
         return false;
@@ -57,7 +57,7 @@ fn acknowledge<R: Wait>(
 )
     requires { IsPassOf hub.now pass.old }
     ensures pass { IsPassOf hub.now pass.new }
-    ensures gives { Makes (GivesBack site) (view_of pass.old) (view_of pass.new) }
+    ensures gives { Returns site (received_with downs.now) (view_of pass.old) (view_of pass.new) }
 {
     if let Some(Down::Op(last)) = downs.last() {
         let heard = last.mine.saturating_add(1);

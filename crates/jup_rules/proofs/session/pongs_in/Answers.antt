@@ -1,4 +1,4 @@
-use Rattle.std.proofs.Common.{◌<◌, ℕ, ◌+◌, true, false, length, arith, sym, ap, ◌∙◌}
+use Rattle.std.proofs.Common.{◌<◌, ℕ, ◌+◌, length, arith, sym, ap, ◌∙◌}
 use Rattle.std.proofs.lemmas.List.Sums.{count_by_more_yes, count_by_more_no}
 use Rattle.jup_rules.specs.Sessions.{is_pong}
 use Rattle.jup_rules.proofs.session.pongs_in.Goals as goal

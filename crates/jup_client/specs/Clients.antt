@@ -2,14 +2,15 @@
 use Rattle.std.specs.Prelude.{ℕ, List, Option, if◌then◌else◌, Some, None, ◌≡◌, ◌≢◌, ◌≤◌, ◌+◌, ◌⊎◌, [], ◌∷◌, ◌++◌, length, map, codes, nat_lt, decimal, IsTrue, IsFalse, true, ◌==◌, Bool, false, Result, Ok, Err, IfOk}
 use Rattle.std.specs.List.{AllByRecursion}
 use Rattle.std.specs.Option.{option_map}
-use Rattle.jup_client.specs.Prelude.{Command, BoardBatch, OpenFault, SiteFault, Down, DownOp, DownAck, DownPong, UpPing, Line, LayoutFault, Distinct, Gathered, Request, Edit, Batch, Sync, Show, Quit, Bad, ClientEnd, Fault, NoMemory, Said, SaysUp, SaysBye, UpAck}
+use Rattle.jup_client.specs.Prelude.{Command, BoardBatch, OpenFault, Down, DownOp, DownAck, DownPong, UpPing, Line, LayoutFault, Distinct, Gathered, Request, Edit, Batch, Sync, Show, Quit, Bad, ClientEnd, Fault, NoMemory, Said, SaysUp, SaysBye, UpAck}
 use Rattle.jup_window.specs.Boards.{Windows}
 use Rattle.jup_window.specs.Commands.{edit_fault_number}
 use Rattle.jup_text.specs.Commands.{command_text, batch_text, IsCommand, IsBatchCount, edits_text}
 use Rattle.jup_text.specs.Boards.{board_text}
 use Rattle.jup_star.specs.declared.site.Delivered.{Delivered}
+use Rattle.jup_star.specs.declared.undelivered.Undelivered.{Undelivered}
 use Rattle.jup_star.specs.declared.site.Made.{Made as MadeEdit}
-use Rattle.jup_star.specs.Sites.{EditAnswers, DeliverAnswers, owed_of, shown_after, is_edit_memory, site_open_fault, opened_site}
+use Rattle.jup_star.specs.Sites.{BoardSite, EditAnswers, DeliverAnswers, applied, fault_in, owed_of, shown_after, is_edit_memory, site_open_fault, opened_site}
 use Rattle.jup_wire.specs.declared.line.Line.TheVariants as line
 use Rattle.jup_layout.specs.Drafts.{Built, board_with, HasTaken}
 use Rattle.jup_layout.specs.Said.{Part, SaysNothing, part_of}
@@ -179,14 +180,19 @@ down_heard (Err (Plain line)) = Err (refusal_of line)
 down_heard (Err other) = Err (end_of_fault Misplaced)
 
 -- the client says an acknowledgement that is owed, and returns what its board took
-abbrev pub heard_answer : ℕ → Down BoardBatch → Result Delivered SiteFault → Result Heard ClientEnd
+abbrev pub heard_answer : ℕ → Down BoardBatch → Result Delivered Undelivered → Result Heard ClientEnd
 heard_answer pings down (Ok delivered) = Ok (record { said = option_map (λ up. SaysUp up) (option_map UpAck delivered.owed); is_synced = is_pong pings down; shown = delivered.shown })
-heard_answer pings down (Err fault) = Err (end_of_site fault)
+heard_answer pings down (Err refusal) = Err (end_of_site (fault_in refusal))
+
+-- a board took these operations and no others: those that the site applied for the message
+pub record Shows (down : Down BoardBatch) (old : BoardSite) (shown : Option BoardBatch) (new : BoardSite) : Type 0 where
+  pub operations : shown ≡ applied board_batches down old
+  pub board : new.board ≡ shown_after shown old.board
 
 -- a message is delivered to the site
 abbrev pub Delivers : Down BoardBatch → ClientState → Result Heard ClientEnd → ClientState → Type 0
-Delivers down c r d = (outcome : Result Delivered SiteFault) × DeliverAnswers down c.site d.site (owed_of outcome)
-    × IfOk outcome (λ delivered. d.site.board ≡ shown_after delivered.shown c.site.board) × (r ≡ heard_answer c.pings down outcome) × (d.pings ≡ c.pings)
+Delivers down c r d = (outcome : Result Delivered Undelivered) × DeliverAnswers down c.site d.site (owed_of outcome)
+    × IfOk outcome (λ delivered. Shows down c.site delivered.shown d.site) × (r ≡ heard_answer c.pings down outcome) × (d.pings ≡ c.pings)
 
 -- what a client does for what lines give
 abbrev pub HearsDown : Result (Option (Down BoardBatch)) ClientEnd → ClientState → Result Heard ClientEnd → ClientState → Type 0

@@ -91,7 +91,7 @@ impl ClientState {
     {
         let gathered = self.gather.push(alloc, line)?;
         match down_heard(message_of(gathered))? {
-            Some(down) => self.deliver(alloc, &down),
+            Some(down) => self.deliver(alloc, down),
             None => Ok(Heard {
                 said: None,
                 is_synced: false,
@@ -101,14 +101,15 @@ impl ClientState {
     }
 
     // Delivers a message, and acknowledges it if that is owed.
-    fn deliver(&mut self, alloc: Global, down: &Down) -> Result<Heard, ClientEnd>
-        ensures delivers { Delivers down.now self.old result self.new }
+    fn deliver(&mut self, alloc: Global, down: Down) -> Result<Heard, ClientEnd>
+        ensures delivers { Delivers down self.old result self.new }
         ensures held { self.new.gather ≡ self.old.gather }
     {
+        let is_synced = matches!(&down, Down::Pong(count) if *count == self.pings);
         let Delivered { owed, shown } = self.site.deliver_shown(alloc, down)?;
         Ok(Heard {
             said: owed.map(Up::Ack).map(Said::Up),
-            is_synced: matches!(down, Down::Pong(count) if *count == self.pings),
+            is_synced,
             shown,
         })
     }

@@ -4,7 +4,7 @@ ghost use Rattle.std.specs.Prelude.{◌≡◌, ◌≢◌, ◌≤◌, ◌↔◌, 
 ghost use Rattle.jup_client.specs.Ends.{client_end_number, client_end_status, client_end_is_explained};
 
 use jup_layout::LayoutFault;
-use jup_star::{OpenFault, SiteFault};
+use jup_star::{OpenFault, SiteFault, Undelivered};
 use jup_stream::{Stop, StreamFault, cause_of};
 use jup_wire::WireFault;
 use jup_xform::NoMemory;
@@ -156,5 +156,16 @@ impl From<SiteFault> for ClientEnd {
             SiteFault::NoMemory => ClientEnd::NoMemory,
             _ => ClientEnd::Fault(fault.number()),
         }
+    }
+}
+
+impl From<Undelivered> for ClientEnd {
+    ghost use Rattle.jup_star.specs.Sites.{fault_in};
+    ghost use Rattle.jup_client.specs.Ends.{end_of_site};
+
+    ghost from_gives = { λ refusal made. made ≡ end_of_site (fault_in refusal) };
+
+    fn from(refusal: Undelivered) -> ClientEnd {
+        SiteFault::from(refusal).into()
     }
 }

@@ -8,17 +8,18 @@ use Rattle.jup_xform.specs.Laws.Grids.{after_all-append}
 use Rattle.jup_embed.specs.Prelude.{Item, Command, EditFault, BoardOp, Made, Line, WireFault, line_bytes, Request, NoMemory, Told, Answer, Heard, ClientEnd, ClientState, Wire, end_of_fault, Phase, EmbedFault}
 use Rattle.jup_batch.specs.Boards.{board_batches, Windows, after}
 use Rattle.jup_star.specs.declared.site.Delivered.{Delivered}
+use Rattle.jup_star.specs.declared.undelivered.Undelivered.{Undelivered}
 use Rattle.jup_star.specs.Sites.{EditAnswers, edit_reply, site_edited, is_edit_memory, edit_answer as site_answer, BoardSite, made_by, made_result, after_edit, shown_after}
 use Rattle.jup_wire.specs.Streams.{Progress}
 use Rattle.jup_wire.proofs.Streams.{take_one_more}
 use Rattle.jup_gather.specs.Gathering.{down_in, message_given}
 use Rattle.jup_client.specs.declared.client.Told.TheVariants.{Synced, Bye as SaidBye}
 use Rattle.jup_client.specs.declared.client.Told.TheVariants as told
-use Rattle.jup_client.specs.Clients.{saying, IsHeld, ComesTo, AnswersEdit, Answers, edit_answer, telling, Hears, HearsDown, down_heard, heard_answer}
+use Rattle.jup_client.specs.Clients.{saying, IsHeld, ComesTo, AnswersEdit, Answers, edit_answer, telling, Hears, HearsDown, down_heard, heard_answer, Shows}
 use Rattle.jup_embed.specs.declared.phase.Phase.TheVariants as phase
 use Rattle.jup_embed.specs.Sessions.{kept, operations_in, operations_said, said_bytes, PhaseHears, Session, HearsLine, HearsLines, EditedIn, MakesEdit, AnsweredIn, IsDone, DoesAsked, Commands, still_synced, KeepsRest, RefusesLine, HearsUpTo, ReadsOn, Ends, board_in, Feeds, LacksUntold, KeepsCopies}
 use Rattle.jup_embed.specs.Views.{values_of}
-use Rattle.jup_client.specs.Prelude.{BoardBatch, UpPing, Down, SiteFault}
+use Rattle.jup_client.specs.Prelude.{BoardBatch, UpPing, Down}
 use Rattle.jup_batch.specs.Prelude.{boards}
 use Rattle.jup_stream.specs.declared.saying.Said.TheVariants.{Up as SaysUp, Bye as SaysBye}
 use Rattle.jup_client.specs.declared.asking.Request.TheVariants.{Sync, Quit, Edit, Batch, Show, Bad}
@@ -289,12 +290,12 @@ heard_shows : (line : Line) (c d : ClientState) (heard : Heard) → Hears line c
 heard_shows line c d heard (inl none) = absurd (let no : Ok heard ≡ Err NoMemory = none.0 in cc)
 heard_shows line c d heard (inr h) = by_lines (down_heard (message_given down_in h.0)) h.2
   where
-    delivered : (down : Down BoardBatch) (outcome : Result Delivered SiteFault) → Ok heard ≡ heard_answer c.pings down outcome
-        → IfOk outcome (λ made. d.site.board ≡ shown_after made.shown c.site.board) → d.site.board ≡ after (operations_in heard.shown) c.site.board
+    delivered : (down : Down BoardBatch) (outcome : Result Delivered Undelivered) → Ok heard ≡ heard_answer c.pings down outcome
+        → IfOk outcome (λ made. Shows down c.site made.shown d.site) → d.site.board ≡ after (operations_in heard.shown) c.site.board
     delivered down (Ok made) is shows =
         let same : made.shown ≡ heard.shown = cc in
-        shows ∙ shown_is_after made.shown c.site.board ∙ ap (λ shown. after (operations_in shown) c.site.board) same
-    delivered down (Err fault) is shows = absurd (cc)
+        shows.board ∙ shown_is_after made.shown c.site.board ∙ ap (λ shown. after (operations_in shown) c.site.board) same
+    delivered down (Err refusal) is shows = absurd (cc)
 
     by_lines : (r : Result (Option (Down BoardBatch)) ClientEnd) → HearsDown r c (Ok heard) d → d.site.board ≡ after (operations_in heard.shown) c.site.board
     by_lines (Ok (Some down)) is = delivered down is.0 is.3 is.2

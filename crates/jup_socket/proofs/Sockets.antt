@@ -6,6 +6,8 @@ use Rattle.std.proofs.lemmas.List.Concat.{flat_map-cons, flat_map-append}
 use Rattle.jup_socket.specs.Prelude.{Up, Down, Joined, Line, Said, SaysUp, SaysBye, ClientEnd, NoMemory, Answer, Heard, ClientState}
 use Rattle.jup_star.specs.declared.site.Made.{Made}
 use Rattle.jup_star.specs.declared.site.Delivered.{Delivered}
+use Rattle.jup_star.specs.declared.undelivered.Undelivered.{Undelivered}
+use Rattle.jup_star.specs.declared.undelivered.Undelivered.TheVariants.{NoMemory as HandedBack, Fault}
 use Rattle.jup_star.specs.declared.faults.SiteFault.TheVariants.{NoMemory as SiteNoMemory, BadCount, BadAck, BadName, Stopped}
 use Rattle.jup_star.specs.Sites.{edit_reply, site_edited, is_edit_memory, EditAnswers, deliver_reply, site_delivered, DeliverAnswers, owed_of}
 use Rattle.jup_wire.specs.declared.line.Line.TheVariants as line
@@ -286,17 +288,18 @@ edit_step commands c d r h = cases h.0 h.1 h.2
 pub deliver_step : (down : Down BoardBatch) (c d : ClientState) (r : Result Heard ClientEnd) → Delivers down c r d → IsDeliverStep down c r d
 deliver_step down c d r h = cases h.0 h.1 h.3
   where
-    refused : (fault : SiteFault) → (d.site ≡ site_delivered down c.site) → Err fault ≡ deliver_reply down c.site → r ≡ heard_answer c.pings down (Err fault) → IsDeliverStep down c r d
+    refused : (fault : SiteFault) → (d.site ≡ site_delivered down c.site) → Err fault ≡ deliver_reply down c.site → r ≡ heard_answer c.pings down (Err (Fault fault)) → IsDeliverStep down c r d
     refused fault site reply is = inr (site, ap said_of_heard is ∙ ap (λ m. map (λ up. SaysUp up) (sent_as_handed m)) reply)
 
-    cases : (o : Result Delivered SiteFault) → DeliverAnswers down c.site d.site (owed_of o) → r ≡ heard_answer c.pings down o → IsDeliverStep down c r d
+    cases : (o : Result Delivered Undelivered) → DeliverAnswers down c.site d.site (owed_of o) → r ≡ heard_answer c.pings down o → IsDeliverStep down c r d
     cases (Ok delivered) e is = inr (e.1, ap said_of_heard is ∙ said_owed (option_map UpAck delivered.owed) ∙ ap (λ m. map (λ up. SaysUp up) (sent_as_handed m)) e.0)
-    cases (Err SiteNoMemory) e is = inl (is, e.0)
-    cases (Err BadCount) e is = refused BadCount e.1 e.0 is
-    cases (Err BadAck) e is = refused BadAck e.1 e.0 is
-    cases (Err BadName) e is = refused BadName e.1 e.0 is
-    cases (Err BadOp) e is = refused BadOp e.1 e.0 is
-    cases (Err Stopped) e is = refused Stopped e.1 e.0 is
+    cases (Err (HandedBack back)) e is = inl (is, e.0)
+    cases (Err (Fault SiteNoMemory)) e is = inl (is, e.0)
+    cases (Err (Fault BadCount)) e is = refused BadCount e.1 e.0 is
+    cases (Err (Fault BadAck)) e is = refused BadAck e.1 e.0 is
+    cases (Err (Fault BadName)) e is = refused BadName e.1 e.0 is
+    cases (Err (Fault BadOp)) e is = refused BadOp e.1 e.0 is
+    cases (Err (Fault Stopped)) e is = refused Stopped e.1 e.0 is
 
 -- as it is opened
 pub opened_client : (y : SiteRun) (c : ClientState) → IsBoard y.answer.board → length (board_lines y.answer.board) < 4294967295 → y.answer.board ≡ bare y.answer.board

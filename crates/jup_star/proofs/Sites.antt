@@ -1,5 +1,5 @@
 -- What each call of a site keeps.
-use Rattle.std.proofs.Common.{◌≡◌, refl, ℕ, ◌+◌, ◌≤◌, arith, sym, ◌<◌, Bool, true, false, cond, List, [], ◌∷◌, length, nat_le, ap, suc, None, Result, Ok, Err, inl, inr, ◌⊎◌}
+use Rattle.std.proofs.Common.{◌≡◌, refl, ℕ, ◌+◌, ◌≤◌, arith, sym, ◌<◌, Bool, true, false, cond, List, [], ◌∷◌, length, nat_le, ap, suc, None, Result, Ok, Err, OnErr, inl, inr, ◌⊎◌}
 use Rattle.std.proofs.lemmas.Bool.{false_from_ne_true, not-true}
 use Rattle.std.proofs.lemmas.List.{length-append}
 use Rattle.jup_star.specs.Prelude.{most_unacknowledged, Side, Client, Server, row_operation, past, opposite, Msg, EndLink as Link, IsCount, answered, after_send, owes, unheard, Command, BoardBatch, insertions_few, boards, board_batches, batch_laws as board_laws, DownOp as Op}
@@ -7,9 +7,10 @@ use Rattle.jup_window.specs.Commands.{IsFresh}
 use Rattle.jup_window.specs.Boards as one
 use Rattle.jup_batch.specs.Boards.{insertions, bears_site, foreign}
 use Rattle.jup_batch.specs.Boards as board
+use Rattle.jup_batch.specs.Laws.Boards.{inserts_where_room_lacks}
 use Rattle.jup_star.specs.Faults.{first_fault}
 use Rattle.jup_star.specs.Stars.{operation_at, end_after}
-use Rattle.jup_star.specs.Sites.{IsSite, within_bounds, edit_answer, edited, received, shown_tests, BoardSite}
+use Rattle.jup_star.specs.Sites.{IsSite, within_bounds, edit_answer, edited, received, deliver_tests, BoardSite}
 use Rattle.jup_star.proofs.FaultTests.{all_hold, count_is}
 use Rattle.jup_star.proofs.LinkChanges.{paid_generated, received_generated}
 use Rattle.jup_batch.specs.Prelude.{Name, InsertAt as Insert, DeleteAt as Delete, RelabelAt as Relabel, SetValue as Set, EditFault}
@@ -110,12 +111,17 @@ pub shown_with : (s : BoardSite) (m : Msg BoardBatch) (b : board.Windows) (e : L
     → e ≡ answered (end_after board_batches s.end m) → ◌≡◌ {A = BoardSite} (record s { board = b; end = e }) (received board_batches (Op m) s)
 shown_with s m b e board end = rw (board, end) refl
 
--- an edit without an early fault bears no name of the site, and acknowledges what can be
-pub shown_foreign : (number : ℕ) (e : Link BoardBatch) (m : Msg BoardBatch) → None ≡ first_fault (shown_tests board_batches number e m) → bears_site number (board.edit_of m.op) ≡ false
-shown_foreign number e m first = not-true _ (all_hold (shown_tests board_batches number e m) (sym first)).1.1.0
+-- an edit without an early fault acknowledges what can be, and bears no name of the site
+pub admitted_count : (s : BoardSite) (m : Msg BoardBatch) → first_fault (deliver_tests board_batches s m) ≡ None → IsCount s.end m.heard
+admitted_count s m none = count_is _ _ (all_hold (deliver_tests board_batches s m) none).1.1.0
 
-pub shown_count : (number : ℕ) (e : Link BoardBatch) (m : Msg BoardBatch) → None ≡ first_fault (shown_tests board_batches number e m) → IsCount e m.heard
-shown_count number e m first = count_is _ _ (all_hold (shown_tests board_batches number e m) (sym first)).1.0
+pub admitted_foreign : (s : BoardSite) (m : Msg BoardBatch) → first_fault (deliver_tests board_batches s m) ≡ None → bears_site s.number (board.edit_of m.op) ≡ false
+admitted_foreign s m none = not-true _ (all_hold (deliver_tests board_batches s m) none).1.1.1.0
+
+-- a batch for which room is made inserts an item
+pub room_inserts : {A E : Type 0} (os : BoardBatch) (b : board.Windows) (r : Result A E) → OnErr r (board.HasRoom os 0 b → ⊥) → OnErr r (1 ≤ insertions (board.edit_of os))
+room_inserts os b (Ok made) lacks = tt
+room_inserts os b (Err fault) lacks = inserts_where_room_lacks os 0 b lacks
 
 -- as many edits as operations
 pub length_edits : (os : BoardBatch) → length (board.edit_of os) ≡ length os

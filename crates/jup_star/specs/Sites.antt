@@ -6,6 +6,8 @@ use Rattle.jup_batch.specs.Boards as board
 use Rattle.jup_star.specs.declared.faults.SiteFault.TheVariants.{BadCount, BadAck, BadName, BadOp, Stopped, NoMemory as SiteNoMemory}
 use Rattle.jup_star.specs.declared.site.Made.{Made}
 use Rattle.jup_star.specs.declared.site.Delivered.{Delivered}
+use Rattle.jup_star.specs.declared.undelivered.Undelivered.{Undelivered}
+use Rattle.jup_star.specs.declared.undelivered.Undelivered.TheVariants.{NoMemory as HandedBack, Fault}
 use Rattle.jup_star.specs.declared.site.Site.TheInside.{Inside}
 use Rattle.jup_star.specs.Faults.{count_tests, Test, test, first_fault}
 use Rattle.jup_star.specs.Stars.{operation_at, end_after}
@@ -49,6 +51,12 @@ owed_up e = if owes e.unanswered then Some (UpAck e.received) else None
 abbrev pub heard_tests : {Operation : Type 0} → Link Operation → ℕ → List (Test SiteFault)
 heard_tests e n = test (accepts_count e n) BadAck ∷ []
 
+-- an end that heard a message, where the operation of an edit is still to be received
+abbrev pub end_heard : {Operation : Type 0} → Link Operation → Down Operation → Link Operation
+end_heard e (Op m) = e
+end_heard e (Ack n) = after_count e n
+end_heard e (Pong k) = e
+
 module _ (O : Operations) where
   -- a site of a kind of operations
   abbrev pub SiteOf : Type 0
@@ -76,6 +84,12 @@ module _ (O : Operations) where
   abbrev pub shown_tests : ℕ → Link O.Op → Msg O.Op → List (Test SiteFault)
   shown_tests number e m = count_tests BadCount BadAck e m ++ test (not (O.bears_site number (O.t.edit_of m.op))) BadName ∷ []
 
+  -- the first fault of a message that is found at the end alone: the operation of an edit is still to be received
+  abbrev pub heard_fault : ℕ → Link O.Op → Down O.Op → Option SiteFault
+  heard_fault number e (Op m) = first_fault (shown_tests number e m)
+  heard_fault number e (Ack n) = first_fault (heard_tests e n)
+  heard_fault number e (Pong k) = None
+
   abbrev pub deliver_tests : SiteOf → Msg O.Op → List (Test SiteFault)
   deliver_tests s m = running_test s ∷ shown_tests s.number s.end m
 
@@ -100,6 +114,12 @@ module _ (O : Operations) where
   sent_back (Op m) s = owed_up (end_after O s.end m)
   sent_back (Ack n) s = None
   sent_back (Pong k) s = None
+
+  -- the operations that it applies: those of an edit, moved past its own edits that the star had not received
+  abbrev pub applied : Down O.Op → SiteOf → Option O.Op
+  applied (Op m) s = Some (operation_at O s.end m)
+  applied (Ack n) s = None
+  applied (Pong k) s = None
 
   -- the site after a message, by its first fault: one stops it
   abbrev pub after_fault : Down O.Op → SiteOf → Option SiteFault → SiteOf
@@ -221,10 +241,35 @@ DeliverAnswers down s t r = MatchBool (deliver_lacks_memory r)
     ((t ≡ s) × (deliver_asks down s ≡ true))
     ((r ≡ deliver_reply down s) × (t ≡ site_delivered down s))
 
+-- a message has no fault that is found without its board and without memory: an edit is still to be shown, any other message is taken
+abbrev pub IsAdmitted : Down BoardBatch → BoardSite → BoardSite → Type 0
+IsAdmitted (Op m) s t = (first_fault (deliver_tests board_batches s m) ≡ None) × (t ≡ s)
+IsAdmitted (Ack n) s t = DeliverAnswers (Ack n) s t (Ok None)
+IsAdmitted (Pong k) s t = DeliverAnswers (Pong k) s t (Ok None)
+
+-- What a site answers to a message that is handed over to it: as to one that it only reads, but for want of memory the message comes
+-- back.
+
+-- the fault of a refusal
+abbrev pub fault_in : Undelivered → SiteFault
+fault_in (HandedBack down) = SiteNoMemory
+fault_in (Fault fault) = fault
+
 -- the acknowledgement that a site owes after a message
-abbrev pub owed_of : Result Delivered SiteFault → Result (Option (Up BoardBatch)) SiteFault
+abbrev pub owed_of : Result Delivered Undelivered → Result (Option (Up BoardBatch)) SiteFault
 owed_of (Ok delivered) = Ok (option_map UpAck delivered.owed)
-owed_of (Err fault) = Err fault
+owed_of (Err refusal) = Err (fault_in refusal)
+
+-- for want of memory the message comes back, and the site is as it was; any other refusal has another fault
+abbrev pub HandsBack : Down BoardBatch → BoardSite → BoardSite → Undelivered → Type 0
+HandsBack down s t (HandedBack back) = (back ≡ down) × (t ≡ s)
+HandsBack down s t (Fault fault) = is_site_memory fault ≡ false
+
+-- whether a message inserts an item
+abbrev pub inserts : Down BoardBatch → Bool
+inserts (Op m) = nat_le 1 (board.insertions (board.edit_of m.op))
+inserts (Ack n) = false
+inserts (Pong k) = false
 
 -- a board after the operations that a site applied, if any
 abbrev pub shown_after : Option BoardBatch → board.Windows → board.Windows

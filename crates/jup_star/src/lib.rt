@@ -23,6 +23,7 @@ mod site;
 mod star;
 mod take;
 mod taken;
+mod undelivered;
 
 pub use calls::{Call, StarReply};
 pub use faults::{OpenFault, SiteFault, StarFault};
@@ -31,3 +32,4 @@ pub use openings::is_short;
 pub use outbox::Downs;
 pub use site::{Delivered, Made, Site};
 pub use star::{Joined, Star};
+pub use undelivered::Undelivered;

@@ -1,20 +1,20 @@
 //! A site.
 ghost use Rattle.std.specs.Prelude.{◌≡◌, ◌≤◌, ◌<◌, true, false, [], ◌∷◌, Ok, Err, length, IfOk, IfErr, OnOk, OnErr, IfSome, IfNone, is_some};
-ghost use Rattle.jup_link.specs.Links.{IsNumber, IsCount, opened, after_count};
-ghost use Rattle.jup_batch.specs.Boards.{BoardBatch, bare, after, edit_of, IsValid, HasRoom, accepts, board_batches};
+ghost use Rattle.jup_link.specs.Links.{IsNumber, IsCount, opened};
+ghost use Rattle.jup_batch.specs.Boards.{BoardBatch, bare, after, edit_of, insertions, IsValid, HasRoom, accepts, board_batches};
 ghost use Rattle.jup_window.specs.Operations.{next_name};
 ghost use Rattle.jup_window.specs.Commands.{shown};
 ghost use Rattle.jup_batch.specs.Laws.Boards.{all_shown};
 ghost use Rattle.jup_star.specs.Faults.{fault_of, first_fault};
 ghost use Rattle.jup_star.specs.Stars.{operation_at, end_after};
-ghost use Rattle.jup_star.specs.Sites.{opened_site, edit_answer, within_bounds, heard_tests, shown_tests, site_open_fault, EditAnswers, DeliverAnswers, owed_of, shown_after, Bears, is_edit_memory, asks_room};
+ghost use Rattle.jup_star.specs.Sites.{opened_site, edit_answer, within_bounds, shown_tests, deliver_tests, heard_fault, end_heard, applied, site_open_fault, EditAnswers, DeliverAnswers, IsAdmitted, fault_in, owed_of, shown_after, HandsBack, inserts, Bears, is_edit_memory, is_site_memory};
 ghost use Rattle.jup_star.specs.Messages.{UpRelabelsNoText};
-ghost use Rattle.jup_star.specs.declared.messages.Down.TheVariants.{Op, Ack, Pong};
+ghost use Rattle.jup_star.specs.declared.messages.Down.TheVariants.{Op};
 
 use crate::edits::edits_of;
 use crate::ends::{acknowledge, check_counts, copy_of, receive};
 use crate::take::fits;
-use crate::{Down, OpenFault, SiteFault, Up};
+use crate::{Down, OpenFault, SiteFault, Undelivered, Up};
 use jup_batch::{BoardBatch, BoardEdits, MOST_COMMANDS, all_insertions, name_all, one_bears_site};
 use jup_limits::{HIGHEST_LIMIT, LAST_SITE, MOST_UNACKNOWLEDGED};
 use jup_link::{End, Msg};
@@ -225,71 +225,71 @@ impl Site {
     pub fn deliver(&mut self, alloc: Global, down: &Down) -> Result<Option<Up>, SiteFault>
         ensures { DeliverAnswers down.now self.old self.new result }
     {
-        match self.deliver_shown(alloc, down) {
-            Ok(delivered) => Ok(delivered.owed.map(Up::Ack)),
-            Err(fault) => Err(fault),
+        self.admit(alloc, down)?;
+        match down {
+            Down::Op(msg) => {
+                let delivered = self.show_edit(alloc, copy_of(alloc, msg)?)?;
+                Ok(delivered.owed.map(Up::Ack))
+            }
+            Down::Ack(_) | Down::Pong(_) => Ok(None),
         }
     }
 
-    /// Delivers a message as [`Site::deliver`] does, and also returns the operations that the site applied. A copy of the
-    /// board before the call becomes the board after it by these operations, so a caller that keeps such a copy compares nothing.
-    pub fn deliver_shown(&mut self, alloc: Global, down: &Down) -> Result<Delivered, SiteFault>
-        ensures answer { DeliverAnswers down.now self.old self.new (owed_of result) }
+    /// Delivers a message as [`Site::deliver`] does, but takes it and makes no copy of it. It also returns the operations that the
+    /// site applied. A copy of the board before the call becomes the board after it by these operations, so a caller that keeps
+    /// such a copy compares nothing. If an allocation fails, the message comes back.
+    pub fn deliver_shown(&mut self, alloc: Global, down: Down) -> Result<Delivered, Undelivered>
+        ensures answer { DeliverAnswers down self.old self.new (owed_of result) }
+        ensures operations { IfOk result (λ delivered. delivered.shown ≡ applied board_batches down self.old) }
         ensures shown { IfOk result (λ delivered. self.new.board ≡ shown_after delivered.shown self.old.board) }
+        ensures back { IfErr result (HandsBack down self.old self.new) }
+        ensures asks { IfErr result (λ refusal. is_site_memory (fault_in refusal) ≡ true → inserts down ≡ true) }
     {
-        if self.stopped {
-            return Err(SiteFault::Stopped);
-        }
+        self.admit(alloc, &down)?;
         match down {
-            Down::Op(msg) => self.deliver_edit(alloc, msg),
-            Down::Ack(heard) => self.deliver_ack(alloc, *heard),
-            Down::Pong(_) => Ok(Delivered {
+            Down::Op(msg) => self.show_edit(alloc, msg),
+            Down::Ack(_) | Down::Pong(_) => Ok(Delivered {
                 owed: None,
                 shown: None,
             }),
         }
     }
 
-    // Takes an edit of another site.
-    fn deliver_edit(&mut self, alloc: Global, msg: &Msg<BoardBatch>) -> Result<Delivered, SiteFault>
-        requires { self.old.stopped ≡ false }
-        ensures answer { DeliverAnswers (Op msg.now) self.old self.new (owed_of result) }
-        ensures shown { IfOk result (λ delivered. self.new.board ≡ shown_after delivered.shown self.old.board) }
+    // Takes a message, except that an edit is still to be shown. A fault stops the site.
+    fn admit(&mut self, alloc: Global, down: &Down) -> Result<(), SiteFault>
+        ensures refused { IfErr result (λ fault. DeliverAnswers down.now self.old self.new (Err fault)) }
+        ensures memory { IfErr result (λ fault. is_site_memory fault ≡ false) }
+        ensures admitted { OnOk result (IsAdmitted down.now self.old self.new) }
     {
-        match check_shown(self.number, &self.end, msg) {
-            Err(fault) => {
-                halt(alloc, &mut self.end, &mut self.stopped);
-                return Err(fault);
-            }
-            Ok(()) => {}
+        if self.stopped {
+            return Err(SiteFault::Stopped);
         }
-        let msg = reserve_shown(alloc, msg, &mut self.board)?;
+        let heard = hear(self.number, &mut self.end, down);
+        if heard.is_err() {
+            halt(alloc, &mut self.end, &mut self.stopped);
+        }
+        heard
+    }
+
+    // Shows an edit of another site, if it fits the board.
+    fn show_edit(&mut self, alloc: Global, msg: Msg<BoardBatch>) -> Result<Delivered, Undelivered>
+        requires { first_fault (deliver_tests board_batches self.old msg) ≡ None }
+        ensures answer { DeliverAnswers (Op msg) self.old self.new (owed_of result) }
+        ensures operations { IfOk result (λ delivered. delivered.shown ≡ applied board_batches (Op msg) self.old) }
+        ensures shown { IfOk result (λ delivered. self.new.board ≡ shown_after delivered.shown self.old.board) }
+        ensures back { IfErr result (HandsBack (Op msg) self.old self.new) }
+        ensures asks { IfErr result (λ refusal. is_site_memory (fault_in refusal) ≡ true → inserts (Op msg) ≡ true) }
+    {
+        let Ok(()) = reserve_shown(alloc, &msg.op, &mut self.board) else {
+            return Err(Undelivered::NoMemory(Down::Op(msg)));
+        };
         let Some(op) = show(&mut self.board, &mut self.end, msg) else {
             halt(alloc, &mut self.end, &mut self.stopped);
-            return Err(SiteFault::BadOp);
+            return Err(Undelivered::Fault(SiteFault::BadOp));
         };
         Ok(Delivered {
             owed: acknowledge(&mut self.end),
             shown: Some(op),
-        })
-    }
-
-    // Takes an acknowledgement.
-    fn deliver_ack(&mut self, alloc: Global, heard: u32) -> Result<Delivered, SiteFault>
-        requires { self.old.stopped ≡ false }
-        ensures answer { DeliverAnswers (Ack heard) self.old self.new (owed_of result) }
-        ensures shown { IfOk result (λ delivered. self.new.board ≡ shown_after delivered.shown self.old.board) }
-    {
-        match hear(&mut self.end, heard) {
-            Err(fault) => {
-                halt(alloc, &mut self.end, &mut self.stopped);
-                return Err(fault);
-            }
-            Ok(()) => {}
-        }
-        Ok(Delivered {
-            owed: None,
-            shown: None,
         })
     }
 
@@ -347,14 +347,16 @@ fn halt(alloc: Global, end: &mut End<BoardBatch>, stopped: &mut bool)
     *stopped = true;
 }
 
-// Takes an acknowledgement.
-fn hear(end: &mut End<BoardBatch>, heard: u32) -> Result<(), SiteFault>
-    ensures fault { fault_of result ≡ first_fault (heard_tests end.old.link heard) }
-    ensures count { OnOk result (IsCount end.old.link heard) }
-    ensures ok { OnOk result (end.new.link ≡ after_count end.old.link heard) }
+// Takes a message at the end of a site, or finds its first fault. The operation of an edit is still to be received.
+fn hear(number: u32, end: &mut End<BoardBatch>, down: &Down) -> Result<(), SiteFault>
+    ensures fault { fault_of result ≡ heard_fault board_batches number end.old.link down.now }
+    ensures ok { OnOk result (end.new.link ≡ end_heard end.old.link down.now) }
 {
-    end.take_ack(heard)?;
-    Ok(())
+    match down {
+        Down::Op(msg) => check_shown(number, end, msg),
+        Down::Ack(heard) => Ok(end.take_ack(*heard)?),
+        Down::Pong(_) => Ok(()),
+    }
 }
 
 // The first fault of an edit of another site, except for that of its operation on the board.
@@ -368,19 +370,13 @@ fn check_shown(number: u32, end: &End<BoardBatch>, msg: &Msg<BoardBatch>) -> Res
     Ok(())
 }
 
-// Makes all room that an edit of another site needs, and a copy of its message.
-fn reserve_shown(
-    alloc: Global,
-    msg: &Msg<BoardBatch>,
-    board: &mut Board,
-) -> Result<Msg<BoardBatch>, NoMemory>
+// Makes the room that an edit of another site needs.
+fn reserve_shown(alloc: Global, op: &BoardBatch, board: &mut Board) -> Result<(), NoMemory>
     ensures board { bare board.new ≡ bare board.old }
-    ensures room { OnOk result (HasRoom msg.now.op 0 board.new) }
-    ensures msg { IfOk result (λ copied. copied ≡ msg.now) }
-    ensures asks { OnErr result (asks_room msg.now.op ≡ true) }
+    ensures room { OnOk result (HasRoom op.now 0 board.new) }
+    ensures inserts { OnErr result (1 ≤ insertions (edit_of op.now)) }
 {
-    msg.op.reserve(alloc, 0, board)?;
-    copy_of(alloc, msg)
+    op.reserve(alloc, 0, board)
 }
 
 // Receives an edit of another site and applies it, if it fits the board, and answers its operation as it was

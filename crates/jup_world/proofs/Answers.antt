@@ -1,13 +1,14 @@
 -- What sites and the star answer.
-use Rattle.std.proofs.Common.{◌≡◌, ℕ, Bool, true, false, cond, length, nat_le, refl, Result, Ok, Err, ◌≤◌, ◌<◌, ◌⊎◌, not, ◌&&◌, List, [], ◌∷◌, ◌++◌, nat_lt, ap, inl, inr, ◌∙◌, IsTrue, Some, None, eq-eqb, le-leb, lt-ltb, sym, take, Option, is_some, eqb, option_map, OnErr}
+use Rattle.std.proofs.Common.{◌≡◌, ℕ, Bool, true, false, cond, length, nat_le, refl, Result, Ok, Err, ◌≤◌, ◌<◌, ◌⊎◌, not, ◌&&◌, List, [], ◌∷◌, ◌++◌, nat_lt, ap, inl, inr, ◌∙◌, IsTrue, Some, None, eq-eqb, le-leb, lt-ltb, sym, take, Option, is_some, eqb, option_map, OnErr, IfOk, IfSome, subst}
 use Rattle.std.proofs.lemmas.Bool.{ltb-true, ltb-false}
 use Rattle.std.specs.Option.{option_eq}
-use Rattle.jup_world.specs.Prelude.{most_unacknowledged, Msg, Link, IsCount, IsNumber, generated, accepts_count, received_operation, EditFault, Operations, AreLawful, BoardBatch, Commands, board_batches, UpOp, UpAck, DownOp, DownAck, DownPong, LogFull, BadOp, SiteBadOp, Up, Down, JoinedSite, StarFault, SiteOf, edit_answer, running_test, heard_tests, deliver_tests, fits_shown, deliver_fault, BoardSite, test, first_fault, LinkState, StarOf, fits_board, up_fault, link_of, join_fault, joined, left, fetched, taken, place_taken, BoardStar, Answers, is_no_memory, joining, bare_joined}
+use Rattle.jup_world.specs.Prelude.{most_unacknowledged, Msg, Link, IsCount, IsNumber, generated, accepts_count, received_operation, EditFault, Operations, AreLawful, BoardBatch, Commands, board_batches, UpOp, UpAck, DownOp, DownAck, DownPong, LogFull, BadOp, SiteBadOp, Up, Down, JoinedSite, StarFault, SiteOf, edit_answer, running_test, heard_tests, deliver_tests, fits_shown, deliver_fault, sent_back, end_after, owes, SiteFault, BoardSite, test, first_fault, LinkState, StarOf, fits_board, up_fault, link_of, join_fault, joined, left, fetched, taken, place_taken, BoardStar, Answers, is_no_memory, joining, bare_joined}
 use Rattle.jup_star.specs.declared.site.Made.{Made}
 use Rattle.jup_star.specs.declared.calls.Call.TheVariants.{Join, Take, Fetch, Leave}
 use Rattle.jup_star.specs.declared.calls.StarReply.TheVariants.{Joined as JoinedReply, Taken as TakenReply, Fetched as FetchedReply, Left as LeftReply}
-use Rattle.jup_star.specs.Sites.{within_bounds, EditAnswers, made_result, made_by, after_edit, is_edit_memory}
+use Rattle.jup_star.specs.Sites.{within_bounds, EditAnswers, DeliverAnswers, deliver_result, made_result, made_by, after_edit, is_edit_memory}
 use Rattle.jup_star.specs.Faults.{Test, count_tests}
+use Rattle.jup_star.specs.Messages.{UpRelabelsNoText}
 use Rattle.jup_star.specs.Stars.{ack_tests, edit_tests, log_tests, BoardLink, reply_of, star_after, take_result, after_take, fetch_result}
 use Rattle.jup_star.proofs.FaultTests.{AllHold, fault_after}
 use Rattle.jup_world.specs.declared.events.Reply.TheVariants.{Made as MadeReply, Refused}
@@ -264,6 +265,28 @@ some_wait i s l n found is test empty =
     let zero : n ≡ Some 0 = is ∙ ap (option_map (λ k. length k.outbox)) found ∙ ap (λ os. Some (length os)) empty in
     let wrong : false ≡ true = sym (ap (λ m. not (option_eq eqb m (Some 0))) zero) ∙ test in
     absurd cc
+
+-- # What a site sends back
+
+-- it relabels no text
+pub back_relabels : (down : Down BoardBatch) (s t : BoardSite) (r : Result (Option (Up BoardBatch)) SiteFault) → DeliverAnswers down s t r → IfOk r (λ back. IfSome back UpRelabelsNoText)
+back_relabels down s t (Err fault) answers = tt
+back_relabels down s t (Ok back) answers = by_fault (deliver_fault board_batches down s) answers.0
+  where
+    of_owed : (e : Link BoardBatch) (b : Bool) → IfSome (cond {A = Option (Up BoardBatch)} b (Some (UpAck e.received)) None) UpRelabelsNoText
+    of_owed e true = tt
+    of_owed e false = tt
+
+    of_message : (d : Down BoardBatch) → IfSome (sent_back board_batches d s) UpRelabelsNoText
+    of_message (DownOp m) = of_owed (end_after board_batches s.end m) (owes (end_after board_batches s.end m).unanswered)
+    of_message (DownAck n) = tt
+    of_message (DownPong k) = tt
+
+    by_fault : (fault : Option SiteFault) → Ok back ≡ deliver_result down s fault → IfSome back UpRelabelsNoText
+    by_fault None is =
+        let same : back ≡ sent_back board_batches down s = cc in
+        subst (λ (b : Option (Up BoardBatch)). IfSome b UpRelabelsNoText) (sym same) (of_message down)
+    by_fault (Some fault) is = absurd (cc)
 
 -- # Links that are there
 

@@ -5,7 +5,9 @@ use crate::first_edits::{
     counting_star_of, first, first_site, insertion, replacement, star_of, told_of,
 };
 use jup_link::End;
-use jup_star::{Down, Downs, Made, Site, SiteFault, Star, StarFault, Up};
+use jup_star::{
+    Delivered, Down, Downs, Made, Site, SiteFault, Star, StarFault, Undelivered, Up,
+};
 use jup_window::{Command, EditFault, Setting, Value};
 use jup_xform::Side;
 use std::alloc::Global;
@@ -232,4 +234,33 @@ fn site_deliver(rt: HostRuntime) {
     delivers(&rt, alloc, &inserted, "apqr");
     let replaced = Down::Op(first(replacement(&rt, alloc, 2)));
     delivers(&rt, alloc, &replaced, "aqr");
+}
+
+// A site is handed an edit of site 2, and shows its operations. If an allocation failed first, the site showed nothing of it, and is
+// handed what came back.
+fn shows(rt: &impl Abort, alloc: Global, down: Down, count: usize, letters: &str) {
+    let mut site = first_site(rt, alloc);
+    begin(alloc);
+    let first = site.deliver_shown(alloc, down);
+    end(alloc);
+    let delivered = match first {
+        Err(Undelivered::NoMemory(back)) => {
+            expect_that(rt, reads(site.board(), "pqr") && site.backlog() == 0);
+            site.deliver_shown(alloc, back)
+        }
+        other => other,
+    };
+    let Delivered { owed, shown } = delivered.expect(rt, "memory");
+    expect_eq(rt, (owed, shown.map(|ops| ops.as_slice().len())), (None, Some(count)));
+    expect_that(rt, reads(site.board(), letters) && site.backlog() == 0);
+}
+
+// An edit of one operation, and one of two.
+#[test]
+fn site_deliver_shown(rt: HostRuntime) {
+    let alloc = rt.alloc();
+    let inserted = Down::Op(first(alone(alloc, insertion(2))));
+    shows(&rt, alloc, inserted, 1, "apqr");
+    let replaced = Down::Op(first(replacement(&rt, alloc, 2)));
+    shows(&rt, alloc, replaced, 2, "aqr");
 }

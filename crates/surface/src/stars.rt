@@ -3,7 +3,8 @@
 use jup_batch::{BoardBatch, BoardEdits};
 use jup_link::Msg;
 use jup_star::{
-    Delivered, Down, Downs, Entry, Joined, Made, OpenFault, Site, SiteFault, Star, StarFault, Up,
+    Delivered, Down, Downs, Entry, Joined, Made, OpenFault, Site, SiteFault, Star, StarFault,
+    Undelivered, Up,
 };
 use jup_window::{Board, Command, EditFault};
 use std::alloc::Global;
@@ -14,7 +15,7 @@ pub fn site_calls() {
     let _: fn(&mut Site, Global, &Command) -> Result<Made, EditFault> = Site::edit;
     let _: fn(&mut Site, Global, &[Command]) -> Result<Made, EditFault> = Site::edit_batch;
     let _: fn(&mut Site, Global, &Down) -> Result<Option<Up>, SiteFault> = Site::deliver;
-    let _: fn(&mut Site, Global, &Down) -> Result<Delivered, SiteFault> = Site::deliver_shown;
+    let _: fn(&mut Site, Global, Down) -> Result<Delivered, Undelivered> = Site::deliver_shown;
     let _: fn(&Site) -> u32 = Site::backlog;
 }
 

@@ -1,11 +1,10 @@
 //! An attached site with its streams.
 ghost use Rattle.std.specs.Prelude.{◌≡◌, ◌↔◌, ◌<◌, ◌≤◌, ◌+◌, ◌-◌, ◌^◌, ◌++◌, true, false, ℕ, [], ◌∷◌, map, min, length, Some, None, is_some, nat_eq, position, MatchOption, IsTrue, IfSome, IfOk, IfErr, OnOk, OnErr};
-ghost use Rattle.std.specs.Option.{option_to_list, option_map};
+ghost use Rattle.std.specs.Option.{option_to_list};
 ghost use Rattle.jup_batch.specs.Boards.{board_batches};
 ghost use Rattle.jup_star.specs.Stars.{link_of, BoardLink, is_no_memory};
 ghost use Rattle.jup_star.specs.Sites.{edit_answer};
-ghost use Rattle.jup_star.specs.Messages.{DownRelabelsNoText};
-ghost use Rattle.jup_star.specs.declared.messages.Up.TheVariants.{Ack};
+ghost use Rattle.jup_star.specs.Messages.{UpRelabelsNoText, DownRelabelsNoText};
 ghost use Rattle.jup_lane.specs.Lanes.{bytes_of_all, no_bytes, messages, sent, oldest_length, Carries, ups, downs};
 ghost use Rattle.jup_world.specs.Worlds.{attached, one_taken, place_reply, pinged, AreAscending, IsSiteAt};
 ghost use Rattle.jup_world.specs.Sound.{edit_reply};
@@ -120,14 +119,15 @@ fn send_one(lane: &mut Lane<Down>, fetched: &Option<Down>)
 }
 
 // Writes the acknowledgement that a site owes, if it does.
-fn acknowledge(lane: &mut Lane<Up>, owed: Option<u32>)
-    requires { MOST_MESSAGE ≤ lane.old.spare }
+fn acknowledge(lane: &mut Lane<Up>, owed: &Option<Up>)
+    requires relabels { IfSome owed.now UpRelabelsNoText }
+    requires room { MOST_MESSAGE ≤ lane.old.spare }
     ensures read { length lane.new.way.read ≡ length lane.old.way.read }
-    ensures messages { messages ups lane.new.way ≡ messages ups lane.old.way ++ option_to_list (option_map Ack owed) }
+    ensures messages { messages ups lane.new.way ≡ messages ups lane.old.way ++ option_to_list owed.now }
     ensures carry { Carries ups lane.old.way → Carries ups lane.new.way }
 {
-    if let Some(count) = owed {
-        lane.send(&Up::Ack(count));
+    if let Some(up) = owed {
+        lane.send(up);
     }
 }
 
@@ -275,6 +275,7 @@ impl Attached {
 
     // Hands the site the oldest message of its down stream. What it sends back goes last into its up
     // stream.
+    #[tactic(auto, using(crate::proofs::Answers::back_relabels))]
     fn hand(&mut self, alloc: Global) -> Result<Reply, NoMemory>
         requires { FirstFits (bare_attached self.old) }
         ensures few { IfOk result (λ reply. MakesFew reply 0) }
@@ -293,12 +294,12 @@ impl Attached {
             Down::Op(_) => Reply::Shown,
             Down::Ack(_) | Down::Pong(_) => Reply::Heard,
         };
-        let owed = match self.site.deliver_shown(alloc, &down) {
-            Ok(delivered) => delivered.owed,
+        let owed = match self.site.deliver(alloc, &down) {
+            Ok(owed) => owed,
             Err(SiteFault::NoMemory) => return Err(NoMemory),
             Err(_) => unreachable!(),
         };
-        acknowledge(&mut self.up, owed);
+        acknowledge(&mut self.up, &owed);
         self.down.drop_first(&down);
         Ok(reply)
     }

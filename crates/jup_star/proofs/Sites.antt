@@ -1,5 +1,5 @@
 -- What each call of a site keeps.
-use Rattle.std.proofs.Common.{◌≡◌, refl, ℕ, ◌+◌, ◌≤◌, arith, sym, ◌<◌, Bool, true, false, cond, List, [], ◌∷◌, length, nat_le, ap, suc, None, Result, Ok, Err, OnErr, inl, inr, ◌⊎◌}
+use Rattle.std.proofs.Common.{◌≡◌, refl, ℕ, ◌+◌, ◌≤◌, arith, ◌<◌, Bool, true, false, cond, List, [], ◌∷◌, length, nat_le, ap, suc, None, Result, Ok, Err, OnErr, inl, inr, ◌⊎◌}
 use Rattle.std.proofs.lemmas.Bool.{false_from_ne_true, not-true}
 use Rattle.std.proofs.lemmas.List.{length-append}
 use Rattle.jup_star.specs.Prelude.{most_unacknowledged, Side, Client, Server, row_operation, past, opposite, Msg, EndLink as Link, IsCount, answered, after_send, owes, unheard, Command, BoardBatch, insertions_few, boards, board_batches, batch_laws as board_laws, DownOp as Op}

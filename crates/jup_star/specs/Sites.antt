@@ -247,8 +247,8 @@ IsAdmitted (Op m) s t = (first_fault (deliver_tests board_batches s m) ≡ None)
 IsAdmitted (Ack n) s t = DeliverAnswers (Ack n) s t (Ok None)
 IsAdmitted (Pong k) s t = DeliverAnswers (Pong k) s t (Ok None)
 
--- What a site answers to a message that is handed over to it: as to one that it only reads, but for want of memory the message comes
--- back.
+-- What a site answers to a message that is handed over to it. It is what it answers to one that it only reads, except that the message
+-- comes back if an allocation fails.
 
 -- the fault of a refusal
 abbrev pub fault_in : Undelivered → SiteFault
@@ -260,7 +260,7 @@ abbrev pub owed_of : Result Delivered Undelivered → Result (Option (Up BoardBa
 owed_of (Ok delivered) = Ok (option_map UpAck delivered.owed)
 owed_of (Err refusal) = Err (fault_in refusal)
 
--- for want of memory the message comes back, and the site is as it was; any other refusal has another fault
+-- if an allocation fails, the message comes back and the site is as it was; any other refusal has another fault
 abbrev pub HandsBack : Down BoardBatch → BoardSite → BoardSite → Undelivered → Type 0
 HandsBack down s t (HandedBack back) = (back ≡ down) × (t ≡ s)
 HandsBack down s t (Fault fault) = is_site_memory fault ≡ false

@@ -5,9 +5,7 @@ use crate::first_edits::{
     counting_star_of, first, first_site, insertion, replacement, star_of, told_of,
 };
 use jup_link::End;
-use jup_star::{
-    Delivered, Down, Downs, Made, Site, SiteFault, Star, StarFault, Undelivered, Up,
-};
+use jup_star::{Delivered, Down, Downs, Made, Site, SiteFault, Star, StarFault, Undelivered, Up};
 use jup_window::{Command, EditFault, Setting, Value};
 use jup_xform::Side;
 use std::alloc::Global;
@@ -251,7 +249,11 @@ fn shows(rt: &impl Abort, alloc: Global, down: Down, count: usize, letters: &str
         other => other,
     };
     let Delivered { owed, shown } = delivered.expect(rt, "memory");
-    expect_eq(rt, (owed, shown.map(|ops| ops.as_slice().len())), (None, Some(count)));
+    expect_eq(
+        rt,
+        (owed, shown.map(|ops| ops.as_slice().len())),
+        (None, Some(count)),
+    );
     expect_that(rt, reads(site.board(), letters) && site.backlog() == 0);
 }
 

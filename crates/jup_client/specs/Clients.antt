@@ -4,6 +4,7 @@ use Rattle.std.specs.List.{AllByRecursion}
 use Rattle.std.specs.Option.{option_map}
 use Rattle.jup_client.specs.Prelude.{Command, BoardBatch, OpenFault, Down, DownOp, DownAck, DownPong, UpPing, Line, LayoutFault, Distinct, Gathered, Request, Edit, Batch, Sync, Show, Quit, Bad, ClientEnd, Fault, NoMemory, Said, SaysUp, SaysBye, UpAck}
 use Rattle.jup_window.specs.Boards.{Windows}
+use Rattle.jup_batch.specs.Boards.{board_batches}
 use Rattle.jup_window.specs.Commands.{edit_fault_number}
 use Rattle.jup_text.specs.Commands.{command_text, batch_text, IsCommand, IsBatchCount, edits_text}
 use Rattle.jup_text.specs.Boards.{board_text}

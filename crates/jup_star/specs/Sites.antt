@@ -84,12 +84,6 @@ module _ (O : Operations) where
   abbrev pub shown_tests : ℕ → Link O.Op → Msg O.Op → List (Test SiteFault)
   shown_tests number e m = count_tests BadCount BadAck e m ++ test (not (O.bears_site number (O.t.edit_of m.op))) BadName ∷ []
 
-  -- the first fault of a message that is found at the end alone: the operation of an edit is still to be received
-  abbrev pub heard_fault : ℕ → Link O.Op → Down O.Op → Option SiteFault
-  heard_fault number e (Op m) = first_fault (shown_tests number e m)
-  heard_fault number e (Ack n) = first_fault (heard_tests e n)
-  heard_fault number e (Pong k) = None
-
   abbrev pub deliver_tests : SiteOf → Msg O.Op → List (Test SiteFault)
   deliver_tests s m = running_test s ∷ shown_tests s.number s.end m
 
@@ -102,6 +96,12 @@ module _ (O : Operations) where
   deliver_fault (Op m) s = first_fault (deliver_tests s m ++ test (fits_shown s m) BadOp ∷ [])
   deliver_fault (Ack n) s = first_fault (running_test s ∷ heard_tests s.end n)
   deliver_fault (Pong k) s = first_fault (running_test s ∷ [])
+
+  -- the first fault of a message that is found at the end alone: the operation of an edit is still to be received
+  abbrev pub heard_fault : ℕ → Link O.Op → Down O.Op → Option SiteFault
+  heard_fault number e (Op m) = first_fault (shown_tests number e m)
+  heard_fault number e (Ack n) = first_fault (heard_tests e n)
+  heard_fault number e (Pong k) = None
 
   -- the site once it received a message: an edit is applied, and what is then owed was acknowledged
   abbrev pub received : Down O.Op → SiteOf → SiteOf

@@ -3,6 +3,7 @@ ghost use Rattle.std.specs.Prelude.{◌≡◌, IfOk, IfSome};
 ghost use Rattle.jup_http.specs.Streams.{start, brings};
 
 use jup_http::{MessageReader, Request, read_request, refusal_body, refusal_head};
+use jup_io::Lasting;
 use std::alloc::Global;
 use std::io;
 use std::io::Read;
@@ -19,7 +20,7 @@ pub fn answer_refused(bytes: &[u8], origins: &[&[u8]]) -> Option<(&'static str, 
 pub fn link_bytes<I: Read + Drop>(alloc: Global, from: I) -> io::Result<Vec<u8>>
     ensures { IfOk result (λ bytes. IfSome (I.remaining from) (λ frames. bytes.items ≡ brings start frames)) }
 {
-    let mut reader = MessageReader::new(alloc, from, io::sink())?;
+    let mut reader = MessageReader::new(alloc, from, Lasting(io::sink()))?;
     let mut bytes = Vec::new(alloc);
     reader.read_to_end(&mut bytes)?;
     Ok(bytes)

@@ -4,6 +4,7 @@ use crate::expect::{expect_eq, expect_that};
 use jup_http::{
     Media, MessageReader, MessageWriter, body_head, put_close, put_ping, put_pong, put_text,
 };
+use jup_io::Lasting;
 use std::alloc::{AllocError, Global};
 use std::io;
 use std::io::{Read, Write};
@@ -81,12 +82,12 @@ fn head_of_a_body(rt: HostRuntime) {
 fn reader_new(rt: HostRuntime) {
     let frames = b"\x81\x81\0\0\0\0a".as_slice();
     begin(rt.alloc());
-    let made = MessageReader::new(rt.alloc(), frames, io::sink());
+    let made = MessageReader::new(rt.alloc(), frames, Lasting(io::sink()));
     end(rt.alloc());
     let mut reader = match made {
         Ok(reader) => reader,
         Err(AllocError) => {
-            MessageReader::new(rt.alloc(), frames, io::sink()).expect(&rt, "memory")
+            MessageReader::new(rt.alloc(), frames, Lasting(io::sink())).expect(&rt, "memory")
         }
     };
     let mut found = [0u8; 2];
@@ -100,7 +101,7 @@ fn reader_read(rt: HostRuntime) {
     let mut frames = [b'p'; 138];
     frames[..6].copy_from_slice(b"\x89\xfd\0\0\0\0");
     frames[131..].copy_from_slice(b"\x81\x81\0\0\0\0a");
-    let mut reader = MessageReader::new(rt.alloc(), frames.as_slice(), io::sink()).expect(
+    let mut reader = MessageReader::new(rt.alloc(), frames.as_slice(), Lasting(io::sink())).expect(
         &rt, "memory",
     );
     let mut found = [0u8; 2];
@@ -113,11 +114,13 @@ fn reader_read(rt: HostRuntime) {
 #[test]
 fn writer_new(rt: HostRuntime) {
     begin(rt.alloc());
-    let made = MessageWriter::new(rt.alloc(), io::sink());
+    let made = MessageWriter::new(rt.alloc(), Lasting(io::sink()));
     end(rt.alloc());
     let mut writer = match made {
         Ok(writer) => writer,
-        Err(AllocError) => MessageWriter::new(rt.alloc(), io::sink()).expect(&rt, "memory"),
+        Err(AllocError) => MessageWriter::new(rt.alloc(), Lasting(io::sink())).expect(
+            &rt, "memory",
+        ),
     };
     expect_eq(&rt, writer.write(b"bye\n").ok(), Some(4));
     expect_eq(&rt, writer.write(b"").ok(), Some(0));
@@ -125,7 +128,7 @@ fn writer_new(rt: HostRuntime) {
 
 #[test]
 fn writer_write(rt: HostRuntime) {
-    let mut writer = MessageWriter::new(rt.alloc(), io::sink()).expect(&rt, "memory");
+    let mut writer = MessageWriter::new(rt.alloc(), Lasting(io::sink())).expect(&rt, "memory");
     begin(rt.alloc());
     let wrote = writer.write(&[b'a'; 3_000]);
     end(rt.alloc());

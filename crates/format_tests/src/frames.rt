@@ -1,7 +1,7 @@
 //! A WebSocket over a reader and a writer of bytes that fail.
 use crate::expect::{expect_eq, expect_that};
 use jup_http::{MessageReader, MessageWriter};
-use jup_io::GiveUp;
+use jup_io::{Lasting, Peer};
 use std::io;
 use std::io::{ErrorKind, Read, Write};
 use std::sync::atomic::{AtomicU64, Ordering};
@@ -31,7 +31,7 @@ fn a_read_that_fails_loses_nothing(rt: HostRuntime) {
         rest: b"\x81\x82\x01\x02\x03\x04\x69\x6b",
         falters: false,
     };
-    let mut reader = MessageReader::new(rt.alloc(), from, io::sink()).expect(
+    let mut reader = MessageReader::new(rt.alloc(), from, Lasting(io::sink())).expect(
         &rt,
         "there is memory",
     );
@@ -71,7 +71,7 @@ impl Write for Narrow {
 #[test]
 fn a_pong_that_is_cut_off_fails_a_read(rt: HostRuntime) {
     let frames = b"\x89\x82\0\0\0\0hi\x81\x81\0\0\0\0a".as_slice();
-    let mut reader = MessageReader::new(rt.alloc(), frames, Narrow { room: 3 }).expect(
+    let mut reader = MessageReader::new(rt.alloc(), frames, Lasting(Narrow { room: 3 })).expect(
         &rt,
         "there is memory",
     );
@@ -83,12 +83,12 @@ fn a_pong_that_is_cut_off_fails_a_read(rt: HostRuntime) {
 
 // Takes what it is given, and notes how often it was given up.
 #[derive(Drop)]
-struct Peer<'a> {
+struct Counted<'a> {
     taken: &'a mut Vec<u8>,
     given_up: &'a AtomicU64,
 }
 
-impl<'a> Write for Peer<'a> {
+impl<'a> Write for Counted<'a> {
     fn write(&mut self, buf: &[u8]) -> io::Result<usize> {
         self.taken.write(buf)
     }
@@ -98,7 +98,15 @@ impl<'a> Write for Peer<'a> {
     }
 }
 
-impl<'a> GiveUp for Peer<'a> {
+impl<'a> Peer for Counted<'a> {
+    fn send(&mut self, bytes: &[u8]) -> io::Result<usize> {
+        self.write(bytes)
+    }
+
+    fn pass_on(&mut self) -> io::Result<()> {
+        self.flush()
+    }
+
     fn give_up(&mut self) {
         self.given_up.fetch_add(1, Ordering::SeqCst);
     }
@@ -108,7 +116,7 @@ impl<'a> GiveUp for Peer<'a> {
 #[test]
 fn a_writer_of_messages_gives_its_own_up(rt: HostRuntime) {
     let (mut taken, given_up) = (Vec::new(rt.alloc()), AtomicU64::new(0));
-    let peer = Peer {
+    let peer = Counted {
         taken: &mut taken,
         given_up: &given_up,
     };

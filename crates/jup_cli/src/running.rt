@@ -2,6 +2,7 @@
 
 use crate::commands::Requests;
 use jup_client::{Answer, ClientEnd, ClientState, Opening, Request, Told, told_text};
+use jup_io::Lasting;
 use jup_stream::{Output, Said, Source, StreamFault, put_said};
 use jup_window::Within;
 use jup_wire::Line;
@@ -13,14 +14,14 @@ use std::marker::PhantomData;
 #[derive(Drop)]
 struct Client<F: Read + Drop, T: Write + Drop> {
     source: Source<F>,
-    output: Output<T>,
+    output: Output<Lasting<T>>,
     state: ClientState,
 }
 
 impl<F: Read + Drop, T: Write + Drop> Client<F, T> {
     // The client of a link, whose server it has greeted.
     fn open(alloc: Global, from: F, to: T) -> Result<Client<F, T>, ClientEnd> {
-        let Ok(mut output) = Output::new(alloc, to) else {
+        let Ok(mut output) = Output::new(alloc, Lasting(to)) else {
             return Err(ClientEnd::NoMemory);
         };
         let mut source = Source::new(from);
@@ -126,7 +127,7 @@ pub fn run_client<C: Read + Drop, O: Write, F: Read + Drop, T: Write + Drop>(
 fn greet<F: Read + Drop, T: Write + Drop>(
     alloc: Global,
     source: &mut Source<F>,
-    output: &mut Output<T>,
+    output: &mut Output<Lasting<T>>,
 ) -> Result<ClientState, ClientEnd> {
     let _of: Within = PhantomData;
     output.push(&Line::Hello);

@@ -4,10 +4,10 @@ ghost use Rattle.jup_http.specs.Streams.{brought, tells};
 ghost use Rattle.jup_http.specs.Events.{standing, told_by_option};
 
 use crate::{Ending, Event, FrameStream, Held, Unframed, put_pong};
-use jup_io::write_whole;
+use jup_io::{Peer, write_whole};
 use std::alloc::{AllocError, Global};
 use std::io;
-use std::io::{ErrorKind, Read, Write};
+use std::io::{ErrorKind, Read};
 
 /// Bytes that one read asks for.
 const PIECE: usize = 1_024;
@@ -53,7 +53,7 @@ fn unframe_part(
     stream.unframe(&piece[start..end], buf)
 }
 
-impl<I: Read + Drop, O: Write + Drop> MessageReader<I, O> {
+impl<I: Read + Drop, O: Peer + Drop> MessageReader<I, O> {
     ghost use Rattle.std.specs.Prelude.{[], Ok, None, IfOk, OnOk, OnErr, IsTrue, false, option_map};
     ghost use Rattle.jup_http.specs.Readers.{payloads_left, told_left, written, ended_by, untaken, Takes, IsDealtWith, Hears, HearsInPart, EndsBy};
     ghost use Rattle.jup_http.specs.Streams.{start, brings};
@@ -170,7 +170,7 @@ impl<I: Read + Drop, O: Write + Drop> MessageReader<I, O> {
     }
 }
 
-impl<I: Read + Drop, O: Write + Drop> Read for MessageReader<I, O> {
+impl<I: Read + Drop, O: Peer + Drop> Read for MessageReader<I, O> {
     ghost use Rattle.std.specs.Prelude.{◌<◌, IfOk, IfErr};
     ghost use Rattle.std.specs.Io.{ReadsAtMost};
     ghost use Rattle.std.specs.Io.KnownBytes.{ReadConsumes};

@@ -1,11 +1,11 @@
 //! A WebSocket as a writer of a link's bytes.
-ghost use Rattle.std.specs.Prelude.{◌≡◌, ◌<◌, min, length, take, IfOk};
+ghost use Rattle.std.specs.Prelude.{◌≡◌, ◌<◌, min, length, take, IfOk, OnErr, IsTrue};
 ghost use Rattle.std.specs.Io.{WritesAtMost};
 ghost use Rattle.std.specs.Io.KnownBytes.{Appends};
 ghost use Rattle.jup_http.specs.Frames.{longest_sent, text_frame};
 
 use crate::put_text;
-use jup_io::GiveUp;
+use jup_io::{Peer, write_whole};
 use std::alloc::{AllocError, Global};
 use std::io;
 use std::io::Write;
@@ -17,14 +17,14 @@ pub const LONGEST_SENT: usize = 2_048;
 /// Room for a frame, whose header has at most 4 bytes.
 const ROOM: usize = 2_064;
 
-/// Writes what is written to it as text messages: one for each write, of the first 2,048 bytes. Contracts see the writer that takes the frames.
+/// Sends what is written to it as text messages: one for each write, of the first 2,048 bytes. Contracts see the writer that takes the frames.
 #[derive(Drop)]
-pub struct MessageWriter<O: Write + Drop> {
+pub struct MessageWriter<O: Peer + Drop> {
     to: O,
     frame: Vec<u8>,
 }
 
-impl<O: Write + Drop> Model for MessageWriter<O> {
+impl<O: Peer + Drop> Model for MessageWriter<O> {
     ghost Value = { O };
 
     ghost coded = { O.code };
@@ -32,7 +32,7 @@ impl<O: Write + Drop> Model for MessageWriter<O> {
     ghost view = { λ a. a.to };
 }
 
-impl<O: Write + Drop> MessageWriter<O> {
+impl<O: Peer + Drop> MessageWriter<O> {
     /// A writer whose frames go to this one.
     pub fn new(alloc: Global, to: O) -> Result<MessageWriter<O>, AllocError>
         ensures { IfOk result (λ writer. writer ≡ to) }
@@ -42,29 +42,48 @@ impl<O: Write + Drop> MessageWriter<O> {
     }
 }
 
-impl<O: Write + Drop> Write for MessageWriter<O> {
+impl<O: Peer + Drop> Write for MessageWriter<O> {
     /// What is taken goes out as one frame.
     fn write(&mut self, buf: &[u8]) -> io::Result<usize>
         ensures bound { WritesAtMost result buf.now }
         ensures taken { IfOk result (λ n. n ≡ min longest_sent (length buf.now)) }
         ensures framed { IfOk result (λ n. 0 < n → Appends (O.contents self.old) (O.contents self.new) (text_frame (take n buf.now))) }
     {
-        if buf.is_empty() {
-            return Ok(0);
-        }
-        let len = buf.len().min(LONGEST_SENT);
-        self.frame.clear();
-        put_text(&buf[..len], &mut self.frame)?;
-        self.to.write_all(&self.frame)?;
-        Ok(len)
+        self.send(buf)
     }
 
     fn flush(&mut self) -> io::Result<()> {
-        self.to.flush()
+        self.pass_on()
     }
 }
 
-impl<O: GiveUp + Drop> GiveUp for MessageWriter<O> {
+impl<O: Peer + Drop> Peer for MessageWriter<O> {
+    ghost has_failed = { λ a. O.has_failed a };
+
+    /// What is taken goes out as one frame.
+    fn send(&mut self, bytes: &[u8]) -> io::Result<usize>
+        ensures bound { WritesAtMost result bytes.now }
+        ensures taken { IfOk result (λ n. n ≡ min longest_sent (length bytes.now)) }
+        ensures framed { IfOk result (λ n. 0 < n → Appends (O.contents self.old) (O.contents self.new) (text_frame (take n bytes.now))) }
+        ensures failed { OnErr result (IsTrue (O.has_failed self.new)) }
+    {
+        if bytes.is_empty() {
+            return Ok(0);
+        }
+        let len = bytes.len().min(LONGEST_SENT);
+        self.frame.clear();
+        if let Err(error) = put_text(&bytes[..len], &mut self.frame) {
+            self.to.give_up();
+            return Err(error.into());
+        }
+        write_whole(&mut self.to, &self.frame)?;
+        Ok(len)
+    }
+
+    fn pass_on(&mut self) -> io::Result<()> {
+        self.to.pass_on()
+    }
+
     fn give_up(&mut self) {
         self.to.give_up();
     }

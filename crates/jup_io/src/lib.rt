@@ -3,11 +3,11 @@
 #![tactic(auto)]
 
 mod again;
-mod giving_up;
+mod peer;
 mod streams;
 mod whole;
 
 pub use again::{has_waited, is_interrupted};
-pub use giving_up::{GiveUp, Lasting};
+pub use peer::{Lasting, Peer};
 pub use streams::hold_streams;
 pub use whole::write_whole;

@@ -235,10 +235,6 @@ passed_on old mid new bytes whole failed h kept well = (h.0, h.1, h.2, appends_k
 pub error_8 : line_bytes (Error 8) ≡ 101 ∷ 114 ∷ 114 ∷ 111 ∷ 114 ∷ 32 ∷ 56 ∷ 10 ∷ []
 error_8 = ap (λ (l : List ℕ). 101 ∷ 114 ∷ 114 ∷ 111 ∷ 114 ∷ 32 ∷ (l ++ 10 ∷ [])) (decimal_digit 8 (omega arith))
 
-pub not_twice : (b : Bool) → IsTrue (not (not b)) → IsTrue b
-not_twice true e = refl
-not_twice false e = e
-
 pub no_room_so : (from old new : Option (List ℕ)) (v : View) (ending : Ending) (failed : Bool) (undone : Undone) → undone ≡ all_done → ending ≡ ending_of (Stream NoMemory)
     → WritesFront old new (line_bytes (Error 8)) (not failed) → IsExact from old new v v ending failed undone
 no_room_so from old new v ending failed undone done is wrote = record {

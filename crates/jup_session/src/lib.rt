@@ -6,7 +6,7 @@ mod laws;
 mod sessions;
 
 pub use gate::{Gate, Open, pass_gate, take_edit};
-pub use jup_io::GiveUp;
+pub use jup_io::Peer;
 pub use jup_net::hang_up;
 pub use jup_rules::{Ending, FarBehind, SessionFault, Untaken};
 pub use laws::one_session;

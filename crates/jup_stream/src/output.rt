@@ -5,29 +5,29 @@ ghost use Rattle.jup_wire.specs.Streams.{HasRoom};
 ghost use Rattle.jup_stream.specs.Streams.{put_as, Puts, PutsLines, IsFlushed, WritesFront, fresh_put};
 
 use crate::StreamFault;
-use jup_io::write_whole;
+use jup_io::{Peer, write_whole};
 use jup_wire::{LONGEST, Line, LineSink, MOST, write_reserved};
 use std::alloc::Global;
 use std::convert::Infallible;
-use std::io::Write;
 use std::marker::Model;
 
 /// Bytes that are gathered before they are written: 16 lines of the longest kind. Each session keeps this room while it is idle.
 const ROOM: usize = 2_048;
 
-/// A writer that gathers lines. It makes its room once, so that no line needs an allocation. Once a write has failed it takes
+/// A peer that gathers lines. It makes its room once, so that no line needs an allocation. Once the peer has failed it takes
 /// lines and drops them, and [`send`](Output::send) says so.
 ///
-/// Contracts see what the writer holds, if that is known, the bytes that are gathered, and whether a write has failed.
+/// Contracts see what the peer holds, if that is known, the bytes that are gathered, and whether the peer has failed.
 #[derive(Drop)]
-pub struct Output<O: Write + Drop> {
+pub struct Output<O: Peer + Drop> {
     to: O,
     text: Vec<u8>,
     has_failed: bool,
     ghost has_room: { 2048 ≤ vec_capacity text },
+    ghost is_failed: { IsTrue has_failed → IsTrue (O.has_failed to) },
 }
 
-impl<O: Write + Drop> Model for Output<O> {
+impl<O: Peer + Drop> Model for Output<O> {
     ghost use Rattle.jup_stream.specs.Streams.{Put, put_as};
 
     ghost Value = { Put };
@@ -35,8 +35,8 @@ impl<O: Write + Drop> Model for Output<O> {
     ghost view = { λ a. put_as (O.contents a.to) a.text.items a.has_failed };
 }
 
-impl<O: Write + Drop> Output<O> {
-    /// An output with its room. If an allocation fails, it gives the bare writer back.
+impl<O: Peer + Drop> Output<O> {
+    /// An output with its room. If an allocation fails, it gives the bare peer back.
     pub fn new(alloc: Global, to: O) -> Result<Output<O>, O>
         ensures new { IfOk result (λ output. output ≡ fresh_put (O.contents to)) }
         ensures err { IfErr result (λ back. back ≡ to) }
@@ -58,7 +58,7 @@ impl<O: Write + Drop> Output<O> {
         put_out(&mut self.to, &mut self.text, &mut self.has_failed, line);
     }
 
-    /// Writes what is gathered, and has the writer pass it on. It is refused once a write has failed.
+    /// Writes what is gathered, and has the peer pass it on. It is refused once the peer has failed.
     pub fn send(&mut self) -> Result<(), StreamFault>
         ensures fault { IfErr result (λ fault. fault ≡ StreamFault.WriteFailed) }
         ensures puts { Puts self.old [] self.new }
@@ -73,23 +73,24 @@ impl<O: Write + Drop> Output<O> {
         Ok(())
     }
 
-    /// Whether a write has failed.
+    /// Whether the peer has failed.
     pub fn has_failed(&self) -> bool
         ensures { result ≡ self.now.failed }
     {
         self.has_failed
     }
 
-    /// The writer. What is gathered is dropped.
-    pub fn into_writer(self) -> O
-        ensures { O.contents result ≡ self.written }
+    /// The peer. What is gathered is dropped.
+    pub fn into_peer(self) -> O
+        ensures written { O.contents result ≡ self.written }
+        ensures failed { IsTrue self.failed → IsTrue (O.has_failed result) }
     {
         let Output { to, .. } = self;
         to
     }
 }
 
-impl<O: Write + Drop> LineSink for Output<O> {
+impl<O: Peer + Drop> LineSink for Output<O> {
     ghost use Rattle.jup_stream.specs.Streams.{PutsLines, puts_none, puts_more};
 
     type Fault = Infallible;
@@ -108,17 +109,20 @@ impl<O: Write + Drop> LineSink for Output<O> {
 
 /// Writes bytes, up to a write that fails or takes nothing. Whether all were written. A write that was interrupted is made again.
 #[tactic(auto, using(crate::proofs::Streams::front_written))]
-pub fn write_bytes<O: Write + Drop>(to: &mut O, bytes: &[u8]) -> bool
-    ensures { WritesFront (O.contents to.old) (O.contents to.new) bytes.now result }
+pub fn write_bytes<O: Peer + Drop>(to: &mut O, bytes: &[u8]) -> bool
+    ensures front { WritesFront (O.contents to.old) (O.contents to.new) bytes.now result }
+    ensures failed { IsFalse result → IsTrue (O.has_failed to.new) }
 {
     write_whole(to, bytes).is_ok()
 }
 
-// Writes what is gathered, unless a write has failed.
+// Writes what is gathered, unless the peer has failed.
 #[tactic(auto, using(crate::proofs::Streams::puts_out, crate::specs::Streams::puts_none))]
-fn write_out<O: Write + Drop>(to: &mut O, text: &mut Vec<u8>, has_failed: &mut bool)
+fn write_out<O: Peer + Drop>(to: &mut O, text: &mut Vec<u8>, has_failed: &mut bool)
+    requires failed { IsTrue has_failed.old → IsTrue (O.has_failed to.old) }
     ensures puts { Puts (put_as (O.contents to.old) text.old.items has_failed.old) [] (put_as (O.contents to.new) text.new.items has_failed.new) }
     ensures empty { IsFalse has_failed.new → text.new.items ≡ [] }
+    ensures failed { IsTrue has_failed.new → IsTrue (O.has_failed to.new) }
     ensures room { vec_capacity text.old ≤ vec_capacity text.new }
 {
     if *has_failed {
@@ -129,28 +133,32 @@ fn write_out<O: Write + Drop>(to: &mut O, text: &mut Vec<u8>, has_failed: &mut b
     text.clear();
 }
 
-// The same, and has the writer pass it on.
+// The same, and has the peer pass it on.
 #[tactic(auto, using(crate::proofs::Streams::puts_on, crate::specs::Streams::puts_none))]
-fn send_out<O: Write + Drop>(to: &mut O, text: &mut Vec<u8>, has_failed: &mut bool)
+fn send_out<O: Peer + Drop>(to: &mut O, text: &mut Vec<u8>, has_failed: &mut bool)
+    requires failed { IsTrue has_failed.old → IsTrue (O.has_failed to.old) }
     ensures puts { Puts (put_as (O.contents to.old) text.old.items has_failed.old) [] (put_as (O.contents to.new) text.new.items has_failed.new) }
     ensures empty { IsFalse has_failed.new → text.new.items ≡ [] }
+    ensures failed { IsTrue has_failed.new → IsTrue (O.has_failed to.new) }
     ensures room { vec_capacity text.old ≤ vec_capacity text.new }
 {
     write_out(to, text, has_failed);
     if *has_failed {
         return;
     }
-    if to.flush().is_err() {
+    if to.pass_on().is_err() {
         *has_failed = true;
     }
 }
 
 // Writes what is gathered if a line may not fit after it.
 #[tactic(auto, using(crate::specs::Streams::puts_none))]
-fn make_room<O: Write + Drop>(to: &mut O, text: &mut Vec<u8>, has_failed: &mut bool)
-    requires { 2048 ≤ vec_capacity text.old }
+fn make_room<O: Peer + Drop>(to: &mut O, text: &mut Vec<u8>, has_failed: &mut bool)
+    requires room { 2048 ≤ vec_capacity text.old }
+    requires failed { IsTrue has_failed.old → IsTrue (O.has_failed to.old) }
     ensures puts { Puts (put_as (O.contents to.old) text.old.items has_failed.old) [] (put_as (O.contents to.new) text.new.items has_failed.new) }
     ensures room { IsFalse has_failed.new → HasRoom text.new LONGEST }
+    ensures failed { IsTrue has_failed.new → IsTrue (O.has_failed to.new) }
     ensures capacity { vec_capacity text.old ≤ vec_capacity text.new }
 {
     if text.len() + MOST > text.capacity() {
@@ -158,10 +166,12 @@ fn make_room<O: Write + Drop>(to: &mut O, text: &mut Vec<u8>, has_failed: &mut b
     }
 }
 
-// Puts a line, unless a write has failed.
-fn put_out<O: Write + Drop>(to: &mut O, text: &mut Vec<u8>, has_failed: &mut bool, line: &Line)
-    requires { 2048 ≤ vec_capacity text.old }
+// Puts a line, unless the peer has failed.
+fn put_out<O: Peer + Drop>(to: &mut O, text: &mut Vec<u8>, has_failed: &mut bool, line: &Line)
+    requires room { 2048 ≤ vec_capacity text.old }
+    requires failed { IsTrue has_failed.old → IsTrue (O.has_failed to.old) }
     ensures puts { Puts (put_as (O.contents to.old) text.old.items has_failed.old) (line_bytes line.now) (put_as (O.contents to.new) text.new.items has_failed.new) }
+    ensures failed { IsTrue has_failed.new → IsTrue (O.has_failed to.new) }
     ensures capacity { vec_capacity text.old ≤ vec_capacity text.new }
 {
     make_room(to, text, has_failed);

@@ -5,7 +5,7 @@ use crate::connections::Connections;
 use crate::notices::Notices;
 use crate::stop::Stop;
 use jup_hub::{Hub, Pass};
-use jup_io::GiveUp;
+use jup_io::Peer;
 use jup_service::notice_of;
 use jup_session::{Bell, Ending, Open, Serving};
 use std::alloc::Global;
@@ -32,7 +32,7 @@ pub(crate) struct Service<'a> {
 pub(crate) fn run_session<
     R: Threads + Wait + Clock + Eprint + Sync,
     I: Read + Drop,
-    O: GiveUp + Send + Drop,
+    O: Peer + Send + Drop,
 >(rt: &R, service: &Service<'_>, reader: I, writer: O, pass: Pass)
     requires { IsPassOf service.now.hub.now pass }
 {

@@ -1,7 +1,7 @@
 //! Whose turn it is to write to a socket that both halves of a session write to.
 ghost use Rattle.std.specs.Prelude.{◌≡◌, length, IfOk};
 
-use jup_io::{GiveUp, is_interrupted};
+use jup_io::{Peer, is_interrupted};
 use jup_session::Outgoing;
 use std::io;
 use std::io::{ErrorKind, Write};
@@ -63,7 +63,15 @@ impl<'a, R: Wait> Write for InTurn<'a, R> {
     }
 }
 
-impl<'a, R: Wait> GiveUp for InTurn<'a, R> {
+impl<'a, R: Wait> Peer for InTurn<'a, R> {
+    fn send(&mut self, bytes: &[u8]) -> io::Result<usize> {
+        self.put(bytes)
+    }
+
+    fn pass_on(&mut self) -> io::Result<()> {
+        self.to.pass_on()
+    }
+
     fn give_up(&mut self) {
         self.to.give_up();
     }

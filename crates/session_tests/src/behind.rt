@@ -5,7 +5,7 @@ ghost use Rattle.jup_hub.specs.Passes.{IsPassOf};
 use crate::expect::{expect_eq, expect_text};
 use crate::sessions::{EMPTY_TEXT, GREETING, close, first_edit, open_hub, ran, ran_over};
 use jup_hub::{Hub, Pass};
-use jup_session::{Bell, Ending, GiveUp, Open, serve_link};
+use jup_session::{Bell, Ending, Open, Peer, serve_link};
 use std::alloc::Global;
 use std::io;
 use std::io::{ErrorKind, Read, Write};
@@ -211,7 +211,15 @@ impl<'a> Write for Stuck<'a> {
     }
 }
 
-impl<'a> GiveUp for Stuck<'a> {
+impl<'a> Peer for Stuck<'a> {
+    fn send(&mut self, bytes: &[u8]) -> io::Result<usize> {
+        self.write(bytes)
+    }
+
+    fn pass_on(&mut self) -> io::Result<()> {
+        self.flush()
+    }
+
     fn give_up(&mut self) {
         self.given_up.fetch_add(1, Ordering::SeqCst);
     }

@@ -39,7 +39,11 @@ fn expect_written<R: Threads + Wait + Clock + Sync + Abort>(
     let (hub, pass) = open_hub(rt, alloc, EMPTY_TEXT, 100);
     let session = serve_bytes(rt, alloc, said, Vec::new(alloc), &hub, pass);
     expect_eq(rt, (session.ending, session.has_failed), (ending, false));
-    expect_eq(rt, (session.undone.untaken, session.undone.unsent), (None, None));
+    expect_eq(
+        rt,
+        (session.undone.untaken, session.undone.unsent),
+        (None, None),
+    );
     expect_text(rt, session.writer.as_slice(), written);
 }
 

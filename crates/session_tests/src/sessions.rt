@@ -8,7 +8,7 @@ use jup_hub::{Hub, Pass};
 use jup_layout::layout;
 use jup_link::Msg;
 use jup_seq::SeqOp;
-use jup_session::{Bell, Ending, Gate, GiveUp, Open, Serving, serve_link};
+use jup_session::{Bell, Ending, Gate, Open, Peer, Serving, serve_link};
 use jup_star::{Star, Up, is_short};
 use jup_text::write_board;
 use jup_value::{Item, Name};
@@ -80,7 +80,7 @@ pub(crate) fn ran<
 pub(crate) fn ran_over<
     R: Threads + Wait + Clock + Sync + Abort,
     I: Read + Drop,
-    O: GiveUp + Send + Drop,
+    O: Peer + Send + Drop,
 >(rt: &R, alloc: Global, from: I, to: O, bell: &Bell) -> Left {
     let (hub, pass) = open_hub(rt, alloc, EMPTY_TEXT, 100);
     let serving = Serving {

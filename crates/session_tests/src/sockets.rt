@@ -1,7 +1,7 @@
 //! A socket whose peer takes nothing, or is given up.
 
 use crate::expect::{expect_eq, expect_that};
-use jup_session::{GiveUp, Outgoing};
+use jup_session::{Outgoing, Peer};
 use std::io::{ErrorKind, Read, Write};
 use std::net::{Net, TcpListener, TcpStream};
 use std::process::Abort;

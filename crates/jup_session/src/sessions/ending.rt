@@ -4,12 +4,12 @@ ghost use Rattle.jup_rules.specs.Ends.{last_line, standing};
 ghost use Rattle.jup_stream.specs.Streams.{PutsLines, IsFlushed};
 ghost use Rattle.jup_session.specs.Sessions.{untold_line};
 
+use jup_io::Peer;
 use jup_rules::Ending;
 use jup_stream::Output;
-use std::io::Write;
 
 /// Reports to the site how its session ended. After a failed write it writes nothing.
-pub(crate) fn tell<O: Write + Drop>(output: &mut Output<O>, ending: Ending)
+pub(crate) fn tell<O: Peer + Drop>(output: &mut Output<O>, ending: Ending)
     ensures put { PutsLines output.old (last_line ending ∷ []) output.new }
     ensures flushed { IsFlushed output.new }
 {
@@ -19,7 +19,7 @@ pub(crate) fn tell<O: Write + Drop>(output: &mut Output<O>, ending: Ending)
 
 /// The ending that counts: the one that the writing half reported to the site, or else the one that the reading half heard. In the
 /// second case it reports that ending to the site.
-pub(crate) fn tell_untold<O: Write + Drop>(
+pub(crate) fn tell_untold<O: Peer + Drop>(
     output: &mut Output<O>,
     told: Option<Ending>,
     heard: Ending,

@@ -13,17 +13,18 @@ use super::leaving::leave;
 use super::watch::Watch;
 use crate::{Gate, Serving};
 use jup_hub::{Hub, Pass};
+use jup_io::Peer;
 use jup_layout::put_board;
 use jup_rules::{Ending, SessionFault, check_greeting};
 use jup_star::Joined;
 use jup_stream::{Output, Source, StreamFault};
 use jup_wire::Line;
 use std::alloc::Global;
-use std::io::{Read, Write};
+use std::io::Read;
 use std::sync::Wait;
 
 /// Greets the site, and answers its number. If no session begins, the site was sent the reason.
-pub(crate) fn begin<R: Wait, I: Read + Drop, O: Write + Drop, G: Gate>(
+pub(crate) fn begin<R: Wait, I: Read + Drop, O: Peer + Drop, G: Gate>(
     rt: &R,
     serving: &Serving<'_, G>,
     watch: &Watch<'_>,
@@ -97,7 +98,7 @@ fn read_greeting<I: Read + Drop>(alloc: Global, source: &mut Source<I>) -> Resul
 
 // Sends the site its number, the limit and the board. It takes no memory: a line is made when it is put, so a peer
 // that does not read costs no more than its copy of the board.
-fn welcome<O: Write + Drop>(output: &mut Output<O>, joined: &Joined) -> Result<(), StreamFault>
+fn welcome<O: Peer + Drop>(output: &mut Output<O>, joined: &Joined) -> Result<(), StreamFault>
     ensures lines { PutsLines output.old (welcome_lines joined.now) output.new }
     ensures fault { IfErr result (λ fault. fault ≡ StreamFault.WriteFailed) }
     ensures failed { IsErr result → IsTrue output.new.failed }

@@ -9,9 +9,10 @@ use super::reading::{Heard, read_half};
 use super::writing::{Wrote, write_half};
 use crate::Gate;
 use jup_hub::Pass;
+use jup_io::Peer;
 use jup_rules::Ending;
 use jup_stream::{Output, Source, StreamFault};
-use std::io::{Read, Write};
+use std::io::Read;
 use std::snapshot::Snapshot;
 use std::sync::Wait;
 use std::thread;
@@ -20,7 +21,7 @@ use std::time::Clock;
 
 /// What both halves give back.
 #[derive(Drop)]
-pub(crate) struct Halves<I: Read + Drop, O: Write + Drop> {
+pub(crate) struct Halves<I: Read + Drop, O: Peer + Drop> {
     pub(crate) source: Source<I>,
     pub(crate) pass: Pass,
     pub(crate) heard: Heard,
@@ -29,13 +30,13 @@ pub(crate) struct Halves<I: Read + Drop, O: Write + Drop> {
 
 // What the thread of the writing half promises.
 #[derive(Drop)]
-struct Writing<'a, O: Write + Drop> {
+struct Writing<'a, O: Peer + Drop> {
     link: &'a SessionLink<'a>,
     output: Snapshot<Output<O>>,
     pass: Snapshot<Pass>,
 }
 
-impl<'a, O: Write + Drop> Promise<Wrote<O>> for Writing<'a, O> {
+impl<'a, O: Peer + Drop> Promise<Wrote<O>> for Writing<'a, O> {
     ghost use Rattle.jup_hub.specs.Passes.{view_of, IsPassOf};
     ghost use Rattle.jup_stream.specs.Streams.{IsFlushed};
     ghost use Rattle.jup_session.specs.Sessions.{Wrote as HasWritten, HasServed};
@@ -49,7 +50,7 @@ impl<'a, O: Write + Drop> Promise<Wrote<O>> for Writing<'a, O> {
 pub(crate) fn both_halves<
     R: Threads + Wait + Clock + Sync,
     I: Read + Drop,
-    O: Write + Send + Drop,
+    O: Peer + Send + Drop,
     G: Gate,
 >(
     rt: &R,

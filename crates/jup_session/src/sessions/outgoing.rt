@@ -1,6 +1,6 @@
 //! The writing side of a link's socket.
 
-use jup_io::{GiveUp, has_waited, is_interrupted};
+use jup_io::{Peer, has_waited, is_interrupted};
 use std::io;
 use std::io::{ErrorKind, Write};
 use std::net::{Shutdown, TcpStream};
@@ -67,7 +67,15 @@ impl<'a> Write for Outgoing<'a> {
     }
 }
 
-impl<'a> GiveUp for Outgoing<'a> {
+impl<'a> Peer for Outgoing<'a> {
+    fn send(&mut self, bytes: &[u8]) -> io::Result<usize> {
+        self.write(bytes)
+    }
+
+    fn pass_on(&mut self) -> io::Result<()> {
+        self.flush()
+    }
+
     /// Ends both sides of the socket.
     fn give_up(&mut self) {
         let _ = self.stream.shutdown(Shutdown::Both);

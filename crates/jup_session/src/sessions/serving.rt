@@ -1,5 +1,5 @@
 //! One session, from its first line to its last.
-ghost use Rattle.std.specs.Prelude.{◌≡◌, ℕ, not, List};
+ghost use Rattle.std.specs.Prelude.{◌≡◌, ℕ, not, List, IsTrue};
 ghost use Rattle.jup_hub.specs.Passes.{view_of, IsPassOf};
 ghost use Rattle.jup_wire.specs.declared.line.Line.{Line};
 ghost use Rattle.jup_wire.specs.declared.line.Line.TheVariants.{Error};
@@ -17,7 +17,7 @@ use super::watched::Watched;
 use super::{Bell, Undone};
 use crate::Gate;
 use jup_hub::{Hub, Pass};
-use jup_io::{GiveUp, Lasting};
+use jup_io::{Lasting, Peer};
 use jup_rules::{Ending, Pongs};
 use jup_stream::{Output, Source, StreamFault, write_bytes};
 use std::alloc::Global;
@@ -53,12 +53,12 @@ pub struct Session<O: Write + Drop> {
 
 impl<'a, G: Gate> Serving<'a, G> {
     /// Runs a session: greets the site, then takes what it sends, and sends what the hub has for it. If a write takes less than all while the site is
-    /// too far behind, the session gives the writer's peer up.
+    /// too far behind, the session gives the writer up.
     ///
     /// It reads in this thread, and writes in one of its own. It makes at most one join of the hub, and then calls for the site that
     /// joined alone, which has left when this returns. If contracts can name the bytes of the reader and of the writer, they say which bytes
     /// the session read, what it took by them, and which it wrote.
-    pub fn serve<R: Threads + Wait + Clock + Sync, I: Read + Drop, O: GiveUp + Send + Drop>(
+    pub fn serve<R: Threads + Wait + Clock + Sync, I: Read + Drop, O: Peer + Send + Drop>(
         &self,
         rt: &R,
         reader: I,
@@ -70,6 +70,7 @@ impl<'a, G: Gate> Serving<'a, G> {
         ensures session { IsSession (view_of pass) (view_of result.pass) }
         ensures exact { IsExact (I.remaining reader) (O.contents writer) (O.contents result.writer) (view_of pass) (view_of result.pass) result.ending result.has_failed result.undone }
         ensures shut { (site : ℕ) × IsShutFor (G.is_shut self.now.gate.now) site result.undone.untaken }
+        ensures failed { IsTrue result.has_failed → IsTrue (O.has_failed result.writer) }
     {
         let watch = Watch::new(self.alloc, self.bell);
         match Output::new(self.alloc, Watched::new(rt, &watch, writer)) {
@@ -79,7 +80,7 @@ impl<'a, G: Gate> Serving<'a, G> {
                 Session {
                     pass: served.pass,
                     ending: served.ending,
-                    writer: served.output.into_writer().into_inner(),
+                    writer: served.output.into_peer().into_inner(),
                     has_failed,
                     undone: served.undone,
                 }
@@ -168,19 +169,19 @@ pub fn serve_session<
 }
 
 // Writes the line that reports that the session is out of memory, without an allocation. True if that failed.
-fn tell_of_memory<O: Write + Drop>(writer: &mut O) -> bool
-    ensures { WritesFront (O.contents writer.old) (O.contents writer.new) (line_bytes (Error 8)) (not result) }
+fn tell_of_memory<O: Peer + Drop>(writer: &mut O) -> bool
+    ensures front { WritesFront (O.contents writer.old) (O.contents writer.new) (line_bytes (Error 8)) (not result) }
+    ensures failed { IsTrue result → IsTrue (O.has_failed writer.new) }
 {
-    let is_whole = write_bytes(writer, b"error 8\n");
-    if writer.flush().is_err() {
+    if !write_bytes(writer, b"error 8\n") {
         return true;
     }
-    !is_whole
+    writer.pass_on().is_err()
 }
 
 // What is left of a session after its last line.
 #[derive(Drop)]
-struct Served<O: Write + Drop> {
+struct Served<O: Peer + Drop> {
     pass: Pass,
     ending: Ending,
     output: Output<O>,
@@ -188,7 +189,7 @@ struct Served<O: Write + Drop> {
 }
 
 // A session that has room for its lines.
-fn serve_lines<R: Threads + Wait + Clock + Sync, I: Read + Drop, O: Write + Send + Drop, G: Gate>(
+fn serve_lines<R: Threads + Wait + Clock + Sync, I: Read + Drop, O: Peer + Send + Drop, G: Gate>(
     rt: &R,
     serving: &Serving<'_, G>,
     watch: &Watch<'_>,
@@ -228,7 +229,7 @@ fn serve_lines<R: Threads + Wait + Clock + Sync, I: Read + Drop, O: Write + Send
 }
 
 // Both halves, and the last line.
-fn serve_halves<R: Threads + Wait + Clock + Sync, I: Read + Drop, O: Write + Send + Drop, G: Gate>(
+fn serve_halves<R: Threads + Wait + Clock + Sync, I: Read + Drop, O: Peer + Send + Drop, G: Gate>(
     rt: &R,
     link: &SessionLink<'_>,
     source: Source<I>,

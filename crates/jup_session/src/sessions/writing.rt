@@ -11,12 +11,12 @@ use super::ending::tell;
 use super::leaving::leave;
 use super::link::SessionLink;
 use jup_hub::Pass;
+use jup_io::Peer;
 use jup_rules::{
     Ending, MOST_FETCHED, SessionFault, is_last_fetch, pongs_in, put_downs, refused_fetch,
 };
 use jup_star::{Down, Downs};
 use jup_stream::{Output, StreamFault};
-use std::io::Write;
 use std::sync::Wait;
 
 /// What a fetch left.
@@ -37,7 +37,7 @@ struct Forwarded {
 
 /// What the writing half gives back.
 #[derive(Drop)]
-pub(crate) struct Wrote<O: Write + Drop> {
+pub(crate) struct Wrote<O: Peer + Drop> {
     pub(crate) pass: Pass,
     pub(crate) output: Output<O>,
     /// The ending that it reported to the site itself: a fault of its own.
@@ -48,7 +48,7 @@ pub(crate) struct Wrote<O: Write + Drop> {
 
 /// Writes what the hub has for the site until the other half has ended, and leaves. It reports a fault of its own to the site
 /// immediately. The last line of any other ending it leaves to its caller, which knows the ending.
-pub(crate) fn write_half<R: Wait, O: Write + Drop>(
+pub(crate) fn write_half<R: Wait, O: Peer + Drop>(
     rt: &R,
     mut output: Output<O>,
     link: &SessionLink<'_>,
@@ -85,7 +85,7 @@ fn is_gone(left: &Result<AfterFetch, SessionFault>) -> bool
 }
 
 // Reports a fault to the site, unless the other half had ended before, and answers the ending that it reported.
-fn tell_fault<O: Write + Drop>(output: &mut Output<O>, forwarded: &Forwarded) -> Option<Ending>
+fn tell_fault<O: Peer + Drop>(output: &mut Output<O>, forwarded: &Forwarded) -> Option<Ending>
     ensures put { PutsLines output.old (told_line result) output.new }
     ensures fault { TellsFault result (result_err forwarded.now.left) }
     ensures flushed { IsFlushed output.old → IsFlushed output.new }
@@ -101,7 +101,7 @@ fn tell_fault<O: Write + Drop>(output: &mut Output<O>, forwarded: &Forwarded) ->
 }
 
 // Forwards at each ring, until the other half has ended or the site is too far behind.
-fn forward_all<R: Wait, O: Write + Drop>(
+fn forward_all<R: Wait, O: Peer + Drop>(
     rt: &R,
     output: &mut Output<O>,
     link: &SessionLink<'_>,
@@ -136,7 +136,7 @@ fn forward_all<R: Wait, O: Write + Drop>(
 }
 
 // Forwards what is new, if anything. Refused if the site is too far behind.
-fn forward_news<R: Wait, O: Write + Drop>(
+fn forward_news<R: Wait, O: Peer + Drop>(
     rt: &R,
     output: &mut Output<O>,
     link: &SessionLink<'_>,
@@ -158,7 +158,7 @@ fn forward_news<R: Wait, O: Write + Drop>(
 }
 
 // Fetches and writes until a fetch gives less than it asked for.
-fn forward<R: Wait, O: Write + Drop>(
+fn forward<R: Wait, O: Peer + Drop>(
     rt: &R,
     output: &mut Output<O>,
     link: &SessionLink<'_>,
@@ -217,7 +217,7 @@ fn fetch<R: Wait>(
 
 // Writes the messages of a fetch, which it notes first, and counts the pongs in it as paid. True if the hub has no more. If memory for
 // the note is refused, the messages are written and then the session ends.
-fn hand_on<R: Wait, O: Write + Drop>(
+fn hand_on<R: Wait, O: Peer + Drop>(
     rt: &R,
     output: &mut Output<O>,
     link: &SessionLink<'_>,
@@ -237,7 +237,7 @@ fn hand_on<R: Wait, O: Write + Drop>(
 
 // Writes messages, in order.
 #[tactic(auto, using(jup_stream::specs::Streams::puts_sent, jup_stream::specs::Streams::puts_none))]
-fn write_downs<O: Write + Drop>(output: &mut Output<O>, downs: &[Down]) -> Result<(), StreamFault>
+fn write_downs<O: Peer + Drop>(output: &mut Output<O>, downs: &[Down]) -> Result<(), StreamFault>
     ensures put { PutsLines output.old (flat_map down_lines downs.now) output.new }
     ensures flushed { IsFlushed output.old → IsFlushed output.new }
     ensures fault { IfErr result (λ fault. (fault ≡ StreamFault.WriteFailed) × IsTrue output.new.failed) }

@@ -14,9 +14,9 @@ pub loop-preserved : goal.loop-preserved
 loop-preserved g c =
     let (done, split, appended) = c.loop.invariant in
     let rest = c.loop.rest.now in
-    elim c.match-write.branch [
-      | in-Ok w ↦ subst (λ r. (x : List ℕ) × (c.args.bytes.now ≡ x ++ r.now) × Appends (g.O.Write.contents c.args.to.now) (g.O.Write.contents c.write.new.self) x) (sym w.rest-is)
+    elim c.match-send.branch [
+      | in-Ok w ↦ subst (λ r. (x : List ℕ) × (c.args.bytes.now ≡ x ++ r.now) × Appends (g.O.Write.contents c.args.to.now) (g.O.Write.contents c.send.new.self) x) (sym w.rest-is)
           (done ++ take w.in-Ok.len rest, front_grows _ done rest w.in-Ok.len split, Appends-trans _ _ _ _ _ appended w.in-Ok.ensures.bytes)
-      | in-Err+else-not-is_interrupted w ↦ subst (λ r. (x : List ℕ) × (c.args.bytes.now ≡ x ++ r.now) × Appends (g.O.Write.contents c.args.to.now) (g.O.Write.contents c.write.new.self) x) (sym w.rest-is)
+      | in-Err+else-not-is_interrupted w ↦ subst (λ r. (x : List ℕ) × (c.args.bytes.now ≡ x ++ r.now) × Appends (g.O.Write.contents c.args.to.now) (g.O.Write.contents c.send.new.self) x) (sym w.rest-is)
           (done, split, appends_kept _ _ _ _ appended w.in-Err.ensures.bytes)
     ]

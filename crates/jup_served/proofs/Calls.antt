@@ -1,5 +1,5 @@
 -- The calls of a session.
-use Rattle.std.proofs.Common.{◌≡◌, ◌⊎◌, inl, inr, ℕ, Bool, true, false, cond, List, [], ◌∷◌, ◌++◌, refl, sym, subst, ◌∙◌, bytes_eq, true≢false, not, ◌||◌, map, nat_eq, Ok, Err, ap, append_assoc, eq-eqb, eqb-true, Option, Some, None, Result, MatchBool, append-nil}
+use Rattle.std.proofs.Common.{◌≡◌, ◌⊎◌, inl, inr, ℕ, Bool, true, false, cond, List, [], ◌∷◌, ◌++◌, refl, sym, subst, ◌∙◌, bytes_eq, true≢false, not, ◌||◌, map, nat_eq, Ok, Err, ap, append_assoc, eq-eqb, eqb-true, Option, Some, Result, MatchBool, append-nil, length}
 use Rattle.std.proofs.lemmas.Slice.Eq.{bytes_eq-Decides}
 use Rattle.std.proofs.lemmas.List.Concat.{flat_map-cons, flat_map-append}
 use Rattle.std.proofs.lemmas.List.{map-append}
@@ -13,7 +13,7 @@ use Rattle.jup_rules.specs.declared.ends.Untaken.{Untaken}
 use Rattle.jup_session.specs.ExactSessions.{bytes_over, bytes_heard}
 use Rattle.jup_session.proofs.Calls.{heard_serves}
 use Rattle.jup_served.specs.Sessions.{Ended, ServesSite, answer_of, writer_of, fetches_for}
-use Rattle.jup_session.specs.Prelude.{HubFault, SaysBye, Incoming, down_lines, Keeper}
+use Rattle.jup_session.specs.Prelude.{HubFault, Made, SaysBye, Incoming, down_lines, Keeper}
 use Rattle.jup_hub.specs.Prelude.{is_no_memory}
 use Rattle.jup_hub.specs.declared.fault.HubFault.TheVariants.{Star, Spent as HubSpent}
 

@@ -558,4 +558,4 @@ said_two = mine ∷ []
 
 pub walk_two : IsClientRun steps_two client_first client_last said_two
 unfolding star_after
-walk_two = (client_made, mine ∷ [], [], (answer_made, (Ok (record { edit = edit_of (switch false); up = UpOp (message 0 0 (switch false)) }), (refl, refl), refl, refl, refl), refl), (client_made, [], [], (refl, refl), (client_made, [], [], (refl, refl), (client_made, [], [], (refl, refl), (client_made, [], [], (refl, refl), (client_made, [], [], (refl, refl), (client_last, [], [], (heard_last, (Ok (record { owed = None; shown = Some (switch true) }), (refl, refl), refl, refl, refl), refl), (refl, refl), refl), refl), refl), refl), refl), refl), refl)
+walk_two = (client_made, mine ∷ [], [], (answer_made, (Ok (record { edit = edit_of (switch false); up = UpOp (message 0 0 (switch false)) }), (refl, refl), refl, refl, refl), refl), (client_made, [], [], (refl, refl), (client_made, [], [], (refl, refl), (client_made, [], [], (refl, refl), (client_made, [], [], (refl, refl), (client_made, [], [], (refl, refl), (client_last, [], [], (heard_last, (Ok (record { owed = None; shown = Some (switch true) }), (refl, refl), record { operations = refl; board = refl }, refl, refl), refl), (refl, refl), refl), refl), refl), refl), refl), refl), refl)

@@ -11,14 +11,16 @@ use Rattle.jup_app.specs.declared.runs.halt.Halt.TheVariants as stop
 use Rattle.jup_app.specs.declared.runs.fault.RunFault.{RunFault}
 use Rattle.jup_app.specs.declared.runs.fault.RunFault.TheVariants.{NoMemory, LogFull, BadLimit, BadSite, GateShut, BadSites, RunBroken}
 use Rattle.jup_star.specs.Prelude.{most_attached}
+use Rattle.jup_faults.specs.Faults.{fault_number}
+use Rattle.jup_faults.specs.declared.table.Fault.TheVariants as faults
 
 -- their numbers in messages and printed texts
 abbrev pub run_fault_number : RunFault → ℕ
-run_fault_number NoMemory = 8
-run_fault_number LogFull = 32
-run_fault_number BadLimit = 50
-run_fault_number BadSite = 51
-run_fault_number GateShut = 60
+run_fault_number NoMemory = fault_number faults.NoMemory
+run_fault_number LogFull = fault_number faults.LogFull
+run_fault_number BadLimit = fault_number faults.BadLimit
+run_fault_number BadSite = fault_number faults.BadSite
+run_fault_number GateShut = fault_number faults.GateShut
 run_fault_number BadSites = 61
 run_fault_number RunBroken = 62
 

@@ -8,7 +8,7 @@ use Rattle.std.proofs.lemmas.Bool.Decides.{nat_tests}
 use Rattle.std.proofs.lemmas.Option.{same_Some}
 use Rattle.jup_board.specs.Prelude.{Widget, Windows, IsId}
 use Rattle.jup_window.specs.Entries.{AreOver, change_at, with_entry}
-use Rattle.jup_text.specs.Boards.{line_of, widget_words, widget_line, window_lines, board_text, Draft, IsTaken}
+use Rattle.jup_text.specs.Boards.{line_of, widget_line, window_lines, board_text, Draft, IsTaken}
 use Rattle.jup_text.proofs.BoardLines.{window_first}
 use Rattle.jup_text.proofs.Quotes.{same_parts}
 use Rattle.jup_board.specs.Boards.{lines_text, blank, Lacks, AreTaken, IsHeading, IsPrintOf, Ascends, AreAscending}

@@ -4,6 +4,7 @@ ghost use Rattle.jup_board.specs.Boards.{board_end_status};
 
 use crate::LineFault;
 use jup_layout::LayoutFault;
+use jup_xform::NoMemory;
 use std::io;
 use std::io::ErrorKind;
 use thiserror::Error;
@@ -31,7 +32,7 @@ pub enum BoardEnd {
     /// What was made can't be printed.
     #[error("io fault")]
     Unprinted,
-    #[error("no memory")]
+    #[error("{}", NoMemory)]
     NoMemory,
 }
 

@@ -9,10 +9,10 @@ ghost use Rattle.jup_c.specs.Handles.{IsFresh, waiting_in, after_taking, FeedsIn
 
 pub use handle::JupClient;
 use jup_embed::{
-    BAD_PLACE, CLOSED, Client, NO_MEMORY, NO_STAGE, NO_WIDGET, NO_WINDOW, NOT_OPEN, PlainChange,
-    PlainCommand, PlainWidget, copy_bytes, copy_label, copy_text, end_number, outcome_number,
-    widget_view, window_view,
+    CLOSED, Client, EmbedFault, NO_STAGE, PlainChange, PlainCommand, PlainWidget, copy_bytes,
+    copy_label, copy_text, end_number, outcome_number, widget_view, window_view,
 };
+use jup_window::EditFault;
 use std::alloc::Global;
 
 /// Opens a client, in the place of the one that was there. Where `watch` is not 0, the changes of its board are kept until they are
@@ -25,14 +25,14 @@ pub extern "C" fn jup_open(alloc: Global, client: &mut JupClient, watch: u32) ->
 {
     drop(client.take(alloc));
     let Ok(opened) = Client::new(alloc, watch != 0) else {
-        return NO_MEMORY;
+        return EmbedFault::NoMemory.number();
     };
     match Box::new(alloc, opened) {
         Ok(opened) => {
             client.put(opened);
             0
         }
-        Err(_) => NO_MEMORY,
+        Err(_) => EmbedFault::NoMemory.number(),
     }
 }
 
@@ -238,7 +238,7 @@ pub extern "C" fn jup_site(
             *backlog = count;
             0
         }
-        None => NOT_OPEN,
+        None => EmbedFault::NotOpen.number(),
     }
 }
 
@@ -267,7 +267,7 @@ pub extern "C" fn jup_window(
             *widgets = count;
             0
         }
-        None => NO_WINDOW,
+        None => EditFault::NoWindow.number(),
     }
 }
 
@@ -295,7 +295,7 @@ pub extern "C" fn jup_widget_at(
             *out = PlainWidget::of(&view);
             0
         }
-        None => NO_WIDGET,
+        None => EditFault::NoWidget.number(),
     }
 }
 
@@ -327,7 +327,7 @@ pub extern "C" fn jup_text(
             *copied = count;
             0
         }
-        None => NO_WIDGET,
+        None => EditFault::NoWidget.number(),
     }
 }
 
@@ -361,6 +361,6 @@ pub extern "C" fn jup_label(
             copy_bytes(text, to);
             0
         }
-        None => BAD_PLACE,
+        None => EditFault::BadPlace.number(),
     }
 }

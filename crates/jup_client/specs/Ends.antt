@@ -53,7 +53,7 @@ end_of_layout fault = if fault.line == 0 then NoMemory else Fault fault.number
 
 -- a number is 8 exactly if an allocation failed
 abbrev pub end_of_number : ℕ → ClientEnd
-end_of_number number = if number == 8 then NoMemory else Fault number
+end_of_number number = if number == stream_fault_number StreamNoMemory then NoMemory else Fault number
 
 abbrev pub end_of_open : OpenFault → ClientEnd
 end_of_open fault = end_of_number (open_fault_number fault)

@@ -18,7 +18,7 @@ pub enum ClientEnd {
     /// The number of a fault in what the server sent, or of one that the server reported.
     #[error("fault {0}")]
     Fault(u32),
-    #[error("no memory")]
+    #[error("{}", NoMemory)]
     NoMemory,
     /// It could not connect.
     #[error("io fault")]

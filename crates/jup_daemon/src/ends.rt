@@ -6,7 +6,6 @@ ghost use Rattle.jup_daemon.specs.Ends.{IsStarOf, IsRefusalOf, attempt_is_explai
 
 use jup_layout::{LayoutFault, layout};
 use jup_star::{OpenFault, Star, is_short};
-use jup_stream::cause_of;
 use jup_window::BoardFault;
 use jup_xform::NoMemory;
 use std::alloc::{AllocError, Global};
@@ -46,7 +45,7 @@ pub enum DaemonEnd {
     LongLayout,
     #[error("io fault")]
     Io(Attempt),
-    #[error("no memory")]
+    #[error("{}", NoMemory)]
     NoMemory,
     #[error("hub held")]
     Held,
@@ -70,7 +69,7 @@ impl DaemonEnd {
         ensures { IsSome result ↔ (daemon_end_is_explained self.now ≡ true) }
     {
         match self {
-            DaemonEnd::Layout(fault) => Some(cause_of(fault.number)),
+            DaemonEnd::Layout(fault) => Some(fault.cause()),
             DaemonEnd::Io(attempt) => attempt.cause(),
             DaemonEnd::LongLayout | DaemonEnd::NoMemory | DaemonEnd::Held => None,
         }

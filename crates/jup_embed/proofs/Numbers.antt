@@ -1,5 +1,5 @@
 -- What numbers say.
-use Rattle.std.proofs.Common.{◌≢◌, arith, ◌≡◌, ℕ, sym, subst, List, [], ◌∷◌, zero, suc, ◌+◌, ◌<◌, take, length, slice_index_or, slice_set, inl, inr, add-one}
+use Rattle.std.proofs.Common.{◌≢◌, arith, ℕ, sym, subst, List, [], ◌∷◌, zero, suc, ◌+◌, ◌<◌, take, length, slice_index_or, slice_set, inl, inr, add-one}
 use Rattle.jup_window.specs.declared.faults.EditFault.TheVariants.{NoWindow, NoWidget, WrongKind, BadPlace, BadValue, LongText, Backlog, NoMemory, Spent, BadBatch, Stopped}
 use Rattle.jup_embed.specs.Prelude.{Command, EditFault, edit_fault_number}
 use Rattle.jup_embed.specs.declared.plain.commands.PlainCommand.{PlainCommand}

@@ -17,6 +17,8 @@ use Rattle.jup_client.specs.Ends.{client_end_number}
 use Rattle.jup_embed.specs.Prelude.{Command, BoardOp, edit_fault_number, EmbedFault}
 use Rattle.jup_embed.specs.Sessions.{Session, MakesEdit}
 use Rattle.jup_embed.specs.declared.refusals.EmbedFault.TheVariants as fault
+use Rattle.jup_faults.specs.Faults.{fault_number}
+use Rattle.jup_faults.specs.declared.table.Fault.TheVariants as faults
 use Rattle.jup_embed.specs.declared.client.Stage.{Stage}
 use Rattle.jup_embed.specs.declared.client.Stage.TheVariants.{Greeting, Opening, Open, Over}
 use Rattle.jup_embed.specs.declared.board_view.WidgetKind.{WidgetKind}
@@ -72,7 +74,7 @@ abbrev pub embed_fault_number : EmbedFault → ℕ
 embed_fault_number fault.NotOpen = 91
 embed_fault_number (fault.Over end) = client_end_number end
 embed_fault_number (fault.Edit refused) = edit_fault_number refused
-embed_fault_number fault.NoMemory = 8
+embed_fault_number fault.NoMemory = fault_number faults.NoMemory
 
 -- the answers that only clients in other programs have, and that of a label that is none
 abbrev pub bad_label : ℕ

@@ -16,7 +16,7 @@ pub use client::{Client, Stage};
 pub use jup_wire::WidgetValue;
 pub use phase::Phase;
 pub use plain::{
-    BAD_PLACE, CLOSED, NO_MEMORY, NO_STAGE, NO_WIDGET, NO_WINDOW, NOT_OPEN, PlainChange,
-    PlainCommand, PlainWidget, copy_bytes, end_number, outcome_number,
+    CLOSED, NO_STAGE, PlainChange, PlainCommand, PlainWidget, copy_bytes, end_number,
+    outcome_number,
 };
 pub use refusals::EmbedFault;

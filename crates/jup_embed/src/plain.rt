@@ -9,9 +9,6 @@ mod widgets;
 
 pub use changes::PlainChange;
 pub use commands::PlainCommand;
-pub use numbers::{
-    BAD_PLACE, CLOSED, NO_MEMORY, NO_STAGE, NO_WIDGET, NO_WINDOW, NOT_OPEN, end_number,
-    outcome_number,
-};
+pub use numbers::{CLOSED, NO_STAGE, end_number, outcome_number};
 pub use texts::copy_bytes;
 pub use widgets::PlainWidget;

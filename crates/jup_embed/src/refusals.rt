@@ -19,7 +19,7 @@ pub enum EmbedFault {
     /// The site refuses the edit.
     #[error(transparent)]
     Edit(EditFault),
-    #[error("no memory")]
+    #[error("{}", NoMemory)]
     NoMemory,
 }
 
@@ -32,7 +32,7 @@ impl EmbedFault {
             EmbedFault::NotOpen => 91,
             EmbedFault::Over(end) => end.number(),
             EmbedFault::Edit(fault) => fault.number(),
-            EmbedFault::NoMemory => 8,
+            EmbedFault::NoMemory => NoMemory.number(),
         }
     }
 }

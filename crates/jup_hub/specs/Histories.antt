@@ -5,6 +5,8 @@ use Rattle.jup_hub.specs.Prelude.{Call, StarReply, StarFault, BoardStar, lacks_m
 use Rattle.jup_star.specs.declared.star.Joined.{Joined}
 use Rattle.jup_star.specs.Stars.{reply_of, star_after, asks_memory, opened_star, bare_joined}
 use Rattle.jup_star.specs.Faults.{star_fault_number}
+use Rattle.jup_faults.specs.Faults.{fault_number}
+use Rattle.jup_faults.specs.declared.table.Fault.TheVariants.{HubSpent}
 
 -- Histories of calls on a star: what each call answers, which star they leave, and whose calls they are.
 
@@ -154,7 +156,7 @@ told (Err e) = Err (Star e)
 -- the number of each fault, as messages and printed texts give it
 abbrev pub hub_fault_number : HubFault → ℕ
 hub_fault_number (Star e) = star_fault_number e
-hub_fault_number Spent = 34
+hub_fault_number Spent = fault_number HubSpent
 
 -- whether an allocation failed
 abbrev pub is_out_of_memory : {A : Type 0} → Result A HubFault → Bool

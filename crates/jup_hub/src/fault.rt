@@ -3,6 +3,7 @@ ghost use Rattle.std.specs.Prelude.{◌≡◌};
 ghost use Rattle.jup_star.specs.Stars.{lacks_memory};
 ghost use Rattle.jup_hub.specs.Histories.{told, hub_fault_number};
 
+use jup_faults::Fault;
 use jup_star::StarFault;
 use thiserror::Error;
 
@@ -13,7 +14,7 @@ pub enum HubFault {
     #[error(transparent)]
     Star(StarFault),
     /// The count of events can't grow.
-    #[error("the count of events is spent")]
+    #[error("{}", Fault::HubSpent)]
     Spent,
 }
 
@@ -24,7 +25,7 @@ impl HubFault {
     {
         match self {
             HubFault::Star(fault) => fault.number(),
-            HubFault::Spent => 34,
+            HubFault::Spent => Fault::HubSpent.number(),
         }
     }
 }

@@ -12,6 +12,8 @@ use Rattle.jup_wire.specs.declared.line.Line.TheVariants as line
 use Rattle.jup_wire.specs.Lines.{wire_fault_number, HasSpelling, spelling}
 use Rattle.jup_wire.specs.Streams.{Progress, HasRead, ending_at}
 use Rattle.jup_layout.specs.declared.names.Names.{Names}
+use Rattle.jup_faults.specs.Faults.{fault_number}
+use Rattle.jup_faults.specs.declared.table.Fault.TheVariants as faults
 
 -- Lines as a board, line by line.
 
@@ -169,13 +171,13 @@ Appended naming before item (Err refusal) = item_refusal naming item.name before
 
 -- the number of each, as messages and printed texts give it
 abbrev pub refusal_number : Refusal → ℕ
-refusal_number NoMemory = 8
-refusal_number DoubleId = 10
-refusal_number TooMany = 11
-refusal_number BadId = 12
-refusal_number BadBounds = 13
-refusal_number Misplaced = 44
-refusal_number BadItemName = 45
+refusal_number NoMemory = fault_number faults.NoMemory
+refusal_number DoubleId = fault_number faults.DoubleId
+refusal_number TooMany = fault_number faults.TooMany
+refusal_number BadId = fault_number faults.BadId
+refusal_number BadBounds = fault_number faults.BadBounds
+refusal_number Misplaced = fault_number faults.Misplaced
+refusal_number BadItemName = fault_number faults.BadItemName
 
 -- Whole lists of lines as boards.
 
@@ -194,7 +196,7 @@ at_line number (Err refusal) = Err (record { line = number; number = refusal_num
 abbrev pub lines_taken : ℕ → Drafted → List Line → Result Drafted LayoutFault
 lines_taken number d [] = Ok d
 lines_taken number d (line ∷ lines) =
-    if number == 4294967295 then Err (record { line = number; number = 11 }) else (at_line number (taken d line) >>? λ next. lines_taken (suc number) next lines)
+    if number == 4294967295 then Err (record { line = number; number = refusal_number TooMany }) else (at_line number (taken d line) >>? λ next. lines_taken (suc number) next lines)
 
 -- the board that lines describe, or the first line that cannot come after those before it
 abbrev pub board_from : Naming → List Line → Result board.Windows LayoutFault
@@ -213,7 +215,7 @@ HasTaken naming lines b = (lines_taken 1 (blank naming) lines ≡ Ok b.drafted) 
 
 -- a failed allocation
 abbrev pub no_memory : LayoutFault
-no_memory = record { line = 0; number = 8 }
+no_memory = record { line = 0; number = refusal_number NoMemory }
 
 -- the board that is due apart from its room, or the fault that is due, or a failed allocation
 abbrev pub Makes : Result board.Windows LayoutFault → Result board.Windows LayoutFault → Type 0

@@ -10,6 +10,7 @@ ghost use Rattle.jup_layout.specs.Said.{AreBoardLines, AreLayoutLines, Shows, Is
 use crate::BoardBuilder;
 use crate::naming::Naming;
 use crate::refusals::Refusal;
+use jup_faults::cause_of;
 use jup_window::Board;
 use jup_wire::{Line, Reader};
 use jup_xform::NoMemory;
@@ -44,20 +45,7 @@ impl LayoutFault {
 
     /// What is wrong with the line, for people.
     pub fn cause(&self) -> &'static str {
-        match self.number {
-            8 => "no memory",
-            10 => "the id is taken",
-            11 => "there are too many already",
-            12 => "0 is no id",
-            13 => "the value is not within the bounds",
-            40 => "no line of the protocol",
-            41 => "256 bytes without the end of a line",
-            42 => "a greeting of another version",
-            43 => "the bytes end too early",
-            44 => "a line out of its place",
-            45 => "the item is not named as its place asks",
-            _ => "a fault that is not known here",
-        }
+        cause_of(self.number)
     }
 }
 

@@ -2,6 +2,7 @@
 ghost use Rattle.std.specs.Prelude.{◌≡◌};
 ghost use Rattle.jup_layout.specs.Drafts.{refusal_number, refusal_of};
 
+use jup_faults::Fault;
 use jup_window::BoardFault;
 
 /// Why a line may not come after those before it.
@@ -23,13 +24,13 @@ impl Refusal {
         ensures { result ≡ refusal_number self }
     {
         match self {
-            Refusal::NoMemory => 8,
-            Refusal::DoubleId => 10,
-            Refusal::TooMany => 11,
-            Refusal::BadId => 12,
-            Refusal::BadBounds => 13,
-            Refusal::Misplaced => 44,
-            Refusal::BadItemName => 45,
+            Refusal::NoMemory => Fault::NoMemory.number(),
+            Refusal::DoubleId => Fault::DoubleId.number(),
+            Refusal::TooMany => Fault::TooMany.number(),
+            Refusal::BadId => Fault::BadId.number(),
+            Refusal::BadBounds => Fault::BadBounds.number(),
+            Refusal::Misplaced => Fault::Misplaced.number(),
+            Refusal::BadItemName => Fault::BadItemName.number(),
         }
     }
 

@@ -1,20 +1,22 @@
 //! The refusal that any call may meet.
 ghost use Rattle.std.specs.Prelude.{◌≡◌};
+ghost use Rattle.jup_faults.specs.Faults.{fault_number};
 
+use jup_faults::Fault;
 use std::alloc::AllocError;
 use thiserror::Error;
 
 /// An allocation failed. What the call would have changed is as it was.
 #[derive(Clone, Copy, Debug, PartialEq, Eq, Error)]
-#[error("no memory")]
+#[error("{}", Fault::NoMemory)]
 pub struct NoMemory;
 
 impl NoMemory {
     /// The number of this fault in messages and printed texts.
     pub fn number(self) -> u32
-        ensures { result ≡ 8 }
+        ensures { result ≡ fault_number Fault.NoMemory }
     {
-        8
+        Fault::NoMemory.number()
     }
 }
 

@@ -8,7 +8,9 @@
 #![tactic(auto)]
 
 ghost use Rattle.std.specs.Prelude.{◌≡◌};
+ghost use Rattle.jup_faults.specs.Faults.{fault_number};
 
+use jup_faults::Fault;
 use thiserror::Error;
 
 mod agree;
@@ -30,21 +32,21 @@ pub struct Msg<T> {
 /// Why an end refuses a message or an acknowledgement. Two ends that are in step refuse none.
 #[derive(Clone, Copy, Debug, PartialEq, Eq, Error)]
 pub enum LinkFault {
-    #[error("not the next operation")]
+    #[error("{}", Fault::BadCount)]
     BadCount,
-    #[error("not a count that may be acknowledged")]
+    #[error("{}", Fault::BadAck)]
     BadAck,
 }
 
 impl LinkFault {
     /// The number of this fault in messages and printed texts.
     pub fn number(self) -> u32
-        ensures count { self ≡ LinkFault.BadCount → result ≡ 20 }
-        ensures ack { self ≡ LinkFault.BadAck → result ≡ 21 }
+        ensures count { self ≡ LinkFault.BadCount → result ≡ fault_number Fault.BadCount }
+        ensures ack { self ≡ LinkFault.BadAck → result ≡ fault_number Fault.BadAck }
     {
         match self {
-            LinkFault::BadCount => 20,
-            LinkFault::BadAck => 21,
+            LinkFault::BadCount => Fault::BadCount.number(),
+            LinkFault::BadAck => Fault::BadAck.number(),
         }
     }
 }

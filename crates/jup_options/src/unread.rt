@@ -6,6 +6,7 @@ ghost use Rattle.clap.specs.declared.error.kind.ErrorKind.TheVariants.{DisplayHe
 ghost use Rattle.jup_options.specs.Unread.{unread_status};
 
 use clap::error::ErrorKind as WordsKind;
+use jup_faults::Fault;
 use std::alloc::{AllocError, Global};
 use std::io;
 use std::io::{ErrorKind, Write};
@@ -23,7 +24,7 @@ pub enum Unread {
     /// One is not UTF-8.
     #[error("a word is no text")]
     NotText,
-    #[error("no memory")]
+    #[error("{}", Fault::NoMemory)]
     NoMemory,
 }
 

@@ -4,6 +4,8 @@ use Rattle.jup_rules.specs.Prelude.{Line, SessionFault, Ending, Stop, End, StopF
 use Rattle.jup_wire.specs.declared.line.Line.TheVariants.{Bye as ByeLine, Error}
 use Rattle.jup_stream.specs.Faults.{stream_fault_number}
 use Rattle.jup_hub.specs.Histories.{hub_fault_number}
+use Rattle.jup_faults.specs.Faults.{fault_number}
+use Rattle.jup_faults.specs.declared.table.Fault.TheVariants as faults
 use Rattle.jup_rules.specs.declared.ends.SessionFault.TheVariants.{Hub, Stream, GateShut, FarBehind}
 use Rattle.jup_rules.specs.declared.ends.Ending.TheVariants.{Bye, Gone, Fault}
 use Rattle.jup_rules.specs.declared.ends.Untaken.{Untaken}
@@ -13,8 +15,8 @@ use Rattle.jup_rules.specs.declared.ends.Untaken.TheVariants as untaken
 abbrev pub session_fault_number : SessionFault → ℕ
 session_fault_number (Hub fault) = hub_fault_number fault
 session_fault_number (Stream fault) = stream_fault_number fault
-session_fault_number GateShut = 60
-session_fault_number (FarBehind far) = 71
+session_fault_number GateShut = fault_number faults.GateShut
+session_fault_number (FarBehind far) = fault_number faults.WriteFailed
 
 -- How a session ends: its last line, and which ending counts.
 

@@ -1,9 +1,12 @@
 //! Why sessions end, with their numbers.
 ghost use Rattle.std.specs.Prelude.{◌≡◌, ◌≢◌, [], Some, IsSomeAnd};
+ghost use Rattle.jup_faults.specs.Faults.{fault_number};
+ghost use Rattle.jup_faults.specs.declared.table.Fault.TheVariants.{EarlyEnd};
 ghost use Rattle.jup_stream.specs.declared.faults.StreamFault.{StreamFault};
 ghost use Rattle.jup_rules.specs.Ends.{last_line, standing, ending_of, ended_by, ended_untaken, session_fault_number};
 
 use crate::FarBehind;
+use jup_faults::Fault;
 use jup_gather::Gather;
 use jup_hub::HubFault;
 use jup_stream::{Stop, StreamFault};
@@ -19,7 +22,7 @@ pub enum SessionFault {
     /// Its link is at fault, or an allocation failed.
     #[error(transparent)]
     Stream(StreamFault),
-    #[error("the gate stayed shut")]
+    #[error("{}", Fault::GateShut)]
     GateShut,
     /// The site is more operations behind than a site of a running server may be.
     #[error("the site is too far behind")]
@@ -34,8 +37,8 @@ impl SessionFault {
         match self {
             SessionFault::Hub(fault) => fault.number(),
             SessionFault::Stream(fault) => fault.number(),
-            SessionFault::GateShut => 60,
-            SessionFault::FarBehind(_) => 71,
+            SessionFault::GateShut => Fault::GateShut.number(),
+            SessionFault::FarBehind(_) => Fault::WriteFailed.number(),
         }
     }
 }
@@ -106,7 +109,7 @@ impl Ending {
     /// How a session ends if no further line of its site comes, and these lines are held of a message. The
     /// site is gone only if its bytes end between messages.
     pub fn behind(gather: &Gather, stop: Stop) -> Ending
-        ensures early { stop ≡ Stop.End → IsSomeAnd gather.now (λ part. part ≢ []) → result ≡ Ending.Fault 43 }
+        ensures early { stop ≡ Stop.End → IsSomeAnd gather.now (λ part. part ≢ []) → result ≡ Ending.Fault (fault_number EarlyEnd) }
         ensures gone { stop ≡ Stop.End → gather.now ≡ Some [] → result ≡ Ending.Gone }
         ensures fault { (fault : StreamFault) → stop ≡ Stop.Fault fault → result ≡ ending_of (SessionFault.Stream fault) }
     {

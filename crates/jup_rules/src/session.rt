@@ -6,6 +6,8 @@ ghost use Rattle.std.specs.Prelude.{◌≡◌, ◌≢◌, IsOk, List, [], ◌∷
 ghost use Rattle.jup_star.specs.declared.faults.StarFault.TheVariants.{NoLink};
 ghost use Rattle.jup_wire.specs.declared.line.Line.{Line};
 ghost use Rattle.jup_wire.specs.declared.line.Line.TheVariants.{Hello};
+ghost use Rattle.jup_faults.specs.Faults.{fault_number};
+ghost use Rattle.jup_faults.specs.declared.table.Fault.TheVariants.{EarlyEnd};
 ghost use Rattle.jup_hub.specs.declared.fault.HubFault.TheVariants.{Star};
 ghost use Rattle.jup_rules.specs.Ends.{ending_of};
 ghost use Rattle.jup_rules.specs.Sessions.{most_fetched, most_pongs, HasHeard, Leads, incoming_of, edits_with, next_of, edits_after, outcome, said_by, down_lines, HasSaid, IsRefused, is_pong};
@@ -175,7 +177,7 @@ impl Gatekeeper {
 
     /// How the session ends if no further line comes: the site is gone only if its bytes end between messages.
     pub fn end(&self, stop: Stop) -> Ending
-        ensures early { stop ≡ Stop.End → IsSomeAnd self.now.0 (λ part. part ≢ []) → result ≡ Ending.Fault 43 }
+        ensures early { stop ≡ Stop.End → IsSomeAnd self.now.0 (λ part. part ≢ []) → result ≡ Ending.Fault (fault_number EarlyEnd) }
         ensures gone { stop ≡ Stop.End → self.now.0 ≡ Some [] → result ≡ Ending.Gone }
         ensures fault { (fault : StreamFault) → stop ≡ Stop.Fault fault → result ≡ ending_of (SessionFault.Stream fault) }
     {

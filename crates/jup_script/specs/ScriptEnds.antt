@@ -3,6 +3,8 @@ use Rattle.std.specs.Prelude.{ℕ, Option, Some, None}
 use Rattle.jup_script.specs.declared.ending.ScriptEnd.{ScriptEnd}
 use Rattle.jup_script.specs.declared.faults.ScriptFault.{ScriptFault}
 use Rattle.jup_script.specs.declared.ending.ScriptEnd.TheVariants.{Bad, LongInput, NoMemory, ReadFailed, WriteFailed}
+use Rattle.jup_faults.specs.Faults.{fault_number}
+use Rattle.jup_faults.specs.declared.table.Fault.TheVariants as faults
 
 -- what is wrong with the line, if one is bad
 abbrev pub script_end_fault : ScriptEnd → Option ScriptFault
@@ -14,11 +16,11 @@ script_end_fault WriteFailed = None
 
 -- the numbers of the ends of scripts, as messages and printed texts have them
 abbrev pub script_end_number : ScriptEnd → ℕ
-script_end_number (Bad line fault) = 40
+script_end_number (Bad line fault) = fault_number faults.BadLine
 script_end_number LongInput = 47
-script_end_number NoMemory = 8
-script_end_number ReadFailed = 70
-script_end_number WriteFailed = 71
+script_end_number NoMemory = fault_number faults.NoMemory
+script_end_number ReadFailed = fault_number faults.ReadFailed
+script_end_number WriteFailed = fault_number faults.WriteFailed
 
 -- the exit status of a program that plays the script: 1 for a failed read or write, 2 for a script, 3 for memory
 abbrev pub script_end_status : ScriptEnd → ℕ

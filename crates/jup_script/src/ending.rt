@@ -3,6 +3,7 @@ ghost use Rattle.std.specs.Prelude.{◌≡◌};
 ghost use Rattle.jup_script.specs.ScriptEnds.{script_end_fault, script_end_number, script_end_status};
 
 use crate::ScriptFault;
+use jup_faults::Fault;
 use thiserror::Error;
 
 /// Why a script was not played to its end.
@@ -13,7 +14,7 @@ pub enum ScriptEnd {
     Bad(u32, ScriptFault),
     #[error("script too long")]
     LongInput,
-    #[error("no memory")]
+    #[error("{}", Fault::NoMemory)]
     NoMemory,
     #[error("io fault")]
     ReadFailed,
@@ -37,11 +38,11 @@ impl ScriptEnd {
         ensures { result ≡ script_end_number self }
     {
         match self {
-            ScriptEnd::NoMemory => 8,
-            ScriptEnd::Bad(..) => 40,
+            ScriptEnd::NoMemory => Fault::NoMemory.number(),
+            ScriptEnd::Bad(..) => Fault::BadLine.number(),
             ScriptEnd::LongInput => 47,
-            ScriptEnd::ReadFailed => 70,
-            ScriptEnd::WriteFailed => 71,
+            ScriptEnd::ReadFailed => Fault::ReadFailed.number(),
+            ScriptEnd::WriteFailed => Fault::WriteFailed.number(),
         }
     }
 

@@ -18,6 +18,8 @@ use Rattle.jup_service.specs.declared.notices.Told.{Told}
 use Rattle.jup_service.specs.declared.opening.Opening.{Opening}
 use Rattle.jup_service.specs.declared.opening.Opening.TheVariants.{Request, Lines}
 use Rattle.jup_service.specs.declared.origins.Address.{Address}
+use Rattle.jup_faults.specs.Faults.{fault_number}
+use Rattle.jup_faults.specs.declared.table.Fault.TheVariants as faults
 
 -- Captions of windows and widgets, a line each.
 
@@ -71,7 +73,7 @@ service_end_status (BadCaptions _ _) = 5
 
 -- the notice for a fault that ends a session, if the fault concerns all later sessions too
 abbrev pub notice_of : ℕ → Option Notice
-notice_of fault = if fault == 31 then Some SitesSpent else (if fault == 32 then Some OrderFull else None)
+notice_of fault = if fault == fault_number faults.SitesSpent then Some SitesSpent else (if fault == fault_number faults.LogFull then Some OrderFull else None)
 
 abbrev pub is_told : Told → Notice → Bool
 is_told t SitesSpent = t.sites

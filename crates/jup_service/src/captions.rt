@@ -13,7 +13,7 @@ use thiserror::Error;
 /// What is wrong with a line of captions.
 #[derive(Clone, Copy, Debug, PartialEq, Eq, Error)]
 pub enum CaptionFault {
-    #[error("no memory")]
+    #[error("{}", NoMemory)]
     NoMemory,
     #[error("the line has no line feed")]
     Unended,

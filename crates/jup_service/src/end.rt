@@ -5,6 +5,7 @@ ghost use Rattle.jup_service.specs.Servers.{service_end_status};
 
 use crate::{CaptionFault, KeptFileFault};
 use jup_board::{BoardEnd, LineFault};
+use jup_xform::NoMemory;
 use std::alloc::AllocError;
 use std::io;
 use std::io::ErrorKind;
@@ -44,7 +45,7 @@ pub enum ServiceEnd {
     Io(Attempt),
     #[error("board in use")]
     BoardTaken,
-    #[error("no memory")]
+    #[error("{}", NoMemory)]
     NoMemory,
     /// The line of this number, from 1, is no line of a printed board, or is refused there.
     #[error("line {0}: bad board")]

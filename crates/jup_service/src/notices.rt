@@ -2,6 +2,8 @@
 ghost use Rattle.std.specs.Prelude.{◌≡◌, not, true, false};
 ghost use Rattle.jup_service.specs.Servers.{notice_of, is_told, with_told};
 
+use jup_faults::Fault;
+
 /// What a server reports to its operator while it runs.
 #[derive(Clone, Copy, Debug, PartialEq, Eq)]
 pub enum Notice {
@@ -29,10 +31,12 @@ impl Notice {
 pub fn notice_of(fault: u32) -> Option<Notice>
     ensures { result ≡ notice_of fault }
 {
-    match fault {
-        31 => Some(Notice::SitesSpent),
-        32 => Some(Notice::OrderFull),
-        _ => None,
+    if fault == Fault::SitesSpent.number() {
+        Some(Notice::SitesSpent)
+    } else if fault == Fault::LogFull.number() {
+        Some(Notice::OrderFull)
+    } else {
+        None
     }
 }
 

@@ -3,6 +3,8 @@ use Rattle.std.specs.Prelude.{◌≡◌, ◌<◌, ◌≤◌, ◌+◌, max, ℕ, 
 use Rattle.std.specs.List.{AllByRecursion, flat_map}
 use Rattle.jup_session.specs.Prelude.{BoardBatch, NoLink, Call, Join, Take, Fetch, Leave, StarReply, JoinedReply, Fetched, Taken, Joined, Down, Up, BoardStar, Line, board_lines, HubEvent, Tally, View, HubFault, Made, Ending, SessionFault, Hub, Stream, StreamFault, NoMemory, ReadsSpent, WriteFailed, Incoming, Said, SaysUp, SaysBye, Stop, ending_of, last_line, down_lines, outcome, HasHeard, Leads, Keeper, Put, PutsLines, Sourced, HandsOn, Stops}
 use Rattle.jup_wire.specs.declared.line.Line.TheVariants as line
+use Rattle.jup_faults.specs.Faults.{fault_number}
+use Rattle.jup_faults.specs.declared.table.Fault.TheVariants.{EarlyEnd}
 use Rattle.jup_hub.specs.Histories.{IsLegal, calls_by, tally, Called}
 use Rattle.jup_rules.specs.declared.ends.SessionFault.TheVariants.{FarBehind}
 use Rattle.jup_rules.specs.declared.session.Awaits.TheVariants.{Gate, Pongs}
@@ -334,7 +336,7 @@ pub record Hears (site : ℕ) (a : Sourced) (v : View) (b : Sourced) (w : View) 
 
 -- how a session ends if no further line comes: the site is gone if its bytes end between messages, and within one they end early
 pub record EndsBehind (keeper : Keeper) (stop : Stop) (ending : Ending) : Type 0 where
-  pub early : stop ≡ End → IsSomeAnd keeper.0 (λ part. part ≢ []) → ending ≡ EndsByFault 43
+  pub early : stop ≡ End → IsSomeAnd keeper.0 (λ part. part ≢ []) → ending ≡ EndsByFault (fault_number EarlyEnd)
   pub gone : stop ≡ End → keeper.0 ≡ Some [] → ending ≡ Gone
   pub fault : (fault : StreamFault) → stop ≡ Fault fault → ending ≡ ending_of (Stream fault)
 

@@ -5,6 +5,8 @@ use Rattle.jup_link.specs.declared.LinkFault.TheVariants.{BadCount as LinkBadCou
 use Rattle.jup_star.specs.Prelude.{Msg, EndLink as Link, accepts_number, accepts_count, StarFault, NoMemory, BadCount, BadAck, BadName, BadOp, NotAnEdit, Full, SitesSpent, LogFull, NoLink, SiteFault, OpenFault, BadLimit, BadSite}
 use Rattle.jup_star.specs.declared.faults.SiteFault.TheVariants.{NoMemory as SiteNoMemory, BadCount as SiteBadCount, BadAck as SiteBadAck, BadName as SiteBadName, BadOp as SiteBadOp, Stopped}
 use Rattle.jup_star.specs.declared.faults.OpenFault.TheVariants.{NoMemory as OpenNoMemory}
+use Rattle.jup_faults.specs.Faults.{fault_number}
+use Rattle.jup_faults.specs.declared.table.Fault.TheVariants as faults
 
 -- Tests in order, and the fault of the first that fails.
 
@@ -30,29 +32,29 @@ fault_of (Err fault) = Some fault
 
 -- the number of each fault, as messages and printed texts give it
 abbrev pub star_fault_number : StarFault → ℕ
-star_fault_number NoMemory = 8
-star_fault_number BadCount = 20
-star_fault_number BadAck = 21
-star_fault_number BadName = 22
-star_fault_number BadOp = 23
-star_fault_number NotAnEdit = 24
-star_fault_number Full = 30
-star_fault_number SitesSpent = 31
-star_fault_number LogFull = 32
-star_fault_number NoLink = 33
+star_fault_number NoMemory = fault_number faults.NoMemory
+star_fault_number BadCount = fault_number faults.BadCount
+star_fault_number BadAck = fault_number faults.BadAck
+star_fault_number BadName = fault_number faults.BadName
+star_fault_number BadOp = fault_number faults.BadOp
+star_fault_number NotAnEdit = fault_number faults.NotAnEdit
+star_fault_number Full = fault_number faults.Full
+star_fault_number SitesSpent = fault_number faults.SitesSpent
+star_fault_number LogFull = fault_number faults.LogFull
+star_fault_number NoLink = fault_number faults.NoLink
 
 abbrev pub site_fault_number : SiteFault → ℕ
-site_fault_number SiteNoMemory = 8
-site_fault_number SiteBadCount = 20
-site_fault_number SiteBadAck = 21
-site_fault_number SiteBadName = 22
-site_fault_number SiteBadOp = 23
-site_fault_number Stopped = 25
+site_fault_number SiteNoMemory = fault_number faults.NoMemory
+site_fault_number SiteBadCount = fault_number faults.BadCount
+site_fault_number SiteBadAck = fault_number faults.BadAck
+site_fault_number SiteBadName = fault_number faults.BadName
+site_fault_number SiteBadOp = fault_number faults.BadOp
+site_fault_number Stopped = fault_number faults.Stopped
 
 abbrev pub open_fault_number : OpenFault → ℕ
-open_fault_number OpenNoMemory = 8
-open_fault_number BadLimit = 50
-open_fault_number BadSite = 51
+open_fault_number OpenNoMemory = fault_number faults.NoMemory
+open_fault_number BadLimit = fault_number faults.BadLimit
+open_fault_number BadSite = fault_number faults.BadSite
 
 -- a refusal of an end of a link, as the star and as a site report it
 abbrev pub star_fault_of : LinkFault → StarFault

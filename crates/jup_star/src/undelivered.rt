@@ -2,13 +2,14 @@
 ghost use Rattle.std.specs.Prelude.{◌≡◌};
 
 use crate::{Down, SiteFault};
+use jup_faults::Fault;
 use thiserror::Error;
 
 /// Why a site did not take a message that was handed over to it.
 #[derive(Debug, Drop, PartialEq, Eq, Error)]
 pub enum Undelivered {
     /// An allocation failed. The site is as it was, and this is the message.
-    #[error("no memory")]
+    #[error("{}", Fault::NoMemory)]
     NoMemory(Down),
     /// Any other fault. The message is gone.
     #[error(transparent)]

@@ -2,6 +2,7 @@
 ghost use Rattle.std.specs.Prelude.{◌≡◌};
 ghost use Rattle.jup_stream.specs.Faults.{stream_fault_number};
 
+use jup_faults::Fault;
 use jup_wire::WireFault;
 use thiserror::Error;
 
@@ -11,13 +12,13 @@ pub enum StreamFault {
     /// Bytes that are no line, or that end within one.
     #[error(transparent)]
     Wire(WireFault),
-    #[error("no memory")]
+    #[error("{}", Fault::NoMemory)]
     NoMemory,
-    #[error("a line out of its place")]
+    #[error("{}", Fault::Misplaced)]
     Misplaced,
-    #[error("all reads were made")]
+    #[error("{}", Fault::ReadsSpent)]
     ReadsSpent,
-    #[error("a read failed")]
+    #[error("{}", Fault::ReadFailed)]
     ReadFailed,
     #[error("a write failed")]
     WriteFailed,
@@ -30,11 +31,11 @@ impl StreamFault {
     {
         match self {
             StreamFault::Wire(fault) => fault.number(),
-            StreamFault::NoMemory => 8,
-            StreamFault::Misplaced => 44,
-            StreamFault::ReadsSpent => 46,
-            StreamFault::ReadFailed => 70,
-            StreamFault::WriteFailed => 71,
+            StreamFault::NoMemory => Fault::NoMemory.number(),
+            StreamFault::Misplaced => Fault::Misplaced.number(),
+            StreamFault::ReadsSpent => Fault::ReadsSpent.number(),
+            StreamFault::ReadFailed => Fault::ReadFailed.number(),
+            StreamFault::WriteFailed => Fault::WriteFailed.number(),
         }
     }
 }

@@ -7,14 +7,13 @@
 //! What a site says by its link is a [`Said`], and what is wrong with a link a [`StreamFault`].
 #![tactic(auto)]
 
-mod causes;
 mod faults;
 mod output;
 mod saying;
 mod source;
 
-pub use causes::cause_of;
 pub use faults::{Stop, StreamFault};
+pub use jup_faults::cause_of;
 pub use output::{Output, write_bytes};
 pub use saying::{Said, put_said};
 pub use source::{Source, count_read};

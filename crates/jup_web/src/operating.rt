@@ -60,8 +60,8 @@ fn show<R: Wait + Print>(rt: &R, service: &Service<'_>, pass: &mut Pass)
         Ok(text) => {
             let _ = io::writer(rt).write_all(text.as_slice());
         }
-        Err(_) => {
-            let _ = println!(rt; "no memory");
+        Err(fault) => {
+            let _ = println!(rt; "{fault}");
         }
     }
 }

@@ -2,6 +2,7 @@
 ghost use Rattle.std.specs.Prelude.{◌≡◌};
 ghost use Rattle.jup_window.specs.Commands.{board_fault_number, edit_fault_number};
 
+use jup_faults::Fault;
 use jup_limits::NoMemory;
 use thiserror::Error;
 
@@ -10,13 +11,13 @@ use thiserror::Error;
 pub enum BoardFault {
     #[error("no such window")]
     NoWindow,
-    #[error("no memory")]
+    #[error("{}", Fault::NoMemory)]
     NoMemory,
-    #[error("the id is taken")]
+    #[error("{}", Fault::DoubleId)]
     DoubleId,
     #[error("there are 64 already")]
     TooMany,
-    #[error("0 is no id")]
+    #[error("{}", Fault::BadId)]
     BadId,
 }
 
@@ -27,10 +28,10 @@ impl BoardFault {
     {
         match self {
             BoardFault::NoWindow => 1,
-            BoardFault::NoMemory => 8,
-            BoardFault::DoubleId => 10,
-            BoardFault::TooMany => 11,
-            BoardFault::BadId => 12,
+            BoardFault::NoMemory => Fault::NoMemory.number(),
+            BoardFault::DoubleId => Fault::DoubleId.number(),
+            BoardFault::TooMany => Fault::TooMany.number(),
+            BoardFault::BadId => Fault::BadId.number(),
         }
     }
 }
@@ -39,7 +40,7 @@ impl BoardFault {
 /// others are a site's.
 #[derive(Clone, Copy, Debug, PartialEq, Eq, Error)]
 pub enum EditFault {
-    #[error("no such window")]
+    #[error("{}", BoardFault::NoWindow)]
     NoWindow,
     #[error("no such widget in the window")]
     NoWidget,
@@ -53,13 +54,13 @@ pub enum EditFault {
     LongText,
     #[error("too many edits are not acknowledged")]
     Backlog,
-    #[error("no memory")]
+    #[error("{}", Fault::NoMemory)]
     NoMemory,
     #[error("the site has made all of its edits")]
     Spent,
     #[error("not 1 to 32 commands")]
     BadBatch,
-    #[error("the site has stopped")]
+    #[error("{}", Fault::Stopped)]
     Stopped,
 }
 
@@ -69,17 +70,17 @@ impl EditFault {
         ensures { result ≡ edit_fault_number self }
     {
         match self {
-            EditFault::NoWindow => 1,
+            EditFault::NoWindow => BoardFault::NoWindow.number(),
             EditFault::NoWidget => 2,
             EditFault::WrongKind => 3,
             EditFault::BadPlace => 4,
             EditFault::BadValue => 5,
             EditFault::LongText => 6,
             EditFault::Backlog => 7,
-            EditFault::NoMemory => 8,
+            EditFault::NoMemory => Fault::NoMemory.number(),
             EditFault::Spent => 9,
             EditFault::BadBatch => 15,
-            EditFault::Stopped => 25,
+            EditFault::Stopped => Fault::Stopped.number(),
         }
     }
 }

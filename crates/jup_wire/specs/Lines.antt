@@ -7,6 +7,8 @@ use Rattle.jup_wire.specs.declared.line.Line.TheVariants.{Hello, Welcome, Window
 use Rattle.jup_wire.specs.declared.single.LoneEdit.{LoneEdit}
 use Rattle.jup_wire.specs.Fields.{IsU32, name_text, seq_fields, IsId, IsCount, is_count, IsName, ◌>>=◌, split_of, number_of, pair_of, id_of, count_of, scalar_of, name_of, label_of, dispatch}
 use Rattle.jup_wire.specs.Kinds.{body_fields, IsBody, body_of, value_word, value_fields, HasRanges, value_table}
+use Rattle.jup_faults.specs.Faults.{fault_number}
+use Rattle.jup_faults.specs.declared.table.Fault.TheVariants as faults
 
 -- The lines and their bytes: the fields of a line with one space between them, and a line feed at the end.
 
@@ -180,7 +182,7 @@ pub record BeginsLines (lines : List Line) (len : ℕ) (bytes : List ℕ) : Type
 
 -- the number of each, as messages and printed texts give it
 abbrev pub wire_fault_number : WireFault → ℕ
-wire_fault_number BadLine = 40
-wire_fault_number LongLine = 41
-wire_fault_number BadVersion = 42
-wire_fault_number EarlyEnd = 43
+wire_fault_number BadLine = fault_number faults.BadLine
+wire_fault_number LongLine = fault_number faults.LongLine
+wire_fault_number BadVersion = fault_number faults.BadVersion
+wire_fault_number EarlyEnd = fault_number faults.EarlyEnd

@@ -2,16 +2,17 @@
 ghost use Rattle.std.specs.Prelude.{◌≡◌};
 ghost use Rattle.jup_wire.specs.Lines.{wire_fault_number};
 
+use jup_faults::Fault;
 use thiserror::Error;
 
 /// A fault in the bytes that a link carries.
 #[derive(Clone, Copy, Debug, PartialEq, Eq, Error)]
 pub enum WireFault {
-    #[error("no line of the protocol")]
+    #[error("{}", Fault::BadLine)]
     BadLine,
-    #[error("256 bytes without the end of a line")]
+    #[error("{}", Fault::LongLine)]
     LongLine,
-    #[error("a greeting of another version")]
+    #[error("{}", Fault::BadVersion)]
     BadVersion,
     #[error("the bytes end within a line")]
     EarlyEnd,
@@ -23,10 +24,10 @@ impl WireFault {
         ensures { result ≡ wire_fault_number self }
     {
         match self {
-            WireFault::BadLine => 40,
-            WireFault::LongLine => 41,
-            WireFault::BadVersion => 42,
-            WireFault::EarlyEnd => 43,
+            WireFault::BadLine => Fault::BadLine.number(),
+            WireFault::LongLine => Fault::LongLine.number(),
+            WireFault::BadVersion => Fault::BadVersion.number(),
+            WireFault::EarlyEnd => Fault::EarlyEnd.number(),
         }
     }
 }

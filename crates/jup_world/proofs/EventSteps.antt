@@ -1,7 +1,6 @@
 -- What each event does.
 use Rattle.std.proofs.Common.{◌≡◌, ℕ, Bool, true, false, cond, not, List, [], ◌∷◌, map, filter, nat_eq, refl, ap, sym, ◌∙◌, subst, Option, Some, None, option_map, eqb-true, ◌++◌, drop, Result, Ok, Err}
-use Rattle.jup_world.specs.Prelude.{Operations, Entry, Up, Down, DownOp, DownAck, DownPong, StarFault, LinkState, link_of, join_fault, up_fault, left, taken, place_taken, edit_answer, deliver_fault, found, found-map, found-map_other, found-without, found-without_other, EditFault}
-use Rattle.jup_world.specs.declared.events.Reply.TheVariants.{NoJoin, Left, Refused, Heard, Detached, Asked, Nothing}
+use Rattle.jup_world.specs.Prelude.{Operations, Entry, Up, Down, DownOp, DownAck, DownPong, StarFault, LinkState, link_of, join_fault, up_fault, left, taken, place_taken, edit_answer, deliver_fault, found, found-map, found-map_other, found-without, found-without_other, EditFault, NoJoin, Left, Refused, Heard, Detached, Asked, Nothing}
 use Rattle.jup_world.specs.Events.{Join, Leave, Edit as MakeEdit, Up as MoveUp, Down as MoveDown, Ping as SendPing, JoinStray, Stray, LeaveStray}
 use Rattle.jup_world.specs.Worlds.{WorldOf, AttachedOf, EventOf, ReplyOf, HappenedOf, attached, without_site, Outcome, unchanged, join_outcome, edit_outcome, place_reply, one_taken, up_outcome, first_up, down_outcome, first_down, one_handed, ping_outcome, stray_joins, stray_sends, at_stray, at_attached, at_linked, at_number, outcome}
 use Rattle.jup_world.specs.Traces.{edit_made, entry_taken, join_seen, was_shown}

@@ -2,7 +2,7 @@
 use Rattle.std.proofs.Common.{◌≡◌, refl, sym, ◌∙◌, ap, subst, ℕ, zero, suc, ◌+◌, ◌<◌, ◌≤◌, Bool, true, false, cond, not, List, [], ◌∷◌, ◌++◌, length, map, filter, get_or, nat_eq, nat_lt, Option, Some, None, arith, position, MatchOption, eqb-true, ne_eqb, ◌&&◌, nat_le, is_some, Result, Ok, Err, IsOk, inl, inr, take, drop, IfOk, OnOk, OnErr}
 use Rattle.std.proofs.Math.ListN.{set}
 use Rattle.std.proofs.lemmas.Bool.{ltb-true, lt-ltb, eq-eqb, and_from, le-leb}
-use Rattle.jup_world.specs.Prelude.{NoMemory, highest_limit, last_site, EditFault, has_site, BoardBatch, BoardEdits, Commands, Windows, bare, board_batches, Up, Down, JoinedSite, StarFault, Full, SitesSpent, test, first_fault, link_of, join_fault, joined, left, fetched, up_fault, taken, place_taken, BoardStar, joining, bare_joined, is_no_memory, opened_site, edit_answer, BoardSite, Attached, Reply, position_or_len}
+use Rattle.jup_world.specs.Prelude.{NoMemory, highest_limit, last_site, EditFault, has_site, BoardBatch, BoardEdits, Commands, Windows, bare, board_batches, Up, Down, JoinedSite, StarFault, Full, SitesSpent, test, first_fault, link_of, join_fault, joined, left, fetched, up_fault, taken, place_taken, BoardStar, joining, bare_joined, is_no_memory, opened_site, edit_answer, BoardSite, Attached, Reply, position_or_len, Joined, NoJoin, Left, Detached, Asked, Nothing}
 use Rattle.jup_star.specs.declared.site.Site.{Site}
 use Rattle.jup_star.specs.Faults.{fault_of}
 use Rattle.jup_star.specs.Sites.{site_open_fault}
@@ -10,7 +10,6 @@ use Rattle.jup_lane.specs.Lanes.{messages, ups, downs}
 use Rattle.jup_world.specs.Worlds.{is_number, attached, at_site, without_site, AreAscending, IsSiteAt, Outcome, join_outcome, edit_outcome, up_outcome, first_up, down_outcome, first_down, at_linked, one_taken, place_reply, one_handed, down_reply, pinged, with_fetched}
 use Rattle.jup_world.specs.Boards.{BoardAttached, BoardWorld, BoardLink, BoardReply}
 use Rattle.jup_world.specs.Insides.{bare_attached}
-use Rattle.jup_world.specs.declared.events.Reply.TheVariants.{Joined, NoJoin, Left, Detached, Asked, Nothing}
 use Rattle.jup_world.specs.Events.{Happened, Join, Leave, Edit as MakeEdit, Up as MoveUp, Down as MoveDown, Ping as SendPing}
 use Rattle.jup_world.specs.Sound.{edit_reply}
 use Rattle.jup_world.specs.Happenings.{Plays, with_answer, refilled_from, refilled, fetched_for, refilled_star, handed_first, handed, reply_to, first_reply, FirstFits, FitsFirst, Spares, AreReady, Rises, IsRefused, SparesAt}

@@ -1,7 +1,7 @@
 -- What holds of every world of the program.
 use Rattle.std.proofs.Common.{is_some, ◌&&◌, ◌≡◌, ℕ, ◌+◌, ◌≤◌, Bool, true, false, cond, not, ◌||◌, List, [], ◌∷◌, ◌++◌, map, nat_eq, refl, ap, sym, ◌∙◌, subst, Option, Some, None, option_map, arith, eq-eqb, ne_eqb, zero, suc, ◌<◌, ◌==◌, take, drop, insert, remove, eqb-true, inl, inr, length, nat_le, leb-false, append-nil, drop_of_length-le, le_refl}
 use Rattle.std.proofs.lemmas.Bool.{or_parts, or_from, and_from, and_parts, leb-true}
-use Rattle.jup_world.specs.Prelude.{highest_limit, Name, Item, name_eq, InsertOp as Insert, DeleteOp as Delete, RelabelOp as Relabel, NoOp as NoSeqOp, Command, EditFault, Operations, AreLawful, has_site, only_site, BoardBatch, Windows, board_batches, batch_laws, BoardEdits, Commands, Up, UpOp, UpAck, UpPing, Down, LinkState, opened_link, link_acked, link_ponged, link_fetched, link_heard, link_sent, operation_at, link_of, most_batches, BoardStar, IsShort, test, first_fault, downs, found-end, found-end_other, Played, Kept, list_any, list_all}
+use Rattle.jup_world.specs.Prelude.{highest_limit, Name, Item, name_eq, InsertOp as Insert, DeleteOp as Delete, RelabelOp as Relabel, NoOp as NoSeqOp, Command, EditFault, Operations, AreLawful, has_site, only_site, BoardBatch, Windows, board_batches, batch_laws, BoardEdits, Commands, Up, UpOp, UpAck, UpPing, Down, LinkState, opened_link, link_acked, link_ponged, link_fetched, link_heard, link_sent, operation_at, link_of, most_batches, BoardStar, IsShort, test, first_fault, downs, found-end, found-end_other, Played, Kept, list_any, list_all, Joined, Nothing}
 use Rattle.jup_value.specs.Items.{with_value}
 use Rattle.jup_window.specs.Entries.{change_at, EachWidget}
 use Rattle.jup_window.specs.Boards.{some_in_widget, every_in_widget, some_in_window, every_in_window}
@@ -14,7 +14,6 @@ use Rattle.jup_star.specs.Stars.{star_open_fault}
 use Rattle.jup_star.proofs.Stars.{board_small, short_bare, distinct_bare}
 use Rattle.jup_star.proofs.FaultTests.{link_site, taken_site}
 use Rattle.jup_world.specs.declared.events.Event.TheVariants as played
-use Rattle.jup_world.specs.declared.events.Reply.TheVariants.{Joined, Nothing}
 use Rattle.jup_world.specs.Events.{JoinStray, Happened}
 use Rattle.jup_world.specs.Worlds.{WorldOf, AttachedOf, EventOf, ReplyOf, attached, at_site, Outcome, new_site, with_edit, one_taken, one_handed, pinged, with_fetched, only_fetched, outcome, with_outcome, happens, run, IsOpening, opened_world, AreAscending, is_number}
 use Rattle.jup_world.specs.Traces.{stray_seen, is_stray, AreLinked}

@@ -1,9 +1,8 @@
 -- The rounds in which a world is drained.
 use Rattle.std.specs.Prelude.{ℕ, zero, suc, ◌+◌, ◌*◌, List, [], ◌∷◌, Option, Some, None, ◌≡◌, ◌<◌, IsTrue, IsFalse, Bool, ◌≤◌, ◌↔◌, ◌||◌, true, false, nat_lt}
-use Rattle.jup_world.specs.Prelude.{BoardBatch, board_batches, Up, UpOp, UpAck, UpPing, Down, DownOp, DownAck, DownPong, link_of, BoardStar, Way, WayUp, WayDown}
+use Rattle.jup_world.specs.Prelude.{BoardBatch, board_batches, Up, UpOp, UpAck, UpPing, Down, DownOp, DownAck, DownPong, link_of, BoardStar, Way, WayUp, WayDown, Nothing}
 use Rattle.jup_world.specs.Worlds.{attached, outcome}
 use Rattle.jup_world.specs.Boards.{BoardWorld, BoardLink, BoardAttached, BoardEvent}
-use Rattle.jup_world.specs.declared.events.Reply.TheVariants.{Nothing}
 use Rattle.jup_world.specs.Events.{Up as MoveUp, Down as MoveDown}
 use Rattle.jup_world.specs.Lanes.{LaneWorld, messages_of, IsDelivered, Plain, LaneSite, lane_site, Steps}
 

@@ -1,10 +1,9 @@
 -- What an event does to a star and its sites alone.
 use Rattle.std.specs.Prelude.{◌≡◌, ◌⊎◌, ◌<◌, ◌≤◌, ℕ, false, List, [], ◌∷◌, ◌++◌, take, length, Option, Some, None, is_some, Result, Ok, Err, map}
 use Rattle.std.specs.Option.{option_map}
-use Rattle.jup_world.specs.Prelude.{highest_limit, has_site, BoardBatch, BoardEdits, Commands, Windows, board_batches, Down, Up, StarFault, link_of, fetched, BoardStar, Answers, deliver_fault, BoardSite, EditFault}
+use Rattle.jup_world.specs.Prelude.{highest_limit, has_site, BoardBatch, BoardEdits, Commands, Windows, board_batches, Down, Up, StarFault, link_of, fetched, BoardStar, Answers, deliver_fault, BoardSite, EditFault, Nothing}
 use Rattle.jup_star.specs.declared.calls.StarReply.TheVariants.{Taken}
 use Rattle.jup_lane.specs.Lanes.{Carries, IsMovedOn, ups, downs}
-use Rattle.jup_world.specs.declared.events.Reply.TheVariants.{Nothing}
 use Rattle.jup_world.specs.Events.{Happened, Up as MoveUp, Down as MoveDown}
 use Rattle.jup_world.specs.Worlds.{attached, at_site, outcome, with_edit, place_reply, one_handed, down_reply, with_fetched, only_fetched, AreAscending}
 use Rattle.jup_world.specs.Boards.{BoardWorld, BoardAttached, BoardLink, BoardEvent, BoardReply, IsBoardWorld}

@@ -1,8 +1,7 @@
 -- Worlds whose links carry bytes.
 use Rattle.std.specs.Prelude.{◌≡◌, ℕ, Bool, not, nat_eq, List, [], ◌∷◌, ◌++◌, map, filter, find, Option, Some, ◌⊎◌, ◌+◌, ◌-◌, cond, min, length, None, slice_get, take}
-use Rattle.jup_world.specs.Prelude.{BoardBatch, BoardEdits, Commands, Windows, board_batches, Down, link_of, opened_star, BoardStar, SiteState, EditFault}
+use Rattle.jup_world.specs.Prelude.{BoardBatch, BoardEdits, Commands, Windows, board_batches, Down, link_of, opened_star, BoardStar, SiteState, EditFault, Nothing, Moved}
 use Rattle.jup_lane.specs.Lanes.{Way, IsIdle, messages, Carries, ups, downs, bytes_of, sent, IsMovedOn, oldest_length}
-use Rattle.jup_world.specs.declared.events.Reply.TheVariants.{Nothing, Moved}
 use Rattle.jup_world.specs.Events.{Happened, Up as MoveUp, Down as MoveDown, Join, Leave, Edit as MakeEdit, Ping as SendPing, JoinStray, Stray, LeaveStray}
 use Rattle.jup_world.specs.Boards.{BoardWorld, BoardLink, BoardAttached, BoardEvent, BoardReply}
 use Rattle.jup_world.specs.Worlds.{Outcome, outcome, unchanged, only_fetched}

@@ -39,6 +39,7 @@ pub use Rattle.jup_lane.proofs.Trays.{downs_laws, ups_laws}
 pub use Rattle.jup_world.specs.declared.events.Event.{Event as Played}
 pub use Rattle.jup_world.specs.declared.events.Happened.{Happened as Kept}
 pub use Rattle.jup_world.specs.declared.events.Reply.{Reply}
+pub use Rattle.jup_world.specs.declared.events.Reply.TheVariants.{Asked, Detached, Heard, Joined, Left, Made, Moved, NoJoin, Nothing, Refused, Shown, Taken}
 pub use Rattle.jup_world.specs.declared.two.TwoEdit.{TwoEdit}
 pub use Rattle.jup_world.specs.declared.two.TwoEdit.TheVariants.{Delete, Insert}
 pub use Rattle.jup_world.specs.declared.two.TwoEvent.{TwoEvent}

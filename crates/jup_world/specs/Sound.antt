@@ -1,9 +1,8 @@
 -- What every world keeps, and what each event answers.
 use Rattle.std.specs.Prelude.{◌≡◌, List, [], ◌∷◌, ◌++◌, ℕ, ◌+◌, ◌≤◌, ◌<◌, ◌⊎◌, false, cond, length, take, drop, nat_eq, IsTrue, Option, Some, None, Bool, true, is_some, Result, Ok, Err}
-use Rattle.jup_world.specs.Prelude.{most_unacknowledged, most_beyond, last_site, most_attached, Client, Server, row_operation, row_entries, Msg, Message, Operation, Ack, generated, InStepAt, InStep, Operations, Entry, StarFault, LogFull, Full, SitesSpent, Up, UpOp, UpAck, UpPing, Down, DownOp, DownAck, DownPong, LinkState, StarOf, link_of, operation_at, left, up_fault, entry, ups, downs, edit_answer, EditFault, AllByRecursion}
+use Rattle.jup_world.specs.Prelude.{most_unacknowledged, most_beyond, last_site, most_attached, Client, Server, row_operation, row_entries, Msg, Message, Operation, Ack, generated, InStepAt, InStep, Operations, Entry, StarFault, LogFull, Full, SitesSpent, Up, UpOp, UpAck, UpPing, Down, DownOp, DownAck, DownPong, LinkState, StarOf, link_of, operation_at, left, up_fault, entry, ups, downs, edit_answer, EditFault, AllByRecursion, Detached, Joined, NoJoin, Left, Made, Refused, Taken, Heard, Shown, Asked, Nothing}
 use Rattle.jup_world.specs.Traces.{Turn, Own, Other, own_edits, turns, edits, others, through_others, order_of, made, joined_at, shown_count, view, is_stray}
 use Rattle.jup_world.specs.Worlds.{WorldOf, AttachedOf, attached, EventOf, outcome, ReplyOf, Outcome, unchanged}
-use Rattle.jup_world.specs.declared.events.Reply.TheVariants.{Detached, Joined, NoJoin, Left, Made, Refused, Taken, Heard, Shown, Asked, Nothing}
 use Rattle.jup_world.specs.Events.{Up as MoveUp, JoinStray, Stray, LeaveStray, Join, Leave, Edit as MakeEdit, Down as MoveDown, Ping as SendPing}
 
 -- What lists of edits mean, wherever they are, and what that says of the operations on their way over a link.

@@ -1,8 +1,7 @@
 -- What is read off a trace, and what it says of sites.
 use Rattle.std.specs.Prelude.{ℕ, zero, suc, cond, List, [], ◌∷◌, nat_eq, ◌+◌, Bool, true, false, ◌||◌, ◌++◌, length, take, drop, ◌≡◌, ◌⊎◌, Some, ◌<◌, ◌≤◌, Option, None, ◌&&◌, not, is_some}
-use Rattle.jup_world.specs.Prelude.{answer_after, most_unacknowledged, generated, Operations, Entry, Up, UpOp, UpAck, UpPing, Down, DownOp, DownAck, DownPong, entry, LinkState, link_of, EditFault, AllByRecursion}
+use Rattle.jup_world.specs.Prelude.{answer_after, most_unacknowledged, generated, Operations, Entry, Up, UpOp, UpAck, UpPing, Down, DownOp, DownAck, DownPong, entry, LinkState, link_of, EditFault, AllByRecursion, Joined, Made, Taken, Shown}
 use Rattle.jup_world.specs.declared.events.Reply.{Reply}
-use Rattle.jup_world.specs.declared.events.Reply.TheVariants.{Joined, Made, Taken, Shown}
 use Rattle.jup_world.specs.Events.{Event, Join, Edit as MakeEdit, Up as MoveUp, Down as MoveDown, JoinStray, Stray, Happened}
 use Rattle.jup_world.specs.Worlds.{EventOf, ReplyOf, HappenedOf, WorldOf, AttachedOf, attached, IsQuiet}
 

@@ -1,11 +1,10 @@
 -- Worlds whose links carry messages.
 use Rattle.std.specs.Prelude.{◌≡◌, ℕ, Bool, not, List, [], map, filter, find, nat_eq, Option, Some, if◌then◌else◌, ◌+◌, ◌∷◌, ◌++◌, take, drop, None, option_to_list, Result, Ok, Err, ◌<◌, ◌≤◌, zero, suc, true, false}
-use Rattle.jup_world.specs.Prelude.{next_message, Operations, only_site, Up, Down, UpOp, UpPing, DownOp, DownAck, DownPong, StarFault, SiteFault, LinkState, opened_star, link_of, StarOf, join_fault, joined, left, fetched, up_fault, taken, place_taken, IsShort, SiteState, opened_site, edit_answer, edited, deliver_fault, received, sent_back, EditFault}
+use Rattle.jup_world.specs.Prelude.{next_message, Operations, only_site, Up, Down, UpOp, UpPing, DownOp, DownAck, DownPong, StarFault, SiteFault, LinkState, opened_star, link_of, StarOf, join_fault, joined, left, fetched, up_fault, taken, place_taken, IsShort, SiteState, opened_site, edit_answer, edited, deliver_fault, received, sent_back, EditFault, Joined, NoJoin, Left, Made, Refused, Taken, Heard, Detached, Shown, Asked, Nothing}
 use Rattle.jup_window.specs.Entries.{EachWidget}
 use Rattle.jup_window.specs.Boards.{Windows, HasDistinctNames}
 use Rattle.jup_star.specs.Stars.{StarState}
 use Rattle.jup_world.specs.declared.events.Reply.{Reply}
-use Rattle.jup_world.specs.declared.events.Reply.TheVariants.{Joined, NoJoin, Left, Made, Refused, Taken, Heard, Detached, Shown, Asked, Nothing}
 use Rattle.jup_world.specs.Events.{Event, Happened, Join, Leave, Edit as MakeEdit, Up as MoveUp, Down as MoveDown, Ping as SendPing, JoinStray, Stray, LeaveStray}
 
 -- A world: a star, the sites that are attached to it, and the messages on their way between them.

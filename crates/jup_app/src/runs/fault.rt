@@ -3,21 +3,22 @@ ghost use Rattle.std.specs.Prelude.{◌≡◌};
 ghost use Rattle.jup_app.specs.RunFaults.{run_fault_number};
 
 use crate::runs::halt::Halt;
+use jup_faults::Fault;
 use jup_star::OpenFault;
 use thiserror::Error;
 
 /// Why a run is refused.
 #[derive(Clone, Copy, Debug, PartialEq, Eq, Error)]
 pub enum RunFault {
-    #[error("no memory")]
+    #[error("{}", Fault::NoMemory)]
     NoMemory,
-    #[error("the order is full")]
+    #[error("{}", Fault::LogFull)]
     LogFull,
-    #[error("the limit is not 1 to 16,777,216")]
+    #[error("{}", Fault::BadLimit)]
     BadLimit,
     #[error("not a board of a layout")]
     BadSite,
-    #[error("the gate stayed shut")]
+    #[error("{}", Fault::GateShut)]
     GateShut,
     #[error("not 1 to 64 sites")]
     BadSites,
@@ -31,11 +32,11 @@ impl RunFault {
         ensures { result ≡ run_fault_number self }
     {
         match self {
-            RunFault::NoMemory => 8,
-            RunFault::LogFull => 32,
-            RunFault::BadLimit => 50,
-            RunFault::BadSite => 51,
-            RunFault::GateShut => 60,
+            RunFault::NoMemory => Fault::NoMemory.number(),
+            RunFault::LogFull => Fault::LogFull.number(),
+            RunFault::BadLimit => Fault::BadLimit.number(),
+            RunFault::BadSite => Fault::BadSite.number(),
+            RunFault::GateShut => Fault::GateShut.number(),
             RunFault::BadSites => 61,
             RunFault::RunBroken => 62,
         }

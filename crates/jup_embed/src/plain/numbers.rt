@@ -8,18 +8,6 @@ use crate::client::Stage;
 use crate::refusals::EmbedFault;
 use jup_client::ClientEnd;
 
-/// No window has this index.
-pub const NO_WINDOW: u32 = 1;
-
-/// No widget has these ids or indices, or it is of another kind.
-pub const NO_WIDGET: u32 = 2;
-
-/// Nothing is at this place.
-pub const BAD_PLACE: u32 = 4;
-
-/// An allocation failed.
-pub const NO_MEMORY: u32 = 8;
-
 // A label that is none.
 pub(super) const BAD_LABEL: u32 = 14;
 
@@ -28,9 +16,6 @@ pub const NO_STAGE: u32 = 4;
 
 /// There is no client.
 pub const CLOSED: u32 = 90;
-
-/// The server has not sent its whole board yet.
-pub const NOT_OPEN: u32 = 91;
 
 // A command of no kind, or a character that is no Unicode scalar value.
 pub(super) const BAD_COMMAND: u32 = 92;
@@ -64,9 +49,7 @@ pub fn outcome_number(outcome: Result<(), EmbedFault>) -> u32
     match outcome {
         Ok(()) => 0,
         Err(EmbedFault::Over(end)) => end_number(end),
-        Err(EmbedFault::Edit(fault)) => fault.number(),
-        Err(EmbedFault::NotOpen) => NOT_OPEN,
-        Err(EmbedFault::NoMemory) => NO_MEMORY,
+        Err(fault) => fault.number(),
     }
 }
 

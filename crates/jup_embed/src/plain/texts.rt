@@ -2,8 +2,9 @@
 ghost use Rattle.std.specs.Prelude.{◌≡◌, length, min, take, drop};
 ghost use Rattle.jup_embed.specs.Sessions.{KeepsCopies};
 
-use super::numbers::{NOT_OPEN, UNTOLD, outcome_number};
+use super::numbers::{UNTOLD, outcome_number};
 use crate::client::Client;
+use crate::refusals::EmbedFault;
 use jup_client::told_text;
 use std::alloc::Global;
 
@@ -19,7 +20,7 @@ impl Client {
             Err(fault) => return Err(outcome_number(Err(fault))),
         };
         let Some(board) = self.board() else {
-            return Err(NOT_OPEN);
+            return Err(EmbedFault::NotOpen.number());
         };
         told_text(alloc, &told, board).map_err(|_| UNTOLD)
     }

@@ -2,8 +2,7 @@
 use Rattle.std.proofs.Common.{◌≡◌, ◌⊎◌, ℕ, ◌+◌, ◌≤◌, inl, inr, Bool, true, false, cond, List, [], ◌∷◌, ◌++◌, drop, take, length, nat_eq, nat_le, refl, ap, sym, ◌∙◌, Some, arith, append_assoc, eqb-true, leb-false, le_refl, length-append, take-append-drop, zero, suc, subst}
 use Rattle.std.proofs.lemmas.Bool.{eqb-false, leb-true}
 use Rattle.std.proofs.lemmas.List.{length-take, length-take-le}
-use Rattle.jup_world.specs.Prelude.{Operations, AreLawful, Windows, BoardEdits, board_batches, batch_laws, Entry, Up, UpOp, UpAck, UpPing, LinkState, StarOf, link_of, most_batches}
-use Rattle.jup_world.specs.declared.events.Reply.TheVariants.{Taken}
+use Rattle.jup_world.specs.Prelude.{Operations, AreLawful, Windows, BoardEdits, board_batches, batch_laws, Entry, Up, UpOp, UpAck, UpPing, LinkState, StarOf, link_of, most_batches, Taken}
 use Rattle.jup_world.specs.Events.{Up as MoveUp, Stray}
 use Rattle.jup_world.specs.Traces.{turn, turns, first_of_site, made, stray_entry, entry_taken, order_of, joined_at, shown_count, OrdersAgree}
 use Rattle.jup_world.specs.Worlds.{attached, WorldOf, AttachedOf, EventOf, ReplyOf, HappenedOf, opened_world, outcome, happens, run, only_fetched}

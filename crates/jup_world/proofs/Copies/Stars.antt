@@ -1,11 +1,10 @@
 -- A star as it once was, beside the sites.
 use Rattle.std.proofs.Common.{◌≡◌, ◌⊎◌, ℕ, ◌+◌, ◌≤◌, inl, inr, List, [], ◌∷◌, ◌++◌, drop, take, length, refl, ap, sym, ◌∙◌, subst, Ok, arith, append_assoc, append-nil, add-zero, drop_of_length-le, false, cond, nat_eq, Option, Some, None, option_map, eq-eqb, ne_eqb, ◌<◌, Bool, true, eqb-true, take_all, le_refl, take-append-drop}
 use Rattle.std.proofs.lemmas.List.{take-append-le}
-use Rattle.jup_world.specs.Prelude.{most_beyond, mirror, Msg, Comes, Comes-nil, Operations, AreLawful, Entry, Down, DownOp, DownAck, DownPong, Up, UpOp, UpAck, UpPing, downs, LinkState, link_fetched, StarOf, opened_link, link_acked, link_ponged, link_heard, link_sent, operation_at, link_of, at_link, without, joined, fetched, SiteOf, edit_answer, edited, received, found-end_other, found-end, EditFault}
+use Rattle.jup_world.specs.Prelude.{most_beyond, mirror, Msg, Comes, Comes-nil, Operations, AreLawful, Entry, Down, DownOp, DownAck, DownPong, Up, UpOp, UpAck, UpPing, downs, LinkState, link_fetched, StarOf, opened_link, link_acked, link_ponged, link_heard, link_sent, operation_at, link_of, at_link, without, joined, fetched, SiteOf, edit_answer, edited, received, found-end_other, found-end, EditFault, Joined}
 use Rattle.jup_world.specs.Traces.{turns, others, made, joined_at, was_shown, shown_count, order_of, entry_taken}
 use Rattle.jup_world.specs.Worlds.{AttachedOf, with_edit, one_handed, attached, at_site, without_site, WorldOf, EventOf, Outcome, new_site, one_taken, pinged, outcome, join_outcome, with_outcome, with_fetched, only_fetched, happens}
 use Rattle.jup_world.specs.Sound.{named_by, named_in, IsKnown, own_counts, HoldsKnown, Inherits, told_of, IsSoundStar, Standing, IsSound}
-use Rattle.jup_world.specs.declared.events.Reply.TheVariants.{Joined}
 use Rattle.jup_world.specs.Events.{Join}
 use Rattle.jup_world.proofs.Known.{known_more, Since, pair_order, told_all, knows_all, own_counts-above}
 use Rattle.jup_world.proofs.Sound.Traces.{length-turns, turns-append, named-turns, standing, joined-end, shown-end}

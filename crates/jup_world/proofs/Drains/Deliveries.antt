@@ -2,8 +2,7 @@
 use Rattle.std.proofs.Common.{◌≡◌, ℕ, Bool, true, false, List, [], ◌∷◌, ◌++◌, length, refl, subst, Some, leb-false, leb-true, nat_le, sym, ap, zero, suc, ◌+◌, ◌*◌, ◌<◌, ◌≤◌, cond, drop, nat_eq, Option, None, option_map, option_to_list, arith, eq-eqb, ◌∙◌, map, get_or, ◌↔◌, eqb-true, ne_eqb}
 use Rattle.std.proofs.lemmas.Bool.{eqb-false}
 use Rattle.std.proofs.lemmas.List.{nil_from_length}
-use Rattle.jup_world.specs.Prelude.{Msg, Link, owes, next_message, Operations, AreLawful, board_batches, BoardBatch, batch_laws, Up, UpOp, UpAck, UpPing, Down, DownOp, DownAck, DownPong, StarOf, owed_down, link_acked, link_ponged, link_fetched, link_sent, link_heard, operation_at, end_after, link_of, without, at_link, links_after, most_batches, BoardStar, sent_back, Attached}
-use Rattle.jup_world.specs.declared.events.Reply.TheVariants.{Nothing}
+use Rattle.jup_world.specs.Prelude.{Msg, Link, owes, next_message, Operations, AreLawful, board_batches, BoardBatch, batch_laws, Up, UpOp, UpAck, UpPing, Down, DownOp, DownAck, DownPong, StarOf, owed_down, link_acked, link_ponged, link_fetched, link_sent, link_heard, operation_at, end_after, link_of, without, at_link, links_after, most_batches, BoardStar, sent_back, Attached, Nothing}
 use Rattle.jup_world.specs.Events.{Up as MoveUp, Down as MoveDown}
 use Rattle.jup_world.specs.Worlds.{WorldOf, AttachedOf, EventOf, attached, IsQuiet, Outcome, outcome, at_site, without_site, one_taken, one_handed, happens, is_number, AreAscending}
 use Rattle.jup_world.specs.Sound.{IsSound, UpReplies, DownReplies, RepliesTo}

@@ -2,9 +2,8 @@
 use Rattle.std.proofs.Common.{◌≡◌, refl, sym, ◌∙◌, ap, subst, ℕ, ◌+◌, ◌-◌, ◌<◌, ◌≤◌, Bool, true, false, not, ◌||◌, List, [], ◌∷◌, ◌++◌, length, map, nat_eq, slice_get, take, Option, Some, None, option_map, is_some, Result, Ok, Err, OnOk, OnErr, IfErr, arith, ◌↔◌, IsTrue, IsFalse, eqb-true, le_refl, cond, suc, nat_lt}
 use Rattle.std.proofs.lemmas.Bool.{eqb-false, or_parts, lt-ltb}
 use Rattle.std.proofs.lemmas.List.{map-append}
-use Rattle.jup_world.specs.Prelude.{NoMemory, EditFault, board_batches, batch_laws, BoardBatch, BoardEdits, Up, Down, StarFault, SiteFault, link_of, up_fault, place_taken, most_batches, deliver_fault, Reply, Attached, Way, WayUp, WayDown}
+use Rattle.jup_world.specs.Prelude.{NoMemory, EditFault, board_batches, batch_laws, BoardBatch, BoardEdits, Up, Down, StarFault, SiteFault, link_of, up_fault, place_taken, most_batches, deliver_fault, Reply, Attached, Way, WayUp, WayDown, Nothing}
 use Rattle.jup_world.specs.declared.world.draining.Halted.{Halted}
-use Rattle.jup_world.specs.declared.events.Reply.TheVariants.{Nothing}
 use Rattle.jup_world.specs.Worlds.{attached, IsQuiet, AreAscending, Outcome, outcome, up_outcome, first_up, down_outcome, first_down, at_attached, at_linked, at_number, place_reply}
 use Rattle.jup_world.specs.Insides.{lane_of, bare_attached}
 use Rattle.jup_world.specs.Lanes.{LaneEvent, Plain, LaneSite, LaneWorld, messages_at, messages_of, lane_site, IsStill, Steps, AllSteps, IsSparedBy, IsHalted, IsDelivery, AreDeliveries, IsDelivered, IsDeliveredInPart}

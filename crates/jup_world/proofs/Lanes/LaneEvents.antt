@@ -1,9 +1,8 @@
 -- What the program does at an attached site, for the bytes of its link.
 use Rattle.std.proofs.Common.{◌≡◌, ◌⊎◌, refl, sym, ◌∙◌, ap, subst, inl, inr, ℕ, zero, suc, ◌+◌, ◌-◌, min, Bool, true, false, List, [], ◌∷◌, ◌++◌, length, map, get_or, nat_eq, Option, Some, None, option_map, Result, Ok, Err, IfOk, OnOk, OnErr, arith, eq-eqb, eqb-true}
 use Rattle.std.proofs.Math.ListN.{set}
-use Rattle.jup_world.specs.Prelude.{NoMemory, EditFault, board_batches, BoardBatch, BoardEdits, Commands, Down, DownOp, DownAck, DownPong, link_of, fetched, BoardStar, edit_answer, BoardSite, ups_laws, Reply, Attached}
+use Rattle.jup_world.specs.Prelude.{NoMemory, EditFault, board_batches, BoardBatch, BoardEdits, Commands, Down, DownOp, DownAck, DownPong, link_of, fetched, BoardStar, edit_answer, BoardSite, ups_laws, Reply, Attached, Nothing}
 use Rattle.jup_lane.specs.Lanes.{moved as moved_by, messages, Carries, IsMovedOn, oldest_length, ups, downs}
-use Rattle.jup_world.specs.declared.events.Reply.TheVariants.{Nothing}
 use Rattle.jup_world.specs.Events.{Join, Edit as MakeEdit, Up as MoveUp, Down as MoveDown}
 use Rattle.jup_world.specs.Worlds.{attached, at_site, outcome, unchanged as unchanged_world, one_taken, with_fetched, IsSiteAt}
 use Rattle.jup_world.specs.Insides.{lane_of, bare_attached}

@@ -2,12 +2,11 @@
 use Rattle.std.proofs.Common.{◌≡◌, ℕ, ◌+◌, ◌<◌, ◌≤◌, ◌⊎◌, List, [], ◌∷◌, ◌++◌, drop, take, length, refl, ap, sym, ◌∙◌, subst, Option, Some, None, option_map, arith, append-nil, append_assoc, take-append-drop, inl, inr, false, nat_lt, Result, Ok, Err, lt-ltb, Bool, true, nat_le, leb-true, leb-false}
 use Rattle.std.proofs.Math.Seq.{drop-append_seam}
 use Rattle.std.proofs.lemmas.Bool.{false_from_ne_true, ltb-true}
-use Rattle.jup_world.specs.Prelude.{most_beyond, last_site, most_attached, Msg, InStepAt, Operations, AreLawful, Entry, Up, UpOp, UpAck, UpPing, DownOp, DownAck, DownPong, LogFull, Full, SitesSpent, Down, StarFault, ups, downs, LinkState, link_acked, link_ponged, link_fetched, link_of, with_links, up_fault, StarOf, join_fault, left, deliver_fault, edit_answer, test, EditFault}
+use Rattle.jup_world.specs.Prelude.{most_beyond, last_site, most_attached, Msg, InStepAt, Operations, AreLawful, Entry, Up, UpOp, UpAck, UpPing, DownOp, DownAck, DownPong, LogFull, Full, SitesSpent, Down, StarFault, ups, downs, LinkState, link_acked, link_ponged, link_fetched, link_of, with_links, up_fault, StarOf, join_fault, left, deliver_fault, edit_answer, test, EditFault, Heard, Asked, Left, Taken, Detached, Nothing}
 use Rattle.jup_link.specs.Laws.Steps.{quiet_equal, client_counts, server_counts}
 use Rattle.jup_world.specs.Traces.{Turn, turns, edits, own_edits, made, order_of, joined_at, shown_count, view, AreLinked, Promises}
 use Rattle.jup_world.specs.Worlds.{attached, at_site, WorldOf, AttachedOf, EventOf, opened_world, Outcome, one_taken, one_handed, pinged, outcome, with_outcome, happens, run, with_fetched, only_fetched, ReplyOf, at_number, at_linked, at_attached, join_outcome, edit_outcome, up_outcome, first_up, down_outcome, first_down, unchanged, stray_joins, stray_sends, stray_leaves, at_stray}
 use Rattle.jup_world.specs.Sound.{edits_sent, told_of, Standing, StandsAt, IsSound, JoinReplies, edit_reply, UpReplies, DownReplies, SiteReplies, RepliesTo, IsAnswered, StrayReplies, StrayRepliesTo, SitesHold, OnlyFull}
-use Rattle.jup_world.specs.declared.events.Reply.TheVariants.{Heard, Asked, Left, Taken, Detached, Nothing}
 use Rattle.jup_world.specs.Events.{Down as MoveDown, Ping as SendPing, Join, Leave, Edit as MakeEdit, Up as MoveUp, JoinStray, Stray, LeaveStray}
 use Rattle.jup_world.proofs.Pairs.Grids.{own_edits-append, pair-asked}
 use Rattle.jup_world.proofs.Pairs.Places.{stand-pair, place-accepted, place-acked, place-asked, place-told, place-answered, place-fetched}

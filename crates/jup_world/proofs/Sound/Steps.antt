@@ -1,11 +1,10 @@
 -- A sound world is sound after each event.
 use Rattle.std.proofs.Common.{◌≡◌, ℕ, ◌+◌, ◌≤◌, List, [], ◌∷◌, ◌++◌, length, ap, sym, ◌∙◌, subst, Option, Some, option_map, append-nil, add-zero, arith, ◌<◌, drop, take, refl, take_all, drop_of_length-le, length-append, le_refl, Bool, true, false, cond, nat_eq, None, eq-eqb, eqb-true, ne_eqb, Ok, take-append-drop}
-use Rattle.jup_world.specs.Prelude.{most_beyond, Msg, sent, Operations, AreLawful, Down, DownOp, UpOp, LinkState, link_of, without, at_link, with_links, left, StarOf, opened_link, joined, link_fetched, fetched, operation_at, link_sent, link_heard, up_fault, entry, taken, opened_site, edit_answer, deliver_fault, downs, found, found-end, found-end_other, EditFault, AllByRecursion}
+use Rattle.jup_world.specs.Prelude.{most_beyond, Msg, sent, Operations, AreLawful, Down, DownOp, UpOp, LinkState, link_of, without, at_link, with_links, left, StarOf, opened_link, joined, link_fetched, fetched, operation_at, link_sent, link_heard, up_fault, entry, taken, opened_site, edit_answer, deliver_fault, downs, found, found-end, found-end_other, EditFault, AllByRecursion, Joined, Made, Shown, Taken}
 use Rattle.jup_link.specs.Laws.Steps.{small_le, InStepAt-opened}
 use Rattle.jup_world.specs.Traces.{turns, made, order_of, joined_at, shown_count, edits, own_edits, edit_made, entry_taken, join_seen, was_shown, Own, Other, turn}
 use Rattle.jup_world.specs.Worlds.{attached, at_site, without_site, WorldOf, AttachedOf, EventOf, ReplyOf, new_site, with_edit, one_handed, HappenedOf, one_taken}
 use Rattle.jup_world.specs.Sound.{IsSoundStar, StandsAt, IsSound, named_by, own_counts, ChangesKnown, HoldsKnown, Paired, told_of, Standing, SoundLinkAt}
-use Rattle.jup_world.specs.declared.events.Reply.TheVariants.{Joined, Made, Shown, Taken}
 use Rattle.jup_world.specs.Events.{Happened, Join, JoinStray, Edit as MakeEdit, Down as MoveDown, Up as MoveUp, Stray}
 use Rattle.jup_world.proofs.Sound.Traces.{made-end, order-end, joined-end, shown-end, edits-turns, length-turns, named-turns, standing, order_fits, turns-append, order_told}
 use Rattle.jup_world.proofs.EventSteps.{IsSilent, at_one, at_removal, by_number, map_kept, Brings, Rises, Strays, brought_made, brought_join, brought_shown, at_all}

@@ -1,13 +1,12 @@
 -- The counts of links and of traces.
 use Rattle.std.proofs.Common.{◌≡◌, ℕ, ◌+◌, Bool, true, false, List, [], ◌∷◌, ◌++◌, drop, refl, ap, sym, ◌∙◌, None, arith, length-append, append_assoc, leb-true, leb-false, if◌then◌else◌, ◌<◌, length, subst, Option, Some, option_map, take, take-append-drop, eq-eqb, cond, not, map, filter, nat_eq, append-nil, eqb-true}
 use Rattle.std.proofs.lemmas.Bool.{and_parts}
-use Rattle.jup_world.specs.Prelude.{answer_after, Ghosts, Msg, Link, IsCount, generated, accepts_count, after_ack, answered, owes, next_message, Comes, InStepAt, Operations, AreLawful, Down, DownOp, DownAck, DownPong, SiteBadOp as BadOp, UpOp, UpAck, UpPing, test, LinkState, link_acked, link_ponged, link_fetched, link_sent, link_heard, end_after, without, opened_link, operation_at, link_of, at_link, joined, running_test, heard_tests, deliver_tests, fits_shown, deliver_fault, ups, downs, found-end, found-end_other, EditFault, AllByRecursion}
+use Rattle.jup_world.specs.Prelude.{answer_after, Ghosts, Msg, Link, IsCount, generated, accepts_count, after_ack, answered, owes, next_message, Comes, InStepAt, Operations, AreLawful, Down, DownOp, DownAck, DownPong, SiteBadOp as BadOp, UpOp, UpAck, UpPing, test, LinkState, link_acked, link_ponged, link_fetched, link_sent, link_heard, end_after, without, opened_link, operation_at, link_of, at_link, joined, running_test, heard_tests, deliver_tests, fits_shown, deliver_fault, ups, downs, found-end, found-end_other, EditFault, AllByRecursion, Joined, Made}
 use Rattle.jup_link.specs.Laws.Steps.{generated-after_count, generated-after_receive, client_generated}
 use Rattle.jup_star.proofs.FaultTests.{all_hold}
 use Rattle.jup_world.specs.Worlds.{AttachedOf, with_edit, one_taken, one_handed, pinged, WorldOf, EventOf, attached, at_site, without_site, Outcome, new_site, with_fetched, only_fetched, outcome, happens, run, ReplyOf, is_number, unchanged}
 use Rattle.jup_world.specs.Traces.{made, told_count, Counts, turns, joined_at, shown_count, CountsAt, AllCount, BacklogIsShort, edit_made, gives, numbers_given, CountsItsEdits, IsTallied, Tallies}
 use Rattle.jup_world.specs.Sound.{Standing, IsSound}
-use Rattle.jup_world.specs.declared.events.Reply.TheVariants.{Joined, Made}
 use Rattle.jup_world.specs.Events.{Join, Edit as MakeEdit, Down as MoveDown, Ping as SendPing, JoinStray, Happened}
 use Rattle.jup_world.proofs.EventSteps.{map_kept, by_number, at_one, at_all, at_removal, StepOf, Still, Enters, EntersStray, Goes, Makes, Asks, Takes, Hands, handed_number, step_of, WhyStill, Finds, NotJoined, NoStray, NotMade, WhyGone, Leaves, StrayLeaves, IsDropped, still_silent, gone_silent, brought_made}
 use Rattle.jup_world.proofs.Sound.Runs.{sound-happens}

@@ -1,9 +1,8 @@
 -- What an event adds to the trace.
 use Rattle.std.proofs.Common.{◌≡◌, ℕ, zero, suc, ◌+◌, ◌≤◌, Bool, true, false, ◌||◌, cond, List, [], ◌∷◌, ◌++◌, length, drop, nat_eq, refl, ap, sym, ◌∙◌, arith, append_assoc, append-nil, subst, Option, Some, None, eqb-true, take-append-drop}
 use Rattle.std.proofs.Math.Seq.{drop-append_seam}
-use Rattle.jup_world.specs.Prelude.{most_beyond, Msg, Operations, AreLawful, Entry, Up, UpOp, ups, LinkState, link_of, entry}
+use Rattle.jup_world.specs.Prelude.{most_beyond, Msg, Operations, AreLawful, Entry, Up, UpOp, ups, LinkState, link_of, entry, Taken}
 use Rattle.jup_world.specs.Traces.{Turn, Own, Other, turn, turns, edits, through_others, others, over_trace, edit_made, made, entry_taken, order_of, join_seen, joined_at, was_shown, shown_count, stray_seen, is_stray, own_edits, first_of_site}
-use Rattle.jup_world.specs.declared.events.Reply.TheVariants.{Taken}
 use Rattle.jup_world.specs.Events.{Happened, Up as MoveUp}
 use Rattle.jup_world.specs.Worlds.{HappenedOf, attached, WorldOf, AttachedOf}
 use Rattle.jup_world.specs.Sound.{edits_sent, named_by, told_of, Standing, StandsAt, IsSound}

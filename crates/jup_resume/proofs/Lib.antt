@@ -1,0 +1,5 @@
+mod Digits
+mod Lines
+mod Readings
+mod Texts
+mod WayLaws

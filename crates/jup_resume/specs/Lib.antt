@@ -1,0 +1,7 @@
+pub mod FirstLines
+pub mod Keepers
+pub mod Notes
+pub mod Takers
+pub mod Texts
+pub mod Tokens
+pub mod Ways

@@ -1,0 +1,19 @@
+//! A link that outlives the connections that carry it: what each end keeps, what it says as a connection begins, and why nothing is lost.
+#![tactic(auto)]
+
+mod bytes;
+mod first_line;
+mod keeper;
+mod line_bytes;
+mod note;
+mod taker;
+mod token;
+mod ways;
+
+pub use first_line::{FirstLine, is_of_carrier};
+pub use keeper::{KeepFault, Keeper};
+pub use line_bytes::{LONGEST_LINE, LineBytes};
+pub use note::Note;
+pub use taker::{Came, Taker, Took};
+pub use token::Token;
+pub use ways::{a_line_comes_once, nothing_is_lost};

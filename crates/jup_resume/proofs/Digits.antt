@@ -1,6 +1,6 @@
 -- The digits of a token.
-use Rattle.std.proofs.Common.{◌≡◌, ℕ, ◌+◌, ◌*◌, ◌/◌, ◌%◌, ◌<◌, ◌≤◌, ◌↔◌, List, [], ◌∷◌, ◌++◌, length, get_or, take, suc, refl, sym, ap, ◌∙◌, arith, inl, inr, add-one, bit_or, bit_xor}
-use Rattle.std.specs.List.{All, AllByRecursion}
+use Rattle.std.proofs.Common.{◌≡◌, ℕ, ◌+◌, ◌/◌, ◌%◌, ◌<◌, ◌≤◌, ◌↔◌, List, [], ◌∷◌, ◌++◌, length, get_or, take, suc, sym, ap, ◌∙◌, arith, inl, inr, add-one, bit_or, bit_xor}
+use Rattle.std.specs.List.{AllByRecursion}
 use Rattle.std.specs.Int.Bits.{or_self, xor_self, xor_add_and}
 use Rattle.std.proofs.lemmas.Nat.{le_or_l, le_or_r, and_le_l, and_le_r}
 use Rattle.std.proofs.lemmas.List.{take-take, get_or-take}

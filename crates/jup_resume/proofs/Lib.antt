@@ -1,5 +1,5 @@
 mod Digits
-mod Lines
+mod KeptLines
 mod Readings
 mod Texts
 mod WayLaws

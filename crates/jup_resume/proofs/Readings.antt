@@ -1,10 +1,10 @@
 -- Notes: what is read is what is spelled.
-use Rattle.std.proofs.Common.{◌≡◌, ◌≢◌, ℕ, ◌<◌, ◌^◌, List, [], ◌∷◌, ◌++◌, Bool, true, false, Option, Some, None, length, get_or, refl, sym, ap, ◌∙◌, subst, arith, append-nil, inl, inr, codes, decimal}
+use Rattle.std.proofs.Common.{◌≡◌, ◌≢◌, ℕ, ◌<◌, ◌^◌, List, [], ◌∷◌, ◌++◌, Bool, true, false, Option, Some, None, length, get_or, sym, ap, ◌∙◌, arith, append-nil, inl, inr, codes, decimal}
 use Rattle.std.specs.List.{AllByRecursion}
 use Rattle.std.proofs.lemmas.List.Elements.{recursion_from_All}
 use Rattle.std.specs.Char.{digit_value}
 use Rattle.std.specs.Str.Parse.{AllDigits}
-use Rattle.jup_number.specs.Numbers.{IsU32, IsReadingOf}
+use Rattle.jup_number.specs.Numbers.{IsReadingOf}
 use Rattle.jup_number.proofs.Numbers.{decimal_digits}
 use Rattle.jup_resume.specs.Texts.{Lacks, IsCut}
 use Rattle.jup_resume.specs.Tokens.{IsTokenDigit, IsTokenText}

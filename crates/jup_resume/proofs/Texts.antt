@@ -1,8 +1,9 @@
 -- Bytes, and where they are cut.
 use Rattle.std.proofs.Common.{◌≡◌, ◌≢◌, ℕ, List, [], ◌∷◌, ◌++◌, Bool, true, false, not, refl, sym, ap, ◌∙◌, subst}
+use Rattle.std.specs.List.{AllByRecursion}
 use Rattle.std.specs.Str.{bytes_eq}
 use Rattle.std.proofs.lemmas.Slice.Eq.{bytes_eq-Decides}
-use Rattle.jup_resume.specs.Texts.{Lacks, IsCut}
+use Rattle.jup_resume.specs.Texts.{Lacks}
 
 -- Two texts that lack a separator and are followed by it are the same, and so is what follows.
 pub cut_same : (separator : ℕ) (p l w m : List ℕ) → Lacks separator p → Lacks separator l → p ++ separator ∷ w ≡ l ++ separator ∷ m → (p ≡ l) × (w ≡ m)
@@ -30,3 +31,18 @@ tells_difference a b differ is told same =
     let equal : bytes_eq a b ≡ true = (bytes_eq-Decides a b).1 same in
     let clash : true ≡ false = sym told ∙ is ∙ ap not equal in
     absurd cc
+
+-- Facts of each element.
+
+module _ {A : Type 0} (P : A → Type 0) where
+  pub all_both : (xs ys : List A) → AllByRecursion P xs → AllByRecursion P ys → AllByRecursion P (xs ++ ys)
+  all_both [] ys one two = two
+  all_both (x ∷ xs) ys one two = (one.0, all_both xs ys one.1 two)
+
+  pub all_left : (xs ys : List A) → AllByRecursion P (xs ++ ys) → AllByRecursion P xs
+  all_left [] ys all = tt
+  all_left (x ∷ xs) ys all = (all.0, all_left xs ys all.1)
+
+  pub all_right : (xs ys : List A) → AllByRecursion P (xs ++ ys) → AllByRecursion P ys
+  all_right [] ys all = all
+  all_right (x ∷ xs) ys all = all_right xs ys all.1

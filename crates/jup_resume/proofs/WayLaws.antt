@@ -4,46 +4,17 @@ use Rattle.std.specs.List.{AllByRecursion}
 use Rattle.std.proofs.lemmas.List.{take_at, drop_at, drop-drop, drop-append-le, take-take, length-take-le, take-append-drop}
 use Rattle.std.proofs.lemmas.List.Concat.{flat_map-append}
 use Rattle.std.proofs.lemmas.Bool.Decides.{nat_tests}
+use Rattle.jup_resume.proofs.Texts.{cut_same, lacks_it, all_both, all_left, all_right}
 use Rattle.jup_resume.specs.Keepers.{Keeping, unsent, reach}
 use Rattle.jup_resume.specs.Texts.{Text, HasNoFeed, spelled}
 use Rattle.jup_resume.specs.Ways.{with_line, lines_in, with_read, Way, new_way, Event, Puts, Stores, Writes, Notes, Comes, Saves, Tells, Hears, Begins, Breaks, SenderFails, TakerFails, with_byte, come, with_line_of, write_if, with_count, hear_if, with_place, renewed, kept_after, happens, run, IsAllowed, AreAllowed, TakesNext, TakesPlace, Keeps}
 
--- Lists.
-
-module _ {A : Type 0} (P : A → Type 0) where
-  all_both : (xs ys : List A) → AllByRecursion P xs → AllByRecursion P ys → AllByRecursion P (xs ++ ys)
-  all_both [] ys one two = two
-  all_both (x ∷ xs) ys one two = (one.0, all_both xs ys one.1 two)
-
-  all_left : (xs ys : List A) → AllByRecursion P (xs ++ ys) → AllByRecursion P xs
-  all_left [] ys all = tt
-  all_left (x ∷ xs) ys all = (all.0, all_left xs ys all.1)
-
-  all_right : (xs ys : List A) → AllByRecursion P (xs ++ ys) → AllByRecursion P ys
-  all_right [] ys all = all
-  all_right (x ∷ xs) ys all = all_right xs ys all.1
-
--- Two texts without a line feed that are followed by one are the same, and so is what follows.
-cut_line : (p l w m : List ℕ) → HasNoFeed p → HasNoFeed l → p ++ 10 ∷ w ≡ l ++ 10 ∷ m → (p ≡ l) × (w ≡ m)
-cut_line [] [] w m np nl e = (refl, (let same : w ≡ m = cc in same))
-cut_line [] (c ∷ l) w m np nl e = absurd (nl.0 (let is : c ≡ 10 = cc in is))
-cut_line (b ∷ p) [] w m np nl e = absurd (np.0 (let is : b ≡ 10 = cc in is))
-cut_line (b ∷ p) (c ∷ l) w m np nl e =
-    let head : b ≡ c = cc in
-    let tail : p ++ 10 ∷ w ≡ l ++ 10 ∷ m = cc in
-    let rest = cut_line p l w m np.1 nl.1 tail in
-    (ap (λ x. x ∷ p) head ∙ ap (λ q. c ∷ q) rest.0, rest.1)
-
 -- a text without a line feed has no line in it
-feed_in : (l m : List ℕ) → HasNoFeed (l ++ 10 ∷ m) → ⊥
-feed_in [] m free = free.0 refl
-feed_in (c ∷ l) m free = feed_in l m free.1
-
 no_whole : (part : Text) (lines : List Text) → HasNoFeed part → part ≡ flat_map spelled lines → lines ≡ []
 no_whole part [] free e = refl
 no_whole part (l ∷ ls) free e =
     let is : part ≡ l ++ 10 ∷ flat_map spelled ls = e ∙ append_assoc l (10 ∷ []) (flat_map spelled ls) in
-    absurd (feed_in l (flat_map spelled ls) (subst HasNoFeed is free))
+    absurd (lacks_it 10 l (flat_map spelled ls) (subst HasNoFeed is free))
 
 cons_nil : (p w : List ℕ) (b : ℕ) → p ++ b ∷ w ≡ [] → ⊥
 cons_nil p w b e = let long : length (p ++ b ∷ w) ≡ 0 = ap length e in omega (arith, long, length-append p (b ∷ w))
@@ -91,7 +62,7 @@ abbrev IsClean : (Text → Bool) → Text → Type 0
 IsClean note text = HasNoFeed text × (note text ≡ false)
 
 -- the bytes on their way are whole lines, of the first of which a part has come. Those of the link are the next that were put
-record OnWay (note : Text → Bool) (put handed : List Text) (part : Text) (wire : List ℕ) (stored : ℕ) (k : Keeping Text) : Type 0 where
+record OnWay (note : Text → Bool) (put handed : List Text) (part : Text) (wire : List ℕ) (stored : ℕ) (k : Keeping) : Type 0 where
   lines : List Text
   rest : List Text
   feeds : AllByRecursion HasNoFeed lines
@@ -339,7 +310,7 @@ module _ (note : Text → Bool) where
       let both : AllByRecursion HasNoFeed (l ∷ ls) = subst (AllByRecursion HasNoFeed) lines o.feeds in
       let whole : w.part ++ 10 ∷ bs ≡ l ++ 10 ∷ flat_map spelled ls =
       ap (λ x. w.part ++ x ∷ bs) (sym feed) ∙ ap (λ x. w.part ++ x) (sym wire) ∙ o.bytes ∙ ap (flat_map spelled) lines ∙ append_assoc l (10 ∷ []) (flat_map spelled ls) in
-      let cut = cut_line w.part l bs (flat_map spelled ls) o.part_feeds both.0 whole in
+      let cut = cut_same 10 w.part l bs (flat_map spelled ls) o.part_feeds both.0 whole in
       line_came w bs h l ls lines cut.0 cut.1 (note w.part) refl
   byte_came w b bs h wire (l ∷ ls) lines false is =
       let o = h.on_way in
@@ -465,7 +436,7 @@ module _ (note : Text → Bool) where
       )
 
   -- a new carrier
-  renews : (w : Way) (put handed rest : List Text) (keeper : Keeping Text) → AllByRecursion (IsClean note) put
+  renews : (w : Way) (put handed rest : List Text) (keeper : Keeping) → AllByRecursion (IsClean note) put
       → keeper.kept ≡ drop keeper.dropped put → w.stored ≤ length put → keeper.dropped ≤ w.safe → w.safe ≤ length handed
       → put ≡ handed ++ rest → length handed ≤ w.stored
       → Holds note (renewed handed keeper (record w { put = put }))

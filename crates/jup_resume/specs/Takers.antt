@@ -3,7 +3,6 @@ use Rattle.std.specs.Prelude.{◌≡◌, ℕ, ◌<◌, List, [], ◌++◌, lengt
 use Rattle.jup_resume.specs.Texts.{HasNoFeed, IsCut}
 use Rattle.jup_resume.specs.Notes.{note_text, IsNote}
 use Rattle.jup_resume.specs.FirstLines.{IsNoNote}
-use Rattle.jup_resume.specs.declared.note.Note.{Note}
 use Rattle.jup_resume.specs.declared.taker.Came.{Came}
 use Rattle.jup_resume.specs.declared.taker.Came.TheVariants.{Part, Note as IsNoteLine, Line, LongLine}
 

@@ -1,6 +1,6 @@
 -- One way of a link: lines are put at one end and handed on at the other. One carrier after another brings their bytes. Each
 -- may break at any byte, and each end may be killed at any moment and go on from its disk.
-use Rattle.std.specs.Prelude.{◌≡◌, ◌≢◌, ℕ, ◌-◌, ◌≤◌, Bool, true, false, ◌&&◌, nat_eq, nat_lt, List, [], ◌∷◌, ◌++◌, length, take, drop, Option, None, Some}
+use Rattle.std.specs.Prelude.{◌≡◌, ℕ, ◌-◌, ◌≤◌, Bool, true, false, ◌&&◌, nat_eq, nat_lt, List, [], ◌∷◌, ◌++◌, length, take, drop, Option, None, Some}
 use Rattle.std.specs.List.{AllByRecursion}
 use Rattle.jup_resume.specs.Texts.{Text, HasNoFeed, spelled}
 use Rattle.jup_resume.specs.Keepers.{Keeping, nothing_put, after_put, unsent, after_write, after_cut, after_begin, after_got, IsPlace, IsGot, reach}
@@ -24,7 +24,7 @@ with_read false text handed = handed ++ text ∷ []
 -- Both ends and what is between them.
 pub record Way : Type 0 where
   pub put : List Text  -- all lines that were put at the sending end
-  pub keeper : Keeping Text  -- what it keeps of them
+  pub keeper : Keeping  -- what it keeps of them
   pub stored : ℕ  -- how many of them are on its disk
   pub wire : List ℕ  -- bytes that were written to the present carrier and have not come
   pub part : Text  -- what came of a line of which the rest has not
@@ -86,11 +86,11 @@ with_place w None = w
 with_place w (Some n) = record w { keeper = after_begin n w.keeper; place = None }
 
 -- a new carrier, which begins with the count of the lines that were handed on
-abbrev pub renewed : List Text → Keeping Text → Way → Way
+abbrev pub renewed : List Text → Keeping → Way → Way
 renewed handed keeper w = record w { keeper = after_cut keeper; wire = []; part = []; handed = handed; counts = []; place = Some (length handed) }
 
 -- what a sending end has after a kill: the lines on its disk, from number n on
-abbrev pub kept_after : ℕ → List Text → Keeping Text
+abbrev pub kept_after : ℕ → List Text → Keeping
 kept_after n put = record { dropped = n; kept = drop n put; sent = 0; is_open = false }
 
 abbrev pub happens : (Text → Bool) → Way → Event → Way
@@ -138,11 +138,11 @@ abbrev pub BeginWith : List Text → List Text → Type 0
 BeginWith all first = (rest : List Text) × (all ≡ first ++ rest)
 
 -- each count that comes to the sending end is one that it can take
-abbrev pub TakesNext : Keeping Text → List ℕ → Type 0
+abbrev pub TakesNext : Keeping → List ℕ → Type 0
 TakesNext k [] = Unit {0}
 TakesNext k (n ∷ ns) = IsGot k n
 
-abbrev pub TakesPlace : Keeping Text → Option ℕ → Type 0
+abbrev pub TakesPlace : Keeping → Option ℕ → Type 0
 TakesPlace k None = Unit {0}
 TakesPlace k (Some n) = IsPlace k n
 

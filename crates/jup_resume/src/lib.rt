@@ -1,6 +1,7 @@
 //! A link that outlives the connections that carry it: what each end keeps, what it says as a connection begins, and why nothing is lost.
 #![tactic(auto)]
 
+mod byte_queue;
 mod bytes;
 mod first_line;
 mod keeper;

@@ -1,5 +1,6 @@
 mod Digits
 mod KeptLines
+mod PieceLaws
 mod Readings
 mod Texts
 mod WayLaws

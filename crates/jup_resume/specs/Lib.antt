@@ -1,3 +1,4 @@
+pub mod Confirmations
 pub mod FirstLines
 pub mod Keepers
 pub mod Notes

@@ -1,6 +1,6 @@
 -- One way of a link: lines are put at one end and handed on at the other. One carrier after another brings their bytes. Each
 -- may break at any byte, and each end may be killed at any moment and go on from its disk.
-use Rattle.std.specs.Prelude.{◌≡◌, ℕ, ◌-◌, ◌≤◌, Bool, true, false, ◌&&◌, nat_eq, nat_lt, List, [], ◌∷◌, ◌++◌, length, take, drop, Option, None, Some}
+use Rattle.std.specs.Prelude.{◌≡◌, ℕ, ◌-◌, ◌≤◌, Bool, true, false, ◌&&◌, nat_eq, nat_lt, List, [], ◌∷◌, ◌++◌, length, take, drop, replicate, Option, None, Some}
 use Rattle.std.specs.List.{AllByRecursion}
 use Rattle.jup_resume.specs.Texts.{Text, HasNoFeed, spelled}
 use Rattle.jup_resume.specs.Keepers.{Keeping, nothing_put, after_put, unsent, after_write, after_cut, after_begin, after_got, IsPlace, IsGot, reach}
@@ -112,6 +112,10 @@ happens note w TakerFails = renewed (take w.safe w.handed) w.keeper w
 abbrev pub run : (Text → Bool) → List Event → Way → Way
 run note [] w = w
 run note (e ∷ es) w = run note es (happens note w e)
+
+-- so many bytes come
+abbrev pub comes : ℕ → List Event
+comes count = replicate count Comes
 
 -- a line that is put is one of the link, and a note is one
 abbrev pub IsAllowed : (Text → Bool) → Event → Type 0

@@ -3,6 +3,7 @@
 
 mod byte_queue;
 mod bytes;
+mod confirming;
 mod first_line;
 mod keeper;
 mod line_bytes;
@@ -11,10 +12,11 @@ mod taker;
 mod token;
 mod ways;
 
+pub use confirming::{Confirming, LONGEST_QUIET, MOST_UNCONFIRMED};
 pub use first_line::{FirstLine, is_of_carrier};
 pub use keeper::{KeepFault, Keeper};
 pub use line_bytes::{LONGEST_LINE, LineBytes};
 pub use note::Note;
 pub use taker::{Came, Taker, Took};
 pub use token::Token;
-pub use ways::{a_line_comes_once, nothing_is_lost};
+pub use ways::{a_line_comes_once, a_piece_comes_as_its_bytes, nothing_is_lost};

@@ -25,7 +25,7 @@ waiting_text waiting = decimal waiting.0 ++ kept_text waiting.1
 abbrev pub IsWaiting : ℕ × Bool → Type 0
 IsWaiting waiting = IsU32 waiting.0
 
--- what comes behind that word and a space
+-- what comes after that word and a space
 abbrev pub fields_of : Note → List ℕ
 fields_of Hello = codes "4"
 fields_of (Link token seconds kept) = token ++ 32 ∷ waiting_text (seconds, kept)
@@ -47,6 +47,6 @@ IsNote (Resumed taken) = IsU32 taken
 IsNote (Ended taken) = IsU32 taken
 IsNote (Got taken) = IsU32 taken
 
--- the note that was read has this word, and these fields behind it; with none read, no note has them
+-- the note that was read has this word, and these fields after it; with none read, no note has them
 abbrev pub IsReadingBehind : List ℕ → List ℕ → Option Note → Type 0
 IsReadingBehind word fields read = IsReadingOf fields_of (λ note. IsNote note × (word_of note ≡ word)) fields read

@@ -27,6 +27,7 @@ pub record EndsLine (old piece new rest text : List ℕ) : Type 0 where
   pub behind : List ℕ
   pub cut : IsCut 10 piece behind rest
   pub whole : text ≡ old ++ behind
+  pub open_ended : HasNoFeed text
   pub short : length text < 256
   pub part : new ≡ []
 

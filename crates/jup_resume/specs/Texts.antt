@@ -18,7 +18,7 @@ HasNoFeed text = Lacks 10 text
 abbrev pub spelled : Text → List ℕ
 spelled text = text ++ 10 ∷ []
 
--- bytes as they are cut at the first separator in them: what is before it, and what is behind it
+-- bytes as they are cut at the first separator in them: what is before it, and what is after it
 pub record IsCut (separator : ℕ) (bytes before behind : List ℕ) : Type 0 where
   pub first : Lacks separator before
   pub whole : bytes ≡ before ++ separator ∷ behind

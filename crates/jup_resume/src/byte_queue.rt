@@ -35,7 +35,7 @@ impl ByteQueue {
         }
     }
 
-    /// The bytes behind the first so many.
+    /// The bytes after the first so many.
     pub(crate) fn behind(&self, count: usize) -> &[u8]
         requires { count ≤ length self.now }
         ensures bytes { result.now ≡ drop count self.now }

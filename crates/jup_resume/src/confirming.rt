@@ -63,7 +63,7 @@ impl Confirming {
         self.is_owed = true;
     }
 
-    /// The other end said `bye` or `error N`, which is confirmed at once.
+    /// The other end said `bye` or `error N`. That is confirmed immediately.
     pub fn end(&mut self)
         ensures { self.new ≡ record self.old { is_owed = true } }
     {
@@ -93,8 +93,8 @@ impl Confirming {
         self.is_owed = false;
     }
 
-    /// The count of the `got` that is to be written now: it is owed, 64 lines were taken since the last, or nothing was
-    /// handed to the connection for 60 seconds.
+    /// The count of the `got` that is to be written now, if one is. It is owed, or 64 lines were taken since the last, or nothing
+    /// was handed to the connection for 60 seconds.
     pub fn due(&self) -> Option<u32>
         ensures { SomeIff result (IsDue self.now) self.now.taken }
     {
@@ -108,7 +108,7 @@ impl Confirming {
         }
     }
 
-    /// The count of the `got` that is to be written before the last line: it is owed, or the count has grown.
+    /// The count of the `got` that is to be written before the last line, if one is. It is owed, or the count has grown.
     pub fn due_at_end(&self) -> Option<u32>
         ensures { SomeIff result (IsDueAtEnd self.now) self.now.taken }
     {

@@ -18,5 +18,5 @@ pub use keeper::{KeepFault, Keeper};
 pub use line_bytes::{LONGEST_LINE, LineBytes};
 pub use note::Note;
 pub use taker::{Came, Taker, Took};
-pub use token::Token;
+pub use token::{TOKEN_BYTES, Token};
 pub use ways::{a_line_comes_once, a_piece_comes_as_its_bytes, nothing_is_lost};

@@ -16,7 +16,7 @@ use std::fmt;
 pub enum Note {
     /// `hello 4`, a client's first line: it opens a link that can be resumed.
     Hello,
-    /// `link TOKEN SECONDS` or `link TOKEN SECONDS kept`, a server's first line behind that: the link waits so many seconds
+    /// `link TOKEN SECONDS` or `link TOKEN SECONDS kept`, a server's first line after that: the link waits so many seconds
     /// for a carrier once it has none. `kept`: what is confirmed outlives the server.
     Link {
         token: Token,
@@ -28,11 +28,11 @@ pub enum Note {
         token: Token,
         taken: u32,
     },
-    /// `resumed TAKEN`, a server's first line behind that: it has taken so many lines.
+    /// `resumed TAKEN`, a server's first line after that: it has taken so many lines.
     Resumed {
         taken: u32,
     },
-    /// `ended TAKEN`, a server's only line behind `resume` if the link is over.
+    /// `ended TAKEN`, a server's only line after `resume` if the link is over.
     Ended {
         taken: u32,
     },

@@ -21,7 +21,7 @@ pub enum Came {
     LongLine(LineBytes),
 }
 
-/// What a piece brought, and the bytes of it that come behind that.
+/// What a piece brought, and the bytes of it that come after that.
 #[derive(Drop)]
 pub struct Took<'a> {
     pub came: Came,
@@ -85,7 +85,7 @@ impl Taker {
         }
     }
 
-    /// The part with these bytes behind it. What comes next begins a line.
+    /// The part with these bytes after it. What comes next begins a line.
     fn end_line(&mut self, bytes: &[u8]) -> LineBytes
         requires { length self.old.part + length bytes.now ≤ 256 }
         ensures line { result ≡ self.old.part ++ bytes.now }

@@ -7,12 +7,12 @@ use std::fmt;
 use std::marker::Model;
 
 /// How many bytes a token is made of.
-const BYTES: usize = 16;
+pub const TOKEN_BYTES: usize = 16;
 
 /// How many digits a token is spelled with.
 const DIGITS: usize = 32;
 
-/// What names a link that outlives its connections. Who has it can carry the link.
+/// What names a link that outlives its connections. It lets its holder carry the link.
 ///
 /// Contracts see it as its spelling, 32 digits from `0` to `9` and `a` to `f`.
 #[derive(Clone, Copy)]
@@ -35,7 +35,7 @@ impl Model for Token {
 
 impl Token {
     /// The token that is made of these bytes, which nobody else may be able to guess.
-    pub fn new(bytes: &[u8; BYTES]) -> Token
+    pub fn new(bytes: &[u8; TOKEN_BYTES]) -> Token
         ensures { result ≡ encode_lower bytes.now }
     {
         let mut digits = [0; DIGITS];
@@ -62,7 +62,7 @@ impl Token {
         &self.digits
     }
 
-    /// Whether both are the same. It looks at each digit, so that the time it takes tells nothing of where they differ.
+    /// Whether both are the same. It looks at all digits, so that the time it takes does not say where they differ.
     pub fn matches(&self, other: &Token) -> bool
         ensures { IsTrue result ↔ (self.now ≡ other.now) }
     {

@@ -13,4 +13,4 @@ returns c =
     let below : k.sent < k.lines = omega (arith, within) in
     let is_open : k.is_open ≡ true = search rules in
     let at = next_of k.bytes k.lines k.sent k.written c.self.invariant.0 below in
-    rw (← c.self.view_is) (is_open, (at.text, at.rest, at.left, c.first_line.ensures.line at.text (flat_map spelled at.rest) at.free (c.behind.ensures.bytes ∙ at.bytes_left)))
+    rw (← c.self.view_is) (record { is_open = is_open; text = at.text; rest = at.rest; left = at.left; whole = c.first_line.ensures.line at.text (flat_map spelled at.rest) at.free (c.behind.ensures.bytes ∙ at.bytes_left) })

@@ -151,6 +151,18 @@ are_begun bytes lines sent written count size are within says =
       size = says (texts_of bytes) (texts_free bytes) (sym are.whole) (omega (arith, long, within));
     }
 
+-- the bytes of the first so many of any lines that they spell
+abbrev pub IsSizeOf : List ℕ → ℕ → ℕ → ℕ → Type 0
+IsSizeOf bytes most count size = (texts : List Text) → AllByRecursion HasNoFeed texts → bytes ≡ flat_map spelled texts → most ≤ length texts → size ≡ size_of (take count texts)
+
+-- so many of the kept lines have that size
+pub size_of_first : (bytes : List ℕ) (lines sent written : ℕ) → AreLines bytes lines sent written → (count size : ℕ) → count ≤ sent
+    → (whole : List ℕ) → whole ≡ bytes → IsSizeOf whole count count size → size ≡ size_of (take count (texts_of bytes))
+size_of_first bytes lines sent written are count size below whole same says =
+    let long = are.count in
+    let within = are.within in
+    says (texts_of bytes) (texts_free bytes) (same ∙ sym are.whole) (omega (arith, long, within, below))
+
 -- the first lines are dropped
 pub texts_dropped : (bytes : List ℕ) (lines sent written : ℕ) → AreLines bytes lines sent written → (more size : ℕ) → size ≡ size_of (take more (texts_of bytes))
     → texts_of (drop size bytes) ≡ drop more (texts_of bytes)
@@ -194,10 +206,6 @@ are_dropped bytes lines sent written are more size below is =
     }
 
 -- One line more of the first so many.
-
--- the bytes of the first so many of any lines that they spell
-abbrev pub IsSizeOf : List ℕ → ℕ → ℕ → ℕ → Type 0
-IsSizeOf bytes most count size = (texts : List Text) → AllByRecursion HasNoFeed texts → bytes ≡ flat_map spelled texts → most ≤ length texts → size ≡ size_of (take count texts)
 
 pub one_size_more : (bytes : List ℕ) (most count size : ℕ) → IsSizeOf bytes most count size → count < most
     → (line : List ℕ) → ((text rest : List ℕ) → HasNoFeed text → drop size bytes ≡ spelled text ++ rest → line ≡ spelled text)

@@ -1,5 +1,6 @@
 //! Bytes that are written whole.
-ghost use Rattle.std.specs.Prelude.{◌≡◌, ◌++◌, ℕ, List, OnOk, OnErr, IsTrue};
+ghost use Rattle.std.specs.IoError.{error_kind};
+ghost use Rattle.std.specs.Prelude.{◌≡◌, ◌≢◌, ◌++◌, ℕ, List, IfErr, OnOk, OnErr, IsTrue};
 ghost use Rattle.std.specs.Io.KnownBytes.{Appends};
 
 use crate::Peer;
@@ -12,6 +13,8 @@ pub fn write_whole<O: Peer + Drop>(to: &mut O, bytes: &[u8]) -> io::Result<()>
     ensures ok { OnOk result (Appends (O.contents to.old) (O.contents to.new) bytes.now) }
     ensures err { OnErr result ((sent unsent : List ℕ) × (bytes.now ≡ sent ++ unsent) × Appends (O.contents to.old) (O.contents to.new) sent) }
     ensures failed { OnErr result (IsTrue (O.has_failed to.new)) }
+    ensures well { OnOk result (IsTrue (O.is_well to.old) → IsTrue (O.is_well to.new)) }
+    ensures kind { IfErr result (λ error. error_kind error ≢ ErrorKind.Interrupted) }
 {
     let mut rest = bytes;
     for _ in 0..u64::MAX {

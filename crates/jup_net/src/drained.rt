@@ -1,8 +1,8 @@
 //! The reader of what another thread reads.
 
-use crate::{Given, Intake, LinkEnd};
+use crate::Intake;
 use std::io;
-use std::io::{ErrorKind, Read};
+use std::io::Read;
 use std::sync::Wait;
 
 /// Reads what an intake has, and waits if it has nothing. It gives what came before the end of the link, or before a failed read,
@@ -24,10 +24,6 @@ impl<'a, R: Wait> Read for Drained<'a, R> {
         if buf.is_empty() {
             return Ok(0);
         }
-        match self.intake.take(self.rt, buf) {
-            Given::Bytes(len) => Ok(len),
-            Given::End(LinkEnd::Over) => Ok(0),
-            Given::End(LinkEnd::Failed) => Err(io::Error::from(ErrorKind::Other)),
-        }
+        self.intake.take(self.rt, buf).into_read()
     }
 }

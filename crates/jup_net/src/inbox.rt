@@ -1,11 +1,12 @@
 //! What a link has brought, and its reader has not taken.
 ghost use Rattle.std.specs.Prelude.{◌≡◌, ◌++◌, [], None, Some, IfOk, ◌-◌, ◌≤◌, length, IsTrue, IsFalse, ◌↔◌};
-ghost use Rattle.jup_net.specs.Inboxes.{most_unread, AreGiven};
+ghost use Rattle.jup_net.specs.Inboxes.{most_unread, AreGiven, IsReadOf};
 
 use jup_xform::NoMemory;
 use std::alloc::Global;
 use std::collections::VecDeque;
-use std::io::{BufRead, Write};
+use std::io;
+use std::io::{BufRead, ErrorKind, Write};
 use std::marker::Model;
 
 /// Bytes that may wait: 32 MiB.
@@ -27,6 +28,19 @@ pub enum Given {
     Bytes(usize),
     /// None ever more.
     End(LinkEnd),
+}
+
+impl Given {
+    /// A read of this: a link that is over ends the bytes, and one that failed fails the read.
+    pub fn into_read(self) -> io::Result<usize>
+        ensures { IsReadOf self result }
+    {
+        match self {
+            Given::Bytes(len) => Ok(len),
+            Given::End(LinkEnd::Over) => Ok(0),
+            Given::End(LinkEnd::Failed) => Err(io::Error::from(ErrorKind::Other)),
+        }
+    }
 }
 
 /// What a link has brought, and its reader has not taken: at most 32 MiB, and how the link ended, if it has. Contracts see both.

@@ -6,12 +6,14 @@
 
 mod drained;
 mod draining;
+mod handover;
 mod hangup;
 mod inbox;
 mod intake;
 
 pub use drained::Drained;
-pub use draining::drain;
-pub use hangup::{hang_up, next_wait};
+pub use draining::{Came, drain};
+pub use handover::{Change, Handover, Unput};
+pub use hangup::{LastBytes, hang_up, next_wait};
 pub use inbox::{Given, Inbox, LinkEnd};
 pub use intake::Intake;

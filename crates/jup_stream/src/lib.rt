@@ -14,6 +14,6 @@ mod source;
 
 pub use faults::{Stop, StreamFault};
 pub use jup_faults::cause_of;
-pub use output::{Output, write_bytes};
+pub use output::{Output, pass_bytes, write_bytes};
 pub use saying::{Said, put_said};
-pub use source::{Source, count_read};
+pub use source::{Source, count_read, length_read};

@@ -1,5 +1,6 @@
 //! Lines and bytes on their way to a writer.
 ghost use Rattle.std.specs.Prelude.{◌≡◌, ◌≤◌, [], ◌∷◌, vec_capacity, IsTrue, IsFalse, IsOk, IsErr, IfOk, IfErr};
+ghost use Rattle.std.specs.Io.KnownBytes.{Keeps};
 ghost use Rattle.jup_wire.specs.Lines.{line_bytes};
 ghost use Rattle.jup_wire.specs.Streams.{HasRoom};
 ghost use Rattle.jup_stream.specs.Streams.{put_as, Puts, PutsLines, IsFlushed, WritesFront, fresh_put};
@@ -112,8 +113,18 @@ impl<O: Peer + Drop> LineSink for Output<O> {
 pub fn write_bytes<O: Peer + Drop>(to: &mut O, bytes: &[u8]) -> bool
     ensures front { WritesFront (O.contents to.old) (O.contents to.new) bytes.now result }
     ensures failed { IsFalse result → IsTrue (O.has_failed to.new) }
+    ensures well { IsTrue result → IsTrue (O.is_well to.old) → IsTrue (O.is_well to.new) }
 {
     write_whole(to, bytes).is_ok()
+}
+
+/// Has a peer pass on what it took. Whether it did.
+pub fn pass_bytes<O: Peer + Drop>(to: &mut O) -> bool
+    ensures bytes { Keeps (O.contents to.old) (O.contents to.new) }
+    ensures failed { IsFalse result → IsTrue (O.has_failed to.new) }
+    ensures well { IsTrue result → IsTrue (O.is_well to.old) → IsTrue (O.is_well to.new) }
+{
+    to.pass_on().is_ok()
 }
 
 // Writes what is gathered, unless the peer has failed.
@@ -123,6 +134,7 @@ fn write_out<O: Peer + Drop>(to: &mut O, text: &mut Vec<u8>, has_failed: &mut bo
     ensures puts { Puts (put_as (O.contents to.old) text.old.items has_failed.old) [] (put_as (O.contents to.new) text.new.items has_failed.new) }
     ensures empty { IsFalse has_failed.new → text.new.items ≡ [] }
     ensures failed { IsTrue has_failed.new → IsTrue (O.has_failed to.new) }
+    ensures well { IsFalse has_failed.new → IsTrue (O.is_well to.old) → IsTrue (O.is_well to.new) }
     ensures room { vec_capacity text.old ≤ vec_capacity text.new }
 {
     if *has_failed {
@@ -140,15 +152,14 @@ fn send_out<O: Peer + Drop>(to: &mut O, text: &mut Vec<u8>, has_failed: &mut boo
     ensures puts { Puts (put_as (O.contents to.old) text.old.items has_failed.old) [] (put_as (O.contents to.new) text.new.items has_failed.new) }
     ensures empty { IsFalse has_failed.new → text.new.items ≡ [] }
     ensures failed { IsTrue has_failed.new → IsTrue (O.has_failed to.new) }
+    ensures well { IsFalse has_failed.new → IsTrue (O.is_well to.old) → IsTrue (O.is_well to.new) }
     ensures room { vec_capacity text.old ≤ vec_capacity text.new }
 {
     write_out(to, text, has_failed);
     if *has_failed {
         return;
     }
-    if to.pass_on().is_err() {
-        *has_failed = true;
-    }
+    *has_failed = !pass_bytes(to);
 }
 
 // Writes what is gathered if a line may not fit after it.
@@ -159,6 +170,7 @@ fn make_room<O: Peer + Drop>(to: &mut O, text: &mut Vec<u8>, has_failed: &mut bo
     ensures puts { Puts (put_as (O.contents to.old) text.old.items has_failed.old) [] (put_as (O.contents to.new) text.new.items has_failed.new) }
     ensures room { IsFalse has_failed.new → HasRoom text.new LONGEST }
     ensures failed { IsTrue has_failed.new → IsTrue (O.has_failed to.new) }
+    ensures well { IsFalse has_failed.new → IsTrue (O.is_well to.old) → IsTrue (O.is_well to.new) }
     ensures capacity { vec_capacity text.old ≤ vec_capacity text.new }
 {
     if text.len() + MOST > text.capacity() {
@@ -172,6 +184,7 @@ fn put_out<O: Peer + Drop>(to: &mut O, text: &mut Vec<u8>, has_failed: &mut bool
     requires failed { IsTrue has_failed.old → IsTrue (O.has_failed to.old) }
     ensures puts { Puts (put_as (O.contents to.old) text.old.items has_failed.old) (line_bytes line.now) (put_as (O.contents to.new) text.new.items has_failed.new) }
     ensures failed { IsTrue has_failed.new → IsTrue (O.has_failed to.new) }
+    ensures well { IsFalse has_failed.new → IsTrue (O.is_well to.old) → IsTrue (O.is_well to.new) }
     ensures capacity { vec_capacity text.old ≤ vec_capacity text.new }
 {
     make_room(to, text, has_failed);

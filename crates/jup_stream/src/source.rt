@@ -1,5 +1,6 @@
 //! The lines of a reader, read piece by piece.
-ghost use Rattle.std.specs.Prelude.{◌≡◌, ◌≢◌, ◌≤◌, ◌<◌, ◌+◌, ℕ, List, [], ◌∷◌, ◌++◌, length, take, drop, IfOk, IfErr, OnOk, OnErr, IfSome, IfNone, IsSome, IsNone, IsTrue, IsFalse};
+ghost use Rattle.std.specs.IoError.{error_kind};
+ghost use Rattle.std.specs.Prelude.{◌≡◌, ◌≢◌, ◌≤◌, ◌<◌, ◌+◌, ℕ, List, [], ◌∷◌, ◌++◌, length, take, drop, Ok, Err, Some, None, IfOk, IfErr, OnOk, OnErr, IfSome, IfNone, IsSome, IsNone, IsTrue, IsFalse};
 ghost use Rattle.std.specs.Io.KnownBytes.{Consumes, Keeps, IsAtEnd};
 ghost use Rattle.jup_wire.specs.declared.line.Line.{Line};
 ghost use Rattle.jup_wire.specs.Streams.{HasRead, ending_at};
@@ -11,7 +12,8 @@ use jup_window::Within;
 use jup_wire::{Fed, Line, Reader, WireFault};
 use jup_xform::NoMemory;
 use std::alloc::Global;
-use std::io::Read;
+use std::io;
+use std::io::{ErrorKind, Read};
 use std::marker::{Model, PhantomData};
 
 /// Bytes that one read asks for. They are on the reading thread's stack, of which an idle session keeps what it ever touched.
@@ -198,6 +200,21 @@ fn count(reads: &mut u32) -> bool
     }
 }
 
+/// How many bytes a read gave, by what it came to: none if it was interrupted, and `None` at the end of the bytes.
+pub fn length_read(read: io::Result<usize>) -> Result<Option<usize>, StreamFault>
+    ensures end { read ≡ Ok 0 → result ≡ Ok None }
+    ensures some { IfOk read (λ len. 1 ≤ len → result ≡ Ok (Some len)) }
+    ensures again { IfErr read (λ error. error_kind error ≡ ErrorKind.Interrupted → result ≡ Ok (Some 0)) }
+    ensures failed { IfErr read (λ error. error_kind error ≢ ErrorKind.Interrupted → result ≡ Err StreamFault.ReadFailed) }
+{
+    match read {
+        Ok(0) => Ok(None),
+        Ok(len) => Ok(Some(len)),
+        Err(error) if is_interrupted(&error) => Ok(Some(0)),
+        Err(_) => Err(StreamFault::ReadFailed),
+    }
+}
+
 // One read, and how many bytes it gave. One that was interrupted gave none. `None` at the end of the bytes.
 fn read_once<I: Read + Drop>(from: &mut I, piece: &mut [u8]) -> Result<Option<usize>, StreamFault>
     requires { 1 ≤ length piece.old }
@@ -208,17 +225,7 @@ fn read_once<I: Read + Drop>(from: &mut I, piece: &mut [u8]) -> Result<Option<us
     ensures none_lost { OnErr result (Keeps (I.remaining from.old) (I.remaining from.new)) }
     ensures same { length piece.new ≡ length piece.old }
 {
-    match from.read(piece) {
-        Ok(0) => Ok(None),
-        Ok(len) => Ok(Some(len)),
-        Err(error) => {
-            if is_interrupted(&error) {
-                Ok(Some(0))
-            } else {
-                Err(StreamFault::ReadFailed)
-            }
-        }
-    }
+    length_read(from.read(piece))
 }
 
 // Takes the front of a piece.

@@ -1,6 +1,6 @@
 //! The writing side of a link's socket.
 
-use jup_io::{Peer, has_waited, is_interrupted};
+use jup_io::{Patience, Peer, Untaken};
 use std::io;
 use std::io::{ErrorKind, Write};
 use std::net::{Shutdown, TcpStream};
@@ -13,9 +13,7 @@ use std::time::Duration;
 #[derive(Drop)]
 pub struct Outgoing<'a> {
     stream: &'a TcpStream,
-    patience: u32,
-    /// Seconds of waiting since the peer last took a byte.
-    waited: u32,
+    patience: Patience,
 }
 
 impl<'a> Outgoing<'a> {
@@ -29,33 +27,18 @@ impl<'a> Outgoing<'a> {
         let _ = stream.set_write_timeout(Some(Duration::from_secs(1)));
         Outgoing {
             stream,
-            patience,
-            waited: 0,
+            patience: Patience::new(patience),
         }
-    }
-
-    // A second more has passed in which the peer took nothing.
-    fn wait_on(&mut self) -> io::Error {
-        self.waited = self.waited.saturating_add(1);
-        if self.waited < self.patience {
-            return io::Error::from(ErrorKind::Interrupted);
-        }
-        self.give_up();
-        io::Error::from(ErrorKind::TimedOut)
     }
 }
 
 impl<'a> Write for Outgoing<'a> {
     fn write(&mut self, buf: &[u8]) -> io::Result<usize> {
         let mut to = self.stream;
-        match to.write(buf) {
-            Ok(len) => {
-                self.waited = 0;
-                Ok(len)
-            }
-            Err(error) if has_waited(&error) => Err(self.wait_on()),
-            Err(error) if is_interrupted(&error) => Err(error),
-            Err(error) => {
+        match self.patience.after(to.write(buf)) {
+            Ok(len) => Ok(len),
+            Err(Untaken::Again) => Err(io::Error::from(ErrorKind::Interrupted)),
+            Err(Untaken::Lost(error)) => {
                 self.give_up();
                 Err(error)
             }

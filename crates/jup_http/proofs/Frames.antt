@@ -8,27 +8,22 @@ use Rattle.std.proofs.lemmas.List.Elements.{All-get_or}
 use Rattle.std.specs.Io.KnownBytes.{Keeps, Appends, Consumes, IsAtEnd, ReadConsumes}
 use Rattle.std.proofs.KnownBytes.{Appends-nil, Appends-trans}
 use Rattle.websocket.specs.FrameHeader.{IsCutHeader, header_len, IsHeader, IsBytes, encode_header, decode_header, first_byte_of, flag_bits, length_bits, extended_length, mask_bytes}
-use Rattle.websocket.specs.declared.protocol.frame.header.FrameHeader.{FrameHeader}
 use Rattle.websocket.proofs.FrameHeaderLemmas.{length-encode_header, decode_header-encode_header}
 use lib.Bits.{xor_assoc, xor_self, xor_zero_r}
 use Rattle.websocket.specs.Mask.{mask_from, apply_mask_if}
-use Rattle.websocket.specs.declared.protocol.frame.coding.OpCode.{OpCode}
-use Rattle.websocket.specs.declared.protocol.frame.coding.Control.{Control}
 use Rattle.websocket.proofs.LengthLemmas.{ByteAtEach, ByteAtEach-take}
 use Rattle.websocket.proofs.CutHeaderLemmas.{decode_header_cut}
 use Rattle.bytes.proofs.Ranges.{drop-take_less}
 use Rattle.websocket.specs.declared.protocol.frame.coding.OpCode.TheVariants as Op
-use Rattle.jup_http.specs.Prelude.{Place, Head, Over, Within, CharPart, Breach, ReservedBit, LongControl, Kind, Message, DataFrame, ControlFrame, Frame}
+use Rattle.jup_http.specs.Prelude.{Place, Head, Over, Within, CharPart, Breach, ReservedBit, LongControl, Kind, Message, DataFrame, ControlFrame, Frame, FrameHeader, Control, OpCode, Ending, Held}
 use Rattle.jup_http.specs.declared.stream.Event.{Event}
 use Rattle.jup_http.specs.declared.stream.Event.TheVariants.{Ping, Closed, Broken}
-use Rattle.jup_http.specs.declared.held.Held.{Held}
 use Rattle.jup_http.specs.declared.reader.MessageReader.{MessageReader}
 use Rattle.jup_http.specs.declared.frame.Kind.TheVariants as Kinds
 use Rattle.jup_http.specs.declared.frame.Frame.TheVariants as Frames
 use Rattle.jup_http.specs.Streams.{Told, brought, Standing, Step, step, tells, data_in, data_of, brings, FitsPlace, broken, closed, between, over, begins, ends_control, Sent, wire, IsSent, kind_with, Brings, IsTaken, AreTaken, ping}
 use Rattle.jup_http.specs.Events.{told_by_option, standing}
 use Rattle.jup_http.specs.Frames.{longest_control, after_byte, after_bytes, text_of, begun, extended, data_of as data_frame, masked_of, frame_of, kind_after, message_after, held_bytes, pong_frame}
-use Rattle.jup_http.specs.declared.ending.Ending.{Ending}
 use Rattle.jup_http.specs.declared.ending.Ending.TheVariants as Closes
 use Rattle.jup_http.specs.Readers.{untaken, payloads_left, due, told_left, Takes, IsDealtWith, pong_to, pongs_to, Hears, HearsInPart, ending_after, EndsBy}
 

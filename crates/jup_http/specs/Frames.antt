@@ -3,20 +3,15 @@ use Rattle.std.specs.Prelude.{ℕ, cond, ◌==◌, List, [], ◌∷◌, Option, 
 use Rattle.std.specs.Int.{is_in_range, w16, from_be_bytes, to_be_bytes}
 use Rattle.websocket.specs.CloseCode.{close_code_of, is_allowed}
 use Rattle.websocket.specs.Text.{is_utf8}
-use Rattle.websocket.specs.declared.protocol.frame.coding.OpCode.{OpCode}
 use Rattle.websocket.specs.declared.protocol.frame.coding.Data.{Data}
-use Rattle.websocket.specs.declared.protocol.frame.coding.Control.{Control}
-use Rattle.websocket.specs.declared.protocol.frame.header.FrameHeader.{FrameHeader}
 use Rattle.websocket.specs.Connection.{whole_header}
 use Rattle.websocket.specs.Frame.{encode_frame}
 use Rattle.websocket.specs.declared.protocol.frame.coding.OpCode.TheVariants as Op
 use Rattle.websocket.specs.declared.protocol.frame.coding.Data.TheVariants as DataCode
 use Rattle.websocket.specs.declared.protocol.frame.coding.Control.TheVariants as ControlCode
-use Rattle.jup_http.specs.Prelude.{CharPart, Breach, Header, ReservedBit, LongControl, BadText, Kind, Message, Frame}
+use Rattle.jup_http.specs.Prelude.{CharPart, Breach, Header, ReservedBit, LongControl, BadText, Kind, Message, Frame, FrameHeader, Control, OpCode, Ending, Held}
 use Rattle.jup_http.specs.declared.texts.CharPart.TheVariants.{Whole, LacksOne, LacksTwo, LacksThree, AfterE0, AfterED, AfterF0, AfterF4}
-use Rattle.jup_http.specs.declared.held.Held.{Held}
 use Rattle.jup_http.specs.declared.breach.Breach.TheVariants.{Unmasked, FragmentedControl, NothingToContinue, MessageOpen, LongMessage, BadClose}
-use Rattle.jup_http.specs.declared.ending.Ending.{Ending}
 use Rattle.jup_http.specs.declared.ending.Ending.TheVariants.{Closed, Broken}
 use Rattle.jup_http.specs.declared.frame.Kind.TheVariants as Kinds
 use Rattle.jup_http.specs.declared.frame.Frame.TheVariants as Frames

@@ -2,11 +2,9 @@
 use Rattle.std.specs.Prelude.{◌≡◌, ℕ, ◌+◌, ◌%◌, ◌<◌, ◌≤◌, cond, ◌==◌, List, [], ◌∷◌, ◌++◌, length, slice_index, bit_xor, Option, None, Some, Result, Ok, Err, map}
 use Rattle.std.specs.List.{flat_map}
 use Rattle.websocket.specs.FrameHeader.{Decoded, decode_header, IsHeader, IsBytes, encode_header}
-use Rattle.websocket.specs.declared.protocol.frame.coding.Control.{Control}
 use Rattle.websocket.specs.declared.protocol.frame.coding.Control.TheVariants.{Close, Ping, Pong}
-use Rattle.websocket.specs.declared.protocol.frame.header.FrameHeader.{FrameHeader}
 use Rattle.websocket.specs.Frame.{encode_frame}
-use Rattle.jup_http.specs.Prelude.{Breach, Header, BadText, Kind, Message, DataFrame, ControlFrame, Frame, Place, Head, Within, Over}
+use Rattle.jup_http.specs.Prelude.{Breach, Header, BadText, Kind, Message, DataFrame, ControlFrame, Frame, Place, Head, Within, Over, FrameHeader, Control}
 use Rattle.jup_http.specs.declared.frame.Frame.TheVariants as Frames
 use Rattle.jup_http.specs.declared.frame.Kind.TheVariants as Kinds
 use Rattle.jup_http.specs.Frames.{frame_of, kind_after, message_after, closed_of, after_bytes, text_of}

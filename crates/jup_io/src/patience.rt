@@ -43,8 +43,8 @@ impl Patience {
         Patience { most, waited: 0 }
     }
 
-    /// Learns what a write came to that is cut off after one wait, and answers what that means: how many bytes were taken, that the write is to
-    /// be made again, or that the peer is to be given up.
+    /// Learns what a write came to that is cut off after one wait, and answers how many bytes were taken. If it took none, it is to be made again, or the
+    /// peer is to be given up.
     pub fn after(&mut self, written: io::Result<usize>) -> Result<usize, Untaken>
         ensures most { self.new.most ≡ self.old.most }
         ensures taken { IfOk written (λ taken. (result ≡ Ok taken) × (self.new.waited ≡ 0)) }

@@ -6,7 +6,7 @@ use crate::{Given, Inbox, LinkEnd};
 use std::marker::Model;
 use std::sync::Condvar;
 
-/// A change of what is under the lock. It can't be let go, so whoever makes one tells those who wait for it.
+/// A change of what is under the lock. It can't be dropped, so code that makes one also tells those who wait for it.
 pub struct Change {
     _private: (),
 }

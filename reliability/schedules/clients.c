@@ -380,7 +380,7 @@ static void act_on_link(Client *client, const Command *it) {
 // A command of the operator, or about what fails.
 static void act_beside(Client *client, const Command *it) {
   if (it->verb == MEND) {
-    allocation_odds = thread_odds = accept_odds = send_odds = 0;
+    allocation_odds = thread_odds = accept_odds = send_odds = clock_odds = 0;
   } else if (it->verb == DISK) {
     is_disk_full = strcmp(it->text, "full") == 0;
   } else if (it->text) {

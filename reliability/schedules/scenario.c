@@ -127,7 +127,7 @@ static void set_fault(const char *line) {
   static const struct {
     const char *word;
     unsigned *odds;
-  } faults[] = {{"allocations", &allocation_odds}, {"threads", &thread_odds}, {"accepts", &accept_odds}, {"sends", &send_odds}};
+  } faults[] = {{"allocations", &allocation_odds}, {"threads", &thread_odds}, {"accepts", &accept_odds}, {"sends", &send_odds}, {"clocks", &clock_odds}};
   char what[LONGEST];
   unsigned odds;
   if (sscanf(line, "fails %s %u", what, &odds) != 2) return;

@@ -152,7 +152,7 @@ bool can_read_typed(void);
 // ---- memory.c, switches.c ----
 
 // Once in how many times these fail, or 0.
-extern unsigned allocation_odds, thread_odds, accept_odds, send_odds, spurious_odds;
+extern unsigned allocation_odds, thread_odds, accept_odds, send_odds, clock_odds, spurious_odds;
 void begin_memory(void);
 void find_code(uintptr_t *from, uintptr_t *to);
 

@@ -17,7 +17,7 @@ static const int64_t CENTURIES = 1000000000;
 // What the clock shows at the start of a run, in seconds.
 static const int64_t START = 1000000;
 
-unsigned thread_odds, spurious_odds;
+unsigned thread_odds, clock_odds, spurious_odds;
 
 static Creating *really_create;
 static Joining *really_join;
@@ -172,6 +172,11 @@ int nanosleep(const struct timespec *time, struct timespec *left) {
 int clock_gettime(clockid_t clock, struct timespec *time) {
   if (!is_running) return (int)system_call(SYS_clock_gettime, clock, (long)time, 0, 0, 0, 0);
   point("reads the clock");
+  if (clock_odds && draw(&of_faults, clock_odds) == 0) {
+    note(me, "the clock fails");
+    errno = EINVAL;
+    return -1;
+  }
   time->tv_sec = START + now / A_SECOND;
   time->tv_nsec = now % A_SECOND;
   return 0;

@@ -330,3 +330,73 @@ fn a_silent_site_is_left_at_a_ring_once_it_is_too_far_behind(rt: HostRuntime) {
     expect_text(&rt, written.as_slice(), due);
     expect_eq(&rt, close(&rt, hub, pass).waiting(2), None);
 }
+
+/// Gives a greeting. Then others make operations, another site joins and makes one more in a session of its own, and it gives a text.
+#[derive(Drop)]
+struct Joined<'a, R> {
+    rt: &'a R,
+    alloc: Global,
+    bell: &'a Bell,
+    hub: &'a Hub,
+    pass: Pass,
+    greeting: &'a [u8],
+    others: u32,
+    text: &'a [u8],
+    ghost ours: { IsPassOf hub.now pass },
+}
+
+impl<'a, R: Threads + Wait + Clock + Sync> Joined<'a, R> {
+    // Runs the session of the other site.
+    fn edit(&mut self) {
+        let said: &[u8] = b"hello 3\nbatch 0 0 1\ndo 1 1 text ins 0 2.1 97\nbye\n";
+        let (pass, mut to) = (self.hub.split(&mut self.pass), Vec::new(self.alloc));
+        let _ = serve_link(
+            self.rt, self.alloc, said, &mut to, self.hub, pass, self.bell, &Open,
+        );
+    }
+}
+
+impl<'a, R: Threads + Wait + Clock + Sync> Read for Joined<'a, R> {
+    fn read(&mut self, buf: &mut [u8]) -> io::Result<usize> {
+        if !self.greeting.is_empty() {
+            return self.greeting.read(buf);
+        }
+        if self.others > 0 {
+            self.bell.count(self.others);
+            self.others = 0;
+            self.edit();
+        }
+        self.text.read(buf)
+    }
+}
+
+// How a session ends beside which others make so many operations, and the session of another site makes one more.
+fn ending_beside<R: Threads + Wait + Clock + Sync + Abort>(
+    rt: &R,
+    alloc: Global,
+    others: u32,
+) -> Ending {
+    let (hub, mut pass) = open_hub(rt, alloc, EMPTY_TEXT, 100);
+    let bell = Bell::new();
+    let from = Joined {
+        rt,
+        alloc,
+        bell: &bell,
+        hub: &hub,
+        pass: hub.split(&mut pass),
+        greeting: b"hello 3\n",
+        others,
+        text: PING,
+    };
+    let mut written = Vec::new(alloc);
+    let (pass, ending) = serve_link(rt, alloc, from, &mut written, &hub, pass, &bell, &Open);
+    expect_eq(rt, close(rt, hub, pass).order().len(), 1);
+    ending
+}
+
+#[test]
+fn an_operation_of_another_session_counts(rt: HostRuntime) {
+    let alloc = rt.alloc();
+    expect_eq(&rt, ending_beside(&rt, alloc, MOST - 1), Ending::Bye);
+    expect_eq(&rt, ending_beside(&rt, alloc, MOST), Ending::Fault(71));
+}

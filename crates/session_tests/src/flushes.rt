@@ -1,4 +1,4 @@
-//! What a client, a session and a daemon write to a writer that loses what is not flushed.
+//! What a client, a session and a daemon write to a writer that loses what is not flushed, and how they end if it can't be.
 
 use crate::expect::{expect_eq, expect_text};
 use crate::programs::{client_of, client_status, daemon_at};
@@ -9,7 +9,7 @@ use jup_daemon::daemon_main;
 use jup_session::{Bell, Ending, Open};
 use std::alloc::Global;
 use std::io;
-use std::io::Write;
+use std::io::{ErrorKind, Write};
 use std::net::{Net, TcpListener, TcpStream};
 use std::sync::Wait;
 use std::thread::{Threads, join};
@@ -104,4 +104,47 @@ fn a_daemon_flushes_its_report(rt: HostRuntime) {
         text.as_slice(),
         "listening 127.0.0.1:47023\norder 0\nwindow 1\ntoggle 3 off\n",
     );
+}
+
+/// Takes what it is given, and can't pass it on.
+#[derive(Drop)]
+struct Unflushed;
+
+impl Write for Unflushed {
+    fn write(&mut self, buf: &[u8]) -> io::Result<usize> {
+        Ok(buf.len())
+    }
+
+    fn flush(&mut self) -> io::Result<()> {
+        Err(io::Error::from(ErrorKind::BrokenPipe))
+    }
+}
+
+#[test]
+fn a_client_whose_flush_fails_ends(rt: HostRuntime) {
+    let alloc = rt.alloc();
+    let (mut sent, mut out) = (Vec::new(alloc), Vec::new(alloc));
+    let (commands, from): (&[u8], &[u8]) = (b"quit\n", GREETED.as_bytes());
+    let ended = run_client(alloc, commands, &mut out, from, Unflushed);
+    expect_eq(&rt, ended, Err(ClientEnd::WriteFailed));
+    expect_eq(&rt, out.len(), 0);
+    let ended = run_client(alloc, commands, &mut Unflushed, from, &mut sent);
+    expect_eq(&rt, ended, Err(ClientEnd::WriteFailed));
+    expect_text(&rt, sent.as_slice(), "hello 3\n");
+}
+
+#[test]
+fn a_session_whose_flush_fails_ends(rt: HostRuntime) {
+    let left = ran(&rt, rt.alloc(), TYPED, Unflushed, &Bell::new(), &Open);
+    expect_eq(&rt, left.ending, Ending::Fault(71));
+}
+
+#[test]
+fn a_daemon_whose_flush_fails_ends(rt: HostRuntime) {
+    let alloc = rt.alloc();
+    let words = daemon_at(&rt, alloc, "127.0.0.1:47024", "1000", "1");
+    let mut errors = Vec::new(alloc);
+    let status = daemon_main(&rt, alloc, &words, TOGGLE, &mut Unflushed, &mut errors);
+    expect_eq(&rt, status, 1);
+    expect_text(&rt, errors.as_slice(), "io fault\ncannot print\n");
 }

@@ -10,6 +10,8 @@ mod bells;
 #[cfg(test)]
 mod bursts;
 #[cfg(test)]
+mod draining;
+#[cfg(test)]
 mod exact;
 #[cfg(test)]
 mod expect;

@@ -10,3 +10,7 @@ most_sessions = 1024
 -- how many edits were taken, and then the board
 abbrev pub report_text : BoardStar → List ℕ
 report_text star = line_of (codes "order" ∷ decimal (length star.order) ∷ []) ++ board_text star.board
+
+-- that sessions may come
+abbrev pub listening_text : List ℕ → List ℕ
+listening_text address = line_of (codes "listening" ∷ address ∷ [])

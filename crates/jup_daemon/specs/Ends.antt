@@ -1,5 +1,7 @@
 -- Why a daemon ends, by what was refused, with its exit status, and what it serves.
 use Rattle.std.specs.Prelude.{◌≡◌, ◌≢◌, ◌==◌, ◌⊎◌, ℕ, List, Some, Ok, Err, if◌then◌else◌, Bool, true, false}
+use Rattle.std.specs.declared.io.ErrorKind.{ErrorKind}
+use Rattle.std.specs.declared.io.ErrorKind.TheVariants.{OutOfMemory}
 use Rattle.jup_window.specs.Boards.{Windows, bare}
 use Rattle.jup_window.specs.Entries.{EachWidget}
 use Rattle.jup_window.specs.Commands.{board_fault_number}
@@ -38,6 +40,10 @@ daemon_end_is_explained LongLayout = false
 daemon_end_is_explained (Io attempt) = attempt_is_explained attempt
 daemon_end_is_explained NoMemory = false
 daemon_end_is_explained Held = false
+
+-- a failed allocation, or what was tried
+abbrev pub IsEndOfFailure : Attempt → ErrorKind → DaemonEnd → Type 0
+IsEndOfFailure attempt kind end = (kind ≡ OutOfMemory → end ≡ NoMemory) × (kind ≢ OutOfMemory → end ≡ Io attempt)
 
 -- What was refused, and what is served.
 

@@ -2,7 +2,7 @@
 ghost use Rattle.std.specs.IoError.{error_kind};
 ghost use Rattle.std.specs.Prelude.{◌≡◌, ◌≢◌, ◌≤◌, ◌↔◌, true, IsSome, length, IfOk, IfErr};
 ghost use Rattle.jup_limits.specs.Limits.{longest_input};
-ghost use Rattle.jup_daemon.specs.Ends.{IsStarOf, IsRefusalOf, attempt_is_explained, daemon_end_is_explained, daemon_end_status};
+ghost use Rattle.jup_daemon.specs.Ends.{IsStarOf, IsRefusalOf, IsEndOfFailure, attempt_is_explained, daemon_end_is_explained, daemon_end_status};
 
 use jup_layout::{LayoutFault, layout};
 use jup_star::{OpenFault, Star, is_short};
@@ -54,8 +54,7 @@ pub enum DaemonEnd {
 impl DaemonEnd {
     /// The end of a daemon that tried this and failed so: because an allocation failed, or by a failed read or write.
     pub fn of_failure(attempt: Attempt, error: &io::Error) -> DaemonEnd
-        ensures memory { error_kind error.now ≡ ErrorKind.OutOfMemory → result ≡ DaemonEnd.NoMemory }
-        ensures other { error_kind error.now ≢ ErrorKind.OutOfMemory → result ≡ DaemonEnd.Io attempt }
+        ensures { IsEndOfFailure attempt (error_kind error.now) result }
     {
         if error.kind() == ErrorKind::OutOfMemory {
             DaemonEnd::NoMemory

@@ -1,10 +1,12 @@
 //! The daemon's run.
-ghost use Rattle.std.specs.Prelude.{◌≡◌, ◌≤◌, ◌<◌, Err, IfOk, IfSome, length, vec_len};
+ghost use Rattle.std.specs.Io.KnownBytes.{Appends};
+ghost use Rattle.std.specs.Prelude.{◌≡◌, ◌≤◌, ◌<◌, Err, IfOk, IfSome, OnOk, length, vec_len};
 ghost use Rattle.jup_limits.specs.Limits.{longest_input};
 ghost use Rattle.jup_hub.specs.Passes.{IsPassOf};
+ghost use Rattle.jup_daemon.specs.Daemons as texts;
 
 use crate::telling::tell;
-use crate::{Attempt, DaemonEnd, DaemonWords, daemon_words, report_text, star_of_layout};
+use crate::{Attempt, DaemonEnd, DaemonWords, Door, daemon_words, report_text, star_of_layout};
 use jup_hub::{Hub, Pass};
 use jup_limits::LONGEST_INPUT;
 use jup_net::hang_up;
@@ -125,18 +127,24 @@ fn read_layout<I: Read + Drop>(alloc: Global, input: I) -> Result<Vec<u8>, Daemo
 }
 
 // Prints that sessions may come.
-fn announce<O: Write>(listen: &str, out: &mut O) -> io::Result<()> {
+fn announce<O: Write>(listen: &str, out: &mut O) -> io::Result<()>
+    ensures { OnOk result (Appends (O.contents out.old) (O.contents out.new) (texts.listening_text listen.now)) }
+{
     writeln!(out, "listening {listen}")?;
     out.flush()
 }
 
 // Prints how many edits were taken, and the board.
-fn report<O: Write>(alloc: Global, star: &Star, out: &mut O) -> Result<(), DaemonEnd> {
+fn report<O: Write>(alloc: Global, star: &Star, out: &mut O) -> Result<(), DaemonEnd>
+    ensures { OnOk result (Appends (O.contents out.old) (O.contents out.new) (texts.report_text star.now)) }
+{
     let text = report_text(alloc, star)?;
     print(text.as_slice(), out).map_err(|error| DaemonEnd::of_failure(Attempt::Print, &error))
 }
 
-fn print<O: Write>(text: &[u8], out: &mut O) -> io::Result<()> {
+fn print<O: Write>(text: &[u8], out: &mut O) -> io::Result<()>
+    ensures { OnOk result (Appends (O.contents out.old) (O.contents out.new) text.now) }
+{
     out.write_all(text)?;
     out.flush()
 }
@@ -163,10 +171,13 @@ fn serve_all<R: Threads + Wait + Clock + Sync>(
             requires { IsPassOf hub.now pass }
             ensures { IfOk result (λ p. IsPassOf hub.entry.now p) }
         {
-            for _ in 0..sessions {
-                let (stream, _) = match listener.accept() {
-                    Ok(accepted) => accepted,
-                    Err(error) => return Err(DaemonEnd::of_failure(Attempt::Accept, &error)),
+            let mut door = Door::new(sessions);
+            for _ in rt.forever() {
+                if door.is_shut() {
+                    break;
+                }
+                let Some((stream, _)) = door.meet(listener.accept())? else {
+                    continue;
                 };
                 let theirs = hub.split(&mut pass);
                 let child = scope.spawn(

@@ -1,5 +1,6 @@
 //! The client over a socket.
-ghost use Rattle.std.specs.Prelude.{◌≤◌};
+ghost use Rattle.std.specs.Prelude.{◌≡◌, ◌≤◌, ◌⊎◌};
+ghost use Rattle.jup_client.specs.Ends.{client_end_status};
 
 use crate::{client_words, run_client};
 use jup_client::ClientEnd;
@@ -90,7 +91,8 @@ fn run_beside_drain<R: Threads + Wait + Sync, C: Read + Drop, O: Write>(
 
 // Prints a fault on standard output, and on standard error what it is; answers the exit status.
 fn tell_fault<O: Write, E: Write>(out: &mut O, errors: &mut E, end: ClientEnd) -> u8
-    ensures { result ≤ 4 }
+    ensures status { (result ≡ client_end_status end) ⊎ (result ≡ client_end_status ClientEnd.WriteFailed) }
+    ensures most { result ≤ 4 }
 {
     if writeln!(out, "{end}").is_err() || out.flush().is_err() {
         return tell(errors, ClientEnd::WriteFailed);
@@ -101,7 +103,8 @@ fn tell_fault<O: Write, E: Write>(out: &mut O, errors: &mut E, end: ClientEnd) -
 
 // Prints why on standard error, and answers the exit status.
 fn tell<E: Write>(errors: &mut E, end: ClientEnd) -> u8
-    ensures { result ≤ 4 }
+    ensures status { result ≡ client_end_status end }
+    ensures most { result ≤ 4 }
 {
     let _ = writeln!(errors, "{end}");
     explain(errors, end);

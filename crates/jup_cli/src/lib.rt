@@ -5,7 +5,9 @@ mod commands;
 mod connecting;
 mod options;
 mod running;
+mod typed;
 
 pub use connecting::client_main;
 pub use options::client_words;
 pub use running::run_client;
+pub use typed::Typed;

@@ -1,4 +1,6 @@
 //! A client, run over any reader and writer.
+ghost use Rattle.std.specs.Io.KnownBytes.{Appends};
+ghost use Rattle.std.specs.Prelude.{◌≡◌, IfErr, OnOk};
 
 use crate::commands::Requests;
 use jup_client::{Answer, ClientEnd, ClientState, Opening, Request, Told, told_text};
@@ -141,7 +143,10 @@ fn greet<F: Read + Drop, T: Write + Drop>(
     Err(StreamFault::ReadsSpent.into())
 }
 
-fn print<O: Write>(out: &mut O, text: &[u8]) -> Result<(), ClientEnd> {
+fn print<O: Write>(out: &mut O, text: &[u8]) -> Result<(), ClientEnd>
+    ensures printed { OnOk result (Appends (O.contents out.old) (O.contents out.new) text.now) }
+    ensures failed { IfErr result (λ end. end ≡ ClientEnd.WriteFailed) }
+{
     out.write_all(text).map_err(|_| ClientEnd::WriteFailed)?;
     out.flush().map_err(|_| ClientEnd::WriteFailed)
 }

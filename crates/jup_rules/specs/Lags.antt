@@ -1,10 +1,14 @@
 -- How far a site is behind, the operations of others that it has not acknowledged, and what one message may cost the others.
-use Rattle.std.specs.Prelude.{◌≡◌, ℕ, ◌+◌, ◌-◌, min, List, [], ◌∷◌, take, drop, length, sum, ◌*◌, if◌then◌else◌, nat_lt, Result, Ok, Err}
+use Rattle.std.specs.Prelude.{◌≡◌, ℕ, ◌+◌, ◌-◌, ◌/◌, min, List, [], ◌∷◌, ◌++◌, take, drop, length, sum, ◌*◌, if◌then◌else◌, nat_lt, Option, Some, None, Result, Ok, Err}
+use Rattle.std.specs.Duration.{as_nanos}
+use Rattle.std.specs.declared.time.Duration.{Duration}
+use Rattle.std.specs.List.{flat_map}
 use Rattle.jup_limits.specs.Limits.{most_behind}
 use Rattle.jup_rules.specs.Prelude.{BoardBatch, Down, DownOp, DownAck, DownPong, Up, UpOp, UpAck, UpPing}
 use Rattle.jup_rules.specs.declared.behind.Admission.{Admission}
 use Rattle.jup_rules.specs.declared.behind.Admission.TheVariants.{Light, Heavy, Long, Costly}
 use Rattle.jup_rules.specs.declared.behind.FarBehind.{FarBehind}
+use Rattle.jup_rules.specs.declared.behind.Rests.{Rests}
 
 -- What is kept of a site: how many operations it knows of those that the server has taken. Some messages were fetched for it, and it has not acknowledged
 -- them: how many operations each has. And how many messages it acknowledged, and how many of these were not fetched yet
@@ -47,6 +51,10 @@ brought_by (DownOp msg) = length msg.op ∷ []
 brought_by (DownAck count) = []
 brought_by (DownPong number) = []
 
+-- these messages were fetched for a site, whatever came before
+abbrev pub HasFetchedSome : List (Down BoardBatch) → Behind → Behind → Type 0
+HasFetchedSome downs old new = (besides : ℕ) (messages : List ℕ) → IsBehind besides messages old → IsBehind besides (messages ++ flat_map brought_by downs) new
+
 -- transforms that a message may cost and still be light: some 0.3 ms
 abbrev pub light_transforms : ℕ
 light_transforms = 8192
@@ -71,10 +79,15 @@ check_of behind = if nat_lt most_behind behind then Err (record { operations = b
 abbrev pub admission_of : ℕ → ℕ → Result Admission FarBehind
 admission_of operations behind = if nat_lt most_behind behind then Err (record { operations = behind }) else Ok (admission_at (operations * behind))
 
--- microseconds that a session rests after a take of so many: half a millisecond after a long one.
--- After a costly one it rests seven times as long as that took, and at most two seconds
-abbrev pub rest_of : Admission → ℕ → ℕ
-rest_of Light took = 0
-rest_of Heavy took = 0
-rest_of Long took = 500
-rest_of Costly took = min (7 * took) 2000000
+-- microseconds of a time, up to as many as can be counted; as many if the time is not known
+abbrev pub micros_of : Option Duration → ℕ
+micros_of None = 18446744073709551615
+micros_of (Some took) = min (as_nanos took / 1000) 18446744073709551615
+
+-- How a session rests after a take: half a millisecond after a long one, before others make takes that are not light. After a costly one it rests beside such
+-- takes of others, seven times as long as that took, and at most two seconds
+abbrev pub rests_of : Admission → Option Duration → Rests
+rests_of Light took = record { before_others = 0; beside_others = 0 }
+rests_of Heavy took = record { before_others = 0; beside_others = 0 }
+rests_of Long took = record { before_others = 500; beside_others = 0 }
+rests_of Costly took = record { before_others = 0; beside_others = min (7 * micros_of took) 2000000 }

@@ -1,7 +1,8 @@
 //! How far a site may be behind, and what one message may cost the others.
-ghost use Rattle.std.specs.Prelude.{◌≡◌, ℕ, ◌+◌, ◌-◌, ◌≤◌, List, [], ◌∷◌, ◌++◌, take, drop, sum, max, OnOk, OnErr};
+ghost use Rattle.std.specs.Prelude.{◌≡◌, ◌≢◌, ◌↔◌, ℕ, ◌+◌, ◌-◌, ◌≤◌, List, [], ◌∷◌, ◌++◌, take, drop, sum, max, IsTrue, OnOk, OnErr};
+ghost use Rattle.std.specs.List.{flat_map};
 ghost use Rattle.std.specs.VecDeque.{deque_len};
-ghost use Rattle.jup_rules.specs.Lags.{IsBehind, counted, behind_of, operations_in, heard_by, brought_by, check_of, admission_at, admission_of, rest_of};
+ghost use Rattle.jup_rules.specs.Lags.{IsBehind, HasFetchedSome, counted, behind_of, operations_in, heard_by, brought_by, check_of, admission_at, admission_of, micros_of, rests_of};
 
 use jup_limits::MOST_BEHIND;
 use jup_star::{Down, Up};
@@ -9,6 +10,7 @@ use jup_xform::NoMemory;
 use std::alloc::Global;
 use std::collections::VecDeque;
 use std::marker::Model;
+use std::time::Duration;
 
 /// How many transforms a message may cost and still be light: some 0.3 ms of the hub's turn.
 const LIGHT_TRANSFORMS: u64 = 8_192;
@@ -80,16 +82,84 @@ fn admission_at(cost: u64) -> Admission
     }
 }
 
+/// How many microseconds a session rests after a take, outside the turn of the hub.
+#[derive(Clone, Copy, Debug, PartialEq, Eq)]
+pub struct Rests {
+    /// Before another session makes a take that is not light.
+    pub before_others: u64,
+    /// After that, and before another session makes a costly take.
+    pub beside_others: u64,
+}
+
 impl Admission {
-    /// How many microseconds a session rests, outside the turn of the hub, after such a take that took so many.
-    pub fn rest_after(self, took: u64) -> u64
-        ensures { result ≡ rest_of self took }
+    /// Whether it waits until no other session makes a take that is not light.
+    pub fn is_heavy(self) -> bool
+        ensures { IsTrue result ↔ (self ≢ Admission.Light) }
     {
-        match self {
-            Admission::Light | Admission::Heavy => 0,
-            Admission::Long => REST,
-            Admission::Costly => took.saturating_mul(RESTS).min(LONGEST_REST),
+        self != Admission::Light
+    }
+
+    /// Whether it waits until no other session makes a costly take, or rests after one.
+    pub fn is_costly(self) -> bool
+        ensures { IsTrue result ↔ (self ≡ Admission.Costly) }
+    {
+        self == Admission::Costly
+    }
+
+    /// How long a session rests after such a take that took so long. `None` if the clock can't be read: then it rests for as long as it ever does.
+    pub fn rests_after(self, took: Option<Duration>) -> Rests
+        ensures { result ≡ rests_of self took }
+    {
+        let (before_others, beside_others) = match self {
+            Admission::Light | Admission::Heavy => (0, 0),
+            Admission::Long => (REST, 0),
+            Admission::Costly => (0, micros_of(took).saturating_mul(RESTS).min(LONGEST_REST)),
+        };
+        Rests {
+            before_others,
+            beside_others,
         }
+    }
+}
+
+// Microseconds of a time, up to as many as can be counted; as many if the time is not known.
+fn micros_of(took: Option<Duration>) -> u64
+    ensures { result ≡ micros_of took }
+{
+    match took {
+        Some(took) => u64::try_from(took.as_micros()).unwrap_or(u64::MAX),
+        None => u64::MAX,
+    }
+}
+
+/// Operations of a message that the star took, which nobody has counted yet. Contracts see how many. It is not `Drop`: who has it has to count it.
+#[derive(Debug)]
+pub struct Uncounted {
+    operations: u32,
+}
+
+impl Model for Uncounted {
+    ghost use Rattle.std.specs.Prelude.{ℕ};
+
+    ghost Value = { ℕ };
+
+    ghost view = { λ u. u.operations };
+}
+
+impl Uncounted {
+    /// So many operations, by a caller of the hub that is no session.
+    pub fn new(operations: u32) -> Uncounted
+        ensures { result ≡ operations }
+    {
+        Uncounted { operations }
+    }
+
+    /// How many operations are to be counted.
+    pub fn operations(self) -> u32
+        ensures { result ≡ self }
+    {
+        let Uncounted { operations } = self;
+        operations
     }
 }
 
@@ -145,13 +215,39 @@ impl Lag {
         admit(operations_in(up), self.behind(taken))
     }
 
-    /// Notes a message of the site that the star has taken.
-    pub fn take(&mut self, up: &Up)
+    /// Notes that the site has joined again, where the server had taken so many operations.
+    pub fn join(&mut self, taken: u64)
+        ensures joined { IsBehind taken [] self.new }
+        ensures acknowledged { self.new.acknowledged ≡ 0 }
+    {
+        self.known = taken;
+        self.unheard.clear();
+        self.acknowledged = 0;
+        self.early = 0;
+    }
+
+    /// Notes a message of the site that the star has taken, and answers its operations, which the caller counts.
+    pub fn take(&mut self, up: &Up) -> Uncounted
         ensures own { (besides : ℕ) (messages : List ℕ) → IsBehind besides messages self.old → IsBehind (besides + operations_in up.now) messages self.new }
         ensures acknowledged { self.new.acknowledged ≡ self.old.acknowledged }
+        ensures uncounted { result ≡ operations_in up.now }
     {
         let operations = operations_in(up);
         self.known = self.known.saturating_add(u64::from(operations));
+        Uncounted::new(operations)
+    }
+
+    /// Notes messages that were fetched for the site. Where memory is refused, the first of them are noted.
+    pub fn fetch_all(&mut self, downs: &[Down]) -> Result<(), NoMemory>
+        ensures ok { OnOk result ((besides : ℕ) (messages : List ℕ) → IsBehind besides messages self.old
+            → IsBehind besides (messages ++ flat_map brought_by downs.now) self.new) }
+        ensures acknowledged { self.new.acknowledged ≡ self.old.acknowledged }
+        ensures err { OnErr result ((count : ℕ) × HasFetchedSome (take count downs.now) self.old self.new) }
+    {
+        for down in downs {
+            self.fetch(down)?;
+        }
+        Ok(())
     }
 
     /// Notes a message that was fetched for the site. Where memory is refused nothing changes.

@@ -2,7 +2,7 @@
 //! grants.
 ghost use Rattle.std.specs.List.{flat_map};
 ghost use Rattle.std.specs.Option.{option_to_list};
-ghost use Rattle.std.specs.Prelude.{◌≡◌, ◌≢◌, IsOk, List, [], ◌∷◌, ◌++◌, OnOk, IfOk, IfErr, Some, IsSomeAnd, ◌<◌, ◌↔◌, IsTrue, IfNone, IfSome, ◌+◌, ◌-◌, ◌≤◌, if◌then◌else◌, count_by};
+ghost use Rattle.std.specs.Prelude.{◌≡◌, ◌≢◌, IsOk, List, [], ◌∷◌, ◌++◌, OnOk, IfOk, IfErr, Some, IsSomeAnd, ◌<◌, ◌↔◌, IsTrue, IfNone, IfSome, IsNone, IsSome, OnSome, ◌+◌, ◌-◌, ◌≤◌, count_by};
 ghost use Rattle.jup_star.specs.declared.faults.StarFault.TheVariants.{NoLink};
 ghost use Rattle.jup_wire.specs.declared.line.Line.{Line};
 ghost use Rattle.jup_wire.specs.declared.line.Line.TheVariants.{Hello};
@@ -249,6 +249,12 @@ impl Model for Pongs {
     ghost invariant = { λ p. p.owed ≤ most_pongs };
 }
 
+/// That a ping was counted by [`Pongs::take_ping`], which alone makes this. So the star may take the ping.
+#[derive(Debug, Drop, PartialEq, Eq)]
+pub struct OwedPong {
+    counted: (),
+}
+
 impl Pongs {
     /// No pong is owed yet.
     pub fn new() -> Pongs
@@ -257,17 +263,18 @@ impl Pongs {
         Pongs { owed: 0 }
     }
 
-    /// Counts a ping that is to be taken. False if 1,024 pongs are owed: then it has to wait.
-    pub fn take_ping(&mut self) -> bool
-        ensures taken { IsTrue result ↔ (self.old < most_pongs) }
-        ensures owed { self.new ≡ (if result then self.old + 1 else self.old) }
+    /// Counts a ping that is to be taken. `None` if 1,024 pongs are owed: then it has to wait.
+    pub fn take_ping(&mut self) -> Option<OwedPong>
+        ensures taken { IsSome result ↔ (self.old < most_pongs) }
+        ensures owed { OnSome result (self.new ≡ self.old + 1) }
+        ensures same { IsNone result → self.new ≡ self.old }
         ensures most { self.new ≤ most_pongs }
     {
-        let is_taken = self.owed < MOST_PONGS;
-        if is_taken {
-            self.owed += 1;
+        if self.owed == MOST_PONGS {
+            return None;
         }
-        is_taken
+        self.owed += 1;
+        Some(OwedPong { counted: () })
     }
 
     /// Takes off pongs that were written. True if a ping may be taken that had to wait before.

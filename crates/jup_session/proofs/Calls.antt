@@ -1,7 +1,8 @@
 -- The calls of a session, part by part.
-use Rattle.std.proofs.Common.{◌≡◌, ℕ, ◌⊎◌, inl, inr, Bool, true, false, List, [], ◌∷◌, ◌++◌, length, length-append, ◌+◌, ◌<◌, ◌≤◌, max, arith, slice_get, zero, suc, Option, Some, None, Result, Ok, Err, MatchBool, refl, sym, ap, ◌∙◌, subst, append_assoc, append-nil, flat_map, true≢false, IsTrue, ◌≢◌, IsOk, is_ok}
+use Rattle.std.proofs.Common.{◌≡◌, ℕ, ◌⊎◌, inl, inr, Bool, true, false, List, [], ◌∷◌, ◌++◌, length, length-append, ◌+◌, ◌<◌, ◌≤◌, max, take, get_or, arith, slice_get, zero, suc, Option, Some, None, Result, Ok, Err, MatchBool, refl, sym, ap, ◌∙◌, subst, append_assoc, append-nil, flat_map, true≢false, IsTrue, ◌≢◌, IsOk, is_ok}
 use Rattle.std.specs.List.{AllByRecursion}
 use Rattle.std.proofs.lemmas.List.Concat.{flat_map-append}
+use Rattle.jup_wire.proofs.Streams.{take_one_more}
 use Rattle.jup_session.specs.Prelude.{BoardBatch, Up, Joined as JoinedSite, NoLink, Call, Join, Take, Fetch, Leave, StarReply, JoinedReply, Taken, Fetched, Down, BoardStar, bare_joined, Line, Hello, HubFault, HubEvent, Tally, View, Made, Ending, Incoming, Ring, Stream, StreamFault, WriteFailed, Misplaced, NoMemory, Stop, Said, SaysUp, SaysBye, down_lines, HasHeard, Leads, outcome, Keeper, ending_of, ended_by, last_line, Put, PutsLines, puts_more, Sourced, HandsOn, Stops}
 use Rattle.jup_star.specs.declared.calls.StarReply.TheVariants.{Left}
 use Rattle.jup_hub.specs.Histories.{is_out_of_memory, entry, tally, tallies, after_split, split_from, joined_with, having_seen, Called, ComesToAsk, IsSpent}
@@ -13,7 +14,7 @@ use Rattle.jup_rules.specs.declared.ends.Untaken.{Untaken}
 use Rattle.jup_rules.specs.declared.session.Next.TheVariants.{Line as NextLine, Take as NextTake}
 use Rattle.jup_stream.specs.Streams.{puts_none}
 use Rattle.jup_stream.proofs.Streams.{hands_none, hands_more}
-use Rattle.jup_session.specs.Sessions.{HasAnswered, HasTaken, IsShutFor, EndsAt, Refused, Withheld, IsCallFor, AreCallsFor, AreTalliesFor, HasLeft, IsFull, SomeLeft, FollowsJoin, IsSession, Makes, Serves, Leaves, HasMadeNone, HasServed, IsJoinOf, Joins, BothServe, received_with, GivesBackBy, GivesBack, Returns, IsLeaveOf, Departs, brought, lines_brought, IsFetchFor, LastLeavesNothing, FetchesAll, Forwards, ForwardsAll, Brings, Answers, StopsFetching, TellsFault, told_line, Wrote, welcome_lines, IsTaken, AreTakesOf, Hears, Over, Stopped, ByLine, AtMessage, Spent, HearsAll, Heard}
+use Rattle.jup_session.specs.Sessions.{HasAnswered, HasTaken, IsShutFor, EndsAt, Refused, Withheld, IsCallFor, AreCallsFor, AreTalliesFor, HasLeft, IsFull, SomeLeft, FollowsJoin, IsSession, Makes, Serves, Leaves, HasMadeNone, HasServed, IsJoinOf, Joins, BothServe, received_with, said_received, GivesBackBy, GivesBack, Returns, GivesAll, IsLeaveOf, Departs, brought, lines_brought, IsFetchFor, LastLeavesNothing, FetchesAll, Forwards, ForwardsAll, Brings, Answers, StopsFetching, TellsFault, told_line, Wrote, welcome_lines, IsTaken, AreTakesOf, Hears, Over, Stopped, ByLine, AtMessage, Spent, HearsAll, Heard}
 use Rattle.jup_session.specs.ExactSessions.{Enters, IsTurnedAway, NoLine, NoGreeting, NoJoin, IsWelcomed, EndsEarly, TurnedAway, Unwelcome}
 use Rattle.jup_hub.specs.Prelude.{StarFault, is_no_memory}
 use Rattle.jup_hub.specs.declared.fault.HubFault.TheVariants.{Star, Spent as HubSpent}
@@ -363,16 +364,33 @@ received_at (DownAck count ∷ downs) zero msg e = absurd cc
 received_at (DownPong number ∷ downs) zero msg e = absurd cc
 received_at (down ∷ downs) (suc n) msg e = let later = received_at downs n msg e in let more = received_later down downs in omega (arith, later, more)
 
+-- one more message that is received
+received_more : (downs : List (Down BoardBatch)) (down : Down BoardBatch) → received_with (downs ++ down ∷ []) ≡ max (received_with (down ∷ [])) (received_with downs)
+received_more [] down = omega arith
+received_more (DownOp msg ∷ downs) down = let later = received_more downs down in omega (arith, later)
+received_more (DownAck count ∷ downs) down = received_more downs down
+received_more (DownPong number ∷ downs) down = received_more downs down
+
+pub said_more : (downs : List (Down BoardBatch)) (n : ℕ) (down : Down BoardBatch) → n < length downs → down ≡ get_or downs n down
+    → said_received (take (n + 1) downs) ≡ max (said_received (down ∷ [])) (said_received (take n downs))
+said_more downs n down below is =
+    let all = ap received_with (take_one_more downs n down below is) ∙ received_more (take n downs) down in omega (arith, all)
+
 -- the site leaves after that
-pub departs_so : (site : ℕ) (u v w : View) (r : Result (Unit {0}) HubFault) → Returns site 0 u v → Made (λ a. Left a) (Leave site) v w r → Departs site u w
-departs_so site u v w r back m = record { between = v; back = back; leaves = makes_call (IsLeaveOf site) (λ a. Left a) (Leave site) v w r refl m }
+pub departs_so : (site : ℕ) (u v w : View) (r : Result (Unit {0}) HubFault) → Returns site 0 u v → GivesAll site u v → Made (λ a. Left a) (Leave site) v w r → Departs site u w
+departs_so site u v w r back all m = record {
+  between = v;
+  back = back;
+  leaves = makes_call (IsLeaveOf site) (λ a. Left a) (Leave site) v w r refl m;
+  all = inr (record { between = v; gives = all; answer = r; left = m });
+}
 
 pub leaves_so : (site : ℕ) (u v w : View) → Returns site 0 u v → Leaves site v w → Leaves site u w
 leaves_so site u v w back l = leaves_after site u v w (record { calls = back.calls; number = back.number; made = back.made; kept = back.kept; alone = all_given site 0 back.calls back.gives }) l
 
 -- a site that had left already
 pub departs_none : (site : ℕ) (v : View) → Departs site v v
-departs_none site v = record { between = v; back = returns_none site 0 v; leaves = makes_none (IsLeaveOf site) v }
+departs_none site v = record { between = v; back = returns_none site 0 v; leaves = makes_none (IsLeaveOf site) v; all = inl refl }
 
 -- What fetches bring, and what is put for that.
 

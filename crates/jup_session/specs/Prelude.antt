@@ -3,7 +3,7 @@ pub use Rattle.jup_batch.specs.Boards.{BoardBatch}
 pub use Rattle.jup_star.specs.declared.calls.Call.{Call}
 pub use Rattle.jup_star.specs.declared.calls.Call.TheVariants.{Fetch, Join, Leave, Take}
 pub use Rattle.jup_star.specs.declared.calls.StarReply.{StarReply}
-pub use Rattle.jup_star.specs.declared.calls.StarReply.TheVariants.{Fetched, Joined as JoinedReply, Taken}
+pub use Rattle.jup_star.specs.declared.calls.StarReply.TheVariants.{Fetched, Joined as JoinedReply, Left, Taken}
 pub use Rattle.jup_star.specs.declared.faults.StarFault.TheVariants.{NoLink}
 pub use Rattle.jup_star.specs.declared.messages.Down.{Down}
 pub use Rattle.jup_star.specs.declared.messages.Up.{Up}

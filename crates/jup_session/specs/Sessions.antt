@@ -1,7 +1,7 @@
 -- What a session hears, writes and asks of its hub.
-use Rattle.std.specs.Prelude.{◌≡◌, ◌<◌, ◌≤◌, ◌+◌, max, ℕ, ◌⊎◌, List, [], ◌∷◌, ◌++◌, length, Ok, Err, Option, Some, None, Result, ◌≢◌, IsSomeAnd, Bool, IsTrue}
+use Rattle.std.specs.Prelude.{◌≡◌, ◌<◌, ◌≤◌, ◌+◌, max, min, ℕ, ◌⊎◌, List, [], ◌∷◌, ◌++◌, length, Ok, Err, Option, Some, None, Result, ◌≢◌, IsSomeAnd, Bool, IsTrue}
 use Rattle.std.specs.List.{AllByRecursion, flat_map}
-use Rattle.jup_session.specs.Prelude.{BoardBatch, NoLink, Call, Join, Take, Fetch, Leave, StarReply, JoinedReply, Fetched, Taken, Joined, Down, Up, BoardStar, Line, board_lines, HubEvent, Tally, View, HubFault, Made, Ending, SessionFault, Hub, Stream, StreamFault, NoMemory, ReadsSpent, WriteFailed, Incoming, Said, SaysUp, SaysBye, Stop, ending_of, last_line, down_lines, outcome, HasHeard, Leads, Keeper, Put, PutsLines, Sourced, HandsOn, Stops}
+use Rattle.jup_session.specs.Prelude.{BoardBatch, NoLink, Call, Join, Take, Fetch, Leave, StarReply, JoinedReply, Fetched, Taken, Left, Joined, Down, Up, BoardStar, Line, board_lines, HubEvent, Tally, View, HubFault, Made, Ending, SessionFault, Hub, Stream, StreamFault, NoMemory, ReadsSpent, WriteFailed, Incoming, Said, SaysUp, SaysBye, Stop, ending_of, last_line, down_lines, outcome, HasHeard, Leads, Keeper, Put, PutsLines, Sourced, HandsOn, Stops}
 use Rattle.jup_wire.specs.declared.line.Line.TheVariants as line
 use Rattle.jup_faults.specs.Faults.{fault_number}
 use Rattle.jup_faults.specs.declared.table.Fault.TheVariants.{EarlyEnd}
@@ -174,11 +174,50 @@ abbrev pub IsLeaveOf : ℕ → Call → Type 0
 IsLeaveOf site (Leave i) = i ≡ site
 IsLeaveOf site call = ⊥
 
--- what waits for the site is given back, and then the site leaves
+-- the count of these messages as an acknowledgement says it
+abbrev pub said_received : List (Down BoardBatch) → ℕ
+said_received downs = min (received_with downs) 4294967295
+
+-- so many messages are acknowledged in the place of the site: the hub is called once for that, and not where there are none
+pub data Acknowledges (site count : ℕ) (v w : View) : Type 0 where
+  NoneReceived : count ≡ 0 → w ≡ v → Acknowledges site count v w
+  Says : (answer : Result (Option ℕ) HubFault) → Made (λ r. Taken r) (Take site (Ack count)) v w answer → Acknowledges site count v w
+
+-- one turn of giving back: these messages are fetched, and then they are acknowledged up to the last edit among them
+pub record GivesSome (site : ℕ) (v w : View) (downs : List (Down BoardBatch)) : Type 0 where
+  pub between : View
+  pub fetched : Made (λ r. Fetched r) (Fetch site most_fetched) v between (Ok downs)
+  pub acknowledged : Acknowledges site (said_received downs) between w
+
+-- turn after turn, each of which brought as many messages as one asks for
+pub data GivesFull (site : ℕ) (v : View) : View → Type 0 where
+  NoTurn : GivesFull site v v
+  OneMore : (u w : View) (downs : List (Down BoardBatch)) → GivesFull site v u → most_fetched ≤ length downs → GivesSome site u w downs → GivesFull site v w
+
+-- the last turn, after which nothing waits, or whose fetch is refused
+pub data GivesLast (site : ℕ) (v w : View) : Type 0 where
+  Few : (downs : List (Down BoardBatch)) → length downs < most_fetched → GivesSome site v w downs → GivesLast site v w
+  NotFetched : (fault : HubFault) → Made (λ r. Fetched r) (Fetch site most_fetched) v w (Err fault) → GivesLast site v w
+
+-- all that waits for the site is given back, unless a fetch is refused
+pub record GivesAll (site : ℕ) (v w : View) : Type 0 where
+  pub before : View
+  pub full : GivesFull site v before
+  pub last : GivesLast site before w
+
+-- all that waits for the site is given back, and then the hub is called once to have the site leave
+pub record GivesAllAndLeaves (site : ℕ) (v w : View) : Type 0 where
+  pub between : View
+  pub gives : GivesAll site v between
+  pub answer : Result (Unit {0}) HubFault
+  pub left : Made (λ r. Left r) (Leave site) between w answer
+
+-- what waits for the site is given back, all of it, and then the site leaves; or nothing is done, since it had left
 pub record Departs (site : ℕ) (v w : View) : Type 0 where
   pub between : View
   pub back : Returns site 0 v between
   pub leaves : Makes (IsLeaveOf site) between w
+  pub all : (w ≡ v) ⊎ GivesAllAndLeaves site v w
 
 -- What the server writes to a site that has joined.
 

@@ -3,6 +3,7 @@
 mod bell;
 mod costly;
 mod due;
+mod end_mark;
 mod ending;
 mod greeting;
 mod halves;

@@ -1,69 +1,150 @@
 //! Takes that cost the others much.
-ghost use Rattle.std.specs.Prelude.{◌<◌, IfErr};
+ghost use Rattle.std.specs.Prelude.{◌≡◌, ◌≢◌, ◌⊎◌, ◌↔◌, ◌<◌, IfOk, IfErr, IsSome, IsNone, None, Some};
 ghost use Rattle.jup_limits.specs.Limits.{most_behind};
+ghost use Rattle.jup_rules.specs.declared.session.Ring.TheVariants.{All};
 
 use super::due::Due;
 use super::link::SessionLink;
+use super::share::{Costly, Heavy};
+use super::watch::Taken;
 use jup_rules::{Admission, FarBehind};
 use jup_star::Up;
 use std::sync::{MutexGuard, Wait};
 use std::thread;
 use std::time::{Clock, Duration, Instant};
 
-/// The turn of a take that is not light. While a session has it no other session makes one.
-#[derive(Drop)]
-pub(crate) struct HeavyTurn<'a> {
+/// The turn in which a message is taken. It is not `Drop`: [`leave_turn`] gives it up after a take, and [`Turn::give_up`] without one.
+pub(crate) struct Turn<'a> {
     admission: Admission,
-    heavy: MutexGuard<'a, ()>,
-    /// The turn of a costly take, which a rest follows.
-    costly: Option<MutexGuard<'a, ()>>,
-    /// When it began; `None` if the clock can't be read.
+    /// Held for a take that is not light. While a session has it no other session makes one.
+    heavy: Option<MutexGuard<'a, Heavy>>,
+    /// Held for a costly take, and for the rest after it.
+    costly: Option<MutexGuard<'a, Costly>>,
+    /// When the turn began; `None` if the clock can't be read, or if the take is light.
     start: Option<Instant>,
 }
 
-/// Waits until a message may be taken, and answers the turn that it needs unless it is light. Refused if the site is too far behind.
+// The rest after a costly take. Meanwhile the others make takes that are not costly. It is not `Drop`: a session that owes it has to take it.
+struct Rest<'a> {
+    costly: MutexGuard<'a, Costly>,
+    micros: u64,
+}
+
+/// Waits until a message may be taken, and answers the turn that it needs. Refused if the site is too far behind.
 pub(crate) fn enter<'a, R: Wait + Clock>(
     rt: &R,
     link: &SessionLink<'a>,
     up: &Up,
     due: &mut Due,
-) -> Result<Option<HeavyTurn<'a>>, FarBehind>
-    ensures { IfErr result (λ far. most_behind < far.operations) }
+) -> Result<Turn<'a>, FarBehind>
+    ensures far { IfErr result (λ far. most_behind < far.operations) }
+    ensures heavy { IfOk result (λ turn. IsSome turn.heavy ↔ (turn.admission ≢ Admission.Light)) }
+    ensures costly { IfOk result (λ turn. IsSome turn.costly ↔ (turn.admission ≡ Admission.Costly)) }
 {
-    match link.watch.admit(rt, up)? {
-        Admission::Light => Ok(None),
-        Admission::Costly => enter_costly(rt, link, due),
-        admission => Ok(Some(begin(rt, link, admission, None))),
-    }
+    let admission = link.watch.admit(rt, up)?;
+    let costly = wait_for_costly(rt, link, admission, due)?;
+    Ok(begin(rt, link, admission, costly))
 }
 
-// Waits for the turn of a costly take. Those who are due are woken before that. Meanwhile the others go on, so the site may be too far behind
-// when the turn comes.
-fn enter_costly<'a, R: Wait + Clock>(
+// Waits for the turn of a costly take, if it is one. Those who are due are woken before that. Meanwhile the others go on, so the site may be too far
+// behind when the turn comes.
+fn wait_for_costly<'a, R: Wait>(
     rt: &R,
     link: &SessionLink<'a>,
+    admission: Admission,
     due: &mut Due,
-) -> Result<Option<HeavyTurn<'a>>, FarBehind>
-    ensures { IfErr result (λ far. most_behind < far.operations) }
+) -> Result<Option<MutexGuard<'a, Costly>>, FarBehind>
+    ensures far { IfErr result (λ far. most_behind < far.operations) }
+    ensures costly { IfOk result (λ turn. IsSome turn ↔ (admission ≡ Admission.Costly)) }
+    ensures quiet { admission ≡ Admission.Costly → due.new.ring ≡ None }
+    ensures same { admission ≢ Admission.Costly → due.new ≡ due.old }
 {
+    if !admission.is_costly() {
+        return Ok(None);
+    }
     due.ring(rt, link);
-    let costly = link.bell.share().wait_for_costly(rt);
+    let costly = costly_turn(rt, link, due);
     link.watch.check(rt)?;
-    Ok(Some(begin(rt, link, Admission::Costly, Some(costly))))
+    Ok(Some(costly))
 }
 
-// Waits until no other session makes a take that is not light.
+// Waits until no other session makes a costly take, or rests after one.
+fn costly_turn<'a, R: Wait>(rt: &R, link: &SessionLink<'a>, _due: &Due) -> MutexGuard<'a, Costly>
+    requires { _due.now.ring ≡ None }
+{
+    link.bell.share().wait_for_costly(rt)
+}
+
+// Waits until no other session makes a take that is not light, if this one is not.
 fn begin<'a, R: Wait + Clock>(
     rt: &R,
     link: &SessionLink<'a>,
     admission: Admission,
-    costly: Option<MutexGuard<'a, ()>>,
-) -> HeavyTurn<'a> {
-    HeavyTurn {
+    costly: Option<MutexGuard<'a, Costly>>,
+) -> Turn<'a>
+    ensures admission { result.admission ≡ admission }
+    ensures heavy { IsSome result.heavy ↔ (admission ≢ Admission.Light) }
+    ensures costly { IsSome result.costly ↔ IsSome costly.entry }
+{
+    let (heavy, start) = if admission.is_heavy() {
+        let heavy = link.bell.share().wait_for_heavy(rt);
+        (Some(heavy), Instant::now(rt).ok())
+    } else {
+        (None, None)
+    };
+    Turn {
         admission,
-        heavy: link.bell.share().wait_for_heavy(rt),
+        heavy,
         costly,
-        start: Instant::now(rt).ok(),
+        start,
+    }
+}
+
+impl<'a> Turn<'a> {
+    /// Gives the turn up without a take.
+    pub(crate) fn give_up(self) {
+        let Turn {
+            admission: _,
+            heavy,
+            costly,
+            start: _,
+        } = self;
+        drop(heavy);
+        drop(costly);
+    }
+
+    // Gives the turn up after a take: of a long one once the session has rested. After a costly one the session owes a rest.
+    fn end<R: Clock>(self, rt: &R) -> Option<Rest<'a>>
+        ensures { IsSome result ↔ IsSome self.entry.costly }
+    {
+        let Turn {
+            admission,
+            heavy,
+            costly,
+            start,
+        } = self;
+        let took = start.and_then(|start| start.elapsed(rt).ok());
+        let rests = admission.rests_after(took);
+        sleep(rt, rests.before_others);
+        drop(heavy);
+        match costly {
+            Some(costly) => Some(Rest {
+                costly,
+                micros: rests.beside_others,
+            }),
+            None => None,
+        }
+    }
+}
+
+impl<'a> Rest<'a> {
+    // Rests, while nobody is due, and lets the others make costly takes.
+    fn take<R: Clock>(self, rt: &R, _due: &Due)
+        requires { _due.now.ring ≡ None }
+    {
+        let Rest { costly, micros } = self;
+        sleep(rt, micros);
+        drop(costly);
     }
 }
 
@@ -72,39 +153,24 @@ fn begin<'a, R: Wait + Clock>(
 pub(crate) fn leave_turn<R: Wait + Clock>(
     rt: &R,
     link: &SessionLink<'_>,
-    up: &Up,
-    turn: Option<HeavyTurn<'_>>,
+    taken: Taken<'_>,
+    turn: Turn<'_>,
     due: &mut Due,
-) {
-    link.watch.take(rt, up);
-    let Some(turn) = turn else {
-        return;
-    };
-    let HeavyTurn {
-        admission,
-        heavy,
-        costly,
-        start,
-    } = turn;
-    let took = micros_since(rt, start).unwrap_or(u64::MAX);
-    let rest = Duration::from_micros(admission.rest_after(took));
-    match admission {
-        Admission::Long => {
-            thread::sleep(rt, rest);
-            drop(heavy);
-        }
-        Admission::Costly => {
-            drop(heavy);
-            due.ring(rt, link);
-            thread::sleep(rt, rest);
-        }
-        Admission::Light | Admission::Heavy => drop(heavy),
+)
+    ensures due { IsNone turn.entry.costly → due.new.ring ≢ None }
+    ensures all { IsNone turn.entry.costly → ((due.new.ring ≡ Some All) ↔ ((due.old.ring ≡ Some All) ⊎ (taken.entry.ring ≡ All))) }
+    ensures rung { IsSome turn.entry.costly → due.new.ring ≡ None }
+{
+    due.add(link.watch.take(rt, taken));
+    if let Some(rest) = turn.end(rt) {
+        due.ring(rt, link);
+        rest.take(rt, due);
     }
-    drop(costly);
 }
 
-// Microseconds since then. If the clock can't be read there are none, and a session rests for as long as it ever does.
-fn micros_since<R: Clock>(clock: &R, start: Option<Instant>) -> Option<u64> {
-    let elapsed = start?.elapsed(clock).ok()?;
-    u64::try_from(elapsed.as_micros()).ok()
+// Sleeps for so many microseconds, if any.
+fn sleep<R: Clock>(rt: &R, micros: u64) {
+    if micros > 0 {
+        thread::sleep(rt, Duration::from_micros(micros));
+    }
 }

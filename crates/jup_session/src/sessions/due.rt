@@ -7,7 +7,8 @@ use jup_rules::Ring;
 use std::sync::Wait;
 
 /// Whom a session has still to wake. While further lines are at hand it wakes nobody, so that a burst of edits wakes the others once.
-#[derive(Drop)]
+///
+/// Whatever waits requires that nobody is due, since what it waits for may be for them to do. It is not `Drop`: who has it has to close it.
 pub(crate) struct Due {
     ring: Option<Ring>,
 }
@@ -30,7 +31,7 @@ impl Due {
         }
     }
 
-    /// Wakes those who are to be woken. Called before the reading half waits for anything, since what it waits for may be for them to do.
+    /// Wakes those who are to be woken.
     pub(crate) fn ring<R: Wait>(&mut self, rt: &R, link: &SessionLink<'_>)
         ensures { self.new.ring ≡ None }
     {
@@ -39,5 +40,12 @@ impl Due {
             Some(Ring::Own) => link.ring(rt),
             None => {}
         }
+    }
+
+    /// The same for the last time.
+    pub(crate) fn close<R: Wait>(self, rt: &R, link: &SessionLink<'_>) {
+        let mut due = self;
+        due.ring(rt, link);
+        let Due { ring: _ } = due;
     }
 }

@@ -4,6 +4,7 @@ ghost use Rattle.jup_hub.specs.Passes.{view_of, IsPassOf};
 ghost use Rattle.jup_stream.specs.Streams.{IsFlushed};
 ghost use Rattle.jup_session.specs.Sessions.{Wrote as HasWritten, Heard as HasHeard, IsShutFor, HasMadeNone, HasServed};
 
+use super::end_mark::Over;
 use super::link::SessionLink;
 use super::reading::{Heard, read_half};
 use super::writing::{Wrote, write_half};
@@ -25,6 +26,8 @@ pub(crate) struct Halves<I: Read + Drop, O: Peer + Drop> {
     pub(crate) source: Source<I>,
     pub(crate) pass: Pass,
     pub(crate) heard: Heard,
+    /// That the end of the reading half is noted, so that the other one does not wait for it.
+    pub(crate) over: Over,
     pub(crate) wrote: Wrote<O>,
 }
 
@@ -100,23 +103,25 @@ pub(crate) fn both_halves<
             );
             match child {
                 Ok(child) => {
-                    let heard = read_half(rt, &mut source, link, &mut pass, gate);
+                    let (heard, over) = read_half(rt, &mut source, link, &mut pass, gate);
                     let wrote = child.join(rt);
                     Halves {
                         source,
                         pass,
                         heard,
+                        over,
                         wrote,
                     }
                 }
                 Err(refused) => {
-                    link.end(rt);
+                    let over = link.end(rt);
                     let wrote = (refused.value)();
                     let heard = Ending::from(StreamFault::NoMemory).into();
                     Halves {
                         source,
                         pass,
                         heard,
+                        over,
                         wrote,
                     }
                 }

@@ -1,6 +1,9 @@
 //! How a site leaves for which much may wait.
+ghost use Rattle.std.specs.Prelude.{◌≡◌, ◌∷◌, [], ◌≤◌, IsTrue, IsFalse, List, length};
 ghost use Rattle.jup_hub.specs.Passes.{view_of, IsPassOf};
-ghost use Rattle.jup_session.specs.Sessions.{Departs, Leaves, Returns, received_with};
+ghost use Rattle.jup_rules.specs.Sessions.{most_fetched};
+ghost use Rattle.jup_session.specs.Prelude.{BoardBatch, Down as DownMessage};
+ghost use Rattle.jup_session.specs.Sessions.{Acknowledges, Departs, GivesAll, GivesLast, GivesSome, Leaves, Returns, received_with, said_received};
 
 use jup_hub::{Hub, Pass};
 use jup_rules::{MOST_FETCHED, is_last_fetch};
@@ -24,6 +27,7 @@ fn give_back<R: Wait>(rt: &R, alloc: Global, hub: &Hub, pass: &mut Pass, site: u
     requires { IsPassOf hub.now pass.old }
     ensures pass { IsPassOf hub.now pass.new }
     ensures gives { Returns site 0 (view_of pass.old) (view_of pass.new) }
+    ensures all { GivesAll site (view_of pass.old) (view_of pass.new) }
 {
     for _ in rt.forever() {
         if !give_some(rt, alloc, hub, pass, site) {
@@ -38,6 +42,8 @@ fn give_some<R: Wait>(rt: &R, alloc: Global, hub: &Hub, pass: &mut Pass, site: u
     requires { IsPassOf hub.now pass.old }
     ensures pass { IsPassOf hub.now pass.new }
     ensures gives { Returns site 0 (view_of pass.old) (view_of pass.new) }
+    ensures some { IsTrue result → (downs : List (DownMessage BoardBatch)) × (most_fetched ≤ length downs) × GivesSome site (view_of pass.old) (view_of pass.new) downs }
+    ensures last { IsFalse result → GivesLast site (view_of pass.old) (view_of pass.new) }
 {
     let Ok(downs) = hub.fetch(rt, alloc, pass, site, MOST_FETCHED) else {
         return false;
@@ -58,9 +64,32 @@ fn acknowledge<R: Wait>(
     requires { IsPassOf hub.now pass.old }
     ensures pass { IsPassOf hub.now pass.new }
     ensures gives { Returns site (received_with downs.now) (view_of pass.old) (view_of pass.new) }
+    ensures acknowledged { Acknowledges site (said_received downs.now) (view_of pass.old) (view_of pass.new) }
 {
-    if let Some(Down::Op(last)) = downs.last() {
-        let heard = last.mine.saturating_add(1);
-        let _ = hub.take(rt, alloc, pass, site, &Up::Ack(heard));
+    let count = received_with(downs);
+    if count == 0 {
+        return;
+    }
+    let _ = hub.take(rt, alloc, pass, site, &Up::Ack(count));
+}
+
+// How many messages the site has received once it received these, by the numbers of the edits among them.
+fn received_with(downs: &[Down]) -> u32
+    ensures { result ≡ said_received downs.now }
+{
+    let mut received = 0;
+    for down in downs {
+        received = received_by(down).max(received);
+    }
+    received
+}
+
+// The same by one message.
+fn received_by(down: &Down) -> u32
+    ensures { result ≡ said_received (down.now ∷ []) }
+{
+    match down {
+        Down::Op(msg) => msg.mine.saturating_add(1),
+        Down::Ack(_) | Down::Pong(_) => 0,
     }
 }

@@ -8,6 +8,7 @@ ghost use Rattle.jup_stream.specs.Streams.{PutsLines, IsFlushed, WritesFront};
 ghost use Rattle.jup_session.specs.ExactSessions.{BothHalves, HasLines, IsExact};
 ghost use Rattle.jup_session.specs.Sessions.{BothServe, IsSession, IsShutFor};
 
+use super::end_mark::EndMark;
 use super::ending::tell_untold;
 use super::greeting::begin;
 use super::halves::both_halves;
@@ -22,7 +23,6 @@ use jup_rules::{Ending, Pongs};
 use jup_stream::{Output, Source, StreamFault, write_bytes};
 use std::alloc::Global;
 use std::io::{Read, Write};
-use std::sync::atomic::AtomicBool;
 use std::sync::{Mutex, Wait};
 use std::thread::Threads;
 use std::time::Clock;
@@ -213,7 +213,7 @@ fn serve_lines<R: Threads + Wait + Clock + Sync, I: Read + Drop, O: Peer + Send 
                 hub: serving.hub,
                 bell: serving.bell,
                 watch,
-                is_over: AtomicBool::new(false),
+                end_mark: EndMark::new(),
                 pongs: Mutex::new(Pongs::new()),
                 site,
             };

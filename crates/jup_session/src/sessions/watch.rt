@@ -4,7 +4,7 @@ ghost use Rattle.jup_limits.specs.Limits.{most_behind};
 
 use super::Bell;
 use super::share::Share;
-use jup_rules::{Admission, FarBehind, Lag, operations_in};
+use jup_rules::{Admission, FarBehind, Lag, Ring};
 use jup_star::{Down, Up};
 use jup_stream::StreamFault;
 use std::alloc::Global;
@@ -13,9 +13,24 @@ use std::sync::{Mutex, Wait};
 /// How far the site of a session is behind. Both halves note what they see of it.
 #[derive(Drop)]
 pub(crate) struct Watch<'a> {
-    alloc: Global,
     share: &'a Share,
     lag: Mutex<Lag>,
+}
+
+/// A message of the site that the star took, and whom it wakes. It is not `Drop`, and [`Watch::take`] alone uses it up: so its operations are
+/// counted, and before anybody is woken for it.
+pub(crate) struct Taken<'m> {
+    up: &'m Up,
+    ring: Ring,
+}
+
+impl<'m> Taken<'m> {
+    pub(crate) fn new(up: &'m Up, ring: Ring) -> Taken<'m>
+        ensures up { result.up.now ≡ up.now }
+        ensures ring { result.ring ≡ ring }
+    {
+        Taken { up, ring }
+    }
 }
 
 impl<'a> Watch<'a> {
@@ -23,7 +38,6 @@ impl<'a> Watch<'a> {
     pub(crate) fn new(alloc: Global, bell: &'a Bell) -> Watch<'a> {
         let share = bell.share();
         Watch {
-            alloc,
             share,
             lag: Mutex::new(Lag::new(alloc, share.taken())),
         }
@@ -31,7 +45,7 @@ impl<'a> Watch<'a> {
 
     /// Notes that the site has just joined.
     pub(crate) fn join<R: Wait>(&self, rt: &R) {
-        *self.lag.lock(rt) = Lag::new(self.alloc, self.share.taken());
+        self.lag.lock(rt).join(self.share.taken());
     }
 
     /// Refused if the site is too far behind.
@@ -48,23 +62,24 @@ impl<'a> Watch<'a> {
         self.lag.lock(rt).admit(up, self.share.taken())
     }
 
-    /// Notes a message of the site that the hub has taken. The site knows its own operations before they are counted. Else it would seem
-    /// to be behind by them.
-    pub(crate) fn take<R: Wait>(&self, rt: &R, up: &Up) {
-        self.lag.lock(rt).take(up);
-        self.share.count(operations_in(up));
+    /// Notes a message of the site that the star took, and answers whom it wakes. The site knows its own operations before they are counted. Else it
+    /// would seem to be behind by them.
+    pub(crate) fn take<R: Wait>(&self, rt: &R, taken: Taken<'_>) -> Ring
+        ensures { result ≡ taken.entry.ring }
+    {
+        let Taken { up, ring } = taken;
+        let uncounted = self.lag.lock(rt).take(up);
+        self.share.count(uncounted);
+        ring
     }
 
     /// Notes messages that were fetched for the site.
     pub(crate) fn fetch<R: Wait>(&self, rt: &R, downs: &[Down]) -> Result<(), StreamFault>
         ensures { IfErr result (λ fault. fault ≡ StreamFault.NoMemory) }
     {
-        let mut lag = self.lag.lock(rt);
-        for down in downs {
-            if lag.fetch(down).is_err() {
-                return Err(StreamFault::NoMemory);
-            }
+        match self.lag.lock(rt).fetch_all(downs) {
+            Ok(()) => Ok(()),
+            Err(_) => Err(StreamFault::NoMemory),
         }
-        Ok(())
     }
 }

@@ -1,8 +1,12 @@
 //! The writer of a session, which is given up once its site is too far behind.
-ghost use Rattle.std.specs.Prelude.{◌≡◌};
+ghost use Rattle.std.specs.Prelude.{◌≡◌, ◌⊎◌, ◌↔◌, ◌<◌, [], IfOk, IfSome, IsFalse, IsTrue, OnErr, None, Ok, length};
+ghost use Rattle.std.specs.Io.{WritesAtMost};
+ghost use Rattle.std.specs.Io.KnownBytes.{WriteAppends};
+ghost use Rattle.jup_limits.specs.Limits.{most_behind};
 
 use super::watch::Watch;
 use jup_io::Peer;
+use jup_rules::FarBehind;
 use std::io;
 use std::io::{ErrorKind, Write};
 use std::sync::Wait;
@@ -19,7 +23,8 @@ pub(crate) struct Watched<'a, R: Wait, O: Peer + Drop> {
 
 impl<'a, R: Wait, O: Peer + Drop> Watched<'a, R, O> {
     pub(crate) fn new(rt: &'a R, watch: &'a Watch<'a>, to: O) -> Watched<'a, R, O>
-        ensures { result.to ≡ to }
+        ensures to { result.to ≡ to }
+        ensures waiting { IsFalse result.is_waiting }
     {
         Watched {
             rt,
@@ -36,6 +41,24 @@ impl<'a, R: Wait, O: Peer + Drop> Watched<'a, R, O> {
         let Watched { to, .. } = self;
         to
     }
+
+    // By how much the site is too far behind. It is asked for only after a write that took less than all.
+    fn far_behind(&self) -> Option<FarBehind>
+        ensures far { IfSome result (λ far. most_behind < far.operations) }
+        ensures whole { IsFalse self.now.is_waiting → result ≡ None }
+    {
+        if !self.is_waiting {
+            return None;
+        }
+        self.watch.check(self.rt).err()
+    }
+}
+
+// Whether a write took less than all.
+fn took_less(sent: &io::Result<usize>, len: usize) -> bool
+    ensures { IsFalse result ↔ (sent.now ≡ Ok len) }
+{
+    !matches!(sent, Ok(taken) if *taken == len)
 }
 
 impl<'a, R: Wait, O: Peer + Drop> Write for Watched<'a, R, O> {
@@ -53,13 +76,19 @@ impl<'a, R: Wait, O: Peer + Drop> Write for Watched<'a, R, O> {
 impl<'a, R: Wait, O: Peer + Drop> Peer for Watched<'a, R, O> {
     ghost has_failed = { λ w. O.has_failed w.to };
 
-    fn send(&mut self, bytes: &[u8]) -> io::Result<usize> {
-        if self.is_waiting && self.watch.check(self.rt).is_err() {
+    fn send(&mut self, bytes: &[u8]) -> io::Result<usize>
+        ensures bound { WritesAtMost result bytes.now }
+        ensures bytes { WriteAppends (O.contents self.old.to) (O.contents self.new.to) result bytes.now }
+        ensures failed { OnErr result (IsTrue (O.has_failed self.new.to)) }
+        ensures stuck { IfOk result (λ n. n ≡ 0 → (bytes.now ≡ []) ⊎ IsTrue (O.has_failed self.new.to)) }
+        ensures waiting { IsFalse self.new.is_waiting ↔ (result ≡ Ok (length bytes.now)) }
+    {
+        if self.far_behind().is_some() {
             self.to.give_up();
             return Err(io::Error::from(ErrorKind::TimedOut));
         }
         let sent = self.to.send(bytes);
-        self.is_waiting = !matches!(sent, Ok(len) if len == bytes.len());
+        self.is_waiting = took_less(&sent, bytes.len());
         sent
     }
 

@@ -1,20 +1,19 @@
 //! The half of a session that fetches and writes.
-ghost use Rattle.std.specs.Prelude.{◌≡◌, ◌<◌, ◌↔◌, [], Bool, Some, IsTrue, IfOk, IfErr, IfSome, OnErr, IfNone, length};
+ghost use Rattle.std.specs.Prelude.{◌≡◌, ◌<◌, ◌↔◌, [], Bool, Some, None, IsTrue, IsFalse, IfOk, IfErr, IfSome, OnOk, OnErr, IfNone, length, count_by};
 ghost use Rattle.std.specs.Result.{result_err};
 ghost use Rattle.std.specs.List.{flat_map};
 ghost use Rattle.jup_hub.specs.Passes.{view_of, IsPassOf};
-ghost use Rattle.jup_rules.specs.Sessions.{down_lines, most_fetched};
+ghost use Rattle.jup_rules.specs.Sessions.{down_lines, is_pong, most_fetched};
 ghost use Rattle.jup_stream.specs.Streams.{PutsLines, IsFlushed};
 ghost use Rattle.jup_session.specs.Sessions.{Answers, Brings, Forwards, ForwardsAll, StopsFetching, TellsFault, Wrote as HasWritten, told_line, Leaves, HasMadeNone, HasServed};
 
+use super::end_mark::Over;
 use super::ending::tell;
 use super::leaving::leave;
-use super::link::SessionLink;
+use super::link::{SessionLink, WrittenPongs};
 use jup_hub::Pass;
 use jup_io::Peer;
-use jup_rules::{
-    Ending, MOST_FETCHED, SessionFault, is_last_fetch, pongs_in, put_downs, refused_fetch,
-};
+use jup_rules::{Ending, MOST_FETCHED, SessionFault, is_last_fetch, put_downs, refused_fetch};
 use jup_star::{Down, Downs};
 use jup_stream::{Output, StreamFault};
 use std::sync::Wait;
@@ -44,6 +43,8 @@ pub(crate) struct Wrote<O: Peer + Drop> {
     pub(crate) told: Option<Ending>,
     /// The fault for which it did not fetch all that waited; `None` if it did.
     pub(crate) unsent: Option<SessionFault>,
+    /// That its end is noted, so that the other half does not wait for it.
+    pub(crate) over: Over,
 }
 
 /// Writes what the hub has for the site until the other half has ended, and leaves. It reports a fault of its own to the site
@@ -68,12 +69,13 @@ pub(crate) fn write_half<R: Wait, O: Peer + Drop>(
         leave(rt, link.alloc, link.hub, &mut pass, link.site);
     }
     let told = tell_fault(&mut output, &forwarded);
-    link.end(rt);
+    let over = link.end(rt);
     Wrote {
         pass,
         output,
         told,
         unsent: forwarded.left.err(),
+        over,
     }
 }
 
@@ -148,6 +150,8 @@ fn forward_news<R: Wait, O: Peer + Drop>(
     ensures pass { IsPassOf link.now.hub.now pass.new }
     ensures forwards { Forwards link.now.site (view_of pass.old) output.old (view_of pass.new) output.new }
     ensures stopped { IfErr result (λ fault. ForwardsAll link.now.site (view_of pass.old) output.old (view_of pass.new) output.new (Some fault)) }
+    ensures news { IsTrue has_news → OnOk result (ForwardsAll link.now.site (view_of pass.old) output.old (view_of pass.new) output.new None) }
+    ensures none { IsFalse has_news → view_of pass.new ≡ view_of pass.old }
     ensures flushed { IsFlushed output.new }
 {
     link.watch.check(rt)?;
@@ -229,15 +233,29 @@ fn hand_on<R: Wait, O: Peer + Drop>(
     ensures fault { IfErr result (StopsFetching output.new.failed) }
 {
     let noted = link.watch.fetch(rt, downs);
-    write_downs(output, downs)?;
-    link.pay(rt, pongs_in(downs));
+    let written = write_downs(output, downs)?;
+    link.pay(rt, written);
     noted?;
     Ok(is_last_fetch(downs.len()))
 }
 
+// Writes messages, in order, and answers the pongs among them.
+fn write_downs<O: Peer + Drop>(
+    output: &mut Output<O>,
+    downs: &[Down],
+) -> Result<WrittenPongs, StreamFault>
+    ensures put { PutsLines output.old (flat_map down_lines downs.now) output.new }
+    ensures flushed { IsFlushed output.old → IsFlushed output.new }
+    ensures pongs { IfOk result (λ written. written.count ≡ count_by is_pong downs.now) }
+    ensures fault { IfErr result (λ fault. (fault ≡ StreamFault.WriteFailed) × IsTrue output.new.failed) }
+{
+    send_downs(output, downs)?;
+    Ok(WrittenPongs::among(downs))
+}
+
 // Writes messages, in order.
 #[tactic(auto, using(jup_stream::specs::Streams::puts_sent, jup_stream::specs::Streams::puts_none))]
-fn write_downs<O: Peer + Drop>(output: &mut Output<O>, downs: &[Down]) -> Result<(), StreamFault>
+fn send_downs<O: Peer + Drop>(output: &mut Output<O>, downs: &[Down]) -> Result<(), StreamFault>
     ensures put { PutsLines output.old (flat_map down_lines downs.now) output.new }
     ensures flushed { IsFlushed output.old → IsFlushed output.new }
     ensures fault { IfErr result (λ fault. (fault ≡ StreamFault.WriteFailed) × IsTrue output.new.failed) }

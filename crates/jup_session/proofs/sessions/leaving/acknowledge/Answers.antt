@@ -1,12 +1,20 @@
-use Rattle.std.proofs.Common.{◌∙◌, ◌≤◌, ◌-◌, ap, arith, length, sym, Some}
+use Rattle.std.proofs.Common.{◌≤◌, arith, refl, subst}
 use Rattle.jup_session.specs.Prelude.{view_of}
-use Rattle.jup_session.specs.Sessions.{received_with}
-use Rattle.jup_session.proofs.Calls.{received_at, returns_acknowledged}
+use Rattle.jup_session.specs.Sessions.{received_with, Acknowledges, NoneReceived, Says}
+use Rattle.jup_session.proofs.Calls.{returns_acknowledged, returns_none}
 use Rattle.jup_session.proofs.sessions.leaving.acknowledge.Goals as goal
 
-pub returns-in-Some-Op-clause-gives : goal.returns-in-Some-Op-clause-gives
-returns-in-Some-Op-clause-gives g c =
-    let downs = c.args.downs.now in
-    let at = received_at downs (length downs - 1) c.in-Some-Op.last (sym c.in-Some-Op.ensures.value ∙ ap (λ d. Some d) c.in-Some-Op.field-0-is) in
-    let heard : c.saturating_add-heard.result ≤ received_with downs = omega (arith, at, c.saturating_add-heard.ensures) in
-    returns_acknowledged c.args.site (received_with downs) c.saturating_add-heard.result (view_of c.args.pass.now) (view_of c.take.new.pass) c.take.result heard c.take.ensures.made
+pub returns-then-count-eq0-clause-gives : goal.returns-then-count-eq0-clause-gives
+returns-then-count-eq0-clause-gives g c = returns_none c.args.site (received_with c.args.downs.now) (view_of c.args.pass.now)
+
+pub returns-then-count-eq0-clause-acknowledged : goal.returns-then-count-eq0-clause-acknowledged
+returns-then-count-eq0-clause-acknowledged g c = NoneReceived (omega (arith, c.received_with-count.ensures, c.if-count-eq0.true)) refl
+
+pub returns-clause-gives : goal.returns-clause-gives
+returns-clause-gives g c =
+    let heard : c.received_with-count.result ≤ received_with c.args.downs.now = omega (arith, c.received_with-count.ensures) in
+    returns_acknowledged c.args.site (received_with c.args.downs.now) c.received_with-count.result (view_of c.args.pass.now) (view_of c.take.new.pass) c.take.result heard c.take.ensures.made
+
+pub returns-clause-acknowledged : goal.returns-clause-acknowledged
+returns-clause-acknowledged g c =
+    subst (λ n. Acknowledges c.args.site n (view_of c.args.pass.now) (view_of c.take.new.pass)) c.received_with-count.ensures (Says c.take.result c.take.ensures.made)

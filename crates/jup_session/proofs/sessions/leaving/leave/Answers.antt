@@ -9,4 +9,4 @@ returns-clause-leaves g c =
 
 pub returns-clause-departs : goal.returns-clause-departs
 returns-clause-departs g c =
-    departs_so c.args.site (view_of c.args.pass.now) (view_of c.give_back.new.pass) (view_of c.leave.new.pass) c.leave.result c.give_back.ensures.gives c.leave.ensures.made
+    departs_so c.args.site (view_of c.args.pass.now) (view_of c.give_back.new.pass) (view_of c.leave.new.pass) c.leave.result c.give_back.ensures.gives c.give_back.ensures.all c.leave.ensures.made

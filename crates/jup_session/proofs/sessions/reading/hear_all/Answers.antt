@@ -26,7 +26,7 @@ returns-in-Err-clause-hears g c = record {
 pub loop-preserved-in-Line : goal.loop-preserved-in-Line
 loop-preserved-in-Line g c = record {
   pass = c.loop.invariant.pass;
-  hears = hears_line c.args.link.now.site c.loop.counter c.args.source.now c.loop.source c.next_line.new.self (view_of c.args.pass.now) (view_of c.loop.pass) c.loop.keeper c.hear.new.self c.in-Ok.line
+  hears = hears_line c.args.link.now.site c.loop.counter c.args.source.now c.loop.source c.next_line.new.source (view_of c.args.pass.now) (view_of c.loop.pass) c.loop.keeper c.hear.new.self c.in-Ok.line
       c.loop.invariant.hears c.in-Ok.ensures.line c.in-Line.ensures;
 }
 
@@ -47,7 +47,7 @@ returns-in-Err-enter-clause-hears g c = record {
   keeper = c.loop.keeper;
   hears = c.loop.invariant.hears.0;
   over = AtMessage c.in-Ok.line c.hear.new.self c.in-Take.incoming c.in-Ok.ensures.line c.in-Take.ensures
-      (Withheld (FarBehind c.in-Err-enter.far) c.in-Err-enter.ensures refl c.into-in-Err-enter.ensures.0 c.into-in-Err-enter.ensures.1);
+      (Withheld (FarBehind c.in-Err-enter.far) c.in-Err-enter.ensures.far refl c.into-in-Err-enter.ensures.0 c.into-in-Err-enter.ensures.1);
 }
 
 pub returns-in-Err-handle-clause-hears : goal.returns-in-Err-handle-clause-hears
@@ -62,7 +62,7 @@ returns-in-Err-handle-clause-hears g c = record {
 pub loop-preserved : goal.loop-preserved
 loop-preserved g c = record {
   pass = c.handle.ensures.pass;
-  hears = hears_take c.args.link.now.site c.loop.counter c.args.source.now c.loop.source c.next_line.new.self (view_of c.args.pass.now) (view_of c.loop.pass) (view_of c.handle.new.pass) c.loop.keeper c.hear.new.self c.in-Ok.line
+  hears = hears_take c.args.link.now.site c.loop.counter c.args.source.now c.loop.source c.next_line.new.source (view_of c.args.pass.now) (view_of c.loop.pass) (view_of c.handle.new.pass) c.loop.keeper c.hear.new.self c.in-Ok.line
       c.in-Take.incoming c.loop.invariant.hears c.in-Ok.ensures.line c.in-Take.ensures c.in-Ok-handle.ensures.taken;
 }
 

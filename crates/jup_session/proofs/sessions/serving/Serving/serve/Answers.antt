@@ -7,11 +7,11 @@ pub returns-in-Ok-clause-exact : goal.returns-in-Ok-clause-exact
 returns-in-Ok-clause-exact g c =
     let served = c.serve_lines-served.result in
     exact_so (g.I.Read.remaining c.args.reader) (g.O.Write.contents c.args.writer) (g.O.Write.contents c.into_inner.result) (view_of c.args.pass) (view_of served.pass) c.in-Ok.output served.output served.ending
-    c.has_failed-has_failed.result served.undone (c.in-Ok.ensures.new ∙ ap (λ o. fresh_put (g.O.Write.contents o)) c.new.ensures) (ap (λ o. g.O.Write.contents o) c.into_inner.ensures ∙ c.into_peer.ensures.written) c.has_failed-has_failed.ensures
+    c.has_failed-has_failed.result served.undone (c.in-Ok.ensures.new ∙ ap (λ o. fresh_put (g.O.Write.contents o)) c.new.ensures.to) (ap (λ o. g.O.Write.contents o) c.into_inner.ensures ∙ c.into_peer.ensures.written) c.has_failed-has_failed.ensures
     c.serve_lines-served.ensures.flushed c.serve_lines-served.ensures.lines
 
 pub returns-in-Err-clause-exact : goal.returns-in-Err-clause-exact
 returns-in-Err-clause-exact g c =
     no_room_so (g.I.Read.remaining c.args.reader) (g.O.Write.contents c.args.writer) (g.O.Write.contents c.tell_of_memory-has_failed.new.writer) (view_of c.args.pass) c.into.result c.tell_of_memory-has_failed.result _ refl c.into.ensures
     (subst (λ o. WritesFront (g.O.Write.contents o) (g.O.Write.contents c.tell_of_memory-has_failed.new.writer) (line_bytes (Error 8)) (not c.tell_of_memory-has_failed.result))
-    (c.into_inner-writer.ensures ∙ ap (λ w. w.to) c.in-Err.ensures.err ∙ c.new.ensures) c.tell_of_memory-has_failed.ensures.front)
+    (c.into_inner-writer.ensures ∙ ap (λ w. w.to) c.in-Err.ensures.err ∙ c.new.ensures.to) c.tell_of_memory-has_failed.ensures.front)

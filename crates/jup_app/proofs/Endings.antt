@@ -1,11 +1,8 @@
 -- A whole run, put together.
 use Rattle.std.proofs.Common.{◌≡◌, ℕ, zero, suc, ◌+◌, ◌-◌, ◌<◌, ◌≤◌, List, [], ◌∷◌, ◌++◌, length, take, map, get_or, Some, Result, Ok, Err, IfOk, refl, sym, ap, ◌∙◌, subst, arith, append-nil, length-append, append_assoc, lit<, inl, inr, ◌⊎◌}
-use Rattle.std.proofs.lemmas.List.{get_or_default}
-use native.Mathlib.Decide.{dec_le}
-use Rattle.jup_app.specs.Prelude.{highest_limit, Command, Commands, Windows, board_batches, Join, Fetch, BoardSite, IsOpening, opened_world, BoardAttached, Hub, HubEvent, Tally, View, view_of, IsPassOf, most_fetched, Job, Player, Halt, SiteEnd, AllByRecursion, Bor}
+use Rattle.jup_app.specs.Prelude.{highest_limit, Command, Commands, Windows, board_batches, Join, Fetch, BoardSite, IsOpening, opened_world, BoardAttached, Hub, HubEvent, Tally, View, view_of, IsPassOf, most_fetched, Job, Player, Halt, SiteEnd, AllByRecursion, Bor, get_or_default, dec_le, calls_by, tally, IsLegal, star_through, BeginsWith, BeginsWithAll, AllTallied, AllApart, Meets, having_seen}
 use Rattle.jup_star.specs.declared.calls.StarReply.TheVariants as reply
 use Rattle.jup_star.specs.Stars.{BoardStar, reply_of, star_after, opened_star}
-use Rattle.jup_hub.specs.Histories.{calls_by, tally, IsLegal, star_through, BeginsWith, BeginsWithAll, AllTallied, AllApart, Meets, having_seen}
 use Rattle.jup_app.specs.Runs.{EditAnswer, Made, made, Step, calls_of, edits_of, singles, IsPlayed, makes, link_with, all_tallies, all_calls, end_of, IsJob, Ran, AllRan, IsSite, site_of, joins, assembled, HasSeen, joined_call, HasJoinedAll, HasMet, IsSame, HasTaken, AreJobs, no_site, IsDrained, AreNumbered, empty_fetches, IsRun, IsRunOf}
 use Rattle.jup_app.proofs.Calls.{total, edits_of-append}
 use Rattle.jup_app.proofs.Stars.{played_number, IsIdle, IsTidy, tidy_through, fetch_nothing, fetch_empty}

@@ -1,12 +1,7 @@
 -- What passes and threads have done.
 use Rattle.std.proofs.Common.{◌≡◌, ℕ, zero, suc, ◌+◌, ◌<◌, ◌≤◌, List, [], ◌∷◌, ◌++◌, length, get_or, drop, Option, Some, Result, Ok, Err, refl, sym, ap, ◌∙◌, subst, arith, append-nil, append_assoc, length-append, add-one, drop-cons, ◌==◌, true, ◌≢◌, false, cond, set, length-set, get_or-set_same, get_or-set_other, inl, inr, take}
-use Rattle.std.proofs.lemmas.List.{nil_from_length, append_cancel_left, map-append, take_more}
-use Rattle.std.proofs.lemmas.Bool.Decides.{nat_tests, eqb_tells}
-use Rattle.std.proofs.Math.Dec.{eqb}
-use Rattle.std.proofs.lemmas.Bool.{eq-eqb, eqb-false}
-use Rattle.jup_app.specs.Prelude.{Command, EditFault, BoardBatch, BoardEdits, Commands, board_batches, Call, Take, Fetch, StarReply, MadeEdit, BoardSite, edit_answer, EditAnswers, is_edit_memory, made_by, BoardAttached, HubFault, HubEvent, View, Hub, most_fetched, SiteEnd, Job, AllByRecursion, Bor}
+use Rattle.jup_app.specs.Prelude.{Command, EditFault, BoardBatch, BoardEdits, Commands, board_batches, Call, Take, Fetch, StarReply, MadeEdit, BoardSite, edit_answer, EditAnswers, is_edit_memory, made_by, BoardAttached, HubFault, HubEvent, View, Hub, most_fetched, SiteEnd, Job, AllByRecursion, Bor, eq-eqb, eqb-false, eqb, nil_from_length, append_cancel_left, map-append, take_more, nat_tests, eqb_tells, BeginsWith, BeginsWithAll, Called, with_call, Meets, having_seen, IsLegal, AllTallied, AllApart, tallies, tally}
 use Rattle.jup_star.specs.declared.calls.StarReply.TheVariants as reply
-use Rattle.jup_hub.specs.Histories.{BeginsWith, BeginsWithAll, Called, with_call, Meets, having_seen, IsLegal, AllTallied, AllApart, tallies, tally}
 use Rattle.jup_session.specs.Sessions.{HasAnswered}
 use Rattle.jup_app.specs.Runs.{BoardUp, BoardDown, delivered, Made, made, Step, Edited, Took, Got, calls_of, edits_of, IsPlayed, IsAccepted, all_delivered, AcceptsAll, makes, link_with, HasSeen, Plays, Handles, IsDelivering, site_of, IsSite, with_log, calls_at, FoundNothing, AreNumbered, Drained, EndsQuiet, IsDrained, empty_fetches, EditAnswer, edited, answer_to, edit_by, answer_by, singles, Works, Answered, Played, HasMet, IsSame, IsJob, AreJobs, no_site}
 use Rattle.jup_app.proofs.Calls.{makes-append, calls_of-append, played_both, edits_of-append, each_both, each_weaker, each_made, apart, calls_at-append, calls_at_own, calls_at_other, calls_own}

@@ -1,13 +1,9 @@
 -- The assembled run of the core follows the history.
 use Rattle.std.proofs.Common.{◌≡◌, ℕ, zero, suc, ◌+◌, ◌<◌, ◌≤◌, true, false, cond, List, [], ◌∷◌, ◌++◌, drop, Option, Some, None, option_map, Result, Ok, Err, refl, sym, ap, ◌∙◌, subst, arith, append-nil, append_assoc, inl, inr}
-use Rattle.std.proofs.Math.Dec.{eqb}
-use Rattle.std.proofs.lemmas.Bool.{eq-eqb, eqb-true, eqb-false}
-use Rattle.std.proofs.lemmas.Bool.Decides.{eqb_tells}
-use Rattle.jup_app.specs.Prelude.{BoardBatch, BoardEdits, Commands, board_batches, batch_laws, StarFault, Call, Take, Fetch, edit_answer, HubEvent, Happened, BoardWorld, BoardAttached, BoardEvent, IsReached, attached, opened_world, Outcome, outcome, happens, run, one_taken, one_handed, with_edit, EditFault, AllByRecursion}
+use Rattle.jup_app.specs.Prelude.{BoardBatch, BoardEdits, Commands, board_batches, batch_laws, StarFault, Call, Take, Fetch, edit_answer, HubEvent, Happened, BoardWorld, BoardAttached, BoardEvent, IsReached, attached, opened_world, Outcome, outcome, happens, run, one_taken, one_handed, with_edit, EditFault, AllByRecursion, eq-eqb, eqb-true, eqb-false, eqb, eqb_tells, IsLegal, star_through}
 use Rattle.jup_star.specs.declared.messages.Down.TheVariants as down
 use Rattle.jup_star.specs.declared.calls.StarReply.TheVariants as reply
 use Rattle.jup_star.specs.Stars.{BoardLink, reply_of, star_after}
-use Rattle.jup_hub.specs.Histories.{IsLegal, star_through}
 use Rattle.jup_world.specs.Events as event
 use Rattle.jup_world.specs.Worlds.{at_site, at_linked, at_attached, edit_outcome, first_up, up_outcome, first_down, down_outcome}
 use Rattle.jup_world.proofs.Sound.Traces.{standing_of}

@@ -1,7 +1,6 @@
 -- The calls of sites and of a star.
 use Rattle.std.proofs.Common.{◌≡◌, false, ℕ, ◌<◌, List, [], ◌∷◌, ◌++◌, drop, Option, Some, None, option_to_list, Result, Ok, Err, refl, sym, ap, ◌∙◌, subst, zero, suc, ◌+◌, ◌≤◌, Bool, true, cond, not, take, map, nat_eq, arith}
-use Rattle.std.proofs.lemmas.Bool.{eqb-true}
-use Rattle.jup_app.specs.Prelude.{EditFault, BoardBatch, Commands, board_batches, MadeEdit as Made, SiteFault, StarFault, Joined, Call, Join, Take, Fetch, Leave, JoinedReply, Fetched, edit_answer, deliver_fault, BoardSite, EditAnswers, is_edit_memory, made_by, BoardAttached, one_taken, HubEvent, AllByRecursion}
+use Rattle.jup_app.specs.Prelude.{EditFault, BoardBatch, Commands, board_batches, MadeEdit as Made, SiteFault, StarFault, Joined, Call, Join, Take, Fetch, Leave, JoinedReply, Fetched, edit_answer, deliver_fault, BoardSite, EditAnswers, is_edit_memory, made_by, BoardAttached, one_taken, HubEvent, AllByRecursion, eqb-true, star_through}
 use Rattle.jup_star.specs.declared.calls.StarReply.TheVariants.{Taken}
 use Rattle.jup_star.specs.declared.messages.Down.TheVariants as down
 use Rattle.jup_star.specs.declared.messages.Up.TheVariants as up
@@ -9,7 +8,6 @@ use Rattle.jup_star.specs.Sites.{received, sent_back, after_fault, DeliverAnswer
 use Rattle.jup_star.specs.Stars.{is_of, link_fetched, opened_link, link_heard, link_sent, link_acked, link_ponged, operation_at, link_of, without, at_link, join_fault, joined, up_fault, take_fault, taken, left, fetched, IsNew, AreApart, BoardStar, BoardLink, joining, join_result, after_join, take_result, after_take, fetch_result, after_fetch, after_leave, reply_of, star_after}
 use Rattle.jup_star.specs.Sites as site
 use Rattle.jup_star.proofs.LinkChanges.{apart_map, apart_without}
-use Rattle.jup_hub.specs.Histories.{star_through}
 use Rattle.jup_app.specs.Runs.{BoardUp, BoardDown, Step, Edited, Took, Got, edit_by, edited, delivered, all_delivered, IsAccepted, IsPlayed, link_with}
 
 -- What the calls on a site do to it and to what it has still to send.

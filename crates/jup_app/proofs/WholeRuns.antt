@@ -1,9 +1,6 @@
 -- The run of the core, from its joins to its end.
 use Rattle.std.proofs.Common.{◌≡◌, ℕ, zero, suc, ◌+◌, ◌<◌, ◌≤◌, true, false, List, [], ◌∷◌, ◌++◌, map, length, get_or, Option, Some, None, Ok, Err, refl, sym, ap, ◌∙◌, subst, arith, append-nil, ◌-◌, Bool, cond, inl, inr, append_assoc}
-use Rattle.std.proofs.lemmas.Bool.{eq-eqb}
-use Rattle.std.proofs.Math.Dec.{eqb}
-use native.Mathlib.Decide.{dec_le}
-use Rattle.jup_app.specs.Prelude.{highest_limit, Command, EditFault, board_batches, Windows, BoardBatch, BoardEdits, Commands, content, meaning, batch_laws, StarFault, Joined, Join, Take, Fetch, Leave, Call, OrderEntry, opened_site, BoardSite, turns, edits, own_edits, BoardWorld, BoardAttached, BoardEvent, IsReached, BoardReply, attached, happens, IsOpening, opened_world, run, Happened, HubEvent, Tally, SiteEnd, AllByRecursion}
+use Rattle.jup_app.specs.Prelude.{highest_limit, Command, EditFault, board_batches, Windows, BoardBatch, BoardEdits, Commands, content, meaning, batch_laws, StarFault, Joined, Join, Take, Fetch, Leave, Call, OrderEntry, opened_site, BoardSite, turns, edits, own_edits, BoardWorld, BoardAttached, BoardEvent, IsReached, BoardReply, attached, happens, IsOpening, opened_world, run, Happened, HubEvent, Tally, SiteEnd, AllByRecursion, eq-eqb, eqb, dec_le, IsLegal, star_through, calls_by, BeginsWith, AllTallied, IsNew, AllApart}
 use Rattle.jup_star.specs.declared.calls.StarReply.TheVariants as reply
 use Rattle.jup_star.specs.declared.messages.Up.TheVariants as up
 use Rattle.jup_star.specs.Stars.{reply_of, star_after, BoardLink, take_fault, after_join, after_take, after_fetch, after_leave}
@@ -14,7 +11,6 @@ use Rattle.jup_world.specs.Sound.{IsSound, StandsAt}
 use Rattle.jup_world.specs.Events as event
 use Rattle.jup_world.proofs.Worlds.{are_linked, reached_sound}
 use Rattle.jup_world.proofs.Sound.Runs.{sound-promises}
-use Rattle.jup_hub.specs.Histories.{IsLegal, star_through, calls_by, BeginsWith, AllTallied, IsNew, AllApart}
 use Rattle.jup_app.specs.Runs.{Made, made, joins, edits_at, makes, link_with, told_to, IsFresh, joined_call, Step, calls_of, edits_of, IsPlayed, site_of, made_at, IsSite, assembled, calls_at, no_site, BoardUp, EditAnswer, edit_at, IsRunOf, assembled_world, AllAgree, accepted}
 use Rattle.jup_app.proofs.Calls.{apart, IsKnown, total, known, each_append, each_both, each_weaker, made_since, only_one, none_first, all_of_one, each_tallied, each_made, Parted, made_at_is, sited, made_at_makes, made_at-append, calls_own, calls_of-append, played_both}
 use Rattle.jup_app.proofs.Simulate.{after, edits_at_last, Tracks, Ends, assembled_ends, run_append, reached_more}

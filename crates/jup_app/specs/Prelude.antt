@@ -1,4 +1,5 @@
 -- What files of this crate cite most: names of the crates below, and types of this crate. Declares nothing.
+pub use Rattle.jup_hub.specs.Histories.{AllApart, AllTallied, BeginsWith, BeginsWithAll, Called, IsLegal, IsNew, Meets, calls_by, entry, having_seen, joined_with, longest, split_from, star_through, tallies, tally, with_call}
 pub use Rattle.jup_limits.specs.Limits.{highest_limit}
 pub use Rattle.jup_window.specs.declared.commands.Command.{Command}
 pub use Rattle.jup_window.specs.declared.faults.EditFault.{EditFault}
@@ -29,6 +30,11 @@ pub use Rattle.jup_app.specs.declared.runs.drain.SiteEnd.{SiteEnd}
 pub use Rattle.jup_app.specs.declared.runs.halt.Halt.{Halt}
 pub use Rattle.jup_app.specs.declared.runs.player.Player.{Player}
 pub use Rattle.jup_app.specs.declared.runs.threads.Job.{Job}
+pub use Rattle.std.proofs.Math.Dec.{eqb}
+pub use Rattle.std.proofs.lemmas.Bool.Decides.{eqb_tells, nat_tests}
+pub use Rattle.std.proofs.lemmas.Bool.{eq-eqb, eqb-false, eqb-true}
+pub use Rattle.std.proofs.lemmas.List.{append-nil, append_cancel_left, get_or_default, map-append, nil_from_length, take_more}
 pub use Rattle.std.specs.List.{AllByRecursion}
 pub use Rattle.std.specs.Borrow.{Bor}
 pub use Rattle.std.specs.Vec.Iter.{into_iter_items}
+pub use native.Mathlib.Decide.{dec_le}

@@ -1,12 +1,11 @@
 -- Runs in threads, and the run of the core that each is.
 use Rattle.std.specs.Prelude.{◌≡◌, ℕ, zero, suc, ◌<◌, ◌≤◌, cond, eqb, List, [], ◌∷◌, ◌++◌, drop, Option, None, Result, Ok, Err, map, ◌+◌, length, get_or, Some, slice_index_or, IfOk, true}
-use Rattle.jup_app.specs.Prelude.{Command, EditFault, BoardBatch, BoardEdits, Commands, board_batches, Windows, content, meaning, Call, Join, Take, Fetch, Leave, StarReply, Fetched, JoinedReply, Joined, OrderEntry, edit_answer, deliver_fault, BoardSite, opened_site, Happened, BoardAttached, BoardEvent, BoardReply, BoardWorld, with_edit, one_taken, one_handed, opened_world, attached, run, turns, edits, own_edits, HubEvent, View, Hub, Tally, view_of, IsPassOf, most_fetched, SiteEnd, Player, Halt, Job, AllByRecursion, Bor}
+use Rattle.jup_app.specs.Prelude.{Command, EditFault, BoardBatch, BoardEdits, Commands, board_batches, Windows, content, meaning, Call, Join, Take, Fetch, Leave, StarReply, Fetched, JoinedReply, Joined, OrderEntry, edit_answer, deliver_fault, BoardSite, opened_site, Happened, BoardAttached, BoardEvent, BoardReply, BoardWorld, with_edit, one_taken, one_handed, opened_world, attached, run, turns, edits, own_edits, HubEvent, View, Hub, Tally, view_of, IsPassOf, most_fetched, SiteEnd, Player, Halt, Job, AllByRecursion, Bor, entry, BeginsWith, longest, Called, Meets, calls_by, tallies, IsLegal, star_through}
 use Rattle.jup_batch.specs.Boards.{edit_of}
 use Rattle.jup_star.specs.declared.calls.StarReply.TheVariants as reply
 use Rattle.jup_star.specs.Stars.{BoardLink}
 use Rattle.jup_world.specs.declared.events.Reply.TheVariants.{Made as WasMade, Refused as WasRefused}
 use Rattle.jup_world.specs.Events as event
-use Rattle.jup_hub.specs.Histories.{entry, BeginsWith, longest, Called, Meets, calls_by, tallies, IsLegal, star_through}
 use Rattle.jup_world.specs.Prelude.{Up, Down, opened_star, link_of, BoardStar}
 
 -- The run of the core that a history and one log for each site make.

@@ -4,12 +4,10 @@ use Rattle.std.proofs.lemmas.Bool.{false≢true}
 use Rattle.std.proofs.Math.Nat.{min-le_left, min-le_right, le-min, le_antisymm}
 use Rattle.std.proofs.lemmas.List.{map-append}
 use Rattle.std.proofs.lemmas.List.Sums.{sum_by-append}
-use Rattle.jup_rules.specs.Prelude.{BoardBatch, UpOp, UpAck, UpPing, Up, Line, Gathered, Said, SaysUp, SaysBye, StreamFault}
+use Rattle.jup_rules.specs.Prelude.{BoardBatch, UpOp, UpAck, UpPing, Up, Line, Gathered, Said, SaysUp, SaysBye, StreamFault, Gate, said_piece}
 use Rattle.jup_wire.specs.declared.line.Line.TheVariants as wire
 use Rattle.jup_gather.specs.Gathering.{Piece, Alone, Gathers, HasGathered, pieces_of, up_in, message_given}
 use Rattle.jup_gather.proofs.Gathering.{one_piece}
-use Rattle.jup_rules.specs.declared.session.Awaits.TheVariants.{Gate}
-use Rattle.jup_stream.specs.Saying.{said_piece}
 use Rattle.jup_rules.specs.Sessions.{said_by, IsSaidBy, IsUnsaid, IsRefused, HasSaid, Keeper, says_edit, counted, HasHeard, incoming_of, edits_with, next_of, edits_after, Leads}
 use Rattle.jup_gather.specs.declared.gathered.Gathered.TheVariants.{Whole, Plain, Held, Misplaced}
 

@@ -1,13 +1,11 @@
 -- How sessions end, with their numbers.
 use Rattle.std.specs.Prelude.{ℕ, Option, Some, None}
-use Rattle.jup_rules.specs.Prelude.{Line, SessionFault, Ending, Stop, End, StopFault}
+use Rattle.jup_rules.specs.Prelude.{Line, SessionFault, Ending, Stop, End, StopFault, Hub, Stream, GateShut, FarBehind, Bye, Gone, Fault}
 use Rattle.jup_wire.specs.declared.line.Line.TheVariants.{Bye as ByeLine, Error}
 use Rattle.jup_stream.specs.Faults.{stream_fault_number}
 use Rattle.jup_hub.specs.Histories.{hub_fault_number}
 use Rattle.jup_faults.specs.Faults.{fault_number}
 use Rattle.jup_faults.specs.declared.table.Fault.TheVariants as faults
-use Rattle.jup_rules.specs.declared.ends.SessionFault.TheVariants.{Hub, Stream, GateShut, FarBehind}
-use Rattle.jup_rules.specs.declared.ends.Ending.TheVariants.{Bye, Gone, Fault}
 use Rattle.jup_rules.specs.declared.ends.Untaken.{Untaken}
 use Rattle.jup_rules.specs.declared.ends.Untaken.TheVariants as untaken
 

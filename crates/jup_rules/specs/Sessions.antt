@@ -1,13 +1,9 @@
 -- What a session makes of the lines of a site.
 use Rattle.std.specs.Prelude.{◌≡◌, ◌≢◌, ◌⊎◌, Bool, true, false, List, [], ◌∷◌, ◌++◌, map, Option, Some, None, Result, Ok, Err, ℕ, ◌+◌, min, count_by}
-use Rattle.jup_rules.specs.Prelude.{BoardBatch, Up, Down, DownOp, DownAck, DownPong, UpOp, UpAck, UpPing, Line, Gathered, Star, Said, SaysUp, SaysBye, StreamFault, Misplaced, NoMemory, Ending}
+use Rattle.jup_rules.specs.Prelude.{BoardBatch, Up, Down, DownOp, DownAck, DownPong, UpOp, UpAck, UpPing, Line, Gathered, Star, Said, SaysUp, SaysBye, StreamFault, Misplaced, NoMemory, Ending, Gate, Pongs, Nothing, said_piece, Hub, Stream, Bye, Gone}
 use Rattle.jup_wire.specs.declared.line.Line.TheVariants as line
 use Rattle.jup_gather.specs.Gathering.{IsPiece, piece_lines, HasGathered, pieces_of, down_piece}
-use Rattle.jup_stream.specs.Saying.{said_piece}
-use Rattle.jup_rules.specs.declared.ends.SessionFault.TheVariants.{Hub, Stream}
-use Rattle.jup_rules.specs.declared.ends.Ending.TheVariants.{Bye, Gone}
 use Rattle.jup_rules.specs.declared.session.Awaits.{Awaits}
-use Rattle.jup_rules.specs.declared.session.Awaits.TheVariants.{Gate, Pongs, Nothing}
 use Rattle.jup_rules.specs.declared.session.Incoming.{Incoming}
 use Rattle.jup_rules.specs.declared.session.Next.{Next}
 use Rattle.jup_rules.specs.declared.session.Next.TheVariants.{Line as NextLine, Take, End}

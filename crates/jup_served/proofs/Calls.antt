@@ -1,16 +1,13 @@
 -- The calls of a session.
 use Rattle.std.proofs.Common.{◌≡◌, ◌⊎◌, inl, inr, ℕ, Bool, true, false, cond, List, [], ◌∷◌, ◌++◌, refl, sym, subst, ◌∙◌, bytes_eq, true≢false, not, ◌||◌, map, nat_eq, Ok, Err, ap, append_assoc, eq-eqb, eqb-true, Option, Some, Result, MatchBool, append-nil, length}
 use Rattle.std.proofs.lemmas.Slice.Eq.{bytes_eq-Decides}
-use Rattle.std.proofs.lemmas.List.Concat.{flat_map-cons, flat_map-append}
-use Rattle.std.proofs.lemmas.List.{map-append}
-use Rattle.jup_served.specs.Prelude.{BoardBatch, Up, Call, Join, Take, Fetch, Leave, StarReply, JoinedReply, Taken, Fetched, Left, Line, Progress, HasRead, all-append, at_first, HubEvent, Tally, View, Said, SaysUp, Ending, Sourced, AllByRecursion, flat_map}
+use Rattle.jup_served.specs.Prelude.{BoardBatch, Up, Call, Join, Take, Fetch, Leave, StarReply, JoinedReply, Taken, Fetched, Left, Line, Progress, HasRead, all-append, at_first, HubEvent, Tally, View, Said, SaysUp, Ending, Sourced, AllByRecursion, flat_map, flat_map-cons, flat_map-append, bytes_over, bytes_heard, map-append}
 use Rattle.jup_hub.specs.Histories.{calls_by, AllTallied, IsNew, AllApart, is_among, calls_of_others, entry, Called, ComesToAsk, tally, after_split}
 use Rattle.jup_honest.specs.Sites.{taken_with, takes_of, fetched_in, fetched_with, fetches_of}
 use Rattle.jup_rules.specs.Sessions.{HasSaid}
 use Rattle.jup_socket.specs.Sockets.{messages_down}
 use Rattle.jup_session.specs.Sessions.{AreTakesOf, brought, lines_brought, IsFetchFor, AreFetchesFor, EndsAt, Refused, Withheld, Hears, Over, Stopped, ByLine, AtMessage, Spent, Heard, HasMadeNone}
 use Rattle.jup_rules.specs.declared.ends.Untaken.{Untaken}
-use Rattle.jup_session.specs.ExactSessions.{bytes_over, bytes_heard}
 use Rattle.jup_session.proofs.Calls.{heard_serves}
 use Rattle.jup_served.specs.Sessions.{Ended, ServesSite, answer_of, writer_of, fetches_for}
 use Rattle.jup_session.specs.Prelude.{HubFault, Made, SaysBye, Incoming, down_lines, Keeper}

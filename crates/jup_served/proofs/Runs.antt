@@ -1,29 +1,23 @@
 -- The run of a site that a session serves.
 use Rattle.std.proofs.Common.{◌≡◌, ℕ, ◌≤◌, Bool, true, false, List, [], ◌∷◌, ◌++◌, refl, sym, ap, ◌∙◌, arith, nat_le, ◌&&◌, ◌⊎◌, inl, inr, ◌<◌, Ok, IsTrue, subst, append_assoc, bytes_eq, map, Err, append-nil}
 use Rattle.std.proofs.lemmas.Bool.{leb-false, cond-true}
-use Rattle.std.proofs.lemmas.List.Concat.{flat_map-cons}
-use Rattle.std.proofs.lemmas.List.Elements.{filter-append}
-use Rattle.std.proofs.lemmas.List.{map-append}
 use Rattle.jup_window.specs.declared.kinds.WidgetOp.TheVariants as widget
 use Rattle.jup_window.specs.Widgets.{relabels_no_text}
 use Rattle.jup_window.specs.Boards as board
 use Rattle.jup_window.specs.Widgets as one
-use Rattle.jup_served.specs.Prelude.{Windows, bare, BoardBatch, Up, Down, Joined, Call, Join, Take, Fetch, Leave, JoinedReply, UpPing, Line, HasRead, HubEvent, Ending, ClientState, Said, SaysUp, last_line, flat_map, AllByRecursion}
+use Rattle.jup_served.specs.Prelude.{Windows, bare, BoardBatch, Up, Down, Joined, Call, Join, Take, Fetch, Leave, JoinedReply, UpPing, Line, HasRead, HubEvent, Ending, ClientState, Said, SaysUp, last_line, flat_map, AllByRecursion, flat_map-cons, Bye, Gone, Fault, bytes_of, bytes_heard, map-append, filter-append, spelling, HasSpelling, is_spelled, line_bytes}
 use Rattle.jup_star.specs.Sites.{edit_reply, site_edited, deliver_reply, site_delivered}
 use Rattle.jup_wire.specs.declared.line.Line.TheVariants as line
 use Rattle.jup_wire.specs.Kinds.{IsBody}
-use Rattle.jup_wire.specs.Lines.{spelling, HasSpelling, is_spelled, line_bytes}
 use Rattle.jup_layout.specs.Drafts.{widget_lines, window_lines, board_lines}
 use Rattle.jup_hub.specs.Histories.{entry, star_through, IsLegal, calls_by, AllTallied, is_among, tally, tallies}
 use Rattle.jup_honest.specs.Sites.{Connection, history, takes_of, fetches_of, Begins, IsReliable, IsCausal, IsCausalThrough, through, after, Step, SiteRun, IsHonest, opening, calls, start, now, Edit, Deliver, Ping, Called, sent_as_made, sent_as_handed}
 use Rattle.jup_honest.proofs.Steps.{CalledStar, called-opened, legal-parts}
 use Rattle.jup_honest.proofs.Backlogs.{begins_chain, both_begin, causal_through}
 use Rattle.jup_honest.proofs.Runs.{run-history, join_gives}
-use Rattle.jup_rules.specs.declared.ends.Ending.TheVariants.{Bye, Gone, Fault}
 use Rattle.jup_socket.specs.Sockets.{IsLast, greeting, messages_down, written_down}
 use Rattle.jup_socket.proofs.Sockets.{all_first, up_reliable, down_reliable, edit_step, deliver_step}
 use Rattle.jup_session.specs.Sessions.{IsCallFor, IsFetchFor, welcome_lines}
-use Rattle.jup_session.specs.ExactSessions.{bytes_of, bytes_heard}
 use Rattle.jup_served.specs.Sessions.{Ended, ServesSite, answer_of, writer_of, fetches_for, IsOwnedBy, IsServedRun, IsOneOf, IsSessionHub, IsClientStep, IsClientRun}
 use Rattle.jup_served.proofs.Calls.{IsFetchOf, fetch_of, IsIn, by_in, among_is, IsTakeFor, takes_both, fetches_both, fetches_are, under_one, takes_under, fetches_under, join, half, departing, made_is, kept_is}
 use Rattle.jup_served.proofs.Hubs.{IsJoin, early_join, early_fetches, owned}

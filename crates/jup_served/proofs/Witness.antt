@@ -1,24 +1,19 @@
 -- Two sessions of one hub.
 use Rattle.std.proofs.Common.{◌≡◌, inl, inr, ℕ, true, false, List, [], ◌∷◌, ◌++◌, map, Some, None, Ok, refl, sym, ap, subst, ◌∙◌, append-nil, lit≤, count_by, Bool, length, lit<}
-use Rattle.std.proofs.lemmas.List.Concat.{flat_map-append}
-use Rattle.std.proofs.lemmas.List.Elements.{All-nil}
-use Rattle.jup_served.specs.Prelude.{BoardBatch, bare, Windows, Up, Joined, Join, Leave, Take, Fetch, StarReply, JoinedReply, Taken, Fetched, Left, UpPing, Down, Line, Progress, HasRead, all-append, at_first, IsOpening, HubEvent, View, Said, SaysUp, Answer, ClientHeard, ClientState, last_line, Sourced, flat_map, AllByRecursion}
+use Rattle.jup_served.specs.Prelude.{BoardBatch, bare, Windows, Up, Joined, Join, Leave, Take, Fetch, StarReply, JoinedReply, Taken, Fetched, Left, UpPing, Down, Line, Progress, HasRead, all-append, at_first, IsOpening, HubEvent, View, Said, SaysUp, Answer, ClientHeard, ClientState, last_line, Sourced, flat_map, AllByRecursion, flat_map-append, Gone, IsFresh, IsServed, Served, all_done, bytes_read, All-nil, spelling, HasSpelling}
 use Rattle.jup_batch.specs.Boards.{edit_of}
 use Rattle.jup_star.specs.Stars.{BoardLink, reply_of, star_after, opened_counting}
 use Rattle.jup_star.specs.Sites.{BoardSite, site_edited}
 use Rattle.jup_wire.specs.declared.line.Line.TheVariants.{Bye}
-use Rattle.jup_wire.specs.Lines.{spelling, HasSpelling}
 use Rattle.jup_wire.specs.Streams.{IsPart}
 use Rattle.jup_gather.specs.Gathering.{IsPiece}
 use Rattle.jup_hub.specs.Histories.{Meets, tally, after_split, having_called, with_call}
 use Rattle.jup_honest.specs.Sites.{Step, Edit, Deliver, Ping, Called, IsCausalThrough, SiteRun, now, start, AreDrained}
-use Rattle.jup_rules.specs.declared.ends.Ending.TheVariants.{Gone}
 use Rattle.jup_client.specs.declared.client.Told.TheVariants as told
 use Rattle.jup_stream.specs.Saying.{said_piece}
 use Rattle.jup_rules.specs.Sessions.{says_edit, counted}
 use Rattle.jup_socket.specs.Sockets.{said_lines, all_said}
 use Rattle.jup_socket.proofs.Sockets.{mapped_lines}
-use Rattle.jup_session.specs.ExactSessions.{IsFresh, IsServed, Served, all_done, bytes_read}
 use Rattle.jup_session.specs.Sessions.{lines_brought, AreFetchesFor, LastLeavesNothing, welcome_lines, AreTakesOf, Stopped, Heard, AreCallsFor, HasLeft}
 use Rattle.jup_served.specs.Sessions.{Ended, ServesSite, IsClientRun, IsServedRun, IsSessionHub}
 use Rattle.jup_served.proofs.Runs.{lines_spelled}

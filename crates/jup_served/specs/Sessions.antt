@@ -1,15 +1,13 @@
 -- Sessions, their sites and their clients.
 use Rattle.std.specs.Prelude.{◌≡◌, ℕ, Bool, List, ◌∷◌, Option, IsTrue, ◌≤◌, ◌++◌, ◌⊎◌, [], option_to_list, Ok}
-use Rattle.jup_served.specs.Prelude.{highest_limit, bare, BoardBatch, Windows, Joined, Up, UpPing, IsOpening, HubEvent, View, Tally, Ending, Answer, ClientHeard as Heard, ClientState, Said, SaysUp, Sourced, AllByRecursion, flat_map}
+use Rattle.jup_served.specs.Prelude.{highest_limit, bare, BoardBatch, Windows, Joined, Up, UpPing, IsOpening, HubEvent, View, Tally, Ending, Answer, ClientHeard as Heard, ClientState, Said, SaysUp, Sourced, AllByRecursion, flat_map, IsFresh, IsServed, Served, IsExact, bytes_read, bytes_written, spelling, HasSpelling}
 use Rattle.jup_star.specs.Stars.{new_star}
-use Rattle.jup_wire.specs.Lines.{spelling, HasSpelling}
 use Rattle.jup_hub.specs.Histories.{is_among, tallies, calls_by, BeginsWith, Meets, IsLegal, AllTallied, AllApart, calls_of_others}
 use Rattle.jup_honest.specs.Sites.{IsCausalThrough, SiteRun, opening, calls, start, now, Step, Edit, Deliver, Ping, Called}
 use Rattle.jup_client.specs.Clients.{AnswersEdit, Answers, Delivers}
 use Rattle.jup_socket.specs.Sockets.{all_said, said_lines, Received}
 use Rattle.jup_session.specs.Sessions.{IsCallFor, IsSession, HasMadeNone}
 use Rattle.jup_session.specs.declared.sessions.undone.Undone.{Undone}
-use Rattle.jup_session.specs.ExactSessions.{IsFresh, IsServed, Served, IsExact, bytes_read, bytes_written}
 use Rattle.jup_session.specs.Prelude.{Hello}
 use Rattle.jup_client.specs.declared.asking.Request.TheVariants.{Sync}
 

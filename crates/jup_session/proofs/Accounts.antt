@@ -3,21 +3,16 @@ use Rattle.std.proofs.Common.{◌≡◌, ◌∙◌, sym, ap, subst, ℕ, inl, in
 use Rattle.std.specs.Io.KnownBytes.{Consumes, Appends, Keeps}
 use Rattle.std.proofs.KnownBytes.{Consumes-nil, Consumes-trans}
 use Rattle.std.proofs.lemmas.Fmt.{decimal_digit}
-use Rattle.jup_session.specs.Prelude.{BoardBatch, Up, Line, Hello, Error, line_bytes, View, HubEvent, Tally, Ending, Said, SaysUp, SaysBye as Bye, Hub, Stream, NoMemory, WriteFailed, HasHeard, Keeper, ending_of, last_line, standing, Sourced, HandsOn, Put, PutsLines, IsFlushed, WritesFront, fresh_put, puts_more}
-use Rattle.jup_wire.specs.Streams.{HasRead, Progress}
+use Rattle.jup_session.specs.Prelude.{BoardBatch, Up, Line, Hello, Error, line_bytes, View, HubEvent, Tally, Ending, Said, SaysUp, SaysBye as Bye, Hub, Stream, NoMemory, WriteFailed, HasHeard, Keeper, ending_of, last_line, standing, Sourced, HandsOn, Put, PutsLines, IsFlushed, WritesFront, fresh_put, puts_more, Untaken, Undone, HasRead, Progress, counted, says_edit, FarBehind, GateShut}
 use Rattle.jup_wire.proofs.Streams.{one_read}
 use Rattle.jup_gather.specs.Gathering.{Piece, up_in, up_way}
 use Rattle.jup_gather.proofs.Gathering.{one_gathering}
 use Rattle.jup_hub.specs.Histories.{after_split, tally, split_from, joined_with}
 use Rattle.jup_stream.specs.Saying.{said_piece}
-use Rattle.jup_rules.specs.Sessions.{counted, says_edit}
 use Rattle.jup_io.specs.Appends.{appends_kept}
 use Rattle.jup_stream.proofs.Streams.{written_of}
 use Rattle.jup_session.specs.ExactSessions.{IsFresh, IsTurnedAway, NoLine, NoGreeting, NoJoin, EndsEarly, TurnedAway, Unwelcome, IsServed, HasLines, NoRoom, Early, Served, IsExact, bytes_away, lines_away, bytes_early, lines_early, bytes_over, lines_over, bytes_heard, lines_heard, bytes_of, lines_of, bytes_read, lines_read, bytes_written, BeginWith, IsWelcomed, BothHalves, all_done}
 use Rattle.jup_rules.specs.declared.ends.SessionFault.{SessionFault}
-use Rattle.jup_rules.specs.declared.ends.SessionFault.TheVariants.{FarBehind, GateShut}
-use Rattle.jup_rules.specs.declared.ends.Untaken.{Untaken}
-use Rattle.jup_session.specs.declared.sessions.undone.Undone.{Undone}
 use Rattle.jup_session.specs.Sessions.{Over, Stopped, ByLine, AtMessage, Spent, Heard, FetchesAll, lines_brought, told_line, untold_line, Wrote}
 
 -- What the account of a session says of its bytes.

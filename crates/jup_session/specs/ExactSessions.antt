@@ -1,11 +1,7 @@
 -- What a session does, byte for byte.
 use Rattle.std.proofs.Common.{◌≡◌, ◌≢◌, ℕ, Bool, not, List, [], ◌∷◌, ◌++◌, Option, None, Ok, Err, IsTrue, inl, inr}
-use Rattle.std.specs.List.{flat_map, AllByRecursion}
-use Rattle.jup_session.specs.Prelude.{Joined, Join, JoinedReply, bare_joined, Line, Hello, line_bytes, HubFault, HubEvent, View, Made, Ending, Stop, Hub, Stream, NoMemory, Misplaced, WriteFailed, ending_of, ended_by, last_line, standing, Keeper, WritesFront, Sourced, HandsOn, Stops}
-use Rattle.jup_wire.specs.Streams.{HasRead}
+use Rattle.jup_session.specs.Prelude.{Joined, Join, JoinedReply, bare_joined, Line, Hello, line_bytes, HubFault, HubEvent, View, Made, Ending, Stop, Hub, Stream, NoMemory, Misplaced, WriteFailed, ending_of, ended_by, last_line, standing, Keeper, WritesFront, Sourced, HandsOn, Stops, Untaken, Undone, flat_map, AllByRecursion, HasRead}
 use Rattle.jup_hub.specs.Histories.{tally, after_split, Called}
-use Rattle.jup_rules.specs.declared.ends.Untaken.{Untaken}
-use Rattle.jup_session.specs.declared.sessions.undone.Undone.{Undone}
 use Rattle.jup_session.specs.Sessions.{GivesBack, IsLeaveOf, Departs, lines_brought, AreFetchesFor, FetchesAll, TellsFault, welcome_lines, Heard, Over, Stopped, ByLine, AtMessage, Spent}
 
 -- What a session reads, takes and writes, byte for byte.

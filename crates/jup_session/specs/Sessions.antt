@@ -1,18 +1,14 @@
 -- What a session hears, writes and asks of its hub.
 use Rattle.std.specs.Prelude.{◌≡◌, ◌<◌, ◌≤◌, ◌+◌, max, min, ℕ, ◌⊎◌, List, [], ◌∷◌, ◌++◌, length, Ok, Err, Option, Some, None, Result, ◌≢◌, IsSomeAnd, Bool, IsTrue}
-use Rattle.std.specs.List.{AllByRecursion, flat_map}
-use Rattle.jup_session.specs.Prelude.{BoardBatch, NoLink, Call, Join, Take, Fetch, Leave, StarReply, JoinedReply, Fetched, Taken, Left, Joined, Down, Up, BoardStar, Line, board_lines, HubEvent, Tally, View, HubFault, Made, Ending, SessionFault, Hub, Stream, StreamFault, NoMemory, ReadsSpent, WriteFailed, Incoming, Said, SaysUp, SaysBye, Stop, ending_of, last_line, down_lines, outcome, HasHeard, Leads, Keeper, Put, PutsLines, Sourced, HandsOn, Stops}
+use Rattle.jup_session.specs.Prelude.{BoardBatch, NoLink, Call, Join, Take, Fetch, Leave, StarReply, JoinedReply, Fetched, Taken, Left, Joined, Down, Up, BoardStar, Line, board_lines, HubEvent, Tally, View, HubFault, Made, Ending, SessionFault, Hub, Stream, StreamFault, NoMemory, ReadsSpent, WriteFailed, Incoming, Said, SaysUp, SaysBye, Stop, ending_of, last_line, down_lines, outcome, HasHeard, Leads, Keeper, Put, PutsLines, Sourced, HandsOn, Stops, Untaken, AllByRecursion, flat_map, most_fetched, FarBehind}
 use Rattle.jup_wire.specs.declared.line.Line.TheVariants as line
 use Rattle.jup_faults.specs.Faults.{fault_number}
 use Rattle.jup_faults.specs.declared.table.Fault.TheVariants.{EarlyEnd}
 use Rattle.jup_hub.specs.Histories.{IsLegal, calls_by, tally, Called}
-use Rattle.jup_rules.specs.declared.ends.SessionFault.TheVariants.{FarBehind}
 use Rattle.jup_rules.specs.declared.session.Awaits.TheVariants.{Gate, Pongs}
 use Rattle.jup_rules.specs.declared.ends.Ending.TheVariants.{Gone, Fault as EndsByFault}
 use Rattle.jup_rules.specs.declared.session.Next.TheVariants.{Take as NextTake, End as NextEnd}
-use Rattle.jup_rules.specs.Sessions.{most_fetched}
 use Rattle.jup_rules.specs.Ends.{ended_untaken}
-use Rattle.jup_rules.specs.declared.ends.Untaken.{Untaken}
 use Rattle.jup_rules.specs.declared.ends.Untaken.TheVariants as untaken
 use Rattle.jup_limits.specs.Limits.{most_behind}
 use Rattle.jup_hub.specs.declared.fault.HubFault.TheVariants.{Star}

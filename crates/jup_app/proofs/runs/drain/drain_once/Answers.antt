@@ -1,6 +1,5 @@
 use Rattle.std.proofs.Common.{arith, true≢false, sym, ◌∙◌, false, true, length, ◌<◌, ◌+◌}
-use Rattle.std.proofs.lemmas.List.{get_or_default}
-use Rattle.jup_app.specs.Prelude.{view_of}
+use Rattle.jup_app.specs.Prelude.{view_of, get_or_default}
 use Rattle.jup_app.specs.Runs.{EndsQuiet}
 use Rattle.jup_app.proofs.Passes.{drained_none, drained_more, quiet_none, quiet_more, number_at, handles_for}
 use Rattle.jup_app.proofs.runs.drain.drain_once.Goals as goal

@@ -1,6 +1,5 @@
 use Rattle.std.proofs.Common.{[], lit<, sym, ◌∙◌}
-use Rattle.std.proofs.lemmas.List.{append-nil}
-use Rattle.jup_app.specs.Prelude.{most_fetched}
+use Rattle.jup_app.specs.Prelude.{most_fetched, append-nil}
 use Rattle.jup_app.proofs.Passes.{got_nothing, got_through, handles_both, no_elements}
 use Rattle.jup_app.proofs.Calls.{fetches_first}
 use Rattle.jup_app.proofs.runs.receive.receive.Goals as goal

@@ -1,6 +1,5 @@
 use Rattle.std.proofs.Common.{sym, ap, ◌∙◌, ◌≡◌, ◌<◌, ◌+◌, [], ◌∷◌, ◌++◌, append_assoc, length, get_or, subst, List}
-use Rattle.std.proofs.lemmas.List.{get_or_default}
-use Rattle.jup_app.specs.Prelude.{BoardSite, into_iter_items}
+use Rattle.jup_app.specs.Prelude.{BoardSite, into_iter_items, get_or_default}
 use Rattle.jup_app.specs.Runs.{AreJobs}
 use Rattle.jup_app.proofs.Passes.{met_same, same_both, jobs_more, length_last, script_fits}
 use Rattle.jup_app.proofs.runs.seating.seat_all.Goals as goal

@@ -1,6 +1,5 @@
 use Rattle.std.proofs.Common.{ℕ, zero, suc, ◌≤◌, ◌<◌, Bool, true, false, not, IsTrue, IsFalse, length, arith, ap, refl, subst, true≢false, sym}
-use Rattle.jup_rules.specs.Sessions.{most_fetched}
-use Rattle.jup_session.specs.Prelude.{view_of}
+use Rattle.jup_session.specs.Prelude.{view_of, most_fetched}
 use Rattle.jup_session.specs.Sessions.{Acknowledges, Few, NotFetched, said_received}
 use Rattle.jup_session.proofs.sessions.leaving.give_some.Goals as goal
 

@@ -1,7 +1,5 @@
 use Rattle.std.proofs.Common.{[], ◌<◌, arith, length, subst, flat_map, IfNone, IfSome}
-use Rattle.jup_rules.specs.Sessions.{most_fetched}
-use Rattle.jup_session.specs.Prelude.{view_of, down_lines, PutsLines}
-use Rattle.jup_stream.specs.Streams.{puts_none}
+use Rattle.jup_session.specs.Prelude.{view_of, down_lines, PutsLines, most_fetched, puts_none}
 use Rattle.jup_session.specs.Sessions.{Answers}
 use Rattle.jup_session.proofs.Calls.{leaves_after, forwards_none, forwards_more, forwards_in_vain, forwards_until, forwards_last, forwards_serves}
 use Rattle.jup_session.proofs.sessions.writing.forward.Goals as goal

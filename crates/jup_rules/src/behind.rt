@@ -132,7 +132,7 @@ fn micros_of(took: Option<Duration>) -> u64
     }
 }
 
-/// Operations of a message that the star took, which nobody has counted yet. Contracts see how many. It is not `Drop`: who has it has to count it.
+/// Operations of a message that the star took, which nobody has counted yet. Contracts see how many. It is not `Drop`, so a caller that has it has to count it.
 #[derive(Debug)]
 pub struct Uncounted {
     operations: u32,

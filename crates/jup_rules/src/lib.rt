@@ -3,11 +3,13 @@
 #![tactic(auto)]
 
 mod behind;
+mod end_mark;
 mod ends;
 mod rings;
 mod session;
 
 pub use behind::{Admission, FarBehind, Lag, Rests, Uncounted, operations_in};
+pub use end_mark::{EndMark, Over};
 pub use ends::{Ending, SessionFault, Untaken};
 pub use rings::{Rings, place_of};
 pub use session::{

@@ -7,7 +7,7 @@ mod sessions;
 
 pub use gate::{Gate, Open, pass_gate, take_edit};
 pub use jup_io::Peer;
-pub use jup_net::hang_up;
+pub use jup_net::{Outgoing, hang_up};
 pub use jup_rules::{Ending, FarBehind, SessionFault, Untaken};
 pub use laws::one_session;
-pub use sessions::{Bell, Outgoing, Serving, Session, Undone, serve_link, serve_session};
+pub use sessions::{Bell, Serving, Session, Undone, serve_link, serve_session};

@@ -3,13 +3,11 @@
 mod bell;
 mod costly;
 mod due;
-mod end_mark;
 mod ending;
 mod greeting;
 mod halves;
 mod leaving;
 mod link;
-mod outgoing;
 mod reading;
 mod serving;
 mod share;
@@ -19,6 +17,5 @@ mod watched;
 mod writing;
 
 pub use bell::Bell;
-pub use outgoing::Outgoing;
 pub use serving::{Serving, Session, serve_link, serve_session};
 pub use undone::Undone;

@@ -28,7 +28,7 @@ struct Place {
     waiting: AtomicU64,
 }
 
-// One who waits at a place. It is counted there until it leaves, and it is not `Drop`: nobody stays counted who has gone.
+// One who waits at a place, and is counted there until it leaves. It is not `Drop`, so no caller leaves without a call of `leave`.
 struct Waiter<'a> {
     place: &'a Place,
 }

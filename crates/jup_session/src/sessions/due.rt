@@ -8,7 +8,7 @@ use std::sync::Wait;
 
 /// Whom a session has still to wake. While further lines are at hand it wakes nobody, so that a burst of edits wakes the others once.
 ///
-/// Whatever waits requires that nobody is due, since what it waits for may be for them to do. It is not `Drop`: who has it has to close it.
+/// Whatever waits requires that nobody is due, since what it waits for may be for them to do. It is not `Drop`, so its owner has to close it.
 pub(crate) struct Due {
     ring: Option<Ring>,
 }

@@ -4,14 +4,13 @@ ghost use Rattle.jup_hub.specs.Passes.{view_of, IsPassOf};
 ghost use Rattle.jup_stream.specs.Streams.{IsFlushed};
 ghost use Rattle.jup_session.specs.Sessions.{Wrote as HasWritten, Heard as HasHeard, IsShutFor, HasMadeNone, HasServed};
 
-use super::end_mark::Over;
 use super::link::SessionLink;
 use super::reading::{Heard, read_half};
 use super::writing::{Wrote, write_half};
 use crate::Gate;
 use jup_hub::Pass;
 use jup_io::Peer;
-use jup_rules::Ending;
+use jup_rules::{Ending, Over};
 use jup_stream::{Output, Source, StreamFault};
 use std::io::Read;
 use std::snapshot::Snapshot;

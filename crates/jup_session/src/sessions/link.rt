@@ -4,10 +4,9 @@ ghost use Rattle.jup_rules.specs.Sessions.{is_pong};
 
 use super::Bell;
 use super::due::Due;
-use super::end_mark::{EndMark, Over};
 use super::watch::Watch;
 use jup_hub::Hub;
-use jup_rules::{OwedPong, Pongs, pongs_in};
+use jup_rules::{EndMark, Over, OwedPong, Pongs, pongs_in};
 use jup_star::Down;
 use std::alloc::Global;
 use std::sync::{Mutex, Wait};

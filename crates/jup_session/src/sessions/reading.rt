@@ -7,12 +7,11 @@ ghost use Rattle.jup_session.specs.Sessions.{EndsAt, HasAnswered, HasTaken, Hear
 
 use super::costly::{enter, leave_turn};
 use super::due::Due;
-use super::end_mark::Over;
 use super::link::SessionLink;
 use super::watch::Taken;
 use crate::{Gate, take_edit};
 use jup_hub::{HubFault, Pass};
-use jup_rules::{Awaits, Ending, Gatekeeper, Incoming, Next, OwedPong, Untaken, ring_after};
+use jup_rules::{Awaits, Ending, Gatekeeper, Incoming, Next, Over, OwedPong, Untaken, ring_after};
 use jup_star::Up;
 use jup_stream::{Source, Stop, StreamFault};
 use jup_wire::Line;

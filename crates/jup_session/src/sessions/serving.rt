@@ -8,7 +8,6 @@ ghost use Rattle.jup_stream.specs.Streams.{PutsLines, IsFlushed, WritesFront};
 ghost use Rattle.jup_session.specs.ExactSessions.{BothHalves, HasLines, IsExact};
 ghost use Rattle.jup_session.specs.Sessions.{BothServe, IsSession, IsShutFor};
 
-use super::end_mark::EndMark;
 use super::ending::tell_untold;
 use super::greeting::begin;
 use super::halves::both_halves;
@@ -19,7 +18,7 @@ use super::{Bell, Undone};
 use crate::Gate;
 use jup_hub::{Hub, Pass};
 use jup_io::{Lasting, Peer};
-use jup_rules::{Ending, Pongs};
+use jup_rules::{EndMark, Ending, Pongs};
 use jup_stream::{Output, Source, StreamFault, write_bytes};
 use std::alloc::Global;
 use std::io::{Read, Write};

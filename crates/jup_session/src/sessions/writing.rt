@@ -7,13 +7,14 @@ ghost use Rattle.jup_rules.specs.Sessions.{down_lines, is_pong, most_fetched};
 ghost use Rattle.jup_stream.specs.Streams.{PutsLines, IsFlushed};
 ghost use Rattle.jup_session.specs.Sessions.{Answers, Brings, Forwards, ForwardsAll, StopsFetching, TellsFault, Wrote as HasWritten, told_line, Leaves, HasMadeNone, HasServed};
 
-use super::end_mark::Over;
 use super::ending::tell;
 use super::leaving::leave;
 use super::link::{SessionLink, WrittenPongs};
 use jup_hub::Pass;
 use jup_io::Peer;
-use jup_rules::{Ending, MOST_FETCHED, SessionFault, is_last_fetch, put_downs, refused_fetch};
+use jup_rules::{
+    Ending, MOST_FETCHED, Over, SessionFault, is_last_fetch, put_downs, refused_fetch,
+};
 use jup_star::{Down, Downs};
 use jup_stream::{Output, StreamFault};
 use std::sync::Wait;

@@ -4,32 +4,32 @@ use std::sync::atomic::{AtomicBool, Ordering};
 
 /// Whether one half of a session has ended, as both see it.
 #[derive(Drop)]
-pub(crate) struct EndMark {
+pub struct EndMark {
     is_set: AtomicBool,
 }
 
 /// That one half of a session has ended, and that this is noted. An [`EndMark`] alone makes it.
 #[derive(Clone, Copy)]
-pub(crate) struct Over {
+pub struct Over {
     noted: (),
 }
 
 impl EndMark {
     /// Both halves go on.
-    pub(crate) fn new() -> EndMark {
+    pub fn new() -> EndMark {
         EndMark {
             is_set: AtomicBool::new(false),
         }
     }
 
     /// Notes that one half has ended.
-    pub(crate) fn set(&self) -> Over {
+    pub fn set(&self) -> Over {
         self.is_set.store(true, Ordering::SeqCst);
         Over { noted: () }
     }
 
     /// `None` while both halves go on.
-    pub(crate) fn get(&self) -> Option<Over> {
+    pub fn get(&self) -> Option<Over> {
         if self.is_set.load(Ordering::SeqCst) {
             Some(Over { noted: () })
         } else {

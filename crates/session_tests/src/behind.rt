@@ -113,10 +113,21 @@ fn session_of<R: Threads + Wait + Clock + Sync + Abort>(
     others: u32,
     text: &[u8],
 ) -> Came {
+    overtaken_after(rt, alloc, b"hello 3\n", others, text)
+}
+
+// The session of a site that others overtake after one text and before another.
+fn overtaken_after<R: Threads + Wait + Clock + Sync + Abort>(
+    rt: &R,
+    alloc: Global,
+    greeting: &[u8],
+    others: u32,
+    text: &[u8],
+) -> Came {
     let (hub, pass) = open_hub(rt, alloc, EMPTY_TEXT, 100);
     let (bell, ticking) = (Bell::new(), Ticking::new(rt));
     let from = Overtaken {
-        greeting: b"hello 3\n",
+        greeting,
         bell: &bell,
         others,
         text,
@@ -164,6 +175,19 @@ fn a_site_that_lags_is_left_or_its_session_rests(rt: HostRuntime) {
         expect_eq(&rt, (found.ending, found.taken, found.slept), came);
         expect_answer(&rt, rt.alloc(), &found, answer);
     }
+}
+
+// What others made before a site joined is nothing to it.
+#[test]
+fn a_site_is_not_behind_by_what_came_before_it_joined(rt: HostRuntime) {
+    let text = b"hello 3\nbatch 0 0 1\ndo 1 1 text ins 0 1.1 97\nbye\n";
+    let found = overtaken_after(&rt, rt.alloc(), b"", MOST + 1, text);
+    expect_eq(
+        &rt,
+        (found.ending, found.taken, found.slept),
+        (Ending::Bye, 1, 0),
+    );
+    expect_answer(&rt, rt.alloc(), &found, "bye\n");
 }
 
 /// Gives a greeting and a ping, and then nothing until the half that writes has ended.

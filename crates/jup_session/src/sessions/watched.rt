@@ -1,5 +1,6 @@
 //! The writer of a session, which is given up once its site is too far behind.
-ghost use Rattle.std.specs.Prelude.{◌≡◌, ◌⊎◌, ◌↔◌, ◌<◌, [], IfOk, IfSome, IsFalse, IsTrue, OnErr, None, Ok, length};
+ghost use Rattle.std.specs.Prelude.{◌≡◌, ◌⊎◌, ◌↔◌, ◌<◌, ◌≤◌, [], IfErr, IfOk, IfSome, IsFalse, IsTrue, OnErr, None, Ok, length};
+ghost use Rattle.std.specs.IoError.{error_kind};
 ghost use Rattle.std.specs.Io.{WritesAtMost};
 ghost use Rattle.std.specs.Io.KnownBytes.{WriteAppends};
 ghost use Rattle.jup_limits.specs.Limits.{most_behind};
@@ -76,11 +77,15 @@ impl<'a, R: Wait, O: Peer + Drop> Write for Watched<'a, R, O> {
 impl<'a, R: Wait, O: Peer + Drop> Peer for Watched<'a, R, O> {
     ghost has_failed = { λ w. O.has_failed w.to };
 
+    ghost is_well = { λ w. O.is_well w.to };
+
     fn send(&mut self, bytes: &[u8]) -> io::Result<usize>
         ensures bound { WritesAtMost result bytes.now }
         ensures bytes { WriteAppends (O.contents self.old.to) (O.contents self.new.to) result bytes.now }
         ensures failed { OnErr result (IsTrue (O.has_failed self.new.to)) }
         ensures stuck { IfOk result (λ n. n ≡ 0 → (bytes.now ≡ []) ⊎ IsTrue (O.has_failed self.new.to)) }
+        ensures well { IfOk result (λ n. 1 ≤ n → IsTrue (O.is_well self.old.to) → IsTrue (O.is_well self.new.to)) }
+        ensures again { IfErr result (λ error. error_kind error ≡ ErrorKind.Interrupted → IsTrue (O.is_well self.old.to) → IsTrue (O.is_well self.new.to)) }
         ensures waiting { IsFalse self.new.is_waiting ↔ (result ≡ Ok (length bytes.now)) }
     {
         if self.far_behind().is_some() {

@@ -53,8 +53,11 @@ class Client:
             raise Fault(rest[0])
         return line, word, rest
 
-    def greet(self):
+    def hello(self):
         self.send("hello 3")
+
+    def greet(self):
+        self.hello()
         _, word, rest = self.next()
         if word != "welcome":
             raise Fault(44)

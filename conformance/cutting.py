@@ -16,8 +16,6 @@ MODES = {
 WAYS = ("up", "down")
 # For how many seconds the mode `late` reads on what the client sends, before it closes the client's end.
 HOLDS = 0.05
-# With this option a socket that is closed sends a reset.
-RESETS = socket.SO_LINGER, struct.pack("ii", 1, 0)
 
 
 class Passage:
@@ -78,9 +76,7 @@ class Passage:
 
     def close(self):
         for end in (self.client, self.server):
-            if self.relay.mode == "reset":
-                end.setsockopt(socket.SOL_SOCKET, *RESETS)
-            closes(end)
+            closes(end, is_reset=self.relay.mode == "reset")
 
 
 class Relay:
@@ -148,9 +144,12 @@ class Relay:
             return self.passages[self.passages.index(passage) + 1]
 
 
-def closes(end):
+def closes(end, is_reset=False):
+    """Closes a socket, also if a thread is reading it."""
     with contextlib.suppress(OSError):  # the other end has gone
-        end.shutdown(socket.SHUT_RDWR)
+        if is_reset:
+            end.setsockopt(socket.SOL_SOCKET, socket.SO_LINGER, struct.pack("ii", 1, 0))
+        end.shutdown(socket.SHUT_RD if is_reset else socket.SHUT_RDWR)
     end.close()
 
 

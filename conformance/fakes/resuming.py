@@ -1,6 +1,6 @@
 """The client's end of a link of protocol 4, which outlives its connections ("Links that outlive their connections" in docs/WIRE.md).
 
-A Link stands where a connection stands in protocol 3: a site sends its lines to it, and receives the server's. One thread per link connects, reads and writes, and connects again after a cut.
+A site has a Link in place of the connection of protocol 3: it sends its lines to the link, and receives the server's. One thread per link connects, reads and writes, and connects again after a cut.
 """
 import contextlib
 import math
@@ -189,7 +189,7 @@ class Waits:
 class Link:
     """A link of protocol 4 to the server at an address. It is the connection of its site, which sends lines to it and receives the server's.
 
-    The site receives the server's first lines once `ready` has come, and puts no line before that: until then the link may begin anew.
+    The site receives the server's first lines once `ready` has come, and puts no line before that: until then the link may begin again.
     """
 
     carrier, waits = Carrier, Waits
@@ -306,7 +306,7 @@ class Link:
             raise Fault(36)
 
     def is_lost(self, ended, fault):
-        """The server has no such link. A link whose `ready` has not come begins anew, since nothing is lost. Else it is over, with the lines that had an effect or with a fault."""
+        """The server has no such link. A link whose `ready` has not come begins again, since nothing is lost. Else it is over, with the lines that had an effect or with a fault."""
         if not self.is_ready:
             self.token, self.up, self.taken, self.waiting = None, Way(), 0, []
             raise Cut("the link has not begun")

@@ -17,7 +17,7 @@ class FromWritten(Carrier):
 
     def write(self):
         super().write()
-        self.link.written = self.written or 0
+        self.link.written = self.written or self.link.written
 
 
 class PartsCounted(Carrier):

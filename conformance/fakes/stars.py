@@ -75,11 +75,21 @@ class Star:
         """A new seat, at which the greeting waits."""
         with self.lock:
             if len(self.seats) >= MOST_SITES:
-                raise Fault(30)
+                self.drop(self.frees_a_seat())
             self.joined += 1
             seat = self.seats[self.joined] = self.seat(self.joined, self.end(False, self.transforms()))
             seat.put("\n".join([f"welcome {seat.site} {self.limit}", *self.board.lines(), "ready"]))
             return seat
+
+    def frees_a_seat(self):
+        """The seat that a newcomer may take from another site, or None. A server of protocol 4 replaces this."""
+        return None
+
+    def drop(self, seat):
+        """Has a newcomer take this seat."""
+        if not seat:
+            raise Fault(30)
+        del self.seats[seat.site]
 
     def leave(self, seat):
         with self.lock:
@@ -153,6 +163,8 @@ class Session:
         try:
             while (line := self.lines.next()) is not None and self.goes_on(line):
                 pass
+            if line is None and self.gathering.left:
+                raise Fault(43)
         except Fault as fault:
             ending = f"error {fault.number}"
         except OSError:

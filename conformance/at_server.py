@@ -7,14 +7,29 @@ from links import END, Differs, Link, is_as
 from rows import Names, rows_in
 
 BOARD_WORDS = (*material.BOARD_WORDS, "char", "item")
+# For how many seconds at most a link of protocol 4 waits for a carrier.
+MOST_SECONDS = 86_400
+
+
+class Lasting:
+    """A link of protocol 4: its token, and how many lines the server sent up to `ready`. A transcript counts the lines after these."""
+
+    def __init__(self, token):
+        self.token, self.before = token, 0
+
+    def counted(self, line):
+        """A `got` that a site sends, with the count that the server knows."""
+        found = re.fullmatch(r"got (0|-?[1-9]\d*)", line)
+        return f"got {self.before + int(found[1])}" if found else line
 
 
 class Site:
-    """A site of a transcript: its link, and whether the lines of the board are still coming."""
+    """A site of a transcript: its link, and whether the lines of the board are still coming. In protocol 4 it is a carrier of a link: the link, and the last `got` that came where another line was due."""
 
     def __init__(self, address, windows, is_narrow=False):
         self.link, self.is_in_board, self.is_in_window = Link.to(address, is_narrow), False, False
         self.windows = [f"window {it}" for it in windows]
+        self.lasting, self.got = None, None
 
     def next(self, due="a line"):
         """The next line that the site receives. Of a board it returns only the lines of the transcript's windows."""
@@ -27,6 +42,15 @@ class Site:
             line = self.link.lines.next(due)
         self.is_in_board = line.startswith("welcome ")
         return line
+
+    def next_but_got(self, wanted):
+        """The next line that the site receives. In protocol 4 a `got` may come at any time, so one that is not wanted is kept for when it is."""
+        if self.got and wanted.startswith("got ") and is_as(wanted, self.got):
+            found, self.got = self.got, None
+            return found
+        while (found := self.next(repr(wanted))).startswith("got ") and self.lasting and not is_as(wanted, found):
+            self.got = found
+        return found
 
 
 class Sites:
@@ -60,15 +84,18 @@ class Sites:
         return material.renamed(line, self.numbers)
 
     def sends(self, who, lines):
-        self.site(who).link.send_lines(*(self.renamed(it) for it in material.lines_in(lines)))
+        site, lines = self.site(who), map(self.renamed, material.lines_in(lines))
+        site.link.send_lines(*(map(site.lasting.counted, lines) if site.lasting else lines))
 
     def sends_bytes(self, who, text):
         self.site(who).link.send(self.renamed(material.text_of(text)))
 
     def is_told(self, who, lines):
         for line in material.lines_in(lines):
-            found = self.site(who).next(repr(line))
-            wanted = self.welcome(line, found) if line.startswith("welcome ") else self.renamed(line)
+            wanted = self.renamed(line)
+            found = self.site(who).next_but_got(wanted)
+            if line.startswith("welcome "):
+                wanted = self.welcome(line, found)
             if not is_as(wanted, found):
                 raise Differs(f"expected {wanted!r}, but got {found!r}")
 
@@ -90,6 +117,27 @@ class Sites:
             lines.append(line)
         return lines
 
+    def joins_to_last(self, who):
+        """Greets by protocol 4, and reads up to `ready`."""
+        self.sends(who, "hello 4")
+        site, told = self.site(who), self.link(who).lines.next("'link'")
+        found = re.fullmatch(r"link ([0-9a-f]{32}) (0|[1-9]\d*)( kept)?", told)
+        if not found or int(found[2]) > MOST_SECONDS:
+            raise Differs(f"expected 'link TOKEN SECONDS', but got {told!r}")
+        self.is_told(who, f"welcome {len(self.numbers)}")
+        site.lasting = Lasting(found[1])
+        while site.link.lines.next("'ready'") != "ready":
+            site.lasting.before += 1
+        site.lasting.before += len(("welcome", "ready"))
+        site.is_in_board = False
+
+    def resumes(self, who, rest):
+        """Sends `resume` for the link of another site, or of one that has ended."""
+        other, count = re.fullmatch(r"(\w+) at (-?\d+)", rest).groups()
+        site, lasting = self.site(who), self.site(other).lasting
+        site.link.send_lines(f"resume {lasting.token} {lasting.before + int(count)}")
+        site.lasting = lasting
+
     def is_left(self, who):
         self.link(who).lines.are_next(END)
 
@@ -103,6 +151,8 @@ class Sites:
         """What each step of a transcript does, by its words."""
         return {
             "joins": lambda who, _: self.joins(who),
+            "joins to last": lambda who, _: self.joins_to_last(who),
+            "resumes": self.resumes,
             "has little room": lambda who, _: self.site(who, is_narrow=True),
             "sends bytes": self.sends_bytes,
             "sends": self.sends,

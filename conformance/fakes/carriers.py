@@ -55,7 +55,7 @@ class Carrier:
 
     def read(self):
         """Takes lines until the client's bytes end, or nothing that it can send has an effect."""
-        while self.link.reads(self) and self.dropped < MOST_BYTES:
+        while self.link.reads(self):
             try:
                 line = self.lines.next()
             except Fault as fault:
@@ -79,6 +79,8 @@ class Carrier:
         self.reading_since = None
         if not self.link.is_taking:
             self.dropped += len(data)
+        if self.dropped >= MOST_BYTES:
+            raise OSError("the carrier has sent too much that has no effect")
         return data
 
     def write(self):

@@ -11,6 +11,13 @@ BOARD_WORDS = (*material.BOARD_WORDS, "char", "item")
 MOST_SECONDS = 86_400
 
 
+def is_early(found, wanted):
+    """Whether a line is a `got` that the server sent sooner than one or another line that is wanted."""
+    if not found.startswith("got ") or is_as(wanted, found):
+        return False
+    return not wanted.startswith("got ") or int(found.split(" ")[1]) < int(wanted.split(" ")[1])
+
+
 class Lasting:
     """A link of protocol 4: its token, and how many lines the server sent up to `ready`. A transcript counts the lines after these."""
 
@@ -48,8 +55,9 @@ class Site:
         if self.got and wanted.startswith("got ") and is_as(wanted, self.got):
             found, self.got = self.got, None
             return found
-        while (found := self.next(repr(wanted))).startswith("got ") and self.lasting and not is_as(wanted, found):
-            self.got = found
+        found = self.next(repr(wanted))
+        while self.lasting and is_early(found, wanted):
+            self.got, found = found, self.next(repr(wanted))
         return found
 
 

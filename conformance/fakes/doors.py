@@ -8,7 +8,6 @@ import time
 
 from boards import NUM, Fault
 from carriers import HIGHEST_NUMBER
-from lasting import Link
 
 # With these bytes a first line of protocol 4 begins. It has at most MOST_FIRST bytes, and is whole within FIRST_SECONDS.
 BEGINNINGS, MOST_FIRST, FIRST_SECONDS = (b"hello 4", b"resume "), 64, 10
@@ -50,11 +49,10 @@ def first_line(connection, data):
 
 
 class Links:
-    """The links of a server, those that are over too."""
+    """The links of a server, those that are over too. `make` makes a link to which its site has not joined yet."""
 
-    def __init__(self, star, session, seconds):
-        self.star, self.session, self.seconds, self.links, self.lock, self.over = star, session, seconds, [], threading.Lock(), 0
-        star.frees_a_seat = self.end_unused
+    def __init__(self, make):
+        self.make, self.links, self.lock, self.over = make, [], threading.Lock(), 0
 
     def answer(self, line, connection, held):
         """The carrier that a first line of protocol 4 opens, or the note that is the only answer."""
@@ -69,7 +67,7 @@ class Links:
             return f"error {fault.number}"
 
     def open(self, connection, held):
-        link = Link(self.star, self.session, self.seconds)
+        link = self.make()
         carrier = link.begin(connection, held)
         with self.lock:
             self.links.append(link)
@@ -134,11 +132,13 @@ class Links:
 
 
 class Server:
-    """Serves a star to connections of both protocols, until `most` sessions are over or it is stopped. A link that its client never used is no session."""
+    """Serves a star to connections of both protocols, until `most` sessions are over or it is stopped. A link that its client never used is no session. A link of the class `link` waits so many seconds for a carrier."""
 
-    def __init__(self, listener, star, session, seconds, most):
+    def __init__(self, listener, star, session, link, seconds, most):
         self.listener, self.star, self.session, self.most = listener, star, session, most
-        self.links, self.threads, self.sessions, self.ended, self.is_stopped = Links(star, session, seconds), [], [], [], False
+        self.links = Links(lambda: link(star, session, seconds))
+        star.frees_a_seat = self.links.end_unused
+        self.threads, self.sessions, self.ended, self.is_stopped = [], [], [], False
 
     def serve(self):
         self.listener.settimeout(TICK)

@@ -161,11 +161,13 @@ class Link:
                 self.offer(carrier, Fault(36))
 
     def drop(self, count):
-        dropped = self.kept[: count - self.confirmed]
-        self.size -= sum(len(it) + 1 for it in dropped)
-        del self.kept[: len(dropped)]
-        self.confirmed += len(dropped)
-        self.bell.notify_all()
+        """Keeps the first so many lines of the way down no longer."""
+        with self.bell:
+            dropped = self.kept[: count - self.confirmed]
+            self.size -= sum(len(it) + 1 for it in dropped)
+            del self.kept[: len(dropped)]
+            self.confirmed += len(dropped)
+            self.bell.notify_all()
 
     def reads(self, carrier):
         """Whether something that a carrier brings can still have an effect."""

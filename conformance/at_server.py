@@ -13,9 +13,10 @@ MOST_SECONDS = 86_400
 
 def is_early(found, wanted):
     """Whether a line is a `got` that the server sent sooner than one or another line that is wanted."""
-    if not found.startswith("got ") or is_as(wanted, found):
+    count = re.fullmatch(r"got (0|[1-9]\d*)", found)
+    if not count or is_as(wanted, found):
         return False
-    return not wanted.startswith("got ") or int(found.split(" ")[1]) < int(wanted.split(" ")[1])
+    return not wanted.startswith("got ") or int(count[1]) < int(wanted.split(" ")[1])
 
 
 class Lasting:

@@ -9,7 +9,7 @@ import re
 from links import Differs
 
 HERE = os.path.dirname(os.path.abspath(__file__))
-# The limits of the servers that the kit judges: one that plays most parts, one whose order gets full, one with a long text, and one that serves protocol 4 too.
+# The limits of the servers that the kit judges: one that plays most parts, one whose order gets full, one with a long text. The last one serves protocol 4.
 LIMIT, FULL_LIMIT, LONG_LIMIT, LASTING_LIMIT = 10_000, 2, 100_000, 4_000
 LIMITS = (LIMIT, FULL_LIMIT, LONG_LIMIT, LASTING_LIMIT)
 # The windows in which the kit plays the tables.

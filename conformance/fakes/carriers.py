@@ -35,7 +35,7 @@ class Carrier:
         self.link, self.connection, self.written, self.notes = link, connection, written, notes
         self.lines = CarrierLines(self)
         self.lines.held = held
-        # The count of the last `got` that was written here, whether the client's bytes have ended, and how many of its bytes came after the last line that the session took.
+        # The count of the last `got` that was written here, and whether the client's bytes have ended. How many of them came when the session took no more.
         self.said, self.has_ended, self.dropped = 0, False, 0
         # Since when a read or a write waits, or None. When something was written last, and when all was.
         self.reading_since, self.writing_since, self.written_at, self.all_written_at = None, None, time.monotonic(), None

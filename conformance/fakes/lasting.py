@@ -32,11 +32,11 @@ class Link:
 
     def __init__(self, star, session, seconds):
         self.token, self.seconds, self.bell = secrets.token_hex(16), seconds, threading.Condition()
-        # The way up: how many lines the session was handed and how many of these have had their effect, the line or the fault that is offered to it, whether it takes more, and whether it took a `bye`.
+        # The way up: how many lines the session was handed, and how many of these have had their effect. The line or the fault that is offered to it, whether it takes more, and whether it took a `bye`.
         self.taken, self.covered, self.offered, self.is_taking, self.has_bye = 0, 0, None, True, False
         # The way down: the lines that are kept, how many come before them, how many bytes they have, and whether the session waits for room among them.
         self.kept, self.confirmed, self.size, self.waits_for_room = [], 0, 0, False
-        # Whether the session has put `ready` and its last line, whether the way down has all lines that it may have, and the `got` that follows a `bye` is due.
+        # Whether the session has put `ready`, and its last line. Whether the way down has all lines that it may have. Whether the `got` that follows a `bye` is due.
         self.is_ready, self.has_last, self.is_spent, self.owes_got = False, False, False, False
         # Whether the link ended without a last line, whether the server stops, when the session was over, and since when only its count is left.
         self.is_lost, self.stops, self.over_at, self.counted_since = False, False, None, None

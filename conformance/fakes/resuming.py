@@ -20,6 +20,8 @@ OWES_GOT = 64
 MOST_ATTEMPTS = 3
 # For how many seconds the client tries to write what it owes after the server's last line.
 LAST_SECONDS = 10
+# The longest edit, in lines, and which line of the way up has to be `bye`.
+LONGEST_EDIT, LAST_UP = 33, 2**32 - 2
 # The longest that a server says it lets a link wait.
 MOST_SECONDS = 86_400
 # The numbers by which a server refuses a `resume` for good.
@@ -33,6 +35,14 @@ class Cut(OSError):
     """A carrier has ended before its link."""
 
 
+class Ended(Exception):
+    """The link is over, and the server knows only how many lines had an effect. So the client knows how many of its edits did not arrive."""
+
+    def __init__(self, lost):
+        super().__init__(lost)
+        self.lost = lost
+
+
 class Way:
     """The way up: how many lines the client has put, and those of them that no `got` of the server covers yet."""
 
@@ -44,7 +54,18 @@ class Way:
 
     def put(self, lines):
         with self.lock:
+            if self.is_spent(len(lines)) and lines != ["bye"]:
+                raise Fault(37)
             self.kept.extend(lines)
+
+    def is_spent(self, more):
+        """Whether so many more lines leave none for `bye`."""
+        return self.count() + more >= LAST_UP
+
+    def edits_after(self, count):
+        """How many edits have lines that are not among the first `count`."""
+        lines = self.kept[count - self.confirmed :]
+        return sum(it.startswith("batch ") for it in lines) + any(it.startswith("do ") for it in lines[:1])
 
     def line_after(self, count):
         """The line that follows the first `count` lines, or None if it was not put yet."""
@@ -72,11 +93,18 @@ class Carrier:
         # The client's last count on this carrier, and whether a `got` is due for another reason than that the count has grown.
         self.got, self.is_got_due = link.taken, False
         self.heard = self.handed = time.monotonic()
+        # When the server's first line came, or None.
+        self.begun = None
         connection.setblocking(False)
 
     def begins(self, written, is_got_due):
         """Goes on with the lines after the first `written`, which the server's first line has named."""
         self.written, self.is_got_due = written, is_got_due
+        self.begun = self.handed = time.monotonic()
+
+    def lived(self):
+        """For how many seconds it has lived since the server's first line."""
+        return 0 if self.begun is None else time.monotonic() - self.begun
 
     def carry(self):
         """Carries the link until it is over. It raises an OSError if the carrier is cut before, and a Fault if the client gives up."""
@@ -198,8 +226,8 @@ class Link:
         self.address, self.waits, self.attempts = address, self.waits(), MOST_ATTEMPTS
         # The token, the lines of the way up, how many lines of the way down were taken, those of them that wait for `ready`, and whether that has come.
         self.token, self.up, self.taken, self.waiting, self.is_ready = None, Way(), 0, [], False
-        # Whether the server's last line has come, and its TAKEN if it has said `ended`.
-        self.has_last, self.ended, self.closed = False, None, threading.Event()
+        # Whether the site has put `bye`, whether the server's last line has come, and its TAKEN if it has said `ended`.
+        self.leaves, self.has_last, self.ended, self.closed = False, False, None, threading.Event()
         # The bytes that the site has not received yet, and what they end with: None while the link goes on, then END or an exception.
         self.handed, self.ending, self.bell = b"", None, threading.Condition()
         self.woken, self.wakes = socket.socketpair()
@@ -216,10 +244,11 @@ class Link:
     def sendall(self, data):
         """Puts lines. They are kept until the server confirms them, also while nothing carries the link."""
         self.up.put(data.decode("latin-1").splitlines())
+        self.leaves = data == b"bye\n"
         self.wake()
 
     def recv(self, most):
-        """Bytes of the server's lines, or no bytes once the link is over. It raises what ended the link if that was no last line."""
+        """Bytes of the server's lines, or no bytes once the link is over. It raises what ended the link if that was neither a last line nor a `bye` that arrived."""
         with self.bell:
             self.waits_for_bytes()
             data, self.handed = self.handed[:most], self.handed[most:]
@@ -251,11 +280,17 @@ class Link:
             try:
                 while not self.is_over():
                     self.carry()
-            except (Fault, OSError) as fault:
+                self.tells_what_is_lost()
+            except (Fault, OSError, Ended) as fault:
                 ending = fault
         with self.bell:
             self.ending = ending
             self.bell.notify_all()
+
+    def tells_what_is_lost(self):
+        """Says so if the server has said `ended`, unless that counts the client's `bye`."""
+        if self.ended is not None and not (self.leaves and self.ended == self.up.count()):
+            raise Ended(self.up.edits_after(self.ended))
 
     def is_over(self):
         return self.has_last or self.ended is not None or self.closed.is_set()
@@ -263,15 +298,15 @@ class Link:
     def carry(self):
         """Has a new carrier carry the link. If the carrier is cut, it waits until the next attempt is due."""
         self.attempts -= 1
-        begun = time.monotonic()
+        carrier = None
         try:
-            with connected(self.address) as connection:
-                begun = time.monotonic()
-                self.carrier(connection, self, f"resume {self.token} {self.taken}" if self.token else "hello 4").carry()
+            with connected(self.address, self.carrier.silence) as connection:
+                carrier = self.carrier(connection, self, f"resume {self.token} {self.taken}" if self.token else "hello 4")
+                carrier.carry()
         except OSError:
             if not self.attempts:
                 raise
-            self.closed.wait(self.waits.after(time.monotonic() - begun))
+            self.closed.wait(self.waits.after(carrier.lived() if carrier else 0))
 
     def is_answered(self, carrier, line):
         """Judges the server's first line."""
@@ -333,8 +368,20 @@ class Link:
 class LastingClient(Client):
     """A user's site over a link of protocol 4."""
 
+    def run(self):
+        try:
+            return super().run()
+        except Ended as ended:
+            self.tell(f"the link is over. Edits that did not arrive: {ended.lost}")
+            return 4
+
     def hello(self):
         """Sends nothing, since the link has said `hello 4`."""
+
+    def refuse_more(self):
+        super().refuse_more()
+        if self.connection.up.is_spent(LONGEST_EDIT):
+            raise Fault(37)
 
 
 def joined(address):

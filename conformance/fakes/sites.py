@@ -224,8 +224,9 @@ def made(op):
     return " ".join(map(str, [op.verb, op.win, op.wid, *name, *value]))
 
 
-def connected(address):
+def connected(address, patience=None):
+    """A connection to the server, which is there within so many seconds."""
     host, _, port = address.rpartition(":")
-    connection = socket.create_connection((host, int(port)))
+    connection = socket.create_connection((host, int(port)), patience)
     connection.setsockopt(socket.IPPROTO_TCP, socket.TCP_NODELAY, 1)
     return connection

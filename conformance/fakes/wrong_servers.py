@@ -342,6 +342,21 @@ class HoldsNothing(Link):
             self.lose()
 
 
+class WaitsForRoom(Link):
+    """It waits for a `got` that can make room, also if the client's bytes have ended."""
+
+    def hears_the_end(self, carrier):
+        pass
+
+
+class DeafAfterAFault(Link):
+    """After what ended it, no `got` counts."""
+
+    def confirm(self, carrier, count):
+        if self.is_taking:
+            super().confirm(carrier, count)
+
+
 def of_star(**parts):
     return type("WrongStar", (Star,), parts), Session
 
@@ -390,4 +405,6 @@ LINKS = {
     "any-resume": AnyResume,
     "ends-with-its-carrier": EndsWithItsCarrier,
     "holds-nothing": HoldsNothing,
+    "waits-for-room": WaitsForRoom,
+    "deaf-after-a-fault": DeafAfterAFault,
 }

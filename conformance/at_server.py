@@ -126,15 +126,20 @@ class Sites:
             lines.append(line)
         return lines
 
-    def joins_to_last(self, who):
-        """Greets by protocol 4, and reads up to `ready`."""
+    def opens_to_last(self, who):
+        """Greets by protocol 4, and reads `link`."""
         self.sends(who, "hello 4")
-        site, told = self.site(who), self.link(who).lines.next("'link'")
+        told = self.link(who).lines.next("'link'")
         found = re.fullmatch(r"link ([0-9a-f]{32}) (0|[1-9]\d*)( kept)?", told)
         if not found or int(found[2]) > MOST_SECONDS:
             raise Differs(f"expected 'link TOKEN SECONDS', but got {told!r}")
+        self.site(who).lasting = Lasting(found[1])
+
+    def joins_to_last(self, who):
+        """Greets by protocol 4, and reads up to `ready`."""
+        self.opens_to_last(who)
         self.is_told(who, f"welcome {len(self.numbers)}")
-        site.lasting = Lasting(found[1])
+        site = self.site(who)
         while site.link.lines.next("'ready'") != "ready":
             site.lasting.before += 1
         site.lasting.before += len(("welcome", "ready"))
@@ -161,6 +166,7 @@ class Sites:
         return {
             "joins": lambda who, _: self.joins(who),
             "joins to last": lambda who, _: self.joins_to_last(who),
+            "opens to last": lambda who, _: self.opens_to_last(who),
             "resumes": self.resumes,
             "has little room": lambda who, _: self.site(who, is_narrow=True),
             "sends bytes": self.sends_bytes,

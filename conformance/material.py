@@ -9,9 +9,11 @@ import re
 from links import Differs
 
 HERE = os.path.dirname(os.path.abspath(__file__))
-# The limits of the servers that the kit judges: one that plays most parts, one whose order gets full, one with a long text. The last one serves protocol 4.
-LIMIT, FULL_LIMIT, LONG_LIMIT, LASTING_LIMIT = 10_000, 2, 100_000, 4_000
-LIMITS = (LIMIT, FULL_LIMIT, LONG_LIMIT, LASTING_LIMIT)
+# The limits of the servers that the kit judges: one that plays most parts, one whose order gets full, and one with a long text.
+LIMIT, FULL_LIMIT, LONG_LIMIT = 10_000, 2, 100_000
+# The limits of servers of protocol 4: one that plays most parts, and one whose board takes more bytes than it keeps for a link.
+LASTING_LIMITS = 4_000, 5_000
+LIMITS = (LIMIT, FULL_LIMIT, LONG_LIMIT, *LASTING_LIMITS)
 # The windows in which the kit plays the tables.
 LINES_WINDOW, LISTS_WINDOW, TEXTS_WINDOW, SETTINGS_WINDOW = 61, 62, 63, 64
 TRANSFORM_WINDOWS = {LISTS_WINDOW: "lists", TEXTS_WINDOW: "texts", SETTINGS_WINDOW: "settings"}

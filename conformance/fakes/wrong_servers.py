@@ -357,6 +357,15 @@ class DeafAfterAFault(Link):
             super().confirm(carrier, count)
 
 
+class LastsWithoutReady(Link):
+    """A cut does not end it, also before its `ready`."""
+
+    def cut(self, carrier):
+        with self.bell:
+            self.is_ready = True
+            super().cut(carrier)
+
+
 def of_star(**parts):
     return type("WrongStar", (Star,), parts), Session
 
@@ -407,4 +416,5 @@ LINKS = {
     "holds-nothing": HoldsNothing,
     "waits-for-room": WaitsForRoom,
     "deaf-after-a-fault": DeafAfterAFault,
+    "lasts-without-ready": LastsWithoutReady,
 }

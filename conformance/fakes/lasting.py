@@ -34,8 +34,8 @@ class Link:
         self.token, self.seconds, self.bell = secrets.token_hex(16), seconds, threading.Condition()
         # The way up: how many lines the session was handed, and how many of these have had their effect. The line or the fault that is offered to it, whether it takes more, and whether it took a `bye`.
         self.taken, self.covered, self.offered, self.is_taking, self.has_bye = 0, 0, None, True, False
-        # The way down: the lines that are kept, how many come before them, how many bytes they have, and whether the session waits for room among them.
-        self.kept, self.confirmed, self.size, self.waits_for_room = [], 0, 0, False
+        # The way down: the lines that are kept, how many come before them, how many bytes they have, and how many the line has that the session would put next.
+        self.kept, self.confirmed, self.size, self.next_size = [], 0, 0, 0
         # Whether the session has put `ready`, and its last line. Whether the way down has all lines that it may have. Whether the `got` that follows a `bye` is due.
         self.is_ready, self.has_last, self.is_spent, self.owes_got = False, False, False, False
         # Whether the link ended without a last line, whether the server stops, when the session was over, and since when only its count is left.
@@ -123,11 +123,15 @@ class Link:
         self.bell.notify_all()
 
     def waits_until_room_for(self, line):
-        self.waits_for_room = True
-        while not self.is_lost and self.size + len(line) + 1 > MOST_KEPT:
+        self.next_size = len(line) + 1
+        while not self.is_lost and self.lacks_room():
             self.bell.notify_all()
             self.bell.wait()
-        self.waits_for_room = False
+        self.next_size = 0
+
+    def lacks_room(self):
+        """Whether the session waits for room that only a `got` can make."""
+        return self.next_size > 0 and self.size + self.next_size > MOST_KEPT
 
     def settimeout(self, seconds):
         """A link has no time by which a read has to be over."""
@@ -189,7 +193,7 @@ class Link:
                 if self.has_last:
                     carrier.all_written_at = time.monotonic()
                     break
-                if carrier.has_ended and self.waits_for_room:
+                if carrier.has_ended and self.lacks_room():
                     break  # nothing that comes can make room
                 self.bell.wait(max(0, carrier.written_at + MOST_IDLE - time.monotonic()))
             return b""

@@ -1,7 +1,7 @@
 //! The lines of a board that is sent, and a printed board that is read on after a line was refused.
 use crate::expect::{expect_eq, expect_that};
 use jup_layout::{BoardBuilder, LayoutFault, board_of};
-use jup_text::{BoardReader, Untaken};
+use jup_text::{BoardReader, UnreadLine};
 use jup_value::Name;
 use jup_window::{Board, Widget};
 use jup_wire::Line;
@@ -54,9 +54,9 @@ fn first_name(board: &Board, wid: u16) -> Option<Name> {
 }
 
 // Reads a line, and once more if an allocation failed, as it may be one time.
-fn take(reader: &mut BoardReader, alloc: Global, line: &str) -> Result<(), Untaken> {
+fn take(reader: &mut BoardReader, alloc: Global, line: &str) -> Result<(), UnreadLine> {
     match reader.take(alloc, line) {
-        Err(Untaken::NoMemory) => reader.take(alloc, line),
+        Err(UnreadLine::NoMemory) => reader.take(alloc, line),
         taken => taken,
     }
 }
@@ -67,13 +67,13 @@ fn a_line_that_is_refused_numbers_no_items(rt: HostRuntime) {
     let alloc = rt.alloc();
     let mut reader = BoardReader::new(alloc);
     for &(line, taken) in &[
-        ("text 1 \"a\"", Err(Untaken::BadLine)),
+        ("text 1 \"a\"", Err(UnreadLine::BadLine)),
         ("window 1", Ok(())),
         ("text 1 \"ab\"", Ok(())),
-        ("text 1 \"xyz\"", Err(Untaken::BadLine)),
-        ("text 2 \"xy", Err(Untaken::BadLine)),
-        ("list 1 \"x\" \"y\"", Err(Untaken::BadLine)),
-        ("list 2 \"x\"\"y\"", Err(Untaken::BadLine)),
+        ("text 1 \"xyz\"", Err(UnreadLine::BadLine)),
+        ("text 2 \"xy", Err(UnreadLine::BadLine)),
+        ("list 1 \"x\" \"y\"", Err(UnreadLine::BadLine)),
+        ("list 2 \"x\"\"y\"", Err(UnreadLine::BadLine)),
         ("text 2 \"c\"", Ok(())),
     ] {
         expect_eq(&rt, (line, take(&mut reader, alloc, line)), (line, taken));

@@ -8,7 +8,7 @@ use jup_gather::{Gather, Gathered, lines_of_op};
 use jup_layout::{LayoutFault, board_of, layout, lines_of};
 use jup_link::Msg;
 use jup_seq::{SeqEdit, SeqOp};
-use jup_text::{BoardReader, Untaken, read_quoted, write_board, write_edit};
+use jup_text::{BoardReader, UnreadLine, read_quoted, write_board, write_edit};
 use jup_value::{Item, Name};
 use jup_window::{Board, BoardEdit, BoardOp, WidgetEdit, WidgetOp, Within};
 use jup_wire::{Fed, Line, Reader, WireFault, write};
@@ -283,7 +283,7 @@ fn take_line(rt: &impl Abort, alloc: Global, reader: &mut BoardReader, line: &st
     begin(alloc);
     let mut taken = reader.take(alloc, line);
     end(alloc);
-    if taken == Err(Untaken::NoMemory) {
+    if taken == Err(UnreadLine::NoMemory) {
         taken = reader.take(alloc, line);
     }
     expect_eq(rt, (line, taken), (line, Ok(())));

@@ -8,7 +8,7 @@ ghost use Rattle.jup_board.specs.Boards.{AreAscending, IsPrinted, IsPrintOf};
 use crate::heading::behind_heading;
 use crate::lines::BoardLines;
 use crate::{BoardEnd, LineFault};
-use jup_text::{BoardReader, Untaken};
+use jup_text::{BoardReader, UnreadLine};
 use jup_window::Board;
 use jup_xform::NoMemory;
 use std::alloc::Global;
@@ -27,8 +27,8 @@ pub fn read_printed(alloc: Global, text: &[u8]) -> Result<Board, BoardEnd>
     while let Some(line) = lines.next_line()? {
         match reader.take(alloc, line) {
             Ok(()) => {}
-            Err(Untaken::NoMemory) => return Err(BoardEnd::NoMemory),
-            Err(Untaken::BadLine) => return Err(refusal(alloc, reader, line, &lines)),
+            Err(UnreadLine::NoMemory) => return Err(BoardEnd::NoMemory),
+            Err(UnreadLine::BadLine) => return Err(refusal(alloc, reader, line, &lines)),
         }
     }
     Ok(reader.whole())

@@ -1,7 +1,7 @@
 -- The numbers of faults.
 use Rattle.std.specs.Prelude.{ℕ}
 use Rattle.jup_faults.specs.declared.table.Fault.{Fault}
-pub use Rattle.jup_faults.specs.declared.table.Fault.TheVariants.{NoMemory, DoubleId, TooMany, BadId, BadBounds, BadCount, BadAck, BadName, BadOp, NotAnEdit, Stopped, Full, SitesSpent, LogFull, NoLink, HubSpent, BadLine, LongLine, BadVersion, EarlyEnd, Misplaced, BadItemName, ReadsSpent, BadLimit, BadSite, GateShut, ReadFailed, WriteFailed}
+pub use Rattle.jup_faults.specs.declared.table.Fault.TheVariants.{NoMemory, DoubleId, TooMany, BadId, BadBounds, BadCount, BadAck, BadName, BadOp, NotAnEdit, Stopped, Full, SitesSpent, LogFull, NoLink, HubSpent, NoSuchLink, BadTaken, LinesSpent, BadLine, LongLine, BadVersion, EarlyEnd, Misplaced, BadItemName, ReadsSpent, BadLimit, BadSite, GateShut, ReadFailed, WriteFailed}
 
 -- the number of each, as messages and printed texts have it
 abbrev pub fault_number : Fault → ℕ
@@ -21,6 +21,9 @@ fault_number SitesSpent = 31
 fault_number LogFull = 32
 fault_number NoLink = 33
 fault_number HubSpent = 34
+fault_number NoSuchLink = 35
+fault_number BadTaken = 36
+fault_number LinesSpent = 37
 fault_number BadLine = 40
 fault_number LongLine = 41
 fault_number BadVersion = 42

@@ -25,6 +25,9 @@ pub enum Fault {
     LogFull = 32,
     NoLink = 33,
     HubSpent = 34,
+    NoSuchLink = 35,
+    BadTaken = 36,
+    LinesSpent = 37,
     BadLine = 40,
     LongLine = 41,
     BadVersion = 42,
@@ -40,7 +43,7 @@ pub enum Fault {
 }
 
 /// Each fault.
-const FAULTS: [Fault; 28] = [
+const FAULTS: [Fault; 31] = [
     Fault::NoMemory,
     Fault::DoubleId,
     Fault::TooMany,
@@ -57,6 +60,9 @@ const FAULTS: [Fault; 28] = [
     Fault::LogFull,
     Fault::NoLink,
     Fault::HubSpent,
+    Fault::NoSuchLink,
+    Fault::BadTaken,
+    Fault::LinesSpent,
     Fault::BadLine,
     Fault::LongLine,
     Fault::BadVersion,
@@ -98,6 +104,9 @@ impl Fault {
             Fault::LogFull => "the order is full",
             Fault::NoLink => "the site has no link",
             Fault::HubSpent => "the count of events is spent",
+            Fault::NoSuchLink => "no such link",
+            Fault::BadTaken => "not a count of lines that this end can have",
+            Fault::LinesSpent => "all lines of the link were put",
             Fault::BadLine => "no line of the protocol",
             Fault::LongLine => "256 bytes without the end of a line",
             Fault::BadVersion => "a greeting of another version",

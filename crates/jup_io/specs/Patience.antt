@@ -3,8 +3,8 @@ use Rattle.std.specs.Prelude.{◌≡◌, ◌⊎◌, ℕ, Result, Ok, Err}
 use Rattle.std.specs.IoError.{error_kind}
 use Rattle.std.specs.declared.io.ErrorKind.{ErrorKind}
 use Rattle.std.specs.declared.io.ErrorKind.TheVariants.{TimedOut, WouldBlock}
-use Rattle.jup_io.specs.declared.patience.Untaken.{Untaken}
-use Rattle.jup_io.specs.declared.patience.Untaken.TheVariants.{Again, Lost}
+use Rattle.jup_io.specs.declared.patience.Unwritten.{Unwritten}
+use Rattle.jup_io.specs.declared.patience.Unwritten.TheVariants.{Again, Lost}
 
 -- how many waits in a row a peer is given in which it takes nothing, and how many it has had since it last took a byte
 pub record Waiting : Type 0 where
@@ -19,7 +19,7 @@ abbrev pub IsWait : ErrorKind → Type 0
 IsWait kind = (kind ≡ WouldBlock) ⊎ (kind ≡ TimedOut)
 
 -- the peer is to be given up, by a failure of this kind
-abbrev pub IsLostBy : ErrorKind → Result ℕ Untaken → Type 0
+abbrev pub IsLostBy : ErrorKind → Result ℕ Unwritten → Type 0
 IsLostBy kind (Ok taken) = ⊥
 IsLostBy kind (Err Again) = ⊥
 IsLostBy kind (Err (Lost error)) = error_kind error ≡ kind

@@ -9,7 +9,7 @@ mod streams;
 mod whole;
 
 pub use again::{has_waited, is_interrupted};
-pub use patience::{Patience, Untaken};
+pub use patience::{Patience, Unwritten};
 pub use peer::{Lasting, Peer};
 pub use streams::hold_streams;
 pub use whole::write_whole;

@@ -10,7 +10,7 @@ use std::marker::Model;
 
 /// Why a write to a peer took nothing.
 #[derive(Drop)]
-pub enum Untaken {
+pub enum Unwritten {
     /// It is to be made again.
     Again,
     /// The peer is to be given up: a write failed so, or it has waited for long enough.
@@ -45,15 +45,15 @@ impl Patience {
 
     /// Learns what a write came to that is cut off after one wait, and answers how many bytes were taken. If it took none, it is to be made again, or the
     /// peer is to be given up.
-    pub fn after(&mut self, written: io::Result<usize>) -> Result<usize, Untaken>
+    pub fn after(&mut self, written: io::Result<usize>) -> Result<usize, Unwritten>
         ensures most { self.new.most ≡ self.old.most }
         ensures taken { IfOk written (λ taken. (result ≡ Ok taken) × (self.new.waited ≡ 0)) }
         ensures waited { IfErr written (λ error. IsWait (error_kind error) → self.new.waited ≡ min self.old.most (self.old.waited + 1)) }
-        ensures patient { IfErr written (λ error. IsWait (error_kind error) → self.old.waited + 1 < self.old.most → result ≡ Err Untaken.Again) }
+        ensures patient { IfErr written (λ error. IsWait (error_kind error) → self.old.waited + 1 < self.old.most → result ≡ Err Unwritten.Again) }
         ensures spent { IfErr written (λ error. IsWait (error_kind error) → self.old.most ≤ self.old.waited + 1 → IsLostBy ErrorKind.TimedOut result) }
-        ensures interrupted { IfErr written (λ error. error_kind error ≡ ErrorKind.Interrupted → (result ≡ Err Untaken.Again) × (self.new ≡ self.old)) }
+        ensures interrupted { IfErr written (λ error. error_kind error ≡ ErrorKind.Interrupted → (result ≡ Err Unwritten.Again) × (self.new ≡ self.old)) }
         ensures failed { IfErr written (λ error. (IsWait (error_kind error) → ⊥) → error_kind error ≢ ErrorKind.Interrupted
-            → (result ≡ Err (Untaken.Lost error)) × (self.new ≡ self.old)) }
+            → (result ≡ Err (Unwritten.Lost error)) × (self.new ≡ self.old)) }
     {
         match written {
             Ok(len) => {
@@ -61,25 +61,25 @@ impl Patience {
                 Ok(len)
             }
             Err(error) if has_waited(&error) => Err(self.wait_on()),
-            Err(error) if is_interrupted(&error) => Err(Untaken::Again),
-            Err(error) => Err(Untaken::Lost(error)),
+            Err(error) if is_interrupted(&error) => Err(Unwritten::Again),
+            Err(error) => Err(Unwritten::Lost(error)),
         }
     }
 
     // One more wait has passed in which the peer took nothing. What that means.
-    fn wait_on(&mut self) -> Untaken
+    fn wait_on(&mut self) -> Unwritten
         ensures most { self.new.most ≡ self.old.most }
         ensures waited { self.new.waited ≡ min self.old.most (self.old.waited + 1) }
-        ensures patient { self.old.waited + 1 < self.old.most → result ≡ Untaken.Again }
+        ensures patient { self.old.waited + 1 < self.old.most → result ≡ Unwritten.Again }
         ensures spent { self.old.most ≤ self.old.waited + 1 → IsLostBy ErrorKind.TimedOut (Err result) }
     {
         if self.waited < self.most {
             self.waited += 1;
         }
         if self.waited < self.most {
-            Untaken::Again
+            Unwritten::Again
         } else {
-            Untaken::Lost(io::Error::from(ErrorKind::TimedOut))
+            Unwritten::Lost(io::Error::from(ErrorKind::TimedOut))
         }
     }
 }

@@ -1,6 +1,6 @@
 //! The writing side of a link's socket.
 
-use jup_io::{Patience, Peer, Untaken};
+use jup_io::{Patience, Peer, Unwritten};
 use std::io;
 use std::io::{ErrorKind, Write};
 use std::net::{Shutdown, TcpStream};
@@ -37,8 +37,8 @@ impl<'a> Write for Outgoing<'a> {
         let mut to = self.stream;
         match self.patience.after(to.write(buf)) {
             Ok(len) => Ok(len),
-            Err(Untaken::Again) => Err(io::Error::from(ErrorKind::Interrupted)),
-            Err(Untaken::Lost(error)) => {
+            Err(Unwritten::Again) => Err(io::Error::from(ErrorKind::Interrupted)),
+            Err(Unwritten::Lost(error)) => {
                 self.give_up();
                 Err(error)
             }

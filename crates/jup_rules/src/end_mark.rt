@@ -10,7 +10,7 @@ pub struct EndMark {
 
 /// That one half of a session has ended, and that this is noted. An [`EndMark`] alone makes it.
 #[derive(Clone, Copy)]
-pub struct Over {
+pub struct EndNoted {
     noted: (),
 }
 
@@ -23,15 +23,15 @@ impl EndMark {
     }
 
     /// Notes that one half has ended.
-    pub fn set(&self) -> Over {
+    pub fn set(&self) -> EndNoted {
         self.is_set.store(true, Ordering::SeqCst);
-        Over { noted: () }
+        EndNoted { noted: () }
     }
 
     /// `None` while both halves go on.
-    pub fn get(&self) -> Option<Over> {
+    pub fn get(&self) -> Option<EndNoted> {
         if self.is_set.load(Ordering::SeqCst) {
-            Some(Over { noted: () })
+            Some(EndNoted { noted: () })
         } else {
             None
         }

@@ -9,7 +9,7 @@ mod rings;
 mod session;
 
 pub use behind::{Admission, FarBehind, Lag, Rests, Uncounted, operations_in};
-pub use end_mark::{EndMark, Over};
+pub use end_mark::{EndMark, EndNoted};
 pub use ends::{Ending, SessionFault, Untaken};
 pub use rings::{Rings, place_of};
 pub use session::{

@@ -8,7 +8,7 @@ use jup_batch::Commands;
 use jup_limits::HIGHEST_LIMIT;
 use jup_star::{OpenFault, is_short};
 use jup_text::{
-    BoardReader, PrintedBoard, PrintedEdits, Untaken, is_board_line, read_batch, read_command,
+    BoardReader, PrintedBoard, PrintedEdits, UnreadLine, is_board_line, read_batch, read_command,
     read_number,
 };
 use jup_window::{Board, Command, Within};
@@ -74,13 +74,13 @@ fn read_board<'a>(
         }
         match reader.take(alloc, line) {
             Ok(()) => {}
-            Err(Untaken::BadLine) => {
+            Err(UnreadLine::BadLine) => {
                 return match reader.fault(alloc, line) {
                     Ok(fault) => Err(script.bad(ScriptFault::Board(fault))),
                     Err(NoMemory) => Err(ScriptEnd::NoMemory),
                 };
             }
-            Err(Untaken::NoMemory) => return Err(ScriptEnd::NoMemory),
+            Err(UnreadLine::NoMemory) => return Err(ScriptEnd::NoMemory),
         }
     }
     Ok((reader.whole(), None))

@@ -2,7 +2,7 @@
 //! the whole board in the order of its lines.
 ghost use Rattle.std.specs.Prelude.{◌≡◌, ℕ, List, [], ◌++◌, Some, None, OnOk, OnErr, IsOkUnless, codes};
 ghost use Rattle.jup_window.specs.Entries.{widget_fault};
-ghost use Rattle.jup_text.specs.declared.board_reader.Untaken.TheVariants as untaken;
+ghost use Rattle.jup_text.specs.declared.board_reader.UnreadLine.TheVariants as untaken;
 ghost use Rattle.jup_text.specs.Boards.{IsTaken, TakesWindow, TakesWidget, IsNext, IsNextWindow, IsWidgetLine};
 
 use self::line_faults::line_fault;
@@ -22,21 +22,21 @@ pub use line_faults::BoardLineFault;
 
 /// Why a line of a board is not taken.
 #[derive(Clone, Copy, Debug, PartialEq, Eq)]
-pub enum Untaken {
+pub enum UnreadLine {
     BadLine,
     NoMemory,
 }
 
-impl From<BoardFault> for Untaken {
+impl From<BoardFault> for UnreadLine {
     ghost use Rattle.jup_window.specs.declared.faults.BoardFault.TheVariants as faults;
-    ghost use Rattle.jup_text.specs.declared.board_reader.Untaken.TheVariants as untaken;
+    ghost use Rattle.jup_text.specs.declared.board_reader.UnreadLine.TheVariants as untaken;
 
     ghost from_gives = { λ fault made. fault ≡ faults.NoMemory → made ≡ untaken.NoMemory };
 
-    fn from(fault: BoardFault) -> Untaken {
+    fn from(fault: BoardFault) -> UnreadLine {
         match fault {
-            BoardFault::NoMemory => Untaken::NoMemory,
-            _ => Untaken::BadLine,
+            BoardFault::NoMemory => UnreadLine::NoMemory,
+            _ => UnreadLine::BadLine,
         }
     }
 }
@@ -87,13 +87,13 @@ impl BoardReader {
     }
 
     /// Takes one more line. A line that is refused, also because an allocation failed, leaves all as it was.
-    pub fn take(&mut self, alloc: Global, line: &str) -> Result<(), Untaken>
+    pub fn take(&mut self, alloc: Global, line: &str) -> Result<(), UnreadLine>
         ensures ok { OnOk result (IsTaken self.old line.now self.new) }
         ensures err { OnErr result (self.new ≡ self.old) }
         ensures every { IsNext self.old line.now → IsOkUnless result untaken.NoMemory }
     {
         let Some((word, rest)) = next_word(line.as_bytes()) else {
-            return Err(Untaken::BadLine);
+            return Err(UnreadLine::BadLine);
         };
         if word == b"window".as_slice() {
             return self.take_window(alloc, rest);
@@ -108,13 +108,13 @@ impl BoardReader {
     }
 
     // Takes the line of a window, whose id this is.
-    fn take_window(&mut self, alloc: Global, id: &[u8]) -> Result<(), Untaken>
+    fn take_window(&mut self, alloc: Global, id: &[u8]) -> Result<(), UnreadLine>
         ensures ok { OnOk result (TakesWindow self.old (codes "window " ++ id.now) self.new) }
         ensures err { OnErr result (self.new ≡ self.old) }
         ensures every { IsNextWindow self.old (codes "window " ++ id.now) → IsOkUnless result untaken.NoMemory }
     {
         let Some(win) = id_of(id) else {
-            return Err(Untaken::BadLine);
+            return Err(UnreadLine::BadLine);
         };
         self.board.add_window(alloc, win)?;
         self.window = Some(win);
@@ -122,7 +122,7 @@ impl BoardReader {
     }
 
     // Adds the widget of a line to the last window.
-    fn put(&mut self, read: WidgetLine) -> Result<(), Untaken>
+    fn put(&mut self, read: WidgetLine) -> Result<(), UnreadLine>
         ensures ok { (line : List ℕ) → IsWidgetLine self.old.2 line read.wid read.widget read.last
             → OnOk result (TakesWidget self.old line self.new) }
         ensures err { OnErr result (self.new ≡ self.old) }
@@ -131,7 +131,7 @@ impl BoardReader {
     {
         let WidgetLine { wid, widget, last } = read;
         let Some(win) = self.window else {
-            return Err(Untaken::BadLine);
+            return Err(UnreadLine::BadLine);
         };
         self.board.add_widget(win, wid, widget)?;
         self.last = last;

@@ -9,7 +9,7 @@ mod edits;
 mod quoted;
 mod words;
 
-pub use board_reader::{BoardLineFault, BoardReader, Untaken, is_board_line};
+pub use board_reader::{BoardLineFault, BoardReader, UnreadLine, is_board_line};
 pub use boards::{PrintedBoard, write_board};
 pub use commands::{read_batch, read_command};
 pub use edits::{PrintedEdits, write_edit};

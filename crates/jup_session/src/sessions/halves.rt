@@ -10,7 +10,7 @@ use super::writing::{Wrote, write_half};
 use crate::Gate;
 use jup_hub::Pass;
 use jup_io::Peer;
-use jup_rules::{Ending, Over};
+use jup_rules::{EndNoted, Ending};
 use jup_stream::{Output, Source, StreamFault};
 use std::io::Read;
 use std::snapshot::Snapshot;
@@ -26,7 +26,7 @@ pub(crate) struct Halves<I: Read + Drop, O: Peer + Drop> {
     pub(crate) pass: Pass,
     pub(crate) heard: Heard,
     /// That the end of the reading half is noted, so that the other one does not wait for it.
-    pub(crate) over: Over,
+    pub(crate) over: EndNoted,
     pub(crate) wrote: Wrote<O>,
 }
 

@@ -6,7 +6,7 @@ use super::Bell;
 use super::due::Due;
 use super::watch::Watch;
 use jup_hub::Hub;
-use jup_rules::{EndMark, Over, OwedPong, Pongs, pongs_in};
+use jup_rules::{EndMark, EndNoted, OwedPong, Pongs, pongs_in};
 use jup_star::Down;
 use std::alloc::Global;
 use std::sync::{Mutex, Wait};
@@ -56,7 +56,7 @@ impl<'a> SessionLink<'a> {
     }
 
     /// Notes that one half has ended, and rings for the other.
-    pub(crate) fn end<R: Wait>(&self, rt: &R) -> Over {
+    pub(crate) fn end<R: Wait>(&self, rt: &R) -> EndNoted {
         let over = self.end_mark.set();
         self.ring(rt);
         over
@@ -74,7 +74,7 @@ impl<'a> SessionLink<'a> {
 
     /// The same, once the session owes the site fewer pongs than it may. Refused if the other half ended before that. Nobody may be due, since the
     /// other half has to write pongs first.
-    pub(crate) fn take_ping<R: Wait>(&self, rt: &R, due: &Due) -> Result<OwedPong, Over>
+    pub(crate) fn take_ping<R: Wait>(&self, rt: &R, due: &Due) -> Result<OwedPong, EndNoted>
         requires { due.now.ring ≡ None }
     {
         let mut seen = 0;

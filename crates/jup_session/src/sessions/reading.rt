@@ -11,7 +11,9 @@ use super::link::SessionLink;
 use super::watch::Taken;
 use crate::{Gate, take_edit};
 use jup_hub::{HubFault, Pass};
-use jup_rules::{Awaits, Ending, Gatekeeper, Incoming, Next, Over, OwedPong, Untaken, ring_after};
+use jup_rules::{
+    Awaits, EndNoted, Ending, Gatekeeper, Incoming, Next, OwedPong, Untaken, ring_after,
+};
 use jup_star::Up;
 use jup_stream::{Source, Stop, StreamFault};
 use jup_wire::Line;
@@ -62,7 +64,7 @@ pub(crate) fn read_half<R: Wait + Clock, I: Read + Drop, G: Gate>(
     link: &SessionLink<'_>,
     pass: &mut Pass,
     gate: &G,
-) -> (Heard, Over)
+) -> (Heard, EndNoted)
     requires { IsPassOf link.now.hub.now pass.old }
     ensures pass { IsPassOf link.now.hub.now pass.new }
     ensures hears { HearsAll link.now.site source.old (view_of pass.old) source.new (view_of pass.new) result.0.ending result.0.untaken }
@@ -225,7 +227,7 @@ fn take_owed<R: Wait>(
 }
 
 // Counts a ping that is to be taken. If too many pongs are owed, it first wakes those that are due, among them the half that writes the pongs.
-fn take_ping<R: Wait>(rt: &R, link: &SessionLink<'_>, due: &mut Due) -> Result<OwedPong, Over> {
+fn take_ping<R: Wait>(rt: &R, link: &SessionLink<'_>, due: &mut Due) -> Result<OwedPong, EndNoted> {
     if let Some(owed) = link.try_ping(rt) {
         return Ok(owed);
     }

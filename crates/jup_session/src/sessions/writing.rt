@@ -13,7 +13,7 @@ use super::link::{SessionLink, WrittenPongs};
 use jup_hub::Pass;
 use jup_io::Peer;
 use jup_rules::{
-    Ending, MOST_FETCHED, Over, SessionFault, is_last_fetch, put_downs, refused_fetch,
+    EndNoted, Ending, MOST_FETCHED, SessionFault, is_last_fetch, put_downs, refused_fetch,
 };
 use jup_star::{Down, Downs};
 use jup_stream::{Output, StreamFault};
@@ -45,7 +45,7 @@ pub(crate) struct Wrote<O: Peer + Drop> {
     /// The fault for which it did not fetch all that waited; `None` if it did.
     pub(crate) unsent: Option<SessionFault>,
     /// That its end is noted, so that the other half does not wait for it.
-    pub(crate) over: Over,
+    pub(crate) over: EndNoted,
 }
 
 /// Writes what the hub has for the site until the other half has ended, and leaves. It reports a fault of its own to the site

@@ -1,10 +1,10 @@
 //! Sequences that are filled at their end with the items of a layout.
 ghost use Rattle.std.specs.Prelude.{◌≡◌, ◌+◌, ◌<◌, ◌^◌, [], ◌∷◌, ◌++◌, length, OnOk, IsOkUnless};
 ghost use Rattle.jup_limits.specs.Limits.{longest_sequence};
-ghost use Rattle.jup_text.specs.declared.board_reader.Untaken.TheVariants as untaken;
+ghost use Rattle.jup_text.specs.declared.board_reader.UnreadLine.TheVariants as untaken;
 ghost use Rattle.jup_text.specs.Boards.{IsNumberedTo};
 
-use super::Untaken;
+use super::UnreadLine;
 use jup_limits::LONGEST_SEQUENCE;
 use jup_value::{Item, Name, Seq};
 use std::alloc::Global;
@@ -43,7 +43,7 @@ impl<V: Copy> Numbered<V> {
     }
 
     /// Puts one more item at the end, under the next number. Refused: a sequence of 65,536 items, no memory.
-    pub(crate) fn push(&mut self, value: V) -> Result<(), Untaken>
+    pub(crate) fn push(&mut self, value: V) -> Result<(), UnreadLine>
         ensures items { OnOk result (self.new.items.items
             ≡ self.old.items.items ++ (record { name = record { site = 0; number = self.old.last + 1 }; value = value }) ∷ []) }
         ensures last { OnOk result (self.new.last ≡ self.old.last + 1) }
@@ -52,10 +52,10 @@ impl<V: Copy> Numbered<V> {
     {
         let place = self.items.len();
         if place >= LONGEST_SEQUENCE || self.last == u32::MAX {
-            return Err(Untaken::BadLine);
+            return Err(UnreadLine::BadLine);
         }
         let number = self.last + 1;
-        self.items.reserve_one().map_err(|_| Untaken::NoMemory)?;
+        self.items.reserve_one().map_err(|_| UnreadLine::NoMemory)?;
         let name = Name { site: 0, number };
         self.items.insert(place, Item { name, value });
         self.last = number;

@@ -4,14 +4,14 @@ ghost use Rattle.std.specs.Char.{IsScalar};
 ghost use Rattle.std.specs.List.{flat_map};
 ghost use Rattle.jup_value.specs.Labels.{IsLabelText};
 ghost use Rattle.jup_window.specs.declared.kinds.Widget.{Widget};
-ghost use Rattle.jup_text.specs.declared.board_reader.Untaken.TheVariants as untaken;
+ghost use Rattle.jup_text.specs.declared.board_reader.UnreadLine.TheVariants as untaken;
 ghost use Rattle.jup_wire.specs.declared.kinds.WidgetValue.{WidgetValue};
 ghost use Rattle.jup_wire.specs.Kinds.{value_word};
 ghost use Rattle.jup_text.specs.Commands.{IsId};
 ghost use Rattle.jup_text.specs.Boards.{AreValues, IsHeld, IsValueText, AreNumbered, IsLineOf, IsNumbered, IsWidgetLine};
 ghost use Rattle.jup_text.specs.Words.{quoted, IsWord};
 
-use super::Untaken;
+use super::UnreadLine;
 use super::numbered::Numbered;
 use crate::quoted::{behind_quote, is_end, next_char, next_quoted_label};
 use crate::words::{id_of, next_id, split_word};
@@ -34,7 +34,7 @@ pub(crate) fn read_widget(
     last: u32,
     kind: &[u8],
     rest: &[u8],
-) -> Result<WidgetLine, Untaken>
+) -> Result<WidgetLine, UnreadLine>
     ensures line { IfOk result (λ r. IsWidgetLine last (kind.now ++ 32 ∷ rest.now) r.wid r.widget r.last) }
     ensures id { IfOk result (λ r. IsId r.wid) }
     ensures every { IsWord kind.now → (wid : ℕ) (widget : Widget) → IsId wid → IsHeld last widget
@@ -47,20 +47,20 @@ pub(crate) fn read_widget(
         return read_list(alloc, last, rest);
     }
     let Some((wid, widget)) = read_value_line(kind, rest) else {
-        return Err(Untaken::BadLine);
+        return Err(UnreadLine::BadLine);
     };
     Ok(WidgetLine { wid, widget, last })
 }
 
 // What follows the word `text`.
-fn read_text(alloc: Global, last: u32, rest: &[u8]) -> Result<WidgetLine, Untaken>
+fn read_text(alloc: Global, last: u32, rest: &[u8]) -> Result<WidgetLine, UnreadLine>
     ensures line { IfOk result (λ r. IsWidgetLine last (codes "text " ++ rest.now) r.wid r.widget r.last) }
     ensures id { IfOk result (λ r. IsId r.wid) }
     ensures every { (wid : ℕ) (chars : List ℕ) → IsId wid → AreValues IsScalar last chars
         → rest.now ≡ decimal wid ++ 32 ∷ quoted chars → IsOkUnless result untaken.NoMemory }
 {
     let Some((wid, text)) = next_id(rest) else {
-        return Err(Untaken::BadLine);
+        return Err(UnreadLine::BadLine);
     };
     let chars = read_chars(alloc, last, text)?;
     Ok(WidgetLine {
@@ -72,7 +72,7 @@ fn read_text(alloc: Global, last: u32, rest: &[u8]) -> Result<WidgetLine, Untake
 
 // What follows the word `list`.
 #[tactic(auto, using(crate::proofs::BoardLines::list_line))]
-fn read_list(alloc: Global, last: u32, rest: &[u8]) -> Result<WidgetLine, Untaken>
+fn read_list(alloc: Global, last: u32, rest: &[u8]) -> Result<WidgetLine, UnreadLine>
     ensures line { IfOk result (λ r. IsWidgetLine last (codes "list " ++ rest.now) r.wid r.widget r.last) }
     ensures id { IfOk result (λ r. IsId r.wid) }
     ensures every { (wid : ℕ) (labels : List (List ℕ)) → IsId wid → AreValues IsLabelText last labels
@@ -80,7 +80,7 @@ fn read_list(alloc: Global, last: u32, rest: &[u8]) -> Result<WidgetLine, Untake
 {
     let (id, labels) = split_word(rest);
     let Some(wid) = id_of(id) else {
-        return Err(Untaken::BadLine);
+        return Err(UnreadLine::BadLine);
     };
     let labels = read_labels(alloc, last, labels)?;
     Ok(WidgetLine {
@@ -91,7 +91,7 @@ fn read_list(alloc: Global, last: u32, rest: &[u8]) -> Result<WidgetLine, Untake
 }
 
 // The items of a quoted text, numbered after the last.
-fn read_chars(alloc: Global, last: u32, text: &[u8]) -> Result<Numbered<char>, Untaken>
+fn read_chars(alloc: Global, last: u32, text: &[u8]) -> Result<Numbered<char>, UnreadLine>
     ensures text { IfOk result (λ r. text.now ≡ quoted (map (λ item. item.value) r.items.items)) }
     ensures numbered { IfOk result (λ r. AreNumbered last r.items.items r.last) }
     ensures every { (chars : List ℕ) → AreValues IsScalar last chars → text.now ≡ quoted chars
@@ -99,7 +99,7 @@ fn read_chars(alloc: Global, last: u32, text: &[u8]) -> Result<Numbered<char>, U
 {
     let mut items = Numbered::new(alloc, last);
     let Some(inner) = behind_quote(text) else {
-        return Err(Untaken::BadLine);
+        return Err(UnreadLine::BadLine);
     };
     let mut rest = inner;
     while let Some((value, later)) = next_char(rest) {
@@ -109,12 +109,12 @@ fn read_chars(alloc: Global, last: u32, text: &[u8]) -> Result<Numbered<char>, U
     if is_end(rest) {
         Ok(items)
     } else {
-        Err(Untaken::BadLine)
+        Err(UnreadLine::BadLine)
     }
 }
 
 // The items of a list, each a label after a space, numbered after the last.
-fn read_labels(alloc: Global, last: u32, labels: &[u8]) -> Result<Numbered<Label>, Untaken>
+fn read_labels(alloc: Global, last: u32, labels: &[u8]) -> Result<Numbered<Label>, UnreadLine>
     ensures labels { IfOk result (λ r. labels.now ≡ flat_map (λ item. 32 ∷ quoted item.value) r.items.items) }
     ensures numbered { IfOk result (λ r. AreNumbered last r.items.items r.last) }
     ensures every { (texts : List (List ℕ)) → AreValues IsLabelText last texts
@@ -124,7 +124,7 @@ fn read_labels(alloc: Global, last: u32, labels: &[u8]) -> Result<Numbered<Label
     let mut rest = labels;
     while let Some(label) = behind_space(rest) {
         let Some((value, later)) = next_quoted_label(label) else {
-            return Err(Untaken::BadLine);
+            return Err(UnreadLine::BadLine);
         };
         items.push(value)?;
         rest = later;
@@ -132,7 +132,7 @@ fn read_labels(alloc: Global, last: u32, labels: &[u8]) -> Result<Numbered<Label
     if rest.is_empty() {
         Ok(items)
     } else {
-        Err(Untaken::BadLine)
+        Err(UnreadLine::BadLine)
     }
 }
 

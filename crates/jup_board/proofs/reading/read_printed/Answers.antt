@@ -1,6 +1,6 @@
 use Rattle.std.proofs.Common.{◌≡◌, true, false, inl, inr, [], ◌∷◌, ◌++◌, List, ℕ, length, sym, ap, subst, ◌∙◌, arith, rules}
 use Rattle.std.proofs.lemmas.List.{length-append}
-use Rattle.jup_text.specs.declared.board_reader.Untaken.TheVariants.{BadLine, NoMemory}
+use Rattle.jup_text.specs.declared.board_reader.UnreadLine.TheVariants.{BadLine, NoMemory}
 use Rattle.jup_text.specs.Boards.{Draft}
 use Rattle.jup_board.specs.Boards.{Lacks, IsReadTo, IsPrintOf, blank}
 use Rattle.jup_board.proofs.FollowingLines.{GoesOn, board_goes_on, read_none, read_more, line_left, next_left}

@@ -1,6 +1,6 @@
 //! Notes as the protocol spells them, first lines, and a link that is cut at each of its bytes.
 use crate::expect::expect_eq;
-use jup_resume::{Came, Confirming, FirstLine, Keeper, Note, Taker, Token};
+use jup_resume::{Arrival, Confirming, FirstLine, Keeper, Note, Taker, Token};
 use std::alloc::Global;
 use std::process::Abort;
 
@@ -99,7 +99,7 @@ fn hand_on(rt: &impl Abort, taker: &mut Taker, bytes: &[u8], text: &mut Vec<u8>)
     for _ in 0..bytes.len() {
         let took = taker.take(piece);
         piece = took.rest;
-        if let Came::Line(line) = took.came {
+        if let Arrival::Line(line) = took.arrival {
             text.extend_from_slice(line.as_slice()).expect(rt, "memory");
             text.push(b'/').expect(rt, "memory");
             if taker.taken() < u32::MAX {

@@ -8,7 +8,7 @@ use std::alloc::{AllocError, Global};
 pub(crate) enum Value<'a> {
     Nothing,
     Text(&'a str),
-    Count(u32),
+    Number(u32),
 }
 
 /// The options that a command line gives, each with its value.
@@ -57,8 +57,18 @@ impl<'a> Given<'a> {
     pub fn count(&self, name: &str, most: u32) -> Option<u32>
         ensures { IfSome result (λ count. (1 ≤ count) × (count ≤ most)) }
     {
+        match self.number(name, most) {
+            Some(count) if count > 0 => Some(count),
+            _ => None,
+        }
+    }
+
+    /// The number that an option is given, if it is at most this.
+    pub fn number(&self, name: &str, most: u32) -> Option<u32>
+        ensures { IfSome result (λ number. number ≤ most) }
+    {
         match self.value(name)? {
-            Value::Count(count) if 1 <= count && count <= most => Some(count),
+            Value::Number(number) if number <= most => Some(number),
             _ => None,
         }
     }

@@ -15,6 +15,8 @@ pub enum Takes {
     Text(&'static str),
     /// A number from 1 to this.
     Count(u32),
+    /// A number from 0 to this.
+    Number(u32),
 }
 
 /// An option of a command line, which begins with `--` and its name.
@@ -99,16 +101,16 @@ fn option<'a>(alloc: Global, row: &OptionRow) -> Arg<'a> {
     match row.takes {
         Takes::Nothing => option.action(ArgAction::SetTrue),
         Takes::Text(name) => option.action(ArgAction::Set).value_name(name),
-        Takes::Count(most) => counts(option, most),
+        Takes::Count(most) => numbers(option, 1, most),
+        Takes::Number(most) => numbers(option, 0, most),
     }
 }
 
-// The option takes a number from 1 to the most.
-fn counts<'a>(option: Arg<'a>, most: u32) -> Arg<'a> {
-    option
-        .action(ArgAction::Set)
-        .value_name("N")
-        .value_parser(value_parser!(u32).range(1..=i64::from(most)))
+// The option takes a number from the least to the most.
+fn numbers<'a>(option: Arg<'a>, least: u32, most: u32) -> Arg<'a> {
+    option.action(ArgAction::Set).value_name("N").value_parser(value_parser!(u32).range(
+        i64::from(least)..=i64::from(most),
+    ))
 }
 
 // The value that was given to an option, if it was given.
@@ -117,6 +119,6 @@ fn value_of<'a>(row: &OptionRow, matches: &ArgMatches<'a>) -> Option<Value<'a>> 
         Takes::Nothing if matches.get_flag(row.name) => Some(Value::Nothing),
         Takes::Nothing => None,
         Takes::Text(_) => Some(Value::Text(matches.get_str(row.name)?)),
-        Takes::Count(_) => Some(Value::Count(matches.get_one(row.name)?)),
+        Takes::Count(_) | Takes::Number(_) => Some(Value::Number(matches.get_one(row.name)?)),
     }
 }

@@ -1,4 +1,5 @@
 pub mod Confirmations
+pub mod Faults
 pub mod FirstLines
 pub mod Keepers
 pub mod Notes

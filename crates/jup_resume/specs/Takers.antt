@@ -3,8 +3,8 @@ use Rattle.std.specs.Prelude.{◌≡◌, ℕ, ◌<◌, List, [], ◌++◌, lengt
 use Rattle.jup_resume.specs.Texts.{HasNoFeed, IsCut}
 use Rattle.jup_resume.specs.Notes.{note_text, IsNote}
 use Rattle.jup_resume.specs.FirstLines.{IsNoNote}
-use Rattle.jup_resume.specs.declared.taker.Came.{Came}
-use Rattle.jup_resume.specs.declared.taker.Came.TheVariants.{Part, Note as IsNoteLine, Line, LongLine}
+use Rattle.jup_resume.specs.declared.taker.Arrival.{Arrival}
+use Rattle.jup_resume.specs.declared.taker.Arrival.TheVariants.{Part, Note as IsNoteLine, Line, LongLine}
 
 -- what came of a line, and how many lines were handed on
 pub record Taking : Type 0 where
@@ -41,14 +41,14 @@ pub record IsTooLong (old piece new rest text : List ℕ) : Type 0 where
   pub part : new ≡ []
 
 -- a piece makes this of the part of a line that came before it, and leaves the rest
-abbrev pub Brings : List ℕ → List ℕ → Came → List ℕ → List ℕ → Type 0
+abbrev pub Brings : List ℕ → List ℕ → Arrival → List ℕ → List ℕ → Type 0
 Brings old piece Part new rest = GoesOn old piece new rest
 Brings old piece (IsNoteLine note) new rest = IsNote note × EndsLine old piece new rest (note_text note)
 Brings old piece (Line text) new rest = IsNoNote text × EndsLine old piece new rest text
 Brings old piece (LongLine text) new rest = IsTooLong old piece new rest text
 
 -- a whole line is a note, or one of the link
-abbrev pub IsLineOf : List ℕ → Came → Type 0
+abbrev pub IsLineOf : List ℕ → Arrival → Type 0
 IsLineOf text Part = ⊥
 IsLineOf text (IsNoteLine note) = IsNote note × (text ≡ note_text note)
 IsLineOf text (Line line) = IsNoNote text × (line ≡ text)

@@ -5,7 +5,7 @@ ghost use Rattle.jup_resume.specs.Texts.{Lacks, IsCut};
 use memchr::memchr;
 
 /// The bytes before and after the first separator.
-pub(crate) fn split(bytes: &[u8], separator: u8) -> Option<(&[u8], &[u8])>
+pub fn split(bytes: &[u8], separator: u8) -> Option<(&[u8], &[u8])>
     ensures { MatchOption result (Lacks separator bytes.now) (λ parts. IsCut separator bytes.now parts.0.now parts.1.now) }
 {
     let at = memchr(separator, bytes)?;

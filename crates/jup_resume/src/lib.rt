@@ -12,11 +12,12 @@ mod taker;
 mod token;
 mod ways;
 
+pub use bytes::split;
 pub use confirming::{Confirming, LONGEST_QUIET, MOST_UNCONFIRMED};
 pub use first_line::{FirstLine, is_of_carrier};
 pub use keeper::{KeepFault, Keeper};
 pub use line_bytes::{LONGEST_LINE, LineBytes};
 pub use note::Note;
-pub use taker::{Came, Taker, Took};
+pub use taker::{Arrival, Taker, Took};
 pub use token::{TOKEN_BYTES, Token};
 pub use ways::{a_line_comes_once, a_piece_comes_as_its_bytes, nothing_is_lost};

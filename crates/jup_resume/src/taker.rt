@@ -10,7 +10,7 @@ use std::mem;
 
 /// What a piece of bytes brought.
 #[derive(Drop)]
-pub enum Came {
+pub enum Arrival {
     /// A part of a line, which is kept.
     Part,
     /// A note of the carrier.
@@ -24,7 +24,7 @@ pub enum Came {
 /// What a piece brought, and the bytes of it that come after that.
 #[derive(Drop)]
 pub struct Took<'a> {
-    pub came: Came,
+    pub arrival: Arrival,
     pub rest: &'a [u8],
 }
 
@@ -59,26 +59,26 @@ impl Taker {
 
     /// Takes a piece up to the end of the first line in it, or all of it.
     pub fn take<'a>(&mut self, piece: &'a [u8]) -> Took<'a>
-        ensures came { Brings self.old.part piece.now result.came self.new.part result.rest.now }
+        ensures arrival { Brings self.old.part piece.now result.arrival self.new.part result.rest.now }
         ensures taken { self.new.taken ≡ self.old.taken }
     {
         let room = LONGEST_LINE - self.part.len();
         match split(piece, b'\n') {
             Some((text, rest)) if text.len() < room => Took {
-                came: line_of(self.end_line(text)),
+                arrival: line_of(self.end_line(text)),
                 rest,
             },
             None if piece.len() < room => {
                 self.part.extend(piece);
                 Took {
-                    came: Came::Part,
+                    arrival: Arrival::Part,
                     rest: &piece[piece.len()..],
                 }
             }
             Some(_) | None => {
                 let (text, rest) = piece.split_at(room);
                 Took {
-                    came: Came::LongLine(self.end_line(text)),
+                    arrival: Arrival::LongLine(self.end_line(text)),
                     rest,
                 }
             }
@@ -123,11 +123,11 @@ impl Taker {
 }
 
 /// The note that a line is, or else a line of the link.
-fn line_of(line: LineBytes) -> Came
+fn line_of(line: LineBytes) -> Arrival
     ensures { IsLineOf line result }
 {
     match Note::read(line.as_slice()) {
-        Some(note) => Came::Note(note),
-        None => Came::Line(line),
+        Some(note) => Arrival::Note(note),
+        None => Arrival::Line(line),
     }
 }

@@ -1,3 +1,4 @@
+pub mod Ends
 pub mod Frames
 pub mod Heads
 pub mod TextLemmas

@@ -1,7 +1,10 @@
 -- What a reader of messages has left, and what it answers.
-use Rattle.std.specs.Prelude.{◌≡◌, ℕ, List, [], ◌∷◌, ◌++◌, slice_range, Option, None, Some, option_map}
+use Rattle.std.specs.Prelude.{◌≡◌, ℕ, List, [], ◌∷◌, ◌++◌, slice_range, Option, None, Some, option_map, Result, Ok, IsErrAnd}
 use Rattle.std.specs.List.{flat_map}
 use Rattle.std.specs.Io.KnownBytes.{Appends}
+use Rattle.std.specs.IoError.{error_kind}
+use Rattle.std.specs.declared.io.Error.{Error}
+use Rattle.std.specs.declared.io.ErrorKind.TheVariants.{InvalidData}
 use Rattle.jup_http.specs.declared.held.Held.{Held}
 use Rattle.jup_http.specs.declared.reader.MessageReader.{MessageReader}
 use Rattle.jup_http.specs.declared.ending.Ending.{Ending}
@@ -90,3 +93,15 @@ pub record EndsBy (old new : Option (List Told)) (before after : Option Ending) 
   pub told : List Told
   pub first : Takes old new told
   pub ending : after ≡ ending_after before told
+
+-- they have not ended by a broken rule
+abbrev pub IsUnbroken : Option Ending → Type 0
+IsUnbroken None = Unit {0}
+IsUnbroken (Some (Closed code)) = Unit {0}
+IsUnbroken (Some (Broken b)) = ⊥
+
+-- what a read answers once nothing more is reported: no byte, or that the data is invalid if a rule was broken
+abbrev pub IsReadAtEnd : Option Ending → Result ℕ Error → Type 0
+IsReadAtEnd None read = read ≡ Ok 0
+IsReadAtEnd (Some (Closed code)) read = read ≡ Ok 0
+IsReadAtEnd (Some (Broken b)) read = IsErrAnd read (λ error. error_kind error ≡ InvalidData)

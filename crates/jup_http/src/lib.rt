@@ -15,6 +15,7 @@ mod responses;
 mod sending;
 mod stream;
 mod texts;
+mod whole;
 mod writer;
 
 pub use breach::Breach;
@@ -29,4 +30,5 @@ pub use request::{LONGEST_HEAD, MOST_FIELDS, Request, read_request};
 pub use responses::{Media, body_head, refusal_body, refusal_head};
 pub use sending::{put_close, put_ping, put_pong, put_text};
 pub use stream::{Event, FrameStream, Unframed};
+pub use whole::Whole;
 pub use writer::{LONGEST_SENT, MessageWriter};

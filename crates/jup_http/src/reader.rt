@@ -54,8 +54,9 @@ fn unframe_part(
 }
 
 impl<I: Read + Drop, O: Peer + Drop> MessageReader<I, O> {
-    ghost use Rattle.std.specs.Prelude.{[], Ok, None, IfOk, OnOk, OnErr, IsTrue, false, option_map};
-    ghost use Rattle.jup_http.specs.Readers.{payloads_left, told_left, written, ended_by, untaken, Takes, IsDealtWith, Hears, HearsInPart, EndsBy};
+    ghost use Rattle.std.specs.Prelude.{◌<◌, ◌⊎◌, ◌↔◌, [], Ok, None, IfOk, OnOk, OnErr, IsTrue, IsSome, true, false, option_map};
+    ghost use Rattle.jup_http.specs.Readers.{payloads_left, told_left, written, ended_by, untaken, Takes, IsDealtWith, Hears, HearsInPart, EndsBy, IsReadAtEnd};
+    ghost use Rattle.jup_http.specs.Prelude.{Over};
     ghost use Rattle.jup_http.specs.Streams.{start, brings};
 
     /// A reader of what comes by `from`. Contracts of reads speak of the payloads that are left, and of the pings to answer.
@@ -111,6 +112,7 @@ impl<I: Read + Drop, O: Peer + Drop> MessageReader<I, O> {
         ensures keeps { Takes (told_left I.remaining self.old) (told_left I.remaining self.new) [] }
         ensures written { written O.contents self.new ≡ written O.contents self.old }
         ensures end { result ≡ Ok 0 → IsDealtWith (told_left I.remaining self.new) }
+        ensures came { IfOk result (λ n. (self.new.start ≡ 0) × (self.new.end ≡ n)) }
         ensures ending { ended_by self.new ≡ ended_by self.old }
     {
         self.start = 0;
@@ -125,6 +127,7 @@ impl<I: Read + Drop, O: Peer + Drop> MessageReader<I, O> {
         ensures keeps { Takes (told_left I.remaining self.old) (told_left I.remaining self.new) [] }
         ensures written { written O.contents self.new ≡ written O.contents self.old }
         ensures end { result ≡ Ok false → IsDealtWith (told_left I.remaining self.new) }
+        ensures more { result ≡ Ok true → (self.new.start < self.new.end) ⊎ IsSome self.new.ping }
         ensures ending { ended_by self.new ≡ ended_by self.old }
     {
         if self.start < self.end || self.ping.is_some() {
@@ -151,7 +154,8 @@ impl<I: Read + Drop, O: Peer + Drop> MessageReader<I, O> {
 
     // Whether no byte reports anything more, and all pings are answered.
     fn is_over(&self) -> bool
-        ensures { IsTrue result → IsDealtWith (told_left I.remaining self.now) }
+        ensures over { IsTrue result ↔ ((self.now.ping ≡ None) × ((standing self.now.stream).place ≡ Over)) }
+        ensures left { IsTrue result → IsDealtWith (told_left I.remaining self.now) }
     {
         match self.ping {
             Some(_) => false,
@@ -159,9 +163,9 @@ impl<I: Read + Drop, O: Peer + Drop> MessageReader<I, O> {
         }
     }
 
-    // What a read answers if no byte reports anything.
+    // What a read answers at the end of what is reported: nothing, or a failure if the client broke a rule.
     fn end(&self) -> io::Result<usize>
-        ensures { IfOk result (λ n. n ≡ 0) }
+        ensures { IsReadAtEnd (ended_by self.now) result }
     {
         match self.ending {
             Some(Ending::Broken(_)) => Err(io::Error::from(ErrorKind::InvalidData)),
@@ -174,7 +178,7 @@ impl<I: Read + Drop, O: Peer + Drop> Read for MessageReader<I, O> {
     ghost use Rattle.std.specs.Prelude.{◌<◌, IfOk, IfErr};
     ghost use Rattle.std.specs.Io.{ReadsAtMost};
     ghost use Rattle.std.specs.Io.KnownBytes.{ReadConsumes};
-    ghost use Rattle.jup_http.specs.Readers.{payloads_left, told_left, written, ended_by, IsDealtWith, Hears, HearsInPart, EndsBy};
+    ghost use Rattle.jup_http.specs.Readers.{payloads_left, told_left, written, ended_by, IsDealtWith, Hears, HearsInPart, EndsBy, IsUnbroken};
 
     ghost remaining = { payloads_left I.remaining };
 
@@ -187,6 +191,8 @@ impl<I: Read + Drop, O: Peer + Drop> Read for MessageReader<I, O> {
         ensures pongs { IfOk result (λ n. Hears (told_left I.remaining self.old) (told_left I.remaining self.new)
             (written O.contents self.old) (written O.contents self.new) (take n buf.new)) }
         ensures last { IfOk result (λ n. n ≡ 0 → 0 < length buf.new → IsDealtWith (told_left I.remaining self.new)) }
+        // Bytes that break a rule never end as those of a client that ends its link.
+        ensures unbroken { IfOk result (λ n. n ≡ 0 → 0 < length buf.new → IsUnbroken (ended_by self.new)) }
         ensures failed { IfErr result (λ _. HearsInPart (told_left I.remaining self.old) (told_left I.remaining self.new)
             (written O.contents self.old) (written O.contents self.new)) }
         ensures ended { EndsBy (told_left I.remaining self.old) (told_left I.remaining self.new) (ended_by self.old) (ended_by self.new) }
@@ -204,7 +210,7 @@ impl<I: Read + Drop, O: Peer + Drop> Read for MessageReader<I, O> {
                 return self.end();
             }
             if !self.renew()? {
-                return Ok(0);
+                return self.end();
             }
         }
         Err(io::Error::from(ErrorKind::TimedOut))

@@ -1,5 +1,6 @@
 //! A WebSocket as a writer of a link's bytes.
-ghost use Rattle.std.specs.Prelude.{◌≡◌, ◌<◌, min, length, take, IfOk, OnErr, IsTrue};
+ghost use Rattle.std.specs.Prelude.{◌≡◌, ◌≢◌, ◌<◌, ◌≤◌, min, length, take, IfOk, IfErr, OnErr, IsTrue};
+ghost use Rattle.std.specs.IoError.{error_kind};
 ghost use Rattle.std.specs.Io.{WritesAtMost};
 ghost use Rattle.std.specs.Io.KnownBytes.{Appends};
 ghost use Rattle.jup_http.specs.Frames.{longest_sent, text_frame};
@@ -8,7 +9,7 @@ use crate::put_text;
 use jup_io::{Peer, write_whole};
 use std::alloc::{AllocError, Global};
 use std::io;
-use std::io::Write;
+use std::io::{ErrorKind, Write};
 use std::marker::Model;
 
 /// Bytes that one message takes.
@@ -60,12 +61,17 @@ impl<O: Peer + Drop> Write for MessageWriter<O> {
 impl<O: Peer + Drop> Peer for MessageWriter<O> {
     ghost has_failed = { λ a. O.has_failed a };
 
+    ghost is_well = { λ a. O.is_well a };
+
     /// What is taken goes out as one frame.
     fn send(&mut self, bytes: &[u8]) -> io::Result<usize>
         ensures bound { WritesAtMost result bytes.now }
         ensures taken { IfOk result (λ n. n ≡ min longest_sent (length bytes.now)) }
         ensures framed { IfOk result (λ n. 0 < n → Appends (O.contents self.old) (O.contents self.new) (text_frame (take n bytes.now))) }
         ensures failed { OnErr result (IsTrue (O.has_failed self.new)) }
+        ensures well { IfOk result (λ n. 1 ≤ n → IsTrue (O.is_well self.old) → IsTrue (O.is_well self.new)) }
+        ensures kind { IfErr result (λ error. error_kind error ≢ ErrorKind.Interrupted) }
+        ensures again { IfErr result (λ error. error_kind error ≡ ErrorKind.Interrupted → IsTrue (O.is_well self.old) → IsTrue (O.is_well self.new)) }
     {
         if bytes.is_empty() {
             return Ok(0);

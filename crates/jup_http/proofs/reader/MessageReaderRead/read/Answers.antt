@@ -1,7 +1,8 @@
 use Rattle.std.proofs.Common.{rules, arith}
 use Rattle.std.proofs.lemmas.Grind.{common_steps}
 use Rattle.jup_http.specs.Readers.{told_left, IsDealtWith}
-use Rattle.jup_http.proofs.Frames.{hears_both, hears_then_fails, hears_whole, hears_nothing, gave_none, reader_gave, reader_kept, reader_ended, read_ended, if_none, if_failed, ends_both, ends_as_before}
+use Rattle.jup_http.proofs.Frames.{hears_both, hears_then_fails, hears_whole, hears_nothing, gave_none, reader_gave, reader_kept, read_ended, if_none, if_failed, ends_both, ends_as_before}
+use Rattle.jup_http.proofs.Ends.{end_gives_none, end_is_unbroken, if_at_end}
 use Rattle.jup_http.proofs.reader.MessageReaderRead.read.Goals as goal
 
 pub returns-in_err-answer-clause-bytes : goal.returns-in_err-answer-clause-bytes
@@ -24,11 +25,11 @@ returns-then-given-gt0-clause-pongs g c =
 pub returns-then-is_over-clause-bytes : goal.returns-then-is_over-clause-bytes
 returns-then-is_over-clause-bytes g c =
     let heard = hears_both _ _ _ _ _ _ _ c.loop.invariant.0 (hears_both _ _ _ _ _ _ _ c.in_ok-answer.ensures.ok (gave_none _ _ _ _ _ _ c.give-given.ensures.heard c.if-given-gt0.false)) in
-    read_ended g.I.Read.remaining c.args.self.now c.give-given.new.self _ _ _ _ heard (c.is_over.ensures c.if-is_over.true) c.end.ensures
+    read_ended g.I.Read.remaining c.args.self.now c.give-given.new.self _ _ _ _ heard (c.is_over.ensures.left c.if-is_over.true) (end_gives_none _ _ c.end.ensures)
 
 pub returns-then-is_over-clause-pongs : goal.returns-then-is_over-clause-pongs
 returns-then-is_over-clause-pongs g c =
-    if_none _ _ c.end.ensures (hears_both _ _ _ _ _ _ _ c.loop.invariant.0 (hears_both _ _ _ _ _ _ _ c.in_ok-answer.ensures.ok (gave_none _ _ _ _ _ _ c.give-given.ensures.heard c.if-given-gt0.false)))
+    if_none _ _ (end_gives_none _ _ c.end.ensures) (hears_both _ _ _ _ _ _ _ c.loop.invariant.0 (hears_both _ _ _ _ _ _ _ c.in_ok-answer.ensures.ok (gave_none _ _ _ _ _ _ c.give-given.ensures.heard c.if-given-gt0.false)))
 
 pub returns-then-is_over-clause-failed : goal.returns-then-is_over-clause-failed
 returns-then-is_over-clause-failed g c =
@@ -55,13 +56,31 @@ returns-then-not-branch-clause-bytes g c =
     (hears_both _ _ _ _ _ _ _ c.in_ok-answer.ensures.ok
     (hears_both _ _ _ _ _ _ _ (gave_none _ _ _ _ _ _ c.give-given.ensures.heard c.if-given-gt0.false) (hears_nothing _ _ _ _ c.renew.ensures.keeps c.renew.ensures.written))) in
     let left : IsDealtWith (told_left g.I.Read.remaining c.renew.new.self) = first_of (search rules, grind (arith, common_steps)) in
-    (reader_gave g.I.Read.remaining c.args.self.now c.renew.new.self _ _ _ heard, λ _ _. reader_ended g.I.Read.remaining c.renew.new.self left)
+    read_ended g.I.Read.remaining c.args.self.now c.renew.new.self _ _ _ _ heard left (end_gives_none _ _ c.end-then-not-branch.ensures)
 
 pub returns-then-not-branch-clause-pongs : goal.returns-then-not-branch-clause-pongs
 returns-then-not-branch-clause-pongs g c =
-    hears_both _ _ _ _ _ _ _ c.loop.invariant.0
+    if_none _ _ (end_gives_none _ _ c.end-then-not-branch.ensures)
+    (hears_both _ _ _ _ _ _ _ c.loop.invariant.0
     (hears_both _ _ _ _ _ _ _ c.in_ok-answer.ensures.ok
-    (hears_both _ _ _ _ _ _ _ (gave_none _ _ _ _ _ _ c.give-given.ensures.heard c.if-given-gt0.false) (hears_nothing _ _ _ _ c.renew.ensures.keeps c.renew.ensures.written)))
+    (hears_both _ _ _ _ _ _ _ (gave_none _ _ _ _ _ _ c.give-given.ensures.heard c.if-given-gt0.false) (hears_nothing _ _ _ _ c.renew.ensures.keeps c.renew.ensures.written))))
+
+pub returns-then-not-branch-clause-failed : goal.returns-then-not-branch-clause-failed
+returns-then-not-branch-clause-failed g c =
+    if_failed _ _ (hears_whole _ _ _ _ (hears_both _ _ _ _ _ _ _ c.loop.invariant.0
+    (hears_both _ _ _ _ _ _ _ c.in_ok-answer.ensures.ok
+    (hears_both _ _ _ _ _ _ _ (gave_none _ _ _ _ _ _ c.give-given.ensures.heard c.if-given-gt0.false) (hears_nothing _ _ _ _ c.renew.ensures.keeps c.renew.ensures.written)))))
+
+pub returns-then-not-branch-clause-last : goal.returns-then-not-branch-clause-last
+returns-then-not-branch-clause-last g c =
+    let left : IsDealtWith (told_left g.I.Read.remaining c.renew.new.self) = first_of (search rules, grind (arith, common_steps)) in
+    if_at_end _ _ _ left
+
+pub returns-then-not-branch-clause-unbroken : goal.returns-then-not-branch-clause-unbroken
+returns-then-not-branch-clause-unbroken g c = end_is_unbroken _ _ _ c.end-then-not-branch.ensures
+
+pub returns-then-is_over-clause-unbroken : goal.returns-then-is_over-clause-unbroken
+returns-then-is_over-clause-unbroken g c = end_is_unbroken _ _ _ c.end.ensures
 
 pub loop-preserved : goal.loop-preserved
 loop-preserved g c =

@@ -1,0 +1,4 @@
+pub mod Answers
+pub mod Edits
+pub mod LineKinds
+pub mod Links

@@ -1,0 +1,5 @@
+pub mod Carriages
+pub mod Changes
+pub mod Linked
+pub mod Messages
+pub mod Ways

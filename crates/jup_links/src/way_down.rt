@@ -1,0 +1,207 @@
+//! The way down of a link: the lines that its session puts, until the site has them for good.
+ghost use Rattle.std.specs.Prelude.{◌≡◌, ◌↔◌, IsOk, OnOk, OnErr};
+ghost use Rattle.jup_resume.specs.Keepers.{after_begin, after_got, IsPlace, IsGot};
+ghost use Rattle.jup_resume.specs.Texts.{HasNoFeed};
+
+use crate::last_line::LastLine;
+use crate::lines::without_feed;
+use jup_faults::Fault;
+use jup_limits::NoMemory;
+use jup_resume::{KeepFault, Keeper};
+use std::alloc::Global;
+use std::marker::Model;
+
+/// How many bytes the server keeps of a way down. A line that would exceed this waits.
+pub const MOST_KEPT: usize = 262_144;
+
+/// The number of the line that is the last that a count can name.
+const LAST_LINE: u32 = u32::MAX;
+
+/// Why a line was not put.
+#[derive(Clone, Copy, Debug, PartialEq, Eq)]
+pub enum Unput {
+    /// It has to wait for room, or for memory.
+    Full,
+    /// The link takes no further line.
+    Over,
+}
+
+/// What comes next for a carrier.
+#[derive(Clone, Copy, Debug, PartialEq, Eq)]
+pub enum NextLine {
+    Nothing,
+    Line,
+    /// The last line of the link.
+    Last,
+}
+
+/// The lines that a session puts and a carrier writes, which contracts see. The last line waits until the session has ended, since only then it is known what it covers.
+#[derive(Drop)]
+pub struct WayDown {
+    keeper: Keeper,
+    put: u32,
+    is_open: bool,
+    is_ready: bool,
+    /// How many bytes the line has that waits for room, or 0.
+    wanted: usize,
+    last: Option<LastLine>,
+}
+
+impl Model for WayDown {
+    ghost use Rattle.jup_links.specs.Ways.{Down};
+
+    ghost Value = { Down };
+
+    ghost view = { λ w. record { lines = w.keeper; is_open = w.is_open; is_ready = w.is_ready; last = w.last } };
+}
+
+impl WayDown {
+    /// Nothing was put yet.
+    pub fn new(alloc: Global) -> WayDown {
+        let mut keeper = Keeper::new(alloc);
+        let _ = keeper.begin(0);
+        WayDown {
+            keeper,
+            put: 0,
+            is_open: false,
+            is_ready: false,
+            wanted: 0,
+            last: None,
+        }
+    }
+
+    /// Whether a line was put that is not the last: the site has joined.
+    pub fn is_open(&self) -> bool
+        ensures { result ≡ self.now.is_open }
+    {
+        self.is_open
+    }
+
+    /// Whether `ready` was put.
+    pub fn is_ready(&self) -> bool
+        ensures { result ≡ self.now.is_ready }
+    {
+        self.is_ready
+    }
+
+    /// The last line, if the session has put it.
+    pub fn last(&self) -> Option<LastLine>
+        ensures { result ≡ self.now.last }
+    {
+        self.last
+    }
+
+    /// Whether nothing is kept.
+    pub fn is_empty(&self) -> bool {
+        self.keeper.kept_bytes() == 0
+    }
+
+    /// Whether the session waits for room that only the site can make.
+    pub fn lacks_room(&self) -> bool {
+        !self.has_room_for(self.wanted)
+    }
+
+    fn has_room_for(&self, len: usize) -> bool {
+        len == 0 || len.saturating_add(self.keeper.kept_bytes()) <= MOST_KEPT
+    }
+
+    /// Puts a line, given without its line feed. The last line is only noted.
+    pub fn put(&mut self, text: &[u8]) -> Result<(), Unput>
+        requires { HasNoFeed text.now }
+    {
+        if self.last.is_some() {
+            return Err(Unput::Over);
+        }
+        if let Some(last) = LastLine::read(text) {
+            self.last = Some(last);
+            return Ok(());
+        }
+        if self.put >= LAST_LINE - 1 {
+            self.last = Some(LastLine::of(Fault::LinesSpent));
+            return Err(Unput::Over);
+        }
+        let len = text.len().saturating_add(1);
+        if !self.has_room_for(len) || self.keeper.put(text).is_err() {
+            self.wanted = len;
+            return Err(Unput::Full);
+        }
+        self.note_put(text);
+        Ok(())
+    }
+
+    fn note_put(&mut self, text: &[u8]) {
+        self.put = self.put.saturating_add(1);
+        self.wanted = 0;
+        self.is_open = true;
+        self.is_ready |= text == b"ready".as_slice();
+    }
+
+    /// Ends the link by this line, unless it has one.
+    pub fn end_by(&mut self, last: LastLine) {
+        if self.last.is_none() {
+            self.last = Some(last);
+        }
+    }
+
+    /// Puts the last line, which always has room.
+    pub fn close(&mut self, alloc: Global, last: LastLine) -> Result<(), NoMemory> {
+        let Ok(text) = format!(in alloc; "{last}") else {
+            return Err(NoMemory);
+        };
+        self.last = Some(last);
+        match self.keeper.put(without_feed(text.as_bytes())) {
+            Ok(()) => {
+                self.put = self.put.saturating_add(1);
+                self.wanted = 0;
+                Ok(())
+            }
+            Err(KeepFault::NoMemory) => Err(NoMemory),
+            Err(KeepFault::LinesSpent | KeepFault::BadTaken) => Ok(()),
+        }
+    }
+
+    /// A carrier begins, whose client has taken so many lines. Refused if it can't have them, and then nothing changes.
+    pub fn begin(&mut self, taken: u32) -> Result<(), KeepFault>
+        ensures ok { IsOk result ↔ IsPlace self.old.lines taken }
+        ensures begun { OnOk result (self.new ≡ record self.old { lines = after_begin taken self.old.lines }) }
+        ensures err { OnErr result (self.new ≡ self.old) }
+    {
+        self.keeper.begin(taken)
+    }
+
+    /// The client has so many lines for good. Refused if it can't have them, and then nothing changes.
+    pub fn got(&mut self, taken: u32) -> Result<(), KeepFault>
+        ensures ok { IsOk result ↔ IsGot self.old.lines taken }
+        ensures dropped { OnOk result (self.new ≡ record self.old { lines = after_got taken self.old.lines }) }
+        ensures err { OnErr result (self.new ≡ self.old) }
+    {
+        self.keeper.got(taken)
+    }
+
+    /// What comes next for the carrier.
+    pub fn next_line(&self) -> NextLine {
+        match self.keeper.next() {
+            None => NextLine::Nothing,
+            Some(line) if is_last(line) => NextLine::Last,
+            Some(_) => NextLine::Line,
+        }
+    }
+
+    /// Appends that line, and notes that it was written.
+    pub fn write_next(&mut self, out: &mut Vec<u8>) -> Result<bool, NoMemory> {
+        self.keeper.write_next(out)
+    }
+
+    /// Keeps nothing more.
+    pub fn clear(&mut self, alloc: Global) {
+        self.keeper = Keeper::new(alloc);
+    }
+}
+
+// Whether a line, given with its line feed, is the last of a link.
+fn is_last(line: &[u8]) -> bool {
+    match line.strip_suffix(b"\n") {
+        Some(text) => LastLine::read(text).is_some(),
+        None => false,
+    }
+}

@@ -7,6 +7,10 @@ use Rattle.jup_text.specs.Boards.{line_of, board_text}
 abbrev pub most_sessions : ℕ
 most_sessions = 1024
 
+-- seconds for which it may be asked to let a link wait: a day
+abbrev pub most_grace : ℕ
+most_grace = 86400
+
 -- how many edits were taken, and then the board
 abbrev pub report_text : BoardStar → List ℕ
 report_text star = line_of (codes "order" ∷ decimal (length star.order) ∷ []) ++ board_text star.board

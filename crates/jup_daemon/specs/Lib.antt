@@ -1,2 +1,3 @@
 pub mod Daemons
+pub mod Doors
 pub mod Ends

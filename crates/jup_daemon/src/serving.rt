@@ -5,16 +5,23 @@ ghost use Rattle.jup_limits.specs.Limits.{longest_input};
 ghost use Rattle.jup_hub.specs.Passes.{IsPassOf};
 ghost use Rattle.jup_daemon.specs.Daemons as texts;
 
+use crate::connection::Server;
+use crate::doorway::Doorway;
+use crate::late::Late;
 use crate::telling::tell;
-use crate::{Attempt, DaemonEnd, DaemonWords, Door, daemon_words, report_text, star_of_layout};
+use crate::{
+    Admission, Attempt, DaemonEnd, DaemonWords, LinkWords, lasting_daemon_words, report_text,
+    star_of_layout,
+};
+use jup_carrier::{Links, NoTokens, RandomTokens, Tokens, Uptime};
 use jup_hub::{Hub, Pass};
 use jup_limits::LONGEST_INPUT;
-use jup_net::hang_up;
-use jup_session::{Bell, Open, Outgoing, Serving};
+use jup_session::Bell;
 use jup_star::Star;
 use std::alloc::Global;
 use std::io::{Read, Write};
 use std::net::{Net, TcpListener, TcpStream};
+use std::random::RandomSource;
 use std::sync::Wait;
 use std::thread::Threads;
 use std::time::Clock;
@@ -28,6 +35,8 @@ use std::{io, thread};
 /// - 3 for memory
 /// - 5 for the layout
 /// - 6 if the hub can't be closed
+///
+/// It speaks protocol 3 alone, since it has no random bytes for tokens.
 pub fn daemon_main<
     R: Net<Listener = TcpListener, Stream = TcpStream> + Threads + Wait + Clock + Sync,
     I: Read + Drop,
@@ -36,11 +45,41 @@ pub fn daemon_main<
 >(rt: &R, alloc: Global, words: &[String], input: I, out: &mut O, errors: &mut E) -> u8
     ensures { result ≤ 6 }
 {
-    let told = match daemon_words(alloc, words) {
+    run(rt, alloc, &NoTokens, words, input, out, errors)
+}
+
+/// The same, and speaks protocol 4 too: its links outlive their connections.
+pub fn lasting_daemon_main<
+    R: Net<Listener = TcpListener, Stream = TcpStream>
+        + Threads
+        + Wait
+        + Clock
+        + RandomSource
+        + Sync,
+    I: Read + Drop,
+    O: Write,
+    E: Write,
+>(rt: &R, alloc: Global, words: &[String], input: I, out: &mut O, errors: &mut E) -> u8
+    ensures { result ≤ 6 }
+{
+    run(rt, alloc, &RandomTokens::new(rt), words, input, out, errors)
+}
+
+// Reads the words, serves, and says how that ended.
+fn run<
+    R: Net<Listener = TcpListener, Stream = TcpStream> + Threads + Wait + Clock + Sync,
+    T: Tokens + Sync,
+    I: Read + Drop,
+    O: Write,
+    E: Write,
+>(rt: &R, alloc: Global, tokens: &T, words: &[String], input: I, out: &mut O, errors: &mut E) -> u8
+    ensures { result ≤ 6 }
+{
+    let (told, links) = match lasting_daemon_words(alloc, words) {
         Ok(told) => told,
         Err(unread) => return unread.tell(out, errors),
     };
-    let Err(end) = serve(rt, alloc, &told, input, out, errors) else {
+    let Err(end) = serve(rt, alloc, tokens, &told, &links, input, out, errors) else {
         return 0;
     };
     let status = tell(&end, errors);
@@ -54,13 +93,16 @@ pub fn daemon_main<
 // Serves all sessions, and prints the order's length and the board.
 fn serve<
     R: Net<Listener = TcpListener, Stream = TcpStream> + Threads + Wait + Clock + Sync,
+    T: Tokens + Sync,
     I: Read + Drop,
     O: Write,
     E: Write,
 >(
     rt: &R,
     alloc: Global,
+    tokens: &T,
     told: &DaemonWords,
+    links: &LinkWords,
     input: I,
     out: &mut O,
     errors: &mut E,
@@ -71,7 +113,7 @@ fn serve<
         Err(error) => return Err(DaemonEnd::of_failure(Attempt::Listen, &error)),
     };
     tell_port(&told.listen, &listener, errors);
-    serve_star(rt, alloc, told, star, listener, out)
+    serve_star(rt, alloc, tokens, told, links, star, listener, out)
 }
 
 // Prints the address on standard error, if the system was left to choose the port.
@@ -91,10 +133,12 @@ fn read_star<I: Read + Drop>(alloc: Global, limit: u32, input: I) -> Result<Star
 }
 
 // Serves all sessions of a star.
-fn serve_star<R: Threads + Wait + Clock + Sync, O: Write>(
+fn serve_star<R: Threads + Wait + Clock + Sync, T: Tokens + Sync, O: Write>(
     rt: &R,
     alloc: Global,
+    tokens: &T,
     told: &DaemonWords,
+    links: &LinkWords,
     star: Star,
     listener: TcpListener,
     out: &mut O,
@@ -103,7 +147,19 @@ fn serve_star<R: Threads + Wait + Clock + Sync, O: Write>(
         return Err(DaemonEnd::NoMemory);
     };
     announce(&told.listen, out).map_err(|error| DaemonEnd::of_failure(Attempt::Print, &error))?;
-    let pass = serve_all(rt, alloc, listener, &hub, pass, told.sessions)?;
+    let doorway = match Doorway::new(&listener, told.sessions) {
+        Ok(doorway) => doorway,
+        Err(error) => return Err(DaemonEnd::of_failure(Attempt::Accept, &error)),
+    };
+    let server = Server {
+        alloc,
+        hub: &hub,
+        bell: &Bell::new(),
+        links: &Links::new(alloc, links.grace, Uptime::new(rt)),
+        doorway: &doorway,
+        late: &Late::new(),
+    };
+    let pass = serve_all(rt, tokens, &server, listener, pass)?;
     match hub.close(pass) {
         Ok(closed) => report(alloc, &closed.star, out),
         Err(_) => Err(DaemonEnd::Held),
@@ -149,71 +205,99 @@ fn print<O: Write>(text: &[u8], out: &mut O) -> io::Result<()>
     out.flush()
 }
 
-// Accepts the sessions, each in a thread of its own. The scope waits for all that run, on each way out. Nobody
-// listens meanwhile: a connection after the last one is refused, and does not wait for what never comes.
-fn serve_all<R: Threads + Wait + Clock + Sync>(
+// Serves until nobody may come any more and each connection has ended. The scope waits for all that run, on each way out. Nobody listens meanwhile: a connection after
+// the last one is refused, and does not wait for what never comes.
+fn serve_all<R: Threads + Wait + Clock + Sync, T: Tokens + Sync>(
     rt: &R,
-    alloc: Global,
+    tokens: &T,
+    server: &Server<'_>,
     listener: TcpListener,
-    hub: &Hub,
     mut pass: Pass,
-    sessions: u32,
 ) -> Result<Pass, DaemonEnd>
-    requires { IsPassOf hub.now pass }
-    ensures { IfOk result (λ p. IsPassOf hub.now p) }
+    requires { IsPassOf server.now.hub.now pass }
+    ensures { IfOk result (λ p. IsPassOf server.now.hub.now p) }
 {
-    let bell = Bell::new();
-    let bell = &bell;
+    let theirs = server.hub.split(&mut pass);
+    let ended = thread::scope(
+        thread::scope_env(),
+        rt,
+        |scope| -> Result<(), DaemonEnd>
+            requires { IsPassOf server.now.hub.now theirs }
+        {
+            let watch = scope.spawn(move || server.doorway.watch(rt, server.links));
+            // Without the thread that looks at links there are none.
+            let accepted = if watch.is_ok() {
+                accept_all(rt, tokens, server, &listener, theirs)
+            } else {
+                accept_all(rt, &NoTokens, server, &listener, theirs)
+            };
+            server.doorway.leave(rt);
+            drop(listener);
+            accepted
+        },
+    );
+    match ended {
+        Ok(()) => Ok(pass),
+        Err(end) => Err(end),
+    }
+}
+
+// Accepts connections, each in a thread of its own, until nobody may come any more. It returns once all have ended.
+fn accept_all<R: Threads + Wait + Clock + Sync, T: Tokens + Sync>(
+    rt: &R,
+    tokens: &T,
+    server: &Server<'_>,
+    listener: &TcpListener,
+    mut pass: Pass,
+) -> Result<(), DaemonEnd>
+    requires { IsPassOf server.now.hub.now pass }
+{
     thread::scope(
         thread::scope_env(),
         rt,
-        |scope| -> Result<Pass, DaemonEnd>
-            requires { IsPassOf hub.now pass }
-            ensures { IfOk result (λ p. IsPassOf hub.entry.now p) }
+        |scope| -> Result<(), DaemonEnd>
+            requires { IsPassOf server.now.hub.now pass }
         {
-            let mut door = Door::new(sessions);
             for _ in rt.forever() {
-                if door.is_shut() {
+                let Some((stream, admission)) = next_connection(rt, server, listener)? else {
                     break;
-                }
-                let Some((stream, _)) = door.meet(listener.accept())? else {
+                };
+                let Some(entry) = server.enter(rt, &stream, admission) else {
                     continue;
                 };
-                let theirs = hub.split(&mut pass);
+                let theirs = server.hub.split(&mut pass);
                 let child = scope.spawn(
                     move ||
-                        requires { IsPassOf hub.now theirs }
-                    { session(rt, alloc, &stream, hub, theirs, bell) },
+                        requires { IsPassOf server.now.hub.now theirs }
+                    { server.serve(rt, tokens, &stream, entry, theirs) },
                 );
-                if child.is_err() {
+                if child.is_err() && matches!(admission, Admission::Counted) {
                     return Err(DaemonEnd::NoMemory);
                 }
             }
-            drop(listener);
-            Ok(pass)
+            server.late.close(rt);
+            Ok(())
         },
     )
 }
 
-// One session over a socket.
-fn session<R: Threads + Wait + Clock + Sync>(
+// The next connection. `None` if nobody may come any more.
+fn next_connection<R: Wait + Clock>(
     rt: &R,
-    alloc: Global,
-    stream: &TcpStream,
-    hub: &Hub,
-    pass: Pass,
-    bell: &Bell,
-)
-    requires { IsPassOf hub.now pass }
-{
-    let _ = stream.set_nodelay(true);
-    let to = Outgoing::new(stream, Outgoing::PATIENCE);
-    let serving = Serving {
-        alloc,
-        hub,
-        bell,
-        gate: &Open,
-    };
-    let _ = serving.serve(rt, stream, to, pass);
-    hang_up(rt, stream);
+    server: &Server<'_>,
+    listener: &TcpListener,
+) -> Result<Option<(TcpStream, Admission)>, DaemonEnd> {
+    for _ in rt.forever() {
+        if server.doorway.is_shut(rt, server.links) {
+            return Ok(None);
+        }
+        let accepted = listener.accept();
+        if server.doorway.is_shut(rt, server.links) {
+            return Ok(None);
+        }
+        if let Some(((stream, _), admission)) = server.doorway.meet(rt, accepted)? {
+            return Ok(Some((stream, admission)));
+        }
+    }
+    unreachable!()
 }

@@ -36,11 +36,11 @@ def free_port():
 
 
 class Daemon:
-    """A `jupd` that serves a layout, in the script's environment or in another. The end of the `with` stops it."""
+    """A `jupd` that serves a layout, with `more` options, in the script's environment or in another. The end of the `with` stops it."""
 
-    def __init__(self, layout, sessions, limit=1_000_000, most_memory=None, environment=None):
+    def __init__(self, layout, sessions, limit=1_000_000, most_memory=None, environment=None, more=()):
         self.port = free_port()
-        words = ["--listen", f"127.0.0.1:{self.port}", "--limit", str(limit), "--sessions", str(sessions)]
+        words = ["--listen", f"127.0.0.1:{self.port}", "--limit", str(limit), "--sessions", str(sessions), *more]
         bound = lambda: most_memory and resource.setrlimit(resource.RLIMIT_AS, (most_memory, most_memory))
         with tempfile.TemporaryFile() as text:
             text.write(layout)

@@ -110,8 +110,8 @@ class Carrier:
         """Carries the link until it is over. It raises an OSError if the carrier is cut before, and a Fault if the client gives up."""
         while not self.is_done():
             self.looks_at_the_clock()
-            is_writing = bool(self.left or self.begins_piece())
-            readable, writable, _ = select.select([self.connection, self.link.woken], [self.connection] * is_writing, [], self.patience())
+            is_writing, is_reading = bool(self.left or self.begins_piece()), not self.link.is_over()
+            readable, writable, _ = select.select([self.connection] * is_reading + [self.link.woken], [self.connection] * is_writing, [], self.patience())
             if self.link.woken in readable:
                 self.link.woken.recv(4096)
             if self.connection in readable:

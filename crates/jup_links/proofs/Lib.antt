@@ -1,1 +1,3 @@
+mod Kept
+mod LastLines
 mod Messages

@@ -1,5 +1,6 @@
 pub mod Carriages
 pub mod Changes
+pub mod LastLines
 pub mod Linked
 pub mod Messages
 pub mod Ways

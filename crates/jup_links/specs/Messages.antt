@@ -15,9 +15,13 @@ pub record Announces (text : List ℕ) (count : ℕ) : Type 0 where
   pub first_field : IsCut 32 fields first others
   pub heard_field : IsCut 32 others heard (decimal count)
 
--- So many lines of an edit are to come after a line between messages. A line that announces none is a message of its own, or no session takes it
+-- the line begins no edit: it is a message of its own, or no session takes it
+abbrev pub AnnouncesNone : List ℕ → Type 0
+AnnouncesNone text = (count : ℕ) → IsU32 count → Announces text count → ⊥
+
+-- so many lines of an edit are to come after a line between messages
 abbrev pub BeginsAs : List ℕ → ℕ → Type 0
-BeginsAs text left = (left ≡ 0) ⊎ (IsU32 left × Announces text left)
+BeginsAs text left = ((left ≡ 0) × AnnouncesNone text) ⊎ (IsU32 left × Announces text left)
 
 abbrev pub IsLeftAfter : ℕ → List ℕ → ℕ → Type 0
 IsLeftAfter zero text left = BeginsAs text left

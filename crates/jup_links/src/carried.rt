@@ -1,5 +1,5 @@
 //! What the carriers of a link and its session share.
-ghost use Rattle.std.specs.Prelude.{◌≡◌, ◌≢◌, ◌≤◌, Err, None, length, IfOk, OnErr, IsTrue};
+ghost use Rattle.std.specs.Prelude.{◌≡◌, ◌≢◌, ◌↔◌, ◌≤◌, Err, None, length, IfOk, OnErr, IsTrue};
 ghost use Rattle.jup_links.specs.Carriages.{IsPresent, after_taking_over, after_losing};
 ghost use Rattle.jup_links.specs.Linked.{IsOutOfTime};
 
@@ -279,7 +279,7 @@ impl Carried {
             };
             match self.down.put(text) {
                 Ok(()) => rest = behind,
-                Err(Unput::Full) if rest.len() < bytes.len() => break,
+                Err(Unput::Full | Unput::NoMemory) if rest.len() < bytes.len() => break,
                 Err(unput) => return (Err(unput), Change::for_all()),
             }
         }
@@ -393,6 +393,18 @@ impl Carried {
             return (true, Change::for_carriers());
         }
         (false, self.cut(carrier, now))
+    }
+
+    /// Whether this carrier carries the link now.
+    pub fn is_carried_by(&self, carrier: u64) -> bool
+        ensures { IsTrue result ↔ IsPresent carrier self.now.carriage }
+    {
+        self.carriage.is_present(carrier)
+    }
+
+    /// Whether lines are still to be written to a carrier: it has the link, and was not given the last line.
+    pub fn writes_on(&self, carrier: u64) -> bool {
+        self.carriage.is_present(carrier) && self.carriage.since().is_none() && !self.is_spent()
     }
 
     /// A carrier breaks. If it is the present one, the link waits for another.

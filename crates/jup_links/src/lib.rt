@@ -9,7 +9,6 @@ mod counts;
 mod first_bytes;
 mod framing;
 mod last_line;
-mod lines;
 mod opening;
 mod way_down;
 mod way_up;

@@ -1,10 +1,10 @@
 //! The way down of a link: the lines that its session puts, until the site has them for good.
-ghost use Rattle.std.specs.Prelude.{◌≡◌, ◌↔◌, IsOk, OnOk, OnErr};
-ghost use Rattle.jup_resume.specs.Keepers.{after_begin, after_got, IsPlace, IsGot};
+ghost use Rattle.std.specs.Prelude.{◌≡◌, ◌≢◌, ◌⊎◌, ◌↔◌, ◌+◌, ◌≤◌, ◌<◌, Err, None, Some, length, codes, IsOk, OnOk, OnErr, IsTrue};
+ghost use Rattle.jup_resume.specs.Keepers.{after_begin, after_got, size_of, IsPlace, IsGot};
 ghost use Rattle.jup_resume.specs.Texts.{HasNoFeed};
+ghost use Rattle.jup_links.specs.Ways.{most_kept, HasPut, IsClosed};
 
 use crate::last_line::LastLine;
-use crate::lines::without_feed;
 use jup_faults::Fault;
 use jup_limits::NoMemory;
 use jup_resume::{KeepFault, Keeper};
@@ -20,8 +20,10 @@ const LAST_LINE: u32 = u32::MAX;
 /// Why a line was not put.
 #[derive(Clone, Copy, Debug, PartialEq, Eq)]
 pub enum Unput {
-    /// It has to wait for room, or for memory.
+    /// It has to wait for room.
     Full,
+    /// It has to wait for memory.
+    NoMemory,
     /// The link takes no further line.
     Over,
 }
@@ -101,13 +103,22 @@ impl WayDown {
         !self.has_room_for(self.wanted)
     }
 
-    fn has_room_for(&self, len: usize) -> bool {
+    fn has_room_for(&self, len: usize) -> bool
+        ensures { IsTrue result ↔ ((len ≡ 0) ⊎ (len + size_of self.now.lines.kept ≤ most_kept)) }
+    {
         len == 0 || len.saturating_add(self.keeper.kept_bytes()) <= MOST_KEPT
     }
 
     /// Puts a line, given without its line feed. The last line is only noted.
+    #[tactic(auto, using(crate::proofs::Kept::size_of_put))]
     pub fn put(&mut self, text: &[u8]) -> Result<(), Unput>
         requires { HasNoFeed text.now }
+        ensures put { OnOk result (HasPut text.now self.old self.new) }
+        ensures over { self.old.last ≢ None → (result ≡ Err Unput.Over) × (self.new ≡ self.old) }
+        ensures spent { result ≡ Err Unput.Over → self.old.last ≡ None → self.new ≡ record self.old { last = Some (LastLine.Error 37) } }
+        ensures full { result ≡ Err Unput.Full → (most_kept < size_of self.old.lines.kept + length text.now + 1) × (self.new ≡ self.old) }
+        ensures memory { result ≡ Err Unput.NoMemory → self.new ≡ self.old }
+        ensures bound { size_of self.old.lines.kept ≤ most_kept → size_of self.new.lines.kept ≤ most_kept }
     {
         if self.last.is_some() {
             return Err(Unput::Over);
@@ -121,15 +132,24 @@ impl WayDown {
             return Err(Unput::Over);
         }
         let len = text.len().saturating_add(1);
-        if !self.has_room_for(len) || self.keeper.put(text).is_err() {
-            self.wanted = len;
+        self.wanted = len;
+        if !self.has_room_for(len) {
             return Err(Unput::Full);
+        }
+        if self.keeper.put(text).is_err() {
+            return Err(Unput::NoMemory);
         }
         self.note_put(text);
         Ok(())
     }
 
-    fn note_put(&mut self, text: &[u8]) {
+    // Notes that a line was put that is not the last.
+    fn note_put(&mut self, text: &[u8])
+        ensures lines { self.new.lines ≡ self.old.lines }
+        ensures open { IsTrue self.new.is_open }
+        ensures ready { IsTrue self.new.is_ready ↔ (IsTrue self.old.is_ready ⊎ (text.now ≡ codes "ready")) }
+        ensures last { self.new.last ≡ self.old.last }
+    {
         self.put = self.put.saturating_add(1);
         self.wanted = 0;
         self.is_open = true;
@@ -137,27 +157,32 @@ impl WayDown {
     }
 
     /// Ends the link by this line, unless it has one.
-    pub fn end_by(&mut self, last: LastLine) {
+    pub fn end_by(&mut self, last: LastLine)
+        ensures first { self.old.last ≡ None → self.new ≡ record self.old { last = Some last } }
+        ensures same { self.old.last ≢ None → self.new ≡ self.old }
+    {
         if self.last.is_none() {
             self.last = Some(last);
         }
     }
 
-    /// Puts the last line, which always has room.
-    pub fn close(&mut self, alloc: Global, last: LastLine) -> Result<(), NoMemory> {
+    /// Puts the last line, which always has room. If memory for it is refused, nothing changes.
+    pub fn close(&mut self, alloc: Global, last: LastLine) -> Result<(), NoMemory>
+        ensures closed { OnOk result (IsClosed last self.old self.new) }
+        ensures err { OnErr result (self.new ≡ self.old) }
+    {
+        last.fits();
         let Ok(text) = format!(in alloc; "{last}") else {
             return Err(NoMemory);
         };
-        self.last = Some(last);
-        match self.keeper.put(without_feed(text.as_bytes())) {
-            Ok(()) => {
-                self.put = self.put.saturating_add(1);
-                self.wanted = 0;
-                Ok(())
-            }
-            Err(KeepFault::NoMemory) => Err(NoMemory),
-            Err(KeepFault::LinesSpent | KeepFault::BadTaken) => Ok(()),
+        match self.keeper.put(text.as_bytes()) {
+            Ok(()) => self.put = self.put.saturating_add(1),
+            Err(KeepFault::NoMemory) => return Err(NoMemory),
+            Err(KeepFault::LinesSpent | KeepFault::BadTaken) => {}
         }
+        self.last = Some(last);
+        self.wanted = 0;
+        Ok(())
     }
 
     /// A carrier begins, whose client has taken so many lines. Refused if it can't have them, and then nothing changes.

@@ -1,8 +1,9 @@
 //! The way up of a link: the lines that its site sends, until its session has handled them.
 ghost use Rattle.std.specs.Prelude.{◌≡◌, ◌≢◌, ◌+◌, ◌≤◌, length};
+ghost use Rattle.jup_resume.specs.Takers.{IsFeedless};
+ghost use Rattle.jup_resume.specs.Texts.{HasNoFeed};
 
 use crate::framing::{Framing, Standing};
-use crate::lines::without_feed;
 use jup_resume::{Arrival, Keeper, Note, Taker, Took};
 use memchr::memchr;
 use std::alloc::Global;
@@ -180,6 +181,7 @@ impl WayUp {
 
     // What a piece of bytes is.
     fn step_by(&mut self, arrival: Arrival) -> Step
+        requires { IsFeedless arrival }
         ensures handled { self.new.handled ≡ self.old.handled }
     {
         match arrival {
@@ -210,6 +212,7 @@ impl WayUp {
 
     // Hands a line on to the session, if it has an effect.
     fn hand_on(&mut self, text: &[u8]) -> Step
+        requires { HasNoFeed text.now }
         ensures handled { self.new.handled ≡ self.old.handled }
         ensures line { result ≡ Step.Line → self.new.taken ≡ self.old.taken + 1 }
         ensures none { result ≢ Step.Line → self.new.taken ≡ self.old.taken }
@@ -223,7 +226,7 @@ impl WayUp {
             self.taking = Taking::Nothing;
             return Step::Spent;
         }
-        if self.lines.put(without_feed(text)).is_err() {
+        if self.lines.put(text).is_err() {
             return Step::NoMemory;
         }
         self.taken_to.pass(text);
@@ -281,7 +284,9 @@ impl WayUp {
 
 // What a session is given for a note that no client sends after its first line: the first word, which is no line either. Only `hello` is refused by its
 // number.
-fn stray(note: &Note) -> &'static [u8] {
+fn stray(note: &Note) -> &'static [u8]
+    ensures { HasNoFeed result.now }
+{
     match note {
         Note::Hello => b"hello 4",
         Note::Link { .. } => b"link",

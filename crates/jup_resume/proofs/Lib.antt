@@ -1,6 +1,6 @@
 mod Digits
 mod KeptLines
 mod PieceLaws
-mod Readings
-mod Texts
+pub mod Readings
+pub mod Texts
 mod WayLaws

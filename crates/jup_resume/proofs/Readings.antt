@@ -1,5 +1,5 @@
 -- Notes: what is read is what is spelled.
-use Rattle.std.proofs.Common.{◌≡◌, ◌≢◌, ℕ, ◌<◌, ◌^◌, List, [], ◌∷◌, ◌++◌, Bool, true, false, Option, Some, None, length, get_or, sym, ap, ◌∙◌, arith, append-nil, inl, inr, codes, decimal}
+use Rattle.std.proofs.Common.{◌≡◌, ◌≢◌, ℕ, ◌<◌, ◌≤◌, ◌^◌, List, [], ◌∷◌, ◌++◌, Bool, true, false, Option, Some, None, length, get_or, sym, ap, ◌∙◌, arith, append-nil, inl, inr, codes, decimal}
 use Rattle.std.specs.List.{AllByRecursion}
 use Rattle.std.proofs.lemmas.List.Elements.{recursion_from_All}
 use Rattle.std.specs.Char.{digit_value}
@@ -15,12 +15,16 @@ use Rattle.jup_resume.proofs.Texts.{cut_same, whole_lacks}
 
 -- Fields without a space.
 
-digits_lack : (bytes : List ℕ) → AllDigits 10 bytes → Lacks 32 bytes
-digits_lack [] all = tt
-digits_lack (b ∷ bytes) all = (λ e. (let digit = all.0 in absurd (omega (arith, ap digit_value e, digit))), digits_lack bytes all.1)
+digits_lack : (byte : ℕ) → 10 ≤ digit_value byte → (bytes : List ℕ) → AllDigits 10 bytes → Lacks byte bytes
+digits_lack byte none [] all = tt
+digits_lack byte none (b ∷ bytes) all = (λ e. (let digit = all.0 in absurd (omega (arith, ap digit_value e, digit, none))), digits_lack byte none bytes all.1)
+
+-- a number has no byte that is no digit
+pub decimal_lacks : (byte : ℕ) → 10 ≤ digit_value byte → (n : ℕ) → n < 2 ^ 32 → Lacks byte (decimal n)
+decimal_lacks byte none n small = digits_lack byte none (decimal n) (decimal_digits n small).0
 
 pub number_lacks : (n : ℕ) → n < 2 ^ 32 → Lacks 32 (decimal n)
-number_lacks n small = digits_lack (decimal n) (decimal_digits n small).0
+number_lacks = decimal_lacks 32 (omega arith)
 
 no_space : (b : ℕ) → IsTokenDigit b → b ≢ 32
 no_space b (inl number) e = absurd (omega (arith, number.0, e))

@@ -53,3 +53,10 @@ IsLineOf text Part = ⊥
 IsLineOf text (IsNoteLine note) = IsNote note × (text ≡ note_text note)
 IsLineOf text (Line line) = IsNoNote text × (line ≡ text)
 IsLineOf text (LongLine line) = ⊥
+
+-- no line that came has a line feed
+abbrev pub IsFeedless : Arrival → Type 0
+IsFeedless Part = Unit {0}
+IsFeedless (IsNoteLine note) = Unit {0}
+IsFeedless (Line text) = HasNoFeed text
+IsFeedless (LongLine text) = HasNoFeed text

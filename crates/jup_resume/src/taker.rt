@@ -1,6 +1,6 @@
 //! The end of one way of a link that takes lines.
 ghost use Rattle.std.specs.Prelude.{◌≡◌, ◌+◌, ◌<◌, ◌≤◌, [], ◌++◌, length};
-ghost use Rattle.jup_resume.specs.Takers.{Brings, IsLineOf};
+ghost use Rattle.jup_resume.specs.Takers.{Brings, IsFeedless, IsLineOf};
 
 use crate::bytes::split;
 use crate::line_bytes::{LONGEST_LINE, LineBytes};
@@ -60,6 +60,7 @@ impl Taker {
     /// Takes a piece up to the end of the first line in it, or all of it.
     pub fn take<'a>(&mut self, piece: &'a [u8]) -> Took<'a>
         ensures arrival { Brings self.old.part piece.now result.arrival self.new.part result.rest.now }
+        ensures feedless { IsFeedless result.arrival }
         ensures taken { self.new.taken ≡ self.old.taken }
     {
         let room = LONGEST_LINE - self.part.len();

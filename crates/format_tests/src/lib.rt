@@ -1,4 +1,4 @@
-//! Lines of a link and messages of them, notes of a carrier, layouts, printed texts, and what a server of browsers reads and writes.
+//! Lines of a link and messages of them, layouts, printed texts, and what a server of browsers reads and writes.
 //! These are tests of public calls, for what no built program shows.
 //! `tools/requests`, `tools/frames` and `tools/serving` try on the built `jupweb` the rest of what it reads and writes.
 #![tactic(auto)]
@@ -21,10 +21,6 @@ mod heads;
 mod lines;
 #[cfg(test)]
 mod messages;
-#[cfg(test)]
-mod resume_growths;
-#[cfg(test)]
-mod resuming;
 #[cfg(test)]
 mod service_growths;
 #[cfg(test)]

@@ -23,6 +23,8 @@ const ROOM: usize = MOST_WRITTEN + 512;
 #[derive(Clone, Copy)]
 enum Hears {
     On,
+    /// Its client has ended its bytes. It is written to, up to the last line.
+    Ended,
     /// Nothing that it brings has an effect. What it writes may still be read.
     Over,
     /// It is cut.
@@ -35,7 +37,7 @@ pub struct Carrier<'a> {
     pub link: &'a Link,
     /// Which one of the link it is.
     pub number: u64,
-    pub uptime: Uptime,
+    pub uptime: &'a Uptime,
 }
 
 /// Carries the link until the connection breaks, another carrier has the link, or nothing is left of it. `first` was read of the connection before. A read has to end
@@ -120,6 +122,7 @@ impl<'a> Carrier<'a> {
         for _ in rt.forever() {
             hears = match hears {
                 Hears::On => self.hear_next(rt, &mut hearing, from, &mut piece),
+                Hears::Ended => self.wait_for_last(rt),
                 Hears::Over => return,
                 Hears::Cut => break,
             };
@@ -145,8 +148,17 @@ impl<'a> Carrier<'a> {
         match hearing.hear(read, self.link.drops_lines(rt)) {
             Came::Bytes(len) => self.hear_all(rt, &piece[..len.min(PIECE)]),
             Came::Again => Hears::On,
-            Came::End if self.link.end_bytes(rt, self.number, self.now(rt)) => Hears::Over,
+            Came::End if self.link.end_bytes(rt, self.number, self.now(rt)) => Hears::Ended,
             Came::End | Came::Cut => Hears::Cut,
+        }
+    }
+
+    // Waits until the last line is written to the carrier. It is cut if another one takes the link before that.
+    fn wait_for_last<R: Wait>(&self, rt: &R) -> Hears {
+        if self.link.wait_for_last(rt, self.number) {
+            Hears::Over
+        } else {
+            Hears::Cut
         }
     }
 
@@ -169,7 +181,7 @@ impl<'a> Carrier<'a> {
         unreachable!()
     }
 
-    fn now<R: Clock>(&self, rt: &R) -> u64 {
+    fn now<R: Wait + Clock>(&self, rt: &R) -> u64 {
         self.uptime.millis(rt)
     }
 }

@@ -7,6 +7,7 @@ use jup_links::{FirstBytes, LONGEST_FIRST};
 use jup_resume::FirstLine;
 use std::io::Read;
 use std::net::TcpStream;
+use std::sync::Wait;
 use std::time::{Clock, Duration};
 
 /// For how many milliseconds a connection is waited for: from its seventh byte on, if that may begin a first line of protocol 4, or from the start.
@@ -103,7 +104,12 @@ pub enum Patience {
 }
 
 /// Reads the first bytes of a connection.
-pub fn greet<R: Clock>(rt: &R, uptime: Uptime, stream: &TcpStream, patience: Patience) -> Greeted {
+pub fn greet<R: Wait + Clock>(
+    rt: &R,
+    uptime: &Uptime,
+    stream: &TcpStream,
+    patience: Patience,
+) -> Greeted {
     let mut greeted = Greeted::new();
     let mut until = match patience {
         Patience::Protocol => None,
@@ -124,7 +130,7 @@ pub fn greet<R: Clock>(rt: &R, uptime: Uptime, stream: &TcpStream, patience: Pat
     greeted
 }
 
-fn deadline<R: Clock>(rt: &R, uptime: Uptime) -> u64 {
+fn deadline<R: Wait + Clock>(rt: &R, uptime: &Uptime) -> u64 {
     uptime.millis(rt).saturating_add(LONGEST_GREETING)
 }
 

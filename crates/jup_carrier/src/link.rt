@@ -65,7 +65,7 @@ impl Link {
         len
     }
 
-    /// Puts lines of the session, and answers how many bytes were put. It waits a second for room.
+    /// Puts lines of the session, and answers how many bytes were put. It waits a second for room, and a second for memory.
     pub(crate) fn put<R: Wait + Clock>(&self, rt: &R, bytes: &[u8]) -> Result<usize, Unput>
         ensures { IfOk result (λ len. len ≤ length bytes.now) }
     {
@@ -78,6 +78,11 @@ impl Link {
         let (put, change) = held.put(bytes);
         drop(held);
         change.tell(&self.session, &self.carriers);
+        if put == Err(Unput::NoMemory) {
+            let _ = self
+                .session
+                .wait_timeout(rt, self.held.lock(rt), Duration::from_secs(LOOK));
+        }
         put
     }
 
@@ -138,6 +143,14 @@ impl Link {
         let (goes_on, change) = self.held.lock(rt).end_bytes(carrier, now);
         change.tell(&self.session, &self.carriers);
         goes_on
+    }
+
+    /// Waits until the last line is written to a carrier whose client has ended its bytes. Whether it still has the link then.
+    pub(crate) fn wait_for_last<R: Wait>(&self, rt: &R, carrier: u64) -> bool {
+        let held = self
+            .carriers
+            .wait_while(rt, self.held.lock(rt), |held| held.writes_on(carrier));
+        held.is_carried_by(carrier)
     }
 
     /// A carrier breaks.

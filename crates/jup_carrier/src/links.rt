@@ -55,8 +55,8 @@ impl Links {
     }
 
     /// The time of the server.
-    pub fn uptime(&self) -> Uptime {
-        self.uptime
+    pub fn uptime(&self) -> &Uptime {
+        &self.uptime
     }
 
     /// A new link of this token. Its first carrier is there.

@@ -8,7 +8,7 @@ use std::io::{ErrorKind, Write};
 use std::sync::Wait;
 use std::time::Clock;
 
-/// Puts whole lines on the way down of a link, whether or not a carrier is there. A line that finds no room within a second is interrupted, so that the session can give
+/// Puts whole lines on the way down of a link, whether or not a carrier is there. A line that finds no room or no memory within a second is interrupted, so that the session can give
 /// the link up. A write fails once the link is over.
 #[derive(Drop)]
 pub struct LinkWriter<'a, R: Wait + Clock> {
@@ -32,7 +32,7 @@ impl<'a, R: Wait + Clock> Write for LinkWriter<'a, R> {
             // A session writes whole lines, and nothing else is a line of a link.
             Ok(0) => Err(io::Error::from(ErrorKind::InvalidData)),
             Ok(len) => Ok(len),
-            Err(Unput::Full) => Err(io::Error::from(ErrorKind::Interrupted)),
+            Err(Unput::Full | Unput::NoMemory) => Err(io::Error::from(ErrorKind::Interrupted)),
             Err(Unput::Over) => Err(io::Error::from(ErrorKind::BrokenPipe)),
         }
     }

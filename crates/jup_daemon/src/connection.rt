@@ -4,7 +4,7 @@ ghost use Rattle.jup_hub.specs.Passes.{IsPassOf};
 
 use crate::doorway::Doorway;
 use crate::late::Late;
-use crate::{Admission, Turn};
+use crate::{Admission, DaemonEnd, Turn};
 use jup_carrier::{
     Carrier, First, Found, Greeted, Link, LinkReader, LinkWriter, Links, Patience, Resumption,
     Tokens, carry, greet,
@@ -56,6 +56,23 @@ impl<'a> Server<'a> {
             Admission::Counted => Some(Entry::Counted),
             Admission::Late => Some(Entry::Late(self.late.enter(rt, stream)?)),
         }
+    }
+
+    /// There is no thread for a connection. The daemon ends if that one was counted.
+    pub(crate) fn abandon<R: Wait>(&self, rt: &R, entry: Entry) -> Result<(), DaemonEnd> {
+        match entry {
+            Entry::Counted => Err(DaemonEnd::NoMemory),
+            Entry::Late(number) => {
+                self.late.leave(rt, number);
+                Ok(())
+            }
+        }
+    }
+
+    /// Nobody listens any more: a connection that waits to be accepted is refused, and one that came late is closed. None of them waits for what never comes.
+    pub(crate) fn stop_listening<R: Wait>(&self, rt: &R) {
+        self.doorway.shut();
+        self.late.close(rt);
     }
 
     /// Serves a connection to its end.
@@ -247,13 +264,13 @@ impl<'a> Server<'a> {
     ) {
         let link = match self.links.find(rt, token) {
             Found::Link(link) => link,
-            Found::Count(count) => return end(rt, self.alloc, stream, count),
+            Found::Count(count) => return end(rt, stream, count),
             Found::Nothing => return refuse(rt, stream, Fault::NoSuchLink),
         };
         match link.resume(rt, taken, self.links.uptime().millis(rt)) {
             Resumption::GoesOn { carrier } => self.carry(rt, stream, greeted, &*link, carrier),
             Resumption::BadTaken => refuse(rt, stream, Fault::BadTaken),
-            Resumption::Ended { taken } => end(rt, self.alloc, stream, taken),
+            Resumption::Ended { taken } => end(rt, stream, taken),
         }
     }
 
@@ -288,7 +305,7 @@ fn refuse<R: Clock>(rt: &R, stream: &TcpStream, fault: Fault) {
 }
 
 // Answers a `resume` of a link of which only the count is left.
-fn end<R: Clock>(rt: &R, _alloc: Global, stream: &TcpStream, taken: u32) {
+fn end<R: Clock>(rt: &R, stream: &TcpStream, taken: u32) {
     let mut to = Outgoing::new(stream, Outgoing::PATIENCE);
     let _ = writeln!(to, "ended {taken}");
     hang_up(rt, stream);

@@ -52,8 +52,13 @@ impl Doorway {
     /// Looks whether somebody may still come, and wakes the thread that accepts if nobody may.
     pub(crate) fn look<R: Wait + Clock>(&self, rt: &R, links: &Links) {
         if self.is_shut(rt, links) {
-            let _ = self.socket.shutdown(Shutdown::Both);
+            self.shut();
         }
+    }
+
+    /// Nobody listens any more. The thread that accepts is woken.
+    pub(crate) fn shut(&self) {
+        let _ = self.socket.shutdown(Shutdown::Both);
     }
 
     /// Nobody is accepted any more.

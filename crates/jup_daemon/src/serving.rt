@@ -205,8 +205,7 @@ fn print<O: Write>(text: &[u8], out: &mut O) -> io::Result<()>
     out.flush()
 }
 
-// Serves until nobody may come any more and each connection has ended. The scope waits for all that run, on each way out. Nobody listens meanwhile: a connection after
-// the last one is refused, and does not wait for what never comes.
+// Serves until nobody may come any more and each connection has ended. The scope waits for all that run, on each way out.
 fn serve_all<R: Threads + Wait + Clock + Sync, T: Tokens + Sync>(
     rt: &R,
     tokens: &T,
@@ -242,7 +241,7 @@ fn serve_all<R: Threads + Wait + Clock + Sync, T: Tokens + Sync>(
     }
 }
 
-// Accepts connections, each in a thread of its own, until nobody may come any more. It returns once all have ended.
+// Accepts connections, each in a thread of its own, until nobody may come any more or no connection can be served. Nobody listens then, and it returns once all have ended.
 fn accept_all<R: Threads + Wait + Clock + Sync, T: Tokens + Sync>(
     rt: &R,
     tokens: &T,
@@ -258,9 +257,15 @@ fn accept_all<R: Threads + Wait + Clock + Sync, T: Tokens + Sync>(
         |scope| -> Result<(), DaemonEnd>
             requires { IsPassOf server.now.hub.now pass }
         {
+            let mut accepted = Ok(());
             for _ in rt.forever() {
-                let Some((stream, admission)) = next_connection(rt, server, listener)? else {
-                    break;
+                let (stream, admission) = match next_connection(rt, server, listener) {
+                    Ok(Some(next)) => next,
+                    Ok(None) => break,
+                    Err(end) => {
+                        accepted = Err(end);
+                        break;
+                    }
                 };
                 let Some(entry) = server.enter(rt, &stream, admission) else {
                     continue;
@@ -271,12 +276,15 @@ fn accept_all<R: Threads + Wait + Clock + Sync, T: Tokens + Sync>(
                         requires { IsPassOf server.now.hub.now theirs }
                     { server.serve(rt, tokens, &stream, entry, theirs) },
                 );
-                if child.is_err() && matches!(admission, Admission::Counted) {
-                    return Err(DaemonEnd::NoMemory);
+                if child.is_err() {
+                    accepted = server.abandon(rt, entry);
+                }
+                if accepted.is_err() {
+                    break;
                 }
             }
-            server.late.close(rt);
-            Ok(())
+            server.stop_listening(rt);
+            accepted
         },
     )
 }

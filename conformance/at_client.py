@@ -90,8 +90,9 @@ def judge_greeting(words, row):
 
 def parts(words):
     """Each part with its name, and the rule that it shows."""
-    for it in material.transcripts("clients"):
-        yield it.name, it.rule, lambda it=it: play(words, it)
+    for it in material.played("clients"):
+        if not it.is_lasting:
+            yield it.name, it.rule, lambda it=it: play(words, it)
     for window, name in material.TRANSFORM_WINDOWS.items():
         yield f"transforms of {name}", material.TRANSFORM_RULES[window], lambda window=window: judge_transforms(words, window)
     for row in material.lines_for("client"):

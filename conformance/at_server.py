@@ -1,34 +1,20 @@
 """The parts by which the kit judges a server."""
+import contextlib
 import re
-import time
 
 import material
-from links import END, Differs, Link, is_as
+import notes
+from links import END, Clock, Differs, Link, is_as
 from rows import Names, rows_in
 
 BOARD_WORDS = (*material.BOARD_WORDS, "char", "item")
-# For how many seconds at most a link of protocol 4 waits for a carrier.
-MOST_SECONDS = 86_400
-
-
-def is_early(found, wanted):
-    """Whether a line is a `got` that the server sent sooner than one or another line that is wanted."""
-    count = re.fullmatch(r"got (0|[1-9]\d*)", found)
-    if not count or is_as(wanted, found):
-        return False
-    return not wanted.startswith("got ") or int(count[1]) < int(wanted.split(" ")[1])
 
 
 class Lasting:
-    """A link of protocol 4: its token, and how many lines the server sent up to `ready`. A transcript counts the lines after these."""
+    """A link of protocol 4: its token, how many lines of the server were taken, and how many of these up to `ready`. A transcript counts the lines after these."""
 
     def __init__(self, token):
-        self.token, self.before = token, 0
-
-    def counted(self, line):
-        """A `got` that a site sends, with the count that the server knows."""
-        found = re.fullmatch(r"got (0|-?[1-9]\d*)", line)
-        return f"got {self.before + int(found[1])}" if found else line
+        self.token, self.taken, self.before, self.gots = token, 0, 0, notes.Gots()
 
 
 class Site:
@@ -37,17 +23,30 @@ class Site:
     def __init__(self, address, windows, is_narrow=False):
         self.link, self.is_in_board, self.is_in_window = Link.to(address, is_narrow), False, False
         self.windows = [f"window {it}" for it in windows]
-        self.lasting, self.got = None, None
+        self.lasting, self.got, self.is_first = None, None, False
+
+    def carries(self, lasting):
+        """Carries a link from here on. The next line of the server is its first."""
+        self.lasting, self.is_first = lasting, True
+
+    def hears(self, due):
+        """The next line of the server, which counts in protocol 4 unless it is a note."""
+        line = self.link.lines.next(due)
+        if self.lasting:
+            self.lasting.taken += not self.is_first and notes.is_counted(line)
+            self.lasting.gots.hears(line)
+        self.is_first = False
+        return line
 
     def next(self, due="a line"):
         """The next line that the site receives. Of a board it returns only the lines of the transcript's windows."""
-        line = self.link.lines.next(due)
+        line = self.hears(due)
         while self.is_in_board and line.split(" ", 1)[0] in BOARD_WORDS:
             if line.startswith("window "):
                 self.is_in_window = line in self.windows
             if self.is_in_window:
                 return line
-            line = self.link.lines.next(due)
+            line = self.hears(due)
         self.is_in_board = line.startswith("welcome ")
         return line
 
@@ -57,7 +56,7 @@ class Site:
             found, self.got = self.got, None
             return found
         found = self.next(repr(wanted))
-        while self.lasting and is_early(found, wanted):
+        while self.lasting and notes.is_early(found, wanted):
             self.got, found = found, self.next(repr(wanted))
         return found
 
@@ -68,6 +67,8 @@ class Sites:
     def __init__(self, address, limit, windows, before):
         self.address, self.limit, self.windows = address, limit, windows
         self.sites, self.numbers = {}, {0: (0, before)}
+        # The links of protocol 4, those too whose site is not connected, each by who opened it or carried it last.
+        self.links = {}
 
     def __enter__(self):
         return self
@@ -92,9 +93,18 @@ class Sites:
     def renamed(self, line):
         return material.renamed(line, self.numbers)
 
+    def lines_of(self, who, lines):
+        """The lines of a step that a site sends."""
+        lasting, lines = self.site(who).lasting, map(self.renamed, material.lines_in(lines))
+        return [notes.counted(it, lasting.before) for it in lines] if lasting else list(lines)
+
     def sends(self, who, lines):
-        site, lines = self.site(who), map(self.renamed, material.lines_in(lines))
-        site.link.send_lines(*(map(site.lasting.counted, lines) if site.lasting else lines))
+        self.link(who).send_lines(*self.lines_of(who, lines))
+
+    def sends_late(self, who, lines):
+        """Sends lines on a connection that the server may have closed."""
+        with contextlib.suppress(Differs):
+            self.sends(who, lines)
 
     def sends_bytes(self, who, text):
         self.site(who).link.send(self.renamed(material.text_of(text)))
@@ -126,31 +136,54 @@ class Sites:
             lines.append(line)
         return lines
 
-    def opens_to_last(self, who):
-        """Greets by protocol 4, and reads `link`."""
-        self.sends(who, "hello 4")
-        told = self.link(who).lines.next("'link'")
-        found = re.fullmatch(r"link ([0-9a-f]{32}) (0|[1-9]\d*)( kept)?", told)
-        if not found or int(found[2]) > MOST_SECONDS:
+    def gets_a_link(self, who, lines=()):
+        """Greets by protocol 4 and sends lines, and reads `link`."""
+        site = self.site(who)
+        site.link.send_lines("hello 4", *lines)
+        told = site.hears("'link'")
+        token = notes.token_in(told)
+        if not token:
             raise Differs(f"expected 'link TOKEN SECONDS', but got {told!r}")
-        self.site(who).lasting = Lasting(found[1])
+        if token in [it.token for it in self.links.values()]:
+            raise Differs(f"expected a new token, but got {told!r}")
+        self.links[who] = Lasting(token)
+        site.lasting = self.links[who]
 
-    def joins_to_last(self, who):
-        """Greets by protocol 4, and reads up to `ready`."""
-        self.opens_to_last(who)
+    def opens(self, who, lines=()):
+        """Greets by protocol 4, sends lines, and reads up to `ready`."""
+        self.gets_a_link(who, lines)
         self.is_told(who, f"welcome {len(self.numbers)}")
         site = self.site(who)
-        while site.link.lines.next("'ready'") != "ready":
-            site.lasting.before += 1
-        site.lasting.before += len(("welcome", "ready"))
-        site.is_in_board = False
+        while site.hears("'ready'") != "ready":
+            pass
+        site.lasting.before, site.is_in_board = site.lasting.taken, False
+
+    def breaks(self, who):
+        """Breaks the connection of a site. What the site has not read is lost."""
+        self.sites.pop(who).link.close()
+
+    def breaks_after(self, who, rest):
+        self.link(who).send(notes.bytes_before_a_break(rest, lambda lines: self.lines_of(who, lines)))
+        self.breaks(who)
+
+    def is_reset(self, who):
+        self.sites.pop(who).link.reset()
 
     def resumes(self, who, rest):
-        """Sends `resume` for the link of another site, or of one that has ended."""
-        other, count = re.fullmatch(r"(\w+) at (-?\d+)", rest).groups()
-        site, lasting = self.site(who), self.site(other).lasting
-        site.link.send_lines(f"resume {lasting.token} {lasting.before + int(count)}")
-        site.lasting = lasting
+        """Sends `resume` for the link that the site had, or for that of another site. Without a count it sends how many lines were taken."""
+        other, count = re.fullmatch(r"(?:(?!at )(\w+) ?)?(?:at (-?\d+))?", rest).groups()
+        lasting = self.links[other or who]
+        taken = lasting.before + int(count) if count else lasting.taken
+        self.link(who).send_lines(f"resume {lasting.token} {taken}")
+        self.site(who).carries(lasting)
+        self.links[who] = lasting
+
+    def guesses_digit(self, who, rest):
+        """Sends `resume` with a token of which one digit is wrong."""
+        at, other = re.fullmatch(r"(\d+) of (\w+)", rest).groups()
+        token, at = self.links[other].token, int(at) - 1
+        digit = f"{(int(token[at], 16) + 1) % 16:x}"
+        self.link(who).send_lines(f"resume {token[:at]}{digit}{token[at + 1 :]} {self.links[other].taken}")
 
     def is_left(self, who):
         self.link(who).lines.are_next(END)
@@ -165,9 +198,15 @@ class Sites:
         """What each step of a transcript does, by its words."""
         return {
             "joins": lambda who, _: self.joins(who),
-            "joins to last": lambda who, _: self.joins_to_last(who),
-            "opens to last": lambda who, _: self.opens_to_last(who),
+            "opens": lambda who, _: self.opens(who),
+            "opens with": lambda who, lines: self.opens(who, material.lines_in(lines)),
+            "gets a link": lambda who, _: self.gets_a_link(who),
+            "breaks": lambda who, _: self.breaks(who),
+            "breaks after": self.breaks_after,
+            "is reset": lambda who, _: self.is_reset(who),
             "resumes": self.resumes,
+            "guesses digit": self.guesses_digit,
+            "sends late": self.sends_late,
             "has little room": lambda who, _: self.site(who, is_narrow=True),
             "sends bytes": self.sends_bytes,
             "sends": self.sends,
@@ -181,7 +220,7 @@ class Sites:
             "comes to a stop": lambda who, _: self.link(who).poured.comes_to_a_stop(),
             "is taken no more": lambda who, _: self.is_taken_no_more(who),
             "drips for": lambda who, seconds: self.link(who).drip(int(seconds)),
-            "waits": lambda _, seconds: time.sleep(int(seconds)),
+            "waits": lambda _, seconds: Clock.waits(int(seconds)),
         }
 
 
@@ -262,7 +301,7 @@ def parts(address):
     """Each part with its name, and the rule that it shows."""
     limit = limit_of(address)
     _, before = material.layout(limit)
-    for it in material.transcripts("servers"):
+    for it in material.played("servers"):
         if it.limit == limit:
             yield it.name, it.rule, lambda it=it: play(address, it, before[it.board.windows[0]])
     if limit != material.LIMIT:

@@ -3,6 +3,7 @@ import contextlib
 import queue
 import random
 import socket
+import struct
 import subprocess
 import threading
 import time
@@ -25,6 +26,19 @@ def free_address():
 
 class Differs(Exception):
     """A program did something other than expected."""
+
+
+class Clock:
+    """How fast the clock of what the kit judges runs."""
+
+    # How many times as fast as the real one. A fake's clock may run faster, and the waits of a transcript are then shorter.
+    speed = 1.0
+    # Whether the kit plays the parts that take a minute or more.
+    has_long = False
+
+    @classmethod
+    def waits(cls, seconds):
+        time.sleep(seconds / cls.speed)
 
 
 class Lines:
@@ -54,6 +68,14 @@ class Lines:
             raise Differs(f"expected {due}, but nothing came in {self.patience:g} seconds") from None
         self.is_over = line == END
         return line
+
+    def within(self, seconds):
+        """The next line, or None if none comes in so many seconds. After the last line nothing comes."""
+        with contextlib.suppress(queue.Empty):
+            line = END if self.is_over else self.waiting.get(timeout=seconds)
+            self.is_over = line == END
+            return None if self.is_over else line
+        return None
 
     def are_next(self, *wanted):
         """Tests that these lines come next, in this order. `*` is any number."""
@@ -189,25 +211,40 @@ class Link:
         finally:
             self.socket.close()
 
+    def reset(self):
+        """Ends the link both ways by a reset. What either end has not read is lost."""
+        self.has_ended = True
+        self.socket.setsockopt(socket.SOL_SOCKET, socket.SO_LINGER, struct.pack("ii", 1, 0))
+        self.socket.shutdown(socket.SHUT_RD)
+        self.socket.close()
+
 
 class Client:
     """A client's process with its standard streams, and the server's end of its link. The end of the `with` stops it."""
 
     def __init__(self, words, start=subprocess.Popen):
-        with socket.create_server(("127.0.0.1", 0)) as listener:
-            listener.settimeout(Lines.patience)
-            address = "127.0.0.1:%d" % listener.getsockname()[1]
-            words = [it.replace("{}", address) for it in words]
-            try:
-                self.process = start(words, stdin=subprocess.PIPE, stdout=subprocess.PIPE, stderr=subprocess.DEVNULL)
-            except OSError as fault:
-                raise Differs(f"the client cannot be started: {fault}") from None
-            try:
-                self.link = Link(listener.accept()[0])
-            except TimeoutError:
-                self.process.kill()
-                raise Differs("the client did not connect") from None
-        self.printed = Lines(self.process.stdout)
+        listener = socket.create_server(("127.0.0.1", 0))
+        listener.settimeout(Lines.patience)
+        address = "127.0.0.1:%d" % listener.getsockname()[1]
+        words = [it.replace("{}", address) for it in words]
+        try:
+            self.process = start(words, stdin=subprocess.PIPE, stdout=subprocess.PIPE, stderr=subprocess.DEVNULL)
+        except OSError as fault:
+            raise Differs(f"the client cannot be started: {fault}") from None
+        self.printed, self.link = Lines(self.process.stdout), None
+        self.meets(listener)
+
+    def meets(self, listener):
+        """Takes the client's connection, which is its only one."""
+        with listener:
+            self.link = self.next_link(listener)
+
+    def next_link(self, listener):
+        try:
+            return Link(listener.accept()[0])
+        except TimeoutError:
+            self.process.kill()
+            raise Differs("the client did not connect") from None
 
     def __enter__(self):
         return self
@@ -215,7 +252,8 @@ class Client:
     def __exit__(self, *_):
         self.process.kill()
         self.process.wait()
-        self.link.socket.close()
+        if self.link:
+            self.link.socket.close()
 
     def types(self, text):
         try:
@@ -234,3 +272,44 @@ class Client:
             raise Differs("the client did not end") from None
         if status != wanted:
             raise Differs(f"expected status {wanted}, but got {status}")
+
+
+class LastingClient(Client):
+    """A client of protocol 4, which connects again. `link` is the server's end of its present connection, or None before the first."""
+
+    def meets(self, listener):
+        """Keeps the listener: a transcript says when the client connects."""
+        self.listener = listener
+
+    def __exit__(self, *raised):
+        super().__exit__(*raised)
+        self.listener.close()
+
+    def connects(self):
+        """Takes the client's next connection."""
+        self.link = self.next_link(self.listener)
+
+    def stays_away(self):
+        """Tests that the client, whose process has ended, has not connected again."""
+        self.listener.setblocking(False)
+        with contextlib.suppress(BlockingIOError):
+            self.listener.accept()
+            raise Differs("the client connected again")
+
+    def ends(self, wanted):
+        super().ends(wanted)
+        self.stays_away()
+
+    def gives_up(self):
+        """Tests that the client closes its connection, does not connect again, and ends with a status other than 0. What it prints is its own."""
+        self.link.close()
+        self.ends_by_itself()
+        self.stays_away()
+
+    def ends_by_itself(self):
+        try:
+            status = self.process.wait(Lines.patience)
+        except subprocess.TimeoutExpired:
+            raise Differs("the client did not end") from None
+        if not status:
+            raise Differs("expected a status other than 0, but got 0")

@@ -6,14 +6,15 @@ import json
 import os
 import re
 
-from links import Differs
+from links import Clock, Differs
 
 HERE = os.path.dirname(os.path.abspath(__file__))
 # The limits of the servers that the kit judges: one that plays most parts, one whose order gets full, and one with a long text.
 LIMIT, FULL_LIMIT, LONG_LIMIT = 10_000, 2, 100_000
-# The limits of servers of protocol 4: one that plays most parts, and one whose board takes more bytes than it keeps for a link.
-LASTING_LIMITS = 4_000, 5_000
-LIMITS = (LIMIT, FULL_LIMIT, LONG_LIMIT, *LASTING_LIMITS)
+# The limits of servers of protocol 4: one that plays most parts, one whose board takes more bytes than it keeps for a link, and one that lets a link wait for a short time only.
+# Each has the seconds for which such a server lets a link wait.
+GRACES = {4_000: 60, 5_000: 60, 6_000: 2}
+LIMITS = (LIMIT, FULL_LIMIT, LONG_LIMIT, *GRACES)
 # The windows in which the kit plays the tables.
 LINES_WINDOW, LISTS_WINDOW, TEXTS_WINDOW, SETTINGS_WINDOW = 61, 62, 63, 64
 TRANSFORM_WINDOWS = {LISTS_WINDOW: "lists", TEXTS_WINDOW: "texts", SETTINGS_WINDOW: "settings"}
@@ -25,6 +26,15 @@ LINES_RULE, SESSIONS_RULE = (f'docs/WIRE.md, "{it}"' for it in ("Lines of a link
 CLIENT_RULE = 'docs/PROGRAMS.md, "`jup`"'
 BOARDS_RULE, REFUSALS_RULE = 'docs/WIRE.md, "Layouts"', 'docs/PROTOCOL.md, "What is refused, and what it leaves"'
 BOARD_WORDS = ("window", "text", "list", "toggle", "slider")
+# With these words the rows begin that come before the board of a transcript.
+HEADS = ("limit", "protocol", "long")
+# The rules of the table of answers, by the place of a row.
+ANSWER_RULES = {
+    "hello": 'docs/WIRE.md, "What a client must do besides": After `hello 4` a client takes any first line except `link` and `error N` as a cut.',
+    "early": 'docs/WIRE.md, "What a client must do besides": A client that has not read `ready` yet answers `ended`, 35, 36, 40 and 42 by `hello 4` on a new connection.',
+    "resume": 'docs/WIRE.md, "What a client must do besides": The table of what the first line after `resume` means to a client.',
+    "line": 'docs/WIRE.md, "What a client must do besides": The table of the faults that a client finds in what the server sends after its first line.',
+}
 # The readers in the table of lines.
 READERS = ("first", "server", "client", "greeting")
 
@@ -108,13 +118,16 @@ class Board:
 
 
 class Transcript:
-    """A transcript: its board, the limit of its server, and its rows of steps in order."""
+    """A transcript: its board, what its first rows say of it, and its rows of steps in order."""
 
     def __init__(self, path):
         self.name = os.path.relpath(path, HERE)
         self.rule = rule_in(self.name)
         rows = rows_of(self.name)
-        self.limit = int(rows.pop(0).split()[1]) if rows[0].startswith("limit ") else LIMIT
+        heads = [rows.pop(0) for it in list(rows) if rows[0].split()[0] in HEADS]
+        # The limit of its server, whether its client is one of protocol 4, and whether it takes a minute or more.
+        self.limit = next((int(it.split()[1]) for it in heads if it.startswith("limit ")), LIMIT)
+        self.is_lasting, self.is_long = "protocol 4" in heads, "long" in heads
         count = next(at for at, row in enumerate(rows) if row.split()[0] not in BOARD_WORDS)
         self.board, self.rows = Board(rows[:count]), rows[count:]
 
@@ -131,6 +144,11 @@ class Transcript:
 
 def transcripts(folder):
     return [Transcript(it) for it in sorted(glob.glob(f"{HERE}/{folder}/*.session"))]
+
+
+def played(folder):
+    """The transcripts that this run plays."""
+    return [it for it in transcripts(folder) if Clock.has_long or not it.is_long]
 
 
 class Transform:
@@ -190,10 +208,27 @@ def lines_for(reader):
     return [it for it in map(LineRow, rows_of("lines")) if it.reader == reader]
 
 
+class Answer:
+    """A row of the table of answers: the place of what a client of protocol 4 is told, what the client does, and the text."""
+
+    def __init__(self, row):
+        self.place, self.outcome, text = row.split(" ", 2)
+        self.text = text_of(text)
+        self.name = f"answers: {self.place} {text}"
+
+    def rule(self):
+        return ANSWER_RULES[self.place]
+
+
+def answers():
+    return [Answer(it) for it in rows_of("answers")]
+
+
 def rules():
     """Every rule that a transcript or a table shows."""
     shown = {it.rule for folder in ("servers", "clients") for it in transcripts(folder)}
-    return shown | {it.rule() for reader in READERS for it in lines_for(reader)} | set(TRANSFORM_RULES.values())
+    lines = {it.rule() for reader in READERS for it in lines_for(reader)}
+    return shown | lines | set(TRANSFORM_RULES.values()) | set(ANSWER_RULES.values())
 
 
 def widget(word, number, start, value):

@@ -11,8 +11,6 @@ from stars import MOST_BYTES, MOST_SECONDS
 
 GOT = re.compile(f"got {NUM}")
 HIGHEST_NUMBER = 2**32 - 1
-# The seconds after which a server cuts a carrier: it has heard nothing while it read, or the carrier takes no byte.
-MOST_SILENT, MOST_STUCK = 180, 600
 
 
 class CarrierLines(Lines):
@@ -30,6 +28,9 @@ class CarrierLines(Lines):
 
 class Carrier:
     """A connection that carries a link. It begins with `notes`, and the first `written` lines of the way down are those that it need not carry. `held` is what was read of it after its first line."""
+
+    # The seconds after which a server cuts a carrier: it has heard nothing while it read, or the carrier takes no byte.
+    most_silent, most_stuck = 180, 600
 
     def __init__(self, link, connection, written, notes, held):
         self.link, self.connection, self.written, self.notes = link, connection, written, notes
@@ -99,7 +100,7 @@ class Carrier:
 
     def is_stale(self, now):
         """Whether it is time to cut the carrier."""
-        limits = (self.reading_since, MOST_SILENT), (self.writing_since, MOST_STUCK), (self.all_written_at, MOST_SECONDS)
+        limits = (self.reading_since, self.most_silent), (self.writing_since, self.most_stuck), (self.all_written_at, MOST_SECONDS)
         return any(since is not None and now - since >= seconds for since, seconds in limits)
 
     def shut(self):

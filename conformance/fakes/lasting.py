@@ -8,8 +8,8 @@ from carriers import Carrier
 
 # How many bytes of the way down the server keeps. How many lines each way may have.
 MOST_KEPT, LAST_UP, LAST_DOWN = 262_144, 2**32 - 2, 2**32 - 1
-# A `got` is due once its count has grown by MOST_GROWN, or after MOST_IDLE seconds in which nothing was written.
-MOST_GROWN, MOST_IDLE = 64, 60
+# A `got` is due once its count has grown by so much.
+MOST_GROWN = 64
 
 
 def is_last(line):
@@ -29,6 +29,9 @@ def over_link(session):
 
 class Link:
     """A link that outlives its carriers. It is the connection of its session, so it has the methods of a socket that a session calls. What it reads begins with `hello 3`, which is no line of the link."""
+
+    # A `got` is due after so many seconds in which nothing was written.
+    most_idle = 60
 
     def __init__(self, star, session, seconds):
         self.token, self.seconds, self.bell = secrets.token_hex(16), seconds, threading.Condition()
@@ -195,7 +198,7 @@ class Link:
                     break
                 if carrier.has_ended and self.lacks_room():
                     break  # nothing that comes can make room
-                self.bell.wait(max(0, carrier.written_at + MOST_IDLE - time.monotonic()))
+                self.bell.wait(max(0, carrier.written_at + self.most_idle - time.monotonic()))
             return b""
 
     def due_on(self, carrier):
@@ -211,7 +214,7 @@ class Link:
     def is_got_due(self, carrier):
         if self.has_last and carrier.written >= self.put_count():
             return False
-        return self.owes_got or self.covered - carrier.said >= MOST_GROWN or time.monotonic() - carrier.written_at >= MOST_IDLE
+        return self.owes_got or self.covered - carrier.said >= MOST_GROWN or time.monotonic() - carrier.written_at >= self.most_idle
 
     def got(self, carrier):
         self.owes_got, carrier.said = False, self.covered

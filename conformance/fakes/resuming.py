@@ -384,9 +384,9 @@ class LastingClient(Client):
             raise Fault(37)
 
 
-def joined(address):
+def joined(address, link=Link):
     """A link to the server, and the class of the client for it. If the server does not have protocol 4, a connection, and a client of protocol 3."""
-    link = Link(address)
+    link = link(address)
     if link.is_refused_by(42):
         return connected(address), Client
     return link, LastingClient

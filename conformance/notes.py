@@ -1,0 +1,57 @@
+"""The notes of protocol 4, as the parts of a server and those of a client read and count them."""
+import re
+
+from links import END, Differs, is_as
+
+WORDS = ("link", "resume", "resumed", "ended", "got")
+GOT = r"got (0|[1-9]\d*)"
+# For how many seconds at most a link of protocol 4 waits for a carrier.
+MOST_SECONDS = 86_400
+LINK = r"link ([0-9a-f]{32}) (0|[1-9]\d*)( kept)?"
+
+
+def is_counted(line):
+    """Whether a line counts, which is after the first one of a carrier."""
+    return line != END and line.split(" ", 1)[0] not in WORDS
+
+
+def token_in(line):
+    """The token of a `link`, or None if the line is none."""
+    found = re.fullmatch(LINK, line)
+    return found[1] if found and int(found[2]) <= MOST_SECONDS else None
+
+
+def is_early(found, wanted):
+    """Whether a line is a `got` that an end sent sooner than one or another line that is wanted."""
+    count = re.fullmatch(GOT, found)
+    if not count or is_as(wanted, found):
+        return False
+    return not wanted.startswith("got ") or wanted != "got *" and int(count[1]) < int(wanted.split(" ")[1])
+
+
+def counted(line, before):
+    """A `got` of a transcript with the count that its sender means, which has so many lines more."""
+    found = re.fullmatch(r"got (0|-?[1-9]\d*)", line)
+    return f"got {before + int(found[1])}" if found else line
+
+
+def bytes_before_a_break(rest, lines_in):
+    """What a step `breaks after N bytes of LINES` sends."""
+    count, lines = re.fullmatch(r"(\d+) bytes of (.*)", rest).groups()
+    text = "".join(f"{it}\n" for it in lines_in(lines))
+    assert int(count) < len(text), f"the lines of {rest!r} have no more bytes"
+    return text[: int(count)]
+
+
+class Gots:
+    """The counts that one end of a link has confirmed. Each has to be at least the one before it."""
+
+    def __init__(self):
+        self.last = 0
+
+    def hears(self, line):
+        """Notes a line, and reports a `got` that confirms less than an earlier one."""
+        found = re.fullmatch(GOT, line)
+        if found and int(found[1]) < self.last:
+            raise Differs(f"{line!r} confirms less than an earlier 'got {self.last}'")
+        self.last = int(found[1]) if found else self.last

@@ -51,7 +51,7 @@ class Server:
             self.token, self.told, self.before, self.gots = token, 0, 0, notes.Gots()
 
     def tells_lines(self, lines):
-        self.tells("".join(f"{it}\n" for it in lines))
+        self.tells(material.text_with(lines))
 
     def opens(self):
         """Lets the client open a link and join as a site."""
@@ -69,8 +69,14 @@ class Server:
         self.client.link.lines.are_next(f"resume {self.token} {count}")
 
     def breaks_after(self, rest):
-        """Sends the first bytes of some lines, and then ends the connection."""
-        self.tells(notes.bytes_before_a_break(rest, material.lines_in))
+        """Sends so many bytes of some lines, and then ends the connection."""
+        count, lines = notes.pieces(rest)
+        self.tells(material.text_with(material.lines_in(lines))[:count])
+        self.client.link.close()
+
+    def breaks_before_the_end(self, lines):
+        """Sends some lines without the last line feed, and then ends the connection."""
+        self.tells(material.text_with(material.lines_in(lines))[:-1])
         self.client.link.close()
 
     def is_sent(self, lines):
@@ -128,6 +134,7 @@ class Server:
             "resumes": lambda _, at: self.resumes(at),
             "breaks": lambda *_: self.client.link.close(),
             "breaks after": lambda _, rest: self.breaks_after(rest),
+            "breaks before the end of": lambda _, lines: self.breaks_before_the_end(lines),
             "is reset": lambda *_: self.client.link.reset(),
             "tries": lambda _, times: self.tries(int(times.split(" ")[0])),
             "tries later": lambda *_: self.tries_later(),

@@ -1,10 +1,11 @@
 """The parts by which the kit judges a server."""
 import contextlib
 import re
+import time
 
 import material
 import notes
-from links import END, Clock, Differs, Link, is_as
+from links import END, Clock, Differs, Lines, Link, is_as
 from rows import Names, rows_in
 
 BOARD_WORDS = (*material.BOARD_WORDS, "char", "item")
@@ -163,7 +164,22 @@ class Sites:
         self.sites.pop(who).link.close()
 
     def breaks_after(self, who, rest):
-        self.link(who).send(notes.bytes_before_a_break(rest, lambda lines: self.lines_of(who, lines)))
+        """Sends so many bytes of some lines, and then breaks the connection."""
+        count, lines = notes.pieces(rest)
+        self.link(who).send(material.text_with(self.lines_of(who, lines))[:count])
+        self.breaks(who)
+
+    def breaks_before_the_end(self, who, lines):
+        """Sends some lines without the last line feed, and then breaks the connection."""
+        self.link(who).send(material.text_with(self.lines_of(who, lines))[:-1])
+        self.breaks(who)
+
+    def is_cut(self, who):
+        """Tests that the server ends the connection in time, and sends nothing but `got` before."""
+        until = time.monotonic() + Lines.patience
+        while (line := self.site(who).hears("the end of the connection")) != END:
+            if not line.startswith("got ") or until < time.monotonic():
+                raise Differs(f"expected the end of the connection, but got {line!r}")
         self.breaks(who)
 
     def is_reset(self, who):
@@ -203,6 +219,8 @@ class Sites:
             "gets a link": lambda who, _: self.gets_a_link(who),
             "breaks": lambda who, _: self.breaks(who),
             "breaks after": self.breaks_after,
+            "breaks before the end of": self.breaks_before_the_end,
+            "is cut": lambda who, _: self.is_cut(who),
             "is reset": lambda who, _: self.is_reset(who),
             "resumes": self.resumes,
             "guesses digit": self.guesses_digit,

@@ -79,6 +79,11 @@ def lines_in(text):
     return lines
 
 
+def text_with(lines):
+    """Lines as a text, each with its line feed."""
+    return "".join(f"{it}\n" for it in lines)
+
+
 def repeated(row):
     """A row of a printed board, in which a text may be `"a" 65536 times`."""
     found = re.fullmatch(r'(text \d+ )"(.)" (\d+) times', row)

@@ -35,12 +35,10 @@ def counted(line, before):
     return f"got {before + int(found[1])}" if found else line
 
 
-def bytes_before_a_break(rest, lines_in):
-    """What a step `breaks after N bytes of LINES` sends."""
+def pieces(rest):
+    """The count and the lines of a step `breaks after N bytes of LINES`."""
     count, lines = re.fullmatch(r"(\d+) bytes of (.*)", rest).groups()
-    text = "".join(f"{it}\n" for it in lines_in(lines))
-    assert int(count) < len(text), f"the lines of {rest!r} have no more bytes"
-    return text[: int(count)]
+    return int(count), lines
 
 
 class Gots:

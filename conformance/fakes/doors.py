@@ -1,6 +1,5 @@
 """A server of protocols 3 and 4: what the first bytes of a connection say, and the table of the links of protocol 4 (docs/WIRE.md, "First lines")."""
 import contextlib
-import hmac
 import re
 import socket
 import threading
@@ -82,9 +81,9 @@ class Links:
         return link.resume(connection, taken, held) or f"ended {link.covered}"
 
     def find(self, token):
-        """The link of a token, or None. It compares all tokens, each without an early end."""
+        """The link of a token, or None. It compares all tokens."""
         with self.lock:
-            found = [it for it in self.links if hmac.compare_digest(it.token, token)]
+            found = [it for it in self.links if it.has_token(token)]
         return found[0] if found else None
 
     def end_unused(self):
@@ -108,7 +107,7 @@ class Links:
             self.forget(now)
 
     def bound_holding(self):
-        holding = [it for it in self.links if it.over_at and it.kept and not it.carrier]
+        holding = [it for it in self.links if it.is_holding()]
         for link in sorted(holding, key=lambda it: it.over_at)[: max(0, len(holding) - MOST_HOLDING)]:
             link.lose()
 

@@ -1,4 +1,5 @@
 """The server's end of a link of protocol 4: what it takes and keeps while one carrier after another carries the link (docs/WIRE.md, "Links that outlive their connections")."""
+import hmac
 import secrets
 import threading
 import time
@@ -30,8 +31,8 @@ def over_link(session):
 class Link:
     """A link that outlives its carriers. It is the connection of its session, so it has the methods of a socket that a session calls. What it reads begins with `hello 3`, which is no line of the link."""
 
-    # A `got` is due after so many seconds in which nothing was written.
-    most_idle = 60
+    # A `got` is due after so many seconds in which nothing was written. The class of the carriers.
+    most_idle, kind = 60, Carrier
 
     def __init__(self, star, session, seconds):
         self.token, self.seconds, self.bell = secrets.token_hex(16), seconds, threading.Condition()
@@ -56,6 +57,14 @@ class Link:
     def is_unused(self):
         """Whether it ended before the server took a line of its client."""
         return self.is_lost and not self.taken
+
+    def has_token(self, token):
+        """Whether this is the link's token, by a comparison without an early end."""
+        return hmac.compare_digest(self.token, token)
+
+    def is_holding(self):
+        """Whether it is over, and holds lines for a client that is not connected."""
+        return self.over_at is not None and bool(self.kept) and not self.carrier
 
     def has_edits(self):
         """Whether the star took an edit of the link."""
@@ -239,7 +248,7 @@ class Link:
                 self.bell.wait()
             if not self.session.seat:
                 raise Fault(int(self.kept[0].split()[1]))
-            self.carrier = Carrier(self, connection, 0, [f"link {self.token} {self.seconds}".encode()], held)
+            self.carrier = self.kind(self, connection, 0, [f"link {self.token} {self.seconds}".encode()], held)
             return self.carrier
 
     def resume(self, connection, taken, held):
@@ -255,7 +264,7 @@ class Link:
                     self.bell.wait()
                 return None
             count = self.covered if self.has_last else self.taken
-            self.carrier = Carrier(self, connection, taken, [b"resumed %d" % count], held)
+            self.carrier = self.kind(self, connection, taken, [b"resumed %d" % count], held)
             self.carrier.notes.append(self.got(self.carrier))
             return self.carrier
 

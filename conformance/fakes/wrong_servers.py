@@ -5,7 +5,6 @@ import time
 
 from boards import LONGEST, Board, Fault
 from ends import End, Transforms
-from lasting import Link
 from reading import Grammar, Lines
 from stars import Seat, Session, Star
 
@@ -272,100 +271,6 @@ class EndsEarly(Session):
             super().send(text)
 
 
-class CoversParts(Link):
-    """Its `got` counts the first lines of an edit whose other lines have not come."""
-
-    def covers(self):
-        self.covered = self.taken
-
-
-class PartsForgotten(Link):
-    """Its `resumed` counts up to the end of the last message, so a client sends the first lines of an edit again."""
-
-    def resume(self, connection, taken, held):
-        self.taken = self.covered
-        return super().resume(connection, taken, held)
-
-
-class ConfirmedByResume(Link):
-    """It takes the count of a `resume` for a `got`."""
-
-    def resume(self, connection, taken, held):
-        carrier = super().resume(connection, taken, held)
-        self.drop(taken)
-        return carrier
-
-
-class TwoCarriers(Link):
-    """It leaves the older carrier open."""
-
-    def resume(self, connection, taken, held):
-        self.carrier = None
-        return super().resume(connection, taken, held)
-
-
-class ConfirmsLate(Link):
-    """It sends no `got` for a count that has grown, however much."""
-
-    def is_got_due(self, carrier):
-        return self.owes_got
-
-
-class AnyGot(Link):
-    """It takes any `got` for a right one."""
-
-    def confirm(self, carrier, count):
-        self.drop(max(self.confirmed, count))
-
-
-class AnyResume(Link):
-    """It takes any count of a `resume` for a right one."""
-
-    def resume(self, connection, taken, held):
-        return super().resume(connection, min(max(taken, self.confirmed), self.put_count()), held)
-
-
-class EndsWithItsCarrier(Link):
-    """A cut ends it."""
-
-    def cut(self, carrier):
-        super().cut(carrier)
-        self.lose()
-
-
-class HoldsNothing(Link):
-    """Once it is over, a cut drops its lines."""
-
-    def cut(self, carrier):
-        super().cut(carrier)
-        if self.has_last:
-            self.lose()
-
-
-class WaitsForRoom(Link):
-    """It waits for a `got` that can make room, also if the client's bytes have ended."""
-
-    def hears_the_end(self, carrier):
-        pass
-
-
-class DeafAfterAFault(Link):
-    """After what ended it, no `got` counts."""
-
-    def confirm(self, carrier, count):
-        if self.is_taking:
-            super().confirm(carrier, count)
-
-
-class LastsWithoutReady(Link):
-    """A cut does not end it, also before its `ready`."""
-
-    def cut(self, carrier):
-        with self.bell:
-            self.is_ready = True
-            super().cut(carrier)
-
-
 def of_star(**parts):
     return type("WrongStar", (Star,), parts), Session
 
@@ -402,19 +307,4 @@ WAYS = {
     "slow-lost": (Star, LosesWhoIsSlow),
     "bye-first": (Star, EndsWithBye),
     "bye-alone": (Star, EndsEarly),
-}
-# The same for links of protocol 4.
-LINKS = {
-    "covers-parts": CoversParts,
-    "parts-forgotten": PartsForgotten,
-    "confirmed-by-resume": ConfirmedByResume,
-    "two-carriers": TwoCarriers,
-    "confirms-late": ConfirmsLate,
-    "any-got": AnyGot,
-    "any-resume": AnyResume,
-    "ends-with-its-carrier": EndsWithItsCarrier,
-    "holds-nothing": HoldsNothing,
-    "waits-for-room": WaitsForRoom,
-    "deaf-after-a-fault": DeafAfterAFault,
-    "lasts-without-ready": LastsWithoutReady,
 }

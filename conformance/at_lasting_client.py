@@ -204,11 +204,11 @@ def answers_resume(server, row):
 
 
 def tells_line(server, row):
-    """Sends the row's text while a `sync` waits. The client finds its fault, and gives up."""
+    """Sends the row's text, and the pong for which a `sync` waits. The client finds the fault of the text, and gives up."""
     server.opens()
     server.client.types("sync\n")
     server.is_sent("ping 1")
-    server.tells(row.text)
+    server.tells(f"{row.text}pong 1\n")
     server.client.printed.are_next(f"fault {row.outcome}")
     server.client.gives_up()
 

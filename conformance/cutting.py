@@ -34,13 +34,20 @@ class Passage:
             threading.Thread(target=self.run, args=(way,), daemon=True).start()
 
     def run(self, way):
-        source, sink = self.ends[way]
-        with contextlib.suppress(OSError):  # an end has gone, or the relay has closed it
-            while self.is_read() and (data := source.recv(65536)):
-                time.sleep(self.relay.delay)
-                self.passes(way, data)
+        try:
+            self.passes_all(way)
+        except OSError:  # an end has gone, or the relay has closed it
             if not self.is_broken:
-                sink.shutdown(socket.SHUT_WR)
+                self.close()
+
+    def passes_all(self, way):
+        """Passes bytes until the sender ends its direction, or the relay breaks the connection."""
+        source, sink = self.ends[way]
+        while self.is_read() and (data := source.recv(65536)):
+            time.sleep(self.relay.delay)
+            self.passes(way, data)
+        if not self.is_broken:
+            sink.shutdown(socket.SHUT_WR)
 
     def is_read(self):
         return not self.is_broken or self.relay.mode == "late"

@@ -237,14 +237,11 @@ class Client:
     def meets(self, listener):
         """Takes the client's connection, which is its only one."""
         with listener:
-            self.link = self.next_link(listener)
-
-    def next_link(self, listener):
-        try:
-            return Link(listener.accept()[0])
-        except TimeoutError:
-            self.process.kill()
-            raise Differs("the client did not connect") from None
+            try:
+                self.link = Link(listener.accept()[0])
+            except TimeoutError:
+                self.process.kill()
+                raise Differs("the client did not connect") from None
 
     def __enter__(self):
         return self
@@ -277,6 +274,9 @@ class Client:
 class LastingClient(Client):
     """A client of protocol 4, which connects again. `link` is the server's end of its present connection, or None before the first."""
 
+    # How many seconds the kit waits for a connection until it looks whether the client has ended.
+    MOMENT = 0.05
+
     def meets(self, listener):
         """Keeps the listener: a transcript says when the client connects."""
         self.listener = listener
@@ -287,13 +287,24 @@ class LastingClient(Client):
 
     def connects(self):
         """Takes the client's next connection."""
-        self.link = self.next_link(self.listener)
+        until = time.monotonic() + Lines.patience
+        while not self.has_connected():
+            if self.process.poll() is not None:
+                raise Differs(f"the client did not connect, and ended with status {self.process.poll()}")
+            if until < time.monotonic():
+                raise Differs("the client did not connect")
+
+    def has_connected(self):
+        """Whether the client connects again within a moment."""
+        self.listener.settimeout(self.MOMENT)
+        with contextlib.suppress(TimeoutError):
+            self.link = Link(self.listener.accept()[0])
+            return True
+        return False
 
     def stays_away(self):
-        """Tests that the client, whose process has ended, has not connected again."""
-        self.listener.setblocking(False)
-        with contextlib.suppress(BlockingIOError):
-            self.listener.accept()
+        """Tests that the client has not connected again."""
+        if self.has_connected():
             raise Differs("the client connected again")
 
     def ends(self, wanted):
@@ -303,13 +314,11 @@ class LastingClient(Client):
     def gives_up(self):
         """Tests that the client closes its connection, does not connect again, and ends with a status other than 0. What it prints is its own."""
         self.link.close()
-        self.ends_by_itself()
+        until = time.monotonic() + Lines.patience
+        while self.process.poll() is None:
+            self.stays_away()
+            if until < time.monotonic():
+                raise Differs("the client did not end")
         self.stays_away()
-
-    def ends_by_itself(self):
-        try:
-            status = self.process.wait(Lines.patience)
-        except subprocess.TimeoutExpired:
-            raise Differs("the client did not end") from None
-        if not status:
+        if not self.process.poll():
             raise Differs("expected a status other than 0, but got 0")

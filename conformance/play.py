@@ -109,6 +109,9 @@ def steps_for(seed, clients):
 class Stage:
     """Who plays a run: the clients and the server."""
 
+    # The kit's own client and server.
+    client, own_server = OwnClient, OwnServer
+
     def __init__(self, clients, own, command, server):
         self.clients, self.command, self.server = clients, command, server
         self.own = clients if not command else own
@@ -116,8 +119,12 @@ class Stage:
     def starts(self):
         """The arguments of each client, and the function that starts it. The last one is for the client that joins late."""
         given = [(self.command, subprocess.Popen)] * (self.clients - self.own)
-        owns = [(["{}"], OwnClient)] * self.own
+        owns = [(["{}"], self.client)] * self.own
         return [*given, *owns, (owns or given)[0]]
+
+    def relay(self, name, start, address, run):
+        """What is between a client of a run and the server."""
+        return Relay(name, *start, address, run.log)
 
     @contextlib.contextmanager
     def address(self):
@@ -133,9 +140,11 @@ class Stage:
                 yield address_bound(listening, told), printed
         else:
             with socket.create_server(("127.0.0.1", 0), backlog=64) as listener:
-                OwnServer(listener, LAYOUT, LIMIT)
-                yield "127.0.0.1:%d" % listener.getsockname()[1], None
-                listener.shutdown(socket.SHUT_RDWR)
+                server = self.own_server(listener, LAYOUT, LIMIT)
+                try:
+                    yield "127.0.0.1:%d" % listener.getsockname()[1], None
+                finally:
+                    server.stop()
 
     @contextlib.contextmanager
     def started(self):
@@ -159,8 +168,12 @@ class Stage:
 class Run:
     """One run: its clients, and what happened so far."""
 
-    def __init__(self, stage, steps):
-        self.stage, self.steps, self.log, self.relays = stage, steps, [], []
+    def __init__(self, stage, steps, seed=0):
+        self.stage, self.steps, self.seed, self.log, self.relays = stage, steps, seed, [], []
+
+    def again(self, steps):
+        """The run with these steps."""
+        return Run(self.stage, steps, self.seed)
 
     def differs(self):
         """Plays the run. Returns what differs from what is expected, or None."""
@@ -194,7 +207,7 @@ class Run:
         are_equal(boards)
 
     def joins(self, name, start, address):
-        self.relays.append(Relay(name, *start, address, self.log))
+        self.relays.append(self.stage.relay(name, start, address, self))
         self.relays[-1].greet()
 
     def does(self, step, relay):
@@ -213,27 +226,27 @@ def are_equal(boards):
                 raise Differs(f"{first} shows {due!r}, but {name} shows {found!r}")
 
 
-def shortest(stage, steps, until):
+def shortest(run, until):
     """Leaves steps out of a run that fails, until that time. Returns the log of the shortest run that still fails, and what differs."""
-    run = Run(stage, steps)
-    found = run.log, run.differs(), steps
-    size = max(1, len(steps) // 2)
+    run = run.again(run.steps)
+    found = run.log, run.differs(), run
+    size = max(1, len(run.steps) // 2)
     while size and time.monotonic() < until:
-        found, was_shorter = shorter(stage, found, size, until)
-        size = min(size, len(found[2])) if was_shorter and size > 1 else size // 2
+        found, was_shorter = shorter(found, size, until)
+        size = min(size, len(found[2].steps)) if was_shorter and size > 1 else size // 2
     return found[:2]
 
 
-def shorter(stage, found, size, until):
+def shorter(found, size, until):
     """Leaves out `size` steps at a time, from the end on, as long as the run still fails."""
-    at, was_shorter = len(found[2]), False
+    at, was_shorter = len(found[2].steps), False
     while at > 0 and time.monotonic() < until:
         at = max(0, at - size)
-        left = found[2][:at] + found[2][at + size :]
-        run = Run(stage, left)
+        steps = found[2].steps
+        run = found[2].again(steps[:at] + steps[at + size :])
         differs = run.differs()
         if differs:
-            found, was_shorter = (run.log, differs, left), True
+            found, was_shorter = (run.log, differs, run), True
     return found, was_shorter
 
 
@@ -242,11 +255,10 @@ def play(stage, seed, seconds):
     begun = time.monotonic()
     count = 0
     while not count or time.monotonic() - begun < seconds:
-        steps = steps_for(seed + count, stage.clients)
-        run = Run(stage, steps)
+        run = Run(stage, steps_for(seed + count, stage.clients), seed + count)
         differs = run.differs()
         if differs:
-            tell_failure(stage, seed + count, steps, (run.log, differs), seconds)
+            tell_failure(run, differs, seconds)
             print(f"{count} passed, 1 failed")
             return 1
         count += 1
@@ -255,10 +267,10 @@ def play(stage, seed, seconds):
     return 0
 
 
-def tell_failure(stage, seed, steps, first, seconds):
-    log, differs = shortest(stage, steps, time.monotonic() + seconds)
+def tell_failure(run, first, seconds):
+    log, differs = shortest(run, time.monotonic() + seconds)
     if not differs:
-        print(f"play: seed {seed}: the run failed once, but not when it was repeated: {first[1]}")
-        log, differs = first
-    print(f"play: seed {seed}: {differs}. The shortest run that was found:")
+        print(f"play: seed {run.seed}: the run failed once, but not when it was repeated: {first}")
+        log, differs = run.log, first
+    print(f"play: seed {run.seed}: {differs}. The shortest run that was found:")
     print("\n".join(f"  {it}" for it in log))

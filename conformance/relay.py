@@ -187,14 +187,18 @@ class OwnClient:
     def __init__(self, words, **_):
         typed, self.stdin = (open(fd, mode) for fd, mode in zip(os.pipe(), ("r", "wb")))
         self.stdout, self.tells = (open(fd, mode) for fd, mode in zip(os.pipe(), ("rb", "w")))
-        self.connection, self.status = sites.connected(words[-1]), None
+        (self.connection, self.kind), self.status = self.joins(words[-1]), None
         self.thread = threading.Thread(target=self.run, args=(typed,), daemon=True)
         self.thread.start()
 
+    def joins(self, address):
+        """A connection to the server, and the class of the client for it."""
+        return sites.connected(address), sites.Client
+
     def run(self, typed):
         lines = (it.removesuffix("\n") for it in iter(typed.readline, ""))
-        with self.connection, typed, self.tells:
-            self.status = sites.Client(self.connection, lines, self.tell).run()
+        with contextlib.closing(self.connection), typed, self.tells:
+            self.status = self.kind(self.connection, lines, self.tell).run()
 
     def tell(self, text):
         self.tells.write(f"{text}\n")
@@ -214,5 +218,11 @@ class OwnServer:
     """The kit's own server in threads of this process."""
 
     def __init__(self, listener, layout, limit):
-        self.star = stars.Star(layout, limit)
-        threading.Thread(target=stars.serve, args=(listener, self.star, stars.Session), daemon=True).start()
+        self.listener, self.star = listener, stars.Star(layout, limit)
+        threading.Thread(target=self.run, daemon=True).start()
+
+    def run(self):
+        stars.serve(self.listener, self.star, stars.Session)
+
+    def stop(self):
+        self.listener.shutdown(socket.SHUT_RDWR)

@@ -11,8 +11,8 @@ from links import Clock, Differs
 HERE = os.path.dirname(os.path.abspath(__file__))
 # The limits of the servers that the kit judges: one that plays most parts, one whose order gets full, and one with a long text.
 LIMIT, FULL_LIMIT, LONG_LIMIT = 10_000, 2, 100_000
-# The limits of servers of protocol 4: one that plays most parts, one whose board takes more bytes than it keeps for a link, and one that lets a link wait for a short time only.
-# Each has the seconds for which such a server lets a link wait.
+# The limits of servers of protocol 4, each with the seconds for which such a server lets a link wait. The first plays most parts.
+# The second has a board of more bytes than it keeps for a link, and the third lets a link wait for a short time only.
 GRACES = {4_000: 60, 5_000: 60, 6_000: 2}
 LIMITS = (LIMIT, FULL_LIMIT, LONG_LIMIT, *GRACES)
 # The windows in which the kit plays the tables.
@@ -214,7 +214,7 @@ def lines_for(reader):
 
 
 class Answer:
-    """A row of the table of answers: the place of what a client of protocol 4 is told, what the client does, and the text."""
+    """A row of the table of answers: the place of a text that a client of protocol 4 receives, what the client does, and the text."""
 
     def __init__(self, row):
         self.place, self.outcome, text = row.split(" ", 2)

@@ -6,7 +6,7 @@
 #include <string.h>
 #include <sys/syscall.h>
 
-enum { MOST_WAITING = 1024, MOST_MEETINGS = 64, LONGEST_LINE = 256, POURED_AT_A_TIME = 500 };
+enum { MOST_WAITING = 1024, MOST_MEETINGS = 64, LONGEST_LINE = 256, POURED_AT_A_TIME = 500, MOST_EDITS = 16777216 };
 
 Client *new_client(const char *name) {
   Client *client = calloc(1, sizeof *client);
@@ -51,7 +51,8 @@ _Noreturn static void fail(const Client *client, const char *why) {
 
 // The link has ended early. The client ends it too, and waits until the program has closed it: until then the program may still take what was sent.
 static void lose(Client *client, const char *why) {
-  if (!may_be_lost) fail(client, why);
+  bool has_to_last = do_links_last && client->lasting && is_open(client->site);
+  if ((!may_be_lost || has_to_last) && !has_run_out(client)) fail(client, why);
   note(client->task, "loses its link: %s", why);
   client->unsent.length = 0;
   client->is_losing = true;
@@ -73,7 +74,8 @@ static void be_lost(Client *client) {
 // ---- sending ----
 
 void say(Client *client, const char *text, size_t length) {
-  if (client->is_browser) put_message(&client->unsent, text, length);
+  if (client->lasting) put_on_link(client, text, length);
+  else if (client->is_browser) put_message(&client->unsent, text, length);
   else put_bytes(&client->unsent, text, length);
 }
 
@@ -88,6 +90,7 @@ static bool can_flush(const Client *client) {
 static void flush(Client *client) {
   size_t room = link_room - client->link->up.length, length = client->unsent.length < room ? client->unsent.length : room;
   if (length > 1 && draw(&client->draws, 8) == 0) length = 1 + draw(&client->draws, length);
+  if (client->lasting) note_written(client, client->unsent.bytes + client->unsent.from, length);
   // What is sent to a program that has ended its link goes nowhere.
   if (!client->link->is_reset && !(client->link->is_accepted && client->link->handles == 0)) put_bytes(&client->link->up, client->unsent.bytes + client->unsent.from, length);
   take_bytes(&client->unsent, NULL, length);
@@ -124,15 +127,22 @@ static bool can_take(const Client *client) {
   return client->site ? client->link->down.length : expects(client) && (client->link->down.length || has_line(client));
 }
 
+static void take_pong(Client *client, long number) {
+  if (number != ++client->pongs) fail(client, "a pong that is not the next");
+  const char *wrong = client->lasting ? test_confirmed(client, number) : NULL;
+  if (wrong) fail(client, wrong);
+}
+
 // Takes a line that ends a link or answers a ping. False if it is another line.
 static bool take_ending(Client *client, const char *line) {
   long number;
   if (sscanf(line, "pong %ld", &number) == 1) {
-    if (number != ++client->pongs) fail(client, "a pong that is not the next");
+    take_pong(client, number);
     return true;
   }
   if (strcmp(line, "bye") == 0) return client->has_bye = true;
   if (sscanf(line, "error %d", &client->error) != 1) return false;
+  if (client->lasting) return true;
   // A client whose session has failed ends its link. One that expects the error waits for the server to do so.
   Verb verb = has_finished(client) ? GONE : command_of(client)->verb;
   client->unsent.length = 0;
@@ -140,8 +150,17 @@ static bool take_ending(Client *client, const char *line) {
   return true;
 }
 
+// Whether a line is the next one of a link of protocol 4.
+static bool is_next_of_link(Client *client, const char *line) {
+  bool is_next;
+  const char *wrong = take_carried(client, line, &is_next);
+  if (wrong) fail(client, wrong);
+  return is_next;
+}
+
 static void take(Client *client, const char *line) {
   note(client->task, "takes %.60s", line);
+  if (client->lasting && !is_next_of_link(client, line)) return;
   if (client->has_bye || client->error) fail(client, "a line after the last");
   if (!has_finished(client) && command_of(client)->verb == EXPECT && strncmp(line, command_of(client)->text, strlen(command_of(client)->text)) == 0) client->has_expected = true;
   if (take_ending(client, line) || !client->site) return;
@@ -174,6 +193,7 @@ static void move_all(Pipe *from, Pipe *to) {
 
 // Receives what has come, and takes the whole lines of it.
 static void take_all(Client *client) {
+  if (client->lasting) note_heard(client);
   move_all(&client->link->down, client->is_browser ? &client->unread : &client->lines);
   for (bool is_whole = client->is_browser; is_whole;) {
     const char *wrong = take_frame(client, &is_whole);
@@ -186,6 +206,7 @@ static void take_all(Client *client) {
 
 // Whether the link has ended, and all that came of it was taken.
 static bool is_over(const Client *client) {
+  if (client->lasting) return is_link_over(client);
   return client->link && has_ended(client->link) && client->link->down.length == 0 && !has_line(client);
 }
 
@@ -201,6 +222,7 @@ static bool is_due(const Client *client) {
     case BROWSE: return !client->has_begun || (has_time_passed(client) && has_listened);
     case STALL:
     case PAUSE:
+    case RESUME:
     case KEPT: return !client->has_begun || has_time_passed(client);
     case SERVE: return opened_link() != NULL;
     // A browser sends nothing before its link is open.
@@ -213,7 +235,7 @@ static bool is_due(const Client *client) {
     case PONGS: return client->pongs >= client->pings;
     case SYNC: return !client->has_begun || client->pongs >= client->pings;
     case EXPECT: return client->has_expected;
-    case TAKEN: return !client->unsent.length && !client->link->up.length;
+    case TAKEN: return !client->unsent.length && client->link && !client->link->up.length;
     case CLOSED: return is_closed(client);
     case BYE: return !client->has_begun || is_over(client);
     case GONE:
@@ -226,6 +248,9 @@ static bool is_due(const Client *client) {
     case HALF:
     case SHUT:
     case RESET:
+    case CUT:
+    case CUTS:
+    case CONFIRM:
     case AGREE:
     case DEAF:
     case LISTEN:
@@ -238,7 +263,7 @@ static bool is_due(const Client *client) {
 
 // Whether a command goes on when the link has ended.
 static bool outlives_link(Verb verb) {
-  static const Verb outliving[] = {CONNECT, BROWSE, MEET, STALL, PAUSE, RAW, SHUT, RESET, CLOSED, BYE, GONE, REFUSED, TYPE};
+  static const Verb outliving[] = {CONNECT, BROWSE, MEET, STALL, PAUSE, RAW, SHUT, RESET, CUTS, RESUME, CLOSED, BYE, GONE, REFUSED, TYPE};
   for (size_t k = 0; k < sizeof outliving / sizeof *outliving; k++)
     if (outliving[k] == verb) return true;
   return false;
@@ -253,12 +278,15 @@ static bool has_lost_link(const Client *client) {
 bool can_step(const Client *client) {
   if (has_finished(client)) return false;
   if (client->is_losing) return is_closed(client);
+  if (client->lasting && has_to_tend(client)) return true;
   return can_flush(client) || can_take(client) || is_due(client) || has_lost_link(client);
 }
 
 int64_t next_event_of(const Client *client) {
-  bool waits = !has_finished(client) && !client->is_losing && client->has_begun && (command_of(client)->verb <= BROWSE ? has_listened : true);
-  return waits ? client->until : NEVER;
+  if (has_finished(client) || client->is_losing) return NEVER;
+  bool waits = client->has_begun && (command_of(client)->verb <= BROWSE ? has_listened : true);
+  int64_t until = waits ? client->until : NEVER, tending = client->lasting ? next_tending_of(client) : NEVER;
+  return until == NEVER || (tending != NEVER && tending < until) ? tending : until;
 }
 
 static void finish_command(Client *client) {
@@ -276,6 +304,24 @@ static bool begin(Client *client) {
   return true;
 }
 
+static bool sends_lines_of_its_own(const Client *client) {
+  for (int k = 0; k < client->count; k++)
+    if (client->commands[k].verb == RAW || client->commands[k].verb == POUR) return true;
+  return false;
+}
+
+// How many edits of its present link are in the order. It is not known of a link of protocol 3 that has ended early.
+static Bounds edits_arrived_now(const Client *client) {
+  if (client->lasting) return (Bounds){edits_with_effect(client), is_effect_known(client) ? edits_with_effect(client) : edits_put(client)};
+  if (client->site) return (Bounds){client->has_bye ? edits_made(client->site) : 0, edits_made(client->site)};
+  return (Bounds){0, sends_lines_of_its_own(client) ? MOST_EDITS : 0};
+}
+
+Bounds edits_arrived(const Client *client) {
+  Bounds at_last = edits_arrived_now(client);
+  return (Bounds){client->arrived.least + at_last.least, client->arrived.most + at_last.most};
+}
+
 static void connect_to(Client *client, const Command *it) {
   if (begin(client)) {
     client->until = now + it->number * MILLISECOND;
@@ -283,7 +329,7 @@ static void connect_to(Client *client, const Command *it) {
   }
   if (!is_listening) return lose(client, "nobody listens");
   // A client that comes again is a new site.
-  *client = (Client){client->task, client->name, client->commands, client->count, client->at, .has_begun = true, .until = NEVER, .draws = client->draws, .link = connect_link()};
+  *client = (Client){client->task, client->name, client->commands, client->count, client->at, .has_begun = true, .until = NEVER, .draws = client->draws, .link = connect_link(), .arrived = edits_arrived(client)};
   client->is_browser = it->verb == BROWSE;
   if (client->is_browser) put_upgrade(&client->unsent);
   finish_command(client);
@@ -300,10 +346,11 @@ static void wait_for(Client *client, const Command *it) {
   finish_command(client);
 }
 
-static void greet(Client *client) {
+static void greet(Client *client, const Command *it) {
   if (!begin(client)) return finish_command(client);
   client->site = new_site(&client->draws);
-  say_line(client, "hello 3\n");
+  if (it->number == 4) greet_by_note(client);
+  else say_line(client, "hello 3\n");
 }
 
 static void meet(Client *client, const Command *it) {
@@ -358,6 +405,25 @@ static void say_half(Client *client) {
   finish_command(client);
 }
 
+static void cut(Client *client, const Command *it) {
+  break_connection(client, it->text);
+  hold_connection(client);
+  finish_command(client);
+}
+
+// Connects again, also if the older connection still seems to work.
+static void resume(Client *client, const Command *it) {
+  if (begin(client)) {
+    int64_t longer = it->other > it->number ? (int64_t)draw(&client->draws, it->other - it->number + 1) : 0;
+    client->until = now + (it->number + longer) * MILLISECOND;
+    return;
+  }
+  if (client->link) break_connection(client, draw(&client->draws, 2) ? "silent" : "late");
+  if (!is_listening) return lose(client, "nobody listens");
+  resume_link(client);
+  finish_command(client);
+}
+
 static void agree(Client *client) {
   print_board(client->site, &client->agreed);
   finish_command(client);
@@ -401,7 +467,7 @@ static void do_command(Client *client) {
     case KEPT: return wait_for(client, it);
     case DEAF:
     case LISTEN: client->is_deaf = it->verb == DEAF; return finish_command(client);
-    case HELLO: return greet(client);
+    case HELLO: return greet(client, it);
     case MEET: return meet(client, it);
     case EDIT:
     case ADJUST:
@@ -417,6 +483,10 @@ static void do_command(Client *client) {
     case BYE: return leave(client);
     case REFUSED: return expect_refusal(client, it);
     case AGREE: return agree(client);
+    case CUT: return cut(client, it);
+    case CUTS: begin_cuts(client, it->number, it->other); return finish_command(client);
+    case RESUME: return resume(client, it);
+    case CONFIRM: confirm_after(client, it->number); return finish_command(client);
     case SERVE:
     case SHUT:
     case RESET: return act_on_link(client, it);
@@ -436,8 +506,15 @@ static void end_spending(Client *client) {
   finish_command(client);
 }
 
+static void tend_link(Client *client) {
+  if (is_unanswered(client)) fail(client, "the server says nothing");
+  if (finds_nobody(client)) return lose(client, "nobody listens");
+  tend(client);
+}
+
 void step(Client *client) {
   if (client->is_losing) return be_lost(client);
+  if (client->lasting && has_to_tend(client)) return tend_link(client);
   bool may_go_on = is_due(client) && !has_lost_link(client);
   if (can_flush(client) && (!may_go_on || draw(&client->draws, 2))) return flush(client);
   if (can_take(client) && (!may_go_on || draw(&client->draws, 2))) return take_all(client);

@@ -5,6 +5,7 @@
 #include "schedules.h"
 #include <stdio.h>
 #include <stdlib.h>
+#include <sys/syscall.h>
 
 typedef struct {
   int task, nth, value;
@@ -13,6 +14,7 @@ typedef struct {
 Stream of_schedule, of_faults;
 
 static uint64_t base;
+static Stream of_tokens;
 static Decision *made, *told;
 static size_t made_count, made_room, told_count;
 static bool is_told;
@@ -21,6 +23,7 @@ void seed_streams(uint64_t seed) {
   base = seed * 0x2545f4914f6cdd1dull + 1;
   of_schedule = stream_of(0);
   of_faults = stream_of(1);
+  of_tokens = stream_of(2);
 }
 
 Stream stream_of(uint64_t number) {
@@ -35,6 +38,14 @@ uint64_t draw(Stream *stream, uint64_t below) {
   mixed = (mixed ^ (mixed >> 30)) * 0xbf58476d1ce4e5b9ull;
   mixed = (mixed ^ (mixed >> 27)) * 0x94d049bb133111ebull;
   return (mixed ^ (mixed >> 31)) % below;
+}
+
+// The program's random bytes are those of the seed too.
+int getentropy(void *to, size_t size) {
+  if (!is_running) return system_call(SYS_getrandom, (long)to, size, 0, 0, 0, 0) == (long)size ? 0 : -1;
+  point("draws %zu random bytes", size);
+  for (size_t k = 0; k < size; k++) ((unsigned char *)to)[k] = draw(&of_tokens, 256);
+  return 0;
 }
 
 static int compare(const void *left, const void *right) {

@@ -6,7 +6,7 @@
 #include <string.h>
 #include <sys/syscall.h>
 
-bool may_be_lost;
+bool may_be_lost, do_links_last;
 const char *due_print;
 
 // The clients take what is left, and each has to come to its end.
@@ -70,6 +70,32 @@ static void compare_boards(void) {
   }
 }
 
+// The order has each edit once that its client knows to have arrived, and no edit twice.
+static void compare_order(void) {
+  const char *from = printed.length ? memmem(printed.bytes + printed.from, printed.length, "order ", 6) : NULL;
+  Bounds all = {0};
+  for (int k = 0; k < task_count; k++) {
+    Bounds own = tasks[k].client ? edits_arrived(tasks[k].client) : (Bounds){0};
+    all.least += own.least;
+    all.most += own.most;
+  }
+  long length = from ? atol(from + 6) : 0;
+  if (from && (length < all.least || length > all.most)) give_up("FAIL", "the order has not each edit once");
+}
+
+// Who was there from the start of another site has heard all insertions of it that had their effect, and no other.
+static void compare_authors(const Client *reader, const Client *author) {
+  unsigned number = author->site ? number_of_site(author->site) : 0;
+  if (!reader->agreed.length || !author->lasting || !is_effect_known(author) || number <= number_of_site(reader->site)) return;
+  if (last_insertion_of(reader->site, number) != insertions_with_effect(author)) give_up("FAIL", "a site has heard other insertions than the server says");
+}
+
+static void compare_all_authors(void) {
+  for (int k = 0; k < task_count; k++)
+    for (int j = 0; j < task_count; j++)
+      if (tasks[k].client && tasks[j].client) compare_authors(tasks[k].client, tasks[j].client);
+}
+
 // A thread that has done its work may still be about to end, but none may wait.
 static void expect_no_waits(void) {
   for (int k = 0; k < task_count; k++)
@@ -89,6 +115,10 @@ void finish(int status) {
   if (!strchr(ends ? ends : "0", '0' + status)) give_up("FAIL", complained.length > 1 ? complained.bytes + complained.from : "the exit status is another one");
   if (due_print && !has_printed(due_print)) give_up("FAIL", "the program has not printed what is due");
   let_clients_end();
-  if (status == 0) compare_boards();
+  if (status == 0) {
+    compare_boards();
+    compare_order();
+    compare_all_authors();
+  }
   end_run(0, NULL);
 }

@@ -40,6 +40,7 @@ class Scenario:
     sessions: str = "1"
     limit: str = "1000"
     ends: str = "0"
+    grace: str = ""
 
     @staticmethod
     def read(path):
@@ -49,14 +50,15 @@ class Scenario:
                 word, _, value = line.strip().partition(" ")
                 if word in ("client", "clients"):
                     break
-                if word in ("program", "sessions", "limit", "ends"):
+                if word in ("program", "sessions", "limit", "ends", "grace"):
                     setattr(made, word, value)
         return made
 
     def words(self):
         """The arguments of the program."""
         if self.program == "jupd":
-            return ["--listen", ADDRESS, "--limit", self.limit, "--sessions", self.sessions]
+            grace = ["--grace", self.grace] if self.grace else []
+            return ["--listen", ADDRESS, "--limit", self.limit, "--sessions", self.sessions, *grace]
         if self.program == "jupweb":
             return ["--listen", ADDRESS, "--board", "a.board"]
         return ["--connect", ADDRESS]

@@ -255,7 +255,8 @@ ssize_t transmit(int descriptor, const void *from, size_t length) {
     if (error == ECONNRESET) link->is_reset_told = true;
     return fails(error);
   }
-  note(me, "sent %zu to link %d", sent, link_number(link));
+  // The peer may take what was sent, and answer, before the call returns.
+  point("sent %zu to link %d", sent, link_number(link));
   return sent;
 }
 

@@ -11,7 +11,7 @@ enum { LONGEST = 1024, MOST_COMMANDS = 4096 };
 static const char *const verbs[] = {
     "connect", "browse", "serve", "hello", "meet", "edit", "adjust", "spend", "hear", "ping", "beat",
     "pongs", "sync", "stall", "pause", "raw", "pour", "taken", "stuck", "expect", "half", "shut", "reset",
-    "closed", "bye", "gone", "refused", "agree", "kept", "deaf", "listen", "mend", "type", "disk",
+    "cut", "cuts", "resume", "confirm", "closed", "bye", "gone", "refused", "agree", "kept", "deaf", "listen", "mend", "type", "disk",
 };
 
 static const char *path;
@@ -76,7 +76,7 @@ static void add_command(const char *line) {
     return add(verb, number, 0, second);
   }
   if (verb == POUR) return add(verb, atol(second), 0, after_words(line, 2));
-  if (verb == RAW || verb == EXPECT || verb == TYPE || verb == DISK) return add(verb, 0, 0, *second ? after_words(line, 1) : NULL);
+  if (verb == RAW || verb == EXPECT || verb == TYPE || verb == DISK || verb == CUT) return add(verb, 0, 0, *second ? after_words(line, 1) : NULL);
   sscanf(line, "%*s %ld %ld", &number, &other);
   add(verb, number, other, NULL);
 }
@@ -142,6 +142,7 @@ static void set(const char *line) {
   if (sscanf(line, "within %ld", &value) == 1) most_time = value * 1000 * MILLISECOND;
   if (sscanf(line, "room %ld", &value) == 1) link_room = value;
   if (strcmp(line, "links may end") == 0) may_be_lost = true;
+  if (strcmp(line, "links last") == 0) do_links_last = true;
   if (strncmp(line, "prints ", 7) == 0) due_print = spelled(line + 7);
   set_fault(line);
 }

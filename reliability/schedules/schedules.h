@@ -10,7 +10,7 @@
 // - memory.c: allocations that may fail
 // - switches.c: switches within the program's own code
 // - scenario.c: the file of a scenario
-// - clients.c: what clients do; frames.c: clients by WebSockets
+// - clients.c: what clients do; frames.c: clients by WebSockets; lasting.c: links of protocol 4, which outlive their connections
 // - sites.c: a client's copy of the board, and its transforms
 #ifndef SCHEDULES_H
 #define SCHEDULES_H
@@ -168,7 +168,7 @@ typedef enum {
   CONNECT, // MS: connects after so long, once the program listens
   BROWSE,  // MS: the same, by a WebSocket
   SERVE,   // waits until the program has connected, and is its server
-  HELLO,   // greets, and reads the board
+  HELLO,   // VERSION: greets by protocol 3, or by this one, and reads the board
   MEET,    // NAME COUNT: waits until so many clients have come to this meeting
   EDIT,    // COUNT OPERATIONS: makes edits of so many operations, of one if no number is given
   ADJUST,  // COUNT OPERATIONS: the same, but the operations only set toggles and sliders
@@ -188,6 +188,10 @@ typedef enum {
   HALF,    // sends the first half of an edit
   SHUT,    // ends its bytes
   RESET,   // resets its link
+  CUT,     // HOW: its connection breaks, by `reset`, by its `end`, `silent`, or so that its bytes come `late`. Without a word the seed chooses. It does not connect again by itself
+  CUTS,    // COUNT SPAN: from here on its connection breaks so often, each time within so many microseconds. It connects again soon
+  RESUME,  // MS MOST: connects again after a time between these, also beside a connection that still works
+  CONFIRM, // LINES: from here on it confirms after so many lines, and not after 64
   CLOSED,  // waits until the program has closed the link
   BYE,     // sends `bye`, and takes all up to the bye of the server and the end of the link
   GONE,    // takes all up to the end of the link, whatever comes
@@ -225,6 +229,10 @@ void make_edit(Site *site, int operations, bool is_of_settings, Pipe *to);
 // Appends the acknowledgement that the site owes, if it owes one.
 void pay(Site *site, Pipe *to);
 long edits_heard(const Site *site);
+// How many edits it has made, what its number is, and the number of the last insertion that it has heard of another site.
+long edits_made(const Site *site);
+unsigned number_of_site(const Site *site);
+long last_insertion_of(const Site *site, unsigned author);
 // How many of its edits the server is not known to have taken.
 long edits_waiting(const Site *site);
 // Appends the board as the program prints one.
@@ -241,7 +249,50 @@ void put_message(Pipe *to, const char *lines, size_t length);
 // Takes the next message, frame or head that is whole. Appends the lines of a message, and the answer to a ping. Returns what is wrong, or NULL.
 const char *take_frame(Client *client, bool *is_whole);
 
+// ---- lasting.c ----
+
+// A link of protocol 4: where it stands, and the lines of both ways.
+typedef struct Lasting Lasting;
+// Greets by the first line of protocol 4.
+void greet_by_note(Client *client);
+// Puts whole lines on the way up.
+void put_on_link(Client *client, const char *text, size_t length);
+// Takes a line that the connection has brought, and says whether it is the next one of the link. Returns what is wrong with it, or NULL.
+const char *take_carried(Client *client, const char *line, bool *is_next);
+// What is wrong with what the server has confirmed when this pong comes, or NULL.
+const char *test_confirmed(const Client *client, long pong);
+// The connection breaks, in this way or as the seed chooses. The client connects again soon, unless it holds.
+void break_connection(Client *client, const char *how);
+void hold_connection(Client *client);
+void begin_cuts(Client *client, long count, long span);
+void confirm_after(Client *client, long lines);
+// Connects again, and goes on.
+void resume_link(Client *client);
+// Whether there is something to do beside the commands, and when there is next, or NEVER.
+bool has_to_tend(const Client *client);
+int64_t next_tending_of(const Client *client);
+// Whether the server has said nothing for too long. Whether nobody listens any more to a client that connects again.
+bool is_unanswered(const Client *client);
+bool finds_nobody(const Client *client);
+void tend(Client *client);
+// These bytes are about to be sent. Something has come.
+void note_written(Client *client, const char *bytes, size_t length);
+void note_heard(Client *client);
+bool is_link_over(const Client *client);
+// Whether the link has ended without a last line, as it may.
+bool has_run_out(const Client *client);
+// Whether it is known which lines had their effect, how many edits and insertions these are at least, and how many edits are whole.
+bool is_effect_known(const Client *client);
+long edits_with_effect(const Client *client);
+long insertions_with_effect(const Client *client);
+long edits_put(const Client *client);
+
 // ---- clients.c ----
+
+// What is known of a number.
+typedef struct {
+  long least, most;
+} Bounds;
 
 struct Client {
   Task *task;
@@ -262,9 +313,13 @@ struct Client {
   long heard;        // how many edits of others its commands have asked for
   bool has_expected; // whether the line came that its command waits for
   Pipe agreed;       // its board, once all have agreed
+  Lasting *lasting;  // its link of protocol 4, or NULL
+  Bounds arrived;    // how many edits of its earlier links are in the order
 };
 
 Client *new_client(const char *name);
+// How many of its edits are in the order, of this link and of earlier ones.
+Bounds edits_arrived(const Client *client);
 bool can_step(const Client *client);
 void step(Client *client);
 bool has_finished(const Client *client);
@@ -281,6 +336,8 @@ _Noreturn void end_run(int verdict, const char *report);
 
 // Whether links may end early, since something fails by the seed.
 extern bool may_be_lost;
+// Whether a link of protocol 4 may not, once its `ready` has come.
+extern bool do_links_last;
 // What the program has to print, or NULL.
 extern const char *due_print;
 // Fails unless the program's file has the board that a client has.

@@ -4,7 +4,7 @@
 #include <stdlib.h>
 #include <string.h>
 
-enum { MOST_WIDGETS = 64, MOST_OPERATIONS = 32, OWES_FROM = 64, LONGEST_LINE = 128, MOST_LABELS = 256 };
+enum { MOST_WIDGETS = 64, MOST_OPERATIONS = 32, OWES_FROM = 64, LONGEST_LINE = 128, MOST_LABELS = 256, MOST_SITES = 256 };
 
 typedef enum { A_TEXT, A_LIST, A_TOGGLE, A_SLIDER } Kind;
 typedef enum { INSERT, DELETE, RELABEL, SET, NOTHING } Deed;
@@ -57,6 +57,7 @@ struct Site {
   long coming_number, coming_heard;
   int left; // how many lines of it are left
   Stream *draws;
+  unsigned inserted[MOST_SITES]; // the number of the last insertion that came of each site
 };
 
 Site *new_site(Stream *draws) {
@@ -71,6 +72,18 @@ bool is_open(const Site *site) {
 
 long edits_heard(const Site *site) {
   return site->heard;
+}
+
+long edits_made(const Site *site) {
+  return site->made;
+}
+
+unsigned number_of_site(const Site *site) {
+  return site->number;
+}
+
+long last_insertion_of(const Site *site, unsigned author) {
+  return author < MOST_SITES ? site->inserted[author] : 0;
 }
 
 long edits_waiting(const Site *site) {
@@ -187,6 +200,7 @@ static const char *take_edit(Site *site) {
   for (int k = 0; k < site->coming.count && !wrong; k++) {
     const Operation *it = &site->coming.operations[k];
     wrong = it->deed == INSERT && it->name.site == site->number ? "an insertion under a name of this site" : apply(site, it);
+    if (it->deed == INSERT && it->name.site < MOST_SITES) site->inserted[it->name.site] = it->name.number;
   }
   site->heard++;
   site->owed++;

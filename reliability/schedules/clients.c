@@ -411,6 +411,11 @@ static void cut(Client *client, const Command *it) {
   finish_command(client);
 }
 
+static void miss_server(Client *client) {
+  meet_nobody(client);
+  lose(client, "nobody listens");
+}
+
 // Connects again, also if the older connection still seems to work.
 static void resume(Client *client, const Command *it) {
   if (begin(client)) {
@@ -419,7 +424,7 @@ static void resume(Client *client, const Command *it) {
     return;
   }
   if (client->link) break_connection(client, draw(&client->draws, 2) ? "silent" : "late");
-  if (!is_listening) return lose(client, "nobody listens");
+  if (!is_listening) return miss_server(client);
   resume_link(client);
   finish_command(client);
 }
@@ -508,7 +513,7 @@ static void end_spending(Client *client) {
 
 static void tend_link(Client *client) {
   if (is_unanswered(client)) fail(client, "the server says nothing");
-  if (finds_nobody(client)) return lose(client, "nobody listens");
+  if (finds_nobody(client)) return miss_server(client);
   tend(client);
 }
 

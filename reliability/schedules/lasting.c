@@ -342,6 +342,11 @@ static bool is_broken(const Client *client) {
   return client->link && it->stage != IS_OVER && it->stage != GREETS && client->link->down.length == 0 && has_ended(client->link);
 }
 
+// The server may have ended, if the link may be over.
+void meet_nobody(Client *client) {
+  client->lasting->has_run_out |= may_have_run_out(client);
+}
+
 bool has_to_tend(const Client *client) {
   const Lasting *it = client->lasting;
   return is_unanswered(client) || is_late_due(it) || is_cut_due(it) || is_connection_due(it) || is_got_due(client) || is_broken(client);

@@ -274,6 +274,7 @@ int64_t next_tending_of(const Client *client);
 // Whether the server has said nothing for too long. Whether nobody listens any more to a client that connects again.
 bool is_unanswered(const Client *client);
 bool finds_nobody(const Client *client);
+void meet_nobody(Client *client);
 void tend(Client *client);
 // These bytes are about to be sent. Something has come.
 void note_written(Client *client, const char *bytes, size_t length);

@@ -1,5 +1,5 @@
 -- How many bytes lines have that are kept.
-use Rattle.std.proofs.Common.{◌≡◌, ℕ, ◌+◌, List, [], ◌∷◌, ◌++◌, length, sym, ap, arith}
+use Rattle.std.proofs.Common.{◌≡◌, ℕ, ◌+◌, List, [], ◌∷◌, ◌++◌, length, ap, arith}
 use Rattle.std.proofs.lemmas.List.{flat_map_more, length-append}
 use Rattle.jup_resume.specs.Texts.{Text, spelled}
 use Rattle.jup_resume.specs.Keepers.{size_of}

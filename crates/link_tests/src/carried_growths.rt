@@ -30,12 +30,12 @@ fn ready(rt: &impl Abort, alloc: Global) -> Carried {
     carried
 }
 
-// The next carrier takes the link, whose client has taken so many lines.
-fn resume(rt: &impl Abort, carried: &mut Carried, carrier: u64, taken: u32) {
-    pass_over(carried.cut(carrier, 0));
+// The second carrier takes the link, whose client has taken so many lines.
+fn resume(rt: &impl Abort, carried: &mut Carried, taken: u32) {
+    pass_over(carried.cut(1, 0));
     let (resumed, change) = carried.resume(taken, 0);
     pass_over(change);
-    expect_eq(rt, resumed.ok(), Some(carrier + 1));
+    expect_eq(rt, resumed.ok(), Some(2));
 }
 
 // What the carrier writes next.
@@ -53,7 +53,7 @@ fn written(
 #[test]
 fn carried_put(rt: HostRuntime) {
     let mut carried = ready(&rt, rt.alloc());
-    resume(&rt, &mut carried, 1, 1);
+    resume(&rt, &mut carried, 1);
     for _ in 0..20 {
         begin(rt.alloc());
         let mut came = put(&mut carried, b"pong 1\n");
@@ -71,14 +71,14 @@ fn carried_put(rt: HostRuntime) {
 }
 
 // Takes a line of the site. If an allocation fails, its carrier is cut, and the next one brings the line again.
-fn hear(rt: &impl Abort, carried: &mut Carried, carrier: u64, line: &[u8]) -> Heard {
-    let (heard, change) = carried.hear(carrier, line);
+fn hear(rt: &impl Abort, carried: &mut Carried, line: &[u8]) -> Heard {
+    let (heard, change) = carried.hear(1, line);
     pass_over(change);
     if heard != Heard::Cut {
         return heard;
     }
-    resume(rt, carried, carrier, 1);
-    let (again, change) = carried.hear(carrier + 1, line);
+    resume(rt, carried, 1);
+    let (again, change) = carried.hear(2, line);
     pass_over(change);
     again
 }
@@ -87,7 +87,7 @@ fn hear(rt: &impl Abort, carried: &mut Carried, carrier: u64, line: &[u8]) -> He
 fn carried_hear(rt: HostRuntime) {
     let mut carried = ready(&rt, rt.alloc());
     begin(rt.alloc());
-    let heard = hear(&rt, &mut carried, 1, b"ping 1\n");
+    let heard = hear(&rt, &mut carried, b"ping 1\n");
     end(rt.alloc());
     expect_eq(&rt, heard, Heard::All);
     let mut line = [0; MOST_GIVEN];
@@ -108,7 +108,7 @@ fn first_piece(rt: &impl Abort, alloc: Global, carried: &mut Carried) -> (u64, V
     if piece.is_ok() {
         return (1, out);
     }
-    resume(rt, carried, 1, 0);
+    resume(rt, carried, 0);
     let (out, _) = written(rt, alloc, carried, 2);
     (2, out)
 }
@@ -129,7 +129,7 @@ fn carried_next_piece(rt: HostRuntime) {
 fn carried_close(rt: HostRuntime) {
     let mut carried = ready(&rt, rt.alloc());
     expect_eq(&rt, put(&mut carried, b"bye\n"), Ok(4));
-    resume(&rt, &mut carried, 1, 1);
+    resume(&rt, &mut carried, 1);
     begin(rt.alloc());
     let closed = carried.close(0);
     end(rt.alloc());

@@ -130,3 +130,13 @@ pub record IsStarOf (text : List ℕ) (limit : ℕ) (star : BoardStar) : Type 0 
   pub windows : Windows
   pub printed : IsPrintOf windows text
   pub is : star ≡ opened_counting (bare windows) limit
+
+-- What is known of the file that keeps a board.
+
+-- the text that it has, if that is known; and whether a text is due that was not written
+pub record Keeping : Type 0 where
+  pub filed : Option (List ℕ)
+  pub due : Bool
+
+abbrev pub keeps : Option (List ℕ) → Bool → Keeping
+keeps filed due = record { filed = filed; due = due }

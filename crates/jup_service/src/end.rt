@@ -107,6 +107,10 @@ impl From<AllocError> for ServiceEnd {
 }
 
 impl From<KeptFileFault> for ServiceEnd {
+    ghost use Rattle.jup_service.specs.Ends.{IsEndOfFile};
+
+    ghost from_gives = { λ fault made. IsEndOfFile fault made };
+
     fn from(fault: KeptFileFault) -> ServiceEnd {
         match fault {
             KeptFileFault::Taken => ServiceEnd::BoardTaken,
@@ -116,6 +120,10 @@ impl From<KeptFileFault> for ServiceEnd {
 }
 
 impl From<BoardEnd> for ServiceEnd {
+    ghost use Rattle.jup_service.specs.Ends.{end_of_board};
+
+    ghost from_gives = { λ end made. made ≡ end_of_board end };
+
     fn from(end: BoardEnd) -> ServiceEnd {
         match end {
             BoardEnd::Line(line, fault) => ServiceEnd::BadBoard(line, fault),

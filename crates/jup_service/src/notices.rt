@@ -1,8 +1,11 @@
 //! What a server reports to its operator, each notice once.
-ghost use Rattle.std.specs.Prelude.{◌≡◌, not, true, false};
+ghost use Rattle.std.specs.IoError.{error_kind};
+ghost use Rattle.std.specs.Prelude.{◌≡◌, ◌⊎◌, ◌↔◌, not, true, false, IsNone, IfSome};
 ghost use Rattle.jup_service.specs.Servers.{notice_of, is_told, with_told};
 
 use jup_faults::Fault;
+use std::io;
+use std::io::ErrorKind;
 
 /// What a server reports to its operator while it runs.
 #[derive(Clone, Copy, Debug, PartialEq, Eq)]
@@ -37,6 +40,17 @@ pub fn notice_of(fault: u32) -> Option<Notice>
         Some(Notice::OrderFull)
     } else {
         None
+    }
+}
+
+/// What the server reports if an accept failed so. It reports nothing of a client that was gone before it was accepted, or of an interruption.
+pub fn notice_of_accept(error: &io::Error) -> Option<Notice>
+    ensures none { IsNone result ↔ ((error_kind error.now ≡ ErrorKind.ConnectionAborted) ⊎ (error_kind error.now ≡ ErrorKind.Interrupted)) }
+    ensures some { IfSome result (λ notice. notice ≡ Notice.CannotAccept) }
+{
+    match error.kind() {
+        ErrorKind::ConnectionAborted | ErrorKind::Interrupted => None,
+        _ => Some(Notice::CannotAccept),
     }
 }
 

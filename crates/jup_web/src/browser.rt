@@ -2,11 +2,12 @@
 use crate::stop::Stop;
 use crate::turn::InTurn;
 use jup_http::put_ping;
-use jup_io::has_waited;
-use jup_service::Presence;
+use jup_io::write_whole;
+use jup_service::{Heard, Presence};
+use jup_session::Outgoing;
 use std::alloc::{AllocError, Global};
 use std::io;
-use std::io::{ErrorKind, Read, Write};
+use std::io::{ErrorKind, Read};
 use std::net::TcpStream;
 use std::sync::Wait;
 
@@ -38,7 +39,7 @@ impl<'a, R: Wait> Read for UntilStopped<'a, R> {
 #[derive(Drop)]
 pub(crate) struct BrowserBytes<'a, R: Wait> {
     from: UntilStopped<'a, R>,
-    to: InTurn<'a, R>,
+    to: InTurn<'a, R, Outgoing<'a>>,
     presence: Presence,
     ping: Vec<u8>,
 }
@@ -48,7 +49,7 @@ impl<'a, R: Wait> BrowserBytes<'a, R> {
     pub(crate) fn new(
         alloc: Global,
         from: UntilStopped<'a, R>,
-        to: InTurn<'a, R>,
+        to: InTurn<'a, R, Outgoing<'a>>,
     ) -> Result<BrowserBytes<'a, R>, AllocError> {
         let mut ping = Vec::new(alloc);
         put_ping(&[], &mut ping)?;
@@ -59,32 +60,15 @@ impl<'a, R: Wait> BrowserBytes<'a, R> {
             ping,
         })
     }
-
-    // Sends a ping to a browser that was heard. False if it has sent nothing since the last ping.
-    fn ask(&mut self) -> io::Result<bool> {
-        let Some(presence) = self.presence.after_silence() else {
-            return Ok(false);
-        };
-        self.presence = presence;
-        self.to.write_all(&self.ping)?;
-        Ok(true)
-    }
 }
 
 impl<'a, R: Wait> Read for BrowserBytes<'a, R> {
     fn read(&mut self, buf: &mut [u8]) -> io::Result<usize> {
         for _ in 0..u64::MAX {
-            match self.from.read(buf) {
-                Ok(len) => {
-                    self.presence = Presence::Heard;
-                    return Ok(len);
-                }
-                Err(error) if has_waited(&error) => {
-                    if !self.ask()? {
-                        return Ok(0);
-                    }
-                }
-                Err(error) => return Err(error),
+            match self.presence.hear(self.from.read(buf))? {
+                Heard::Bytes(len) => return Ok(len),
+                Heard::Silence => write_whole(&mut self.to, &self.ping)?,
+                Heard::Gone => return Ok(0),
             }
         }
         Err(io::Error::from(ErrorKind::TimedOut))

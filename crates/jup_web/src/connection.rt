@@ -212,7 +212,11 @@ fn serve_browser<R: Threads + Wait + Clock + Eprint + Sync>(
     let turn = &turn;
     if let Ok(ending) = serve_messages(rt, service, stream, turn, pass) {
         let code = close_code(ending, service.stop.is_told(rt));
-        let _ = send_close(service.alloc, &mut InTurn::new(rt, turn, stream), code);
+        let _ = send_close(
+            service.alloc,
+            &mut InTurn::of_browser(rt, turn, stream),
+            code,
+        );
     }
 }
 
@@ -226,7 +230,7 @@ fn serve_messages<R: Threads + Wait + Clock + Eprint + Sync>(
 ) -> Result<Option<Ending>, AllocError>
     requires { IsPassOf service.now.hub.now pass }
 {
-    let writer = MessageWriter::new(service.alloc, InTurn::new(rt, turn, stream))?;
+    let writer = MessageWriter::new(service.alloc, InTurn::of_browser(rt, turn, stream))?;
     let mut reader = messages_of(rt, service.alloc, service.stop, stream, turn)?;
     run_session(rt, service, &mut reader, writer, pass);
     Ok(reader.ending())
@@ -239,10 +243,10 @@ fn messages_of<'a, R: Wait>(
     stop: &'a Stop,
     stream: &'a TcpStream,
     turn: &'a Mutex<()>,
-) -> Result<MessageReader<BrowserBytes<'a, R>, InTurn<'a, R>>, AllocError> {
+) -> Result<MessageReader<BrowserBytes<'a, R>, InTurn<'a, R, Outgoing<'a>>>, AllocError> {
     let from = UntilStopped::new(rt, stop, stream);
-    let bytes = BrowserBytes::new(alloc, from, InTurn::new(rt, turn, stream))?;
-    MessageReader::new(alloc, bytes, InTurn::new(rt, turn, stream))
+    let bytes = BrowserBytes::new(alloc, from, InTurn::of_browser(rt, turn, stream))?;
+    MessageReader::new(alloc, bytes, InTurn::of_browser(rt, turn, stream))
 }
 
 fn send_close<O: Write>(alloc: Global, to: &mut O, code: Option<u16>) -> io::Result<()> {

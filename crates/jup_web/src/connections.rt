@@ -1,68 +1,79 @@
 //! The connections that are open, so that a stop can end them.
 
-use std::array;
+use jup_service::{Linked, Links, Place, Places};
 use std::net::{Shutdown, TcpStream};
 use std::sync::{Mutex, Wait};
-
-/// Connections that may be open at a time: 64 links, and as many that ask for a page or have not shown yet what they are.
-const MOST_OPEN: usize = 128;
 
 /// The connections that are open.
 #[derive(Drop)]
 pub(crate) struct Connections {
-    sockets: Mutex<[Option<TcpStream>; MOST_OPEN]>,
-    /// How many of them are links.
-    links: Mutex<u32>,
+    sockets: Mutex<Places<TcpStream>>,
+    links: Mutex<Links>,
+}
+
+/// A connection that has its place. The place is free again once this is dropped.
+pub(crate) struct Visit<'a, R: Wait> {
+    rt: &'a R,
+    connections: &'a Connections,
+    place: Place,
+}
+
+impl<'a, R: Wait> Drop for Visit<'a, R> {
+    fn drop(self) {
+        let Visit {
+            rt,
+            connections,
+            place,
+        } = self;
+        connections.sockets.lock(rt).leave(place);
+    }
 }
 
 impl Connections {
     pub(crate) fn new() -> Connections {
         Connections {
-            sockets: Mutex::new(array::from_fn(|_| None)),
-            links: Mutex::new(0),
+            sockets: Mutex::new(Places::new()),
+            links: Mutex::new(Links::new()),
         }
     }
 
-    /// Keeps a handle of a socket, and answers its place. `None` if too many are open, or no handle can be made.
-    pub(crate) fn enter<R: Wait>(&self, rt: &R, stream: &TcpStream) -> Option<usize> {
+    /// Keeps a handle of a socket as long as the visit lasts. `None` if too many are open, or no handle can be made.
+    pub(crate) fn enter<'a, R: Wait>(
+        &'a self,
+        rt: &'a R,
+        stream: &TcpStream,
+    ) -> Option<Visit<'a, R>> {
         let handle = stream.try_clone().ok()?;
-        let mut sockets = self.sockets.lock(rt);
-        let place = sockets.iter().position(Option::is_none)?;
-        *sockets.get_mut(place)? = Some(handle);
-        Some(place)
-    }
-
-    /// Lets go of the handle at a place.
-    pub(crate) fn leave<R: Wait>(&self, rt: &R, place: usize) {
-        let mut sockets = self.sockets.lock(rt);
-        if let Some(socket) = sockets.get_mut(place) {
-            *socket = None;
-        }
+        let place = self.sockets.lock(rt).enter(handle)?;
+        Some(Visit {
+            rt,
+            connections: self,
+            place,
+        })
     }
 
     pub(crate) fn are_none<R: Wait>(&self, rt: &R) -> bool {
-        self.sockets.lock(rt).iter().all(Option::is_none)
+        self.sockets.lock(rt).are_free()
     }
 
     /// Shuts a side of each socket, or both.
     pub(crate) fn shut<R: Wait>(&self, rt: &R, side: Shutdown) {
         let sockets = self.sockets.lock(rt);
-        for socket in sockets.iter().flatten() {
+        for socket in sockets.as_slice().iter().flatten() {
             let _ = socket.shutdown(side);
         }
     }
 
-    pub(crate) fn begin_link<R: Wait>(&self, rt: &R) {
-        let mut links = self.links.lock(rt);
-        *links = links.saturating_add(1);
+    /// Counts a link up to its end.
+    pub(crate) fn begin_link<R: Wait>(&self, rt: &R) -> Linked {
+        self.links.lock(rt).begin()
     }
 
-    pub(crate) fn end_link<R: Wait>(&self, rt: &R) {
-        let mut links = self.links.lock(rt);
-        *links = links.saturating_sub(1);
+    pub(crate) fn end_link<R: Wait>(&self, rt: &R, linked: Linked) {
+        self.links.lock(rt).end(linked);
     }
 
     pub(crate) fn count_links<R: Wait>(&self, rt: &R) -> u32 {
-        *self.links.lock(rt)
+        self.links.lock(rt).count()
     }
 }

@@ -8,7 +8,7 @@ ghost use Rattle.jup_web.specs.Keeping.{IsTextOf};
 use crate::notices::Notices;
 use crate::session::Service;
 use jup_hub::{Hub, Pass};
-use jup_service::{FiledText, KeptFile, Notice};
+use jup_service::{KeptBoard, Notice, Unkept};
 use jup_text::write_board;
 use jup_xform::NoMemory;
 use std::alloc::Global;
@@ -66,55 +66,6 @@ pub fn take_news<R: Wait>(
     }
 }
 
-/// A file that keeps a board, and what it has.
-#[derive(Drop)]
-pub(crate) struct KeptBoard<'a> {
-    file: &'a KeptFile,
-    text: FiledText,
-    /// Whether a board that should be in the file was not written.
-    is_due: bool,
-}
-
-impl<'a> KeptBoard<'a> {
-    ghost use Rattle.std.specs.Prelude.{true, false};
-
-    /// The file has this text.
-    pub(crate) fn new(file: &'a KeptFile, text: FiledText) -> KeptBoard<'a> {
-        KeptBoard {
-            file,
-            text,
-            is_due: false,
-        }
-    }
-
-    pub(crate) fn file(&self) -> &'a KeptFile {
-        self.file
-    }
-
-    // Writes a text that the file does not have.
-    fn write<R: Wait + Eprint, F: Files<File = File>>(
-        &mut self,
-        rt: &R,
-        files: &F,
-        notices: &Notices,
-        text: Vec<u8>,
-    )
-        ensures written { self.new.is_due ≡ false → self.new.text ≡ text.items }
-        ensures owed { self.new.is_due ≡ true → self.new.text ≡ self.old.text }
-    {
-        self.is_due = true;
-        if text.as_slice() != self.text.as_slice() {
-            let Ok(filed) = self.file.save(files, text) else {
-                notices.tell(rt, Notice::CannotWrite);
-                return;
-            };
-            notices.clear(rt, Notice::CannotWrite);
-            self.text = filed;
-        }
-        self.is_due = false;
-    }
-}
-
 /// Writes the board whenever it has changed, until the server has to stop.
 pub(crate) fn keep<R: Wait + Clock + Eprint, F: Files<File = File>>(
     rt: &R,
@@ -130,10 +81,15 @@ pub(crate) fn keep<R: Wait + Clock + Eprint, F: Files<File = File>>(
         if service.stop.wait(rt, Duration::from_millis(PAUSE)) {
             return;
         }
-        match take_news(rt, service.alloc, service.hub, pass, board.is_due) {
-            Ok(Some(text)) => board.write(rt, files, service.notices, text),
-            Ok(None) => {}
-            Err(NoMemory) => board.is_due = true,
-        }
+        let news = take_news(rt, service.alloc, service.hub, pass, board.is_due());
+        tell_kept(rt, service.notices, board.keep(files, news));
+    }
+}
+
+// Reports that the board could not be written, or that it is written again.
+fn tell_kept<R: Wait + Eprint>(rt: &R, notices: &Notices, kept: Result<(), Unkept>) {
+    match kept {
+        Ok(()) => notices.clear(rt, Notice::CannotWrite),
+        Err(Unkept::Unwritten | Unkept::NoMemory) => notices.tell(rt, Notice::CannotWrite),
     }
 }

@@ -13,6 +13,7 @@ mod serving;
 mod session;
 mod setup;
 mod stop;
+mod stopping;
 mod telling;
 mod turn;
 

@@ -4,51 +4,50 @@ ghost use Rattle.jup_hub.specs.Passes.{IsPassOf};
 use crate::keeping::board_text;
 use crate::session::Service;
 use jup_hub::Pass;
-use jup_service::{Command, command_of};
+use jup_service::{Command, Typed, typed_by};
+use jup_xform::NoMemory;
 use std::alloc::Global;
 use std::io;
-use std::io::{BufRead, BufReader, ErrorKind, Read, Write};
+use std::io::{BufRead, BufReader, Read, Write};
 use std::sync::Wait;
+use std::time::{Clock, Duration};
+
+/// Milliseconds after which the server reads on if there was no memory for a line.
+const MEMORY_PAUSE: u64 = 100;
 
 /// Obeys the operator until a stop. The end of the input is no stop.
-pub(crate) fn operate<R: Wait + Print, I: Read + Drop>(
+pub(crate) fn operate<R: Wait + Clock + Print, I: Read + Drop>(
     rt: &R,
     service: &Service<'_>,
-    input: I,
+    mut input: BufReader<I>,
     mut pass: Pass,
 )
     requires { IsPassOf service.now.hub.now pass }
 {
-    let Ok(mut input) = BufReader::new(service.alloc, input) else {
-        return;
-    };
     for _ in rt.forever() {
-        let Some(command) = next_command(service.alloc, &mut input) else {
-            return;
-        };
-        match command {
-            Some(Command::Stop) => {
+        match next_typed(service.alloc, &mut input) {
+            Typed::Command(Command::Stop) => {
                 service.stop.tell(rt);
                 return;
             }
-            Some(Command::Show) => show(rt, service, &mut pass),
-            None => {
+            Typed::Command(Command::Show) => show(rt, service, &mut pass),
+            Typed::BadCommand => {
                 let _ = println!(rt; "bad command");
             }
+            Typed::NoMemory => {
+                let _ = println!(rt; "{NoMemory}");
+                service.stop.wait(rt, Duration::from_millis(MEMORY_PAUSE));
+            }
+            Typed::End => return,
         }
     }
 }
 
-// The command of the next line, if it has one. `None` at the end of the input.
-fn next_command<I: BufRead>(alloc: Global, input: &mut I) -> Option<Option<Command>> {
+// What the operator types next.
+fn next_typed<I: BufRead>(alloc: Global, input: &mut I) -> Typed {
     let mut line = String::new(alloc);
-    match input.read_line(&mut line) {
-        Ok(0) => return None,
-        Ok(_) => {}
-        Err(error) if error.kind() == ErrorKind::InvalidData => {}
-        Err(_) => return None,
-    }
-    Some(command_of(line.as_str().trim_end().as_bytes()))
+    let read = input.read_line(&mut line);
+    typed_by(read, line.as_str().trim_end().as_bytes())
 }
 
 // Prints the board.

@@ -3,8 +3,8 @@ ghost use Rattle.std.specs.Prelude.{◌≤◌, IfOk};
 ghost use Rattle.jup_hub.specs.Passes.{IsPassOf};
 
 use crate::connection::{serve_connection, turn_away};
-use crate::connections::Connections;
-use crate::keeping::{KeptBoard, board_text, keep};
+use crate::connections::{Connections, Visit};
+use crate::keeping::{board_text, keep};
 use crate::notices::Notices;
 use crate::operating::operate;
 use crate::session::Service;
@@ -12,12 +12,14 @@ use crate::setup::{Door, OpenedBoard, Setup, prepare, slices};
 use crate::stop::Stop;
 use crate::telling::{tell, tell_unread};
 use jup_hub::{Hub, Pass};
-use jup_service::{Attempt, KeptFile, Notice, ServiceEnd, service_words};
+use jup_service::{
+    Attempt, Farewell, KeptBoard, Notice, Parting, ServiceEnd, notice_of_accept, service_words,
+};
 use jup_session::Bell;
 use jup_xform::NoMemory;
 use std::alloc::Global;
 use std::fs::{File, Files};
-use std::io::Read;
+use std::io::{BufReader, Read};
 use std::net::{Net, Shutdown, TcpListener, TcpStream};
 use std::sync::Wait;
 use std::thread::Threads;
@@ -26,11 +28,6 @@ use std::{io, thread};
 
 /// Milliseconds after which the server tries again to accept a connection.
 const ACCEPT_PAUSE: u64 = 100;
-
-/// How often the server looks, after a stop, whether all connections have ended, and the milliseconds between.
-const ENDING_LOOKS: u32 = 50;
-
-const ENDING_PAUSE: u64 = 100;
 
 /// Serves as the arguments say, with this page if they name no other, until a line `stop` comes on the input. It answers the exit status:
 ///
@@ -113,10 +110,14 @@ fn serve_hub<
 {
     let Door { listener, origins } = door;
     let origins = slices(alloc, origins.as_slice())?;
-    let stop = match announce(rt, &listener) {
-        Ok(stop) => stop,
-        Err(error) => return Err(ServiceEnd::of_failure(Attempt::Print, &error)),
+    let Ok(input) = BufReader::new(alloc, input) else {
+        return Err(ServiceEnd::NoMemory);
     };
+    let stop = match Stop::new(&listener) {
+        Ok(stop) => stop,
+        Err(error) => return Err(ServiceEnd::of_failure(Attempt::Listen, &error)),
+    };
+    announce(rt, &listener)?;
     let service = Service {
         alloc,
         hub,
@@ -139,14 +140,16 @@ fn serve_and_save<
     rt: &R,
     service: &Service<'_>,
     listener: TcpListener,
-    input: I,
+    input: BufReader<I>,
     board: &mut KeptBoard<'_>,
     pass: Pass,
 ) -> Result<(), ServiceEnd>
     requires { IsPassOf service.now.hub.now pass }
 {
-    let pass = serve_all(rt, rt, service, listener, input, board, pass)?;
-    save_last(rt, rt, service, board.file(), pass)
+    let (pass, served) = serve_all(rt, rt, service, listener, input, board, pass);
+    let saved = save_last(rt, rt, service, board, pass);
+    served?;
+    saved
 }
 
 // The page that the server serves.
@@ -157,12 +160,16 @@ fn page_of<'a>(told: &'a Option<Vec<u8>>, own: &'a [u8]) -> &'a [u8] {
     }
 }
 
-// Prints where the server listens, and prepares the stop.
-fn announce<R: Print>(rt: &R, listener: &TcpListener) -> io::Result<Stop> {
-    let at = listener.local_addr()?;
-    let stop = Stop::new(listener)?;
-    println!(rt; "listening {at}")?;
-    Ok(stop)
+// Prints where the server listens.
+fn announce<R: Print>(rt: &R, listener: &TcpListener) -> Result<(), ServiceEnd> {
+    let at = match listener.local_addr() {
+        Ok(at) => at,
+        Err(error) => return Err(ServiceEnd::of_failure(Attempt::Listen, &error)),
+    };
+    match println!(rt; "listening {at}") {
+        Ok(()) => Ok(()),
+        Err(error) => Err(ServiceEnd::of_failure(Attempt::Print, &error)),
+    }
 }
 
 // Writes the board after all sessions have ended.
@@ -170,7 +177,7 @@ fn save_last<R: Wait, F: Files<File = File>>(
     rt: &R,
     files: &F,
     service: &Service<'_>,
-    file: &KeptFile,
+    board: &mut KeptBoard<'_>,
     mut pass: Pass,
 ) -> Result<(), ServiceEnd>
     requires { IsPassOf service.now.hub.now pass }
@@ -179,14 +186,14 @@ fn save_last<R: Wait, F: Files<File = File>>(
         Ok(text) => text,
         Err(NoMemory) => return Err(ServiceEnd::NoMemory),
     };
-    match file.save(files, text) {
-        Ok(_) => Ok(()),
+    match board.save(files, text) {
+        Ok(()) => Ok(()),
         Err(error) => Err(ServiceEnd::of_failure(Attempt::WriteBoard, &error)),
     }
 }
 
 // Runs a thread that accepts connections and one for the operator, and keeps the board in this one. It returns once all have ended,
-// after a stop.
+// after a stop, or because a thread could not be started. The board may have changed in both cases.
 fn serve_all<
     R: Threads + Wait + Clock + Print + Eprint + Sync,
     F: Files<File = File>,
@@ -196,38 +203,41 @@ fn serve_all<
     files: &F,
     service: &Service<'_>,
     listener: TcpListener,
-    input: I,
+    input: BufReader<I>,
     board: &mut KeptBoard<'_>,
     mut pass: Pass,
-) -> Result<Pass, ServiceEnd>
+) -> (Pass, Result<(), ServiceEnd>)
     requires { IsPassOf service.now.hub.now pass }
-    ensures { IfOk result (λ p. IsPassOf service.now.hub.now p) }
+    ensures { IsPassOf service.now.hub.now result.0 }
 {
     let acceptors = service.hub.split(&mut pass);
     let operators = service.hub.split(&mut pass);
     thread::scope(
         thread::scope_env(),
         rt,
-        |scope| -> Result<Pass, ServiceEnd>
+        |scope| -> (Pass, Result<(), ServiceEnd>)
             requires { IsPassOf service.now.hub.now pass × IsPassOf service.now.hub.now acceptors × IsPassOf service.now.hub.now operators }
-            ensures { IfOk result (λ p. IsPassOf service.entry.now.hub.now p) }
+            ensures { IsPassOf service.entry.now.hub.now result.0 }
         {
             let acceptor = scope.spawn(
                 move ||
                     requires { IsPassOf service.now.hub.now acceptors }
                 { accept_all(rt, service, listener, acceptors) },
             );
+            if acceptor.is_err() {
+                return (pass, Err(ServiceEnd::NoMemory));
+            }
             let operator = scope.spawn(
                 move ||
                     requires { IsPassOf service.now.hub.now operators }
                 { operate(rt, service, input, operators) },
             );
-            if acceptor.is_err() || operator.is_err() {
+            if operator.is_err() {
                 service.stop.tell(rt);
-                return Err(ServiceEnd::NoMemory);
+                return (pass, Err(ServiceEnd::NoMemory));
             }
             keep(rt, files, service, board, &mut pass);
-            Ok(pass)
+            (pass, Ok(()))
         },
     )
 }
@@ -248,7 +258,7 @@ fn accept_all<R: Threads + Wait + Clock + Eprint + Sync>(
             requires { IsPassOf service.now.hub.now pass }
         {
             for _ in rt.forever() {
-                let Some((place, stream)) = next_connection(rt, service, &listener) else {
+                let Some((visit, stream)) = next_connection(rt, service, &listener) else {
                     break;
                 };
                 let theirs = service.hub.split(&mut pass);
@@ -257,11 +267,10 @@ fn accept_all<R: Threads + Wait + Clock + Eprint + Sync>(
                         requires { IsPassOf service.now.hub.now theirs }
                     {
                         serve_connection(rt, service, &stream, theirs);
-                        service.connections.leave(rt, place);
+                        drop(visit);
                     },
                 );
                 if child.is_err() {
-                    service.connections.leave(rt, place);
                     service.notices.tell(rt, Notice::CannotAccept);
                 }
             }
@@ -272,11 +281,11 @@ fn accept_all<R: Threads + Wait + Clock + Eprint + Sync>(
 }
 
 // The next connection that can be served, with its place among those that are open. Those too many are turned away. `None` after a stop.
-fn next_connection<R: Wait + Clock + Eprint>(
-    rt: &R,
-    service: &Service<'_>,
+fn next_connection<'a, R: Wait + Clock + Eprint>(
+    rt: &'a R,
+    service: &Service<'a>,
     listener: &TcpListener,
-) -> Option<(usize, TcpStream)> {
+) -> Option<(Visit<'a, R>, TcpStream)> {
     for _ in rt.forever() {
         let accepted = listener.accept();
         if service.stop.is_told(rt) {
@@ -284,14 +293,16 @@ fn next_connection<R: Wait + Clock + Eprint>(
         }
         match accepted {
             Ok((stream, _)) => {
-                if let Some(place) = service.connections.enter(rt, &stream) {
-                    return Some((place, stream));
+                if let Some(visit) = service.connections.enter(rt, &stream) {
+                    return Some((visit, stream));
                 }
                 let _ = turn_away(service.alloc, &stream);
             }
-            Err(_) => {
-                service.notices.tell(rt, Notice::CannotAccept);
-                service.stop.wait(rt, Duration::from_millis(ACCEPT_PAUSE));
+            Err(error) => {
+                if let Some(notice) = notice_of_accept(&error) {
+                    service.notices.tell(rt, notice);
+                    service.stop.wait(rt, Duration::from_millis(ACCEPT_PAUSE));
+                }
             }
         }
     }
@@ -301,11 +312,15 @@ fn next_connection<R: Wait + Clock + Eprint>(
 // Ends the connections that are open: first as if their clients were gone, and after five seconds regardless of what they do.
 fn end_connections<R: Wait + Clock>(rt: &R, connections: &Connections) {
     connections.shut(rt, Shutdown::Read);
-    for _ in 0..ENDING_LOOKS {
-        if connections.are_none(rt) {
-            return;
+    let mut farewell = Farewell::new();
+    for _ in rt.forever() {
+        match farewell.after_look(connections.are_none(rt)) {
+            Parting::Over => return,
+            Parting::Pause(pause) => thread::sleep(rt, Duration::from_millis(pause)),
+            Parting::Cut => {
+                connections.shut(rt, Shutdown::Both);
+                return;
+            }
         }
-        thread::sleep(rt, Duration::from_millis(ENDING_PAUSE));
     }
-    connections.shut(rt, Shutdown::Both);
 }

@@ -36,7 +36,7 @@ pub(crate) fn run_session<
 >(rt: &R, service: &Service<'_>, reader: I, writer: O, pass: Pass)
     requires { IsPassOf service.now.hub.now pass }
 {
-    service.connections.begin_link(rt);
+    let linked = service.connections.begin_link(rt);
     let serving = Serving {
         alloc: service.alloc,
         hub: service.hub,
@@ -44,7 +44,7 @@ pub(crate) fn run_session<
         gate: &Open,
     };
     let session = serving.serve(rt, reader, writer, pass);
-    service.connections.end_link(rt);
+    service.connections.end_link(rt, linked);
     if let Ending::Fault(number) = session.ending {
         if let Some(notice) = notice_of(number) {
             service.notices.tell(rt, notice);

@@ -1,7 +1,8 @@
 //! How a thread stops the server, and how the other threads learn of it.
 
+use crate::stopping::StopMark;
 use std::io;
-use std::net::{Shutdown, TcpListener, TcpStream};
+use std::net::{TcpListener, TcpStream};
 use std::os::fd::OwnedFd;
 use std::sync::{Condvar, CondvarTimeouts, Mutex, Wait};
 use std::time::{Clock, Duration};
@@ -9,7 +10,7 @@ use std::time::{Clock, Duration};
 /// Whether the server has to stop.
 #[derive(Drop)]
 pub(crate) struct Stop {
-    told: Mutex<bool>,
+    mark: Mutex<StopMark>,
     changed: Condvar,
     /// The socket that listens. A shutdown of it wakes the thread that accepts, which then sees the stop.
     door: TcpStream,
@@ -19,7 +20,7 @@ impl Stop {
     pub(crate) fn new(listener: &TcpListener) -> io::Result<Stop> {
         let door = TcpStream::from(OwnedFd::from(listener.try_clone()?));
         Ok(Stop {
-            told: Mutex::new(false),
+            mark: Mutex::new(StopMark::new()),
             changed: Condvar::new(),
             door,
         })
@@ -27,21 +28,20 @@ impl Stop {
 
     /// Reports the stop to all threads.
     pub(crate) fn tell<R: Wait>(&self, rt: &R) {
-        *self.told.lock(rt) = true;
-        self.changed.notify_all();
-        let _ = self.door.shutdown(Shutdown::Both);
+        let stopping = self.mark.lock(rt).tell();
+        stopping.wake(&self.changed, &self.door);
     }
 
     pub(crate) fn is_told<R: Wait>(&self, rt: &R) -> bool {
-        *self.told.lock(rt)
+        self.mark.lock(rt).is_told()
     }
 
     /// Waits for this time, or until the server has to stop. True if it has to.
     pub(crate) fn wait<R: Wait + Clock>(&self, rt: &R, time: Duration) -> bool {
-        let told = self.told.lock(rt);
-        let (told, _) = self
+        let mark = self.mark.lock(rt);
+        let (mark, _) = self
             .changed
-            .wait_timeout_while(rt, told, time, |told| !*told);
-        *told
+            .wait_timeout_while(rt, mark, time, |mark| !mark.is_told());
+        mark.is_told()
     }
 }

@@ -1,5 +1,6 @@
 //! What a server that ends early reports.
-ghost use Rattle.std.specs.Prelude.{◌≤◌};
+ghost use Rattle.std.specs.Prelude.{◌≡◌, ◌≤◌};
+ghost use Rattle.jup_service.specs.Servers.{service_end_status};
 
 use jup_options::Unread;
 use jup_service::{Attempt, ServiceEnd};
@@ -25,7 +26,8 @@ pub(crate) fn tell_unread<R: Print + Eprint>(rt: &R, unread: &Unread) -> u8
 
 /// Reports why the server ends, and answers the exit status.
 pub(crate) fn tell<R: Eprint>(rt: &R, end: ServiceEnd) -> u8
-    ensures { result ≤ 5 }
+    ensures status { result ≡ service_end_status end }
+    ensures most { result ≤ 5 }
 {
     let _ = eprintln!(rt; "{end}");
     let _ = match end {

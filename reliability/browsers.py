@@ -38,14 +38,14 @@ def jupweb():
 class Server:
     """A `jupweb` that keeps a board in a file. The end of the `with` kills it."""
 
-    def __init__(self, board=BOARD, folder=None, words=(), before=(), host="127.0.0.1"):
+    def __init__(self, board=BOARD, folder=None, words=(), before=(), host="127.0.0.1", typed=subprocess.PIPE, program=None):
         self.folder = folder or tempfile.mkdtemp(prefix="jupweb-")
         self.file = f"{self.folder}/a.board"
         if board is not None:
             with open(self.file, "wb") as file:
                 file.write(board)
-        words = [*before, jupweb(), "--listen", f"{host}:0", "--board", self.file, *words]
-        self.process = subprocess.Popen(words, stdin=subprocess.PIPE, stdout=subprocess.PIPE, stderr=subprocess.PIPE)
+        words = [*before, program or jupweb(), "--listen", f"{host}:0", "--board", self.file, *words]
+        self.process = subprocess.Popen(words, stdin=typed, stdout=subprocess.PIPE, stderr=subprocess.PIPE)
         self.first = self.process.stdout.readline()
         # The program prints the port that the system has chosen.
         self.address = self.first.decode().strip().removeprefix("listening ")
@@ -130,7 +130,7 @@ class Browser:
             if line == b"\r\n":
                 break
         self.status = int(self.head.split()[1]) if self.head else None
-        self.text, self.site, self.edits, self.heard, self.pings = b"", 0, 0, 0, 0
+        self.text, self.site, self.edits, self.items, self.heard, self.pings = b"", 0, 0, 0, 0, 0
 
     def send(self, data):
         self.socket.sendall(data)
@@ -179,7 +179,13 @@ class Browser:
     def edit(self, value=97):
         """Inserts a character at the front of text 1 of window 1."""
         self.edits += 1
-        self.say(b"batch %d %d 1\ndo 1 1 text ins 0 %d.%d %d\n" % (self.edits - 1, self.heard, self.site, self.edits, value))
+        self.items += 1
+        self.say(b"batch %d %d 1\ndo 1 1 text ins 0 %d.%d %d\n" % (self.edits - 1, self.heard, self.site, self.items, value))
+
+    def undo(self):
+        """Deletes the character that its last edit has inserted at the front of that text."""
+        self.edits += 1
+        self.say(b"batch %d %d 1\ndo 1 1 text del 0 %d.%d\n" % (self.edits - 1, self.heard, self.site, self.items))
 
     def sync(self):
         """Pings by a line, and reads to its pong."""

@@ -36,7 +36,8 @@ pub trait Peer: Write {
     /// Gives the peer up, as after a write that failed: later writes fail, and a read of the same link ends. It writes nothing.
     fn give_up(&mut self)
         ensures bytes { Keeps (Self.contents self.old) (Self.contents self.new) }
-        ensures failed { IsTrue (has_failed self.new) };
+        ensures failed { IsTrue (has_failed self.new) }
+        ensures well { IsTrue (is_well self.old) → IsTrue (is_well self.new) };
 }
 
 /// Any writer as a peer, which is never given up. Contracts do not know whether it has failed.

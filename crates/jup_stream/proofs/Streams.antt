@@ -1,7 +1,7 @@
 -- How lines are read, and bytes are put.
 use Rattle.std.proofs.Common.{arith, slice_get, drop, zero, suc, ◌+◌, ◌-◌, ◌≤◌, ◌<◌, ◌≢◌, length, length-drop, ◌≡◌, ◌∙◌, sym, ap, subst, ℕ, inl, inr, List, [], ◌∷◌, ◌++◌, Option, Some, Result, Ok, Err, OnOk, OnErr, is_ok, refl, append_assoc, append-nil, rules, not, Bool, IsTrue, IsFalse, true≢false}
 use Rattle.std.specs.Io.KnownBytes.{Consumes, Keeps, IsAtEnd, Appends}
-use Rattle.std.proofs.KnownBytes.{Consumes-nil, Consumes-trans, Consumes-kept}
+use Rattle.std.proofs.KnownBytes.{Appends-nil, Consumes-nil, Consumes-trans, Consumes-kept}
 use Rattle.jup_io.specs.Appends.{appends_kept}
 use Rattle.jup_wire.specs.Streams.{Progress, HasRead, ending_at}
 use Rattle.jup_stream.specs.declared.faults.StreamFault.TheVariants.{Wire, NoMemory, ReadsSpent, ReadFailed}
@@ -150,27 +150,41 @@ front_written old new bytes (Ok done) ok err = (bytes, [], sym (append-nil bytes
 front_written old new bytes (Err fault) ok err = (err.0, err.1, err.2, err.3, λ all. absurd cc)
 
 -- all that is gathered goes out, or the front of it
-pub puts_out : (w w' : Option (List ℕ)) (held held' : List ℕ) (all before failed : Bool) → WritesFront w w' held all → IsFalse before → (IsFalse failed → IsTrue all) → held' ≡ []
-    → Puts (put_as w held before) [] (put_as w' held' failed)
-puts_out w w' held held' all before failed h none well empty = record {
+pub puts_out : (w w' : Option (List ℕ)) (v v' t t' : Bool) (held held' : List ℕ) (all before failed : Bool) → WritesFront w w' held all → IsFalse before → (IsFalse failed → IsTrue all) → held' ≡ []
+    → (IsTrue all → IsTrue v → IsTrue v') → Puts (put_as w v t held before) [] (put_as w' v' t' held' failed)
+puts_out w w' v v' t t' held held' all before failed h none done empty well = record {
   moved = h.0;
   left = h.1;
   all = append-nil held ∙ h.2;
   written = h.3;
-  held = λ e. empty ∙ sym (h.4 (well e));
+  held = λ e. empty ∙ sym (h.4 (done e));
   stays = λ e. absurd (true≢false (sym e ∙ none));
+  well = λ e. well (done e);
 }
 
--- a writer that passes on what it took
-pub puts_on : (a : Put) (w w' : Option (List ℕ)) (held : List ℕ) (before failed : Bool) → Puts a [] (put_as w held before) → IsFalse before → Keeps w w'
-    → Puts a [] (put_as w' held failed)
-puts_on a w w' held before failed one none kept = record {
+-- a writer that passes on what it took, or fails
+pub puts_on : (a : Put) (w w' : Option (List ℕ)) (v v' t t' : Bool) (held : List ℕ) (before failed : Bool) → Puts a [] (put_as w v t held before) → IsFalse before → Keeps w w'
+    → (IsFalse failed → IsTrue v → IsTrue v') → Puts a [] (put_as w' v' t' held failed)
+puts_on a w w' v v' t t' held before failed one none kept well = record {
   moved = one.moved;
   left = one.left;
   all = one.all;
   written = appends_kept a.written w w' one.moved one.written kept;
   held = λ _. one.held none;
   stays = λ e. absurd (true≢false (sym (one.stays e).0 ∙ none));
+  well = λ e was. well e (one.well none was);
+}
+
+-- a writer that is given up
+pub puts_lost : (w w' : Option (List ℕ)) (v v' t t' : Bool) (held : List ℕ) (failed : Bool) → Keeps w w' → (IsTrue v → IsTrue v') → Puts (put_as w v t held failed) [] (put_as w' v' t' held failed)
+puts_lost w w' v v' t t' held failed kept well = record {
+  moved = [];
+  left = held;
+  all = append-nil held;
+  written = appends_kept w w w' [] (Appends-nil w) kept;
+  held = λ _. refl;
+  stays = λ e. (e, refl);
+  well = λ _ was. well was;
 }
 
 -- a line that is dropped
@@ -182,23 +196,25 @@ puts_dropped a b bytes one failed = record {
   written = one.written;
   held = λ e. absurd (true≢false (sym failed ∙ e));
   stays = one.stays;
+  well = one.well;
 }
 
 -- and one that is gathered
-pub puts_behind : (a : Put) (w : Option (List ℕ)) (held items bytes : List ℕ) (failed : Bool) → Puts a [] (put_as w held failed) → IsFalse failed → items ≡ held ++ bytes
-    → Puts a bytes (put_as w items failed)
-puts_behind a w held items bytes failed one none e = record {
+pub puts_behind : (a : Put) (w : Option (List ℕ)) (v t : Bool) (held items bytes : List ℕ) (failed : Bool) → Puts a [] (put_as w v t held failed) → IsFalse failed → items ≡ held ++ bytes
+    → Puts a bytes (put_as w v t items failed)
+puts_behind a w v t held items bytes failed one none e = record {
   moved = one.moved;
   left = one.left ++ bytes;
   all = ap (λ l. l ++ bytes) (sym (append-nil a.held) ∙ one.all) ∙ append_assoc one.moved one.left bytes;
   written = one.written;
   held = λ h. e ∙ ap (λ l. l ++ bytes) (one.held none);
   stays = one.stays;
+  well = one.well;
 }
 
 -- what an output wrote of lines, once it is flushed
-pub written_of : (old : Option (List ℕ)) (b : Put) (bytes : List ℕ) → Puts (fresh_put old) bytes b → IsFlushed b → WritesFront old b.written bytes (not b.failed)
-written_of old b bytes one flushed = (one.moved, one.left, one.all, one.written, λ e. rest e)
+pub written_of : (old : Option (List ℕ)) (well lost : Bool) (b : Put) (bytes : List ℕ) → Puts (fresh_put old well lost) bytes b → IsFlushed b → WritesFront old b.written bytes (not b.failed)
+written_of old well lost b bytes one flushed = (one.moved, one.left, one.all, one.written, λ e. rest e)
   where
     rest : IsTrue (not b.failed) → one.left ≡ []
     rest e = let none : IsFalse b.failed = search rules in sym (one.held none) ∙ flushed none

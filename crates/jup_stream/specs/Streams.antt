@@ -74,21 +74,24 @@ stop_of (Err fault) = Fault (Wire fault)
 
 -- What an output was given, and what it wrote of that.
 
--- what the writer holds, if that is known, the bytes that are gathered for it, and whether a write has failed
+-- what the writer holds, if that is known, whether each call for it did what it was made for, and whether it has failed or was given up. Then the bytes that
+-- are gathered for it, and whether the output counts it as failed
 pub record Put : Type 0 where
   pub written : Option (List ℕ)
+  pub well : Bool
+  pub lost : Bool
   pub held : List ℕ
   pub failed : Bool
 
-abbrev pub put_as : Option (List ℕ) → List ℕ → Bool → Put
-put_as written held failed = record { written = written; held = held; failed = failed }
+abbrev pub put_as : Option (List ℕ) → Bool → Bool → List ℕ → Bool → Put
+put_as written well lost held failed = record { written = written; well = well; lost = lost; held = held; failed = failed }
 
 -- an output at a writer, before its first line
-abbrev pub fresh_put : Option (List ℕ) → Put
-fresh_put written = put_as written [] false
+abbrev pub fresh_put : Option (List ℕ) → Bool → Bool → Put
+fresh_put written well lost = put_as written well lost [] false
 
 -- These bytes were put after those that were gathered. The front of all that was written since, and the rest is gathered, unless a write has failed. After a
--- write that failed nothing is written.
+-- write that failed nothing is written. A write or a flush that did not do what it was made for is a failure.
 pub record Puts (a : Put) (bytes : List ℕ) (b : Put) : Type 0 where
   pub moved : List ℕ
   pub left : List ℕ
@@ -96,6 +99,7 @@ pub record Puts (a : Put) (bytes : List ℕ) (b : Put) : Type 0 where
   pub written : Appends a.written b.written moved
   pub held : IsFalse b.failed → b.held ≡ left
   pub stays : IsTrue a.failed → IsTrue b.failed × (moved ≡ [])
+  pub well : IsFalse b.failed → IsTrue a.well → IsTrue b.well
 
 -- the same of lines
 abbrev pub PutsLines : Put → List Line → Put → Type 0
@@ -110,7 +114,7 @@ abbrev pub WritesFront : Option (List ℕ) → Option (List ℕ) → List ℕ �
 WritesFront old new bytes all = (front : List ℕ) × (rest : List ℕ) × (bytes ≡ front ++ rest) × Appends old new front × (IsTrue all → rest ≡ [])
 
 pub puts_none : (a : Put) → PutsLines a [] a
-puts_none a = record { moved = []; left = a.held; all = append-nil a.held; written = Appends-nil a.written; held = λ _. refl; stays = λ e. (e, refl) }
+puts_none a = record { moved = []; left = a.held; all = append-nil a.held; written = Appends-nil a.written; held = λ _. refl; stays = λ e. (e, refl); well = λ _ e. e }
 
 pub puts_both : (a b c : Put) (xs ys : List ℕ) → Puts a xs b → Puts b ys c → Puts a (xs ++ ys) c
 puts_both a b c xs ys one two = go b.failed refl
@@ -130,6 +134,7 @@ puts_both a b c xs ys one two = go b.failed refl
       written = all;
       held = two.held;
       stays = λ h. absurd (true≢false (sym (one.stays h).0 ∙ e));
+      well = λ h w. two.well h (one.well e w);
     }
     go true e = let t = two.stays e in record {
       moved = one.moved ++ two.moved;
@@ -138,6 +143,7 @@ puts_both a b c xs ys one two = go b.failed refl
       written = all;
       held = λ h. absurd (true≢false (sym t.0 ∙ h));
       stays = λ h. (t.0, ap (λ m. m ++ two.moved) (one.stays h).1 ∙ t.1);
+      well = λ h w. absurd (true≢false (sym t.0 ∙ h));
     }
 
 pub puts_more : (a b c : Put) (xs ys : List Line) → PutsLines a xs b → PutsLines b ys c → PutsLines a (xs ++ ys) c

@@ -18,7 +18,8 @@ const ROOM: usize = 2_048;
 /// A peer that gathers lines. It makes its room once, so that no line needs an allocation. Once the peer has failed it takes
 /// lines and drops them, and [`send`](Output::send) says so.
 ///
-/// Contracts see what the peer holds, if that is known, the bytes that are gathered, and whether the peer has failed.
+/// Contracts see what the peer holds, if that is known, whether each call for it did what it was made for, and whether it has failed or was given up. They
+/// see the bytes that are gathered, and whether the output counts the peer as failed.
 #[derive(Drop)]
 pub struct Output<O: Peer + Drop> {
     to: O,
@@ -33,13 +34,13 @@ impl<O: Peer + Drop> Model for Output<O> {
 
     ghost Value = { Put };
 
-    ghost view = { λ a. put_as (O.contents a.to) a.text.items a.has_failed };
+    ghost view = { λ a. put_as (O.contents a.to) (O.is_well a.to) (O.has_failed a.to) a.text.items a.has_failed };
 }
 
 impl<O: Peer + Drop> Output<O> {
     /// An output with its room. If an allocation fails, it gives the bare peer back.
     pub fn new(alloc: Global, to: O) -> Result<Output<O>, O>
-        ensures new { IfOk result (λ output. output ≡ fresh_put (O.contents to)) }
+        ensures new { IfOk result (λ output. output ≡ fresh_put (O.contents to) (O.is_well to) (O.has_failed to)) }
         ensures err { IfErr result (λ back. back ≡ to) }
     {
         match Vec::with_capacity(alloc, ROOM) {
@@ -59,24 +60,41 @@ impl<O: Peer + Drop> Output<O> {
         put_out(&mut self.to, &mut self.text, &mut self.has_failed, line);
     }
 
-    /// Writes what is gathered, and has the peer pass it on. It is refused once the peer has failed.
+    /// Writes what is gathered, and has the peer pass it on. It is refused if one of these fails, and once the peer has failed.
+    #[tactic(auto, using(crate::proofs::Streams::puts_on))]
     pub fn send(&mut self) -> Result<(), StreamFault>
         ensures fault { IfErr result (λ fault. fault ≡ StreamFault.WriteFailed) }
         ensures puts { Puts self.old [] self.new }
-        ensures well { IsOk result → IsFalse self.new.failed }
-        ensures failed { IsErr result → IsTrue self.new.failed }
+        ensures well { IsOk result → IsFalse self.new.failed × (IsTrue self.old.well → IsTrue self.new.well) }
+        ensures failed { IsErr result → IsTrue self.new.failed × IsTrue self.new.lost }
         ensures flushed { IsFlushed self.new }
     {
-        send_out(&mut self.to, &mut self.text, &mut self.has_failed);
+        write_out(&mut self.to, &mut self.text, &mut self.has_failed);
+        if !self.has_failed {
+            self.has_failed = !pass_bytes(&mut self.to);
+        }
         if self.has_failed {
             return Err(StreamFault::WriteFailed);
         }
         Ok(())
     }
 
+    /// Gives the peer up, unless it has failed: later writes fail, and a read of the same link ends. What was written stays, and so does what is gathered.
+    #[tactic(auto, using(crate::proofs::Streams::puts_lost, crate::specs::Streams::puts_none))]
+    pub fn give_up(&mut self)
+        ensures puts { Puts self.old [] self.new }
+        ensures lost { IsTrue self.new.lost }
+        ensures same { (self.new.held ≡ self.old.held) × (self.new.failed ≡ self.old.failed) }
+    {
+        if !self.has_failed {
+            self.to.give_up();
+        }
+    }
+
     /// Whether the peer has failed.
     pub fn has_failed(&self) -> bool
-        ensures { result ≡ self.now.failed }
+        ensures value { result ≡ self.now.failed }
+        ensures lost { IsTrue result → IsTrue self.now.lost }
     {
         self.has_failed
     }
@@ -84,6 +102,8 @@ impl<O: Peer + Drop> Output<O> {
     /// The peer. What is gathered is dropped.
     pub fn into_peer(self) -> O
         ensures written { O.contents result ≡ self.written }
+        ensures well { O.is_well result ≡ self.well }
+        ensures lost { O.has_failed result ≡ self.lost }
         ensures failed { IsTrue self.failed → IsTrue (O.has_failed result) }
     {
         let Output { to, .. } = self;
@@ -131,10 +151,9 @@ pub fn pass_bytes<O: Peer + Drop>(to: &mut O) -> bool
 #[tactic(auto, using(crate::proofs::Streams::puts_out, crate::specs::Streams::puts_none))]
 fn write_out<O: Peer + Drop>(to: &mut O, text: &mut Vec<u8>, has_failed: &mut bool)
     requires failed { IsTrue has_failed.old → IsTrue (O.has_failed to.old) }
-    ensures puts { Puts (put_as (O.contents to.old) text.old.items has_failed.old) [] (put_as (O.contents to.new) text.new.items has_failed.new) }
+    ensures puts { Puts (put_as (O.contents to.old) (O.is_well to.old) (O.has_failed to.old) text.old.items has_failed.old) [] (put_as (O.contents to.new) (O.is_well to.new) (O.has_failed to.new) text.new.items has_failed.new) }
     ensures empty { IsFalse has_failed.new → text.new.items ≡ [] }
     ensures failed { IsTrue has_failed.new → IsTrue (O.has_failed to.new) }
-    ensures well { IsFalse has_failed.new → IsTrue (O.is_well to.old) → IsTrue (O.is_well to.new) }
     ensures room { vec_capacity text.old ≤ vec_capacity text.new }
 {
     if *has_failed {
@@ -145,32 +164,14 @@ fn write_out<O: Peer + Drop>(to: &mut O, text: &mut Vec<u8>, has_failed: &mut bo
     text.clear();
 }
 
-// The same, and has the peer pass it on.
-#[tactic(auto, using(crate::proofs::Streams::puts_on, crate::specs::Streams::puts_none))]
-fn send_out<O: Peer + Drop>(to: &mut O, text: &mut Vec<u8>, has_failed: &mut bool)
-    requires failed { IsTrue has_failed.old → IsTrue (O.has_failed to.old) }
-    ensures puts { Puts (put_as (O.contents to.old) text.old.items has_failed.old) [] (put_as (O.contents to.new) text.new.items has_failed.new) }
-    ensures empty { IsFalse has_failed.new → text.new.items ≡ [] }
-    ensures failed { IsTrue has_failed.new → IsTrue (O.has_failed to.new) }
-    ensures well { IsFalse has_failed.new → IsTrue (O.is_well to.old) → IsTrue (O.is_well to.new) }
-    ensures room { vec_capacity text.old ≤ vec_capacity text.new }
-{
-    write_out(to, text, has_failed);
-    if *has_failed {
-        return;
-    }
-    *has_failed = !pass_bytes(to);
-}
-
 // Writes what is gathered if a line may not fit after it.
 #[tactic(auto, using(crate::specs::Streams::puts_none))]
 fn make_room<O: Peer + Drop>(to: &mut O, text: &mut Vec<u8>, has_failed: &mut bool)
     requires room { 2048 ≤ vec_capacity text.old }
     requires failed { IsTrue has_failed.old → IsTrue (O.has_failed to.old) }
-    ensures puts { Puts (put_as (O.contents to.old) text.old.items has_failed.old) [] (put_as (O.contents to.new) text.new.items has_failed.new) }
+    ensures puts { Puts (put_as (O.contents to.old) (O.is_well to.old) (O.has_failed to.old) text.old.items has_failed.old) [] (put_as (O.contents to.new) (O.is_well to.new) (O.has_failed to.new) text.new.items has_failed.new) }
     ensures room { IsFalse has_failed.new → HasRoom text.new LONGEST }
     ensures failed { IsTrue has_failed.new → IsTrue (O.has_failed to.new) }
-    ensures well { IsFalse has_failed.new → IsTrue (O.is_well to.old) → IsTrue (O.is_well to.new) }
     ensures capacity { vec_capacity text.old ≤ vec_capacity text.new }
 {
     if text.len() + MOST > text.capacity() {
@@ -182,9 +183,8 @@ fn make_room<O: Peer + Drop>(to: &mut O, text: &mut Vec<u8>, has_failed: &mut bo
 fn put_out<O: Peer + Drop>(to: &mut O, text: &mut Vec<u8>, has_failed: &mut bool, line: &Line)
     requires room { 2048 ≤ vec_capacity text.old }
     requires failed { IsTrue has_failed.old → IsTrue (O.has_failed to.old) }
-    ensures puts { Puts (put_as (O.contents to.old) text.old.items has_failed.old) (line_bytes line.now) (put_as (O.contents to.new) text.new.items has_failed.new) }
+    ensures puts { Puts (put_as (O.contents to.old) (O.is_well to.old) (O.has_failed to.old) text.old.items has_failed.old) (line_bytes line.now) (put_as (O.contents to.new) (O.is_well to.new) (O.has_failed to.new) text.new.items has_failed.new) }
     ensures failed { IsTrue has_failed.new → IsTrue (O.has_failed to.new) }
-    ensures well { IsFalse has_failed.new → IsTrue (O.is_well to.old) → IsTrue (O.is_well to.new) }
     ensures capacity { vec_capacity text.old ≤ vec_capacity text.new }
 {
     make_room(to, text, has_failed);

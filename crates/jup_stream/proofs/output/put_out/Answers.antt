@@ -5,4 +5,4 @@ pub returns-then-has_failed-clause-puts : goal.returns-then-has_failed-clause-pu
 returns-then-has_failed-clause-puts g c = puts_dropped _ _ _ c.make_room.ensures.puts c.if-has_failed.true
 
 pub returns-clause-puts : goal.returns-clause-puts
-returns-clause-puts g c = puts_behind _ _ _ _ _ _ c.make_room.ensures.puts c.if-has_failed.false c.write_reserved.ensures.items
+returns-clause-puts g c = puts_behind _ _ _ _ _ _ _ _ c.make_room.ensures.puts c.if-has_failed.false c.write_reserved.ensures.items

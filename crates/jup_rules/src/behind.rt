@@ -1,9 +1,11 @@
 //! How far a site may be behind, and what one message may cost the others.
-ghost use Rattle.std.specs.Prelude.{◌≡◌, ◌≢◌, ◌↔◌, ℕ, ◌+◌, ◌-◌, ◌≤◌, List, [], ◌∷◌, ◌++◌, take, drop, sum, max, IsTrue, OnOk, OnErr};
+ghost use Rattle.std.specs.Prelude.{◌≡◌, ◌≢◌, ◌↔◌, ℕ, ◌+◌, ◌-◌, ◌<◌, ◌≤◌, List, [], ◌∷◌, ◌++◌, length, take, drop, sum, max, IfOk, IsTrue, OnOk, OnErr};
 ghost use Rattle.std.specs.List.{flat_map};
 ghost use Rattle.std.specs.VecDeque.{deque_len};
 ghost use Rattle.jup_rules.specs.Lags.{IsBehind, HasFetchedSome, counted, behind_of, operations_in, heard_by, brought_by, check_of, admission_at, admission_of, micros_of, rests_of};
+ghost use Rattle.jup_rules.specs.Sessions.{most_fetched};
 
+use crate::is_last_fetch;
 use jup_limits::MOST_BEHIND;
 use jup_star::{Down, Up};
 use jup_xform::NoMemory;
@@ -163,6 +165,32 @@ impl Uncounted {
     }
 }
 
+/// That the messages of a fetch are noted. Contracts see how many. [`Lag::fetch_all`] alone makes it, so a caller that has to answer it can't pass over a
+/// note that was refused.
+#[derive(Clone, Copy, Debug, PartialEq, Eq)]
+pub struct Noted {
+    messages: usize,
+}
+
+impl Model for Noted {
+    ghost use Rattle.std.specs.Prelude.{ℕ};
+
+    ghost Value = { ℕ };
+
+    ghost view = { λ n. n.messages };
+
+    ghost inverse = { λ n. record { messages = n } };
+}
+
+impl Noted {
+    /// Whether the fetch left none.
+    pub fn is_last(self) -> bool
+        ensures { IsTrue result ↔ (self < most_fetched) }
+    {
+        is_last_fetch(self.messages)
+    }
+}
+
 /// How far a site is behind: how many operations of others, taken since it joined, it has not acknowledged. Those that wait to be fetched are
 /// among them, so a caller tells how many operations the server has taken.
 ///
@@ -238,7 +266,8 @@ impl Lag {
     }
 
     /// Notes messages that were fetched for the site. Where memory is refused, the first of them are noted.
-    pub fn fetch_all(&mut self, downs: &[Down]) -> Result<(), NoMemory>
+    pub fn fetch_all(&mut self, downs: &[Down]) -> Result<Noted, NoMemory>
+        ensures noted { IfOk result (λ noted. noted ≡ length downs.now) }
         ensures ok { OnOk result ((besides : ℕ) (messages : List ℕ) → IsBehind besides messages self.old
             → IsBehind besides (messages ++ flat_map brought_by downs.now) self.new) }
         ensures acknowledged { self.new.acknowledged ≡ self.old.acknowledged }
@@ -247,7 +276,9 @@ impl Lag {
         for down in downs {
             self.fetch(down)?;
         }
-        Ok(())
+        Ok(Noted {
+            messages: downs.len(),
+        })
     }
 
     /// Notes a message that was fetched for the site. Where memory is refused nothing changes.

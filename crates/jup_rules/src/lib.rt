@@ -8,11 +8,11 @@ mod ends;
 mod rings;
 mod session;
 
-pub use behind::{Admission, FarBehind, Lag, Rests, Uncounted, operations_in};
-pub use end_mark::{EndMark, EndNoted};
+pub use behind::{Admission, FarBehind, Lag, Noted, Rests, Uncounted, operations_in};
+pub use end_mark::{BothNoted, EndMark, EndNoted};
 pub use ends::{Ending, SessionFault, Untaken};
 pub use rings::{Rings, place_of};
 pub use session::{
-    Awaits, Gatekeeper, Incoming, MOST_FETCHED, Next, OwedPong, Pongs, Ring, check_greeting,
-    hear_site, is_last_fetch, pongs_in, put_downs, refused_fetch, ring_after,
+    Awaits, Gatekeeper, Incoming, MOST_FETCHED, Next, OwedPong, Pongs, Ring, WrittenPongs,
+    check_greeting, hear_site, is_last_fetch, pongs_in, put_downs, refused_fetch, ring_after,
 };

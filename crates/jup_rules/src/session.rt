@@ -278,13 +278,39 @@ impl Pongs {
     }
 
     /// Takes off pongs that were written. True if a ping may be taken that had to wait before.
-    pub fn pay(&mut self, count: usize) -> bool
-        ensures owed { self.new ≡ self.old - count }
+    pub fn pay(&mut self, written: WrittenPongs) -> bool
+        ensures owed { self.new ≡ self.old - written }
         ensures again { IsTrue result ↔ (most_pongs ≤ self.old) × (self.new < most_pongs) }
     {
+        let WrittenPongs { count } = written;
         let had_to_wait = self.owed == MOST_PONGS;
         self.owed = (self.owed as usize).saturating_sub(count) as u32;
         had_to_wait && self.owed < MOST_PONGS
+    }
+}
+
+/// Pongs that were written, and that are owed until they are paid. Contracts see how many. It is not `Drop`, and [`Pongs::pay`] alone uses it up.
+#[derive(Debug)]
+pub struct WrittenPongs {
+    count: usize,
+}
+
+impl Model for WrittenPongs {
+    ghost use Rattle.std.specs.Prelude.{ℕ};
+
+    ghost Value = { ℕ };
+
+    ghost view = { λ w. w.count };
+}
+
+impl WrittenPongs {
+    /// Those among messages that were written.
+    pub fn among(downs: &[Down]) -> WrittenPongs
+        ensures { result ≡ count_by is_pong downs.now }
+    {
+        WrittenPongs {
+            count: pongs_in(downs),
+        }
     }
 }
 

@@ -212,13 +212,13 @@ pub early_so : (from : Option (List ℕ)) (start last : Sourced) (v x : View) (p
 early_so from start last v x p r ending failed undone done fresh ends = (ends.0, Early start last fresh ends.1 done, ends.2)
 
 -- what a session wrote
-pub exact_so : (from old new : Option (List ℕ)) (v x : View) (p r : Put) (ending : Ending) (failed : Bool) (undone : Undone) → p ≡ fresh_put old → new ≡ r.written → failed ≡ r.failed → IsFlushed r
+pub exact_so : (from old new : Option (List ℕ)) (well lost : Bool) (v x : View) (p r : Put) (ending : Ending) (failed : Bool) (undone : Undone) → p ≡ fresh_put old well lost → new ≡ r.written → failed ≡ r.failed → IsFlushed r
     → ((lines : List Line) × HasLines from v x ending r.failed undone lines × PutsLines p lines r) → IsExact from old new v x ending failed undone
-exact_so from old new v x p r ending failed undone fresh at is flushed has = subst (λ f. IsExact from old new v x ending f undone) (sym is) (record {
+exact_so from old new well lost v x p r ending failed undone fresh at is flushed has = subst (λ f. IsExact from old new v x ending f undone) (sym is) (record {
   lines = has.0;
   has_lines = has.1;
   wrote = subst (λ o. WritesFront old o (flat_map line_bytes has.0) (not r.failed)) (sym at)
-      (written_of old r (flat_map line_bytes has.0) (subst (λ (y : Put). PutsLines y has.0 r) fresh has.2) flushed);
+      (written_of old well lost r (flat_map line_bytes has.0) (subst (λ (y : Put). PutsLines y has.0 r) fresh has.2) flushed);
 })
 
 -- if there is no room for lines, and the writer passes on what it took

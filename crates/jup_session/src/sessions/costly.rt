@@ -7,7 +7,7 @@ use super::due::Due;
 use super::link::SessionLink;
 use super::share::{Costly, Heavy};
 use super::watch::Taken;
-use jup_rules::{Admission, FarBehind};
+use jup_rules::{Admission, FarBehind, Rests};
 use jup_star::Up;
 use std::sync::{MutexGuard, Wait};
 use std::thread;
@@ -27,6 +27,11 @@ pub(crate) struct Turn<'a> {
 // The rest after a costly take. Meanwhile the others make takes that are not costly. It is not `Drop`: a session that owes it has to take it.
 struct Rest<'a> {
     costly: MutexGuard<'a, Costly>,
+    rests: Rests,
+}
+
+// How many microseconds a session has slept. `let_go` takes it, so that no session lets the others go on before its rest.
+struct Slept {
     micros: u64,
 }
 
@@ -125,16 +130,21 @@ impl<'a> Turn<'a> {
         } = self;
         let took = start.and_then(|start| start.elapsed(rt).ok());
         let rests = admission.rests_after(took);
-        sleep(rt, rests.before_others);
-        drop(heavy);
+        let slept = sleep(rt, rests.before_others);
+        let_go(heavy, rests.before_others, slept);
         match costly {
-            Some(costly) => Some(Rest {
-                costly,
-                micros: rests.beside_others,
-            }),
+            Some(costly) => Some(Rest { costly, rests }),
             None => None,
         }
     }
+}
+
+// Lets the others have a turn, once the session has rested for so many microseconds before that.
+fn let_go<T: Drop>(turn: T, micros: u64, slept: Slept)
+    requires { slept.micros ≡ micros }
+{
+    let Slept { micros: _ } = slept;
+    drop(turn);
 }
 
 impl<'a> Rest<'a> {
@@ -142,9 +152,9 @@ impl<'a> Rest<'a> {
     fn take<R: Clock>(self, rt: &R, _due: &Due)
         requires { _due.now.ring ≡ None }
     {
-        let Rest { costly, micros } = self;
-        sleep(rt, micros);
-        drop(costly);
+        let Rest { costly, rests } = self;
+        let slept = sleep(rt, rests.beside_others);
+        let_go(costly, rests.beside_others, slept);
     }
 }
 
@@ -169,8 +179,11 @@ pub(crate) fn leave_turn<R: Wait + Clock>(
 }
 
 // Sleeps for so many microseconds, if any.
-fn sleep<R: Clock>(rt: &R, micros: u64) {
+fn sleep<R: Clock>(rt: &R, micros: u64) -> Slept
+    ensures { result.micros ≡ micros }
+{
     if micros > 0 {
         thread::sleep(rt, Duration::from_micros(micros));
     }
+    Slept { micros }
 }

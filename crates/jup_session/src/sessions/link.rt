@@ -1,15 +1,20 @@
 //! What both halves of a session share.
-ghost use Rattle.std.specs.Prelude.{◌≡◌, ◌≢◌, None, count_by};
-ghost use Rattle.jup_rules.specs.Sessions.{is_pong};
+ghost use Rattle.std.specs.Prelude.{◌≡◌, ◌≢◌, None};
 
 use super::Bell;
 use super::due::Due;
 use super::watch::Watch;
 use jup_hub::Hub;
-use jup_rules::{EndMark, EndNoted, OwedPong, Pongs, pongs_in};
-use jup_star::Down;
+use jup_rules::{BothNoted, EndMark, EndNoted, OwedPong, Pongs, WrittenPongs};
 use std::alloc::Global;
 use std::sync::{Mutex, Wait};
+use std::thread;
+use std::time::{Clock, Duration};
+
+/// How often a half that reported a fault looks whether the other has ended, and milliseconds between two looks: ten seconds in total.
+const LOOKS: u32 = 100;
+
+const LOOK: u64 = 100;
 
 /// What both halves of a session share.
 #[derive(Drop)]
@@ -19,27 +24,11 @@ pub(crate) struct SessionLink<'a> {
     pub(crate) bell: &'a Bell,
     /// How far the site is behind.
     pub(crate) watch: &'a Watch<'a>,
-    /// Whether one half has ended.
+    /// Which halves have ended.
     pub(crate) end_mark: EndMark,
     /// The pongs that the session owes the site.
     pub(crate) pongs: Mutex<Pongs>,
     pub(crate) site: u32,
-}
-
-/// Pongs that were written, and that the session owes until it counts them as paid. It is not `Drop`, and [`SessionLink::pay`] alone uses it up.
-pub(crate) struct WrittenPongs {
-    count: usize,
-}
-
-impl WrittenPongs {
-    /// Those among messages that were written.
-    pub(crate) fn among(downs: &[Down]) -> WrittenPongs
-        ensures { result.count ≡ count_by is_pong downs.now }
-    {
-        WrittenPongs {
-            count: pongs_in(downs),
-        }
-    }
 }
 
 impl<'a> SessionLink<'a> {
@@ -62,9 +51,15 @@ impl<'a> SessionLink<'a> {
         over
     }
 
-    /// Whether one half has ended.
-    pub(crate) fn is_over(&self) -> bool {
-        self.end_mark.get().is_some()
+    /// Waits until both halves have ended, for ten seconds at most. `None` if they have not by then.
+    pub(crate) fn wait_for_both<R: Clock>(&self, rt: &R) -> Option<BothNoted> {
+        for _ in 0..LOOKS {
+            if let Some(both) = self.end_mark.both() {
+                return Some(both);
+            }
+            thread::sleep(rt, Duration::from_millis(LOOK));
+        }
+        self.end_mark.both()
     }
 
     /// Counts a ping that the hub is to take, if the session owes the site fewer pongs than it may.
@@ -92,11 +87,7 @@ impl<'a> SessionLink<'a> {
 
     /// Counts pongs that were written as paid, and rings if the other half may wait for that.
     pub(crate) fn pay<R: Wait>(&self, rt: &R, written: WrittenPongs) {
-        let WrittenPongs { count: pongs } = written;
-        if pongs == 0 {
-            return;
-        }
-        let may_wait = self.pongs.lock(rt).pay(pongs);
+        let may_wait = self.pongs.lock(rt).pay(written);
         if may_wait {
             self.ring(rt);
         }

@@ -1,5 +1,5 @@
 //! One session, from its first line to its last.
-ghost use Rattle.std.specs.Prelude.{◌≡◌, ℕ, not, List, IsTrue};
+ghost use Rattle.std.specs.Prelude.{◌≡◌, ℕ, not, List, IsFalse, IsTrue};
 ghost use Rattle.jup_hub.specs.Passes.{view_of, IsPassOf};
 ghost use Rattle.jup_wire.specs.declared.line.Line.{Line};
 ghost use Rattle.jup_wire.specs.declared.line.Line.TheVariants.{Error};
@@ -19,7 +19,7 @@ use crate::Gate;
 use jup_hub::{Hub, Pass};
 use jup_io::{Lasting, Peer};
 use jup_rules::{EndMark, Ending, Pongs};
-use jup_stream::{Output, Source, StreamFault, write_bytes};
+use jup_stream::{Output, Source, StreamFault, pass_bytes, write_bytes};
 use std::alloc::Global;
 use std::io::{Read, Write};
 use std::sync::{Mutex, Wait};
@@ -70,6 +70,7 @@ impl<'a, G: Gate> Serving<'a, G> {
         ensures exact { IsExact (I.remaining reader) (O.contents writer) (O.contents result.writer) (view_of pass) (view_of result.pass) result.ending result.has_failed result.undone }
         ensures shut { (site : ℕ) × IsShutFor (G.is_shut self.now.gate.now) site result.undone.untaken }
         ensures failed { IsTrue result.has_failed → IsTrue (O.has_failed result.writer) }
+        ensures well { IsFalse result.has_failed → IsTrue (O.is_well writer) → IsTrue (O.is_well result.writer) }
     {
         let watch = Watch::new(self.alloc, self.bell);
         match Output::new(self.alloc, Watched::new(rt, &watch, writer)) {
@@ -171,11 +172,12 @@ pub fn serve_session<
 fn tell_of_memory<O: Peer + Drop>(writer: &mut O) -> bool
     ensures front { WritesFront (O.contents writer.old) (O.contents writer.new) (line_bytes (Error 8)) (not result) }
     ensures failed { IsTrue result → IsTrue (O.has_failed writer.new) }
+    ensures well { IsFalse result → IsTrue (O.is_well writer.old) → IsTrue (O.is_well writer.new) }
 {
     if !write_bytes(writer, b"error 8\n") {
         return true;
     }
-    writer.pass_on().is_err()
+    !pass_bytes(writer)
 }
 
 // What is left of a session after its last line.

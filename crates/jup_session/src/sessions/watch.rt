@@ -1,10 +1,10 @@
 //! How far the site of a session is behind, as both halves see it.
-ghost use Rattle.std.specs.Prelude.{◌≡◌, ◌<◌, IfErr};
+ghost use Rattle.std.specs.Prelude.{◌≡◌, ◌<◌, IfErr, IfOk, length};
 ghost use Rattle.jup_limits.specs.Limits.{most_behind};
 
 use super::Bell;
 use super::share::Share;
-use jup_rules::{Admission, FarBehind, Lag, Ring};
+use jup_rules::{Admission, FarBehind, Lag, Noted, Ring};
 use jup_star::{Down, Up};
 use jup_stream::StreamFault;
 use std::alloc::Global;
@@ -74,11 +74,12 @@ impl<'a> Watch<'a> {
     }
 
     /// Notes messages that were fetched for the site.
-    pub(crate) fn fetch<R: Wait>(&self, rt: &R, downs: &[Down]) -> Result<(), StreamFault>
-        ensures { IfErr result (λ fault. fault ≡ StreamFault.NoMemory) }
+    pub(crate) fn fetch<R: Wait>(&self, rt: &R, downs: &[Down]) -> Result<Noted, StreamFault>
+        ensures noted { IfOk result (λ noted. noted ≡ length downs.now) }
+        ensures memory { IfErr result (λ fault. fault ≡ StreamFault.NoMemory) }
     {
         match self.lag.lock(rt).fetch_all(downs) {
-            Ok(()) => Ok(()),
+            Ok(noted) => Ok(noted),
             Err(_) => Err(StreamFault::NoMemory),
         }
     }

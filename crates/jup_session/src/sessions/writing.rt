@@ -1,5 +1,5 @@
 //! The half of a session that fetches and writes.
-ghost use Rattle.std.specs.Prelude.{◌≡◌, ◌<◌, ◌↔◌, [], Bool, Some, None, IsTrue, IsFalse, IfOk, IfErr, IfSome, OnOk, OnErr, IfNone, length, count_by};
+ghost use Rattle.std.specs.Prelude.{◌≡◌, ◌<◌, ◌↔◌, [], Bool, Some, None, IsTrue, IsFalse, IfOk, IfErr, IfSome, OnOk, OnErr, IfNone, IsNone, IsSome, length, count_by};
 ghost use Rattle.std.specs.Result.{result_err};
 ghost use Rattle.std.specs.List.{flat_map};
 ghost use Rattle.jup_hub.specs.Passes.{view_of, IsPassOf};
@@ -9,15 +9,17 @@ ghost use Rattle.jup_session.specs.Sessions.{Answers, Brings, Forwards, Forwards
 
 use super::ending::tell;
 use super::leaving::leave;
-use super::link::{SessionLink, WrittenPongs};
+use super::link::SessionLink;
 use jup_hub::Pass;
 use jup_io::Peer;
 use jup_rules::{
-    EndNoted, Ending, MOST_FETCHED, SessionFault, is_last_fetch, put_downs, refused_fetch,
+    BothNoted, EndNoted, Ending, MOST_FETCHED, Noted, SessionFault, WrittenPongs, put_downs,
+    refused_fetch,
 };
 use jup_star::{Down, Downs};
 use jup_stream::{Output, StreamFault};
 use std::sync::Wait;
+use std::time::Clock;
 
 /// What a fetch left.
 #[derive(Clone, Copy, PartialEq, Eq)]
@@ -46,11 +48,13 @@ pub(crate) struct Wrote<O: Peer + Drop> {
     pub(crate) unsent: Option<SessionFault>,
     /// That its end is noted, so that the other half does not wait for it.
     pub(crate) over: EndNoted,
+    /// After a fault that it reported: that the other half has ended. `None` if the site's link was given up for that.
+    pub(crate) both: Option<BothNoted>,
 }
 
 /// Writes what the hub has for the site until the other half has ended, and leaves. It reports a fault of its own to the site
-/// immediately. The last line of any other ending it leaves to its caller, which knows the ending.
-pub(crate) fn write_half<R: Wait, O: Peer + Drop>(
+/// immediately, and then lets the other half end. The last line of any other ending it leaves to its caller, which knows the ending.
+pub(crate) fn write_half<R: Wait + Clock, O: Peer + Drop>(
     rt: &R,
     mut output: Output<O>,
     link: &SessionLink<'_>,
@@ -63,6 +67,7 @@ pub(crate) fn write_half<R: Wait, O: Peer + Drop>(
     ensures served { HasServed link.now.site (view_of result.pass) }
     ensures wrote { HasWritten link.now.site (view_of pass) output (view_of result.pass) result.output result.told result.unsent }
     ensures flushed { IsFlushed result.output }
+    ensures lost { IsSome result.told → IsNone result.both → IsTrue result.output.lost }
 {
     let forwarded = forward_all(rt, &mut output, link, &mut pass);
     let is_gone = is_gone(&forwarded.left);
@@ -71,12 +76,14 @@ pub(crate) fn write_half<R: Wait, O: Peer + Drop>(
     }
     let told = tell_fault(&mut output, &forwarded);
     let over = link.end(rt);
+    let both = part(rt, &mut output, link, told);
     Wrote {
         pass,
         output,
         told,
         unsent: forwarded.left.err(),
         over,
+        both,
     }
 }
 
@@ -103,6 +110,28 @@ fn tell_fault<O: Peer + Drop>(output: &mut Output<O>, forwarded: &Forwarded) -> 
     }
 }
 
+// Lets the other half end once this one has reported a fault. It may be reading, and a site that neither sends nor ends would keep it there. So the site's
+// link is given up after ten seconds.
+fn part<R: Clock, O: Peer + Drop>(
+    rt: &R,
+    output: &mut Output<O>,
+    link: &SessionLink<'_>,
+    told: Option<Ending>,
+) -> Option<BothNoted>
+    ensures put { PutsLines output.old [] output.new }
+    ensures flushed { IsFlushed output.old → IsFlushed output.new }
+    ensures lost { IsSome told → IsNone result → IsTrue output.new.lost }
+{
+    if told.is_none() || output.has_failed() {
+        return None;
+    }
+    let both = link.wait_for_both(rt);
+    if both.is_none() {
+        output.give_up();
+    }
+    both
+}
+
 // Forwards at each ring, until the other half has ended or the site is too far behind.
 fn forward_all<R: Wait, O: Peer + Drop>(
     rt: &R,
@@ -121,7 +150,7 @@ fn forward_all<R: Wait, O: Peer + Drop>(
     for _ in rt.forever() {
         seen = link.wait(rt, seen);
         // Read before the fetch, which then has all that the other half caused.
-        let is_over = link.is_over();
+        let is_over = link.end_mark.get().is_some();
         let has_news = link.hub.news(pass);
         if is_over {
             // What fails from here on is no fault any more: the ending of the other half counts.
@@ -184,8 +213,11 @@ fn forward<R: Wait, O: Peer + Drop>(
         };
         let messages = downs.as_slice();
         match hand_on(rt, output, link, messages) {
-            Ok(true) => return Ok(AfterFetch::Empty),
-            Ok(false) => {}
+            Ok(noted) => {
+                if noted.is_last() {
+                    return Ok(AfterFetch::Empty);
+                }
+            }
             Err(fault) => return Err(fault),
         }
     }
@@ -220,24 +252,23 @@ fn fetch<R: Wait>(
     }
 }
 
-// Writes the messages of a fetch, which it notes first, and counts the pongs in it as paid. True if the hub has no more. If memory for
-// the note is refused, the messages are written and then the session ends.
+// Writes the messages of a fetch, which it notes first, and counts the pongs in it as paid. If memory for the note is refused, the messages are written and
+// then the session ends: nothing else makes what is answered.
 fn hand_on<R: Wait, O: Peer + Drop>(
     rt: &R,
     output: &mut Output<O>,
     link: &SessionLink<'_>,
     downs: &[Down],
-) -> Result<bool, SessionFault>
+) -> Result<Noted, SessionFault>
     ensures put { PutsLines output.old (flat_map down_lines downs.now) output.new }
     ensures flushed { IsFlushed output.old → IsFlushed output.new }
-    ensures last { IfOk result (λ is_last. IsTrue is_last → length downs.now < most_fetched) }
+    ensures noted { IfOk result (λ noted. noted ≡ length downs.now) }
     ensures fault { IfErr result (StopsFetching output.new.failed) }
 {
     let noted = link.watch.fetch(rt, downs);
     let written = write_downs(output, downs)?;
     link.pay(rt, written);
-    noted?;
-    Ok(is_last_fetch(downs.len()))
+    Ok(noted?)
 }
 
 // Writes messages, in order, and answers the pongs among them.
@@ -247,7 +278,7 @@ fn write_downs<O: Peer + Drop>(
 ) -> Result<WrittenPongs, StreamFault>
     ensures put { PutsLines output.old (flat_map down_lines downs.now) output.new }
     ensures flushed { IsFlushed output.old → IsFlushed output.new }
-    ensures pongs { IfOk result (λ written. written.count ≡ count_by is_pong downs.now) }
+    ensures pongs { IfOk result (λ written. written ≡ count_by is_pong downs.now) }
     ensures fault { IfErr result (λ fault. (fault ≡ StreamFault.WriteFailed) × IsTrue output.new.failed) }
 {
     send_downs(output, downs)?;

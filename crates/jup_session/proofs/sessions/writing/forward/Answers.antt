@@ -36,11 +36,11 @@ returns-in-Err-hand_on-clause-forwards g c =
     (subst (λ downs. PutsLines c.loop.output (flat_map down_lines downs) c.hand_on.new.output) c.as_slice-messages.ensures.messages c.hand_on.ensures.put))
     c.in-Err-hand_on.ensures.fault
 
-pub returns-in-Ok-true-clause-forwards : goal.returns-in-Ok-true-clause-forwards
-returns-in-Ok-true-clause-forwards g c =
+pub returns-then-is_last-clause-forwards : goal.returns-then-is_last-clause-forwards
+returns-then-is_last-clause-forwards g c =
     forwards_last c.args.link.now.site (view_of c.args.pass.now) (view_of c.loop.pass) (view_of c.fetch.new.pass) c.args.output.now c.loop.output c.hand_on.new.output c.in-Ok-Some.downs c.loop.invariant.forwards
     (subst (λ o. IfSome o (λ downs. Answers c.args.link.now.site (view_of c.loop.pass) (view_of c.fetch.new.pass) downs)) c.in-Ok-Some.field-0-is c.in-Ok-Some.ensures.brings)
-    (subst (λ downs. length downs < most_fetched) c.as_slice-messages.ensures.messages (c.in-Ok-true.ensures.last c.in-Ok-true.field-0-test))
+    (subst (λ downs. length downs < most_fetched) c.as_slice-messages.ensures.messages (subst (λ n. n < most_fetched) c.in-Ok.ensures.noted (c.is_last.ensures.0 c.if-is_last.true)))
     (subst (λ downs. PutsLines c.loop.output (flat_map down_lines downs) c.hand_on.new.output) c.as_slice-messages.ensures.messages c.hand_on.ensures.put)
 
 pub loop-preserved : goal.loop-preserved

@@ -1,12 +1,14 @@
 //! The inside of `jup`: its command line, and a client of one link, which does what its user types.
 #![tactic(auto)]
 
+mod after;
 mod commands;
 mod connecting;
 mod options;
 mod running;
 mod typed;
 
+pub use after::After;
 pub use connecting::client_main;
 pub use options::client_words;
 pub use running::run_client;

@@ -1,10 +1,13 @@
 //! A client, run over any reader and writer.
 ghost use Rattle.std.specs.Io.KnownBytes.{Appends};
-ghost use Rattle.std.specs.Prelude.{◌≡◌, IfErr, OnOk};
+ghost use Rattle.std.specs.Prelude.{◌≡◌, [], IfErr, IfOk, IsFalse, IsNone, IsOk, IsSome, OnOk};
+ghost use Rattle.jup_stream.specs.Streams.{PutsLines};
+ghost use Rattle.jup_cli.specs.Running.{Does, HearsNext, Syncs, said_lines};
 
+use crate::After;
 use crate::commands::Requests;
 use jup_client::{Answer, ClientEnd, ClientState, Opening, Request, Told, told_text};
-use jup_io::Lasting;
+use jup_io::{Lasting, Peer};
 use jup_stream::{Output, Said, Source, StreamFault, put_said};
 use jup_window::Within;
 use jup_wire::Line;
@@ -44,7 +47,14 @@ impl<F: Read + Drop, T: Write + Drop> Client<F, T> {
     ) -> Result<(), ClientEnd> {
         self.tell_site(alloc, out)?;
         for _ in 0..u64::MAX {
-            if self.answer_next(alloc, requests, out)? {
+            let request = requests.next_request(alloc, &mut self.source)?;
+            let text = self.answer(alloc, &request)?;
+            let after = After::request(&request);
+            if after == After::Pong {
+                self.sync(alloc)?;
+            }
+            print(out, text.as_slice())?;
+            if after == After::Nothing {
                 return Ok(());
             }
         }
@@ -58,58 +68,57 @@ impl<F: Read + Drop, T: Write + Drop> Client<F, T> {
         print(out, text.as_slice())
     }
 
-    // Does what the next command asks for. Whether it was the last one.
-    fn answer_next<C: Read + Drop, O: Write>(
-        &mut self,
-        alloc: Global,
-        requests: &mut Requests<C>,
-        out: &mut O,
-    ) -> Result<bool, ClientEnd> {
-        let request = requests.next_request(alloc, &mut self.source)?;
-        self.answer(alloc, &request, out)?;
-        Ok(matches!(request, Request::Quit))
-    }
-
-    // Says this to the server, if anything.
-    fn say(&mut self, said: Option<Said>) -> Result<(), ClientEnd> {
-        if let Some(said) = said {
-            match put_said(&mut self.output, &said) {
-                Ok(()) => {}
-                Err(never) => match never {},
-            }
-            self.output.send()?;
-        }
-        Ok(())
+    // Does what a request asks for, and answers the text that this prints for the user.
+    fn answer(&mut self, alloc: Global, request: &Request) -> Result<Vec<u8>, ClientEnd>
+        ensures { IfOk result (λ text. Does request.now self.old.state self.old.output text.items self.new.state self.new.output) }
+    {
+        let Answer { said, told } = self.state.answer(alloc, request)?;
+        let text = told_text(alloc, &told, self.state.site.board())?;
+        say(&mut self.output, said)?;
+        Ok(text)
     }
 
     // Hears all that the server sent before it answers a ping.
-    fn sync(&mut self, alloc: Global) -> Result<(), ClientEnd> {
+    fn sync(&mut self, alloc: Global) -> Result<(), ClientEnd>
+        ensures { OnOk result (Syncs self.old.source self.old.state self.old.output self.new.source self.new.state self.new.output) }
+    {
         for _ in 0..u64::MAX {
-            let line = self.source.next_line(alloc)?;
-            let heard = self.state.hear(alloc, &line)?;
-            self.say(heard.said)?;
-            if heard.is_synced {
+            if self.hear_next(alloc)? {
                 return Ok(());
             }
         }
         Err(StreamFault::ReadsSpent.into())
     }
 
-    // Does what a request asks for, and then reports to the user.
-    fn answer<O: Write>(
-        &mut self,
-        alloc: Global,
-        request: &Request,
-        out: &mut O,
-    ) -> Result<(), ClientEnd> {
-        let Answer { said, told } = self.state.answer(alloc, request)?;
-        let text = told_text(alloc, &told, self.state.site.board())?;
-        self.say(said)?;
-        if matches!(request, Request::Sync) {
-            self.sync(alloc)?;
-        }
-        print(out, text.as_slice())
+    // Hears the next line of the server, and says what it owes for that. Whether the line answers its ping.
+    fn hear_next(&mut self, alloc: Global) -> Result<bool, ClientEnd>
+        ensures { IfOk result (λ synced. HearsNext self.old.source self.old.state self.old.output synced self.new.source self.new.state self.new.output) }
+    {
+        let line = self.source.next_line(alloc)?;
+        let heard = self.state.hear(alloc, &line)?;
+        let is_synced = heard.is_synced;
+        say(&mut self.output, heard.said)?;
+        Ok(is_synced)
     }
+}
+
+// Says this to the server, if anything.
+#[tactic(auto, using(jup_stream::specs::Streams::puts_sent, jup_stream::specs::Streams::puts_none))]
+fn say<O: Peer + Drop>(output: &mut Output<O>, said: Option<Said>) -> Result<(), ClientEnd>
+    ensures lines { PutsLines output.old (said_lines said) output.new }
+    ensures sent { IsSome said → IsOk result → IsFalse output.new.failed × (output.new.held ≡ []) }
+    ensures same { IsNone said → output.new ≡ output.old }
+    ensures failed { IfErr result (λ end. end ≡ ClientEnd.WriteFailed) }
+{
+    let Some(said) = said else {
+        return Ok(());
+    };
+    match put_said(output, &said) {
+        Ok(()) => {}
+        Err(never) => match never {},
+    }
+    output.send()?;
+    Ok(())
 }
 
 /// Greets a server, and then does what the commands ask for, a line each, until `quit` or their end.

@@ -1,10 +1,7 @@
 //! Sites that lag: which messages are taken, where a session rests, and when a session gives its link up.
 
-ghost use Rattle.jup_hub.specs.Passes.{IsPassOf};
-
 use crate::expect::{expect_eq, expect_text};
-use crate::sessions::{EMPTY_TEXT, GREETING, close, first_edit, open_hub, ran, ran_over};
-use jup_hub::{Hub, Pass};
+use crate::sessions::{EMPTY_TEXT, GREETING, close, open_hub, ran, ran_over};
 use jup_session::{Bell, Ending, Open, Peer, serve_link};
 use std::alloc::Global;
 use std::io;
@@ -16,7 +13,7 @@ use std::thread::Threads;
 use std::time::{Clock, Duration};
 
 /// Operations that a site may be behind, and that it may not.
-const MOST: u32 = 262_144;
+pub(crate) const MOST: u32 = 262_144;
 
 const EDIT: &[u8] = b"batch 0 0 1\ndo 1 1 text ins 0 1.1 97\nbye\n";
 
@@ -56,14 +53,14 @@ impl<'a> Read for Overtaken<'a> {
 
 /// A runtime on whose clock ten milliseconds go by between two looks, and which notes how long it was to sleep.
 #[derive(Drop)]
-struct Ticking<'a, R> {
+pub(crate) struct Ticking<'a, R> {
     rt: &'a R,
     looks: AtomicU64,
     slept: AtomicU64,
 }
 
 impl<'a, R> Ticking<'a, R> {
-    fn new(rt: &'a R) -> Ticking<'a, R> {
+    pub(crate) fn new(rt: &'a R) -> Ticking<'a, R> {
         Ticking {
             rt,
             looks: AtomicU64::new(0),
@@ -72,7 +69,7 @@ impl<'a, R> Ticking<'a, R> {
     }
 
     // Microseconds that it was to sleep in total.
-    fn slept(&self) -> u64 {
+    pub(crate) fn slept(&self) -> u64 {
         self.slept.load(Ordering::SeqCst)
     }
 }
@@ -190,6 +187,35 @@ fn a_site_is_not_behind_by_what_came_before_it_joined(rt: HostRuntime) {
     expect_answer(&rt, rt.alloc(), &found, "bye\n");
 }
 
+/// Takes a byte of each write.
+#[derive(Drop)]
+struct ByteByByte<'a> {
+    text: &'a mut Vec<u8>,
+}
+
+impl<'a> Write for ByteByByte<'a> {
+    fn write(&mut self, buf: &[u8]) -> io::Result<usize> {
+        let len = buf.len().min(1);
+        self.text.write(&buf[..len])
+    }
+
+    fn flush(&mut self) -> io::Result<()> {
+        Ok(())
+    }
+}
+
+// A site that does not join is behind by nothing, and reads why it is turned away.
+#[test]
+fn what_was_taken_before_a_session_is_nothing_to_it(rt: HostRuntime) {
+    let (bell, mut text) = (Bell::new(), Vec::new(rt.alloc()));
+    bell.count(MOST + 1);
+    let to = ByteByByte { text: &mut text };
+    let from: &[u8] = b"bye\n";
+    let left = ran(&rt, rt.alloc(), from, to, &bell, &Open);
+    expect_eq(&rt, left.ending, Ending::Fault(44));
+    expect_text(&rt, text.as_slice(), "error 44\n");
+}
+
 /// Gives a greeting and a ping, and then nothing until the half that writes has ended.
 #[derive(Drop)]
 struct Silent<'a, R> {
@@ -296,61 +322,4 @@ fn any_other_writer_is_left_and_not_given_up(rt: HostRuntime) {
     for &(takes_a_byte, answer) in &[(false, ""), (true, "pon")] {
         expect_left(&rt, rt.alloc(), takes_a_byte, true, answer);
     }
-}
-
-/// Gives a greeting. Then another site makes an edit, by which this one is too far behind, and it gives nothing until the half that writes has ended.
-#[derive(Drop)]
-struct Beside<'a, R> {
-    rt: &'a R,
-    alloc: Global,
-    bell: &'a Bell,
-    hub: &'a Hub,
-    pass: Pass,
-    greeting: &'a [u8],
-    ghost ours: { IsPassOf hub.now pass },
-}
-
-impl<'a, R: Wait> Beside<'a, R> {
-    // Has the hub take an edit of site 1, and rings.
-    fn edit(&mut self) {
-        if let Ok(edit) = first_edit(self.alloc, 1) {
-            let _ = self.hub.take(self.rt, self.alloc, &mut self.pass, 1, &edit);
-        }
-        self.bell.count(MOST + 1);
-        self.bell.ring(self.rt);
-    }
-}
-
-impl<'a, R: Wait> Read for Beside<'a, R> {
-    fn read(&mut self, buf: &mut [u8]) -> io::Result<usize> {
-        if self.greeting.is_empty() {
-            self.edit();
-            self.bell.wait(self.rt, 2, 1);
-        }
-        self.greeting.read(buf)
-    }
-}
-
-// It sends nothing. What waits for it is not written, and why it is left is.
-#[test]
-fn a_silent_site_is_left_at_a_ring_once_it_is_too_far_behind(rt: HostRuntime) {
-    let alloc = rt.alloc();
-    let (hub, mut pass) = open_hub(&rt, alloc, EMPTY_TEXT, 100);
-    let first = hub.join_site(&rt, alloc, &mut pass).expect(&rt, "it joins");
-    expect_eq(&rt, first.site, 1);
-    let bell = Bell::new();
-    let from = Beside {
-        rt: &rt,
-        alloc,
-        bell: &bell,
-        hub: &hub,
-        pass: hub.split(&mut pass),
-        greeting: b"hello 3\n",
-    };
-    let mut written = Vec::new(alloc);
-    let (pass, ending) = serve_link(&rt, alloc, from, &mut written, &hub, pass, &bell, &Open);
-    expect_eq(&rt, ending, Ending::Fault(71));
-    let due = "welcome 2 100\nwindow 1\ntext 1\nready\nerror 71\n";
-    expect_text(&rt, written.as_slice(), due);
-    expect_eq(&rt, close(&rt, hub, pass).waiting(2), None);
 }

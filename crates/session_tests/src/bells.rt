@@ -45,3 +45,32 @@ fn a_ring_for_all_wakes_each_site(rt: HostRuntime) {
     );
     expect_eq(&rt, (one, two), (1, 1));
 }
+
+// Two sites whose numbers differ by 64 wait at one place, as two halves of a session do.
+#[test]
+fn a_ring_for_a_site_wakes_all_who_wait_at_its_place(rt: HostRuntime) {
+    let bell = Bell::new();
+    let ((one, two), ()) = join(
+        &rt,
+        || join(&rt, || bell.wait(&rt, 1, 0), || bell.wait(&rt, 65, 0)),
+        || {
+            sleep(&rt, Duration::from_millis(20));
+            bell.ring_for(&rt, 65);
+        },
+    );
+    expect_eq(&rt, (one, two), (1, 1));
+}
+
+#[test]
+fn a_ring_for_all_wakes_all_who_wait_at_one_place(rt: HostRuntime) {
+    let bell = Bell::new();
+    let ((one, two), ()) = join(
+        &rt,
+        || join(&rt, || bell.wait(&rt, 1, 0), || bell.wait(&rt, 65, 0)),
+        || {
+            sleep(&rt, Duration::from_millis(20));
+            bell.ring(&rt);
+        },
+    );
+    expect_eq(&rt, (one, two), (1, 1));
+}

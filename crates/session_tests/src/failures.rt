@@ -41,20 +41,17 @@ fn each_read_of_a_session(rt: HostRuntime) {
     }
 }
 
-// The greeting, the pong and the last line are three writes, or two: the pong meets the failure before or after the site says bye.
+// The greeting, the pong and the last line are three writes. The pong meets the failure before the site says bye, which ends the session so, or after it.
 #[test]
 fn each_write_of_a_session(rt: HostRuntime) {
     let from: &[u8] = b"hello 3\nping 7\nbye\n";
-    expect_eq(
-        &rt,
-        write_fails(&rt, rt.alloc(), from, 0),
-        Ending::Fault(71),
-    );
+    let (lost, bye) = (Ending::Fault(71), Ending::Bye);
+    expect_eq(&rt, write_fails(&rt, rt.alloc(), from, 0), (lost, true));
     for writes in 1..3 {
-        let ending = write_fails(&rt, rt.alloc(), from, writes);
-        expect_that(&rt, ending == Ending::Fault(71) || ending == Ending::Bye);
+        let (ending, has_failed) = write_fails(&rt, rt.alloc(), from, writes);
+        expect_that(&rt, has_failed && (ending == lost || ending == bye));
     }
-    expect_eq(&rt, write_fails(&rt, rt.alloc(), from, 3), Ending::Bye);
+    expect_eq(&rt, write_fails(&rt, rt.alloc(), from, 3), (bye, false));
 }
 
 // A site that pings on and never says bye has a session that only its failed write ends: the first after the greeting, or a later one.
@@ -65,8 +62,8 @@ fn a_write_that_fails_after_the_greeting(rt: HostRuntime) {
             text: b"hello 3\n",
             line: b"ping 7\n",
         };
-        let ending = write_fails(&rt, rt.alloc(), from, writes);
-        expect_eq(&rt, (writes, ending), (writes, Ending::Fault(71)));
+        let ended = write_fails(&rt, rt.alloc(), from, writes);
+        expect_eq(&rt, (writes, ended), (writes, (Ending::Fault(71), true)));
     }
 }
 

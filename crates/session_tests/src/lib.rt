@@ -24,11 +24,15 @@ mod flushes;
 #[cfg(test)]
 mod growths;
 #[cfg(test)]
+mod overtaking;
+#[cfg(test)]
 mod programs;
 #[cfg(test)]
 mod rule_growths;
 #[cfg(test)]
 mod sessions;
+#[cfg(test)]
+mod silent;
 #[cfg(test)]
 mod sockets;
 #[cfg(test)]

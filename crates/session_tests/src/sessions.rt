@@ -8,7 +8,7 @@ use jup_hub::{Hub, Pass};
 use jup_layout::layout;
 use jup_link::Msg;
 use jup_seq::SeqOp;
-use jup_session::{Bell, Ending, Gate, Open, Peer, Serving, serve_link};
+use jup_session::{Bell, Ending, Gate, Open, Peer, Serving, serve_link, serve_session};
 use jup_star::{Star, Up, is_short};
 use jup_text::write_board;
 use jup_value::{Item, Name};
@@ -76,6 +76,18 @@ pub(crate) fn ran<
     left_in(rt, alloc, &close(rt, hub, pass), ending)
 }
 
+// What a server has for the sessions of a hub whose gate is open.
+pub(crate) fn serving_at<'a>(alloc: Global, hub: &'a Hub, bell: &'a Bell) -> Serving<'a, Open>
+    ensures { result.hub.now ≡ hub.now }
+{
+    Serving {
+        alloc,
+        hub,
+        bell,
+        gate: &Open,
+    }
+}
+
 // The same, over a writer whose peer can be given up.
 pub(crate) fn ran_over<
     R: Threads + Wait + Clock + Sync + Abort,
@@ -83,13 +95,7 @@ pub(crate) fn ran_over<
     O: Peer + Send + Drop,
 >(rt: &R, alloc: Global, from: I, to: O, bell: &Bell) -> Left {
     let (hub, pass) = open_hub(rt, alloc, EMPTY_TEXT, 100);
-    let serving = Serving {
-        alloc,
-        hub: &hub,
-        bell,
-        gate: &Open,
-    };
-    let session = serving.serve(rt, from, to, pass);
+    let session = serving_at(alloc, &hub, bell).serve(rt, from, to, pass);
     left_in(rt, alloc, &close(rt, hub, session.pass), session.ending)
 }
 
@@ -260,13 +266,13 @@ pub(crate) fn first_edit(alloc: Global, site: u32) -> Result<Up, NoMemory> {
     }))
 }
 
-// The second session of a hub, whose writer fails at a write. The other site stays.
+// The second session of a hub, whose writer fails at a write: how it ends, and whether a write of it has failed. The other site stays.
 pub(crate) fn write_fails<R: Threads + Wait + Clock + Sync + Abort, I: Read + Drop>(
     rt: &R,
     alloc: Global,
     from: I,
     writes: u32,
-) -> Ending {
+) -> (Ending, bool) {
     let (hub, mut pass) = open_hub(rt, alloc, EMPTY_TEXT, 100);
     let first = hub.join_site(rt, alloc, &mut pass).expect(rt, "it joins");
     expect_eq(rt, first.site, 1);
@@ -275,13 +281,14 @@ pub(crate) fn write_fails<R: Threads + Wait + Clock + Sync + Abort, I: Read + Dr
         writes,
         text: &mut text,
     };
-    let (mut pass, ending) = serve_link(rt, alloc, from, to, &hub, pass, &Bell::new(), &Open);
+    let session = serve_session(rt, alloc, from, to, &hub, pass, &Bell::new(), &Open);
+    let (mut pass, ended) = (session.pass, (session.ending, session.has_failed));
     let edit = first_edit(alloc, 1).expect(rt, "one operation takes no memory");
     expect_eq(rt, hub.take(rt, alloc, &mut pass, 1, &edit), Ok(Some(0)));
     let star = close(rt, hub, pass);
     expect_eq(rt, star.waiting(2), None);
     expect_eq(rt, star.waiting(1), Some(0));
-    ending
+    ended
 }
 
 #[test]

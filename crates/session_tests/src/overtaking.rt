@@ -123,8 +123,12 @@ fn overtaken_by_one<R: Threads + Wait + Clock + Sync + Abort>(
     };
     join(
         rt,
-        || serve(rt, alloc, lagging, &hub, pass, &bell),
-        || serve(rt, alloc, later, &hub, theirs, &bell),
+        ||
+            requires { IsPassOf hub pass }
+        { serve(rt, alloc, lagging, &hub, pass, &bell) },
+        ||
+            requires { IsPassOf hub theirs }
+        { serve(rt, alloc, later, &hub, theirs, &bell) },
     )
 }
 

@@ -45,8 +45,10 @@ impl Doorway {
 
     /// Whether nobody may come any more.
     pub(crate) fn is_shut<R: Wait + Clock>(&self, rt: &R, links: &Links) -> bool {
+        // The door first: a connection has its link in the table before it says what it is.
+        let is_over = self.door.lock(rt).is_shut(0);
         let left = links.tend(rt);
-        self.door.lock(rt).is_shut(left)
+        is_over && left == 0
     }
 
     /// Looks whether somebody may still come, and wakes the thread that accepts if nobody may.

@@ -138,11 +138,12 @@ static const char *take_resumed(Client *client, long count) {
   return NULL;
 }
 
-// Whether the link has waited for long enough: since it was carried, or since the server may have written its last line.
+// Whether the link has waited for long enough: since it was carried, or since the server may have written its last line. The server knows its time in whole
+// milliseconds, so a grace may be shorter by less than one.
 static bool may_have_run_out(const Client *client) {
   const Lasting *it = client->lasting;
   int64_t since = it->left_at != NEVER && it->left_at < it->lost_at ? it->left_at : it->lost_at;
-  return !is_open(client->site) || now - since >= it->seconds * A_SECOND;
+  return !is_open(client->site) || now - since + MILLISECOND > it->seconds * A_SECOND;
 }
 
 // Only what the server counts had an effect.

@@ -2,13 +2,12 @@
 use Rattle.std.proofs.Common.{◌≡◌, ℕ, suc, ◌+◌, ◌<◌, ◌≤◌, Bool, true, false, cond, List, [], ◌∷◌, ◌++◌, map, length, refl, sym, ap, ◌∙◌, subst, arith, append-nil, append_assoc, inl, inr, ◌⊎◌, length-append, bytes_eq, ◌-◌, Result, Ok, ◌&&◌, nat_le, Option, Some, None, if◌then◌else◌, All}
 use Rattle.std.proofs.lemmas.Slice.Eq.{bytes_eq-Decides}
 use Rattle.jup_app.specs.Prelude.{highest_limit, board_batches, Fetch, Join, Fetched, OpenFault, BoardSite, BoardAttached, one_taken, IsOpening, HubEvent, Tally, View, view_of, most_fetched, Player, SiteEnd, Halt, AllByRecursion, eq-eqb, eqb, append_cancel_left, map-append, eqb_tells, calls_by, AllTallied, IsNew, AllApart, entry, longest, having_seen, Called, Meets, BeginsWith, BeginsWithAll, split_from, with_call, tallies, joined_with}
-use Rattle.jup_window.specs.Boards.{Windows, bare, HasDistinctNames}
+use Rattle.jup_window.specs.Boards.{Windows, bare, HasDistinctNames, only_site}
 use Rattle.jup_window.specs.Entries.{EachWidget}
 use Rattle.jup_star.specs.declared.calls.StarReply.TheVariants as reply
 use Rattle.jup_star.specs.Stars.{opened_star, BoardStar, star_open_fault, IsShort}
 use Rattle.jup_star.proofs.Stars.{short_bare, distinct_bare}
 use Rattle.jup_app.specs.Runs.{Made, made, makes, Step, Edited, Took, Got, calls_of, site_of, made_at, IsSite, calls_at, edits_of, IsPlayed, edited, all_delivered, BoardDown, Handles, Fetches, CatchesUp, told_to, IsFresh, joined_call, HasMet, HasJoinedAll, HasTaken, end_of, all_tallies, all_calls}
-use Rattle.jup_star.specs.Prelude.{only_site}
 use Rattle.jup_star.specs.declared.faults.OpenFault.TheVariants.{BadLimit, BadSite}
 
 -- A history that is as long as the calls of some passes together has their calls alone.

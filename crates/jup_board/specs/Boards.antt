@@ -1,7 +1,6 @@
 -- Printed boards, and the layouts that they are.
-use Rattle.std.proofs.Common.{◌≡◌, ◌≢◌, ◌⊎◌, ℕ, ◌<◌, ◌≤◌, List, [], ◌∷◌, ◌++◌, length, None, codes, decimal, ◌+◌, IsTrue, Ok, ◌∙◌, sym, ap, subst, refl}
+use Rattle.std.proofs.Common.{◌≡◌, ◌≢◌, ◌⊎◌, ℕ, ◌<◌, ◌≤◌, List, [], ◌∷◌, ◌++◌, length, None, codes, decimal, ◌+◌, IsTrue, Ok, ◌∙◌, sym, ap, subst, refl, append_assoc, append-nil}
 use Rattle.std.specs.List.{flat_map, AllByRecursion}
-use Rattle.std.proofs.lemmas.List.{append_assoc, append-nil}
 use Rattle.std.proofs.lemmas.List.Concat.{flat_map-append}
 use Rattle.jup_board.specs.Prelude.{most_entries, IsU32, Name, Widget, Windows, IsId, Line}
 use Rattle.jup_window.specs.Boards as board

@@ -4,9 +4,9 @@ use Rattle.jup_honest.specs.Prelude.{BoardBatch, Commands, Windows, BoardEdits, 
 use Rattle.jup_star.specs.declared.site.Made.{Made}
 use Rattle.jup_star.specs.Sites.{edit_reply, site_edited, deliver_reply, site_delivered}
 use Rattle.jup_star.specs.Stars.{star_after, BoardLink, reply_of}
-use Rattle.jup_world.specs.Traces.{Turn, turns, edits, own_edits}
-use Rattle.jup_world.specs.Sound.{edits_sent, edits_in, told_of}
-use Rattle.jup_world.specs.Prelude.{highest_limit, answer_after, most_unacknowledged, SiteFault, opened_site, BoardSite, sent_back, BoardStar, new_star, link_of, EditFault}
+use Rattle.jup_site.specs.Turns.{Turn, turns, edits, own_edits}
+use Rattle.jup_site.specs.Sound.{edits_sent, edits_in, told_of}
+use Rattle.jup_site.specs.Prelude.{highest_limit, answer_after, most_unacknowledged, SiteFault, opened_site, BoardSite, sent_back, BoardStar, new_star, link_of, EditFault}
 
 -- A site and the hub that it joined: what may happen at either, what passed between them, and when the link is reliable.
 
@@ -301,3 +301,15 @@ pub record AreDrained (run other : SiteRun) : Type 0 where
   pub two : BoardLink
   pub two_attached : IsAttached (now other) two
   pub two_drained : IsDrained (now other) two
+
+-- two sites of one hub, at moments at which the same calls were made: whether they have their links or not, and whatever is on its way
+pub record AreOfOneHub (run other : SiteRun) : Type 0 where
+  pub board : run.board ≡ other.board
+  pub limit : run.limit ≡ other.limit
+  pub keeps : run.keeps ≡ other.keeps
+  pub calls : calls run ≡ calls other
+  pub apart : nat_eq run.answer.site other.answer.site ≡ false
+
+-- they show in one order the items that both show
+abbrev pub ShowOneOrder : SiteRun → SiteRun → Type 0
+ShowOneOrder run other = board_batches.t.keeps_order (now run).site.board (now other).site.board

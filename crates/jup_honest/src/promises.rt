@@ -4,7 +4,7 @@ ghost use Rattle.std.specs.Prelude.{◌≡◌, ◌≢◌, ◌≤◌, ℕ, None, 
 ghost use Rattle.jup_star.specs.Sites.{site_open_fault};
 ghost use Rattle.jup_star.specs.Stars.{BoardLink};
 ghost use Rattle.jup_hub.specs.declared.view.HubEvent.{HubEvent};
-ghost use Rattle.jup_honest.specs.Sites.{Step, Called, Connection, through, IsReliable, IsReliableThrough, IsCausalThrough, SiteRun, IsHonest, IsOfHistory, start, now, longer, IsDrained, IsBacklogShort, SitePromises, LinkPromises, StarShows, IsAttached, Remains, KeepsOrder, AllGoesWell, AreDrained};
+ghost use Rattle.jup_honest.specs.Sites.{Step, Called, Connection, through, IsReliable, IsReliableThrough, IsCausalThrough, SiteRun, IsHonest, IsOfHistory, start, now, longer, IsDrained, IsBacklogShort, SitePromises, LinkPromises, StarShows, IsAttached, Remains, KeepsOrder, AllGoesWell, AreDrained, AreOfOneHub, ShowOneOrder};
 
 /// Take any legal history of a hub: any number of passes, any calls, strangers among them. A site joined in it
 /// at any time and was opened from the answer. The hub's takes for its number bring its messages, in order,
@@ -20,6 +20,8 @@ ghost use Rattle.jup_honest.specs.Sites.{Step, Called, Connection, through, IsRe
 ///   way.
 /// - `remains`: only a call to leave for it, or a full order that refuses its edit, takes its link away.
 /// - `order`: from one moment to any later one, the star and the site keep the order of their items.
+/// - `orders`: at every moment two such sites show in one order the items that both show, with their links or
+///   without, whatever is on its way.
 /// - `agree`: two such sites hold equal boards once nothing is on its way to them or from them.
 ///
 /// Two clauses are of the premises. `history`: star and messages are those of the history. `causal`: that the
@@ -44,13 +46,18 @@ pub fn honest_sites_agree()
         → KeepsOrder (now run) (now (longer run later)) }
     ensures agree { (run other : SiteRun) → IsHonest run → IsHonest other → AreDrained run other
         → (now run).site.board ≡ (now other).site.board }
+    ensures orders { (run other : SiteRun) → IsHonest run → IsHonest other → AreOfOneHub run other → ShowOneOrder run other }
 {}
 
 /// There is such a run: the site and a stranger set one toggle at the same time, and the site sends a ping. In
-/// the end nothing is on its way, and the order has the stranger's entry and the site's. So nobody can make the premises of [`honest_sites_agree`] impossible to meet.
+/// the end nothing is on its way, and the order has the stranger's entry and the site's. The stranger may as well
+/// be a second such site, which has not received the edit of the first: then the two show different boards. So
+/// nobody can make the premises of [`honest_sites_agree`] impossible to meet.
 ///
 /// It does nothing: its contract is the theorem.
 pub fn honest_runs_exist()
     ensures exists { (run : SiteRun) × (l : BoardLink) × IsHonest run × IsAttached (now run) l × IsDrained (now run) l
         × (stranger : ℕ) × (stranger ≢ run.answer.site) × (map (λ e. e.site) (now run).star.order ≡ stranger ∷ run.answer.site ∷ []) }
+    ensures two { (run other : SiteRun) × IsHonest run × IsHonest other × AreOfOneHub run other
+        × ((now run).site.board ≢ (now other).site.board) }
 {}

@@ -1,8 +1,7 @@
 -- The lines of a board are taken back as that board.
-use Rattle.std.proofs.Common.{◌≡◌, ◌==◌, ℕ, suc, ◌+◌, ◌<◌, ◌≤◌, false, List, [], ◌∷◌, ◌++◌, length, Some, None, Ok, Err, refl, sym, ap, subst, ◌∙◌, append_assoc, arith, IsTrue, insert, nat_lt, Result, inl, inr, MatchResult}
+use Rattle.std.proofs.Common.{◌≡◌, ◌==◌, ℕ, suc, ◌+◌, ◌<◌, ◌≤◌, false, List, [], ◌∷◌, ◌++◌, length, Some, None, Ok, Err, refl, sym, ap, subst, ◌∙◌, append_assoc, arith, IsTrue, insert, nat_lt, Result, inl, inr, MatchResult, length-append, append-nil}
 use Rattle.std.specs.List.{flat_map, AllByRecursion}
 use Rattle.std.proofs.lemmas.Bool.{ne_eqb, lt-ltb, eq-eqb, lt-leb, or_parts}
-use Rattle.std.proofs.lemmas.List.{length-append, append-nil}
 use Rattle.std.proofs.lemmas.List.Sums.{take_while-cons}
 use Rattle.std.proofs.lemmas.List.Concat.{flat_map-cons}
 use Rattle.jup_layout.specs.Prelude.{most_entries, Name, Item, Items, name_eq, has_name, AreDistinct, Widget, WidgetValue, Text, Labels, Line, Distinct, LayoutFault, value_of, said_widget, value_there, option_map, is_none}

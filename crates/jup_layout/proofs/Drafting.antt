@@ -1,8 +1,7 @@
 -- A board as its lines make it, one by one.
-use Rattle.std.proofs.Common.{◌≡◌, ℕ, zero, suc, false, cond, ◌==◌, nat_lt, List, [], ◌∷◌, length, Option, Some, None, Result, Ok, Err, refl, sym, ap, subst, ◌∙◌, inl, inr, insert, nat_le, IsTrue, ◌+◌, ◌≤◌, Bool, true, ◌++◌, arith, ◌≢◌, ◌||◌}
+use Rattle.std.proofs.Common.{◌≡◌, ℕ, zero, suc, false, cond, ◌==◌, nat_lt, List, [], ◌∷◌, length, Option, Some, None, Result, Ok, Err, refl, sym, ap, subst, ◌∙◌, inl, inr, insert, nat_le, IsTrue, ◌+◌, ◌≤◌, Bool, true, ◌++◌, arith, ◌≢◌, ◌||◌, length-append}
 use Rattle.std.proofs.lemmas.Bool.{cases_Bool, eqb-true, eq-eqb, ne_eqb}
 use Rattle.std.proofs.lemmas.List.Sums.{take_while-cons}
-use Rattle.std.proofs.lemmas.List.{length-append}
 use Rattle.std.proofs.lemmas.Option.{none-some}
 use Rattle.std.proofs.lemmas.List.Edits.{length-insert, insert_end}
 use Rattle.std.specs.Ordering.{nat_cmp, ordering_then, is_eq}

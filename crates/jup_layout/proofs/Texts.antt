@@ -1,6 +1,5 @@
 -- Lines and texts, as layouts.
-use Rattle.std.proofs.Common.{◌≡◌, ℕ, ◌≤◌, List, [], ◌∷◌, ◌++◌, length, Option, Some, None, ap, ◌∙◌, arith, Result, Ok, Err, refl, sym, inl, inr, rules, MatchResult, IfOk, append-nil, ◌==◌, ◌≢◌, ◌⊎◌, suc, ◌+◌, ◌<◌, take, drop, IsOkUnless, flat_map}
-use Rattle.std.proofs.lemmas.List.{length-append, take-append-drop}
+use Rattle.std.proofs.Common.{◌≡◌, ℕ, ◌≤◌, List, [], ◌∷◌, ◌++◌, length, Option, Some, None, ap, ◌∙◌, arith, Result, Ok, Err, refl, sym, inl, inr, rules, MatchResult, IfOk, append-nil, ◌==◌, ◌≢◌, ◌⊎◌, suc, ◌+◌, ◌<◌, take, drop, IsOkUnless, flat_map, length-append, take-append-drop}
 use Rattle.std.proofs.lemmas.List.Concat.{flat_map-cons}
 use Rattle.std.proofs.lemmas.Option.{MatchOption-at_none}
 use Rattle.std.proofs.lemmas.Bool.{cases_Bool, ne_eqb}

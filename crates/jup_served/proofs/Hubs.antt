@@ -1,6 +1,7 @@
 -- Each site of a hub is its session's own.
 use Rattle.std.proofs.Common.{◌≡◌, inl, inr, ℕ, ◌+◌, ◌<◌, ◌≤◌, Bool, true, false, cond, List, [], ◌∷◌, ◌++◌, nat_eq, None, Ok, refl, sym, ap, subst, ◌∙◌, eqb-true, arith, ◌⊎◌, length, IsTrue, Err}
-use Rattle.jup_served.specs.Prelude.{highest_limit, Windows, Joined, Call, Join, Take, Fetch, Leave, JoinedReply, Fetched, Taken, Left, StarReply, IsOpening, HubEvent, Tally, View, AllByRecursion}
+use Rattle.jup_served.specs.Prelude.{Joined, Join, HubEvent}
+use Rattle.jup_served.specs.Prelude as served
 use Rattle.jup_star.specs.Stars.{link_of, joined, BoardStar, fetch_result, reply_of, star_after, new_star}
 use Rattle.jup_hub.specs.Histories.{star_through, IsLegal, calls_by, AllTallied, IsNew, AllApart, is_among, calls_in, Meets, tally, tallies}
 use Rattle.jup_hub.proofs.Histories.{no_others}
@@ -17,11 +18,11 @@ use Rattle.jup_served.proofs.Calls.{IsIn, all_in, in_all, by_in, in_by, none_oth
 pub record IsJoin (e : HubEvent) (n : ℕ) : Type 0 where
   pub answer : Joined
   pub call : e.call ≡ Join
-  pub reply : e.reply ≡ JoinedReply (Ok answer)
+  pub reply : e.reply ≡ served.JoinedReply (Ok answer)
   pub site : answer.site ≡ n
 
 -- numbers are given on
-pub given_through : (board : Windows) (es : List HubEvent) (s : BoardStar) → CalledStar board s → s.given ≤ (star_through s es).given
+pub given_through : (board : served.Windows) (es : List HubEvent) (s : BoardStar) → CalledStar board s → s.given ≤ (star_through s es).given
 given_through board [] s h = omega arith
 given_through board (e ∷ es) s h =
     let one = call-grows board e.call s h in
@@ -35,7 +36,7 @@ join_next s e n legal is =
     (sym is.site ∙ ap (λ (j : Joined). j.site) gives.0, ap (λ c. star_after c s) is.call ∙ gives.1)
 
 -- so later joins have higher numbers
-later_join : (board : Windows) (es : List HubEvent) (s : BoardStar) → CalledStar board s → IsLegal s es → (e : HubEvent) (n : ℕ) → IsIn e es → IsJoin e n → s.given < n
+later_join : (board : served.Windows) (es : List HubEvent) (s : BoardStar) → CalledStar board s → IsLegal s es → (e : HubEvent) (n : ℕ) → IsIn e es → IsJoin e n → s.given < n
 later_join board [] s h legal e n is join = absurd is
 later_join board (x ∷ xs) s h legal e n (inl same) join =
     let next = join_next s x n legal.0 (subst (λ k. IsJoin k n) (sym same) join) in omega (arith, next.0)
@@ -45,7 +46,7 @@ later_join board (x ∷ xs) s h legal e n (inr is) join =
     omega (arith, one.follows.given, later)
 
 -- and earlier ones none that was not given yet
-pub early_join : (board : Windows) (es : List HubEvent) (s : BoardStar) → CalledStar board s → IsLegal s es → (e : HubEvent) (n : ℕ) → IsIn e es → IsJoin e n → n ≤ (star_through s es).given
+pub early_join : (board : served.Windows) (es : List HubEvent) (s : BoardStar) → CalledStar board s → IsLegal s es → (e : HubEvent) (n : ℕ) → IsIn e es → IsJoin e n → n ≤ (star_through s es).given
 early_join board [] s h legal e n is join = absurd is
 early_join board (x ∷ xs) s h legal e n (inl same) join =
     let next = join_next s x n legal.0 (subst (λ k. IsJoin k n) (sym same) join) in
@@ -56,7 +57,7 @@ early_join board (x ∷ xs) s h legal e n (inr is) join =
     let one = call-grows board x.call s h in early_join board xs (star_after x.call s) one.called legal.1 e n is join
 
 -- a history has one join of a site
-pub one_join : (board : Windows) (es : List HubEvent) (s : BoardStar) → CalledStar board s → IsLegal s es → (e f : HubEvent) (n : ℕ) → IsIn e es → IsIn f es → IsJoin e n → IsJoin f n → e ≡ f
+pub one_join : (board : served.Windows) (es : List HubEvent) (s : BoardStar) → CalledStar board s → IsLegal s es → (e f : HubEvent) (n : ℕ) → IsIn e es → IsIn f es → IsJoin e n → IsJoin f n → e ≡ f
 one_join board [] s h legal e f n is so one two = absurd is
 one_join board (x ∷ xs) s h legal e f n (inl is) (inl so) one two = sym is ∙ so
 one_join board (x ∷ xs) s h legal e f n (inl is) (inr so) one two =
@@ -73,18 +74,18 @@ one_join board (x ∷ xs) s h legal e f n (inr is) (inr so) one two =
     let grows = call-grows board x.call s h in one_join board xs (star_after x.call s) grows.called legal.1 e f n is so one two
 
 -- a fetch for a number that was not given brings nothing
-fetch_none : (board : Windows) (i : ℕ) (s : BoardStar) → CalledStar board s → s.given < i → (c : Call) → fetched_with i c (reply_of c s) [] ≡ []
+fetch_none : (board : served.Windows) (i : ℕ) (s : BoardStar) → CalledStar board s → s.given < i → (c : served.Call) → fetched_with i c (reply_of c s) [] ≡ []
 unfolding reply_of
 fetch_none board i s h above Join = refl
-fetch_none board i s h above (Take j u) = refl
-fetch_none board i s h above (Fetch j max) = cases (nat_eq j i) refl
+fetch_none board i s h above (served.Take j u) = refl
+fetch_none board i s h above (served.Fetch j max) = cases (nat_eq j i) refl
   where
-    cases : (b : Bool) → nat_eq j i ≡ b → cond b (fetched_in (Fetched (fetch_result max (link_of j s.links)))) [] ≡ []
-    cases true is = ap (λ o. fetched_in (Fetched (fetch_result max o))) (subst (λ k. link_of k s.links ≡ None) (sym (eqb-true j i is)) (h.star.no_link i above))
+    cases : (b : Bool) → nat_eq j i ≡ b → cond b (fetched_in (served.Fetched (fetch_result max (link_of j s.links)))) [] ≡ []
+    cases true is = ap (λ o. fetched_in (served.Fetched (fetch_result max o))) (subst (λ k. link_of k s.links ≡ None) (sym (eqb-true j i is)) (h.star.no_link i above))
     cases false is = refl
-fetch_none board i s h above (Leave j) = refl
+fetch_none board i s h above (served.Leave j) = refl
 
-pub early_fetches : (board : Windows) (i : ℕ) (es : List HubEvent) (s : BoardStar) → CalledStar board s → IsLegal s es → (star_through s es).given < i → fetches_of i es ≡ []
+pub early_fetches : (board : served.Windows) (i : ℕ) (es : List HubEvent) (s : BoardStar) → CalledStar board s → IsLegal s es → (star_through s es).given < i → fetches_of i es ≡ []
 early_fetches board i [] s h legal above = refl
 early_fetches board i (e ∷ es) s h legal above =
     let one = call-grows board e.call s h in
@@ -97,14 +98,14 @@ early_fetches board i (e ∷ es) s h legal above =
 -- # The calls of one session
 
 -- a call is for one site
-one_site : (i j : ℕ) (c : Call) → IsCallFor i c → IsCallFor j c → i ≡ j
+one_site : (i j : ℕ) (c : served.Call) → IsCallFor i c → IsCallFor j c → i ≡ j
 one_site i j Join one two = absurd one
-one_site i j (Take k up) one two = sym one ∙ two
-one_site i j (Fetch k max) one two = sym one ∙ two
-one_site i j (Leave k) one two = sym one ∙ two
+one_site i j (served.Take k up) one two = sym one ∙ two
+one_site i j (served.Fetch k max) one two = sym one ∙ two
+one_site i j (served.Leave k) one two = sym one ∙ two
 
 -- an entry under one of these numbers is one of its calls
-under_for : (site : ℕ) (log : List HubEvent) (ts : List Tally) → AllTallied log ts → AreTalliesFor site ts → (e : HubEvent) → IsIn e log → is_among e.by ts ≡ true → IsCallFor site e.call
+under_for : (site : ℕ) (log : List HubEvent) (ts : List served.Tally) → AllTallied log ts → AreTalliesFor site ts → (e : HubEvent) → IsIn e log → is_among e.by ts ≡ true → IsCallFor site e.call
 under_for site log [] tallied asks e is among = absurd (cc)
 under_for site log (t ∷ ts) tallied asks e is among =
     elim (among_is e.by t ts among) [
@@ -120,7 +121,7 @@ record JoinsFor (number : List ℕ) (site : ℕ) (log : List HubEvent) : Type 0 
   is_join : IsJoin join site
 
 -- if one of the session's calls is for a site, the session has joined it
-first_join : (w : View) (number : List ℕ) (calls : List HubEvent) (others : List Tally) (log : List HubEvent) → IsOneSite w calls others → calls_by number log ≡ calls → AllTallied log others
+first_join : (w : served.View) (number : List ℕ) (calls : List HubEvent) (others : List served.Tally) (log : List HubEvent) → IsOneSite w calls others → calls_by number log ≡ calls → AllTallied log others
     → (e : HubEvent) (site : ℕ) → IsIn e log → (e.by ≡ number) ⊎ (is_among e.by others ≡ true) → IsCallFor site e.call → JoinsFor number site log
 first_join w number [] others log one tallied all e site is (inl here) asks = absurd (subst (IsIn e) tallied (in_by number log e is here))
 first_join w number [] others log one tallied all e site is (inr among) asks =
@@ -133,7 +134,7 @@ first_join w number (first ∷ later) others log one tallied all e site is where
     here : IsIn first log × (first.by ≡ number)
     here = by_in number log first is_first
 
-    joined : (j : Joined) → first.call ≡ Join → first.reply ≡ JoinedReply (Ok j) → AreCallsFor j.site later → AreTalliesFor j.site others → JoinsFor number site log
+    joined : (j : Joined) → first.call ≡ Join → first.reply ≡ served.JoinedReply (Ok j) → AreCallsFor j.site later → AreTalliesFor j.site others → JoinsFor number site log
     joined j call reply mine theirs = record { join = first; is_in = here.0; by = here.1; is_join = record { answer = j; call = call; reply = reply; site = site_is where_is } }
       where
         of_later : IsIn e (first ∷ later) → j.site ≡ site
@@ -144,9 +145,9 @@ first_join w number (first ∷ later) others log one tallied all e site is where
         site_is (inl by) = of_later (subst (IsIn e) tallied (in_by number log e is by))
         site_is (inr among) = one_site j.site site e.call (under_for j.site log others all theirs e is among) asks
 
-    cases : (c : Call) (r : StarReply) → first.call ≡ c → first.reply ≡ r → FollowsJoin w c r later others → JoinsFor number site log
-    cases Join (JoinedReply (Ok j)) call reply follows = joined j call reply follows.0 follows.1
-    cases Join (JoinedReply (Err fault)) call reply follows = absurd (refused where_is)
+    cases : (c : served.Call) (r : served.StarReply) → first.call ≡ c → first.reply ≡ r → FollowsJoin w c r later others → JoinsFor number site log
+    cases Join (served.JoinedReply (Ok j)) call reply follows = joined j call reply follows.0 follows.1
+    cases Join (served.JoinedReply (Err fault)) call reply follows = absurd (refused where_is)
       where
         refused : (e.by ≡ number) ⊎ (is_among e.by others ≡ true) → ⊥
         refused (inl by) = only_first (subst (IsIn e) tallied (in_by number log e is by))
@@ -155,12 +156,12 @@ first_join w number (first ∷ later) others log one tallied all e site is where
             only_first (inl same) = subst (IsCallFor site) (ap (λ (k : HubEvent). k.call) (sym same) ∙ call) asks
             only_first (inr l) = subst (IsIn e) follows.0 l
         refused (inr among) = (let none : is_among e.by [] ≡ true = subst (λ ts. is_among e.by ts ≡ true) follows.1 among in cc)
-    cases Join (Taken x) call reply follows = absurd follows
-    cases Join (Fetched x) call reply follows = absurd follows
-    cases Join (Left x) call reply follows = absurd follows
-    cases (Take i up) r call reply follows = absurd follows
-    cases (Fetch i max) r call reply follows = absurd follows
-    cases (Leave i) r call reply follows = absurd follows
+    cases Join (served.Taken x) call reply follows = absurd follows
+    cases Join (served.Fetched x) call reply follows = absurd follows
+    cases Join (served.Left x) call reply follows = absurd follows
+    cases (served.Take i up) r call reply follows = absurd follows
+    cases (served.Fetch i max) r call reply follows = absurd follows
+    cases (served.Leave i) r call reply follows = absurd follows
 
 -- of a session whose pass had made no call
 session_join : (s : Ended) (log : List HubEvent) → HasMadeNone s.given → AllTallied log (tallies s.back) → (e : HubEvent) (site : ℕ) → IsIn e log → is_among e.by (tallies s.back) ≡ true
@@ -190,7 +191,7 @@ found_in e (s ∷ sessions) among =
       | inr later ↦ (let rest = found_in e sessions later in record { session = rest.session; is_one = inr rest.is_one; among = rest.among })
     ]
 
-new_one : (s : Ended) (sessions : List Ended) → IsOneOf s sessions → AllByRecursion (λ (t : Ended). HasMadeNone t.given) sessions → HasMadeNone s.given
+new_one : (s : Ended) (sessions : List Ended) → IsOneOf s sessions → served.AllByRecursion (λ (t : Ended). HasMadeNone t.given) sessions → HasMadeNone s.given
 new_one s [] one all = absurd one
 new_one s (t ∷ sessions) (inl same) all = subst (λ (u : Ended). HasMadeNone u.given) same all.0
 new_one s (t ∷ sessions) (inr later) all = new_one s sessions later all.1
@@ -230,7 +231,7 @@ served_join s log serves new tallied = record {
     found : IsIn (join s serves) log × ((join s serves).by ≡ s.back.number)
     found = by_in s.back.number log (join s serves) (subst (IsIn (join s serves)) (sym (tallied.0 ∙ made_is s serves new)) (inl refl))
 
-pub owned : (keeps : Bool) (board : Windows) (limit : ℕ) (sessions : List Ended) (log : List HubEvent) → IsSessionHub keeps board limit sessions log → (s : Ended) → IsOneOf s sessions → (serves : ServesSite s)
+pub owned : (keeps : Bool) (board : served.Windows) (limit : ℕ) (sessions : List Ended) (log : List HubEvent) → IsSessionHub keeps board limit sessions log → (s : Ended) → IsOneOf s sessions → (serves : ServesSite s)
     → IsOwnedBy s (answer_of serves).site log
 owned keeps board limit sessions log hub s one serves = all_in (λ e. IsCallFor (answer_of serves).site e.call → IsTrue (is_among e.by (tallies s.back))) log each
   where
@@ -248,8 +249,8 @@ owned keeps board limit sessions log hub s one serves = all_in (λ e. IsCallFor 
         subst (λ (t : Ended). IsTrue (is_among e.by (tallies t.back))) (one_session found.session s sessions hub.apart found.is_one one number) found.among
 
 -- the pass that took in the passes of all sessions, and met a history of no further call
-pub closed : (keeps : Bool) (board : Windows) (limit : ℕ) (sessions : List Ended) (v : View) (log : List HubEvent) → IsOpening board → limit ≤ highest_limit → v.opening ≡ new_star keeps board limit
-    → v.kept ≡ all_tallies sessions → AllByRecursion (λ (s : Ended). HasMadeNone s.given) sessions → Meets v log → length log ≡ calls_in (all_tallies sessions)
+pub closed : (keeps : Bool) (board : served.Windows) (limit : ℕ) (sessions : List Ended) (v : served.View) (log : List HubEvent) → served.IsOpening board → limit ≤ served.highest_limit → v.opening ≡ new_star keeps board limit
+    → v.kept ≡ all_tallies sessions → served.AllByRecursion (λ (s : Ended). HasMadeNone s.given) sessions → Meets v log → length log ≡ calls_in (all_tallies sessions)
     → IsSessionHub keeps board limit sessions log
 closed keeps board limit sessions v log opens limited opening kept new meets long =
     let tallied = subst (AllTallied log) kept meets.tallied.1 in

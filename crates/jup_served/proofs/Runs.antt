@@ -5,26 +5,27 @@ use Rattle.jup_window.specs.declared.kinds.WidgetOp.TheVariants as widget
 use Rattle.jup_window.specs.Widgets.{relabels_no_text}
 use Rattle.jup_window.specs.Boards as board
 use Rattle.jup_window.specs.Widgets as one
-use Rattle.jup_served.specs.Prelude.{Windows, bare, BoardBatch, Up, Down, Joined, Call, Join, Take, Fetch, Leave, JoinedReply, UpPing, Line, HasRead, HubEvent, Ending, ClientState, Said, SaysUp, last_line, flat_map, AllByRecursion, flat_map-cons, Bye, Gone, Fault, bytes_of, bytes_heard, map-append, filter-append, spelling, HasSpelling, is_spelled, line_bytes}
+use Rattle.jup_served.specs.Prelude.{Joined, HubEvent, ClientState, Bye, Gone}
+use Rattle.jup_served.specs.Prelude as served
 use Rattle.jup_star.specs.Sites.{edit_reply, site_edited, deliver_reply, site_delivered}
 use Rattle.jup_wire.specs.declared.line.Line.TheVariants as line
 use Rattle.jup_wire.specs.Kinds.{IsBody}
 use Rattle.jup_layout.specs.Drafts.{widget_lines, window_lines, board_lines}
 use Rattle.jup_hub.specs.Histories.{entry, star_through, IsLegal, calls_by, AllTallied, is_among, tally, tallies}
-use Rattle.jup_honest.specs.Sites.{Connection, history, takes_of, fetches_of, Begins, IsReliable, IsCausal, IsCausalThrough, through, after, Step, SiteRun, IsHonest, opening, calls, start, now, Edit, Deliver, Ping, Called, sent_as_made, sent_as_handed}
+use Rattle.jup_honest.specs.Sites as honest
 use Rattle.jup_honest.proofs.Steps.{CalledStar, called-opened, legal-parts}
 use Rattle.jup_honest.proofs.Backlogs.{begins_chain, both_begin, causal_through}
-use Rattle.jup_honest.proofs.Runs.{run-history, join_gives}
+use Rattle.jup_honest.proofs.Runs.{join_gives}
+use Rattle.jup_honest.proofs.Relies.{run-history}
 use Rattle.jup_socket.specs.Sockets.{IsLast, greeting, messages_down, written_down}
 use Rattle.jup_socket.proofs.Sockets.{all_first, up_reliable, down_reliable, edit_step, deliver_step}
 use Rattle.jup_session.specs.Sessions.{IsCallFor, IsFetchFor, welcome_lines}
 use Rattle.jup_served.specs.Sessions.{Ended, ServesSite, answer_of, writer_of, fetches_for, IsOwnedBy, IsServedRun, IsOneOf, IsSessionHub, IsClientStep, IsClientRun}
-use Rattle.jup_served.proofs.Calls.{IsFetchOf, fetch_of, IsIn, by_in, among_is, IsTakeFor, takes_both, fetches_both, fetches_are, under_one, takes_under, fetches_under, join, half, departing, made_is, kept_is}
+use Rattle.jup_served.proofs.Calls as calls
 use Rattle.jup_served.proofs.Hubs.{IsJoin, early_join, early_fetches, owned}
 use Rattle.jup_socket.specs.Prelude.{NoMemory}
-use Rattle.jup_layout.specs.Prelude.{Widget, Text, Labels}
 use Rattle.jup_wire.specs.Prelude.{WidgetOp}
-use Rattle.jup_star.specs.Prelude.{most_operations}
+use Rattle.jup_star.specs.Prelude.{most_operations, Widget, Text, Labels}
 
 -- The lines of a session as bytes.
 
@@ -46,18 +47,18 @@ body_spelled (widget.List op) is = refl
 body_spelled other is = refl
 
 -- a line that has a spelling is written as that
-line_spelled : (l : Line) → HasSpelling l → is_spelled l ≡ true
+line_spelled : (l : served.Line) → served.HasSpelling l → served.is_spelled l ≡ true
 line_spelled (line.Batch mine heard count) is = and_true (nat_le 1 count) (nat_le count most_operations) (le_true 1 count is.1.1.0) (le_true count most_operations is.1.1.1)
 line_spelled (line.Do op) is = body_spelled op.op is.1.1
 line_spelled other is = refl
 
-pub lines_spelled : (ls : List Line) → AllByRecursion HasSpelling ls → flat_map line_bytes ls ≡ flat_map spelling ls
+pub lines_spelled : (ls : List served.Line) → served.AllByRecursion served.HasSpelling ls → served.flat_map served.line_bytes ls ≡ served.flat_map served.spelling ls
 lines_spelled [] all = refl
 lines_spelled (l ∷ ls) all =
-    flat_map-cons line_bytes l ls
-    ∙ ap (λ bs. bs ++ flat_map line_bytes ls) (cond-true (is_spelled l) (spelling l) [] (line_spelled l all.0))
-    ∙ ap (λ bs. spelling l ++ bs) (lines_spelled ls all.1)
-    ∙ sym (flat_map-cons spelling l ls)
+    served.flat_map-cons served.line_bytes l ls
+    ∙ ap (λ bs. bs ++ served.flat_map served.line_bytes ls) (cond-true (served.is_spelled l) (served.spelling l) [] (line_spelled l all.0))
+    ∙ ap (λ bs. served.spelling l ++ bs) (lines_spelled ls all.1)
+    ∙ sym (served.flat_map-cons served.spelling l ls)
 
 -- a board without its room has the same lines
 bare_widget : (w : ℕ × Widget) → widget_lines (w.0, one.bare w.1) ≡ widget_lines w
@@ -65,72 +66,72 @@ bare_widget (wid, Text x) = refl
 bare_widget (wid, Labels x) = refl
 bare_widget (wid, other) = refl
 
-bare_widgets : (ws : List (ℕ × Widget)) → flat_map widget_lines (board.bare_widgets ws) ≡ flat_map widget_lines ws
+bare_widgets : (ws : List (ℕ × Widget)) → served.flat_map widget_lines (board.bare_widgets ws) ≡ served.flat_map widget_lines ws
 bare_widgets [] = refl
 bare_widgets (w ∷ ws) =
-    flat_map-cons widget_lines (w.0, one.bare w.1) (board.bare_widgets ws)
-    ∙ ap (λ ls. ls ++ flat_map widget_lines (board.bare_widgets ws)) (bare_widget w)
-    ∙ ap (λ ls. widget_lines w ++ ls) (bare_widgets ws) ∙ sym (flat_map-cons widget_lines w ws)
+    served.flat_map-cons widget_lines (w.0, one.bare w.1) (board.bare_widgets ws)
+    ∙ ap (λ ls. ls ++ served.flat_map widget_lines (board.bare_widgets ws)) (bare_widget w)
+    ∙ ap (λ ls. widget_lines w ++ ls) (bare_widgets ws) ∙ sym (served.flat_map-cons widget_lines w ws)
 
-pub bare_lines : (b : Windows) → board_lines (bare b) ≡ board_lines b
+pub bare_lines : (b : served.Windows) → board_lines (served.bare b) ≡ board_lines b
 bare_lines [] = refl
 bare_lines (w ∷ ws) =
-    flat_map-cons window_lines (w.0, board.bare_widgets w.1) (bare ws)
-    ∙ ap (λ ls. (line.Window w.0 ∷ ls) ++ board_lines (bare ws)) (bare_widgets w.1)
-    ∙ ap (λ ls. window_lines w ++ ls) (bare_lines ws) ∙ sym (flat_map-cons window_lines w ws)
+    served.flat_map-cons window_lines (w.0, board.bare_widgets w.1) (served.bare ws)
+    ∙ ap (λ ls. (line.Window w.0 ∷ ls) ++ board_lines (served.bare ws)) (bare_widgets w.1)
+    ∙ ap (λ ls. window_lines w ++ ls) (bare_lines ws) ∙ sym (served.flat_map-cons window_lines w ws)
 
 -- The run of a site that a session serves is honest.
 
-ending_is_last : (e : Ending) → IsLast (last_line e)
+ending_is_last : (e : served.Ending) → IsLast (served.last_line e)
 ending_is_last Bye = tt
 ending_is_last Gone = tt
-ending_is_last (Fault n) = tt
+ending_is_last (served.Fault n) = tt
 
 -- # Calls
 
 head_of : {A : Type 0} (x y : A) (xs ys : List A) → x ∷ xs ≡ y ∷ ys → x ≡ y
 head_of x y xs ys e = cc
 
-take_is : (site : ℕ) (c : Call) → IsTakeFor site c → IsCallFor site c
-take_is site Join h = absurd h
-take_is site (Take i up) h = h
-take_is site (Fetch i max) h = absurd h
-take_is site (Leave i) h = absurd h
+take_is : (site : ℕ) (c : served.Call) → calls.IsTakeFor site c → IsCallFor site c
+take_is site served.Join h = absurd h
+take_is site (served.Take i up) h = h
+take_is site (served.Fetch i max) h = absurd h
+take_is site (served.Leave i) h = absurd h
 
-fetch_is : (site : ℕ) (c : Call) → IsFetchOf site c → IsCallFor site c
-fetch_is site Join h = absurd h
-fetch_is site (Take i up) h = absurd h
-fetch_is site (Fetch i max) h = h
-fetch_is site (Leave i) h = absurd h
+fetch_is : (site : ℕ) (c : served.Call) → calls.IsFetchOf site c → IsCallFor site c
+fetch_is site served.Join h = absurd h
+fetch_is site (served.Take i up) h = absurd h
+fetch_is site (served.Fetch i max) h = h
+fetch_is site (served.Leave i) h = absurd h
 
 -- no call is a take and a fetch
-not_both : (i j : ℕ) (c : Call) → IsTakeFor i c → IsFetchOf j c → ⊥
-not_both i j Join take fetch = take
-not_both i j (Take k up) take fetch = fetch
-not_both i j (Fetch k max) take fetch = take
-not_both i j (Leave k) take fetch = take
+not_both : (i j : ℕ) (c : served.Call) → calls.IsTakeFor i c → calls.IsFetchOf j c → ⊥
+not_both i j served.Join take fetch = take
+not_both i j (served.Take k up) take fetch = fetch
+not_both i j (served.Fetch k max) take fetch = take
+not_both i j (served.Leave k) take fetch = take
 
-takes_no_fetch : (i j : ℕ) (es : List HubEvent) → AllByRecursion (λ (e : HubEvent). IsTakeFor j e.call) es → AllByRecursion (λ (e : HubEvent). IsFetchOf i e.call → ⊥) es
+takes_no_fetch : (i j : ℕ) (es : List HubEvent) → served.AllByRecursion (λ (e : HubEvent). calls.IsTakeFor j e.call) es → served.AllByRecursion (λ (e : HubEvent). calls.IsFetchOf i e.call → ⊥) es
 takes_no_fetch i j [] all = tt
 takes_no_fetch i j (e ∷ es) all = ((λ fetch. not_both j i e.call all.0 fetch), takes_no_fetch i j es all.1)
 
-fetches_no_take : (i j : ℕ) (es : List HubEvent) → AllByRecursion (λ (e : HubEvent). IsFetchFor j e.call) es → AllByRecursion (λ (e : HubEvent). IsTakeFor i e.call → ⊥) es
+fetches_no_take : (i j : ℕ) (es : List HubEvent) → served.AllByRecursion (λ (e : HubEvent). IsFetchFor j e.call) es → served.AllByRecursion (λ (e : HubEvent). calls.IsTakeFor i e.call → ⊥) es
 fetches_no_take i j [] all = tt
-fetches_no_take i j (e ∷ es) all = ((λ take. not_both i j e.call take (fetch_of j e.call all.0)), fetches_no_take i j es all.1)
+fetches_no_take i j (e ∷ es) all = ((λ take. not_both i j e.call take (calls.fetch_of j e.call all.0)), fetches_no_take i j es all.1)
 
-swapped : (Is : Call → Type 0) (n m : List ℕ) (es : List HubEvent) → AllByRecursion (λ (e : HubEvent). Is e.call → (e.by ≡ n) ⊎ (e.by ≡ m)) es
-    → AllByRecursion (λ (e : HubEvent). Is e.call → (e.by ≡ m) ⊎ (e.by ≡ n)) es
+swapped : (Is : served.Call → Type 0) (n m : List ℕ) (es : List HubEvent) → served.AllByRecursion (λ (e : HubEvent). Is e.call → (e.by ≡ n) ⊎ (e.by ≡ m)) es
+    → served.AllByRecursion (λ (e : HubEvent). Is e.call → (e.by ≡ m) ⊎ (e.by ≡ n)) es
 swapped Is n m [] all = tt
 swapped Is n m (e ∷ es) all = ((λ is. elim (all.0 is) [ inl one ↦ inr one | inr two ↦ inl two ]), swapped Is n m es all.1)
 
 -- # The two ends
 
 -- at the last moment too
-causal_last : (steps : List Step) (c : Connection) → IsCausalThrough steps c → IsCausal (through steps c)
+causal_last : (steps : List honest.Step) (c : honest.Connection) → honest.IsCausalThrough steps c → honest.IsCausal (honest.through steps c)
 causal_last [] c causal = causal
-causal_last (step ∷ steps) c causal = causal_last steps (after step c) causal.1
+causal_last (step ∷ steps) c causal = causal_last steps (honest.after step c) causal.1
 
-module _ (run : SiteRun) (log : List HubEvent) (s : Ended) (is : IsServedRun run log s) where
+module _ (run : honest.SiteRun) (log : List HubEvent) (s : Ended) (is : IsServedRun run log s) where
   serves : ServesSite s
   serves = is.serves
 
@@ -139,21 +140,21 @@ module _ (run : SiteRun) (log : List HubEvent) (s : Ended) (is : IsServedRun run
   site_is = ap (λ (j : Joined). j.site) is.moment.answer ∙ is.serves.served.welcomed.site_is
 
   -- all that its session took, and all that it fetched
-  abbrev all_taken : List (Up BoardBatch)
-  all_taken = takes_of is.serves.served.site (half s is.serves).calls
+  abbrev all_taken : List (served.Up served.BoardBatch)
+  all_taken = honest.takes_of is.serves.served.site (calls.half s is.serves).calls
 
-  abbrev all_fetched : List (Down BoardBatch)
-  all_fetched = fetches_of is.serves.served.site (fetches_for is.serves)
+  abbrev all_fetched : List (served.Down served.BoardBatch)
+  all_fetched = honest.fetches_of is.serves.served.site (fetches_for is.serves)
 
   -- the client said the messages that the session took
-  sent_first : Begins ((now run).sent ++ is.up.more) all_taken
+  sent_first : honest.Begins ((honest.now run).sent ++ is.up.more) all_taken
   sent_first =
       let u = is.up in
-      let h = half s is.serves in
+      let h = calls.half s is.serves in
       let hello = is.serves.served.welcomed.hello in
-      let first : HasRead hello.bytes (line.Hello ∷ is.serves.served.greeted.waiting) is.serves.served.greeted.progress =
-      hello.goes_on [] [] (subst (λ w. HasRead [] w is.serves.start.progress) (sym is.serves.fresh.waiting) is.serves.fresh.read) in
-      up_reliable (record (now run) { sent = (now run).sent ++ u.more; taken = all_taken }) (record {
+      let first : served.HasRead hello.bytes (line.Hello ∷ is.serves.served.greeted.waiting) is.serves.served.greeted.progress =
+      hello.goes_on [] [] (subst (λ w. served.HasRead [] w is.serves.start.progress) (sym is.serves.fresh.waiting) is.serves.fresh.read) in
+      up_reliable (record (honest.now run) { sent = (honest.now run).sent ++ u.more; taken = all_taken }) (record {
         bye = u.bye;
         spelled = u.spelled;
         read = hello.bytes ++ h.first;
@@ -161,8 +162,8 @@ module _ (run : SiteRun) (log : List HubEvent) (s : Ended) (is : IsServedRun run
         bytes = append_assoc hello.bytes h.first (h.rest ++ u.left)
             ∙ ap (λ bs. hello.bytes ++ bs) (sym (append_assoc h.first h.rest u.left))
             ∙ ap (λ bs. hello.bytes ++ (bs ++ u.left)) (sym h.bytes_are)
-            ∙ sym (append_assoc hello.bytes (bytes_heard is.serves.served.halves.hears) u.left)
-            ∙ ap (λ l. bytes_of l ++ u.left) (sym is.serves.is) ∙ u.bytes;
+            ∙ sym (append_assoc hello.bytes (served.bytes_heard is.serves.served.halves.hears) u.left)
+            ∙ ap (λ l. served.bytes_of l ++ u.left) (sym is.serves.is) ∙ u.bytes;
         lines = h.lines;
         waiting = h.waiting;
         progress = h.progress;
@@ -175,77 +176,77 @@ module _ (run : SiteRun) (log : List HubEvent) (s : Ended) (is : IsServedRun run
       })
 
   -- the lines of the session
-  all_lines_are : s.exact.lines ≡ written_down run.answer all_fetched (last_line s.ending ∷ [])
+  all_lines_are : s.exact.lines ≡ written_down run.answer all_fetched (served.last_line s.ending ∷ [])
   all_lines_are =
       is.serves.served.lines_are ∙ ap (λ ls. ls ++ is.serves.served.later) is.serves.served.welcomed.lines_are
       ∙ ap (λ ls. welcome_lines is.serves.served.welcomed.joined ++ ls) is.serves.served.halves.lines_are
-      ∙ ap (λ ls. welcome_lines is.serves.served.welcomed.joined ++ (ls ++ last_line s.ending ∷ []))
-      (fetches_are is.serves.served.site (fetches_for is.serves) is.serves.served.halves.alone)
-      ∙ ap (λ ls. greeting is.serves.served.welcomed.joined.site is.serves.served.welcomed.joined.limit ls ++ (messages_down all_fetched ++ last_line s.ending ∷ []))
+      ∙ ap (λ ls. welcome_lines is.serves.served.welcomed.joined ++ (ls ++ served.last_line s.ending ∷ []))
+      (calls.fetches_are is.serves.served.site (fetches_for is.serves) is.serves.served.halves.alone)
+      ∙ ap (λ ls. greeting is.serves.served.welcomed.joined.site is.serves.served.welcomed.joined.limit ls ++ (messages_down all_fetched ++ served.last_line s.ending ∷ []))
       (sym (bare_lines is.serves.served.welcomed.joined.board))
-      ∙ ap (λ (j : Joined). greeting j.site j.limit (board_lines j.board) ++ (messages_down all_fetched ++ last_line s.ending ∷ [])) (sym is.moment.answer)
+      ∙ ap (λ (j : Joined). greeting j.site j.limit (board_lines j.board) ++ (messages_down all_fetched ++ served.last_line s.ending ∷ [])) (sym is.moment.answer)
 
   -- and the site received the first of the messages that were fetched
-  handed_first : Begins all_fetched (now run).handed
+  handed_first : honest.Begins all_fetched (honest.now run).handed
   handed_first =
       let d = is.down in
-      let spelled = subst (AllByRecursion HasSpelling) all_lines_are is.spelled in
-      down_reliable run.answer (record (now run) { fetched = all_fetched }) (record {
-        last = last_line s.ending ∷ [];
+      let spelled = subst (served.AllByRecursion served.HasSpelling) all_lines_are is.spelled in
+      down_reliable run.answer (record (honest.now run) { fetched = all_fetched }) (record {
+        last = served.last_line s.ending ∷ [];
         ends = (ending_is_last s.ending, tt);
         spelled = spelled;
         received = d.received;
         left = d.left ++ s.exact.wrote.1;
         bytes = sym (append_assoc d.received.read d.left s.exact.wrote.1) ∙ ap (λ bs. bs ++ s.exact.wrote.1) d.bytes ∙ sym s.exact.wrote.2
-            ∙ ap (flat_map line_bytes) all_lines_are ∙ lines_spelled (written_down run.answer all_fetched (last_line s.ending ∷ [])) spelled;
+            ∙ ap (served.flat_map served.line_bytes) all_lines_are ∙ lines_spelled (written_down run.answer all_fetched (served.last_line s.ending ∷ [])) spelled;
       })
 
   -- # The history
 
-  legal : IsLegal (opening run) (calls run)
-  legal = (legal-parts (opening run) (calls run) is.moment.first.0 (subst (λ es. IsLegal (opening run) es) is.moment.first.1 (subst (λ o. IsLegal o log) is.moment.opened is.moment.meets.legal))).0
+  legal : IsLegal (honest.opening run) (honest.calls run)
+  legal = (legal-parts (honest.opening run) (honest.calls run) is.moment.first.0 (subst (λ es. IsLegal (honest.opening run) es) is.moment.first.1 (subst (λ o. IsLegal o log) is.moment.opened is.moment.meets.legal))).0
 
-  opened : CalledStar run.board (opening run)
+  opened : CalledStar run.board (honest.opening run)
   opened = called-opened run.keeps run.board run.limit is.opens is.limited
 
-  parts : IsLegal (opening run) run.before × IsLegal (star_through (opening run) run.before) (entry run.by Join (JoinedReply (Ok run.answer)) ∷ history run.steps)
-  parts = legal-parts (opening run) run.before (entry run.by Join (JoinedReply (Ok run.answer)) ∷ history run.steps) legal
+  parts : IsLegal (honest.opening run) run.before × IsLegal (star_through (honest.opening run) run.before) (entry run.by served.Join (served.JoinedReply (Ok run.answer)) ∷ honest.history run.steps)
+  parts = legal-parts (honest.opening run) run.before (entry run.by served.Join (served.JoinedReply (Ok run.answer)) ∷ honest.history run.steps) legal
 
   -- before the site joined its number was not given
-  not_given : (star_through (opening run) run.before).given < run.answer.site
-  not_given = (let gives = join_gives (star_through (opening run) run.before) run.answer parts.1.0 in omega (arith, ap (λ (j : Joined). j.site) gives.0))
+  not_given : (star_through (honest.opening run) run.before).given < run.answer.site
+  not_given = (let gives = join_gives (star_through (honest.opening run) run.before) run.answer parts.1.0 in omega (arith, ap (λ (j : Joined). j.site) gives.0))
 
   -- the calls of the session in the history
-  tallied : AllTallied log (tally s.back.number (join s is.serves ∷ (half s is.serves).calls) ∷ tally (writer_of is.serves) (fetches_for is.serves ++ departing s is.serves) ∷ [])
-  tallied = subst (λ es. AllTallied log (tally s.back.number es ∷ tally (writer_of is.serves) (fetches_for is.serves ++ departing s is.serves) ∷ [])) (made_is s is.serves is.moment.new)
-      (subst (λ ts. AllTallied log (tally s.back.number s.back.made ∷ ts)) (kept_is s is.serves is.moment.new) is.moment.meets.tallied)
+  tallied : AllTallied log (tally s.back.number (calls.join s is.serves ∷ (calls.half s is.serves).calls) ∷ tally (writer_of is.serves) (fetches_for is.serves ++ calls.departing s is.serves) ∷ [])
+  tallied = subst (λ es. AllTallied log (tally s.back.number es ∷ tally (writer_of is.serves) (fetches_for is.serves ++ calls.departing s is.serves) ∷ [])) (calls.made_is s is.serves is.moment.new)
+      (subst (λ ts. AllTallied log (tally s.back.number s.back.made ∷ ts)) (calls.kept_is s is.serves is.moment.new) is.moment.meets.tallied)
 
   -- under the number of the reading half
-  read_first : Begins (join s is.serves ∷ (half s is.serves).calls) (calls_by s.back.number (calls run))
+  read_first : honest.Begins (calls.join s is.serves ∷ (calls.half s is.serves).calls) (calls_by s.back.number (honest.calls run))
   read_first = (
     calls_by s.back.number is.moment.first.0,
-    sym tallied.0 ∙ ap (calls_by s.back.number) is.moment.first.1 ∙ filter-append (λ x. bytes_eq x.by s.back.number) (calls run) is.moment.first.0,
+    sym tallied.0 ∙ ap (calls_by s.back.number) is.moment.first.1 ∙ served.filter-append (λ x. bytes_eq x.by s.back.number) (honest.calls run) is.moment.first.0,
   )
 
   -- and under that of the writing half
-  write_first : Begins (fetches_for is.serves) (calls_by (writer_of is.serves) (calls run))
+  write_first : honest.Begins (fetches_for is.serves) (calls_by (writer_of is.serves) (honest.calls run))
   write_first = is.moment.stays
 
   -- what the reading half calls is no fetch, and what the writing half calls before the site leaves is no take
-  no_fetches : AllByRecursion (λ (e : HubEvent). IsFetchOf run.answer.site e.call → ⊥) (calls_by s.back.number (calls run))
-  no_fetches = all_first (λ (e : HubEvent). IsFetchOf run.answer.site e.call → ⊥) (calls_by s.back.number (calls run)) read_first.0
-      (subst (AllByRecursion (λ (e : HubEvent). IsFetchOf run.answer.site e.call → ⊥)) read_first.1
-      ((λ fetch. fetch), takes_no_fetch run.answer.site is.serves.served.site (half s is.serves).calls (half s is.serves).alone))
+  no_fetches : served.AllByRecursion (λ (e : HubEvent). calls.IsFetchOf run.answer.site e.call → ⊥) (calls_by s.back.number (honest.calls run))
+  no_fetches = all_first (λ (e : HubEvent). calls.IsFetchOf run.answer.site e.call → ⊥) (calls_by s.back.number (honest.calls run)) read_first.0
+      (subst (served.AllByRecursion (λ (e : HubEvent). calls.IsFetchOf run.answer.site e.call → ⊥)) read_first.1
+      ((λ fetch. fetch), takes_no_fetch run.answer.site is.serves.served.site (calls.half s is.serves).calls (calls.half s is.serves).alone))
 
-  no_takes : AllByRecursion (λ (e : HubEvent). IsTakeFor run.answer.site e.call → ⊥) (calls_by (writer_of is.serves) (calls run))
-  no_takes = all_first (λ (e : HubEvent). IsTakeFor run.answer.site e.call → ⊥) (calls_by (writer_of is.serves) (calls run)) write_first.0
-      (subst (AllByRecursion (λ (e : HubEvent). IsTakeFor run.answer.site e.call → ⊥)) write_first.1
+  no_takes : served.AllByRecursion (λ (e : HubEvent). calls.IsTakeFor run.answer.site e.call → ⊥) (calls_by (writer_of is.serves) (honest.calls run))
+  no_takes = all_first (λ (e : HubEvent). calls.IsTakeFor run.answer.site e.call → ⊥) (calls_by (writer_of is.serves) (honest.calls run)) write_first.0
+      (subst (served.AllByRecursion (λ (e : HubEvent). calls.IsTakeFor run.answer.site e.call → ⊥)) write_first.1
       (fetches_no_take run.answer.site is.serves.served.site (fetches_for is.serves) is.serves.served.halves.alone))
 
-  module _ (owned : IsOwnedBy s run.answer.site (calls run)) where
+  module _ (owned : IsOwnedBy s run.answer.site (honest.calls run)) where
     of_writer : (e : HubEvent) → is_among e.by s.back.kept ≡ true → e.by ≡ writer_of is.serves
     of_writer e kept =
-        elim (among_is e.by (tally (writer_of is.serves) (fetches_for is.serves ++ departing s is.serves)) [] (subst (λ ts. is_among e.by ts ≡ true) (kept_is s is.serves is.moment.new) kept)) [
+        elim (calls.among_is e.by (tally (writer_of is.serves) (fetches_for is.serves ++ calls.departing s is.serves)) [] (subst (λ ts. is_among e.by ts ≡ true) (calls.kept_is s is.serves is.moment.new) kept)) [
           | inl written ↦ written
           | inr none ↦ absurd (cc)
         ]
@@ -253,36 +254,36 @@ module _ (run : SiteRun) (log : List HubEvent) (s : Ended) (is : IsServedRun run
     -- a call for the site is under one of both numbers
     one_of_both : (e : HubEvent) → IsTrue (is_among e.by (tallies s.back)) → (e.by ≡ s.back.number) ⊎ (e.by ≡ writer_of is.serves)
     one_of_both e among =
-        elim (among_is e.by (tally s.back.number s.back.made) s.back.kept among) [
+        elim (calls.among_is e.by (tally s.back.number s.back.made) s.back.kept among) [
           | inl own ↦ inl own
           | inr kept ↦ inr (of_writer e kept)
         ]
 
-    either : (Is : Call → Type 0) → ((c : Call) → Is c → IsCallFor run.answer.site c) → (es : List HubEvent) → IsOwnedBy s run.answer.site es
-        → AllByRecursion (λ (e : HubEvent). Is e.call → (e.by ≡ s.back.number) ⊎ (e.by ≡ writer_of is.serves)) es
+    either : (Is : served.Call → Type 0) → ((c : served.Call) → Is c → IsCallFor run.answer.site c) → (es : List HubEvent) → IsOwnedBy s run.answer.site es
+        → served.AllByRecursion (λ (e : HubEvent). Is e.call → (e.by ≡ s.back.number) ⊎ (e.by ≡ writer_of is.serves)) es
     either Is asks [] all = tt
     either Is asks (e ∷ es) all = ((λ call. one_of_both e (all.0 (asks e.call call))), either Is asks es all.1)
 
     -- the takes for the site are the session's
-    takes_by : AllByRecursion (λ (e : HubEvent). IsTakeFor run.answer.site e.call → e.by ≡ s.back.number) (calls run)
-    takes_by = under_one (IsTakeFor run.answer.site) s.back.number (writer_of is.serves) (calls run)
-        (either (IsTakeFor run.answer.site) (take_is run.answer.site) (calls run) owned) no_takes
+    takes_by : served.AllByRecursion (λ (e : HubEvent). calls.IsTakeFor run.answer.site e.call → e.by ≡ s.back.number) (honest.calls run)
+    takes_by = calls.under_one (calls.IsTakeFor run.answer.site) s.back.number (writer_of is.serves) (honest.calls run)
+        (either (calls.IsTakeFor run.answer.site) (take_is run.answer.site) (honest.calls run) owned) no_takes
 
     -- and so are the fetches
-    fetches_by : AllByRecursion (λ (e : HubEvent). IsFetchOf run.answer.site e.call → e.by ≡ writer_of is.serves) (calls run)
-    fetches_by = under_one (IsFetchOf run.answer.site) (writer_of is.serves) s.back.number (calls run)
-        (swapped (IsFetchOf run.answer.site) s.back.number (writer_of is.serves) (calls run)
-        (either (IsFetchOf run.answer.site) (fetch_is run.answer.site) (calls run) owned)) no_fetches
+    fetches_by : served.AllByRecursion (λ (e : HubEvent). calls.IsFetchOf run.answer.site e.call → e.by ≡ writer_of is.serves) (honest.calls run)
+    fetches_by = calls.under_one (calls.IsFetchOf run.answer.site) (writer_of is.serves) s.back.number (honest.calls run)
+        (swapped (calls.IsFetchOf run.answer.site) s.back.number (writer_of is.serves) (honest.calls run)
+        (either (calls.IsFetchOf run.answer.site) (fetch_is run.answer.site) (honest.calls run) owned)) no_fetches
 
     -- nothing was taken for the site before it joined
     abbrev since : List HubEvent
-    since = entry run.by Join (JoinedReply (Ok run.answer)) ∷ history run.steps
+    since = entry run.by served.Join (served.JoinedReply (Ok run.answer)) ∷ honest.history run.steps
 
     abbrev rest : List HubEvent
     rest = calls_by s.back.number since ++ read_first.0
 
-    whole : join s is.serves ∷ (half s is.serves).calls ≡ calls_by s.back.number run.before ++ rest
-    whole = read_first.1 ∙ ap (λ es. es ++ read_first.0) (filter-append (λ x. bytes_eq x.by s.back.number) run.before since)
+    whole : calls.join s is.serves ∷ (calls.half s is.serves).calls ≡ calls_by s.back.number run.before ++ rest
+    whole = read_first.1 ∙ ap (λ es. es ++ read_first.0) (served.filter-append (λ x. bytes_eq x.by s.back.number) run.before since)
         ∙ append_assoc (calls_by s.back.number run.before) (calls_by s.back.number since) read_first.0
 
     none_before : calls_by s.back.number run.before ≡ []
@@ -291,115 +292,115 @@ module _ (run : SiteRun) (log : List HubEvent) (s : Ended) (is : IsServedRun run
         cases : (es : List HubEvent) → calls_by s.back.number run.before ≡ es → es ≡ []
         cases [] has = refl
         cases (e ∷ es) has =
-            let same : e ≡ join s is.serves = head_of e (join s is.serves) (es ++ rest) (half s is.serves).calls (ap (λ xs. xs ++ rest) (sym has) ∙ sym whole) in
-            let here = by_in s.back.number run.before e (subst (IsIn e) (sym has) (inl refl)) in
+            let same : e ≡ calls.join s is.serves = head_of e (calls.join s is.serves) (es ++ rest) (calls.half s is.serves).calls (ap (λ xs. xs ++ rest) (sym has) ∙ sym whole) in
+            let here = calls.by_in s.back.number run.before e (subst (calls.IsIn e) (sym has) (inl refl)) in
             let is_join : IsJoin e run.answer.site = subst (λ k. IsJoin k run.answer.site) (sym same)
             (record { answer = answer_of is.serves; call = refl; reply = refl; site = ap (λ (j : Joined). j.site) (sym is.moment.answer) }) in
-            let low = early_join run.board run.before (opening run) opened parts.0 e run.answer.site here.0 is_join in
+            let low = early_join run.board run.before (honest.opening run) opened parts.0 e run.answer.site here.0 is_join in
             absurd (omega (arith, low, not_given))
 
     -- # The lists of the run
 
-    taken_first : Begins all_taken (now run).taken
+    taken_first : honest.Begins all_taken (honest.now run).taken
     taken_first = (
-      takes_of run.answer.site read_first.0,
-      ap (λ i. takes_of i (half s is.serves).calls) (sym site_is)
-          ∙ ap (takes_of run.answer.site) read_first.1
-          ∙ takes_both run.answer.site (calls_by s.back.number (calls run)) read_first.0
-          ∙ ap (λ us. us ++ takes_of run.answer.site read_first.0)
-          (sym (takes_under s.back.number run.answer.site (calls run) takes_by)
-          ∙ takes_both run.answer.site run.before (entry run.by Join (JoinedReply (Ok run.answer)) ∷ history run.steps)
-          ∙ ap (λ us. us ++ takes_of run.answer.site (history run.steps))
-          (takes_under s.back.number run.answer.site run.before
-          (all_first (λ (e : HubEvent). IsTakeFor run.answer.site e.call → e.by ≡ s.back.number) run.before since takes_by) ∙ ap (takes_of run.answer.site) none_before)
+      honest.takes_of run.answer.site read_first.0,
+      ap (λ i. honest.takes_of i (calls.half s is.serves).calls) (sym site_is)
+          ∙ ap (honest.takes_of run.answer.site) read_first.1
+          ∙ calls.takes_both run.answer.site (calls_by s.back.number (honest.calls run)) read_first.0
+          ∙ ap (λ us. us ++ honest.takes_of run.answer.site read_first.0)
+          (sym (calls.takes_under s.back.number run.answer.site (honest.calls run) takes_by)
+          ∙ calls.takes_both run.answer.site run.before (entry run.by served.Join (served.JoinedReply (Ok run.answer)) ∷ honest.history run.steps)
+          ∙ ap (λ us. us ++ honest.takes_of run.answer.site (honest.history run.steps))
+          (calls.takes_under s.back.number run.answer.site run.before
+          (all_first (λ (e : HubEvent). calls.IsTakeFor run.answer.site e.call → e.by ≡ s.back.number) run.before since takes_by) ∙ ap (honest.takes_of run.answer.site) none_before)
           ∙ sym (run-history run).taken),
     )
 
-    fetched_first : Begins all_fetched (now run).fetched
+    fetched_first : honest.Begins all_fetched (honest.now run).fetched
     fetched_first = (
-      fetches_of run.answer.site write_first.0,
-      ap (λ i. fetches_of i (fetches_for is.serves)) (sym site_is)
-          ∙ ap (fetches_of run.answer.site) write_first.1
-          ∙ fetches_both run.answer.site (calls_by (writer_of is.serves) (calls run)) write_first.0
-          ∙ ap (λ ds. ds ++ fetches_of run.answer.site write_first.0)
-          (sym (fetches_under (writer_of is.serves) run.answer.site (calls run) fetches_by)
-          ∙ fetches_both run.answer.site run.before (entry run.by Join (JoinedReply (Ok run.answer)) ∷ history run.steps)
-          ∙ ap (λ ds. ds ++ fetches_of run.answer.site (history run.steps)) (early_fetches run.board run.answer.site run.before (opening run) opened parts.0 not_given)
+      honest.fetches_of run.answer.site write_first.0,
+      ap (λ i. honest.fetches_of i (fetches_for is.serves)) (sym site_is)
+          ∙ ap (honest.fetches_of run.answer.site) write_first.1
+          ∙ calls.fetches_both run.answer.site (calls_by (writer_of is.serves) (honest.calls run)) write_first.0
+          ∙ ap (λ ds. ds ++ honest.fetches_of run.answer.site write_first.0)
+          (sym (calls.fetches_under (writer_of is.serves) run.answer.site (honest.calls run) fetches_by)
+          ∙ calls.fetches_both run.answer.site run.before (entry run.by served.Join (served.JoinedReply (Ok run.answer)) ∷ honest.history run.steps)
+          ∙ ap (λ ds. ds ++ honest.fetches_of run.answer.site (honest.history run.steps)) (early_fetches run.board run.answer.site run.before (honest.opening run) opened parts.0 not_given)
           ∙ sym (run-history run).fetched),
     )
 
-    last : IsCausal (now run)
-    last = causal_last run.steps (start run) is.causal
+    last : honest.IsCausal (honest.now run)
+    last = causal_last run.steps (honest.start run) is.causal
 
-    reliable : IsReliable (now run)
+    reliable : honest.IsReliable (honest.now run)
     reliable = record {
-      up = both_begin ((now run).sent ++ is.up.more) (now run).sent (now run).taken (is.up.more, refl)
-          (begins_chain ((now run).sent ++ is.up.more) all_taken (now run).taken sent_first taken_first) last.up;
-      down = both_begin all_fetched (now run).fetched (now run).handed fetched_first handed_first last.down;
+      up = both_begin ((honest.now run).sent ++ is.up.more) (honest.now run).sent (honest.now run).taken (is.up.more, refl)
+          (begins_chain ((honest.now run).sent ++ is.up.more) all_taken (honest.now run).taken sent_first taken_first) last.up;
+      down = both_begin all_fetched (honest.now run).fetched (honest.now run).handed fetched_first handed_first last.down;
     }
 
-    pub served_honest : IsHonest run
-    served_honest = record { opens = is.opens; limited = is.limited; legal = legal; reliable = causal_through run.steps (start run) is.causal reliable }
+    pub served_honest : honest.IsHonest run
+    served_honest = record { opens = is.opens; limited = is.limited; legal = legal; reliable = causal_through run.steps (honest.start run) is.causal reliable }
 
 -- Of a hub that sessions alone call, the run of each site that one of them serves is honest.
 
-pub hub_honest : (keeps : Bool) (board : Windows) (limit : ℕ) (sessions : List Ended) (log : List HubEvent) → IsSessionHub keeps board limit sessions log → (run : SiteRun) (s : Ended) → IsOneOf s sessions → IsServedRun run log s
-    → IsHonest run
+pub hub_honest : (keeps : Bool) (board : served.Windows) (limit : ℕ) (sessions : List Ended) (log : List HubEvent) → IsSessionHub keeps board limit sessions log → (run : honest.SiteRun) (s : Ended) → IsOneOf s sessions → IsServedRun run log s
+    → honest.IsHonest run
 hub_honest keeps board limit sessions log hub run s one is =
     served_honest run log s is
-    (subst (λ i. IsOwnedBy s i (calls run)) (ap (λ (j : Joined). j.site) (sym is.moment.answer))
-    (all_first (λ e. IsCallFor (answer_of is.serves).site e.call → IsTrue (is_among e.by (tallies s.back))) (calls run) is.moment.first.0
+    (subst (λ i. IsOwnedBy s i (honest.calls run)) (ap (λ (j : Joined). j.site) (sym is.moment.answer))
+    (all_first (λ e. IsCallFor (answer_of is.serves).site e.call → IsTrue (is_among e.by (tallies s.back))) (honest.calls run) is.moment.first.0
     (subst (IsOwnedBy s (answer_of is.serves).site) is.moment.first.1 (owned keeps board limit sessions log hub s one is.serves))))
 
 -- What a client of this product shows and says is what the run of its site has.
 
 -- the client shows the site of this, and all that it has said are the messages that this has sent
-record Shows (c : Connection) (client : ClientState) (saids : List Said) : Type 0 where
+record Shows (c : honest.Connection) (client : ClientState) (saids : List served.Said) : Type 0 where
   site : client.site ≡ c.site
-  said : saids ≡ map (λ up. SaysUp up) c.sent
+  said : saids ≡ map (λ up. served.SaysUp up) c.sent
 
 -- in one step
-shows_after : (step : Step) (c : Connection) (old new : ClientState) (said first : List Said) → Shows c old said → IsClientStep step old new first → Shows (after step c) new (said ++ first)
-shows_after (Edit commands) c old new said first shows (answer, answers, says) =
+shows_after : (step : honest.Step) (c : honest.Connection) (old new : ClientState) (said first : List served.Said) → Shows c old said → IsClientStep step old new first → Shows (honest.after step c) new (said ++ first)
+shows_after (honest.Edit commands) c old new said first shows (answer, answers, says) =
     elim (edit_step commands old new (Ok answer) answers) [
       | inl ended ↦ absurd (let none : Ok answer ≡ Err NoMemory = ended.0 in cc)
       | inr made ↦ record {
         site = made.0 ∙ ap (site_edited commands) shows.site;
         said = ap (λ ss. ss ++ first) shows.said
-            ∙ ap (λ ss. map (λ up. SaysUp up) c.sent ++ ss) (says ∙ made.1 ∙ ap (λ s. map (λ up. SaysUp up) (sent_as_made (edit_reply commands s))) shows.site)
-            ∙ sym (map-append (λ up. SaysUp up) c.sent (sent_as_made (edit_reply commands c.site)));
+            ∙ ap (λ ss. map (λ up. served.SaysUp up) c.sent ++ ss) (says ∙ made.1 ∙ ap (λ s. map (λ up. served.SaysUp up) (honest.sent_as_made (edit_reply commands s))) shows.site)
+            ∙ sym (served.map-append (λ up. served.SaysUp up) c.sent (honest.sent_as_made (edit_reply commands c.site)));
       }
     ]
-shows_after (Deliver down) c old new said first shows (heard, delivers, says) =
+shows_after (honest.Deliver down) c old new said first shows (heard, delivers, says) =
     elim (deliver_step down old new (Ok heard) delivers) [
       | inl ended ↦ absurd (let none : Ok heard ≡ Err NoMemory = ended.0 in cc)
       | inr made ↦ record {
         site = made.0 ∙ ap (site_delivered down) shows.site;
         said = ap (λ ss. ss ++ first) shows.said
-            ∙ ap (λ ss. map (λ up. SaysUp up) c.sent ++ ss) (says ∙ made.1 ∙ ap (λ s. map (λ up. SaysUp up) (sent_as_handed (deliver_reply down s))) shows.site)
-            ∙ sym (map-append (λ up. SaysUp up) c.sent (sent_as_handed (deliver_reply down c.site)));
+            ∙ ap (λ ss. map (λ up. served.SaysUp up) c.sent ++ ss) (says ∙ made.1 ∙ ap (λ s. map (λ up. served.SaysUp up) (honest.sent_as_handed (deliver_reply down s))) shows.site)
+            ∙ sym (served.map-append (λ up. served.SaysUp up) c.sent (honest.sent_as_handed (deliver_reply down c.site)));
       }
     ]
-shows_after (Ping k) c old new said first shows (answer, answers, says, ping) = record {
+shows_after (honest.Ping k) c old new said first shows (answer, answers, says, ping) = record {
   site = ap (λ (d : ClientState). d.site) answers.1 ∙ shows.site;
-  said = ap (λ ss. ss ++ first) shows.said ∙ ap (λ ss. map (λ up. SaysUp up) c.sent ++ ss) ping ∙ sym (map-append (λ up. SaysUp up) c.sent (UpPing k ∷ []));
+  said = ap (λ ss. ss ++ first) shows.said ∙ ap (λ ss. map (λ up. served.SaysUp up) c.sent ++ ss) ping ∙ sym (served.map-append (λ up. served.SaysUp up) c.sent (served.UpPing k ∷ []));
 }
-shows_after (Called e) c old new said first shows (same, none) = record {
+shows_after (honest.Called e) c old new said first shows (same, none) = record {
   site = ap (λ (d : ClientState). d.site) same ∙ shows.site;
   said = ap (λ ss. said ++ ss) none ∙ append-nil said ∙ shows.said;
 }
 
 -- in several
-shows_through : (steps : List Step) (c : Connection) (old new : ClientState) (said more : List Said) → Shows c old said → IsClientRun steps old new more → Shows (through steps c) new (said ++ more)
+shows_through : (steps : List honest.Step) (c : honest.Connection) (old new : ClientState) (said more : List served.Said) → Shows c old said → IsClientRun steps old new more → Shows (honest.through steps c) new (said ++ more)
 shows_through [] c old new said more shows (same, none) = record {
   site = ap (λ (d : ClientState). d.site) same ∙ shows.site;
   said = ap (λ ss. said ++ ss) none ∙ append-nil said ∙ shows.said;
 }
 shows_through (step ∷ steps) c old new said more shows (between, first, later, one, rest, are) =
     let here = shows_after step c old between said first shows one in
-    let there = shows_through steps (after step c) between new (said ++ first) later here rest in
+    let there = shows_through steps (honest.after step c) between new (said ++ first) later here rest in
     record { site = there.site; said = ap (λ ss. said ++ ss) are ∙ sym (append_assoc said first later) ∙ there.said }
 
-pub client_shows : (run : SiteRun) (old new : ClientState) (saids : List Said) → old.site ≡ (start run).site → IsClientRun run.steps old new saids
-    → (new.site ≡ (now run).site) × (saids ≡ map (λ up. SaysUp up) (now run).sent)
-client_shows run old new saids same walk = let all = shows_through run.steps (start run) old new [] saids (record { site = same; said = refl }) walk in (all.site, all.said)
+pub client_shows : (run : honest.SiteRun) (old new : ClientState) (saids : List served.Said) → old.site ≡ (honest.start run).site → IsClientRun run.steps old new saids
+    → (new.site ≡ (honest.now run).site) × (saids ≡ map (λ up. served.SaysUp up) (honest.now run).sent)
+client_shows run old new saids same walk = let all = shows_through run.steps (honest.start run) old new [] saids (record { site = same; said = refl }) walk in (all.site, all.said)

@@ -1,6 +1,6 @@
 -- Two sessions of one hub.
 use Rattle.std.proofs.Common.{◌≡◌, inl, inr, ℕ, true, false, List, [], ◌∷◌, ◌++◌, map, Some, None, Ok, refl, sym, ap, subst, ◌∙◌, append-nil, lit≤, count_by, Bool, length, lit<}
-use Rattle.jup_served.specs.Prelude.{BoardBatch, bare, Windows, Up, Joined, Join, Leave, Take, Fetch, StarReply, JoinedReply, Taken, Fetched, Left, UpPing, Down, Line, Progress, HasRead, all-append, at_first, IsOpening, HubEvent, View, Said, SaysUp, Answer, ClientHeard, ClientState, last_line, Sourced, flat_map, AllByRecursion, flat_map-append, Gone, IsFresh, IsServed, Served, all_done, bytes_read, All-nil, spelling, HasSpelling}
+use Rattle.jup_served.specs.Prelude as played
 use Rattle.jup_batch.specs.Boards.{edit_of}
 use Rattle.jup_star.specs.Stars.{BoardLink, reply_of, star_after, opened_counting}
 use Rattle.jup_star.specs.Sites.{BoardSite, site_edited}
@@ -29,36 +29,36 @@ use Rattle.jup_window.specs.declared.kinds.Setting.TheVariants.{Toggle as Toggle
 -- A session whose client says some messages, all of which are taken, and then closes its way up.
 
 -- a reader of these bytes, of which nothing is read yet that was not handed on
-abbrev pub clean : Progress
+abbrev pub clean : played.Progress
 clean = record { part = []; fault = None }
 
-abbrev at_bytes : List ℕ → Sourced
+abbrev at_bytes : List ℕ → played.Sourced
 at_bytes bytes = record { known = Some bytes; progress = clean; waiting = []; reads = 0 }
 
 pub no_part : IsPart []
-no_part = record { short = lit≤ tt; open_ended = All-nil _ }
+no_part = record { short = lit≤ tt; open_ended = played.All-nil _ }
 
 -- whole lines that are read and handed on
-pub reads_lines : (before : List ℕ) (old ls : List Line) → AllByRecursion HasSpelling ls → HasRead before (old ++ []) clean → HasRead (before ++ flat_map spelling ls) (old ++ (ls ++ [])) clean
+pub reads_lines : (before : List ℕ) (old ls : List played.Line) → played.AllByRecursion played.HasSpelling ls → played.HasRead before (old ++ []) clean → played.HasRead (before ++ played.flat_map played.spelling ls) (old ++ (ls ++ [])) clean
 reads_lines before old ls spelled read =
-    let was : HasRead before old clean = subst (λ l. HasRead before l clean) (append-nil old) read in
+    let was : played.HasRead before old clean = subst (λ l. played.HasRead before l clean) (append-nil old) read in
     record {
-      spelled = subst (λ l. AllByRecursion HasSpelling (old ++ l)) (sym (append-nil ls)) (all-append HasSpelling old ls was.spelled spelled);
+      spelled = subst (λ l. played.AllByRecursion played.HasSpelling (old ++ l)) (sym (append-nil ls)) (played.all-append played.HasSpelling old ls was.spelled spelled);
       rest = (
-        ap (λ bs. bs ++ flat_map spelling ls) (was.rest.0 ∙ append-nil (flat_map spelling old))
-            ∙ sym (flat_map-append spelling old ls) ∙ ap (λ l. flat_map spelling (old ++ l)) (sym (append-nil ls)) ∙ sym (append-nil (flat_map spelling (old ++ (ls ++ [])))),
+        ap (λ bs. bs ++ played.flat_map played.spelling ls) (was.rest.0 ∙ append-nil (played.flat_map played.spelling old))
+            ∙ sym (played.flat_map-append played.spelling old ls) ∙ ap (λ l. played.flat_map played.spelling (old ++ l)) (sym (append-nil ls)) ∙ sym (append-nil (played.flat_map played.spelling (old ++ (ls ++ [])))),
         was.rest.1,
       );
     }
 
-abbrev hands_lines : (ls : List Line) (rest : List ℕ) → AllByRecursion HasSpelling ls → HandsOn (at_bytes (flat_map spelling ls ++ rest)) ls (at_bytes rest)
-hands_lines ls rest spelled = record { bytes = flat_map spelling ls; consumed = refl; counted = lit≤ tt; goes_on = λ before old read. reads_lines before old ls spelled read }
+abbrev hands_lines : (ls : List played.Line) (rest : List ℕ) → played.AllByRecursion played.HasSpelling ls → HandsOn (at_bytes (played.flat_map played.spelling ls ++ rest)) ls (at_bytes rest)
+hands_lines ls rest spelled = record { bytes = played.flat_map played.spelling ls; consumed = refl; counted = lit≤ tt; goes_on = λ before old read. reads_lines before old ls spelled read }
 
 -- the end of the bytes
 abbrev at_end : Stops (at_bytes []) End (at_bytes [])
 at_end = record {
   middle = Some [];
-  reads = record { bytes = []; consumed = refl; counted = lit≤ tt; goes_on = λ before lines read. subst (λ bs. HasRead bs (lines ++ []) clean) (sym (append-nil before)) read };
+  reads = record { bytes = []; consumed = refl; counted = lit≤ tt; goes_on = λ before lines read. subst (λ bs. played.HasRead bs (lines ++ []) clean) (sym (append-nil before)) read };
   lost = [];
   consumed = refl;
   none = refl;
@@ -70,54 +70,54 @@ pub no_fault : (fault : StreamFault) → End ≡ Fault fault → ⊥
 no_fault fault e = cc
 
 -- what was heard by the lines of messages
-pub heard_by : (saids : List Said) → AllByRecursion IsPiece (map said_piece saids) → HasHeard (said_lines saids) saids (Some [], counted (count_by says_edit saids))
-heard_by saids pieces = (record { sound = pieces; rest = (mapped_lines said_piece saids ∙ sym (append-nil _), at_first.rest.1) }, refl)
+pub heard_by : (saids : List played.Said) → played.AllByRecursion IsPiece (map said_piece saids) → HasHeard (said_lines saids) saids (Some [], counted (count_by says_edit saids))
+heard_by saids pieces = (record { sound = pieces; rest = (mapped_lines said_piece saids ∙ sym (append-nil _), played.at_first.rest.1) }, refl)
 
 -- What makes such a session. It has the star as the hub was opened, the number of the session's pass, the answer to its join, and the
 -- history before that. Then the messages that its client says, the calls that take them, those that fetch, and the answer to the leave
 pub record Plan : Type 0 where
   pub opening : BoardStar
   pub number : List ℕ
-  pub joined : Joined
-  pub before : List HubEvent
-  pub ups : List (Up BoardBatch)
-  pub takes : List HubEvent
-  pub fetches : List HubEvent
-  pub left : StarReply
+  pub joined : played.Joined
+  pub before : List played.HubEvent
+  pub ups : List (played.Up played.BoardBatch)
+  pub takes : List played.HubEvent
+  pub fetches : List played.HubEvent
+  pub left : played.StarReply
 
 module _ (p : Plan) where
-  abbrev pub answer : Joined
-  answer = record p.joined { board = bare p.joined.board }
+  abbrev pub answer : played.Joined
+  answer = record p.joined { board = played.bare p.joined.board }
 
-  abbrev pub given : View
+  abbrev pub given : played.View
   given = record { opening = p.opening; is_live = true; turn = None; number = p.number; splits = 0; seen = [] ∷ []; made = []; kept = [] }
 
-  abbrev pub join : HubEvent
-  join = entry p.number Join (JoinedReply (Ok answer))
+  abbrev pub join : played.HubEvent
+  join = entry p.number played.Join (played.JoinedReply (Ok answer))
 
-  abbrev pub behind : View
-  behind = having_called p.before Join (JoinedReply (Ok answer)) given
+  abbrev pub behind : played.View
+  behind = having_called p.before played.Join (played.JoinedReply (Ok answer)) given
 
-  abbrev pub leave : HubEvent
-  leave = entry (0 ∷ p.number) (Leave p.joined.site) p.left
+  abbrev pub leave : played.HubEvent
+  leave = entry (0 ∷ p.number) (played.Leave p.joined.site) p.left
 
-  abbrev pub read : View
+  abbrev pub read : played.View
   read = record (after_split behind) { made = behind.made ++ p.takes }
 
-  abbrev pub back : View
+  abbrev pub back : played.View
   back = record read { kept = tally (0 ∷ p.number) (p.fetches ++ leave ∷ []) ∷ [] }
 
-  abbrev pub saids : List Said
-  saids = map (λ up. SaysUp up) p.ups
+  abbrev pub saids : List played.Said
+  saids = map (λ up. played.SaysUp up) p.ups
 
-  abbrev pub lines : List Line
-  lines = welcome_lines p.joined ++ (lines_brought p.fetches ++ last_line Gone ∷ [])
+  abbrev pub lines : List played.Line
+  lines = welcome_lines p.joined ++ (lines_brought p.fetches ++ played.last_line played.Gone ∷ [])
 
   -- what has to hold of it
   pub record IsPlain : Type 0 where
-    pub meets : Meets behind (with_call p.before given Join (JoinedReply (Ok answer)))
-    pub spelled : AllByRecursion HasSpelling (said_lines saids)
-    pub pieces : AllByRecursion IsPiece (map said_piece saids)
+    pub meets : Meets behind (with_call p.before given played.Join (played.JoinedReply (Ok answer)))
+    pub spelled : played.AllByRecursion played.HasSpelling (said_lines saids)
+    pub pieces : played.AllByRecursion IsPiece (map said_piece saids)
     pub takes : AreTakesOf p.joined.site saids p.takes
     pub fetches : AreFetchesFor p.joined.site p.fetches
     pub last : LastLeavesNothing p.fetches
@@ -127,18 +127,18 @@ module _ (p : Plan) where
 
   module _ (is : IsPlain) where
     abbrev first_bytes : List ℕ
-    first_bytes = flat_map spelling (Hello ∷ [])
+    first_bytes = played.flat_map played.spelling (Hello ∷ [])
 
     abbrev later_bytes : List ℕ
-    later_bytes = flat_map spelling (said_lines saids)
+    later_bytes = played.flat_map played.spelling (said_lines saids)
 
-    abbrev first_source : Sourced
+    abbrev first_source : played.Sourced
     first_source = at_bytes (first_bytes ++ (later_bytes ++ []))
 
     abbrev keeper : Keeper
     keeper = (Some [], counted (count_by says_edit saids))
 
-    abbrev hears : Heard p.joined.site (at_bytes (later_bytes ++ [])) (after_split behind) (at_bytes []) read Gone None
+    abbrev hears : Heard p.joined.site (at_bytes (later_bytes ++ [])) (after_split behind) (at_bytes []) read played.Gone None
     hears = inl (record {
       before = at_bytes [];
       pass = read;
@@ -157,13 +157,13 @@ module _ (p : Plan) where
       over = Stopped End at_end refl (record { early = λ e part. absurd (part refl); gone = λ e f. refl; fault = λ fault e. absurd (no_fault fault e) }) refl;
     })
 
-    abbrev served : IsServed first_source given back Gone false all_done lines
+    abbrev served : played.IsServed first_source given back played.Gone false played.all_done lines
     served = record {
       site = p.joined.site;
       greeted = at_bytes (later_bytes ++ []);
       behind = behind;
       first = welcome_lines p.joined;
-      later = lines_brought p.fetches ++ last_line Gone ∷ [];
+      later = lines_brought p.fetches ++ played.last_line played.Gone ∷ [];
       welcomed = record {
         hello = hands_lines (Hello ∷ []) (later_bytes ++ []) (tt, tt);
         joined = p.joined;
@@ -173,7 +173,7 @@ module _ (p : Plan) where
       };
       halves = record {
         last = at_bytes [];
-        heard = Gone;
+        heard = played.Gone;
         read = read;
         hears = hears;
         told = None;
@@ -193,19 +193,19 @@ module _ (p : Plan) where
       lines_are = refl;
     }
 
-    abbrev fresh : IsFresh (Some (first_bytes ++ (later_bytes ++ []))) first_source
+    abbrev fresh : played.IsFresh (Some (first_bytes ++ (later_bytes ++ []))) first_source
     fresh = record { known = refl; read = record { spelled = tt; rest = (refl, no_part) }; waiting = refl; reads = refl }
 
     abbrev pub plain : Ended
     plain = record {
       from = Some (first_bytes ++ (later_bytes ++ []));
       old = Some [];
-      new = Some (flat_map line_bytes lines);
+      new = Some (played.flat_map line_bytes lines);
       given = given;
       back = back;
-      ending = Gone;
+      ending = played.Gone;
       failed = false;
-      undone = all_done;
+      undone = played.all_done;
       calls = record {
         calls = join ∷ p.takes;
         others = tally (0 ∷ p.number) (p.fetches ++ leave ∷ []) ∷ [];
@@ -216,8 +216,8 @@ module _ (p : Plan) where
       };
       exact = record {
         lines = lines;
-        has_lines = Served first_source fresh served;
-        wrote = (flat_map line_bytes lines, [], sym (append-nil (flat_map line_bytes lines)), refl, λ whole. refl);
+        has_lines = played.Served first_source fresh served;
+        wrote = (played.flat_map line_bytes lines, [], sym (append-nil (played.flat_map line_bytes lines)), refl, λ whole. refl);
       };
     }
 
@@ -225,35 +225,35 @@ module _ (p : Plan) where
     plain_serves = record { start = first_source; fresh = fresh; served = served; is = refl }
 
     -- its client wrote all that it read
-    pub wrote_all : (bytes_read plain.exact) ++ [] ≡ flat_map spelling (Hello ∷ said_lines (all_said (p.ups ++ []) false))
+    pub wrote_all : (played.bytes_read plain.exact) ++ [] ≡ played.flat_map played.spelling (Hello ∷ said_lines (all_said (p.ups ++ []) false))
     wrote_all = append-nil (first_bytes ++ (later_bytes ++ [])) ∙ ap (λ bs. first_bytes ++ bs) (append-nil later_bytes)
-        ∙ sym (flat_map-append spelling (Hello ∷ []) (said_lines saids))
-        ∙ ap (λ us. flat_map spelling (Hello ∷ said_lines us)) (ap (λ us. map (λ up. SaysUp up) us) (sym (append-nil p.ups)) ∙ sym (append-nil (map (λ up. SaysUp up) (p.ups ++ []))))
+        ∙ sym (played.flat_map-append played.spelling (Hello ∷ []) (said_lines saids))
+        ∙ ap (λ us. played.flat_map played.spelling (Hello ∷ said_lines us)) (ap (λ us. map (λ up. played.SaysUp up) us) (sym (append-nil p.ups)) ∙ sym (append-nil (map (λ up. played.SaysUp up) (p.ups ++ []))))
 
     -- and reads all that it wrote
-    pub read_all : AllByRecursion HasSpelling lines → HasRead (flat_map line_bytes lines) lines clean
-    read_all spelled = record { spelled = spelled; rest = (lines_spelled lines spelled ∙ sym (append-nil (flat_map spelling lines)), no_part) }
+    pub read_all : played.AllByRecursion played.HasSpelling lines → played.HasRead (played.flat_map line_bytes lines) lines clean
+    read_all spelled = record { spelled = spelled; rest = (lines_spelled lines spelled ∙ sym (append-nil (played.flat_map played.spelling lines)), no_part) }
 
 -- Two sessions of one hub: each client sets the toggle once, at the same time, and pings. Then both sites leave.
 
 -- one window with one toggle
-abbrev pub board : Windows
+abbrev pub board : played.Windows
 board = (1, (1, ToggleWidget (record { on = false })) ∷ []) ∷ []
 
 -- an operation that switches it
-abbrev switch : Bool → BoardBatch
+abbrev switch : Bool → played.BoardBatch
 switch on = record { win = 1; wid = 1; op = ToggleOp (SetTo on) } ∷ []
 
-abbrev nothing : BoardBatch
+abbrev nothing : played.BoardBatch
 nothing = record { win = 1; wid = 1; op = ToggleOp SetNothing } ∷ []
 
-abbrev message : ℕ → ℕ → BoardBatch → Msg BoardBatch
+abbrev message : ℕ → ℕ → played.BoardBatch → Msg played.BoardBatch
 message mine heard op = record { mine = mine; heard = heard; op = op }
 
 abbrev command : Bool → Commands
 command on = SetCommand 1 1 (ToggleSetting on) ∷ []
 
-abbrev joined : ℕ → Joined
+abbrev joined : ℕ → played.Joined
 joined i = record { site = i; limit = 9; board = board }
 
 abbrev star : BoardStar
@@ -267,43 +267,43 @@ abbrev two : List ℕ
 two = 1 ∷ []
 
 -- the calls
-abbrev join_one : HubEvent
-join_one = entry one Join (JoinedReply (Ok (joined 1)))
+abbrev join_one : played.HubEvent
+join_one = entry one played.Join (played.JoinedReply (Ok (joined 1)))
 
-abbrev join_two : HubEvent
-join_two = entry two Join (JoinedReply (Ok (joined 2)))
+abbrev join_two : played.HubEvent
+join_two = entry two played.Join (played.JoinedReply (Ok (joined 2)))
 
-abbrev edit_two : HubEvent
-edit_two = entry two (Take 2 (UpOp (message 0 0 (switch false)))) (Taken (Ok (Some 0)))
+abbrev edit_two : played.HubEvent
+edit_two = entry two (played.Take 2 (UpOp (message 0 0 (switch false)))) (played.Taken (Ok (Some 0)))
 
-abbrev edit_one : HubEvent
-edit_one = entry one (Take 1 (UpOp (message 0 0 (switch true)))) (Taken (Ok (Some 1)))
+abbrev edit_one : played.HubEvent
+edit_one = entry one (played.Take 1 (UpOp (message 0 0 (switch true)))) (played.Taken (Ok (Some 1)))
 
-abbrev ping_one : HubEvent
-ping_one = entry one (Take 1 (UpPing 7)) (Taken (Ok None))
+abbrev ping_one : played.HubEvent
+ping_one = entry one (played.Take 1 (played.UpPing 7)) (played.Taken (Ok None))
 
-abbrev downs_one : List (Down BoardBatch)
+abbrev downs_one : List (played.Down played.BoardBatch)
 downs_one = DownOp (message 0 0 (switch false)) ∷ DownPong 7 ∷ []
 
-abbrev fetch_one : HubEvent
-fetch_one = entry (0 ∷ one) (Fetch 1 64) (Fetched (Ok downs_one))
+abbrev fetch_one : played.HubEvent
+fetch_one = entry (0 ∷ one) (played.Fetch 1 64) (played.Fetched (Ok downs_one))
 
-abbrev downs_two : List (Down BoardBatch)
+abbrev downs_two : List (played.Down played.BoardBatch)
 downs_two = DownOp (message 0 1 (switch true)) ∷ []
 
-abbrev fetch_two : HubEvent
-fetch_two = entry (0 ∷ two) (Fetch 2 64) (Fetched (Ok downs_two))
+abbrev fetch_two : played.HubEvent
+fetch_two = entry (0 ∷ two) (played.Fetch 2 64) (played.Fetched (Ok downs_two))
 
-abbrev leave_one : HubEvent
-leave_one = entry (0 ∷ one) (Leave 1) (Left (Ok tt))
+abbrev leave_one : played.HubEvent
+leave_one = entry (0 ∷ one) (played.Leave 1) (played.Left (Ok tt))
 
-abbrev leave_two : HubEvent
-leave_two = entry (0 ∷ two) (Leave 2) (Left (Ok tt))
+abbrev leave_two : played.HubEvent
+leave_two = entry (0 ∷ two) (played.Leave 2) (played.Left (Ok tt))
 
-abbrev later : List HubEvent
+abbrev later : List played.HubEvent
 later = edit_two ∷ edit_one ∷ ping_one ∷ fetch_one ∷ fetch_two ∷ leave_one ∷ leave_two ∷ []
 
-abbrev pub log : List HubEvent
+abbrev pub log : List played.HubEvent
 log = join_one ∷ join_two ∷ later
 
 -- # The runs
@@ -328,7 +328,7 @@ legal : IsLegal star log
 unfolding reply_of star_after
 legal = (refl, (refl, (refl, (refl, (refl, (refl, (refl, (refl, (refl, tt)))))))))
 
-opens : IsOpening board
+opens : played.IsOpening board
 opens = record { distinct = ((tt, tt), tt); unsigned = refl; short = ((tt, tt), tt) }
 
 -- # The sessions
@@ -339,10 +339,10 @@ plan_one = record {
   number = one;
   joined = joined 1;
   before = [];
-  ups = UpOp (message 0 0 (switch true)) ∷ UpPing 7 ∷ [];
+  ups = UpOp (message 0 0 (switch true)) ∷ played.UpPing 7 ∷ [];
   takes = edit_one ∷ ping_one ∷ [];
   fetches = fetch_one ∷ [];
-  left = Left (Ok tt);
+  left = played.Left (Ok tt);
 }
 
 abbrev plan_two : Plan
@@ -354,7 +354,7 @@ plan_two = record {
   ups = UpOp (message 0 0 (switch false)) ∷ [];
   takes = edit_two ∷ [];
   fetches = fetch_two ∷ [];
-  left = Left (Ok tt);
+  left = played.Left (Ok tt);
 }
 
 is_plain_one : IsPlain plan_one
@@ -392,10 +392,10 @@ pub session_two : Ended
 session_two = plain plan_two is_plain_two
 
 -- their lines
-spelled_one : AllByRecursion HasSpelling (lines plan_one)
+spelled_one : played.AllByRecursion played.HasSpelling (lines plan_one)
 spelled_one = ((lit< tt, lit< tt), (lit< tt, ((lit< tt, tt), (tt, ((lit< tt, (lit< tt, (lit≤ tt, lit≤ tt))), ((lit< tt, (lit< tt, tt)), (lit< tt, (tt, tt))))))))
 
-spelled_two : AllByRecursion HasSpelling (lines plan_two)
+spelled_two : played.AllByRecursion played.HasSpelling (lines plan_two)
 spelled_two = ((lit< tt, lit< tt), (lit< tt, ((lit< tt, tt), (tt, ((lit< tt, (lit< tt, (lit≤ tt, lit≤ tt))), ((lit< tt, (lit< tt, tt)), (tt, tt)))))))
 
 pub hub : IsSessionHub false board 9 (session_one ∷ session_two ∷ []) log
@@ -438,7 +438,7 @@ served_one = record {
   up = record { more = []; bye = false; spelled = (tt, is_plain_one.spelled); left = []; bytes = wrote_all plan_one is_plain_one };
   down = record {
     received = record {
-      read = flat_map line_bytes (lines plan_one);
+      read = played.flat_map line_bytes (lines plan_one);
       site = 1;
       limit = 9;
       body = board_lines board;
@@ -449,12 +449,12 @@ served_one = record {
       reads = read_all plan_one is_plain_one spelled_one;
       downs = downs_one;
       held = Some [];
-      said = record { sound = ((lit≤ tt, lit≤ tt), (refl, tt)); rest = (refl, at_first.rest.1) };
+      said = record { sound = ((lit≤ tt, lit≤ tt), (refl, tt)); rest = (refl, played.at_first.rest.1) };
       later = [];
       handed = refl;
     };
     left = [];
-    bytes = append-nil (flat_map line_bytes (lines plan_one));
+    bytes = append-nil (played.flat_map line_bytes (lines plan_one));
   };
   causal = causal_one;
 }
@@ -477,7 +477,7 @@ served_two = record {
   up = record { more = []; bye = false; spelled = (tt, is_plain_two.spelled); left = []; bytes = wrote_all plan_two is_plain_two };
   down = record {
     received = record {
-      read = flat_map line_bytes (lines plan_two);
+      read = played.flat_map line_bytes (lines plan_two);
       site = 2;
       limit = 9;
       body = board_lines board;
@@ -488,12 +488,12 @@ served_two = record {
       reads = read_all plan_two is_plain_two spelled_two;
       downs = downs_two;
       held = Some [];
-      said = record { sound = ((lit≤ tt, lit≤ tt), tt); rest = (refl, at_first.rest.1) };
+      said = record { sound = ((lit≤ tt, lit≤ tt), tt); rest = (refl, played.at_first.rest.1) };
       later = [];
       handed = refl;
     };
     left = [];
-    bytes = append-nil (flat_map line_bytes (lines plan_two));
+    bytes = append-nil (played.flat_map line_bytes (lines plan_two));
   };
   causal = causal_two;
 }
@@ -527,28 +527,28 @@ two_entries = refl
 
 -- # The client of the second run
 
-abbrev client_of : BoardSite → ClientState
+abbrev client_of : BoardSite → played.ClientState
 client_of site = record { site = site; gather = Some []; pings = 0 }
 
-abbrev mine : Said
-mine = SaysUp (UpOp (message 0 0 (switch false)))
+abbrev mine : played.Said
+mine = played.SaysUp (UpOp (message 0 0 (switch false)))
 
-abbrev pub client_first : ClientState
+abbrev pub client_first : played.ClientState
 client_first = client_of (start run_two).site
 
-abbrev client_made : ClientState
+abbrev client_made : played.ClientState
 client_made = client_of (site_edited (command false) (start run_two).site)
 
-abbrev pub client_last : ClientState
+abbrev pub client_last : played.ClientState
 client_last = client_of (now run_two).site
 
-abbrev answer_made : Answer
+abbrev answer_made : played.Answer
 answer_made = record { said = Some mine; told = told.Made (edit_of (switch false)) }
 
-abbrev heard_last : ClientHeard
+abbrev heard_last : played.ClientHeard
 heard_last = record { said = None; is_synced = false; shown = Some (switch true) }
 
-abbrev pub said_two : List Said
+abbrev pub said_two : List played.Said
 said_two = mine ∷ []
 
 pub walk_two : IsClientRun steps_two client_first client_last said_two

@@ -16,7 +16,7 @@ pub use Rattle.jup_wire.specs.declared.line.Line.{Line}
 pub use Rattle.jup_wire.specs.Streams.{HasRead, Progress}
 pub use Rattle.jup_wire.proofs.Streams.{all-append}
 pub use Rattle.jup_gather.proofs.Gathering.{at_first}
-pub use Rattle.jup_world.specs.Worlds.{IsOpening}
+pub use Rattle.jup_site.specs.Sites.{IsOpening}
 pub use Rattle.jup_hub.specs.declared.view.HubEvent.{HubEvent}
 pub use Rattle.jup_hub.specs.declared.view.Tally.{Tally}
 pub use Rattle.jup_hub.specs.declared.view.View.{View}

@@ -11,7 +11,7 @@ ghost use Rattle.jup_hub.specs.Histories.{calls_in, Meets};
 ghost use Rattle.jup_client.specs.declared.client.ClientState.{ClientState};
 ghost use Rattle.jup_stream.specs.declared.saying.Said.{Said};
 ghost use Rattle.jup_stream.specs.declared.saying.Said.TheVariants.{Up as SaysUp};
-ghost use Rattle.jup_world.specs.Worlds.{IsOpening};
+ghost use Rattle.jup_site.specs.Sites.{IsOpening};
 ghost use Rattle.jup_session.specs.Sessions.{HasMadeNone};
 ghost use Rattle.jup_honest.specs.Sites.{SiteRun, IsHonest, calls, start, now, AreDrained};
 ghost use Rattle.jup_served.specs.Sessions.{IsClientRun, Ended, ServesSite, answer_of, IsOwnedBy, IsServedRun, all_tallies, IsOneOf, IsSessionHub};

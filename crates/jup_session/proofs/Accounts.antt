@@ -3,7 +3,7 @@ use Rattle.std.proofs.Common.{◌≡◌, ◌∙◌, sym, ap, subst, ℕ, inl, in
 use Rattle.std.specs.Io.KnownBytes.{Consumes, Appends, Keeps}
 use Rattle.std.proofs.KnownBytes.{Consumes-nil, Consumes-trans}
 use Rattle.std.proofs.lemmas.Fmt.{decimal_digit}
-use Rattle.jup_session.specs.Prelude.{BoardBatch, Up, Line, Hello, Error, line_bytes, View, HubEvent, Tally, Ending, Said, SaysUp, SaysBye as Bye, Hub, Stream, NoMemory, WriteFailed, HasHeard, Keeper, ending_of, last_line, standing, Sourced, HandsOn, Put, PutsLines, IsFlushed, WritesFront, fresh_put, puts_more, Untaken, Undone, HasRead, Progress, counted, says_edit, FarBehind, GateShut}
+use Rattle.jup_session.specs.Prelude.{BoardBatch, Up, Line, Hello, Error, line_bytes, View, HubEvent, Tally, Ending, Said, SaysUp, SaysBye as Bye, Hub, Stream, NoMemory, WriteFailed, HasHeard, Keeper, ending_of, last_line, standing, Sourced, HandsOn, Put, PutsLines, IsFlushed, WritesFront, fresh_put, puts_more, Untaken, Undone, HasRead, Progress, counted, says_edit, FarBehind, GateShut, SessionFault}
 use Rattle.jup_wire.proofs.Streams.{one_read}
 use Rattle.jup_gather.specs.Gathering.{Piece, up_in, up_way}
 use Rattle.jup_gather.proofs.Gathering.{one_gathering}
@@ -12,7 +12,6 @@ use Rattle.jup_stream.specs.Saying.{said_piece}
 use Rattle.jup_io.specs.Appends.{appends_kept}
 use Rattle.jup_stream.proofs.Streams.{written_of}
 use Rattle.jup_session.specs.ExactSessions.{IsFresh, IsTurnedAway, NoLine, NoGreeting, NoJoin, EndsEarly, TurnedAway, Unwelcome, IsServed, HasLines, NoRoom, Early, Served, IsExact, bytes_away, lines_away, bytes_early, lines_early, bytes_over, lines_over, bytes_heard, lines_heard, bytes_of, lines_of, bytes_read, lines_read, bytes_written, BeginWith, IsWelcomed, BothHalves, all_done}
-use Rattle.jup_rules.specs.declared.ends.SessionFault.{SessionFault}
 use Rattle.jup_session.specs.Sessions.{Over, Stopped, ByLine, AtMessage, Spent, Heard, FetchesAll, lines_brought, told_line, untold_line, Wrote}
 
 -- What the account of a session says of its bytes.

@@ -2,12 +2,10 @@
 use Rattle.std.proofs.Common.{◌≡◌, ℕ, ◌⊎◌, inl, inr, Bool, true, false, List, [], ◌∷◌, ◌++◌, length, length-append, ◌+◌, ◌<◌, ◌≤◌, max, take, get_or, arith, slice_get, zero, suc, Option, Some, None, Result, Ok, Err, MatchBool, refl, sym, ap, ◌∙◌, subst, append_assoc, append-nil, flat_map, true≢false, IsTrue, ◌≢◌, IsOk, is_ok}
 use Rattle.std.proofs.lemmas.List.Concat.{flat_map-append}
 use Rattle.jup_wire.proofs.Streams.{take_one_more}
-use Rattle.jup_session.specs.Prelude.{BoardBatch, Up, Joined as JoinedSite, NoLink, Call, Join, Take, Fetch, Leave, StarReply, JoinedReply, Taken, Fetched, Down, BoardStar, bare_joined, Line, Hello, HubFault, HubEvent, Tally, View, Made, Ending, Incoming, Ring, Stream, StreamFault, WriteFailed, Misplaced, NoMemory, Stop, Said, SaysUp, SaysBye, down_lines, HasHeard, Leads, outcome, Keeper, ending_of, ended_by, last_line, Put, PutsLines, puts_more, Sourced, HandsOn, Stops, Untaken, AllByRecursion, most_fetched, puts_none}
-use Rattle.jup_star.specs.declared.calls.StarReply.TheVariants.{Left}
+use Rattle.jup_session.specs.Prelude.{BoardBatch, Up, Joined as JoinedSite, NoLink, Call, Join, Take, Fetch, Leave, StarReply, JoinedReply, Taken, Fetched, Down, BoardStar, bare_joined, Line, Hello, HubFault, HubEvent, Tally, View, Made, Ending, Incoming, Ring, Stream, StreamFault, WriteFailed, Misplaced, NoMemory, Stop, Said, SaysUp, SaysBye, down_lines, HasHeard, Leads, outcome, Keeper, ending_of, ended_by, last_line, Put, PutsLines, puts_more, Sourced, HandsOn, Stops, Untaken, AllByRecursion, most_fetched, puts_none, Left, SessionFault}
 use Rattle.jup_hub.specs.Histories.{is_out_of_memory, entry, tally, tallies, after_split, split_from, joined_with, having_seen, Called, ComesToAsk, IsSpent}
 use Rattle.jup_rules.specs.Prelude.{DownOp, DownAck, DownPong}
 use Rattle.jup_star.specs.Prelude.{Msg}
-use Rattle.jup_rules.specs.declared.ends.SessionFault.{SessionFault}
 use Rattle.jup_rules.specs.declared.session.Next.TheVariants.{Line as NextLine, Take as NextTake}
 use Rattle.jup_stream.proofs.Streams.{hands_none, hands_more}
 use Rattle.jup_session.specs.Sessions.{HasAnswered, HasTaken, IsShutFor, EndsAt, Refused, Withheld, IsCallFor, AreCallsFor, AreTalliesFor, HasLeft, IsFull, SomeLeft, FollowsJoin, IsSession, Makes, Serves, Leaves, HasMadeNone, HasServed, IsJoinOf, Joins, BothServe, received_with, said_received, GivesBackBy, GivesBack, Returns, GivesAll, IsLeaveOf, Departs, brought, lines_brought, IsFetchFor, LastLeavesNothing, FetchesAll, Forwards, ForwardsAll, Brings, Answers, StopsFetching, TellsFault, told_line, Wrote, welcome_lines, IsTaken, AreTakesOf, Hears, Over, Stopped, ByLine, AtMessage, Spent, HearsAll, Heard}

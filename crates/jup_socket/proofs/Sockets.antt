@@ -25,7 +25,8 @@ use Rattle.jup_client.specs.Clients.{telling, edit_answer, AnswersEdit, heard_an
 use Rattle.jup_socket.specs.Sockets.{IsWithinBoard, all_said, said_lines, UpSocket, IsLast, greeting, messages_down, written_down, DownSocket, AtSocket, AtSocketThrough, said_of_answer, said_of_heard, IsEditStep, IsDeliverStep}
 use Rattle.jup_client.specs.Prelude.{BoardBatch, UpOp, UpAck, UpPing, DownOp, DownAck, DownPong, SiteFault, LayoutFault}
 use Rattle.jup_honest.specs.Prelude.{Commands, Windows, board_batches, IsOpening, IsLegal}
-use Rattle.jup_world.specs.Prelude.{highest_limit, Item, Name, EditFault, bare, SiteBadOp as BadOp, edit_answer as site_answer, opened_site}
+use Rattle.jup_batch.specs.Boards.{bare}
+use Rattle.jup_site.specs.Prelude.{highest_limit, Item, Name, EditFault, SiteBadOp as BadOp, edit_answer as site_answer, opened_site}
 use Rattle.jup_layout.specs.Prelude.{Widget, Text, Labels, Windows as BoardWindows}
 
 -- A greeting is read in one way: the lines of a board have no `ready` among them.

@@ -13,7 +13,7 @@ ghost use Rattle.jup_socket.specs.Sockets.{IsEditStep, IsDeliverStep, AtSocket, 
 ghost use Rattle.jup_hub.specs.Histories.{IsLegal};
 ghost use Rattle.jup_layout.specs.Drafts.{board_lines, IsBoard, board_with};
 ghost use Rattle.jup_star.specs.declared.star.Joined.{Joined};
-ghost use Rattle.jup_world.specs.Worlds.{IsOpening};
+ghost use Rattle.jup_site.specs.Sites.{IsOpening};
 ghost use Rattle.jup_honest.specs.Sites.{Connection, IsReliable, IsCausalThrough, SiteRun, IsHonest, opening, calls, start, now};
 
 /// The session has read the first of the bytes that the client wrote, and the star was brought the first of the

@@ -1,14 +1,12 @@
 -- Lines: what is read is what is spelled.
-use Rattle.std.proofs.Common.{◌≡◌, ℕ, ◌+◌, cond, List, [], ◌∷◌, ◌++◌, Option, Some, refl, sym, subst, ◌∙◌, arith, inl, inr, lit≤, decimal, codes, ◌≤◌, true, eqb, length, None, ap, lit<, ◌<◌, ◌^◌, ◌-◌, append_assoc, append-nil, ◌/◌, ◌%◌, ℤ, pos, negsuc, unsigned_abs}
+use Rattle.std.proofs.Common.{◌≡◌, ℕ, ◌+◌, cond, List, [], ◌∷◌, ◌++◌, Option, Some, refl, sym, subst, ◌∙◌, arith, inl, inr, lit≤, decimal, codes, ◌≤◌, true, eqb, length, None, ap, lit<, ◌<◌, ◌^◌, ◌-◌, append_assoc, append-nil, ◌/◌, ◌%◌, ℤ, pos, negsuc, unsigned_abs, length-append, to_z, of_z}
 use Rattle.std.proofs.lemmas.Bool.{cases_Bool, cond-true, cond-false, eqb-true, eqb-false, ltb-true}
 use Rattle.std.proofs.lemmas.Slice.Eq.{bytes_eq-Decides}
-use Rattle.std.proofs.lemmas.List.{length-append}
 use Rattle.std.specs.Global.{Vec}
 use Rattle.std.proofs.lemmas.Fmt.{decimal_digit, decimal_step}
 use Rattle.std.proofs.lemmas.Int.{to_z-of_z}
 use Rattle.std.specs.Int.{w32}
 use lib.Signed.{lt_z}
-use mir.Val.{to_z, of_z}
 use Rattle.std.specs.Fmt.{digits}
 use Rattle.jup_wire.specs.Prelude.{Name, IsLabelText, SeqOp, is_no_relabel, Line, BadLine, BadVersion, join_with_byte, AllByRecursion, bytes_eq, IsScalar, signed_decimal, same_Some, cond_some, none-some}
 use Rattle.jup_wire.specs.declared.line.Line.TheVariants.{Hello, Welcome, Window, Text, List as ListLine, Value, Char, Item as ItemLine, Ready, Batch, Do, Ack, Ping, Pong, Bye, Error}

@@ -1,9 +1,8 @@
 -- The fields of lines: what is read is what is spelled.
-use Rattle.std.proofs.Common.{◌≡◌, false, Option, Some, None, refl, is_some, ℕ, ◌^◌, ◌<◌, true, ltb, ◌&&◌, List, length, get_or, sym, ap, subst, ◌∙◌, arith, decimal, ◌==◌, suc, ◌+◌, ◌-◌, ◌≤◌, Bool, not, cond, [], ◌∷◌, ◌++◌, take, drop, le_refl, inl, inr, add-one, position, zero, leb, Result, Ok, Err, eqb, lit<, lit≤, IfOk, IsOk, IsTrue, ◌↔◌, All, codes, ℤ, pos, negsuc, neg_ℤ, SomeIff}
+use Rattle.std.proofs.Common.{◌≡◌, false, Option, Some, None, refl, is_some, ℕ, ◌^◌, ◌<◌, true, ltb, ◌&&◌, List, length, get_or, sym, ap, subst, ◌∙◌, arith, decimal, ◌==◌, suc, ◌+◌, ◌-◌, ◌≤◌, Bool, not, cond, [], ◌∷◌, ◌++◌, take, drop, le_refl, inl, inr, add-one, position, zero, leb, Result, Ok, Err, eqb, lit<, lit≤, IfOk, IsOk, IsTrue, ◌↔◌, All, codes, ℤ, pos, negsuc, neg_ℤ, SomeIff, take_all, length-drop, length-append}
 use Rattle.std.proofs.lemmas.Bool.{true≢false, and_parts, ltb-true, lt-ltb, false_from_ne_true, and_from, eqb-true, eq-eqb, not-true, cases_Bool, cases_lt, le-ltb, cond-true, cond-false, not_from_false, false≢true, leb-true, le-leb, ne_eqb}
 use Rattle.std.proofs.lemmas.Slice.Eq.{bytes_eq-Decides}
 use Rattle.std.proofs.lemmas.Fmt.{decimal_is_IsNumeral, length-decimal-le, decimal_nonempty}
-use Rattle.std.proofs.lemmas.List.{take_all, length-drop, length-append}
 use Rattle.std.proofs.lemmas.List.Sums.{position_or_len_is}
 use Rattle.std.proofs.Math.Numerals.{one-add}
 use Rattle.std.proofs.lemmas.List.Elements.{recursion_from_All}

@@ -7,13 +7,13 @@ use Rattle.jup_star.specs.declared.site.Site.{Site}
 use Rattle.jup_star.specs.Faults.{fault_of}
 use Rattle.jup_star.specs.Sites.{site_open_fault}
 use Rattle.jup_lane.specs.Lanes.{messages, ups, downs}
-use Rattle.jup_world.specs.Worlds.{is_number, attached, at_site, without_site, AreAscending, IsSiteAt, Outcome, join_outcome, edit_outcome, up_outcome, first_up, down_outcome, first_down, at_linked, one_taken, place_reply, one_handed, down_reply, pinged, with_fetched}
+use Rattle.jup_world.specs.Worlds.{is_number, attached, at_site, without_site, AreAscending, IsSiteAt, Outcome, join_outcome, edit_outcome, up_outcome, first_up, down_outcome, first_down, at_linked, place_reply, down_reply, one_taken, one_handed, pinged, with_fetched}
 use Rattle.jup_world.specs.Boards.{BoardAttached, BoardWorld, BoardLink, BoardReply}
 use Rattle.jup_world.specs.Insides.{bare_attached}
 use Rattle.jup_world.specs.Events.{Happened, Join, Leave, Edit as MakeEdit, Up as MoveUp, Down as MoveDown, Ping as SendPing}
 use Rattle.jup_world.specs.Sound.{edit_reply}
 use Rattle.jup_world.specs.Happenings.{Plays, with_answer, refilled_from, refilled, fetched_for, refilled_star, handed_first, handed, reply_to, first_reply, FirstFits, FitsFirst, Spares, AreReady, Rises, IsRefused, SparesAt}
-use Rattle.jup_world.proofs.EventSteps.{map_kept}
+use Rattle.jup_site.proofs.Numbers.{map_kept}
 use Rattle.jup_world.proofs.Answers.{some_link, take_taken, take_refused, take_wanted}
 use Rattle.jup_star.specs.declared.faults.OpenFault.{OpenFault}
 

@@ -6,7 +6,6 @@ pub mod Happenings
 pub mod Known
 pub mod Lanes
 pub mod Orders
-pub mod Pairs
 pub mod Sound
 pub mod Stars
 pub mod TwoKept

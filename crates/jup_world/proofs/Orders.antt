@@ -1,72 +1,44 @@
 -- The star and each site keep the order of their items.
-use Rattle.std.proofs.Common.{◌≡◌, ℕ, ◌≤◌, List, [], ◌∷◌, refl, sym, subst, arith, ◌+◌, ◌<◌, Bool, true, false, ◌++◌, drop, take, length, nat_eq, ap, ◌∙◌, Option, Some, None, option_map, Ok, eqb-true, eq-eqb, take-append-drop, zero, suc, cond, ne_eqb}
-use Rattle.std.proofs.lemmas.List.{take-append-le}
-use Rattle.jup_world.specs.Prelude.{most_beyond, Operations, AreLawful, UpOp, Down, DownOp, DownAck, DownPong, StarFault, StarOf, LinkState, link_of, join_fault, edit_answer, downs, found-map, found-map_other, found-without, found-without_other, found-end, found-end_other}
-use Rattle.jup_world.specs.Traces.{turns, Turn, made, joined_at, shown_count, Own, Other, others, through_others, entry_taken, order_of, join_seen}
-use Rattle.jup_world.specs.Worlds.{WorldOf, EventOf, Outcome, outcome, happens, run, attached, at_site, without_site, AttachedOf, new_site, with_edit, one_taken, one_handed, pinged, join_outcome}
-use Rattle.jup_world.specs.Sound.{named_by, IsKnown, IsSound, own_counts, told_of, StandsAt}
+use Rattle.std.proofs.Common.{◌≡◌, ℕ, ◌≤◌, List, [], ◌∷◌, refl, sym, subst, arith, ◌+◌, ◌<◌, Bool, true, false, ◌++◌, drop, take, length, nat_eq, ap, ◌∙◌, Option, Some, None, option_map, Ok, eqb-true, eq-eqb, take-append-drop, cond, ne_eqb}
+use Rattle.jup_world.specs.Prelude.{most_beyond, Operations, AreLawful, UpOp, Down, DownOp, DownAck, DownPong, StarFault, LinkState, link_of, join_fault, edit_answer, downs, found-map, found-map_other, found-without, found-without_other, found-end, found-end_other}
+use Rattle.jup_world.specs.Traces.{turns, Turn, made, joined_at, shown_count, entry_taken, order_of, join_seen}
+use Rattle.jup_world.specs.Worlds.{WorldOf, EventOf, Outcome, outcome, happens, run, attached, at_site, without_site, new_site, join_outcome, AttachedOf, with_edit, one_taken, one_handed, pinged}
+use Rattle.jup_world.specs.Sound.{named_by, IsKnown, own_counts, told_of, StandsAt, IsSound}
 use Rattle.jup_world.specs.Events.{Join, Leave, Edit as MakeEdit, Up as MoveUp, Down as MoveDown, Ping as SendPing, JoinStray, Stray, LeaveStray}
-use Rattle.jup_world.proofs.Stars.{keeps_order, still_known, none_back}
-use Rattle.jup_world.proofs.EventSteps.{StepOf, Takes, step_of, option_map-self, Still, Enters, EntersStray, Goes, Makes, Asks, Hands, handed_number, either}
+use Rattle.jup_site.proofs.Stars.{keeps_order, still_known, none_back}
+use Rattle.jup_world.proofs.EventSteps as steps
+use Rattle.jup_site.proofs.Numbers.{option_map-self, either}
 use Rattle.jup_world.proofs.Sound.Runs.{sound-happens}
-use Rattle.jup_world.proofs.Pairs.Edits.{made_keeps_order, made_none_back, shown_keeps_order, shown_none_back}
-use Rattle.jup_world.proofs.Sound.Traces.{standing, order_fits, order-end, joined-end, shown-end, turns-append, standing_of}
+use Rattle.jup_site.proofs.Pairs.Edits as pairs
+use Rattle.jup_world.proofs.Sound.Traces as trace_ends
+use Rattle.jup_site.proofs.Turns.{turns-append}
 use Rattle.jup_world.proofs.Sound.Steps.{st, t, fits, first, no_site}
-use Rattle.jup_world.proofs.Known.{known_more, own_counts-more}
-use Rattle.jup_world.proofs.Pairs.Places.{told_end, told_within}
+use Rattle.jup_site.proofs.Known.{known_more, own_counts-more}
+use Rattle.jup_site.proofs.Follows.{Follows, follows-same, follows-chain, told_more}
 
 -- Over any run the star keeps the order of its items.
 
 module _ (O : Operations) (L : AreLawful O) where
-  -- a name that a star knows: of the layout, or of an entry of its order
-  abbrev pub StarKnows : StarOf O → O.t.Name → Type 0
-  StarKnows star n = IsKnown O (λ j. named_by O 0 j (turns 0 star.order)) n
-
-  -- one star after another: numbers are given on, the order of items is kept, and no name that was known comes back
-  pub record Follows (one two : StarOf O) : Type 0 where
-    pub given : one.given ≤ two.given
-    pub order : O.t.keeps_order one.board two.board
-    pub knows : (n : O.t.Name) → StarKnows one n → StarKnows two n
-    pub none_back : (n : O.t.Name) → StarKnows one n → O.t.holds two.board n → O.t.holds one.board n
-
-  -- a star whose board and order stay
-  pub follows-same : (one two : StarOf O) → one.given ≤ two.given → two.board ≡ one.board → two.order ≡ one.order → Follows one two
-  follows-same one two g b o = record {
-    given = g;
-    order = subst (λ x. O.t.keeps_order one.board x) (sym b) (L.keeps.order_self one.board);
-    knows = λ n k. subst (λ os. IsKnown O (λ j. named_by O 0 j (turns 0 os)) n) (sym o) k;
-    none_back = λ n k h. subst (λ x. O.t.holds x n) b h;
-  }
-
-  -- one star after another
-  pub follows-chain : (one two three : StarOf O) → ((n : O.t.Name) → O.t.holds one.board n → StarKnows one n) → Follows one two → Follows two three → Follows one three
-  follows-chain one two three known f g = record {
-    given = omega (arith, f.given, g.given);
-    order = L.keeps.order_chain one.board two.board three.board f.order g.order (λ n h k. g.none_back n (f.knows n (known n h)) k);
-    knows = λ n k. g.knows n (f.knows n k);
-    none_back = λ n k h. f.none_back n k (g.none_back n (f.knows n k) h);
-  }
-
   module _ (most : ℕ) (w : WorldOf O) (s : IsSound O most w) where
     -- an event, by its outcome: the star took an edit, or its board and its order stay
-    step-follows : (e : EventOf O) (o : Outcome O) → StepOf O w e o → Follows w.star o.star
-    step-follows e o (Takes i l oa (UpOp m) fl fa brought none) = record {
+    step-follows : (e : EventOf O) (o : Outcome O) → steps.StepOf O w e o → Follows O L w.star o.star
+    step-follows e o (steps.Takes i l oa (UpOp m) fl fa brought none) = record {
       given = omega arith;
       order = keeps_order O L most (O.t.content w.opening) w.star s.star i l fl m none;
       knows = still_known O L most (O.t.content w.opening) w.star s.star i l fl m none;
       none_back = none_back O L most (O.t.content w.opening) w.star s.star i l fl m none;
     }
-    step-follows e o step = follows-same w.star o.star (omega arith) refl refl
+    step-follows e o step = follows-same O L w.star o.star (omega arith) refl refl
 
     -- any event
-    pub event-follows : (e : EventOf O) → Follows w.star (outcome O w e).star
-    event-follows e = step-follows e (outcome O w e) (step_of O w e)
+    pub event-follows : (e : EventOf O) → Follows O L w.star (outcome O w e).star
+    event-follows e = step-follows e (outcome O w e) (steps.step_of O w e)
 
   -- over any run the star keeps the order of its items, and no name comes back
-  pub run-follows : (es : List (EventOf O)) (most : ℕ) (w : WorldOf O) → IsSound O most w → Follows w.star (run O w es).star
-  run-follows [] most w s = follows-same w.star w.star (omega arith) refl refl
+  pub run-follows : (es : List (EventOf O)) (most : ℕ) (w : WorldOf O) → IsSound O most w → Follows O L w.star (run O w es).star
+  run-follows [] most w s = follows-same O L w.star w.star (omega arith) refl refl
   run-follows (e ∷ es) most w s =
-      follows-chain w.star (happens O w e).star (run O (happens O w e) es).star s.star.board_known (event-follows most w s e) (run-follows es most (happens O w e) (sound-happens O L most w e s))
+      follows-chain O L w.star (happens O w e).star (run O (happens O w e) es).star s.star.board_known (event-follows most w s e) (run-follows es most (happens O w e) (sound-happens O L most w e s))
 
 -- From before an event to after it each attached site keeps the order of its items, and no name that it knew comes back.
 
@@ -157,23 +129,23 @@ module _ (O : Operations) (L : AreLawful O) where
     -- a site that makes an edit
     edited : (i : ℕ) (command : O.Command) (l : LinkState O.Op) (a : AttachedOf O) → link_of i w.star.links ≡ Some l → attached i w.sites ≡ Some a → (op : O.Op) → edit_answer O command a.site ≡ Ok op → SiteKeeps w i a (with_edit O op a)
     edited i command l a fl fa op ok = record {
-      order = made_keeps_order O L most i (O.t.content w.opening) _ _ w.star.board (made i w.trace) l a (standing O L most w s i l a fl fa).pair command op ok few s.star.counted;
+      order = pairs.made_keeps_order O L most i (O.t.content w.opening) _ _ w.star.board (made i w.trace) l a (trace_ends.standing O L most w s i l a fl fa).pair command op ok few s.star.counted;
       named = omega arith;
-      none_back = made_none_back O L most i (O.t.content w.opening) _ _ w.star.board (made i w.trace) l a (standing O L most w s i l a fl fa).pair command op ok few s.star.counted;
+      none_back = pairs.made_none_back O L most i (O.t.content w.opening) _ _ w.star.board (made i w.trace) l a (trace_ends.standing O L most w s i l a fl fa).pair command op ok few s.star.counted;
     }
       where
         few : length (take (told_of O (joined_at O i w.trace) (shown_count i w.trace) (turns i w.star.order)) (turns i w.star.order) ++ drop (told_of O (joined_at O i w.trace) (shown_count i w.trace) (turns i w.star.order)) (turns i w.star.order)) + most_beyond ≤ most
-        few = subst (λ us. length us + most_beyond ≤ most) (sym (take-append-drop (told_of O (joined_at O i w.trace) (shown_count i w.trace) (turns i w.star.order)) (turns i w.star.order))) (order_fits O L most w s i l a fl fa)
+        few = subst (λ us. length us + most_beyond ≤ most) (sym (take-append-drop (told_of O (joined_at O i w.trace) (shown_count i w.trace) (turns i w.star.order)) (turns i w.star.order))) (trace_ends.order_fits O L most w s i l a fl fa)
 
     -- a site that receives a message
     handed : (i : ℕ) (l : LinkState O.Op) (a : AttachedOf O) → link_of i w.star.links ≡ Some l → attached i w.sites ≡ Some a → (gone : ℕ) (d : Down O.Op) (ds : List (Down O.Op))
         → downs (a.down ++ l.outbox) ≡ downs (d ∷ (ds ++ drop gone l.outbox)) → SiteKeeps w i a (one_handed O d ds a)
     handed i l a fl fa gone (DownOp m) ds e = record {
-      order = shown_keeps_order O L most i (O.t.content w.opening) (take (t O L most w s i l a fl fa m gone ds e) (turns i w.star.order)) (drop (t O L most w s i l a fl fa m gone ds e) (turns i w.star.order)) w.star.board (made i w.trace) l a
+      order = pairs.shown_keeps_order O L most i (O.t.content w.opening) (take (t O L most w s i l a fl fa m gone ds e) (turns i w.star.order)) (drop (t O L most w s i l a fl fa m gone ds e) (turns i w.star.order)) w.star.board (made i w.trace) l a
           (st O L most w s i l a fl fa m gone ds e).pair (fits O L most w s i l a fl fa m gone ds e) m (downs (ds ++ drop gone l.outbox)) e ds (drop gone l.outbox) refl
           (first O L most w s i l a fl fa m gone ds e).0 (first O L most w s i l a fl fa m gone ds e).1 (first O L most w s i l a fl fa m gone ds e).2;
       named = omega arith;
-      none_back = shown_none_back O L most i (O.t.content w.opening) (take (t O L most w s i l a fl fa m gone ds e) (turns i w.star.order)) (drop (t O L most w s i l a fl fa m gone ds e) (turns i w.star.order)) w.star.board (made i w.trace) l a
+      none_back = pairs.shown_none_back O L most i (O.t.content w.opening) (take (t O L most w s i l a fl fa m gone ds e) (turns i w.star.order)) (drop (t O L most w s i l a fl fa m gone ds e) (turns i w.star.order)) w.star.board (made i w.trace) l a
           (st O L most w s i l a fl fa m gone ds e).pair (fits O L most w s i l a fl fa m gone ds e) m (downs (ds ++ drop gone l.outbox)) e ds (drop gone l.outbox) refl
           (first O L most w s i l a fl fa m gone ds e).0 (first O L most w s i l a fl fa m gone ds e).1 (first O L most w s i l a fl fa m gone ds e).2;
     }
@@ -185,48 +157,22 @@ module _ (O : Operations) (L : AreLawful O) where
     one_known i g kg a fa keeps = one_site w i g kg (λ b fb. (let is : a ≡ b = cc in subst (λ x. SiteKeeps w i x (g x)) is keeps))
 
     -- under each number, from before an event to after it, by its outcome
-    keeps_step : (e : EventOf O) (o : Outcome O) → StepOf O w e o → SitesStep w o.sites
-    keeps_step e o (Still why) = same_sites w
-    keeps_step e o (Enters none) = one_added most w s
-    keeps_step e o (EntersStray none) = same_sites w
-    keeps_step e o (Goes i l oa fl fa why) = one_removed w i
-    keeps_step e o (Makes i command l a op fl fa ok) = one_known i (with_edit O op) (λ b. refl) a fa (edited i command l a fl fa op ok)
-    keeps_step e o (Asks i k l a fl fa) = one_known i (pinged O k) (λ b. refl) a fa (still w i a (pinged O k a) refl refl)
-    keeps_step e o (Takes i l oa up fl fa brought none) = one_site w i (one_taken O) (λ b. refl) (λ a there. still w i a (one_taken O a) refl refl)
-    keeps_step e o (Hands i gone l a d ds fl fa falls none) = one_known i (one_handed O d ds) (handed_number O d ds) a fa (handed i l a fl fa gone d ds (ap downs falls))
+    keeps_step : (e : EventOf O) (o : Outcome O) → steps.StepOf O w e o → SitesStep w o.sites
+    keeps_step e o (steps.Still why) = same_sites w
+    keeps_step e o (steps.Enters none) = one_added most w s
+    keeps_step e o (steps.EntersStray none) = same_sites w
+    keeps_step e o (steps.Goes i l oa fl fa why) = one_removed w i
+    keeps_step e o (steps.Makes i command l a op fl fa ok) = one_known i (with_edit O op) (λ b. refl) a fa (edited i command l a fl fa op ok)
+    keeps_step e o (steps.Asks i k l a fl fa) = one_known i (pinged O k) (λ b. refl) a fa (still w i a (pinged O k a) refl refl)
+    keeps_step e o (steps.Takes i l oa up fl fa brought none) = one_site w i (one_taken O) (λ b. refl) (λ a there. still w i a (one_taken O a) refl refl)
+    keeps_step e o (steps.Hands i gone l a d ds fl fa falls none) = one_known i (one_handed O d ds) (steps.handed_number O d ds) a fa (handed i l a fl fa gone d ds (ap downs falls))
 
     pub sites_step : (e : EventOf O) → SitesStep w (outcome O w e).sites
-    sites_step e = keeps_step e (outcome O w e) (step_of O w e)
+    sites_step e = keeps_step e (outcome O w e) (steps.step_of O w e)
 
 -- Over any run each site that is attached at both ends keeps the order of its items.
 
--- further entries of others reach no less far
-through-more : {Edit : Type 0} → (n m : ℕ) (ts : List (Turn Edit)) → n ≤ m → through_others n ts ≤ through_others m ts
-through-more zero m ts h = omega arith
-through-more (suc n) zero ts h = absurd (omega arith)
-through-more (suc n) (suc m) [] h = omega arith
-through-more (suc n) (suc m) (Own e ∷ ts) h = omega (arith, through-more (suc n) (suc m) ts h)
-through-more (suc n) (suc m) (Other j e ∷ ts) h = omega (arith, through-more n m ts (omega arith))
-
 module _ (O : Operations) (L : AreLawful O) where
-  -- a longer part of the order names no fewer
-  named_by-take : (i j k m : ℕ) (ts : List (Turn O.Edit)) → k ≤ m → named_by O i j (take k ts) ≤ named_by O i j (take m ts)
-  named_by-take i j zero m ts h = omega arith
-  named_by-take i j (suc k) zero ts h = absurd (omega arith)
-  named_by-take i j (suc k) (suc m) [] h = omega arith
-  named_by-take i j (suc k) (suc m) (Own e ∷ ts) h = omega (arith, named_by-take i j k m ts (omega arith))
-  named_by-take i j (suc k) (suc m) (Other s e ∷ ts) h = omega (arith, named_by-take i j k m ts (omega arith))
-
-  -- what is named among the entries that have reached a site, as the order and the number of those shown grow
-  pub told_more : (i j joined n m : ℕ) (ts us : List (Turn O.Edit)) → joined ≤ length ts → n ≤ length (others (drop joined ts)) → n ≤ m
-      → named_by O i j (take (told_of O joined n ts) ts) ≤ named_by O i j (take (told_of O joined m (ts ++ us)) (ts ++ us))
-  told_more i j joined n m ts us within shown more =
-      let same : take (told_of O joined n ts) (ts ++ us) ≡ take (told_of O joined n ts) ts = take-append-le (told_of O joined n ts) ts us (told_within O L joined n ts within shown) in
-      let told : told_of O joined n (ts ++ us) ≡ told_of O joined n ts = told_end O L joined n ts us within shown in
-      let further = through-more n m (drop joined (ts ++ us)) more in
-      let longer = named_by-take i j (told_of O joined n ts) (told_of O joined m (ts ++ us)) (ts ++ us) (omega arith) in
-      subst (λ p. named_by O i j p ≤ named_by O i j (take (told_of O joined m (ts ++ us)) (ts ++ us))) same longer
-
   -- a site's number was given
   pub given_before : (most : ℕ) (w : WorldOf O) → IsSound O most w → (j : ℕ) (a : AttachedOf O) → attached j w.sites ≡ Some a → w.star.given < j → ⊥
   given_before most w s j a fa above =
@@ -256,26 +202,26 @@ module _ (O : Operations) (L : AreLawful O) where
   -- the star's order grows at its end
   pub order_grows : (most : ℕ) (w : WorldOf O) (s : IsSound O most w) (e : EventOf O) → (happens O w e).star.order ≡ w.star.order ++ entry_taken O w.trace (order_of O w.trace) e (outcome O w e).reply
   order_grows most w s e =
-      sym (sound-happens O L most w e s).order_is ∙ order-end O w.trace (record { event = e; reply = (outcome O w e).reply })
+      sym (sound-happens O L most w e s).order_is ∙ trace_ends.order-end O w.trace (record { event = e; reply = (outcome O w e).reply })
       ∙ ap (λ os. os ++ entry_taken O w.trace (order_of O w.trace) e (outcome O w e).reply) s.order_is
 
   module _ (most : ℕ) (w : WorldOf O) (s : IsSound O most w) (e : EventOf O) (j : ℕ) (a : AttachedOf O) (fa : attached j w.sites ≡ Some a) where
     -- the site's place at its join stays
     pub joined_same : joined_at O j (happens O w e).trace ≡ joined_at O j w.trace
-    joined_same = joined-end O j w.trace (record { event = e; reply = (outcome O w e).reply }) ∙ join_kept w j (length (order_of O w.trace)) (joined_at O j w.trace) (given_before most w s j a fa) e
+    joined_same = trace_ends.joined-end O j w.trace (record { event = e; reply = (outcome O w e).reply }) ∙ join_kept w j (length (order_of O w.trace)) (joined_at O j w.trace) (given_before most w s j a fa) e
 
     -- it received no fewer
     shown_more : shown_count j w.trace ≤ shown_count j (happens O w e).trace
-    shown_more = omega (arith, shown-end j w.trace (record { event = e; reply = (outcome O w e).reply }))
+    shown_more = omega (arith, trace_ends.shown-end j w.trace (record { event = e; reply = (outcome O w e).reply }))
 
     -- and knows no fewer names
     told_named : (k : ℕ) → named_by O j k (told_turns O L w j) ≤ named_by O j k (told_turns O L (happens O w e) j)
     told_named k =
-        let st = (standing_of O L most w s j a fa).1 in
+        let st = (trace_ends.standing_of O L most w s j a fa).1 in
         subst (λ at. named_by O j k (told_turns O L w j) ≤ named_by O j k (take (told_of O at (shown_count j (happens O w e).trace) (turns j (happens O w e).star.order)) (turns j (happens O w e).star.order))) (sym joined_same)
         (subst (λ ts. named_by O j k (told_turns O L w j) ≤ named_by O j k (take (told_of O (joined_at O j w.trace) (shown_count j (happens O w e).trace) ts) ts))
         (sym (ap (turns j) (order_grows most w s e) ∙ turns-append j w.star.order (entry_taken O w.trace (order_of O w.trace) e (outcome O w e).reply)))
-        (told_more j k (joined_at O j w.trace) (shown_count j w.trace) (shown_count j (happens O w e).trace) (turns j w.star.order)
+        (told_more O L j k (joined_at O j w.trace) (shown_count j w.trace) (shown_count j (happens O w e).trace) (turns j w.star.order)
         (turns j (entry_taken O w.trace (order_of O w.trace) e (outcome O w e).reply)) st.joined_within st.shown_within shown_more))
 
     -- what a site knew it knows after an event
@@ -291,7 +237,7 @@ module _ (O : Operations) (L : AreLawful O) where
 
   -- what a site holds it knows
   pub holds_known : (most : ℕ) (w : WorldOf O) → IsSound O most w → (j : ℕ) (a : AttachedOf O) → attached j w.sites ≡ Some a → (n : O.t.Name) → O.t.holds a.site.board n → SiteKnows O L w j a n
-  holds_known most w s j a fa = (standing_of O L most w s j a fa).1.pair.board_known
+  holds_known most w s j a fa = (trace_ends.standing_of O L most w s j a fa).1.pair.board_known
 
   -- one world after another
   pub follows_chain : (u v w : WorldOf O) (j : ℕ) (a b c : AttachedOf O) → ((n : O.t.Name) → O.t.holds a.site.board n → SiteKnows O L u j a n) → SiteFollows u v j a b → SiteFollows v w j b c → SiteFollows u w j a c

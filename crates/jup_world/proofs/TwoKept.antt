@@ -10,7 +10,7 @@ use Rattle.jup_link.specs.Laws.InStep.{MessagesApart-from}
 use Rattle.jup_link.specs.Laws.Steps.{generated-after_count, generated-after_receive, InStep-opened, InStep-client_edit, InStep-server_edit, InStep-takes_up, InStep-takes_down, InStep-server_answers, InStep-client_answers}
 use Rattle.jup_world.specs.declared.two.TwoEvent.TheVariants.{Client, Server, Up, Down}
 use Rattle.jup_world.specs.Twos.{texts, texts_lawful, TwoEnd, TwoState, named_from, opened_end, opened_two, two_operation, deletion, insertions, made_by, edited, sent_by, delivered, left_of, sent_back, two_after, HoldsWithin, InsertsUnder, IsTwoEnd, IsTwo}
-use Rattle.jup_world.proofs.Known.{length-named_from, AreDistinct-named_from, received_names}
+use Rattle.jup_world.proofs.Known as known_names
 
 -- # Names
 
@@ -139,7 +139,7 @@ taken_end site other ne e out (Ack k) ms accepts all end =
 taken_end site other ne e out (Operation mine heard o) ms accepts all end =
     let link = after_receive texts e.link heard o in
     let op = received_operation texts e.link heard o in
-    let under : InsertsUnder other op = received_names other e.link heard o all.0 in
+    let under : InsertsUnder other op = known_names.received_names other e.link heard o all.0 in
     record {
       few = end.few;
       generated_all = generated-answered (owes link.unanswered) link ∙ generated-after_receive texts e.link heard o accepts.1 ∙ end.generated_all;
@@ -254,8 +254,8 @@ opened_kept_end site some side start = record {
 pub opened_kept : (start : List ℕ) → length start ≤ highest_limit → IsTwo (opened_two start)
 opened_kept start short = record {
   in_step =
-      InStep-opened texts texts_lawful most_of_two (record { items = named_from 1 start; spare = 0 }) (AreDistinct-named_from 1 start)
-      (let count : length (named_from 1 start) ≡ length start = length-named_from 1 start in omega (arith, count, short));
+      InStep-opened texts texts_lawful most_of_two (record { items = named_from 1 start; spare = 0 }) (known_names.AreDistinct-named_from 1 start)
+      (let count : length (named_from 1 start) ≡ length start = known_names.length-named_from 1 start in omega (arith, count, short));
   client_end = opened_kept_end 1 (omega arith) ClientSide start;
   server_end = opened_kept_end 2 (omega arith) ServerSide start;
 }

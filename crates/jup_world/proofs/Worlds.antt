@@ -1,13 +1,8 @@
 -- What holds of every world of the program.
-use Rattle.std.proofs.Common.{is_some, ◌&&◌, ◌≡◌, ℕ, ◌+◌, ◌≤◌, Bool, true, false, cond, not, ◌||◌, List, [], ◌∷◌, ◌++◌, map, nat_eq, refl, ap, sym, ◌∙◌, subst, Option, Some, None, option_map, arith, eq-eqb, ne_eqb, zero, suc, ◌<◌, ◌==◌, take, drop, insert, remove, eqb-true, inl, inr, length, nat_le, leb-false, append-nil, drop_of_length-le, le_refl}
-use Rattle.std.proofs.lemmas.Bool.{or_parts, or_from, and_from, and_parts, leb-true}
-use Rattle.jup_world.specs.Prelude.{highest_limit, Name, Item, name_eq, InsertOp as Insert, DeleteOp as Delete, RelabelOp as Relabel, NoOp as NoSeqOp, Command, EditFault, Operations, AreLawful, has_site, only_site, BoardBatch, Windows, board_batches, batch_laws, BoardEdits, Commands, Up, UpOp, UpAck, UpPing, Down, LinkState, opened_link, link_acked, link_ponged, link_fetched, link_heard, link_sent, operation_at, link_of, most_batches, BoardStar, IsShort, test, first_fault, downs, found-end, found-end_other, Played, Kept, list_any, list_all, Joined, Nothing}
-use Rattle.jup_value.specs.Items.{with_value}
-use Rattle.jup_window.specs.Entries.{change_at, EachWidget}
-use Rattle.jup_window.specs.Boards.{some_in_widget, every_in_widget, some_in_window, every_in_window}
+use Rattle.std.proofs.Common.{is_some, ◌&&◌, ◌≡◌, ℕ, ◌+◌, ◌≤◌, Bool, true, false, cond, not, ◌||◌, List, [], ◌∷◌, ◌++◌, map, nat_eq, refl, ap, sym, ◌∙◌, subst, Option, Some, None, option_map, arith, eq-eqb, ne_eqb, drop, inl, inr, length, nat_le, leb-false, append-nil, drop_of_length-le, le_refl, leb-true}
+use Rattle.jup_world.specs.Prelude.{highest_limit, Command, EditFault, Operations, AreLawful, has_site, only_site, BoardBatch, Windows, board_batches, batch_laws, BoardEdits, Commands, Up, UpOp, UpAck, UpPing, Down, LinkState, opened_link, link_acked, link_ponged, link_fetched, link_heard, link_sent, operation_at, link_of, most_batches, BoardStar, IsShort, test, first_fault, downs, found-end, found-end_other, Played, Kept, Joined, Nothing}
+use Rattle.jup_window.specs.Entries.{EachWidget}
 use Rattle.jup_window.specs.Laws.Entries.{only_site-held}
-use Rattle.jup_window.specs.Widgets as widget
-use Rattle.jup_window.specs.Kinds as kind
 use Rattle.jup_window.specs.Boards as board
 use Rattle.jup_batch.specs.Boards as batch
 use Rattle.jup_star.specs.Stars.{star_open_fault}
@@ -15,22 +10,22 @@ use Rattle.jup_star.proofs.Stars.{board_small, short_bare, distinct_bare}
 use Rattle.jup_star.proofs.FaultTests.{link_site, taken_site}
 use Rattle.jup_world.specs.declared.events.Event.TheVariants as played
 use Rattle.jup_world.specs.Events.{JoinStray, Happened}
-use Rattle.jup_world.specs.Worlds.{WorldOf, AttachedOf, EventOf, ReplyOf, attached, at_site, Outcome, new_site, with_edit, one_taken, one_handed, pinged, with_fetched, only_fetched, outcome, with_outcome, happens, run, IsOpening, opened_world, AreAscending, is_number}
+use Rattle.jup_world.specs.Worlds.{WorldOf, EventOf, ReplyOf, attached, at_site, Outcome, new_site, only_fetched, outcome, with_outcome, happens, run, opened_world, AreAscending, is_number, AttachedOf, with_edit, one_taken, one_handed, pinged, with_fetched, IsOpening}
 use Rattle.jup_world.specs.Traces.{stray_seen, is_stray, AreLinked}
 use Rattle.jup_world.specs.Sound.{IsSound, LinkedAt, KnowsStrays, IsPlain, ArePlain, AllLinked}
 use Rattle.jup_world.specs.Boards.{BoardWorld, BoardLink, BoardAttached, BoardEvent, IsBoardWorld, IsReached, BoardReply}
 use Rattle.jup_world.specs.Happenings.{AreNumbered, AreReady, OldestFits, IsWorld, IsSpared}
 use Rattle.jup_world.specs.Lanes.{plain_happened, plain_trace}
 use Rattle.jup_world.specs.Insides.{lane_event, noted_trace}
-use Rattle.jup_world.proofs.EventSteps.{Brings, Rises, Strays, WhyStill, Finds, NotJoined, NoStray, NotMade, WhyGone, Leaves, StrayLeaves, IsDropped, StepOf, Still, Enters, EntersStray, Goes, Makes, Asks, Takes, Hands, handed_number, step_of, option_map-self, map_kept, by_number, at_each, at_removal}
+use Rattle.jup_world.proofs.EventSteps.{Brings, Rises, Strays, WhyStill, Finds, NotJoined, NoStray, NotMade, WhyGone, Leaves, StrayLeaves, IsDropped, StepOf, Still, Enters, EntersStray, Goes, Makes, Asks, Takes, Hands, handed_number, step_of}
+use Rattle.jup_site.proofs.Numbers as numbers
 use Rattle.jup_world.proofs.Sound.Traces.{stray-end}
 use Rattle.jup_world.proofs.Sound.Steps.{no_site}
-use Rattle.jup_world.proofs.Sound.Runs.{sound-opened, sound-happens, sound-fetched, fall_fits}
-use Rattle.jup_world.proofs.Sound.Tallies.{counts-happens, counts-fetched, tallied-happens, tallied-fetched}
+use Rattle.jup_world.proofs.Sound.Runs as sound_runs
+use Rattle.jup_world.proofs.Sound.Tallies as tallies
 use Rattle.jup_world.proofs.Happenings.{ascending_without, ascending_at, ascending_end}
-use Rattle.jup_star.specs.Prelude.{Widget, Text, Labels}
-use Rattle.jup_batch.specs.Prelude.{WidgetOp, OnText, OnList, BoardOp}
 use Rattle.jup_star.specs.declared.faults.OpenFault.TheVariants.{BadLimit, BadSite}
+use Rattle.jup_site.proofs.Items.{batch_none, layout_none}
 
 -- The links without a site are those of strangers, by the trace.
 
@@ -86,18 +81,18 @@ module _ (O : Operations) (L : AreLawful O) where
     changed : (i : ℕ) (f h : LinkState O.Op → LinkState O.Op) (g : AttachedOf O → AttachedOf O) → ((x : LinkState O.Op) → (f x).site ≡ x.site) → ((x : LinkState O.Op) → (h x).site ≡ x.site)
         → ((y : AttachedOf O) → (g y).site.number ≡ y.site.number)
         → (j : ℕ) → LinkedAt O (is_stray j w.trace) (link_of j (map (λ z. cond (nat_eq z.site i) (f z) (h z)) w.star.links)) (attached j (map (λ z. cond (nat_eq z.site.number i) (g z) z) w.sites))
-    changed i f h g kf kh kg = at_each (λ x. x.site) (λ y. y.site.number) (λ j ol oa. LinkedAt O (is_stray j w.trace) ol oa) i f h g kf kh kg w.star.links w.sites
+    changed i f h g kf kh kg = numbers.at_each (λ x. x.site) (λ y. y.site.number) (λ j ol oa. LinkedAt O (is_stray j w.trace) ol oa) i f h g kf kh kg w.star.links w.sites
         (kept_at (is_stray i w.trace) f g (link_of i w.star.links) (attached i w.sites) (k.links i))
-        (λ j e. subst (λ oa. LinkedAt O (is_stray j w.trace) (option_map h (link_of j w.star.links)) oa) (option_map-self (attached j w.sites)) (kept_at (is_stray j w.trace) h (λ y. y) (link_of j w.star.links) (attached j w.sites) (k.links j)))
+        (λ j e. subst (λ oa. LinkedAt O (is_stray j w.trace) (option_map h (link_of j w.star.links)) oa) (numbers.option_map-self (attached j w.sites)) (kept_at (is_stray j w.trace) h (λ y. y) (link_of j w.star.links) (attached j w.sites) (k.links j)))
 
     -- a site alone
     site_changed : (i : ℕ) (g : AttachedOf O → AttachedOf O) → ((y : AttachedOf O) → (g y).site.number ≡ y.site.number) → (j : ℕ) → LinkedAt O (is_stray j w.trace) (link_of j w.star.links) (attached j (at_site i g w.sites))
-    site_changed i g kg j = subst (λ ls. LinkedAt O (is_stray j w.trace) (link_of j ls) (attached j (at_site i g w.sites))) (map_kept (λ x. x.site) i w.star.links)
+    site_changed i g kg j = subst (λ ls. LinkedAt O (is_stray j w.trace) (link_of j ls) (attached j (at_site i g w.sites))) (numbers.map_kept (λ x. x.site) i w.star.links)
         (changed i (λ x. x) (λ x. x) g (λ x. refl) (λ x. refl) kg j)
 
     -- a site that joins
     entered : (j : ℕ) → LinkedAt O (is_stray j w.trace) (link_of j (w.star.links ++ opened_link (w.star.given + 1) ∷ [])) (attached j (w.sites ++ new_site O w (w.star.given + 1) ∷ []))
-    entered = by_number (λ x. x.site) (λ y. y.site.number) (λ j ol oa. LinkedAt O (is_stray j w.trace) ol oa) (w.star.given + 1)
+    entered = numbers.by_number (λ x. x.site) (λ y. y.site.number) (λ j ol oa. LinkedAt O (is_stray j w.trace) ol oa) (w.star.given + 1)
         (λ j. LinkedAt O (is_stray j w.trace) (link_of j (w.star.links ++ opened_link (w.star.given + 1) ∷ [])) (attached j (w.sites ++ new_site O w (w.star.given + 1) ∷ [])))
         (subst (λ o. LinkedAt O (is_stray (w.star.given + 1) w.trace) o (attached (w.star.given + 1) (w.sites ++ new_site O w (w.star.given + 1) ∷ [])))
         (sym (found-end (λ x. x.site) (w.star.given + 1) w.star.links (opened_link (w.star.given + 1)) (s.star.no_link (w.star.given + 1) (omega arith)) (eq-eqb (w.star.given + 1) (w.star.given + 1) refl)))
@@ -109,7 +104,7 @@ module _ (O : Operations) (L : AreLawful O) where
 
     -- or a stranger
     entered_stray : (j : ℕ) → LinkedAt O (is_stray j w.trace || nat_eq (w.star.given + 1) j) (link_of j (w.star.links ++ opened_link (w.star.given + 1) ∷ [])) (attached j w.sites)
-    entered_stray = by_number (λ x. x.site) (λ y. y.site.number) (λ j ol oa. LinkedAt O (is_stray j w.trace) ol oa) (w.star.given + 1)
+    entered_stray = numbers.by_number (λ x. x.site) (λ y. y.site.number) (λ j ol oa. LinkedAt O (is_stray j w.trace) ol oa) (w.star.given + 1)
         (λ j. LinkedAt O (is_stray j w.trace || nat_eq (w.star.given + 1) j) (link_of j (w.star.links ++ opened_link (w.star.given + 1) ∷ [])) (attached j w.sites))
         (subst (λ o. LinkedAt O (is_stray (w.star.given + 1) w.trace || nat_eq (w.star.given + 1) (w.star.given + 1)) o (attached (w.star.given + 1) w.sites))
         (sym (found-end (λ x. x.site) (w.star.given + 1) w.star.links (opened_link (w.star.given + 1)) (s.star.no_link (w.star.given + 1) (omega arith)) (eq-eqb (w.star.given + 1) (w.star.given + 1) refl)))
@@ -128,7 +123,7 @@ module _ (O : Operations) (L : AreLawful O) where
           ∙ or_false (is_stray j w.trace) (nat_eq (w.star.given + 1) j) (ne_eqb (w.star.given + 1) j (λ e. absurd (omega arith))) ∙ k.new j (omega arith));
     }
     strays-step e o (Goes i l oa fl fa why) = unseen e o (λ j. gone_unseen w j i l oa e _ why) (omega arith)
-        (at_removal (λ x. x.site) (λ y. y.site.number) (λ j ol oa. LinkedAt O (is_stray j w.trace) ol oa) i w.star.links w.sites tt (λ j e. k.links j))
+        (numbers.at_removal (λ x. x.site) (λ y. y.site.number) (λ j ol oa. LinkedAt O (is_stray j w.trace) ol oa) i w.star.links w.sites tt (λ j e. k.links j))
     strays-step e o (Makes i command l a op fl fa ok) = unseen e o (λ j. refl) (omega arith) (site_changed i (with_edit O op) (λ b. refl))
     strays-step e o (Asks i m l a fl fa) = unseen e o (λ j. refl) (omega arith) (site_changed i (pinged O m) (λ b. refl))
     strays-step e o (Takes i l oa (UpOp m) fl fa brought none) = unseen e o (brought_unseen w brought _) (omega arith)
@@ -173,112 +168,12 @@ module _ (O : Operations) (L : AreLawful O) where
       same true = refl
       same false = refl
 
--- No item of the star's board has the number of a site that was not given one.
-
--- # Items
-
-none_take : {X : Type 0} (p : X → Bool) (xs : List X) (n : ℕ) → list_any p xs ≡ false → list_any p (take n xs) ≡ false
-none_take p [] zero none = refl
-none_take p [] (suc n) none = refl
-none_take p (x ∷ xs) zero none = refl
-none_take p (x ∷ xs) (suc n) none = let both = or_parts (p x) (list_any p xs) none in or_from (p x) (list_any p (take n xs)) both.0 (none_take p xs n both.1)
-
-none_drop : {X : Type 0} (p : X → Bool) (xs : List X) (n : ℕ) → list_any p xs ≡ false → list_any p (drop n xs) ≡ false
-none_drop p [] zero none = refl
-none_drop p [] (suc n) none = refl
-none_drop p (x ∷ xs) zero none = none
-none_drop p (x ∷ xs) (suc n) none = none_drop p xs n (or_parts (p x) (list_any p xs) none).1
-
-none_append : {X : Type 0} (p : X → Bool) (xs ys : List X) → list_any p xs ≡ false → list_any p ys ≡ false → list_any p (xs ++ ys) ≡ false
-none_append p [] ys one two = two
-none_append p (x ∷ xs) ys one two = let both = or_parts (p x) (list_any p xs) one in or_from (p x) (list_any p (xs ++ ys)) both.0 (none_append p xs ys both.1 two)
-
-none_insert : {X : Type 0} (p : X → Bool) (xs : List X) (n : ℕ) (y : X) → list_any p xs ≡ false → p y ≡ false → list_any p (insert xs n y) ≡ false
-none_insert p xs n y none new = none_append p (take n xs) (y ∷ drop n xs) (none_take p xs n none) (or_from (p y) (list_any p (drop n xs)) new (none_drop p xs n none))
-
-none_remove : {X : Type 0} (p : X → Bool) (xs : List X) (n : ℕ) → list_any p xs ≡ false → list_any p (remove xs n) ≡ false
-none_remove p xs n none = none_append p (take n xs) (drop (suc n) xs) (none_take p xs n none) (none_drop p xs (suc n) none)
-
--- names stay as they are if a value is changed
-none_relabel : {V : Type 0} (p : Name → Bool) (xs : List (Item V)) (n : ℕ) (v : V) → list_any (λ z. p z.name) xs ≡ false → list_any (λ z. p z.name) (with_value xs n v) ≡ false
-none_relabel p [] n v none = none
-none_relabel p (x ∷ xs) zero v none = none
-none_relabel p (x ∷ xs) (suc n) v none =
-    let both = or_parts (p x.name) (list_any (λ z. p z.name) xs) none in
-    or_from (p x.name) (list_any (λ z. p z.name) (with_value xs n v)) both.0 (none_relabel p xs n v both.1)
-
--- # Widgets and boards
-
-name_eq_self : (n : Name) → name_eq n n ≡ true
-name_eq_self n = and_from (n.site == n.site) (n.number == n.number) (eq-eqb n.site n.site refl) (eq-eqb n.number n.number refl)
-
--- an operation that inserts no name of a site leaves none if there was none
-widget_none : (i : ℕ) (o : WidgetOp) (w : Widget) → ((n : Name) → kind.InsertsName (kind.edit_of o) n → n.site ≡ i → ⊥) → some_in_widget i w ≡ false → some_in_widget i (widget.after o w) ≡ false
-widget_none i (OnText (Insert p y)) (Text x) other none = none_insert (λ z. z.name.site == i) x.items p y none (ne_eqb y.name.site i (other y.name (name_eq_self y.name)))
-widget_none i (OnText (Delete p n)) (Text x) other none = none_remove (λ z. z.name.site == i) x.items p none
-widget_none i (OnText (Relabel p n v)) (Text x) other none = none_relabel (λ m. m.site == i) x.items p v none
-widget_none i (OnText NoSeqOp) (Text x) other none = none
-widget_none i (OnList (Insert p y)) (Labels x) other none = none_insert (λ z. z.name.site == i) x.items p y none (ne_eqb y.name.site i (other y.name (name_eq_self y.name)))
-widget_none i (OnList (Delete p n)) (Labels x) other none = none_remove (λ z. z.name.site == i) x.items p none
-widget_none i (OnList (Relabel p n v)) (Labels x) other none = none_relabel (λ m. m.site == i) x.items p v none
-widget_none i (OnList NoSeqOp) (Labels x) other none = none
-widget_none i o (Text x) other none = none
-widget_none i o w other none = none
-
--- what an id has is changed
-none_change : {A : Type 0} (p : A → Bool) (f : A → A) (k : ℕ) → ((a : A) → p a ≡ false → p (f a) ≡ false) → (es : List (ℕ × A)) → list_any (λ e. p e.1) es ≡ false → list_any (λ e. p e.1) (change_at k f es) ≡ false
-none_change p f k keeps [] none = refl
-none_change {A = A} p f k keeps (e ∷ es) none = step (e.0 == k) (or_parts (p e.1) (list_any (λ x. p x.1) es) none) (none_change p f k keeps es (or_parts (p e.1) (list_any (λ x. p x.1) es) none).1)
-  where
-    step : (b : Bool) → (p e.1 ≡ false) × (list_any (λ x. p x.1) es ≡ false) → list_any (λ x. p x.1) (change_at k f es) ≡ false
-        → list_any (λ x. p x.1) (cond {A = List (ℕ × A)} b ((e.0, f e.1) ∷ es) (e ∷ change_at k f es)) ≡ false
-    step true both rest = or_from (p (f e.1)) (list_any (λ x. p x.1) es) (keeps e.1 both.0) both.1
-    step false both rest = or_from (p e.1) (list_any (λ x. p x.1) (change_at k f es)) both.0 rest
-
-board_none : (i : ℕ) (o : BoardOp) (b : board.Windows) → ((n : board.Placed) → board.Inserts (board.edit_of o) n → n.name.site ≡ i → ⊥) → has_site i b ≡ false → has_site i (board.after o b) ≡ false
-board_none i o b other none =
-    none_change (some_in_window i) (λ ws. change_at o.wid (widget.after o.op) ws) o.win (λ ws. none_change (some_in_widget i) (widget.after o.op) o.wid (λ w. widget_none i o.op w inserted) ws) b none
-  where
-    here : ((o.win == o.win) && (o.wid == o.wid)) ≡ true
-    here = and_from (o.win == o.win) (o.wid == o.wid) (eq-eqb o.win o.win refl) (eq-eqb o.wid o.wid refl)
-
-    inserted : (n : Name) → kind.InsertsName (kind.edit_of o.op) n → n.site ≡ i → ⊥
-    inserted n put is = other (record { at = (o.win, o.wid); name = n }) (here, put) is
-
--- and so do those of a batch
-pub batch_none : (i : ℕ) (os : BoardBatch) (b : board.Windows) → ((n : board.Placed) → batch.Inserts (batch.edit_of os) n → n.name.site ≡ i → ⊥) → has_site i b ≡ false
-    → has_site i (batch.after os b) ≡ false
-batch_none i [] b other none = none
-batch_none i (o ∷ os) b other none =
-    batch_none i os (board.after o b) (λ n put own. other n (inr put) own) (board_none i o b (λ n put own. other n (inl put) own) none)
-
--- # Layouts
-
--- if each element passes one test, and what passes it fails the other
-all_none : {X : Type 0} (p q : X → Bool) → ((x : X) → p x ≡ true → q x ≡ false) → (xs : List X) → list_all p xs ≡ true → list_any q xs ≡ false
-all_none p q fails [] all = refl
-all_none p q fails (x ∷ xs) all = let both = and_parts (p x) (list_all p xs) all in or_from (q x) (list_any q xs) (fails x both.0) (all_none p q fails xs both.1)
-
--- a site of 0 is no other
-other_site : {V : Type 0} (i : ℕ) → 0 < i → (x : Item V) → (x.name.site == 0) ≡ true → (x.name.site == i) ≡ false
-other_site i above x is = ne_eqb x.name.site i (λ same. let none : x.name.site ≡ 0 = eqb-true x.name.site 0 is in absurd (omega arith))
-
-other_widget : (i : ℕ) → 0 < i → (w : Widget) → every_in_widget 0 w ≡ true → some_in_widget i w ≡ false
-other_widget i above (Text x) all = all_none (λ y. y.name.site == 0) (λ y. y.name.site == i) (other_site i above) x.items all
-other_widget i above (Labels x) all = all_none (λ y. y.name.site == 0) (λ y. y.name.site == i) (other_site i above) x.items all
-other_widget i above other all = refl
-
-pub layout_none : (i : ℕ) (b : board.Windows) → 0 < i → only_site 0 b ≡ true → has_site i b ≡ false
-layout_none i b above all =
-    all_none (λ e. every_in_window 0 e.1) (λ e. some_in_window i e.1)
-    (λ ws each. all_none (λ e. every_in_widget 0 e.1) (λ e. some_in_widget i e.1) (λ e one. other_widget i above e.1 one) ws.1 each) b all
-
 -- Worlds of boards are sound: as they are opened, after each event, and after a failed allocation.
 
 -- a world of boards that is opened
 pub opened_sound : (b : Windows) (limit : ℕ) → IsOpening b → limit ≤ highest_limit → IsBoardWorld (opened_world board_batches b limit)
 opened_sound b limit opening low = record {
-  sound = sound-opened board_batches batch_laws most_batches limit b opening.distinct (board_small b opening.short) (omega arith) (omega arith)
+  sound = sound_runs.sound-opened board_batches batch_laws most_batches limit b opening.distinct (board_small b opening.short) (omega arith) (omega arith)
       (λ n held. only_site-held 0 b n opening.unsigned held);
   counts = λ i. tt;
   tallied = record { given = refl; made = tt };
@@ -288,9 +183,9 @@ opened_sound b limit opening low = record {
 -- events keep it so
 pub happens_sound : (w : BoardWorld) (event : BoardEvent) → IsBoardWorld w → IsBoardWorld (happens board_batches w event)
 happens_sound w event is = record {
-  sound = sound-happens board_batches batch_laws most_batches w event is.sound;
-  counts = counts-happens board_batches batch_laws most_batches w is.sound is.counts event;
-  tallied = tallied-happens board_batches w is.tallied (is.sound.no_edit (w.star.given + 1) (omega arith)) event;
+  sound = sound_runs.sound-happens board_batches batch_laws most_batches w event is.sound;
+  counts = tallies.counts-happens board_batches batch_laws most_batches w is.sound is.counts event;
+  tallied = tallies.tallied-happens board_batches w is.tallied (is.sound.no_edit (w.star.given + 1) (omega arith)) event;
   strays = strays-happens board_batches batch_laws most_batches w is.sound is.strays event;
 }
 
@@ -303,9 +198,9 @@ run_sound (e ∷ es) w is = run_sound es (happens board_batches w e) (happens_so
 pub fetched_sound : (w : BoardWorld) (i n : ℕ) (l : BoardLink) (a : BoardAttached) → link_of i w.star.links ≡ Some l → attached i w.sites ≡ Some a
     → IsBoardWorld w → IsBoardWorld (only_fetched board_batches w i n l)
 fetched_sound w i n l a fl fa is = record {
-  sound = sound-fetched board_batches batch_laws most_batches w is.sound i n l a fl fa;
-  counts = counts-fetched board_batches batch_laws w is.counts i n l a fl fa;
-  tallied = tallied-fetched board_batches w is.tallied i n l;
+  sound = sound_runs.sound-fetched board_batches batch_laws most_batches w is.sound i n l a fl fa;
+  counts = tallies.counts-fetched board_batches batch_laws w is.counts i n l a fl fa;
+  tallied = tallies.tallied-fetched board_batches w is.tallied i n l;
   strays = strays-fetched board_batches batch_laws most_batches w is.sound is.strays i n l;
 }
 
@@ -420,7 +315,7 @@ world_spared w v is (inr fetched) = subst IsWorld (sym fetched.5) (still fetched
 oldest_fits : (w : BoardWorld) → IsSound board_batches most_batches w → OldestFits w.star w.sites
 oldest_fits w s i l a down rest fl fa e =
     let all : rest ++ drop (length l.outbox) l.outbox ≡ rest = ap (λ (ds : List (Down BoardBatch)). rest ++ ds) (drop_of_length-le l.outbox (le_refl _)) ∙ append-nil rest in
-    fall_fits board_batches batch_laws most_batches w s i l a fl fa down (length l.outbox) rest (ap downs (e ∙ ap (λ (ds : List (Down BoardBatch)). down ∷ ds) (sym all)))
+    sound_runs.fall_fits board_batches batch_laws most_batches w s i l a fl fa down (length l.outbox) rest (ap downs (e ∙ ap (λ (ds : List (Down BoardBatch)). down ∷ ds) (sym all)))
 
 pub world_ready : (w : BoardWorld) → IsWorld w → ((i : ℕ) → is_stray i w.trace ≡ false) → AreReady w.star w.sites
 world_ready w is plain = record {

@@ -2,8 +2,8 @@
 use Rattle.std.specs.Prelude.{ℕ, List, ◌≡◌, ◌≤◌, ◌<◌, length, Some}
 use Rattle.jup_world.specs.Prelude.{highest_limit, answer_after, BoardEdits, board_batches, BoardBatch, Windows, Entry, LinkState, most_batches}
 use Rattle.jup_batch.specs.Boards.{content, meaning}
-use Rattle.jup_world.specs.Worlds.{HappenedOf, IsOpening, WorldOf, AttachedOf, EventOf, ReplyOf, opened_world, run, attached}
-use Rattle.jup_world.specs.Traces.{order_of as order_told, view as view_told, AllCount, IsTallied, turns, edits, own_edits, made}
+use Rattle.jup_world.specs.Worlds.{HappenedOf, WorldOf, EventOf, ReplyOf, opened_world, run, attached, IsOpening, AttachedOf}
+use Rattle.jup_world.specs.Traces.{order_of as order_told, view as view_told, AllCount, IsTallied, made, turns, edits, own_edits}
 use Rattle.jup_world.specs.Sound.{IsSound, KnowsStrays}
 
 -- What is read off a trace of boards.

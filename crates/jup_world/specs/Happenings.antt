@@ -5,7 +5,7 @@ use Rattle.jup_world.specs.Prelude.{highest_limit, has_site, BoardBatch, BoardEd
 use Rattle.jup_star.specs.declared.calls.StarReply.TheVariants.{Taken}
 use Rattle.jup_lane.specs.Lanes.{Carries, IsMovedOn, ups, downs}
 use Rattle.jup_world.specs.Events.{Happened, Up as MoveUp, Down as MoveDown}
-use Rattle.jup_world.specs.Worlds.{attached, at_site, outcome, with_edit, place_reply, one_handed, down_reply, with_fetched, only_fetched, AreAscending}
+use Rattle.jup_world.specs.Worlds.{attached, at_site, outcome, place_reply, down_reply, only_fetched, AreAscending, with_edit, one_handed, with_fetched}
 use Rattle.jup_world.specs.Boards.{BoardWorld, BoardAttached, BoardLink, BoardEvent, BoardReply, IsBoardWorld}
 use Rattle.jup_world.specs.Lanes.{LaneEvent, Plain, PushDown, Noted, LaneSite, LaneWorld, messages_at, messages_of, lane_site, AllCarry, lane_outcome, up_read, down_read, filled_way, TouchesUp, TouchesDown}
 use Rattle.jup_star.specs.declared.calls.Call.TheVariants.{Take}

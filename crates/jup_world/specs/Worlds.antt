@@ -1,20 +1,11 @@
 -- Worlds whose links carry messages.
-use Rattle.std.specs.Prelude.{◌≡◌, ℕ, Bool, not, List, [], map, filter, find, nat_eq, Option, Some, if◌then◌else◌, ◌+◌, ◌∷◌, ◌++◌, take, drop, None, option_to_list, Result, Ok, Err, ◌<◌, ◌≤◌, zero, suc, true, false}
-use Rattle.jup_world.specs.Prelude.{next_message, Operations, only_site, Up, Down, UpOp, UpPing, DownOp, DownAck, DownPong, StarFault, SiteFault, LinkState, opened_star, link_of, StarOf, join_fault, joined, left, fetched, up_fault, taken, place_taken, IsShort, SiteState, opened_site, edit_answer, edited, deliver_fault, received, sent_back, EditFault, Joined, NoJoin, Left, Made, Refused, Taken, Heard, Detached, Shown, Asked, Nothing}
-use Rattle.jup_window.specs.Entries.{EachWidget}
-use Rattle.jup_window.specs.Boards.{Windows, HasDistinctNames}
+use Rattle.std.specs.Prelude.{◌≡◌, ℕ, Bool, not, List, [], map, filter, find, nat_eq, Option, Some, if◌then◌else◌, ◌+◌, ◌∷◌, ◌++◌, None, Result, Ok, Err, ◌<◌, ◌≤◌, zero, suc, true, false}
+use Rattle.jup_world.specs.Prelude.{Operations, Up, Down, DownOp, DownAck, DownPong, StarFault, SiteFault, LinkState, opened_star, link_of, StarOf, join_fault, joined, left, fetched, up_fault, taken, place_taken, opened_site, edit_answer, deliver_fault, EditFault, Joined, NoJoin, Left, Made, Refused, Taken, Heard, Detached, Shown, Asked, Nothing, Reply}
 use Rattle.jup_star.specs.Stars.{StarState}
-use Rattle.jup_world.specs.declared.events.Reply.{Reply}
 use Rattle.jup_world.specs.Events.{Event, Happened, Join, Leave, Edit as MakeEdit, Up as MoveUp, Down as MoveDown, Ping as SendPing, JoinStray, Stray, LeaveStray}
+pub use Rattle.jup_site.specs.Sites.{AttachedState, AttachedOf, with_edit, one_taken, one_handed, pinged, with_fetched, IsOpening}
 
 -- A world: a star, the sites that are attached to it, and the messages on their way between them.
-
--- an attached site, and its streams: what it sent that the star has not taken, and what was fetched for it that it has not
--- received, oldest first
-pub record AttachedState (Operation State : Type 0) : Type 0 where
-  pub site : SiteState Operation State
-  pub up : List (Up Operation)
-  pub down : List (Down Operation)
 
 -- the board that it was opened with, the star, the attached sites, and what has happened
 pub record WorldState (Operation State Edit Command : Type 0) : Type 0 where
@@ -45,10 +36,6 @@ module _ (O : Operations) where
   abbrev pub WorldOf : Type 0
   WorldOf = WorldState O.Op O.State O.Edit O.Command
 
-  -- one of its sites
-  abbrev pub AttachedOf : Type 0
-  AttachedOf = AttachedState O.Op O.State
-
   -- what may happen in it
   abbrev pub EventOf : Type 0
   EventOf = Event O.Command O.Op
@@ -67,7 +54,7 @@ module _ (O : Operations) where
 
   -- no message is on its way: neither in a stream nor in an outbox
   abbrev pub IsQuiet : WorldOf → Type 0
-  IsQuiet w = (i : ℕ) (l : LinkState O.Op) (a : AttachedOf) → link_of i w.star.links ≡ Some l → attached i w.sites ≡ Some a
+  IsQuiet w = (i : ℕ) (l : LinkState O.Op) (a : AttachedOf O) → link_of i w.star.links ≡ Some l → attached i w.sites ≡ Some a
       → (a.up ≡ []) × (a.down ≡ []) × (l.outbox ≡ [])
 
 -- What an event does to a world, by calls of the star and of a site.
@@ -96,18 +83,10 @@ module _ (O : Operations) where
   abbrev pub leave_outcome : WorldOf O → ℕ → Outcome
   leave_outcome w i = record { reply = Left; star = left i w.star; sites = without_site i w.sites }
 
-  -- a site edits: its message goes last into its up stream
-  abbrev pub with_edit : O.Op → AttachedOf O → AttachedOf O
-  with_edit op a = record a { site = edited O op a.site; up = a.up ++ UpOp (next_message a.site.end op) ∷ [] }
-
   -- or is refused
   abbrev pub edit_outcome : WorldOf O → ℕ → Result O.Op EditFault → Outcome
   edit_outcome w i (Err fault) = unchanged w (Refused fault)
-  edit_outcome w i (Ok op) = record { reply = Made (O.t.edit_of op); star = w.star; sites = at_site i (with_edit op) w.sites }
-
-  -- the star takes the oldest message of an up stream, or detaches the site
-  abbrev pub one_taken : AttachedOf O → AttachedOf O
-  one_taken a = record a { up = drop 1 a.up }
+  edit_outcome w i (Ok op) = record { reply = Made (O.t.edit_of op); star = w.star; sites = at_site i (with_edit O op) w.sites }
 
   -- what it answers
   abbrev pub place_reply : Option ℕ → ReplyOf O
@@ -118,28 +97,24 @@ module _ (O : Operations) where
   abbrev pub up_outcome : WorldOf O → ℕ → LinkState O.Op → Up O.Op → Option StarFault → Outcome
   up_outcome w i l up (Some fault) = record { reply = Detached fault; star = left i w.star; sites = without_site i w.sites }
   up_outcome w i l up None =
-      record { reply = place_reply (place_taken O w.star up); star = taken O i up l w.star; sites = at_site i one_taken w.sites }
+      record { reply = place_reply (place_taken O w.star up); star = taken O i up l w.star; sites = at_site i (one_taken O) w.sites }
 
   -- if there is one
   abbrev pub first_up : WorldOf O → ℕ → LinkState O.Op → List (Up O.Op) → Outcome
   first_up w i l [] = unchanged w Nothing
   first_up w i l (up ∷ ups) = up_outcome w i l up (up_fault O w.star l up)
 
-  -- a site receives the oldest message on its way down, and sends back what it owes; `downs` is what is left of its down stream
+  -- a site receives the oldest message on its way down
   abbrev pub down_reply : Down O.Op → ReplyOf O
   down_reply (DownOp m) = Shown
   down_reply (DownAck n) = Heard
   down_reply (DownPong k) = Heard
 
-  -- the site, and what it sends back
-  abbrev pub one_handed : Down O.Op → List (Down O.Op) → AttachedOf O → AttachedOf O
-  one_handed down downs a = record { site = received O down a.site; up = a.up ++ option_to_list (sent_back O down a.site); down = downs }
-
   -- `gone` messages were fetched first. No site refuses what it receives here
   abbrev pub down_outcome : WorldOf O → ℕ → ℕ → Down O.Op → List (Down O.Op) → Option SiteFault → Outcome
   down_outcome w i gone down downs (Some fault) = unchanged w Nothing
   down_outcome w i gone down downs None =
-      record { reply = down_reply down; star = fetched i gone w.star; sites = at_site i (one_handed down downs) w.sites }
+      record { reply = down_reply down; star = fetched i gone w.star; sites = at_site i (one_handed O down downs) w.sites }
 
   -- the oldest is that of the stream, and if that is empty that of the outbox
   abbrev pub first_down : WorldOf O → ℕ → AttachedOf O → List (Down O.Op) → List (Down O.Op) → Outcome
@@ -147,13 +122,9 @@ module _ (O : Operations) where
   first_down w i a [] (down ∷ outbox) = down_outcome w i 1 down [] (deliver_fault O down a.site)
   first_down w i a [] [] = unchanged w Nothing
 
-  -- a site sends a ping
-  abbrev pub pinged : ℕ → AttachedOf O → AttachedOf O
-  pinged k a = record a { up = a.up ++ UpPing k ∷ [] }
-
   -- it is answered later
   abbrev pub ping_outcome : WorldOf O → ℕ → ℕ → Outcome
-  ping_outcome w i k = record { reply = Asked; star = w.star; sites = at_site i (pinged k) w.sites }
+  ping_outcome w i k = record { reply = Asked; star = w.star; sites = at_site i (pinged O k) w.sites }
 
   -- a stranger joins, or is refused: it has a link and no site
   abbrev pub stray_joins : WorldOf O → Option StarFault → Outcome
@@ -215,12 +186,8 @@ module _ (O : Operations) where
   run w (e ∷ es) = run (happens w e) es
 
   -- a failed allocation leaves a world as it was, except that messages may have moved from a site's outbox to its down stream
-  abbrev pub with_fetched : ℕ → LinkState O.Op → AttachedOf O → AttachedOf O
-  with_fetched n l a = record a { down = a.down ++ take n l.outbox }
-
-  -- a world of which this is so
   abbrev pub only_fetched : WorldOf O → ℕ → ℕ → LinkState O.Op → WorldOf O
-  only_fetched w i n l = record w { star = fetched i n w.star; sites = at_site i (with_fetched n l) w.sites }
+  only_fetched w i n l = record w { star = fetched i n w.star; sites = at_site i (with_fetched O n l) w.sites }
 
 -- The numbers of attached sites.
 
@@ -235,11 +202,3 @@ module _ {Operation State : Type 0} where
   IsSiteAt i [] n = ⊥
   IsSiteAt i (a ∷ later) zero = is_number i a ≡ true
   IsSiteAt i (a ∷ later) (suc n) = (is_number i a ≡ false) × IsSiteAt i later n
-
--- The boards that a world may be opened with.
-
--- no two items of a widget have one name, no name is of a site, and no widget is long
-pub record IsOpening (b : Windows) : Type 0 where
-  pub distinct : HasDistinctNames b
-  pub unsigned : only_site 0 b ≡ true
-  pub short : EachWidget IsShort b

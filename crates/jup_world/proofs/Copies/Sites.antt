@@ -1,23 +1,24 @@
 -- Any two copies of the board.
-use Rattle.std.proofs.Common.{◌≡◌, ◌⊎◌, ℕ, ◌+◌, ◌≤◌, inl, inr, Bool, true, false, cond, List, [], ◌∷◌, ◌++◌, drop, take, length, nat_eq, nat_le, refl, ap, sym, ◌∙◌, Some, arith, append_assoc, eqb-true, leb-false, le_refl, length-append, take-append-drop, zero, suc, subst}
+use Rattle.std.proofs.Common.{◌≡◌, ◌⊎◌, ℕ, ◌+◌, ◌≤◌, inl, inr, Bool, true, false, cond, List, [], ◌∷◌, ◌++◌, drop, take, length, nat_eq, nat_le, refl, ap, sym, ◌∙◌, Some, arith, append_assoc, eqb-true, leb-false, le_refl, length-append, take-append-drop, zero, suc, subst, length-take, length-take-le}
 use Rattle.std.proofs.lemmas.Bool.{eqb-false, leb-true}
-use Rattle.std.proofs.lemmas.List.{length-take, length-take-le}
 use Rattle.jup_world.specs.Prelude.{Operations, AreLawful, Windows, BoardEdits, board_batches, batch_laws, Entry, Up, UpOp, UpAck, UpPing, LinkState, StarOf, link_of, most_batches, Taken}
 use Rattle.jup_world.specs.Events.{Up as MoveUp, Stray}
 use Rattle.jup_world.specs.Traces.{turn, turns, first_of_site, made, stray_entry, entry_taken, order_of, joined_at, shown_count, OrdersAgree}
-use Rattle.jup_world.specs.Worlds.{attached, WorldOf, AttachedOf, EventOf, ReplyOf, HappenedOf, opened_world, outcome, happens, run, only_fetched}
+use Rattle.jup_world.specs.Worlds.{attached, WorldOf, EventOf, ReplyOf, HappenedOf, opened_world, outcome, happens, run, only_fetched, AttachedOf}
 use Rattle.jup_world.specs.Sound.{named_by, named_in, IsKnown, own_counts, told_of, Standing, IsSound}
 use Rattle.jup_world.specs.Boards.{BoardWorld, BoardLink, BoardAttached, BoardEvent}
 use Rattle.jup_world.specs.Happenings.{IsWorld, IsSpared, IsLaneWorld}
 use Rattle.jup_world.specs.Lanes.{LaneEvent, Plain, PushUp, PushDown, LaneWorld, messages_of, messages_after, Steps, AllTried, IsSparedBy}
-use Rattle.jup_world.proofs.Known.{named_by-append, known_more, own_counts-more}
-use Rattle.jup_world.proofs.Sound.Traces.{length-turns, standing_of, named-turns}
+use Rattle.jup_site.proofs.Known.{named_by-append, known_more, own_counts-more}
+use Rattle.jup_site.proofs.Turns.{length-turns, named-turns}
+use Rattle.jup_world.proofs.Sound.Traces.{standing_of}
 use Rattle.jup_world.proofs.Sound.Runs.{sound-happens, sound-run}
-use Rattle.jup_world.proofs.Pairs.Places.{told_within}
-use Rattle.jup_world.proofs.Orders.{StarKnows, told_turns, SiteKnows, order_grows, run-follows, run_follows}
-use Rattle.jup_world.proofs.Copies.Boards.{WasShown, was_here, was_happens, was_fetched, was_order}
-use Rattle.jup_world.proofs.Copies.Stars.{WasStar, was_now, past_order, past_since, was_star_happens, was_star_fetched}
-use Rattle.jup_world.proofs.Lanes.Worlds.{after_up, pushed_spared, spared_messages, try_keeps, tried_keeps, tried_order}
+use Rattle.jup_site.proofs.Pairs.Places.{told_within}
+use Rattle.jup_site.proofs.Follows.{StarKnows}
+use Rattle.jup_world.proofs.Orders as orders
+use Rattle.jup_world.proofs.Copies.Boards as past_boards
+use Rattle.jup_world.proofs.Copies.Stars as past_stars
+use Rattle.jup_world.proofs.Lanes.Worlds as lane_worlds
 
 -- A board that a site once showed, and what another site shows: both agree with a star that the world once had, and that knew what both sites know.
 
@@ -58,7 +59,7 @@ module _ (O : Operations) (L : AreLawful O) where
   abbrev pub told_count : WorldOf O → ℕ → ℕ
   told_count w j = told_of O (joined_at O j w.trace) (shown_count j w.trace) (turns j w.star.order)
 
-  told_named : (w : WorldOf O) (j m : ℕ) → named_by O j m (told_turns O L w j) ≡ named_in O (take (told_count w j) w.star.order) m
+  told_named : (w : WorldOf O) (j m : ℕ) → named_by O j m (orders.told_turns O L w j) ≡ named_in O (take (told_count w j) w.star.order) m
   told_named w j m = ap (named_by O j m) (sym (turns-take j (told_of O (joined_at O j w.trace) (shown_count j w.trace) (turns j w.star.order)) w.star.order))
       ∙ named-turns O L j 0 m (take (told_of O (joined_at O j w.trace) (shown_count j w.trace) (turns j w.star.order)) w.star.order)
 
@@ -67,26 +68,26 @@ module _ (O : Operations) (L : AreLawful O) where
 
     -- for each length that the order has had, a star that the world had then
     abbrev pub HasPastStars : ℕ → WorldOf O → Type 0
-    HasPastStars most w = (k : ℕ) → k ≤ length w.star.order → (z : StarOf O) × (length z.order ≡ k) × WasStar O L most w z
+    HasPastStars most w = (k : ℕ) → k ≤ length w.star.order → (z : StarOf O) × (length z.order ≡ k) × past_stars.WasStar O L most w z
 
     pub past_stars_opened : (most limit : ℕ) (board : O.State) → IsSound O most (opened_world O board limit) → HasPastStars most (opened_world O board limit)
-    past_stars_opened most limit board s k h = ((opened_world O board limit).star, omega arith, was_now O L most (opened_world O board limit) s)
+    past_stars_opened most limit board s k h = ((opened_world O board limit).star, omega arith, past_stars.was_now O L most (opened_world O board limit) s)
 
     -- each event keeps this, since the order grows by one entry at the most
     longer_by_one : (most : ℕ) (w : WorldOf O) (s : IsSound O most w) (e : EventOf O) → length (happens O w e).star.order ≤ length w.star.order + 1
     longer_by_one most w s e =
         let one = one_entry O w.trace (order_of O w.trace) e (outcome O w e).reply in
-        omega (arith, ap (λ (os : List (Entry O.Edit)). length os) (order_grows O L most w s e), length-append w.star.order (entry_taken O w.trace (order_of O w.trace) e (outcome O w e).reply))
+        omega (arith, ap (λ (os : List (Entry O.Edit)). length os) (orders.order_grows O L most w s e), length-append w.star.order (entry_taken O w.trace (order_of O w.trace) e (outcome O w e).reply))
 
     pub past_stars_happens : (most : ℕ) (w : WorldOf O) (s : IsSound O most w) (e : EventOf O) → HasPastStars most w → HasPastStars most (happens O w e)
     past_stars_happens most w s e past k h = cases (nat_le k (length w.star.order)) refl
       where
-        cases : (b : Bool) → nat_le k (length w.star.order) ≡ b → (z : StarOf O) × (length z.order ≡ k) × WasStar O L most (happens O w e) z
-        cases true f = let was = past k (leb-true k (length w.star.order) f) in (was.0, was.1, was_star_happens O L symmetric most w s e was.0 was.2)
+        cases : (b : Bool) → nat_le k (length w.star.order) ≡ b → (z : StarOf O) × (length z.order ≡ k) × past_stars.WasStar O L most (happens O w e) z
+        cases true f = let was = past k (leb-true k (length w.star.order) f) in (was.0, was.1, past_stars.was_star_happens O L symmetric most w s e was.0 was.2)
         cases false f =
             let above = leb-false k (length w.star.order) f in
             let one = longer_by_one most w s e in
-            ((happens O w e).star, omega arith, was_now O L most (happens O w e) (sound-happens O L most w e s))
+            ((happens O w e).star, omega arith, past_stars.was_now O L most (happens O w e) (sound-happens O L most w e s))
 
     pub past_stars_run : (es : List (EventOf O)) (most : ℕ) (w : WorldOf O) → IsSound O most w → HasPastStars most w → HasPastStars most (run O w es)
     past_stars_run [] most w s past = past
@@ -95,7 +96,7 @@ module _ (O : Operations) (L : AreLawful O) where
     -- and so does a fetch
     pub past_stars_fetched : (most : ℕ) (w : WorldOf O) (i n : ℕ) (l : LinkState O.Op) (a : AttachedOf O) → link_of i w.star.links ≡ Some l → attached i w.sites ≡ Some a
         → HasPastStars most w → HasPastStars most (only_fetched O w i n l)
-    past_stars_fetched most w i n l a fl fa past k h = let was = past k h in (was.0, was.1, was_star_fetched O L symmetric most w i n l a fl fa was.0 was.2)
+    past_stars_fetched most w i n l a fl fa past k h = let was = past k h in (was.0, was.1, past_stars.was_star_fetched O L symmetric most w i n l a fl fa was.0 was.2)
 
     -- # A past board of a site
 
@@ -107,29 +108,29 @@ module _ (O : Operations) (L : AreLawful O) where
 
     -- A board that the site of a number once showed, when it had named so many items and these entries had reached it, beside a star of each length.
     pub record WasCopy (most : ℕ) (w : WorldOf O) (i : ℕ) (x : O.State) (named : ℕ) (seen : List (Entry O.Edit)) : Type 0 where
-      pub shown : WasShown O L most w i x
+      pub shown : past_boards.WasShown O L most w i x
       pub later : List (Entry O.Edit)
       pub grows : w.star.order ≡ seen ++ later
       pub known : (n : O.t.Name) → O.t.holds x n → IsKnown O (own_counts O i named (named_in O seen)) n
-      pub stars : (k : ℕ) → k ≤ length w.star.order → (z : StarOf O) × (length z.order ≡ k) × WasStar O L most w z × Beside x (length seen) z
+      pub stars : (k : ℕ) → k ≤ length w.star.order → (z : StarOf O) × (length z.order ≡ k) × past_stars.WasStar O L most w z × Beside x (length seen) z
 
     -- the site of the moment
     pub copy_now : (most : ℕ) (w : WorldOf O) (s : IsSound O most w) → HasPastStars most w → (i : ℕ) (a : AttachedOf O) → attached i w.sites ≡ Some a
         → WasCopy most w i a.site.board a.site.named (take (told_count w i) w.star.order)
     copy_now most w s past i a fa = record {
-      shown = was_here O L most w s i a fa;
+      shown = past_boards.was_here O L most w s i a fa;
       later = drop (told_count w i) w.star.order;
       grows = sym (take-append-drop (told_count w i) w.star.order);
-      known = λ n held. known_more O L (own_counts O i a.site.named (λ m. named_by O i m (told_turns O L w i))) (own_counts O i a.site.named (named_in O (take (told_count w i) w.star.order))) n
-          (own_counts-more O L i a.site.named a.site.named (λ m. named_by O i m (told_turns O L w i)) (named_in O (take (told_count w i) w.star.order)) (le_refl a.site.named) (λ m. omega (arith, told_named w i m)))
+      known = λ n held. known_more O L (own_counts O i a.site.named (λ m. named_by O i m (orders.told_turns O L w i))) (own_counts O i a.site.named (named_in O (take (told_count w i) w.star.order))) n
+          (own_counts-more O L i a.site.named a.site.named (λ m. named_by O i m (orders.told_turns O L w i)) (named_in O (take (told_count w i) w.star.order)) (le_refl a.site.named) (λ m. omega (arith, told_named w i m)))
           (st.1.pair.board_known n held);
       stars = λ k h. (let was = past k h in (
         was.0,
         was.1,
         was.2,
         record {
-          order = symmetric was.0.board a.site.board (past_order O L symmetric most w s was.0 was.2 i st.0 a st.2 fa);
-          level = λ e n known held. (past_since O L symmetric most w s was.0 was.2 i st.0 a st.2 fa (omega (arith, e, count))).none_back n known held;
+          order = symmetric was.0.board a.site.board (past_stars.past_order O L symmetric most w s was.0 was.2 i st.0 a st.2 fa);
+          level = λ e n known held. (past_stars.past_since O L symmetric most w s was.0 was.2 i st.0 a st.2 fa (omega (arith, e, count))).none_back n known held;
         },
       ));
     }
@@ -146,26 +147,26 @@ module _ (O : Operations) (L : AreLawful O) where
     copy_happens most w s i x named seen e was = record {
       shown = shown_on;
       later = was.later ++ entry_taken O w.trace (order_of O w.trace) e (outcome O w e).reply;
-      grows = order_grows O L most w s e ∙ ap (λ os. os ++ entry_taken O w.trace (order_of O w.trace) e (outcome O w e).reply) was.grows
+      grows = orders.order_grows O L most w s e ∙ ap (λ os. os ++ entry_taken O w.trace (order_of O w.trace) e (outcome O w e).reply) was.grows
           ∙ append_assoc seen was.later (entry_taken O w.trace (order_of O w.trace) e (outcome O w e).reply);
       known = was.known;
       stars = λ k h. cases k h (nat_le k (length w.star.order)) refl;
     }
       where
-        shown_on : WasShown O L most (happens O w e) i x
-        shown_on = was_happens O L symmetric most w s i x e was.shown
+        shown_on : past_boards.WasShown O L most (happens O w e) i x
+        shown_on = past_boards.was_happens O L symmetric most w s i x e was.shown
 
         cases : (k : ℕ) → k ≤ length (happens O w e).star.order → (b : Bool) → nat_le k (length w.star.order) ≡ b
-            → (z : StarOf O) × (length z.order ≡ k) × WasStar O L most (happens O w e) z × Beside x (length seen) z
-        cases k h true f = let z = was.stars k (leb-true k (length w.star.order) f) in (z.0, z.1, was_star_happens O L symmetric most w s e z.0 z.2, z.3)
+            → (z : StarOf O) × (length z.order ≡ k) × past_stars.WasStar O L most (happens O w e) z × Beside x (length seen) z
+        cases k h true f = let z = was.stars k (leb-true k (length w.star.order) f) in (z.0, z.1, past_stars.was_star_happens O L symmetric most w s e z.0 z.2, z.3)
         cases k h false f =
             let above = leb-false k (length w.star.order) f in
             let one = longer_by_one most w s e in (
               (happens O w e).star,
               omega arith,
-              was_now O L most (happens O w e) (sound-happens O L most w e s),
+              past_stars.was_now O L most (happens O w e) (sound-happens O L most w e s),
               record {
-                order = was_order O L symmetric most (happens O w e) (sound-happens O L most w e s) i x shown_on;
+                order = past_boards.was_order O L symmetric most (happens O w e) (sound-happens O L most w e s) i x shown_on;
                 level = λ q n known held. absurd (omega (arith, q, ap (λ (os : List (Entry O.Edit)). length os) was.grows, length-append seen was.later));
               },
             )
@@ -174,11 +175,11 @@ module _ (O : Operations) (L : AreLawful O) where
     pub copy_fetched : (most : ℕ) (w : WorldOf O) (s : IsSound O most w) (i : ℕ) (x : O.State) (named : ℕ) (seen : List (Entry O.Edit)) (j n : ℕ) (l : LinkState O.Op) (a : AttachedOf O) → link_of j w.star.links ≡ Some l → attached j w.sites ≡ Some a
         → WasCopy most w i x named seen → WasCopy most (only_fetched O w j n l) i x named seen
     copy_fetched most w s i x named seen j n l a fl fa was = record {
-      shown = was_fetched O L symmetric most w s i x j n l a fl fa was.shown;
+      shown = past_boards.was_fetched O L symmetric most w s i x j n l a fl fa was.shown;
       later = was.later;
       grows = was.grows;
       known = was.known;
-      stars = λ k h. (let z = was.stars k h in (z.0, z.1, was_star_fetched O L symmetric most w j n l a fl fa z.0 z.2, z.3));
+      stars = λ k h. (let z = was.stars k h in (z.0, z.1, past_stars.was_star_fetched O L symmetric most w j n l a fl fa z.0 z.2, z.3));
     }
 
     pub copy_run : (es : List (EventOf O)) (most : ℕ) (w : WorldOf O) → IsSound O most w → (i : ℕ) (x : O.State) (named : ℕ) (seen : List (Entry O.Edit)) → WasCopy most w i x named seen → WasCopy most (run O w es) i x named seen
@@ -190,12 +191,12 @@ module _ (O : Operations) (L : AreLawful O) where
   -- a name that both sites know is known to a star whose order had all the entries that had reached either site
   knows_both : (w : WorldOf O) (i j : ℕ) → nat_eq i j ≡ false → (named : ℕ) (seen later : List (Entry O.Edit)) → w.star.order ≡ seen ++ later → (b : AttachedOf O) (z : StarOf O) (more : List (Entry O.Edit)) → w.star.order ≡ z.order ++ more
       → length seen ≤ length z.order → told_count w j ≤ length z.order
-      → (n : O.t.Name) → IsKnown O (own_counts O i named (named_in O seen)) n → SiteKnows O L w j b n → StarKnows O L z n
+      → (n : O.t.Name) → IsKnown O (own_counts O i named (named_in O seen)) n → orders.SiteKnows O L w j b n → StarKnows O L z n
   knows_both w i j apart named seen later grows b z more grew low high n (inl q) there = inl q
   knows_both w i j apart named seen later grows b z more grew low high n (inr m) (inl q) = inl q
   knows_both w i j apart named seen later grows b z more grew low high n (inr m) (inr k) = inr (cases (nat_eq (O.site_of n) i) refl m (nat_eq (O.site_of n) j) refl k)
     where
-      cases : (c : Bool) → nat_eq (O.site_of n) i ≡ c → O.number_of n ≤ cond c named (named_in O seen (O.site_of n)) → (d : Bool) → nat_eq (O.site_of n) j ≡ d → O.number_of n ≤ cond d b.site.named (named_by O j (O.site_of n) (told_turns O L w j))
+      cases : (c : Bool) → nat_eq (O.site_of n) i ≡ c → O.number_of n ≤ cond c named (named_in O seen (O.site_of n)) → (d : Bool) → nat_eq (O.site_of n) j ≡ d → O.number_of n ≤ cond d b.site.named (named_by O j (O.site_of n) (orders.told_turns O L w j))
           → O.number_of n ≤ named_in O z.order (O.site_of n)
       cases false e x d f y = omega (arith, x, named_more (O.site_of n) seen later z.order more (sym grows ∙ grew) low)
       cases true e x false f y =
@@ -223,12 +224,12 @@ module _ (O : Operations) (L : AreLawful O) where
         through : (k : ℕ) → k ≤ length w.star.order → length seen ≤ k → told_count w j ≤ k → (k ≡ length seen) ⊎ (k ≡ told_count w j) → O.t.keeps_order x b.site.board
         through k h low high which =
             let z = was.stars k h in
-            L.keeps.order_chain x z.0.board b.site.board z.3.order (past_order O L symmetric most w s z.0 z.2 j st.0 b st.2 fb)
+            L.keeps.order_chain x z.0.board b.site.board z.3.order (past_stars.past_order O L symmetric most w s z.0 z.2 j st.0 b st.2 fb)
             (λ n here there.
             let known = knows_both w i j apart named seen was.later was.grows b z.0 z.2.more z.2.grows (omega (arith, z.1)) (omega (arith, z.1)) n (was.known n here) (st.1.pair.board_known n there) in
             elim which [
               | inl a ↦ z.3.level (z.1 ∙ a) n known here
-              | inr c ↦ (past_since O L symmetric most w s z.0 z.2 j st.0 b st.2 fb (sym (z.1 ∙ c))).none_back n known there
+              | inr c ↦ (past_stars.past_since O L symmetric most w s z.0 z.2 j st.0 b st.2 fb (sym (z.1 ∙ c))).none_back n known there
             ])
 
         cases : (c : Bool) → nat_le (length seen) (told_count w j) ≡ c → O.t.keeps_order x b.site.board
@@ -244,7 +245,7 @@ lane_keeps : (P : BoardWorld → Type 0) → ((w : BoardWorld) → IsWorld w →
     → ((w : BoardWorld) → IsWorld w → (i : ℕ) (l : BoardLink) (a : BoardAttached) → link_of i w.star.links ≡ Some l → attached i w.sites ≡ Some a → P w → P (only_fetched board_batches w i 1 l))
     → (events : List LaneEvent) (w v : LaneWorld) → IsLaneWorld w → AllTried w events v → P (messages_of w) → P (messages_of v)
 lane_keeps P event fetch [] w v is same p = subst (λ (u : LaneWorld). P (messages_of u)) (sym same) p
-lane_keeps P event fetch (e ∷ es) w v is next p = lane_keeps P event fetch es next.0 v (try_keeps w e next.0 is next.1) next.2 (one next.1)
+lane_keeps P event fetch (e ∷ es) w v is next p = lane_keeps P event fetch es next.0 v (lane_worlds.try_keeps w e next.0 is next.1) next.2 (one next.1)
   where
     spared : (u : BoardWorld) → IsSpared (messages_of w) u → P u
     spared u (inl same) = subst P (sym same) p
@@ -252,24 +253,24 @@ lane_keeps P event fetch (e ∷ es) w v is next p = lane_keeps P event fetch es 
 
     after : (e : LaneEvent) → P (messages_after w e)
     after (Plain e) = event (messages_of w) is.world e p
-    after (PushUp i n) = subst P (sym (after_up w i n)) p
-    after (PushDown i n) = spared (messages_after w (PushDown i n)) (pushed_spared w i n)
+    after (PushUp i n) = subst P (sym (lane_worlds.after_up w i n)) p
+    after (PushDown i n) = spared (messages_after w (PushDown i n)) (lane_worlds.pushed_spared w i n)
 
     one : Steps w e next.0 ⊎ IsSparedBy w e next.0 → P (messages_of next.0)
     one (inl step) = subst P (sym step.messages) (after e)
-    one (inr refused) = spared (messages_of next.0) (spared_messages w next.0 e refused)
+    one (inr refused) = spared (messages_of next.0) (lane_worlds.spared_messages w next.0 e refused)
 
 module _ (symmetric : (x y : Windows) → board_batches.t.keeps_order x y → board_batches.t.keeps_order y x) (u v : LaneWorld) (is : IsLaneWorld u) (past : HasPastStars board_batches batch_laws symmetric most_batches (messages_of u))
     (events : List LaneEvent) (steps : AllTried u events v) where
   later_lanes : IsLaneWorld v
-  later_lanes = tried_keeps events u v is steps
+  later_lanes = lane_worlds.tried_keeps events u v is steps
 
   -- the star of the first moment is a past star at the later_lanes one
-  was_star : WasStar board_batches batch_laws most_batches (messages_of v) u.star
-  was_star = lane_keeps (λ w. WasStar board_batches batch_laws most_batches w u.star)
-      (λ w is e was. was_star_happens board_batches batch_laws symmetric most_batches w is.board.sound e u.star was)
-      (λ w is i l a fl fa was. was_star_fetched board_batches batch_laws symmetric most_batches w i 1 l a fl fa u.star was)
-      events u v is steps (was_now board_batches batch_laws most_batches (messages_of u) is.world.board.sound)
+  was_star : past_stars.WasStar board_batches batch_laws most_batches (messages_of v) u.star
+  was_star = lane_keeps (λ w. past_stars.WasStar board_batches batch_laws most_batches w u.star)
+      (λ w is e was. past_stars.was_star_happens board_batches batch_laws symmetric most_batches w is.board.sound e u.star was)
+      (λ w is i l a fl fa was. past_stars.was_star_fetched board_batches batch_laws symmetric most_batches w i 1 l a fl fa u.star was)
+      events u v is steps (past_stars.was_now board_batches batch_laws most_batches (messages_of u) is.world.board.sound)
 
   -- what had reached a site by the first moment
   abbrev seen : ℕ → List (Entry BoardEdits)
@@ -284,22 +285,22 @@ module _ (symmetric : (x y : Windows) → board_batches.t.keeps_order x y → bo
 
   -- any two copies
   pub tried_copies : OrdersAgree board_batches (messages_of u) (messages_of v)
-  tried_copies x y (inl p) (inl q) = subst (λ z. board_batches.t.keeps_order z y) (sym p) (subst (board_batches.t.keeps_order u.star.board) (sym q) (tried_order events u v is steps).star)
+  tried_copies x y (inl p) (inl q) = subst (λ z. board_batches.t.keeps_order z y) (sym p) (subst (board_batches.t.keeps_order u.star.board) (sym q) (lane_worlds.tried_order events u v is steps).star)
   tried_copies x y (inl p) (inr c) = subst (λ z. board_batches.t.keeps_order z y) (sym p) (subst (board_batches.t.keeps_order u.star.board) (sym c.3) (star_site c.0 c.1 c.2))
     where
       star_site : (j : ℕ) (b : BoardAttached) → attached j (messages_of v).sites ≡ Some b → board_batches.t.keeps_order u.star.board b.site.board
       star_site j b fb =
           let st = standing_of board_batches batch_laws most_batches (messages_of v) later_lanes.world.board.sound j b fb in
-          past_order board_batches batch_laws symmetric most_batches (messages_of v) later_lanes.world.board.sound u.star was_star j st.0 b st.2 fb
+          past_stars.past_order board_batches batch_laws symmetric most_batches (messages_of v) later_lanes.world.board.sound u.star was_star j st.0 b st.2 fb
   tried_copies x y (inr d) (inl q) = subst (λ z. board_batches.t.keeps_order z y) (sym d.3) (subst (board_batches.t.keeps_order d.1.site.board) (sym q)
-      (was_order board_batches batch_laws symmetric most_batches (messages_of v) later_lanes.world.board.sound d.0 d.1.site.board (was_copy d.0 d.1 d.2).shown))
+      (past_boards.was_order board_batches batch_laws symmetric most_batches (messages_of v) later_lanes.world.board.sound d.0 d.1.site.board (was_copy d.0 d.1 d.2).shown))
   tried_copies x y (inr d) (inr c) = subst (λ z. board_batches.t.keeps_order z y) (sym d.3) (subst (board_batches.t.keeps_order d.1.site.board) (sym c.3) (site_site d.0 c.0 d.1 c.1 d.2 c.2))
     where
       site_site : (i j : ℕ) (a b : BoardAttached) → attached i (messages_of u).sites ≡ Some a → attached j (messages_of v).sites ≡ Some b → board_batches.t.keeps_order a.site.board b.site.board
       site_site i j a b fa fb = cases (nat_eq i j) refl
         where
           cases : (c : Bool) → nat_eq i j ≡ c → board_batches.t.keeps_order a.site.board b.site.board
-          cases true e = (tried_order events u v is steps).sites i a b fa (subst (λ k. attached k (messages_of v).sites ≡ Some b) (sym (eqb-true i j e)) fb)
+          cases true e = (lane_worlds.tried_order events u v is steps).sites i a b fa (subst (λ k. attached k (messages_of v).sites ≡ Some b) (sym (eqb-true i j e)) fb)
           cases false e = copies_meet board_batches batch_laws symmetric most_batches (messages_of v) later_lanes.world.board.sound i a.site.board a.site.named (seen i) (was_copy i a fa) j e b fb
 
 -- for each length of the order a past star: events in turn keep that
@@ -314,9 +315,9 @@ lane_past_stars symmetric events u v is steps past = lane_keeps (HasPastStars bo
 
 module _ (O : Operations) (L : AreLawful O) (symmetric : (x y : O.State) → O.t.keeps_order x y → O.t.keeps_order y x) where
   -- over any run a past star stays one
-  was_star_run : (es : List (EventOf O)) (most : ℕ) (w : WorldOf O) → IsSound O most w → (z : StarOf O) → WasStar O L most w z → WasStar O L most (run O w es) z
+  was_star_run : (es : List (EventOf O)) (most : ℕ) (w : WorldOf O) → IsSound O most w → (z : StarOf O) → past_stars.WasStar O L most w z → past_stars.WasStar O L most (run O w es) z
   was_star_run [] most w s z was = was
-  was_star_run (e ∷ es) most w s z was = was_star_run es most (happens O w e) (sound-happens O L most w e s) z (was_star_happens O L symmetric most w s e z was)
+  was_star_run (e ∷ es) most w s z was = was_star_run es most (happens O w e) (sound-happens O L most w e s) z (past_stars.was_star_happens O L symmetric most w s e z was)
 
   module _ (most : ℕ) (w : WorldOf O) (s : IsSound O most w) (past : HasPastStars O L symmetric most w) (es : List (EventOf O)) where
     later : IsSound O most (run O w es)
@@ -326,23 +327,23 @@ module _ (O : Operations) (L : AreLawful O) (symmetric : (x y : O.State) → O.t
     star_site : (j : ℕ) (b : AttachedOf O) → attached j (run O w es).sites ≡ Some b → O.t.keeps_order w.star.board b.site.board
     star_site j b fb =
         let st = standing_of O L most (run O w es) later j b fb in
-        past_order O L symmetric most (run O w es) later w.star (was_star_run es most w s w.star (was_now O L most w s)) j st.0 b st.2 fb
+        past_stars.past_order O L symmetric most (run O w es) later w.star (was_star_run es most w s w.star (past_stars.was_now O L most w s)) j st.0 b st.2 fb
 
     -- a site, and the star at the later moment
     site_star : (i : ℕ) (a : AttachedOf O) → attached i w.sites ≡ Some a → O.t.keeps_order a.site.board (run O w es).star.board
-    site_star i a fa = was_order O L symmetric most (run O w es) later i a.site.board (copy_run O L symmetric es most w s i a.site.board a.site.named _ (copy_now O L symmetric most w s past i a fa)).shown
+    site_star i a fa = past_boards.was_order O L symmetric most (run O w es) later i a.site.board (copy_run O L symmetric es most w s i a.site.board a.site.named _ (copy_now O L symmetric most w s past i a fa)).shown
 
     -- a site, and a site at the later moment: the same, or another
     site_site : (i j : ℕ) (a b : AttachedOf O) → attached i w.sites ≡ Some a → attached j (run O w es).sites ≡ Some b → O.t.keeps_order a.site.board b.site.board
     site_site i j a b fa fb = cases (nat_eq i j) refl
       where
         cases : (c : Bool) → nat_eq i j ≡ c → O.t.keeps_order a.site.board b.site.board
-        cases true e = (run_follows O L es most w s i a b fa (subst (λ k. attached k (run O w es).sites ≡ Some b) (sym (eqb-true i j e)) fb)).order
+        cases true e = (orders.run_follows O L es most w s i a b fa (subst (λ k. attached k (run O w es).sites ≡ Some b) (sym (eqb-true i j e)) fb)).order
         cases false e = copies_meet O L symmetric most (run O w es) later i a.site.board a.site.named _ (copy_run O L symmetric es most w s i a.site.board a.site.named _ (copy_now O L symmetric most w s past i a fa)) j e b fb
 
     -- any two copies
     pub run_copies : OrdersAgree O w (run O w es)
-    run_copies x y (inl p) (inl q) = subst (λ u. O.t.keeps_order u y) (sym p) (subst (O.t.keeps_order w.star.board) (sym q) (run-follows O L es most w s).order)
+    run_copies x y (inl p) (inl q) = subst (λ u. O.t.keeps_order u y) (sym p) (subst (O.t.keeps_order w.star.board) (sym q) (orders.run-follows O L es most w s).order)
     run_copies x y (inl p) (inr c) = subst (λ u. O.t.keeps_order u y) (sym p) (subst (O.t.keeps_order w.star.board) (sym c.3) (star_site c.0 c.1 c.2))
     run_copies x y (inr d) (inl q) = subst (λ u. O.t.keeps_order u y) (sym d.3) (subst (O.t.keeps_order d.1.site.board) (sym q) (site_star d.0 d.1 d.2))
     run_copies x y (inr d) (inr c) = subst (λ u. O.t.keeps_order u y) (sym d.3) (subst (O.t.keeps_order d.1.site.board) (sym c.3) (site_site d.0 c.0 d.1 c.1 d.2 c.2))

@@ -4,7 +4,7 @@ use Rattle.std.proofs.lemmas.Bool.{eqb-false}
 use Rattle.std.proofs.lemmas.List.{nil_from_length}
 use Rattle.jup_world.specs.Prelude.{Msg, Link, owes, next_message, Operations, AreLawful, board_batches, BoardBatch, batch_laws, Up, UpOp, UpAck, UpPing, Down, DownOp, DownAck, DownPong, StarOf, owed_down, link_acked, link_ponged, link_fetched, link_sent, link_heard, operation_at, end_after, link_of, without, at_link, links_after, most_batches, BoardStar, sent_back, Attached, Nothing}
 use Rattle.jup_world.specs.Events.{Up as MoveUp, Down as MoveDown}
-use Rattle.jup_world.specs.Worlds.{WorldOf, AttachedOf, EventOf, attached, IsQuiet, Outcome, outcome, at_site, without_site, one_taken, one_handed, happens, is_number, AreAscending}
+use Rattle.jup_world.specs.Worlds.{WorldOf, EventOf, attached, IsQuiet, Outcome, outcome, at_site, without_site, happens, is_number, AreAscending, AttachedOf, one_taken, one_handed}
 use Rattle.jup_world.specs.Sound.{IsSound, UpReplies, DownReplies, RepliesTo}
 use Rattle.jup_world.specs.Boards.{BoardWorld, BoardLink, BoardAttached, BoardEvent, AllAgree}
 use Rattle.jup_world.specs.Lanes.{IsDelivery}
@@ -12,7 +12,8 @@ use Rattle.jup_world.specs.Drains.{up_weight, down_weight, link_weight, sum_to, 
 use Rattle.jup_world.specs.Insides.{bare_attached}
 use Rattle.jup_world.specs.Traces.{Promises, BacklogIsShort, Tallies}
 use Rattle.jup_world.specs.Happenings.{IsQuietAt, AllQuiet, IsWorld}
-use Rattle.jup_world.proofs.EventSteps.{Leaves, StrayLeaves, IsDropped, StepOf, Still, Enters, EntersStray, Goes, Makes, Asks, Takes, Hands, step_of, Rises, Strays, Finds, NotJoined, NoStray, NotMade, handed_number, at_one, at_all, at_removal}
+use Rattle.jup_world.proofs.EventSteps as steps
+use Rattle.jup_site.proofs.Numbers.{at_one, at_all, at_removal}
 use Rattle.jup_world.proofs.Sound.Runs.{replies, sound-promises}
 use Rattle.jup_world.proofs.Worlds.{link_given, are_linked}
 use Rattle.jup_world.proofs.Sound.Traces.{standing_of}
@@ -60,25 +61,25 @@ module _ (O : Operations) (L : AreLawful O) where
   LeavesAll w o = o.reply ≡ Nothing → (o.star ≡ w.star) × (o.sites ≡ w.sites)
 
   -- an event, by its outcome
-  step_leaves : (w : WorldOf O) (e : EventOf O) (o : Outcome O) → StepOf O w e o → LeavesAll w o
-  step_leaves w e o (Still why) r = (refl, refl)
-  step_leaves w e o (Enters none) r = absurd cc
-  step_leaves w e o (EntersStray none) r = absurd cc
-  step_leaves w e o (Goes i l oa fl fa (Leaves a)) r = absurd cc
-  step_leaves w e o (Goes i l oa fl fa StrayLeaves) r = absurd cc
-  step_leaves w e o (Goes i l oa fl fa (IsDropped up fault brought f)) r = absurd cc
-  step_leaves w e o (Makes i command l a op fl fa ok) r = absurd cc
-  step_leaves w e o (Asks i k l a fl fa) r = absurd cc
-  step_leaves w e o (Takes i l oa (UpOp m) fl fa brought none) r = absurd cc
-  step_leaves w e o (Takes i l oa (UpAck n) fl fa brought none) r = absurd cc
-  step_leaves w e o (Takes i l oa (UpPing k) fl fa brought none) r = absurd cc
-  step_leaves w e o (Hands i gone l a (DownOp m) ds fl fa falls none) r = absurd cc
-  step_leaves w e o (Hands i gone l a (DownAck n) ds fl fa falls none) r = absurd cc
-  step_leaves w e o (Hands i gone l a (DownPong k) ds fl fa falls none) r = absurd cc
+  step_leaves : (w : WorldOf O) (e : EventOf O) (o : Outcome O) → steps.StepOf O w e o → LeavesAll w o
+  step_leaves w e o (steps.Still why) r = (refl, refl)
+  step_leaves w e o (steps.Enters none) r = absurd cc
+  step_leaves w e o (steps.EntersStray none) r = absurd cc
+  step_leaves w e o (steps.Goes i l oa fl fa (steps.Leaves a)) r = absurd cc
+  step_leaves w e o (steps.Goes i l oa fl fa steps.StrayLeaves) r = absurd cc
+  step_leaves w e o (steps.Goes i l oa fl fa (steps.IsDropped up fault brought f)) r = absurd cc
+  step_leaves w e o (steps.Makes i command l a op fl fa ok) r = absurd cc
+  step_leaves w e o (steps.Asks i k l a fl fa) r = absurd cc
+  step_leaves w e o (steps.Takes i l oa (UpOp m) fl fa brought none) r = absurd cc
+  step_leaves w e o (steps.Takes i l oa (UpAck n) fl fa brought none) r = absurd cc
+  step_leaves w e o (steps.Takes i l oa (UpPing k) fl fa brought none) r = absurd cc
+  step_leaves w e o (steps.Hands i gone l a (DownOp m) ds fl fa falls none) r = absurd cc
+  step_leaves w e o (steps.Hands i gone l a (DownAck n) ds fl fa falls none) r = absurd cc
+  step_leaves w e o (steps.Hands i gone l a (DownPong k) ds fl fa falls none) r = absurd cc
 
   -- an event that answers nothing leaves the star and all sites as they were
   pub nothing_leaves : (w : WorldOf O) (e : EventOf O) → LeavesAll w (outcome O w e)
-  nothing_leaves w e = step_leaves w e (outcome O w e) (step_of O w e)
+  nothing_leaves w e = step_leaves w e (outcome O w e) (steps.step_of O w e)
 
 -- Each delivery that moves a message leaves less on its way.
 
@@ -232,36 +233,36 @@ module _ (w : BoardWorld) (sound : IsSound board_batches most_batches w) (i : �
 -- # Deliveries
 
 -- a delivery that answers something, by its outcome
-step_lightens : (w : BoardWorld) (s : IsSound board_batches most_batches w) (e : BoardEvent) (o : Outcome board_batches) → StepOf board_batches w e o → IsDelivery e → (o.reply ≡ Nothing → ⊥) → weight_of o.star o.sites < weight_of w.star w.sites
-step_lightens w s e o (Still (Finds event)) delivers some = absurd (some refl)
-step_lightens w s e o (Still (NotJoined fault)) delivers some = absurd delivers
-step_lightens w s e o (Still (NoStray fault)) delivers some = absurd delivers
-step_lightens w s e o (Still (NotMade i command fault)) delivers some = absurd delivers
-step_lightens w s e o (Enters none) delivers some = absurd delivers
-step_lightens w s e o (EntersStray none) delivers some = absurd delivers
-step_lightens w s e o (Goes i l oa fl fa (Leaves a)) delivers some = absurd delivers
-step_lightens w s e o (Goes i l oa fl fa StrayLeaves) delivers some = absurd delivers
-step_lightens w s e o (Goes i l oa fl fa (IsDropped up fault Strays f)) delivers some = absurd delivers
-step_lightens w s e o (Goes i l oa fl fa (IsDropped up fault (Rises a us rising) f)) delivers some =
+step_lightens : (w : BoardWorld) (s : IsSound board_batches most_batches w) (e : BoardEvent) (o : Outcome board_batches) → steps.StepOf board_batches w e o → IsDelivery e → (o.reply ≡ Nothing → ⊥) → weight_of o.star o.sites < weight_of w.star w.sites
+step_lightens w s e o (steps.Still (steps.Finds event)) delivers some = absurd (some refl)
+step_lightens w s e o (steps.Still (steps.NotJoined fault)) delivers some = absurd delivers
+step_lightens w s e o (steps.Still (steps.NoStray fault)) delivers some = absurd delivers
+step_lightens w s e o (steps.Still (steps.NotMade i command fault)) delivers some = absurd delivers
+step_lightens w s e o (steps.Enters none) delivers some = absurd delivers
+step_lightens w s e o (steps.EntersStray none) delivers some = absurd delivers
+step_lightens w s e o (steps.Goes i l oa fl fa (steps.Leaves a)) delivers some = absurd delivers
+step_lightens w s e o (steps.Goes i l oa fl fa steps.StrayLeaves) delivers some = absurd delivers
+step_lightens w s e o (steps.Goes i l oa fl fa (steps.IsDropped up fault steps.Strays f)) delivers some = absurd delivers
+step_lightens w s e o (steps.Goes i l oa fl fa (steps.IsDropped up fault (steps.Rises a us rising) f)) delivers some =
     let less = dropped_falls w s i l a fl fa (subst (λ ups. 1 ≤ up_weight w.star.given ups) (sym rising) (up_some w s i l a fl fa up us)) in omega arith
-step_lightens w s e o (Makes i command l a op fl fa ok) delivers some = absurd delivers
-step_lightens w s e o (Asks i k l a fl fa) delivers some = absurd delivers
-step_lightens w s e o (Takes i l oa up fl fa Strays none) delivers some = absurd delivers
-step_lightens w s e o (Takes i l oa (UpOp m) fl fa (Rises a us rising) none) delivers some = let less = edit_falls w s i l a fl fa m us rising in omega arith
-step_lightens w s e o (Takes i l oa (UpAck n) fl fa (Rises a us rising) none) delivers some =
+step_lightens w s e o (steps.Makes i command l a op fl fa ok) delivers some = absurd delivers
+step_lightens w s e o (steps.Asks i k l a fl fa) delivers some = absurd delivers
+step_lightens w s e o (steps.Takes i l oa up fl fa steps.Strays none) delivers some = absurd delivers
+step_lightens w s e o (steps.Takes i l oa (UpOp m) fl fa (steps.Rises a us rising) none) delivers some = let less = edit_falls w s i l a fl fa m us rising in omega arith
+step_lightens w s e o (steps.Takes i l oa (UpAck n) fl fa (steps.Rises a us rising) none) delivers some =
     let less = one_falls w s i l a fl fa (link_acked n) (one_taken board_batches) (λ k. refl) (λ b. refl) (omega (arith, up_lighter w s i l a fl fa (UpAck n) us rising)) in omega arith
-step_lightens w s e o (Takes i l oa (UpPing k) fl fa (Rises a us rising) none) delivers some =
+step_lightens w s e o (steps.Takes i l oa (UpPing k) fl fa (steps.Rises a us rising) none) delivers some =
     let less = one_falls w s i l a fl fa (link_ponged k) (one_taken board_batches) (λ x. refl) (λ b. refl) (omega (arith, up_lighter w s i l a fl fa (UpPing k) us rising, down-append l.outbox (DownPong k ∷ []))) in omega arith
-step_lightens w s e o (Hands i gone l a d ds fl fa falls none) delivers some =
+step_lightens w s e o (steps.Hands i gone l a d ds fl fa falls none) delivers some =
     let light = back_light w s i l a fl fa d in
     let all : down_weight (a.down ++ l.outbox) ≡ down_weight (d ∷ (ds ++ drop gone l.outbox)) = ap down_weight falls in
-    let less = one_falls w s i l a fl fa (link_fetched gone) (one_handed board_batches d ds) (λ k. refl) (handed_number board_batches d ds)
+    let less = one_falls w s i l a fl fa (link_fetched gone) (one_handed board_batches d ds) (λ k. refl) (steps.handed_number board_batches d ds)
     (omega (arith, all, down-append a.down l.outbox, one_down w s i l a fl fa d (ds ++ drop gone l.outbox), down-append ds (drop gone l.outbox), up-append w.star.given a.up (option_to_list (sent_back board_batches d a.site)))) in omega arith
 
 -- a delivery that answers something leaves less on its way
 pub delivery_lightens : (w : BoardWorld) (event : BoardEvent) → IsSound board_batches most_batches w → IsDelivery event → ((outcome board_batches w event).reply ≡ Nothing → ⊥) → weight (happens board_batches w event) < weight w
 unfolding weight
-delivery_lightens w e s delivers some = step_lightens w s e (outcome board_batches w e) (step_of board_batches w e) delivers some
+delivery_lightens w e s delivers some = step_lightens w s e (outcome board_batches w e) (steps.step_of board_batches w e) delivers some
 
 -- what is on its way is that of the star and the sites
 pub same_weight : (w v : BoardWorld) → v.star ≡ w.star → v.sites ≡ w.sites → weight v ≡ weight w

@@ -13,7 +13,7 @@ use Rattle.jup_world.specs.Boards.{BoardWorld, BoardLink, BoardAttached, BoardEv
 use Rattle.jup_world.specs.Drains.{way_event, Settles, MovesNothing, NothingMoves, weight, Repeats, Delivers, Visits, Passes, IsRound}
 use Rattle.jup_world.proofs.Drains.Deliveries.{nothing_quiet, nothing_leaves, delivery_lightens, same_weight}
 use Rattle.jup_world.proofs.Happenings.{found_bounds}
-use Rattle.jup_world.proofs.Lanes.Worlds.{messages_found, still_quiet, steps_append, steps_keep, steps_order, spared_order}
+use Rattle.jup_world.proofs.Lanes.Worlds as lane_worlds
 use Rattle.jup_world.proofs.Lanes.Sites.{messages_map}
 
 -- What the rounds of a drain keep, delivery by delivery.
@@ -62,7 +62,7 @@ delivered_both w v u one two = record {
   events = one.events ++ two.events;
   deliveries = deliveries_append one.events two.events one.deliveries two.deliveries;
   steps = subst (λ (es : List LaneEvent). AllSteps w es u) (sym (map-append (λ e. Plain e) one.events two.events))
-      (steps_append (map (λ e. Plain e) one.events) (map (λ e. Plain e) two.events) w v u one.steps two.steps);
+      (lane_worlds.steps_append (map (λ e. Plain e) one.events) (map (λ e. Plain e) two.events) w v u one.steps two.steps);
 }
 
 pub part_both : (w v u : LaneWorld) → IsDelivered w v → IsDeliveredInPart v u → IsDeliveredInPart w u
@@ -156,14 +156,14 @@ round_quiet w v u is one two up down =
     ))
 
 pub keeps_delivered : (w v : LaneWorld) → IsLaneWorld w → IsDelivered w v → IsLaneWorld v
-keeps_delivered w v is some = steps_keep (map (λ e. Plain e) some.events) w v is some.steps
+keeps_delivered w v is some = lane_worlds.steps_keep (map (λ e. Plain e) some.events) w v is some.steps
 
 order_delivered : (w v : LaneWorld) → IsLaneWorld w → IsDelivered w v → OrderIsKept board_batches (messages_of w) (messages_of v)
-order_delivered w v is some = steps_order (map (λ e. Plain e) some.events) w v is some.steps
+order_delivered w v is some = lane_worlds.steps_order (map (λ e. Plain e) some.events) w v is some.steps
 
 order_in_part : (w v : LaneWorld) → IsLaneWorld w → IsDeliveredInPart w v → OrderIsKept board_batches (messages_of w) (messages_of v)
 order_in_part w v is some =
-    spared_order (map (λ e. Plain e) some.delivered.events) w some.between v (Plain some.event) is some.delivered.steps (keeps_delivered w some.between is some.delivered).world some.spared
+    lane_worlds.spared_order (map (λ e. Plain e) some.delivered.events) w some.between v (Plain some.event) is some.delivered.steps (keeps_delivered w some.between is some.delivered).world some.spared
 
 -- at the sites so far, and at one more
 pub next_none : (w v : LaneWorld) (way : Way) (n : ℕ) (one two : Bool) → Settles one w v → (IsFalse one → (i : ℕ) → 1 ≤ i → i ≤ n → MovesNothing way i (messages_of w)) → (IsFalse two → MovesNothing way (n + 1) (messages_of v))
@@ -182,7 +182,7 @@ from_messages : (i : ℕ) (sites : List LaneSite) (a : BoardAttached) → attach
 from_messages i sites a found = there (lane_site i sites) refl
   where
     there : (o : Option LaneSite) → lane_site i sites ≡ o → (b : LaneSite) × (lane_site i sites ≡ Some b)
-    there None e = absurd (let f = messages_found i sites in cc)
+    there None e = absurd (let f = lane_worlds.messages_found i sites in cc)
     there (Some b) e = (b, e)
 
 -- if the site is not attached
@@ -243,7 +243,7 @@ pub within_lanes : (most : ℕ) (sites : List Attached) (e : Attached) → AreAs
     → (i : ℕ) (a : LaneSite) → lane_site i (map lane_of sites) ≡ Some a → (1 ≤ i) × (i ≤ e.site.number)
 within_lanes most sites e up is i a found =
     within_last most sites e up is i (messages_at a)
-    (ap (attached i) (sym (messages_map sites)) ∙ messages_found i (map lane_of sites) ∙ ap (option_map messages_at) found)
+    (ap (attached i) (sym (messages_map sites)) ∙ lane_worlds.messages_found i (map lane_of sites) ∙ ap (option_map messages_at) found)
 
 -- # The last of some deliveries
 
@@ -271,14 +271,14 @@ order_drained w v (Err fault) is delivered part = order_in_part w v is part
 
 -- a world in which no message is on its way has no byte there
 pub still_drained : (w v : LaneWorld) (r : Result (Unit {0}) NoMemory) → IsLaneWorld w → OnOk r (IsDelivered w v) → OnOk r (IsQuiet board_batches (messages_of v)) → OnOk r (IsStill v)
-still_drained w v (Ok x) is delivered quiet = (still_quiet v (keeps_delivered w v is delivered).carry).1 quiet
+still_drained w v (Ok x) is delivered quiet = (lane_worlds.still_quiet v (keeps_delivered w v is delivered).carry).1 quiet
 still_drained w v (Err fault) is delivered quiet = tt
 
 pub order_played : (w v : LaneWorld) (events : List LaneEvent) (r : Result (Unit {0}) Halted) → IsLaneWorld w → OnOk r (AllSteps w events v)
     → IfErr r (λ halted. IsHalted w events halted.done v) → OrderIsKept board_batches (messages_of w) (messages_of v)
-order_played w v events (Ok x) is played halted = steps_order events w v is played
+order_played w v events (Ok x) is played halted = lane_worlds.steps_order events w v is played
 order_played w v events (Err fault) is played halted =
-    spared_order (take fault.done events) w halted.between v halted.event is halted.steps (steps_keep (take fault.done events) w halted.between is halted.steps).world halted.spared
+    lane_worlds.spared_order (take fault.done events) w halted.between v halted.event is halted.steps (lane_worlds.steps_keep (take fault.done events) w halted.between is halted.steps).world halted.spared
 
 -- Each delivery of a drain belongs to its round.
 

@@ -4,7 +4,7 @@ use Rattle.std.proofs.Math.ListN.{set}
 use Rattle.jup_world.specs.Prelude.{NoMemory, EditFault, board_batches, BoardBatch, BoardEdits, Commands, Down, DownOp, DownAck, DownPong, link_of, fetched, BoardStar, edit_answer, BoardSite, ups_laws, Reply, Attached, Nothing}
 use Rattle.jup_lane.specs.Lanes.{moved as moved_by, messages, Carries, IsMovedOn, oldest_length, ups, downs}
 use Rattle.jup_world.specs.Events.{Join, Edit as MakeEdit, Up as MoveUp, Down as MoveDown}
-use Rattle.jup_world.specs.Worlds.{attached, at_site, outcome, unchanged as unchanged_world, one_taken, with_fetched, IsSiteAt}
+use Rattle.jup_world.specs.Worlds.{attached, at_site, outcome, unchanged as unchanged_world, IsSiteAt, one_taken, with_fetched}
 use Rattle.jup_world.specs.Insides.{lane_of, bare_attached}
 use Rattle.jup_world.specs.Boards.{BoardWorld, BoardLink, BoardAttached, BoardEvent, BoardReply}
 use Rattle.jup_world.specs.Happenings.{Plays, Spares, AreReady, with_answer, refilled, handed_first, handed, SparesAt, IsRead, IsMovedUp, RestsDown, FillsAt, filled_messages, with_filled, star_filled, LanePlays, AreRead, SitesRest}
@@ -12,7 +12,7 @@ use Rattle.jup_world.specs.Lanes.{LaneEvent, Plain, PushUp, PushDown, LaneSite, 
 use Rattle.jup_world.proofs.Happenings.{linked, number, changed, unchanged, down_spared}
 use Rattle.jup_world.proofs.Answers.{some_link}
 use Rattle.jup_world.proofs.Lanes.Worlds.{messages_found}
-use Rattle.jup_world.proofs.Lanes.Sites.{moved-carries, messages_map, set_found, end_found, carry_set, carry_end, set_read, same_read, same_lanes}
+use Rattle.jup_world.proofs.Lanes.Sites as lane_sites
 
 -- # Events of messages
 
@@ -20,7 +20,7 @@ use Rattle.jup_world.proofs.Lanes.Sites.{moved-carries, messages_map, set_found,
 pub plain_plays : (e : BoardEvent) (star t : BoardStar) (sites next : List Attached) (reply : BoardReply) → Plays e star (map bare_attached sites) reply t (map bare_attached next)
     → LanePlays (Plain e) star (map lane_of sites) reply t (map bare_attached next)
 plain_plays e star t sites next reply plays opening trace =
-    ap (λ (xs : List BoardAttached). outcome board_batches (record { opening = opening; star = star; sites = xs; trace = plain_trace trace }) e) (messages_map sites) ∙ plays opening (plain_trace trace)
+    ap (λ (xs : List BoardAttached). outcome board_batches (record { opening = opening; star = star; sites = xs; trace = plain_trace trace }) e) (lane_sites.messages_map sites) ∙ plays opening (plain_trace trace)
 
 pub plain_result : (e : BoardEvent) (star t : BoardStar) (sites next : List Attached) (r : Result (Reply BoardEdits EditFault) NoMemory)
     → IfOk r (λ reply. Plays e star (map bare_attached sites) reply t (map bare_attached next))
@@ -41,7 +41,7 @@ lane_none i sites none = there (lane_site i (map lane_of sites)) refl
     there : (o : Option LaneSite) → lane_site i (map lane_of sites) ≡ o → lane_site i (map lane_of sites) ≡ None
     there None e = e
     there (Some a) e =
-        let f : attached i (map bare_attached sites) ≡ Some (messages_at a) = ap (attached i) (sym (messages_map sites)) ∙ messages_found i (map lane_of sites) ∙ ap (option_map messages_at) e in
+        let f : attached i (map bare_attached sites) ≡ Some (messages_at a) = ap (attached i) (sym (lane_sites.messages_map sites)) ∙ messages_found i (map lane_of sites) ∙ ap (option_map messages_at) e in
         absurd (cc)
 
 same_number : (i : ℕ) → nat_eq i i ≡ true
@@ -83,7 +83,7 @@ push_down_reads i n = (λ j a other. refl, λ j l a other. rw other (more-none (
 -- nothing is read if the site is not attached
 pub absent_read : (event : LaneEvent) (i : ℕ) (star : BoardStar) (sites : List Attached) → ReadsAt event i → attached i (map bare_attached sites) ≡ None → AreRead event star (map lane_of sites) (map lane_of sites)
 absent_read event i star sites reads none =
-    same_read event star (map lane_of sites) (map lane_of sites) refl
+    lane_sites.same_read event star (map lane_of sites) (map lane_of sites) refl
     (λ j a found. cases j (nat_eq i j) refl (length a.up.read ≡ up_read event j a) (reads.0 j a) (here j a found))
     (λ j l a link found. cases j (nat_eq i j) refl (length a.down.read ≡ down_read event j l a) (reads.1 j l a) (here j a found))
   where
@@ -98,14 +98,14 @@ absent_read event i star sites reads none =
     cases j false e P other is = other e
 
 pub none_read_at : (event : LaneEvent) (star : BoardStar) (sites next : List LaneSite) → ReadsNone event → next ≡ sites → AreRead event star sites next
-none_read_at event star sites next reads same = same_read event star sites next same (λ j a found. reads.0 j a) (λ j l a link found. reads.1 j l a)
+none_read_at event star sites next reads same = lane_sites.same_read event star sites next same (λ j a found. reads.0 j a) (λ j l a link found. reads.1 j l a)
 
 -- a site joins
 pub end_read : (star : BoardStar) (sites next : List LaneSite) (new : LaneSite) → next ≡ sites ++ new ∷ [] → Carries ups new.up → Carries downs new.down → AreRead (Plain Join) star sites next
 end_read star sites next new joined up down = subst (λ (xs : List LaneSite). AreRead (Plain Join) star sites xs) (sym joined) (record {
-  carry = carry_end new sites up down;
-  up = λ j a b fa fb. ap (λ (x : LaneSite). length x.up.read) (end_found new sites j a b fa fb);
-  down = λ j l a b fl fa fb. ap (λ (x : LaneSite). length x.down.read) (end_found new sites j a b fa fb);
+  carry = lane_sites.carry_end new sites up down;
+  up = λ j a b fa fb. ap (λ (x : LaneSite). length x.up.read) (lane_sites.end_found new sites j a b fa fb);
+  down = λ j l a b fl fa fb. ap (λ (x : LaneSite). length x.down.read) (lane_sites.end_found new sites j a b fa fb);
 })
 
 -- a site that is dropped, whatever was changed of it
@@ -141,15 +141,15 @@ module _ (s : BoardStar) (sites : List Attached) (ready : AreReady s (map bare_a
   pub site_read : (event : LaneEvent) (new : Attached) (u d : ℕ) → new.site.number ≡ e.site.number → IsRead (lane_of e) u d (lane_of new) → u ≡ up_read event i (lane_of e)
       → ((l : BoardLink) → link_of i s.links ≡ Some l → d ≡ down_read event i l (lane_of e)) → ReadsAt event i → AreRead event s (map lane_of sites) (map lane_of (set sites at new))
   site_read event new u d number is up down reads =
-      set_read event s i sites at e new place (number ∙ ap (λ (a : Attached). a.site.number) value)
-      (carry_set sites at e new (λ c. is.carry_up (subst (λ (a : Attached). Carries ups (lane_of a).up) (sym value) c)) (λ c. is.carry_down (subst (λ (a : Attached). Carries downs (lane_of a).down) (sym value) c)))
+      lane_sites.set_read event s i sites at e new place (number ∙ ap (λ (a : Attached). a.site.number) value)
+      (lane_sites.carry_set sites at e new (λ c. is.carry_up (subst (λ (a : Attached). Carries ups (lane_of a).up) (sym value) c)) (λ c. is.carry_down (subst (λ (a : Attached). Carries downs (lane_of a).down) (sym value) c)))
       (is.up ∙ up ∙ ap (λ (a : Attached). up_read event i (lane_of a)) value)
       (λ l link. is.down ∙ down l link ∙ ap (λ (a : Attached). down_read event i l (lane_of a)) value)
       reads.0 reads.1
 
   -- nothing changes
   pub site_same : (new : Attached) → lane_of new ≡ lane_of e → map lane_of (set sites at new) ≡ map lane_of sites
-  site_same new same = same_lanes sites at e new (same ∙ ap lane_of value)
+  site_same new same = lane_sites.same_lanes sites at e new (same ∙ ap lane_of value)
 
   -- # A failed allocation
 
@@ -157,12 +157,12 @@ module _ (s : BoardStar) (sites : List Attached) (ready : AreReady s (map bare_a
   pub up_rests : (t : BoardStar) (new : Attached) → t ≡ s → bare_attached new ≡ bare_attached e → IsMovedUp (lane_of e) (lane_of new)
       → SitesRest (Plain (MoveUp i)) s (map lane_of sites) t (map lane_of (set sites at new))
   up_rests t new star same moved = record {
-    messages = inl (star, messages_map (set sites at new) ∙ unchanged s sites ready i at e place value new same ∙ sym (messages_map sites));
-    carry = carry_set sites at e new
-        (λ c. moved-carries ups ups_laws (lane_of e).up (lane_of new).up moved.up (subst (λ (a : Attached). Carries ups (lane_of a).up) (sym value) c))
+    messages = inl (star, lane_sites.messages_map (set sites at new) ∙ unchanged s sites ready i at e place value new same ∙ sym (lane_sites.messages_map sites));
+    carry = lane_sites.carry_set sites at e new
+        (λ c. lane_sites.moved-carries ups ups_laws (lane_of e).up (lane_of new).up moved.up (subst (λ (a : Attached). Carries ups (lane_of a).up) (sym value) c))
         (λ c. subst (Carries downs) (sym moved.down) (subst (λ (a : Attached). Carries downs (lane_of a).down) (sym value) c));
-    up = λ j a b fa fb. up_cases j a b (set_found i sites at e new place number_kept j a b fa fb);
-    down = λ j l a b fl fa fb. inl (down_cases j a b (set_found i sites at e new place number_kept j a b fa fb));
+    up = λ j a b fa fb. up_cases j a b (lane_sites.set_found i sites at e new place number_kept j a b fa fb);
+    down = λ j l a b fl fa fb. inl (down_cases j a b (lane_sites.set_found i sites at e new place number_kept j a b fa fb));
   }
     where
       number_kept : new.site.number ≡ (get_or sites at e).site.number
@@ -183,11 +183,11 @@ module _ (s : BoardStar) (sites : List Attached) (ready : AreReady s (map bare_a
       → SitesRest event s (map lane_of sites) t (map lane_of (set sites at new))
   down_rests event t l new touches link messages rests = record {
     messages = fetched_cases messages;
-    carry = carry_set sites at e new
+    carry = lane_sites.carry_set sites at e new
         (λ c. subst (Carries ups) (sym rests.up) (subst (λ (a : Attached). Carries ups (lane_of a).up) (sym value) c))
         (λ c. rests.carry (subst (λ (a : Attached). Carries downs (lane_of a).down) (sym value) c));
-    up = λ j a b fa fb. inl (up_cases j a b (set_found i sites at e new place number_kept j a b fa fb));
-    down = λ j k a b fk fa fb. down_cases j k a b fk (set_found i sites at e new place number_kept j a b fa fb);
+    up = λ j a b fa fb. inl (up_cases j a b (lane_sites.set_found i sites at e new place number_kept j a b fa fb));
+    down = λ j k a b fk fa fb. down_cases j k a b fk (lane_sites.set_found i sites at e new place number_kept j a b fa fb);
   }
     where
       number_kept : new.site.number ≡ (get_or sites at e).site.number
@@ -197,9 +197,9 @@ module _ (s : BoardStar) (sites : List Attached) (ready : AreReady s (map bare_a
           → ((t ≡ s) × (map messages_at (map lane_of (set sites at new)) ≡ map messages_at (map lane_of sites)))
           ⊎ ((k : ℕ) × (m : BoardLink) × (a : LaneSite) × TouchesDown event k × (link_of k s.links ≡ Some m) × (lane_site k (map lane_of sites) ≡ Some a)
           × (t ≡ fetched k 1 s) × (map messages_at (map lane_of (set sites at new)) ≡ at_site k (with_fetched board_batches 1 m) (map messages_at (map lane_of sites))))
-      fetched_cases (inl same) = inl (same.0, messages_map (set sites at new) ∙ same.1 ∙ sym (messages_map sites))
+      fetched_cases (inl same) = inl (same.0, lane_sites.messages_map (set sites at new) ∙ same.1 ∙ sym (lane_sites.messages_map sites))
       fetched_cases (inr f) =
-          inr (i, l, lane_of e, touches, link, there, f.0, messages_map (set sites at new) ∙ f.1 ∙ ap (λ (xs : List BoardAttached). at_site i (with_fetched board_batches 1 l) xs) (sym (messages_map sites)))
+          inr (i, l, lane_of e, touches, link, there, f.0, lane_sites.messages_map (set sites at new) ∙ f.1 ∙ ap (λ (xs : List BoardAttached). at_site i (with_fetched board_batches 1 l) xs) (sym (lane_sites.messages_map sites)))
 
       up_cases : (j : ℕ) (a b : LaneSite) → ((i ≡ j) × (a ≡ lane_of (get_or sites at e)) × (b ≡ lane_of new)) ⊎ ((nat_eq i j ≡ false) × (b ≡ a)) → b.up ≡ a.up
       up_cases j a b (inl here) = ap (λ (x : LaneSite). x.up) here.2 ∙ rests.up ∙ ap (λ (x : LaneSite). x.up) (ap lane_of value ∙ sym here.1)
@@ -227,7 +227,7 @@ module _ (s : BoardStar) (sites : List Attached) (ready : AreReady s (map bare_a
   push_up_plays n reply new is same opening trace = λ k. record {
     reply = (ap (λ (o : Option LaneSite). push_reply (min n (length (there_up o)))) there ∙ sym is) k;
     star = s;
-    sites = (messages_map sites ∙ sym (unchanged s sites ready i at e place value new same)) k;
+    sites = (lane_sites.messages_map sites ∙ sym (unchanged s sites ready i at e place value new same)) k;
   }
 
   pub push_down_plays : (n : ℕ) (t : BoardStar) (reply : BoardReply) (new : Attached) (l : BoardLink) → link_of i s.links ≡ Some l
@@ -241,7 +241,7 @@ module _ (s : BoardStar) (sites : List Attached) (ready : AreReady s (map bare_a
       m = messages_of (record { opening = opening; star = s; sites = map lane_of sites; trace = trace })
 
       stays : bare_attached new ≡ bare_attached e → map messages_at (map lane_of sites) ≡ map bare_attached (set sites at new)
-      stays same = messages_map sites ∙ sym (unchanged s sites ready i at e place value new same)
+      stays same = lane_sites.messages_map sites ∙ sym (unchanged s sites ready i at e place value new same)
 
       cases : (stream : List ℕ) (os : List (Down BoardBatch)) → bare_attached new ≡ filled_messages stream l os (bare_attached e) → t ≡ star_filled i stream os s
           → reply ≡ push_reply (min n (length (filled_stream stream os)))
@@ -251,7 +251,7 @@ module _ (s : BoardStar) (sites : List Attached) (ready : AreReady s (map bare_a
       cases [] (d ∷ os) fetches f r = λ k. record {
         reply = sym r k;
         star = sym f k;
-        sites = (ap (λ (xs : List BoardAttached). at_site i (with_fetched board_batches 1 l) xs) (messages_map sites) ∙ sym (changed s sites ready i at e place value (with_fetched board_batches 1 l) new fetches)) k;
+        sites = (ap (λ (xs : List BoardAttached). at_site i (with_fetched board_batches 1 l) xs) (lane_sites.messages_map sites) ∙ sym (changed s sites ready i at e place value (with_fetched board_batches 1 l) new fetches)) k;
       }
       cases (b ∷ stream) os same f r = λ k. record { reply = sym r k; star = sym f k; sites = stays same k }
 
@@ -358,7 +358,7 @@ pub push_up_none : (s : BoardStar) (sites : List Attached) (i n : ℕ) → attac
 push_up_none s sites i n none opening trace = λ k. record {
   reply = (ap (λ (o : Option LaneSite). push_reply (min n (length (there_up o)))) (lane_none i sites none) ∙ ap push_reply (min-none n)) k;
   star = s;
-  sites = messages_map sites k;
+  sites = lane_sites.messages_map sites k;
 }
 
 pub push_down_none : (s : BoardStar) (sites : List Attached) (i n : ℕ) → attached i (map bare_attached sites) ≡ None → LanePlays (PushDown i n) s (map lane_of sites) Nothing s (map bare_attached sites)
@@ -370,5 +370,5 @@ push_down_none s sites i n none opening trace =
     m = messages_of (record { opening = opening; star = s; sites = map lane_of sites; trace = trace })
 
     cases : (ol : Option BoardLink) → unchanged_world board_batches (filled_for m i ol None) (push_reply (min n (length (there_down ol None)))) ≡ record { reply = Nothing; star = s; sites = map bare_attached sites }
-    cases None = λ k. record { reply = ap push_reply (min-none n) k; star = s; sites = messages_map sites k }
-    cases (Some l) = λ k. record { reply = ap push_reply (min-none n) k; star = s; sites = messages_map sites k }
+    cases None = λ k. record { reply = ap push_reply (min-none n) k; star = s; sites = lane_sites.messages_map sites k }
+    cases (Some l) = λ k. record { reply = ap push_reply (min-none n) k; star = s; sites = lane_sites.messages_map sites k }

@@ -1,8 +1,7 @@
 -- What the calls of a site do to the bytes of its link.
-use Rattle.std.proofs.Common.{◌≡◌, ◌⊎◌, refl, sym, ◌∙◌, ap, subst, inl, inr, ℕ, zero, suc, Bool, true, false, cond, not, List, [], ◌∷◌, ◌++◌, length, map, filter, get_or, nat_eq, Some, None, eqb-true, ne_eqb, ◌+◌, ◌-◌, min, take, Option, arith, append-nil, length-append, length-drop}
+use Rattle.std.proofs.Common.{◌≡◌, ◌⊎◌, refl, sym, ◌∙◌, ap, subst, inl, inr, ℕ, zero, suc, Bool, true, false, cond, not, List, [], ◌∷◌, ◌++◌, length, map, filter, get_or, nat_eq, Some, None, eqb-true, ne_eqb, ◌+◌, ◌-◌, min, take, Option, arith, append-nil, length-append, length-drop, length-take}
 use Rattle.std.proofs.Math.ListN.{set}
 use Rattle.std.proofs.lemmas.Bool.{eqb-false}
-use Rattle.std.proofs.lemmas.List.{length-take}
 use Rattle.jup_world.specs.Prelude.{BoardBatch, board_batches, Down, link_of, BoardStar, fetched, downs_laws, Attached}
 use Rattle.jup_lane.specs.Lanes.{ups, downs, Carries, Codec, IsCodec, bytes_of, bytes_of_all, Way, moved, sent, handed_over, filled_to, messages, IsFilled, IsMovedOn, oldest_length}
 use Rattle.jup_lane.proofs.Lanes.{carried-moved, carried-sent, carried-handed, moved-none, length-moved}

@@ -7,7 +7,7 @@ use Rattle.jup_world.specs.Prelude.{board_batches, BoardBatch, batch_laws, Down,
 use Rattle.jup_lane.specs.Lanes.{Codec, bytes_of_all, ups, downs, Way, messages, Carries}
 use Rattle.jup_lane.proofs.Lanes.{idle, idle_none}
 use Rattle.jup_world.specs.Events.{Join, Leave, Edit as MakeEdit, Up as MoveUp, Down as MoveDown, Ping as SendPing, JoinStray, Stray, LeaveStray}
-use Rattle.jup_world.specs.Worlds.{attached, IsQuiet, run, only_fetched, is_number, with_fetched, at_site, Outcome}
+use Rattle.jup_world.specs.Worlds.{attached, IsQuiet, run, only_fetched, is_number, at_site, Outcome, with_fetched}
 use Rattle.jup_world.specs.Boards.{BoardWorld, BoardLink, BoardEvent, BoardReply, BoardAttached}
 use Rattle.jup_world.specs.Happenings.{IsWorld, IsSpared, IsLaneWorld, LanePlays, AreRead, SitesRest, LaneSpares}
 use Rattle.jup_world.specs.Lanes.{LaneEvent, Plain, PushUp, PushDown, Noted, LaneSite, LaneWorld, messages_at, plain_happened, plain_trace, messages_of, lane_site, AllCarry, IsStill, filled_from, filled_for, messages_after, Steps, AllSteps, Rests, TouchesDown, IsSparedBy, AllTried, lane_outcome, AnswersTo, IsHalted}
@@ -15,8 +15,9 @@ use Rattle.jup_world.specs.Sound.{named_by, own_counts, IsKnown}
 use Rattle.jup_world.specs.Traces.{OrderIsKept}
 use Rattle.jup_world.specs.Insides.{lane_of, bare_attached}
 use Rattle.jup_world.proofs.Worlds.{world_happens, world_spared, kept_site}
-use Rattle.jup_world.proofs.EventSteps.{either}
-use Rattle.jup_world.proofs.Orders.{Follows, follows-same, follows-chain, run-follows, told_turns, SiteFollows, follows_chain, holds_known, given_before, stays_gone, run_follows}
+use Rattle.jup_site.proofs.Numbers.{either}
+use Rattle.jup_site.proofs.Follows.{Follows, follows-same, follows-chain}
+use Rattle.jup_world.proofs.Orders as orders
 use Rattle.jup_world.proofs.Sound.Runs.{replies}
 use Rattle.jup_world.proofs.Lanes.Sites.{messages_map}
 
@@ -209,13 +210,13 @@ spared_keeps w v event is spared = record {
 pub record Keeps (w v : BoardWorld) : Type 0 where
   pub star : Follows board_batches batch_laws w.star v.star
   pub gone : (j : ℕ) → attached j w.sites ≡ None → (w.star.given < j → ⊥) → attached j v.sites ≡ None
-  pub sites : (j : ℕ) (a b : BoardAttached) → attached j w.sites ≡ Some a → attached j v.sites ≡ Some b → SiteFollows board_batches batch_laws w v j a b
+  pub sites : (j : ℕ) (a b : BoardAttached) → attached j w.sites ≡ Some a → attached j v.sites ≡ Some b → orders.SiteFollows board_batches batch_laws w v j a b
 
 keeps_run : (events : List BoardEvent) (w : BoardWorld) → IsWorld w → Keeps w (run board_batches w events)
 keeps_run events w is = record {
-  star = run-follows board_batches batch_laws events most_batches w is.board.sound;
-  gone = λ j. stays_gone board_batches batch_laws events most_batches w is.board.sound j;
-  sites = λ j a b. run_follows board_batches batch_laws events most_batches w is.board.sound j a b;
+  star = orders.run-follows board_batches batch_laws events most_batches w is.board.sound;
+  gone = λ j. orders.stays_gone board_batches batch_laws events most_batches w is.board.sound j;
+  sites = λ j a b. orders.run_follows board_batches batch_laws events most_batches w is.board.sound j a b;
 }
 
 -- an empty down stream that is filled changes no site
@@ -230,7 +231,7 @@ keeps_fetched w i l = record {
       let site : b.site ≡ a.site = was.2 ∙ ap (λ (x : BoardAttached). x.site) same in
       record {
         order = subst (λ (s : BoardSite). board_batches.t.keeps_order a.site.board s.board) (sym site) (batch_laws.keeps.order_self a.site.board);
-        knows = λ n k. subst (λ (s : BoardSite). IsKnown board_batches (own_counts board_batches j s.named (λ m. named_by board_batches j m (told_turns board_batches batch_laws w j))) n) (sym site) k;
+        knows = λ n k. subst (λ (s : BoardSite). IsKnown board_batches (own_counts board_batches j s.named (λ m. named_by board_batches j m (orders.told_turns board_batches batch_laws w j))) n) (sym site) k;
         none_back = λ n k held. subst (λ (s : BoardSite). board_batches.t.holds s.board n) site held;
       };
 }
@@ -252,9 +253,9 @@ keeps_chain u v w is f g = record {
   star = follows-chain board_batches batch_laws u.star v.star w.star is.board.sound.star.board_known f.star g.star;
   gone = λ j none old. g.gone j (f.gone j none old) (later j old);
   sites = λ j a c fa fc.
-      either (attached j v.sites) (λ o. SiteFollows board_batches batch_laws u w j a c)
-      (λ none. absurd (let gone = g.gone j none (later j (λ above. given_before board_batches batch_laws most_batches u is.board.sound j a fa above)) in cc))
-      (λ b fb. follows_chain board_batches batch_laws u v w j a b c (holds_known board_batches batch_laws most_batches u is.board.sound j a fa) (f.sites j a b fa fb) (g.sites j b c fb fc));
+      either (attached j v.sites) (λ o. orders.SiteFollows board_batches batch_laws u w j a c)
+      (λ none. absurd (let gone = g.gone j none (later j (λ above. orders.given_before board_batches batch_laws most_batches u is.board.sound j a fa above)) in cc))
+      (λ b fb. orders.follows_chain board_batches batch_laws u v w j a b c (orders.holds_known board_batches batch_laws most_batches u is.board.sound j a fa) (f.sites j a b fa fb) (g.sites j b c fb fc));
 }
   where
     later : (j : ℕ) → (u.star.given < j → ⊥) → v.star.given < j → ⊥

@@ -5,16 +5,18 @@ use Rattle.std.proofs.lemmas.Bool.{false_from_ne_true, ltb-true}
 use Rattle.jup_world.specs.Prelude.{most_beyond, last_site, most_attached, Msg, InStepAt, Operations, AreLawful, Entry, Up, UpOp, UpAck, UpPing, DownOp, DownAck, DownPong, LogFull, Full, SitesSpent, Down, StarFault, ups, downs, LinkState, link_acked, link_ponged, link_fetched, link_of, with_links, up_fault, StarOf, join_fault, left, deliver_fault, edit_answer, test, EditFault, Heard, Asked, Left, Taken, Detached, Nothing}
 use Rattle.jup_link.specs.Laws.Steps.{quiet_equal, client_counts, server_counts}
 use Rattle.jup_world.specs.Traces.{Turn, turns, edits, own_edits, made, order_of, joined_at, shown_count, view, AreLinked, Promises}
-use Rattle.jup_world.specs.Worlds.{attached, at_site, WorldOf, AttachedOf, EventOf, opened_world, Outcome, one_taken, one_handed, pinged, outcome, with_outcome, happens, run, with_fetched, only_fetched, ReplyOf, at_number, at_linked, at_attached, join_outcome, edit_outcome, up_outcome, first_up, down_outcome, first_down, unchanged, stray_joins, stray_sends, stray_leaves, at_stray}
+use Rattle.jup_world.specs.Worlds.{attached, at_site, WorldOf, EventOf, opened_world, Outcome, outcome, with_outcome, happens, run, only_fetched, ReplyOf, at_number, at_linked, at_attached, join_outcome, edit_outcome, up_outcome, first_up, down_outcome, first_down, unchanged, stray_joins, stray_sends, stray_leaves, at_stray, AttachedOf, one_taken, one_handed, pinged, with_fetched}
 use Rattle.jup_world.specs.Sound.{edits_sent, told_of, Standing, StandsAt, IsSound, JoinReplies, edit_reply, UpReplies, DownReplies, SiteReplies, RepliesTo, IsAnswered, StrayReplies, StrayRepliesTo, SitesHold, OnlyFull}
 use Rattle.jup_world.specs.Events.{Down as MoveDown, Ping as SendPing, Join, Leave, Edit as MakeEdit, Up as MoveUp, JoinStray, Stray, LeaveStray}
-use Rattle.jup_world.proofs.Pairs.Grids.{own_edits-append, pair-asked}
-use Rattle.jup_world.proofs.Pairs.Places.{stand-pair, place-accepted, place-acked, place-asked, place-told, place-answered, place-fetched}
-use Rattle.jup_world.proofs.EventSteps.{Brings, Rises, Strays, StepOf, Still, Enters, EntersStray, Goes, Makes, Asks, Takes, Hands, still_silent, gone_silent, heard_silent, asked_silent, step_of, map_kept, at_one, either}
-use Rattle.jup_world.proofs.Sound.Steps.{after_event, sound-at, sound-leaves, sound-same, sound-taken, sound-made, sound-shown, sound-joined, sound-entered, shown_fits}
+use Rattle.jup_site.proofs.Pairs.Grids.{own_edits-append, pair-asked}
+use Rattle.jup_site.proofs.Pairs.Places as places
+use Rattle.jup_world.proofs.EventSteps.{Brings, Rises, Strays, StepOf, Still, Enters, EntersStray, Goes, Makes, Asks, Takes, Hands, still_silent, gone_silent, heard_silent, asked_silent, step_of}
+use Rattle.jup_site.proofs.Numbers.{map_kept, at_one, either}
+use Rattle.jup_world.proofs.Sound.Steps as sound_steps
 use Rattle.jup_world.proofs.Sound.Traces.{standing, standing_of}
-use Rattle.jup_world.proofs.Stars.{star-opened, star-at, star-acked, star-ponged, star-fetched, accepted}
-use Rattle.jup_world.proofs.Answers.{deliver_ack, deliver_pong, take_ack, no_fault, first_to_fail}
+use Rattle.jup_site.proofs.Stars as stars
+use Rattle.jup_world.proofs.Stars.{accepted}
+use Rattle.jup_site.proofs.Fits as fitting
 
 -- A world is sound as it is opened, and after any events; and what that promises.
 
@@ -24,7 +26,7 @@ module _ (O : Operations) (L : AreLawful O) where
       (m : Msg O.Op) (us : List (Up O.Op)) → a.up ≡ UpOp m ∷ us
       → ((up_fault O w.star l (UpOp m) ≡ None) × (length w.star.order < w.star.limit)) ⊎ ((up_fault O w.star l (UpOp m) ≡ Some LogFull) × (w.star.limit ≤ length w.star.order))
   take_cases most w s i l a fl fa m us rising =
-      place-accepted O L most (O.t.content w.opening) w.star (made i w.trace) i (joined_at O i w.trace) (shown_count i w.trace) l a (standing O L most w s i l a fl fa) (omega (arith, s.star.few, s.star.limited)) m us rising
+      places.place-accepted O L most (O.t.content w.opening) w.star (made i w.trace) i (joined_at O i w.trace) (shown_count i w.trace) l a (standing O L most w s i l a fl fa) (omega (arith, s.star.few, s.star.limited)) m us rising
 
   module _ (most : ℕ) (w : WorldOf O) (s : IsSound O most w) where
     -- there is room for what may still come
@@ -35,44 +37,44 @@ module _ (O : Operations) (L : AreLawful O) where
     acked : (i : ℕ) (l : LinkState O.Op) → link_of i w.star.links ≡ Some l → (n : ℕ) (oa : Option (AttachedOf O)) → attached i w.sites ≡ oa → (e : EventOf O) → Brings O w i (UpAck n) oa e
         → StandsAt O most (O.t.content w.opening) (turns i w.star.order) w.star.board (made i w.trace) (joined_at O i w.trace) (shown_count i w.trace) i (Some (link_acked n l)) (option_map (one_taken O) oa)
     acked i l fl n oa fa e (Rises a us rising) =
-        place-acked O L most (O.t.content w.opening) w.star (made i w.trace) i (joined_at O i w.trace) (shown_count i w.trace) l a (standing O L most w s i l a fl fa) fits n us rising
+        places.place-acked O L most (O.t.content w.opening) w.star (made i w.trace) i (joined_at O i w.trace) (shown_count i w.trace) l a (standing O L most w s i l a fl fa) fits n us rising
     acked i l fl n oa fa e Strays = tt
 
     ponged : (i : ℕ) (l : LinkState O.Op) → link_of i w.star.links ≡ Some l → (k : ℕ) (oa : Option (AttachedOf O)) → attached i w.sites ≡ oa → (e : EventOf O) → Brings O w i (UpPing k) oa e
         → StandsAt O most (O.t.content w.opening) (turns i w.star.order) w.star.board (made i w.trace) (joined_at O i w.trace) (shown_count i w.trace) i (Some (link_ponged k l)) (option_map (one_taken O) oa)
     ponged i l fl k oa fa e (Rises a us rising) =
-        place-asked O L most (O.t.content w.opening) w.star (made i w.trace) i (joined_at O i w.trace) (shown_count i w.trace) l a (standing O L most w s i l a fl fa) fits k us rising
+        places.place-asked O L most (O.t.content w.opening) w.star (made i w.trace) i (joined_at O i w.trace) (shown_count i w.trace) l a (standing O L most w s i l a fl fa) fits k us rising
     ponged i l fl k oa fa e Strays = tt
 
     -- an event, by its outcome
     sound-step : (e : EventOf O) (o : Outcome O) → StepOf O w e o → IsSound O most (with_outcome O w e o)
-    sound-step e o (Still why) = sound-same O L most w e _ s (still_silent O w why)
-    sound-step e o (Enters none) = sound-joined O L most w s (w.star.given + 1) refl
-    sound-step e o (EntersStray none) = sound-entered O L most w s (w.star.given + 1) refl
-    sound-step e o (Goes i l oa fl fa why) = sound-leaves O L most w e _ i s (gone_silent O w why)
-    sound-step e o (Makes i command l a op fl fa ok) = sound-made O L most w s i l a fl fa command op ok
+    sound-step e o (Still why) = sound_steps.sound-same O L most w e _ s (still_silent O w why)
+    sound-step e o (Enters none) = sound_steps.sound-joined O L most w s (w.star.given + 1) refl
+    sound-step e o (EntersStray none) = sound_steps.sound-entered O L most w s (w.star.given + 1) refl
+    sound-step e o (Goes i l oa fl fa why) = sound_steps.sound-leaves O L most w e _ i s (gone_silent O w why)
+    sound-step e o (Makes i command l a op fl fa ok) = sound_steps.sound-made O L most w s i l a fl fa command op ok
     sound-step e o (Asks i k l a fl fa) =
-        subst (λ ls. IsSound O most (after_event O L w (with_links w.star ls) (at_site i (pinged O k) w.sites) (SendPing i k) Asked)) (map_kept (λ k. k.site) i w.star.links)
-        (sound-at O L most w (SendPing i k) Asked i (λ z. z) (pinged O k) l (Some a) (λ z. refl) (λ b. refl) s (asked_silent O i k) fl fa
-        (star-at O L most (O.t.content w.opening) w.star s.star i (λ z. z) (λ z. refl) (λ z c. c))
-        (stand-pair O L most (O.t.content w.opening) (turns i w.star.order) w.star.board (made i w.trace) (joined_at O i w.trace) (shown_count i w.trace) i l a (standing O L most w s i l a fl fa) w.star.board (made i w.trace) l (pinged O k a)
+        subst (λ ls. IsSound O most (sound_steps.after_event O L w (with_links w.star ls) (at_site i (pinged O k) w.sites) (SendPing i k) Asked)) (map_kept (λ k. k.site) i w.star.links)
+        (sound_steps.sound-at O L most w (SendPing i k) Asked i (λ z. z) (pinged O k) l (Some a) (λ z. refl) (λ b. refl) s (asked_silent O i k) fl fa
+        (stars.star-at O L most (O.t.content w.opening) w.star s.star i (λ z. z) (λ z. refl) (λ z c. c))
+        (places.stand-pair O L most (O.t.content w.opening) (turns i w.star.order) w.star.board (made i w.trace) (joined_at O i w.trace) (shown_count i w.trace) i l a (standing O L most w s i l a fl fa) w.star.board (made i w.trace) l (pinged O k a)
         (pair-asked O L most i (O.t.content w.opening) _ _ w.star.board (made i w.trace) l a (standing O L most w s i l a fl fa).pair k)))
-    sound-step e o (Takes i l oa (UpOp m) fl fa brought none) = sound-taken O L most w s i l fl m none oa fa e brought
+    sound-step e o (Takes i l oa (UpOp m) fl fa brought none) = sound_steps.sound-taken O L most w s i l fl m none oa fa e brought
     sound-step e o (Takes i l oa (UpAck n) fl fa brought none) =
-        sound-at O L most w e Heard i (λ k. link_acked n k) (one_taken O) l oa (λ k. refl) (λ b. refl) s (heard_silent O e) fl fa
-        (star-acked O L most (O.t.content w.opening) w.star s.star i n) (acked i l fl n oa fa e brought)
+        sound_steps.sound-at O L most w e Heard i (λ k. link_acked n k) (one_taken O) l oa (λ k. refl) (λ b. refl) s (heard_silent O e) fl fa
+        (stars.star-acked O L most (O.t.content w.opening) w.star s.star i n) (acked i l fl n oa fa e brought)
     sound-step e o (Takes i l oa (UpPing k) fl fa brought none) =
-        sound-at O L most w e Heard i (λ z. link_ponged k z) (one_taken O) l oa (λ z. refl) (λ b. refl) s (heard_silent O e) fl fa
-        (star-ponged O L most (O.t.content w.opening) w.star s.star i k) (ponged i l fl k oa fa e brought)
-    sound-step e o (Hands i gone l a (DownOp m) ds fl fa falls none) = sound-shown O L most w s i l a fl fa m gone ds (ap downs falls)
+        sound_steps.sound-at O L most w e Heard i (λ z. link_ponged k z) (one_taken O) l oa (λ z. refl) (λ b. refl) s (heard_silent O e) fl fa
+        (stars.star-ponged O L most (O.t.content w.opening) w.star s.star i k) (ponged i l fl k oa fa e brought)
+    sound-step e o (Hands i gone l a (DownOp m) ds fl fa falls none) = sound_steps.sound-shown O L most w s i l a fl fa m gone ds (ap downs falls)
     sound-step e o (Hands i gone l a (DownAck n) ds fl fa falls none) =
-        sound-at O L most w (MoveDown i) Heard i (link_fetched gone) (λ b. one_handed O (DownAck n) ds b) l (Some a) (λ k. refl) (λ b. refl) s (heard_silent O (MoveDown i)) fl fa
-        (star-fetched O L most (O.t.content w.opening) w.star s.star i gone)
-        (place-told O L most (O.t.content w.opening) w.star (made i w.trace) i (joined_at O i w.trace) (shown_count i w.trace) l a (standing O L most w s i l a fl fa) fits n gone ds (ap downs falls))
+        sound_steps.sound-at O L most w (MoveDown i) Heard i (link_fetched gone) (λ b. one_handed O (DownAck n) ds b) l (Some a) (λ k. refl) (λ b. refl) s (heard_silent O (MoveDown i)) fl fa
+        (stars.star-fetched O L most (O.t.content w.opening) w.star s.star i gone)
+        (places.place-told O L most (O.t.content w.opening) w.star (made i w.trace) i (joined_at O i w.trace) (shown_count i w.trace) l a (standing O L most w s i l a fl fa) fits n gone ds (ap downs falls))
     sound-step e o (Hands i gone l a (DownPong k) ds fl fa falls none) =
-        sound-at O L most w (MoveDown i) Heard i (link_fetched gone) (λ b. one_handed O (DownPong k) ds b) l (Some a) (λ z. refl) (λ b. refl) s (heard_silent O (MoveDown i)) fl fa
-        (star-fetched O L most (O.t.content w.opening) w.star s.star i gone)
-        (place-answered O L most (O.t.content w.opening) w.star (made i w.trace) i (joined_at O i w.trace) (shown_count i w.trace) l a (standing O L most w s i l a fl fa) fits k gone ds (ap downs falls))
+        sound_steps.sound-at O L most w (MoveDown i) Heard i (link_fetched gone) (λ b. one_handed O (DownPong k) ds b) l (Some a) (λ z. refl) (λ b. refl) s (heard_silent O (MoveDown i)) fl fa
+        (stars.star-fetched O L most (O.t.content w.opening) w.star s.star i gone)
+        (places.place-answered O L most (O.t.content w.opening) w.star (made i w.trace) i (joined_at O i w.trace) (shown_count i w.trace) l a (standing O L most w s i l a fl fa) fits k gone ds (ap downs falls))
 
   -- every event keeps a world sound
   pub sound-happens : (most : ℕ) (w : WorldOf O) (e : EventOf O) → IsSound O most w → IsSound O most (happens O w e)
@@ -89,7 +91,7 @@ module _ (O : Operations) (L : AreLawful O) where
   sound-opened most limit board distinct small room counted layout = record {
     order_is = refl;
     keeps = refl;
-    star = star-opened O L most limit board distinct small room counted layout;
+    star = stars.star-opened O L most limit board distinct small room counted layout;
     stand = λ i. tt;
     no_edit = λ i g. refl;
     no_shown = λ i g. refl;
@@ -149,11 +151,11 @@ module _ (O : Operations) (L : AreLawful O) where
   sound-fetched most w s i n l a fl fa = record {
     order_is = s.order_is;
     keeps = s.keeps;
-    star = star-fetched O L most (O.t.content w.opening) w.star s.star i n;
+    star = stars.star-fetched O L most (O.t.content w.opening) w.star s.star i n;
     stand = at_one (λ k. k.site) (λ b. b.site.number)
         (λ j ol oa. StandsAt O most (O.t.content w.opening) (turns j w.star.order) w.star.board (made j w.trace) (joined_at O j w.trace) (shown_count j w.trace) j ol oa)
         i (link_fetched n) (with_fetched O n l) (λ k. refl) (λ b. refl) w.star.links w.sites l (Some a) fl fa
-        (place-fetched O L most (O.t.content w.opening) w.star (made i w.trace) i (joined_at O i w.trace) (shown_count i w.trace) l a (standing O L most w s i l a fl fa) (omega (arith, s.star.few, s.star.limited)) n)
+        (places.place-fetched O L most (O.t.content w.opening) w.star (made i w.trace) i (joined_at O i w.trace) (shown_count i w.trace) l a (standing O L most w s i l a fl fa) (omega (arith, s.star.few, s.star.limited)) n)
         (λ j e. s.stand j);
     no_edit = s.no_edit;
     no_shown = s.no_shown;
@@ -171,18 +173,18 @@ module _ (O : Operations) (L : AreLawful O) where
         acked : Standing O most (O.t.content w.opening) (turns i w.star.order) w.star.board (made i w.trace) (joined_at O i w.trace) (shown_count i w.trace) i l a → up_fault O w.star l (UpAck n) ≡ None
         acked st =
             let step = subst (λ r. InStepAt O.t 0 st.pair.from st.pair.site_ahead st.pair.star_ahead a.site.board w.star.board a.site.end l.end r (downs (a.down ++ l.outbox))) (ap ups e) st.pair.in_step in
-            take_ack O L w.star l n (server_counts O.t L.lawful step).0
+            fitting.take_ack O L w.star l n (server_counts O.t L.lawful step).0
 
     -- the oldest message on an attached site's way down is delivered
     pub fall_fits : (d : Down O.Op) (gone : ℕ) (falling : List (Down O.Op)) → downs (a.down ++ l.outbox) ≡ downs (d ∷ (falling ++ drop gone l.outbox)) → deliver_fault O d a.site ≡ None
-    fall_fits (DownOp m) gone falling e = shown_fits O L most w s i l a fl fa m gone falling e
+    fall_fits (DownOp m) gone falling e = sound_steps.shown_fits O L most w s i l a fl fa m gone falling e
     fall_fits (DownAck n) gone falling e = acked (standing O L most w s i l a fl fa)
       where
         acked : Standing O most (O.t.content w.opening) (turns i w.star.order) w.star.board (made i w.trace) (joined_at O i w.trace) (shown_count i w.trace) i l a → deliver_fault O (DownAck n) a.site ≡ None
         acked st =
             let step = subst (λ r. InStepAt O.t 0 st.pair.from st.pair.site_ahead st.pair.star_ahead a.site.board w.star.board a.site.end l.end (ups a.up) r) e st.pair.in_step in
-            deliver_ack O L a.site n st.pair.goes_on (client_counts O.t L.lawful step).0
-    fall_fits (DownPong k) gone falling e = deliver_pong O L a.site k (standing O L most w s i l a fl fa).pair.goes_on
+            fitting.deliver_ack O L a.site n st.pair.goes_on (client_counts O.t L.lawful step).0
+    fall_fits (DownPong k) gone falling e = fitting.deliver_pong O L a.site k (standing O L most w s i l a fl fa).pair.goes_on
 
 -- In a sound world each event answers what it should, and nothing is withheld.
 
@@ -194,9 +196,9 @@ module _ (O : Operations) (L : AreLawful O) where
   -- what a join is refused for
   pub join_faults : (s : StarOf O) → (most_attached ≤ length s.links → join_fault s ≡ Some Full) × (length s.links < most_attached → last_site ≤ s.given → join_fault s ≡ Some SitesSpent) × (length s.links < most_attached → s.given < last_site → join_fault s ≡ None)
   join_faults s = (
-    (λ full. first_to_fail [] (test (nat_lt (length s.links) most_attached) Full) (test (nat_lt s.given last_site) SitesSpent ∷ []) tt (not_below _ most_attached full)),
-    (λ few spent. first_to_fail (test (nat_lt (length s.links) most_attached) Full ∷ []) (test (nat_lt s.given last_site) SitesSpent) [] (lt-ltb _ most_attached few, tt) (not_below _ last_site spent)),
-    (λ few left. no_fault (test (nat_lt (length s.links) most_attached) Full ∷ test (nat_lt s.given last_site) SitesSpent ∷ []) (lt-ltb _ most_attached few, (lt-ltb _ last_site left, tt))),
+    (λ full. fitting.first_to_fail [] (test (nat_lt (length s.links) most_attached) Full) (test (nat_lt s.given last_site) SitesSpent ∷ []) tt (not_below _ most_attached full)),
+    (λ few spent. fitting.first_to_fail (test (nat_lt (length s.links) most_attached) Full ∷ []) (test (nat_lt s.given last_site) SitesSpent) [] (lt-ltb _ most_attached few, tt) (not_below _ last_site spent)),
+    (λ few left. fitting.no_fault (test (nat_lt (length s.links) most_attached) Full ∷ test (nat_lt s.given last_site) SitesSpent ∷ []) (lt-ltb _ most_attached few, (lt-ltb _ last_site left, tt))),
   )
 
   -- a join

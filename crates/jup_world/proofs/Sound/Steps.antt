@@ -1,17 +1,18 @@
 -- A sound world is sound after each event.
-use Rattle.std.proofs.Common.{◌≡◌, ℕ, ◌+◌, ◌≤◌, List, [], ◌∷◌, ◌++◌, length, ap, sym, ◌∙◌, subst, Option, Some, option_map, append-nil, add-zero, arith, ◌<◌, drop, take, refl, take_all, drop_of_length-le, length-append, le_refl, Bool, true, false, cond, nat_eq, None, eq-eqb, eqb-true, ne_eqb, Ok, take-append-drop}
-use Rattle.jup_world.specs.Prelude.{most_beyond, Msg, sent, Operations, AreLawful, Down, DownOp, UpOp, LinkState, link_of, without, at_link, with_links, left, StarOf, opened_link, joined, link_fetched, fetched, operation_at, link_sent, link_heard, up_fault, entry, taken, opened_site, edit_answer, deliver_fault, downs, found, found-end, found-end_other, EditFault, AllByRecursion, Joined, Made, Shown, Taken}
-use Rattle.jup_link.specs.Laws.Steps.{small_le, InStepAt-opened}
-use Rattle.jup_world.specs.Traces.{turns, made, order_of, joined_at, shown_count, edits, own_edits, edit_made, entry_taken, join_seen, was_shown, Own, Other, turn}
-use Rattle.jup_world.specs.Worlds.{attached, at_site, without_site, WorldOf, AttachedOf, EventOf, ReplyOf, new_site, with_edit, one_handed, HappenedOf, one_taken}
-use Rattle.jup_world.specs.Sound.{IsSoundStar, StandsAt, IsSound, named_by, own_counts, ChangesKnown, HoldsKnown, Paired, told_of, Standing, SoundLinkAt}
+use Rattle.std.proofs.Common.{◌≡◌, ℕ, ◌+◌, ◌≤◌, List, [], ◌∷◌, ◌++◌, length, ap, sym, ◌∙◌, subst, Option, Some, option_map, append-nil, add-zero, arith, ◌<◌, drop, take, refl, Bool, true, false, cond, nat_eq, None, eq-eqb, eqb-true, ne_eqb, Ok, take-append-drop}
+use Rattle.jup_world.specs.Prelude.{most_beyond, Msg, sent, Operations, AreLawful, Down, DownOp, UpOp, LinkState, link_of, without, at_link, with_links, left, StarOf, opened_link, joined, link_fetched, fetched, operation_at, link_sent, link_heard, up_fault, entry, taken, edit_answer, deliver_fault, downs, found, found-end, found-end_other, EditFault, Joined, Made, Shown, Taken}
+use Rattle.jup_world.specs.Traces.{turns, own_edits, Own, Other, turn, made, order_of, joined_at, shown_count, edit_made, entry_taken, join_seen, was_shown}
+use Rattle.jup_world.specs.Worlds.{attached, at_site, without_site, WorldOf, EventOf, ReplyOf, new_site, HappenedOf, AttachedOf, with_edit, one_handed, one_taken}
+use Rattle.jup_world.specs.Sound.{IsSoundStar, StandsAt, told_of, Standing, SoundLinkAt, IsSound}
 use Rattle.jup_world.specs.Events.{Happened, Join, JoinStray, Edit as MakeEdit, Down as MoveDown, Up as MoveUp, Stray}
-use Rattle.jup_world.proofs.Sound.Traces.{made-end, order-end, joined-end, shown-end, edits-turns, length-turns, named-turns, standing, order_fits, turns-append, order_told}
-use Rattle.jup_world.proofs.EventSteps.{IsSilent, at_one, at_removal, by_number, map_kept, Brings, Rises, Strays, brought_made, brought_join, brought_shown, at_all}
-use Rattle.jup_world.proofs.Stars.{star-left, star-joined, star-fetched, valid, inserts, next, same, changes, star-taken}
-use Rattle.jup_world.proofs.Known.{known_more, all_changes_more, own_counts-above}
-use Rattle.jup_world.proofs.Pairs.Places.{stand-makes, place-fits, place-shown, place-taken, place-sent}
-use Rattle.jup_world.proofs.Pairs.Grids.{first_falling, own_edits-append}
+use Rattle.jup_world.proofs.Sound.Traces as trace_ends
+use Rattle.jup_site.proofs.Turns.{turns-append}
+use Rattle.jup_world.proofs.EventSteps.{IsSilent, Brings, Rises, Strays, brought_made, brought_join, brought_shown}
+use Rattle.jup_site.proofs.Numbers.{at_one, at_removal, by_number, map_kept, at_all}
+use Rattle.jup_site.proofs.Stars.{star-left, star-joined, star-fetched, valid, inserts, next, same, changes, star-taken}
+use Rattle.jup_site.proofs.Pairs.Places as places
+use Rattle.jup_site.proofs.Pairs.Grids.{first_falling, own_edits-append}
+use Rattle.jup_site.proofs.Joins.{stands-new}
 
 -- Events of which the trace records nothing that is read off it.
 
@@ -28,11 +29,11 @@ module _ (O : Operations) (L : AreLawful O) where
       → IsSound O most (after_event w (record w.star { given = given; links = links }) sites event reply)
   sound-silent most w event reply given links sites s q more stands star =
       let h : Happened O.Command O.Op O.Edit EditFault = record { event = event; reply = reply } in
-      let mades : (i : ℕ) → made i (w.trace ++ h ∷ []) ≡ made i w.trace = λ i. made-end i w.trace h ∙ ap (λ es. made i w.trace ++ es) (q.no_edit i) ∙ append-nil (made i w.trace) in
-      let joins : (i : ℕ) → joined_at O i (w.trace ++ h ∷ []) ≡ joined_at O i w.trace = λ i. joined-end O i w.trace h ∙ q.no_join i (length (order_of O w.trace)) (joined_at O i w.trace) in
-      let showns : (i : ℕ) → shown_count i (w.trace ++ h ∷ []) ≡ shown_count i w.trace = λ i. shown-end i w.trace h ∙ ap (λ k. shown_count i w.trace + k) (q.no_shown i) ∙ add-zero (shown_count i w.trace) in
+      let mades : (i : ℕ) → made i (w.trace ++ h ∷ []) ≡ made i w.trace = λ i. trace_ends.made-end i w.trace h ∙ ap (λ es. made i w.trace ++ es) (q.no_edit i) ∙ append-nil (made i w.trace) in
+      let joins : (i : ℕ) → joined_at O i (w.trace ++ h ∷ []) ≡ joined_at O i w.trace = λ i. trace_ends.joined-end O i w.trace h ∙ q.no_join i (length (order_of O w.trace)) (joined_at O i w.trace) in
+      let showns : (i : ℕ) → shown_count i (w.trace ++ h ∷ []) ≡ shown_count i w.trace = λ i. trace_ends.shown-end i w.trace h ∙ ap (λ k. shown_count i w.trace + k) (q.no_shown i) ∙ add-zero (shown_count i w.trace) in
       record {
-        order_is = order-end O w.trace h ∙ ap (λ es. order_of O w.trace ++ es) (q.no_entry w.trace (order_of O w.trace)) ∙ append-nil (order_of O w.trace) ∙ s.order_is;
+        order_is = trace_ends.order-end O w.trace h ∙ ap (λ es. order_of O w.trace ++ es) (q.no_entry w.trace (order_of O w.trace)) ∙ append-nil (order_of O w.trace) ∙ s.order_is;
         keeps = s.keeps;
         star = star;
         stand = λ i. subst (λ es. StandsAt O most (O.t.content w.opening) (turns i w.star.order) w.star.board es (joined_at O i (w.trace ++ h ∷ [])) (shown_count i (w.trace ++ h ∷ [])) i (found (λ l. l.site) i links) (attached i sites)) (sym (mades i))
@@ -70,88 +71,6 @@ module _ (O : Operations) (L : AreLawful O) where
   -- nothing changes
   pub sound-same : (most : ℕ) (w : WorldOf O) (event : EventOf O) (reply : ReplyOf O) → IsSound O most w → IsSilent O event reply → IsSound O most (after_event w w.star w.sites event reply)
   sound-same most w event reply s q = sound-silent most w event reply w.star.given w.star.links w.sites s q (omega arith) s.stand s.star
-
--- A site that joins a star has received all of the star's order.
-
-module _ (O : Operations) (L : AreLawful O) (most : ℕ) (first : O.t.Content) (s : StarOf O) (h : IsSoundStar O most first s) (i : ℕ) (next : i ≡ s.given + 1) (no_entry : own_edits (turns i s.order) ≡ []) where
-  -- the site, with nothing on its way
-  abbrev pub newcomer : AttachedOf O
-  newcomer = record { site = opened_site i s.limit s.board; up = []; down = [] }
-
-  -- the number is new
-  new : s.given < i
-  new = omega (arith, next)
-
-  -- no entry bears a name of it
-  no_name : named_by O i i (turns i s.order) ≡ 0
-  no_name = named-turns O L i 0 i s.order ∙ h.no_name i new
-
-  -- it knows what the star knows
-  counts : (j : ℕ) → named_by O 0 j (turns 0 s.order) ≤ own_counts O i 0 (λ j. named_by O i j (turns i s.order)) j
-  counts j =
-      let above = own_counts-above O L i 0 (λ j. named_by O i j (turns i s.order)) (omega (arith, no_name)) j in
-      omega (arith, named-turns O L 0 i j s.order)
-
-  knows : HoldsKnown O (own_counts O i 0 (λ j. named_by O i j (turns i s.order))) s.board
-  knows n x = known_more O L (λ j. named_by O 0 j (turns 0 s.order)) (own_counts O i 0 (λ j. named_by O i j (turns i s.order))) n counts (h.board_known n x)
-
-  -- and with nothing after it neither
-  none_named : named_by O i i (turns i s.order ++ []) ≡ 0
-  none_named = ap (named_by O i i) (append-nil (turns i s.order)) ∙ no_name
-
-  -- nothing is added
-  all_nil : {A : Type 0} → (xs : List A) → (xs ++ []) ++ [] ≡ xs
-  all_nil xs = append-nil (xs ++ []) ∙ append-nil xs
-
-  -- a new link and a new site are in step
-  new_pair : Paired O most i first (turns i s.order) [] s.board [] (opened_link i) newcomer
-  new_pair = record {
-    from = s.board;
-    site_ahead = [];
-    star_ahead = [];
-    site_side = refl;
-    link_side = refl;
-    in_step = InStepAt-opened O.t L.lawful 0 s.board h.distinct (small_le O.t L.lawful 0 h.room s.board (omega arith) h.small);
-    room = h.room;
-    small = h.small;
-    enough = omega (arith, h.enough, length-append (turns i s.order) [], length-turns i s.order);
-    raw = [];
-    raw_sent = refl;
-    row = tt;
-    column = refl;
-    all_made = sym (append-nil (own_edits (turns i s.order ++ [])) ∙ ap own_edits (append-nil (turns i s.order)) ∙ no_entry);
-    shows = h.content_is ∙ ap (O.t.meaning first) (edits-turns 0 i s.order ∙ sym (all_nil (edits (turns i s.order))));
-    up_inherits = tt;
-    down_inherits = tt;
-    raw_named = none_named;
-    rest_named = tt;
-    board_known = knows;
-    from_known = subst (λ k. HoldsKnown O (own_counts O i k (λ j. named_by O i j (turns i s.order))) s.board) (sym none_named) knows;
-    view_known = subst (AllByRecursion (ChangesKnown O (own_counts O i 0 (λ j. named_by O i j (turns i s.order))))) (edits-turns 0 i s.order ∙ sym (all_nil (edits (turns i s.order))))
-        (all_changes_more O L (λ j. named_by O 0 j (turns 0 s.order)) (own_counts O i 0 (λ j. named_by O i j (turns i s.order))) counts (edits (turns 0 s.order)) h.order_known);
-    falling_foreign = tt;
-    positive = omega (arith, next);
-    site_number = refl;
-    link_number = refl;
-    link_named = sym none_named;
-    goes_on = refl;
-    backlog = omega arith;
-    few_heard = omega arith;
-    few_sent = omega arith;
-  }
-
-  -- at the end of the order
-  pub stands-new : Standing O most first (turns i s.order) s.board [] (length s.order) 0 i (opened_link i) newcomer
-  stands-new = record {
-    pair = subst (λ k. Paired O most i first (take k (turns i s.order)) (drop k (turns i s.order)) s.board [] (opened_link i) newcomer) (sym told)
-        (subst (λ us. Paired O most i first us (drop (length (turns i s.order)) (turns i s.order)) s.board [] (opened_link i) newcomer) (sym (take_all (length (turns i s.order)) (turns i s.order) (le_refl _)))
-        (subst (λ us. Paired O most i first (turns i s.order) us s.board [] (opened_link i) newcomer) (sym (drop_of_length-le (turns i s.order) (le_refl _))) new_pair));
-    joined_within = omega (arith, length-turns i s.order);
-    shown_within = omega arith;
-  }
-    where
-      told : told_of O (length s.order) 0 (turns i s.order) ≡ length (turns i s.order)
-      told = add-zero (length s.order) ∙ sym (length-turns i s.order)
 
 -- A sound world is sound after a join.
 
@@ -195,11 +114,11 @@ module _ (O : Operations) (L : AreLawful O) where
     pub sound-joined : IsSound O most (after_event O L w (joined w.star) (w.sites ++ new_site O w i ∷ []) Join (Joined i))
     sound-joined =
         let h : Happened O.Command O.Op O.Edit EditFault = record { event = Join; reply = Joined i } in
-        let mades : (j : ℕ) → made j (w.trace ++ h ∷ []) ≡ made j w.trace = λ j. made-end j w.trace h ∙ append-nil (made j w.trace) in
-        let joins : (j : ℕ) → joined_at O j (w.trace ++ h ∷ []) ≡ cond (nat_eq i j) (length w.star.order) (joined_at O j w.trace) = λ j. joined-end O j w.trace h ∙ ap (λ os. cond (nat_eq i j) (length os) (joined_at O j w.trace)) s.order_is in
-        let showns : (j : ℕ) → shown_count j (w.trace ++ h ∷ []) ≡ shown_count j w.trace = λ j. shown-end j w.trace h ∙ add-zero (shown_count j w.trace) in
+        let mades : (j : ℕ) → made j (w.trace ++ h ∷ []) ≡ made j w.trace = λ j. trace_ends.made-end j w.trace h ∙ append-nil (made j w.trace) in
+        let joins : (j : ℕ) → joined_at O j (w.trace ++ h ∷ []) ≡ cond (nat_eq i j) (length w.star.order) (joined_at O j w.trace) = λ j. trace_ends.joined-end O j w.trace h ∙ ap (λ os. cond (nat_eq i j) (length os) (joined_at O j w.trace)) s.order_is in
+        let showns : (j : ℕ) → shown_count j (w.trace ++ h ∷ []) ≡ shown_count j w.trace = λ j. trace_ends.shown-end j w.trace h ∙ add-zero (shown_count j w.trace) in
         record {
-          order_is = order-end O w.trace h ∙ append-nil (order_of O w.trace) ∙ s.order_is;
+          order_is = trace_ends.order-end O w.trace h ∙ append-nil (order_of O w.trace) ∙ s.order_is;
           keeps = s.keeps;
           star = star-joined O L most (O.t.content w.opening) w.star s.star;
           stand = λ j. subst (λ es. StandsAt O most (O.t.content w.opening) (turns j w.star.order) w.star.board es (joined_at O j (w.trace ++ h ∷ [])) (shown_count j (w.trace ++ h ∷ [])) j (link_of j (joined w.star).links) (attached j (w.sites ++ new_site O w i ∷ []))) (sym (mades j))
@@ -240,15 +159,15 @@ module _ (O : Operations) (L : AreLawful O) where
   sound-told most w event reply links sites s e stands none star =
       let h : Happened O.Command O.Op O.Edit EditFault = record { event = event; reply = reply } in
       record {
-        order_is = order-end O w.trace h ∙ ap (λ es. order_of O w.trace ++ es) e ∙ append-nil (order_of O w.trace) ∙ s.order_is;
+        order_is = trace_ends.order-end O w.trace h ∙ ap (λ es. order_of O w.trace ++ es) e ∙ append-nil (order_of O w.trace) ∙ s.order_is;
         keeps = s.keeps;
         star = star;
-        stand = λ i. subst (λ es. StandsAt O most (O.t.content w.opening) (turns i w.star.order) w.star.board es (joined_at O i (w.trace ++ h ∷ [])) (shown_count i (w.trace ++ h ∷ [])) i (found (λ l. l.site) i links) (attached i sites)) (sym (made-end i w.trace h))
-            (subst (λ k. StandsAt O most (O.t.content w.opening) (turns i w.star.order) w.star.board (made i w.trace ++ edit_made i event reply) k (shown_count i (w.trace ++ h ∷ [])) i (found (λ l. l.site) i links) (attached i sites)) (sym (joined-end O i w.trace h))
+        stand = λ i. subst (λ es. StandsAt O most (O.t.content w.opening) (turns i w.star.order) w.star.board es (joined_at O i (w.trace ++ h ∷ [])) (shown_count i (w.trace ++ h ∷ [])) i (found (λ l. l.site) i links) (attached i sites)) (sym (trace_ends.made-end i w.trace h))
+            (subst (λ k. StandsAt O most (O.t.content w.opening) (turns i w.star.order) w.star.board (made i w.trace ++ edit_made i event reply) k (shown_count i (w.trace ++ h ∷ [])) i (found (λ l. l.site) i links) (attached i sites)) (sym (trace_ends.joined-end O i w.trace h))
             (subst (λ k. StandsAt O most (O.t.content w.opening) (turns i w.star.order) w.star.board (made i w.trace ++ edit_made i event reply) (join_seen i (length (order_of O w.trace)) (joined_at O i w.trace) event reply) k i (found (λ l. l.site) i links) (attached i sites))
-            (sym (shown-end i w.trace h)) (stands i)));
-        no_edit = λ i g. made-end i w.trace h ∙ ap (λ es. made i w.trace ++ es) (none i g).0 ∙ append-nil (made i w.trace) ∙ s.no_edit i g;
-        no_shown = λ i g. shown-end i w.trace h ∙ ap (λ k. shown_count i w.trace + k) (none i g).1 ∙ add-zero (shown_count i w.trace) ∙ s.no_shown i g;
+            (sym (trace_ends.shown-end i w.trace h)) (stands i)));
+        no_edit = λ i g. trace_ends.made-end i w.trace h ∙ ap (λ es. made i w.trace ++ es) (none i g).0 ∙ append-nil (made i w.trace) ∙ s.no_edit i g;
+        no_shown = λ i g. trace_ends.shown-end i w.trace h ∙ ap (λ k. shown_count i w.trace + k) (none i g).1 ∙ add-zero (shown_count i w.trace) ∙ s.no_shown i g;
         no_entry = s.no_entry;
       }
 
@@ -282,7 +201,7 @@ module _ (O : Operations) (L : AreLawful O) where
           (λ j ol oa. StandsAt O most (O.t.content w.opening) (turns j w.star.order) w.star.board (made j w.trace ++ cond (nat_eq i j) (O.t.edit_of op ∷ []) []) (joined_at O j w.trace) (shown_count j w.trace) j ol oa)
           i (λ k. k) (λ b. with_edit O op b) (λ k. refl) (λ b. refl) w.star.links w.sites l (Some a) fl fa
           (subst (λ es. Standing O most (O.t.content w.opening) (turns i w.star.order) w.star.board (made i w.trace ++ es) (joined_at O i w.trace) (shown_count i w.trace) i l (with_edit O op a)) (some (nat_eq i i) (eq-eqb i i refl))
-          (stand-makes O L most (O.t.content w.opening) (turns i w.star.order) w.star.board (made i w.trace) (joined_at O i w.trace) (shown_count i w.trace) i l a (standing O L most w s i l a fl fa) command op ok (order_fits O L most w s i l a fl fa) s.star.counted))
+          (places.stand-makes O L most (O.t.content w.opening) (turns i w.star.order) w.star.board (made i w.trace) (joined_at O i w.trace) (shown_count i w.trace) i l a (trace_ends.standing O L most w s i l a fl fa) command op ok (trace_ends.order_fits O L most w s i l a fl fa) s.star.counted))
           (λ k e. subst (λ es. StandsAt O most (O.t.content w.opening) (turns k w.star.order) w.star.board es (joined_at O k w.trace) (shown_count k w.trace) k (found (λ l. l.site) k w.star.links) (attached k w.sites))
           (sym (ap (λ es. made k w.trace ++ es) (none (nat_eq i k) e) ∙ append-nil (made k w.trace))) (s.stand k)) j)
 
@@ -292,7 +211,7 @@ module _ (O : Operations) (L : AreLawful O) (most : ℕ) (w : WorldOf O) (s : Is
     (m : Msg O.Op) (gone : ℕ) (falling : List (Down O.Op)) (comes : downs (a.down ++ l.outbox) ≡ sent m ∷ downs (falling ++ drop gone l.outbox)) where
   -- the site at its place of the order
   pub st : Standing O most (O.t.content w.opening) (turns i w.star.order) w.star.board (made i w.trace) (joined_at O i w.trace) (shown_count i w.trace) i l a
-  st = standing O L most w s i l a fl fa
+  st = trace_ends.standing O L most w s i l a fl fa
 
   -- how many entries have reached it
   abbrev pub t : ℕ
@@ -300,7 +219,7 @@ module _ (O : Operations) (L : AreLawful O) (most : ℕ) (w : WorldOf O) (s : Is
 
   -- there is room for what may still come
   pub fits : length (take t (turns i w.star.order) ++ drop t (turns i w.star.order)) + most_beyond ≤ most
-  fits = subst (λ us. length us + most_beyond ≤ most) (sym (take-append-drop t (turns i w.star.order))) (order_fits O L most w s i l a fl fa)
+  fits = subst (λ us. length us + most_beyond ≤ most) (sym (take-append-drop t (turns i w.star.order))) (trace_ends.order_fits O L most w s i l a fl fa)
 
   -- in the star's order too
   order_room : length w.star.order + most_beyond ≤ most
@@ -312,7 +231,7 @@ module _ (O : Operations) (L : AreLawful O) (most : ℕ) (w : WorldOf O) (s : Is
 
   -- an attached site receives nothing that it refuses
   pub shown_fits : deliver_fault O (DownOp m) a.site ≡ None
-  shown_fits = place-fits O L most (O.t.content w.opening) w.star (made i w.trace) i (joined_at O i w.trace) (shown_count i w.trace) l a st order_room (DownOp m) gone falling comes
+  shown_fits = places.place-fits O L most (O.t.content w.opening) w.star (made i w.trace) i (joined_at O i w.trace) (shown_count i w.trace) l a st order_room (DownOp m) gone falling comes
 
   -- so the world is sound
   pub sound-shown : IsSound O most (after_event O L w (fetched i gone w.star) (at_site i (λ b. one_handed O (DownOp m) falling b) w.sites) (MoveDown i) Shown)
@@ -340,7 +259,7 @@ module _ (O : Operations) (L : AreLawful O) (most : ℕ) (w : WorldOf O) (s : Is
           (λ j ol oa. StandsAt O most (O.t.content w.opening) (turns j w.star.order) w.star.board (made j w.trace) (joined_at O j w.trace) (shown_count j w.trace + cond (nat_eq i j) 1 0) j ol oa)
           i (link_fetched gone) (λ b. one_handed O (DownOp m) falling b) (λ k. refl) (λ b. refl) w.star.links w.sites l (Some a) fl fa
           (subst (λ k. Standing O most (O.t.content w.opening) (turns i w.star.order) w.star.board (made i w.trace) (joined_at O i w.trace) (shown_count i w.trace + k) i (link_fetched gone l) (one_handed O (DownOp m) falling a)) (one (nat_eq i i) (eq-eqb i i refl))
-          (place-shown O L most (O.t.content w.opening) w.star (made i w.trace) i (joined_at O i w.trace) (shown_count i w.trace) l a st order_room m gone falling comes))
+          (places.place-shown O L most (O.t.content w.opening) w.star (made i w.trace) i (joined_at O i w.trace) (shown_count i w.trace) l a st order_room m gone falling comes))
           (λ j e. subst (λ k. StandsAt O most (O.t.content w.opening) (turns j w.star.order) w.star.board (made j w.trace) (joined_at O j w.trace) k j (found (λ l. l.site) j w.star.links) (attached j w.sites))
           (sym (ap (λ k. shown_count j w.trace + k) (none (nat_eq i j) e) ∙ add-zero (shown_count j w.trace))) (s.stand j))
 
@@ -372,7 +291,7 @@ module _ (O : Operations) (L : AreLawful O) (most : ℕ) (w : WorldOf O) (s : Is
   others_sent j apart None (Some b) g = absurd g
   others_sent j apart (Some k) None g = tt
   others_sent j apart (Some k) (Some b) g =
-      place-sent O L most (O.t.content w.opening) w.star (made j w.trace) j (joined_at O j w.trace) (shown_count j w.trace) k b g star_room s.star.counted i m op
+      places.place-sent O L most (O.t.content w.opening) w.star (made j w.trace) j (joined_at O j w.trace) (shown_count j w.trace) k b g star_room s.star.counted i m op
       (valid O L most (O.t.content w.opening) w.star s.star i l fl m none)
       (same O L most (O.t.content w.opening) w.star s.star i l fl m none)
       (inserts O L most (O.t.content w.opening) w.star s.star i l fl m none)
@@ -390,17 +309,17 @@ module _ (O : Operations) (L : AreLawful O) (most : ℕ) (w : WorldOf O) (s : Is
     h = record { event = e; reply = Taken (length w.star.order) }
 
     mades : (j : ℕ) → made j (w.trace ++ h ∷ []) ≡ made j w.trace
-    mades j = made-end j w.trace h ∙ ap (λ es. made j w.trace ++ es) (brought_made O w brought (Taken (length w.star.order)) j) ∙ append-nil (made j w.trace)
+    mades j = trace_ends.made-end j w.trace h ∙ ap (λ es. made j w.trace ++ es) (brought_made O w brought (Taken (length w.star.order)) j) ∙ append-nil (made j w.trace)
 
     showns : (j : ℕ) → shown_count j (w.trace ++ h ∷ []) ≡ shown_count j w.trace
-    showns j = shown-end j w.trace h ∙ ap (λ k. shown_count j w.trace + k) (brought_shown O w brought (Taken (length w.star.order)) j) ∙ add-zero (shown_count j w.trace)
+    showns j = trace_ends.shown-end j w.trace h ∙ ap (λ k. shown_count j w.trace + k) (brought_shown O w brought (Taken (length w.star.order)) j) ∙ add-zero (shown_count j w.trace)
 
     -- what the trace says of a site stays the same
     renamed : (j : ℕ) (ol : Option (LinkState O.Op)) (oa : Option (AttachedOf O)) → Stands j (made j w.trace) (joined_at O j w.trace) (shown_count j w.trace) ol oa
         → Stands j (made j (w.trace ++ h ∷ [])) (joined_at O j (w.trace ++ h ∷ [])) (shown_count j (w.trace ++ h ∷ [])) ol oa
     renamed j ol oa g =
         subst (λ es. Stands j es (joined_at O j (w.trace ++ h ∷ [])) (shown_count j (w.trace ++ h ∷ [])) ol oa) (sym (mades j))
-        (subst (λ k. Stands j (made j w.trace) k (shown_count j (w.trace ++ h ∷ [])) ol oa) (sym (joined-end O j w.trace h ∙ brought_join O w brought (Taken (length w.star.order)) j _ _))
+        (subst (λ k. Stands j (made j w.trace) k (shown_count j (w.trace ++ h ∷ [])) ol oa) (sym (trace_ends.joined-end O j w.trace h ∙ brought_join O w brought (Taken (length w.star.order)) j _ _))
         (subst (λ n. Stands j (made j w.trace) (joined_at O j w.trace) n ol oa) (sym (showns j)) g))
 
     -- so the world is sound, if the order is the one that the trace gives, and the site and its link are sound
@@ -429,8 +348,8 @@ module _ (O : Operations) (L : AreLawful O) (most : ℕ) (w : WorldOf O) (s : Is
   pub sound-taken : (oa : Option (AttachedOf O)) → attached i w.sites ≡ oa → (e : EventOf O) → Brings O w i (UpOp m) oa e
       → IsSound O most (after_event O L w (taken O i (UpOp m) l w.star) (at_site i (one_taken O) w.sites) e (Taken (length w.star.order)))
   sound-taken oa fa e (Rises a us rising) = sound-brought (Some a) fa (MoveUp i) (Rises a us rising)
-      (order_told O L most w s i l a fl fa m us rising)
-      (place-taken O L most (O.t.content w.opening) w.star (made i w.trace) i (joined_at O i w.trace) (shown_count i w.trace) l a (standing O L most w s i l a fl fa) star_room m us rising)
+      (trace_ends.order_told O L most w s i l a fl fa m us rising)
+      (places.place-taken O L most (O.t.content w.opening) w.star (made i w.trace) i (joined_at O i w.trace) (shown_count i w.trace) l a (trace_ends.standing O L most w s i l a fl fa) star_room m us rising)
   sound-taken oa fa e Strays = sound-brought None fa (Stray i (UpOp m)) Strays
-      (order-end O w.trace (record { event = Stray i (UpOp m); reply = Taken (length w.star.order) }) ∙ ap (λ es. es ++ entry O i m ∷ []) s.order_is)
+      (trace_ends.order-end O w.trace (record { event = Stray i (UpOp m); reply = Taken (length w.star.order) }) ∙ ap (λ es. es ++ entry O i m ∷ []) s.order_is)
       tt

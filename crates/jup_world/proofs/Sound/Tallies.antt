@@ -1,111 +1,17 @@
 -- The counts of links and of traces.
-use Rattle.std.proofs.Common.{◌≡◌, ℕ, ◌+◌, Bool, true, false, List, [], ◌∷◌, ◌++◌, drop, refl, ap, sym, ◌∙◌, None, arith, length-append, append_assoc, leb-true, leb-false, if◌then◌else◌, ◌<◌, length, subst, Option, Some, option_map, take, take-append-drop, eq-eqb, cond, not, map, filter, nat_eq, append-nil, eqb-true}
-use Rattle.std.proofs.lemmas.Bool.{and_parts}
-use Rattle.jup_world.specs.Prelude.{answer_after, Ghosts, Msg, Link, IsCount, generated, accepts_count, after_ack, answered, owes, next_message, Comes, InStepAt, Operations, AreLawful, Down, DownOp, DownAck, DownPong, SiteBadOp as BadOp, UpOp, UpAck, UpPing, test, LinkState, link_acked, link_ponged, link_fetched, link_sent, link_heard, end_after, without, opened_link, operation_at, link_of, at_link, joined, running_test, heard_tests, deliver_tests, fits_shown, deliver_fault, ups, downs, found-end, found-end_other, EditFault, AllByRecursion, Joined, Made}
-use Rattle.jup_link.specs.Laws.Steps.{generated-after_count, generated-after_receive, client_generated}
-use Rattle.jup_star.proofs.FaultTests.{all_hold}
-use Rattle.jup_world.specs.Worlds.{AttachedOf, with_edit, one_taken, one_handed, pinged, WorldOf, EventOf, attached, at_site, without_site, Outcome, new_site, with_fetched, only_fetched, outcome, happens, run, ReplyOf, is_number, unchanged}
-use Rattle.jup_world.specs.Traces.{made, told_count, Counts, turns, joined_at, shown_count, CountsAt, AllCount, BacklogIsShort, edit_made, gives, numbers_given, CountsItsEdits, IsTallied, Tallies}
+use Rattle.std.proofs.Common.{◌≡◌, ℕ, ◌+◌, Bool, true, false, List, [], ◌∷◌, ◌++◌, drop, refl, ap, sym, ◌∙◌, None, arith, length-append, append_assoc, if◌then◌else◌, ◌<◌, length, subst, Option, Some, option_map, take, take-append-drop, eq-eqb, cond, not, map, filter, nat_eq, append-nil, eqb-true}
+use Rattle.jup_world.specs.Prelude.{answer_after, InStepAt, Operations, AreLawful, DownOp, DownAck, DownPong, UpOp, UpAck, UpPing, LinkState, link_acked, link_ponged, link_fetched, link_sent, link_heard, without, opened_link, operation_at, link_of, at_link, joined, ups, downs, found-end, found-end_other, EditFault, AllByRecursion, Joined, Made}
+use Rattle.jup_link.specs.Laws.Steps.{client_generated}
+use Rattle.jup_world.specs.Worlds.{AttachedOf, with_edit, one_taken, one_handed, pinged, with_fetched, WorldOf, EventOf, attached, at_site, without_site, Outcome, new_site, only_fetched, outcome, happens, run, ReplyOf, is_number, unchanged}
+use Rattle.jup_world.specs.Traces.{made, joined_at, shown_count, CountsAt, AllCount, BacklogIsShort, edit_made, gives, numbers_given, CountsItsEdits, IsTallied, Tallies, told_count, Counts, turns}
 use Rattle.jup_world.specs.Sound.{Standing, IsSound}
 use Rattle.jup_world.specs.Events.{Join, Edit as MakeEdit, Down as MoveDown, Ping as SendPing, JoinStray, Happened}
-use Rattle.jup_world.proofs.EventSteps.{map_kept, by_number, at_one, at_all, at_removal, StepOf, Still, Enters, EntersStray, Goes, Makes, Asks, Takes, Hands, handed_number, step_of, WhyStill, Finds, NotJoined, NoStray, NotMade, WhyGone, Leaves, StrayLeaves, IsDropped, still_silent, gone_silent, brought_made}
+use Rattle.jup_site.proofs.Numbers.{map_kept, by_number, at_one, at_all, at_removal}
+use Rattle.jup_world.proofs.EventSteps.{StepOf, Still, Enters, EntersStray, Goes, Makes, Asks, Takes, Hands, handed_number, step_of, WhyStill, Finds, NotJoined, NoStray, NotMade, WhyGone, Leaves, StrayLeaves, IsDropped, still_silent, gone_silent, brought_made}
 use Rattle.jup_world.proofs.Sound.Runs.{sound-happens}
 use Rattle.jup_world.proofs.Sound.Steps.{no_site}
 use Rattle.jup_world.proofs.Sound.Traces.{standing_of, made-end}
-
--- What each step of a link and its site does to their counts.
-
--- counts received one list after another
-pub told_count-append : {Op : Type 0} → (n : ℕ) (ds es : List (Down Op)) → told_count n (ds ++ es) ≡ told_count (told_count n ds) es
-told_count-append n [] es = refl
-told_count-append n (DownOp m ∷ ds) es = told_count-append m.heard ds es
-told_count-append n (DownAck k ∷ ds) es = told_count-append k ds es
-told_count-append n (DownPong k ∷ ds) es = told_count-append n ds es
-
--- one more message at the end of an outbox
-pub told_last : {Op : Type 0} → (n : ℕ) (ds os es : List (Down Op)) → told_count n (ds ++ (os ++ es)) ≡ told_count (told_count n (ds ++ os)) es
-told_last n ds os es = ap (told_count n) (sym (append_assoc ds os es)) ∙ told_count-append n (ds ++ os) es
-
--- a stream without messages brings no operation
-pub no_operations : {Op State Edit : Type 0} → (t : Ghosts Op State Edit) (n k : ℕ) (before ahead : List Op) → Comes t n k before [] ahead → ahead ≡ []
-no_operations t n k before [] comes = refl
-no_operations t n k before (o ∷ os) comes = absurd comes
-
--- a count that a test accepts
-pub count_of : {Op : Type 0} → (l : Link Op) (n : ℕ) → accepts_count l n ≡ true → IsCount l n
-count_of l n test = let two = and_parts _ _ test in record { low = leb-true _ _ two.0; high = leb-true _ _ two.1 }
-
-module _ (O : Operations) (L : AreLawful O) where
-  -- a site that edits
-  pub edit_counts : (l : LinkState O.Op) (a : AttachedOf O) (op : O.Op) → Counts O l a → Counts O l (with_edit O op a)
-  edit_counts l a op c = record { short = c.short; told = c.told; sent = omega (arith, c.sent, length-append a.site.end.outgoing (op ∷ [])) }
-
-  -- a link to which another site's edit is sent: its message bears the count
-  pub sent_counts : (l : LinkState O.Op) (a : AttachedOf O) (op : O.Op) → Counts O l a → Counts O (link_sent op l) a
-  sent_counts l a op c = record {
-    short = omega arith;
-    told = omega (arith, told_last a.site.end.acknowledged a.down l.outbox (DownOp (next_message l.end op) ∷ []));
-    sent = c.sent;
-  }
-
-  -- a link that hears its site's edit: it acknowledges if `answer_after` are unanswered
-  pub heard_counts : (l : LinkState O.Op) (a : AttachedOf O) (m : Msg O.Op) → Counts O l a → Counts O (link_heard O m l) (one_taken O a)
-  heard_counts l a m c = cases (owes (l.end.unanswered + 1)) refl
-    where
-      cases : (b : Bool) → owes (l.end.unanswered + 1) ≡ b
-          → Counts O (record { site = l.site; end = if b then after_ack (end_after O l.end m) else end_after O l.end m; outbox = l.outbox ++ (if b then DownAck (l.end.received + 1) ∷ [] else []); named = l.named + O.insertions (O.t.edit_of m.op) }) (one_taken O a)
-      cases true due = record { short = omega arith; told = omega (arith, told_last a.site.end.acknowledged a.down l.outbox (DownAck (l.end.received + 1) ∷ [])); sent = c.sent }
-      cases false paid = record {
-        short = let few = leb-false answer_after (l.end.unanswered + 1) paid in omega (arith, few);
-        told = omega (arith, told_last a.site.end.acknowledged a.down l.outbox [], c.told);
-        sent = c.sent;
-      }
-
-  -- a ping that is answered
-  pub ponged_counts : (l : LinkState O.Op) (a : AttachedOf O) (k : ℕ) → Counts O l a → Counts O (link_ponged k l) (one_taken O a)
-  ponged_counts l a k c = record { short = c.short; told = omega (arith, told_last a.site.end.acknowledged a.down l.outbox (DownPong k ∷ []), c.told); sent = c.sent }
-
-  -- an acknowledgement that is taken
-  pub acked_counts : (l : LinkState O.Op) (a : AttachedOf O) (n : ℕ) → Counts O l a → Counts O (link_acked n l) (one_taken O a)
-  acked_counts l a n c = record { short = c.short; told = c.told; sent = c.sent }
-
-  -- a site that sends a ping
-  pub pinged_counts : (l : LinkState O.Op) (a : AttachedOf O) (k : ℕ) → Counts O l a → Counts O l (pinged O k a)
-  pinged_counts l a k c = record { short = c.short; told = c.told; sent = c.sent }
-
-  -- an end that answers has acknowledged and generated what it had
-  pub same_answered : (P : Link O.Op → Type 0) (e : Link O.Op) → P (after_ack e) → P e → P (answered e)
-  same_answered P e paid unpaid = cases (owes e.unanswered)
-    where
-      cases : (b : Bool) → P (if b then after_ack e else e)
-      cases true = paid
-      cases false = unpaid
-
-  -- a site that receives its oldest message
-  pub handed_counts : (l : LinkState O.Op) (a : AttachedOf O) (gone : ℕ) (d : Down O.Op) (ds : List (Down O.Op)) → a.down ++ l.outbox ≡ d ∷ (ds ++ drop gone l.outbox) → deliver_fault O d a.site ≡ None
-      → Counts O l a → Counts O (link_fetched gone l) (one_handed O d ds a)
-  handed_counts l a gone (DownOp m) ds e none c = record {
-    short = c.short;
-    told = same_answered (λ x. told_count x.acknowledged (ds ++ drop gone l.outbox) + l.end.unanswered ≡ l.end.received) (end_after O a.site.end m) told told;
-    sent = same_answered (λ x. a.site.made ≡ generated x) (end_after O a.site.end m) sent sent;
-  }
-    where
-      told : told_count m.heard (ds ++ drop gone l.outbox) + l.end.unanswered ≡ l.end.received
-      told = sym (ap (λ x. told_count a.site.end.acknowledged x + l.end.unanswered) e) ∙ c.told
-
-      sent : a.site.made ≡ generated (end_after O a.site.end m)
-      sent = c.sent ∙ sym (generated-after_receive O.t a.site.end m.heard m.op
-          (count_of a.site.end m.heard (all_hold (deliver_tests O a.site m ++ test (fits_shown O a.site m) BadOp ∷ []) none).1.1.0))
-  handed_counts l a gone (DownAck n) ds e none c = record {
-    short = c.short;
-    told = sym (ap (λ x. told_count a.site.end.acknowledged x + l.end.unanswered) e) ∙ c.told;
-    sent = c.sent ∙ sym (generated-after_count O.t a.site.end n (count_of a.site.end n (all_hold (running_test a.site ∷ heard_tests a.site.end n) none).1.0));
-  }
-  handed_counts l a gone (DownPong k) ds e none c = record {
-    short = c.short;
-    told = sym (ap (λ x. told_count a.site.end.acknowledged x + l.end.unanswered) e) ∙ c.told;
-    sent = c.sent;
-  }
+use Rattle.jup_site.proofs.Counts as counting
 
 -- Each event keeps the counts of every link.
 
@@ -135,7 +41,7 @@ module _ (O : Operations) (L : AreLawful O) where
 
     -- an edit is sent to each other link
     sent_on : (op : O.Op) (ol : Option (LinkState O.Op)) (oa : Option (AttachedOf O)) → CountsAt O ol oa → CountsAt O (option_map (link_sent op) ol) oa
-    sent_on op (Some l) (Some a) c = sent_counts O L l a op c
+    sent_on op (Some l) (Some a) c = counting.sent_counts O L l a op c
     sent_on op (Some l) None c = tt
     sent_on op None (Some a) c = tt
     sent_on op None None c = tt
@@ -178,19 +84,19 @@ module _ (O : Operations) (L : AreLawful O) where
       (subst (λ o. CountsAt O (link_of (w.star.given + 1) (w.star.links ++ opened_link (w.star.given + 1) ∷ [])) o) (sym (no_site O L most w s (w.star.given + 1) refl)) (no_counts (link_of (w.star.given + 1) (w.star.links ++ opened_link (w.star.given + 1) ∷ []))))
       (λ j e. subst (λ o. CountsAt O o (attached j w.sites)) (sym (found-end_other (λ k. k.site) j w.star.links (opened_link (w.star.given + 1)) e)) (all j))
   counts-step most w s all e o (Goes i l oa fl fa why) = without_one w all i
-  counts-step most w s all e o (Makes i command l a op fl fa ok) = site_only w all i (with_edit O op) l a (λ b. refl) fl fa (edit_counts O L l a op (here_of w all i l a fl fa))
-  counts-step most w s all e o (Asks i k l a fl fa) = site_only w all i (pinged O k) l a (λ b. refl) fl fa (pinged_counts O L l a k (here_of w all i l a fl fa))
+  counts-step most w s all e o (Makes i command l a op fl fa ok) = site_only w all i (with_edit O op) l a (λ b. refl) fl fa (counting.edit_counts O L l a op (here_of w all i l a fl fa))
+  counts-step most w s all e o (Asks i k l a fl fa) = site_only w all i (pinged O k) l a (λ b. refl) fl fa (counting.pinged_counts O L l a k (here_of w all i l a fl fa))
   counts-step most w s all e o (Takes i l oa (UpOp m) fl fa brought none) =
       at_all (λ k. k.site) (λ b. b.site.number) (λ j ol oa. CountsAt O ol oa) i (link_heard O m) (link_sent (operation_at O l.end m)) (one_taken O)
-      (λ k. refl) (λ k. refl) (λ b. refl) w.star.links w.sites l oa fl fa (taken_counts w all i l oa fl fa (link_heard O m l) (λ a c. heard_counts O L l a m c))
+      (λ k. refl) (λ k. refl) (λ b. refl) w.star.links w.sites l oa fl fa (taken_counts w all i l oa fl fa (link_heard O m l) (λ a c. counting.heard_counts O L l a m c))
       (λ j e. sent_on w all (operation_at O l.end m) (link_of j w.star.links) (attached j w.sites) (all j))
   counts-step most w s all e o (Takes i l oa (UpAck n) fl fa brought none) =
       at_one (λ k. k.site) (λ b. b.site.number) (λ j ol oa. CountsAt O ol oa) i (link_acked n) (one_taken O) (λ k. refl) (λ b. refl) w.star.links w.sites l oa fl fa
-      (taken_counts w all i l oa fl fa (link_acked n l) (λ a c. acked_counts O L l a n c)) (λ j e. all j)
+      (taken_counts w all i l oa fl fa (link_acked n l) (λ a c. counting.acked_counts O L l a n c)) (λ j e. all j)
   counts-step most w s all e o (Takes i l oa (UpPing k) fl fa brought none) =
       at_one (λ k. k.site) (λ b. b.site.number) (λ j ol oa. CountsAt O ol oa) i (link_ponged k) (one_taken O) (λ k. refl) (λ b. refl) w.star.links w.sites l oa fl fa
-      (taken_counts w all i l oa fl fa (link_ponged k l) (λ a c. ponged_counts O L l a k c)) (λ j e. all j)
-  counts-step most w s all e o (Hands i gone l a d ds fl fa falls none) = with_one w all i (link_fetched gone) (one_handed O d ds) l a (λ k. refl) (handed_number O d ds) fl fa (handed_counts O L l a gone d ds falls none (here_of w all i l a fl fa))
+      (taken_counts w all i l oa fl fa (link_ponged k l) (λ a c. counting.ponged_counts O L l a k c)) (λ j e. all j)
+  counts-step most w s all e o (Hands i gone l a d ds fl fa falls none) = with_one w all i (link_fetched gone) (one_handed O d ds) l a (λ k. refl) (handed_number O d ds) fl fa (counting.handed_counts O L l a gone d ds falls none (here_of w all i l a fl fa))
 
   -- each event keeps the counts
   pub counts-happens : (most : ℕ) (w : WorldOf O) → IsSound O most w → AllCount O w → (e : EventOf O) → AllCount O (happens O w e)
@@ -221,7 +127,7 @@ module _ (O : Operations) (L : AreLawful O) where
           → Counts O l a → (a.up ≡ []) × (a.down ≡ []) × (l.outbox ≡ []) → length a.site.end.outgoing < answer_after
       level i a l st c q =
           let step = subst (λ r. InStepAt O.t 0 st.pair.from st.pair.site_ahead st.pair.star_ahead a.site.board w.star.board a.site.end l.end r (downs (a.down ++ l.outbox))) (ap ups q.0) st.pair.in_step in
-          let none : st.pair.site_ahead ≡ [] = no_operations O.t l.end.received l.end.acknowledged step.far_queue.before st.pair.site_ahead step.far_queue.comes in
+          let none : st.pair.site_ahead ≡ [] = counting.no_operations O.t l.end.received l.end.acknowledged step.far_queue.before st.pair.site_ahead step.far_queue.comes in
           let told : a.site.end.acknowledged + l.end.unanswered ≡ l.end.received = sym (ap (λ x. told_count a.site.end.acknowledged x + l.end.unanswered) (ap (λ x. x ++ l.outbox) q.1 ∙ q.2)) ∙ c.told in
           omega (arith, told, c.short, client_generated O.t st.pair.in_step, ap length none)
 

@@ -1,5 +1,4 @@
-use Rattle.std.proofs.Common.{◌≡◌, true, false, inl, inr, [], ◌∷◌, ◌++◌, List, ℕ, length, sym, ap, subst, ◌∙◌, arith, rules}
-use Rattle.std.proofs.lemmas.List.{length-append}
+use Rattle.std.proofs.Common.{◌≡◌, true, false, inl, inr, [], ◌∷◌, ◌++◌, List, ℕ, length, sym, ap, subst, ◌∙◌, arith, rules, length-append}
 use Rattle.jup_text.specs.declared.board_reader.UnreadLine.TheVariants.{BadLine, NoMemory}
 use Rattle.jup_text.specs.Boards.{Draft}
 use Rattle.jup_board.specs.Boards.{Lacks, IsReadTo, IsPrintOf, blank}

@@ -1,19 +1,19 @@
 use Rattle.std.proofs.Common.{inl, inr, false, refl, ◌∷◌, []}
 use Rattle.jup_served.proofs.Runs.{hub_honest}
-use Rattle.jup_served.proofs.Witness.{board, run_one, run_two, session_one, session_two, log, hub, served_one, served_two, drained, two_entries, said_two, client_first, client_last, walk_two}
+use Rattle.jup_served.proofs.Witness as witness
 use Rattle.jup_served.proofs.promises.served_runs_exist.Goals as goal
 
 pub returns : goal.returns
 returns c = record {
-  exists = (run_one, run_two, session_one ∷ session_two ∷ [], log, session_one, session_two, hub, inl refl, served_one, inr (inl refl), served_two, drained, (λ e. cc), two_entries);
+  exists = (witness.run_one, witness.run_two, witness.session_one ∷ witness.session_two ∷ [], witness.log, witness.session_one, witness.session_two, witness.hub, inl refl, witness.served_one, inr (inl refl), witness.served_two, witness.drained, (λ e. cc), witness.two_entries);
   client = (
-    run_two,
-    client_first,
-    client_last,
-    said_two,
-    hub_honest false board 9 (session_one ∷ session_two ∷ []) log hub run_two session_two (inr (inl refl)) served_two,
+    witness.run_two,
+    witness.client_first,
+    witness.client_last,
+    witness.said_two,
+    hub_honest false witness.board 9 (witness.session_one ∷ witness.session_two ∷ []) witness.log witness.hub witness.run_two witness.session_two (inr (inl refl)) witness.served_two,
     refl,
-    walk_two,
+    witness.walk_two,
     refl,
   );
 }

@@ -1,4 +1,4 @@
-use Rattle.jup_honest.proofs.Runs.{runs-agree}
+use Rattle.jup_honest.proofs.Relies.{runs-agree}
 use Rattle.jup_served.proofs.Hubs.{owned, closed}
 use Rattle.jup_served.proofs.Runs.{served_honest, hub_honest}
 use Rattle.jup_served.proofs.promises.served_sites_are_honest.Goals as goal

@@ -1,7 +1,6 @@
-use Rattle.std.proofs.Common.{◌≡◌, ◌<◌, length, get_or, set, [], map, ap, sym, ◌∙◌, refl, arith}
+use Rattle.std.proofs.Common.{◌≡◌, ◌<◌, length, get_or, set, [], map, ap, sym, ◌∙◌, refl, arith, remove, slice_get}
 use Rattle.std.proofs.lemmas.Grind.{common_steps}
 use Rattle.std.proofs.lemmas.List.{get_or_default, map-set}
-use Rattle.std.specs.Prelude.{remove, slice_get}
 use Rattle.jup_value.specs.Items.{joined}
 use Rattle.jup_value.proofs.Layouts.{set-take_in, joined-take_in, slice_get-joined, AreBlocks-take_in, AreBlocks-emptied, joined-emptied, table-emptied, take_in_rule, emptied_rule}
 use Rattle.jup_value.proofs.layout.take_item.Goals as goal

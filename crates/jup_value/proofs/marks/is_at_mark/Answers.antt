@@ -1,7 +1,5 @@
-use Rattle.std.proofs.Common.{◌≡◌, Some, None, eqb, false, refl, sym, ◌∙◌, rules, arith}
+use Rattle.std.proofs.Common.{◌≡◌, Some, None, eqb, false, refl, sym, ◌∙◌, rules, arith, eq-eqb, slice_get}
 use Rattle.std.proofs.lemmas.Grind.{common_steps}
-use Rattle.std.proofs.lemmas.Bool.{eq-eqb}
-use Rattle.std.specs.Prelude.{slice_get}
 use Rattle.jup_value.proofs.MarkLists.{marked_none, marked_some}
 use Rattle.jup_value.proofs.marks.is_at_mark.Goals as goal
 

@@ -1,6 +1,5 @@
-use Rattle.std.proofs.Common.{◌≡◌, Some, rules, arith}
+use Rattle.std.proofs.Common.{◌≡◌, Some, rules, arith, slice_get}
 use Rattle.std.proofs.lemmas.Grind.{common_steps}
-use Rattle.std.specs.Prelude.{slice_get}
 use Rattle.jup_value.proofs.MarkLists.{place_held, held_within}
 use Rattle.jup_value.proofs.marks.stands_at.Goals as goal
 

@@ -1,5 +1,4 @@
-use Rattle.std.proofs.Common.{◌-◌, sum, length, sym, ◌∙◌, ap, arith}
-use Rattle.std.proofs.lemmas.List.{take_all}
+use Rattle.std.proofs.Common.{◌-◌, sum, length, sym, ◌∙◌, ap, arith, take_all}
 use Rattle.jup_value.proofs.Layouts.{sum_between}
 use Rattle.jup_value.proofs.table.skip_from_back.Goals as goal
 

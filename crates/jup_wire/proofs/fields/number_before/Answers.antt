@@ -1,5 +1,4 @@
-use Rattle.std.proofs.Common.{sym, ap, ◌∙◌}
-use Rattle.std.proofs.lemmas.List.{take_all}
+use Rattle.std.proofs.Common.{sym, ap, ◌∙◌, take_all}
 use Rattle.jup_number.proofs.Numbers.{value_more}
 use Rattle.jup_wire.proofs.Spellings.{lacks}
 use Rattle.jup_wire.proofs.Streams.{field_at, field_none, field_ends, lacks_more}

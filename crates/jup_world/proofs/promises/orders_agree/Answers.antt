@@ -8,7 +8,7 @@ use Rattle.jup_world.specs.Happenings.{IsLaneWorld}
 use Rattle.jup_world.proofs.Worlds.{world_new, opened_sound, run_sound}
 use Rattle.jup_world.proofs.Lanes.Worlds.{tried_keeps}
 use Rattle.jup_world.proofs.Copies.Sites.{lane_past_stars, tried_copies, past_stars_opened, past_stars_run, run_copies}
-use Rattle.jup_world.proofs.Copies.Boards.{order_symmetric}
+use Rattle.jup_site.proofs.PastBoards.{order_symmetric}
 use Rattle.jup_world.proofs.promises.orders_agree.Goals as goal
 
 pub returns-clause-copies : goal.returns-clause-copies

@@ -1,7 +1,6 @@
-use Rattle.std.proofs.Common.{◌≡◌, ◌≤◌, true, length, ap, ◌∙◌, arith}
+use Rattle.std.proofs.Common.{◌≡◌, ◌≤◌, true, length, ap, ◌∙◌, arith, take_all}
 use Rattle.std.specs.Result.{is_ok}
 use Rattle.std.proofs.lemmas.Grind.{common_steps}
-use Rattle.std.proofs.lemmas.List.{take_all}
 use Rattle.jup_window.specs.Entries.{map_values}
 use Rattle.jup_window.proofs.BoardChanges.{IsTable-same, copied_more}
 use Rattle.jup_window.proofs.entries.Table.copy.Goals as goal

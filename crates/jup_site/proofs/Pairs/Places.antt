@@ -1,17 +1,17 @@
 -- A site keeps its place of the order.
 use Rattle.std.proofs.Common.{◌≡◌, ℕ, ◌+◌, ◌-◌, ◌≤◌, ◌⊎◌, inl, inr, Bool, true, false, cond, List, [], ◌∷◌, ◌++◌, length, nat_eq, refl, ap, sym, ◌∙◌, subst, arith, IsTrue, append_assoc, append-nil, length-append, le_refl, eq-eqb, zero, suc, take, drop, length-drop, add-one, Ok, take-append-drop, take-add, drop-drop, ◌<◌, Some, None}
 use Rattle.std.proofs.lemmas.List.{drop-append-le, take-append-le}
-use Rattle.jup_world.specs.Prelude.{most_beyond, AllApart, Msg, Message, IsCount, IsNumber, received_operation, after_receive, sent, InStepAt, after_count, Operations, AreLawful, Up, UpOp, UpAck, UpPing, Down, DownOp, DownAck, DownPong, LogFull, ups, downs, LinkState, operation_at, link_heard, link_sent, link_acked, link_ponged, link_fetched, StarOf, up_fault, entry, edit_answer, with_end, deliver_fault, AllByRecursion}
+use Rattle.jup_site.specs.Prelude.{most_beyond, AllApart, Msg, Message, IsCount, IsNumber, received_operation, after_receive, sent, InStepAt, after_count, Operations, AreLawful, Up, UpOp, UpAck, UpPing, Down, DownOp, DownAck, DownPong, LogFull, ups, downs, LinkState, operation_at, link_heard, link_sent, link_acked, link_ponged, link_fetched, StarOf, up_fault, entry, edit_answer, with_end, deliver_fault, AllByRecursion}
 use Rattle.jup_xform.specs.Laws.Grids.{length-row_entries}
 use Rattle.jup_link.specs.Laws.Steps.{small_next, server_receives, generated-after_receive, client_counts, server_counts}
-use Rattle.jup_world.specs.Traces.{Turn, Own, Other, edits, own_edits, others, through_others, turns}
-use Rattle.jup_world.specs.Sound.{SameMeaning, StandsFor, client_past_all, servers_past, RowStands, Shows, edits_sent, named_by, IsKnown, own_counts, ChangesKnown, ChangesHeld, Inherits, RawNamed, OrderNamed, Paired, told_of, Standing, named_in, edits_in}
-use Rattle.jup_world.specs.Worlds.{AttachedOf, with_edit, one_taken, one_handed, with_fetched}
-use Rattle.jup_world.proofs.Pairs.Grids.{stands-now, column-taken, own_edits-append, inserts_clients, inherits_servers, others-append, told_next, edits-append, first_rising, first_falling, next_other, pair-link_settles, pair-site_settles, pair-up_acked, pair-up_asked, pair-down_acked, pair-streams}
-use Rattle.jup_world.proofs.Pairs.Edits.{others_apart, pair-makes, pair-sent, shown_at, link_left, pair-shown, pair_fits}
-use Rattle.jup_world.proofs.Known.{held_more, named_by-append, own_counts-below, own_counts-more, known_more, known_own}
-use Rattle.jup_world.proofs.Sound.Traces.{through-append, through-next, others-left, through-within, turns-append, length-turns, edits-turns, named-turns}
-use Rattle.jup_world.proofs.Answers.{take_fits, take_ack, deliver_fits, deliver_ack, deliver_pong}
+use Rattle.jup_site.specs.Turns.{Turn, Own, Other, edits, own_edits, others, through_others, turns}
+use Rattle.jup_site.specs.Sound.{SameMeaning, StandsFor, client_past_all, servers_past, RowStands, Shows, edits_sent, named_by, IsKnown, own_counts, ChangesKnown, ChangesHeld, Inherits, RawNamed, OrderNamed, Paired, told_of, Standing, named_in, edits_in}
+use Rattle.jup_site.specs.Sites.{AttachedOf, with_edit, one_taken, one_handed, with_fetched}
+use Rattle.jup_site.proofs.Pairs.Grids as grids
+use Rattle.jup_site.proofs.Pairs.Edits as pairs
+use Rattle.jup_site.proofs.Known as known_names
+use Rattle.jup_site.proofs.Turns as order_turns
+use Rattle.jup_site.proofs.Fits as fitting
 
 -- The star takes an edit of a site: it and its link stay in step.
 
@@ -32,7 +32,7 @@ module _ (O : Operations) (L : AreLawful O) where
 
   -- the site named its insertions
   pub named_own : (i : ℕ) (ts : List (Turn O.Edit)) (e : O.Edit) → named_by O i i (ts ++ Own e ∷ []) ≡ named_by O i i ts + O.insertions e
-  named_own i ts e = named_by-append O L i i ts (Own e ∷ []) ∙ cases (nat_eq i i) (eq-eqb i i refl)
+  named_own i ts e = known_names.named_by-append O L i i ts (Own e ∷ []) ∙ cases (nat_eq i i) (eq-eqb i i refl)
     where
       cases : (b : Bool) → b ≡ true → named_by O i i ts + (cond b (O.insertions e) 0 + 0) ≡ named_by O i i ts + O.insertions e
       cases true f = omega arith
@@ -65,12 +65,12 @@ module _ (O : Operations) (L : AreLawful O) where
 
     -- what is on its way down is apart from it
     apart : AllApart O.t h.star_ahead c
-    apart = others_apart O L i past rest h.star_ahead c h.rest_named h.down_inherits
+    apart = pairs.others_apart O L i past rest h.star_ahead c h.rest_named h.down_inherits
         (λ n x. L.next_site i (named_by O i i (past ++ rest)) (O.t.edit_of m.op) n named.0 (inherits.0 n x))
 
     -- the operations still to be delivered, past it
     column : Shows O (edits past) (rest ++ Own (O.t.edit_of m.op) ∷ []) (servers_past O h.star_ahead c) × StandsFor O (O.t.edit_of (client_past_all O c h.star_ahead)) (O.t.edit_of m.op) (edits past ++ edits rest)
-    column = column-taken O L rest h.star_ahead (edits past) c (O.t.edit_of m.op) apart h.column row.0
+    column = grids.column-taken O L rest h.star_ahead (edits past) c (O.t.edit_of m.op) apart h.column row.0
 
     -- the operation that the star applies is the message's past all of them
     received_is : received_operation O.t l.end m.heard m.op ≡ client_past_all O c h.star_ahead
@@ -83,11 +83,11 @@ module _ (O : Operations) (L : AreLawful O) where
     -- it means the edit after the whole_taken order
     pub taken_same : SameMeaning O ((edits past ++ edits rest) ++ O.t.edit_of (received_operation O.t l.end m.heard m.op) ∷ []) ((edits past ++ edits rest) ++ O.t.edit_of m.op ∷ [])
     taken_same = subst (λ o. SameMeaning O ((edits past ++ edits rest) ++ O.t.edit_of o ∷ []) ((edits past ++ edits rest) ++ O.t.edit_of m.op ∷ [])) (sym received_is)
-        (stands-now O L _ _ (edits past ++ edits rest) column.1)
+        (grids.stands-now O L _ _ (edits past ++ edits rest) column.1)
 
     -- it inserts what the edit does
     pub taken_inserts : (n : O.t.Name) → O.t.inserts (O.t.edit_of (received_operation O.t l.end m.heard m.op)) n → O.t.inserts (O.t.edit_of m.op) n
-    taken_inserts n x = inherits.0 n (inserts_clients O L h.star_ahead c n (subst (λ o. O.t.inserts (O.t.edit_of o) n) received_is x))
+    taken_inserts n x = inherits.0 n (grids.inserts_clients O L h.star_ahead c n (subst (λ o. O.t.inserts (O.t.edit_of o) n) received_is x))
 
     -- the edit bears the site's next name
     pub taken_next : IsTrue (O.bears_next i (named_by O i i (past ++ rest)) (O.t.edit_of m.op))
@@ -99,10 +99,10 @@ module _ (O : Operations) (L : AreLawful O) where
 
     -- what it changes was known or is inserted
     pub taken_changes : ChangesHeld O (λ j. named_by O i j (past ++ rest)) (O.t.edit_of m.op)
-    taken_changes = held_more O L (own_counts O i (named_by O i i (past ++ rest)) (λ j. named_by O i j past)) (λ j. named_by O i j (past ++ rest)) below (O.t.edit_of m.op) named.2
+    taken_changes = known_names.held_more O L (own_counts O i (named_by O i i (past ++ rest)) (λ j. named_by O i j past)) (λ j. named_by O i j (past ++ rest)) below (O.t.edit_of m.op) named.2
       where
         below : (j : ℕ) → own_counts O i (named_by O i i (past ++ rest)) (λ j. named_by O i j past) j ≤ named_by O i j (past ++ rest)
-        below = own_counts-below O L i (named_by O i i (past ++ rest)) (λ j. named_by O i j past) (λ j. named_by O i j (past ++ rest)) (le_refl _) (λ j. omega (arith, named_by-append O L i j past rest))
+        below = known_names.own_counts-below O L i (named_by O i i (past ++ rest)) (λ j. named_by O i j past) (λ j. named_by O i j (past ++ rest)) (le_refl _) (λ j. omega (arith, known_names.named_by-append O L i j past rest))
 
     -- the ends are then in step
     stepped : InStepAt O.t 0 (O.t.after c h.from) cs (servers_past O h.star_ahead c) a.site.board (O.t.after (received_operation O.t l.end m.heard m.op) held)
@@ -118,7 +118,7 @@ module _ (O : Operations) (L : AreLawful O) where
 
     -- the site's list in the words of the new order
     moved : (edits past ++ own_edits (rest ++ Own (O.t.edit_of m.op) ∷ [])) ++ edits_sent O us ≡ (edits past ++ own_edits rest) ++ h.raw
-    moved = simp (own_edits-append, append_assoc) (ap (λ es. edits past ++ (own_edits rest ++ es)) (sym raw_is))
+    moved = simp (grids.own_edits-append, append_assoc) (ap (λ es. edits past ++ (own_edits rest ++ es)) (sym raw_is))
 
     -- the pair once the star took the edit
     pub pair-taken : Paired O most i first past (rest ++ Own (O.t.edit_of m.op) ∷ []) (O.t.after (received_operation O.t l.end m.heard m.op) held) mine (link_taken O l m) (taken_from O a rising)
@@ -134,12 +134,12 @@ module _ (O : Operations) (L : AreLawful O) where
       enough = omega (arith, h.enough, ap length whole_taken, length-append (past ++ rest) (Own (O.t.edit_of m.op) ∷ []), length-row_entries O.t.client_past O.t.server_past c h.star_ahead);
       raw = edits_sent O us;
       raw_sent = ap (edits_sent O) left;
-      row = subst (λ es. RowStands O es cs (edits_sent O us)) (append_assoc (edits past) (own_edits rest) (O.t.edit_of m.op ∷ []) ∙ ap (λ es. edits past ++ es) (sym (own_edits-append rest (Own (O.t.edit_of m.op) ∷ [])))) row.1;
+      row = subst (λ es. RowStands O es cs (edits_sent O us)) (append_assoc (edits past) (own_edits rest) (O.t.edit_of m.op ∷ []) ∙ ap (λ es. edits past ++ es) (sym (grids.own_edits-append rest (Own (O.t.edit_of m.op) ∷ [])))) row.1;
       column = column.0;
       all_made = h.all_made ∙ all_moved;
       shows = h.shows ∙ ap (O.t.meaning first) (sym moved);
       up_inherits = inherits.1;
-      down_inherits = subst (λ es. Inherits O (servers_past O h.star_ahead c) es) (sym (others-append rest (Own (O.t.edit_of m.op) ∷ []) ∙ append-nil (others rest))) (inherits_servers O L h.star_ahead c (others rest) h.down_inherits);
+      down_inherits = subst (λ es. Inherits O (servers_past O h.star_ahead c) es) (sym (grids.others-append rest (Own (O.t.edit_of m.op) ∷ []) ∙ append-nil (others rest))) (grids.inherits_servers O L h.star_ahead c (others rest) h.down_inherits);
       raw_named = subst (λ k. RawNamed O (λ j. named_by O i j past) i k (edits_sent O us) a.site.named) (sym (ap (named_by O i i) whole_taken ∙ named_own i (past ++ rest) (O.t.edit_of m.op))) named.3;
       rest_named = order_named-own i past rest (O.t.edit_of m.op) h.rest_named;
       board_known = h.board_known;
@@ -158,13 +158,13 @@ module _ (O : Operations) (L : AreLawful O) where
     }
       where
         from_held : (n : O.t.Name) → O.t.holds h.from n ⊎ O.t.inserts (O.t.edit_of c) n → IsKnown O (own_counts O i (named_by O i i (past ++ rest) + O.insertions (O.t.edit_of m.op)) (λ j. named_by O i j past)) n
-        from_held n (inl x) = known_more O L (own_counts O i (named_by O i i (past ++ rest)) (λ j. named_by O i j past)) (own_counts O i (named_by O i i (past ++ rest) + O.insertions (O.t.edit_of m.op)) (λ j. named_by O i j past)) n
-            (own_counts-more O L i (named_by O i i (past ++ rest)) (named_by O i i (past ++ rest) + O.insertions (O.t.edit_of m.op)) (λ j. named_by O i j past) (λ j. named_by O i j past) (omega arith) (λ j. le_refl _)) (h.from_known n x)
-        from_held n (inr x) = known_own O L i (named_by O i i (past ++ rest) + O.insertions (O.t.edit_of m.op)) (λ j. named_by O i j past) n
+        from_held n (inl x) = known_names.known_more O L (own_counts O i (named_by O i i (past ++ rest)) (λ j. named_by O i j past)) (own_counts O i (named_by O i i (past ++ rest) + O.insertions (O.t.edit_of m.op)) (λ j. named_by O i j past)) n
+            (known_names.own_counts-more O L i (named_by O i i (past ++ rest)) (named_by O i i (past ++ rest) + O.insertions (O.t.edit_of m.op)) (λ j. named_by O i j past) (λ j. named_by O i j past) (omega arith) (λ j. le_refl _)) (h.from_known n x)
+        from_held n (inr x) = known_names.known_own O L i (named_by O i i (past ++ rest) + O.insertions (O.t.edit_of m.op)) (λ j. named_by O i j past) n
             (L.next_site i (named_by O i i (past ++ rest)) (O.t.edit_of m.op) n named.0 (inherits.0 n x)) (L.next_within i (named_by O i i (past ++ rest)) (O.t.edit_of m.op) n named.0 (inherits.0 n x))
 
         all_moved : own_edits (past ++ rest) ++ h.raw ≡ own_edits (past ++ (rest ++ Own (O.t.edit_of m.op) ∷ [])) ++ edits_sent O us
-        all_moved = ap (λ es. own_edits (past ++ rest) ++ es) raw_is ∙ sym (ap (λ ts. own_edits ts ++ edits_sent O us) whole_taken ∙ ap (λ es. es ++ edits_sent O us) (own_edits-append (past ++ rest) (Own (O.t.edit_of m.op) ∷ []))
+        all_moved = ap (λ es. own_edits (past ++ rest) ++ es) raw_is ∙ sym (ap (λ ts. own_edits ts ++ edits_sent O us) whole_taken ∙ ap (λ es. es ++ edits_sent O us) (grids.own_edits-append (past ++ rest) (Own (O.t.edit_of m.op) ∷ []))
             ∙ append_assoc (own_edits (past ++ rest)) (O.t.edit_of m.op ∷ []) (edits_sent O us))
 
 -- A site at its place of the order, as the order grows and as it receives edits.
@@ -172,11 +172,11 @@ module _ (O : Operations) (L : AreLawful O) where
 module _ (O : Operations) (L : AreLawful O) where
   -- a longer order does not change what has reached a site
   pub told_end : (joined n : ℕ) (ts us : List (Turn O.Edit)) → joined ≤ length ts → n ≤ length (others (drop joined ts)) → told_of O joined n (ts ++ us) ≡ told_of O joined n ts
-  told_end joined n ts us h k = ap (λ k. joined + k) (ap (through_others n) (drop-append-le joined ts us h) ∙ through-append n (drop joined ts) us k)
+  told_end joined n ts us h k = ap (λ k. joined + k) (ap (through_others n) (drop-append-le joined ts us h) ∙ order_turns.through-append n (drop joined ts) us k)
 
   -- what has reached a site is within the order
   pub told_within : (joined n : ℕ) (ts : List (Turn O.Edit)) → joined ≤ length ts → n ≤ length (others (drop joined ts)) → told_of O joined n ts ≤ length ts
-  told_within joined n ts h k = omega (arith, through-within n (drop joined ts) k, length-drop joined ts)
+  told_within joined n ts h k = omega (arith, order_turns.through-within n (drop joined ts) k, length-drop joined ts)
 
   -- a longer list has no fewer of others
   others_longer : (ts us : List (Turn O.Edit)) (n : ℕ) → n ≤ length (others ts) → n ≤ length (others (ts ++ us))
@@ -204,7 +204,7 @@ module _ (O : Operations) (L : AreLawful O) where
     pub stand-makes : (command : O.Command) (op : O.Op) → edit_answer O command a.site ≡ Ok op → length ts + most_beyond ≤ most → most ≤ 4294967295
         → Standing O most first ts held (mine ++ O.t.edit_of op ∷ []) joined n i l (with_edit O op a)
     stand-makes command op ok few counted = stand-pair held (mine ++ O.t.edit_of op ∷ []) l (with_edit O op a)
-        (pair-makes O L most i first (take (told_of O joined n ts) ts) (drop (told_of O joined n ts) ts) held mine l a h.pair command op ok (subst (λ us. length us + most_beyond ≤ most) (sym halves) few) counted)
+        (pairs.pair-makes O L most i first (take (told_of O joined n ts) ts) (drop (told_of O joined n ts) ts) held mine l a h.pair command op ok (subst (λ us. length us + most_beyond ≤ most) (sym halves) few) counted)
 
     -- the order grows by one entry, whose turn it may be
     pub stand-longer : (x : Turn O.Edit) (held' : O.State) (l' : LinkState O.Op) (a' : AttachedOf O)
@@ -222,14 +222,14 @@ module _ (O : Operations) (L : AreLawful O) where
 
     -- the site is shown one more
     pub stand-next : (l' : LinkState O.Op) (a' : AttachedOf O) → 1 ≤ length (others (drop (told_of O joined n ts) ts))
-        → Paired O most i first (told_next O L (take (told_of O joined n ts) ts) (drop (told_of O joined n ts) ts))
+        → Paired O most i first (grids.told_next O L (take (told_of O joined n ts) ts) (drop (told_of O joined n ts) ts))
         (drop (through_others 1 (drop (told_of O joined n ts) ts)) (drop (told_of O joined n ts) ts)) held mine l' a'
         → Standing O most first ts held mine joined (n + 1) i l' a'
     stand-next l' a' some p = record {
       pair = subst (λ k. Paired O most i first (take k ts) (drop k ts) held mine l' a') (sym told_more)
           (subst (λ us. Paired O most i first us (drop (told_of O joined n ts + through_others 1 (drop (told_of O joined n ts) ts)) ts) held mine l' a')
           (sym (take-add (told_of O joined n ts) (through_others 1 (drop (told_of O joined n ts) ts)) ts))
-          (subst (λ us. Paired O most i first (told_next O L (take (told_of O joined n ts) ts) (drop (told_of O joined n ts) ts)) us held mine l' a') dropped p));
+          (subst (λ us. Paired O most i first (grids.told_next O L (take (told_of O joined n ts) ts) (drop (told_of O joined n ts) ts)) us held mine l' a') dropped p));
       joined_within = h.joined_within;
       shown_within = omega (arith, enough);
     }
@@ -238,11 +238,11 @@ module _ (O : Operations) (L : AreLawful O) where
         split = drop-drop (through_others n (drop joined ts)) joined ts
 
         enough : suc n ≤ length (others (drop joined ts))
-        enough = omega (arith, others-left n (drop joined ts) h.shown_within, ap (λ us. length (others us)) split)
+        enough = omega (arith, order_turns.others-left n (drop joined ts) h.shown_within, ap (λ us. length (others us)) split)
 
         told_more : told_of O joined (n + 1) ts ≡ told_of O joined n ts + through_others 1 (drop (told_of O joined n ts) ts)
         told_more = ap (λ k. joined + through_others k (drop joined ts)) (add-one n)
-            ∙ omega (arith, through-next n (drop joined ts) enough, ap (through_others 1) split)
+            ∙ omega (arith, order_turns.through-next n (drop joined ts) enough, ap (through_others 1) split)
 
         dropped : drop (through_others 1 (drop (told_of O joined n ts) ts)) (drop (told_of O joined n ts) ts) ≡ drop (told_of O joined n ts + through_others 1 (drop (told_of O joined n ts) ts)) ts
         dropped = drop-drop (through_others 1 (drop (told_of O joined n ts) ts)) (told_of O joined n ts) ts
@@ -270,16 +270,16 @@ module _ (O : Operations) (L : AreLawful O) (most : ℕ) (first : O.t.Content) (
 
   -- there is room for what may still come
   pub room : length (past ++ rest) + most_beyond ≤ most
-  room = omega (arith, ap length whole, length-turns i s.order, fits)
+  room = omega (arith, ap length whole, order_turns.length-turns i s.order, fits)
 
   -- the star takes its edit
   pub place-taken : (m : Msg O.Op) (us : List (Up O.Op)) → a.up ≡ UpOp m ∷ us
       → Standing O most first (turns i (s.order ++ entry O i m ∷ [])) (O.t.after (operation_at O l.end m) s.board) mine joined n i (link_heard O m l) (one_taken O a)
   place-taken m us rising =
-      let head = first_rising O L st.pair m (ups us) (ap ups rising) in
-      subst (λ ts. Standing O most first ts (O.t.after (operation_at O l.end m) s.board) mine joined n i (link_heard O m l) (one_taken O a)) (sym (turns-append i s.order (entry O i m ∷ []) ∙ ap (λ x. turns i s.order ++ x ∷ []) (owned (nat_eq i i) (eq-eqb i i refl))))
+      let head = grids.first_rising O L st.pair m (ups us) (ap ups rising) in
+      subst (λ ts. Standing O most first ts (O.t.after (operation_at O l.end m) s.board) mine joined n i (link_heard O m l) (one_taken O a)) (sym (order_turns.turns-append i s.order (entry O i m ∷ []) ∙ ap (λ x. turns i s.order ++ x ∷ []) (owned (nat_eq i i) (eq-eqb i i refl))))
       (stand-longer O L most first (turns i s.order) s.board mine joined n i l a st (Own (O.t.edit_of m.op)) (O.t.after (operation_at O l.end m) s.board) (link_heard O m l) (one_taken O a)
-      (pair-link_settles O L most i first past (rest ++ Own (O.t.edit_of m.op) ∷ []) (O.t.after (received_operation O.t l.end m.heard m.op) s.board) mine _ _
+      (grids.pair-link_settles O L most i first past (rest ++ Own (O.t.edit_of m.op) ∷ []) (O.t.after (received_operation O.t l.end m.heard m.op) s.board) mine _ _
       (pair-taken O L most i first past rest s.board mine l a st.pair room m (ups us) (ap ups rising) (drop 1 a.up) (ap (λ r. ups (drop 1 r)) rising) head.0 head.1 head.2)))
     where
       owned : (b : Bool) → b ≡ true → cond b (Own (O.t.edit_of m.op)) (Other i (O.t.edit_of m.op)) ≡ Own (O.t.edit_of m.op)
@@ -290,13 +290,13 @@ module _ (O : Operations) (L : AreLawful O) (most : ℕ) (first : O.t.Content) (
   pub place-accepted : (m : Msg O.Op) (us : List (Up O.Op)) → a.up ≡ UpOp m ∷ us
       → ((up_fault O s l (UpOp m) ≡ None) × (length s.order < s.limit)) ⊎ ((up_fault O s l (UpOp m) ≡ Some LogFull) × (s.limit ≤ length s.order))
   place-accepted m us rising =
-      let head = first_rising O L st.pair m (ups us) (ap ups rising) in
+      let head = grids.first_rising O L st.pair m (ups us) (ap ups rising) in
       let accepts = taken_fits O L most i first past rest s.board mine l a st.pair room m (ups us) (ap ups rising) us refl head.0 head.1 head.2 in
       let next : IsTrue (O.bears_next l.site l.named (O.t.edit_of m.op)) =
       subst (λ k. IsTrue (O.bears_next k l.named (O.t.edit_of m.op))) (sym st.pair.link_number)
       (subst (λ k. IsTrue (O.bears_next i k (O.t.edit_of m.op))) (sym st.pair.link_named)
       (taken_next O L most i first past rest s.board mine l a st.pair room m (ups us) (ap ups rising) us refl head.0 head.1 head.2)) in
-      take_fits O L s l m accepts.0 accepts.1
+      fitting.take_fits O L s l m accepts.0 accepts.1
       (taken_edit O L most i first past rest s.board mine l a st.pair room m (ups us) (ap ups rising) us refl head.0 head.1 head.2)
       next
       accepts.2
@@ -304,7 +304,7 @@ module _ (O : Operations) (L : AreLawful O) (most : ℕ) (first : O.t.Content) (
   -- an acknowledgement of its
   pub place-acked : (k : ℕ) (us : List (Up O.Op)) → a.up ≡ UpAck k ∷ us → Standing O most first (turns i s.order) s.board mine joined n i (link_acked k l) (one_taken O a)
   place-acked k us rising = stand-pair O L most first (turns i s.order) s.board mine joined n i l a st s.board mine (link_acked k l) (one_taken O a)
-      (pair-up_acked O L most i first past rest s.board mine l a st.pair k (drop 1 a.up) (headed a.up (UpAck k) us rising))
+      (grids.pair-up_acked O L most i first past rest s.board mine l a st.pair k (drop 1 a.up) (headed a.up (UpAck k) us rising))
     where
       headed : (r : List (Up O.Op)) (u : Up O.Op) (us : List (Up O.Op)) → r ≡ u ∷ us → r ≡ u ∷ drop 1 r
       headed r u us e = e ∙ ap (λ t. u ∷ t) (sym (ap (drop 1) e))
@@ -312,12 +312,12 @@ module _ (O : Operations) (L : AreLawful O) (most : ℕ) (first : O.t.Content) (
   pub place-ack_fits : (k : ℕ) (us : List (Up O.Op)) → a.up ≡ UpAck k ∷ us → up_fault O s l (UpAck k) ≡ None
   place-ack_fits k us rising =
       let step = subst (λ r. InStepAt O.t 0 st.pair.from st.pair.site_ahead st.pair.star_ahead a.site.board s.board a.site.end l.end (ups r) (downs (a.down ++ l.outbox))) rising st.pair.in_step in
-      take_ack O L s l k (server_counts O.t L.lawful step).0
+      fitting.take_ack O L s l k (server_counts O.t L.lawful step).0
 
   -- a ping of its
   pub place-asked : (k : ℕ) (us : List (Up O.Op)) → a.up ≡ UpPing k ∷ us → Standing O most first (turns i s.order) s.board mine joined n i (link_ponged k l) (one_taken O a)
   place-asked k us rising = stand-pair O L most first (turns i s.order) s.board mine joined n i l a st s.board mine (link_ponged k l) (one_taken O a)
-      (pair-up_asked O L most i first past rest s.board mine l a st.pair k (drop 1 a.up) (headed a.up (UpPing k) us rising))
+      (grids.pair-up_asked O L most i first past rest s.board mine l a st.pair k (drop 1 a.up) (headed a.up (UpPing k) us rising))
     where
       headed : (r : List (Up O.Op)) (u : Up O.Op) (us : List (Up O.Op)) → r ≡ u ∷ us → r ≡ u ∷ drop 1 r
       headed r u us e = e ∙ ap (λ t. u ∷ t) (sym (ap (drop 1) e))
@@ -330,13 +330,13 @@ module _ (O : Operations) (L : AreLawful O) (most : ℕ) (first : O.t.Content) (
       → Standing O most first (turns i (s.order ++ entry O j m ∷ [])) (O.t.after op s.board) mine joined n i (link_sent op l) a
   place-sent counted j m op valid same inserts positive apart next changes =
       subst (λ ts. Standing O most first ts (O.t.after op s.board) mine joined n i (link_sent op l) a)
-      (sym (turns-append i s.order (entry O j m ∷ []) ∙ ap (λ x. turns i s.order ++ x ∷ []) (turned (nat_eq j i) apart)))
+      (sym (order_turns.turns-append i s.order (entry O j m ∷ []) ∙ ap (λ x. turns i s.order ++ x ∷ []) (turned (nat_eq j i) apart)))
       (stand-longer O L most first (turns i s.order) s.board mine joined n i l a st (Other j (O.t.edit_of m.op)) (O.t.after op s.board) (link_sent op l) a
-      (pair-sent O L most i first past rest s.board mine l a st.pair room counted op j (O.t.edit_of m.op) valid
-      (subst (λ es. SameMeaning O (es ++ O.t.edit_of op ∷ []) (es ++ O.t.edit_of m.op ∷ [])) (edits-turns 0 i s.order ∙ ap edits (sym whole) ∙ edits-append past rest) same)
+      (pairs.pair-sent O L most i first past rest s.board mine l a st.pair room counted op j (O.t.edit_of m.op) valid
+      (subst (λ es. SameMeaning O (es ++ O.t.edit_of op ∷ []) (es ++ O.t.edit_of m.op ∷ [])) (order_turns.edits-turns 0 i s.order ∙ ap edits (sym whole) ∙ grids.edits-append past rest) same)
       inserts positive apart
-      (subst (λ k. IsTrue (O.bears_next j k (O.t.edit_of m.op))) (named-turns O L 0 i j s.order ∙ ap (named_by O i j) (sym whole)) next)
-      (held_more O L (named_in O s.order) (λ k. named_by O i k (past ++ rest)) (λ k. omega (arith, named-turns O L 0 i k s.order, ap (named_by O i k) whole)) (O.t.edit_of m.op) changes)))
+      (subst (λ k. IsTrue (O.bears_next j k (O.t.edit_of m.op))) (order_turns.named-turns O L 0 i j s.order ∙ ap (named_by O i j) (sym whole)) next)
+      (known_names.held_more O L (named_in O s.order) (λ k. named_by O i k (past ++ rest)) (λ k. omega (arith, order_turns.named-turns O L 0 i k s.order, ap (named_by O i k) whole)) (O.t.edit_of m.op) changes)))
     where
       turned : (b : Bool) → b ≡ false → cond b (Own (O.t.edit_of m.op)) (Other j (O.t.edit_of m.op)) ≡ Other j (O.t.edit_of m.op)
       turned false e = refl
@@ -346,11 +346,11 @@ module _ (O : Operations) (L : AreLawful O) (most : ℕ) (first : O.t.Content) (
   pub place-shown : (m : Msg O.Op) (gone : ℕ) (falling : List (Down O.Op)) → downs (a.down ++ l.outbox) ≡ sent m ∷ downs (falling ++ drop gone l.outbox)
       → Standing O most first (turns i s.order) s.board mine joined (n + 1) i (link_fetched gone l) (one_handed O (DownOp m) falling a)
   place-shown m gone falling comes =
-      let head = first_falling O L st.pair m (downs (falling ++ drop gone l.outbox)) comes in
-      let next = next_other O L i past rest head.0 head.1 st.pair.rest_named (subst (λ d. Inherits O d (others rest)) head.2 st.pair.down_inherits) in
+      let head = grids.first_falling O L st.pair m (downs (falling ++ drop gone l.outbox)) comes in
+      let next = grids.next_other O L i past rest head.0 head.1 st.pair.rest_named (subst (λ d. Inherits O d (others rest)) head.2 st.pair.down_inherits) in
       stand-next O L most first (turns i s.order) s.board mine joined n i l a st (link_fetched gone l) (one_handed O (DownOp m) falling a) (omega (arith, ap length next.others_are))
-      (pair-site_settles O L most i first _ _ s.board mine (link_left l (drop gone l.outbox)) (shown_at O a m falling)
-      (pair-shown O L most i first past rest s.board mine l a st.pair room m (downs (falling ++ drop gone l.outbox)) comes
+      (grids.pair-site_settles O L most i first _ _ s.board mine (pairs.link_left l (drop gone l.outbox)) (pairs.shown_at O a m falling)
+      (pairs.pair-shown O L most i first past rest s.board mine l a st.pair room m (downs (falling ++ drop gone l.outbox)) comes
       falling (drop gone l.outbox) refl head.0 head.1 head.2))
 
   -- an acknowledgement
@@ -359,31 +359,31 @@ module _ (O : Operations) (L : AreLawful O) (most : ℕ) (first : O.t.Content) (
   place-told k gone falling e =
       subst (λ r. Standing O most first (turns i s.order) s.board mine joined n i (link_fetched gone l) (record { site = with_end a.site (after_count a.site.end k); up = r; down = falling })) (sym (append-nil a.up))
       (stand-pair O L most first (turns i s.order) s.board mine joined n i l a st s.board mine (link_fetched gone l) (record { site = with_end a.site (after_count a.site.end k); up = a.up; down = falling })
-      (pair-down_acked O L most i first past rest s.board mine l a st.pair k falling (drop gone l.outbox) e))
+      (grids.pair-down_acked O L most i first past rest s.board mine l a st.pair k falling (drop gone l.outbox) e))
 
   -- a pong
   pub place-answered : (k gone : ℕ) (falling : List (Down O.Op)) → downs (a.down ++ l.outbox) ≡ downs (DownPong k ∷ (falling ++ drop gone l.outbox))
       → Standing O most first (turns i s.order) s.board mine joined n i (link_fetched gone l) (one_handed O (DownPong k) falling a)
   place-answered k gone falling e =
       stand-pair O L most first (turns i s.order) s.board mine joined n i l a st s.board mine (link_fetched gone l) (one_handed O (DownPong k) falling a)
-      (pair-streams O L most i first past rest s.board mine l a st.pair (a.up ++ []) falling (drop gone l.outbox) (ap ups (append-nil a.up)) (sym e))
+      (grids.pair-streams O L most i first past rest s.board mine l a st.pair (a.up ++ []) falling (drop gone l.outbox) (ap ups (append-nil a.up)) (sym e))
 
   -- the oldest message on its way down is one that it takes
   pub place-fits : (d : Down O.Op) (gone : ℕ) (falling : List (Down O.Op)) → downs (a.down ++ l.outbox) ≡ downs (d ∷ (falling ++ drop gone l.outbox)) → deliver_fault O d a.site ≡ None
   place-fits (DownOp m) gone falling comes =
-      let head = first_falling O L st.pair m (downs (falling ++ drop gone l.outbox)) comes in
-      let accepts = pair_fits O L most i first past rest s.board mine l a st.pair room m (downs (falling ++ drop gone l.outbox)) comes
+      let head = grids.first_falling O L st.pair m (downs (falling ++ drop gone l.outbox)) comes in
+      let accepts = pairs.pair_fits O L most i first past rest s.board mine l a st.pair room m (downs (falling ++ drop gone l.outbox)) comes
       falling (drop gone l.outbox) refl head.0 head.1 head.2 in
-      deliver_fits O L a.site m st.pair.goes_on accepts.0 accepts.1
+      fitting.deliver_fits O L a.site m st.pair.goes_on accepts.0 accepts.1
       (subst (λ k. O.bears_site k (O.t.edit_of m.op) ≡ false) (sym st.pair.site_number) (subst (λ f. AllByRecursion (λ e. O.bears_site i e ≡ false) (edits_sent O f)) comes st.pair.falling_foreign).0)
       accepts.2
   place-fits (DownAck k) gone falling comes =
       let step = subst (λ r. InStepAt O.t 0 st.pair.from st.pair.site_ahead st.pair.star_ahead a.site.board s.board a.site.end l.end (ups a.up) r) comes st.pair.in_step in
-      deliver_ack O L a.site k st.pair.goes_on (client_counts O.t L.lawful step).0
-  place-fits (DownPong k) gone falling comes = deliver_pong O L a.site k st.pair.goes_on
+      fitting.deliver_ack O L a.site k st.pair.goes_on (client_counts O.t L.lawful step).0
+  place-fits (DownPong k) gone falling comes = fitting.deliver_pong O L a.site k st.pair.goes_on
 
   -- messages were fetched, and no more
   pub place-fetched : (k : ℕ) → Standing O most first (turns i s.order) s.board mine joined n i (link_fetched k l) (with_fetched O k l a)
   place-fetched k =
       stand-pair O L most first (turns i s.order) s.board mine joined n i l a st s.board mine (link_fetched k l) (with_fetched O k l a)
-      (pair-streams O L most i first _ _ s.board mine l a st.pair a.up (a.down ++ take k l.outbox) (drop k l.outbox) refl (same_way k a.down l.outbox))
+      (grids.pair-streams O L most i first _ _ s.board mine l a st.pair a.up (a.down ++ take k l.outbox) (drop k l.outbox) refl (same_way k a.down l.outbox))

@@ -1,13 +1,13 @@
 -- Edits past each other, as a site and the star send them.
 use Rattle.std.proofs.Common.{inl, inr, ◌≡◌, List, [], ◌∷◌, ◌++◌, refl, sym, ◌∙◌, append_assoc, append-nil, ℕ, take, drop, ap, zero, suc, subst, ◌⊎◌, ◌+◌, ◌≤◌, ◌<◌, Bool, true, false, cond, nat_eq, arith, eq-eqb, if◌then◌else◌, length, Some, None, option_to_list}
-use Rattle.jup_world.specs.Prelude.{Client, Server, row_operation, row_entries, AllApart, mirror, Msg, Message, sent, InStepAt, Link, Ack, generated, after_count, after_ack, answered, owes, Operations, AreLawful, Up, Down, UpAck, UpPing, DownAck, DownPong, ups, downs, LinkState, owed_down, link_acked, link_ponged, with_end, owed_up, ups-append, downs-append, AllByRecursion}
+use Rattle.jup_site.specs.Prelude.{Client, Server, row_operation, row_entries, AllApart, mirror, Msg, Message, sent, InStepAt, Link, Ack, generated, after_count, after_ack, answered, owes, Operations, AreLawful, Up, Down, UpAck, UpPing, DownAck, DownPong, ups, downs, LinkState, owed_down, link_acked, link_ponged, with_end, owed_up, ups-append, downs-append, AllByRecursion}
 use Rattle.jup_xform.specs.Rows.{SomeOf}
 use Rattle.jup_xform.specs.Laws.Grids.{AllApart-entry, IsLawful-mirror, row_operation-append}
 use Rattle.jup_link.specs.Laws.Steps.{first_up, first_down, client_acks, server_acks, client_counts, server_counts, length-after_count, generated-after_count}
-use Rattle.jup_world.specs.Traces.{IsIn, Turn, Own, Other, edits, own_edits, through_others, others}
-use Rattle.jup_world.specs.Sound.{SameMeaning, StandsFor, server_past_all, clients_past, client_past_all, servers_past, RowStands, Shows, IsKnown, ChangesKnown, IsMoved, named_by, Inherits, RawNamed, OrderNamed, Paired, edits_sent}
-use Rattle.jup_world.specs.Worlds.{AttachedOf, pinged}
-use Rattle.jup_world.proofs.Known.{named_by-append, known_more, edits_sent-append}
+use Rattle.jup_site.specs.Turns.{IsIn, Turn, Own, Other, edits, own_edits, through_others, others}
+use Rattle.jup_site.specs.Sound.{SameMeaning, StandsFor, server_past_all, clients_past, client_past_all, servers_past, RowStands, Shows, IsKnown, ChangesKnown, IsMoved, named_by, Inherits, RawNamed, OrderNamed, Paired, edits_sent}
+use Rattle.jup_site.specs.Sites.{AttachedOf, pinged}
+use Rattle.jup_site.proofs.Known.{named_by-append, known_more, edits_sent-append}
 
 -- Edits of one square: what stays the same at any place in a list of edits.
 

@@ -1,14 +1,14 @@
 -- A site and its link stay in step, edit by edit.
 use Rattle.std.proofs.Common.{◌≡◌, ℕ, ◌+◌, ◌≤◌, Bool, true, false, cond, List, [], ◌∷◌, ◌++◌, length, nat_eq, ap, sym, ◌∙◌, subst, arith, IsTrue, append_assoc, append-nil, length-append, ◌-◌, ◌⊎◌, take, drop, inl, inr, le_refl, take-append-drop, ◌<◌, Ok, leb-false}
 use Rattle.std.proofs.lemmas.Bool.{eqb-false}
-use Rattle.jup_world.specs.Prelude.{most_beyond, most_unacknowledged, AllApart, Msg, after_send, message, next_message, InStepAt, Message, IsCount, IsNumber, generated, received_operation, after_receive, sent, Operations, AreLawful, DownOp, Down, UpOp, ups, downs, LinkState, link_sent, operation_at, end_after, SiteOf, edit_answer, downs-append, ups-append, AllByRecursion}
+use Rattle.jup_site.specs.Prelude.{most_beyond, most_unacknowledged, AllApart, Msg, after_send, message, next_message, InStepAt, Message, IsCount, IsNumber, generated, received_operation, after_receive, sent, Operations, AreLawful, DownOp, Down, UpOp, ups, downs, LinkState, link_sent, operation_at, end_after, SiteOf, edit_answer, downs-append, ups-append, AllByRecursion}
 use Rattle.jup_link.specs.Laws.Steps.{small_le, client_lengths, server_sends, small_next, client_distinct, client_small, client_receives, length-after_receive, client_sends, client_generated}
-use Rattle.jup_world.specs.Traces.{Turn, Own, Other, edits, own_edits, others, IsIn, through_others}
-use Rattle.jup_world.specs.Sound.{SameMeaning, RowStands, edits_sent, named_by, own_counts, ChangesKnown, ChangesHeld, HoldsKnown, Inherits, RawNamed, OrderNamed, Paired, server_past_all, clients_past, Shows, IsKnown}
-use Rattle.jup_world.specs.Worlds.{AttachedOf, with_edit}
-use Rattle.jup_world.proofs.Pairs.Grids.{column-more, own_edits-append, own_apart, others-append, meaning_one, same-meaning, row-past, column-shown, edits-append, each_shown, inserts_servers, inherits_clients, told_next, NextOther, next_other, row-more}
-use Rattle.jup_world.proofs.Known.{All-append, inherits-end, edits_sent-append, named_by-append, All-first, All-second, All-at, known_more, known_other, other_known, own_counts-more, all_changes_more, raw_named-more, raw_last, own_counts-above, own_known, known_own, raw_named-end}
-use Rattle.jup_world.proofs.Answers.{answer_ok}
+use Rattle.jup_site.specs.Turns.{Turn, Own, Other, edits, own_edits, others, IsIn, through_others}
+use Rattle.jup_site.specs.Sound.{SameMeaning, RowStands, edits_sent, named_by, own_counts, ChangesKnown, ChangesHeld, HoldsKnown, Inherits, RawNamed, OrderNamed, Paired, server_past_all, clients_past, Shows, IsKnown}
+use Rattle.jup_site.specs.Sites.{AttachedOf, with_edit}
+use Rattle.jup_site.proofs.Pairs.Grids as grids
+use Rattle.jup_site.proofs.Known as known_names
+use Rattle.jup_site.proofs.Fits.{answer_ok}
 
 -- The star takes an edit of another site: a site and its link stay in step.
 
@@ -45,7 +45,7 @@ module _ (O : Operations) (L : AreLawful O) where
 
     -- the site named no more
     not_named : named_by O i i (past ++ (rest ++ Other j e ∷ [])) ≡ named_by O i i (past ++ rest)
-    not_named = ap (named_by O i i) whole_sent ∙ named_by-append O L i i (past ++ rest) (Other j e ∷ []) ∙ cases (nat_eq j i) foreign
+    not_named = ap (named_by O i i) whole_sent ∙ known_names.named_by-append O L i i (past ++ rest) (Other j e ∷ []) ∙ cases (nat_eq j i) foreign
       where
         cases : (b : Bool) → b ≡ false → named_by O i i (past ++ rest) + (cond b (O.insertions e) 0 + 0) ≡ named_by O i i (past ++ rest)
         cases false f = omega arith
@@ -53,7 +53,7 @@ module _ (O : Operations) (L : AreLawful O) where
 
     -- nor are its own entries more
     own_same : own_edits (rest ++ Other j e ∷ []) ≡ own_edits rest
-    own_same = own_edits-append rest (Other j e ∷ []) ∙ append-nil (own_edits rest)
+    own_same = grids.own_edits-append rest (Other j e ∷ []) ∙ append-nil (own_edits rest)
 
     -- the pair once the edit was sent to the site
     pub pair-sent : Paired O most i first past (rest ++ Other j e ∷ []) (O.t.after op held) mine (link_sent op l) a
@@ -66,7 +66,7 @@ module _ (O : Operations) (L : AreLawful O) where
           site_side = h.site_side;
           link_side = h.link_side;
           in_step = subst (λ f. InStepAt O.t 0 h.from h.site_ahead (h.star_ahead ++ op ∷ []) a.site.board (O.t.after op held) a.site.end (after_send l.end op) (ups a.up) f) (sym stream)
-              (server_sends O.t L.lawful op step accepted (own_apart O L (λ j. named_by O i j past) i (named_by O i i (past ++ rest)) h.site_ahead h.raw a.site.named op h.up_inherits h.raw_named not_own)
+              (server_sends O.t L.lawful op step accepted (grids.own_apart O L (λ j. named_by O i j past) i (named_by O i i (past ++ rest)) h.site_ahead h.raw a.site.named op h.up_inherits h.raw_named not_own)
               (small_le O.t L.lawful _ h.room h.from (omega (arith, h.enough, h.backlog, client_lengths O.t L.lawful step)) h.small) (omega (arith, h.few_sent)));
           room = h.room;
           small = h.small;
@@ -74,19 +74,19 @@ module _ (O : Operations) (L : AreLawful O) where
           raw = h.raw;
           raw_sent = h.raw_sent;
           row = subst (λ es. RowStands O (edits past ++ es) h.site_ahead h.raw) (sym own_same) h.row;
-          column = column-more O L rest h.star_ahead (edits past) op j e h.column same;
-          all_made = subst (λ es. mine ≡ es ++ h.raw) (sym (ap own_edits whole_sent ∙ own_edits-append (past ++ rest) (Other j e ∷ []) ∙ append-nil (own_edits (past ++ rest)))) h.all_made;
+          column = grids.column-more O L rest h.star_ahead (edits past) op j e h.column same;
+          all_made = subst (λ es. mine ≡ es ++ h.raw) (sym (ap own_edits whole_sent ∙ grids.own_edits-append (past ++ rest) (Other j e ∷ []) ∙ append-nil (own_edits (past ++ rest)))) h.all_made;
           shows = subst (λ es. O.t.content a.site.board ≡ O.t.meaning first ((edits past ++ es) ++ h.raw)) (sym own_same) h.shows;
           up_inherits = h.up_inherits;
-          down_inherits = subst (λ es. Inherits O (h.star_ahead ++ op ∷ []) es) (sym (others-append rest (Other j e ∷ []))) (inherits-end O L h.star_ahead (others rest) op e h.down_inherits inserts);
+          down_inherits = subst (λ es. Inherits O (h.star_ahead ++ op ∷ []) es) (sym (grids.others-append rest (Other j e ∷ []))) (known_names.inherits-end O L h.star_ahead (others rest) op e h.down_inherits inserts);
           raw_named = subst (λ k. RawNamed O (λ j. named_by O i j past) i k h.raw a.site.named) (sym not_named) h.raw_named;
           rest_named = order_named-other i past rest j e h.rest_named positive foreign next changes;
           board_known = h.board_known;
           from_known = subst (λ k. HoldsKnown O (own_counts O i k (λ j. named_by O i j past)) h.from) (sym not_named) h.from_known;
           view_known = subst (λ es. AllByRecursion (ChangesKnown O (own_counts O i a.site.named (λ j. named_by O i j past))) ((edits past ++ es) ++ h.raw)) (sym own_same) h.view_known;
           falling_foreign = subst (λ s. AllByRecursion (λ f. O.bears_site i f ≡ false) (edits_sent O s)) (sym stream)
-              (subst (λ es. AllByRecursion (λ f. O.bears_site i f ≡ false) es) (sym (edits_sent-append O L (downs (a.down ++ l.outbox)) (message l.end op ∷ [])))
-              (All-append (λ f. O.bears_site i f ≡ false) (edits_sent O (downs (a.down ++ l.outbox))) (O.t.edit_of op ∷ []) h.falling_foreign (L.not_of_site i (O.t.edit_of op) not_own, tt)));
+              (subst (λ es. AllByRecursion (λ f. O.bears_site i f ≡ false) es) (sym (known_names.edits_sent-append O L (downs (a.down ++ l.outbox)) (message l.end op ∷ [])))
+              (known_names.All-append (λ f. O.bears_site i f ≡ false) (edits_sent O (downs (a.down ++ l.outbox))) (O.t.edit_of op ∷ []) h.falling_foreign (L.not_of_site i (O.t.edit_of op) not_own, tt)));
           positive = h.positive;
           site_number = h.site_number;
           link_number = h.link_number;
@@ -121,32 +121,32 @@ module _ (O : Operations) (L : AreLawful O) (most i : ℕ) (first : O.t.Content)
       (subst (λ f. InStepAt O.t 0 h.from h.site_ahead h.star_ahead a.site.board held a.site.end l.end (ups a.up) f) comes h.in_step)
 
   -- whose entry it is
-  next : NextOther O L i past rest s ss
-  next = next_other O L i past rest s ss h.rest_named (subst (λ d. Inherits O d (others rest)) down h.down_inherits)
+  next : grids.NextOther O L i past rest s ss
+  next = grids.next_other O L i past rest s ss h.rest_named (subst (λ d. Inherits O d (others rest)) down h.down_inherits)
 
   -- the edits that have reached the site then
-  told_is : edits (told_next O L past rest) ≡ edits past ++ edits (take (through_others 1 rest) rest)
-  told_is = edits-append past (take (through_others 1 rest) rest)
+  told_is : edits (grids.told_next O L past rest) ≡ edits past ++ edits (take (through_others 1 rest) rest)
+  told_is = grids.edits-append past (take (through_others 1 rest) rest)
 
   -- the order stays
-  whole : told_next O L past rest ++ drop (through_others 1 rest) rest ≡ past ++ rest
+  whole : grids.told_next O L past rest ++ drop (through_others 1 rest) rest ≡ past ++ rest
   whole = append_assoc past (take (through_others 1 rest) rest) (drop (through_others 1 rest) rest) ∙ ap (λ r. past ++ r) (take-append-drop (through_others 1 rest) rest)
 
   -- the operations still to be delivered, after the entry
-  column_next : SameMeaning O ((edits past ++ own_edits rest) ++ O.t.edit_of s ∷ []) (edits (told_next O L past rest) ++ own_edits (drop (through_others 1 rest) rest))
-      × Shows O (edits (told_next O L past rest)) (drop (through_others 1 rest) rest) ss
+  column_next : SameMeaning O ((edits past ++ own_edits rest) ++ O.t.edit_of s ∷ []) (edits (grids.told_next O L past rest) ++ own_edits (drop (through_others 1 rest) rest))
+      × Shows O (edits (grids.told_next O L past rest)) (drop (through_others 1 rest) rest) ss
   column_next = subst (λ p. SameMeaning O ((edits past ++ own_edits rest) ++ O.t.edit_of s ∷ []) (p ++ own_edits (drop (through_others 1 rest) rest)) × Shows O p (drop (through_others 1 rest) rest) ss)
-      (sym told_is) (column-shown O L rest ss (edits past) s (subst (Shows O (edits past) rest) down h.column))
+      (sym told_is) (grids.column-shown O L rest ss (edits past) s (subst (Shows O (edits past) rest) down h.column))
 
   -- what the site sent is apart from it
   apart : AllApart O.t h.site_ahead s
-  apart = own_apart O L (λ j. named_by O i j past) i (named_by O i i (past ++ rest)) h.site_ahead h.raw a.site.named s h.up_inherits h.raw_named
+  apart = grids.own_apart O L (λ j. named_by O i j past) i (named_by O i i (past ++ rest)) h.site_ahead h.raw a.site.named s h.up_inherits h.raw_named
       (λ n x k. eqb-false next.site i next.foreign (sym (next.of_site n x) ∙ k))
 
   -- what the site sent, past it
-  row_next : RowStands O (edits (told_next O L past rest) ++ own_edits (drop (through_others 1 rest) rest)) (clients_past O h.site_ahead s) h.raw
-      × SameMeaning O (((edits past ++ own_edits rest) ++ h.raw) ++ O.t.edit_of (server_past_all O s h.site_ahead) ∷ []) ((edits (told_next O L past rest) ++ own_edits (drop (through_others 1 rest) rest)) ++ h.raw)
-  row_next = row-past O L h.site_ahead h.raw s (edits past ++ own_edits rest) _ h.row apart column_next.0
+  row_next : RowStands O (edits (grids.told_next O L past rest) ++ own_edits (drop (through_others 1 rest) rest)) (clients_past O h.site_ahead s) h.raw
+      × SameMeaning O (((edits past ++ own_edits rest) ++ h.raw) ++ O.t.edit_of (server_past_all O s h.site_ahead) ∷ []) ((edits (grids.told_next O L past rest) ++ own_edits (drop (through_others 1 rest) rest)) ++ h.raw)
+  row_next = grids.row-past O L h.site_ahead h.raw s (edits past ++ own_edits rest) _ h.row apart column_next.0
 
   -- the counts that the site knew
   old_counts : ℕ → ℕ
@@ -154,19 +154,19 @@ module _ (O : Operations) (L : AreLawful O) (most i : ℕ) (first : O.t.Content)
 
   -- and those that it knows then
   new_counts : ℕ → ℕ
-  new_counts = own_counts O i a.site.named (λ j. named_by O i j (told_next O L past rest))
+  new_counts = own_counts O i a.site.named (λ j. named_by O i j (grids.told_next O L past rest))
 
   -- are no lower
   more : (j : ℕ) → old_counts j ≤ new_counts j
   unfolding old_counts new_counts
-  more = own_counts-more O L i a.site.named a.site.named (λ j. named_by O i j past) (λ j. named_by O i j (told_next O L past rest)) (le_refl a.site.named) next.more
+  more = known_names.own_counts-more O L i a.site.named a.site.named (λ j. named_by O i j past) (λ j. named_by O i j (grids.told_next O L past rest)) (le_refl a.site.named) next.more
 
   -- the site never met a name that it is shown now
   fresh : (n : O.t.Name) → O.t.inserts (O.t.edit_of (server_past_all O s h.site_ahead)) n → IsKnown O old_counts n → ⊥
   unfolding old_counts
   fresh n x k =
-      let y = inserts_servers O L h.site_ahead s n x in
-      let below = other_known O L i a.site.named next.site (λ j. named_by O i j past) n next.positive next.foreign (next.of_site n y) k in
+      let y = grids.inserts_servers O L h.site_ahead s n x in
+      let below = known_names.other_known O L i a.site.named next.site (λ j. named_by O i j past) n next.positive next.foreign (next.of_site n y) k in
       let above = next.above n y in
       omega arith
 
@@ -174,8 +174,8 @@ module _ (O : Operations) (L : AreLawful O) (most i : ℕ) (first : O.t.Content)
   known_new : (n : O.t.Name) → O.t.inserts (O.t.edit_of (server_past_all O s h.site_ahead)) n → IsKnown O new_counts n
   unfolding new_counts
   known_new n x =
-      let y = inserts_servers O L h.site_ahead s n x in
-      known_other O L i a.site.named next.site (λ j. named_by O i j (told_next O L past rest)) n next.foreign (next.of_site n y) (next.within n y)
+      let y = grids.inserts_servers O L h.site_ahead s n x in
+      known_names.known_other O L i a.site.named next.site (λ j. named_by O i j (grids.told_next O L past rest)) n next.foreign (next.of_site n y) (next.within n y)
 
   -- what it sent is in its queue
   lengths : length h.site_ahead ≤ length a.site.end.outgoing
@@ -198,16 +198,16 @@ module _ (O : Operations) (L : AreLawful O) (most i : ℕ) (first : O.t.Content)
   accepted = subst (λ o. O.t.is_valid o a.site.board) received_is pair_fits.2
 
   -- the site then shows the entry
-  shows_next : O.t.content (O.t.after (server_past_all O s h.site_ahead) a.site.board) ≡ O.t.meaning first ((edits (told_next O L past rest) ++ own_edits (drop (through_others 1 rest) rest)) ++ h.raw)
+  shows_next : O.t.content (O.t.after (server_past_all O s h.site_ahead) a.site.board) ≡ O.t.meaning first ((edits (grids.told_next O L past rest) ++ own_edits (drop (through_others 1 rest) rest)) ++ h.raw)
   unfolding old_counts
   shows_next =
       L.keeps.effect_one a.site.board (server_past_all O s h.site_ahead) (client_distinct O.t L.lawful stepping) accepted
       ∙ ap (λ x. O.t.meaning x (O.t.edit_of (server_past_all O s h.site_ahead) ∷ [])) h.shows
-      ∙ meaning_one O L first ((edits past ++ own_edits rest) ++ h.raw) (O.t.edit_of (server_past_all O s h.site_ahead)) (λ n x f k d. fresh n x (known f k n d))
-      ∙ same-meaning O L _ _ first row_next.1
+      ∙ grids.meaning_one O L first ((edits past ++ own_edits rest) ++ h.raw) (O.t.edit_of (server_past_all O s h.site_ahead)) (λ n x f k d. fresh n x (known f k n d))
+      ∙ grids.same-meaning O L _ _ first row_next.1
     where
       known : (f : O.Edit) → IsIn f ((edits past ++ own_edits rest) ++ h.raw) → (n : O.t.Name) → O.t.changes f n → IsKnown O old_counts n
-      known f k = All-at (ChangesKnown O (own_counts O i a.site.named (λ j. named_by O i j past))) ((edits past ++ own_edits rest) ++ h.raw) f k h.view_known
+      known f k = known_names.All-at (ChangesKnown O (own_counts O i a.site.named (λ j. named_by O i j past))) ((edits past ++ own_edits rest) ++ h.raw) f k h.view_known
 
   -- the ends are then in step
   stepped : InStepAt O.t 0 (O.t.after s h.from) (clients_past O h.site_ahead s) ss (O.t.after (received_operation O.t a.site.end m.heard m.op) a.site.board) held
@@ -218,31 +218,31 @@ module _ (O : Operations) (L : AreLawful O) (most i : ℕ) (first : O.t.Content)
       (sym left) (client_receives O.t L.lawful h.site_side stepping).4
 
   -- no more insertions of its own have reached it than it made
-  own_told : named_by O i i (told_next O L past rest) ≤ a.site.named
+  own_told : named_by O i i (grids.told_next O L past rest) ≤ a.site.named
   own_told =
-      let last = raw_last O L (λ j. named_by O i j past) i (named_by O i i (past ++ rest)) h.raw a.site.named h.raw_named in
-      omega (arith, ap (named_by O i i) whole, named_by-append O L i i (told_next O L past rest) (drop (through_others 1 rest) rest))
+      let last = known_names.raw_last O L (λ j. named_by O i j past) i (named_by O i i (past ++ rest)) h.raw a.site.named h.raw_named in
+      omega (arith, ap (named_by O i i) whole, known_names.named_by-append O L i i (grids.told_next O L past rest) (drop (through_others 1 rest) rest))
 
   -- it knows all that its view changes
-  view_next : AllByRecursion (ChangesKnown O new_counts) ((edits (told_next O L past rest) ++ own_edits (drop (through_others 1 rest) rest)) ++ h.raw)
+  view_next : AllByRecursion (ChangesKnown O new_counts) ((edits (grids.told_next O L past rest) ++ own_edits (drop (through_others 1 rest) rest)) ++ h.raw)
   unfolding old_counts new_counts
   view_next =
-      let all = all_changes_more O L old_counts new_counts more ((edits past ++ own_edits rest) ++ h.raw) h.view_known in
-      let list = All-first (ChangesKnown O new_counts) (edits past ++ own_edits rest) h.raw all in
-      let parts = each_shown (ChangesKnown O new_counts) rest next.edit (others (drop (through_others 1 rest) rest)) next.others_are
-      (All-second (ChangesKnown O new_counts) (edits past) (own_edits rest) list)
+      let all = known_names.all_changes_more O L old_counts new_counts more ((edits past ++ own_edits rest) ++ h.raw) h.view_known in
+      let list = known_names.All-first (ChangesKnown O new_counts) (edits past ++ own_edits rest) h.raw all in
+      let parts = grids.each_shown (ChangesKnown O new_counts) rest next.edit (others (drop (through_others 1 rest) rest)) next.others_are
+      (known_names.All-second (ChangesKnown O new_counts) (edits past) (own_edits rest) list)
       (λ n d. known_here n (next.changes n d)) in
-      All-append (ChangesKnown O new_counts) (edits (told_next O L past rest) ++ own_edits (drop (through_others 1 rest) rest)) h.raw
+      known_names.All-append (ChangesKnown O new_counts) (edits (grids.told_next O L past rest) ++ own_edits (drop (through_others 1 rest) rest)) h.raw
       (subst (λ p. AllByRecursion (ChangesKnown O new_counts) (p ++ own_edits (drop (through_others 1 rest) rest))) (sym told_is)
-      (All-append (ChangesKnown O new_counts) (edits past ++ edits (take (through_others 1 rest) rest)) (own_edits (drop (through_others 1 rest) rest))
-      (All-append (ChangesKnown O new_counts) (edits past) (edits (take (through_others 1 rest) rest)) (All-first (ChangesKnown O new_counts) (edits past) (own_edits rest) list) parts.0) parts.1))
-      (All-second (ChangesKnown O new_counts) (edits past ++ own_edits rest) h.raw all)
+      (known_names.All-append (ChangesKnown O new_counts) (edits past ++ edits (take (through_others 1 rest) rest)) (own_edits (drop (through_others 1 rest) rest))
+      (known_names.All-append (ChangesKnown O new_counts) (edits past) (edits (take (through_others 1 rest) rest)) (known_names.All-first (ChangesKnown O new_counts) (edits past) (own_edits rest) list) parts.0) parts.1))
+      (known_names.All-second (ChangesKnown O new_counts) (edits past ++ own_edits rest) h.raw all)
     where
-      known_here : (n : O.t.Name) → IsKnown O (λ k. named_by O i k (told_next O L past rest)) n → IsKnown O new_counts n
-      known_here n k = known_more O L (λ j. named_by O i j (told_next O L past rest)) new_counts n (own_counts-above O L i a.site.named (λ j. named_by O i j (told_next O L past rest)) own_told) k
+      known_here : (n : O.t.Name) → IsKnown O (λ k. named_by O i k (grids.told_next O L past rest)) n → IsKnown O new_counts n
+      known_here n k = known_names.known_more O L (λ j. named_by O i j (grids.told_next O L past rest)) new_counts n (known_names.own_counts-above O L i a.site.named (λ j. named_by O i j (grids.told_next O L past rest)) own_told) k
 
   -- the pair once the site received the edit
-  pub pair-shown : Paired O most i first (told_next O L past rest) (drop (through_others 1 rest) rest) held mine (link_left l outbox) (shown_at O a m falling)
+  pub pair-shown : Paired O most i first (grids.told_next O L past rest) (drop (through_others 1 rest) rest) held mine (link_left l outbox) (shown_at O a m falling)
   unfolding old_counts new_counts
   pair-shown = record {
     from = O.t.after s h.from;
@@ -259,13 +259,13 @@ module _ (O : Operations) (L : AreLawful O) (most i : ℕ) (first : O.t.Content)
     row = row_next.0;
     column = column_next.1;
     all_made = subst (λ ts. mine ≡ own_edits ts ++ h.raw) (sym whole) h.all_made;
-    shows = subst (λ o. O.t.content (O.t.after o a.site.board) ≡ O.t.meaning first ((edits (told_next O L past rest) ++ own_edits (drop (through_others 1 rest) rest)) ++ h.raw)) (sym received_is) shows_next;
-    up_inherits = inherits_clients O L h.site_ahead s h.raw h.up_inherits;
+    shows = subst (λ o. O.t.content (O.t.after o a.site.board) ≡ O.t.meaning first ((edits (grids.told_next O L past rest) ++ own_edits (drop (through_others 1 rest) rest)) ++ h.raw)) (sym received_is) shows_next;
+    up_inherits = grids.inherits_clients O L h.site_ahead s h.raw h.up_inherits;
     down_inherits = next.rest_inherits;
-    raw_named = subst (λ ts. RawNamed O (λ j. named_by O i j (told_next O L past rest)) i (named_by O i i ts) h.raw a.site.named) (sym whole)
-        (raw_named-more O L (λ j. named_by O i j past) (λ j. named_by O i j (told_next O L past rest)) i next.more (named_by O i i (past ++ rest)) h.raw a.site.named h.raw_named);
+    raw_named = subst (λ ts. RawNamed O (λ j. named_by O i j (grids.told_next O L past rest)) i (named_by O i i ts) h.raw a.site.named) (sym whole)
+        (known_names.raw_named-more O L (λ j. named_by O i j past) (λ j. named_by O i j (grids.told_next O L past rest)) i next.more (named_by O i i (past ++ rest)) h.raw a.site.named h.raw_named);
     rest_named = next.rest_named;
-    from_known = λ n x. subst (λ ts. IsKnown O (own_counts O i (named_by O i i ts) (λ j. named_by O i j (told_next O L past rest))) n) (sym whole)
+    from_known = λ n x. subst (λ ts. IsKnown O (own_counts O i (named_by O i i ts) (λ j. named_by O i j (grids.told_next O L past rest))) n) (sym whole)
         (from_held n (L.keeps.held_before h.from s n stepping.states.far_valid.0 x));
     board_known = λ n x. held_known n (L.keeps.held_before a.site.board (server_past_all O s h.site_ahead) n accepted (subst (λ o. O.t.holds (O.t.after o a.site.board) n) received_is x));
     view_known = view_next;
@@ -281,13 +281,13 @@ module _ (O : Operations) (L : AreLawful O) (most i : ℕ) (first : O.t.Content)
   }
     where
       held_known : (n : O.t.Name) → O.t.holds a.site.board n ⊎ O.t.inserts (O.t.edit_of (server_past_all O s h.site_ahead)) n → IsKnown O new_counts n
-      held_known n (inl x) = known_more O L old_counts new_counts n more (h.board_known n x)
+      held_known n (inl x) = known_names.known_more O L old_counts new_counts n more (h.board_known n x)
       held_known n (inr x) = known_new n x
 
-      from_held : (n : O.t.Name) → O.t.holds h.from n ⊎ O.t.inserts (O.t.edit_of s) n → IsKnown O (own_counts O i (named_by O i i (past ++ rest)) (λ j. named_by O i j (told_next O L past rest))) n
-      from_held n (inl x) = known_more O L (own_counts O i (named_by O i i (past ++ rest)) (λ j. named_by O i j past)) (own_counts O i (named_by O i i (past ++ rest)) (λ j. named_by O i j (told_next O L past rest))) n
-          (own_counts-more O L i (named_by O i i (past ++ rest)) (named_by O i i (past ++ rest)) (λ j. named_by O i j past) (λ j. named_by O i j (told_next O L past rest)) (le_refl _) next.more) (h.from_known n x)
-      from_held n (inr x) = known_other O L i (named_by O i i (past ++ rest)) next.site (λ j. named_by O i j (told_next O L past rest)) n next.foreign (next.of_site n x) (next.within n x)
+      from_held : (n : O.t.Name) → O.t.holds h.from n ⊎ O.t.inserts (O.t.edit_of s) n → IsKnown O (own_counts O i (named_by O i i (past ++ rest)) (λ j. named_by O i j (grids.told_next O L past rest))) n
+      from_held n (inl x) = known_names.known_more O L (own_counts O i (named_by O i i (past ++ rest)) (λ j. named_by O i j past)) (own_counts O i (named_by O i i (past ++ rest)) (λ j. named_by O i j (grids.told_next O L past rest))) n
+          (known_names.own_counts-more O L i (named_by O i i (past ++ rest)) (named_by O i i (past ++ rest)) (λ j. named_by O i j past) (λ j. named_by O i j (grids.told_next O L past rest)) (le_refl _) next.more) (h.from_known n x)
+      from_held n (inr x) = known_names.known_other O L i (named_by O i i (past ++ rest)) next.site (λ j. named_by O i j (grids.told_next O L past rest)) n next.foreign (next.of_site n x) (next.within n x)
 
   -- the site keeps the order of its items
   pub shown_keeps_order : O.t.keeps_order a.site.board (O.t.after (received_operation O.t a.site.end m.heard m.op) a.site.board)
@@ -334,15 +334,15 @@ module _ (O : Operations) (L : AreLawful O) where
         let short : length a.site.end.outgoing < most_unacknowledged = leb-false most_unacknowledged (length a.site.end.outgoing) answer.1 in
         let known_counts : ℕ → ℕ = own_counts O i a.site.named (λ j. named_by O i j past) in
         let more_counts : ℕ → ℕ = own_counts O i (a.site.named + O.insertions (O.t.edit_of op)) (λ j. named_by O i j past) in
-        let more : (j : ℕ) → known_counts j ≤ more_counts j = own_counts-more O L i a.site.named (a.site.named + O.insertions (O.t.edit_of op)) (λ j. named_by O i j past) (λ j. named_by O i j past) (omega arith) (λ j. le_refl _) in
+        let more : (j : ℕ) → known_counts j ≤ more_counts j = known_names.own_counts-more O L i a.site.named (a.site.named + O.insertions (O.t.edit_of op)) (λ j. named_by O i j past) (λ j. named_by O i j past) (omega arith) (λ j. le_refl _) in
         let accepted : O.t.is_valid op a.site.board =
-        L.command_accepted a.site.board command i a.site.named op (λ n x e. own_known O L i a.site.named (λ j. named_by O i j past) n h.positive e (h.board_known n x)) made_at in
+        L.command_accepted a.site.board command i a.site.named op (λ n x e. known_names.own_known O L i a.site.named (λ j. named_by O i j past) n h.positive e (h.board_known n x)) made_at in
         let changes : ChangesHeld O known_counts (O.t.edit_of op) = λ n x. elim (L.keeps.changes_held a.site.board op n accepted x) [ inl held ↦ inl (h.board_known n held) | inr new ↦ inr new ] in
         let all : List O.Edit = (edits past ++ own_edits rest) ++ h.raw in
         let effect : O.t.content (O.t.after op a.site.board) ≡ O.t.meaning first (all ++ O.t.edit_of op ∷ []) =
         L.keeps.effect_one a.site.board op (client_distinct O.t L.lawful step) accepted
         ∙ ap (λ x. O.t.meaning x (O.t.edit_of op ∷ [])) h.shows
-        ∙ meaning_one O L first all (O.t.edit_of op) (λ n x f m d. fresh n x (All-at (ChangesKnown O known_counts) all f m h.view_known n d) next) in
+        ∙ grids.meaning_one O L first all (O.t.edit_of op) (λ n x f m d. fresh n x (known_names.All-at (ChangesKnown O known_counts) all f m h.view_known n d) next) in
         record {
           from = h.from;
           site_ahead = h.site_ahead ++ op ∷ [];
@@ -357,20 +357,20 @@ module _ (O : Operations) (L : AreLawful O) where
           small = h.small;
           enough = h.enough;
           raw = h.raw ++ O.t.edit_of op ∷ [];
-          raw_sent = ap (edits_sent O) (ups-append a.up (UpOp (next_message a.site.end op) ∷ [])) ∙ edits_sent-append O L (ups a.up) (message a.site.end op ∷ [])
+          raw_sent = ap (edits_sent O) (ups-append a.up (UpOp (next_message a.site.end op) ∷ [])) ∙ known_names.edits_sent-append O L (ups a.up) (message a.site.end op ∷ [])
               ∙ ap (λ es. es ++ O.t.edit_of op ∷ []) h.raw_sent;
-          row = row-more O L h.site_ahead h.raw op _ h.row;
+          row = grids.row-more O L h.site_ahead h.raw op _ h.row;
           column = h.column;
           all_made = ap (λ es. es ++ O.t.edit_of op ∷ []) h.all_made ∙ append_assoc (own_edits (past ++ rest)) h.raw (O.t.edit_of op ∷ []);
           shows = effect ∙ ap (O.t.meaning first) (append_assoc (edits past ++ own_edits rest) h.raw (O.t.edit_of op ∷ []));
-          up_inherits = inherits-end O L h.site_ahead h.raw op (O.t.edit_of op) h.up_inherits (λ n x. x);
+          up_inherits = known_names.inherits-end O L h.site_ahead h.raw op (O.t.edit_of op) h.up_inherits (λ n x. x);
           down_inherits = h.down_inherits;
-          raw_named = raw_named-end O L (λ j. named_by O i j past) i (named_by O i i (past ++ rest)) h.raw a.site.named (O.t.edit_of op) h.raw_named next (L.command_edit a.site.board command i a.site.named op made_at) changes;
+          raw_named = known_names.raw_named-end O L (λ j. named_by O i j past) i (named_by O i i (past ++ rest)) h.raw a.site.named (O.t.edit_of op) h.raw_named next (L.command_edit a.site.board command i a.site.named op made_at) changes;
           rest_named = h.rest_named;
           board_known = λ n x. held_known n next more (L.keeps.held_before a.site.board op n accepted x);
           from_known = h.from_known;
           view_known = subst (AllByRecursion (ChangesKnown O more_counts)) (append_assoc (edits past ++ own_edits rest) h.raw (O.t.edit_of op ∷ []))
-              (All-append (ChangesKnown O more_counts) all (O.t.edit_of op ∷ []) (all_changes_more O L known_counts more_counts more all h.view_known) (λ n x. held_known n next more (L.keeps.changes_held a.site.board op n accepted x), tt));
+              (known_names.All-append (ChangesKnown O more_counts) all (O.t.edit_of op ∷ []) (known_names.all_changes_more O L known_counts more_counts more all h.view_known) (λ n x. held_known n next more (L.keeps.changes_held a.site.board op n accepted x), tt));
           falling_foreign = h.falling_foreign;
           positive = h.positive;
           site_number = h.site_number;
@@ -384,15 +384,15 @@ module _ (O : Operations) (L : AreLawful O) where
       where
         fresh : (n : O.t.Name) → O.t.inserts (O.t.edit_of op) n → IsKnown O (own_counts O i a.site.named (λ j. named_by O i j past)) n → IsTrue (O.bears_next i a.site.named (O.t.edit_of op)) → ⊥
         fresh n x k next =
-            let below = own_known O L i a.site.named (λ j. named_by O i j past) n h.positive (L.next_site i a.site.named (O.t.edit_of op) n next x) k in
+            let below = known_names.own_known O L i a.site.named (λ j. named_by O i j past) n h.positive (L.next_site i a.site.named (O.t.edit_of op) n next x) k in
             let above = L.next_above i a.site.named (O.t.edit_of op) n next x in
             omega arith
 
         held_known : (n : O.t.Name) → IsTrue (O.bears_next i a.site.named (O.t.edit_of op))
             → ((j : ℕ) → own_counts O i a.site.named (λ k. named_by O i k past) j ≤ own_counts O i (a.site.named + O.insertions (O.t.edit_of op)) (λ k. named_by O i k past) j)
             → O.t.holds a.site.board n ⊎ O.t.inserts (O.t.edit_of op) n → IsKnown O (own_counts O i (a.site.named + O.insertions (O.t.edit_of op)) (λ j. named_by O i j past)) n
-        held_known n next more (inl x) = known_more O L (own_counts O i a.site.named (λ k. named_by O i k past)) (own_counts O i (a.site.named + O.insertions (O.t.edit_of op)) (λ k. named_by O i k past)) n more (h.board_known n x)
-        held_known n next more (inr x) = known_own O L i (a.site.named + O.insertions (O.t.edit_of op)) (λ k. named_by O i k past) n (L.next_site i a.site.named (O.t.edit_of op) n next x) (L.next_within i a.site.named (O.t.edit_of op) n next x)
+        held_known n next more (inl x) = known_names.known_more O L (own_counts O i a.site.named (λ k. named_by O i k past)) (own_counts O i (a.site.named + O.insertions (O.t.edit_of op)) (λ k. named_by O i k past)) n more (h.board_known n x)
+        held_known n next more (inr x) = known_names.known_own O L i (a.site.named + O.insertions (O.t.edit_of op)) (λ k. named_by O i k past) n (L.next_site i a.site.named (O.t.edit_of op) n next x) (L.next_within i a.site.named (O.t.edit_of op) n next x)
 
     -- its command's operation
     made_at : O.operation_of a.site.board command i a.site.named ≡ Ok op
@@ -405,7 +405,7 @@ module _ (O : Operations) (L : AreLawful O) where
     -- is valid on its board
     made_valid : O.t.is_valid op a.site.board
     made_valid =
-        L.command_accepted a.site.board command i a.site.named op (λ n x e. own_known O L i a.site.named (λ j. named_by O i j past) n h.positive e (h.board_known n x)) made_at
+        L.command_accepted a.site.board command i a.site.named op (λ n x e. known_names.own_known O L i a.site.named (λ j. named_by O i j past) n h.positive e (h.board_known n x)) made_at
 
     -- and keeps the order of its items
     pub made_keeps_order : O.t.keeps_order a.site.board (O.t.after op a.site.board)
@@ -416,7 +416,7 @@ module _ (O : Operations) (L : AreLawful O) where
     made_none_back n known x = elim (L.keeps.held_before a.site.board op n made_valid x) [
       | inl held ↦ held
       | inr new ↦ (
-          let below = own_known O L i a.site.named (λ j. named_by O i j past) n h.positive (L.next_site i a.site.named (O.t.edit_of op) n made_next new) known in
+          let below = known_names.own_known O L i a.site.named (λ j. named_by O i j past) n h.positive (L.next_site i a.site.named (O.t.edit_of op) n made_next new) known in
           let above = L.next_above i a.site.named (O.t.edit_of op) n made_next new in
           absurd (omega arith))
     ]

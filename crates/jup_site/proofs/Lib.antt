@@ -1,0 +1,16 @@
+pub mod Beside
+pub mod Counts
+pub mod Courses
+pub mod Fits
+pub mod Follows
+pub mod Items
+pub mod Joins
+pub mod Known
+pub mod Later
+pub mod Numbers
+pub mod Pairs
+pub mod Past
+pub mod PastBoards
+pub mod Stars
+pub mod Turns
+pub mod Views

@@ -73,6 +73,23 @@ static uint32_t opens(jup_client *client) {
     return jup_open(client, 1);
 }
 
+#define TOKEN "0f1e2d3c4b5a69788796a5b4c3d2e1f0"
+
+static uint32_t opens_link(jup_client *client) {
+    return jup_open_lasting(client, 1);
+}
+
+// All that waits for the connection of a link comes out. Without memory less does, and the rest by a later call.
+static uint32_t takes_all(jup_client *client) {
+    char bytes[256];
+    size_t count = jup_take(client, (uint8_t *)bytes, sizeof bytes), more;
+    is_counting = 0;
+    while ((more = jup_take(client, (uint8_t *)bytes + count, sizeof bytes - count)) > 0) count += more;
+    static const char due[] = "batch 0 0 2\ndo 1 1 text ins 0 1.1 97\ndo 1 3 toggle set on\n";
+    expect(count == strlen(due) && memcmp(bytes, due, count) == 0, "all that waits comes out once, in order");
+    return JUP_OK;
+}
+
 static uint32_t hears_greeting(jup_client *client) {
     return feed(client, greeted);
 }
@@ -175,6 +192,67 @@ static void try_call(const growth *it) {
     jup_close(&client);
 }
 
+// Whether just this comes out for the connection of a link.
+static int writes(jup_client *client, const char *due) {
+    char bytes[256];
+    size_t count = 0, more;
+    while ((more = jup_take(client, (uint8_t *)bytes + count, sizeof bytes - count)) > 0) count += more;
+    return jup_waiting(client) == 0 && count == strlen(due) && memcmp(bytes, due, count) == 0;
+}
+
+// A client whose link carries an open session.
+static jup_client linked(const growth *it) {
+    jup_client client = JUP_CLIENT_NONE;
+    expect_of(it, opens_link(&client) == JUP_OK && writes(&client, "hello 4\n"), "a client is opened");
+    expect_of(it, feed(&client, "link " TOKEN " 300\n") == JUP_OK && feed(&client, greeted) == JUP_OK && is_site(&client, 1, 0), "its session is open");
+    return client;
+}
+
+static void try_open_link(const growth *it) {
+    jup_client client = JUP_CLIENT_NONE;
+    uint32_t fault, answer = tried(it, &client);
+    if (answer == JUP_NO_MEMORY) {
+        expect_of(it, jup_stage(&client, &fault) == JUP_NONE && jup_waiting(&client) == 0, "there is no client");
+        answer = opens_link(&client);
+    }
+    expect_of(it, answer == JUP_OK && jup_stage(&client, &fault) == JUP_GREETING && writes(&client, it->after), "it opens a client");
+    jup_close(&client);
+}
+
+static void try_resume(const growth *it) {
+    jup_client client = linked(it);
+    expect_of(it, jup_cut(&client) == JUP_OK, "the connection breaks");
+    uint32_t answer = tried(it, &client);
+    if (answer == JUP_NO_MEMORY) {
+        expect_of(it, is_site(&client, 1, 0) && writes(&client, ""), "the client is as it was");
+        answer = it->call(&client);
+    }
+    expect_of(it, answer == JUP_OK && writes(&client, it->after), "it asks another connection once");
+    jup_close(&client);
+}
+
+static void try_take(const growth *it) {
+    jup_client client = linked(it);
+    expect_of(it, edits(&client) == JUP_OK && tried(it, &client) == JUP_OK && jup_waiting(&client) == 0, "what waits is taken");
+    jup_close(&client);
+}
+
+// An edit of another site, and an edit of one's own.
+static void try_link(const growth *it) {
+    jup_client client = linked(it);
+    uint32_t answer = tried(it, &client);
+    if (answer == JUP_NO_MEMORY && it->call == edits) {
+        expect_of(it, is_site(&client, 1, 0) && tells_nothing(&client) && writes(&client, ""), "the client is as it was");
+        answer = it->call(&client);
+    }
+    if (answer == JUP_OK) {
+        expect_of(it, answers(&client, "show", it->board) && is_changed(&client, it->changes) && writes(&client, it->after), "it is done once");
+    } else {
+        expect_of(it, answer == JUP_NO_MEMORY && is_over(&client, JUP_NO_MEMORY) && writes(&client, ""), "it is over, and gives the link up");
+    }
+    jup_close(&client);
+}
+
 // Fails the first allocation of a call, then the second and so on, until none fails.
 static void fail_each(const growth *it) {
     silent = 0;
@@ -206,6 +284,11 @@ int main(void) {
         { "jup_ping, while a ping waits", try_call, jup_ping, 1, "ping 1\n", "ping 1\nping 2\n", shown, 0, 0 },
         { "jup_bye", try_call, jup_bye, 0, "", "bye\n", shown, 0, 0 },
         { "jup_bye, while a ping waits", try_call, jup_bye, 1, "ping 1\n", "ping 1\nbye\n", shown, 0, 0 },
+        { "jup_open_lasting", try_open_link, opens_link, 1, "", "hello 4\n", shown, 0, 0 },
+        { "jup_feed of an edit, over a link", try_link, hears_edit, 1, "", "", HEARD, 2, 0 },
+        { "jup_edit, over a link", try_link, edits, 1, "", EDIT, EDITED, 2, 0 },
+        { "jup_take, over a link", try_take, takes_all, 1, "", "", EDITED, 2, 0 },
+        { "jup_resume", try_resume, jup_resume, 1, "", "resume " TOKEN " 10\n", shown, 0, 0 },
         { "jup_ask", try_call, asks, 1, "", "batch 0 0 1\ndo 1 1 text ins 0 1.1 97\n", INSERTED, 1, JUP_UNTOLD },
     };
     for (size_t k = 0; k < sizeof all / sizeof *all; k++) fail_each(&all[k]);

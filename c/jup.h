@@ -7,6 +7,8 @@
 // if the old copy is then not used. A call on a client that is closed or was never opened answers JUP_CLOSED, or says that there is nothing.
 //
 // Threads: a client takes one call at a time. It may go from thread to thread if a lock, or the like, orders the calls. Clients share nothing.
+// Links: a client of jup_open has one connection, and its session ends with it (protocol 3). A client of jup_open_lasting has a link that outlives its
+// connections (protocol 4). The program says by jup_cut that a connection broke, and by jup_resume that it has another one. Meanwhile its user edits on.
 // Memory: malloc, realloc and free of the program. A call for which they have no memory answers JUP_NO_MEMORY.
 // Answers: JUP_OK, the number of a fault as docs/WIRE.md lists them, or one of the numbers from 90 on, which are below.
 //
@@ -14,6 +16,11 @@
 // writes overlaps nothing else that it is given. A jup_client is all zero, or as these functions left it.
 #ifndef JUP_H
 #define JUP_H
+
+// The version of this header. A program that was built against an older one runs with the library.
+//     1: all functions up to jup_label
+//     2: jup_open_lasting, jup_cut, jup_resume, jup_elapse, jup_token, jup_arrived, their answers, and JUP_MISPLACED
+#define JUP_VERSION 2
 
 #include <stddef.h>
 #include <stdint.h>
@@ -37,17 +44,25 @@ enum {
     JUP_BAD_PLACE = 4,
     JUP_BAD_VALUE = 5,
     JUP_LONG_TEXT = 6,
-    JUP_BACKLOG = 7, /* 1,024 edits are not acknowledged: feed what the server sends, and try again */
+    JUP_BACKLOG = 7, /* 1,024 edits are not acknowledged, or of a lasting link 1,000 pings: feed what the server sends, and try again */
     JUP_NO_MEMORY = 8,
     JUP_SPENT = 9,
     JUP_BAD_LABEL = 14,
     JUP_BAD_BATCH = 15,
     JUP_STOPPED = 25,
+    JUP_NO_SUCH_LINK = 35, /* the server has ended the link, or does not know it: jup_arrived says what it took, if the server said so */
+    JUP_BAD_TAKEN = 36,    /* a count of lines that the server or the client can't have */
+    JUP_LINES_SPENT = 37,  /* the link has all lines that it may have: only jup_bye is left */
+    JUP_BAD_VERSION = 42,  /* the server does not have protocol 4: connect again with jup_open */
+    JUP_MISPLACED = 44,    /* a line out of its place. So is the server's own goodbye */
     JUP_CLOSED = 90,      /* the client is closed, or was never opened */
     JUP_NOT_OPEN = 91,    /* the server has not sent its whole board yet */
     JUP_BAD_COMMAND = 92, /* a command of no kind, or a character that is no Unicode scalar value */
     JUP_STRANGE = 93,     /* the server ended the session with a number that is no fault's */
-    JUP_UNTOLD = 94       /* jup_ask did what was asked, and had no memory for what it tells */
+    JUP_UNTOLD = 94,      /* jup_ask did what was asked, and had no memory for what it tells */
+    JUP_CUT = 95,         /* this connection does not carry the link: close it, and connect again by jup_resume */
+    JUP_CARRIED = 96,     /* a connection carries the link, or is to: jup_cut comes first */
+    JUP_NOT_LASTING = 97  /* jup_open opened the client: it has one connection */
 };
 
 // How far a session is.
@@ -105,13 +120,15 @@ void jup_close(jup_client *client);
 uint32_t jup_stage(jup_client *client, uint32_t *fault);
 
 // Takes bytes that the server sent, cut anywhere. The client hears their lines in order. A fault ends the session, and is the answer of each later call. The
-// answer JUP_NO_MEMORY is such a fault too: an allocation failed here, or the server reports that one failed there.
+// answer JUP_NO_MEMORY is such a fault too: an allocation failed here, or the server reports that one failed there. JUP_CUT alone ends no session: it says that
+// this connection does not carry the lasting link. After any other end of a lasting link take and send what waits once more, since the server waits for it.
 uint32_t jup_feed(jup_client *client, const uint8_t *bytes, size_t len);
 
-// How many bytes wait to be sent.
+// How many bytes wait to be sent. Of a lasting link it is 1 if something waits for this connection, and 0 if not: take until jup_take answers 0.
 size_t jup_waiting(jup_client *client);
 
-// Moves up to len of the bytes that wait, the oldest first, and answers how many. Each comes out once: send them all, in this order.
+// Moves up to len of the bytes that wait, the oldest first, and answers how many. Each comes out once: send them all, in this order. Of a lasting link they
+// are for the present connection. If there is no memory for what such a client keeps, fewer come, and the others wait.
 size_t jup_take(jup_client *client, uint8_t *to, size_t len);
 
 // Makes one edit of 1 to 32 commands, each of the board after those before it. The board shows it immediately, and its message waits to be sent. If a command is
@@ -124,7 +141,7 @@ uint32_t jup_ping(jup_client *client);
 // 1 if the server has answered the last ping, and 0 if not, or if there was none.
 uint32_t jup_is_synced(jup_client *client);
 
-// Says goodbye. The server then ends the session.
+// Says goodbye. The server then ends the session: one connection by ending its bytes, and a lasting link by a last line, for which jup_feed answers JUP_MISPLACED.
 uint32_t jup_bye(jup_client *client);
 
 // Does what a line asks for, as the program jup takes it, without its line feed. What jup would print is copied as far as there is room, and told is its whole
@@ -148,6 +165,31 @@ uint32_t jup_text(jup_client *client, uint16_t win, uint16_t wid, uint32_t place
 
 // Copies the label at a place of a list as far as there is room. len is its whole length. JUP_BAD_PLACE if there is no such list, or no item there.
 uint32_t jup_label(jup_client *client, uint16_t win, uint16_t wid, uint32_t place, uint8_t *to, size_t to_len, size_t *len);
+
+// Since version 2.
+
+// Opens a client of a link that outlives its connections, as jup_open opens one of a connection. Its first line then waits to be sent. A server without
+// protocol 4 ends it by JUP_BAD_VERSION.
+uint32_t jup_open_lasting(jup_client *client, uint32_t watch);
+
+// Says that the connection broke. The stage is as it was, and edits go on. What was taken and did not arrive comes again on the next connection. Without a
+// connection nothing changes.
+uint32_t jup_cut(jup_client *client);
+
+// Asks a new connection to carry the link: the line for that waits to be sent. Without memory nothing changes. It answers JUP_CARRIED if neither jup_cut nor the
+// answer JUP_CUT came before, and the number of the end if the session is over.
+uint32_t jup_resume(jup_client *client);
+
+// Says that so many seconds passed since the last such call. It answers 1 if no byte has come on this connection for 90 seconds: then close it, and call
+// jup_cut. If nothing was taken for 60 seconds, what the client has to send then waits.
+uint32_t jup_elapse(jup_client *client, uint32_t seconds);
+
+// Copies the token of the link, which has 32 digits, as far as there is room. The server lets the link wait so many seconds without a connection. kept is 1 if
+// what the server has confirmed outlives the server. JUP_NOT_OPEN until the server has opened the link.
+uint32_t jup_token(jup_client *client, uint8_t *to, size_t len, uint32_t *seconds, uint32_t *kept);
+
+// How many of the client's edits had their effect: the first ones that it made. JUP_NOT_OPEN unless the link is over and the server has said that.
+uint32_t jup_arrived(jup_client *client, uint32_t *edits);
 
 #ifdef __cplusplus
 }

@@ -277,6 +277,7 @@ static void test_labels(void) {
     size_t count = 99;
     expect(feed(&client, "batch 0 0 1\ndo 2 4 list ins 1 2.1 milk\n") == JUP_OK, "a second item comes");
     expect(jup_label(&client, 2, 4, 0, label, 2, &count) == JUP_OK && count == 3 && memcmp(label, "te..", 4) == 0, "a label, as far as there is room");
+    expect(jup_label(&client, 2, 4, 0, label, 4, &count) == JUP_OK && count == 3 && memcmp(label, "tea.", 4) == 0, "nothing is written after a label");
     expect(jup_label(&client, 2, 4, 1, label, 4, &count) == JUP_OK && count == 4 && memcmp(label, "milk", 4) == 0, "a whole label");
     expect(jup_label(&client, 2, 4, 2, label, 4, &count) == JUP_BAD_PLACE && count == 0, "there is no third label");
     expect(jup_label(&client, 2, 3, 0, label, 4, &count) == JUP_BAD_PLACE && count == 0, "a text has no label");

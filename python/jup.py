@@ -8,6 +8,11 @@ The module loads `libjup.so` from its own folder, or from the path in the enviro
     client.edit(jup.insert_char(1, 1, 0, "a"))
     for change in client.changes(): ...    # what the board took
 
+A `LastingClient` has a link that outlives its connections. While none carries it, its user edits on.
+
+    client.cut()                           # the connection broke
+    client.resume()                        # there is another one: take and send
+
 A client takes one call at a time. A refused call raises `Fault`, and its `number` says why, as docs/WIRE.md and c/jup.h list them.
 """
 import ctypes
@@ -17,7 +22,7 @@ from collections.abc import Iterator
 from typing import NamedTuple
 
 __all__ = [
-    "Client", "Change", "Command", "Fault", "Kind", "Site", "Stage", "Widget", "WidgetKind",
+    "Client", "Change", "Command", "Cut", "Fault", "Kind", "LastingClient", "Site", "Stage", "Terms", "Widget", "WidgetKind",
     "delete", "insert_char", "insert_label", "relabel", "set_slider", "set_toggle",
 ]
 
@@ -26,7 +31,9 @@ MOST_LABEL, MOST_COMMANDS = 48, 32
 # How many bytes what a line tells has room for at first. A longer text is asked for again.
 ROOM = 65536
 # The numbers of the library that this module tells apart.
-NO_WIDGET, BAD_LABEL = 2, 14
+NO_WIDGET, BAD_LABEL, NOT_OPEN, CUT = 2, 14, 91, 95
+# How many digits a token has.
+TOKEN_DIGITS = 32
 
 
 class Stage(enum.IntEnum):
@@ -66,6 +73,21 @@ class Fault(Exception):
     def __init__(self, number: int) -> None:
         super().__init__(f"fault {number}")
         self.number = number
+
+
+class Cut(Fault):
+    """This connection does not carry the link. Close it, and connect again."""
+
+
+class Terms(NamedTuple):
+    """What a server said as it opened a link.
+
+    `token` names the link, which waits for `seconds` without a connection. If it is `kept`, what the server has confirmed outlives the server.
+    """
+
+    token: str
+    seconds: int
+    kept: bool
 
 
 class Site(NamedTuple):
@@ -147,9 +169,17 @@ _window = _function("jup_window", _U32, _SIZE, _U16_OUT, _SIZE_OUT)
 _widget_at = _function("jup_widget_at", _U32, _SIZE, _SIZE, ctypes.POINTER(Widget))
 _text = _function("jup_text", _U32, _U16, _U16, _U32, _U32_OUT, _SIZE, _SIZE_OUT)
 _label = _function("jup_label", _U32, _U16, _U16, _U32, ctypes.c_void_p, _SIZE, _SIZE_OUT)
+_open_lasting = _function("jup_open_lasting", _U32, _U32)
+_cut = _function("jup_cut", _U32)
+_resume = _function("jup_resume", _U32)
+_elapse = _function("jup_elapse", _U32, _U32)
+_token = _function("jup_token", _U32, ctypes.c_void_p, _SIZE, _U32_OUT, _U32_OUT)
+_arrived = _function("jup_arrived", _U32, _U32_OUT)
 
 
 def _check(number: int) -> None:
+    if number == CUT:
+        raise Cut(number)
     if number:
         raise Fault(number)
 
@@ -157,10 +187,12 @@ def _check(number: int) -> None:
 class Client:
     """A client of one session. It is closed by `close`, at the end of a `with`, or when nobody holds it."""
 
+    _opens = staticmethod(_open)
+
     def __init__(self, watch: bool = False) -> None:
         """Opens a client, whose greeting waits to be sent. Only with `watch` does it keep changes for `changes`."""
         self._handle = _Handle()
-        _check(_open(self._handle, int(watch)))
+        _check(self._opens(self._handle, int(watch)))
 
     def close(self) -> None:
         """Frees the client. Each later call raises the fault 90, or says that there is nothing."""
@@ -192,10 +224,15 @@ class Client:
 
     def take(self) -> bytes:
         """All bytes that wait to be sent. Each comes out once."""
-        count = _waiting(self._handle)
-        room = ctypes.create_string_buffer(max(count, 1))
-        taken = _take(self._handle, room, count)
-        return room.raw[:taken]
+        room, taken = ctypes.create_string_buffer(ROOM), []
+        while count := _take(self._handle, room, ROOM):
+            taken.append(room.raw[:count])
+        return b"".join(taken)
+
+    @property
+    def is_waiting(self) -> bool:
+        """Whether bytes wait to be sent."""
+        return _waiting(self._handle) > 0
 
     def edit(self, *commands: Command) -> None:
         """Makes one edit of 1 to 32 commands, each of the board after those before it. If one is refused, nothing changes."""
@@ -272,6 +309,47 @@ class Client:
             _check(_label(self._handle, win, wid, place, room, MOST_LABEL, ctypes.byref(size)))
             labels.append(room.raw[: size.value].decode("ascii"))
         return labels
+
+
+class LastingClient(Client):
+    """A client of a link that outlives its connections. While none carries the link, its user edits on. What `take` returns is for the present connection.
+
+    `feed` raises `Cut` if this connection does not carry the link, which ends no session. A server without protocol 4 ends it by the fault 42.
+    """
+
+    _opens = staticmethod(_open_lasting)
+
+    def cut(self) -> None:
+        """The connection broke. What was taken and did not arrive comes again on the next one."""
+        _check(_cut(self._handle))
+
+    def resume(self) -> None:
+        """Asks a new connection to carry the link: the line for that waits to be sent."""
+        _check(_resume(self._handle))
+
+    def elapse(self, seconds: int) -> bool:
+        """So many seconds passed since this was last told. Returns whether no byte has come for 90: then close the connection, and call `cut`."""
+        return bool(_elapse(self._handle, seconds))
+
+    @property
+    def terms(self) -> Terms | None:
+        """What the server said as it opened the link, once it has."""
+        room, seconds, kept = ctypes.create_string_buffer(TOKEN_DIGITS), _U32(), _U32()
+        answer = _token(self._handle, room, TOKEN_DIGITS, ctypes.byref(seconds), ctypes.byref(kept))
+        if answer == NOT_OPEN:
+            return None
+        _check(answer)
+        return Terms(room.raw.decode("ascii"), seconds.value, bool(kept.value))
+
+    @property
+    def arrived(self) -> int | None:
+        """How many of its edits had their effect, once the link is over and the server has said so. They are the first that it made."""
+        edits = _U32()
+        answer = _arrived(self._handle, ctypes.byref(edits))
+        if answer == NOT_OPEN:
+            return None
+        _check(answer)
+        return edits.value
 
 
 def _with_label(kind: Kind, win: int, wid: int, place: int, label: str) -> Command:

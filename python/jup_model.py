@@ -1,6 +1,7 @@
 """jup_model: replaces the module jup in tests where the library is not built. It is the plain client of conformance/fakes, with what `jupfile` calls."""
 import enum
 import os
+import re
 import sys
 from typing import NamedTuple
 
@@ -10,8 +11,19 @@ import reading
 import sites
 
 Fault = boards.Fault
-# The number of a line out of its place.
-MISPLACED = 44
+# The numbers of faults that the model tells apart.
+NO_SUCH_LINK, BAD_TAKEN, MISPLACED, CUT = 35, 36, 44, 95
+# An end says `got` at the latest when it has taken so many lines since the last.
+OWES_GOT = 64
+# After how many seconds without a byte a connection is given up.
+SILENCE = 90
+
+
+class Cut(Fault):
+    """The connection does not carry the link."""
+
+    def __init__(self) -> None:
+        super().__init__(CUT)
 
 
 class Stage(enum.IntEnum):
@@ -24,6 +36,12 @@ class WidgetKind(enum.IntEnum):
 
 class Kind(enum.IntEnum):
     NOTHING, INSERT_CHAR, INSERT_LABEL, DELETE = range(4)
+
+
+class Terms(NamedTuple):
+    token: str
+    seconds: int
+    kept: bool
 
 
 class Site(NamedTuple):
@@ -156,3 +174,81 @@ class Client:
         if (win, wid) not in self.texts:
             self.texts[win, wid] = "".join(chr(value) for _, value in self.plain.board.windows[win][wid].items)
         return self.texts[win, wid]
+
+
+class LastingClient(Client):
+    """A client of a link that outlives its connections. `up` has the lines that it has put and the server has not confirmed."""
+
+    def __init__(self, watch: bool = False) -> None:
+        self.up: list[str] = []
+        self.confirmed = self.written = self.taken = self.said = 0
+        self.first, self.terms, self.is_carried, self.is_begun, self.is_got_due = "hello 4", None, True, False, False
+        # For how many seconds no byte has come on this connection.
+        self.silent = 0
+        super().__init__(watch)
+        self.up.clear()
+
+    def sendall(self, data: bytes) -> None:
+        self.up += data.decode("latin-1").splitlines()
+
+    def take(self) -> bytes:
+        if not self.is_carried:
+            return b""
+        lines, self.first = [self.first] if self.first else [], None
+        if self.is_begun and (self.is_got_due or self.taken - self.said >= OWES_GOT):
+            lines.append(f"got {self.taken}")
+            self.said, self.is_got_due = self.taken, False
+        if self.is_begun and self.stage != Stage.OVER:
+            lines += self.up[self.written - self.confirmed :]
+            self.written = self.confirmed + len(self.up)
+        return "".join(f"{it}\n" for it in lines).encode("latin-1")
+
+    def feed(self, data: bytes) -> None:
+        if not self.is_carried:
+            raise Cut
+        self.silent = 0
+        super().feed(data)
+
+    def read(self, line: str) -> None:
+        word, *rest = line.split(" ")
+        if not self.is_begun:
+            self.begin(line)
+        elif word == "got":
+            self.confirm(int(rest[0]), self.written)
+            del self.up[: int(rest[0]) - self.confirmed]
+            self.confirmed = int(rest[0])
+        else:
+            self.taken += 1
+            self.is_got_due |= word in ("bye", "error")
+            super().read(line)
+
+    def begin(self, line: str) -> None:
+        """Judges the server's first line on a connection."""
+        found = re.fullmatch(r"(link|resumed|ended|error) (?:([0-9a-f]{32}) )?(\d+)", line)
+        if not found or (found[1] == "link") != (self.terms is None and found[1] != "error"):
+            self.cut()
+            raise Cut
+        if found[1] == "link":
+            self.terms = Terms(found[2], int(found[3]), False)
+        elif found[1] == "resumed":
+            self.confirm(int(found[3]), self.confirmed + len(self.up))
+            self.written, self.is_got_due = int(found[3]), True
+        else:
+            raise Fault(NO_SUCH_LINK if found[1] == "ended" else int(found[3]))
+        self.is_begun = True
+
+    def confirm(self, count: int, most: int) -> None:
+        """Refuses a count of lines that the server can't have."""
+        if not self.confirmed <= count <= most:
+            raise Fault(BAD_TAKEN)
+
+    def cut(self) -> None:
+        self.coming, self.is_carried, self.is_begun = b"", False, False
+
+    def resume(self) -> None:
+        self.first, self.is_carried = f"resume {self.terms.token} {self.taken}" if self.terms else "hello 4", True
+        self.said, self.silent = self.taken, 0
+
+    def elapse(self, seconds: int) -> bool:
+        self.silent += seconds
+        return self.silent >= SILENCE

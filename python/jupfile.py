@@ -9,56 +9,38 @@ docs/EMBEDDING.md says what an editor has to do, and what the files may be.
 #
 # - Nothing is sent before the folder has it (Sharing.keep): the text with the names of its characters, and the versions of the file whose words are in it.
 #   So no start takes a word of such a version for a new one.
-# - A start finds by the names which edits of the earlier link the server has taken, and makes the others again (Link.resume).
-# - The server may take some of these others later, from the earlier link. Their names show that they were made again, and so they are deleted (Link.undo).
-#   A server that was started again gives such names to other people's characters, which stay (Link.see_late).
+# - A link outlives its connections (connections.Link.carry), so one that breaks loses nothing. A start ends the link of the run before (connections.Earlier.end), so the server takes nothing more of it.
+# - The names of the characters on the board then show which edits of that link the server has taken. The others are made again (copies.Past.restored).
 # - A swap replaces the file, and what it had stays in the folder until all of that is kept (local.put_in_place).
 #
+# A server that was started again does not know that link. Then the texts alone show what was done, and when each word was sent (copies.Past.known_text).
 # One thing nobody can tell: whether the server never took an insertion, or took it and somebody deleted it before this program knew. It is made again.
 import argparse
 import collections
 import os
-import select
 import signal
-import socket
 import sys
 import time
-from collections.abc import Iterable
 from typing import NamedTuple
 
+import connections
 import copies
 import jup
 import local
 import texts
+from connections import LAST, LATE, LOOK, SOON, tell
 
 IO_FAULT, FAULT = 1, 4
 # The numbers of faults that this program tells apart.
-LONG_TEXT, BACKLOG, MISPLACED = 6, 7, 44
-# Faults that end a session after which the server may give another: all links are taken, the bytes ended early, a read failed, this end is too far behind.
-PASSING = (30, 43, 70, 71)
-# The end of what a server sends that was stopped between two messages. A client takes this last line for one out of its place.
-GOODBYE = b"\nbye\n"
-# How many seconds pass between two looks at the file.
-LOOK = 0.05
+LONG_TEXT, BACKLOG = 6, 7
 # After how many seconds a server has saved what it took. `jupweb` saves every two seconds.
 SAVED = 4.0
-# How many seconds are waited for a server, for the end of a link, and at first and at most before it is tried again.
-PATIENCE, LAST, SOON, LATE = 10.0, 5.0, 0.5, 15.0
-
-
-def tell(words: str) -> None:
-    """Says what happens, immediately."""
-    print(f"jupfile: {words}", flush=True)
 
 
 def counted(old: str, new: str) -> str:
     """How much two texts differ, in words."""
     come, gone = texts.size(texts.difference(old, new))
     return f"{come} characters in, {gone} out"
-
-
-class Lost(Exception):
-    """The link to the server broke, and why."""
 
 
 class Ended(Exception):
@@ -73,18 +55,16 @@ class Edit(NamedTuple):
     """An edit that the server may not have taken: the number of the last insertion up to it, and what it deletes."""
 
     last: int
-    gone: copies.Chars
+    gone: list[copies.Name]
 
 
-class Link:
-    """A client and its link. `W.I` names the text, or nothing does, and it is then the first one."""
+class Link(connections.Link):
+    """A link, and a text of its board. `W.I` names the text, or nothing does, and it is then the first one."""
 
     def __init__(self, address: str, wanted: str | None) -> None:
-        self.socket = connected(address)
-        self.client, self.going, self.opening, self.end = jup.Client(watch=True), b"", b"", b"\n"
+        super().__init__(address)
         # Whether the server has all edits, and whether that was asked since the last edit.
         self.is_settled, self.is_asked, self.is_told_to_wait = True, False, False
-        self.open(time.monotonic() + PATIENCE)
         self.win, self.wid = self.text_of(wanted)
         # The text, with the names of its characters.
         opened, self.opening = copies.opened(self.opening, self.win, self.wid), b""
@@ -95,16 +75,6 @@ class Link:
         # Of each site of this file that inserted lately the last insertion that the server has surely saved, and when it has saved more.
         self.saved: dict[int, int] = {self.client.site.number: 0}
         self.unsaved: collections.deque[tuple[float, dict[int, int]]] = collections.deque()
-        # What is to be deleted, and what earlier sites of this file may still insert although it was made again, with the last insertion of each of these edits.
-        self.unwanted: copies.Chars = {}
-        self.again: copies.Chars = {}
-        self.ends: list[copies.Name] = []
-
-    def open(self, until: float) -> None:
-        while self.client.stage != jup.Stage.OPEN:
-            if time.monotonic() > until:
-                raise Lost("the server does not send its board")
-            self.carry(LOOK)
 
     def text_of(self, wanted: str | None) -> tuple[int, int]:
         found = [(it.win, it.wid) for it in self.client.widgets() if it.kind == jup.WidgetKind.TEXT]
@@ -115,108 +85,53 @@ class Link:
                 return win, wid
         raise Ended(f"the board has no text {wanted or ''}".rstrip(), FAULT)
 
-    def carry(self, seconds: float) -> None:
-        """Sends what waits, and takes what comes, for so long if nothing does."""
-        self.going += self.client.take()
-        try:
-            readable, writable, _ = select.select([self.socket], [self.socket] if self.going else [], [], seconds)
-            if writable:
-                self.going = self.going[self.socket.send(self.going) :]
-            data = self.socket.recv(1 << 20) if readable else None
-        except OSError as wrong:
-            raise Lost(f"the link broke: {wrong.strerror or wrong}") from None
-        if data == b"":
-            raise Lost("the server ended the link")
-        if data:
-            self.hear(data)
-
-    def hear(self, data: bytes) -> None:
-        if self.client.stage != jup.Stage.OPEN:
-            self.opening += data
-        self.end = (self.end + data)[-len(GOODBYE) :]
-        try:
-            self.client.feed(data)
-        except jup.Fault as fault:
-            if fault.number == MISPLACED and self.end == GOODBYE:
-                raise Lost("the server ended the session") from None
-            if fault.number in PASSING:
-                raise Lost(f"the server ended the session: fault {fault.number}") from None
-            raise Ended(f"fault {fault.number}", FAULT) from None
-        if self.is_asked and self.client.is_synced:
-            self.is_settled, self.is_asked = True, False
-
     def follow(self) -> Edit:
         """Takes the changes of the text since the last call, and returns them as an edit. Forgets the edits that the server has surely taken."""
+        if self.is_asked and self.client.is_synced:
+            self.is_settled, self.is_asked = True, False
         left = 0 if self.is_settled else self.client.site.backlog
         while len(self.unsure) > left:
             self.taken = self.unsure.popleft().last
             self.unsaved.append((time.monotonic() + SAVED, {self.client.site.number: self.taken}))
-        while self.unsaved and self.unsaved[0][0] < time.monotonic():
+        # A server that is not heard any more may have ended before it saved.
+        while self.unsaved and self.unsaved[0][0] < self.heard:
             self.saved |= self.unsaved.popleft()[1]
-        last, gone, come = self.last, {}, {}
+        last, gone = self.last, []
         for it in self.client.changes():
             if (it.win, it.wid) != (self.win, self.wid):
                 continue
-            name = (it.site, it.number)
             if it.kind == jup.Kind.DELETE:
-                del self.names[it.place]
-                gone[name] = self.chars.pop(it.place)
-                self.unwanted.pop(name, None)
+                gone.append(self.names.pop(it.place))
+                del self.chars[it.place]
             elif it.kind == jup.Kind.INSERT_CHAR:
-                self.names.insert(it.place, name)
+                self.names.insert(it.place, (it.site, it.number))
                 self.chars.insert(it.place, chr(it.value))
-                come[name], last = chr(it.value), it.number
-        if self.again:
-            self.see_late(come, gone)
+                last = it.number
         return Edit(last, gone)
 
-    def see_late(self, come: copies.Chars, gone: copies.Chars) -> None:
-        """Notes that what earlier sites of this file inserted late is to be deleted. If others have the numbers of these sites, the server was started again, and takes nothing late."""
-        sites = {site for site, _ in self.again}
-        late = {name: char for name, char in come.items() if name[0] in sites}
-        if copies.are_late(late, self.again, self.ends):
-            self.unwanted |= {name: char for name, char in late.items() if name not in gone}
-        else:
-            self.again, self.ends = {}, []
-
     def copy(self) -> copies.Copy:
-        """The text without what is to be deleted."""
+        """The text with the names of its characters."""
         self.follow()
-        copy = copies.Copy(list(self.names), "".join(self.chars))
-        return copy.without(self.unwanted) if self.unwanted else copy
+        return copies.Copy(list(self.names), "".join(self.chars))
 
     def text(self) -> str:
-        return self.copy().text
+        self.follow()
+        return "".join(self.chars)
 
-    def resume(self, past: copies.Past) -> str:
-        """Goes on where an earlier link ended. What that had deleted is to be deleted, and what the server takes of it from now on. Returns the text with what got lost."""
-        now = self.copy()
-        lost, wrong = past.lost(now), past.again | past.gone
-        self.again, self.ends = past.late(now), past.ends
-        self.unwanted = {name: char for name, char in zip(*now) if wrong.get(name) == char}
+    def go_on(self, past: copies.Past) -> str:
+        """Goes on where an earlier link at this server ended. Returns the text as it would be if the server had taken all of that link."""
         self.saved |= past.saved
         self.unsaved.append((time.monotonic() + SAVED, dict.fromkeys(past.saved, copies.ALL)))
-        return past.restored(self.copy(), lost | past.unsaved(now))
+        return past.restored(self.copy())
 
     def past(self) -> copies.Past:
         """What this link leaves if it ends now."""
-        gone = {name: char for it in [self.unwanted, *(it.gone for it in self.unsure)] for name, char in it.items()}
-        site = self.client.site.number
-        ends = [*self.ends, *dict.fromkeys((site, it.last) for it in self.unsure)]
-        return copies.Past(site, self.taken, self.copy(), gone, self.again, ends, dict(self.saved))
-
-    def undo(self) -> None:
-        """Deletes what is to be deleted, as far as that can be done now."""
-        places = [at for at in reversed(range(len(self.names))) if self.names[at] in self.unwanted] if self.unwanted else []
-        steps = [texts.Step(at, None) for at in places]
-        self.make(steps[at : at + texts.MOST_COMMANDS] for at in range(0, len(steps), texts.MOST_COMMANDS))
+        gone = [name for it in self.unsure for name in it.gone]
+        return copies.Past(self.client.site.number, self.taken, self.copy(), gone, dict(self.saved), self.token, self.confirmed)
 
     def become(self, old: str, new: str) -> None:
         """Makes the text `new`, as far as that can be done now."""
-        self.make(texts.edits(old, new))
-
-    def make(self, edits: Iterable[list[texts.Step]]) -> None:
-        for steps in edits:
+        for steps in texts.edits(old, new):
             try:
                 self.client.edit(*map(self.command, steps))
             except jup.Fault as fault:
@@ -254,67 +169,48 @@ class Link:
             self.client.ping()
             self.is_asked = True
 
-    def leave(self) -> None:
-        """Says goodbye, and waits for the end of the link."""
-        self.client.bye()
-        until = time.monotonic() + LAST
-        try:
-            while time.monotonic() < until:
-                self.carry(LOOK)
-        except (Lost, Ended):
-            pass
-        self.socket.close()
-
-
-def connected(address: str) -> socket.socket:
-    host, _, port = address.rpartition(":")
-    try:
-        found = socket.create_connection((host.strip("[]"), int(port)), PATIENCE)
-    except OSError as wrong:
-        raise Lost(f"cannot connect to {address}: {wrong.strerror or wrong}") from None
-    found.setsockopt(socket.IPPROTO_TCP, socket.TCP_NODELAY, 1)
-    found.setblocking(False)
-    return found
-
 
 class Sharing:
     """A file and a text of the board, while there is a link."""
 
-    def __init__(self, link: Link, file: local.LocalFile, kept: local.Kept) -> None:
+    def __init__(self, link: Link, is_known: bool, file: local.LocalFile, kept: local.Kept) -> None:
         self.link, self.file, self.kept = link, file, kept
         # Whether the file has a text that was taken, and whether this is the first of it.
         self.is_fit, self.is_first = False, True
-        self.shared = texts.Shared(*self.resume(kept.state), kept.state.versions, kept.state.cuts, time.monotonic())
+        board = link.text()
+        self.shared = texts.Shared(board, self.wanted(board, kept.state, is_known), kept.state.versions, kept.state.cuts, time.monotonic())
         self.keep()
+        link.keep = self.keep
 
-    def resume(self, state: local.State) -> tuple[str, str]:
-        """What the board has, and what both sides are to have, since others may have gone on without this program."""
-        past, now = state.past, self.link.copy()
-        if past is None:
-            return now.text, now.text
-        if not past.is_known_to(self.link.client.site.number, now):
-            tell("the server was started again, so the texts alone show what was done meanwhile")
-            return now.text, texts.merge(past.known_text(), state.mine, now.text)
-        restored = self.link.resume(past)
-        return self.link.text(), texts.merge(past.copy.text, state.mine, restored)
+    def wanted(self, board: str, state: local.State, is_known: bool) -> str:
+        """What both sides are to have, since others may have gone on without this program. The server may know the earlier link."""
+        if state.past is None:
+            return board
+        if is_known:
+            return texts.merge(state.past.copy.text, state.mine, self.link.go_on(state.past))
+        tell("the server does not know the earlier link, so the texts alone show what was done meanwhile")
+        return texts.merge(state.past.known_text(), state.mine, board)
 
     def step(self, now: float) -> None:
         """Takes what both sides did, and lets each have what the other did."""
-        board = self.link.text()
-        if board != self.shared.board:
-            self.shared.changed(board)
+        self.follow()
         is_taken = [self.take_file(now), self.take_strays(now)]
         if self.edit() or any(is_taken):
             self.keep()
-        if self.is_fit and self.shared.mine == self.shared.board and not self.link.unwanted:
+        if self.is_fit and self.shared.mine == self.shared.board:
             self.settle(now)
         self.file.forget_replaced(now)
+
+    def follow(self) -> None:
+        """Takes what others did to the board."""
+        board = self.link.text()
+        if board != self.shared.board:
+            self.shared.changed(board)
 
     def edit(self) -> bool:
         """Lets the board have what the file has. Returns whether anything was done."""
         shared, before = self.shared, self.link.made
-        self.link.undo()
-        if self.is_fit and shared.mine != shared.board and not self.link.unwanted:
+        if self.is_fit and shared.mine != shared.board:
             self.link.become(shared.board, shared.mine)
             shared.board = self.link.text()
         return self.link.made != before
@@ -386,13 +282,14 @@ class Sharing:
 
     def keep(self, *coming: str) -> None:
         """Keeps what both sides have and are to have, and the versions of the file, with one that comes."""
+        self.follow()
         versions = self.file.versions([*self.shared.read_lately(), *coming])
         self.kept.keep(local.State(self.link.past(), self.shared.mine, versions, self.shared.cuts))
         self.kept_signs = self.signs()
 
     def signs(self) -> tuple:
         """What shows whether something else is to be kept."""
-        return self.shared.board, self.shared.mine, self.shared.read_lately(), len(self.link.unsure), len(self.link.unwanted), dict(self.link.saved)
+        return self.shared.board, self.shared.mine, self.shared.read_lately(), len(self.link.unsure), dict(self.link.saved)
 
     def is_equal(self) -> bool:
         """Whether the file, the board and what is kept are the same, and nobody is saving."""
@@ -408,7 +305,7 @@ class Program:
         self.kept = local.Kept(self.path, f"{address} {wanted or 'first'}")
         if self.kept.other_board:
             tell(f"the file was last shared with {self.kept.other_board}, so nothing of it counts as deleted")
-        self.is_stopped = False
+        self.is_stopped, self.earlier = False, None
 
     def stop(self, *_: object) -> None:
         self.is_stopped = True
@@ -417,18 +314,30 @@ class Program:
         pause = SOON
         while not self.is_stopped:
             try:
-                link = Link(self.address, self.wanted)
+                link, is_known = self.join()
                 pause = SOON
-                self.share(link)
-            except Lost as why:
+                self.share(link, is_known)
+            except connections.Lost as why:
                 tell(f"{why}. It is tried again in {pause:g} s")
                 self.sleep(pause)
                 pause = min(2 * pause, LATE)
 
-    def share(self, link: Link) -> None:
+    def join(self) -> tuple[Link, bool]:
+        """A new link, and whether its server knows the link of an earlier run, which is over then."""
+        past = self.kept.state.past
+        if past is None or past.token is None:
+            return Link(self.address, self.wanted), False
+        if self.earlier is None or self.earlier.token != past.token:
+            self.earlier = connections.Earlier(past.token, past.confirmed)
+        self.earlier.end(self.address)
+        link = Link(self.address, self.wanted)
+        # The server may have been started again in between.
+        return link, self.earlier.end(self.address)
+
+    def share(self, link: Link, is_known: bool) -> None:
         tell(f"joined {self.address} as site {link.client.site.number}: text {link.win}.{link.wid} has {len(link.names)} characters")
         file = local.LocalFile(self.path, self.kept.room, self.kept.state.versions, time.monotonic())
-        sharing = Sharing(link, file, self.kept)
+        sharing = Sharing(link, is_known, file, self.kept)
         until = None
         while until is None or time.monotonic() < until and not sharing.is_equal():
             sharing.step(time.monotonic())
@@ -463,9 +372,9 @@ def main(words: list[str]) -> int:
         for number in (signal.SIGINT, signal.SIGTERM):
             signal.signal(number, program.stop)
         program.run()
-    except Ended as why:
+    except (Ended, connections.Refused) as why:
         tell(str(why))
-        return why.status
+        return why.status if isinstance(why, Ended) else FAULT
     except (OSError, ValueError, local.Taken) as why:
         tell(str(why) if isinstance(why, local.Taken) else f"io fault: {why}")
         return IO_FAULT

@@ -70,11 +70,16 @@ def read(path: str) -> bytes:
         return b""
 
 
+def own(path: str, flags: int) -> int:
+    """Opens a file that nobody else may read, since it may have the token of a link."""
+    return os.open(path, flags, OWN)
+
+
 def write_whole(path: str, data: bytes, mode: int) -> None:
     """Writes a new file, and waits until the disk has it. A file of this name may have another name too, so nothing is written into it."""
     with contextlib.suppress(FileNotFoundError):
         os.unlink(path)
-    with open(path, "wb") as file:
+    with open(path, "wb", opener=own) as file:
         os.fchmod(file.fileno(), mode)
         file.write(data)
         file.flush()
@@ -252,9 +257,8 @@ NOTHING = State(None, "", [""], {})
 def past_of(found: dict | None) -> copies.Past | None:
     if found is None:
         return None
-    gone, again = ({tuple(name): char for name, char in found[it]} for it in ("gone", "again"))
-    ends = list(map(tuple, found["ends"]))
-    return copies.Past(found["site"], found["taken"], copies.copy_of(found["copy"]), gone, again, ends, dict(found["saved"]))
+    gone = list(map(tuple, found["gone"]))
+    return copies.Past(found["site"], found["taken"], copies.copy_of(found["copy"]), gone, dict(found["saved"]), found.get("token"), found.get("confirmed", 0))
 
 
 def latest(versions: list[str]) -> list[str]:

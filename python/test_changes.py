@@ -1,6 +1,7 @@
-"""300 runs at random: at each moment a copy that takes only the changes that a client tells is what the client shows.
+"""300 runs at random, and 300 over connections that are cut: at each moment a copy that takes only the changes that a client tells is what the client shows.
 
 Three clients of the library edit one board, at the plain server of conformance/fakes. The copies are plain lists of this file. At the end of a run all clients show the board of the server.
+A cut loses what is on its way, and the parts of lines. The client edits on, and resumes its link later.
 The environment variable JUP_LIBRARY names the library, if it is not beside the module jup.
 """
 import collections
@@ -24,6 +25,8 @@ MOST_SENT, MOST_FETCHED, MOST_FED = 63, 3, 200
 ALL, ROUNDS = 1 << 16, 100
 # One command in so many is of any kind, and one in so many is for any ids.
 ODD = 16
+# One event in so many of a client with a link comes after its connection breaks, or after it has another one. The token of a link.
+BREAKS, TOKEN = 6, "0f1e2d3c4b5a69788796a5b4c3d2e1f0"
 LAYOUT = """window 1
 text 1
 char 0.1 112
@@ -119,8 +122,8 @@ def command(chance, board):
     return made[chance.choice(kinds)]()
 
 
-class Client(jup.Client):
-    """A client of the library, with what the runs ask of it."""
+class Watched:
+    """What the runs ask of a client of the library."""
 
     def take_some(self, most):
         """The oldest bytes that wait, at most so many. The module jup itself takes all."""
@@ -137,6 +140,14 @@ class Client(jup.Client):
     def shown(self):
         """What each widget shows, as a widget of a copy says it."""
         return {(it.win, it.wid): (it.kind, self.items(it), it.lo, it.hi, it.value) for it in self.widgets()}
+
+
+class Client(Watched, jup.Client):
+    """A client of one connection."""
+
+
+class LastingClient(Watched, jup.LastingClient):
+    """A client of a link that outlives its connections."""
 
 
 class Star(stars.Star):
@@ -159,8 +170,10 @@ class Session(stars.Session):
 class Seat:
     """A client, its session at the server, the bytes between them, and the copy. It counts its edits and what it told."""
 
+    client = Client
+
     def __init__(self, star):
-        self.client, self.session = Client(watch=True), Session(star, None)
+        self.client, self.session = self.client(watch=True), Session(star, None)
         self.up, self.down, self.copy = b"", b"", {}
         self.edits, self.told = collections.Counter(), collections.Counter()
 
@@ -184,16 +197,24 @@ class Seat:
         taken = self.client.take_some(most)
         *lines, self.up = (self.up + taken).split(b"\n")
         for line in lines:
-            self.session.goes_on(line.decode("latin-1"))
+            self.hears(line.decode("latin-1"))
         return len(taken)
+
+    def hears(self, line):
+        """A line of the client comes to the server."""
+        self.session.goes_on(line)
 
     def fetch(self, most):
         """Messages leave the server. The first has the board with which the copy begins."""
         waiting = self.session.seat.waiting if self.session.seat else []
         for text in waiting[:most]:
             self.copy = self.copy or board_of(text.split("\n")[1:-1])
-            self.down += f"{text}\n".encode("latin-1")
+            self.tell(f"{text}\n".encode("latin-1"))
         del waiting[:most]
+
+    def tell(self, text):
+        """A message goes on its way to the client."""
+        self.down += text
 
     def feed(self, most):
         """Bytes of the server come to the client. Returns how many."""
@@ -234,10 +255,92 @@ class Seat:
         return sent + fed
 
 
-def play(seed):
+class LastingSeat(Seat):
+    """A seat whose client has a link. One carrier after another carries it, and a cut loses what is on its way."""
+
+    client = LastingClient
+
+    def __init__(self, star):
+        super().__init__(star)
+        # How many lines of the client the server has taken, and the lines that it has put.
+        self.taken, self.put = 0, []
+        # How many of these it has written to this carrier, or None before its first line.
+        self.written = None
+        # The last count that each end has confirmed, and whether there is a carrier. How many cuts came within a line of the client, within an edit of it, and lost bytes of the server.
+        self.confirmed, self.said, self.is_carried, self.cuts = 0, 0, True, collections.Counter()
+
+    def hears(self, line):
+        word, *rest = line.split(" ")
+        if self.written is None:
+            self.begins(word, rest)
+        elif word == "got":
+            assert self.confirmed <= int(rest[0]) <= self.written, "the client confirms what it can't have"
+            self.confirmed = int(rest[0])
+        else:
+            self.taken += 1
+            self.session.goes_on(line)
+
+    def begins(self, word, rest):
+        """Answers the first line of a carrier."""
+        if word == "hello":
+            self.session.goes_on("hello 3")
+            self.down, self.written = f"link {TOKEN} 300\n".encode(), 0
+            return
+        token, taken = rest
+        assert (word, token) == ("resume", TOKEN) and self.confirmed <= int(taken) <= len(self.put), "the client asks for another link"
+        self.down, self.written = f"resumed {self.taken}\n".encode(), int(taken)
+        self.confirm()
+        self.write()
+
+    def confirm(self):
+        """The server confirms the messages that it has taken."""
+        if not self.session.gathering.left:
+            self.said = self.taken
+        self.down += f"got {self.said}\n".encode()
+
+    def tell(self, text):
+        self.put += text.splitlines(keepends=True)
+        self.write()
+
+    def write(self):
+        """The lines that this carrier does not have yet go on their way."""
+        if self.written is not None:
+            self.down += b"".join(self.put[self.written :])
+            self.written = len(self.put)
+
+    def fetch(self, most):
+        super().fetch(most)
+        if self.written is not None and self.said < self.taken and not self.session.gathering.left:
+            self.confirm()
+
+    def feed(self, most):
+        return super().feed(most) if self.is_carried else 0
+
+    def breaks(self):
+        """The carrier is cut, or another one is there."""
+        if self.is_carried:
+            self.client.cut()
+            self.cuts.update(within_a_line=bool(self.up), within_an_edit=bool(self.session.gathering.left), of_the_server=bool(self.down))
+            self.up, self.down, self.written = b"", b"", None
+        else:
+            self.client.resume()
+        self.is_carried = not self.is_carried
+
+    def happens(self, chance):
+        if self.client.terms and not chance.randrange(BREAKS):
+            self.breaks()
+        super().happens(chance)
+
+    def move_all(self):
+        if not self.is_carried:
+            self.breaks()
+        return super().move_all()
+
+
+def play(seed, kind=Seat):
     """A run. Some of the clients are open when it begins. Returns the star and the seats, once all is delivered."""
     chance, star = random.Random(seed), Star(LAYOUT.split("\n"), 1_000_000)
-    seats = [Seat(star) for _ in range(SEATS)]
+    seats = [kind(star) for _ in range(SEATS)]
     for seat in seats[: seed % (SEATS + 1)]:
         seat.move_all()
     for _ in range(EVENTS):
@@ -251,18 +354,29 @@ def play(seed):
 
 class Changes(unittest.TestCase):
     def test_runs(self):
-        edits, told = collections.Counter(), collections.Counter()
+        self.plays(Seat)
+
+    def test_runs_with_cuts(self):
+        cuts = sum((it.cuts for it in self.plays(LastingSeat)), collections.Counter())
+        # Each kind of cut is among them.
+        self.assertGreaterEqual(min(cuts["within_a_line"], cuts["within_an_edit"], cuts["of_the_server"]), RUNS // 2)
+
+    def plays(self, kind):
+        """Plays the runs with seats of a kind, and returns all seats."""
+        edits, told, played = collections.Counter(), collections.Counter(), []
         for seed in range(RUNS):
             with self.subTest(seed=seed):
-                star, seats = play(seed)
+                star, seats = play(seed, kind)
                 for seat in seats:
                     self.assertTrue(seat.is_open())
                     self.assertEqual(seat.copy, board_of(star.board.lines()))
                     edits, told = edits + seat.edits, told + seat.told
                 self.assertEqual(sum(it.told.total() for it in seats), star.due)
+                played += seats
         # Neither kind of edit is missing, and no kind of change.
         self.assertGreaterEqual(min(edits["made"], edits["refused"]), RUNS)
         self.assertEqual(set(told), set(Kind))
+        return played
 
 
 if __name__ == "__main__":

@@ -1,11 +1,12 @@
 """Kills `jupfile` at every step that it makes, starts it again, and sees that each word is there once. It also has an editor save at each step, or pause in the middle of a save.
 
-All of it runs in one process, with a clock of its own: `jupfile`, a server, the editor of the file and another client. The server is the plain one of conformance/fakes. The client is the library if JUP_LIBRARY names it, and else the plain one of conformance/fakes.
+It also breaks its connection at every step, and kills it after that. All of it runs in one process, with a clock of its own: `jupfile`, a server, the editor of the file and another client. The server is that of python/server_model.py. The client is the library if JUP_LIBRARY names it, and else the plain one of conformance/fakes.
 A step is a call that looks at a file or changes it, or sends, waits or hears. A file that is written can also be cut in the middle.
 """
 import builtins
 import collections
 import contextlib
+import errno
 import io
 import itertools
 import os
@@ -15,21 +16,21 @@ import tempfile
 import types
 import unittest
 
-if "JUP_LIBRARY" in os.environ:
-    sys.path.insert(0, f"{os.path.dirname(os.path.dirname(os.path.abspath(__file__)))}/conformance/fakes")
-else:
+if "JUP_LIBRARY" not in os.environ:
     import jup_model
 
     sys.modules["jup"] = jup_model
+import connections
 import copies
 import jup
 import jupfile
 import local
+import server_model
 import stars
 
 WORD = re.compile(r"\S+\s*")
-# How many seconds pass between two looks, after how many of them the server reads what came, and how many everything has at the end.
-LOOK, SLOW, AT_THE_END = 0.25, 2, 40
+# How many seconds pass between two looks, how many looks the program has to begin, and how many everything has at the end.
+LOOK, BEGUN, AT_THE_END = 0.25, 20, 60
 # How many steps from a change a save may make a difference.
 NEAR = 6
 # What a step does: it looks at a file or changes it, or it sends, waits or hears.
@@ -46,67 +47,28 @@ class Over(BaseException):
     """All was played."""
 
 
-class Quiet(stars.Session):
-    """A session of the server without threads."""
-
-    def join(self):
-        self.seat = self.star.join()
-
-
-class Served:
-    """The server's end of a link: the lines that it has not read. It reads all of them some looks after the first came. `last` is its last line until that is sent."""
-
-    def __init__(self, star):
-        self.session, self.lines, self.looks, self.is_over, self.last = Quiet(star, None), collections.deque(), 0, False, []
-
-    def come(self, data):
-        self.looks = self.looks if self.lines else SLOW
-        self.lines.extend(data.decode("latin-1").split("\n")[:-1])
-
-    def passes(self):
-        """A look passes."""
-        self.looks -= 1
-        if self.looks <= 0:
-            self.read()
-
-    def read(self, left=0):
-        """Reads the lines, except so many of the last."""
-        while len(self.lines) > left and not self.is_over and self.session.goes_on(self.lines.popleft()):
-            pass
-
-    def stop(self):
-        """The server stops: it has read half of what came, and says that the bytes have ended."""
-        self.read(len(self.lines) // 2)
-        self.last, self.is_over = ["error 43" if self.session.gathering.left else "bye"], True
-
-    def going(self):
-        waits = [*self.waiting(), *self.last]
-        self.waiting().clear()
-        self.last = []
-        return "".join(f"{it}\n" for it in waits).encode()
-
-    def waiting(self):
-        return self.session.seat.waiting if self.session.seat else []
-
-    def has_something(self):
-        return self.is_over or bool(self.waiting())
-
-
 class Socket:
-    """The program's end of a link."""
+    """The program's end of a connection."""
 
     def __init__(self, world):
-        self.world, self.served = world, Served(world.star)
+        if world.is_away:
+            raise connections.Broken("nobody listens")
+        self.world, self.served = world, server_model.Served(world.server)
         world.links.append(self.served)
 
     def send(self, data):
         self.world.step(WAITS)
+        if self.served.is_broken:
+            raise ConnectionResetError(errno.ECONNRESET, "reset")
         self.served.come(data)
         return len(data)
 
     def recv(self, _):
         self.world.step(WAITS)
-        return self.served.going()
+        if not self.served.is_broken:
+            return self.served.going()
+        data, self.served.held = self.served.held, b""
+        return data
 
     def close(self):
         pass
@@ -137,19 +99,19 @@ class Half:
 class World:
     """A server whose board has a text, a folder with a file, and what is done at which look."""
 
-    def __init__(self, place, text, script, plan):
+    def __init__(self, place, text, script, plan, is_older):
         self.path, self.script, self.plan, self.now = f"{place}/a.txt", collections.deque(script), plan, 0.0
-        self.steps, self.looks, self.saves, self.seen, self.read_before = [], 0, 0, "", None
+        self.steps, self.looks, self.saves, self.seen, self.read_before, self.is_away, self.held = [], 0, 0, "", None, False, 0
         # The words that were put in, those that the editor deleted and others did, and those of the opening.
         self.put, self.gone, self.deleted, self.first = set(), set(), set(), set(text.split())
-        self.serve(text)
+        self.serve(text, is_older=is_older)
 
-    def serve(self, text, others=1):
-        """A server starts, and others join it. The last of them will edit. `links` are those of the program."""
+    def serve(self, text, others=1, is_older=False):
+        """A server starts, and others join it. The last of them will edit. `links` are the connections of the program."""
         layout = ["window 1", "text 1", *(f"char 0.{at + 1} {ord(it)}" for at, it in enumerate(text))]
-        self.star, self.links = stars.Star(layout, 1_000_000), []
+        self.server, self.links = server_model.Server(layout, 1_000_000, is_older), []
         for _ in range(others):
-            self.other, self.client = Served(self.star), jup.Client()
+            self.other, self.client = server_model.Served(self.server), jup.Client()
             self.other.come(self.client.take())
             self.other_reads()
 
@@ -157,7 +119,7 @@ class World:
 
     def step(self, kind):
         """A step begins: what is planned for it happens now."""
-        self.steps.append((kind, bool(self.links and self.links[-1].lines)))
+        self.steps.append((kind, any(it.lines for it in self.links)))
         act = self.plan.get(len(self.steps))
         if act:
             self.looks = self.looks if self.script else 0
@@ -172,9 +134,10 @@ class World:
 
         return step
 
-    def open(self, path, mode):
+    def open(self, path, mode, opener=None):
         self.step(CHANGES if mode == "wb" else LOOKS)
-        file = builtins.open(path, mode)
+        file = builtins.open(path, mode, opener=opener)
+        assert "state" not in path or os.fstat(file.fileno()).st_mode & 0o077 == 0, "others may read the token of the link"
         return Half(self, file) if mode == "wb" else file
 
     def select(self, reads, writes, _, seconds):
@@ -193,7 +156,7 @@ class World:
     # What others do.
 
     def text(self):
-        return "".join(chr(value) for _, value in self.star.board.windows[1][1].items)
+        return "".join(chr(value) for _, value in self.server.star.board.windows[1][1].items)
 
     def file(self):
         """What the file has, or what it had before there was none."""
@@ -215,6 +178,12 @@ class World:
         file.flush()
         self.saves += 1
         os.utime(file.fileno(), ns=(self.saves * 10**9, self.saves * 10**9))
+
+    def is_left(self):
+        """The program was stopped. Counts the links of which the server still holds lines."""
+        for it in self.links:
+            it.read()
+        self.held += sum(not it.has_only_count() for it in self.server.links.values())
 
     def other_reads(self):
         self.other.read()
@@ -313,6 +282,11 @@ def others_delete(word):
     return act
 
 
+def stops(world):
+    """A signal stops the program. It starts again then."""
+    world.program.stop()
+
+
 def server_restarts(world, others=1):
     """The server is stopped, and starts again with its board. Others join it first."""
     for it in world.links:
@@ -333,7 +307,25 @@ def server_saves(world):
 def server_is_killed(world):
     """The server ends, and starts again with the board that it saved last."""
     for it in world.links:
-        it.is_over = True
+        it.breaks()
+    world.serve(world.on_disk)
+
+
+def goes_away(world):
+    """The connections break, and no other can be made."""
+    for it in world.links:
+        it.breaks()
+    world.is_away = True
+
+
+def comes_back(world):
+    """Connections can be made again."""
+    world.is_away = False
+
+
+def server_comes_back(world):
+    """The server starts again with the board that it saved last."""
+    comes_back(world)
     world.serve(world.on_disk)
 
 
@@ -344,8 +336,8 @@ def killed(fate):
     """The program is killed. `fate` says what the server does with what it had sent."""
 
     def act(world):
-        if world.links:
-            fate(world.links[-1])
+        for it in world.links:
+            fate(it)
         raise Killed
 
     return act
@@ -369,8 +361,17 @@ def half_is_lost(link):
     link.read()
 
 
+def is_read_after(looks):
+    """The server reads all of it so many looks after the next start."""
+
+    def fate(link):
+        link.looks = looks
+
+    return fate
+
+
 def is_read_soon(link):
-    """The server reads all of it after the next start has joined, and before that has sent anything."""
+    """The server reads all of it while the next start joins."""
     link.looks = 3
 
 
@@ -379,20 +380,62 @@ def is_read_late(link):
     link.looks = 16
 
 
+def is_answered_up_to(count):
+    """The server reads all of it, and so many bytes of what it then sends come."""
+
+    def fate(link):
+        link.read()
+        link.held = link.going()[:count]
+
+    return fate
+
+
+def is_half_answered(link):
+    """The server reads all of it, and half of what it then sends comes."""
+    link.read()
+    data = link.going()
+    link.held = data[: len(data) // 2]
+
+
 FATES = (is_read, is_lost, half_is_lost, is_read_soon, is_read_late)
+
+
+def broken(fate):
+    """The connections of the program break. `fate` says what the server does with what was on its way."""
+
+    def act(world):
+        for it in world.links:
+            fate(it)
+            it.is_broken = True
+
+    return act
+
+
+def silent(world):
+    """Nothing passes on the connections of the program any more, and nothing shows it."""
+    for it in world.links:
+        it.is_silent = True
+
+
+def expired(world):
+    """The connections of the program break for so long that the server ends the links."""
+    broken(half_is_lost)(world)
+    for it in world.server.links.values():
+        it.expires()
 
 
 def modules(world):
     """The names in modules of the program that mean something else here."""
+    clock = types.SimpleNamespace(monotonic=lambda: world.now, sleep=lambda seconds: world.select([], [], [], seconds))
     kinds = {**dict.fromkeys(("rename", "replace", "link", "unlink", "fsync"), CHANGES), "stat": LOOKS}
     return {
         (local, "os"): types.SimpleNamespace(**{**vars(os), **{name: world.called(kind, vars(os)[name]) for name, kind in kinds.items()}}),
         (local, "open"): world.open,
         (local, "swap"): world.called(CHANGES, local.swap),
-        (jupfile, "connected"): lambda _: Socket(world),
-        (jupfile, "select"): types.SimpleNamespace(select=world.select),
-        (jupfile, "time"): types.SimpleNamespace(monotonic=lambda: world.now, sleep=lambda seconds: world.select([], [], [], seconds)),
-        (jupfile, "LOOK"): LOOK,
+        (connections, "connected"): lambda _: Socket(world),
+        (connections, "select"): types.SimpleNamespace(select=world.select),
+        **{(it, "time"): clock for it in (connections, jupfile)},
+        **{(it, "LOOK"): LOOK for it in (connections, jupfile)},
     }
 
 
@@ -409,10 +452,10 @@ def replaced(found):
             setattr(module, name, value) if value is not None else delattr(module, name)
 
 
-def play(text, script, plan):
+def play(text, script, plan, is_older=False):
     """Plays a script in a world of its own, with what is planned for single steps. Returns the world."""
     with tempfile.TemporaryDirectory(prefix="jupfile-", dir=FOLDER) as place:
-        world = World(place, text, script, plan)
+        world = World(place, text, script, plan, is_older)
         with replaced(modules(world)), contextlib.redirect_stdout(io.StringIO()) as world.said:
             while is_killed(world):
                 pass
@@ -422,11 +465,13 @@ def play(text, script, plan):
 
 
 def is_killed(world):
-    """Runs the program until it is killed, or all was played. Returns whether it was killed."""
+    """Runs the program until it is killed or stopped, or all was played. Returns whether it is to start again."""
     program = None
     try:
-        program = jupfile.Program("127.0.0.1:4711", None, world.path)
+        program = world.program = jupfile.Program("127.0.0.1:4711", None, world.path)
         program.run()
+        world.is_left()
+        return True
     except Killed:
         return True
     except Over:
@@ -434,7 +479,6 @@ def is_killed(world):
     finally:
         if program:
             program.kept.lock.close()
-    raise AssertionError("the program ended")
 
 
 def wrong(world, is_known):
@@ -450,6 +494,8 @@ def wrong(world, is_known):
     yield from (f"{it} is there {counts[it]} times" for it in sorted(due | set(counts)) if counts[it] != 1)
     if leftover := [it for it in world.left if it.startswith("was.")]:
         yield f"{leftover} are left"
+    if sum(it.has_edits() for it in world.server.links.values()) > 1:
+        yield "an earlier link is left"
 
 
 TEXT = "alpha\nbeta\ngamma\ndelta\n"
@@ -457,7 +503,7 @@ TEXT = "alpha\nbeta\ngamma\ndelta\n"
 LONG_WORDS = ("x" * 20, "y" * 20, "z" * 20)
 # Others edit while the file is saved and sent.
 TYPING = [
-    (8, inserts("one")),
+    (BEGUN, inserts("one")),
     (0, others_insert("two")),
     (3, others_insert("three", at=2)),
     (3, others_delete("beta")),
@@ -466,17 +512,21 @@ TYPING = [
     (5, others_delete("x" * 20)),
 ]
 # The editor saves what it read before others edited.
-STALE = [(8, reads), (0, others_insert("two", at=2)), (3, inserts(*LONG_WORDS, at=3, is_stale=True)), (0, others_insert("three"))]
+STALE = [(BEGUN, reads), (0, others_insert("two", at=2)), (3, inserts(*LONG_WORDS, at=3, is_stale=True)), (0, others_insert("three"))]
 # The file is written again and again, and then the editor saves what it had read before.
-OFTEN = [(8, reads), *((0, others_insert(f"often{at}")) for at in range(14)), (1, inserts("stale", at=3, is_stale=True))]
-RESTARTED = [(8, inserts(*LONG_WORDS)), (0, others_insert("two")), (0, server_restarts), (4, inserts("one", at=3)), (4, others_insert("three"))]
-CROWDED = [(8, inserts(*LONG_WORDS)), (0, crowd_comes), (5, others_insert("xa")), (0, inserts("one", at=3)), (4, others_insert("xxb"))]
-LOST = [(8, server_saves), (0, inserts(*LONG_WORDS)), (6, server_is_killed), (4, inserts("one", at=3)), (4, others_insert("two"))]
-DELETED = [(8, others_insert("two")), (2, others_delete("two"))]
-SENT, WRITTEN = [(8, inserts(*LONG_WORDS[:2]))], [(8, others_insert("two"))]
+OFTEN = [(BEGUN, reads), *((0, others_insert(f"often{at}")) for at in range(14)), (1, inserts("stale", at=3, is_stale=True))]
+RESTARTED = [(BEGUN, inserts(*LONG_WORDS)), (0, others_insert("two")), (0, server_restarts), (4, inserts("one", at=3)), (4, others_insert("three"))]
+CROWDED = [(BEGUN, inserts(*LONG_WORDS)), (0, crowd_comes), (5, others_insert("xa")), (0, inserts("one", at=3)), (4, others_insert("xxb"))]
+LOST = [(BEGUN, server_saves), (0, inserts(*LONG_WORDS)), (6, server_is_killed), (4, inserts("one", at=3)), (4, others_insert("two"))]
+DELETED = [(BEGUN, others_insert("two")), (2, others_delete("two"))]
+# Others edit so much that the program confirms lines before it sends its own.
+MANY = [(BEGUN, others_insert("m" * 30)), (0, others_insert("n" * 30)), (3, inserts(*LONG_WORDS)), (0, others_insert("o" * 30, at=3)), (2, others_delete("m" * 30)), (3, inserts("one"))]
+# The server ends soon after it took words, before it saved them, and is away for long.
+AWAY = [(BEGUN, server_saves), (0, inserts(*LONG_WORDS)), (12, goes_away), (40, server_comes_back), (4, inserts("one", at=3)), (20, others_insert("two"))]
+SENT, WRITTEN = [(BEGUN, inserts(*LONG_WORDS[:2]))], [(BEGUN, others_insert("two"))]
 # An editor pauses in the middle of a save, for so many looks that the half of the file counts as saved.
 PAUSE, MOST_PAUSE = 14, 19
-PAUSED = [(8, half_of("one")), (3, others_insert("two")), (PAUSE - 4, rest), (4, inserts("three", at=3))]
+PAUSED = [(BEGUN, half_of("one")), (3, others_insert("two")), (PAUSE - 4, rest), (4, inserts("three", at=3))]
 
 
 class Steps(unittest.TestCase):
@@ -500,6 +550,14 @@ class Steps(unittest.TestCase):
         for step, is_sent in self.steps_of(script, CHANGES, WAITS, after=after).items():
             for fate in fates if is_sent else fates[:1]:
                 self.check(play(TEXT, script, {step: killed(fate)}), step, fate.__name__, is_known=is_known and fate is is_read)
+
+    def check_breaks(self, script, fates):
+        """The connection breaks at each step. The link goes on, so each deleted word stays deleted."""
+        for step in self.steps_of(script, WAITS):
+            for fate in fates:
+                world = play(TEXT, script, {step: broken(fate)})
+                self.check(world, step, fate.__name__, is_known=True)
+                self.assertEqual((world.said.getvalue().count("joined "), world.server.faults), (1, []), (step, fate.__name__))
 
     def check_saves(self, script, after=0, kills=0):
         """The editor saves at each step near a change, and the program is killed at one of the changes that come then."""
@@ -526,7 +584,7 @@ class Steps(unittest.TestCase):
 
     def test_the_server_stops_at_each_look_and_others_join_before_the_program(self):
         for stop, more in itertools.product(range(10), range(0, 12, 2)):
-            script = [(8, inserts(*LONG_WORDS)), (stop, crowd_comes), (more, others_insert("xa")), (0, others_insert("xxb")), (4, inserts("one", at=3))]
+            script = [(BEGUN, inserts(*LONG_WORDS)), (stop, crowd_comes), (more, others_insert("xa")), (0, others_insert("xxb")), (4, inserts("one", at=3))]
             self.check(play(TEXT, script, {}), stop, more)
 
     def test_killed_at_each_step_while_others_join_before_the_program(self):
@@ -534,12 +592,12 @@ class Steps(unittest.TestCase):
 
     def test_one_of_several_equal_words_is_deleted_once(self):
         for stop, restarts in itertools.product(range(10), (server_restarts, crowd_comes)):
-            world = play("same\n" * 4, [(8, deletes_first), (stop, restarts)], {})
+            world = play("same\n" * 4, [(BEGUN, deletes_first), (stop, restarts)], {})
             # What was deleted just before the server stopped may come back.
             self.assertIn(world.at_the_end, [("same\n" * count,) * 2 for count in (3, 4)], (stop, restarts.__name__))
 
     def test_one_of_several_equal_words_is_deleted(self):
-        text, script = "same\n" * 4, [(8, deletes_first)]
+        text, script = "same\n" * 4, [(BEGUN, deletes_first)]
         for step, (_, is_sent) in list(enumerate(play(text, script, {}).steps, 1))[self.begun(script) :]:
             for fate in FATES if is_sent else FATES[:1]:
                 world = play(text, script, {step: killed(fate)})
@@ -553,6 +611,94 @@ class Steps(unittest.TestCase):
                 for second in self.steps_of(SENT, CHANGES, WAITS, after=first, plan=plan):
                     self.check(play(TEXT, SENT, {**plan, second: killed(is_read_late)}), first, second, fate.__name__)
 
+    def test_the_connection_breaks_at_each_step(self):
+        self.check_breaks(TYPING, (is_read_late, is_half_answered))
+        self.check_breaks(MANY, (half_is_lost,))
+
+    def test_the_connection_breaks_within_the_opening(self):
+        script = [(BEGUN, inserts("one"))]
+        step = next(it for it, is_sent in self.steps_of(script, WAITS).items() if is_sent)
+        for count in range(0, 400, 3):
+            world = play(TEXT, script, {step: broken(is_answered_up_to(count))})
+            self.check(world, count)
+            self.assertEqual(world.said.getvalue().count("joined "), 1, count)
+
+    def test_the_connection_breaks_again_and_again(self):
+        begun = self.begun(MANY)
+        for every in range(3, 30):
+            plan = dict.fromkeys(range(begun, begun + 300, every), broken(half_is_lost))
+            world = play(TEXT, MANY, plan)
+            self.check(world, every, is_known=True)
+            self.assertEqual((world.said.getvalue().count("joined "), world.server.faults), (1, []), every)
+            pauses = re.findall(r"again in (\S+) s", world.said.getvalue())
+            self.assertEqual(pauses[:6], ["0.2", "0.4", "0.8", "1.6", "3.2", "5"][: len(pauses)], every)
+            self.assertEqual(set(pauses[6:]) - {"5"}, set(), every)
+
+    def test_the_pauses_are_short_again(self):
+        breaks = [(BEGUN, broken(is_lost)), (8, broken(is_lost)), (60, broken(is_lost)), (0, inserts("one"))]
+        world = play(TEXT, breaks, {})
+        self.check(world, is_known=True)
+        self.assertEqual(re.findall(r"again in (\S+) s", world.said.getvalue()), ["0.2", "0.4", "0.2"])
+
+    def test_a_connection_that_is_gone_without_a_sign(self):
+        script = [(BEGUN, inserts("one")), (2, silent), (0, inserts("two", at=2)), (400, others_insert("three")), (20, inserts("four"))]
+        world = play(TEXT, script, {})
+        self.check(world, is_known=True)
+        self.assertEqual((world.said.getvalue().count("joined "), world.said.getvalue().count("silent")), (1, 1))
+
+    def test_killed_after_the_connection_broke(self):
+        for first in list(self.steps_of(SENT, WAITS, after=self.begun(SENT)))[:40:4]:
+            plan = {first: broken(half_is_lost)}
+            for second in list(self.steps_of(SENT, CHANGES, WAITS, after=first, plan=plan))[:60:3]:
+                self.check(play(TEXT, SENT, {**plan, second: killed(is_read_late)}), first, second)
+
+    def test_the_connection_breaks_for_too_long(self):
+        for script in (TYPING, MANY):
+            for step in self.steps_of(script, WAITS, after=self.begun(script)):
+                self.check(play(TEXT, script, {step: expired}), step)
+
+    def test_killed_and_confirmed(self):
+        self.check_kills(MANY, (is_read_late, half_is_lost), after=self.begun(MANY))
+
+    def test_killed_and_read_at_each_look_after_that(self):
+        firsts = [it for it, is_sent in self.steps_of(SENT, WAITS, after=self.begun(SENT)).items() if is_sent]
+        for first, looks in itertools.product(firsts, range(1, 16)):
+            self.check(play(TEXT, SENT, {first: killed(is_read_after(looks))}), first, looks)
+
+    def test_killed_at_a_server_without_a_place_left(self):
+        firsts = self.steps_of(SENT, CHANGES, WAITS, after=self.begun(SENT))
+        with replaced({(stars, "MOST_SITES"): 2}):
+            for first in firsts:
+                self.check(play(TEXT, SENT, {first: killed(half_is_lost)}), first)
+
+    def test_killed_and_the_server_starts_again_beside_the_next_start(self):
+        firsts = [it for it, is_sent in self.steps_of(SENT, WAITS, after=self.begun(SENT)).items() if is_sent]
+        for first in firsts:
+            for second in range(first + 1, first + 60):
+                self.check(play(TEXT, SENT, {first: killed(is_read), second: server_restarts}), first, second)
+
+    def test_others_edit_while_it_stops(self):
+        for looks in range(12):
+            script = [(BEGUN, inserts(*LONG_WORDS)), (4, stops), (looks, others_insert("m" * 30)), (0, others_insert("n" * 30)), (BEGUN, inserts("one"))]
+            world = play(TEXT, script, {})
+            self.check(world, looks, is_known=True)
+            self.assertEqual(world.held, 0, looks)
+
+    def test_the_server_is_away_before_it_saved(self):
+        self.check(play(TEXT, AWAY, {}))
+        self.check_kills(AWAY, (is_read,), after=self.begun(AWAY))
+
+    def test_a_long_time_without_a_connection(self):
+        script = [(BEGUN, inserts("one")), (2, goes_away), (0, inserts("two", at=2)), (400, comes_back), (30, others_insert("three"))]
+        world = play(TEXT, script, {})
+        self.check(world, is_known=True)
+        self.assertEqual((world.said.getvalue().count("joined "), world.said.getvalue().count("silent"), world.server.faults), (1, 0, []))
+
+    def test_an_older_server(self):
+        steps = len(play(TEXT, MANY, {}, is_older=True).steps)
+        for step in range(1, steps, 8):
+            self.check(play(TEXT, MANY, {step: broken(is_read)}, is_older=True), step)
+
     def test_saved_at_each_step(self):
         self.check_saves(TYPING)
 
@@ -562,13 +708,13 @@ class Steps(unittest.TestCase):
     def test_an_editor_pauses_in_the_middle_of_a_save(self):
         others = ([], [(1, others_insert("two", at=4))], [(5, others_insert("two", at=2))], [(12, others_insert("two", at=2))], [(13, others_insert("two", at=3))], [(2, others_delete("gamma"))], [(4, others_delete("delta"))])
         for share, pause, between in itertools.product((2, 4, 1000), range(6, MOST_PAUSE), others):
-            script = [(8, half_of("one", share=share)), *between, (pause - sum(looks + 1 for looks, _ in between), rest)]
+            script = [(BEGUN, half_of("one", share=share)), *between, (pause - sum(looks + 1 for looks, _ in between), rest)]
             self.check(play(TEXT, script, {}), share, pause, between)
 
     def test_nobody_sees_a_half_soon(self):
         for looks in range(12):
             seen = []
-            script = [(8, deletes("beta")), (looks, half_of("one")), (PAUSE - 6, lambda world: seen.append(world.text())), (0, rest)]
+            script = [(BEGUN, deletes("beta")), (looks, half_of("one")), (PAUSE - 6, lambda world: seen.append(world.text())), (0, rest)]
             self.check(play(TEXT, script, {}), looks)
             self.assertIn("delta", seen[0], looks)
 
@@ -591,7 +737,7 @@ class Steps(unittest.TestCase):
 
 class Copies(unittest.TestCase):
     def test_an_opening(self):
-        opening = b"welcome 2 1000\nwindow 1\ntext 1\nchar 0.1 72\nchar 4.7 105\nlist 2\nitem 0.3 char 9.9 1\ntext 3\nchar 1.1 33\nwindow 2\ntext 1\nchar 0.9 97\nready\nbatch 0 0 1\n"
+        opening = b"\nwelcome 9 1000\nwindow 1\ntext 1\nchar 0.1 33\nwelcome 2 1000\nwindow 1\ntext 1\nchar 0.1 72\nchar 4.7 105\nlist 2\nitem 0.3 char 9.9 1\ntext 3\nchar 1.1 33\nwindow 2\ntext 1\nchar 0.9 97\nready\nbatch 0 0 1\n"
         self.assertEqual(copies.opened(opening, 1, 1), ([(0, 1), (4, 7)], "Hi"))
         self.assertEqual(copies.opened(opening, 1, 3), ([(1, 1)], "!"))
         self.assertEqual(copies.opened(opening, 2, 1), ([(0, 9)], "a"))
@@ -601,34 +747,13 @@ class Copies(unittest.TestCase):
         self.assertEqual(copy.runs(), [(0, 1, "ab"), (3, 1, "c"), (0, 3, "d"), (3, 3, "e"), (3, 2, "f")])
         self.assertEqual(copies.copy_of(copy.runs()), copy)
 
-    def test_a_server_that_was_started_again(self):
-        past = copies.Past(3, 1, copies.copy_of([(0, 1, "ab"), (3, 1, "xy")]), {(0, 3): "c"}, {}, [(3, 2)], {3: 0})
-        rows = [
-            ("nothing happened", 4, [(0, 1, "ab"), (3, 1, "xy")], True),
-            ("others edited", 9, [(0, 2, "b"), (5, 1, "new")], True),
-            ("a deletion was not taken", 4, [(0, 1, "abc")], True),
-            ("sites begin again", 2, [(0, 1, "ab")], False),
-            ("the board has more of the opening than before", 4, [(0, 1, "abxy")], False),
-            ("a name has another character", 4, [(0, 1, "xa")], False),
-            ("the order is another", 4, [(3, 1, "xy"), (0, 1, "ab")], False),
-            ("the site of this file has more than it made", 4, [(0, 1, "ab"), (3, 1, "xyz")], False),
-            ("somebody else has the number of this file", 4, [(0, 1, "ab"), (3, 1, "xz")], False),
-            ("the board has less of the opening, and all else is new", 4, [(0, 1, "a"), (5, 1, "new")], False),
-            ("the last of the opening was deleted", 4, [(0, 1, "a"), (3, 1, "xy")], True),
-        ]
-        for name, site, runs, due in rows:
-            with self.subTest(name):
-                self.assertEqual(past.is_known_to(site, copies.copy_of(runs)), due)
-
     def test_what_the_server_had_not_taken(self):
-        past = copies.Past(3, 1, copies.copy_of([(0, 1, "ab"), (3, 1, "xyz"), (0, 3, "c")]), {}, {}, [(3, 3)], {3: 1})
-        now = copies.copy_of([(0, 1, "a"), (3, 2, "y"), (4, 1, "N"), (0, 3, "c")])
-        self.assertEqual(past.lost(now), {(3, 3): "z"})
-        self.assertEqual(past.lost(copies.copy_of([(0, 1, "ab")])), {(3, 2): "y", (3, 3): "z"})
-        self.assertEqual(past.restored(now, past.lost(now)), "ayzNc")
+        past = copies.Past(3, 1, copies.copy_of([(0, 1, "ab"), (3, 1, "xyz"), (0, 3, "c")]), [(0, 4)], {3: 1}, None, 0)
+        now = copies.copy_of([(0, 1, "a"), (3, 2, "y"), (4, 1, "N"), (0, 3, "cd")])
+        self.assertEqual(past.lost(now), {(3, 3)})
+        self.assertEqual(past.lost(copies.copy_of([(0, 1, "ab")])), {(3, 2), (3, 3)})
+        self.assertEqual(past.restored(now), "ayzNc")
         self.assertEqual(past.known_text(), "abxc")
-        self.assertEqual(past.unsaved(now), {})
-        self.assertEqual(past.unsaved(copies.copy_of([(0, 1, "ab")])), {(3, 2): "y", (3, 3): "z"})
 
 
 if __name__ == "__main__":

@@ -3,7 +3,9 @@
 //! `./libjup` builds the library and prints how to link it. A refused call returns a [`Fault`], whose number says why.
 
 use std::ffi::c_void;
+use std::ops::{Deref, DerefMut};
 use std::ptr;
+use std::time::Duration;
 
 /// The most bytes of a label.
 pub const MOST_LABEL: usize = 48;
@@ -63,6 +65,22 @@ pub struct Change {
 #[derive(Clone, Copy, Debug, PartialEq, Eq)]
 pub struct Fault(pub u32);
 
+impl Fault {
+    /// This connection does not carry the link: close it, and connect again.
+    pub const CUT: Fault = Fault(95);
+}
+
+/// What a server said as it opened a link that outlives its connections.
+#[derive(Clone, Debug, PartialEq, Eq)]
+pub struct Terms {
+    /// What names the link. Its holder can carry it.
+    pub token: String,
+    /// For how long the server lets the link wait without a connection.
+    pub waits: Duration,
+    /// Whether what the server has confirmed outlives the server.
+    pub is_kept: bool,
+}
+
 /// How far a session is.
 #[derive(Clone, Copy, Debug, PartialEq, Eq)]
 pub enum Stage {
@@ -98,6 +116,12 @@ unsafe extern "C" {
     fn jup_widget_at(client: *mut Handle, window: usize, index: usize, out: *mut Widget) -> u32;
     fn jup_text(client: *mut Handle, win: u16, wid: u16, place: u32, to: *mut u32, len: usize, copied: *mut usize) -> u32;
     fn jup_label(client: *mut Handle, win: u16, wid: u16, place: u32, to: *mut u8, to_len: usize, len: *mut usize) -> u32;
+    fn jup_open_lasting(client: *mut Handle, watch: u32) -> u32;
+    fn jup_cut(client: *mut Handle) -> u32;
+    fn jup_resume(client: *mut Handle) -> u32;
+    fn jup_elapse(client: *mut Handle, seconds: u32) -> u32;
+    fn jup_token(client: *mut Handle, to: *mut u8, len: usize, seconds: *mut u32, kept: *mut u32) -> u32;
+    fn jup_arrived(client: *mut Handle, edits: *mut u32) -> u32;
 }
 
 fn check(number: u32) -> Result<(), Fault> {
@@ -191,10 +215,19 @@ impl Client {
 
     /// All bytes that wait to be sent. Each comes out once.
     pub fn take(&mut self) -> Vec<u8> {
-        let mut bytes = vec![0; unsafe { jup_waiting(&mut self.0) }];
-        let count = unsafe { jup_take(&mut self.0, bytes.as_mut_ptr(), bytes.len()) };
-        bytes.truncate(count);
-        bytes
+        let (mut bytes, mut piece) = (Vec::new(), [0; 4096]);
+        loop {
+            let count = unsafe { jup_take(&mut self.0, piece.as_mut_ptr(), piece.len()) };
+            if count == 0 {
+                return bytes;
+            }
+            bytes.extend_from_slice(&piece[..count]);
+        }
+    }
+
+    /// Whether bytes wait to be sent.
+    pub fn is_waiting(&mut self) -> bool {
+        unsafe { jup_waiting(&mut self.0) > 0 }
     }
 
     /// Makes one edit of 1 to 32 commands, each of the board after those before it. If one is refused, nothing changes.
@@ -288,5 +321,62 @@ impl Client {
 impl Drop for Client {
     fn drop(&mut self) {
         unsafe { jup_close(&mut self.0) }
+    }
+}
+
+/// A client of a link that outlives its connections. It has all calls of a [`Client`], and its user edits on while no connection carries the link. What
+/// [`Client::take`] returns is for the present connection.
+pub struct LastingClient(Client);
+
+impl LastingClient {
+    /// Opens a client, whose first line waits to be sent. Only if it is watched does it keep changes.
+    pub fn open(is_watched: bool) -> Result<LastingClient, Fault> {
+        let mut client = Client(Handle { inside: ptr::null_mut() });
+        check(unsafe { jup_open_lasting(&mut client.0, u32::from(is_watched)) })?;
+        Ok(LastingClient(client))
+    }
+
+    /// The connection broke. What was taken and did not arrive comes again on the next one.
+    pub fn cut(&mut self) {
+        unsafe { jup_cut(&mut self.0.0) };
+    }
+
+    /// Asks a new connection to carry the link: the line for that waits to be sent.
+    pub fn resume(&mut self) -> Result<(), Fault> {
+        check(unsafe { jup_resume(&mut self.0.0) })
+    }
+
+    /// So many seconds passed since this was last told. Returns whether no byte has come for 90: then close the connection, and call
+    /// [`LastingClient::cut`].
+    pub fn elapse(&mut self, seconds: u32) -> bool {
+        unsafe { jup_elapse(&mut self.0.0, seconds) != 0 }
+    }
+
+    /// What the server said as it opened the link, once it has.
+    pub fn terms(&mut self) -> Option<Terms> {
+        let (mut token, mut seconds, mut kept) = ([0; 32], 0, 0);
+        check(unsafe { jup_token(&mut self.0.0, token.as_mut_ptr(), token.len(), &mut seconds, &mut kept) }).ok()?;
+        Some(Terms { token: String::from_utf8_lossy(&token).into_owned(), waits: Duration::from_secs(seconds.into()), is_kept: kept != 0 })
+    }
+
+    /// How many of its edits had their effect, once the link is over and the server has said so. They are the first that it made.
+    pub fn arrived(&mut self) -> Option<u32> {
+        let mut edits = 0;
+        check(unsafe { jup_arrived(&mut self.0.0, &mut edits) }).ok()?;
+        Some(edits)
+    }
+}
+
+impl Deref for LastingClient {
+    type Target = Client;
+
+    fn deref(&self) -> &Client {
+        &self.0
+    }
+}
+
+impl DerefMut for LastingClient {
+    fn deref_mut(&mut self) -> &mut Client {
+        &mut self.0
     }
 }

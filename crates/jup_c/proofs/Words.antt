@@ -4,9 +4,6 @@
 --     Words        the two fields by themselves: words_in makes what is owned of them, words_out takes it apart
 --     either_held  a handle owns nothing, and its word is null; or it owns a client behind a pointer that may be compared with null
 use mathlib.Core.Path.{◌≡◌, refl, subst}
-use Prim.Native.Nat.{ℕ}
-use mathlib.Core.Bool.{Bool, true, false, ◌&&◌}
-use mathlib.Core.List.{List, [], ◌∷◌, ◌++◌}
 use lib.Dec.{T, lit<}
 use seplogic.Ra.Ura.{Ura}
 use mir.Syntax.{impl, tnil, dnil, ty_ptr}
@@ -24,7 +21,7 @@ use denote.RawPtr.{Ptr, RawPtr, block_ptr, null_ptr, ptr_val, lies_at, Testable}
 use denote.Steps.{nothing}
 use denote.Struct.Struct.{Struct, within}
 use denote.Signature.{Slot, plain}
-use Rattle.std.specs.Prelude.{Option, None, Some}
+use Rattle.std.specs.Prelude.{Option, None, Some, ℕ, Bool, true, false, ◌&&◌, List, [], ◌∷◌, ◌++◌}
 use Rattle.core.proofs.alloc.Calls.{handle_tells, α}
 use Rattle.core.proofs.cell.Inside.{Good}
 use Rattle.std_alloc.specs.Box.Ownership.{box_owns}
@@ -33,9 +30,9 @@ use Rattle.std_heap.specs.contracts.Global as Heap
 use Rattle.std_heap.specs.contracts.GlobalAllocator.TheImpl.{ghosts, dict}
 use Rattle.std_heap.proofs.Global.TheLaws as heap
 use Rattle.std.proofs.GlobalToken.{dealloc_token-Testable}
-use Rattle.jup_c.specs.Prelude.{Session, Global}
-use Rattle.jup_embed.specs.contracts.client.Client.{the_row as R}
-use Rattle.jup_embed.proofs.client.Client.TheLaws as laws
+use Rattle.jup_c.specs.Prelude.{AnyClient, Global}
+use Rattle.jup_reconnect.specs.contracts.any.AnyClient.{the_row as R}
+use Rattle.jup_reconnect.proofs.any.AnyClient.TheLaws as laws
 use Rattle.jup_c.specs.contracts.handle.JupClient as Handle
 use Rattle.jup_c.specs.contracts.handle.parts.Parts as Parts
 use Rattle.jup_c.specs.Handles.{held}
@@ -91,9 +88,9 @@ module _ {M : Type 1} {𝓤 : Ura M} {𝓛 : Logic 𝓤} {K : Type 0} {Γ : List
       fpick t (λ parts. fsplit t $ feq_l t (λ whole. fsplit t $ feq_l t (λ first. fsplit t $ handle_tells E.al t a parts.1.0 (λ handle second fits. move t (1 ∷ []) $ drop t $ k handle
       (subst (λ (us : List Val). vs ≡ vstruct (of_list (ptr_val p ∷ (us ++ []))) ∷ []) second (subst (λ (us : List Val). vs ≡ vstruct (of_list (us ++ (parts.1.0 ++ []))) ∷ []) first whole)) fits))))
 
-  pub either_held : K → (a : Global) (p : Ptr) (inside : Option Session)
+  pub either_held : K → (a : Global) (p : Ptr) (inside : Option AnyClient)
       → (p ≡ null_ptr → inside ≡ None → Seq K 𝓛 Γ G)
-      → ((b o : ℕ) (x : Session) → p ≡ block_ptr b o → inside ≡ Some x → Testable (block_ptr b o) → Seq K 𝓛 (‵ (box_owns (ghosts.dealloc_token a) R (block_ptr b o) x) ∷ Γ) G)
+      → ((b o : ℕ) (x : AnyClient) → p ≡ block_ptr b o → inside ≡ Some x → Testable (block_ptr b o) → Seq K 𝓛 (‵ (box_owns (ghosts.dealloc_token a) R (block_ptr b o) x) ∷ Γ) G)
       → Seq K 𝓛 (‵ (held a p inside) ∷ Γ) G
   either_held t a null_ptr None none one = drop t $ none refl refl
   either_held t a null_ptr (Some x) none one = use1 𝓛 (given ⊥ (‵ ftrue)) (never_e 𝓤 _) $ learn t (λ e. absurd e)

@@ -1,11 +1,11 @@
 //! The one word that C keeps of a client.
 ghost use Rattle.std.specs.Prelude.{◌≡◌, Option, None, Some, MatchOption};
-ghost use Rattle.jup_embed.specs.Sessions.{Session};
+ghost use Rattle.jup_reconnect.specs.declared.any.AnyClient.{AnyClient as Held};
 ghost use Rattle.jup_c.specs.Handles.{held, inside_coded};
 
 mod parts;
 
-use jup_embed::Client;
+use jup_reconnect::AnyClient;
 use parts::Parts;
 use std::alloc::Global;
 use std::marker::Model;
@@ -17,7 +17,7 @@ use std::ptr::null_mut;
 pub struct JupClient {
     at: *mut u8,
     alloc: Global,
-    ghost inside: { Option Session } by { inside_coded },
+    ghost inside: { Option Held } by { inside_coded },
 }
 
 impl Model for JupClient {
@@ -36,7 +36,7 @@ impl JupClient {
     }
 
     // The handle of a client.
-    fn of_parts(parts: Parts<Client, Global>) -> JupClient
+    fn of_parts(parts: Parts<AnyClient, Global>) -> JupClient
         ensures { result.inside ≡ Some parts.value }
     {
         let Parts { at, alloc } = parts;
@@ -47,7 +47,7 @@ impl JupClient {
     }
 
     // Its client, if it has one.
-    fn into_parts(self) -> Option<Parts<Client, Global>>
+    fn into_parts(self) -> Option<Parts<AnyClient, Global>>
         ensures { MatchOption result (self.inside ≡ None) (λ parts. self.inside ≡ Some parts.value) }
     {
         let JupClient { at, alloc } = self;
@@ -55,14 +55,14 @@ impl JupClient {
             None
         } else {
             Some(Parts {
-                at: at as *mut Client,
+                at: at as *mut AnyClient,
                 alloc,
             })
         }
     }
 
     /// Takes the client out, if there is one. The handle then has none.
-    pub(crate) fn take(&mut self, alloc: Global) -> Option<Box<Client>>
+    pub(crate) fn take(&mut self, alloc: Global) -> Option<Box<AnyClient>>
         ensures taken { MatchOption result (self.old.inside ≡ None) (λ client. self.old.inside ≡ Some client.value) }
         ensures none { self.new.inside ≡ None }
     {
@@ -74,7 +74,7 @@ impl JupClient {
     }
 
     /// Puts a client in. One that was there is freed.
-    pub(crate) fn put(&mut self, client: Box<Client>)
+    pub(crate) fn put(&mut self, client: Box<AnyClient>)
         ensures { self.new.inside ≡ Some client.value }
     {
         let one = JupClient::of_parts(Parts::of(client));

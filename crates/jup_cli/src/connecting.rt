@@ -37,7 +37,20 @@ pub fn client_main<
         Ok(addr) => addr,
         Err(unread) => return unread.tell(out, errors),
     };
-    match run_over_socket(rt, alloc, addr.as_str(), input, out) {
+    let end = run_over_socket(rt, alloc, addr.as_str(), input, out);
+    status_of(end, addr.as_str(), out, errors)
+}
+
+/// Tells the user how the client ended, and answers the exit status.
+pub(crate) fn status_of<O: Write, E: Write>(
+    end: Result<(), ClientEnd>,
+    addr: &str,
+    out: &mut O,
+    errors: &mut E,
+) -> u8
+    ensures { result ≤ 4 }
+{
+    match end {
         Ok(()) => 0,
         Err(end @ ClientEnd::Fault(_)) => tell_fault(out, errors, end),
         Err(ClientEnd::Unconnected) => {
@@ -49,8 +62,8 @@ pub fn client_main<
     }
 }
 
-// Runs the client over a connection of its own.
-fn run_over_socket<
+/// Runs the client over a connection of its own.
+pub(crate) fn run_over_socket<
     R: Net<Listener = TcpListener, Stream = TcpStream> + Threads + Wait + Clock + Sync,
     C: Read + Drop,
     O: Write,

@@ -4,12 +4,16 @@
 mod after;
 mod commands;
 mod connecting;
+mod endings;
+mod lasting;
 mod options;
 mod running;
 mod typed;
 
 pub use after::After;
 pub use connecting::client_main;
-pub use options::client_words;
+pub use endings::{ending_of, leaves_more};
+pub use lasting::lasting_client_main;
+pub use options::{ClientWords, client_words, lasting_client_words};
 pub use running::run_client;
 pub use typed::Typed;

@@ -1,5 +1,5 @@
 -- What each call makes of a session.
-use Rattle.std.proofs.Common.{inl, inr, ◌≡◌, ◌≤◌, ◌<◌, ℕ, ◌+◌, ◌-◌, arith, ◌∙◌, refl, sym, ap, Bool, true, false, List, [], ◌∷◌, ◌++◌, length, take, drop, get_or, set, length-drop, slice_get, Some, None, if◌then◌else◌, subst, ◌||◌, ◌==◌, Option, Result, Ok, Err, MatchBool, is_ok, IfErr, IsErrAnd, IfOk, OnOk, flat_map}
+use Rattle.std.proofs.Common.{inl, inr, ◌≡◌, ◌≢◌, ◌≤◌, ◌<◌, ℕ, ◌+◌, ◌-◌, arith, ◌∙◌, refl, sym, ap, Bool, true, false, List, [], ◌∷◌, ◌++◌, length, take, drop, get_or, set, length-drop, slice_get, Some, None, if◌then◌else◌, subst, ◌||◌, ◌==◌, Option, Result, Ok, Err, MatchBool, is_ok, eqb-true, ◌⊎◌, IfErr, IsErrAnd, IfOk, OnOk, flat_map}
 use Rattle.std.proofs.lemmas.List.{append-nil, drop_more, drop_all, get_or-drop, get_or-map, get_or_default, length-map, take-append-drop}
 use Rattle.std.proofs.Math.ListN.{get_or-eq_default}
 use Rattle.std.proofs.lemmas.Option.{get_or_from_slice_get, slice_get_within, slice_get_cases}
@@ -17,7 +17,8 @@ use Rattle.jup_client.specs.declared.client.Told.TheVariants.{Synced, Bye as Sai
 use Rattle.jup_client.specs.declared.client.Told.TheVariants as told
 use Rattle.jup_client.specs.Clients.{saying, IsHeld, ComesTo, AnswersEdit, Answers, edit_answer, telling, Hears, HearsDown, down_heard, heard_answer, Shows}
 use Rattle.jup_embed.specs.declared.phase.Phase.TheVariants as phase
-use Rattle.jup_embed.specs.Sessions.{kept, operations_in, operations_said, said_bytes, PhaseHears, Session, HearsLine, HearsLines, EditedIn, MakesEdit, AnsweredIn, IsDone, DoesAsked, Commands, still_synced, KeepsRest, RefusesLine, HearsUpTo, ReadsOn, Ends, board_in, Feeds, LacksUntold, KeepsCopies}
+use Rattle.jup_embed.specs.Sessions.{held_of, kept, operations_in, operations_said, said_bytes, PhaseHears, Session, HearsLine, HearsLines, EditedIn, MakesEdit, AnsweredIn, IsDone, DoesAsked, Commands, still_synced, KeepsRest, RefusesLine, HearsUpTo, ReadsOn, Ends, board_in, Feeds, LacksUntold, KeepsCopies, HasNoPing, RefusesRequest}
+use Rattle.jup_embed.specs.declared.refusals.EmbedFault.TheVariants as fault
 use Rattle.jup_embed.specs.Views.{values_of}
 use Rattle.jup_client.specs.Prelude.{BoardBatch, UpPing, Down}
 use Rattle.jup_batch.specs.Prelude.{boards}
@@ -44,6 +45,18 @@ one_left xs k x below = drop_more xs k x below
 
 pub none_left : {A : Type 0} (xs : List A) (k : ℕ) → length xs ≤ k → drop k xs ≡ []
 none_left xs k over = drop_all k xs over
+
+-- while bytes wait, those before them are held
+held_some : (bytes : List ℕ) (k : ℕ) → length bytes ≢ 0 → k ≡ held_of bytes k
+held_some [] k some = absurd (some refl)
+held_some (byte ∷ bytes) k some = refl
+
+pub left_held : (items now : List ℕ) (sent held count : ℕ) → drop sent items ≡ now → sent ≡ held → sent + count ≢ length items → sent ≤ length items → count ≤ length now
+    → sent + count ≡ held_of (drop count now) (held + count)
+left_held items now sent held count is same more within fits =
+    let long : length now ≡ length items - sent = ap length (sym is) ∙ length-drop sent items in
+    let some : length (drop count now) ≢ 0 = rw length-drop (omega (arith, long, more, within, fits)) in
+    ap (λ n. n + count) same ∙ held_some (drop count now) (held + count) some
 
 -- the character at a place of a text, and past its end
 pub value_within : (items : List (Item ℕ)) (place : ℕ) (item : Item ℕ) → slice_get items place ≡ Some item → item.value ≡ get_or (values_of items) place 0
@@ -185,6 +198,35 @@ refused_so Sync c d end h = unnumbered (c.pings == 4294967295) c d end h.0 h.1
 refused_so Show c d end h = h.1
 refused_so Quit c d end h = h.1
 refused_so Bad c d end h = h.1
+
+-- Why a client refuses a request: since an allocation fails, or since no number is left for a ping.
+
+refused_memory : (commands : List Command) (c d : ClientState) (end : ClientEnd) → AnswersEdit commands c (Err end) d → end ≡ NoMemory
+refused_memory commands c d end h = by_outcome h.0 h.2
+  where
+    by_outcome : (outcome : Result Made EditFault) → Err end ≡ edit_answer outcome → end ≡ NoMemory
+    by_outcome (Ok made) is = absurd (cc)
+    by_outcome (Err fault) is = by_memory (is_edit_memory fault) is
+      where
+        by_memory : (b : Bool) → Err end ≡ (if b then Err NoMemory else Ok (telling (told.Refused fault))) → end ≡ NoMemory
+        by_memory true is = cc
+        by_memory false is = absurd (cc)
+
+no_ping : (c : ClientState) (end : ClientEnd) (b : Bool) → (c.pings == 4294967295) ≡ b
+    → Err end ≡ (if b then Err (Fault 46) else Ok (saying (SaysUp (UpPing (c.pings + 1))) told.Synced)) → HasNoPing Sync (phase.Open c) end
+no_ping c end true spent is = (refl, eqb-true c.pings 4294967295 spent, cc)
+no_ping c end false spent is = absurd (cc)
+
+why_refused : (request : Request) (c d : ClientState) (end : ClientEnd) → Answers request c (Err end) d → (end ≡ NoMemory) ⊎ HasNoPing request (phase.Open c) end
+why_refused (Edit command) c d end h = inl (refused_memory (command ∷ []) c d end h)
+why_refused (Batch commands) c d end h = inl (refused_memory commands.items c d end h)
+why_refused Sync c d end h = inr (no_ping c end (c.pings == 4294967295) refl h.0)
+why_refused Show c d end h = absurd (let no : Err end ≡ Ok (telling told.Board) = h.0 in cc)
+why_refused Quit c d end h = absurd (let no : Err end ≡ Ok (saying SaysBye told.Bye) = h.0 in cc)
+why_refused Bad c d end h = absurd (let no : Err end ≡ Ok (telling told.BadCommand) = h.0 in cc)
+
+pub request_refused : (request : Request) (c d : ClientState) (end : ClientEnd) → Answers request c (Err end) d → (end ≡ NoMemory → ⊥) → RefusesRequest request (phase.Open c) (fault.Over end)
+request_refused request c d end h some = elim (why_refused request c d end h) [ inl none ↦ absurd (some none) | inr spent ↦ inr spent ]
 
 -- Lines that were heard up to one that was refused.
 

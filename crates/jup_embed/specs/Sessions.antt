@@ -16,12 +16,14 @@ use Rattle.jup_embed.specs.declared.refusals.EmbedFault.TheVariants as fault
 use Rattle.jup_client.specs.Prelude.{BoardBatch, UpOp}
 use Rattle.jup_stream.specs.declared.saying.Said.TheVariants.{Up as SaysUp}
 use Rattle.jup_client.specs.declared.asking.Request.TheVariants.{Sync}
+use Rattle.jup_stream.specs.declared.faults.StreamFault.TheVariants.{ReadsSpent}
 
 -- The operations that a board took and that the client has not told its user.
 
--- these operations, whether they are kept at all, and for how many more there is room
+-- these operations, how many that the client has told are still held, whether they are kept at all, and for how many more there is room
 pub record Untold : Type 0 where
   pub untold : List BoardOp
+  pub told : ℕ
   pub watched : Bool
   pub room : ℕ
 
@@ -66,10 +68,16 @@ PhaseHears line (phase.Over end) r new = (r ≡ Err end) × (new ≡ phase.Over 
 
 -- Bytes for the server, which wait to be sent.
 
--- the bytes that wait, and for how many more there is room
+-- the bytes that wait, how many that were taken are still held, and for how many more there is room
 pub record Waiting : Type 0 where
   pub bytes : List ℕ
+  pub sent : ℕ
   pub room : ℕ
+
+-- so many of the bytes that were taken are held while others wait, and none once no byte waits
+abbrev pub held_of : List ℕ → ℕ → ℕ
+held_of [] sent = 0
+held_of (byte ∷ bytes) sent = sent
 
 -- the lines of what a client says, as bytes
 abbrev pub said_bytes : Option Said → List ℕ
@@ -88,6 +96,27 @@ pub record Session : Type 0 where
   pub watched : Bool
   pub asked : Option Begun
   pub synced : Bool
+
+-- before the first byte of a session whose link greets in its place
+abbrev pub IsUngreeted : Bool → Session → Type 0
+IsUngreeted watched c = HasRead [] [] c.progress × (c.phase ≡ phase.Greeting) × (c.waiting ≡ []) × (c.changes ≡ []) × (c.watched ≡ watched)
+
+-- it is over, by this end if it was not before
+abbrev pub over_by : ClientEnd → Phase → Phase
+over_by end phase.Greeting = phase.Over end
+over_by end (phase.Opening opening) = phase.Over end
+over_by end (phase.Open state) = phase.Over end
+over_by end (phase.Over before) = phase.Over before
+
+abbrev pub ended_by : ClientEnd → Session → Session
+ended_by end c = record c { phase = over_by end c.phase }
+
+-- how many pings the client of an open session sent
+abbrev pub pings_in : Phase → ℕ
+pings_in phase.Greeting = 0
+pings_in (phase.Opening opening) = 0
+pings_in (phase.Open state) = state.pings
+pings_in (phase.Over end) = 0
 
 abbrev pub stage_of : Phase → Stage
 stage_of phase.Greeting = stage.Greeting
@@ -185,10 +214,17 @@ abbrev pub RefusedIn : List Command → EditFault → Phase → Type 0
 RefusedIn commands refused (phase.Open state) = Err refused ≡ edit_reply commands state.site
 RefusedIn commands refused other = ⊥
 
+-- the board has not come whole
+abbrev pub IsUnopened : Phase → Type 0
+IsUnopened phase.Greeting = Unit {0}
+IsUnopened (phase.Opening opening) = Unit {0}
+IsUnopened (phase.Open state) = ⊥
+IsUnopened (phase.Over end) = ⊥
+
 -- why an edit is refused: an allocation fails, or the session is not open, or its site refuses the commands
 abbrev pub RefusesEdit : List Command → Phase → EmbedFault → Type 0
 RefusesEdit commands p fault.NoMemory = Unit {0}
-RefusesEdit commands p fault.NotOpen = board_in p ≡ None
+RefusesEdit commands p fault.NotOpen = IsUnopened p
 RefusesEdit commands p (fault.Over end) = p ≡ phase.Over end
 RefusesEdit commands p (fault.Edit refused) = RefusedIn commands refused p
 
@@ -210,6 +246,17 @@ pub record IsDone (request : Request) (c : Session) (told : Told) (d : Session) 
   pub tells : told ≡ answer.told
   pub after : d ≡ record (after_saying answer.said left c) { synced = still_synced request c.synced }
 
+-- a ping is refused since no number is left for it
+abbrev pub HasNoPing : Request → Phase → ClientEnd → Type 0
+HasNoPing request p end = (request ≡ Sync) × (pings_in p ≡ 4294967295) × (end ≡ end_of_fault ReadsSpent)
+
+-- why a request is refused: an allocation fails, or the session is not open, or it is over, or it is one ping too many
+abbrev pub RefusesRequest : Request → Phase → EmbedFault → Type 0
+RefusesRequest request p fault.NoMemory = Unit {0}
+RefusesRequest request p fault.NotOpen = IsUnopened p
+RefusesRequest request p (fault.Over end) = (p ≡ phase.Over end) ⊎ HasNoPing request p end
+RefusesRequest request p (fault.Edit refused) = ⊥
+
 -- a refused request changes nothing
 abbrev pub Asks : Request → Session → Result Told EmbedFault → Session → Type 0
 Asks request c (Ok told) d = IsDone request c told d
@@ -224,6 +271,10 @@ Does asked told c d = ⊥
 abbrev pub DoesAsked : Result (Option Told) EmbedFault → Option Request → Session → Session → Type 0
 DoesAsked (Ok told) asked c d = Does asked told c d
 DoesAsked (Err refused) asked c d = d ≡ c
+
+-- a line of a user is held, or completes this request
+abbrev pub TakesLine : List ℕ → Option Request → Session → Session → Type 0
+TakesLine line asked c d = ((lines : List (List ℕ)) → IsHeld lines c.asked → ComesTo (lines ++ line ∷ []) asked d.asked) × (d ≡ record c { asked = d.asked })
 
 -- what a line of a user does: it is held, or completes a request, which is done; a refusal changes nothing but which lines are held
 abbrev pub Commands : Result (Option Told) EmbedFault → List ℕ → Session → Session → Type 0

@@ -1,5 +1,5 @@
 //! The operations that a board took and that the client has not told its user.
-ghost use Rattle.std.specs.Prelude.{◌≡◌, ◌≤◌, ◌+◌, ◌++◌, ◌∷◌, [], length, vec_len, vec_capacity, IsTrue, OnOk, MatchOption};
+ghost use Rattle.std.specs.Prelude.{◌≡◌, ◌≤◌, ◌+◌, ◌++◌, ◌∷◌, [], false, length, vec_len, vec_capacity, IsTrue, IsErr, OnOk, MatchOption};
 ghost use Rattle.jup_embed.specs.Sessions.{kept, operations_in, operations_said};
 
 use jup_batch::{BoardBatch, MOST_COMMANDS};
@@ -11,7 +11,7 @@ use std::alloc::Global;
 use std::marker::{Model, PhantomData};
 
 /// The operations that a board took and that the client has not told, oldest first. None are kept if nobody watches. Contracts see
-/// them, whether somebody watches, and for how many more there is room.
+/// them, how many that it has told are still held, whether somebody watches, and for how many more there is room.
 #[derive(Drop)]
 pub(crate) struct Changes {
     ops: Vec<BoardOp>,
@@ -27,7 +27,7 @@ impl Model for Changes {
 
     ghost Value = { Untold };
 
-    ghost view = { λ c. record { untold = drop c.told c.ops.items; watched = c.is_watched; room = vec_capacity c.ops - vec_len c.ops } };
+    ghost view = { λ c. record { untold = drop c.told c.ops.items; told = c.told; watched = c.is_watched; room = vec_capacity c.ops - vec_len c.ops } };
 
     ghost invariant = { λ c. c.told ≤ length c.ops.items };
 }
@@ -36,6 +36,7 @@ impl Changes {
     /// None. It takes no memory.
     pub(crate) fn new(alloc: Global, is_watched: bool) -> Changes
         ensures untold { result.untold ≡ [] }
+        ensures told { result.told ≡ 0 }
         ensures watched { result.watched ≡ is_watched }
     {
         Changes {
@@ -46,10 +47,18 @@ impl Changes {
         }
     }
 
-    /// Tells the oldest.
+    /// Whether somebody watches.
+    pub(crate) fn is_watched(&self) -> bool
+        ensures { result ≡ self.now.watched }
+    {
+        self.is_watched
+    }
+
+    /// Tells the oldest. Where none is left, none is held.
     #[tactic(auto, using(crate::proofs::Sessions::one_left, crate::proofs::Sessions::none_left))]
     pub(crate) fn next(&mut self) -> Option<BoardOp>
         ensures told { MatchOption result ((self.old.untold ≡ []) × (self.new.untold ≡ [])) (λ op. self.old.untold ≡ op ∷ self.new.untold) }
+        ensures held { MatchOption result (self.new.told ≡ 0) (λ _. self.new.told ≡ self.old.told + 1) }
         ensures watched { self.new.watched ≡ self.old.watched }
     {
         if self.told < self.ops.len() {
@@ -62,11 +71,14 @@ impl Changes {
         None
     }
 
-    /// Makes room for the operations of an edit, if they are kept.
+    /// Makes room for the operations of an edit, if they are kept. If nobody watches, this needs no memory.
     pub(crate) fn reserve(&mut self) -> Result<(), NoMemory>
         ensures untold { self.new.untold ≡ self.old.untold }
+        ensures told { self.new.told ≡ self.old.told }
         ensures watched { self.new.watched ≡ self.old.watched }
         ensures room { OnOk result (IsTrue self.new.watched → 32 ≤ self.new.room) }
+        ensures nobody { self.old.watched ≡ false → self.new ≡ self.old }
+        ensures why { IsErr result → IsTrue self.old.watched }
     {
         if self.is_watched && self.ops.reserve(MOST_COMMANDS).is_err() {
             return Err(NoMemory);
@@ -79,6 +91,7 @@ impl Changes {
     pub(crate) fn keep_shown(&mut self, shown: Option<BoardBatch>)
         requires { IsTrue self.old.watched → 32 ≤ self.old.room }
         ensures untold { self.new.untold ≡ self.old.untold ++ kept self.old.watched (operations_in shown) }
+        ensures told { self.new.told ≡ self.old.told }
         ensures watched { self.new.watched ≡ self.old.watched }
     {
         if let Some(ops) = &shown {
@@ -91,6 +104,7 @@ impl Changes {
     pub(crate) fn keep_said(&mut self, said: &Option<Said>)
         requires { IsTrue self.old.watched → 32 ≤ self.old.room }
         ensures untold { self.new.untold ≡ self.old.untold ++ kept self.old.watched (operations_said said.now) }
+        ensures told { self.new.told ≡ self.old.told }
         ensures watched { self.new.watched ≡ self.old.watched }
     {
         if let Some(Said::Up(Up::Op(msg))) = said {
@@ -104,6 +118,7 @@ impl Changes {
         requires few { length ops.now ≤ 32 }
         requires room { IsTrue self.old.watched → 32 ≤ self.old.room }
         ensures untold { self.new.untold ≡ self.old.untold ++ kept self.old.watched ops.now }
+        ensures told { self.new.told ≡ self.old.told }
         ensures watched { self.new.watched ≡ self.old.watched }
     {
         if self.is_watched {

@@ -1,5 +1,5 @@
 //! A client of one session.
-ghost use Rattle.std.specs.Prelude.{◌≡◌, ◌≤◌, ◌||◌, [], ◌∷◌, length, take, drop, None, Some, Ok, Err, IfOk, IfErr, OnOk, OnErr, IfSome, IsNone, MatchOption};
+ghost use Rattle.std.specs.Prelude.{◌≡◌, ◌≤◌, ◌||◌, [], ◌∷◌, length, min, take, drop, None, Some, Ok, Err, IfOk, IfErr, OnOk, OnErr, IfSome, IsNone, MatchOption};
 ghost use Rattle.jup_wire.specs.Lines.{line_bytes};
 ghost use Rattle.jup_wire.specs.Streams.{HasRead};
 ghost use Rattle.jup_wire.specs.declared.line.Line.TheVariants.{Hello};
@@ -10,7 +10,7 @@ ghost use Rattle.jup_client.specs.declared.client.Told.TheVariants.{Synced, Bye 
 ghost use Rattle.jup_client.specs.declared.asking.Request.TheVariants.{Sync, Quit};
 ghost use Rattle.jup_stream.specs.declared.saying.Said.TheVariants.{Up as SaysUp};
 ghost use Rattle.jup_embed.specs.declared.phase.Phase.TheVariants.{Greeting as InGreeting, Over as IsOver};
-ghost use Rattle.jup_embed.specs.Sessions.{LacksUntold, KeepsCopies, stage_of, board_in, site_in, still_synced, refusal_of, HearsLine, HearsLines, Feeds, KeepsRest, RefusesLine, HearsUpTo, Ends, EditedIn, MakesEdit, RefusesEdit, RefusesAt, AnsweredIn, IsDone, Asks, DoesAsked, Commands};
+ghost use Rattle.jup_embed.specs.Sessions.{IsUngreeted, ended_by, pings_in, LacksUntold, KeepsCopies, stage_of, board_in, site_in, still_synced, refusal_of, HearsLine, HearsLines, Feeds, KeepsRest, RefusesLine, HearsUpTo, Ends, EditedIn, MakesEdit, RefusesEdit, RefusesRequest, RefusesAt, AnsweredIn, IsDone, Asks, DoesAsked, Commands, TakesLine};
 
 use crate::changes::Changes;
 use crate::phase::Phase;
@@ -102,6 +102,62 @@ impl Client {
         })
     }
 
+    /// A client that greets nobody, for a link that does so itself. Making it takes no memory.
+    pub fn ungreeted(alloc: Global, is_watched: bool) -> Client
+        ensures { IsUngreeted is_watched result }
+    {
+        Client {
+            reader: Reader::new(),
+            phase: Phase::Greeting,
+            unsent: Unsent::none(alloc),
+            changes: Changes::new(alloc, is_watched),
+            asking: Asking::new(),
+            is_synced: false,
+            within: PhantomData,
+        }
+    }
+
+    /// Ends the session, unless it is over.
+    pub fn end(&mut self, end: ClientEnd)
+        ensures { self.new ≡ ended_by end self.old }
+    {
+        if !matches!(self.phase, Phase::Over(_)) {
+            self.phase = Phase::Over(end);
+        }
+    }
+
+    /// Whether it keeps changes.
+    pub fn is_watched(&self) -> bool
+        ensures { result ≡ self.now.watched }
+    {
+        self.changes.is_watched()
+    }
+
+    /// How many pings it sent, once the session is open.
+    pub fn pings(&self) -> u32
+        ensures { result ≡ pings_in self.now.phase }
+    {
+        match &self.phase {
+            Phase::Open(state) => state.pings,
+            Phase::Greeting | Phase::Opening(_) | Phase::Over(_) => 0,
+        }
+    }
+
+    /// The bytes that wait to be sent, the oldest first.
+    pub fn unsent(&self) -> &[u8]
+        ensures { result.now ≡ self.now.waiting }
+    {
+        self.unsent.as_slice()
+    }
+
+    /// Drops so many of the bytes that wait, the oldest first.
+    pub fn drop_front(&mut self, count: usize)
+        requires { count ≤ length self.old.waiting }
+        ensures { self.new ≡ record self.old { waiting = drop count self.old.waiting } }
+    {
+        self.unsent.drop_front(count);
+    }
+
     /// How far the session is.
     pub fn stage(&self) -> Stage
         ensures { result ≡ stage_of self.now.phase }
@@ -149,10 +205,12 @@ impl Client {
         self.unsent.len()
     }
 
-    /// Moves bytes that wait to be sent, the oldest first, and returns how many. Nothing else changes.
+    /// Moves bytes that wait to be sent, the oldest first and as far as there is room, and returns how many. Nothing else changes.
     pub fn move_out(&mut self, to: &mut [u8]) -> usize
+        ensures count { result ≡ min (length self.old.waiting) (length to.old) }
         ensures fits { result ≤ length to.old }
         ensures moved { take result to.new ≡ take result self.old.waiting }
+        ensures beyond { drop result to.new ≡ drop result to.old }
         ensures left { self.new ≡ record self.old { waiting = drop result self.old.waiting } }
         ensures long { length to.new ≡ length to.old }
     {
@@ -275,6 +333,7 @@ impl Client {
         ensures pinged { OnOk result (IsDone Sync self.old Synced self.new) }
         ensures copies { OnOk result (KeepsCopies self.old self.new) }
         ensures refused { OnErr result (self.new ≡ self.old) }
+        ensures why { IfErr result (RefusesRequest Sync self.old.phase) }
     {
         self.request(alloc, &Request::Sync)?;
         Ok(())
@@ -286,6 +345,7 @@ impl Client {
         ensures said { OnOk result (IsDone Quit self.old SaidBye self.new) }
         ensures copies { OnOk result (KeepsCopies self.old self.new) }
         ensures refused { OnErr result (self.new ≡ self.old) }
+        ensures why { IfErr result (RefusesRequest Quit self.old.phase) }
     {
         self.request(alloc, &Request::Quit)?;
         Ok(())
@@ -301,12 +361,21 @@ impl Client {
         self.obey(alloc, line)
     }
 
+    /// Takes a line of its user, as the program `jup` does, and returns the request that it completes. That is not done yet. If an
+    /// allocation fails, nothing changes.
+    pub fn take_line(&mut self, alloc: Global, line: &[u8]) -> Result<Option<Request>, NoMemory>
+        ensures asked { IfOk result (λ asked. TakesLine line.now asked self.old self.new) }
+        ensures refused { OnErr result (self.new ≡ self.old) }
+    {
+        self.asking.push(alloc, line)
+    }
+
     // Does what a line asks for, if it completes a request.
     #[tactic(auto, using(crate::proofs::Sessions::commanded_so))]
     fn obey(&mut self, alloc: Global, line: &[u8]) -> Result<Option<Told>, EmbedFault>
         ensures { Commands result line.now self.old self.new }
     {
-        let asked = self.asking.push(alloc, line)?;
+        let asked = self.take_line(alloc, line)?;
         self.do_asked(alloc, asked)
     }
 
@@ -325,10 +394,11 @@ impl Client {
         }
     }
 
-    // Does a request. Room for what the client then says is made before it is done.
-    fn request(&mut self, alloc: Global, request: &Request) -> Result<Told, EmbedFault>
+    /// Does a request. Room for what the client then says is made before it is done.
+    pub fn request(&mut self, alloc: Global, request: &Request) -> Result<Told, EmbedFault>
         ensures asks { Asks request.now self.old result self.new }
         ensures asked { self.new.asked ≡ self.old.asked }
+        ensures why { IfErr result (RefusesRequest request.now self.old.phase) }
     {
         self.unsent.reserve()?;
         self.changes.reserve()?;
@@ -358,10 +428,11 @@ fn still_synced(request: &Request, is_synced: bool) -> bool
 }
 
 // The answer of an open session.
-#[tactic(auto, using(crate::proofs::Sessions::refused_so))]
+#[tactic(auto, using(crate::proofs::Sessions::refused_so, crate::proofs::Sessions::request_refused))]
 fn answer_in(alloc: Global, phase: &mut Phase, request: &Request) -> Result<Answer, EmbedFault>
     ensures answered { IfOk result (λ answer. AnsweredIn request.now phase.old answer phase.new) }
     ensures refused { OnErr result (phase.new ≡ phase.old) }
+    ensures why { IfErr result (RefusesRequest request.now phase.old) }
 {
     match phase {
         Phase::Open(state) => match state.answer(alloc, request) {

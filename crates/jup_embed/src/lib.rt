@@ -16,7 +16,7 @@ pub use client::{Client, Stage};
 pub use jup_wire::WidgetValue;
 pub use phase::Phase;
 pub use plain::{
-    CLOSED, NO_STAGE, PlainChange, PlainCommand, PlainWidget, copy_bytes, end_number,
+    CLOSED, NO_STAGE, PlainChange, PlainCommand, PlainWidget, UNTOLD, copy_bytes, end_number,
     outcome_number,
 };
 pub use refusals::EmbedFault;

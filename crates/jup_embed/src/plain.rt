@@ -9,6 +9,6 @@ mod widgets;
 
 pub use changes::PlainChange;
 pub use commands::PlainCommand;
-pub use numbers::{CLOSED, NO_STAGE, end_number, outcome_number};
+pub use numbers::{CLOSED, NO_STAGE, UNTOLD, end_number, outcome_number};
 pub use texts::copy_bytes;
 pub use widgets::PlainWidget;

@@ -1,7 +1,6 @@
 -- Counting the edits among lines.
-use Rattle.std.proofs.Common.{◌≡◌, ℕ, ◌+◌, ◌<◌, ◌≤◌, min, Bool, true, false, List, ◌∷◌, length, drop, inl, inr, arith, sym, ap, ◌∙◌, refl, add-zero}
+use Rattle.std.proofs.Common.{◌≡◌, ℕ, ◌+◌, ◌<◌, ◌≤◌, min, Bool, true, false, List, ◌∷◌, length, drop, inl, inr, arith, sym, ap, ◌∙◌, refl, add-zero, drop-drop, length-drop}
 use mir.Val.{bool_byte}
-use Rattle.std.proofs.lemmas.List.{drop-drop, length-drop}
 use Rattle.jup_resume.specs.Texts.{Text}
 use Rattle.jup_resume.specs.Keepers.{Keeping, unsent, IsAllWritten, after_write}
 use Rattle.jup_lasting.specs.Edits.{begins_edit, one_if, edits_begun}

@@ -1,3 +1,9 @@
 pub mod Counting
+pub mod CutRun
+pub mod Handing
+pub mod FirstHeard
+pub mod Hearings
+pub mod InStep
 pub mod Moving
+pub mod OneLink
 pub mod Pieces

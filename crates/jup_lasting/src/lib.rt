@@ -5,11 +5,13 @@
 mod carriage;
 mod edits;
 mod first_answer;
+mod laws;
 mod line_kind;
 mod link;
 mod outgoing;
 mod terms;
 
 pub use carriage::Carriage;
+pub use laws::{cut_lines_come_once, cuts_change_nothing};
 pub use link::{ClientLink, Heard, Hearing, LONGEST_SILENCE};
 pub use terms::{MOST_SECONDS, Terms};

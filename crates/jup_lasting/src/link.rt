@@ -124,6 +124,13 @@ impl ClientLink {
         self.lines
     }
 
+    /// How many edits were put.
+    pub fn edits(&self) -> u32
+        ensures { result ≡ self.now.edits }
+    {
+        self.edits
+    }
+
     /// How many of its edits had their effect, if the server has said that. They are the first ones.
     pub fn arrived(&self) -> Option<u32>
         ensures { result ≡ self.now.arrived }

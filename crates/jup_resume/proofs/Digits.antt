@@ -1,9 +1,8 @@
 -- The digits of a token.
-use Rattle.std.proofs.Common.{◌≡◌, ℕ, ◌+◌, ◌/◌, ◌%◌, ◌<◌, ◌≤◌, ◌↔◌, List, [], ◌∷◌, ◌++◌, length, get_or, take, suc, sym, ap, ◌∙◌, arith, inl, inr, add-one, bit_or, bit_xor}
+use Rattle.std.proofs.Common.{◌≡◌, ℕ, ◌+◌, ◌/◌, ◌%◌, ◌<◌, ◌≤◌, ◌↔◌, All, List, [], ◌∷◌, ◌++◌, length, get_or, take, suc, sym, ap, ◌∙◌, arith, inl, inr, add-one, bit_or, bit_xor, take-take, get_or-take}
 use Rattle.std.specs.List.{AllByRecursion}
 use Rattle.std.specs.Int.Bits.{or_self, xor_self, xor_add_and}
 use Rattle.std.proofs.lemmas.Nat.{le_or_l, le_or_r, and_le_l, and_le_r}
-use Rattle.std.proofs.lemmas.List.{take-take, get_or-take}
 use Rattle.std.proofs.Math.Seq.{take-suc}
 use Rattle.std.proofs.lemmas.List.Elements.{All-from_recursion}
 use Rattle.hex.specs.Hex.{lower_digits, encode_with, encode_lower, IsBytes}
@@ -67,10 +66,13 @@ encoded (b ∷ bytes) is =
     let small : b < 256 = is 0 in
     (digit (b / 16) (omega arith), (digit (b % 16) (omega arith), encoded bytes (λ i. is (suc i))))
 
+pub digits_of_bytes : (bytes : List ℕ) → IsBytes bytes → All IsTokenDigit (encode_lower bytes)
+digits_of_bytes bytes is = All-from_recursion IsTokenDigit (encode_lower bytes) (encoded bytes is)
+
 pub token_of_bytes : (bytes : List ℕ) → length bytes ≡ 16 → IsBytes bytes → IsTokenText (encode_lower bytes)
 token_of_bytes bytes long is = record {
   long = let all = length-encode_with lower_digits bytes in omega (arith, all, long);
-  digits = All-from_recursion IsTokenDigit (encode_lower bytes) (encoded bytes is);
+  digits = digits_of_bytes bytes is;
 }
 
 -- A difference that was found is not lost.

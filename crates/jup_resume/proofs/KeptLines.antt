@@ -1,10 +1,9 @@
 -- Lines that lie side by side as bytes.
 use Rattle.std.proofs.Common.{◌≡◌, ◌≢◌, ℕ, ◌+◌, ◌-◌, ◌<◌, ◌≤◌, ◌==◌, List, [], ◌∷◌, ◌++◌, length, get_or, take, drop, suc, refl, sym, ap, ◌∙◌, subst, arith, inl, inr, add-one, append_assoc, append-nil, length-append, length-drop, flat_map}
 use Rattle.std.specs.List.{AllByRecursion}
-use Rattle.std.proofs.lemmas.Bool.{cases_Bool, eqb-false}
 use Rattle.std.proofs.lemmas.List.{drop_at, drop-take, take-take, take-append-le, take-append-drop}
 use Rattle.std.proofs.lemmas.List.Concat.{flat_map-append}
-use Rattle.std.proofs.lemmas.Bool.{ne_eqb}
+use Rattle.std.proofs.lemmas.Bool.{ne_eqb, cases_Bool, eqb-false}
 use Rattle.std.proofs.Math.Seq.{take-suc, drop-cons}
 use Rattle.jup_resume.specs.Texts.{Text, HasNoFeed, spelled}
 use Rattle.jup_resume.specs.Keepers.{size_of, with_first, texts_of, AreLines}

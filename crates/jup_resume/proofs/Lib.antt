@@ -1,6 +1,7 @@
-mod Digits
+pub mod Digits
 mod KeptLines
-mod PieceLaws
+pub mod PieceLaws
 pub mod Readings
 pub mod Texts
 mod WayLaws
+pub mod WayRuns

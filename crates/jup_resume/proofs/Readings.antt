@@ -72,7 +72,7 @@ behind_token fields before rest token more cut is same = cut_same 32 before toke
 
 -- Words.
 
-differ : (a b : List ℕ) → (length a ≡ length b → get_or a 0 0 ≡ get_or b 0 0 → ⊥) → a ≢ b
+pub differ : (a b : List ℕ) → (length a ≡ length b → get_or a 0 0 ≡ get_or b 0 0 → ⊥) → a ≢ b
 differ a b h e = h (ap length e) (ap (λ l. get_or l 0 0) e)
 
 pub none_link : (fields : List ℕ) → ((token : List ℕ) (seconds : ℕ) (kept : Bool) → IsTokenText token → seconds < 2 ^ 32 → fields ≢ token ++ 32 ∷ waiting_text (seconds, kept))

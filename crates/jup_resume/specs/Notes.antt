@@ -1,5 +1,6 @@
 -- The notes of a carrier, each in its one spelling.
-use Rattle.std.specs.Prelude.{◌≡◌, ℕ, Bool, true, false, List, [], ◌∷◌, ◌++◌, codes, decimal, Option}
+use Rattle.std.specs.Prelude.{◌≡◌, ℕ, nat_eq, Bool, true, false, ◌||◌, List, [], ◌∷◌, ◌++◌, codes, decimal, Option}
+use Rattle.std.specs.List.{starts_with}
 use Rattle.jup_number.specs.Numbers.{IsU32, IsReadingOf}
 use Rattle.jup_resume.specs.Tokens.{IsTokenText}
 use Rattle.jup_resume.specs.declared.note.Note.{Note}
@@ -46,6 +47,16 @@ IsNote (Resume token taken) = IsTokenText token × IsU32 taken
 IsNote (Resumed taken) = IsU32 taken
 IsNote (Ended taken) = IsU32 taken
 IsNote (Got taken) = IsU32 taken
+
+-- a text begins with the word of a note, as no line of a link does
+abbrev pub begins_note : List ℕ → Bool
+begins_note text =
+    starts_with nat_eq text (codes "got ")
+    || starts_with nat_eq text (codes "link ")
+    || starts_with nat_eq text (codes "hello ")
+    || starts_with nat_eq text (codes "ended ")
+    || starts_with nat_eq text (codes "resume ")
+    || starts_with nat_eq text (codes "resumed ")
 
 -- the note that was read has this word, and these fields after it; with none read, no note has them
 abbrev pub IsReadingBehind : List ℕ → List ℕ → Option Note → Type 0

@@ -135,6 +135,12 @@ IsAllowed note TakerFails = Unit {0}
 abbrev pub AreAllowed : (Text → Bool) → List Event → Type 0
 AreAllowed note events = AllByRecursion (IsAllowed note) events
 
+-- a way is what allowed events made of a new one
+pub record IsRun (note : Text → Bool) (way : Way) : Type 0 where
+  pub events : List Event
+  pub allowed : AreAllowed note events
+  pub is : way ≡ run note events new_way
+
 -- What a way promises, whatever happened.
 
 -- these begin with those

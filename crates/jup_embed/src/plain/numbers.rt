@@ -23,8 +23,8 @@ pub(super) const BAD_COMMAND: u32 = 92;
 // The server ended the session with a number that is no fault's here.
 const STRANGE: u32 = 93;
 
-// A line was done, and an allocation failed for what it tells.
-pub(super) const UNTOLD: u32 = 94;
+/// A line was done, and an allocation failed for what it tells.
+pub const UNTOLD: u32 = 94;
 
 /// The number of the end of a session, which is never 0. A server can end a session with any number. One that is no fault's here becomes 93.
 pub fn end_number(end: ClientEnd) -> u32

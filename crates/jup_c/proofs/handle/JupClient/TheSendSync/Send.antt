@@ -10,14 +10,14 @@ use Rattle.std.specs.Prelude.{Option, None, Some}
 use Rattle.std.proofs.Crossing as heap
 use Rattle.std_alloc.proofs.SendSync.{quiet, lies}
 use Rattle.std_heap.proofs.Global.TheSendSync as allocator
-use Rattle.jup_c.specs.Prelude.{Session, Global}
-use Rattle.jup_embed.specs.contracts.client.Client as Client
-use Rattle.jup_embed.proofs.client.Client.TheSendSync.{the_send as client}
+use Rattle.jup_c.specs.Prelude.{AnyClient, Global}
+use Rattle.jup_reconnect.specs.contracts.any.AnyClient as Client
+use Rattle.jup_reconnect.proofs.any.AnyClient.TheSendSync.{the_send as client}
 use Rattle.jup_c.specs.Handles.{held}
 use Rattle.jup_c.specs.contracts.handle.JupClient.{the_row, the_type}
 
 -- what a handle owns is bound to no thread
-held_anywhere : (a : Global) (p : Ptr) (inside : Option Session) → Keyless (held a p inside)
+held_anywhere : (a : Global) (p : Ptr) (inside : Option AnyClient) → Keyless (held a p inside)
 held_anywhere a null_ptr None = tt
 held_anywhere a null_ptr (Some x) = tt
 held_anywhere a (block_ptr b o) None = tt

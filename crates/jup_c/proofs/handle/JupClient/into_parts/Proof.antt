@@ -1,6 +1,5 @@
 -- `into_parts` compares the word with null: at null nothing is owned, and else the pointer takes with it what the handle owns.
 use mathlib.Core.Path.{refl, sym, subst}
-use mathlib.Core.List.{List, [], ◌∷◌, ◌++◌}
 use lib.Dec.{lit<}
 use mir.Val.{Val, vcons, vnil}
 use base.Logic.{SProp, ent, emp, id⊢}
@@ -19,7 +18,7 @@ use denote.RattleType.{RattleType}
 use denote.Signature.{type_at}
 use denote.Steps.{nothing}
 use denote.Triple.Walked.{says, Stays, stay_dropped, walk_of, ends_at, Goes-dropped}
-use Rattle.std.specs.Prelude.{None, Some}
+use Rattle.std.specs.Prelude.{None, Some, List, [], ◌∷◌, ◌++◌}
 use Rattle.std.proofs.raw_atomic.Walks.{proved_at}
 use Rattle.core.proofs.alloc.Shapes.{after}
 use Rattle.core.proofs.cell.Inside.{Good}
@@ -27,7 +26,7 @@ use Rattle.core.proofs.option.Made.{Some-of, none_of}
 use Rattle.std_alloc.proofs.ResultValues.{and_tt}
 use Rattle.std_heap.specs.contracts.Global as Heap
 use Rattle.std_heap.specs.contracts.GlobalAllocator.TheImpl.{ghosts}
-use Rattle.jup_embed.specs.contracts.client.Client.{the_row as R}
+use Rattle.jup_reconnect.specs.contracts.any.AnyClient.{the_row as R}
 use Rattle.jup_c.specs.contracts.handle.parts.Parts as Parts
 use Rattle.jup_c.specs.Handles.{held}
 use Rattle.jup_c.proofs.Words.{FromHandle as From, Words, word, word_typed, ptr_typed, words_in, words_out, either_held}

@@ -1,6 +1,5 @@
 -- `none` makes a handle of null and the allocator that it is given.
 use mathlib.Core.Path.{refl, sym, subst}
-use mathlib.Core.List.{List, [], ◌∷◌, ◌++◌}
 use mir.Val.{Val}
 use base.Logic.{SProp, ent, emp, id⊢}
 use base.Fml.{ftrue, fsep}
@@ -15,7 +14,7 @@ use denote.RawPtr.{null_ptr}
 use denote.Signature.{type_at}
 use denote.Steps.{nothing}
 use denote.Triple.Walked.{says, Stays, stay_dropped, walk_of, ends_at, Goes-dropped}
-use Rattle.std.specs.Prelude.{None}
+use Rattle.std.specs.Prelude.{None, List, [], ◌∷◌, ◌++◌}
 use Rattle.std.proofs.raw_atomic.Walks.{proved_at}
 use Rattle.core.proofs.alloc.Calls.{handle_tells}
 use Rattle.std_heap.specs.contracts.Global as Heap

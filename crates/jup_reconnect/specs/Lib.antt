@@ -1,0 +1,4 @@
+pub mod AnyClients
+pub mod Lasting
+pub mod LastingNumbers
+pub mod Runs

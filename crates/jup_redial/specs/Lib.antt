@@ -1,0 +1,4 @@
+pub mod Fates
+pub mod Notices
+pub mod Redialed
+pub mod Trials
